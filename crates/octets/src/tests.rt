@@ -8,7 +8,11 @@ use std::test::Fail;
 fn octets_are_compared_as_bytes(rt: HostRuntime) -> Result<(), Fail> {
     let less = Octets::from_slice(rt.alloc(), b"1.2.10")?;
     let greater = Octets::from_slice(rt.alloc(), b"1.2.9")?;
-    assert_eq!(rt; less.cmp(&greater), Ordering::Less, "a byte decides, no number");
+    assert_eq!(rt;
+        less.cmp(&greater),
+        Ordering::Less,
+        "a byte decides, no number"
+    );
     assert!(rt; less != greater, "other bytes");
     let copy = less.copy(rt.alloc())?;
     assert!(rt; copy.equals(&less), "a copy has the same bytes");
