@@ -1,0 +1,13 @@
+pub mod Offences
+pub mod HeaderLaws
+pub mod Steps
+pub mod Once
+pub mod Sets
+pub mod Kept
+pub mod Lists
+pub mod Walks
+pub mod WrittenLaws
+pub mod Fitting
+pub mod ConvertedLaws
+pub mod ReplacedLaws
+pub mod ValueLaws

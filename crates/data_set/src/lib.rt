@@ -1,6 +1,41 @@
 //! Data sets in two transfer syntaxes (PS3.5, section 7 and annex A).
+//!
+//! `read` takes the texts of the grammar of `specs/Texts.antt` and no others, and tells the fault
+//! of the first element that offends.
 #![tactic(auto)]
 
+mod conversion;
+mod corrections;
+mod element;
+mod fault;
+mod header;
+mod laws;
+mod reader;
+mod replaced;
+mod set;
 mod syntax;
+mod tags;
+#[cfg(test)]
+mod tests;
+mod uid;
+mod values;
+mod vr;
+mod writer;
 
+pub use corrections::correction_vr;
+pub use element::{Content, Element};
+pub use fault::SetFault;
+pub use laws::{
+    a_conversion_keeps_values, a_set_is_what_a_text_spells, a_value_put_in_is_read_again,
+    no_fault_where_spelled, one_fault, one_reading,
+};
+pub use reader::read;
+pub use set::DataSet;
 pub use syntax::Syntax;
+pub use tags::{
+    CONCEPT_NAME_CODE_SEQUENCE, EVIDENCE_SEQUENCE, REFERENCED_SERIES_SEQUENCE,
+    REFERENCED_SOP_SEQUENCE,
+};
+pub use uid::is_uid;
+pub use values::{element_of, items_of, padded_of, trimmed_of, value_of, without_pads};
+pub use writer::write;

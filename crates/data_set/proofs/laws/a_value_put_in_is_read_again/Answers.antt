@@ -1,0 +1,8 @@
+use Rattle.data_set.proofs.ValueLaws.{put_value, other_value}
+use Rattle.data_set.proofs.laws.a_value_put_in_is_read_again.Goals as goal
+
+pub returns-clause-put : goal.returns-clause-put
+returns-clause-put c = put_value
+
+pub returns-clause-others : goal.returns-clause-others
+returns-clause-others c = other_value

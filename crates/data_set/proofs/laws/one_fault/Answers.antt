@@ -1,0 +1,5 @@
+use Rattle.data_set.proofs.Sets.{one_fault}
+use Rattle.data_set.proofs.laws.one_fault.Goals as goal
+
+pub returns : goal.returns
+returns c = one_fault

@@ -1,0 +1,5 @@
+use Rattle.data_set.proofs.Sets.{spelled_once}
+use Rattle.data_set.proofs.laws.one_reading.Goals as goal
+
+pub returns : goal.returns
+returns c = spelled_once

@@ -1,0 +1,50 @@
+-- Tags: a group and an element, of 16 bits each (PS3.5, 7.1.1), as one number of 32 bits.
+use Rattle.std.specs.Prelude.{ℕ, ◌+◌, ◌*◌, ◌/◌, ◌%◌, List, [], ◌∷◌, ◌++◌, Option, Some, None, Bool, true, nat_lt, ◌==◌, ◌||◌}
+use Rattle.std.specs.Int.{w16, from_le_bytes, to_le_bytes}
+
+-- the tag in four bytes: group and element, each with the low byte first
+abbrev pub tag_from : ℕ → ℕ → ℕ → ℕ → ℕ
+tag_from g0 g1 e0 e1 = from_le_bytes w16 (g0 ∷ g1 ∷ []) * 65536 + from_le_bytes w16 (e0 ∷ e1 ∷ [])
+
+-- the four bytes of a tag
+abbrev pub tag_text : ℕ → List ℕ
+tag_text tag = to_le_bytes w16 (tag / 65536) ++ to_le_bytes w16 (tag % 65536)
+
+abbrev pub group_of : ℕ → ℕ
+group_of tag = tag / 65536
+
+-- (FFFE,E000) Item, (FFFE,E00D) Item Delimitation Item, (FFFE,E0DD) Sequence Delimitation Item (PS3.5, 7.5)
+abbrev pub item : ℕ
+item = 0xfffe_e000
+
+abbrev pub item_end : ℕ
+item_end = 0xfffe_e00d
+
+abbrev pub sequence_end : ℕ
+sequence_end = 0xfffe_e0dd
+
+-- items and ends have the group FFFE, and no element has it
+abbrev pub is_item_tag : ℕ → Bool
+is_item_tag tag = group_of tag == 0xfffe
+
+-- command elements have the group 0000, and those of a file's header the group 0002
+abbrev pub is_reserved_group : ℕ → Bool
+is_reserved_group tag = group_of tag == 0 || group_of tag == 2
+
+-- (0008,1115) Referenced Series Sequence, (0008,1199) Referenced SOP Sequence, (0040,A043) Concept Name Code Sequence,
+-- (0040,A375) Current Requested Procedure Evidence Sequence: sequences in whatever way they are spelled
+abbrev pub is_listed : ℕ → Bool
+is_listed tag = tag == 0x0008_1115 || tag == 0x0008_1199 || tag == 0x0040_a043 || tag == 0x0040_a375
+
+-- (7FE0,0010) Pixel Data
+abbrev pub is_pixel_data : ℕ → Bool
+is_pixel_data tag = tag == 0x7fe0_0010
+
+-- (gggg,0000) Group Length
+abbrev pub is_group_length : ℕ → Bool
+is_group_length tag = tag % 65536 == 0
+
+-- tags ascend: behind the one before
+abbrev pub is_above : Option ℕ → ℕ → Bool
+is_above None tag = true
+is_above (Some previous) tag = nat_lt previous tag

@@ -1,0 +1,84 @@
+//! Tags: a group and an element, of 16 bits each (PS3.5, section 7.1.1), as one number.
+
+ghost use Rattle.std.specs.Prelude.{◌≡◌};
+ghost use Rattle.data_set.specs.Tags.{tag_from, is_item_tag, is_reserved_group, is_listed, is_group_length, is_above};
+
+/// (FFFE,E000) Item
+pub const ITEM: u32 = 0xfffe_e000;
+
+/// (FFFE,E00D) Item Delimitation Item
+pub const ITEM_END: u32 = 0xfffe_e00d;
+
+/// (FFFE,E0DD) Sequence Delimitation Item
+pub const SEQUENCE_END: u32 = 0xfffe_e0dd;
+
+/// (0008,1115) Referenced Series Sequence
+pub const REFERENCED_SERIES_SEQUENCE: u32 = 0x0008_1115;
+
+/// (0008,1199) Referenced SOP Sequence
+pub const REFERENCED_SOP_SEQUENCE: u32 = 0x0008_1199;
+
+/// (0040,A043) Concept Name Code Sequence
+pub const CONCEPT_NAME_CODE_SEQUENCE: u32 = 0x0040_a043;
+
+/// (0040,A375) Current Requested Procedure Evidence Sequence
+pub const EVIDENCE_SEQUENCE: u32 = 0x0040_a375;
+
+/// (7FE0,0010) Pixel Data
+pub const PIXEL_DATA: u32 = 0x7fe0_0010;
+
+/// The tag that four bytes spell: group and element, each with the low byte first.
+pub fn tag_of(g0: u8, g1: u8, e0: u8, e1: u8) -> u32
+    ensures { result ≡ tag_from g0 g1 e0 e1 }
+{
+    let group = u16::from_le_bytes([g0, g1]);
+    let element = u16::from_le_bytes([e0, e1]);
+    u32::from(group) * 65536 + u32::from(element)
+}
+
+/// Whether a tag is that of an item or of an end, whose group is FFFE.
+pub fn is_item_or_end(tag: u32) -> bool
+    ensures { result ≡ is_item_tag tag }
+{
+    tag / 65536 == 0xfffe
+}
+
+/// Whether a tag's group has no place in a data set: 0000, that of commands (PS3.7, section 6.3),
+/// and 0002, that of a file's header (PS3.10, section 7.1).
+pub fn has_reserved_group(tag: u32) -> bool
+    ensures { result ≡ is_reserved_group tag }
+{
+    let group = tag / 65536;
+    group == 0x0000 || group == 0x0002
+}
+
+/// Whether a tag is that of a sequence in whatever way it is spelled
+/// (docs/DECISIONS.md, "Sequences that are known by their tag").
+pub fn is_sequence_tag(tag: u32) -> bool
+    ensures { result ≡ is_listed tag }
+{
+    matches!(
+        tag,
+        REFERENCED_SERIES_SEQUENCE
+            | REFERENCED_SOP_SEQUENCE
+            | CONCEPT_NAME_CODE_SEQUENCE
+            | EVIDENCE_SEQUENCE
+    )
+}
+
+/// Whether a tag is a group length, (gggg,0000).
+pub fn names_group_length(tag: u32) -> bool
+    ensures { result ≡ is_group_length tag }
+{
+    tag % 65536 == 0
+}
+
+/// Whether a tag may come behind another.
+pub fn is_after(previous: Option<u32>, tag: u32) -> bool
+    ensures { result ≡ is_above previous tag }
+{
+    match previous {
+        None => true,
+        Some(last) => last < tag,
+    }
+}
