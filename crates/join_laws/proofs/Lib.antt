@@ -1,0 +1,5 @@
+pub mod Folds
+pub mod Puts
+pub mod Undone
+pub mod Unions
+pub mod Journals

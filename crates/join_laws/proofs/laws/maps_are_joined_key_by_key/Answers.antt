@@ -1,0 +1,5 @@
+use Rattle.join_laws.specs.Proved.Maps.{lookup-map_joined}
+use Rattle.join_laws.proofs.laws.maps_are_joined_key_by_key.Goals as goal
+
+pub returns : goal.returns
+returns g c = λ key. lookup-map_joined g.met.K.Ord.total g.met.K.Exact.exact g.J.Join.joined key c.args.right.now c.args.left.now c.held.ensures.0 c.held-2.ensures.0

@@ -1,0 +1,7 @@
+-- The proofs of the laws, which the implementations of the traits name. No clause cites them.
+pub mod Options
+pub mod Orders
+pub mod Sets
+pub mod Pairs
+pub mod Maps
+pub mod Exact
