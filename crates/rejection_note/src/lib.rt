@@ -1,0 +1,21 @@
+//! Rejection notes: Key Object Selection documents that hide images (PS3.3, section C.17.6; IHE
+//! RAD-66).
+//!
+//! `note_of` says whether a data set is one, of which title, and which instances it covers.
+#![tactic(auto)]
+
+mod covers;
+mod fault;
+mod laws;
+mod note;
+mod notes;
+mod sorted;
+#[cfg(test)]
+mod tests;
+mod title;
+
+pub use fault::NoteFault;
+pub use laws::covers_ascend_each_once;
+pub use note::Note;
+pub use notes::note_of;
+pub use title::Title;
