@@ -1,0 +1,4 @@
+pub mod Bounds
+pub mod ContentLaws
+pub mod ReadingLaws
+pub mod OutcomeLaws

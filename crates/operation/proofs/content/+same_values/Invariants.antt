@@ -1,0 +1,5 @@
+use Rattle.std.proofs.Common.{length}
+use Rattle.operation.proofs.content.+same_values.Given as goal
+
+abbrev pub decreases-same_values : goal.decreases-same_values
+decreases-same_values l = length l.these.now

@@ -1,0 +1,9 @@
+use Rattle.std.proofs.Common.{Err}
+use Rattle.operation.proofs.OutcomeLaws.{only_reading, only_spelled, fault_reading}
+use Rattle.operation.proofs.decoding.decode.Goals as goal
+
+pub returns-clause-only : goal.returns-clause-only
+returns-clause-only c = λ op is e. only_spelled c.args.text c.read_operation.result op c.read_operation.ensures.outcome is e
+
+pub returns-clause-faulty : goal.returns-clause-faulty
+returns-clause-faulty c = λ f has. only_reading c.args.text c.read_operation.result (Err f) c.read_operation.ensures.outcome (fault_reading c.args.text f has)

@@ -1,0 +1,58 @@
+-- Which corrections there are (docs/DECISIONS.md, "Corrections").
+use Rattle.std.specs.Prelude.{◌≡◌, ℕ, ◌<◌, ◌^◌, List, length, Bool, false, not, ◌&&◌, ◌||◌, ◌==◌, nat_le, Option, Some, None, Result, Ok, Err, IsTrue, slice_get, is_some, if◌then◌else◌, ◌-◌, ◌/◌}
+use Rattle.std.specs.List.{list_all}
+use Rattle.data_set.specs.Corrections.{correction_vr_of}
+use Rattle.data_set.specs.Uid.{is_uid_text}
+use Rattle.operation.specs.declared.fault.OpFault.{OpFault}
+use Rattle.operation.specs.declared.fault.OpFault.TheVariants.{BadCorrection}
+use Rattle.operation.specs.declared.target.Target.{Target}
+use Rattle.operation.specs.declared.target.Target.TheVariants.{Study, Patient}
+use Rattle.operation.specs.Parts.{CorrectionParts}
+
+-- The ten attributes that can be corrected are those whose value representation is known.
+abbrev pub is_corrected : ℕ → Bool
+is_corrected tag = is_some (correction_vr_of tag)
+
+-- group 0010, that of the patient's attributes
+abbrev pub is_of_patient : ℕ → Bool
+is_of_patient tag = tag / 65536 == 0x0010
+
+-- A study's correction is for any of them, a patient's for one of the patient.
+abbrev pub is_tag_for : Target → ℕ → Bool
+is_tag_for (Study key) tag = is_corrected tag
+is_tag_for (Patient key) tag = is_corrected tag && is_of_patient tag
+
+-- printable ASCII without the backslash, which parts values (PS3.5, 6.2)
+abbrev pub is_text_byte : ℕ → Bool
+is_text_byte byte = nat_le 0x20 byte && nat_le byte 0x7e && not (byte == 0x5c)
+
+abbrev pub is_space : Option ℕ → Bool
+is_space None = false
+is_space (Some byte) = byte == 0x20
+
+abbrev pub has_outer_space : List ℕ → Bool
+has_outer_space text = is_space (slice_get text 0) || is_space (slice_get text (length text - 1))
+
+-- at most 64 such bytes, without outer spaces
+unfoldable pub is_plain : List ℕ → Bool
+is_plain text = nat_le (length text) 64 && list_all is_text_byte text && not (has_outer_space text)
+
+-- A study's key is a UID, and a patient's a Patient ID that is not empty.
+abbrev pub is_key : Target → Bool
+is_key (Study key) = is_uid_text key
+is_key (Patient key) = not (length key == 0) && is_plain key
+
+-- Counter and site are numbered from 1.
+unfoldable pub is_correction : CorrectionParts → Bool
+is_correction c =
+    is_key c.target && is_tag_for c.target c.tag && is_plain c.value && nat_le 1 c.stamp.counter && nat_le 1 c.stamp.site
+
+-- a correction, or the fault that it is none
+abbrev pub checked : CorrectionParts → Result CorrectionParts OpFault
+checked c = if is_correction c then Ok c else Err BadCorrection
+
+-- what a correction keeps true of its parts
+pub record IsCorrection (correction : CorrectionParts) : Type 0 where
+  pub lawful : IsTrue (is_correction correction)
+  pub counter : correction.stamp.counter < 2 ^ 64
+  pub site : correction.stamp.site < 2 ^ 16

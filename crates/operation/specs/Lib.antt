@@ -1,0 +1,9 @@
+pub mod Parts
+pub mod Code
+pub mod Fault
+pub mod Corrections
+pub mod Contents
+pub mod OpCode
+pub mod Spelling
+pub mod Reading
+pub mod Front

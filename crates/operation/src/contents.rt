@@ -1,0 +1,187 @@
+//! Which data sets are contents (docs/DECISIONS.md, "Contents").
+
+ghost use Rattle.std.specs.Prelude.{◌≡◌, Ok, Err, IfOk, IfErr};
+ghost use Rattle.std.specs.List.{filter_map};
+ghost use Rattle.octets.specs.Gives.{Tells, Told, Gives};
+ghost use Rattle.data_set.specs.Values.{value_in, without_padding};
+ghost use Rattle.operation.specs.declared.fault.OpFault.{OpFault};
+ghost use Rattle.operation.specs.Fault.{is_memory};
+ghost use Rattle.operation.specs.Parts.{ContentParts};
+ghost use Rattle.operation.specs.Contents.{has_uids, names_itself, is_uid_value, is_value, tagged, values_in, IsOutcome, IsContent, IsRefused, draft_of, drafted};
+
+use crate::content::{Content, KeyValue};
+use crate::draft::Draft;
+use crate::fault::OpFault;
+use crate::tags::{
+    ACCESSION_NUMBER, INSTANCE_NUMBER, MODALITY, PATIENT_BIRTH_DATE, PATIENT_ID, PATIENT_NAME,
+    PATIENT_SEX, REFERRING_PHYSICIAN_NAME, SERIES_DESCRIPTION, SERIES_INSTANCE_UID, SERIES_NUMBER,
+    SOP_CLASS_UID, SOP_INSTANCE_UID, SPECIFIC_CHARACTER_SET, STUDY_DATE, STUDY_DESCRIPTION,
+    STUDY_ID, STUDY_INSTANCE_UID, STUDY_TIME,
+};
+use bytes::Bytes;
+use data_set::{Element, Syntax, is_uid, read, value_of, without_pads};
+use octets::{ListOf, Octets};
+use rejection_note::note_of;
+use std::alloc::{AllocError, Global};
+
+/// The most bytes of a data set.
+const LONGEST_DATA_SET: usize = 67_108_864;
+
+/// The elements that queries know, ascending.
+const KNOWN_TAGS: [u32; 19] = [
+    SPECIFIC_CHARACTER_SET,
+    SOP_CLASS_UID,
+    SOP_INSTANCE_UID,
+    STUDY_DATE,
+    STUDY_TIME,
+    ACCESSION_NUMBER,
+    MODALITY,
+    REFERRING_PHYSICIAN_NAME,
+    STUDY_DESCRIPTION,
+    SERIES_DESCRIPTION,
+    PATIENT_NAME,
+    PATIENT_ID,
+    PATIENT_BIRTH_DATE,
+    PATIENT_SEX,
+    STUDY_INSTANCE_UID,
+    SERIES_INSTANCE_UID,
+    STUDY_ID,
+    SERIES_NUMBER,
+    INSTANCE_NUMBER,
+];
+
+fn values_under(
+    alloc: Global,
+    tags: &[u32],
+    elements: &[Element],
+) -> Result<Vec<KeyValue>, AllocError>
+    ensures { IfOk result (λ values. values.items
+        ≡ filter_map (λ tag. tagged tag elements.now) tags.now) }
+{
+    let mut values = Vec::new(alloc);
+    for tag in tags {
+        if let Some(value) = value_of(elements, *tag) {
+            let value = Octets::from_slice(alloc, value)?;
+            values.push(KeyValue { tag: *tag, value })?;
+        }
+    }
+    Ok(values)
+}
+
+fn key_values(alloc: Global, elements: &[Element]) -> Result<Vec<KeyValue>, AllocError>
+    ensures { IfOk result (λ values. values.items ≡ values_in elements.now) }
+{
+    values_under(alloc, &KNOWN_TAGS, elements)
+}
+
+fn has_uid(elements: &[Element], tag: u32) -> bool
+    ensures { result ≡ is_uid_value (value_in tag elements.now) }
+{
+    match value_of(elements, tag) {
+        None => false,
+        Some(value) => is_uid(value),
+    }
+}
+
+fn has_value(elements: &[Element], tag: u32, text: &[u8]) -> bool
+    ensures { result ≡ is_value text.now (value_in tag elements.now) }
+{
+    match value_of(elements, tag) {
+        None => false,
+        Some(value) => value == text,
+    }
+}
+
+fn has_all_uids(draft: &Draft, elements: &[Element]) -> bool
+    ensures { result ≡ has_uids draft.now.class draft.now.instance elements.now }
+{
+    is_uid(draft.class.as_slice())
+        && is_uid(draft.instance.as_slice())
+        && has_uid(elements, SOP_CLASS_UID)
+        && has_uid(elements, SOP_INSTANCE_UID)
+        && has_uid(elements, STUDY_INSTANCE_UID)
+        && has_uid(elements, SERIES_INSTANCE_UID)
+}
+
+fn is_named_so(draft: &Draft, elements: &[Element]) -> bool
+    ensures { result ≡ names_itself draft.now.class draft.now.instance elements.now }
+{
+    has_value(elements, SOP_CLASS_UID, draft.class.as_slice())
+        && has_value(elements, SOP_INSTANCE_UID, draft.instance.as_slice())
+}
+
+/// The content of a draft. Its data set is read once.
+pub fn content_from(alloc: Global, draft: Draft) -> Result<Content, OpFault>
+    ensures { Tells is_memory (λ content. content) result (IsOutcome draft) }
+{
+    if draft.body.len() > LONGEST_DATA_SET {
+        return Err(OpFault::TooLong);
+    }
+    let set = read(alloc, draft.syntax, draft.body.as_slice())?;
+    let elements = set.elements();
+    if !has_all_uids(&draft, elements) {
+        return Err(OpFault::NoUid);
+    }
+    if !is_named_so(&draft, elements) {
+        return Err(OpFault::Mismatch);
+    }
+    let note = note_of(alloc, draft.class.as_slice(), &set)?;
+    let values = ListOf::of(key_values(alloc, elements)?);
+    let Draft {
+        class,
+        instance,
+        syntax,
+        body,
+    } = draft;
+    Ok(Content {
+        class,
+        instance,
+        syntax,
+        body,
+        values,
+        note,
+    })
+}
+
+fn unpadded(text: Octets) -> Octets
+    ensures { result ≡ without_padding text }
+{
+    let len = without_pads(text.as_slice()).len();
+    let mut bytes = text.into_vec();
+    bytes.truncate(len);
+    Octets::of(bytes)
+}
+
+/// The content of a data set with its SOP class, its SOP instance and its transfer syntax. Padding
+/// at the ends of class and instance is dropped (PS3.5, section 9.1). No byte of the data set is
+/// copied into the content.
+pub fn content_of(
+    alloc: Global,
+    class: Octets,
+    instance: Octets,
+    syntax: Syntax,
+    body: Bytes,
+) -> Result<Content, OpFault>
+    // What is made is a content of these parts.
+    ensures parts { IfOk result (λ c. draft_of c ≡ drafted class instance syntax body) }
+    ensures found { IfOk result IsContent }
+    // A content of these parts is made, unless memory ran out.
+    ensures only { (c : ContentParts) → IsContent c → draft_of c ≡ drafted class instance syntax body
+        → Gives is_memory (λ content. content) result (Ok c) }
+
+    // Each fault, exactly where it is: TooLong, BadSet, NoUid, Mismatch, BadNote.
+    ensures fault { IfErr result (λ e. Told is_memory e
+        (IsRefused (drafted class instance syntax body))) }
+    ensures faulty { (f : OpFault) → IsRefused (drafted class instance syntax body) f
+        → Gives is_memory (λ content. content) result (Err f) }
+{
+    content_from(
+        alloc,
+        Draft {
+            class: unpadded(class),
+            instance: unpadded(instance),
+            syntax,
+            body,
+        },
+    )
+}

@@ -1,0 +1,18 @@
+//! What follows from the definitions, for those who stand on them.
+
+ghost use Rattle.std.specs.Prelude.{◌≡◌, List, ℕ};
+ghost use Rattle.operation.specs.declared.fault.OpFault.{OpFault};
+ghost use Rattle.operation.specs.declared.op.Op.{Op};
+ghost use Rattle.operation.specs.Reading.{IsOp, HasFault};
+ghost use Rattle.operation.specs.Spelling.{spelling};
+
+/// Unequal operations have unequal spellings.
+pub fn spellings_tell_operations_apart()
+    ensures { (a b : Op) → IsOp a → IsOp b → spelling a ≡ spelling b → a ≡ b }
+{}
+
+/// A text spells an operation or has a fault, and never two of these.
+pub fn a_text_has_one_outcome()
+    ensures spelled { (op : Op) (f : OpFault) → IsOp op → HasFault (spelling op) f → ⊥ }
+    ensures fault { (text : List ℕ) (f g : OpFault) → HasFault text f → HasFault text g → f ≡ g }
+{}

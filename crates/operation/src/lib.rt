@@ -1,0 +1,32 @@
+//! Operations, the atoms of a site: contents and corrections, the one spelling of each, and its digest.
+#![tactic(auto)]
+
+mod content;
+mod contents;
+mod correction;
+mod decoding;
+mod digests;
+mod draft;
+mod encoding;
+mod fault;
+mod hashing;
+mod laws;
+mod op;
+mod stamp;
+mod tags;
+mod target;
+#[cfg(test)]
+mod tests;
+
+pub use content::Content;
+pub use contents::content_of;
+pub use correction::{Correction, correction_of};
+pub use decoding::decode;
+pub use digests::Digest;
+pub use encoding::encode;
+pub use fault::OpFault;
+pub use hashing::digest;
+pub use laws::{a_text_has_one_outcome, spellings_tell_operations_apart};
+pub use op::Op;
+pub use stamp::Stamp;
+pub use target::Target;
