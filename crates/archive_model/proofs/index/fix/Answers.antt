@@ -1,0 +1,13 @@
+use Rattle.std.proofs.Common.{◌∙◌, map}
+use Rattle.std.proofs.lemmas.List.{drop_all}
+use Rattle.std.specs.List.{filter}
+use Rattle.archive_model.specs.Attributes.{corrections}
+use Rattle.archive_model.specs.Index.{is_fix}
+use Rattle.archive_model.proofs.Latest.{latest_is_greatest}
+use Rattle.archive_model.proofs.index.fix.Goals as goal
+
+pub returns : goal.returns
+returns c =
+    let none = drop_all c.loop-op.op-index c.args.ops.now c.loop-op-test.false in
+    let all = rw none at c.loop-op.invariant in
+    all ∙ latest_is_greatest (filter (is_fix c.args.target.now c.args.tag) (corrections (map (λ o. o.now) c.args.ops.now)))

@@ -1,0 +1,12 @@
+use Rattle.std.proofs.Common.{◌≡◌, drop, map, None}
+use Rattle.std.specs.List.{filter}
+use Rattle.std.specs.Option.{option_copied}
+use Rattle.archive_model.specs.Attributes.{corrections}
+use Rattle.archive_model.specs.Index.{is_fix}
+use Rattle.archive_model.proofs.Latest.{latest_from}
+use Rattle.archive_model.proofs.index.fix.Given as goal
+
+abbrev pub invariant-loop-op : goal.invariant-loop-op
+invariant-loop-op l =
+    latest_from (option_copied l.held) (filter (is_fix l.target l.tag) (corrections (map (λ o. o.now) (drop l.op-index l.ops))))
+    ≡ latest_from None (filter (is_fix l.target l.tag) (corrections (map (λ o. o.now) l.ops)))

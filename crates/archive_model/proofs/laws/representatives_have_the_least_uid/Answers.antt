@@ -1,0 +1,11 @@
+use Rattle.archive_model.proofs.ModelLaws.{shown_ascend, study_is_least, series_is_least}
+use Rattle.archive_model.proofs.laws.representatives_have_the_least_uid.Goals as goal
+
+pub returns-clause-shown : goal.returns-clause-shown
+returns-clause-shown c = shown_ascend
+
+pub returns-clause-study : goal.returns-clause-study
+returns-clause-study c = study_is_least
+
+pub returns-clause-series : goal.returns-clause-series
+returns-clause-series c = series_is_least

@@ -1,0 +1,5 @@
+use Rattle.archive_model.proofs.ModelLaws.{flagged_have_two}
+use Rattle.archive_model.proofs.laws.what_is_flagged_has_two_contents.Goals as goal
+
+pub returns : goal.returns
+returns c = flagged_have_two

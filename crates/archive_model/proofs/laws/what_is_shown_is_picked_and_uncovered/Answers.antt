@@ -1,0 +1,5 @@
+use Rattle.archive_model.proofs.ModelLaws.{shown_are_picks}
+use Rattle.archive_model.proofs.laws.what_is_shown_is_picked_and_uncovered.Goals as goal
+
+pub returns : goal.returns
+returns c = shown_are_picks

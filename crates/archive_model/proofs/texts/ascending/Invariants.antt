@@ -1,0 +1,12 @@
+use Rattle.std.proofs.Common.{◌≡◌, ◌≤◌, length, drop, map}
+use Rattle.archive_model.specs.Texts.{ascending}
+use Rattle.archive_model.proofs.texts.ascending.Given as goal
+
+abbrev pub invariant-loop-left : goal.invariant-loop-left
+invariant-loop-left l = record {
+  within : l.left ≤ length l.texts;
+  so_far : l.found.items ≡ ascending (map (λ t. t.now) (drop l.left l.texts));
+}
+
+abbrev pub decreases-loop-left : goal.decreases-loop-left
+decreases-loop-left l = l.left

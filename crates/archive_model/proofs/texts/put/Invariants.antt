@@ -1,0 +1,9 @@
+use Rattle.std.proofs.Common.{◌≡◌, ◌++◌, take, drop}
+use Rattle.archive_model.specs.Texts.{put}
+use Rattle.archive_model.proofs.texts.put.Given as goal
+
+abbrev pub invariant-loop-i : goal.invariant-loop-i
+invariant-loop-i l = record {
+  same : l.texts.items ≡ l.fn.texts.items;
+  so_far : put l.text l.texts.items ≡ take l.i l.texts.items ++ put l.text (drop l.i l.texts.items);
+}

@@ -1,0 +1,10 @@
+pub mod Texts
+pub mod View
+pub mod Contents
+pub mod Covered
+pub mod Shown
+pub mod Groups
+pub mod Attributes
+pub mod Index
+pub mod Members
+pub mod Laws

@@ -1,0 +1,14 @@
+-- What each view hides (IHE RAD-66, Rejection Note Stored; titles: PS3.16, CID 7011).
+use Rattle.std.specs.Prelude.{Bool, true, false}
+use Rattle.rejection_note.specs.declared.title.Title.{Title}
+use Rattle.rejection_note.specs.declared.title.Title.TheVariants.{Quality as for_quality, Safety, Worklist, Expired}
+use Rattle.archive_model.specs.declared.view.View.{View}
+use Rattle.archive_model.specs.declared.view.View.TheVariants.{Archive, Quality}
+
+-- whether notes of a title hide in a view
+abbrev pub hides : View → Title → Bool
+hides Archive title = true
+hides Quality for_quality = false
+hides Quality Safety = true
+hides Quality Worklist = true
+hides Quality Expired = true

@@ -1,0 +1,29 @@
+//! Views: who asks, and what is hidden from them (IHE RAD-66).
+
+ghost use Rattle.std.specs.Prelude.{◌≡◌};
+ghost use Rattle.archive_model.specs.View.{hides as hides_in};
+
+use rejection_note::Title;
+
+/// What an archive shows depends on the called AE title of who asks.
+#[derive(Clone, Copy, Debug, PartialEq, Eq)]
+pub enum View {
+    /// Notes of every rejection title hide.
+    Archive,
+    /// Notes of every title but 113001, Rejected for Quality Reasons, hide.
+    Quality,
+}
+
+/// Whether notes of a title hide in a view.
+pub fn hides(view: View, title: Title) -> bool
+    ensures { result ≡ hides_in view title }
+{
+    match (view, title) {
+        (View::Archive, _) => true,
+
+        (View::Quality, Title::Quality) => false,
+        (View::Quality, Title::Safety) => true,
+        (View::Quality, Title::Worklist) => true,
+        (View::Quality, Title::Expired) => true,
+    }
+}
