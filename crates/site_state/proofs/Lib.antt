@@ -1,0 +1,5 @@
+pub mod Counted
+pub mod Maps
+pub mod Same
+pub mod Takings
+pub mod Unions

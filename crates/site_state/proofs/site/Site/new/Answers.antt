@@ -1,0 +1,5 @@
+use Rattle.site_state.proofs.Maps.{none_is_site}
+use Rattle.site_state.proofs.site.Site.new.Goals as goal
+
+pub invariant_of-result : goal.invariant_of-result
+invariant_of-result c = none_is_site c.new.result.entries c.new.ensures.empty

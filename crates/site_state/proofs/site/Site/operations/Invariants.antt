@@ -1,0 +1,5 @@
+use Rattle.std.proofs.Common.{◌≡◌, ◌++◌, map}
+use Rattle.site_state.proofs.site.Site.operations.Given as goal
+
+abbrev pub invariant-loop-op : goal.invariant-loop-op
+invariant-loop-op l = map (λ o. o.now) l.ops.items ++ l.op-iterator ≡ l.initial.op-iterator

@@ -1,0 +1,38 @@
+use Rattle.std.proofs.Common.{ap, sym, ◌∙◌, Some, refl, subst}
+use Rattle.std.specs.FinMap as map
+use Rattle.site_state.specs.Site.{held_at}
+use Rattle.site_state.proofs.Maps.{one_more, one_more_is_site, found_at}
+use Rattle.site_state.proofs.Takings.{no_room}
+use Rattle.site_state.proofs.site.Site.take_under.Goals as goal
+
+pub invariant_of-self-2 : goal.invariant_of-self-2
+invariant_of-self-2 c = one_more_is_site c.self.inside.operations.entries c.insert.new.self.entries c.args.digest c.args.op c.in_ok-insert.ensures.updates.0 c.requires c.self.invariant
+
+pub returns-then-equals : goal.returns-then-equals
+returns-then-equals c = (
+  ap (held_at c.args.self.now) (sym c.requires) ∙ found_at c.args.self.now c.self.inside.operations.entries c.args.digest (Some c.in-Some.held.now) c.self.view_is c.in-Some.ensures.value ∙ ap Some (c.equals.ensures.0 c.if-equals.true),
+  refl,
+)
+
+pub returns-in-Some : goal.returns-in-Some
+returns-in-Some c = (
+  (
+    c.in-Some.held.now,
+    ap (held_at c.args.self.now) (sym c.requires) ∙ found_at c.args.self.now c.self.inside.operations.entries c.args.digest (Some c.in-Some.held.now) c.self.view_is c.in-Some.ensures.value,
+    λ q. let t = c.equals.ensures.1 q in let f = c.if-equals.false in cc,
+  ),
+  refl,
+)
+
+pub returns-in_err-insert : goal.returns-in_err-insert
+returns-in_err-insert c =
+    no_room c.args.self.now _ c.args.op c.from_residual.result c.from_residual.ensures.1
+    (ap (held_at c.args.self.now) (sym c.requires) ∙ found_at c.args.self.now c.self.inside.operations.entries c.args.digest _ c.self.view_is c.in_default.ensures.value)
+    (ap map.from_entries c.in_err-insert.ensures.err ∙ c.self.view_is)
+
+pub returns : goal.returns
+returns c = (
+  ap (held_at c.args.self.now) (sym c.requires) ∙ found_at c.args.self.now c.self.inside.operations.entries c.args.digest _ c.self.view_is c.in_default.ensures.value,
+  one_more c.self.inside.operations.entries c.insert.new.self.entries c.args.digest c.args.op c.in_ok-insert.ensures.updates.0
+      ∙ ap (λ m. map.insert m c.args.digest c.args.op) c.self.view_is ∙ ap (λ d. map.insert c.args.self.now d c.args.op) c.requires,
+)

@@ -1,0 +1,38 @@
+//! What sites are, whatever the order in which they took their operations: laws, said as contracts
+//! of functions with nothing to do.
+
+ghost use Rattle.site_state.specs.Laws.{TakingAdds, IsCommutative, IsAssociative, IsIdempotent, UnionIsOfBoth, EqualMaps, EqualContents, EqualPicks, EqualCovers, EqualShown, EqualFlagged, EqualAttributes, EqualCounts, EqualTops, NoteBeforeIsNoteAfter, NamedIsNotShown};
+
+/// An operation that is taken, new or known, is added to the site.
+pub fn taking_adds_the_operation()
+    ensures { TakingAdds }
+{}
+
+/// The union of sites is commutative where unequal operations have unequal digests, associative and
+/// idempotent, and what two sites took is the union of what each took.
+pub fn union_is_a_join()
+    ensures commutative { IsCommutative }
+    ensures associative { IsAssociative }
+    ensures idempotent { IsIdempotent }
+    ensures of_both { UnionIsOfBoth }
+{}
+
+/// Sites that took the same operations, in whatever order and with whatever repeats, are equal maps
+/// and give equal values of every definition, where unequal operations have unequal digests.
+pub fn order_and_repeats_are_free()
+    ensures maps { EqualMaps }
+    ensures contents { EqualContents }
+    ensures picks { EqualPicks }
+    ensures covers { EqualCovers }
+    ensures shown { EqualShown }
+    ensures flagged { EqualFlagged }
+    ensures attributes { EqualAttributes }
+    ensures counts { EqualCounts }
+    ensures top_counters { EqualTops }
+{}
+
+/// A note that is taken before its images hides them as one that is taken after.
+pub fn a_note_before_its_images_hides_as_one_after()
+    ensures alike { NoteBeforeIsNoteAfter }
+    ensures hidden { NamedIsNotShown }
+{}

@@ -1,0 +1,22 @@
+//! One site of the archive: a set of operations, and nothing else.
+//!
+//! Contracts see a site as the finite map from digests to operations. No order of arrival is in it,
+//! so sites that took the same operations are equal, and so is what is defined over their
+//! operations.
+#![tactic(auto)]
+
+mod fault;
+mod laws;
+mod site;
+mod taken;
+#[cfg(test)]
+mod tests;
+mod tree;
+
+pub use fault::SiteFault;
+pub use laws::{
+    a_note_before_its_images_hides_as_one_after, order_and_repeats_are_free,
+    taking_adds_the_operation, union_is_a_join,
+};
+pub use site::Site;
+pub use taken::{Counts, Taken};

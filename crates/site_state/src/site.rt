@@ -1,0 +1,218 @@
+//! One site.
+
+ghost use Rattle.std.specs.Prelude.{◌≡◌, ◌≢◌, ◌↔◌, List, ℕ, Some, None, Ok, Err, OnOk, OnErr, IfOk, IfSome, IsTrue, map, filter};
+ghost use Rattle.archive_model.specs.Contents.{flagged as flagged_in};
+ghost use Rattle.std.specs.Option.{option_copied};
+ghost use Rattle.std.specs.FinMap as finmap;
+ghost use Rattle.operation.specs.Spelling.{digest_of};
+ghost use Rattle.site_state.specs.Site.{Map, digests_of, is_missing as is_missing_in, ops_of, held_at, with_op, IsClash, Takes, top_counter_of, counts_of};
+ghost use Rattle.site_state.specs.Union.{union, DoClash, Agree};
+
+use crate::fault::SiteFault;
+use crate::taken::{Counts, Taken};
+use crate::tree::{add_copies, do_clash};
+use archive_model::correction;
+use octets::Octets;
+use operation::{Digest, Op, digest};
+use std::alloc::{AllocError, Global};
+use std::collections::BTreeMap;
+use std::marker::Model;
+
+/// The operations of a site, each under its digest.
+#[derive(Drop)]
+pub struct Site {
+    operations: BTreeMap<Digest, Op>,
+    alloc: Global,
+}
+
+impl Model for Site {
+    ghost use Rattle.std.specs.FinMap as finmap;
+    ghost use Rattle.std.specs.Coded.{coded_list, coded_ℕ};
+    ghost use Rattle.operation.specs.OpCode.{op_code};
+    ghost use Rattle.site_state.specs.Site.{Map, IsSite};
+
+    ghost Value = { Map };
+
+    ghost coded = { finmap.code (coded_list coded_ℕ) op_code };
+
+    ghost view = { λ s. finmap.from_entries s.operations.entries };
+
+    ghost invariant = { λ s. IsSite (finmap.from_entries s.operations.entries) };
+}
+
+impl Site {
+    /// A site that holds nothing. It takes no memory.
+    pub fn new(alloc: Global) -> Site
+        ensures { result ≡ finmap.empty }
+    {
+        Site {
+            operations: BTreeMap::new(alloc),
+            alloc,
+        }
+    }
+
+    /// Whether an operation of this digest is held.
+    pub fn has(&self, digest: &Digest) -> bool
+        ensures { IsTrue result ↔ (held_at self.now digest.now ≢ None) }
+    {
+        self.operations.contains_key(digest)
+    }
+
+    /// The operation of a digest.
+    pub fn op(&self, digest: &Digest) -> Option<&Op>
+        ensures found { option_copied result ≡ held_at self.now digest.now }
+        ensures own { IfSome result (λ op. digest.now ≡ digest_of op.now) }
+    {
+        self.operations.get(digest)
+    }
+
+    /// Takes an operation, once.
+    pub fn take(&mut self, op: Op) -> Result<Taken, SiteFault>
+        // Each answer, exactly where it is given.
+        ensures new { result ≡ Ok Taken.New → held_at self.old (digest_of op) ≡ None }
+        ensures known { (result ≡ Ok Taken.Known) ↔ (held_at self.old (digest_of op) ≡ Some op) }
+        ensures collision { (result ≡ Err SiteFault.Collision) ↔ IsClash self.old op }
+        ensures memory { result ≡ Err SiteFault.Memory → held_at self.old (digest_of op) ≡ None }
+
+        // What the site holds then.
+        ensures added { result ≡ Ok Taken.New → self.new ≡ with_op self.old op }
+        ensures same { result ≡ Ok Taken.Known → self.new ≡ self.old }
+        ensures kept { OnErr result (self.new ≡ self.old) }
+        ensures takes { Takes self.old op result self.new }
+    {
+        let digest = digest(&op);
+        self.take_under(digest, op)
+    }
+
+    /// Takes an operation under its digest.
+    fn take_under(&mut self, digest: Digest, op: Op) -> Result<Taken, SiteFault>
+        requires { digest ≡ digest_of op }
+        ensures { Takes self.old op result self.new }
+    {
+        if let Some(held) = self.operations.get(&digest) {
+            if held.equals(&op) {
+                return Ok(Taken::Known);
+            }
+            return Err(SiteFault::Collision);
+        }
+        self.operations.insert(digest, op)?;
+        Ok(Taken::New)
+    }
+
+    /// Takes in all that another site holds. A refusal leaves the site as it was.
+    pub fn merge(&mut self, other: &Site) -> Result<(), SiteFault>
+        ensures merged { OnOk result (self.new ≡ union self.old other.now) }
+        ensures agreed { OnOk result (Agree self.old other.now) }
+        ensures collision { (result ≡ Err SiteFault.Collision) ↔ DoClash self.old other.now }
+        ensures kept { OnErr result (self.new ≡ self.old) }
+    {
+        if do_clash(&self.operations, &other.operations) {
+            return Err(SiteFault::Collision);
+        }
+        let mut union = BTreeMap::new(self.alloc);
+        add_copies(self.alloc, &mut union, &self.operations)?;
+        add_copies(self.alloc, &mut union, &other.operations)?;
+        self.operations = union;
+        Ok(())
+    }
+
+    /// Whether both sites hold the same.
+    pub fn same(&self, other: &Site) -> bool
+        ensures { IsTrue result ↔ (self.now ≡ other.now) }
+    {
+        let mut others = other.operations.values();
+        for op in self.operations.values() {
+            match others.next() {
+                None => return false,
+                Some(other_op) => {
+                    if !op.equals(other_op) {
+                        return false;
+                    }
+                }
+            }
+        }
+        others.next().is_none()
+    }
+
+    /// Every operation, ascending by digest.
+    pub fn operations(&self, alloc: Global) -> Result<Vec<&Op>, AllocError>
+        ensures { IfOk result (λ ops. map (λ o. o.now) ops.items ≡ ops_of self.now) }
+    {
+        let mut ops = Vec::with_capacity(alloc, self.operations.len())?;
+        for op in self.operations.values() {
+            ops.push(op)?;
+        }
+        Ok(ops)
+    }
+
+    /// The digests of all operations, ascending.
+    pub fn digests(&self, alloc: Global) -> Result<Vec<Digest>, AllocError>
+        ensures { IfOk result (λ digests. digests.items ≡ digests_of self.now) }
+    {
+        let mut digests = Vec::with_capacity(alloc, self.operations.len())?;
+        for digest in self.operations.keys() {
+            digests.push(*digest)?;
+        }
+        Ok(digests)
+    }
+
+    fn is_missing(&self, digest: &Digest) -> bool
+        ensures { result ≡ is_missing_in self.now digest.now }
+    {
+        !self.operations.contains_key(digest)
+    }
+
+    /// Those of some digests that are not held, in the order given.
+    pub fn missing(&self, alloc: Global, digests: &[Digest]) -> Result<Vec<Digest>, AllocError>
+        ensures { IfOk result (λ missing. missing.items
+            ≡ filter (is_missing_in self.now) digests.now) }
+    {
+        let mut missing = Vec::new(alloc);
+        for digest in digests {
+            if self.is_missing(digest) {
+                missing.push(*digest)?;
+            }
+        }
+        Ok(missing)
+    }
+
+    /// The flagged SOP Instance UIDs, ascending.
+    pub fn flagged(&self, alloc: Global) -> Result<Vec<Octets>, AllocError>
+        ensures { IfOk result (λ uids. uids.items ≡ flagged_in (ops_of self.now)) }
+    {
+        let ops = self.operations(alloc)?;
+        archive_model::flagged(alloc, &ops)
+    }
+
+    /// The greatest counter of the corrections that are held, 0 where none is.
+    pub fn top_counter(&self) -> u64
+        ensures { result ≡ top_counter_of (ops_of self.now) }
+    {
+        let mut top = 0;
+        for op in self.operations.values() {
+            if let Some(correction) = correction(op) {
+                top = top.max(correction.stamp().counter);
+            }
+        }
+        top
+    }
+
+    /// How many operations are held, and of which kind.
+    pub fn counts(&self) -> Counts
+        ensures { result ≡ counts_of (ops_of self.now) }
+    {
+        let mut contents = 0;
+        let mut corrections = 0;
+        for op in self.operations.values() {
+            match op {
+                Op::Content(_) => contents += 1,
+                Op::Correction(_) => corrections += 1,
+            }
+        }
+        Counts {
+            operations: self.operations.len(),
+            contents,
+            corrections,
+        }
+    }
+}
