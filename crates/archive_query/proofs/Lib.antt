@@ -1,0 +1,9 @@
+pub mod WildCards
+pub mod Parts
+pub mod Joined
+pub mod RowSets
+pub mod AscendingLaws
+pub mod GroupingLaws
+pub mod CoveredLaws
+pub mod ShowingLaws
+pub mod RowLaws

@@ -1,0 +1,10 @@
+use Rattle.std.proofs.Common.{◌≡◌, ◌++◌, drop, map}
+use Rattle.std.specs.List.{filter_map}
+use Rattle.archive_query.specs.Column.{columns}
+use Rattle.archive_query.specs.Rows.{cell_in_row}
+use Rattle.archive_query.proofs.rows.cells.Given as goal
+
+abbrev pub invariant-loop-column : goal.invariant-loop-column
+invariant-loop-column l =
+    l.cells.items ++ filter_map (cell_in_row (map (λ o. o.now) l.ops) l.called l.query (map (λ c. c.now) l.contents) l.first) (drop l.column-index l.column-items)
+    ≡ filter_map (cell_in_row (map (λ o. o.now) l.ops) l.called l.query (map (λ c. c.now) l.contents) l.first) l.column-items

@@ -1,0 +1,24 @@
+use Rattle.std.proofs.Common.{◌≡◌, List, map, ap, sym, ◌∙◌, refl, Bor}
+use Rattle.std.specs.List.{filter_map}
+use Rattle.operation.specs.Parts.{ContentParts}
+use Rattle.operation.specs.declared.content.Content.{Content}
+use Rattle.archive_query.specs.Grouping.{under, groups_by}
+use Rattle.archive_query.specs.Rows.{uid_at, row_of, row_at, uids_at}
+use Rattle.archive_query.proofs.ShowingLaws.{map-map, groups-map, filter_map-map}
+use Rattle.archive_query.proofs.rows.rows_among.Goals as goal
+
+pub returns : goal.returns
+returns c =
+    let now = λ (x : Bor Content). x.now in
+    let q = c.args.query.now in
+    let ops = map (λ o. o.now) c.args.ops.now in
+    let cs = map now c.args.contents.now in
+    let one = row_of ops c.args.called.now q in
+    let key = λ (x : Bor Content). uid_at q.level x.now in
+    c.in_ok-rows.ensures
+    ∙ ap (λ (gs : List (Bor (List (Bor Content)))). filter_map one (map (λ g. map now g.now) gs)) c.deref-2.ensures.value
+    ∙ ap (filter_map one) (
+    sym (map-map (λ (g : Bor (List (Bor Content))). g.now) (map now) c.in_ok-groups.groups.items)
+    ∙ ap (map (map now)) (c.in_ok-groups.ensures ∙ ap (groups_by key) c.deref.ensures.value ∙ c.in_ok-sorted.ensures.groups)
+    ∙ groups-map (uid_at q.level) now c.args.contents.now)
+    ∙ filter_map-map (λ k. under (uid_at q.level) k cs) one (row_at ops c.args.called.now q cs) (λ uid. refl) (uids_at q.level cs)

@@ -1,0 +1,15 @@
+pub mod WildCard
+pub mod WildCardFront
+pub mod Range
+pub mod Key
+pub mod Matches
+pub mod Fault
+pub mod Query
+pub mod Column
+pub mod Cell
+pub mod Rows
+pub mod Grouping
+pub mod CoveredUids
+pub mod Showing
+pub mod CorrectionsOnly
+pub mod Laws

@@ -1,0 +1,29 @@
+//! C-FIND over a site (PS3.4, section C.4.1).
+
+ghost use Rattle.std.specs.Prelude.{◌≡◌, IfOk};
+ghost use Rattle.site_state.specs.Site.{ops_of};
+ghost use Rattle.archive_query.specs.Rows.{rows_of};
+
+use crate::answer::Answer;
+use crate::query::Query;
+use crate::rows::rows;
+use archive_model::View;
+use site_state::Site;
+use std::alloc::{AllocError, Global};
+
+/// The rows that a site answers to a query in a view, by ascending UID of the query's level.
+///
+/// The called title is answered in each row as (0008,0054) Retrieve AE Title.
+pub fn find(
+    alloc: Global,
+    site: &Site,
+    view: View,
+    called: &[u8],
+    query: &Query,
+) -> Result<Vec<Answer>, AllocError>
+    ensures { IfOk result (λ rows. rows.items ≡
+        rows_of view called.now query.now (ops_of site.now)) }
+{
+    let ops = site.operations(alloc)?;
+    rows(alloc, &ops, view, called, query)
+}

@@ -1,0 +1,31 @@
+//! Answers to C-FIND and C-GET over a site's set of operations (PS3.4, annex C).
+#![tactic(auto)]
+
+mod answer;
+mod asked;
+mod cell;
+mod column;
+mod corrections;
+mod covered;
+mod fault;
+mod finding;
+mod grouping;
+mod groups;
+mod key;
+mod laws;
+mod matches;
+mod query;
+mod range;
+mod rows;
+mod showing;
+#[cfg(test)]
+mod tests;
+mod wild_card;
+
+pub use answer::Answer;
+pub use asked::Asked;
+pub use fault::QueryFault;
+pub use finding::find;
+pub use key::{Level, Matching};
+pub use laws::same_sites_answer_alike;
+pub use query::Query;

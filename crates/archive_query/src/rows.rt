@@ -1,0 +1,293 @@
+//! The rows of a C-FIND (PS3.4, section C.4.1).
+
+ghost use Rattle.std.specs.Prelude.{◌≡◌, ◌++◌, ◌∷◌, if◌then◌else◌, IfOk, OnOk, map};
+ghost use Rattle.std.specs.Option.{option_map};
+ghost use Rattle.std.specs.Fmt.{decimal};
+ghost use Rattle.std.specs.List.{join_with_byte, filter_map};
+ghost use Rattle.operation.specs.Parts.{value_at};
+ghost use Rattle.archive_query.specs.Column.{columns as columns_of};
+ghost use Rattle.archive_query.specs.Cell.{cell as cell_in};
+ghost use Rattle.archive_query.specs.Rows.{is_key_match as is_key_match_in, is_match as is_match_in, is_unique_key as is_unique_key_in, is_asked as is_asked_in, asked_value, value_in_row, cell_in_row as cell_in_row_of, row as row_in, row_of as row_of_in, rows_among as rows_among_in, rows_of};
+
+use crate::answer::Answer;
+use crate::asked::Asked;
+use crate::cell::cell;
+use crate::column::{Column, columns};
+use crate::corrections::corrections_only;
+use crate::grouping::{by_uid, groups_of};
+use crate::groups::{count_series, modalities_of, named};
+use crate::key::{
+    INSTANCES_OF_SERIES, INSTANCES_OF_STUDY, MODALITIES_IN_STUDY, QUERY_LEVEL, RETRIEVE_AE_TITLE,
+    SERIES_INSTANCE_UID, SERIES_OF_STUDY, SOP_INSTANCE_UID, SPECIFIC_CHARACTER_SET,
+    STUDY_INSTANCE_UID,
+};
+use crate::matches::matches;
+use crate::query::Query;
+use crate::showing::shown;
+use archive_model::{View, attribute, contents};
+use data_set::{DataSet, Element, Syntax};
+use octets::Octets;
+use operation::{Content, Op};
+use std::alloc::{AllocError, Global};
+
+/// Whether a key matches an attribute of a representative, corrected.
+fn is_key_match(ops: &[&Op], content: &Content, asked: &Asked) -> bool
+    ensures { result ≡ is_key_match_in (map (λ o. o.now) ops.now) content.now asked.now }
+{
+    matches(
+        asked.matching,
+        asked.key.as_slice(),
+        attribute(ops, content, asked.tag),
+    )
+}
+
+/// Whether every key does.
+fn is_match(ops: &[&Op], query: &Query, content: &Content) -> bool
+    ensures { result ≡ is_match_in (map (λ o. o.now) ops.now) query.now content.now }
+{
+    query
+        .asked
+        .as_slice()
+        .iter()
+        .all(|asked| is_key_match(ops, content, asked))
+}
+
+fn is_unique_key(tag: u32) -> bool
+    ensures { result ≡ is_unique_key_in tag }
+{
+    tag == STUDY_INSTANCE_UID || tag == SERIES_INSTANCE_UID || tag == SOP_INSTANCE_UID
+}
+
+fn is_asked(query: &Query, tag: u32) -> bool
+    ensures { result ≡ is_asked_in query.now tag }
+{
+    query.asked.as_slice().iter().any(|asked| asked.tag == tag)
+}
+
+/// Adds a text to others, behind a backslash where it is not the first.
+fn add(bytes: &mut Vec<u8>, is_first: bool, text: &[u8]) -> Result<(), AllocError>
+    ensures { OnOk result (bytes.new.items ≡
+        bytes.old.items ++ (if is_first then text.now else 92 ∷ text.now)) }
+{
+    if !is_first {
+        bytes.push(b'\\')?;
+    }
+    bytes.extend_from_slice(text)?;
+    Ok(())
+}
+
+/// Some texts, with a backslash between each two.
+fn joined(alloc: Global, texts: &[Octets]) -> Result<Octets, AllocError>
+    ensures { IfOk result (λ text. text ≡ join_with_byte 92 texts.now) }
+{
+    let mut bytes = Vec::new(alloc);
+    for (i, text) in texts.iter().enumerate() {
+        add(&mut bytes, i == 0, text.as_slice())?;
+    }
+    Ok(Octets::of(bytes))
+}
+
+/// A number in decimal digits.
+fn digits(alloc: Global, number: usize) -> Result<Octets, AllocError>
+    ensures { IfOk result (λ text. text ≡ decimal number) }
+{
+    let text = number.to_string(alloc)?;
+    Octets::from_slice(alloc, text.as_bytes())
+}
+
+/// What is asked of a row, in its column.
+fn asked_cell(
+    alloc: Global,
+    ops: &[&Op],
+    contents: &[&Content],
+    first: &Content,
+    column: Column,
+) -> Result<Element, AllocError>
+    ensures { IfOk result (λ element. element ≡
+        cell_in column
+        (asked_value (map (λ o. o.now) ops.now) (map (λ c. c.now) contents.now) first.now
+        column.tag)) }
+{
+    if column.tag == MODALITIES_IN_STUDY {
+        let modalities = modalities_of(alloc, contents)?;
+        let text = joined(alloc, &modalities)?;
+        return cell(alloc, column, text.as_slice());
+    }
+    if column.tag == SERIES_OF_STUDY {
+        let text = digits(alloc, count_series(alloc, contents)?)?;
+        return cell(alloc, column, text.as_slice());
+    }
+    if column.tag == INSTANCES_OF_STUDY || column.tag == INSTANCES_OF_SERIES {
+        let text = digits(alloc, contents.len())?;
+        return cell(alloc, column, text.as_slice());
+    }
+    cell(alloc, column, attribute(ops, first, column.tag))
+}
+
+/// The character set of a row's representative, where it has one.
+fn character_set_cell(
+    alloc: Global,
+    first: &Content,
+    column: Column,
+) -> Result<Option<Element>, AllocError>
+    ensures { IfOk result (λ element. element ≡
+        option_map (cell_in column) (value_at column.tag first.now.values)) }
+{
+    match first.value(column.tag) {
+        None => Ok(None),
+        Some(value) => Ok(Some(cell(alloc, column, value)?)),
+    }
+}
+
+/// What a row has in a column.
+fn cell_in_row(
+    alloc: Global,
+    ops: &[&Op],
+    called: &[u8],
+    query: &Query,
+    contents: &[&Content],
+    first: &Content,
+    column: Column,
+) -> Result<Option<Element>, AllocError>
+    ensures { IfOk result (λ element. element ≡
+        cell_in_row_of (map (λ o. o.now) ops.now) called.now query.now
+        (map (λ c. c.now) contents.now) first.now column) }
+{
+    if column.tag == SPECIFIC_CHARACTER_SET {
+        return character_set_cell(alloc, first, column);
+    }
+    if column.tag == QUERY_LEVEL {
+        return Ok(Some(cell(alloc, column, query.level.word())?));
+    }
+    if column.tag == RETRIEVE_AE_TITLE {
+        return Ok(Some(cell(alloc, column, called)?));
+    }
+    if is_unique_key(column.tag) {
+        return Ok(Some(cell(alloc, column, first.own_value(column.tag))?));
+    }
+    if !is_asked(query, column.tag) {
+        return Ok(None);
+    }
+    Ok(Some(asked_cell(alloc, ops, contents, first, column)?))
+}
+
+/// The elements of a row.
+fn cells(
+    alloc: Global,
+    ops: &[&Op],
+    called: &[u8],
+    query: &Query,
+    contents: &[&Content],
+    first: &Content,
+) -> Result<Vec<Element>, AllocError>
+    ensures { IfOk result (λ cells. cells.items ≡
+        (row_in (map (λ o. o.now) ops.now) called.now query.now (map (λ c. c.now) contents.now)
+        first.now).elements) }
+{
+    let mut cells = Vec::new(alloc);
+    for column in columns(query.level) {
+        let cell = cell_in_row(alloc, ops, called, query, contents, first, *column)?;
+        if let Some(cell) = cell {
+            cells.push(cell)?;
+        }
+    }
+    Ok(cells)
+}
+
+/// The row of some contents, of which the first is its representative.
+fn row(
+    alloc: Global,
+    ops: &[&Op],
+    called: &[u8],
+    query: &Query,
+    contents: &[&Content],
+    first: &Content,
+) -> Result<Answer, AllocError>
+    ensures { IfOk result (λ answer. answer ≡
+        row_in (map (λ o. o.now) ops.now) called.now query.now (map (λ c. c.now) contents.now)
+        first.now) }
+{
+    let cells = cells(alloc, ops, called, query, contents, first)?;
+    Ok(Answer::of(DataSet::of(Syntax::Explicit, cells)))
+}
+
+/// The row of some contents, where the first of them matches.
+fn row_of(
+    alloc: Global,
+    ops: &[&Op],
+    called: &[u8],
+    query: &Query,
+    contents: &[&Content],
+) -> Result<Option<Answer>, AllocError>
+    ensures { IfOk result (λ answer. answer ≡
+        row_of_in (map (λ o. o.now) ops.now) called.now query.now (map (λ c. c.now) contents.now)) }
+{
+    match contents {
+        [] => Ok(None),
+        [first, ..] => {
+            if !is_match(ops, query, first) {
+                return Ok(None);
+            }
+            Ok(Some(row(alloc, ops, called, query, contents, first)?))
+        }
+    }
+}
+
+/// The rows of some groups of contents.
+fn rows_of_groups(
+    alloc: Global,
+    ops: &[&Op],
+    called: &[u8],
+    query: &Query,
+    groups: &[&[&Content]],
+) -> Result<Vec<Answer>, AllocError>
+    ensures { IfOk result (λ rows. rows.items ≡
+        filter_map (row_of_in (map (λ o. o.now) ops.now) called.now query.now)
+        (map (λ g. map (λ c. c.now) g.now) groups.now)) }
+{
+    let mut rows = Vec::new(alloc);
+    for group in groups {
+        if let Some(row) = row_of(alloc, ops, called, query, group)? {
+            rows.push(row)?;
+        }
+    }
+    Ok(rows)
+}
+
+/// The rows of some contents: one sort, and a row for each run of one UID.
+fn rows_among(
+    alloc: Global,
+    ops: &[&Op],
+    called: &[u8],
+    query: &Query,
+    contents: &[&Content],
+) -> Result<Vec<Answer>, AllocError>
+    ensures { IfOk result (λ rows. rows.items ≡
+        rows_among_in (map (λ o. o.now) ops.now) called.now query.now
+        (map (λ c. c.now) contents.now)) }
+{
+    let sorted = by_uid(alloc, query.level, contents)?;
+    let groups = groups_of(alloc, query.level, &sorted)?;
+    let rows = rows_of_groups(alloc, ops, called, query, &groups)?;
+    Ok(rows)
+}
+
+/// What a C-FIND answers over some operations, ascending by digest: one pass over them.
+#[tactic(auto, unfolding(crate::specs::Rows::rows_of))]
+pub(crate) fn rows(
+    alloc: Global,
+    ops: &[&Op],
+    view: View,
+    called: &[u8],
+    query: &Query,
+) -> Result<Vec<Answer>, AllocError>
+    ensures { IfOk result (λ rows. rows.items ≡
+        rows_of view called.now query.now (map (λ o. o.now) ops.now)) }
+{
+    let held = contents(alloc, ops)?;
+    let corrections = corrections_only(alloc, ops)?;
+    let shown = shown(alloc, view, &held)?;
+    let named = named(alloc, query, &shown)?;
+    let rows = rows_among(alloc, &corrections, called, query, &named)?;
+    Ok(rows)
+}

@@ -1,0 +1,6 @@
+//! Tests of queries and rows.
+
+mod keys;
+mod made;
+mod many;
+mod rows;
