@@ -1,6 +1,6 @@
 //! Bytes that contracts see as their list.
 
-ghost use Rattle.std.specs.Prelude.{◌≡◌, ◌==◌, List, ℕ, IfOk, IsTrue, ◌↔◌, length, [], nat_eq, refl, Some};
+ghost use Rattle.std.specs.Prelude.{◌≡◌, ◌==◌, ◌++◌, List, ℕ, IfOk, OnOk, OnErr, IsTrue, ◌↔◌, length, [], nat_eq, refl, Some};
 ghost use Rattle.std.specs.Ordering.{nat_cmp};
 ghost use Rattle.std.specs.Cmp.Lexicographic.{pointwise, slice_cmp, nat_list_eq_equiv, nat_list_cmp_total, texts_ties, texts_po};
 ghost use Rattle.std.specs.Cmp.{partial_equiv_from_equiv};
@@ -66,6 +66,14 @@ impl Octets {
     {
         let Octets { bytes } = self;
         bytes
+    }
+
+    /// Puts bytes at the end, in room that doubles. A refusal changes nothing.
+    pub fn extend_from_slice(&mut self, more: &[u8]) -> Result<(), AllocError>
+        ensures added { OnOk result (self.new ≡ self.old ++ more.now) }
+        ensures kept { OnErr result (self.new ≡ self.old) }
+    {
+        self.bytes.extend_from_slice(more)
     }
 
     /// A second owner of the same bytes, copied.

@@ -1,0 +1,9 @@
+pub mod Again
+pub mod Bodies
+pub mod Faults
+pub mod Fronts
+pub mod Items
+pub mod Lists
+pub mod Padding
+pub mod Pieces
+pub mod Values

@@ -1,0 +1,223 @@
+-- What an item's content says is what it has, and the other way round.
+use Rattle.std.proofs.Common.{◌≡◌, ◌≢◌, ℕ, zero, suc, ◌+◌, ◌-◌, ◌≤◌, ◌<◌, Bool, true, false, not, cond, ltb, eqb, ◌&&◌, List, [], ◌∷◌, ◌++◌, length, take, drop, get_or, length-append, length-drop, drop-cons, Option, Result, Ok, Err, refl, sym, ap, subst, ◌∙◌, arith}
+use Rattle.std.specs.List.{list_all}
+use Rattle.std.specs.Prelude.{map}
+use Rattle.std.specs.Int.{w16, w32, from_be_bytes}
+use Rattle.std.proofs.lemmas.Bool.{ltb-false, le-ltb}
+use Rattle.std.proofs.lemmas.List.{take_at, drop_at, take-append-drop, length-take, nil_from_length}
+use Rattle.octets.specs.Gives.{◌>>=◌}
+use Rattle.octets.proofs.ByteLaws.{bind_ok, guard_ok, guard_end, ok_is}
+use Rattle.pdu.specs.declared.header.TheConstants.{OPENING_LENGTH}
+use Rattle.pdu.specs.declared.item.TheConstants.{APPLICATION_CONTEXT, PROPOSED_CONTEXT, ANSWERED_CONTEXT, ABSTRACT_SYNTAX, TRANSFER_SYNTAX, USER_INFORMATION, MAXIMUM_LENGTH, IMPLEMENTATION_CLASS, ROLE_SELECTION}
+use Rattle.pdu.specs.declared.fault.PduFault.{PduFault}
+use Rattle.pdu.specs.declared.fault.PduFault.TheVariants.{BadItem}
+use Rattle.pdu.specs.declared.item.Item.{Item}
+use Rattle.pdu.specs.declared.user.Role.{Role}
+use Rattle.pdu.specs.declared.user.UserInformation.{UserInformation}
+use Rattle.pdu.specs.declared.context.ProposedContext.{ProposedContext}
+use Rattle.pdu.specs.declared.context.AnsweredContext.{AnsweredContext}
+use Rattle.pdu.specs.Grammar.{Sole, Each, contents_of, is_graphic, trimmed, IsUid, IsLength, IsRole, first_or, first_of, IsUser, is_odd, IsProposal, IsAnswer}
+use Rattle.pdu.specs.Reading.{pieces_of, item_at, each_at, sole_at, uid_at, length_at, role_at, user_at, proposal_at, answer_at}
+use Rattle.pdu.proofs.Pieces.{FoundIn, AgainIn, pieces-found, pieces-again, each-found, each-again, sole-found, sole-again}
+use Rattle.pdu.proofs.Items.{item-found, item-again, item-shorter}
+
+-- a test that was passed before a reading
+pub tested : {A : Type 0} (t : Bool) (read : Result A PduFault) (x : A) → cond t read (Err BadItem) ≡ Ok x → (t ≡ true) × (read ≡ Ok x)
+tested true read x e = (refl, e)
+tested false read x e = absurd cc
+
+-- ---- UIDs and lengths
+
+pub uid-found : FoundIn uid_at IsUid
+unfolding uid_at
+uid-found content v e =
+    let g = guard_end (list_all is_graphic (trimmed content)) BadItem (trimmed content) v e in
+    (sym g.1, subst (λ u. list_all is_graphic u ≡ true) g.1 g.0)
+
+pub uid-again : AgainIn uid_at IsUid
+unfolding uid_at
+uid-again v content (is, graphic) =
+    let g : list_all is_graphic (trimmed content) ≡ true = subst (λ u. list_all is_graphic u ≡ true) is graphic in
+    rw g (ap Ok (sym is))
+
+pub length-found : FoundIn length_at IsLength
+length-found (a ∷ b ∷ c ∷ d ∷ []) n e = (a, b, c, d, ok_is PduFault (from_be_bytes w32 (a ∷ b ∷ c ∷ d ∷ [])) n e, refl)
+length-found _ n e = absurd cc
+
+pub length-again : AgainIn length_at IsLength
+length-again n content (a, b, c, d, is, parts) = ap length_at parts ∙ ap Ok is
+
+-- ---- roles
+
+abbrev role : List ℕ → ℕ → ℕ → Role
+role class scu scp = record { class = class; scu = scu; scp = scp }
+
+eq_of_test : (m n : ℕ) → eqb m n ≡ true → m ≡ n
+eq_of_test m n e = grind arith
+
+test_of_eq : (m n : ℕ) → m ≡ n → eqb m n ≡ true
+test_of_eq m n e = grind arith
+
+two_last : (size : ℕ) (rest : List ℕ) → length rest ≡ size + 2 → rest ≡ take size rest ++ get_or rest size 0 ∷ get_or rest (size + 1) 0 ∷ []
+two_last size rest len =
+    let one : drop size rest ≡ get_or rest size 0 ∷ drop (suc size) rest = drop-cons rest size 0 (omega (arith, len)) in
+    let two : drop (suc size) rest ≡ get_or rest (suc size) 0 ∷ drop (suc (suc size)) rest = drop-cons rest (suc size) 0 (omega (arith, len)) in
+    let none : drop (suc (suc size)) rest ≡ [] = nil_from_length (drop (suc (suc size)) rest) (omega (arith, length-drop (suc (suc size)) rest, len)) in
+    let next : suc size ≡ size + 1 = omega arith in
+    sym (take-append-drop size rest) ∙ ap (λ (t : List ℕ). take size rest ++ t) (one ∙ ap (λ (t : List ℕ). get_or rest size 0 ∷ t) (two ∙ ap (λ (t : List ℕ). get_or rest (suc size) 0 ∷ t) none))
+    ∙ ap (λ (n : ℕ). take size rest ++ get_or rest size 0 ∷ get_or rest n 0 ∷ []) next
+
+pub role-found : FoundIn role_at IsRole
+unfolding role_at
+role-found (high ∷ low ∷ rest) v e =
+    let size = from_be_bytes w16 (high ∷ low ∷ []) in
+    let last = λ (class : List ℕ). role class (get_or rest size 0) (get_or rest (size + 1) 0) in
+    let t = tested (eqb (length rest) (size + 2)) (uid_at (take size rest) >>= λ class. Ok (last class)) v e in
+    let len : length rest ≡ size + 2 = eq_of_test _ _ t.0 in
+    let u = bind_ok (uid_at (take size rest)) (λ class. Ok (last class)) v t.1 in
+    subst (λ r. IsRole r (high ∷ low ∷ rest)) (ok_is PduFault (last u.0) v u.2) (record {
+      high = high;
+      low = low;
+      text = take size rest;
+      size = omega (arith, len, length-take size rest);
+      uid = uid-found (take size rest) u.0 u.1;
+      parts = ap (λ (t : List ℕ). high ∷ low ∷ t) (two_last size rest len);
+    })
+role-found _ v e = absurd cc
+
+last_two : (size : ℕ) (text : List ℕ) (p q : ℕ) → size ≡ length text → drop size (text ++ p ∷ q ∷ []) ≡ p ∷ q ∷ []
+last_two size text p q is = drop_at text (p ∷ q ∷ []) size (sym is)
+
+read_role : (size : ℕ) (class text : List ℕ) (p q : ℕ) → size ≡ length text → uid_at text ≡ Ok class
+    → cond (eqb (length (text ++ p ∷ q ∷ [])) (size + 2)) (uid_at (take size (text ++ p ∷ q ∷ [])) >>= λ c. Ok (role c (get_or (text ++ p ∷ q ∷ []) size 0) (get_or (text ++ p ∷ q ∷ []) (size + 1) 0))) (Err BadItem) ≡ Ok (role class p q)
+read_role size class text p q is uid =
+    let long : eqb (length (text ++ p ∷ q ∷ [])) (size + 2) ≡ true = test_of_eq _ _ (omega (arith, is, length-append text (p ∷ q ∷ []))) in
+    let cut : take size (text ++ p ∷ q ∷ []) ≡ text = take_at text (p ∷ q ∷ []) size (sym is) in
+    let first : get_or (text ++ p ∷ q ∷ []) size 0 ≡ p = at_length size text p q is in
+    let second : get_or (text ++ p ∷ q ∷ []) (size + 1) 0 ≡ q = past_length size text p q is in
+    rw (long, cut, uid, first, second) refl
+  where
+    at_length : (size : ℕ) (text : List ℕ) (p q : ℕ) → size ≡ length text → get_or (text ++ p ∷ q ∷ []) size 0 ≡ p
+    at_length size [] p q is = ap (λ (n : ℕ). get_or (p ∷ q ∷ []) n 0) is
+    at_length zero (t ∷ ts) p q is = absurd (omega (arith, is))
+    at_length (suc n) (t ∷ ts) p q is = at_length n ts p q (omega (arith, is))
+
+    past_length : (size : ℕ) (text : List ℕ) (p q : ℕ) → size ≡ length text → get_or (text ++ p ∷ q ∷ []) (size + 1) 0 ≡ q
+    past_length size text p q is = ap (λ (n : ℕ). get_or (text ++ p ∷ q ∷ []) n 0) (omega (arith, is)) ∙ behind text p q
+      where
+        behind : (text : List ℕ) (p q : ℕ) → get_or (text ++ p ∷ q ∷ []) (suc (length text)) 0 ≡ q
+        behind [] p q = refl
+        behind (t ∷ ts) p q = behind ts p q
+
+pub role-again : AgainIn role_at IsRole
+unfolding role_at
+role-again v content r =
+    ap role_at r.parts ∙ read_role (from_be_bytes w16 (r.high ∷ r.low ∷ [])) v.class r.text v.scu v.scp r.size (uid-again v.class r.text r.uid)
+
+-- ---- user information
+
+abbrev user : ℕ → Option (List ℕ) → List Role → UserInformation
+user n class roles = record { maximum_length = n; implementation_class = class; roles = roles }
+
+pub user-found : FoundIn user_at IsUser
+unfolding user_at
+user-found text v e =
+    let i = bind_ok (pieces_of item_at text) (λ items. each_at length_at (contents_of MAXIMUM_LENGTH items) >>= λ lengths. each_at uid_at (contents_of IMPLEMENTATION_CLASS items) >>= λ classes. each_at role_at (contents_of ROLE_SELECTION items) >>= λ roles. Ok (user (first_or 0 lengths) (first_of classes) roles)) v e in
+    let l = bind_ok (each_at length_at (contents_of MAXIMUM_LENGTH i.0)) (λ lengths. each_at uid_at (contents_of IMPLEMENTATION_CLASS i.0) >>= λ classes. each_at role_at (contents_of ROLE_SELECTION i.0) >>= λ roles. Ok (user (first_or 0 lengths) (first_of classes) roles)) v i.2 in
+    let c = bind_ok (each_at uid_at (contents_of IMPLEMENTATION_CLASS i.0)) (λ classes. each_at role_at (contents_of ROLE_SELECTION i.0) >>= λ roles. Ok (user (first_or 0 l.0) (first_of classes) roles)) v l.2 in
+    let r = bind_ok (each_at role_at (contents_of ROLE_SELECTION i.0)) (λ roles. Ok (user (first_or 0 l.0) (first_of c.0) roles)) v c.2 in
+    subst (λ u. IsUser u text) (ok_is PduFault (user (first_or 0 l.0) (first_of c.0) r.0) v r.2) (record {
+      items = i.0;
+      filled = pieces-found item_at _ item-found text i.0 i.1;
+      lengths = l.0;
+      are_lengths = each-found length_at IsLength length-found _ l.0 l.1;
+      maximum_length = refl;
+      classes = c.0;
+      are_classes = each-found uid_at IsUid uid-found _ c.0 c.1;
+      implementation_class = refl;
+      roles = each-found role_at IsRole role-found _ r.0 r.1;
+    })
+
+pub user-again : AgainIn user_at IsUser
+unfolding user_at
+user-again v text h =
+    let i = pieces-again item_at _ item-shorter item-again h.items text h.filled in
+    let l = each-again length_at IsLength length-again h.lengths _ h.are_lengths in
+    let c = each-again uid_at IsUid uid-again h.classes _ h.are_classes in
+    let r = each-again role_at IsRole role-again v.roles _ h.roles in
+    rw (i, l, c, r) (ap (λ (n : ℕ). Ok (user n (first_of h.classes) v.roles)) h.maximum_length ∙ ap (λ (o : Option (List ℕ)). Ok (user v.maximum_length o v.roles)) h.implementation_class)
+
+-- ---- presentation contexts
+
+and_true : (a b : Bool) → (a && b) ≡ true → (a ≡ true) × (b ≡ true)
+and_true true b e = (refl, e)
+and_true false b e = absurd cc
+
+some_of_test : (n : ℕ) → not (eqb n 0) ≡ true → n ≢ 0
+some_of_test zero e z = absurd cc
+some_of_test (suc n) e z = absurd (omega (arith, z))
+
+test_of_some : (n : ℕ) → n ≢ 0 → not (eqb n 0) ≡ true
+test_of_some n some = grind (arith, some)
+
+abbrev proposal : ℕ → List ℕ → List (List ℕ) → ProposedContext
+proposal id abstract syntaxes = record { id = id; abstract_syntax = abstract; transfer_syntaxes = syntaxes }
+
+pub proposal-found : FoundIn proposal_at IsProposal
+unfolding proposal_at
+proposal-found (id ∷ a ∷ b ∷ c ∷ text) v e =
+    let i = bind_ok (pieces_of item_at text) (λ items. sole_at uid_at (contents_of ABSTRACT_SYNTAX items) >>= λ abstract. each_at uid_at (contents_of TRANSFER_SYNTAX items) >>= λ syntaxes. cond (is_odd id && not (eqb (length syntaxes) 0)) (Ok (proposal id abstract syntaxes)) (Err BadItem)) v e in
+    let s = bind_ok (sole_at uid_at (contents_of ABSTRACT_SYNTAX i.0)) (λ abstract. each_at uid_at (contents_of TRANSFER_SYNTAX i.0) >>= λ syntaxes. cond (is_odd id && not (eqb (length syntaxes) 0)) (Ok (proposal id abstract syntaxes)) (Err BadItem)) v i.2 in
+    let t = bind_ok (each_at uid_at (contents_of TRANSFER_SYNTAX i.0)) (λ syntaxes. cond (is_odd id && not (eqb (length syntaxes) 0)) (Ok (proposal id s.0 syntaxes)) (Err BadItem)) v s.2 in
+    let g = guard_end (is_odd id && not (eqb (length t.0) 0)) BadItem (proposal id s.0 t.0) v t.2 in
+    let both = and_true (is_odd id) (not (eqb (length t.0) 0)) g.0 in
+    subst (λ p. IsProposal p (id ∷ a ∷ b ∷ c ∷ text)) g.1 (record {
+      a = a;
+      b = b;
+      c = c;
+      text = text;
+      parts = refl;
+      odd = both.0;
+      items = i.0;
+      filled = pieces-found item_at _ item-found text i.0 i.1;
+      abstract_syntax = sole-found uid_at IsUid uid-found _ s.0 s.1;
+      transfer_syntaxes = each-found uid_at IsUid uid-found _ t.0 t.1;
+      some = some_of_test (length t.0) both.1;
+    })
+proposal-found _ v e = absurd cc
+
+pub proposal-again : AgainIn proposal_at IsProposal
+unfolding proposal_at
+proposal-again v content h =
+    let i = pieces-again item_at _ item-shorter item-again h.items h.text h.filled in
+    let s = sole-again uid_at IsUid uid-again v.abstract_syntax _ h.abstract_syntax in
+    let t = each-again uid_at IsUid uid-again v.transfer_syntaxes _ h.transfer_syntaxes in
+    ap proposal_at h.parts ∙ rw (i, s, t, h.odd, test_of_some (length v.transfer_syntaxes) h.some) refl
+
+abbrev answer : ℕ → ℕ → List ℕ → AnsweredContext
+answer id result syntax = record { id = id; result = result; transfer_syntax = syntax }
+
+pub answer-found : FoundIn answer_at IsAnswer
+unfolding answer_at
+answer-found (id ∷ a ∷ result ∷ b ∷ text) v e =
+    let i = bind_ok (pieces_of item_at text) (λ items. sole_at uid_at (contents_of TRANSFER_SYNTAX items) >>= λ syntax. cond (is_odd id) (Ok (answer id result syntax)) (Err BadItem)) v e in
+    let s = bind_ok (sole_at uid_at (contents_of TRANSFER_SYNTAX i.0)) (λ syntax. cond (is_odd id) (Ok (answer id result syntax)) (Err BadItem)) v i.2 in
+    let g = guard_end (is_odd id) BadItem (answer id result s.0) v s.2 in
+    subst (λ p. IsAnswer p (id ∷ a ∷ result ∷ b ∷ text)) g.1 (record {
+      a = a;
+      b = b;
+      text = text;
+      parts = refl;
+      odd = g.0;
+      items = i.0;
+      filled = pieces-found item_at _ item-found text i.0 i.1;
+      transfer_syntax = sole-found uid_at IsUid uid-found _ s.0 s.1;
+    })
+answer-found _ v e = absurd cc
+
+pub answer-again : AgainIn answer_at IsAnswer
+unfolding answer_at
+answer-again v content h =
+    let i = pieces-again item_at _ item-shorter item-again h.items h.text h.filled in
+    let s = sole-again uid_at IsUid uid-again v.transfer_syntax _ h.transfer_syntax in
+    ap answer_at h.parts ∙ rw (i, s, h.odd) refl

@@ -1,0 +1,5 @@
+use Rattle.pdu.proofs.Fronts.{one_pdu}
+use Rattle.pdu.proofs.reader.spells_one_pdu.Goals as goal
+
+pub returns : goal.returns
+returns c = one_pdu

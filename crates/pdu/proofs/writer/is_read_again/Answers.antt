@@ -1,0 +1,5 @@
+use Rattle.pdu.proofs.Again.{spells_before}
+use Rattle.pdu.proofs.writer.is_read_again.Goals as goal
+
+pub returns : goal.returns
+returns c = spells_before

@@ -1,0 +1,15 @@
+use Rattle.std.proofs.Common.{ap, ◌++◌, ◌∙◌}
+use Rattle.pdu.specs.Spelling.{item_text, HasLength, FitsProposal, proposal_item}
+use Rattle.pdu.proofs.Lists.{all_at, all_map_at, item_put}
+use Rattle.pdu.proofs.writer.put_proposals.Goals as goal
+
+pub put_proposal-requires-clause-parts : goal.put_proposal-requires-clause-parts
+put_proposal-requires-clause-parts c = (all_at FitsProposal c.args.contexts.now c.loop-context.context-index c.context-item.result c.requires.parts c.loop-context-test.true c.context-item.is).lengths
+
+pub put_proposal-requires-clause-whole : goal.put_proposal-requires-clause-whole
+put_proposal-requires-clause-whole c = all_map_at HasLength proposal_item c.args.contexts.now c.loop-context.context-index c.context-item.result c.requires.whole c.loop-context-test.true c.context-item.is
+
+pub loop-context-preserved : goal.loop-context-preserved
+loop-context-preserved c =
+    c.in_ok-put_proposal.ensures ∙ ap (λ t. t ++ item_text (proposal_item c.context-item.result)) c.loop-context.invariant
+    ∙ item_put item_text proposal_item c.args.out.now.items c.args.contexts.now c.loop-context.context-index c.context-item.result c.loop-context-test.true c.context-item.is

@@ -1,0 +1,7 @@
+use Rattle.std.proofs.Common.{◌≡◌, ◌++◌, take, map}
+use Rattle.std.specs.List.{flat_map}
+use Rattle.pdu.specs.Spelling.{items_text, pdv_text, role_item, syntax_item, proposal_item, answer_item}
+use Rattle.pdu.proofs.writer.put_proposals.Given as goal
+
+abbrev pub invariant-loop-context : goal.invariant-loop-context
+invariant-loop-context l = l.out.items ≡ l.fn.out.items ++ items_text (map proposal_item (take l.context-index l.contexts))

@@ -1,0 +1,5 @@
+pub mod Fault
+pub mod Grammar
+pub mod Header
+pub mod Reading
+pub mod Spelling

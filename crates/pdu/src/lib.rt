@@ -1,0 +1,31 @@
+//! The PDUs of the DICOM upper layer (PS3.8, section 9.3).
+#![tactic(auto)]
+
+mod accept;
+mod context;
+mod fault;
+mod header;
+mod item;
+mod opening;
+mod pdv;
+mod reader;
+mod reject;
+mod request;
+#[cfg(test)]
+mod tests;
+mod uid;
+mod user;
+mod value;
+mod writer;
+
+pub use accept::Accept;
+pub use context::{AnsweredContext, Context, Contexts, ProposedContext};
+pub use fault::PduFault;
+pub use opening::Opening;
+pub use pdv::Pdv;
+pub use reader::{read_pdu, read_shared, spells_one_pdu};
+pub use reject::Reject;
+pub use request::Request;
+pub use user::{Role, UserInformation};
+pub use value::{Pdu, Step};
+pub use writer::{is_read_again, write_pdu};

@@ -1,0 +1,105 @@
+//! Reading the PDU at the front of a stream (PS3.8, section 9.3).
+
+ghost use Rattle.std.specs.Prelude.{◌≡◌, ◌≤◌, ◌+◌, ◌↔◌, List, ℕ, length, take, IsErrOf, IfOk, IfSome, Ok, Err};
+ghost use Rattle.pdu.specs.declared.fault.PduFault.TheVariants.{UnknownType, BadLength, BadItem, TooLong};
+ghost use Rattle.pdu.specs.declared.header.TheConstants.{HEADER_LENGTH};
+ghost use Rattle.pdu.specs.declared.value.Pdu.{Pdu};
+ghost use Rattle.pdu.specs.declared.value.Step.TheVariants.{Need, Done};
+ghost use Rattle.pdu.specs.Fault.{Gives};
+ghost use Rattle.pdu.specs.Grammar.{Spells, IsUnfinished, HasHeaderFault, HasBadBody, IfDone};
+ghost use Rattle.pdu.specs.Reading.{front_at, Answers};
+
+use crate::fault::PduFault;
+use crate::header::{HEADER_LENGTH, fault_of};
+use crate::value::{Step, body_of};
+use bytes::Bytes;
+use std::alloc::Global;
+
+/// Reads the PDU at the front of the stream. Bytes may follow it.
+///
+/// The body is copied once, and the fragments of a P-DATA-TF share that copy.
+pub fn read_pdu(alloc: Global, bytes: &[u8]) -> Result<Step, PduFault>
+    // What is read is spelled by the first n bytes, and what they spell is read.
+    ensures done { IfDone result (λ p n. (n ≤ length bytes.now) × Spells p (take n bytes.now)) }
+    ensures only { (p : Pdu) (n : ℕ) → n ≤ length bytes.now → Spells p (take n bytes.now) →
+        Gives result (Ok (Done p n)) }
+    ensures need { (result ≡ Ok Need) ↔ IsUnfinished bytes.now }
+
+    // Each fault, exactly where it is.
+    ensures unknown_type { IsErrOf result UnknownType ↔ HasHeaderFault UnknownType bytes.now }
+    ensures bad_length { IsErrOf result BadLength ↔ HasHeaderFault BadLength bytes.now }
+    ensures bad_item { IsErrOf result BadItem → HasBadBody bytes.now }
+    ensures bad_item_told { HasBadBody bytes.now → Gives result (Err BadItem) }
+    ensures too_long { IsErrOf result TooLong ↔ HasHeaderFault TooLong bytes.now }
+{
+    step_of(alloc, bytes)
+}
+
+/// The same over bytes that are shared: the fragments of a P-DATA-TF share them too, and no byte
+/// of them is copied.
+pub fn read_shared(alloc: Global, bytes: &Bytes) -> Result<Step, PduFault>
+    // What is read is spelled by the first n bytes, and what they spell is read.
+    ensures done { IfDone result (λ p n. (n ≤ length bytes.now) × Spells p (take n bytes.now)) }
+    ensures only { (p : Pdu) (n : ℕ) → n ≤ length bytes.now → Spells p (take n bytes.now) →
+        Gives result (Ok (Done p n)) }
+    ensures need { (result ≡ Ok Need) ↔ IsUnfinished bytes.now }
+
+    // Each fault, exactly where it is.
+    ensures unknown_type { IsErrOf result UnknownType ↔ HasHeaderFault UnknownType bytes.now }
+    ensures bad_length { IsErrOf result BadLength ↔ HasHeaderFault BadLength bytes.now }
+    ensures bad_item { IsErrOf result BadItem → HasBadBody bytes.now }
+    ensures bad_item_told { HasBadBody bytes.now → Gives result (Err BadItem) }
+    ensures too_long { IsErrOf result TooLong ↔ HasHeaderFault TooLong bytes.now }
+{
+    shared_step_of(alloc, bytes)
+}
+
+/// A text spells at most one PDU at its front.
+pub fn spells_one_pdu()
+    ensures { (bytes : List ℕ) (p q : Pdu) (n m : ℕ) → n ≤ length bytes → m ≤ length bytes →
+        Spells p (take n bytes) → Spells q (take m bytes) → (p ≡ q) × (n ≡ m) }
+{}
+
+#[tactic(auto, unfolding(crate::specs::Reading::Answers))]
+fn step_of(alloc: Global, bytes: &[u8]) -> Result<Step, PduFault>
+    ensures { Answers result bytes.now }
+{
+    let Some(size) = front_of(bytes)? else {
+        return Ok(Step::Need);
+    };
+    let body = Bytes::copy_from_slice(alloc, &bytes[HEADER_LENGTH..size + HEADER_LENGTH])?;
+    let pdu = body_of(alloc, bytes[0], body)?;
+    Ok(Step::Done(pdu, size + HEADER_LENGTH))
+}
+
+#[tactic(auto, unfolding(crate::specs::Reading::Answers))]
+fn shared_step_of(alloc: Global, bytes: &Bytes) -> Result<Step, PduFault>
+    ensures { Answers result bytes.now }
+{
+    let Some(size) = front_of(bytes.as_slice())? else {
+        return Ok(Step::Need);
+    };
+    let code = bytes.as_slice()[0];
+    let body = bytes.slice(HEADER_LENGTH..size + HEADER_LENGTH)?;
+    let pdu = body_of(alloc, code, body)?;
+    Ok(Step::Done(pdu, size + HEADER_LENGTH))
+}
+
+/// The length of the body at the front, or `None` where it is not whole.
+#[tactic(auto, unfolding(crate::specs::Reading::front_at))]
+fn front_of(bytes: &[u8]) -> Result<Option<usize>, PduFault>
+    ensures exact { result ≡ front_at bytes.now }
+    ensures whole { IfOk result (λ size. IfSome size (λ n. n + HEADER_LENGTH ≤ length bytes.now)) }
+{
+    if bytes.len() < HEADER_LENGTH {
+        return Ok(None);
+    }
+    let size = u32::from_be_bytes([bytes[2], bytes[3], bytes[4], bytes[5]]) as usize;
+    if let Some(fault) = fault_of(bytes[0], size) {
+        return Err(fault);
+    }
+    if bytes.len() - HEADER_LENGTH < size {
+        return Ok(None);
+    }
+    Ok(Some(size))
+}
