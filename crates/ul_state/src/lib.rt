@@ -1,0 +1,24 @@
+//! The acceptor's side of the DICOM upper layer (PS3.8, section 9.2), without its timers.
+//!
+//! Events come in and actions go out: nothing here reads a socket. `negotiate` decides on a
+//! request, `Acceptor::on` is the table of the states in use, row for row.
+#![tactic(auto)]
+
+mod acceptor;
+mod admission;
+mod answer;
+mod decision;
+mod event;
+mod table;
+#[cfg(test)]
+mod tests;
+mod titles;
+
+pub use acceptor::{Acceptor, Settled};
+pub use decision::{Decision, negotiate};
+pub use event::{Action, Event};
+pub use table::{
+    State, accepts_nothing_after_an_acceptance, answers_once, never_hands_on_after_goodbye,
+    never_hands_on_before_an_acceptance,
+};
+pub use titles::{Title, Titles};

@@ -1,0 +1,354 @@
+//! Rows of the table and of negotiation, from outside.
+
+use super::*;
+use octets::{ListOf, Octets};
+use pdu::{Accept, Context, Pdu, PduFault, Step, read_pdu};
+use std::alloc::{AllocError, Global};
+use std::process::Abort;
+use std::test::Fail;
+
+const CONTEXT_NAME: &[u8] = b"\x10\x00\x00\x151.2.840.10008.3.1.1.1";
+
+const VERIFICATION: &[u8] = b"\x20\x00\x00\x2e\x01\x00\x00\x00\
+    \x30\x00\x00\x111.2.840.10008.1.1\
+    \x40\x00\x00\x111.2.840.10008.1.2";
+
+const USER: &[u8] = b"\x50\x00\x00\x11\x51\x00\x00\x04\x00\x00\x40\x00\x52\x00\x00\x051.2.3";
+
+fn joined(alloc: Global, parts: &[&[u8]]) -> Result<Vec<u8>, AllocError> {
+    let mut out = Vec::new(alloc);
+    for part in parts {
+        out.extend_from_slice(part)?;
+    }
+    Ok(out)
+}
+
+/// The PDU of a request.
+fn request(alloc: Global, version: u8, title: &[u8], items: &[&[u8]]) -> Result<Pdu, PduFault> {
+    let items = joined(alloc, items)?;
+    let [_, _, _, _, a, b, c, d] = (items.len() as u64 + 68).to_be_bytes();
+    let bytes = joined(
+        alloc,
+        &[
+            &[1, 0, a, b, c, d, 0, version, 0, 0],
+            title,
+            b"SCU1            ",
+            &[0; 32],
+            items.as_slice(),
+        ],
+    )?;
+    match read_pdu(alloc, bytes.as_slice())? {
+        Step::Done(pdu, _) => Ok(pdu),
+        Step::Need => Err(PduFault::BadLength),
+    }
+}
+
+/// Two titles of one name, and another.
+fn titles(alloc: Global) -> Result<Titles<u8>, AllocError> {
+    let mut list = ListOf::new(alloc);
+    for (name, value) in [(b"ARCHIVE", 1u8), (b"QUALITY", 2), (b"ARCHIVE", 3)] {
+        let title = Octets::from_slice(alloc, name)?;
+        list.push(Title { title, value })?;
+    }
+    Ok(Titles { list })
+}
+
+/// What a request is answered in Sta2: result, source and reason, or 0, 0 and the value.
+fn answered(alloc: Global, version: u8, title: &[u8], items: &[&[u8]]) -> Result<[u8; 3], Fail> {
+    let titles = titles(alloc)?;
+    let Pdu::AssociateRq(request) = request(alloc, version, title, items)? else {
+        return Err(Fail::new("a request"));
+    };
+    match negotiate(alloc, &request, &titles)? {
+        Decision::Accepted(_, _, value) => Ok([0, 0, value]),
+        Decision::Rejected(reject) => Ok([reject.result, reject.source, reject.reason]),
+    }
+}
+
+#[test]
+fn a_known_title_is_accepted(rt: HostRuntime) -> Result<(), Fail> {
+    let items: [&[u8]; 3] = [CONTEXT_NAME, VERIFICATION, USER];
+    let told = answered(rt.alloc(), 1, b"ARCHIVE         ", &items)?;
+    assert_eq!(rt; told, [0, 0, 1], "the first of two equal titles counts");
+    let told = answered(rt.alloc(), 3, b"  QUALITY       ", &items)?;
+    assert_eq!(rt;
+        told,
+        [0, 0, 2],
+        "outer spaces are dropped, other version bits not tested"
+    );
+    Ok(())
+}
+
+#[test]
+fn the_first_refusal_is_told(rt: HostRuntime) -> Result<(), Fail> {
+    let other = b"\x10\x00\x00\x051.2.3";
+    let told = answered(rt.alloc(), 2, b"NOBODY          ", &[other, USER])?;
+    assert_eq!(rt; told, [1, 2, 2], "the version before all");
+    let told = answered(rt.alloc(), 1, b"NOBODY          ", &[other, USER])?;
+    assert_eq!(rt; told, [1, 1, 2], "the application context before the title");
+    let told = answered(rt.alloc(), 1, b"NOBODY          ", &[CONTEXT_NAME, USER])?;
+    assert_eq!(rt; told, [1, 1, 7], "an unknown title");
+    Ok(())
+}
+
+#[test]
+fn a_limit_in_which_nothing_fits_is_refused(rt: HostRuntime) -> Result<(), Fail> {
+    let seven = b"\x50\x00\x00\x08\x51\x00\x00\x04\x00\x00\x00\x07";
+    let told = answered(rt.alloc(), 1, b"ARCHIVE         ", &[CONTEXT_NAME, seven])?;
+    assert_eq!(rt; told, [1, 1, 1], "7 bytes");
+    let eight = b"\x50\x00\x00\x08\x51\x00\x00\x04\x00\x00\x00\x08";
+    let told = answered(rt.alloc(), 1, b"ARCHIVE         ", &[CONTEXT_NAME, eight])?;
+    assert_eq!(rt; told, [0, 0, 1], "8 bytes");
+    let none = b"\x50\x00\x00\x00";
+    let told = answered(rt.alloc(), 1, b"ARCHIVE         ", &[CONTEXT_NAME, none])?;
+    assert_eq!(rt; told, [0, 0, 1], "no limit");
+    Ok(())
+}
+
+// CT Image Storage with both syntaxes on context 3, both roles; a private class on context 5;
+// verification with big endian alone on context 7; Study Root FIND with both on context 9.
+const CONTEXTS: &[u8] = b"\x20\x00\x00\x4d\x03\x00\x00\x00\
+    \x30\x00\x00\x191.2.840.10008.5.1.4.1.1.2\
+    \x40\x00\x00\x111.2.840.10008.1.2\
+    \x40\x00\x00\x131.2.840.10008.1.2.1\
+    \x20\x00\x00\x20\x05\x00\x00\x00\
+    \x30\x00\x00\x031.2\
+    \x40\x00\x00\x111.2.840.10008.1.2\
+    \x20\x00\x00\x30\x07\x00\x00\x00\
+    \x30\x00\x00\x111.2.840.10008.1.1\
+    \x40\x00\x00\x131.2.840.10008.1.2.2\
+    \x20\x00\x00\x4f\x09\x00\x00\x00\
+    \x30\x00\x00\x1b1.2.840.10008.5.1.4.1.2.2.1\
+    \x40\x00\x00\x111.2.840.10008.1.2\
+    \x40\x00\x00\x131.2.840.10008.1.2.1";
+
+// Roles for CT Image Storage, SCP and SCU, and for verification.
+const ROLES: &[u8] = b"\x50\x00\x00\x3a\
+    \x54\x00\x00\x1d\x00\x191.2.840.10008.5.1.4.1.1.2\x01\x01\
+    \x54\x00\x00\x15\x00\x111.2.840.10008.1.1\x01\x01";
+
+/// What the machine was asked by an event, as a letter and two numbers, and where it led.
+fn told(
+    acceptor: &mut Acceptor<u8>,
+    titles: &Titles<u8>,
+    event: Event,
+) -> Result<(u8, u8, u8, State), AllocError> {
+    let actions = acceptor.on(titles, event)?;
+    let (letter, first, second) = match actions.as_slice() {
+        [] => (b'-', 0, 0),
+        [Action::Send(Pdu::AssociateAc(_))] => (b'A', 0, 0),
+        [Action::Send(Pdu::AssociateRj(reject))] => (b'J', reject.source, reject.reason),
+        [Action::Send(Pdu::ReleaseRp)] => (b'R', 0, 0),
+        [Action::Send(Pdu::Abort { source, reason })] => (b'B', *source, *reason),
+        [Action::Hand(_)] => (b'H', 0, 0),
+        [Action::Close] => (b'C', 0, 0),
+        _ => (b'?', 0, 0),
+    };
+    Ok((letter, first, second, acceptor.state()))
+}
+
+fn good_request(alloc: Global) -> Result<Event, PduFault> {
+    let items: [&[u8]; 3] = [CONTEXT_NAME, VERIFICATION, USER];
+    Ok(Event::Got(request(alloc, 1, b"ARCHIVE         ", &items)?))
+}
+
+fn peer_aborts() -> Event {
+    Event::Got(Pdu::Abort {
+        source: 0,
+        reason: 0,
+    })
+}
+
+fn data(alloc: Global) -> Event {
+    Event::Got(Pdu::PData(ListOf::new(alloc)))
+}
+
+#[test]
+fn an_unexpected_first_pdu_is_answered_by_an_abort(rt: HostRuntime) -> Result<(), Fail> {
+    let alloc = rt.alloc();
+    let titles = titles(alloc)?;
+    let mut acceptor = Acceptor::new(alloc);
+    let row = told(&mut acceptor, &titles, Event::Got(Pdu::ReleaseRq))?;
+    assert_eq!(rt;
+        row,
+        (b'B', 0, 0, State::Sta13),
+        "a release request in Sta2"
+    );
+    let row = told(&mut acceptor, &titles, Event::Got(Pdu::ReleaseRq))?;
+    assert_eq!(rt; row, (b'-', 0, 0, State::Sta13), "nothing in Sta13");
+    let row = told(&mut acceptor, &titles, Event::Ended)?;
+    assert_eq!(rt; row, (b'C', 0, 0, State::Sta1), "the stream ends");
+    Ok(())
+}
+
+#[test]
+fn a_faulty_first_pdu_is_answered_by_an_abort(rt: HostRuntime) -> Result<(), Fail> {
+    let alloc = rt.alloc();
+    let titles = titles(alloc)?;
+    let mut acceptor = Acceptor::new(alloc);
+    let row = told(&mut acceptor, &titles, Event::Bad(PduFault::UnknownType))?;
+    assert_eq!(rt; row, (b'B', 0, 0, State::Sta13), "in Sta2 of the user");
+    let row = told(&mut acceptor, &titles, Event::Bad(PduFault::TooLong))?;
+    assert_eq!(rt; row, (b'B', 2, 6, State::Sta13), "in Sta13 of the provider");
+    let row = told(&mut acceptor, &titles, good_request(alloc)?)?;
+    assert_eq!(rt; row, (b'B', 2, 2, State::Sta13), "a request in Sta13");
+    Ok(())
+}
+
+#[test]
+fn data_is_handed_on_until_a_release(rt: HostRuntime) -> Result<(), Fail> {
+    let alloc = rt.alloc();
+    let titles = titles(alloc)?;
+    let mut acceptor = Acceptor::new(alloc);
+    let row = told(&mut acceptor, &titles, good_request(alloc)?)?;
+    assert_eq!(rt; row, (b'A', 0, 0, State::Sta6), "accepted");
+    let row = told(&mut acceptor, &titles, data(alloc))?;
+    assert_eq!(rt; row, (b'H', 0, 0, State::Sta6), "handed on");
+    let row = told(&mut acceptor, &titles, Event::Got(Pdu::ReleaseRq))?;
+    assert_eq!(rt; row, (b'R', 0, 0, State::Sta13), "released");
+    let row = told(&mut acceptor, &titles, data(alloc))?;
+    assert_eq!(rt; row, (b'-', 0, 0, State::Sta13), "and not handed on");
+    Ok(())
+}
+
+#[test]
+fn a_second_request_is_unexpected(rt: HostRuntime) -> Result<(), Fail> {
+    let alloc = rt.alloc();
+    let titles = titles(alloc)?;
+    let mut acceptor = Acceptor::new(alloc);
+    told(&mut acceptor, &titles, good_request(alloc)?)?;
+    let row = told(&mut acceptor, &titles, good_request(alloc)?)?;
+    assert_eq!(rt; row, (b'B', 2, 2, State::Sta13), "reason 2");
+    Ok(())
+}
+
+#[test]
+fn an_unknown_pdu_has_its_own_reason(rt: HostRuntime) -> Result<(), Fail> {
+    let alloc = rt.alloc();
+    let titles = titles(alloc)?;
+    let mut acceptor = Acceptor::new(alloc);
+    told(&mut acceptor, &titles, good_request(alloc)?)?;
+    let row = told(&mut acceptor, &titles, Event::Bad(PduFault::UnknownType))?;
+    assert_eq!(rt; row, (b'B', 2, 1, State::Sta13), "reason 1");
+    let row = told(&mut acceptor, &titles, peer_aborts())?;
+    assert_eq!(rt; row, (b'C', 0, 0, State::Sta1), "the peer aborts");
+    let row = told(&mut acceptor, &titles, good_request(alloc)?)?;
+    assert_eq!(rt; row, (b'-', 0, 0, State::Sta1), "nothing in Sta1");
+    Ok(())
+}
+
+#[test]
+fn a_local_abort_counts_in_an_association_alone(rt: HostRuntime) -> Result<(), Fail> {
+    let alloc = rt.alloc();
+    let titles = titles(alloc)?;
+    let mut acceptor = Acceptor::new(alloc);
+    let row = told(&mut acceptor, &titles, Event::LocalAbort)?;
+    assert_eq!(rt; row, (b'-', 0, 0, State::Sta2), "in Sta2");
+    told(&mut acceptor, &titles, good_request(alloc)?)?;
+    let row = told(&mut acceptor, &titles, Event::LocalAbort)?;
+    assert_eq!(rt; row, (b'B', 0, 0, State::Sta13), "in Sta6");
+    Ok(())
+}
+
+#[test]
+fn an_unknown_title_is_rejected(rt: HostRuntime) -> Result<(), Fail> {
+    let alloc = rt.alloc();
+    let titles = titles(alloc)?;
+    let mut acceptor = Acceptor::new(alloc);
+    let event = Event::Got(request(alloc, 1, b"NOBODY          ", &[CONTEXT_NAME, USER])?);
+    let row = told(&mut acceptor, &titles, event)?;
+    assert_eq!(rt; row, (b'J', 1, 7, State::Sta13), "not recognized");
+    assert!(rt; acceptor.accepted().is_none(), "nothing was settled");
+    Ok(())
+}
+
+/// An acceptor that took a request for the contexts above.
+fn accepting(alloc: Global, user: &[u8]) -> Result<Acceptor<u8>, Fail> {
+    let titles = titles(alloc)?;
+    let items: [&[u8]; 3] = [CONTEXT_NAME, CONTEXTS, user];
+    let event = Event::Got(request(alloc, 1, b"ARCHIVE         ", &items)?);
+    let mut acceptor = Acceptor::new(alloc);
+    acceptor.on(&titles, event)?;
+    Ok(acceptor)
+}
+
+fn is(context: &Context, id: u8, explicit: bool, scp: bool) -> bool {
+    context.id == id && context.explicit == explicit && context.scp == scp
+}
+
+fn has_settled(rt: &impl Abort, acceptor: &Acceptor<u8>, storage_is_explicit: bool, scp: bool) {
+    let Some(settled) = acceptor.accepted() else {
+        assert!(rt; false, "something was settled");
+        return;
+    };
+    assert_eq!(rt;
+        settled.title.as_slice(),
+        b"ARCHIVE".as_slice(),
+        "the called title"
+    );
+    assert_eq!(rt; settled.value, 1, "what it stands for");
+    let contexts = settled.contexts.as_slice();
+    assert_eq!(rt; contexts.len(), 2, "two of four contexts");
+    assert!(rt;
+        is(&contexts[0], 3, storage_is_explicit, scp),
+        "CT Image Storage"
+    );
+    assert!(rt; is(&contexts[1], 9, true, false), "Study Root FIND");
+}
+
+#[test]
+fn the_explicit_syntax_is_preferred(rt: HostRuntime) -> Result<(), Fail> {
+    let acceptor = accepting(rt.alloc(), USER)?;
+    has_settled(&rt, &acceptor, true, false);
+    Ok(())
+}
+
+#[test]
+fn the_implicit_syntax_is_preferred_where_the_requestor_is_scp(
+    rt: HostRuntime,
+) -> Result<(), Fail> {
+    let acceptor = accepting(rt.alloc(), ROLES)?;
+    has_settled(&rt, &acceptor, false, true);
+    Ok(())
+}
+
+#[test]
+fn each_context_is_answered(rt: HostRuntime) -> Result<(), Fail> {
+    let alloc = rt.alloc();
+    let titles = titles(alloc)?;
+    let items: [&[u8]; 3] = [CONTEXT_NAME, CONTEXTS, ROLES];
+    let Pdu::AssociateRq(request) = request(alloc, 1, b"ARCHIVE         ", &items)? else {
+        return Err(Fail::new("a request"));
+    };
+    match negotiate(alloc, &request, &titles)? {
+        Decision::Accepted(accept, _, _) => answers_each(&rt, &accept),
+        Decision::Rejected(_) => assert!(rt; false, "accepted"),
+    }
+    Ok(())
+}
+
+fn answers_each(rt: &impl Abort, accept: &Accept) {
+    let contexts = accept.contexts.as_slice();
+    assert_eq!(rt; contexts.len(), 4, "an answer for each context");
+    assert!(rt;
+        contexts[0].id == 3 && contexts[0].result == 0,
+        "storage is accepted"
+    );
+    assert!(rt;
+        contexts[1].id == 5 && contexts[1].result == 3,
+        "an unknown class"
+    );
+    assert!(rt;
+        contexts[2].id == 7 && contexts[2].result == 4,
+        "an unknown syntax"
+    );
+    assert!(rt;
+        contexts[3].id == 9 && contexts[3].result == 0,
+        "FIND is accepted"
+    );
+    assert_eq!(rt; accept.opening.version, 1, "the version");
+    assert_eq!(rt; accept.user.maximum_length, 65536, "the maximum length");
+    let roles = accept.user.roles.as_slice();
+    assert_eq!(rt; roles.len(), 1, "the role of the storage class alone");
+    assert!(rt; roles[0].scu == 1 && roles[0].scp == 1, "as proposed");
+}
