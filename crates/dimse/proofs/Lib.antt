@@ -1,0 +1,9 @@
+pub mod ElementLaws
+pub mod TextLaws
+pub mod CommandLaws
+pub mod WrittenLaws
+pub mod StepLaws
+pub mod RunLaws
+pub mod SpelledLaws
+pub mod FragmentLaws
+pub mod LawfulLaws

@@ -1,0 +1,7 @@
+use Rattle.dimse.specs.Messages.{fresh}
+use Rattle.std.proofs.Common.{[], refl}
+use Rattle.dimse.proofs.RunLaws.{run_ends}
+use Rattle.dimse.proofs.laws.messages_are_those_spelled.Goals as goal
+
+pub returns : goal.returns
+returns c = λ contexts pdvs end answers run. run_ends (fresh contexts) [] pdvs answers end refl run

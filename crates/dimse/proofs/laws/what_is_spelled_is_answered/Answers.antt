@@ -1,0 +1,5 @@
+use Rattle.dimse.proofs.SpelledLaws.{spelled_is_answered}
+use Rattle.dimse.proofs.laws.what_is_spelled_is_answered.Goals as goal
+
+pub returns : goal.returns
+returns c = λ contexts pdvs end answers run memory spelled fault ends other. spelled_is_answered contexts pdvs end answers spelled fault run memory ends other

@@ -1,0 +1,10 @@
+pub mod Assembly
+pub mod Command
+pub mod CommandField
+pub mod Elements
+pub mod Fault
+pub mod Messages
+pub mod Refusal
+pub mod Sending
+pub mod Status
+pub mod Uid

@@ -1,0 +1,49 @@
+//! What an assembler answers over any list of fragments, as laws of `Assembler::feed`.
+
+ghost use Rattle.std.specs.Prelude.{◌≡◌, ◌≢◌, List, Option, None, Some, Result, Err, All};
+ghost use Rattle.pdu.specs.declared.pdv.Pdv.{Pdv};
+ghost use Rattle.pdu.specs.declared.context.Context.{Context};
+ghost use Rattle.dimse.specs.declared.message.Message.{Message};
+ghost use Rattle.dimse.specs.declared.fault.DimseFault.{DimseFault};
+ghost use Rattle.dimse.specs.declared.assembler.Stage.{Stage};
+ghost use Rattle.dimse.specs.Assembly.{Assembly};
+ghost use Rattle.dimse.specs.Messages.{Splits, Ends, Run, fresh, messages, first_fault, HadMemory};
+
+/// The messages are those that the fragments spell, and a fault comes only where its cause stands.
+pub fn messages_are_those_spelled()
+    ensures { (contexts : List Context) (pdvs : List Pdv) (end : Assembly)
+        (answers : List (Result (Option Message) DimseFault)) →
+        Run (fresh contexts) pdvs answers end →
+        Ends contexts pdvs (messages answers) (first_fault answers) }
+{}
+
+/// What fragments spell is answered, where memory does not run out, and their fault is told.
+pub fn what_is_spelled_is_answered()
+    ensures { (contexts : List Context) (pdvs : List Pdv) (end : Assembly)
+        (answers : List (Result (Option Message) DimseFault)) →
+        Run (fresh contexts) pdvs answers end → HadMemory answers →
+        (spelled : List Message) (fault : Option DimseFault) →
+        Ends contexts pdvs spelled fault → fault ≢ Some DimseFault.Memory →
+        (messages answers ≡ spelled) × (first_fault answers ≡ fault) }
+{}
+
+/// The messages and the fault are the same, however the texts were cut into fragments.
+pub fn cuts_do_not_matter()
+    ensures { (contexts : List Context) (pdvs others : List Pdv) (end other_end : Assembly)
+        (answers other_answers : List (Result (Option Message) DimseFault)) →
+        Run (fresh contexts) pdvs answers end → HadMemory answers →
+        Run (fresh contexts) others other_answers other_end → HadMemory other_answers →
+        (spelled : List Message) (fault : Option DimseFault) →
+        Ends contexts pdvs spelled fault → Ends contexts others spelled fault →
+        fault ≢ Some DimseFault.Memory →
+        (messages answers ≡ messages other_answers)
+        × (first_fault answers ≡ first_fault other_answers) }
+{}
+
+/// After a fault every fragment is refused as `Failed`, and nothing changes.
+pub fn nothing_is_taken_after_a_fault()
+    ensures { (failed end : Assembly) (pdvs : List Pdv)
+        (answers : List (Result (Option Message) DimseFault)) →
+        failed.stage ≡ Stage.Failed → Run failed pdvs answers end →
+        All (λ answer. answer ≡ Err DimseFault.Failed) answers × (end ≡ failed) }
+{}

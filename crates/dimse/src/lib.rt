@@ -1,0 +1,36 @@
+//! DIMSE messages: their command sets, and the fragments that they come in (PS3.7, PS3.8 annex E).
+//!
+//! A message is a command set and, where that announces one, a data set. Each is cut into fragments
+//! of presentation data values; `Assembler::feed` puts them together and `fragments` cuts them.
+//! Nothing here reads a socket, and no data set is read.
+#![tactic(auto)]
+
+mod assembler;
+mod command;
+mod command_field;
+mod element;
+mod fault;
+mod fragment;
+mod laws;
+mod message;
+mod reader;
+mod status;
+mod tags;
+#[cfg(test)]
+mod tests;
+mod uid;
+mod writer;
+
+pub use assembler::{Assembler, LONGEST_DATA_SET};
+pub use command::{Command, DATA_SET_FOLLOWS, LONGEST_COMMAND, NO_DATA_SET};
+pub use command_field::{CommandField, UnknownField};
+pub use fault::DimseFault;
+pub use fragment::fragments;
+pub use laws::{
+    cuts_do_not_matter, messages_are_those_spelled, nothing_is_taken_after_a_fault,
+    what_is_spelled_is_answered,
+};
+pub use message::Message;
+pub use reader::read_command;
+pub use status::Status;
+pub use writer::write_command;

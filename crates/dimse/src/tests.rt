@@ -1,0 +1,494 @@
+//! Command sets, fragments and messages, as bytes from outside.
+
+ghost use Rattle.std.specs.Prelude.{◌<◌, ◌≤◌, length};
+
+use super::*;
+use bytes::Bytes;
+use octets::{ListOf, Octets};
+use pdu::{Context, Contexts, Pdu, Pdv};
+use std::alloc::Global;
+use std::process::Abort;
+use std::test::Fail;
+
+// A C-ECHO request, message ID 1, without a data set.
+const ECHO_REQUEST: [u8; 68] = *b"\x00\x00\x00\x00\x04\x00\x00\x00\x38\x00\x00\x00\
+    \x00\x00\x02\x00\x12\x00\x00\x001.2.840.10008.1.1\x00\
+    \x00\x00\x00\x01\x02\x00\x00\x00\x30\x00\x00\x00\x10\x01\x02\x00\x00\x00\x01\x00\
+    \x00\x00\x00\x08\x02\x00\x00\x00\x01\x01";
+
+// Its response, status 0000H.
+const ECHO_RESPONSE: [u8; 78] = *b"\x00\x00\x00\x00\x04\x00\x00\x00\x42\x00\x00\x00\
+    \x00\x00\x02\x00\x12\x00\x00\x001.2.840.10008.1.1\x00\
+    \x00\x00\x00\x01\x02\x00\x00\x00\x30\x80\x00\x00\x20\x01\x02\x00\x00\x00\x01\x00\
+    \x00\x00\x00\x08\x02\x00\x00\x00\x01\x01\x00\x00\x00\x09\x02\x00\x00\x00\x00\x00";
+
+// A C-STORE request of a CT image, message ID 2, with a data set.
+const STORE_REQUEST: [u8; 104] = *b"\x00\x00\x00\x00\x04\x00\x00\x00\x5c\x00\x00\x00\
+    \x00\x00\x02\x00\x1a\x00\x00\x001.2.840.10008.5.1.4.1.1.2\x00\
+    \x00\x00\x00\x01\x02\x00\x00\x00\x01\x00\x00\x00\x10\x01\x02\x00\x00\x00\x02\x00\
+    \x00\x00\x00\x07\x02\x00\x00\x00\x00\x00\x00\x00\x00\x08\x02\x00\x00\x00\x00\x00\
+    \x00\x00\x00\x10\x0a\x00\x00\x001.2.1.1.1\x00";
+
+// Its response, status 0000H.
+const STORE_RESPONSE: [u8; 104] = *b"\x00\x00\x00\x00\x04\x00\x00\x00\x5c\x00\x00\x00\
+    \x00\x00\x02\x00\x1a\x00\x00\x001.2.840.10008.5.1.4.1.1.2\x00\
+    \x00\x00\x00\x01\x02\x00\x00\x00\x01\x80\x00\x00\x20\x01\x02\x00\x00\x00\x02\x00\
+    \x00\x00\x00\x08\x02\x00\x00\x00\x01\x01\x00\x00\x00\x09\x02\x00\x00\x00\x00\x00\
+    \x00\x00\x00\x10\x0a\x00\x00\x001.2.1.1.1\x00";
+
+// The least C-ECHO request: it has no group length.
+const LEAST: [u8; 56] = *b"\x00\x00\x02\x00\x12\x00\x00\x001.2.840.10008.1.1\x00\
+    \x00\x00\x00\x01\x02\x00\x00\x00\x30\x00\x00\x00\x10\x01\x02\x00\x00\x00\x01\x00\
+    \x00\x00\x00\x08\x02\x00\x00\x00\x01\x01";
+
+#[test]
+fn command_sets_are_read_and_written_again(rt: HostRuntime) -> Result<(), Fail> {
+    let request = read_command(rt.alloc(), &ECHO_REQUEST)?;
+    assert_eq!(rt;
+        request.field,
+        CommandField::EchoRequest.code(),
+        "a C-ECHO request"
+    );
+    assert_eq!(rt; request.message_id, Some(1), "its message ID");
+    assert!(rt; !request.announces_data_set(), "0101H announces none");
+    let written = write_command(rt.alloc(), &request)?;
+    assert_eq!(rt;
+        written.as_slice(),
+        ECHO_REQUEST.as_slice(),
+        "the same bytes"
+    );
+
+    let response = read_command(rt.alloc(), &STORE_RESPONSE)?;
+    let field = CommandField::try_from(response.field);
+    assert_eq!(rt;
+        field,
+        Ok(CommandField::StoreResponse),
+        "of a known service"
+    );
+    assert_eq!(rt; response.responded_to, Some(2), "the ID of its request");
+    assert_eq!(rt; response.status, Some(Status::Success.code()), "a success");
+    let written = write_command(rt.alloc(), &response)?;
+    assert_eq!(rt;
+        written.as_slice(),
+        STORE_RESPONSE.as_slice(),
+        "the same bytes"
+    );
+    Ok(())
+}
+
+#[test]
+fn what_a_command_set_may_lack_is_not_asked(rt: HostRuntime) -> Result<(), Fail> {
+    let read = read_command(rt.alloc(), &LEAST)?;
+    assert_eq!(rt; read.message_id, Some(1), "without a group length");
+    let written = write_command(rt.alloc(), &read)?;
+    assert_eq!(rt;
+        written.as_slice(),
+        ECHO_REQUEST.as_slice(),
+        "which is written"
+    );
+    let mut text = ECHO_REQUEST;
+    text[8] = 0xFF;
+    assert!(rt;
+        read_command(rt.alloc(), &text).is_ok(),
+        "a group length is not compared"
+    );
+    let cancel = b"\x00\x00\x00\x01\x02\x00\x00\x00\xFF\x0F\x00\x00\x20\x01\x02\x00\x00\x00\x07\x00\
+        \x00\x00\x00\x08\x02\x00\x00\x00\x01\x01\x00\x00\x10\x50\x03\x00\x00\x00abc";
+    let read = read_command(rt.alloc(), cancel)?;
+    assert_eq!(rt;
+        read.responded_to,
+        Some(7),
+        "an element of no service is passed over"
+    );
+    Ok(())
+}
+
+#[test]
+fn malformed_command_sets_are_refused(rt: HostRuntime) {
+    let vectors: [(&str, &[u8]); 14] = [
+        (
+            "tags that descend",
+            b"\x00\x00\x00\x08\x02\x00\x00\x00\x01\x01\
+            \x00\x00\x00\x01\x02\x00\x00\x00\x30\x80\x00\x00\x20\x01\x02\x00\x00\x00\x01\x00",
+        ),
+        (
+            "a tag that stands twice",
+            b"\x00\x00\x00\x01\x02\x00\x00\x00\x30\x80\
+            \x00\x00\x20\x01\x02\x00\x00\x00\x01\x00\x00\x00\x20\x01\x02\x00\x00\x00\x01\x00\
+            \x00\x00\x00\x08\x02\x00\x00\x00\x01\x01",
+        ),
+        (
+            "a length that overruns",
+            b"\x00\x00\x00\x01\x02\x00\x00\x00\x30\x80\
+            \x00\x00\x20\x01\x02\x00\x00\x00\x01\x00\x00\x00\x00\x08\x03\x00\x00\x00\x01\x01",
+        ),
+        (
+            "a header that is cut short",
+            b"\x00\x00\x00\x01\x02\x00\x00\x00\x30\x80\
+            \x00\x00\x20\x01\x02\x00\x00\x00\x01\x00\x00\x00\x00\x08\x02\x00\x00\x00\x01\x01\x00",
+        ),
+        (
+            "a number of four bytes",
+            b"\x00\x00\x00\x01\x02\x00\x00\x00\x30\x80\
+            \x00\x00\x20\x01\x04\x00\x00\x00\x01\x00\x00\x00\x00\x00\x00\x08\x02\x00\x00\x00\x01\x01",
+        ),
+        (
+            "a UID that is not printable",
+            b"\x00\x00\x02\x00\x04\x00\x00\x001\x7F2\x00\
+            \x00\x00\x00\x01\x02\x00\x00\x00\x30\x00\x00\x00\x10\x01\x02\x00\x00\x00\x01\x00\
+            \x00\x00\x00\x08\x02\x00\x00\x00\x01\x01",
+        ),
+        (
+            "no command field",
+            b"\x00\x00\x20\x01\x02\x00\x00\x00\x01\x00\
+            \x00\x00\x00\x08\x02\x00\x00\x00\x01\x01",
+        ),
+        (
+            "no data set type",
+            b"\x00\x00\x00\x01\x02\x00\x00\x00\x30\x80\
+            \x00\x00\x20\x01\x02\x00\x00\x00\x01\x00",
+        ),
+        (
+            "a request without a message ID",
+            b"\x00\x00\x02\x00\x04\x00\x00\x001.2\x00\
+            \x00\x00\x00\x01\x02\x00\x00\x00\x30\x00\x00\x00\x00\x08\x02\x00\x00\x00\x01\x01",
+        ),
+        (
+            "a response without the request's ID",
+            b"\x00\x00\x00\x01\x02\x00\x00\x00\x30\x80\
+            \x00\x00\x10\x01\x02\x00\x00\x00\x01\x00\x00\x00\x00\x08\x02\x00\x00\x00\x01\x01",
+        ),
+        (
+            "a C-CANCEL without the request's ID",
+            b"\x00\x00\x00\x01\x02\x00\x00\x00\xFF\x0F\
+            \x00\x00\x10\x01\x02\x00\x00\x00\x01\x00\x00\x00\x00\x08\x02\x00\x00\x00\x01\x01",
+        ),
+        (
+            "a C-FIND request without a class",
+            b"\x00\x00\x00\x01\x02\x00\x00\x00\x20\x00\
+            \x00\x00\x10\x01\x02\x00\x00\x00\x01\x00\x00\x00\x00\x08\x02\x00\x00\x00\x00\x00",
+        ),
+        (
+            "a C-STORE request without an instance",
+            b"\x00\x00\x02\x00\x04\x00\x00\x001.2\x00\
+            \x00\x00\x00\x01\x02\x00\x00\x00\x01\x00\x00\x00\x10\x01\x02\x00\x00\x00\x01\x00\
+            \x00\x00\x00\x08\x02\x00\x00\x00\x00\x00",
+        ),
+        ("no element", b""),
+    ];
+    for (name, text) in vectors {
+        let fault = read_command(rt.alloc(), text).err();
+        assert_eq!(rt; fault, Some(DimseFault::BadCommand), "{name}");
+    }
+}
+
+fn contexts(alloc: Global) -> Result<Contexts, Fail> {
+    let mut contexts = ListOf::new(alloc);
+    for id in [1, 3] {
+        contexts.push(Context {
+            id,
+            abstract_syntax: Octets::from_slice(alloc, b"1.2.840.10008.1.1")?,
+            explicit: false,
+            scp: false,
+        })?;
+    }
+    Ok(contexts)
+}
+
+fn pdv(
+    alloc: Global,
+    context: u8,
+    command: bool,
+    last: bool,
+    fragment: &[u8],
+) -> Result<Pdv, Fail> {
+    Ok(Pdv {
+        context,
+        command,
+        last,
+        fragment: Bytes::copy_from_slice(alloc, fragment)?,
+    })
+}
+
+// Feeds a text in fragments of a size, and answers what its last one ends.
+fn feed_cut(
+    alloc: Global,
+    assembler: &mut Assembler,
+    command: bool,
+    text: &[u8],
+    size: usize,
+) -> Result<Option<Message>, Fail>
+    requires { 0 < size }
+{
+    let mut left = text.len();
+    let mut answer = None;
+    for piece in text.chunks(size) {
+        left = left.saturating_sub(piece.len());
+        answer = assembler.feed(alloc, pdv(alloc, 1, command, left == 0, piece)?)?;
+    }
+    Ok(answer)
+}
+
+// Feeds a command set without a data set in fragments of a size, and compares what is written of it.
+fn assert_gathered(rt: &impl Abort, alloc: Global, text: &[u8], size: usize) -> Result<(), Fail>
+    requires { 0 < size }
+{
+    let mut assembler = Assembler::new(contexts(alloc)?);
+    let answer = feed_cut(alloc, &mut assembler, true, text, size)?;
+    let message = answer.ok_or("no message")?;
+    assert!(rt; message.body.is_none(), "no data set, in pieces of {size}");
+    let again = read_command(alloc, text)?;
+    assert_eq!(rt; message.command.field, again.field, "in pieces of {size}");
+    assert_eq!(rt; message.command.status, again.status, "in pieces of {size}");
+    Ok(())
+}
+
+#[test]
+fn command_sets_are_the_same_however_they_are_cut(rt: HostRuntime) -> Result<(), Fail> {
+    for size in [1, 2, 7, 200] {
+        assert_gathered(&rt, rt.alloc(), &ECHO_REQUEST, size)?;
+        assert_gathered(&rt, rt.alloc(), &ECHO_RESPONSE, size)?;
+        assert_gathered(&rt, rt.alloc(), &STORE_RESPONSE, size)?;
+    }
+    Ok(())
+}
+
+const BODY: &[u8] = b"\x08\x00\x16\x00\x02\x00\x00\x001\x00";
+
+#[test]
+fn a_data_set_is_the_same_however_it_is_cut(rt: HostRuntime) -> Result<(), Fail> {
+    let alloc = rt.alloc();
+    let mut assembler = Assembler::new(contexts(alloc)?);
+    for size in [1, 2, 7, 200] {
+        let answer = feed_cut(alloc, &mut assembler, true, &STORE_REQUEST, size)?;
+        assert!(rt; answer.is_none(), "a data set is announced");
+        let answer = feed_cut(alloc, &mut assembler, false, BODY, size)?;
+        let body = answer.ok_or("no message")?.body.ok_or("no data set")?;
+        assert_eq!(rt; body.as_slice(), BODY, "in pieces of {size}");
+    }
+    Ok(())
+}
+
+#[test]
+fn an_empty_last_fragment_ends_a_message(rt: HostRuntime) -> Result<(), Fail> {
+    let alloc = rt.alloc();
+    let mut assembler = Assembler::new(contexts(alloc)?);
+    assembler.feed(alloc, pdv(alloc, 3, true, false, &STORE_REQUEST)?)?;
+    assembler.feed(alloc, pdv(alloc, 3, true, true, b"")?)?;
+    assembler.feed(alloc, pdv(alloc, 3, false, false, b"abc")?)?;
+    assembler.feed(alloc, pdv(alloc, 3, false, false, b"de")?)?;
+    let answer = assembler.feed(alloc, pdv(alloc, 3, false, true, b"")?)?;
+    let body = answer.ok_or("no message")?.body.ok_or("no data set")?;
+    assert_eq!(rt; body.as_slice(), b"abcde".as_slice(), "all its bytes");
+    Ok(())
+}
+
+// Feeds a fragment that is refused so, and then a lawful message.
+fn assert_refused(
+    rt: &impl Abort,
+    alloc: Global,
+    assembler: &mut Assembler,
+    refused: Pdv,
+    fault: DimseFault,
+) -> Result<(), Fail> {
+    assert_eq!(rt;
+        assembler.feed(alloc, refused).err(),
+        Some(fault),
+        "the fault"
+    );
+    let next = pdv(alloc, 1, true, true, &ECHO_REQUEST)?;
+    let answer = assembler.feed(alloc, next).err();
+    assert_eq!(rt;
+        answer,
+        Some(DimseFault::Failed),
+        "a lawful message behind it"
+    );
+    Ok(())
+}
+
+// An assembler that awaits more of a command set, or the data set that it announces.
+fn begun(alloc: Global, last: bool) -> Result<Assembler, Fail> {
+    let mut assembler = Assembler::new(contexts(alloc)?);
+    assembler.feed(alloc, pdv(alloc, 1, true, last, &STORE_REQUEST)?)?;
+    Ok(assembler)
+}
+
+#[test]
+fn a_first_fragment_has_its_place(rt: HostRuntime) -> Result<(), Fail> {
+    let rows = [
+        (5, true, DimseFault::BadContext),
+        (1, false, DimseFault::Interleaved),
+        (1, true, DimseFault::BadCommand),
+    ];
+    for (context, command, fault) in rows {
+        let mut assembler = Assembler::new(contexts(rt.alloc())?);
+        let refused = pdv(rt.alloc(), context, command, true, b"ab")?;
+        assert_refused(&rt, rt.alloc(), &mut assembler, refused, fault)?;
+    }
+    assert_eq!(rt;
+        DimseFault::BadContext.number(),
+        1,
+        "the numbers begin at 1"
+    );
+    assert_eq!(rt; DimseFault::Failed.number(), 6, "and end at 6");
+    Ok(())
+}
+
+#[test]
+fn fragments_of_two_messages_are_not_mixed(rt: HostRuntime) -> Result<(), Fail> {
+    // Whether the command set is whole, and the fragment behind it.
+    let rows = [
+        (false, 3, true),
+        (false, 1, false),
+        (true, 3, false),
+        (true, 1, true),
+    ];
+    for (whole, context, command) in rows {
+        let mut assembler = begun(rt.alloc(), whole)?;
+        let refused = pdv(rt.alloc(), context, command, true, b"ab")?;
+        assert_refused(
+            &rt,
+            rt.alloc(),
+            &mut assembler,
+            refused,
+            DimseFault::Interleaved,
+        )?;
+    }
+    Ok(())
+}
+
+// A C-ECHO request with an element of no service behind it, of this many bytes in all.
+fn command_of_length(alloc: Global, length: u16) -> Result<Vec<u8>, Fail>
+    requires { 64 ≤ length }
+{
+    let mut text = LEAST.to_vec(alloc)?;
+    let rest = length - 64;
+    text.extend_from_slice(b"\x00\x00\x10\x50")?;
+    text.extend_from_slice(&u32::from(rest).to_le_bytes())?;
+    for _ in 0..rest {
+        text.push(0)?;
+    }
+    Ok(text)
+}
+
+#[test]
+fn a_command_set_is_taken_up_to_its_limit(rt: HostRuntime) -> Result<(), Fail> {
+    let text = command_of_length(rt.alloc(), 16_384)?;
+    assert_gathered(&rt, rt.alloc(), text.as_slice(), 9_000)?;
+    let text = command_of_length(rt.alloc(), 16_385)?;
+    let whole = pdv(rt.alloc(), 1, true, true, text.as_slice())?;
+    let mut assembler = Assembler::new(contexts(rt.alloc())?);
+    assert_refused(&rt, rt.alloc(), &mut assembler, whole, DimseFault::TooLong)
+}
+
+// Feeds 67,108,864 bytes where a data set is awaited, in 64 fragments.
+fn feed_longest(alloc: Global, assembler: &mut Assembler, last: bool) -> Result<bool, Fail> {
+    let piece = Bytes::from_vec(vec![in alloc; 0u8; 1_048_576]?)?;
+    let mut ended = false;
+    for place in 1..=64 {
+        let pdv = Pdv {
+            context: 1,
+            command: false,
+            last: last && place == 64,
+            fragment: piece.clone()?,
+        };
+        ended = assembler.feed(alloc, pdv)?.is_some();
+    }
+    Ok(ended)
+}
+
+#[test]
+fn a_data_set_is_taken_up_to_its_limit(rt: HostRuntime) -> Result<(), Fail> {
+    let mut assembler = begun(rt.alloc(), true)?;
+    let ended = feed_longest(rt.alloc(), &mut assembler, true)?;
+    assert!(rt; ended, "67,108,864 bytes");
+    let mut assembler = begun(rt.alloc(), true)?;
+    let ended = feed_longest(rt.alloc(), &mut assembler, false)?;
+    assert!(rt; !ended, "as many that are not the last");
+    let past = pdv(rt.alloc(), 1, false, true, b"\x00")?;
+    assert_refused(&rt, rt.alloc(), &mut assembler, past, DimseFault::TooLong)
+}
+
+// The PDUs of a message on context 1.
+fn pdus_of(
+    rt: &impl Abort,
+    alloc: Global,
+    text: &[u8],
+    body: Option<Bytes>,
+    max: u32,
+) -> Result<Vec<Pdu>, Fail>
+    requires limit { 8 ≤ max }
+    requires length { length text.now ≤ LONGEST_COMMAND }
+{
+    let command = read_command(alloc, text)?;
+    assert_eq!(rt;
+        command.announces_data_set(),
+        body.is_some(),
+        "as announced"
+    );
+    let message = Message {
+        context: 1,
+        command,
+        body,
+    };
+    Ok(fragments(alloc, &message, max)?)
+}
+
+// The only fragment of a P-DATA-TF.
+fn fragment_of(pdu: &Pdu) -> Option<&Pdv> {
+    match pdu {
+        Pdu::PData(pdvs) => pdvs.as_slice().first(),
+        _ => None,
+    }
+}
+
+// How long the fragments of command sets, or of data sets, are.
+fn lengths_of(alloc: Global, pdus: &[Pdu], command: bool) -> Result<Vec<usize>, Fail> {
+    let mut lengths = Vec::new(alloc);
+    for pdu in pdus {
+        let sent = fragment_of(pdu).ok_or("no fragment")?;
+        if sent.command == command {
+            lengths.push(sent.fragment.len())?;
+        }
+    }
+    Ok(lengths)
+}
+
+#[test]
+fn a_response_goes_in_39_pdus_of_the_least_limit(rt: HostRuntime) -> Result<(), Fail> {
+    let pdus = pdus_of(&rt, rt.alloc(), &ECHO_RESPONSE, None, 8)?;
+    assert_eq!(rt; pdus.len(), 39, "two bytes of 78 each");
+    for (place, pdu) in pdus.as_slice().iter().enumerate() {
+        let sent = fragment_of(pdu).ok_or("no fragment")?;
+        assert!(rt; sent.command, "of the command set");
+        assert_eq!(rt; sent.last, place == 38, "the last one alone");
+        assert_eq!(rt; sent.fragment.len(), 2, "two bytes");
+    }
+    Ok(())
+}
+
+// Cuts a data set, and compares the lengths of its fragments.
+fn assert_cut(
+    rt: &impl Abort,
+    alloc: Global,
+    max: u32,
+    body: &[u8],
+    lengths: &[usize],
+) -> Result<(), Fail>
+    requires { 8 ≤ max }
+{
+    let body = Bytes::copy_from_slice(alloc, body)?;
+    let pdus = pdus_of(rt, alloc, &STORE_REQUEST, Some(body), max)?;
+    let found = lengths_of(alloc, pdus.as_slice(), false)?;
+    assert_eq!(rt; found.as_slice(), lengths, "with limit {max}");
+    Ok(())
+}
+
+#[test]
+fn a_data_set_is_cut_in_even_fragments(rt: HostRuntime) -> Result<(), Fail> {
+    assert_cut(&rt, rt.alloc(), 110, b"abcdefg", &[7])?;
+    assert_cut(&rt, rt.alloc(), 110, b"", &[0])?;
+    assert_cut(&rt, rt.alloc(), 9, b"abcde", &[2, 2, 1])?;
+    assert_cut(&rt, rt.alloc(), 10, b"abcdefgh", &[4, 4])?;
+    Ok(())
+}
