@@ -83,6 +83,10 @@ fn decoded(alloc: Global, parts: &[&[u8]]) -> Result<Op, OpFault> {
     decode(alloc, Bytes::from_vec(joined(alloc, parts)?)?)
 }
 
+fn zeros(alloc: Global, len: usize) -> Result<Vec<u8>, AllocError> {
+    vec![in alloc; 0; len]
+}
+
 /// The number of the fault, or 0.
 fn number<T: Drop>(made: Result<T, OpFault>) -> u8 {
     match made {
@@ -323,7 +327,7 @@ fn another_class_and_a_faulty_note_are_told_in_this_order(rt: HostRuntime) {
 
 #[test]
 fn a_data_set_of_more_than_64_mebibytes_is_too_long(rt: HostRuntime) -> Result<(), Fail> {
-    let long = vec![in rt.alloc(); 0; 67_108_865]?;
+    let long = zeros(rt.alloc(), 67_108_865)?;
     let told = number(content(rt.alloc(), CT, INSTANCE, &[long.as_slice()]));
     assert_eq!(rt; told, 6, "TooLong before BadSet");
     Ok(())
