@@ -128,27 +128,79 @@ fn spelled(rt: &impl Abort, alloc: Global, parts: &[&[u8]], wanted: u8, why: &st
     assert_eq!(rt; told, wanted, "{why}");
 }
 
+fn image(alloc: Global) -> Result<Op, OpFault> {
+    Ok(Op::Content(content(alloc, CT, INSTANCE, &IMAGE)?))
+}
+
+fn of_study(alloc: Global) -> Result<Op, OpFault> {
+    let target = Target::Study(octets(alloc, b"1.2.1")?);
+    let value = octets(alloc, b"ROE^ANN")?;
+    let stamp = Stamp {
+        counter: 1,
+        site: 1,
+    };
+    Ok(Op::Correction(correction_of(target, 0x0010_0010, value, stamp)?))
+}
+
+/// Asks that an operation is spelled so.
+fn is_spelled(rt: &impl Abort, alloc: Global, op: &Op, wanted: &[&[u8]]) -> Result<(), AllocError> {
+    let spelled = encode(alloc, op)?;
+    let wanted = joined(alloc, wanted)?;
+    assert_eq!(rt; spelled.as_slice(), wanted.as_slice(), "the spelling");
+    Ok(())
+}
+
+/// Asks that an operation has this digest.
+fn has_digest(rt: &impl Abort, alloc: Global, op: &Op, wanted: &str) -> Result<(), AllocError> {
+    let text = digest(op).text(alloc)?;
+    assert_eq!(rt; text.as_str(), wanted, "the digest");
+    Ok(())
+}
+
+/// Asks that what is encoded is decoded.
+fn is_decoded(rt: &impl Abort, alloc: Global, op: &Op) -> Result<(), OpFault> {
+    let spelled = Bytes::from_vec(encode(alloc, op)?)?;
+    let again = decode(alloc, spelled)?;
+    assert!(rt; again.equals(op), "what is encoded is decoded");
+    Ok(())
+}
+
 #[test]
-fn an_image_has_its_spelling_and_digest(rt: HostRuntime) -> Result<(), Fail> {
-    let op = Op::Content(content(rt.alloc(), CT, INSTANCE, &IMAGE)?);
-    let body = joined(rt.alloc(), &IMAGE)?;
-    assert_eq!(rt; body.len(), 118, "bytes of the data set");
-    let spelled = encode(rt.alloc(), &op)?;
-    let wanted = joined(rt.alloc(), &[FRONT, body.as_slice()])?;
-    assert_eq!(rt; spelled.len(), 160, "bytes of the operation");
-    assert_eq!(rt;
-        spelled.as_slice(),
-        wanted.as_slice(),
-        "kind, class, instance, syntax, length"
-    );
-    let text = digest(&op).text(rt.alloc())?;
+fn an_image_has_its_spelling(rt: HostRuntime) -> Result<(), Fail> {
+    let op = image(rt.alloc())?;
+    let wanted: [&[u8]; 8] = [
+        FRONT,
+        CLASS_UID,
+        INSTANCE_UID,
+        MODALITY,
+        PATIENT_NAME,
+        PATIENT_ID,
+        STUDY_UID,
+        SERIES_UID,
+    ];
+    is_spelled(&rt, rt.alloc(), &op, &wanted)?;
+    Ok(())
+}
+
+#[test]
+fn an_image_has_its_digest(rt: HostRuntime) -> Result<(), Fail> {
+    let op = image(rt.alloc())?;
     // By another program: `openssl dgst -sha256` of the 160 bytes.
-    assert_eq!(rt;
-        text.as_str(),
-        "2703dda98737764221508935b270672f563513afeaf26d114d42019a7e4bc7b4"
-    );
-    let again = decode(rt.alloc(), Bytes::from_vec(spelled)?)?;
-    assert!(rt; again.equals(&op), "what is encoded is decoded");
+    let wanted = "2703dda98737764221508935b270672f563513afeaf26d114d42019a7e4bc7b4";
+    has_digest(&rt, rt.alloc(), &op, wanted)?;
+    Ok(())
+}
+
+#[test]
+fn what_is_encoded_is_decoded(rt: HostRuntime) -> Result<(), Fail> {
+    let op = image(rt.alloc())?;
+    is_decoded(&rt, rt.alloc(), &op)?;
+    Ok(())
+}
+
+#[test]
+fn a_copy_is_the_same_operation(rt: HostRuntime) -> Result<(), Fail> {
+    let op = image(rt.alloc())?;
     let copy = op.copy(rt.alloc())?;
     assert!(rt; copy.equals(&op), "a copy is the same operation");
     Ok(())
@@ -195,26 +247,25 @@ fn padding_of_class_and_instance_is_dropped(rt: HostRuntime) -> Result<(), Fail>
 
 #[test]
 fn a_correction_has_its_spelling(rt: HostRuntime) -> Result<(), Fail> {
-    let op = decoded(rt.alloc(), &[CORRECTION])?;
-    let spelled = encode(rt.alloc(), &op)?;
-    assert_eq!(rt; spelled.len(), 31, "bytes of the correction");
-    assert_eq!(rt; spelled.as_slice(), CORRECTION, "the same bytes");
-    let made = correction_of(
-        Target::Study(octets(rt.alloc(), b"1.2.1")?),
-        0x0010_0010,
-        octets(rt.alloc(), b"ROE^ANN")?,
-        Stamp {
-            counter: 1,
-            site: 1,
-        },
-    )?;
-    assert!(rt; Op::Correction(made).equals(&op), "what was spelled");
-    let text = digest(&op).text(rt.alloc())?;
+    let op = of_study(rt.alloc())?;
+    is_spelled(&rt, rt.alloc(), &op, &[CORRECTION])?;
+    Ok(())
+}
+
+#[test]
+fn a_correction_has_its_digest(rt: HostRuntime) -> Result<(), Fail> {
+    let op = of_study(rt.alloc())?;
     // By another program: `openssl dgst -sha256` of the 31 bytes.
-    assert_eq!(rt;
-        text.as_str(),
-        "65df91d84296a316a88b485b3f5dc2ce740b163c1d2347cdc326a980f3d4d2c5"
-    );
+    let wanted = "65df91d84296a316a88b485b3f5dc2ce740b163c1d2347cdc326a980f3d4d2c5";
+    has_digest(&rt, rt.alloc(), &op, wanted)?;
+    Ok(())
+}
+
+#[test]
+fn a_correction_is_decoded(rt: HostRuntime) -> Result<(), Fail> {
+    let made = of_study(rt.alloc())?;
+    let op = decoded(rt.alloc(), &[CORRECTION])?;
+    assert!(rt; op.equals(&made), "what was spelled");
     Ok(())
 }
 
