@@ -1,0 +1,10 @@
+pub mod Codes
+pub mod Known
+pub mod Takings
+pub mod Worlds
+pub mod Brought
+pub mod Made
+pub mod Lawful
+pub mod Told
+pub mod Commanded
+pub mod Alike

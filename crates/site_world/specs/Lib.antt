@@ -1,0 +1,15 @@
+pub mod Words
+pub mod Names
+pub mod Keys
+pub mod Commands
+pub mod Fitting
+pub mod Sets
+pub mod Faults
+pub mod Same
+pub mod State
+pub mod Steps
+pub mod Runs
+pub mod Texts
+pub mod Script
+pub mod Output
+pub mod Simulation

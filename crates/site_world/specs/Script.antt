@@ -1,0 +1,97 @@
+-- What the lines of a script do, and what each prints.
+use Rattle.std.specs.Prelude.{ℕ, suc, ◌+◌, List, [], ◌∷◌, ◌++◌, length, Option, Some, None, Ok, Err, Result, Bool, true, false, nat_le, codes, if◌then◌else◌}
+use Rattle.operation.specs.declared.op.Op.TheVariants.{Content as a_content}
+use Rattle.operation.specs.declared.fault.OpFault.{OpFault}
+use Rattle.operation.specs.Fault.{number_of}
+use Rattle.operation.specs.Parts.{ContentParts}
+use Rattle.archive_model.specs.Contents.{flagged}
+use Rattle.archive_model.specs.declared.view.View.{View}
+use Rattle.archive_query.specs.declared.query.Query.{Query}
+use Rattle.archive_query.specs.declared.fault.QueryFault.{QueryFault}
+use Rattle.archive_query.specs.Fault.{number_of as number_of_query_fault}
+use Rattle.archive_query.specs.Query.{query_of}
+use Rattle.site_state.specs.Site.{Map, ops_of}
+use Rattle.site_world.specs.declared.command.Command.{Command}
+use Rattle.site_world.specs.declared.command.Command.TheVariants.{Skip, Bad, Site, Image, Note, Correct as correct_line, Find, Same, Flagged}
+use Rattle.site_world.specs.declared.step.Step.{Step}
+use Rattle.site_world.specs.declared.step.Step.TheVariants.{Take, Correct, Look}
+use Rattle.site_world.specs.declared.script.Move.{Move}
+use Rattle.site_world.specs.declared.script.Move.TheVariants.{Says, Names, Does}
+use Rattle.site_world.specs.Names.{is}
+use Rattle.site_world.specs.Same.{same_site}
+use Rattle.site_world.specs.Sets.{image_made, note_made, identifier}
+use Rattle.site_world.specs.State.{State}
+use Rattle.site_world.specs.Steps.{site_at, seen_by, after as after_step}
+use Rattle.site_world.specs.Texts.{BAD, fault_line, site_line, seen_lines, same_line, flagged_lines}
+
+-- the number of a name among these, the first of which has this number
+abbrev pub number_from : ℕ → List ℕ → List (List ℕ) → Option ℕ
+number_from n name [] = None
+number_from n name (known ∷ names) = if is known name then Some n else number_from (n + 1) name names
+
+-- the number of a site, from 1
+abbrev pub number_named : List ℕ → List (List ℕ) → Option ℕ
+number_named name names = number_from 1 name names
+
+abbrev pub is_named : Option ℕ → Bool
+is_named None = false
+is_named (Some number) = true
+
+-- what a line says of a site that there is; an unknown one is told before all else
+abbrev pub at_site : Option ℕ → (ℕ → Move) → Move
+at_site None move = Says (fault_line (codes "world") 1)
+at_site (Some number) move = move number
+
+-- a new name, of which a script has 16 at most
+abbrev pub site_move : State → List ℕ → Move
+site_move state name =
+    if is_named (number_named name state.names) then Says BAD
+    else if nat_le 16 (length state.names) then Says (fault_line (codes "world") 1)
+    else Names name
+
+abbrev pub take_move : ℕ → Result ContentParts OpFault → Move
+take_move n (Ok content) = Does (Take n (a_content content))
+take_move n (Err fault) = Says (fault_line (codes "op") (number_of fault))
+
+abbrev pub look_move : ℕ → View → Result Query QueryFault → Move
+look_move n view (Ok query) = Does (Look n view query)
+look_move n view (Err fault) = Says (fault_line (codes "query") (number_of_query_fault fault))
+
+abbrev pub same_move : Option Map → Option Map → Move
+same_move (Some a) (Some b) = Says (same_line (same_site a b))
+same_move _ _ = Says (fault_line (codes "world") 1)
+
+abbrev pub flagged_move : Option Map → Move
+flagged_move (Some m) = Says (flagged_lines (flagged (ops_of m)))
+flagged_move None = Says (fault_line (codes "world") 1)
+
+-- what a line does: it says something, names a site, or does a step
+abbrev pub move_of : State → Command → Move
+move_of state Skip = Says []
+move_of state Bad = Says BAD
+move_of state (Site name) = site_move state name
+move_of state (Image line) = at_site (number_named line.site state.names) (λ n. take_move n (image_made line))
+move_of state (Note line) = at_site (number_named line.site state.names) (λ n. take_move n (note_made line))
+move_of state (correct_line line) = at_site (number_named line.site state.names) (λ n. Does (Correct n line.target line.tag line.value))
+move_of state (Find line) = at_site (number_named line.site state.names) (λ n. look_move n line.view (query_of (identifier line.keys)))
+move_of state (Same a b) =
+    at_site (number_named a state.names) (λ m. at_site (number_named b state.names) (λ n. same_move (site_at state.sites m) (site_at state.sites n)))
+move_of state (Flagged site) = at_site (number_named site state.names) (λ n. flagged_move (site_at state.sites n))
+
+abbrev pub said : State → Move → List ℕ
+said state (Says text) = text
+said state (Names name) = site_line name (length state.names + 1)
+said state (Does step) = seen_lines (seen_by state.sites step)
+
+abbrev pub moved : State → Move → State
+moved state (Says text) = state
+moved state (Names name) = record { names = state.names ++ (name ∷ []); sites = state.sites }
+moved state (Does step) = record { names = state.names; sites = after_step state.sites step }
+
+-- what a line prints
+unfoldable pub printed : State → Command → List ℕ
+printed state command = said state (move_of state command)
+
+-- what a script has made after it
+unfoldable pub after : State → Command → State
+after state command = moved state (move_of state command)

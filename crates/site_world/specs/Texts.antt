@@ -1,0 +1,80 @@
+-- The texts that a script prints.
+use Rattle.std.specs.Prelude.{ℕ, List, [], ◌∷◌, ◌++◌, length, Option, Some, None, Ok, Err, Result, Bool, map, codes, if◌then◌else◌}
+use Rattle.std.specs.List.{flat_map}
+use Rattle.std.specs.Fmt.{decimal}
+use Rattle.hex.specs.Hex.{encode_lower}
+use Rattle.data_set.specs.declared.syntax.Syntax.TheVariants.{Implicit}
+use Rattle.data_set.specs.Set.{Set}
+use Rattle.data_set.specs.Converted.{converted}
+use Rattle.data_set.specs.Written.{text_of}
+use Rattle.operation.specs.declared.stamp.Stamp.{Stamp}
+use Rattle.site_state.specs.declared.taken.Taken.{Taken}
+use Rattle.site_state.specs.declared.taken.Taken.TheVariants.{New, Known}
+use Rattle.site_state.specs.declared.fault.SiteFault.{SiteFault}
+use Rattle.site_world.specs.declared.fault.WorldFault.{WorldFault}
+use Rattle.site_world.specs.declared.fault.WorldFault.TheVariants.{NoSite, NoMessage, Site, StampsSpent, Memory, BadCorrection}
+use Rattle.site_world.specs.declared.step.Seen.{Seen}
+use Rattle.site_world.specs.declared.step.Seen.TheVariants.{Took, Stamped, Rows}
+use Rattle.site_world.specs.Faults.{number_of_world_fault, number_of_site_fault}
+
+-- a line, with its end
+abbrev pub line : List ℕ → List ℕ
+line text = text ++ (10 ∷ [])
+
+abbrev pub BAD : List ℕ
+BAD = line (codes "bad")
+
+-- a refusal: whose it is, and its number
+abbrev pub fault_line : List ℕ → ℕ → List ℕ
+fault_line whose number = line (codes "fault " ++ (whose ++ (32 ∷ decimal number)))
+
+-- site A NUMBER
+abbrev pub site_line : List ℕ → ℕ → List ℕ
+site_line name number = line (codes "site " ++ (name ++ (32 ∷ decimal number)))
+
+abbrev pub taken_line : Taken → List ℕ
+taken_line New = line (codes "new")
+taken_line Known = line (codes "known")
+
+abbrev pub stamp_line : Stamp → List ℕ
+stamp_line stamp = line (codes "stamp " ++ (decimal stamp.counter ++ (32 ∷ decimal stamp.site)))
+
+-- how many lines came before
+abbrev pub end_line : ℕ → List ℕ
+end_line count = line (codes "end " ++ decimal count)
+
+-- a UID a line
+abbrev pub uid_lines : List (List ℕ) → List ℕ
+uid_lines uids = flat_map line uids
+
+abbrev pub flagged_lines : List (List ℕ) → List ℕ
+flagged_lines uids = uid_lines uids ++ end_line (length uids)
+
+abbrev pub same_line : Bool → List ℕ
+same_line same = if same then line (codes "equal") else line (codes "unequal")
+
+-- a row, in hexadecimal digits of the implicit syntax
+abbrev pub answer_line : Set → List ℕ
+answer_line row = line (codes "answer " ++ encode_lower (text_of (converted Implicit row.elements)))
+
+abbrev pub answer_lines : List Set → List ℕ
+answer_lines rows = flat_map answer_line rows
+
+abbrev pub rows_lines : List Set → List ℕ
+rows_lines rows = answer_lines rows ++ end_line (length rows)
+
+-- the refusal of a step
+abbrev pub world_fault_line : WorldFault → List ℕ
+world_fault_line (Site fault) = fault_line (codes "site") (number_of_site_fault fault)
+world_fault_line NoSite = fault_line (codes "world") 1
+world_fault_line NoMessage = fault_line (codes "world") 2
+world_fault_line StampsSpent = fault_line (codes "world") 4
+world_fault_line Memory = fault_line (codes "world") 5
+world_fault_line BadCorrection = fault_line (codes "world") 6
+
+-- what is seen of a step
+abbrev pub seen_lines : Result Seen WorldFault → List ℕ
+seen_lines (Ok (Took taken)) = taken_line taken
+seen_lines (Ok (Stamped stamp)) = stamp_line stamp
+seen_lines (Ok (Rows rows)) = rows_lines rows
+seen_lines (Err fault) = world_fault_line fault

@@ -1,0 +1,191 @@
+//! The texts that a script prints.
+
+ghost use Rattle.std.specs.Prelude.{◌≡◌, ◌++◌, ◌∷◌, [], OnOk};
+ghost use Rattle.std.specs.Fmt.{decimal};
+ghost use Rattle.site_world.specs.Faults.{number_of_site_fault};
+ghost use Rattle.site_world.specs.Texts.{line, fault_line, site_line, taken_line, stamp_line, end_line, uid_lines, flagged_lines, same_line, world_fault_line, seen_lines, answer_line, answer_lines, rows_lines};
+
+use crate::fault::WorldFault;
+use crate::step::Seen;
+use archive_query::Answer;
+use data_set::write;
+use octets::Octets;
+use operation::Stamp;
+use site_state::{SiteFault, Taken};
+use std::alloc::{AllocError, Global};
+
+/// A number in decimal digits.
+fn put_number(alloc: Global, out: &mut Vec<u8>, number: u64) -> Result<(), AllocError>
+    ensures { OnOk result (out.new.items ≡ out.old.items ++ decimal number) }
+{
+    let digits = number.to_string(alloc)?;
+    out.extend_from_slice(digits.as_bytes())
+}
+
+/// A line of these bytes.
+pub fn put_line(out: &mut Vec<u8>, text: &[u8]) -> Result<(), AllocError>
+    ensures { OnOk result (out.new.items ≡ out.old.items ++ line text.now) }
+{
+    out.extend_from_slice(text)?;
+    out.push(b'\n')?;
+    Ok(())
+}
+
+/// A refusal.
+pub fn put_fault(
+    alloc: Global,
+    out: &mut Vec<u8>,
+    whose: &[u8],
+    number: u8,
+) -> Result<(), AllocError>
+    ensures { OnOk result (out.new.items ≡ out.old.items ++ fault_line whose.now number) }
+{
+    out.extend_from_slice(b"fault ")?;
+    out.extend_from_slice(whose)?;
+    out.push(b' ')?;
+    put_number(alloc, out, u64::from(number))?;
+    out.push(b'\n')?;
+    Ok(())
+}
+
+/// A site that was named.
+pub fn put_site(
+    alloc: Global,
+    out: &mut Vec<u8>,
+    name: &[u8],
+    number: usize,
+) -> Result<(), AllocError>
+    ensures { OnOk result (out.new.items ≡ out.old.items ++ site_line name.now number) }
+{
+    out.extend_from_slice(b"site ")?;
+    out.extend_from_slice(name)?;
+    out.push(b' ')?;
+    put_number(alloc, out, number as u64)?;
+    out.push(b'\n')?;
+    Ok(())
+}
+
+/// How many lines came before.
+fn put_end(alloc: Global, out: &mut Vec<u8>, count: usize) -> Result<(), AllocError>
+    ensures { OnOk result (out.new.items ≡ out.old.items ++ end_line count) }
+{
+    out.extend_from_slice(b"end ")?;
+    put_number(alloc, out, count as u64)?;
+    out.push(b'\n')?;
+    Ok(())
+}
+
+/// UIDs, a line each.
+fn put_uids(out: &mut Vec<u8>, uids: &[Octets]) -> Result<(), AllocError>
+    ensures { OnOk result (out.new.items ≡ out.old.items ++ uid_lines uids.now) }
+{
+    for uid in uids {
+        put_line(out, uid.as_slice())?;
+    }
+    Ok(())
+}
+
+/// The UIDs that are flagged.
+pub fn put_flagged(alloc: Global, out: &mut Vec<u8>, uids: &[Octets]) -> Result<(), AllocError>
+    ensures { OnOk result (out.new.items ≡ out.old.items ++ flagged_lines uids.now) }
+{
+    put_uids(out, uids)?;
+    put_end(alloc, out, uids.len())
+}
+
+/// Whether two sites hold the same.
+pub fn put_same(out: &mut Vec<u8>, same: bool) -> Result<(), AllocError>
+    ensures { OnOk result (out.new.items ≡ out.old.items ++ same_line same) }
+{
+    if same {
+        return put_line(out, b"equal");
+    }
+    put_line(out, b"unequal")
+}
+
+fn put_taken(out: &mut Vec<u8>, taken: Taken) -> Result<(), AllocError>
+    ensures { OnOk result (out.new.items ≡ out.old.items ++ taken_line taken) }
+{
+    match taken {
+        Taken::New => put_line(out, b"new"),
+        Taken::Known => put_line(out, b"known"),
+    }
+}
+
+fn put_stamp(alloc: Global, out: &mut Vec<u8>, stamp: Stamp) -> Result<(), AllocError>
+    ensures { OnOk result (out.new.items ≡ out.old.items ++ stamp_line stamp) }
+{
+    out.extend_from_slice(b"stamp ")?;
+    put_number(alloc, out, stamp.counter)?;
+    out.push(b' ')?;
+    put_number(alloc, out, u64::from(stamp.site))?;
+    out.push(b'\n')?;
+    Ok(())
+}
+
+fn site_fault_number(fault: SiteFault) -> u8
+    ensures { result ≡ number_of_site_fault fault }
+{
+    match fault {
+        SiteFault::Collision => 1,
+        SiteFault::Memory => 2,
+    }
+}
+
+fn put_world_fault(alloc: Global, out: &mut Vec<u8>, fault: WorldFault) -> Result<(), AllocError>
+    ensures { OnOk result (out.new.items ≡ out.old.items ++ world_fault_line fault) }
+{
+    match fault {
+        WorldFault::Site(fault) => put_fault(alloc, out, b"site", site_fault_number(fault)),
+        WorldFault::NoSite => put_fault(alloc, out, b"world", 1),
+        WorldFault::NoMessage => put_fault(alloc, out, b"world", 2),
+        WorldFault::StampsSpent => put_fault(alloc, out, b"world", 4),
+        WorldFault::Memory => put_fault(alloc, out, b"world", 5),
+        WorldFault::BadCorrection => put_fault(alloc, out, b"world", 6),
+    }
+}
+
+/// A row.
+fn put_answer(alloc: Global, out: &mut Vec<u8>, row: &Answer) -> Result<(), AllocError>
+    ensures { OnOk result (out.new.items ≡ out.old.items ++ answer_line row.now) }
+{
+    let set = row.set().to_implicit(alloc)?;
+    let text = write(alloc, &set)?;
+    let digits = hex::encode(alloc, text.as_slice())?;
+    out.extend_from_slice(b"answer ")?;
+    put_line(out, digits.as_bytes())
+}
+
+/// Rows, a line each.
+fn put_answers(alloc: Global, out: &mut Vec<u8>, rows: &[Answer]) -> Result<(), AllocError>
+    ensures { OnOk result (out.new.items ≡ out.old.items ++ answer_lines rows.now) }
+{
+    for row in rows {
+        put_answer(alloc, out, row)?;
+    }
+    Ok(())
+}
+
+/// The rows that answer a query.
+fn put_rows(alloc: Global, out: &mut Vec<u8>, rows: &[Answer]) -> Result<(), AllocError>
+    ensures { OnOk result (out.new.items ≡ out.old.items ++ rows_lines rows.now) }
+{
+    put_answers(alloc, out, rows)?;
+    put_end(alloc, out, rows.len())
+}
+
+/// What is seen of a step.
+pub fn put_seen(
+    alloc: Global,
+    out: &mut Vec<u8>,
+    seen: &Result<Seen, WorldFault>,
+) -> Result<(), AllocError>
+    ensures { OnOk result (out.new.items ≡ out.old.items ++ seen_lines seen.now) }
+{
+    match seen {
+        Ok(Seen::Took(taken)) => put_taken(out, *taken),
+        Ok(Seen::Stamped(stamp)) => put_stamp(alloc, out, *stamp),
+        Ok(Seen::Rows(rows)) => put_rows(alloc, out, rows.as_slice()),
+        Err(fault) => put_world_fault(alloc, out, *fault),
+    }
+}

@@ -1,0 +1,160 @@
+//! Scripts over devices in memory, and steps of worlds.
+
+use crate::{Seen, SimFault, Step, World, WorldFault, simulate};
+use devices::{Store, Supply};
+use octets::Octets;
+use operation::Target;
+use std::alloc::Global;
+use std::test::Fail;
+
+/// Two sites take a note and an image in both orders; the second has them twice.
+const SCRIPT: &[u8] = b"site A\r\nsite B\n# a comment\n\n\
+    note A 113037 1.2.1 1.2.9 1.2.1.1.1\n\
+    image A 1.2.1 1.2.1.1 1.2.1.1.1 P1 DOE^JANE\n\
+    image B 1.2.1 1.2.1.1 1.2.1.1.1 P1 DOE^JANE\n\
+    note  B  113037 1.2.1 1.2.9 1.2.1.1.1 \n\
+    note B 113037 1.2.1 1.2.9 1.2.1.1.1\nsame A B\n\
+    find A ARCHIVE STUDY 0020000d=\nfind B QUALITY STUDY 0020000D=\nflagged A\nfind C ARCHIVE STUDY\n \nend";
+
+const ANSWERS: &[u8] = b"site A 1\nsite B 2\nnew\nnew\nnew\nnew\nknown\nequal\n\
+    end 0\nend 0\nend 0\nfault world 1\nbad\nbad\n";
+
+/// How many lines the script has, with the comment, the empty line and the last one.
+const LINES: u64 = 16;
+
+fn answered(
+    alloc: Global,
+    script: &[u8],
+    piece: usize,
+    fails_at: Option<u64>,
+    room: usize,
+) -> Result<(Result<u64, SimFault>, Store), Fail> {
+    let mut reader = Supply::new(Octets::from_slice(alloc, script)?, piece, fails_at);
+    let mut writer = Store::new(alloc, room);
+    let ended = simulate(alloc, &mut reader, &mut writer);
+    Ok((ended, writer))
+}
+
+#[test]
+fn the_cuts_of_the_reads_do_not_matter(rt: HostRuntime) -> Result<(), Fail> {
+    for piece in [1, 7, 100_000].iter().copied() {
+        let (ended, writer) = answered(rt.alloc(), SCRIPT, piece, None, 100_000)?;
+        assert_eq!(rt; ended, Ok(LINES), "lines in pieces of {piece} bytes");
+        assert_eq!(rt;
+            writer.as_slice(),
+            ANSWERS,
+            "answers in pieces of {piece} bytes"
+        );
+    }
+    Ok(())
+}
+
+#[test]
+fn a_read_that_fails_leaves_a_front(rt: HostRuntime) -> Result<(), Fail> {
+    // The last read finds the end.
+    let reads = SCRIPT.len().div_ceil(64) as u64 + 1;
+    for fails_at in 1..12 {
+        let (ended, writer) = answered(rt.alloc(), SCRIPT, 64, Some(fails_at), 100_000)?;
+        let told = if fails_at <= reads {
+            Err(SimFault::Read)
+        } else {
+            Ok(LINES)
+        };
+        assert_eq!(rt; ended, told, "where read {fails_at} fails");
+        let written = writer.as_slice();
+        assert!(rt;
+            ANSWERS.starts_with(written),
+            "a front, before read {fails_at}"
+        );
+    }
+    Ok(())
+}
+
+#[test]
+fn a_writer_without_room_holds_a_front(rt: HostRuntime) -> Result<(), Fail> {
+    for room in 0..ANSWERS.len() {
+        let (ended, writer) = answered(rt.alloc(), SCRIPT, 50, None, room)?;
+        assert_eq!(rt; ended, Err(SimFault::Write), "with room for {room} bytes");
+        assert_eq!(rt;
+            writer.as_slice(),
+            &ANSWERS[..room],
+            "the first {room} bytes"
+        );
+        assert_eq!(rt; writer.failures(), 1, "failures with room for {room} bytes");
+    }
+    Ok(())
+}
+
+#[test]
+fn a_line_has_65536_bytes_at_most(rt: HostRuntime) -> Result<(), Fail> {
+    let mut script = Vec::from_slice(rt.alloc(), b"site A\n#")?;
+    for _ in 1..65536u32 {
+        script.push(b'x')?;
+    }
+    script.extend_from_slice(b"\nsite B")?;
+    let (ended, writer) = answered(rt.alloc(), script.as_slice(), 4096, None, 100)?;
+    assert_eq!(rt; ended, Ok(3), "a comment of 65,536 bytes");
+    assert_eq!(rt;
+        writer.as_slice(),
+        b"site A 1\nsite B 2\n".as_slice(),
+        "both sites"
+    );
+
+    let mut longer = Vec::from_slice(rt.alloc(), b"site A\n#")?;
+    for _ in 0..65536u32 {
+        longer.push(b'x')?;
+    }
+    let (ended, writer) = answered(rt.alloc(), longer.as_slice(), 4096, None, 100)?;
+    assert_eq!(rt; ended, Err(SimFault::LongLine), "a comment of 65,537 bytes");
+    assert_eq!(rt;
+        writer.as_slice(),
+        b"site A 1\n".as_slice(),
+        "what came before stands"
+    );
+    Ok(())
+}
+
+fn correction(alloc: Global, site: usize, value: &[u8]) -> Result<Step, Fail> {
+    let study = Octets::from_slice(alloc, b"1.2.1")?;
+    let value = Octets::from_slice(alloc, value)?;
+    Ok(Step::Correct(site, Target::Study(study), 0x0010_0010, value))
+}
+
+#[test]
+fn a_correction_has_the_counter_above_the_greatest(rt: HostRuntime) -> Result<(), Fail> {
+    let mut world = World::new(rt.alloc(), 2).ok().expect(&rt, "two sites");
+    for counter in 1..4u64 {
+        let step = correction(rt.alloc(), 2, b"ROE^ANN")?;
+        match world.step(&step) {
+            Ok(Seen::Stamped(stamp)) => {
+                assert_eq!(rt;
+                    stamp.counter,
+                    counter,
+                    "the counter of correction {counter}"
+                );
+                assert_eq!(rt; stamp.site, 2, "the site of correction {counter}");
+            }
+            _ => assert!(rt; false, "correction {counter} is stamped"),
+        }
+    }
+    let refused = world.step(&correction(rt.alloc(), 2, b"A\\B")?);
+    assert_eq!(rt;
+        refused.err(),
+        Some(WorldFault::BadCorrection),
+        "a backslash"
+    );
+    let nowhere = world.step(&correction(rt.alloc(), 3, b"A\\B")?);
+    assert_eq!(rt;
+        nowhere.err(),
+        Some(WorldFault::NoSite),
+        "the site comes first"
+    );
+    Ok(())
+}
+
+#[test]
+fn a_world_has_16_sites_at_most(rt: HostRuntime) {
+    assert!(rt; World::new(rt.alloc(), 16).is_ok(), "sixteen");
+    let refused = World::new(rt.alloc(), 17).err();
+    assert_eq!(rt; refused, Some(WorldFault::NoSite), "seventeen");
+}
