@@ -150,6 +150,40 @@ pub fn site_of(alloc: Global, ops: Vec<Op>) -> Result<Site, Fail> {
     Ok(site)
 }
 
+/// A site takes these images, in order.
+pub fn take_images(alloc: Global, site: &mut Site, images: &[Image]) -> Result<(), Fail> {
+    for image in images {
+        site.take(image_of(alloc, image)?)?;
+    }
+    Ok(())
+}
+
+/// A site takes a correction of the patient's ID.
+pub fn take_id(
+    alloc: Global,
+    site: &mut Site,
+    target: Target,
+    value: &[u8],
+    counter: u64,
+) -> Result<(), Fail> {
+    site.take(correction(alloc, target, 0x0010_0020, value, counter)?)?;
+    Ok(())
+}
+
+/// What is found of studies where a site took these images.
+pub fn found_among(alloc: Global, images: &[Image], keys: &[(u32, &[u8])]) -> Result<String, Fail> {
+    let mut site = Site::new(alloc);
+    take_images(alloc, &mut site, images)?;
+    found(alloc, &site, View::Archive, b"STUDY", keys)
+}
+
+/// Whether the first of two images has the lesser digest.
+pub fn has_lesser_digest(alloc: Global, image: &Image, other: &Image) -> Result<bool, Fail> {
+    let image = image_of(alloc, image)?;
+    let other = image_of(alloc, other)?;
+    Ok(operation::digest(&image) < operation::digest(&other))
+}
+
 /// The query of an identifier with these keys, ascending.
 pub fn query(
     alloc: Global,

@@ -1,9 +1,11 @@
 //! What sites answer: rows from outside, in Implicit VR Little Endian.
 
 use crate::tests::made::{
-    IMAGE, Image, content, correction, found, image_of, note, patient, put, query, site_of, study,
+    IMAGE, Image, content, correction, found, found_among, has_lesser_digest, image_of, note,
+    patient, put, query, site_of, study, take_id, take_images,
 };
 use archive_model::View;
+use site_state::Site;
 use std::test::Fail;
 
 const STUDY_ROW: &str =
@@ -114,23 +116,15 @@ fn the_study_of_the_lesser_digest_is_found(rt: HostRuntime) -> Result<(), Fail> 
         study: b"1.2.2",
         ..IMAGE
     };
-    let first = image_of(alloc, &IMAGE)?;
-    let second = image_of(alloc, &moved)?;
-    let is_first = operation::digest(&first) < operation::digest(&second);
-    let one = site_of(alloc, vec![in alloc; first, second]?)?;
-    let other = site_of(
-        alloc,
-        vec![in alloc; image_of(alloc, &moved)?, image_of(alloc, &IMAGE)?]?,
-    )?;
     let keys: [(u32, &[u8]); 1] = [(0x0020_1208, b"")];
-    let want = if is_first {
+    let want = if has_lesser_digest(alloc, &IMAGE, &moved)? {
         "08005200060000005354554459200800540008000000415243484956452020000d0006000000312e322e310020000812020000003120\nend 1"
     } else {
         "08005200060000005354554459200800540008000000415243484956452020000d0006000000312e322e320020000812020000003120\nend 1"
     };
-    let text = found(alloc, &one, View::Archive, b"STUDY", &keys)?;
+    let text = found_among(alloc, &[IMAGE, moved], &keys)?;
     assert_eq!(rt; text.as_str(), want, "in one order");
-    let text = found(alloc, &other, View::Archive, b"STUDY", &keys)?;
+    let text = found_among(alloc, &[moved, IMAGE], &keys)?;
     assert_eq!(rt; text.as_str(), want, "in the other");
     Ok(())
 }
@@ -170,13 +164,11 @@ fn a_corrected_name_is_matched_and_answered(rt: HostRuntime) -> Result<(), Fail>
 #[test]
 fn a_patient_is_known_by_the_stored_id(rt: HostRuntime) -> Result<(), Fail> {
     let alloc = rt.alloc();
-    let ops = vec![in alloc;
-        correction(alloc, study(alloc, b"1.2.1")?, 0x0010_0020, b"P2", 1)?,
-        correction(alloc, patient(alloc, b"P1")?, 0x0010_0020, b"P3", 2)?,
-        correction(alloc, patient(alloc, b"P2")?, 0x0010_0020, b"P4", 3)?,
-        image_of(alloc, &IMAGE)?,
-    ]?;
-    let site = site_of(alloc, ops)?;
+    let mut site = Site::new(alloc);
+    take_id(alloc, &mut site, study(alloc, b"1.2.1")?, b"P2", 1)?;
+    take_id(alloc, &mut site, patient(alloc, b"P1")?, b"P3", 2)?;
+    take_id(alloc, &mut site, patient(alloc, b"P2")?, b"P4", 3)?;
+    take_images(alloc, &mut site, &[IMAGE])?;
     let text = found(alloc, &site, View::Archive, b"STUDY", &[(0x0010_0020, b"")])?;
     assert_eq!(rt;
         text.as_str(),
@@ -309,15 +301,9 @@ fn a_study_has_its_modalities_and_its_series_counted(rt: HostRuntime) -> Result<
         modality: b"",
         ..IMAGE
     };
-    let ops = vec![in alloc;
-        image_of(alloc, &third)?,
-        image_of(alloc, &second)?,
-        image_of(alloc, &fourth)?,
-        image_of(alloc, &IMAGE)?,
-    ]?;
-    let site = site_of(alloc, ops)?;
+    let images = [third, second, fourth, IMAGE];
     let keys: [(u32, &[u8]); 3] = [(0x0008_0061, b""), (0x0020_1206, b""), (0x0020_1208, b"")];
-    let text = found(alloc, &site, View::Archive, b"STUDY", &keys)?;
+    let text = found_among(alloc, &images, &keys)?;
     // CT\MR, three series, four instances.
     assert_eq!(rt;
         text.as_str(),
