@@ -7,3 +7,4 @@ pub mod Lists
 pub mod Padding
 pub mod Pieces
 pub mod Values
+pub mod Writable

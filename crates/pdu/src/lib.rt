@@ -23,7 +23,7 @@ pub use context::{AnsweredContext, Context, Contexts, ProposedContext};
 pub use fault::PduFault;
 pub use opening::Opening;
 pub use pdv::Pdv;
-pub use reader::{read_pdu, read_shared, spells_one_pdu};
+pub use reader::{read_pdu, read_shared, spells_one_pdu, what_is_spelled_is_writable};
 pub use reject::Reject;
 pub use request::Request;
 pub use user::{Role, UserInformation};

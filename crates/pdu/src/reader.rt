@@ -1,6 +1,7 @@
 //! Reading the PDU at the front of a stream (PS3.8, section 9.3).
 
 ghost use Rattle.std.specs.Prelude.{◌≡◌, ◌≤◌, ◌+◌, ◌↔◌, List, ℕ, length, take, IsErrOf, IfOk, IfSome, Ok, Err};
+ghost use Rattle.octets.specs.Bytes.{IsBytes};
 ghost use Rattle.pdu.specs.declared.fault.PduFault.TheVariants.{UnknownType, BadLength, BadItem, TooLong};
 ghost use Rattle.pdu.specs.declared.header.TheConstants.{HEADER_LENGTH};
 ghost use Rattle.pdu.specs.declared.value.Pdu.{Pdu};
@@ -8,6 +9,7 @@ ghost use Rattle.pdu.specs.declared.value.Step.TheVariants.{Need, Done};
 ghost use Rattle.pdu.specs.Fault.{Gives};
 ghost use Rattle.pdu.specs.Grammar.{Spells, IsUnfinished, HasHeaderFault, HasBadBody, IfDone};
 ghost use Rattle.pdu.specs.Reading.{front_at, Answers};
+ghost use Rattle.pdu.specs.Spelling.{text_of, IsPdu};
 
 use crate::fault::PduFault;
 use crate::header::{HEADER_LENGTH, fault_of};
@@ -24,6 +26,8 @@ pub fn read_pdu(alloc: Global, bytes: &[u8]) -> Result<Step, PduFault>
     ensures only { (p : Pdu) (n : ℕ) → n ≤ length bytes.now → Spells p (take n bytes.now) →
         Gives result (Ok (Done p n)) }
     ensures need { (result ≡ Ok Need) ↔ IsUnfinished bytes.now }
+    // It can be written.
+    ensures lawful { IfDone result (λ p n. IsPdu p) }
 
     // Each fault, exactly where it is.
     ensures unknown_type { IsErrOf result UnknownType ↔ HasHeaderFault UnknownType bytes.now }
@@ -43,6 +47,8 @@ pub fn read_shared(alloc: Global, bytes: &Bytes) -> Result<Step, PduFault>
     ensures only { (p : Pdu) (n : ℕ) → n ≤ length bytes.now → Spells p (take n bytes.now) →
         Gives result (Ok (Done p n)) }
     ensures need { (result ≡ Ok Need) ↔ IsUnfinished bytes.now }
+    // It can be written.
+    ensures lawful { IfDone result (λ p n. IsPdu p) }
 
     // Each fault, exactly where it is.
     ensures unknown_type { IsErrOf result UnknownType ↔ HasHeaderFault UnknownType bytes.now }
@@ -60,9 +66,17 @@ pub fn spells_one_pdu()
         Spells p (take n bytes) → Spells q (take m bytes) → (p ≡ q) × (n ≡ m) }
 {}
 
+/// What bytes spell can be written, in a text that is no longer.
+pub fn what_is_spelled_is_writable()
+    ensures lawful { (text : List ℕ) (p : Pdu) → IsBytes text → Spells p text → IsPdu p }
+    ensures no_longer { (text : List ℕ) (p : Pdu) → IsBytes text → Spells p text →
+        length (text_of p) ≤ length text }
+{}
+
 #[tactic(auto, unfolding(crate::specs::Reading::Answers))]
 fn step_of(alloc: Global, bytes: &[u8]) -> Result<Step, PduFault>
-    ensures { Answers result bytes.now }
+    ensures answers { Answers result bytes.now }
+    ensures octets { IsBytes bytes.now }
 {
     let Some(size) = front_of(bytes)? else {
         return Ok(Step::Need);
@@ -74,7 +88,8 @@ fn step_of(alloc: Global, bytes: &[u8]) -> Result<Step, PduFault>
 
 #[tactic(auto, unfolding(crate::specs::Reading::Answers))]
 fn shared_step_of(alloc: Global, bytes: &Bytes) -> Result<Step, PduFault>
-    ensures { Answers result bytes.now }
+    ensures answers { Answers result bytes.now }
+    ensures octets { IsBytes bytes.now }
 {
     let Some(size) = front_of(bytes.as_slice())? else {
         return Ok(Step::Need);
@@ -90,6 +105,7 @@ fn shared_step_of(alloc: Global, bytes: &Bytes) -> Result<Step, PduFault>
 fn front_of(bytes: &[u8]) -> Result<Option<usize>, PduFault>
     ensures exact { result ≡ front_at bytes.now }
     ensures whole { IfOk result (λ size. IfSome size (λ n. n + HEADER_LENGTH ≤ length bytes.now)) }
+    ensures octets { IsBytes bytes.now }
 {
     if bytes.len() < HEADER_LENGTH {
         return Ok(None);
