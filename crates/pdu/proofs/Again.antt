@@ -1,7 +1,7 @@
 -- What is written for a PDU spells it.
-use Rattle.std.proofs.Common.{◌≡◌, ◌≢◌, ℕ, zero, suc, ◌+◌, ◌<◌, ◌≤◌, ◌^◌, Bool, true, false, cond, eqb, List, [], ◌∷◌, ◌++◌, length, take, map, append_assoc, length-append, Option, Some, None, refl, sym, ap, subst, ◌∙◌, arith}
+use Rattle.std.proofs.Common.{◌≡◌, ℕ, ◌+◌, ◌<◌, ◌≤◌, ◌^◌, Bool, true, false, cond, eqb, List, [], ◌∷◌, ◌++◌, length, take, map, append_assoc, length-append, Option, Some, None, refl, sym, ap, subst, ◌∙◌, arith}
 use Rattle.std.specs.Prelude.{IfSome}
-use Rattle.std.specs.Int.{w16, w32, to_be_bytes, from_be_bytes}
+use Rattle.std.specs.Int.{w16, w32, to_be_bytes}
 use Rattle.std.specs.List.{flat_map, AllByRecursion}
 use Rattle.std.proofs.lemmas.List.{append-nil, take_at}
 use Rattle.std.proofs.lemmas.Nat.{from_be_bytes-to_be_bytes_2, from_be_bytes-to_be_bytes_4}
@@ -14,13 +14,12 @@ use Rattle.pdu.specs.declared.context.AnsweredContext.{AnsweredContext}
 use Rattle.pdu.specs.declared.opening.Opening.{Opening}
 use Rattle.pdu.specs.declared.request.Request.{Request}
 use Rattle.pdu.specs.declared.accept.Accept.{Accept}
-use Rattle.pdu.specs.declared.reject.Reject.{Reject}
 use Rattle.pdu.specs.declared.pdv.Pdv.{Pdv}
 use Rattle.pdu.specs.declared.value.Pdu.{Pdu}
 use Rattle.pdu.specs.declared.value.Pdu.TheVariants.{AssociateRq, AssociateAc, AssociateRj, PData, ReleaseRq, ReleaseRp, Abort}
 use Rattle.pdu.specs.Header.{header_fault}
-use Rattle.pdu.specs.Grammar.{Fill, Each, Sole, BeginsItem, contents_of, trimmed, is_graphic, IsUid, IsLength, IsRole, first_or, first_of, IsUser, IsProposal, IsAnswer, are_distinct, BeginsOpening, IsRequest, IsAccept, is_command, is_last, BeginsPdv, IsBody, code_of, Spells}
-use Rattle.pdu.specs.Spelling.{item_of, item_text, items_text, HasLength, role_text, role_item, length_items, class_items, user_items, user_item, syntax_item, proposal_items, proposal_item, answer_items, answer_item, opening_text, request_items, accept_items, control_of, pdv_text, body_text, text_of, IsUidText, FitsRole, FitsUser, FitsProposal, FitsAnswer, FitsOpening, FitsRequest, FitsAccept, IsPdu}
+use Rattle.pdu.specs.Grammar.{Fill, Each, BeginsItem, contents_of, IsUid, IsLength, IsRole, first_or, first_of, IsUser, IsProposal, IsAnswer, BeginsOpening, IsRequest, IsAccept, is_command, is_last, BeginsPdv, IsBody, code_of, Spells}
+use Rattle.pdu.specs.Spelling.{item_of, items_text, HasLength, role_text, role_item, class_items, user_items, user_item, proposal_items, proposal_item, answer_items, answer_item, opening_text, request_items, accept_items, control_of, pdv_text, body_text, text_of, IsUidText, FitsRole, FitsUser, FitsProposal, FitsAnswer, FitsOpening, FitsRequest, FitsAccept, IsPdu}
 
 -- ---- items
 

@@ -1,16 +1,15 @@
 -- What a body says is what it has, and the other way round.
-use Rattle.std.proofs.Common.{◌≡◌, ◌≢◌, ℕ, zero, suc, ◌+◌, ◌-◌, ◌≤◌, ◌<◌, Bool, true, false, not, cond, ltb, eqb, List, [], ◌∷◌, ◌++◌, length, take, drop, length-append, length-drop, Option, None, Result, Ok, Err, refl, sym, ap, subst, ◌∙◌, arith, ◌⊎◌, inl, inr}
+use Rattle.std.proofs.Common.{◌≡◌, ◌≢◌, ℕ, ◌≤◌, Bool, false, cond, ltb, eqb, List, [], ◌∷◌, ◌++◌, length, take, drop, length-append, length-drop, None, Result, Ok, Err, refl, sym, ap, subst, ◌∙◌, arith, ◌⊎◌, inl, inr}
 use Rattle.std.specs.Prelude.{map}
 use Rattle.std.specs.Int.{w16, from_be_bytes}
 use Rattle.std.proofs.lemmas.Bool.{cases_lt, ltb-false, le-ltb}
-use Rattle.std.proofs.lemmas.List.{take_at, drop_at, take-append-drop, length-take, nil_from_length, drop-drop}
+use Rattle.std.proofs.lemmas.List.{take_at, drop_at, take-append-drop, length-take, drop-drop}
 use Rattle.octets.specs.Gives.{◌>>=◌}
 use Rattle.octets.proofs.ByteLaws.{bind_ok, guard_ok, guard_end, ok_is}
 use Rattle.pdu.specs.declared.header.TheConstants.{OPENING_LENGTH}
 use Rattle.pdu.specs.declared.item.TheConstants.{APPLICATION_CONTEXT, PROPOSED_CONTEXT, ANSWERED_CONTEXT, USER_INFORMATION}
 use Rattle.pdu.specs.declared.fault.PduFault.{PduFault}
 use Rattle.pdu.specs.declared.fault.PduFault.TheVariants.{BadItem}
-use Rattle.pdu.specs.declared.item.Item.{Item}
 use Rattle.pdu.specs.declared.user.UserInformation.{UserInformation}
 use Rattle.pdu.specs.declared.context.ProposedContext.{ProposedContext}
 use Rattle.pdu.specs.declared.context.AnsweredContext.{AnsweredContext}
@@ -21,8 +20,8 @@ use Rattle.pdu.specs.declared.reject.Reject.{Reject}
 use Rattle.pdu.specs.declared.pdv.Pdv.{Pdv}
 use Rattle.pdu.specs.declared.value.Pdu.{Pdu}
 use Rattle.pdu.specs.declared.value.Pdu.TheVariants.{AssociateRq, AssociateAc, AssociateRj, PData, ReleaseRq, ReleaseRp, Abort}
-use Rattle.pdu.specs.Header.{range_fault, header_fault}
-use Rattle.pdu.specs.Grammar.{Sole, Each, contents_of, IsUid, IsUser, IsProposal, IsAnswer, are_distinct, BeginsOpening, IsRequest, IsAccept, BeginsPdv, IsBody, code_of}
+use Rattle.pdu.specs.Header.{header_fault}
+use Rattle.pdu.specs.Grammar.{contents_of, IsUid, IsUser, IsProposal, IsAnswer, are_distinct, BeginsOpening, IsRequest, IsAccept, BeginsPdv, IsBody, code_of}
 use Rattle.pdu.specs.Reading.{pieces_of, item_at, pdv_at, each_at, sole_at, uid_at, user_at, proposal_at, answer_at, opening_at, request_in, request_at, accept_in, accept_at, data_at, reject_at, abort_at, body_at}
 use Rattle.pdu.proofs.Pieces.{FoundIn, AgainIn, pieces-found, pieces-again, each-found, each-again, sole-found, sole-again}
 use Rattle.pdu.proofs.Items.{item-found, item-again, item-shorter, pdv-found, pdv-again, pdv-shorter}

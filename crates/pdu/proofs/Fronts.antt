@@ -1,20 +1,18 @@
 -- The front of a stream: what it can be, and what is told of it.
-use Rattle.std.proofs.Common.{◌≡◌, ◌≢◌, ℕ, zero, suc, ◌+◌, ◌-◌, ◌<◌, ◌≤◌, Bool, true, false, cond, ltb, List, [], ◌∷◌, ◌++◌, length, take, drop, get_or, Option, Some, None, Result, Ok, Err, refl, sym, ap, subst, ◌∙◌, arith, inl, inr, ◌⊎◌, length-append}
-use Rattle.std.specs.Prelude.{⊤}
+use Rattle.std.proofs.Common.{◌≡◌, ◌≢◌, ℕ, ◌+◌, ◌-◌, ◌≤◌, List, [], ◌∷◌, ◌++◌, length, take, drop, Option, Some, None, Result, Ok, Err, refl, sym, ap, subst, ◌∙◌, arith, inl, inr, ◌⊎◌}
 use Rattle.std.specs.Int.{w32, from_be_bytes}
 use Rattle.std.proofs.Math.Seq.{take-append-add}
-use Rattle.std.proofs.lemmas.Bool.{cases_lt, ltb-true, lt-ltb, le-ltb}
-use Rattle.std.proofs.lemmas.List.{take_at, drop_at, take-append-drop, length-take}
+use Rattle.std.proofs.lemmas.Bool.{cases_lt, lt-ltb, le-ltb}
+use Rattle.std.proofs.lemmas.List.{take_at, take-append-drop, length-take}
 use Rattle.octets.specs.Gives.{◌>>=◌}
-use Rattle.octets.proofs.ByteLaws.{bind_ok, ok_is}
-use Rattle.pdu.specs.declared.header.TheConstants.{HEADER_LENGTH}
+use Rattle.octets.proofs.ByteLaws.{ok_is}
 use Rattle.pdu.specs.declared.fault.PduFault.{PduFault}
 use Rattle.pdu.specs.declared.fault.PduFault.TheVariants.{UnknownType, BadLength, BadItem, TooLong, Memory}
 use Rattle.pdu.specs.declared.value.Pdu.{Pdu}
 use Rattle.pdu.specs.declared.value.Step.{Step}
 use Rattle.pdu.specs.declared.value.Step.TheVariants.{Need, Done}
 use Rattle.pdu.specs.Fault.{Gives}
-use Rattle.pdu.specs.Header.{range_fault, header_fault}
+use Rattle.pdu.specs.Header.{header_fault}
 use Rattle.pdu.specs.Grammar.{IsBody, code_of, Spells, type_of, size_of, HasHeaderFault, HasLawfulHeader, IsUnfinished, HasBadBody, IfDone}
 use Rattle.pdu.specs.Reading.{behind_header, front_at, Behind, Answers, body_at}
 use Rattle.pdu.proofs.Bodies.{body-found, body-again}

@@ -1,9 +1,8 @@
 -- Pieces one after the other, as a loop reads them.
-use Rattle.std.proofs.Common.{◌≡◌, ◌≢◌, ℕ, zero, suc, ◌+◌, ◌≤◌, ◌<◌, List, [], ◌∷◌, ◌++◌, length, Result, Ok, Err, refl, sym, ap, subst, ◌∙◌, append_assoc, arith}
+use Rattle.std.proofs.Common.{◌≡◌, ◌≢◌, ℕ, zero, suc, ◌≤◌, ◌<◌, List, [], ◌∷◌, ◌++◌, length, Result, Ok, Err, refl, sym, ap, subst, ◌∙◌, append_assoc, arith}
 use Rattle.std.proofs.lemmas.List.{append-nil}
 use Rattle.octets.specs.Gives.{◌>>=◌}
 use Rattle.pdu.specs.declared.fault.PduFault.{PduFault}
-use Rattle.pdu.specs.declared.fault.PduFault.TheVariants.{UnknownType, BadLength, BadItem, TooLong, Memory}
 use Rattle.pdu.specs.Fault.{Gives, is_memory}
 use Rattle.octets.proofs.ByteLaws.{bind_ok, ok_is, told_map}
 use Rattle.pdu.specs.Grammar.{Fill, Each, Sole}

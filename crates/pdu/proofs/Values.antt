@@ -1,22 +1,18 @@
 -- What an item's content says is what it has, and the other way round.
-use Rattle.std.proofs.Common.{◌≡◌, ◌≢◌, ℕ, zero, suc, ◌+◌, ◌-◌, ◌≤◌, ◌<◌, Bool, true, false, not, cond, ltb, eqb, ◌&&◌, List, [], ◌∷◌, ◌++◌, length, take, drop, get_or, length-append, length-drop, drop-cons, Option, Result, Ok, Err, refl, sym, ap, subst, ◌∙◌, arith}
+use Rattle.std.proofs.Common.{◌≡◌, ◌≢◌, ℕ, zero, suc, ◌+◌, Bool, true, false, not, cond, eqb, ◌&&◌, List, [], ◌∷◌, ◌++◌, length, take, drop, get_or, length-append, length-drop, drop-cons, Option, Result, Ok, Err, refl, sym, ap, subst, ◌∙◌, arith}
 use Rattle.std.specs.List.{list_all}
-use Rattle.std.specs.Prelude.{map}
 use Rattle.std.specs.Int.{w16, w32, from_be_bytes}
-use Rattle.std.proofs.lemmas.Bool.{ltb-false, le-ltb}
 use Rattle.std.proofs.lemmas.List.{take_at, drop_at, take-append-drop, length-take, nil_from_length}
 use Rattle.octets.specs.Gives.{◌>>=◌}
-use Rattle.octets.proofs.ByteLaws.{bind_ok, guard_ok, guard_end, ok_is}
-use Rattle.pdu.specs.declared.header.TheConstants.{OPENING_LENGTH}
-use Rattle.pdu.specs.declared.item.TheConstants.{APPLICATION_CONTEXT, PROPOSED_CONTEXT, ANSWERED_CONTEXT, ABSTRACT_SYNTAX, TRANSFER_SYNTAX, USER_INFORMATION, MAXIMUM_LENGTH, IMPLEMENTATION_CLASS, ROLE_SELECTION}
+use Rattle.octets.proofs.ByteLaws.{bind_ok, guard_end, ok_is}
+use Rattle.pdu.specs.declared.item.TheConstants.{ABSTRACT_SYNTAX, TRANSFER_SYNTAX, MAXIMUM_LENGTH, IMPLEMENTATION_CLASS, ROLE_SELECTION}
 use Rattle.pdu.specs.declared.fault.PduFault.{PduFault}
 use Rattle.pdu.specs.declared.fault.PduFault.TheVariants.{BadItem}
-use Rattle.pdu.specs.declared.item.Item.{Item}
 use Rattle.pdu.specs.declared.user.Role.{Role}
 use Rattle.pdu.specs.declared.user.UserInformation.{UserInformation}
 use Rattle.pdu.specs.declared.context.ProposedContext.{ProposedContext}
 use Rattle.pdu.specs.declared.context.AnsweredContext.{AnsweredContext}
-use Rattle.pdu.specs.Grammar.{Sole, Each, contents_of, is_graphic, trimmed, IsUid, IsLength, IsRole, first_or, first_of, IsUser, is_odd, IsProposal, IsAnswer}
+use Rattle.pdu.specs.Grammar.{contents_of, is_graphic, trimmed, IsUid, IsLength, IsRole, first_or, first_of, IsUser, is_odd, IsProposal, IsAnswer}
 use Rattle.pdu.specs.Reading.{pieces_of, item_at, each_at, sole_at, uid_at, length_at, role_at, user_at, proposal_at, answer_at}
 use Rattle.pdu.proofs.Pieces.{FoundIn, AgainIn, pieces-found, pieces-again, each-found, each-again, sole-found, sole-again}
 use Rattle.pdu.proofs.Items.{item-found, item-again, item-shorter}

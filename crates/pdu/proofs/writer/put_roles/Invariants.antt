@@ -1,6 +1,5 @@
 use Rattle.std.proofs.Common.{◌≡◌, ◌++◌, take, map}
-use Rattle.std.specs.List.{flat_map}
-use Rattle.pdu.specs.Spelling.{items_text, pdv_text, role_item, syntax_item, proposal_item, answer_item}
+use Rattle.pdu.specs.Spelling.{items_text, role_item}
 use Rattle.pdu.proofs.writer.put_roles.Given as goal
 
 abbrev pub invariant-loop-role : goal.invariant-loop-role
