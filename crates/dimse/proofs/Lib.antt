@@ -4,6 +4,7 @@ pub mod CommandLaws
 pub mod WrittenLaws
 pub mod StepLaws
 pub mod RunLaws
+pub mod SoundLaws
 pub mod SpelledLaws
 pub mod FragmentLaws
 pub mod LawfulLaws

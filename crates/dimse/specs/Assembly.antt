@@ -1,5 +1,5 @@
 -- What a fragment leads to, given what came since the last message.
-use Rattle.std.specs.Prelude.{◌≡◌, ℕ, Bool, true, false, not, ◌==◌, ◌&&◌, nat_lt, List, [], ◌++◌, length, Option, Some, None, Result, Ok, Err, MatchBool, IfOk, IfErr, OnOk, OnErr, if◌then◌else◌}
+use Rattle.std.specs.Prelude.{◌≡◌, ℕ, Bool, true, false, not, ◌==◌, ◌&&◌, nat_lt, List, [], ◌++◌, length, Option, Some, None, Result, Ok, Err, MatchBool, IfOk, IfErr, OnOk, OnErr, if◌then◌else◌, ⊤}
 use Rattle.std.specs.List.{list_any}
 use Rattle.octets.specs.Gives.{Told}
 use Rattle.pdu.specs.declared.pdv.Pdv.{Pdv}
@@ -13,8 +13,23 @@ use Rattle.dimse.specs.declared.assembler.Stage.TheVariants.{Between, InCommand,
 use Rattle.dimse.specs.declared.command.TheConstants.{LONGEST_COMMAND}
 use Rattle.dimse.specs.declared.assembler.TheConstants.{LONGEST_DATA_SET}
 use Rattle.dimse.specs.Fault.{is_memory}
-use Rattle.dimse.specs.Command.{Spells, announces}
+use Rattle.dimse.specs.Command.{Spells, announces, IsCommand, HasRoom}
 use Rattle.dimse.specs.Refusal.{IsRefusal}
+
+-- ---- what is kept
+
+-- a command set that can be written and announces a data set
+pub record IsAnnouncement (c : Command) : Type 0 where
+  pub lawful : IsCommand c
+  pub room : HasRoom c
+  pub announced : announces c ≡ true
+
+-- A command set is kept only so.
+abbrev pub Keeps : Stage → Type 0
+Keeps Between = ⊤
+Keeps (InCommand context text) = ⊤
+Keeps (InDataSet context command text) = IsAnnouncement command
+Keeps Failed = ⊤
 
 -- the accepted presentation contexts, and what came since the last message
 pub record Assembly : Type 0 where

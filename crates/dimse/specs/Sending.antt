@@ -1,9 +1,11 @@
 -- How a message is sent: each fragment in a PDU of its own (PS3.8, D.1 and E).
-use Rattle.std.specs.Prelude.{◌≡◌, ◌<◌, ◌≤◌, ℕ, ◌-◌, ◌*◌, ◌/◌, Bool, true, false, List, [], ◌∷◌, ◌++◌, length, take, drop, Option, Some, None, MatchOption, is_some}
+use Rattle.std.specs.Prelude.{◌≡◌, ◌<◌, ◌≤◌, ℕ, ◌-◌, ◌*◌, ◌/◌, Bool, true, false, List, [], ◌∷◌, ◌++◌, length, take, drop, Option, Some, None, MatchOption, IfSome, is_some}
 use Rattle.pdu.specs.declared.pdv.Pdv.{Pdv}
 use Rattle.pdu.specs.declared.value.Pdu.{Pdu}
 use Rattle.pdu.specs.declared.value.Pdu.TheVariants.{AssociateRq, AssociateAc, AssociateRj, PData, ReleaseRq, ReleaseRp, Abort}
 use Rattle.dimse.specs.declared.message.Message.{Message}
+use Rattle.dimse.specs.declared.assembler.Stage.{Stage}
+use Rattle.dimse.specs.Assembly.{Keeps}
 use Rattle.dimse.specs.Command.{IsCommand, HasRoom, announces, command_text}
 
 -- the largest even length that is not above the limit less 6
@@ -34,6 +36,10 @@ pub record IsWhole (m : Message) : Type 0 where
   pub lawful : IsCommand m.command
   pub room : HasRoom m.command
   pub announced : announces m.command ≡ is_some m.body
+
+-- The message that was put together can be sent, and the stage keeps what leads to such.
+abbrev pub CanBeSent : Option Message → Stage → Type 0
+CanBeSent m next = IfSome m IsWhole × Keeps next
 
 -- the fragments that PDUs hold
 abbrev pub pdvs_in : List Pdu → List Pdv

@@ -1,8 +1,9 @@
 //! Fragments are put together to messages (PS3.8, annex E).
 
-ghost use Rattle.std.specs.Prelude.{◌≡◌, ◌≢◌, ◌+◌, ◌++◌, nat_lt, [], length, IfOk, IfErr, OnErr, IsTrue, Some, None};
+ghost use Rattle.std.specs.Prelude.{◌≡◌, ◌≢◌, ◌≤◌, ◌+◌, ◌++◌, nat_lt, [], length, IfOk, IfErr, IfSome, OnErr, IsTrue, Some, None, false};
 ghost use Rattle.std.specs.List.{list_any};
-ghost use Rattle.dimse.specs.Assembly.{Assembly, accepts, has_place, limit_of, text_so_far, fault_of, is_over, Closes, AdvancesCommand, AdvancesData, IsRefusalAt, LeadsTo, Feeds};
+ghost use Rattle.dimse.specs.Assembly.{Assembly, accepts, has_place, limit_of, text_so_far, fault_of, is_over, Closes, AdvancesCommand, AdvancesData, IsRefusalAt, LeadsTo, Feeds, IsAnnouncement, Keeps};
+ghost use Rattle.dimse.specs.Sending.{IsWhole, CanBeSent};
 ghost use Rattle.dimse.specs.Refusal.{IsRefusal};
 
 use crate::command::{Command, LONGEST_COMMAND};
@@ -42,11 +43,13 @@ pub struct Assembler {
 }
 
 impl Model for Assembler {
-    ghost use Rattle.dimse.specs.Assembly.{Assembly};
+    ghost use Rattle.dimse.specs.Assembly.{Assembly, Keeps};
 
     ghost Value = { Assembly };
 
     ghost view = { λ a. record { contexts = a.contexts; stage = a.stage } };
+
+    ghost invariant = { λ a. Keeps a.stage };
 }
 
 fn is_accepted(contexts: &[Context], id: u8) -> bool
@@ -144,6 +147,7 @@ fn close_command(
     text: &Bytes,
 ) -> Result<(Option<Message>, Stage), DimseFault>
     ensures ok { IfOk result (λ x. Closes context text.now x.0 x.1) }
+    ensures sound { length text.now ≤ LONGEST_COMMAND → IfOk result (λ x. CanBeSent x.0 x.1) }
     ensures refused { IfErr result (IsRefusal text.now) }
 {
     let command = read_command(alloc, text.as_slice())?;
@@ -166,6 +170,8 @@ fn take_command_fragment(
     pdv: Pdv,
 ) -> Result<(Option<Message>, Stage), DimseFault>
     ensures ok { IfOk result (λ x. AdvancesCommand text pdv x.0 x.1) }
+    ensures sound { length (text ++ pdv.fragment) ≤ LONGEST_COMMAND →
+        IfOk result (λ x. CanBeSent x.0 x.1) }
     ensures refused { IfErr result (IsRefusalAt (Stage.InCommand 0 text) pdv) }
 {
     let Pdv {
@@ -190,6 +196,7 @@ fn take_data_fragment(
     pdv: Pdv,
 ) -> Result<(Option<Message>, Stage), DimseFault>
     ensures ok { IfOk result (λ x. AdvancesData command text pdv x.0 x.1) }
+    ensures sound { IsAnnouncement command → IfOk result (λ x. CanBeSent x.0 x.1) }
     ensures refused { IfErr result (λ f. f ≡ DimseFault.Memory) }
 {
     let Pdv {
@@ -214,7 +221,9 @@ fn take_data_fragment(
 /// What a fragment that has its place leads to.
 fn advance(alloc: Global, stage: Stage, pdv: Pdv) -> Result<(Option<Message>, Stage), DimseFault>
     requires { stage ≢ Stage.Failed }
-    ensures { LeadsTo stage pdv result }
+    ensures leads { LeadsTo stage pdv result }
+    ensures sound { Keeps stage → is_over stage pdv ≡ false →
+        IfOk result (λ x. CanBeSent x.0 x.1) }
 {
     match stage {
         Stage::Between => take_command_fragment(alloc, Octets::of(Vec::new(alloc)), pdv),
@@ -237,7 +246,9 @@ impl Assembler {
 
     /// Takes the next fragment, and answers the message that it ends, where it ends one.
     pub fn feed(&mut self, alloc: Global, pdv: Pdv) -> Result<Option<Message>, DimseFault>
-        ensures { Feeds self.old pdv result self.new }
+        ensures fed { Feeds self.old pdv result self.new }
+        // It can be sent again.
+        ensures whole { IfOk result (λ message. IfSome message IsWhole) }
     {
         let stage = mem::replace(&mut self.stage, Stage::Failed);
         if let Some(fault) = stage.fault_with(self.contexts.as_slice(), &pdv) {

@@ -1,7 +1,9 @@
 //! Messages are cut into fragments, each in a PDU of its own (PS3.8, annex E and section D.1).
 
-ghost use Rattle.std.specs.Prelude.{◌≡◌, ◌≤◌, ◌<◌, ◌++◌, ◌∷◌, [], List, OnOk, IfOk, MatchOption, false};
+ghost use Rattle.std.specs.Prelude.{◌≡◌, ◌≤◌, ◌<◌, ◌++◌, ◌∷◌, [], List, OnOk, IfOk, MatchOption, All, false};
+ghost use Rattle.pdu.specs.declared.header.TheConstants.{LONGEST_BODY};
 ghost use Rattle.pdu.specs.declared.value.Pdu.{Pdu};
+ghost use Rattle.pdu.specs.Spelling.{IsPdu};
 ghost use Rattle.dimse.specs.Command.{command_text, Spells};
 ghost use Rattle.dimse.specs.Messages.{SpellsMessage};
 ghost use Rattle.dimse.specs.Sending.{size_of, sent, Sends, IsSending, IsWhole, pdvs_in};
@@ -110,6 +112,8 @@ pub fn fragments(alloc: Global, message: &Message, max: u32) -> Result<Vec<Pdu>,
     ensures sent { IfOk result (λ pdus. IsSending message.now max pdus.items) }
     // They are put together to the same message.
     ensures again { IfOk result (λ pdus. SpellsMessage (pdvs_in pdus.items) message.now) }
+    // Each can be written.
+    ensures lawful { max ≤ LONGEST_BODY → IfOk result (λ pdus. All IsPdu pdus.items) }
 {
     cut(alloc, message, max)
 }

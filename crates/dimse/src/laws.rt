@@ -1,13 +1,17 @@
-//! What an assembler answers over any list of fragments, as laws of `Assembler::feed`.
+//! What an assembler answers over any list of fragments, as laws of `Assembler::feed`, and what
+//! answers a request.
 
 ghost use Rattle.std.specs.Prelude.{◌≡◌, ◌≢◌, List, Option, None, Some, Result, Err, All};
 ghost use Rattle.pdu.specs.declared.pdv.Pdv.{Pdv};
 ghost use Rattle.pdu.specs.declared.context.Context.{Context};
+ghost use Rattle.dimse.specs.declared.command.Command.{Command};
 ghost use Rattle.dimse.specs.declared.message.Message.{Message};
 ghost use Rattle.dimse.specs.declared.fault.DimseFault.{DimseFault};
 ghost use Rattle.dimse.specs.declared.assembler.Stage.{Stage};
 ghost use Rattle.dimse.specs.Assembly.{Assembly};
+ghost use Rattle.dimse.specs.Command.{IsCommand, HasRoom};
 ghost use Rattle.dimse.specs.Messages.{Splits, Ends, Run, fresh, messages, first_fault, HadMemory};
+ghost use Rattle.dimse.specs.Response.{IsResponseTo};
 
 /// The messages are those that the fragments spell, and a fault comes only where its cause stands.
 pub fn messages_are_those_spelled()
@@ -46,4 +50,12 @@ pub fn nothing_is_taken_after_a_fault()
         (answers : List (Result (Option Message) DimseFault)) →
         failed.stage ≡ Stage.Failed → Run failed pdvs answers end →
         All (λ answer. answer ≡ Err DimseFault.Failed) answers × (end ≡ failed) }
+{}
+
+/// What answers a request that can be written can be written.
+pub fn a_response_can_be_written()
+    ensures lawful { (request response : Command) →
+        IsCommand request → IsResponseTo request response → IsCommand response }
+    ensures room { (request response : Command) →
+        HasRoom request → IsResponseTo request response → HasRoom response }
 {}

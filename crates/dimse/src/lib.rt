@@ -27,8 +27,8 @@ pub use command_field::{CommandField, UnknownField};
 pub use fault::DimseFault;
 pub use fragment::fragments;
 pub use laws::{
-    cuts_do_not_matter, messages_are_those_spelled, nothing_is_taken_after_a_fault,
-    what_is_spelled_is_answered,
+    a_response_can_be_written, cuts_do_not_matter, messages_are_those_spelled,
+    nothing_is_taken_after_a_fault, what_is_spelled_is_answered,
 };
 pub use message::Message;
 pub use reader::read_command;
