@@ -15,7 +15,7 @@ use Rattle.dimse.specs.declared.message.Message.{Message}
 use Rattle.dimse.specs.CommandField.{is_response_code, names_class_code}
 use Rattle.dimse.specs.Uid.{IsUid}
 use Rattle.dimse.specs.Command.{command_text, is_complete, IsCommand, HasRoom}
-use Rattle.dimse.specs.Response.{IsToldOf, IsResponseTo}
+use Rattle.dimse.specs.Response.{IsToldOf, IsResponseTo, response_code, response_of}
 use Rattle.dimse.specs.declared.assembler.Stage.{Stage}
 use Rattle.dimse.specs.Assembly.{is_over, fault_of, Keeps}
 use Rattle.dimse.proofs.RunLaws.{faultless_parts}
@@ -84,6 +84,23 @@ response_lawful request response is h = record {
   affected_instance = told_fits IsUid request.affected_instance response.affected_instance is.affected_instance h.affected_instance;
   complete = complete request response is.complete h;
 }
+
+has_high_bit : (code : ℕ) → is_response_code (response_code code) ≡ true
+has_high_bit code = grind arith
+
+told : (t : Bool) (instance : Option (List ℕ)) → IsToldOf instance (cond t instance None)
+told true instance = inl refl
+told false instance = inr refl
+
+pub answer_lawful : (request : Command) (status : ℕ) → is_response_code request.field ≡ false → IsCommand request → IsCommand (response_of request status)
+unfolding response_of
+answer_lawful request status asked is = response_lawful request _ is (record {
+  asked = asked;
+  field = has_high_bit request.field;
+  responded_to = refl;
+  affected_class = inl refl;
+  affected_instance = told (request.field == 0x0001) request.affected_instance;
+})
 
 -- ---- messages
 

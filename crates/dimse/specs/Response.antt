@@ -1,6 +1,7 @@
 -- What answers a request (PS3.7, 9.3).
-use Rattle.std.specs.Prelude.{◌≡◌, ◌⊎◌, ℕ, true, false, List, Option, None}
+use Rattle.std.specs.Prelude.{◌≡◌, ◌⊎◌, ℕ, ◌+◌, ◌==◌, nat_lt, true, false, List, Option, Some, None, if◌then◌else◌}
 use Rattle.dimse.specs.declared.command.Command.{Command}
+use Rattle.dimse.specs.declared.command.TheConstants.{NO_DATA_SET}
 use Rattle.dimse.specs.CommandField.{is_response_code}
 
 -- the request's UID, or none
@@ -14,3 +15,28 @@ pub record IsResponseTo (request response : Command) : Type 0 where
   pub responded_to : response.responded_to ≡ request.message_id
   pub affected_class : IsToldOf request.affected_class response.affected_class
   pub affected_instance : IsToldOf request.affected_instance response.affected_instance
+
+-- the field with its highest bit set
+abbrev pub response_code : ℕ → ℕ
+response_code code = if nat_lt code 0x8000 then code + 0x8000 else code
+
+-- the instance is told of a C-STORE
+abbrev pub told_instance : Command → Option (List ℕ)
+told_instance request = if request.field == 0x0001 then request.affected_instance else None
+
+-- the response without a data set
+unfoldable pub response_of : Command → ℕ → Command
+response_of request status = record {
+  affected_class = request.affected_class;
+  field = response_code request.field;
+  message_id = None;
+  responded_to = request.message_id;
+  priority = None;
+  data_set_type = NO_DATA_SET;
+  status = Some status;
+  affected_instance = told_instance request;
+  remaining = None;
+  completed = None;
+  failed = None;
+  warning = None;
+}

@@ -68,6 +68,13 @@ impl Command {
         self.data_set_type != NO_DATA_SET
     }
 
+    /// Whether it answers a request. A C-CANCEL does too.
+    pub fn is_response(&self) -> bool
+        ensures { result ≡ is_response_code self.now.field }
+    {
+        is_response(self.field)
+    }
+
     /// Whether all is there that a message of its kind needs.
     #[tactic(auto, unfolding(crate::specs::Command::is_complete))]
     pub fn has_what_it_needs(&self) -> bool

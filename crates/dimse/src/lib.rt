@@ -14,6 +14,7 @@ mod fragment;
 mod laws;
 mod message;
 mod reader;
+mod response;
 mod status;
 mod tags;
 #[cfg(test)]

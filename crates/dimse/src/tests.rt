@@ -36,6 +36,18 @@ const STORE_RESPONSE: [u8; 104] = *b"\x00\x00\x00\x00\x04\x00\x00\x00\x5c\x00\x0
     \x00\x00\x00\x08\x02\x00\x00\x00\x01\x01\x00\x00\x00\x09\x02\x00\x00\x00\x00\x00\
     \x00\x00\x00\x10\x0a\x00\x00\x001.2.1.1.1\x00";
 
+// An N-CREATE request of a performed procedure step, message ID 3: a request of no service here.
+const CREATE_REQUEST: [u8; 74] = *b"\x00\x00\x00\x00\x04\x00\x00\x00\x3e\x00\x00\x00\
+    \x00\x00\x02\x00\x18\x00\x00\x001.2.840.10008.3.1.2.3.3\x00\
+    \x00\x00\x00\x01\x02\x00\x00\x00\x40\x01\x00\x00\x10\x01\x02\x00\x00\x00\x03\x00\
+    \x00\x00\x00\x08\x02\x00\x00\x00\x01\x01";
+
+// Its response, status 0211H.
+const CREATE_RESPONSE: [u8; 84] = *b"\x00\x00\x00\x00\x04\x00\x00\x00\x48\x00\x00\x00\
+    \x00\x00\x02\x00\x18\x00\x00\x001.2.840.10008.3.1.2.3.3\x00\
+    \x00\x00\x00\x01\x02\x00\x00\x00\x40\x81\x00\x00\x20\x01\x02\x00\x00\x00\x03\x00\
+    \x00\x00\x00\x08\x02\x00\x00\x00\x01\x01\x00\x00\x00\x09\x02\x00\x00\x00\x11\x02";
+
 // The least C-ECHO request: it has no group length.
 const LEAST: [u8; 56] = *b"\x00\x00\x02\x00\x12\x00\x00\x001.2.840.10008.1.1\x00\
     \x00\x00\x00\x01\x02\x00\x00\x00\x30\x00\x00\x00\x10\x01\x02\x00\x00\x00\x01\x00\
@@ -72,6 +84,33 @@ fn command_sets_are_read_and_written_again(rt: HostRuntime) -> Result<(), Fail> 
         written.as_slice(),
         STORE_RESPONSE.as_slice(),
         "the same bytes"
+    );
+    Ok(())
+}
+
+// The bytes of the response to a request.
+fn answered(alloc: Global, text: &[u8], status: Status) -> Result<Vec<u8>, Fail>
+    requires { length text.now ≤ LONGEST_COMMAND }
+{
+    let request = read_command(alloc, text)?;
+    if request.is_response() {
+        return Err(Fail::new("no request"));
+    }
+    let response = request.response(alloc, status)?;
+    Ok(write_command(alloc, &response)?)
+}
+
+#[test]
+fn requests_are_answered_in_their_terms(rt: HostRuntime) -> Result<(), Fail> {
+    let echo = answered(rt.alloc(), &ECHO_REQUEST, Status::Success)?;
+    assert_eq!(rt; echo.as_slice(), ECHO_RESPONSE.as_slice(), "a C-ECHO");
+    let store = answered(rt.alloc(), &STORE_REQUEST, Status::Success)?;
+    assert_eq!(rt; store.as_slice(), STORE_RESPONSE.as_slice(), "a C-STORE");
+    let create = answered(rt.alloc(), &CREATE_REQUEST, Status::UnrecognizedOperation)?;
+    assert_eq!(rt;
+        create.as_slice(),
+        CREATE_RESPONSE.as_slice(),
+        "of no service"
     );
     Ok(())
 }

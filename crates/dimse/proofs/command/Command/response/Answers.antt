@@ -1,0 +1,8 @@
+use Rattle.dimse.specs.Response.{response_of}
+use Rattle.dimse.specs.Status.{status_code}
+use Rattle.dimse.proofs.SoundLaws.{answer_lawful}
+use Rattle.dimse.proofs.command.Command.response.Goals as goal
+
+pub returns-clause-lawful : goal.returns-clause-lawful
+unfolding response_of
+returns-clause-lawful c = λ asked is. rw (c.in_ok-copied.ensures, c.response_field.ensures, c.in_ok-instance_told.ensures, c.code.ensures) (answer_lawful c.args.self.now (status_code c.args.status) asked is)
