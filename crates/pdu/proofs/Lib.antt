@@ -6,5 +6,6 @@ pub mod Items
 pub mod Lists
 pub mod Padding
 pub mod Pieces
+pub mod Sizes
 pub mod Values
 pub mod Writable

@@ -6,6 +6,7 @@ use Rattle.std.specs.List.{flat_map, AllByRecursion}
 use Rattle.std.proofs.lemmas.List.{take-append-drop}
 use Rattle.octets.specs.Bytes.{IsBytes}
 use Rattle.octets.proofs.ByteLaws.{IsBytes-tail}
+use Rattle.pdu.proofs.Sizes.{all_both, item_size, items_size, written_size, body_size, body_long}
 use Rattle.pdu.specs.declared.item.TheConstants.{APPLICATION_CONTEXT, PROPOSED_CONTEXT, ANSWERED_CONTEXT, ABSTRACT_SYNTAX, TRANSFER_SYNTAX, USER_INFORMATION, MAXIMUM_LENGTH, IMPLEMENTATION_CLASS, ROLE_SELECTION}
 use Rattle.pdu.specs.declared.item.Item.{Item}
 use Rattle.pdu.specs.declared.user.Role.{Role}
@@ -23,7 +24,7 @@ use Rattle.pdu.specs.declared.value.Step.TheVariants.{Need, Done}
 use Rattle.pdu.specs.declared.fault.PduFault.{PduFault}
 use Rattle.pdu.specs.Header.{header_fault}
 use Rattle.pdu.specs.Grammar.{Fill, Each, Sole, BeginsItem, contents_of, is_padding, before, trimmed, IsUid, IsLength, IsRole, first_or, first_of, IsUser, IsProposal, IsAnswer, BeginsOpening, IsRequest, IsAccept, BeginsPdv, IsBody, code_of, Spells, IfDone}
-use Rattle.pdu.specs.Spelling.{item_of, item_text, items_text, HasLength, role_text, role_item, class_items, user_items, syntax_item, proposal_item, answer_item, opening_text, request_items, accept_items, pdv_text, body_text, text_of, IsUidText, FitsRole, FitsUser, FitsProposal, FitsAnswer, FitsOpening, FitsRequest, FitsAccept, IsPdu}
+use Rattle.pdu.specs.Spelling.{item_of, items_text, HasLength, role_text, role_item, class_items, user_items, syntax_item, proposal_item, answer_item, request_items, accept_items, pdv_text, body_text, text_of, IsUidText, FitsRole, FitsUser, FitsProposal, FitsAnswer, FitsOpening, FitsRequest, FitsAccept, IsPdu}
 
 -- ---- bytes
 
@@ -90,13 +91,6 @@ IsContent content = (length content < 2 ^ 16) × IsBytes content
 abbrev sizes : List (List ℕ) → ℕ
 sizes [] = 0
 sizes (c ∷ cs) = 4 + length c + sizes cs
-
-item_size : (i : Item) (is : List Item) → length (items_text (i ∷ is)) ≡ 4 + length i.content + length (items_text is)
-item_size i is = omega (arith, length-append (item_text i) (items_text is), length-append (to_be_bytes w16 (length i.content)) i.content)
-
-items_size : (is js : List Item) → length (items_text (is ++ js)) ≡ length (items_text is) + length (items_text js)
-items_size [] js = omega arith
-items_size (i ∷ is) js = omega (arith, item_size i (is ++ js), item_size i is, items_size is js)
 
 fill_contents : (items : List Item) (text : List ℕ) → IsBytes text → Fill BeginsItem items text → AllByRecursion (λ i. IsContent i.content) items
 fill_contents [] text h fill = tt
@@ -165,10 +159,6 @@ sole_content Is v cs all sole = (subst (λ (t : List (List ℕ)). AllByRecursion
 
 sole_size : {V : Type 0} (Is : V → List ℕ → Type 0) (v : V) (cs : List (List ℕ)) → (sole : Sole Is v cs) → sizes cs ≡ 4 + length sole.0
 sole_size Is v cs sole = ap sizes sole.1 ∙ omega arith
-
-all_both : {X : Type 0} (P : X → Type 0) (xs ys : List X) → AllByRecursion P xs → AllByRecursion P ys → AllByRecursion P (xs ++ ys)
-all_both P [] ys one other = other
-all_both P (x ∷ xs) ys one other = (one.0, all_both P xs ys one.1 other)
 
 -- ---- user information
 
@@ -331,26 +321,6 @@ opening_size opening body text h =
       length-append opening.calling (opening.reserved ++ text),
       length-append opening.reserved text,
     )
-
-written_size : (opening : Opening) (text : List ℕ) → FitsOpening opening → length (opening_text opening ++ text) ≡ 68 + length text
-written_size opening text h =
-    omega (arith, h.called, h.calling, h.reserved, length-append (opening_text opening) text, length-append opening.called (opening.calling ++ opening.reserved), length-append opening.calling opening.reserved)
-
--- the items of a body: the first, those of the contexts, and the last
-abbrev body_items : List ℕ → List Item → List ℕ → List Item
-body_items context middle user = item_of APPLICATION_CONTEXT context ∷ (middle ++ item_of USER_INFORMATION user ∷ [])
-
-body_size : (context : List ℕ) (middle : List Item) (user : List ℕ) → length (items_text (body_items context middle user)) ≡ 8 + length context + length (items_text middle) + length user
-body_size context middle user =
-    omega (
-      arith,
-      item_size (item_of APPLICATION_CONTEXT context) (middle ++ item_of USER_INFORMATION user ∷ []),
-      items_size middle (item_of USER_INFORMATION user ∷ []),
-      item_size (item_of USER_INFORMATION user) [],
-    )
-
-body_long : (context : List ℕ) (middle : List Item) (user : List ℕ) → length context < 2 ^ 16 → AllByRecursion HasLength middle → length user < 2 ^ 16 → AllByRecursion HasLength (body_items context middle user)
-body_long context middle user p all q = (p, all_both HasLength middle (item_of USER_INFORMATION user ∷ []) all (q, tt))
 
 request_short : (request : Request) (body : List ℕ) → IsBytes body → IsRequest request body → length (body_text (AssociateRq request)) ≤ length body
 request_short request body is h =

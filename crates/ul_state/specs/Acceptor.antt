@@ -1,11 +1,12 @@
 -- What an event is to the machine, and what is sent on it.
-use Rattle.std.specs.Prelude.{List, Option, Some, None, Result, Ok, Err, option_to_list}
+use Rattle.std.specs.Prelude.{List, Option, Some, None, Result, Ok, Err, option_to_list, ⊤}
 use Rattle.pdu.specs.declared.value.Pdu.{Pdu}
 use Rattle.pdu.specs.declared.value.Pdu.TheVariants as pdus
 use Rattle.pdu.specs.declared.fault.PduFault.{PduFault}
 use Rattle.pdu.specs.declared.fault.PduFault.TheVariants as faults
 use Rattle.pdu.specs.declared.reject.Reject.{Reject}
 use Rattle.pdu.specs.declared.request.Request.{Request}
+use Rattle.pdu.specs.Spelling.{IsPdu}
 use Rattle.ul_state.specs.declared.event.Event.{Event}
 use Rattle.ul_state.specs.declared.event.Event.TheVariants as events
 use Rattle.ul_state.specs.declared.event.Action.{Action}
@@ -82,6 +83,21 @@ action_for does.Close kind titles event = Some actions.Close
 abbrev pub actions_for : {V : Type 0} → State → List (Title V) → Event → List Action
 actions_for state titles event =
     option_to_list (action_for (action_of state (kind_for titles event)) (kind_for titles event) titles event)
+
+-- ---- what can be written
+
+-- a PDU that was read can be written
+abbrev pub HasLawfulPdu : Event → Type 0
+HasLawfulPdu (events.Got pdu) = IsPdu pdu
+HasLawfulPdu (events.Bad fault) = ⊤
+HasLawfulPdu events.Ended = ⊤
+HasLawfulPdu events.LocalAbort = ⊤
+
+-- a PDU that is sent can be written
+abbrev pub CanBeWritten : Action → Type 0
+CanBeWritten (actions.Send pdu) = IsPdu pdu
+CanBeWritten (actions.Hand values) = ⊤
+CanBeWritten actions.Close = ⊤
 
 -- ---- what an acceptance settles
 

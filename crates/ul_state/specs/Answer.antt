@@ -1,5 +1,5 @@
 -- What an acceptance answers (PS3.8, 9.3.3; PS3.7, D.3.3.4).
-use Rattle.std.specs.Prelude.{ℕ, Bool, true, false, not, List, [], ◌∷◌, ◌==◌, ◌&&◌, ◌||◌, map, filter, nat_eq, Option, Some, None, Result, Ok, Err, if◌then◌else◌}
+use Rattle.std.specs.Prelude.{ℕ, ◌<◌, Bool, true, false, not, List, [], ◌∷◌, ◌==◌, ◌&&◌, ◌||◌, map, filter, nat_eq, Option, Some, None, Result, Ok, Err, if◌then◌else◌}
 use Rattle.std.specs.List.{list_any, filter_map, starts_with}
 use Rattle.pdu.specs.declared.user.Role.{Role}
 use Rattle.pdu.specs.declared.opening.Opening.{Opening}
@@ -10,6 +10,10 @@ use Rattle.pdu.specs.declared.request.Request.{Request}
 use Rattle.pdu.specs.declared.accept.Accept.{Accept}
 use Rattle.ul_state.specs.declared.answer.TheConstants.{IMPLICIT, EXPLICIT, VERIFICATION, STUDY_ROOT_FIND, STUDY_ROOT_GET, STORAGE_ROOT, IMPLEMENTATION_CLASS, MAXIMUM_LENGTH, ACCEPTANCE, NO_ABSTRACT_SYNTAX, NO_TRANSFER_SYNTAX}
 use Rattle.ul_state.specs.Titles.{is_text}
+
+-- an ID of one byte, as its type keeps
+abbrev pub HasByteId : ProposedContext → Type 0
+HasByteId context = context.id < 256
 
 -- verification, Study Root FIND and GET
 unfoldable pub is_query : List ℕ → Bool

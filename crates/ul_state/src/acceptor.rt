@@ -1,12 +1,12 @@
 //! The machine of one connection, on the side that is called (PS3.8, section 9.2).
 
-ghost use Rattle.std.specs.Prelude.{◌≡◌, IfOk, OnOk, OnErr, None};
+ghost use Rattle.std.specs.Prelude.{◌≡◌, IfOk, IfSome, OnOk, OnErr, All, None, option_to_list};
 ghost use Rattle.std.specs.Option.{option_copied};
 ghost use Rattle.pdu.specs.declared.value.Pdu.TheVariants.{Abort};
 ghost use Rattle.ul_state.specs.declared.event.Action.TheVariants.{Send};
 ghost use Rattle.ul_state.specs.declared.table.State.TheVariants.{Sta2};
 ghost use Rattle.ul_state.specs.Table.{next_of};
-ghost use Rattle.ul_state.specs.Acceptor.{kind_for, kind_for_pdu, acceptance_for, rejection_for, hand_for, action_for, actions_for, settled_for, settled_by};
+ghost use Rattle.ul_state.specs.Acceptor.{kind_for, kind_for_pdu, acceptance_for, rejection_for, hand_for, action_for, actions_for, settled_for, settled_by, HasLawfulPdu, CanBeWritten};
 
 use crate::answer::{accept_of, contexts_of};
 use crate::decision::admission;
@@ -70,6 +70,8 @@ impl<V: Copy> Acceptor<V> {
         ensures settled { OnOk result (self.new.settled
             ≡ settled_by self.old.state titles.now.list event self.old.settled) }
         ensures refused { OnErr result (self.new ≡ self.old) }
+        // What is sent can be written, where the PDU that was read can.
+        ensures lawful { HasLawfulPdu event → IfOk result (All CanBeWritten) }
     {
         let kind = kind_of(titles, &event);
         let (does, next) = row(self.state, kind);
@@ -77,16 +79,24 @@ impl<V: Copy> Acceptor<V> {
             Does::SendAccept => settle(self.alloc, titles, &event)?,
             _ => None,
         };
-        let mut actions = ListOf::new(self.alloc);
-        if let Some(action) = action(self.alloc, titles, does, kind, event)? {
-            actions.push(action)?;
-        }
+        let actions = listed(self.alloc, action(self.alloc, titles, does, kind, event)?)?;
         if does == Does::SendAccept {
             self.settled = settled;
         }
         self.state = next;
         Ok(actions)
     }
+}
+
+fn listed(alloc: Global, action: Option<Action>) -> Result<ListOf<Action>, AllocError>
+    ensures { IfOk result (λ actions. actions ≡ option_to_list action) }
+{
+    let mut actions = ListOf::new(alloc);
+    let Some(action) = action else {
+        return Ok(actions);
+    };
+    actions.push(action)?;
+    Ok(actions)
 }
 
 fn kind_of<V: Copy>(titles: &Titles<V>, event: &Event) -> Kind
@@ -147,7 +157,8 @@ fn action<V: Copy>(
     kind: Kind,
     event: Event,
 ) -> Result<Option<Action>, AllocError>
-    ensures { IfOk result (λ action. action ≡ action_for does kind titles.now.list event) }
+    ensures exact { IfOk result (λ action. action ≡ action_for does kind titles.now.list event) }
+    ensures lawful { HasLawfulPdu event → IfOk result (λ action. IfSome action CanBeWritten) }
 {
     match does {
         Does::Nothing => Ok(None),
@@ -162,7 +173,8 @@ fn action<V: Copy>(
 }
 
 fn acceptance(alloc: Global, event: Event) -> Result<Option<Action>, AllocError>
-    ensures { IfOk result (λ action. action ≡ acceptance_for event) }
+    ensures exact { IfOk result (λ action. action ≡ acceptance_for event) }
+    ensures lawful { HasLawfulPdu event → IfOk result (λ action. IfSome action CanBeWritten) }
 {
     match event {
         Event::Got(Pdu::AssociateRq(request)) => {
@@ -174,7 +186,8 @@ fn acceptance(alloc: Global, event: Event) -> Result<Option<Action>, AllocError>
 }
 
 fn rejection<V: Copy>(titles: &Titles<V>, event: Event) -> Option<Action>
-    ensures { result ≡ rejection_for titles.now.list event }
+    ensures exact { result ≡ rejection_for titles.now.list event }
+    ensures lawful { IfSome result CanBeWritten }
 {
     match event {
         Event::Got(Pdu::AssociateRq(request)) => match admission(&request, titles) {
@@ -186,7 +199,8 @@ fn rejection<V: Copy>(titles: &Titles<V>, event: Event) -> Option<Action>
 }
 
 fn handed_on(event: Event) -> Option<Action>
-    ensures { result ≡ hand_for event }
+    ensures exact { result ≡ hand_for event }
+    ensures lawful { IfSome result CanBeWritten }
 {
     match event {
         Event::Got(Pdu::PData(values)) => Some(Action::Hand(values)),

@@ -1,7 +1,9 @@
 //! What an acceptance answers (PS3.8, section 9.3.3; PS3.7, section D.3.3.4).
 
-ghost use Rattle.std.specs.Prelude.{◌≡◌, map, filter, IfOk};
-ghost use Rattle.ul_state.specs.Answer.{is_query, is_storage, has_scp, has_scp_role, proposes, chosen, taken_syntax, answered, accepted, opening_back, accept_for, contexts_for};
+ghost use Rattle.std.specs.Prelude.{◌≡◌, map, filter, IfOk, OnOk};
+ghost use Rattle.std.specs.List.{AllByRecursion};
+ghost use Rattle.pdu.specs.Spelling.{FitsRequest, FitsAccept};
+ghost use Rattle.ul_state.specs.Answer.{is_query, is_storage, has_scp, has_scp_role, proposes, chosen, taken_syntax, answered, accepted, opening_back, accept_for, contexts_for, HasByteId};
 
 use octets::{ListOf, Octets};
 use pdu::{
@@ -121,15 +123,17 @@ fn answer(
     roles: &[Role],
     context: &ProposedContext,
 ) -> Result<AnsweredContext, AllocError>
-    ensures { IfOk result (λ a. a ≡ answered roles.now context.now) }
+    ensures exact { IfOk result (λ a. a ≡ answered roles.now context.now) }
+    ensures octet { OnOk result (HasByteId context.now) }
 {
+    let id = context.id;
     let (number, syntax) = match take_syntax(roles, context) {
         Ok(true) => (ACCEPTANCE, Octets::from_slice(alloc, EXPLICIT.as_slice())?),
         Ok(false) => (ACCEPTANCE, Octets::from_slice(alloc, IMPLICIT.as_slice())?),
         Err(number) => (number, Octets::from_slice(alloc, IMPLICIT.as_slice())?),
     };
     Ok(AnsweredContext {
-        id: context.id,
+        id,
         result: number,
         transfer_syntax: syntax,
     })
@@ -140,7 +144,8 @@ fn answers(
     roles: &[Role],
     contexts: &[ProposedContext],
 ) -> Result<ListOf<AnsweredContext>, AllocError>
-    ensures { IfOk result (λ list. list ≡ map (answered roles.now) contexts.now) }
+    ensures exact { IfOk result (λ list. list ≡ map (answered roles.now) contexts.now) }
+    ensures octets { OnOk result (AllByRecursion HasByteId contexts.now) }
 {
     let mut list = ListOf::new(alloc);
     for context in contexts {
@@ -219,7 +224,8 @@ fn open_back(opening: &Opening) -> Opening
 /// The acceptance that answers a request.
 #[tactic(auto, unfolding(crate::specs::Answer::accept_for))]
 pub(crate) fn accept_of(alloc: Global, request: &Request) -> Result<Accept, AllocError>
-    ensures { IfOk result (λ a. a ≡ accept_for request.now) }
+    ensures exact { IfOk result (λ a. a ≡ accept_for request.now) }
+    ensures lawful { FitsRequest request.now → IfOk result FitsAccept }
 {
     let roles = request.user.roles.as_slice();
     let application_context = request.application_context.copy(alloc)?;

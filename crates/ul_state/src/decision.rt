@@ -1,7 +1,9 @@
 //! Whether an association is accepted (PS3.8, sections 9.3.3 and 9.3.4).
 
 ghost use Rattle.std.specs.Prelude.{◌≡◌, IfOk};
-ghost use Rattle.ul_state.specs.Decision.{value_for, decision_of};
+ghost use Rattle.pdu.specs.declared.value.Pdu.TheVariants.{AssociateRq};
+ghost use Rattle.pdu.specs.Spelling.{IsPdu};
+ghost use Rattle.ul_state.specs.Decision.{value_for, decision_of, pdu_of};
 
 use crate::admission::admit;
 use crate::answer::{accept_of, contexts_of};
@@ -31,7 +33,11 @@ pub fn negotiate<V: Copy>(
     request: &Request,
     titles: &Titles<V>,
 ) -> Result<Decision<V>, AllocError>
-    ensures { IfOk result (λ decision. decision ≡ decision_of titles.now.list request.now) }
+    ensures decided { IfOk result (λ decision.
+        decision ≡ decision_of titles.now.list request.now) }
+    // What is sent can be written, where the request can.
+    ensures lawful { IsPdu (AssociateRq request.now) →
+        IfOk result (λ decision. IsPdu (pdu_of decision)) }
 {
     match admission(request, titles) {
         Err(reject) => Ok(Decision::Rejected(reject)),
