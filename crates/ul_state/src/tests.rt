@@ -1,8 +1,11 @@
 //! Rows of the table and of negotiation, from outside.
 
+ghost use Rattle.std.specs.Prelude.{IfOk};
+ghost use Rattle.pdu.specs.Spelling.{IsPdu};
+
 use super::*;
 use octets::{ListOf, Octets};
-use pdu::{Accept, Context, Pdu, PduFault, Step, read_pdu};
+use pdu::{Accept, Context, Pdu, PduFault, Step, read_pdu, write_pdu};
 use std::alloc::{AllocError, Global};
 use std::process::Abort;
 use std::test::Fail;
@@ -24,7 +27,9 @@ fn joined(alloc: Global, parts: &[&[u8]]) -> Result<Vec<u8>, AllocError> {
 }
 
 /// The PDU of a request.
-fn request(alloc: Global, version: u8, title: &[u8], items: &[&[u8]]) -> Result<Pdu, PduFault> {
+fn request(alloc: Global, version: u8, title: &[u8], items: &[&[u8]]) -> Result<Pdu, PduFault>
+    ensures { IfOk result IsPdu }
+{
     let items = joined(alloc, items)?;
     let [_, _, _, _, a, b, c, d] = (items.len() as u64 + 68).to_be_bytes();
     let bytes = joined(
@@ -63,6 +68,58 @@ fn answered(alloc: Global, version: u8, title: &[u8], items: &[&[u8]]) -> Result
         Decision::Accepted(_, _, value) => Ok([0, 0, value]),
         Decision::Rejected(reject) => Ok([reject.result, reject.source, reject.reason]),
     }
+}
+
+/// The bytes that answer a request.
+fn written(alloc: Global, title: &[u8], items: &[&[u8]]) -> Result<Vec<u8>, Fail> {
+    let titles = titles(alloc)?;
+    let event = Event::Got(request(alloc, 1, title, items)?);
+    let mut acceptor = Acceptor::new(alloc);
+    let actions = acceptor.on(&titles, event)?;
+    let [Action::Send(pdu)] = actions.as_slice() else {
+        return Err(Fail::new("one answer"));
+    };
+    Ok(write_pdu(alloc, pdu)?)
+}
+
+// Verification is accepted on context 1, with the implicit syntax.
+const VERIFICATION_ACCEPTED: &[u8] = b"\x21\x00\x00\x19\x01\x00\x00\x00\
+    \x40\x00\x00\x111.2.840.10008.1.2";
+
+const OUR_USER: &[u8] =
+    b"\x50\x00\x00\x17\x51\x00\x00\x04\x00\x01\x00\x00\x52\x00\x00\x0b2.25.113001";
+
+#[test]
+fn an_acceptance_is_written(rt: HostRuntime) -> Result<(), Fail> {
+    let title = b"ARCHIVE         ";
+    let items: [&[u8]; 3] = [CONTEXT_NAME, VERIFICATION, USER];
+    let expected = joined(
+        rt.alloc(),
+        &[
+            &[2, 0, 0, 0, 0, 0x95, 0, 1, 0, 0],
+            title,
+            b"SCU1            ",
+            &[0; 32],
+            CONTEXT_NAME,
+            VERIFICATION_ACCEPTED,
+            OUR_USER,
+        ],
+    )?;
+    let answer = written(rt.alloc(), title, &items)?;
+    assert_eq!(rt;
+        answer.as_slice(),
+        expected.as_slice(),
+        "its items, and no others"
+    );
+    Ok(())
+}
+
+#[test]
+fn a_rejection_is_written(rt: HostRuntime) -> Result<(), Fail> {
+    let answer = written(rt.alloc(), b"NOBODY          ", &[CONTEXT_NAME, USER])?;
+    let expected = [3, 0, 0, 0, 0, 4, 0, 1, 1, 7];
+    assert_eq!(rt; answer.as_slice(), expected.as_slice(), "not recognized");
+    Ok(())
 }
 
 #[test]
