@@ -2,4 +2,5 @@ pub mod Counted
 pub mod Maps
 pub mod Same
 pub mod Takings
+pub mod Tops
 pub mod Unions

@@ -5,6 +5,7 @@ use Rattle.std.specs.Cmp.Lexicographic.{slice_cmp}
 use Rattle.std.specs.FinMap as finmap
 use Rattle.std.specs.declared.cmp.Ordering.{Ordering}
 use Rattle.operation.specs.declared.op.Op.{Op}
+use Rattle.operation.specs.declared.op.Op.TheVariants.{Content as a_content, Correction as a_correction}
 use Rattle.operation.specs.Parts.{CorrectionParts}
 use Rattle.operation.specs.Spelling.{digest_of}
 use Rattle.archive_model.specs.Contents.{contents}
@@ -77,6 +78,15 @@ greatest_counter (k ∷ ks) = max k.stamp.counter (greatest_counter ks)
 -- the greatest counter of the corrections of a set, 0 where it has none
 abbrev pub top_counter_of : List Op → ℕ
 top_counter_of ops = greatest_counter (corrections ops)
+
+-- the counter of a correction, and 0 of a content
+abbrev pub counter_of : Op → ℕ
+counter_of (a_content c) = 0
+counter_of (a_correction k) = k.stamp.counter
+
+-- this is the greatest counter of the corrections of a site
+abbrev pub HasTop : Map → ℕ → Type 0
+HasTop m top = top ≡ top_counter_of (ops_of m)
 
 -- how many operations a set has, and of which kind
 abbrev pub counts_of : List Op → Counts

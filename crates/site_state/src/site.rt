@@ -5,23 +5,23 @@ ghost use Rattle.archive_model.specs.Contents.{flagged as flagged_in};
 ghost use Rattle.std.specs.Option.{option_copied};
 ghost use Rattle.std.specs.FinMap as finmap;
 ghost use Rattle.operation.specs.Spelling.{digest_of};
-ghost use Rattle.site_state.specs.Site.{Map, digests_of, is_missing as is_missing_in, ops_of, held_at, with_op, IsClash, Takes, top_counter_of, counts_of};
+ghost use Rattle.site_state.specs.Site.{Map, digests_of, is_missing as is_missing_in, ops_of, held_at, with_op, IsClash, Takes, counter_of as counter_of_op, top_counter_of, counts_of};
 ghost use Rattle.site_state.specs.Union.{union, DoClash, Agree};
 
 use crate::fault::SiteFault;
 use crate::taken::{Counts, Taken};
 use crate::tree::{add_copies, do_clash};
-use archive_model::correction;
 use octets::Octets;
 use operation::{Digest, Op, digest};
 use std::alloc::{AllocError, Global};
 use std::collections::BTreeMap;
 use std::marker::Model;
 
-/// The operations of a site, each under its digest.
+/// The operations of a site, each under its digest, and the greatest counter of its corrections.
 #[derive(Drop)]
 pub struct Site {
     operations: BTreeMap<Digest, Op>,
+    top: u64,
     alloc: Global,
 }
 
@@ -29,7 +29,7 @@ impl Model for Site {
     ghost use Rattle.std.specs.FinMap as finmap;
     ghost use Rattle.std.specs.Coded.{coded_list, coded_ℕ};
     ghost use Rattle.operation.specs.OpCode.{op_code};
-    ghost use Rattle.site_state.specs.Site.{Map, IsSite};
+    ghost use Rattle.site_state.specs.Site.{Map, IsSite, HasTop};
 
     ghost Value = { Map };
 
@@ -37,7 +37,17 @@ impl Model for Site {
 
     ghost view = { λ s. finmap.from_entries s.operations.entries };
 
-    ghost invariant = { λ s. IsSite (finmap.from_entries s.operations.entries) };
+    ghost invariant = { λ s. IsSite (finmap.from_entries s.operations.entries) × HasTop (finmap.from_entries s.operations.entries) s.top };
+}
+
+/// The counter of a correction, and 0 of a content.
+fn counter_of(op: &Op) -> u64
+    ensures { result ≡ counter_of_op op.now }
+{
+    match op {
+        Op::Content(_) => 0,
+        Op::Correction(correction) => correction.stamp().counter,
+    }
 }
 
 impl Site {
@@ -47,6 +57,7 @@ impl Site {
     {
         Site {
             operations: BTreeMap::new(alloc),
+            top: 0,
             alloc,
         }
     }
@@ -95,7 +106,9 @@ impl Site {
             }
             return Err(SiteFault::Collision);
         }
+        let counter = counter_of(&op);
         self.operations.insert(digest, op)?;
+        self.top = self.top.max(counter);
         Ok(Taken::New)
     }
 
@@ -113,6 +126,7 @@ impl Site {
         add_copies(self.alloc, &mut union, &self.operations)?;
         add_copies(self.alloc, &mut union, &other.operations)?;
         self.operations = union;
+        self.top = self.top.max(other.top);
         Ok(())
     }
 
@@ -188,13 +202,7 @@ impl Site {
     pub fn top_counter(&self) -> u64
         ensures { result ≡ top_counter_of (ops_of self.now) }
     {
-        let mut top = 0;
-        for op in self.operations.values() {
-            if let Some(correction) = correction(op) {
-                top = top.max(correction.stamp().counter);
-            }
-        }
-        top
+        self.top
     }
 
     /// How many operations are held, and of which kind.

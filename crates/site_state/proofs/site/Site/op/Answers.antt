@@ -6,4 +6,4 @@ pub returns-clause-found : goal.returns-clause-found
 returns-clause-found c = sym (found_at _ c.self.inside.operations.entries c.args.digest.now _ c.self.view_is c.get.ensures.value)
 
 pub returns-clause-own : goal.returns-clause-own
-returns-clause-own c = found_own c.self.inside.operations.entries c.args.digest.now c.get.result c.self.invariant c.get.ensures.value
+returns-clause-own c = found_own c.self.inside.operations.entries c.args.digest.now c.get.result c.self.invariant.0 c.get.ensures.value

@@ -33,7 +33,7 @@ returns c =
     let these = c.into_iter-op-iterator.ensures.into_iter_gives ∙ c.values-op-items.ensures.rest in
     let left = ended c.loop-op.others c.next-2.new.self c.next-2.result c.is_none.result c.next-2.ensures.steps c.is_none.ensures in (
       λ t. same_ops c.args.self.now c.args.other.now c.self.inside.operations.entries c.other.inside.operations.entries c.self.view_is c.other.view_is
-          c.values-op-items.ensures.ordered c.values-others.ensures.ordered c.self.invariant c.other.invariant
+          c.values-op-items.ensures.ordered c.values-others.ensures.ordered c.self.invariant.0 c.other.invariant.0
           (sym these ∙ c.loop-op.invariant.0 (c.in-None.ensures.steps.0 ∙ sym (left.0 t)) ∙ c.values-others.ensures.rest),
       λ e. left.1 (sym (c.loop-op.invariant.1
           (these ∙ tree_ops c.args.self.now c.self.inside.operations.entries c.self.view_is c.values-op-items.ensures.ordered ∙ ap ops_of e

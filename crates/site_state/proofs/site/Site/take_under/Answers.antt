@@ -3,10 +3,16 @@ use Rattle.std.specs.FinMap as map
 use Rattle.site_state.specs.Site.{held_at}
 use Rattle.site_state.proofs.Maps.{one_more, one_more_is_site, found_at}
 use Rattle.site_state.proofs.Takings.{no_room}
+use Rattle.site_state.proofs.Tops.{top_taken}
 use Rattle.site_state.proofs.site.Site.take_under.Goals as goal
 
 pub invariant_of-self-2 : goal.invariant_of-self-2
-invariant_of-self-2 c = one_more_is_site c.self.inside.operations.entries c.insert.new.self.entries c.args.digest c.args.op c.in_ok-insert.ensures.updates.0 c.requires c.self.invariant
+invariant_of-self-2 c =
+    let es = c.self.inside.operations.entries in
+    let fs = c.insert.new.self.entries in (
+      one_more_is_site es fs c.args.digest c.args.op c.in_ok-insert.ensures.updates.0 c.requires c.self.invariant.0,
+      top_taken es fs c.args.digest c.args.op c.self.inside.top c.counter_of-counter.result c.max-self-inside.result c.in_ok-insert.ensures.updates.0 c.requires c.in_default.ensures.value c.self.invariant.1 c.counter_of-counter.ensures c.max-self-inside.ensures,
+    )
 
 pub returns-then-equals : goal.returns-then-equals
 returns-then-equals c = (
