@@ -1,11 +1,13 @@
 -- What is written in the middle of an input, and what is owed.
-use Rattle.std.proofs.Common.{◌≡◌, ℕ, ◌+◌, ◌<◌, List, [], ◌∷◌, ◌++◌, take, drop, length, Option, Some, None, true, false, refl, sym, ap, ◌∙◌, subst, append_assoc}
+use Rattle.std.proofs.Common.{◌≡◌, ℕ, ◌+◌, ◌<◌, ◌≤◌, List, [], ◌∷◌, ◌++◌, take, drop, length, Option, Some, None, Err, true, false, refl, sym, ap, ◌∙◌, subst, Bool, ◌==◌, cond, append_assoc, arith}
 use Rattle.std.specs.Io.KnownBytes.{Appends, Consumes, IsAtEnd}
-use Rattle.std.proofs.lemmas.List.{take-append-drop}
+use Rattle.std.proofs.lemmas.List.{take-append-drop, length-append}
 use Rattle.std.proofs.Math.Seq.{take-length}
+use Rattle.std.specs.Result.{IsErrOf}
 use Rattle.devices.proofs.Fronts.{further}
+use Rattle.site_world.specs.declared.run.SimFault.{SimFault}
 use Rattle.site_world.specs.Output.{output_from, output_of, count_from, count_of, is_long_from, has_long_line}
-use Rattle.site_world.specs.Simulation.{Place, Leads, IsFront, HasLong, Owes, OwesFor, WroteFront, WroteAll, IsTooLong}
+use Rattle.site_world.specs.Simulation.{Place, Leads, IsFront, HasLong, HasTooManyLines, MOST_LINES, MOST_READS, IsEndless, Owes, OwesFor, WroteFront, WroteAll, IsTooLong}
 
 joined : (i : ℕ) (bytes rest : List ℕ) → take i bytes ++ (drop i bytes ++ rest) ≡ bytes ++ rest
 joined i bytes rest = sym (append_assoc (take i bytes) (drop i bytes) rest) ∙ ap (λ (t : List ℕ). t ++ rest) (take-append-drop i bytes)
@@ -22,6 +24,33 @@ pub long_of : (old mid : Place) (out text bytes : List ℕ) (i b : ℕ) → Lead
 long_of old mid out text bytes i b leads next long rest =
     ap (is_long_from old.front) (sym (joined i bytes rest)) ∙ sym (leads (drop i bytes ++ rest)).2
     ∙ ap (λ (t : List ℕ). is_long_from mid.front (t ++ rest)) next ∙ long (drop (i + 1) bytes ++ rest)
+
+-- too many lines with the bytes behind a part of some bytes
+pub many_of : (old mid : Place) (out text bytes : List ℕ) (i b : ℕ) → Leads old out (take i bytes) mid text → drop i bytes ≡ b ∷ drop (i + 1) bytes → HasTooManyLines mid (b ∷ []) → HasTooManyLines old bytes
+many_of old mid out text bytes i b leads next many rest =
+    subst (λ (n : ℕ). MOST_LINES < n)
+    (ap (λ (t : List ℕ). mid.lines + count_from mid.front (t ++ rest)) (sym next) ∙ (leads (drop i bytes ++ rest)).1 ∙ ap (λ (t : List ℕ). old.lines + count_from old.front t) (joined i bytes rest))
+    (many (drop (i + 1) bytes ++ rest))
+
+ended_below : (end : Bool) (front : List ℕ) (b : ℕ) (rest : List ℕ) → count_from [] rest ≤ 0 + length rest → count_from (front ++ b ∷ []) rest ≤ length (front ++ b ∷ []) + length rest
+    → cond end (1 + count_from [] rest) (count_from (front ++ b ∷ []) rest) ≤ length front + length (b ∷ rest)
+ended_below true front b rest here more = omega (arith, here)
+ended_below false front b rest here more =
+    let many = length-append front (b ∷ []) in
+    omega (arith, more, many)
+
+-- no more lines than bytes
+counted_below : (front rest : List ℕ) → count_from front rest ≤ length front + length rest
+counted_below [] [] = omega arith
+counted_below (c ∷ front) [] = omega arith
+counted_below [] (b ∷ rest) = ended_below (b == 10) [] b rest (counted_below [] rest) (counted_below (b ∷ []) rest)
+counted_below (c ∷ front) (b ∷ rest) = ended_below (b == 10) (c ∷ front) b rest (counted_below [] rest) (counted_below ((c ∷ front) ++ b ∷ []) rest)
+
+-- an input of so many lines has so many bytes
+endless : (input : List ℕ) → MOST_LINES < count_of input → MOST_READS ≤ length input
+endless input many =
+    let below = counted_below [] input in
+    omega (arith, many, below)
 
 -- ---- one read
 
@@ -54,7 +83,26 @@ too_long (Some inp) before None r_new w_old old bytes took long owes = absurd ow
 too_long (Some inp) before (Some left) None w_old old bytes took long owes = absurd took
 too_long (Some inp) before (Some left) (Some right) w_old old bytes took long (said, appended, printed, counted, is) = sym is ∙ ap (is_long_from old.front) took ∙ long right
 
+pub too_many : (input before r_old r_new w_old : Option (List ℕ)) (old : Place) (bytes : List ℕ) → Consumes r_old r_new bytes → HasTooManyLines old bytes → Owes input before r_old w_old old → IsEndless input
+too_many None before r_old r_new w_old old bytes took many owes = tt
+too_many (Some inp) before None r_new w_old old bytes took many owes = absurd owes
+too_many (Some inp) before (Some left) None w_old old bytes took many owes = absurd took
+too_many (Some inp) before (Some left) (Some right) w_old old bytes took many (said, appended, printed, counted, long) =
+    endless inp (subst (λ (n : ℕ). MOST_LINES < n) (ap (λ (t : List ℕ). old.lines + count_from old.front t) (sym took) ∙ counted) (many right))
+
+-- a fault is the same, whatever was to be answered in its place
+pub same_fault : {A B : Type 0} (told fault : SimFault) → IsErrOf {T = A} (Err told) fault → IsErrOf {T = B} (Err told) fault
+same_fault told fault e =
+    let same : told ≡ fault = cc in
+    ap Err same
+
 -- ---- the end
+
+pub too_many_at_end : (input before rest w_old : Option (List ℕ)) (old : Place) → IsAtEnd rest → MOST_LINES < old.lines + count_from old.front [] → Owes input before rest w_old old → IsEndless input
+too_many_at_end None before rest w_old old at many owes = tt
+too_many_at_end (Some inp) before None w_old old at many owes = absurd owes
+too_many_at_end (Some inp) before (Some left) w_old old at many (said, appended, eq, counted, long) =
+    endless inp (subst (λ (n : ℕ). MOST_LINES < n) (ap (λ (t : List ℕ). old.lines + count_from old.front t) (sym at) ∙ counted) many)
 
 pub all_told : (input before rest w_old w_new : Option (List ℕ)) (old : Place) (text : List ℕ) (lines : ℕ) → IsAtEnd rest → text ≡ output_from old.state old.front [] → lines ≡ old.lines + count_from old.front [] → Appends w_old w_new text → Owes input before rest w_old old → WroteAll input before w_new lines
 all_told None before rest w_old w_new old text lines at printed counts wrote owes = tt

@@ -1,5 +1,5 @@
 -- What a script has printed in the middle of its input.
-use Rattle.std.specs.Prelude.{◌≡◌, ℕ, ◌+◌, List, ◌++◌, Option, IfSome, MatchOption, Bool, true, false, Result, Ok, Err, refl}
+use Rattle.std.specs.Prelude.{◌≡◌, ℕ, ◌+◌, ◌≤◌, ◌<◌, List, ◌++◌, length, Option, IfSome, MatchOption, Bool, true, false, Result, Ok, Err, refl}
 use Rattle.std.specs.Coded.{Coded, code_by, coded×, coded_ℕ, coded_list}
 use Rattle.std.specs.Io.KnownBytes.{Appends}
 use Rattle.site_world.specs.declared.run.SimFault.{SimFault}
@@ -28,6 +28,14 @@ IsFront old out bytes text = (rest : List ℕ) → (more : List ℕ) × (text ++
 abbrev pub HasLong : Place → List ℕ → Type 0
 HasLong old bytes = (rest : List ℕ) → is_long_from old.front (bytes ++ rest) ≡ true
 
+-- the most lines that are counted
+abbrev pub MOST_LINES : ℕ
+MOST_LINES = 18446744073709551615
+
+-- With these bytes more lines end than are counted.
+abbrev pub HasTooManyLines : Place → List ℕ → Type 0
+HasTooManyLines old bytes = (rest : List ℕ) → MOST_LINES < old.lines + count_from old.front (bytes ++ rest)
+
 -- what was said of an input, and what is owed for its rest
 abbrev pub OwesFor : List ℕ → Option (List ℕ) → Option (List ℕ) → Place → List ℕ → Type 0
 OwesFor input before now place rest = (said : List ℕ)
@@ -50,6 +58,18 @@ WroteAll input before now lines = IfSome input (λ bytes. Appends before now (ou
 -- a line of an input is too long
 abbrev pub IsTooLong : Option (List ℕ) → Type 0
 IsTooLong input = IfSome input (λ bytes. has_long_line bytes ≡ true)
+
+-- the most reads of a run
+abbrev pub MOST_READS : ℕ
+MOST_READS = 4294967296
+
+-- an input has a byte for each read of the longest run, or more
+abbrev pub IsEndless : Option (List ℕ) → Type 0
+IsEndless input = IfSome input (λ bytes. MOST_READS ≤ length bytes)
+
+-- so many bytes of an input were read, or more
+abbrev pub TookBytes : ℕ → Option (List ℕ) → Option (List ℕ) → Type 0
+TookBytes count before now = IfSome before (λ bytes. MatchOption now ⊥ (λ left. count + length left ≤ length bytes))
 
 -- whether a fault of the reader, or of the writer, is told
 abbrev pub tells_read : {A : Type 0} → Result A SimFault → Bool

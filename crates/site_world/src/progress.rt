@@ -1,11 +1,11 @@
 //! A script in the middle of its input.
 
-ghost use Rattle.std.specs.Prelude.{◌≡◌, ◌≤◌, ◌+◌, ◌++◌, ◌∷◌, [], OnOk, OnErr, IfOk, IfErr, IsErrOf, false, length};
+ghost use Rattle.std.specs.Prelude.{◌≡◌, ◌≤◌, ◌<◌, ◌+◌, ◌++◌, ◌∷◌, [], OnOk, OnErr, IfOk, IfErr, IsErrOf, false, length};
 ghost use Rattle.site_world.specs.Commands.{command_of as command_of_line};
 ghost use Rattle.site_world.specs.Fitting.{IsShort};
 ghost use Rattle.site_world.specs.Output.{without_cr as without_cr_of, output_from, count_from, NOTHING};
 ghost use Rattle.site_world.specs.Script.{printed, after};
-ghost use Rattle.site_world.specs.Simulation.{Leads, IsFront, HasLong, is_of_device};
+ghost use Rattle.site_world.specs.Simulation.{Leads, IsFront, HasLong, HasTooManyLines, MOST_LINES, is_of_device};
 
 use crate::fault::WorldFault;
 use crate::run::SimFault;
@@ -100,6 +100,7 @@ impl Progress {
         ensures leads { OnOk result (Leads self.old out.old.items (10 ∷ []) self.new out.new.items) }
         ensures kept { OnErr result (out.new.items ≡ out.old.items) }
         ensures short { IsErrOf result SimFault.LongLine → ⊥ }
+        ensures many { IsErrOf result SimFault.Turns → HasTooManyLines self.old (10 ∷ []) }
         ensures own { IfErr result (λ fault. is_of_device fault ≡ false) }
     {
         let Some(lines) = self.lines.checked_add(1) else {
@@ -117,6 +118,7 @@ impl Progress {
         ensures leads { OnOk result (Leads self.old out.old.items (byte ∷ []) self.new out.new.items) }
         ensures kept { OnErr result (out.new.items ≡ out.old.items) }
         ensures long { IsErrOf result SimFault.LongLine → HasLong self.old (byte ∷ []) }
+        ensures many { IsErrOf result SimFault.Turns → HasTooManyLines self.old (byte ∷ []) }
         ensures own { IfErr result (λ fault. is_of_device fault ≡ false) }
     {
         if byte == b'\n' {
@@ -134,6 +136,7 @@ impl Progress {
         ensures leads { OnOk result (Leads self.old out.old.items bytes.now self.new out.new.items) }
         ensures front { IsFront self.old out.old.items bytes.now out.new.items }
         ensures long { IsErrOf result SimFault.LongLine → HasLong self.old bytes.now }
+        ensures many { IsErrOf result SimFault.Turns → HasTooManyLines self.old bytes.now }
         ensures own { IfErr result (λ fault. is_of_device fault ≡ false) }
     {
         for byte in bytes {
@@ -150,6 +153,7 @@ impl Progress {
         ensures counted { IfOk result (λ lines. lines ≡ self.old.lines + count_from self.old.front []) }
         ensures kept { OnErr result (out.new.items ≡ out.old.items) }
         ensures short { IsErrOf result SimFault.LongLine → ⊥ }
+        ensures many { IsErrOf result SimFault.Turns → MOST_LINES < self.old.lines + count_from self.old.front [] }
         ensures own { IfErr result (λ fault. is_of_device fault ≡ false) }
     {
         let line = self.front.as_slice();

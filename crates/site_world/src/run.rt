@@ -3,7 +3,7 @@
 ghost use Rattle.std.specs.Prelude.{◌≡◌, List, ℕ, Option, OnOk, OnErr, IfOk, IsErrOf, MatchBool, false};
 ghost use Rattle.std.specs.Io.KnownBytes.{IsAtEnd};
 ghost use Rattle.devices.specs.Failures.{Rose};
-ghost use Rattle.site_world.specs.Simulation.{Owes, WroteFront, WroteAll, IsTooLong, tells_read, tells_write, number_of};
+ghost use Rattle.site_world.specs.Simulation.{Owes, WroteFront, WroteAll, IsTooLong, IsEndless, TookBytes, tells_read, tells_write, number_of};
 
 use crate::progress::Progress;
 use devices::{Sink, Source, put_all};
@@ -78,9 +78,11 @@ fn step<R: Source, W: Sink>(
     writer: &mut W,
 ) -> Result<usize, SimFault>
     ensures end { IfOk result (λ count. count ≡ 0 → IsAtEnd (R.remaining reader.new)) }
+    ensures took { IfOk result (λ count. TookBytes count (R.remaining reader.old) (R.remaining reader.new)) }
     ensures owes { (input before : Option (List ℕ)) → Owes input before (R.remaining reader.old) (W.contents writer.old) progress.old → OnOk result (Owes input before (R.remaining reader.new) (W.contents writer.new) progress.new) }
     ensures front { (input before : Option (List ℕ)) → Owes input before (R.remaining reader.old) (W.contents writer.old) progress.old → OnErr result (WroteFront input before (W.contents writer.new)) }
     ensures long { (input before : Option (List ℕ)) → Owes input before (R.remaining reader.old) (W.contents writer.old) progress.old → IsErrOf result SimFault.LongLine → IsTooLong input }
+    ensures turns { (input before : Option (List ℕ)) → Owes input before (R.remaining reader.old) (W.contents writer.old) progress.old → IsErrOf result SimFault.Turns → IsEndless input }
     ensures read { MatchBool (tells_read result) (Rose (R.failures reader.old) (R.failures reader.new)) (R.failures reader.new ≡ R.failures reader.old) }
     ensures write { MatchBool (tells_write result) (Rose (W.failures writer.old) (W.failures writer.new)) (W.failures writer.new ≡ W.failures writer.old) }
 {
@@ -108,6 +110,7 @@ fn finish<W: Sink>(
     ensures all { (input before rest : Option (List ℕ)) → IsAtEnd rest → Owes input before rest (W.contents writer.old) progress.old → IfOk result (WroteAll input before (W.contents writer.new)) }
     ensures front { (input before rest : Option (List ℕ)) → IsAtEnd rest → Owes input before rest (W.contents writer.old) progress.old → OnErr result (WroteFront input before (W.contents writer.new)) }
     ensures short { IsErrOf result SimFault.LongLine → ⊥ }
+    ensures turns { (input before rest : Option (List ℕ)) → IsAtEnd rest → Owes input before rest (W.contents writer.old) progress.old → IsErrOf result SimFault.Turns → IsEndless input }
     ensures read { tells_read result ≡ false }
     ensures write { MatchBool (tells_write result) (Rose (W.failures writer.old) (W.failures writer.new)) (W.failures writer.new ≡ W.failures writer.old) }
 {
@@ -125,7 +128,7 @@ fn finish<W: Sink>(
 /// Prints what the lines of a script print, and nothing else, however the reads are cut. It says
 /// how many lines there are.
 ///
-/// `Turns` is told after 4,294,967,296 reads.
+/// `Turns` is told after 4,294,967,296 reads, each of which took a byte or more.
 pub fn simulate<R: Source, W: Sink>(
     alloc: Global,
     reader: &mut R,
@@ -134,6 +137,7 @@ pub fn simulate<R: Source, W: Sink>(
     ensures all { IfOk result (WroteAll (R.remaining reader.old) (W.contents writer.old) (W.contents writer.new)) }
     ensures front { OnErr result (WroteFront (R.remaining reader.old) (W.contents writer.old) (W.contents writer.new)) }
     ensures long_line { IsErrOf result SimFault.LongLine → IsTooLong (R.remaining reader.old) }
+    ensures turns { IsErrOf result SimFault.Turns → IsEndless (R.remaining reader.old) }
 
     // A fault of a device is told exactly where one was counted.
     ensures read { MatchBool (tells_read result) (Rose (R.failures reader.old) (R.failures reader.new)) (R.failures reader.new ≡ R.failures reader.old) }

@@ -3,7 +3,8 @@
 use crate::{Seen, SimFault, Step, World, WorldFault, simulate};
 use devices::{Store, Supply};
 use octets::Octets;
-use operation::Target;
+use operation::{Op, Stamp, Target, correction_of};
+use site_state::Taken;
 use std::alloc::Global;
 use std::test::Fail;
 
@@ -148,6 +149,61 @@ fn a_correction_has_the_counter_above_the_greatest(rt: HostRuntime) -> Result<()
         nowhere.err(),
         Some(WorldFault::NoSite),
         "the site comes first"
+    );
+    Ok(())
+}
+
+/// A step that takes a correction with the last counter, made at another site.
+fn last_correction(alloc: Global, site: usize) -> Result<Step, Fail> {
+    let study = Octets::from_slice(alloc, b"1.2.1")?;
+    let value = Octets::from_slice(alloc, b"ROE^ANN")?;
+    let stamp = Stamp {
+        counter: u64::MAX,
+        site: 7,
+    };
+    let made = correction_of(Target::Study(study), 0x0010_0010, value, stamp)?;
+    Ok(Step::Take(site, Op::Correction(made)))
+}
+
+/// Whether a step was answered as an operation that was taken as new.
+fn is_new(seen: &Result<Seen, WorldFault>) -> bool {
+    matches!(seen, Ok(Seen::Took(Taken::New)))
+}
+
+/// Whether the sites of two numbers hold the same.
+fn are_same(world: &World, a: usize, b: usize) -> bool {
+    match (world.site(a), world.site(b)) {
+        (Some(a), Some(b)) => a.same(b),
+        _ => false,
+    }
+}
+
+#[test]
+fn no_correction_is_made_behind_the_last_stamp(rt: HostRuntime) -> Result<(), Fail> {
+    let mut world = World::new(rt.alloc(), 2).ok().expect(&rt, "two sites");
+    for site in 1..3usize {
+        let taken = world.step(&last_correction(rt.alloc(), site)?);
+        assert!(rt; is_new(&taken), "the last correction at site {site}");
+    }
+    let refused = world.step(&correction(rt.alloc(), 1, b"ROE^BEA")?);
+    assert_eq!(rt;
+        refused.err(),
+        Some(WorldFault::StampsSpent),
+        "no stamp is left"
+    );
+    assert!(rt; are_same(&world, 1, 2), "the site is as it was");
+    Ok(())
+}
+
+#[test]
+fn what_may_not_be_corrected_is_told_before_spent_stamps(rt: HostRuntime) -> Result<(), Fail> {
+    let mut world = World::new(rt.alloc(), 1).ok().expect(&rt, "one site");
+    let _taken = world.step(&last_correction(rt.alloc(), 1)?);
+    let refused = world.step(&correction(rt.alloc(), 1, b"A\\B")?);
+    assert_eq!(rt;
+        refused.err(),
+        Some(WorldFault::BadCorrection),
+        "a backslash comes first"
     );
     Ok(())
 }
