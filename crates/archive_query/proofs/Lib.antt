@@ -1,5 +1,3 @@
-pub mod WildCards
-pub mod Parts
 pub mod Joined
 pub mod RowSets
 pub mod AscendingLaws

@@ -16,7 +16,7 @@ use Rattle.archive_query.specs.declared.asked.Asked.{Asked}
 use Rattle.archive_query.specs.declared.column.Column.{Column}
 use Rattle.archive_query.specs.declared.query.Query.{Query}
 use Rattle.archive_query.specs.Key.{word_of}
-use Rattle.archive_query.specs.Matches.{matches}
+use Rattle.key_matching.specs.Matches.{matches}
 use Rattle.archive_query.specs.Column.{columns}
 use Rattle.archive_query.specs.Cell.{cell}
 use Rattle.archive_query.specs.CorrectionsOnly.{is_correction}

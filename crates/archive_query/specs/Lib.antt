@@ -1,8 +1,4 @@
-pub mod WildCard
-pub mod WildCardFront
-pub mod Range
 pub mod Key
-pub mod Matches
 pub mod Fault
 pub mod Query
 pub mod Column

@@ -10,12 +10,12 @@ use Rattle.archive_query.specs.declared.fault.QueryFault.{QueryFault}
 use Rattle.archive_query.specs.declared.fault.QueryFault.TheVariants.{NoLevel, MissingUpperKey, BadKey}
 use Rattle.archive_query.specs.declared.key.Level.{Level}
 use Rattle.archive_query.specs.declared.key.Level.TheVariants.{Study, Series, Image}
-use Rattle.archive_query.specs.declared.key.Matching.{Matching}
-use Rattle.archive_query.specs.declared.key.Matching.TheVariants.{Dates, Times, WildCard, Name, Uids, Single, Answered}
+use Rattle.key_matching.specs.declared.matching.Matching.{Matching}
+use Rattle.key_matching.specs.declared.matching.Matching.TheVariants.{Dates, Times, WildCard, Name, Uids, Single, Answered}
 use Rattle.archive_query.specs.declared.asked.Asked.{Asked}
 use Rattle.archive_query.specs.declared.query.Query.{Query}
 use Rattle.archive_query.specs.Key.{matching_of, has_study_above, has_series_above, word_of}
-use Rattle.archive_query.specs.Matches.{is_universal, is_of_form}
+use Rattle.key_matching.specs.Matches.{is_universal, is_of_form}
 
 -- ---- the level
 

@@ -1,6 +1,6 @@
 //! What a query asks of each row.
 
-use crate::key::Matching;
+use key_matching::Matching;
 use octets::Octets;
 
 /// A supported key of a query, trimmed.

@@ -3,6 +3,8 @@
 ghost use Rattle.std.specs.Prelude.{◌≡◌};
 ghost use Rattle.archive_query.specs.Key.{matching_of as matching_in, has_study_above, has_series_above, word_of};
 
+use key_matching::Matching;
+
 /// (0008,0005) Specific Character Set
 pub(crate) const SPECIFIC_CHARACTER_SET: u32 = 0x0008_0005;
 
@@ -84,25 +86,6 @@ pub enum Level {
     Study,
     Series,
     Image,
-}
-
-/// How a key matches (PS3.4, section C.2.2.2).
-#[derive(Clone, Copy, Debug, PartialEq, Eq)]
-pub enum Matching {
-    /// A date, or a range of dates.
-    Dates,
-    /// A time, or a range of times.
-    Times,
-    /// `*` stands for any bytes, `?` for one.
-    WildCard,
-    /// The same, and ASCII letters match in either case.
-    Name,
-    /// Each of a list of UIDs.
-    Uids,
-    /// The same bytes.
-    Single,
-    /// It is answered, and matches whatever it holds.
-    Answered,
 }
 
 /// How a key matches, or `None` where it is not supported at the level.

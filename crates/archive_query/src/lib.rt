@@ -13,19 +13,17 @@ mod grouping;
 mod groups;
 mod key;
 mod laws;
-mod matches;
 mod query;
-mod range;
 mod rows;
 mod showing;
 #[cfg(test)]
 mod tests;
-mod wild_card;
 
 pub use answer::Answer;
 pub use asked::Asked;
 pub use fault::QueryFault;
 pub use finding::find;
-pub use key::{Level, Matching};
+pub use key::Level;
+pub use key_matching::Matching;
 pub use laws::same_sites_answer_alike;
 pub use query::Query;

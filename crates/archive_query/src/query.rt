@@ -10,11 +10,11 @@ ghost use Rattle.archive_query.specs.Query.{level_named, level_in, uid_from, upp
 use crate::asked::Asked;
 use crate::fault::QueryFault;
 use crate::key::{
-    Level, Matching, QUERY_LEVEL, RETRIEVE_AE_TITLE, SERIES_INSTANCE_UID, SPECIFIC_CHARACTER_SET,
+    Level, QUERY_LEVEL, RETRIEVE_AE_TITLE, SERIES_INSTANCE_UID, SPECIFIC_CHARACTER_SET,
     STUDY_INSTANCE_UID, matching_of,
 };
-use crate::matches::{is_of_form, is_universal};
 use data_set::{DataSet, Element, is_uid, trimmed_of};
+use key_matching::{Matching, is_of_form, is_universal};
 use octets::{ListOf, Octets};
 use std::alloc::{AllocError, Global};
 

@@ -21,11 +21,11 @@ use crate::key::{
     SERIES_INSTANCE_UID, SERIES_OF_STUDY, SOP_INSTANCE_UID, SPECIFIC_CHARACTER_SET,
     STUDY_INSTANCE_UID,
 };
-use crate::matches::matches;
 use crate::query::Query;
 use crate::showing::shown;
 use archive_model::{View, attribute, contents};
 use data_set::{DataSet, Element, Syntax};
+use key_matching::matches;
 use octets::Octets;
 use operation::{Content, Op};
 use std::alloc::{AllocError, Global};

@@ -1,13 +1,12 @@
 //! Answers over many small sites, beside the plain definitions.
 
-use crate::key::Matching;
-use crate::matches::matches;
 use crate::tests::made::{
     IMAGE, Image, correction, image_of, note, patient, query, site_of, study,
 };
 use archive_model::{
     View, attribute, instances_of_study, series_of_study, shown, studies, study_representative,
 };
+use key_matching::{Matching, matches};
 use operation::Op;
 use rand_core::utils::NextWord;
 use rand_pcg::Pcg32;

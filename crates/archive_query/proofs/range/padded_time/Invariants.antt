@@ -1,6 +1,0 @@
-use Rattle.std.proofs.Common.{◌≡◌, ◌++◌, take, drop}
-use Rattle.archive_query.specs.Range.{midnight}
-use Rattle.archive_query.proofs.range.padded_time.Given as goal
-
-abbrev pub invariant-loop-i : goal.invariant-loop-i
-invariant-loop-i l = l.padded ≡ take l.i l.text ++ drop l.i midnight

@@ -1,9 +1,0 @@
-use Rattle.std.proofs.Common.{arith, refl, sym}
-use Rattle.archive_query.proofs.WildCards.{alone_within, alone_at_end}
-use Rattle.archive_query.proofs.wild_card.is_wild_match.Goals as goal
-
-pub returns-then-n-value : goal.returns-then-n-value
-returns-then-n-value c = sym (alone_within c.args.folds c.matching_front-n.result c.args.key.now c.args.value.now (omega arith) c.matching_front-n.ensures.stuck (c.if-is_star_at.ensures.other refl) c.matching_front-n.ensures.rest)
-
-pub returns : goal.returns
-returns c = sym (alone_at_end c.args.folds c.matching_front-n.result c.args.key.now c.args.value.now c.matching_front-n.ensures.within_key (omega arith) (c.if-is_star_at.ensures.other refl) c.matching_front-n.ensures.rest)

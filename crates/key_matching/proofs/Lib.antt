@@ -1,0 +1,2 @@
+pub mod WildCards
+pub mod Parts

@@ -1,0 +1,6 @@
+use Rattle.std.proofs.Common.{◌≡◌, ◌++◌, take, drop}
+use Rattle.key_matching.specs.Range.{midnight}
+use Rattle.key_matching.proofs.range.padded_time.Given as goal
+
+abbrev pub invariant-loop-i : goal.invariant-loop-i
+invariant-loop-i l = l.padded ≡ take l.i l.text ++ drop l.i midnight

@@ -1,0 +1,4 @@
+pub mod WildCard
+pub mod WildCardFront
+pub mod Range
+pub mod Matches

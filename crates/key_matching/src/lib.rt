@@ -1,0 +1,14 @@
+//! Which values the key of a query matches, on bytes (PS3.4, section C.2.2.2).
+//!
+//! A wild-card key takes at most as many steps as its length times that of the value.
+#![tactic(auto)]
+
+mod matching;
+mod range;
+#[cfg(test)]
+mod tests;
+mod value_match;
+mod wild_card;
+
+pub use matching::Matching;
+pub use value_match::{is_of_form, is_universal, matches};
