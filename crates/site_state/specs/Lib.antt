@@ -1,3 +1,4 @@
+pub mod Fault
 pub mod Site
 pub mod Union
 pub mod Laws

@@ -1,6 +1,7 @@
 //! Why a site refuses.
 
 ghost use Rattle.std.specs.Prelude.{◌≡◌};
+ghost use Rattle.site_state.specs.Fault.{number_of};
 
 use std::alloc::{AllocError, AllocFailed};
 use thiserror::Error;
@@ -16,8 +17,10 @@ pub enum SiteFault {
 }
 
 impl SiteFault {
-    /// The public number of a fault.
-    pub fn number(self) -> u8 {
+    /// The public number of the fault.
+    pub fn number(self) -> u8
+        ensures { result ≡ number_of self }
+    {
         match self {
             SiteFault::Collision => 1,
             SiteFault::Memory => 2,
