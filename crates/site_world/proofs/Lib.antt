@@ -3,8 +3,5 @@ pub mod Known
 pub mod Takings
 pub mod Worlds
 pub mod Brought
-pub mod Made
-pub mod Lawful
 pub mod Told
-pub mod Commanded
 pub mod Alike

@@ -1,9 +1,3 @@
-pub mod Words
-pub mod Names
-pub mod Keys
-pub mod Commands
-pub mod Fitting
-pub mod Sets
 pub mod Faults
 pub mod Same
 pub mod State

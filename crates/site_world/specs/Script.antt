@@ -11,15 +11,15 @@ use Rattle.archive_query.specs.declared.fault.QueryFault.{QueryFault}
 use Rattle.archive_query.specs.Fault.{number_of as number_of_query_fault}
 use Rattle.archive_query.specs.Query.{query_of}
 use Rattle.site_state.specs.Site.{Map, ops_of}
-use Rattle.site_world.specs.declared.command.Command.{Command}
-use Rattle.site_world.specs.declared.command.Command.TheVariants.{Skip, Bad, Site, Image, Note, Correct as correct_line, Find, Same, Flagged}
+use Rattle.site_script.specs.declared.command.Command.{Command}
+use Rattle.site_script.specs.declared.command.Command.TheVariants.{Skip, Bad, Site, Image, Note, Correct as correct_line, Find, Same, Flagged}
 use Rattle.site_world.specs.declared.step.Step.{Step}
 use Rattle.site_world.specs.declared.step.Step.TheVariants.{Take, Correct, Look}
 use Rattle.site_world.specs.declared.script.Move.{Move}
 use Rattle.site_world.specs.declared.script.Move.TheVariants.{Says, Names, Does}
-use Rattle.site_world.specs.Names.{is}
+use Rattle.site_script.specs.Names.{is}
 use Rattle.site_world.specs.Same.{same_site}
-use Rattle.site_world.specs.Sets.{image_made, note_made, identifier}
+use Rattle.site_script.specs.Sets.{image_made, note_made, identifier}
 use Rattle.site_world.specs.State.{State}
 use Rattle.site_world.specs.Steps.{site_at, seen_by, after as after_step}
 use Rattle.site_world.specs.Texts.{BAD, fault_line, site_line, seen_lines, same_line, flagged_lines}

@@ -1,8 +1,8 @@
 //! A script in the middle of its input.
 
 ghost use Rattle.std.specs.Prelude.{◌≡◌, ◌≤◌, ◌<◌, ◌+◌, ◌++◌, ◌∷◌, [], OnOk, OnErr, IfOk, IfErr, IsErrOf, false, length};
-ghost use Rattle.site_world.specs.Commands.{command_of as command_of_line};
-ghost use Rattle.site_world.specs.Fitting.{IsShort};
+ghost use Rattle.site_script.specs.Commands.{command_of as command_of_line};
+ghost use Rattle.site_script.specs.Fitting.{IsShort};
 ghost use Rattle.site_world.specs.Output.{without_cr as without_cr_of, output_from, count_from, NOTHING};
 ghost use Rattle.site_world.specs.Script.{printed, after};
 ghost use Rattle.site_world.specs.Simulation.{Leads, IsFront, HasLong, HasTooManyLines, MOST_LINES, is_of_device};
@@ -27,7 +27,7 @@ pub struct Progress {
 
 impl Model for Progress {
     ghost use Rattle.site_world.specs.Simulation.{Place, place_code};
-    ghost use Rattle.site_world.specs.Fitting.{IsShort};
+    ghost use Rattle.site_script.specs.Fitting.{IsShort};
 
     ghost Value = { Place };
 

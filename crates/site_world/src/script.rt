@@ -13,27 +13,28 @@ ghost use Rattle.archive_query.specs.declared.query.Query.{Query};
 ghost use Rattle.archive_query.specs.declared.fault.QueryFault.{QueryFault};
 ghost use Rattle.archive_query.specs.Fault.{is_memory as is_memory_query};
 ghost use Rattle.archive_query.specs.Query.{query_of};
-ghost use Rattle.site_world.specs.Commands.{command_of as command_of_line};
-ghost use Rattle.site_world.specs.Fitting.{IsShort, MakesSets};
+ghost use Rattle.site_script.specs.Commands.{command_of as command_of_line};
+ghost use Rattle.site_script.specs.Fitting.{IsShort, MakesSets};
 ghost use Rattle.site_world.specs.Output.{NOTHING};
 ghost use Rattle.site_world.specs.Same.{same_site};
-ghost use Rattle.site_world.specs.Sets.{image_made, note_made, image_elements, note_elements, identifier};
+ghost use Rattle.site_script.specs.Sets.{image_made, note_made, image_elements, note_elements, identifier};
 ghost use Rattle.site_world.specs.Script.{number_named, site_move, take_move, look_move, same_move, flagged_move, at_site, move_of as move_of_command, said, moved, printed, after};
 ghost use Rattle.site_world.specs.State.{State};
 ghost use Rattle.site_world.specs.Steps.{site_at, is_refused_memory};
 ghost use Rattle.site_world.specs.Texts.{BAD, fault_line, flagged_lines, same_line};
 
-use crate::command::{Command, CorrectLine, FindLine, ImageLine, NoteLine, command_of};
 use crate::fault::WorldFault;
-use crate::identifier::query_in;
 use crate::print::{put_fault, put_flagged, put_line, put_same, put_seen, put_site};
-use crate::sets::{image_content, note_content};
 use crate::step::{Seen, Step};
 use crate::world::{MOST_SITES, World};
 use archive_model::View;
 use archive_query::{Query, QueryFault};
 use octets::Octets;
 use operation::{Content, Op, OpFault};
+use site_script::{
+    Command, CorrectLine, FindLine, ImageLine, NoteLine, command_of, image_content, note_content,
+    query_in,
+};
 use site_state::Site;
 use std::alloc::{AllocError, Global};
 use std::marker::Model;

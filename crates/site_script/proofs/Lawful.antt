@@ -1,0 +1,177 @@
+-- The data sets that the lines of a script make are data sets.
+use Rattle.std.proofs.Common.{◌≡◌, ℕ, zero, suc, ◌+◌, ◌*◌, ◌%◌, ◌/◌, ◌^◌, ◌<◌, ◌≤◌, List, [], ◌∷◌, ◌++◌, length, Bool, true, false, cond, Option, Some, None, refl, sym, ap, subst, ◌∙◌, arith, map, length-append, ◌==◌, codes}
+use Rattle.std.specs.Prelude.{not, ◌||◌}
+use Rattle.data_set.specs.declared.syntax.Syntax.{Syntax}
+use Rattle.data_set.specs.declared.syntax.Syntax.TheVariants.{Implicit, Explicit}
+use Rattle.data_set.specs.declared.fault.SetFault.{SetFault}
+use Rattle.data_set.specs.declared.fault.SetFault.TheVariants.{Order, Group, Undefined}
+use Rattle.data_set.specs.Header.{offence}
+use Rattle.data_set.specs.Tags.{is_item_tag, is_reserved_group, is_listed, is_above, is_pixel_data}
+use Rattle.data_set.specs.Tree.{Tree, Rows, Trees, leaf, node, rows_of, trees_of}
+use Rattle.data_set.specs.Values.{padded, pad_of}
+use Rattle.data_set.specs.Vr.{undefined_length, inner_syntax, is_undefined}
+use Rattle.data_set.specs.Written.{MayStand, IsTree, AreRows, AreTrees, IsSet}
+use Rattle.std.proofs.lemmas.Bool.{eqb-true}
+use Rattle.site_script.specs.Sets.{valued, sequence, image_elements, note_elements, named, images_sequence, note_series, CT, KEY_OBJECTS}
+use Rattle.site_script.specs.declared.command.ImageLine.{ImageLine}
+use Rattle.site_script.specs.declared.command.NoteLine.{NoteLine}
+
+no_end : (size : ℕ) → size < undefined_length → (size == undefined_length) ≡ false
+no_end size small = by_tell (size == undefined_length) refl
+  where
+    by_number : size ≡ undefined_length → ⊥
+    by_number e = omega (arith, e, small)
+
+    by_tell : (b : Bool) → (size == undefined_length) ≡ b → (size == undefined_length) ≡ false
+    by_tell true e = absurd (by_number (eqb-true size undefined_length e))
+    by_tell false e = e
+
+pub leaf_stands : (previous : Option ℕ) (tag : ℕ) (value : List ℕ) → tag < 2 ^ 32 → length value < undefined_length → is_item_tag tag ≡ false → is_above previous tag ≡ true → is_reserved_group tag ≡ false → is_listed tag ≡ false → MayStand Implicit previous tag None (length value) None
+unfolding offence
+leaf_stands previous tag value fits small item above reserved listed =
+    let size = length value in
+    let sized : (size == undefined_length) ≡ false = no_end size small in
+    let inner : inner_syntax tag None size ≡ None = ap (λ (b : Bool). cond (b || is_listed tag) (Some Implicit) None) sized ∙ ap (λ (b : Bool). cond b (Some Implicit) None) listed in
+    record {
+      tag_fits = fits;
+      suits = tt;
+      fits = omega arith;
+      faultless =
+          ap (λ (o : Option Syntax). cond (is_item_tag tag || not (is_above previous tag)) (Some Order) (cond (is_reserved_group tag) (Some Group) (cond (is_undefined tag o size) (Some Undefined) None))) inner
+          ∙ ap (λ (b : Bool). cond (b || not (is_above previous tag)) (Some Order) (cond (is_reserved_group tag) (Some Group) (cond (size == undefined_length) (Some Undefined) None))) item
+          ∙ ap (λ (b : Bool). cond (not b) (Some Order) (cond (is_reserved_group tag) (Some Group) (cond (size == undefined_length) (Some Undefined) None))) above
+          ∙ ap (λ (b : Bool). cond b (Some Group) (cond (size == undefined_length) (Some Undefined) None)) reserved
+          ∙ ap (λ (b : Bool). cond b (Some Undefined) None) sized;
+      is_inner = sym inner;
+    }
+
+padded_by : (b : Bool) (value : List ℕ) (pad : ℕ) → length (cond b value (value ++ (pad ∷ []))) ≤ length value + 1
+padded_by true value pad = omega arith
+padded_by false value pad = omega (arith, length-append value (pad ∷ []))
+
+padded_short : (vr value : List ℕ) → length (padded vr value) ≤ length value + 1
+padded_short vr value = padded_by (length value % 2 == 0) value (pad_of vr)
+
+-- the most bytes of a value of a script, before it is padded
+abbrev pub MOST : ℕ
+MOST = 65600
+
+pub valued_stands : (previous : Option ℕ) (tag : ℕ) (vr value : List ℕ) → tag < 2 ^ 32 → length value ≤ MOST → is_item_tag tag ≡ false → is_above previous tag ≡ true → is_reserved_group tag ≡ false → is_listed tag ≡ false → MayStand Implicit previous tag None (length (padded vr value)) None
+valued_stands previous tag vr value fits short item above reserved listed =
+    leaf_stands previous tag (padded vr value) fits (omega (arith, padded_short vr value, short)) item above reserved listed
+
+pub record ImageFits (line : ImageLine) : Type 0 where
+  pub study : length line.study ≤ 65536
+  pub series : length line.series ≤ 65536
+  pub instance : length line.instance ≤ 65536
+  pub patient : length line.patient ≤ 65536
+  pub name : length line.name ≤ 65536
+
+pub image_lawful : (line : ImageLine) → ImageFits line → IsSet Implicit (image_elements line)
+unfolding IsSet image_elements
+image_lawful line fits = (
+  valued_stands None 0x0008_0016 (codes "UI") (CT) (omega arith) (omega arith) refl refl refl refl,
+  (
+    valued_stands (Some 0x0008_0016) 0x0008_0018 (codes "UI") (line.instance) (omega arith) (omega (arith, fits.instance)) refl refl refl refl,
+    (
+      valued_stands (Some 0x0008_0018) 0x0008_0060 (codes "CS") (codes "CT") (omega arith) (omega arith) refl refl refl refl,
+      (
+        valued_stands (Some 0x0008_0060) 0x0010_0010 (codes "PN") (line.name) (omega arith) (omega (arith, fits.name)) refl refl refl refl,
+        (
+          valued_stands (Some 0x0010_0010) 0x0010_0020 (codes "LO") (line.patient) (omega arith) (omega (arith, fits.patient)) refl refl refl refl,
+          (
+            valued_stands (Some 0x0010_0020) 0x0020_000d (codes "UI") (line.study) (omega arith) (omega (arith, fits.study)) refl refl refl refl,
+            (
+              valued_stands (Some 0x0020_000d) 0x0020_000e (codes "UI") (line.series) (omega arith) (omega (arith, fits.series)) refl refl refl refl,
+              tt,
+            ),
+          ),
+        ),
+      ),
+    ),
+  ),
+)
+
+pub node_stands : (previous : Option ℕ) (tag : ℕ) → tag < 2 ^ 32 → is_item_tag tag ≡ false → is_above previous tag ≡ true → is_reserved_group tag ≡ false → is_pixel_data tag ≡ false → MayStand Implicit previous tag None undefined_length (Some Implicit)
+unfolding offence
+node_stands previous tag fits item above reserved pixels = record {
+  tag_fits = fits;
+  suits = tt;
+  fits = omega arith;
+  faultless =
+      ap (λ (b : Bool). cond (b || not (is_above previous tag)) (Some Order) (cond (is_reserved_group tag) (Some Group) (cond (is_pixel_data tag) (Some Undefined) None))) item
+      ∙ ap (λ (b : Bool). cond (not b) (Some Order) (cond (is_reserved_group tag) (Some Group) (cond (is_pixel_data tag) (Some Undefined) None))) above
+      ∙ ap (λ (b : Bool). cond b (Some Group) (cond (is_pixel_data tag) (Some Undefined) None)) reserved
+      ∙ ap (λ (b : Bool). cond b (Some Undefined) None) pixels;
+  is_inner = refl;
+}
+
+abbrev pub AllShort : List (List ℕ) → Type 0
+AllShort [] = Unit {0}
+AllShort (word ∷ words) = (length word ≤ 65536) × AllShort words
+
+images_lawful : (m : ℕ) (uids : List (List ℕ)) → AllShort uids → AreRows (rows_of (map named uids)) (suc m) Implicit
+images_lawful m [] short = tt
+images_lawful m (uid ∷ uids) (short, more) = ((valued_stands None 0x0008_1155 (codes "UI") (uid) (omega arith) (omega (arith, short)) refl refl refl refl, tt), images_lawful m uids more)
+
+pub record NoteFits (line : NoteLine) : Type 0 where
+  pub title : length line.title ≤ 65536
+  pub study : length line.study ≤ 65536
+  pub note : length line.note ≤ 65536
+  pub covers : AllShort line.covers
+
+pub note_lawful : (line : NoteLine) → NoteFits line → IsSet Implicit (note_elements line)
+unfolding IsSet note_elements
+note_lawful line fits =
+    let series : length (line.note ++ codes ".0") ≤ MOST = omega (arith, length-append line.note (codes ".0"), fits.note) in (
+      valued_stands None 0x0008_0016 (codes "UI") (KEY_OBJECTS) (omega arith) (omega arith) refl refl refl refl,
+      (
+        valued_stands (Some 0x0008_0016) 0x0008_0018 (codes "UI") (line.note) (omega arith) (omega (arith, fits.note)) refl refl refl refl,
+        (
+          valued_stands (Some 0x0008_0018) 0x0008_0060 (codes "CS") (codes "KO") (omega arith) (omega arith) refl refl refl refl,
+          (
+            valued_stands (Some 0x0008_0060) 0x0020_000d (codes "UI") (line.study) (omega arith) (omega (arith, fits.study)) refl refl refl refl,
+            (
+              valued_stands (Some 0x0020_000d) 0x0020_000e (codes "UI") (note_series line) (omega arith) series refl refl refl refl,
+              (
+                (
+                  Implicit,
+                  node_stands (Some 0x0020_000e) 0x0040_a043 (omega arith) refl refl refl refl,
+                  (
+                    (
+                      valued_stands None 0x0008_0100 (codes "SH") (line.title) (omega arith) (omega (arith, fits.title)) refl refl refl refl,
+                      (valued_stands (Some 0x0008_0100) 0x0008_0102 (codes "SH") (codes "DCM") (omega arith) (omega arith) refl refl refl refl, tt),
+                    ),
+                    tt,
+                  ),
+                ),
+                (
+                  (
+                    Implicit,
+                    node_stands (Some 0x0040_a043) 0x0040_a375 (omega arith) refl refl refl refl,
+                    (
+                      (
+                        (
+                          Implicit,
+                          node_stands None 0x0008_1115 (omega arith) refl refl refl refl,
+                          (
+                            (
+                              (Implicit, node_stands None 0x0008_1199 (omega arith) refl refl refl refl, images_lawful 13 line.covers fits.covers),
+                              (valued_stands (Some 0x0008_1199) 0x0020_000e (codes "UI") (note_series line) (omega arith) series refl refl refl refl, tt),
+                            ),
+                            tt,
+                          ),
+                        ),
+                        (valued_stands (Some 0x0008_1115) 0x0020_000d (codes "UI") (line.study) (omega arith) (omega (arith, fits.study)) refl refl refl refl, tt),
+                      ),
+                      tt,
+                    ),
+                  ),
+                  tt,
+                ),
+              ),
+            ),
+          ),
+        ),
+      ),
+    )

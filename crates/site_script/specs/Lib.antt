@@ -1,0 +1,6 @@
+pub mod Words
+pub mod Names
+pub mod Keys
+pub mod Commands
+pub mod Fitting
+pub mod Sets

@@ -1,0 +1,21 @@
+//! What the lines of a script ask for, and the contents and queries that they make.
+//!
+//! A line is read without a site: its words say a command, and nothing here knows what a site holds
+//! or which names are taken.
+#![tactic(auto)]
+
+mod command;
+mod identifier;
+mod key;
+mod name;
+mod sets;
+mod tag;
+#[cfg(test)]
+mod tests;
+mod verb;
+mod word;
+
+pub use command::{Command, CorrectLine, FindLine, ImageLine, NoteLine, command_of};
+pub use identifier::query_in;
+pub use key::Key;
+pub use sets::{image_content, note_content};

@@ -1,6 +1,0 @@
-use Rattle.std.proofs.Common.{◌≡◌, drop}
-use Rattle.site_world.specs.Keys.{keys_from, keys_in}
-use Rattle.site_world.proofs.key.keys_in.Given as goal
-
-abbrev pub invariant-loop-word : goal.invariant-loop-word
-invariant-loop-word l = keys_from l.keys.items (drop l.word-index l.words) ≡ keys_in l.level l.words

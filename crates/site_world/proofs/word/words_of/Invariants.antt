@@ -1,6 +1,0 @@
-use Rattle.std.proofs.Common.{◌≡◌, ◌++◌, drop}
-use Rattle.site_world.specs.Words.{words_from, words_of}
-use Rattle.site_world.proofs.word.words_of.Given as goal
-
-abbrev pub invariant-loop-byte : goal.invariant-loop-byte
-invariant-loop-byte l = l.words.items ++ words_from l.front.items (drop l.byte-index l.line) ≡ words_of l.line
