@@ -11,6 +11,8 @@ mod step;
 #[cfg(test)]
 mod tests;
 mod world;
+#[cfg(test)]
+mod world_tests;
 
 pub use fault::WorldFault;
 pub use headline::{merge_is_a_join, order_is_free};
