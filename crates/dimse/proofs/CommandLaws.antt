@@ -1,5 +1,5 @@
 -- A text spells at most one command.
-use Rattle.std.proofs.Common.{◌≡◌, ℕ, List, Option, Some, None, Result, Ok, Err, refl, sym, ap, subst, ◌∙◌}
+use Rattle.std.proofs.Common.{◌≡◌, ℕ, List, Some, Result, Ok, Err, refl, sym, ap, subst, ◌∙◌}
 use Rattle.std.specs.Prelude.{IfOk, IfErr}
 use Rattle.dimse.specs.declared.command.Command.{Command}
 use Rattle.dimse.specs.declared.fault.DimseFault.{DimseFault}
@@ -7,7 +7,7 @@ use Rattle.dimse.specs.declared.fault.DimseFault.TheVariants.{BadContext, Interl
 use Rattle.dimse.specs.Elements.{Element}
 use Rattle.dimse.specs.Fault.{Gives}
 use Rattle.dimse.specs.Command.{Says, SpellsElements, Spells}
-use Rattle.dimse.specs.Refusal.{IsRefusal, RefusesElements, RefusesCommand}
+use Rattle.dimse.specs.Refusal.{IsRefusal, RefusesCommand}
 use Rattle.dimse.proofs.TextLaws.{one_list}
 
 some_is : (m n : ℕ) → Some m ≡ Some n → m ≡ n

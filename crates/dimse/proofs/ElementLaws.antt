@@ -1,19 +1,17 @@
 -- What is read from the front is spelled there, and what is spelled there is read.
-use Rattle.std.proofs.Common.{◌≡◌, ◌≢◌, ℕ, zero, suc, ◌+◌, ◌*◌, ◌/◌, ◌%◌, ◌^◌, ◌<◌, ◌≤◌, Bool, true, false, cond, ltb, List, [], ◌∷◌, ◌++◌, length, take, drop, Option, Some, None, Result, Ok, Err, refl, sym, ap, subst, ◌∙◌, append_assoc, arith}
+use Rattle.std.proofs.Common.{◌≡◌, ℕ, ◌+◌, ◌*◌, ◌/◌, ◌%◌, ◌^◌, ◌<◌, ◌≤◌, Bool, true, false, cond, ltb, List, [], ◌∷◌, ◌++◌, length, take, drop, Option, Result, Ok, Err, refl, sym, ap, subst, ◌∙◌, append_assoc, arith}
 use Rattle.std.specs.Prelude.{IfOk}
 use Rattle.std.specs.Borrow.{Bor}
-use Rattle.std.specs.List.{flat_map}
 use Rattle.std.specs.Int.{w16, w32, from_le_bytes, to_le_bytes}
 use Rattle.std.proofs.lemmas.Bool.{ltb-false, le-ltb}
-use Rattle.std.proofs.lemmas.List.{take_at, drop_at, take-append-drop, length-append, length-take, append-nil}
-use Rattle.std.proofs.lemmas.List.Concat.{flat_map-cons}
+use Rattle.std.proofs.lemmas.List.{take_at, drop_at, take-append-drop, length-append, length-take}
 use Rattle.std.proofs.lemmas.Nat.{le_bytes_2, le_bytes_4, from_le_bytes-to_le_bytes_2, from_le_bytes-to_le_bytes_4}
 use Rattle.octets.specs.Bytes.{IsBytes}
 use Rattle.octets.proofs.ByteLaws.{IsBytes-two, IsBytes-four, ok_is}
 use Rattle.dimse.specs.declared.fault.DimseFault.{DimseFault}
 use Rattle.dimse.specs.declared.fault.DimseFault.TheVariants.{BadCommand}
 use Rattle.dimse.specs.Fault.{Gives}
-use Rattle.dimse.specs.Elements.{Element, tag_text, element_text, text_of, is_above, IsElement, AreElements, tag_from, element_at}
+use Rattle.dimse.specs.Elements.{Element, tag_text, element_text, is_above, IsElement, tag_from, element_at}
 
 -- the four bytes of a tag are spelled by it
 tag_takes : (g0 g1 e0 e1 : ℕ) → g0 < 256 → g1 < 256 → e0 < 256 → e1 < 256 → (tag_text (tag_from g0 g1 e0 e1) ≡ g0 ∷ g1 ∷ e0 ∷ e1 ∷ []) × (tag_from g0 g1 e0 e1 < 2 ^ 32)

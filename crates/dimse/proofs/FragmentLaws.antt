@@ -1,5 +1,5 @@
 -- What is sent is put together to the same message.
-use Rattle.std.proofs.Common.{◌≡◌, ℕ, Bool, true, false, List, [], ◌∷◌, ◌++◌, length, take, drop, Option, Some, None, Result, Ok, Err, refl, sym, ap, subst, ◌∙◌, append_assoc, append-nil}
+use Rattle.std.proofs.Common.{◌≡◌, ℕ, Bool, true, false, List, [], ◌∷◌, ◌++◌, take, drop, Option, Some, None, Result, Ok, Err, refl, sym, ap, subst, ◌∙◌, append_assoc}
 use Rattle.std.specs.Prelude.{IfOk, OnOk, MatchOption, is_some}
 use Rattle.std.specs.Global.{Vec}
 use Rattle.std.specs.declared.alloc.AllocError.{AllocError}
@@ -9,8 +9,8 @@ use Rattle.pdu.specs.declared.value.Pdu.{Pdu}
 use Rattle.pdu.specs.declared.value.Pdu.TheVariants.{AssociateRq, AssociateAc, AssociateRj, PData, ReleaseRq, ReleaseRp, Abort}
 use Rattle.dimse.specs.declared.message.Message.{Message}
 use Rattle.dimse.specs.Command.{Spells, announces, command_text}
-use Rattle.dimse.specs.Messages.{IsOf, Joins, IsBody, SpellsMessage}
-use Rattle.dimse.specs.Sending.{size_of, sent, Sends, IsSending, IsWhole, pdvs_in}
+use Rattle.dimse.specs.Messages.{IsOf, Joins, SpellsMessage}
+use Rattle.dimse.specs.Sending.{size_of, Sends, IsSending, IsWhole, pdvs_in}
 
 pdvs-append : (a b : List Pdu) → pdvs_in (a ++ b) ≡ pdvs_in a ++ pdvs_in b
 pdvs-append [] b = refl

@@ -1,10 +1,9 @@
 -- What a text spells is lawful, and its UIDs are no longer than the text.
-use Rattle.std.proofs.Common.{◌≡◌, ℕ, zero, suc, ◌+◌, ◌-◌, ◌<◌, ◌≤◌, Bool, true, false, cond, List, [], ◌∷◌, ◌++◌, length, take, reverse, get_or, Option, Some, None, Result, Ok, Err, refl, sym, ap, subst, ◌∙◌, arith, inl, inr}
+use Rattle.std.proofs.Common.{◌≡◌, ℕ, zero, suc, ◌+◌, ◌-◌, ◌<◌, ◌≤◌, Bool, true, false, cond, List, [], ◌∷◌, ◌++◌, length, take, reverse, get_or, Option, Some, None, Result, Ok, Err, refl, sym, ap, subst, ◌∙◌, arith}
 use Rattle.std.specs.Prelude.{IfOk, IfSome, find, ◌==◌, ◌&&◌}
 use Rattle.std.specs.Option.{option_map}
-use Rattle.std.specs.List.{flat_map, list_all, prefix_len, suffix_len}
-use Rattle.std.specs.Int.{w16, w32, to_le_bytes}
-use Rattle.std.proofs.lemmas.Bool.{cases_lt}
+use Rattle.std.specs.List.{list_all, suffix_len}
+use Rattle.std.specs.Int.{w32, to_le_bytes}
 use Rattle.std.proofs.lemmas.List.{length-append, length-reverse, length-take, get_or-reverse}
 use Rattle.std.proofs.lemmas.List.Concat.{flat_map-cons}
 use Rattle.std.proofs.lemmas.List.Sums.{suffix_len-le-length, suffix_len-take_no, prefix_len_stops}
@@ -14,7 +13,7 @@ use Rattle.dimse.specs.declared.tags.TheConstants.{AFFECTED_CLASS, AFFECTED_INST
 use Rattle.dimse.specs.declared.fault.DimseFault.{DimseFault}
 use Rattle.dimse.specs.Uid.{IsUid, is_padding, is_graphic, trimmed}
 use Rattle.dimse.specs.Elements.{Element, element_text, text_of, tag_text, value_of}
-use Rattle.dimse.specs.Command.{is_lawful, is_number_tag, is_uid_tag, uid_of, Says, Spells, IsCommand, HasRoom}
+use Rattle.dimse.specs.Command.{is_lawful, is_number_tag, is_uid_tag, Says, IsCommand, HasRoom}
 
 -- no padding is left
 bare_at : (v : List ℕ) (k n : ℕ) → suffix_len is_padding v ≡ k → length v ≡ n + k → suffix_len is_padding (take n v) ≡ 0

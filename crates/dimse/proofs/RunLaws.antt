@@ -1,22 +1,22 @@
 -- What an assembler answers is what the fragments spell.
-use Rattle.std.proofs.Common.{◌≡◌, ◌≢◌, ℕ, ◌+◌, ◌<◌, ◌≤◌, Bool, true, false, not, cond, ltb, List, [], ◌∷◌, ◌++◌, length, Option, Some, None, Result, Ok, Err, refl, sym, ap, subst, ◌∙◌, append_assoc, append-nil, length-append, arith, lit≤}
-use Rattle.std.specs.Prelude.{IfOk, IfErr, OnErr, All, MatchBool, ◌==◌, ◌&&◌}
+use Rattle.std.proofs.Common.{◌≡◌, ◌≢◌, ℕ, ◌≤◌, Bool, true, false, not, cond, List, [], ◌∷◌, ◌++◌, length, Option, Some, None, Result, Ok, Err, refl, sym, ap, subst, ◌∙◌, append_assoc, append-nil, arith, lit≤}
+use Rattle.std.specs.Prelude.{OnErr, All, MatchBool, ◌==◌, ◌&&◌}
 use Rattle.std.specs.List.{AllByRecursion}
 use Rattle.std.proofs.lemmas.List.Elements.{All-from_recursion}
-use Rattle.std.proofs.lemmas.Bool.{ltb-false, le-ltb}
+use Rattle.std.proofs.lemmas.Bool.{ltb-false}
 use Rattle.pdu.specs.declared.pdv.Pdv.{Pdv}
 use Rattle.pdu.specs.declared.context.Context.{Context}
 use Rattle.dimse.specs.declared.command.Command.{Command}
 use Rattle.dimse.specs.declared.message.Message.{Message}
 use Rattle.dimse.specs.declared.fault.DimseFault.{DimseFault}
-use Rattle.dimse.specs.declared.fault.DimseFault.TheVariants.{BadContext, Interleaved, BadCommand, TooLong, Memory, Failed as HasFailed}
+use Rattle.dimse.specs.declared.fault.DimseFault.TheVariants.{BadContext, Interleaved, TooLong, Failed as HasFailed}
 use Rattle.dimse.specs.declared.assembler.Stage.{Stage}
 use Rattle.dimse.specs.declared.assembler.Stage.TheVariants.{Between, InCommand, InDataSet, Failed}
 use Rattle.dimse.specs.declared.command.TheConstants.{LONGEST_COMMAND}
 use Rattle.dimse.specs.declared.assembler.TheConstants.{LONGEST_DATA_SET}
-use Rattle.dimse.specs.Command.{Spells, announces}
-use Rattle.dimse.specs.Assembly.{Assembly, accepts, has_place, text_so_far, limit_of, is_over, fault_of, Closes, AdvancesCommand, AdvancesData, Advances, IsCause, Feeds}
-use Rattle.dimse.specs.Messages.{IsOf, Opens, Joins, IsBody, SpellsMessage, IsTaken, BeginsCommand, BeginsDataSet, Holds, Splits, Run, fresh, messages, first_fault, Ends}
+use Rattle.dimse.specs.Command.{announces}
+use Rattle.dimse.specs.Assembly.{Assembly, accepts, has_place, text_so_far, limit_of, is_over, fault_of, Closes, Advances}
+use Rattle.dimse.specs.Messages.{IsOf, Opens, Joins, IsBody, IsTaken, BeginsDataSet, Holds, Run, messages, first_fault, Ends}
 
 -- ---- a fragment without a fault
 

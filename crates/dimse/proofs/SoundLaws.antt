@@ -1,10 +1,10 @@
 -- What was put together or cut can be sent, and so can what answers a request.
-use Rattle.std.proofs.Common.{◌≡◌, ℕ, ◌+◌, ◌-◌, ◌*◌, ◌/◌, ◌≤◌, Bool, true, false, cond, List, [], ◌∷◌, ◌++◌, length, take, drop, length-append, Option, Some, None, Result, Ok, Err, refl, sym, ap, subst, ◌∙◌, arith, ◌⊎◌, inl, inr}
-use Rattle.std.specs.Prelude.{IfOk, IfSome, MatchOption, All, is_some, ◌==◌, ◌&&◌, ◌||◌, not, nat_le}
+use Rattle.std.proofs.Common.{◌≡◌, ℕ, ◌≤◌, Bool, true, false, cond, List, [], ◌∷◌, ◌++◌, length, take, drop, length-append, Option, Some, None, Result, Ok, Err, refl, sym, ap, subst, ◌∙◌, arith, inl, inr}
+use Rattle.std.specs.Prelude.{IfOk, IfSome, MatchOption, All, is_some, ◌==◌, ◌&&◌, ◌||◌, not}
 use Rattle.std.specs.List.{AllByRecursion}
 use Rattle.std.specs.Global.{Vec}
 use Rattle.std.specs.declared.alloc.AllocError.{AllocError}
-use Rattle.std.proofs.lemmas.List.{length-take, length-drop}
+use Rattle.std.proofs.lemmas.List.{length-take}
 use Rattle.std.proofs.lemmas.List.Elements.{All-from_recursion}
 use Rattle.pdu.specs.declared.pdv.Pdv.{Pdv}
 use Rattle.pdu.specs.declared.value.Pdu.{Pdu}
@@ -14,7 +14,7 @@ use Rattle.dimse.specs.declared.command.Command.{Command}
 use Rattle.dimse.specs.declared.message.Message.{Message}
 use Rattle.dimse.specs.CommandField.{is_response_code, names_class_code}
 use Rattle.dimse.specs.Uid.{IsUid}
-use Rattle.dimse.specs.Command.{command_text, is_complete, IsCommand, HasRoom}
+use Rattle.dimse.specs.Command.{command_text, is_complete, IsCommand}
 use Rattle.dimse.specs.Response.{IsToldOf, IsResponseTo, response_code, response_of}
 use Rattle.dimse.specs.declared.assembler.Stage.{Stage}
 use Rattle.dimse.specs.Assembly.{is_over, fault_of, Keeps}
@@ -92,15 +92,18 @@ told : (t : Bool) (instance : Option (List ℕ)) → IsToldOf instance (cond t i
 told true instance = inl refl
 told false instance = inr refl
 
-pub answer_lawful : (request : Command) (status : ℕ) → is_response_code request.field ≡ false → IsCommand request → IsCommand (response_of request status)
+pub answers_it : (request : Command) (status : ℕ) → is_response_code request.field ≡ false → IsResponseTo request (response_of request status)
 unfolding response_of
-answer_lawful request status asked is = response_lawful request _ is (record {
+answers_it request status asked = record {
   asked = asked;
   field = has_high_bit request.field;
   responded_to = refl;
   affected_class = inl refl;
   affected_instance = told (request.field == 0x0001) request.affected_instance;
-})
+}
+
+pub answer_lawful : (request : Command) (status : ℕ) → is_response_code request.field ≡ false → IsCommand request → IsCommand (response_of request status)
+answer_lawful request status asked is = response_lawful request (response_of request status) is (answers_it request status asked)
 
 -- ---- messages
 

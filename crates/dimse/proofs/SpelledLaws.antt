@@ -1,7 +1,7 @@
 -- What the fragments spell is what an assembler answers, where memory did not run out.
-use Rattle.std.proofs.Common.{◌≡◌, ◌≢◌, ℕ, ◌+◌, ◌<◌, ◌≤◌, Bool, true, false, not, cond, ltb, List, [], ◌∷◌, ◌++◌, length, Option, Some, None, Result, Ok, Err, refl, sym, ap, subst, ◌∙◌, append_assoc, append-nil, length-append, arith, lit≤}
-use Rattle.std.specs.Prelude.{IfOk, IfErr, IfSome, MatchBool, MatchOption, ◌==◌, ◌&&◌}
-use Rattle.std.proofs.lemmas.Bool.{ltb-false, le-ltb}
+use Rattle.std.proofs.Common.{◌≡◌, ◌≢◌, ℕ, ◌≤◌, Bool, true, false, List, [], ◌∷◌, ◌++◌, length, Option, Some, None, Result, Ok, Err, refl, sym, ap, subst, ◌∙◌, append_assoc, append-nil, length-append, arith}
+use Rattle.std.specs.Prelude.{IfSome, MatchBool, MatchOption, ◌==◌}
+use Rattle.std.proofs.lemmas.Bool.{le-ltb}
 use Rattle.pdu.specs.declared.pdv.Pdv.{Pdv}
 use Rattle.pdu.specs.declared.context.Context.{Context}
 use Rattle.dimse.specs.declared.command.Command.{Command}
@@ -13,10 +13,10 @@ use Rattle.dimse.specs.declared.assembler.Stage.TheVariants.{Between, InCommand,
 use Rattle.dimse.specs.declared.command.TheConstants.{LONGEST_COMMAND}
 use Rattle.dimse.specs.declared.assembler.TheConstants.{LONGEST_DATA_SET}
 use Rattle.dimse.specs.Command.{Spells, announces}
-use Rattle.dimse.specs.Assembly.{Assembly, accepts, has_place, text_so_far, limit_of, is_over, fault_of, Closes, AdvancesCommand, AdvancesData, Advances, EndsNoCommand, IsCause, Feeds}
-use Rattle.dimse.specs.Messages.{IsOf, Opens, Joins, IsBody, SpellsMessage, IsTaken, BeginsCommand, BeginsDataSet, Holds, Splits, Run, fresh, messages, first_fault, Ends, HadMemory}
+use Rattle.dimse.specs.Assembly.{Assembly, accepts, fault_of, Closes, AdvancesCommand, Advances, EndsNoCommand, IsCause, Feeds}
+use Rattle.dimse.specs.Messages.{IsOf, Opens, Joins, IsTaken, Holds, Splits, Run, fresh, messages, first_fault, Ends, HadMemory}
 use Rattle.dimse.proofs.CommandLaws.{one_command}
-use Rattle.dimse.proofs.RunLaws.{Faultless, faultless_is, faultless_parts, with_body, no_more}
+use Rattle.dimse.proofs.RunLaws.{Faultless, faultless_is, with_body, no_more}
 
 abbrev Answer : Type 0
 Answer = Result (Option Message) DimseFault

@@ -1,16 +1,15 @@
 -- One fragment: its fault, and what it leads to.
-use Rattle.std.proofs.Common.{◌≡◌, ◌≢◌, ℕ, Bool, true, false, not, cond, List, [], ◌∷◌, ◌++◌, length, Option, Some, None, Result, Ok, Err, refl, sym, ap, subst, ◌∙◌}
+use Rattle.std.proofs.Common.{◌≡◌, ◌≢◌, ℕ, Bool, true, false, cond, List, [], ◌++◌, Option, Some, None, Result, Ok, Err, sym, ap, subst, ◌∙◌}
 use Rattle.std.specs.Prelude.{IfOk, IfErr}
 use Rattle.pdu.specs.declared.pdv.Pdv.{Pdv}
 use Rattle.pdu.specs.declared.context.Context.{Context}
-use Rattle.dimse.specs.declared.command.Command.{Command}
 use Rattle.dimse.specs.declared.message.Message.{Message}
 use Rattle.dimse.specs.declared.fault.DimseFault.{DimseFault}
 use Rattle.dimse.specs.declared.fault.DimseFault.TheVariants.{BadContext, Interleaved, BadCommand, TooLong, Memory, Failed as HasFailed}
 use Rattle.dimse.specs.declared.assembler.Stage.{Stage}
 use Rattle.dimse.specs.declared.assembler.Stage.TheVariants.{Between, InCommand, InDataSet, Failed}
 use Rattle.dimse.specs.Refusal.{IsRefusal}
-use Rattle.dimse.specs.Assembly.{Assembly, accepts, has_place, is_over, fault_of, AdvancesCommand, AdvancesData, Advances, EndsNoCommand, IsRefusalAt, LeadsTo, IsCause, Feeds}
+use Rattle.dimse.specs.Assembly.{Assembly, fault_of, AdvancesCommand, EndsNoCommand, IsRefusalAt, LeadsTo, IsCause, Feeds}
 
 pub refused_at : {X : Type 0} (text : List ℕ) (p : Pdv) (r : Result X DimseFault) → p.last ≡ true → IfErr r (IsRefusal (text ++ p.fragment)) → IfErr r (IsRefusalAt (InCommand 0 text) p)
 refused_at text p (Ok x) last refused = tt

@@ -1,12 +1,12 @@
 -- What is written spells its command.
-use Rattle.std.proofs.Common.{◌≡◌, ◌≢◌, ℕ, zero, suc, ◌+◌, ◌-◌, ◌*◌, ◌/◌, ◌%◌, ◌^◌, ◌<◌, ◌≤◌, Bool, true, false, not, cond, ltb, eqb, List, [], ◌∷◌, ◌++◌, length, take, drop, reverse, Option, Some, None, Result, Ok, Err, refl, sym, ap, subst, ◌∙◌, append_assoc, length-append, arith, lit<, lit≤}
-use Rattle.std.specs.Prelude.{IfSome, IfOk, OnOk, find, ◌==◌, ◌&&◌, option_and_then, if◌then◌else◌}
+use Rattle.std.proofs.Common.{◌≡◌, ℕ, suc, ◌+◌, ◌-◌, ◌*◌, ◌/◌, ◌%◌, ◌^◌, ◌<◌, ◌≤◌, Bool, true, false, not, List, [], ◌∷◌, ◌++◌, length, Option, Some, None, Result, Ok, Err, refl, sym, ap, subst, ◌∙◌, append_assoc, length-append, arith, lit<, lit≤}
+use Rattle.std.specs.Prelude.{IfSome, IfOk, OnOk, ◌==◌, option_and_then, if◌then◌else◌}
 use Rattle.std.specs.Global.{Vec}
 use Rattle.std.specs.declared.alloc.AllocError.{AllocError}
 use Rattle.std.specs.Option.{option_map}
-use Rattle.std.specs.List.{flat_map, list_all, prefix_len, suffix_len}
-use Rattle.std.specs.Int.{w16, w32, to_le_bytes, from_le_bytes}
-use Rattle.std.proofs.lemmas.Bool.{ltb-true, ltb-false}
+use Rattle.std.specs.List.{list_all, prefix_len, suffix_len}
+use Rattle.std.specs.Int.{w16, w32, to_le_bytes}
+use Rattle.std.proofs.lemmas.Bool.{ltb-true}
 use Rattle.std.proofs.lemmas.List.{append-nil, reverse-append, take_at, take_all}
 use Rattle.std.proofs.lemmas.List.Concat.{flat_map-cons, flat_map-append}
 use Rattle.std.proofs.lemmas.Nat.{from_le_bytes-to_le_bytes_2}
@@ -14,8 +14,8 @@ use Rattle.dimse.specs.declared.command.Command.{Command}
 use Rattle.dimse.specs.declared.command.TheConstants.{LONGEST_COMMAND}
 use Rattle.dimse.specs.declared.tags.TheConstants.{GROUP_LENGTH, AFFECTED_CLASS, COMMAND_FIELD, MESSAGE_ID, RESPONDED_TO, PRIORITY, DATA_SET_TYPE, STATUS, AFFECTED_INSTANCE, REMAINING, COMPLETED, FAILED, WARNING}
 use Rattle.dimse.specs.Uid.{IsUid, is_padding, is_graphic, trimmed, padded}
-use Rattle.dimse.specs.Elements.{Element, element_text, text_of, is_above, IsElement, AreElements, value_of}
-use Rattle.dimse.specs.Command.{is_lawful, is_number_tag, is_uid_tag, number_from, number_of, uid_of, Says, SpellsElements, Spells, number_field, uid_field, fields_of, field_elements, elements_of, fields_text, group_length, command_text, FitsTwoBytes, IsCommand, HasRoom}
+use Rattle.dimse.specs.Elements.{Element, element_text, text_of, is_above, AreElements, value_of}
+use Rattle.dimse.specs.Command.{is_lawful, is_number_tag, is_uid_tag, number_from, number_of, uid_of, Says, Spells, number_field, uid_field, fields_of, field_elements, elements_of, fields_text, group_length, command_text, FitsTwoBytes, IsCommand, HasRoom}
 
 -- ---- texts of fields
 

@@ -1,7 +1,6 @@
 -- What a fragment leads to, given what came since the last message.
 use Rattle.std.specs.Prelude.{◌≡◌, ℕ, Bool, true, false, not, ◌==◌, ◌&&◌, nat_lt, List, [], ◌++◌, length, Option, Some, None, Result, Ok, Err, MatchBool, IfOk, IfErr, OnOk, OnErr, if◌then◌else◌, ⊤}
 use Rattle.std.specs.List.{list_any}
-use Rattle.octets.specs.Gives.{Told}
 use Rattle.pdu.specs.declared.pdv.Pdv.{Pdv}
 use Rattle.pdu.specs.declared.context.Context.{Context}
 use Rattle.dimse.specs.declared.command.Command.{Command}
@@ -12,9 +11,7 @@ use Rattle.dimse.specs.declared.assembler.Stage.{Stage}
 use Rattle.dimse.specs.declared.assembler.Stage.TheVariants.{Between, InCommand, InDataSet, Failed}
 use Rattle.dimse.specs.declared.command.TheConstants.{LONGEST_COMMAND}
 use Rattle.dimse.specs.declared.assembler.TheConstants.{LONGEST_DATA_SET}
-use Rattle.dimse.specs.Fault.{is_memory}
 use Rattle.dimse.specs.Command.{Spells, announces, IsCommand, HasRoom}
-use Rattle.dimse.specs.Refusal.{IsRefusal}
 
 -- ---- what is kept
 

@@ -2,7 +2,7 @@
 use Rattle.std.specs.Prelude.{ℕ, List}
 use Rattle.dimse.specs.declared.command.Command.{Command}
 use Rattle.dimse.specs.declared.fault.DimseFault.{DimseFault}
-use Rattle.dimse.specs.declared.fault.DimseFault.TheVariants.{BadContext, Interleaved, BadCommand, TooLong, Memory, Failed}
+use Rattle.dimse.specs.declared.fault.DimseFault.TheVariants.{BadCommand, Memory}
 use Rattle.dimse.specs.Elements.{Element}
 use Rattle.dimse.specs.Command.{Says, SpellsElements, Spells}
 

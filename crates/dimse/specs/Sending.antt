@@ -1,8 +1,8 @@
 -- How a message is sent: each fragment in a PDU of its own (PS3.8, D.1 and E).
-use Rattle.std.specs.Prelude.{◌≡◌, ◌<◌, ◌≤◌, ℕ, ◌-◌, ◌*◌, ◌/◌, Bool, true, false, List, [], ◌∷◌, ◌++◌, length, take, drop, Option, Some, None, MatchOption, IfSome, is_some}
+use Rattle.std.specs.Prelude.{◌≡◌, ◌<◌, ◌≤◌, ℕ, ◌-◌, ◌*◌, ◌/◌, Bool, true, false, List, [], ◌∷◌, ◌++◌, length, take, drop, Option, MatchOption, IfSome, is_some}
 use Rattle.pdu.specs.declared.pdv.Pdv.{Pdv}
 use Rattle.pdu.specs.declared.value.Pdu.{Pdu}
-use Rattle.pdu.specs.declared.value.Pdu.TheVariants.{AssociateRq, AssociateAc, AssociateRj, PData, ReleaseRq, ReleaseRp, Abort}
+use Rattle.pdu.specs.declared.value.Pdu.TheVariants.{PData}
 use Rattle.dimse.specs.declared.message.Message.{Message}
 use Rattle.dimse.specs.declared.assembler.Stage.{Stage}
 use Rattle.dimse.specs.Assembly.{Keeps}

@@ -1,9 +1,9 @@
 //! What answers a request (PS3.7, section 9.3).
 
 ghost use Rattle.std.specs.Prelude.{◌≡◌, IfOk, false};
-ghost use Rattle.dimse.specs.Command.{IsCommand, HasRoom};
+ghost use Rattle.dimse.specs.Command.{IsCommand, HasRoom, announces};
 ghost use Rattle.dimse.specs.CommandField.{is_response_code};
-ghost use Rattle.dimse.specs.Response.{response_code, told_instance, response_of};
+ghost use Rattle.dimse.specs.Response.{IsResponseTo, response_code, told_instance, response_of};
 ghost use Rattle.dimse.specs.Status.{status_code};
 
 use crate::command::{Command, NO_DATA_SET};
@@ -49,6 +49,9 @@ impl Command {
     pub fn response(&self, alloc: Global, status: Status) -> Result<Command, AllocError>
         ensures exact { IfOk result (λ response.
             response ≡ response_of self.now (status_code status)) }
+        ensures answers { is_response_code self.now.field ≡ false →
+            IfOk result (IsResponseTo self.now) }
+        ensures bare { IfOk result (λ response. announces response ≡ false) }
         // Where the request can be written, it can be too.
         ensures lawful { is_response_code self.now.field ≡ false → IsCommand self.now →
             IfOk result IsCommand }

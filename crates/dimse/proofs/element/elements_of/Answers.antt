@@ -1,4 +1,4 @@
-use Rattle.std.proofs.Common.{arith, ◌∙◌, ap, sym, length}
+use Rattle.std.proofs.Common.{◌∙◌, sym}
 use Rattle.std.proofs.lemmas.Result.{err_from_is_err_and}
 use Rattle.dimse.proofs.TextLaws.{takes_more, takes_shorter, elements_refused, some_left}
 use Rattle.dimse.proofs.element.elements_of.Goals as goal

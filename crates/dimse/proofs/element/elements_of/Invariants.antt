@@ -1,4 +1,4 @@
-use Rattle.std.proofs.Common.{length, None}
+use Rattle.std.proofs.Common.{length}
 use Rattle.dimse.proofs.TextLaws.{TakesElements}
 use Rattle.dimse.proofs.element.elements_of.Given as goal
 
