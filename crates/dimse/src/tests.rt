@@ -1,11 +1,13 @@
 //! Command sets, fragments and messages, as bytes from outside.
 
-ghost use Rattle.std.specs.Prelude.{◌<◌, ◌≤◌, length};
+ghost use Rattle.std.specs.Prelude.{◌<◌, ◌≤◌, All, length};
+ghost use Rattle.pdu.specs.Spelling.{IsPdu};
+ghost use Rattle.dimse.specs.Sending.{IsWhole};
 
 use super::*;
 use bytes::Bytes;
 use octets::{ListOf, Octets};
-use pdu::{Context, Contexts, Pdu, Pdv};
+use pdu::{Context, Contexts, Pdu, Pdv, write_pdu};
 use std::alloc::Global;
 use std::process::Abort;
 use std::test::Fail;
@@ -529,5 +531,46 @@ fn a_data_set_is_cut_in_even_fragments(rt: HostRuntime) -> Result<(), Fail> {
     assert_cut(&rt, rt.alloc(), 110, b"", &[0])?;
     assert_cut(&rt, rt.alloc(), 9, b"abcde", &[2, 2, 1])?;
     assert_cut(&rt, rt.alloc(), 10, b"abcdefgh", &[4, 4])?;
+    Ok(())
+}
+
+// The bytes of PDUs.
+fn joined(alloc: Global, pdus: &[Pdu]) -> Result<Vec<u8>, Fail>
+    requires { All IsPdu pdus.now }
+{
+    let mut out = Vec::new(alloc);
+    for pdu in pdus {
+        out.extend_from_slice(write_pdu(alloc, pdu)?.as_slice())?;
+    }
+    Ok(out)
+}
+
+// The bytes of a success that answers a message.
+fn success(alloc: Global, message: &Message) -> Result<Vec<u8>, Fail>
+    requires { IsWhole message.now }
+{
+    if message.command.is_response() {
+        return Err(Fail::new("no request"));
+    }
+    let response = Message {
+        context: message.context,
+        command: message.command.response(alloc, Status::Success)?,
+        body: None,
+    };
+    let pdus = fragments(alloc, &response, 16_384)?;
+    joined(alloc, pdus.as_slice())
+}
+
+#[test]
+fn a_message_is_answered_on_its_context(rt: HostRuntime) -> Result<(), Fail> {
+    let alloc = rt.alloc();
+    let mut assembler = Assembler::new(contexts(alloc)?);
+    let answer = assembler.feed(alloc, pdv(alloc, 3, true, true, &ECHO_REQUEST)?)?;
+    let written = success(alloc, &answer.ok_or("no message")?)?;
+    // One P-DATA-TF with one value on context 3, the last fragment of a command set.
+    let header = b"\x04\x00\x00\x00\x00\x54\x00\x00\x00\x50\x03\x03";
+    assert!(rt; written.starts_with(header), "its headers");
+    assert!(rt; written.ends_with(&ECHO_RESPONSE), "its command set");
+    assert_eq!(rt; written.len(), 90, "and no more");
     Ok(())
 }
