@@ -1,23 +1,19 @@
 -- The acceptance of a lawful request can be written.
-use Rattle.std.proofs.Common.{◌≡◌, ◌≢◌, ℕ, zero, suc, ◌+◌, ◌*◌, ◌<◌, ◌≤◌, ◌^◌, Bool, true, false, not, cond, eqb, ◌&&◌, ◌||◌, List, [], ◌∷◌, ◌++◌, length, map, length-append, Option, Some, None, Result, Ok, Err, refl, sym, ap, subst, ◌∙◌, arith}
-use Rattle.std.specs.Prelude.{filter, IfOk}
+use Rattle.std.proofs.Common.{◌≡◌, ◌≢◌, ℕ, suc, ◌+◌, ◌*◌, ◌<◌, ◌≤◌, Bool, true, false, not, cond, eqb, ◌&&◌, ◌||◌, List, [], ◌∷◌, ◌++◌, length, map, Some, Result, Ok, Err, refl, ap, ◌∙◌, arith}
+use Rattle.std.specs.Prelude.{filter}
 use Rattle.std.specs.Int.{w32, to_be_bytes}
-use Rattle.std.specs.List.{AllByRecursion, list_any, list_all, IsDistinct}
+use Rattle.std.specs.List.{AllByRecursion, list_any, IsDistinct}
 use Rattle.std.proofs.lemmas.Map.Steps.{length-le_from_distinct_below}
 use Rattle.pdu.specs.declared.user.Role.{Role}
 use Rattle.pdu.specs.declared.user.UserInformation.{UserInformation}
 use Rattle.pdu.specs.declared.context.ProposedContext.{ProposedContext}
-use Rattle.pdu.specs.declared.context.AnsweredContext.{AnsweredContext}
 use Rattle.pdu.specs.declared.request.Request.{Request}
-use Rattle.pdu.specs.declared.accept.Accept.{Accept}
-use Rattle.pdu.specs.declared.value.Pdu.{Pdu}
-use Rattle.pdu.specs.declared.value.Pdu.TheVariants.{AssociateRq, AssociateAc}
-use Rattle.pdu.specs.Grammar.{trimmed, is_graphic, is_odd, is_among, are_distinct}
-use Rattle.pdu.specs.Spelling.{item_of, items_text, HasLength, role_item, length_items, class_items, user_items, syntax_item, proposal_items, proposal_item, answer_item, opening_text, request_items, accept_items, body_text, IsUidText, FitsRole, FitsUser, FitsProposal, FitsAnswer, FitsOpening, FitsRequest, FitsAccept}
+use Rattle.pdu.specs.Grammar.{trimmed, is_among, are_distinct}
+use Rattle.pdu.specs.Spelling.{item_of, items_text, HasLength, role_item, length_items, class_items, user_items, syntax_item, proposal_item, answer_item, request_items, IsUidText, FitsRole, FitsUser, FitsProposal, FitsAnswer, FitsOpening, FitsRequest, FitsAccept}
 use Rattle.pdu.proofs.Again.{all_right}
-use Rattle.pdu.proofs.Sizes.{all_both, item_size, items_size, written_size, body_items, body_size, body_long}
-use Rattle.ul_state.specs.declared.answer.TheConstants.{IMPLICIT, EXPLICIT, IMPLEMENTATION_CLASS}
-use Rattle.ul_state.specs.Answer.{HasByteId, is_storage, taken_syntax, answer_number, answer_syntax, answered, opening_back, accept_for}
+use Rattle.pdu.proofs.Sizes.{item_size, items_size, written_size, body_items, body_size, body_long}
+use Rattle.ul_state.specs.declared.answer.TheConstants.{IMPLEMENTATION_CLASS}
+use Rattle.ul_state.specs.Answer.{HasByteId, is_storage, taken_syntax, answer_syntax, answered, opening_back, accept_for}
 
 -- ---- how many contexts there are
 

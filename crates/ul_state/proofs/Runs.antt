@@ -1,6 +1,6 @@
 -- What a run of the table can still do, from each state.
-use Rattle.std.proofs.Common.{◌≡◌, ◌≢◌, ℕ, ◌+◌, ◌≤◌, List, [], ◌∷◌, rules, arith}
-use Rattle.ul_state.specs.Table.{action_of, next_of, state_after, acceptances_in, answers_in}
+use Rattle.std.proofs.Common.{◌≡◌, ◌≢◌, ◌≤◌, List, [], ◌∷◌, rules, arith}
+use Rattle.ul_state.specs.Table.{action_of, state_after, acceptances_in, answers_in}
 use Rattle.ul_state.specs.declared.table.State.TheVariants.{Sta1, Sta2, Sta6, Sta13}
 use Rattle.ul_state.specs.declared.table.Kind.{Kind}
 use Rattle.ul_state.specs.declared.table.Kind.TheVariants.{AcceptableRq, OtherRq, PData, ReleaseRq, Abort, OtherPdu, UnknownPdu, FaultyPdu, StreamEnd, LocalAbort}

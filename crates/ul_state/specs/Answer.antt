@@ -1,5 +1,5 @@
 -- What an acceptance answers (PS3.8, 9.3.3; PS3.7, D.3.3.4).
-use Rattle.std.specs.Prelude.{ℕ, ◌<◌, Bool, true, false, not, List, [], ◌∷◌, ◌==◌, ◌&&◌, ◌||◌, map, filter, nat_eq, Option, Some, None, Result, Ok, Err, if◌then◌else◌}
+use Rattle.std.specs.Prelude.{ℕ, ◌<◌, Bool, true, false, not, List, ◌==◌, ◌&&◌, ◌||◌, map, filter, nat_eq, Option, Some, None, Result, Ok, Err, if◌then◌else◌}
 use Rattle.std.specs.List.{list_any, filter_map, starts_with}
 use Rattle.pdu.specs.declared.user.Role.{Role}
 use Rattle.pdu.specs.declared.opening.Opening.{Opening}
