@@ -1,10 +1,10 @@
 -- What a line that is not too long asks for is made of data sets.
-use Rattle.std.proofs.Common.{◌≡◌, ℕ, ◌+◌, ◌-◌, ◌*◌, ◌^◌, ◌<◌, ◌≤◌, List, [], ◌∷◌, ◌++◌, length, take, Bool, true, false, cond, Option, Some, None, Result, Ok, Err, IfOk, refl, sym, ap, subst, ◌∙◌, arith, map, length-append, ◌==◌}
+use Rattle.std.proofs.Common.{◌≡◌, ℕ, ◌+◌, ◌-◌, ◌^◌, ◌<◌, ◌≤◌, List, [], ◌∷◌, ◌++◌, length, Bool, true, false, cond, Option, Some, None, Result, Ok, Err, IfOk, refl, sym, ap, subst, ◌∙◌, arith, map, length-append, ◌==◌}
 use Rattle.std.specs.Prelude.{not, ◌||◌, ◌&&◌, nat_lt, nat_le}
 use Rattle.std.specs.Int.{w32, from_be_bytes}
 use Rattle.std.specs.Option.{option_map}
 use Rattle.std.specs.List.{suffix_len}
-use Rattle.std.proofs.lemmas.Bool.{eqb-true, eqb-false, ltb-true, ltb-false, lt-ltb, leb-true}
+use Rattle.std.proofs.lemmas.Bool.{eqb-false, ltb-false, lt-ltb, leb-true}
 use Rattle.std.proofs.lemmas.List.{length-take}
 use Rattle.data_set.specs.declared.syntax.Syntax.TheVariants.{Implicit}
 use Rattle.data_set.specs.Tags.{is_item_tag, is_reserved_group, is_listed, is_above}

@@ -1,18 +1,17 @@
 -- The data sets that the lines of a script make are data sets.
-use Rattle.std.proofs.Common.{◌≡◌, ℕ, zero, suc, ◌+◌, ◌*◌, ◌%◌, ◌/◌, ◌^◌, ◌<◌, ◌≤◌, List, [], ◌∷◌, ◌++◌, length, Bool, true, false, cond, Option, Some, None, refl, sym, ap, subst, ◌∙◌, arith, map, length-append, ◌==◌, codes}
+use Rattle.std.proofs.Common.{◌≡◌, ℕ, suc, ◌+◌, ◌%◌, ◌^◌, ◌<◌, ◌≤◌, List, [], ◌∷◌, ◌++◌, length, Bool, true, false, cond, Option, Some, None, refl, sym, ap, ◌∙◌, arith, map, length-append, ◌==◌, codes}
 use Rattle.std.specs.Prelude.{not, ◌||◌}
 use Rattle.data_set.specs.declared.syntax.Syntax.{Syntax}
-use Rattle.data_set.specs.declared.syntax.Syntax.TheVariants.{Implicit, Explicit}
-use Rattle.data_set.specs.declared.fault.SetFault.{SetFault}
+use Rattle.data_set.specs.declared.syntax.Syntax.TheVariants.{Implicit}
 use Rattle.data_set.specs.declared.fault.SetFault.TheVariants.{Order, Group, Undefined}
 use Rattle.data_set.specs.Header.{offence}
 use Rattle.data_set.specs.Tags.{is_item_tag, is_reserved_group, is_listed, is_above, is_pixel_data}
-use Rattle.data_set.specs.Tree.{Tree, Rows, Trees, leaf, node, rows_of, trees_of}
+use Rattle.data_set.specs.Tree.{rows_of}
 use Rattle.data_set.specs.Values.{padded, pad_of}
 use Rattle.data_set.specs.Vr.{undefined_length, inner_syntax, is_undefined}
-use Rattle.data_set.specs.Written.{MayStand, IsTree, AreRows, AreTrees, IsSet}
+use Rattle.data_set.specs.Written.{MayStand, AreRows, IsSet}
 use Rattle.std.proofs.lemmas.Bool.{eqb-true}
-use Rattle.site_script.specs.Sets.{valued, sequence, image_elements, note_elements, named, images_sequence, note_series, CT, KEY_OBJECTS}
+use Rattle.site_script.specs.Sets.{image_elements, note_elements, named, note_series, CT, KEY_OBJECTS}
 use Rattle.site_script.specs.declared.command.ImageLine.{ImageLine}
 use Rattle.site_script.specs.declared.command.NoteLine.{NoteLine}
 

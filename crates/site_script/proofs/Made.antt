@@ -1,5 +1,5 @@
 -- What becomes of a draft whose data set spells known elements.
-use Rattle.std.proofs.Common.{◌≡◌, ℕ, ◌<◌, ◌≤◌, List, length, Bool, true, false, cond, Option, Some, None, Result, Ok, Err, refl, sym, ap, subst, ◌∙◌, arith}
+use Rattle.std.proofs.Common.{◌≡◌, ℕ, List, length, Bool, true, false, cond, Option, Some, Result, Ok, Err, refl, sym, ap, subst, ◌∙◌}
 use Rattle.std.specs.Prelude.{nat_lt}
 use Rattle.std.proofs.lemmas.Bool.{ltb-true, ltb-false}
 use Rattle.octets.specs.Gives.{Gives}
@@ -10,7 +10,7 @@ use Rattle.rejection_note.specs.declared.fault.NoteFault.{NoteFault}
 use Rattle.rejection_note.specs.Notes.{note_in}
 use Rattle.operation.specs.declared.draft.Draft.{Draft}
 use Rattle.operation.specs.declared.fault.OpFault.{OpFault}
-use Rattle.operation.specs.declared.fault.OpFault.TheVariants.{NoUid, Mismatch, BadSet, BadNote, BadCorrection, TooLong, UnknownKind, Memory, Shape}
+use Rattle.operation.specs.declared.fault.OpFault.TheVariants.{NoUid, Mismatch, BadNote, TooLong}
 use Rattle.operation.specs.Fault.{is_memory}
 use Rattle.operation.specs.Parts.{ContentParts}
 use Rattle.operation.specs.Contents.{offence, has_uids, names_itself, note_offence, IsContent, IsRefused, IsShort, draft_of, drafted, longest, values_in}

@@ -1,5 +1,5 @@
 -- What a line of a script asks for.
-use Rattle.std.specs.Prelude.{ℕ, List, [], ◌∷◌, Option, Some, None, Bool, ◌==◌, if◌then◌else◌, map, codes}
+use Rattle.std.specs.Prelude.{ℕ, List, [], ◌∷◌, Option, Some, None, ◌==◌, if◌then◌else◌, map, codes}
 use Rattle.operation.specs.declared.target.Target.{Target}
 use Rattle.operation.specs.declared.target.Target.TheVariants.{Study, Patient}
 use Rattle.archive_model.specs.declared.view.View.{View}

@@ -1,5 +1,5 @@
 -- The keys of a query, as TAG=VALUE words give them.
-use Rattle.std.specs.Prelude.{◌≡◌, ℕ, true, false, List, [], ◌∷◌, Option, Some, None, Bool, not, nat_lt, ◌==◌, ◌&&◌, ◌||◌, if◌then◌else◌}
+use Rattle.std.specs.Prelude.{◌≡◌, ℕ, true, false, List, [], ◌∷◌, Option, Some, None, Bool, not, nat_lt, ◌==◌, ◌||◌, if◌then◌else◌}
 use Rattle.std.specs.Option.{option_map}
 use Rattle.data_set.specs.Tags.{is_item_tag, is_reserved_group, is_listed}
 use Rattle.site_script.specs.declared.key.Key.{Key}

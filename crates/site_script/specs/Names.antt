@@ -5,9 +5,6 @@ use Rattle.std.specs.Int.{w32, from_be_bytes}
 use Rattle.std.specs.Cmp.Lexicographic.{pointwise}
 use Rattle.archive_model.specs.declared.view.View.{View}
 use Rattle.archive_model.specs.declared.view.View.TheVariants.{Archive, Quality}
-use Rattle.operation.specs.declared.target.Target.{Target}
-use Rattle.operation.specs.declared.target.Target.TheVariants.{Study, Patient}
-use Rattle.site_script.specs.Words.{uid_in}
 
 -- whether a word is this one
 abbrev pub is : List ℕ → List ℕ → Bool

@@ -34,7 +34,10 @@ fn lines_of_no_form_are_bad(rt: HostRuntime) -> Result<(), Fail> {
         b"correct A series 1.2.1.1 00100010 ROE^ANN",
     ];
     for (number, line) in lines.iter().enumerate() {
-        assert!(rt; is_bad(rt.alloc(), line)?, "line {number} of those of no form");
+        assert!(rt;
+            is_bad(rt.alloc(), line)?,
+            "line {number} of those of no form"
+        );
     }
     Ok(())
 }
@@ -50,7 +53,10 @@ fn lines_of_a_form_are_read(rt: HostRuntime) -> Result<(), Fail> {
         b"note A 113001 1.2.1 1.2.9 1.2.1.1.1 1.2.1.1.2",
     ];
     for (number, line) in lines.iter().enumerate() {
-        assert!(rt; !is_bad(rt.alloc(), line)?, "line {number} of those of a form");
+        assert!(rt;
+            !is_bad(rt.alloc(), line)?,
+            "line {number} of those of a form"
+        );
     }
     Ok(())
 }

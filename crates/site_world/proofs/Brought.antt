@@ -1,5 +1,5 @@
 -- After a run each site is what it held, with what was brought to it.
-use Rattle.std.proofs.Common.{◌≡◌, ◌≢◌, ℕ, suc, zero, List, [], ◌∷◌, ◌++◌, Option, Some, None, Ok, Err, Result, Bool, true, false, cond, refl, sym, ap, subst, ◌∙◌, slice_set, ◌==◌}
+use Rattle.std.proofs.Common.{◌≡◌, ◌≢◌, ℕ, suc, zero, List, [], ◌∷◌, ◌++◌, Option, Some, None, Result, Bool, true, false, cond, refl, sym, ap, ◌∙◌, slice_set, ◌==◌}
 use Rattle.std.specs.Prelude.{MatchBool}
 use Rattle.std.specs.List.{slice_get}
 use Rattle.std.specs.Option.{option_map}
@@ -9,7 +9,7 @@ use Rattle.site_state.specs.Site.{Map, with_op}
 use Rattle.site_world.specs.declared.fault.WorldFault.{WorldFault}
 use Rattle.site_world.specs.declared.step.Step.{Step}
 use Rattle.site_world.specs.declared.step.Seen.{Seen}
-use Rattle.site_world.specs.Steps.{is_refused_memory, site_at, with_site, bring, brought, site_of, told, seen_by, after, Happens}
+use Rattle.site_world.specs.Steps.{is_refused_memory, site_at, with_site, bring, brought, site_of, told, seen_by, Happens}
 use Rattle.site_world.specs.Runs.{Entry, entry_of, Run, brought_by, brought_to, holding, AreBrought}
 
 same_place : (xs : List Map) (i : ℕ) (b m : Map) → slice_get xs i ≡ Some b → slice_get (slice_set xs i m) i ≡ Some m

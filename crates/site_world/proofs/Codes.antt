@@ -1,6 +1,6 @@
 -- A code tells its values apart.
 use Rattle.std.proofs.Common.{◌≡◌, ◌≢◌, ℕ, Bool, true, false, ◌==◌, refl, sym, ap, subst, ◌∙◌}
-use Rattle.std.specs.Prelude.{◌&&◌, IsTrue, ◌↔◌}
+use Rattle.std.specs.Prelude.{◌&&◌, IsTrue}
 use Rattle.std.proofs.lemmas.Bool.{eqb-true, eq-eqb}
 use base.Stored.{Gv, gnil, gnum, gcons}
 use Rattle.operation.specs.declared.op.Op.{Op}

@@ -1,15 +1,15 @@
 -- What a site answers to an operation.
-use Rattle.std.proofs.Common.{◌≡◌, ◌≢◌, ℕ, List, Option, Some, None, Result, Ok, Err, Bool, true, false, cond, refl, sym, ap, subst, ◌∙◌}
+use Rattle.std.proofs.Common.{◌≡◌, ◌≢◌, Option, Some, None, Result, Ok, Err, cond, sym, ap, ◌∙◌}
 use Rattle.operation.specs.declared.op.Op.{Op}
 use Rattle.operation.specs.Spelling.{digest_of}
-use Rattle.site_state.specs.Site.{Map, held_at, with_op, Takes}
+use Rattle.site_state.specs.Site.{Map, held_at, Takes}
 use Rattle.site_state.specs.declared.taken.Taken.{Taken}
 use Rattle.site_state.specs.declared.taken.Taken.TheVariants.{New, Known}
 use Rattle.site_state.specs.declared.fault.SiteFault.{SiteFault}
 use Rattle.site_state.specs.declared.fault.SiteFault.TheVariants.{Collision, Memory as site_memory}
 use Rattle.site_world.specs.declared.fault.WorldFault.{WorldFault}
-use Rattle.site_world.specs.declared.fault.WorldFault.TheVariants.{NoSite, NoMessage, Site, StampsSpent, Memory, BadCorrection}
-use Rattle.site_world.specs.Steps.{fault_of_site, answer_to, taken_by, IsTaken}
+use Rattle.site_world.specs.declared.fault.WorldFault.TheVariants.{Site}
+use Rattle.site_world.specs.Steps.{fault_of_site, answer_to, IsTaken}
 use Rattle.site_world.proofs.Codes.{same_op-itself, same_op-other}
 use Rattle.site_world.proofs.Known.{known_again}
 

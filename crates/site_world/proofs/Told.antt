@@ -1,13 +1,13 @@
 -- What is written in the middle of an input, and what is owed.
-use Rattle.std.proofs.Common.{◌≡◌, ℕ, ◌+◌, ◌<◌, ◌≤◌, List, [], ◌∷◌, ◌++◌, take, drop, length, Option, Some, None, Err, true, false, refl, sym, ap, ◌∙◌, subst, Bool, ◌==◌, cond, append_assoc, arith}
+use Rattle.std.proofs.Common.{◌≡◌, ℕ, ◌+◌, ◌<◌, ◌≤◌, List, [], ◌∷◌, ◌++◌, take, drop, length, Option, Some, None, Err, true, false, sym, ap, ◌∙◌, subst, Bool, ◌==◌, cond, append_assoc, arith}
 use Rattle.std.specs.Io.KnownBytes.{Appends, Consumes, IsAtEnd}
 use Rattle.std.proofs.lemmas.List.{take-append-drop, length-append}
 use Rattle.std.proofs.Math.Seq.{take-length}
 use Rattle.std.specs.Result.{IsErrOf}
 use Rattle.devices.proofs.Fronts.{further}
 use Rattle.site_world.specs.declared.run.SimFault.{SimFault}
-use Rattle.site_world.specs.Output.{output_from, output_of, count_from, count_of, is_long_from, has_long_line}
-use Rattle.site_world.specs.Simulation.{Place, Leads, IsFront, HasLong, HasTooManyLines, MOST_LINES, MOST_READS, IsEndless, Owes, OwesFor, WroteFront, WroteAll, IsTooLong}
+use Rattle.site_world.specs.Output.{output_from, count_from, count_of, is_long_from}
+use Rattle.site_world.specs.Simulation.{Place, Leads, IsFront, HasLong, HasTooManyLines, MOST_LINES, MOST_READS, IsEndless, Owes, WroteFront, WroteAll, IsTooLong}
 
 joined : (i : ℕ) (bytes rest : List ℕ) → take i bytes ++ (drop i bytes ++ rest) ≡ bytes ++ rest
 joined i bytes rest = sym (append_assoc (take i bytes) (drop i bytes) rest) ∙ ap (λ (t : List ℕ). t ++ rest) (take-append-drop i bytes)

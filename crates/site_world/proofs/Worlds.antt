@@ -1,5 +1,5 @@
 -- Steps at one site are steps of the world.
-use Rattle.std.proofs.Common.{◌≡◌, ◌<◌, ℕ, suc, zero, List, [], ◌∷◌, ◌++◌, Option, Some, None, Ok, Err, Result, Bool, true, false, refl, sym, ap, subst, ◌∙◌, length, slice_set, slice_index_or, append_assoc}
+use Rattle.std.proofs.Common.{◌≡◌, ◌<◌, ℕ, suc, zero, List, [], ◌∷◌, ◌++◌, Option, Some, None, Result, Bool, true, false, refl, sym, ap, subst, ◌∙◌, length, slice_set, slice_index_or, append_assoc}
 use Rattle.std.proofs.lemmas.Option.{slice_get_read}
 use Rattle.std.specs.Prelude.{MatchBool}
 use Rattle.std.specs.List.{slice_get}
@@ -7,7 +7,7 @@ use Rattle.operation.specs.declared.op.Op.{Op}
 use Rattle.operation.specs.declared.target.Target.{Target}
 use Rattle.archive_model.specs.declared.view.View.{View}
 use Rattle.archive_query.specs.declared.query.Query.{Query}
-use Rattle.site_state.specs.Site.{Map, with_op}
+use Rattle.site_state.specs.Site.{Map}
 use Rattle.site_world.specs.declared.fault.WorldFault.{WorldFault}
 use Rattle.site_world.specs.declared.step.Step.{Step}
 use Rattle.site_world.specs.declared.step.Step.TheVariants.{Take, Correct, Look}

@@ -1,5 +1,5 @@
 -- What a script prints for a whole input.
-use Rattle.std.specs.Prelude.{◌≡◌, ℕ, ◌+◌, ◌-◌, List, [], ◌∷◌, ◌++◌, length, take, slice_index, replicate, Bool, true, false, not, nat_le, ◌==◌, ◌&&◌, if◌then◌else◌}
+use Rattle.std.specs.Prelude.{ℕ, ◌+◌, ◌-◌, List, [], ◌∷◌, ◌++◌, length, take, slice_index, replicate, Bool, true, false, not, nat_le, ◌==◌, ◌&&◌, if◌then◌else◌}
 use Rattle.std.specs.FinMap as finmap
 use Rattle.site_script.specs.Commands.{command_of}
 use Rattle.site_script.specs.Fitting.{LONGEST_LINE}

@@ -1,5 +1,5 @@
 -- Whether two operations, or two sites, are one. A code tells each value of its type from every other.
-use Rattle.std.specs.Prelude.{ℕ, Bool, true, false, ◌&&◌, ◌==◌}
+use Rattle.std.specs.Prelude.{Bool, true, false, ◌&&◌, ◌==◌}
 use Rattle.std.specs.FinMap as finmap
 use Rattle.std.specs.Coded.{Coded, coded_list, coded_ℕ}
 use base.Stored.{Gv, gnil, gnum, gcons}

@@ -1,8 +1,8 @@
 -- What the steps of several sites do. A world is the list of what its sites hold, site 1 first.
-use Rattle.std.specs.Prelude.{◌≡◌, ℕ, zero, suc, ◌+◌, min, List, [], ◌∷◌, Option, Some, None, Ok, Err, Result, Bool, true, false, not, ◌==◌, if◌then◌else◌, MatchBool, MatchResult, codes}
+use Rattle.std.specs.Prelude.{◌≡◌, ℕ, zero, suc, ◌+◌, min, List, Option, Some, None, Ok, Err, Result, Bool, true, false, not, ◌==◌, if◌then◌else◌, MatchBool, MatchResult, codes}
 use Rattle.std.specs.List.{slice_get, slice_set}
 use Rattle.operation.specs.declared.op.Op.{Op}
-use Rattle.operation.specs.declared.op.Op.TheVariants.{Content as a_content, Correction as a_correction}
+use Rattle.operation.specs.declared.op.Op.TheVariants.{Correction as a_correction}
 use Rattle.operation.specs.declared.stamp.Stamp.{Stamp}
 use Rattle.operation.specs.declared.target.Target.{Target}
 use Rattle.operation.specs.Parts.{CorrectionParts}

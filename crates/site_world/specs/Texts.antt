@@ -1,5 +1,5 @@
 -- The texts that a script prints.
-use Rattle.std.specs.Prelude.{ℕ, List, [], ◌∷◌, ◌++◌, length, Option, Some, None, Ok, Err, Result, Bool, map, codes, if◌then◌else◌}
+use Rattle.std.specs.Prelude.{ℕ, List, [], ◌∷◌, ◌++◌, length, Ok, Err, Result, Bool, codes, if◌then◌else◌}
 use Rattle.std.specs.List.{flat_map}
 use Rattle.std.specs.Fmt.{decimal}
 use Rattle.hex.specs.Hex.{encode_lower}
@@ -10,12 +10,11 @@ use Rattle.data_set.specs.Written.{text_of}
 use Rattle.operation.specs.declared.stamp.Stamp.{Stamp}
 use Rattle.site_state.specs.declared.taken.Taken.{Taken}
 use Rattle.site_state.specs.declared.taken.Taken.TheVariants.{New, Known}
-use Rattle.site_state.specs.declared.fault.SiteFault.{SiteFault}
 use Rattle.site_world.specs.declared.fault.WorldFault.{WorldFault}
 use Rattle.site_world.specs.declared.fault.WorldFault.TheVariants.{NoSite, NoMessage, Site, StampsSpent, Memory, BadCorrection}
 use Rattle.site_world.specs.declared.step.Seen.{Seen}
 use Rattle.site_world.specs.declared.step.Seen.TheVariants.{Took, Stamped, Rows}
-use Rattle.site_world.specs.Faults.{number_of_world_fault, number_of_site_fault}
+use Rattle.site_world.specs.Faults.{number_of_site_fault}
 
 -- a line, with its end
 abbrev pub line : List ℕ → List ℕ

@@ -1,4 +1,4 @@
-use Rattle.std.proofs.Common.{◌≡◌, ◌++◌, ◌∷◌, [], ap, sym, ◌∙◌, subst, arith, take, length, ℕ, List}
+use Rattle.std.proofs.Common.{◌++◌, subst, arith, take}
 use Rattle.std.proofs.lemmas.List.{take_more, take_all}
 use Rattle.site_world.specs.Runs.{Run, brought_by}
 use Rattle.site_world.proofs.Worlds.{run_more}

@@ -1,4 +1,4 @@
-use Rattle.std.proofs.Common.{◌≡◌, ◌≤◌, ℕ, List, take, length}
+use Rattle.std.proofs.Common.{◌≡◌, ◌≤◌, List, take, length}
 use Rattle.std.specs.Vec.{vec_len, vec_capacity}
 use Rattle.site_world.specs.Runs.{Entry, Run}
 use Rattle.site_world.proofs.world.World.run.Given as goal
