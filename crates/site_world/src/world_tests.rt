@@ -119,28 +119,32 @@ fn does(world: &mut World, alloc: Global, site: usize, given: Given) -> Result<&
     }
 }
 
-/// The query at STUDY for patients of this name.
-fn named(alloc: Global, name: &[u8]) -> Result<Option<Query>, Fail> {
-    let parts: [&[u8]; 4] = [
-        b"\x08\x00\x52\x00\x06\x00\x00\x00STUDY ",
-        b"\x10\x00\x10\x00",
-        &[name.len() as u8, 0, 0, 0],
-        name,
-    ];
+/// The key (0010,0010), empty.
+const ANY: &[u8] = b"\x10\x00\x10\x00\x00\x00\x00\x00";
+
+/// The same with `DOE*`.
+const DOE: &[u8] = b"\x10\x00\x10\x00\x04\x00\x00\x00DOE*";
+
+/// The same with `ROE*`.
+const ROE: &[u8] = b"\x10\x00\x10\x00\x04\x00\x00\x00ROE*";
+
+/// The query at STUDY with this key.
+fn query(alloc: Global, key: &[u8]) -> Result<Option<Query>, Fail> {
+    let parts: [&[u8]; 2] = [b"\x08\x00\x52\x00\x06\x00\x00\x00STUDY ", key];
     let bytes = joined(alloc, &parts)?;
-    let set = read(alloc, Syntax::Implicit, &Bytes::from_vec(bytes)?)?;
+    let set = read(alloc, Syntax::Implicit, bytes.as_slice())?;
     Ok(Query::read(alloc, &set).ok())
 }
 
-/// How many studies with patients of this name a site answers in a view.
+/// How many studies that match a key a site answers in a view.
 fn rows(
     world: &mut World,
     alloc: Global,
     site: usize,
     view: View,
-    name: &[u8],
+    key: &[u8],
 ) -> Result<Option<usize>, Fail> {
-    let Some(query) = named(alloc, name)? else {
+    let Some(query) = query(alloc, key)? else {
         return Ok(None);
     };
     match world.step(&Step::Look(site, view, query)) {
@@ -190,7 +194,7 @@ fn sites_that_took_a_note_and_its_image_in_either_order_are_equal(
     }
     assert!(rt; are_same(&world), "the orders leave one state");
     for (site, view) in [(1, View::Archive), (2, View::Quality)].iter().copied() {
-        let found = rows(&mut world, rt.alloc(), site, view, b"")?;
+        let found = rows(&mut world, rt.alloc(), site, view, ANY)?;
         assert_eq!(rt; found, Some(0), "the image is hidden at site {site}");
     }
     assert!(rt; are_same(&world), "a look changes nothing");
@@ -203,9 +207,9 @@ fn quality_is_shown_what_was_rejected_for_quality(rt: HostRuntime) -> Result<(),
     for given in [JANE, QUALITY].iter().copied() {
         does(&mut world, rt.alloc(), 1, given)?;
     }
-    let hidden = rows(&mut world, rt.alloc(), 1, View::Archive, b"")?;
+    let hidden = rows(&mut world, rt.alloc(), 1, View::Archive, ANY)?;
     assert_eq!(rt; hidden, Some(0), "hidden in the archive's view");
-    let shown = rows(&mut world, rt.alloc(), 1, View::Quality, b"")?;
+    let shown = rows(&mut world, rt.alloc(), 1, View::Quality, ANY)?;
     assert_eq!(rt; shown, Some(1), "shown to quality control");
     Ok(())
 }
@@ -230,9 +234,9 @@ fn a_correction_before_its_image_is_matched(rt: HostRuntime) -> Result<(), Fail>
     let told = does(&mut world, rt.alloc(), 1, Given::Renaming(b"ROE^ANN"))?;
     assert_eq!(rt; told, "stamped", "the correction");
     does(&mut world, rt.alloc(), 1, JANE)?;
-    let found = rows(&mut world, rt.alloc(), 1, View::Archive, b"ROE*")?;
+    let found = rows(&mut world, rt.alloc(), 1, View::Archive, ROE)?;
     assert_eq!(rt; found, Some(1), "found by the corrected name");
-    let stored = rows(&mut world, rt.alloc(), 1, View::Archive, b"DOE*")?;
+    let stored = rows(&mut world, rt.alloc(), 1, View::Archive, DOE)?;
     assert_eq!(rt; stored, Some(0), "and not by the stored one");
     Ok(())
 }
