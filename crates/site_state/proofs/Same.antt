@@ -1,29 +1,25 @@
 -- Sites that took the same operations hold the same.
-use Rattle.std.proofs.Common.{◌≡◌, ◌≢◌, ℕ, List, [], ◌∷◌, ◌++◌, Option, Some, None, Ok, Bool, true, false, cond, refl, sym, ap, subst, ◌∙◌, inl, inr, ◌⊎◌}
+use Rattle.std.proofs.Common.{◌≡◌, ◌≢◌, ℕ, List, [], ◌∷◌, ◌++◌, Option, Some, Bool, true, false, cond, refl, sym, ap, subst, ◌∙◌, inl, inr, ◌⊎◌}
 use Rattle.std.proofs.lemmas.Bool.{false≢true}
 use Rattle.std.specs.Prelude.{IfSome}
-use Rattle.std.specs.Ordering.{is_eq}
 use Rattle.std.specs.Cmp.Lexicographic.{nat_list_cmp_total}
 use Rattle.std.specs.BTreeMap.{is_at}
 use Rattle.std.specs.Map.{values_of}
-use Rattle.std.specs.FinMap.{FinMap, entries, get, insert, empty, get-insert, get-empty}
+use Rattle.std.specs.FinMap.{entries, get, empty, get-insert, get-empty}
 use Rattle.operation.specs.declared.op.Op.{Op}
 use Rattle.operation.specs.declared.op.Op.TheVariants.{Content as a_content}
-use Rattle.operation.specs.Parts.{ContentParts}
 use Rattle.operation.specs.Spelling.{digest_of}
 use Rattle.archive_model.specs.Members.{Has, SameMembers}
-use Rattle.archive_model.specs.View.{hides}
-use Rattle.archive_model.specs.Contents.{content_in, contents, contents_of, pick, flagged}
+use Rattle.archive_model.specs.Contents.{content_in, contents_of, pick, flagged}
 use Rattle.archive_model.specs.Covered.{is_covered}
 use Rattle.archive_model.specs.Shown.{shown}
 use Rattle.archive_model.specs.Attributes.{attribute}
 use Rattle.archive_model.proofs.MemberLaws.{has_filter_map}
 use Rattle.archive_model.proofs.ModelLaws.{covered_is_named, shown_are_picks}
-use Rattle.site_state.specs.declared.taken.Taken.{Taken}
 use Rattle.site_state.specs.declared.taken.Taken.TheVariants.{New, Known}
-use Rattle.site_state.specs.Site.{digest_cmp, Map, IsSite, ops_of, held_at, with_op, Takes, top_counter_of, counts_of}
-use Rattle.site_state.specs.Union.{either, union, Agree}
-use Rattle.site_state.specs.Laws.{Apart, holding, after_taking, TakingAdds, TookTheSame, IsCommutative, UnionIsOfBoth, EqualMaps, EqualContents, EqualPicks, EqualCovers, EqualShown, EqualFlagged, EqualAttributes, EqualCounts, EqualTops, NoteBeforeIsNoteAfter, NamedIsNotShown}
+use Rattle.site_state.specs.Site.{digest_cmp, Map, IsSite, ops_of, held_at, with_op, top_counter_of, counts_of}
+use Rattle.site_state.specs.Union.{either, Agree}
+use Rattle.site_state.specs.Laws.{Apart, holding, after_taking, TakingAdds, IsCommutative, UnionIsOfBoth, EqualMaps, EqualContents, EqualPicks, EqualCovers, EqualShown, EqualFlagged, EqualAttributes, EqualCounts, EqualTops, NoteBeforeIsNoteAfter, NamedIsNotShown}
 use Rattle.site_state.proofs.Maps.{same_sites, tied, apart, held}
 use Rattle.site_state.proofs.Unions.{held_entries, held_in_union, commutative}
 

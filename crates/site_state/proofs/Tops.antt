@@ -1,5 +1,5 @@
 -- The greatest counter of the corrections of a site, as operations are added.
-use Rattle.std.proofs.Common.{◌≡◌, ℕ, max, ◌≤◌, T, ◌&&◌, List, [], ◌∷◌, Bool, true, false, cond, Option, Some, None, inl, inr, ◌⊎◌, refl, sym, ap, subst, ◌∙◌, arith}
+use Rattle.std.proofs.Common.{◌≡◌, ℕ, max, ◌≤◌, T, ◌&&◌, List, [], ◌∷◌, Bool, true, false, cond, Option, Some, None, inl, inr, refl, sym, ap, subst, ◌∙◌, arith}
 use Rattle.std.proofs.Math.Nat.{le-max_left, le-max_right, max-le}
 use Rattle.std.specs.Ordering.{is_lt, is_eq}
 use Rattle.std.specs.declared.cmp.Ordering.{Ordering}

@@ -1,5 +1,5 @@
 -- What sites are, whatever the order in which they took their operations.
-use Rattle.std.specs.Prelude.{◌≡◌, ◌≢◌, ◌⊎◌, ℕ, List, [], ◌∷◌, ◌++◌, Option, Some, None, Ok, IsTrue}
+use Rattle.std.specs.Prelude.{◌≡◌, ℕ, List, [], ◌∷◌, ◌++◌, Some, Ok, IsTrue}
 use Rattle.std.specs.FinMap as finmap
 use Rattle.rejection_note.specs.declared.note.Note.{Note}
 use Rattle.operation.specs.declared.op.Op.{Op}

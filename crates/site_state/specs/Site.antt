@@ -1,5 +1,5 @@
 -- A site: the finite map from digests to operations, each under its own.
-use Rattle.std.specs.Prelude.{◌≡◌, ◌≢◌, ℕ, max, Bool, not, List, [], ◌∷◌, ◌++◌, Option, Some, None, IfSome, Ok, Err, Result, map, length}
+use Rattle.std.specs.Prelude.{◌≡◌, ◌≢◌, ℕ, max, Bool, not, List, [], ◌∷◌, Option, Some, None, IfSome, Ok, Err, Result, length}
 use Rattle.std.specs.Ordering.{nat_cmp}
 use Rattle.std.specs.Cmp.Lexicographic.{slice_cmp}
 use Rattle.std.specs.FinMap as finmap

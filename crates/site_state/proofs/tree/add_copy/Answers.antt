@@ -1,4 +1,4 @@
-use Rattle.std.proofs.Common.{◌≡◌, ap, sym, ◌∙◌, [], ◌∷◌}
+use Rattle.std.proofs.Common.{ap, sym, ◌∙◌, [], ◌∷◌}
 use Rattle.site_state.specs.Site.{of_entries}
 use Rattle.site_state.specs.Union.{union}
 use Rattle.site_state.proofs.Unions.{known_entry, new_entry}

@@ -1,4 +1,4 @@
-use Rattle.std.proofs.Common.{◌≡◌, ap, sym, ◌∙◌, length}
+use Rattle.std.proofs.Common.{ap, sym, ◌∙◌, length}
 use Rattle.site_state.specs.Site.{counts_of}
 use Rattle.site_state.proofs.Maps.{tree_ops}
 use Rattle.site_state.proofs.Counted.{counted}

@@ -1,5 +1,4 @@
-use Rattle.std.proofs.Common.{◌≢◌, ap, sym, ◌∙◌, subst, None, IsTrue}
-use Rattle.std.specs.Prelude.{◌↔◌}
+use Rattle.std.proofs.Common.{ap}
 use Rattle.std.specs.FinMap as map
 use Rattle.site_state.proofs.Maps.{get_held, some_is}
 use Rattle.site_state.proofs.site.Site.has.Goals as goal

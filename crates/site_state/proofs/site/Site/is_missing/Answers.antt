@@ -1,4 +1,4 @@
-use Rattle.std.proofs.Common.{◌≡◌, ap, sym, ◌∙◌, refl}
+use Rattle.std.proofs.Common.{ap, sym, ◌∙◌, refl}
 use Rattle.std.specs.Prelude.{is_some, not}
 use Rattle.site_state.proofs.Maps.{found_at}
 use Rattle.site_state.proofs.site.Site.is_missing.Goals as goal

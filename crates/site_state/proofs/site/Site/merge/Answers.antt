@@ -1,7 +1,7 @@
-use Rattle.std.proofs.Common.{◌≡◌, ap, sym, ◌∙◌, subst}
+use Rattle.std.proofs.Common.{ap, sym, ◌∙◌, subst}
 use Rattle.site_state.specs.Site.{IsSite, of_entries}
 use Rattle.site_state.specs.Union.{union}
-use Rattle.site_state.proofs.Unions.{merged, union_is_site, no_clash}
+use Rattle.site_state.proofs.Unions.{merged, union_is_site}
 use Rattle.site_state.proofs.Tops.{top_merged}
 use Rattle.site_state.proofs.site.Site.merge.Goals as goal
 

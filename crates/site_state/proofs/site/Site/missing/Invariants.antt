@@ -1,6 +1,5 @@
 use Rattle.std.proofs.Common.{◌≡◌, ◌++◌, drop}
 use Rattle.std.specs.Prelude.{filter}
-use Rattle.std.specs.FinMap as finmap
 use Rattle.site_state.specs.Site.{is_missing}
 use Rattle.site_state.proofs.site.Site.missing.Given as goal
 

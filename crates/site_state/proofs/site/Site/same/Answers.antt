@@ -1,4 +1,4 @@
-use Rattle.std.proofs.Common.{◌≡◌, sym, ap, ◌∙◌, []}
+use Rattle.std.proofs.Common.{sym, ap, ◌∙◌}
 use Rattle.site_state.specs.Site.{ops_of}
 use Rattle.site_state.proofs.Maps.{tree_ops}
 use Rattle.site_state.proofs.Unions.{heads_same, first_same, not_longer, same_ops, ended}

@@ -1,4 +1,3 @@
-use Rattle.site_state.specs.Site.{Takes}
 use Rattle.site_state.proofs.Takings.{if_new, if_added, if_same, if_memory, if_refused, iff_known, iff_clash}
 use Rattle.site_state.proofs.site.Site.take.Goals as goal
 

@@ -1,4 +1,4 @@
-use Rattle.std.proofs.Common.{ap, sym, ◌∙◌, Some, refl, subst}
+use Rattle.std.proofs.Common.{ap, sym, ◌∙◌, Some, refl}
 use Rattle.std.specs.FinMap as map
 use Rattle.site_state.specs.Site.{held_at}
 use Rattle.site_state.proofs.Maps.{one_more, one_more_is_site, found_at}
