@@ -287,71 +287,75 @@ fn releases_are_written(rt: HostRuntime) -> Result<(), Fail> {
     Ok(())
 }
 
+/// Headers, each with its fault.
+const FAULTY_HEADERS: [(&[u8; 6], PduFault, &str); 10] = [
+    (
+        b"\x08\x00\x00\x00\x00\x00",
+        PduFault::UnknownType,
+        "type 08",
+    ),
+    (
+        b"\x00\x00\x00\x00\x00\x04",
+        PduFault::UnknownType,
+        "type 00",
+    ),
+    (
+        b"\x05\x00\x00\x00\x00\x05",
+        PduFault::BadLength,
+        "a release of 5 bytes",
+    ),
+    (
+        b"\x07\x00\x00\x00\x00\x03",
+        PduFault::BadLength,
+        "an abort of 3 bytes",
+    ),
+    (
+        b"\x01\x00\x00\x00\x00\x43",
+        PduFault::BadLength,
+        "a request of 67 bytes",
+    ),
+    (
+        b"\x02\x00\x00\x00\x00\x43",
+        PduFault::BadLength,
+        "an acceptance of 67 bytes",
+    ),
+    (
+        b"\x01\x00\x00\x01\x00\x01",
+        PduFault::TooLong,
+        "a request of 65,537 bytes",
+    ),
+    (
+        b"\x04\x00\x00\x01\x00\x01",
+        PduFault::TooLong,
+        "data of 65,537 bytes",
+    ),
+    (
+        b"\x02\x00\x00\x01\x11\x71",
+        PduFault::TooLong,
+        "an acceptance of 70,001 bytes",
+    ),
+    (
+        b"\x04\x00\xff\xff\xff\xff",
+        PduFault::TooLong,
+        "data of the greatest length",
+    ),
+];
+
+/// Headers without a fault.
+const LAWFUL_HEADERS: [(&[u8; 6], &str); 4] = [
+    (b"\x04\x00\x00\x01\x00\x00", "data of 65,536 bytes"),
+    (b"\x01\x00\x00\x01\x00\x00", "a request of 65,536 bytes"),
+    (b"\x02\x00\x00\x01\x11\x70", "an acceptance of 70,000 bytes"),
+    (b"\x01\x00\x00\x00\x00\x44", "a request of 68 bytes"),
+];
+
 #[test]
 fn a_header_alone_tells_its_fault(rt: HostRuntime) {
     let alloc = rt.alloc();
-    let rows = [
-        (
-            b"\x08\x00\x00\x00\x00\x00",
-            PduFault::UnknownType,
-            "type 08",
-        ),
-        (
-            b"\x00\x00\x00\x00\x00\x04",
-            PduFault::UnknownType,
-            "type 00",
-        ),
-        (
-            b"\x05\x00\x00\x00\x00\x05",
-            PduFault::BadLength,
-            "a release of 5 bytes",
-        ),
-        (
-            b"\x07\x00\x00\x00\x00\x03",
-            PduFault::BadLength,
-            "an abort of 3 bytes",
-        ),
-        (
-            b"\x01\x00\x00\x00\x00\x43",
-            PduFault::BadLength,
-            "a request of 67 bytes",
-        ),
-        (
-            b"\x02\x00\x00\x00\x00\x43",
-            PduFault::BadLength,
-            "an acceptance of 67 bytes",
-        ),
-        (
-            b"\x01\x00\x00\x01\x00\x01",
-            PduFault::TooLong,
-            "a request of 65,537 bytes",
-        ),
-        (
-            b"\x04\x00\x00\x01\x00\x01",
-            PduFault::TooLong,
-            "data of 65,537 bytes",
-        ),
-        (
-            b"\x02\x00\x00\x01\x11\x71",
-            PduFault::TooLong,
-            "an acceptance of 70,001 bytes",
-        ),
-        (
-            b"\x04\x00\xff\xff\xff\xff",
-            PduFault::TooLong,
-            "data of the greatest length",
-        ),
-    ];
-    for (header, fault, why) in rows {
+    for (header, fault, why) in FAULTY_HEADERS {
         assert_eq!(rt; outcome(&told(&rt, alloc, header)), Err(fault), "{why}");
     }
-    let lawful = [
-        (b"\x04\x00\x00\x01\x00\x00", "data of 65,536 bytes"),
-        (b"\x01\x00\x00\x01\x00\x00", "a request of 65,536 bytes"),
-        (b"\x02\x00\x00\x01\x11\x70", "an acceptance of 70,000 bytes"),
-        (b"\x01\x00\x00\x00\x00\x44", "a request of 68 bytes"),
-    ];
-    for (header, why) in lawful {
+    for (header, why) in LAWFUL_HEADERS {
         assert_eq!(rt; outcome(&told(&rt, alloc, header)), Ok(None), "{why}");
     }
 }
