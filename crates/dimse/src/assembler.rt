@@ -244,6 +244,13 @@ impl Assembler {
         }
     }
 
+    /// The accepted presentation contexts.
+    pub fn contexts(&self) -> &[Context]
+        ensures { result.now ≡ self.now.contexts }
+    {
+        self.contexts.as_slice()
+    }
+
     /// Takes the next fragment, and answers the message that it ends, where it ends one.
     pub fn feed(&mut self, alloc: Global, pdv: Pdv) -> Result<Option<Message>, DimseFault>
         ensures fed { Feeds self.old pdv result self.new }

@@ -1,3 +1,4 @@
 pub mod Lawful
+pub mod Openings
 pub mod Runs
 pub mod Spaces

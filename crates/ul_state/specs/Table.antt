@@ -1,5 +1,5 @@
 -- The acceptor's rows of PS3.8, Table 9-10, in the states in use.
-use Rattle.std.specs.Prelude.{ℕ, ◌+◌, List, [], ◌∷◌}
+use Rattle.std.specs.Prelude.{ℕ, ◌+◌, Bool, true, false, List, [], ◌∷◌}
 use Rattle.ul_state.specs.declared.table.State.{State}
 use Rattle.ul_state.specs.declared.table.State.TheVariants.{Sta1, Sta2, Sta6, Sta13}
 use Rattle.ul_state.specs.declared.table.Kind.{Kind}
@@ -54,6 +54,16 @@ state_from state Close = Sta1
 
 abbrev pub next_of : State → Kind → State
 next_of state kind = state_from state (action_of state kind)
+
+-- The association is established between these states.
+abbrev pub opens : State → State → Bool
+opens Sta2 Sta6 = true
+opens Sta2 Sta1 = false
+opens Sta2 Sta2 = false
+opens Sta2 Sta13 = false
+opens Sta1 after = false
+opens Sta6 after = false
+opens Sta13 after = false
 
 -- the reason of an A-ABORT of the provider (PS3.8, 9.3.8)
 abbrev pub provider_reason : Kind → ℕ

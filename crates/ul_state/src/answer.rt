@@ -54,8 +54,9 @@ fn is_query_class(class: &[u8]) -> bool
         || class == STUDY_ROOT_GET.as_slice()
 }
 
+/// Whether a class counts as one of Storage (docs/DECISIONS.md, "Storage classes").
 #[tactic(auto, unfolding(crate::specs::Answer::is_storage))]
-fn is_storage_class(class: &[u8]) -> bool
+pub fn is_storage_class(class: &[u8]) -> bool
     ensures { result ≡ is_storage class.now }
 {
     class.starts_with(STORAGE_ROOT.as_slice())

@@ -15,6 +15,7 @@ mod tests;
 mod titles;
 
 pub use acceptor::{Acceptor, Settled};
+pub use answer::is_storage_class;
 pub use decision::{Decision, negotiate};
 pub use event::{Action, Event};
 pub use table::{

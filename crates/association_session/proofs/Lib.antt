@@ -1,0 +1,6 @@
+pub mod HearLaws
+pub mod LimitLaws
+pub mod QueueLaws
+pub mod ResponseLaws
+pub mod RunLaws
+pub mod TurnLaws

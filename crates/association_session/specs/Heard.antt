@@ -1,0 +1,17 @@
+-- What an association hears, one after another.
+use Rattle.std.specs.Prelude.{List, [], ◌∷◌, map}
+use Rattle.pdu.specs.declared.pdv.Pdv.{Pdv}
+use Rattle.pdu.specs.declared.value.Pdu.{Pdu}
+use Rattle.pdu.specs.declared.value.Pdu.TheVariants.{AssociateRq, AssociateAc, AssociateRj, PData, ReleaseRq, ReleaseRp, Abort}
+use Rattle.ul_state.specs.declared.event.Event.{Event}
+use Rattle.ul_state.specs.declared.event.Event.TheVariants.{Got, Bad, Ended, LocalAbort}
+
+-- one value of a P-DATA-TF, or any other event of the acceptor
+pub data Heard : Type 0 where
+  Value : Pdv → Heard
+  Other : Event → Heard
+
+-- the values of a P-DATA-TF are heard one by one
+abbrev pub heard_of : Event → List Heard
+heard_of (Got (PData values)) = map Value values
+heard_of event = Other event ∷ []
