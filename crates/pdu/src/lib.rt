@@ -21,6 +21,7 @@ mod writer;
 pub use accept::Accept;
 pub use context::{AnsweredContext, Context, Contexts, ProposedContext};
 pub use fault::PduFault;
+pub use header::HEADER_LENGTH;
 pub use opening::Opening;
 pub use pdv::Pdv;
 pub use reader::{read_pdu, read_shared, spells_one_pdu, what_is_spelled_is_writable};

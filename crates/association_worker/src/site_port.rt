@@ -1,0 +1,93 @@
+//! A site in memory as a port.
+
+ghost use Rattle.std.specs.Prelude.{◌≡◌, ◌++◌, ◌∷◌, [], OnOk, OnErr, IfErr};
+ghost use Rattle.std.specs.FinMap as finmap;
+ghost use Rattle.operation.specs.Spelling.{digest_of};
+ghost use Rattle.association_worker.specs.Port.{holds_op};
+
+use crate::port::Port;
+use association_session::{PortFault, Reply};
+use operation::{Content, Digest, Op, digest};
+use site_state::{Site, SiteFault};
+use std::alloc::Global;
+use std::marker::Model;
+
+/// A site in memory, which no one else changes, and the digests of its own stores.
+#[derive(Drop)]
+pub struct SitePort {
+    site: Site,
+    own: Vec<Digest>,
+}
+
+impl Model for SitePort {
+    ghost use Rattle.association_worker.specs.Port.{PortParts, port_code};
+
+    ghost Value = { PortParts };
+
+    ghost coded = { port_code };
+
+    ghost view = { λ p. record { site = p.site; own = p.own.items } };
+}
+
+fn port_fault(fault: SiteFault) -> PortFault {
+    match fault {
+        SiteFault::Collision => PortFault::Collision,
+        SiteFault::Memory => PortFault::Memory,
+    }
+}
+
+/// Puts an operation's digest at the end.
+fn put_digest(own: &mut Vec<Digest>, op: &Op) -> Result<(), PortFault>
+    ensures put { OnOk result (own.new.items ≡ own.old.items ++ digest_of op.now ∷ []) }
+    ensures kept { OnErr result (own.new.items ≡ own.old.items) }
+    ensures memory { IfErr result (λ fault. fault ≡ PortFault.Memory) }
+{
+    match own.push(digest(op)) {
+        Ok(()) => Ok(()),
+        Err(_refused) => Err(PortFault::Memory),
+    }
+}
+
+impl SitePort {
+    /// A site that holds nothing. It takes no memory.
+    pub fn new(alloc: Global) -> SitePort
+        ensures { result ≡ record { site = finmap.empty; own = [] } }
+    {
+        SitePort {
+            site: Site::new(alloc),
+            own: Vec::new(alloc),
+        }
+    }
+
+    /// What is held.
+    pub fn site(&self) -> &Site
+        ensures { result.now ≡ self.now.site }
+    {
+        &self.site
+    }
+
+    /// The digests of the contents that were stored, in order.
+    pub fn own(&self) -> &[Digest]
+        ensures { result.now ≡ self.now.own }
+    {
+        self.own.as_slice()
+    }
+}
+
+impl Port for SitePort {
+    ghost holds = { λ p op. holds_op p.site op };
+
+    ghost own = { λ p. p.own };
+
+    fn store(&mut self, content: Content) -> Reply {
+        let op = Op::Content(content);
+        put_digest(&mut self.own, &op)?;
+        match self.site.take(op) {
+            Ok(taken) => Ok(taken),
+            Err(fault) => {
+                self.own.pop();
+                Err(port_fault(fault))
+            }
+        }
+    }
+}
