@@ -1,11 +1,10 @@
 -- What hearing a value comes to.
-use Rattle.std.proofs.Common.{◌≡◌, ◌≢◌, ℕ, Bool, true, false, List, [], ◌∷◌, ◌++◌, Option, Some, None, Result, Ok, Err, refl, sym, ap, subst, ◌∙◌, append-nil, inl, inr, ◌⊎◌}
+use Rattle.std.proofs.Common.{◌≡◌, ◌≢◌, ℕ, List, [], ◌∷◌, Option, Some, None, Result, Ok, Err, refl, sym, ap, subst, ◌∙◌, append-nil, inl, inr, ◌⊎◌}
 use Rattle.std.specs.Prelude.{IfOk}
 use Rattle.std.specs.List.{flat_map}
 use Rattle.std.proofs.lemmas.List.Concat.{flat_map-cons}
 use Rattle.pdu.specs.declared.pdv.Pdv.{Pdv}
 use Rattle.pdu.specs.declared.context.Context.{Context}
-use Rattle.pdu.specs.declared.value.Pdu.{Pdu}
 use Rattle.pdu.specs.declared.value.Pdu.TheVariants.{Abort}
 use Rattle.pdu.specs.Spelling.{text_of}
 use Rattle.ul_state.specs.declared.table.State.{State}
@@ -16,14 +15,12 @@ use Rattle.dimse.specs.declared.fault.DimseFault.{DimseFault}
 use Rattle.dimse.specs.declared.fault.DimseFault.TheVariants.{Memory}
 use Rattle.dimse.specs.declared.fault.DimseFault.TheVariants as faults
 use Rattle.dimse.specs.Assembly.{Assembly, Feeds, IsCause}
-use Rattle.site_state.specs.declared.taken.Taken.{Taken}
-use Rattle.association_session.specs.declared.reply.PortFault.{PortFault}
 use Rattle.association_session.specs.declared.service.Service.{Service}
 use Rattle.association_session.specs.declared.service.Service.TheVariants as services
 use Rattle.association_session.specs.declared.association.Outcome.{Outcome}
 use Rattle.association_session.specs.declared.association.Outcome.TheVariants.{Sent, Asked}
 use Rattle.association_session.specs.Standing.{Link, Standing, Exchange}
-use Rattle.association_session.specs.Saying.{HearsIn, HearsLinked, TakesValue, RefusesValue, Aborts, aborted_from, with_link, at_stage, assembly_of, Answers, Does}
+use Rattle.association_session.specs.Saying.{HearsIn, HearsLinked, TakesValue, RefusesValue, aborted_from, at_stage, assembly_of, Answers, Does}
 use Rattle.association_session.specs.Hearing.{ComesTo, HearsAs, AnswersAs}
 
 -- the link taken out

@@ -1,13 +1,13 @@
 -- A peer that takes less than one fragment is refused.
-use Rattle.std.proofs.Common.{◌≡◌, ℕ, ◌<◌, ◌≤◌, Bool, true, false, not, cond, List, Option, Some, None, Result, Ok, Err, refl, sym, ap, subst, ◌∙◌, arith}
-use Rattle.std.specs.Prelude.{◌==◌, ◌&&◌, nat_lt, if◌then◌else◌, IsSome}
+use Rattle.std.proofs.Common.{◌≡◌, ℕ, Bool, true, false, not, cond, List, Option, Some, None, Result, Ok, Err, refl, arith}
+use Rattle.std.specs.Prelude.{◌==◌, ◌&&◌, nat_lt, IsSome}
 use Rattle.pdu.specs.declared.request.Request.{Request}
 use Rattle.pdu.specs.declared.reject.Reject.{Reject}
 use Rattle.pdu.specs.declared.value.Pdu.TheVariants as pdus
 use Rattle.ul_state.specs.declared.event.Event.{Event}
 use Rattle.ul_state.specs.declared.event.Event.TheVariants as events
 use Rattle.ul_state.specs.declared.titles.Title.{Title}
-use Rattle.ul_state.specs.Admission.{is_too_short, admitted, by_title, is_version_one, is_known_context, refused}
+use Rattle.ul_state.specs.Admission.{is_too_short, by_title, is_version_one, is_known_context, refused}
 use Rattle.ul_state.specs.Decision.{value_for}
 use Rattle.ul_state.specs.Titles.{value_of, without_spaces}
 use Rattle.ul_state.specs.Acceptor.{settled_with, settled_for}

@@ -21,16 +21,15 @@ use Rattle.association_session.specs.declared.reply.PortFault.{PortFault}
 use Rattle.association_session.specs.declared.moment.Moment.TheVariants.{InStore}
 use Rattle.association_session.specs.declared.action.SessionAction.{SessionAction}
 use Rattle.association_session.specs.declared.action.SessionAction.TheVariants.{Send, Close, Reach, Store}
-use Rattle.association_session.specs.declared.association.Outcome.{Outcome}
 use Rattle.association_session.specs.declared.association.Outcome.TheVariants.{Sent, Asked}
-use Rattle.association_session.specs.Standing.{Standing, Exchange}
+use Rattle.association_session.specs.Standing.{Standing}
 use Rattle.association_session.specs.Heard.{Heard, Value, Other, heard_of}
-use Rattle.association_session.specs.Response.{Awaited, CanBeResponded, Responds, IsResponse}
+use Rattle.association_session.specs.Response.{Awaited, CanBeResponded, Responds}
 use Rattle.association_session.specs.Service.{status_of_reply}
 use Rattle.association_session.specs.Runs.{Runs}
 use Rattle.association_session.specs.Saying.{Says, action_on, moved, sent_text}
 use Rattle.association_session.specs.Hearing.{HearsAs}
-use Rattle.association_session.specs.Session.{Sitting, bytes_of, sent_bytes, asking, asked_by, IsPlain, IsWritable, Adds, Reaches, Hears, Resumes}
+use Rattle.association_session.specs.Session.{Sitting, bytes_of, sent_bytes, asking, asked_by, IsPlain, IsWritable, Adds, Hears, Resumes}
 use Rattle.association_session.proofs.RunLaws.{Runs-one, Runs-push}
 
 -- From s the values before left were heard, and nothing is awaited.

@@ -1,5 +1,5 @@
 -- Each request has a response, which can be written.
-use Rattle.std.proofs.Common.{◌≡◌, ℕ, zero, suc, ◌-◌, ◌*◌, ◌/◌, ◌<◌, ◌≤◌, Bool, true, false, List, [], ◌∷◌, ◌++◌, length, take, drop, Option, Some, None, refl, sym, ap, subst, ◌∙◌, append-nil, arith, inl, inr, ◌⊎◌, length-drop}
+use Rattle.std.proofs.Common.{◌≡◌, ℕ, zero, suc, ◌<◌, ◌≤◌, Bool, true, false, List, [], ◌∷◌, length, take, drop, None, refl, sym, ap, append-nil, arith, inl, inr, ◌⊎◌, length-drop}
 use Rattle.std.specs.List.{flat_map}
 use Rattle.std.proofs.lemmas.Bool.{cases_lt}
 use Rattle.pdu.specs.declared.value.Pdu.{Pdu}
@@ -9,8 +9,8 @@ use Rattle.dimse.specs.declared.status.Status.{Status}
 use Rattle.dimse.specs.Command.{IsCommand, HasRoom, announces, command_text}
 use Rattle.dimse.specs.Status.{status_code}
 use Rattle.dimse.specs.Response.{response_of}
-use Rattle.dimse.specs.Sending.{size_of, sent, Sends, IsSending, IsWhole}
-use Rattle.association_session.specs.Response.{Awaited, response_to, Responds, IsResponse}
+use Rattle.dimse.specs.Sending.{size_of, sent, Sends, IsWhole}
+use Rattle.association_session.specs.Response.{Awaited, IsResponse}
 
 -- a first fragment before others
 sends_before : (size context : ℕ) (command : Bool) (text : List ℕ) (pdus : List Pdu) → size < length text → Sends size context command (drop size text) pdus

@@ -7,8 +7,8 @@ use Rattle.ul_state.specs.declared.acceptor.Settled.{Settled}
 use Rattle.ul_state.specs.declared.event.Action.{Action}
 use Rattle.ul_state.specs.declared.event.Event.{Event}
 use Rattle.ul_state.specs.declared.titles.Title.{Title}
-use Rattle.ul_state.specs.Table.{action_of, next_of, opens}
-use Rattle.ul_state.specs.Acceptor.{kind_for, settled_on, settled_for, settled_by, CanBeWritten}
+use Rattle.ul_state.specs.Table.{next_of, opens}
+use Rattle.ul_state.specs.Acceptor.{kind_for, settled_for, settled_by, CanBeWritten}
 use Rattle.ul_state.proofs.Openings.{settles_where_it_opens}
 use Rattle.association_session.specs.Standing.{Link, Standing}
 use Rattle.association_session.specs.Response.{FitsLimit}

@@ -1,10 +1,9 @@
 -- What an association hears, one after another.
 use Rattle.std.specs.Prelude.{List, [], ◌∷◌, map}
 use Rattle.pdu.specs.declared.pdv.Pdv.{Pdv}
-use Rattle.pdu.specs.declared.value.Pdu.{Pdu}
-use Rattle.pdu.specs.declared.value.Pdu.TheVariants.{AssociateRq, AssociateAc, AssociateRj, PData, ReleaseRq, ReleaseRp, Abort}
+use Rattle.pdu.specs.declared.value.Pdu.TheVariants.{PData}
 use Rattle.ul_state.specs.declared.event.Event.{Event}
-use Rattle.ul_state.specs.declared.event.Event.TheVariants.{Got, Bad, Ended, LocalAbort}
+use Rattle.ul_state.specs.declared.event.Event.TheVariants.{Got}
 
 -- one value of a P-DATA-TF, or any other event of the acceptor
 pub data Heard : Type 0 where

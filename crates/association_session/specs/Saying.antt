@@ -20,7 +20,6 @@ use Rattle.dimse.specs.declared.fault.DimseFault.{DimseFault}
 use Rattle.dimse.specs.declared.fault.DimseFault.TheVariants.{Memory}
 use Rattle.dimse.specs.declared.assembler.Stage.{Stage}
 use Rattle.dimse.specs.declared.assembler.Stage.TheVariants.{Between}
-use Rattle.dimse.specs.declared.status.Status.{Status}
 use Rattle.dimse.specs.Assembly.{Assembly, fault_of, Advances, IsCause}
 use Rattle.site_state.specs.declared.taken.Taken.{Taken}
 use Rattle.association_session.specs.declared.reply.PortFault.{PortFault}

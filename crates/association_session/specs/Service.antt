@@ -1,5 +1,5 @@
 -- What a message is answered (PS3.7, 9.1 and 9.3; docs/DECISIONS.md, "What a message is answered").
-use Rattle.std.specs.Prelude.{◌≡◌, ℕ, Bool, true, false, not, List, [], ◌==◌, ◌||◌, nat_le, Option, Some, None, Result, Ok, Err, MatchOption, if◌then◌else◌}
+use Rattle.std.specs.Prelude.{◌≡◌, ℕ, Bool, false, not, List, [], ◌==◌, ◌||◌, nat_le, Option, Some, None, Result, Ok, Err, if◌then◌else◌}
 use Rattle.std.specs.List.{find}
 use Rattle.pdu.specs.declared.context.Context.{Context}
 use Rattle.ul_state.specs.Titles.{is_text}

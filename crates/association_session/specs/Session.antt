@@ -4,7 +4,6 @@ use Rattle.std.specs.List.{flat_map}
 use Rattle.pdu.specs.declared.pdv.Pdv.{Pdv}
 use Rattle.pdu.specs.declared.value.Pdu.{Pdu}
 use Rattle.pdu.specs.Spelling.{text_of, IsPdu}
-use Rattle.ul_state.specs.declared.table.State.TheVariants.{Sta1}
 use Rattle.ul_state.specs.declared.titles.Title.{Title}
 use Rattle.ul_state.specs.Acceptor.{HasLawfulPdu}
 use Rattle.ul_state.specs.declared.event.Action.{Action}
@@ -17,7 +16,7 @@ use Rattle.association_session.specs.declared.action.SessionAction.{SessionActio
 use Rattle.association_session.specs.declared.action.SessionAction.TheVariants.{Send, Close, Reach, Store}
 use Rattle.association_session.specs.declared.action.SessionEvent.{SessionEvent}
 use Rattle.association_session.specs.declared.action.SessionEvent.TheVariants as inputs
-use Rattle.association_session.specs.Standing.{Standing}
+use Rattle.association_session.specs.Standing.{Standing, closed}
 use Rattle.association_session.specs.Heard.{Heard, Value}
 use Rattle.association_session.specs.Response.{Awaited, CanBeResponded, Responds, IsResponse}
 use Rattle.association_session.specs.Service.{status_of_reply}
@@ -106,7 +105,7 @@ IsOutOfTurn None (inputs.Replied reply) = ⊤
 -- It is over: nothing is awaited, and nothing is done any more.
 abbrev pub over : Sitting → Sitting
 over old = record {
-  standing = record { state = Sta1; link = None; aborted = old.standing.aborted; released = old.standing.released };
+  standing = closed old.standing.aborted old.standing.released;
   awaited = None;
   queue = [];
 }

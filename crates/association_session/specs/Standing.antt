@@ -27,6 +27,10 @@ pub record Standing : Type 0 where
 abbrev pub start : Standing
 start = record { state = Sta2; link = None; aborted = false; released = false }
 
+-- no connection any more
+abbrev pub closed : Bool → Bool → Standing
+closed aborted released = record { state = Sta1; link = None; aborted = aborted; released = released }
+
 -- a content that the port was asked to store, and its reply
 pub record Exchange : Type 0 where
   pub content : ContentParts

@@ -7,7 +7,7 @@ ghost use Rattle.ul_state.specs.declared.table.State.TheVariants.{Sta1, Sta2, St
 ghost use Rattle.ul_state.specs.Table.{next_of, opens};
 ghost use Rattle.ul_state.specs.Acceptor.{kind_for, settled_by, HasLawfulPdu, CanBeWritten};
 ghost use Rattle.dimse.specs.Sending.{IsWhole};
-ghost use Rattle.association_session.specs.Standing.{Standing, start};
+ghost use Rattle.association_session.specs.Standing.{Standing, start, closed};
 ghost use Rattle.association_session.specs.Response.{FitsLimit};
 ghost use Rattle.association_session.specs.Saying.{action_on, moved, reads_abort, sends, is_abort, is_release_response, link_with, aborted_from};
 ghost use Rattle.association_session.specs.Hearing.{agreed_by, HearsAs, AnswersAs, IsWritableOutcome};
@@ -133,7 +133,8 @@ fn agreed(
     limit: u32,
     link: Option<Link>,
 ) -> Result<Option<Link>, AllocError>
-    requires { IsTrue (opens before acceptor.now.state) → IsSome acceptor.now.settled → FitsLimit limit }
+    requires { IsTrue (opens before acceptor.now.state) →
+        IsSome acceptor.now.settled → FitsLimit limit }
     ensures { IfOk result (λ new. new
         ≡ agreed_by (opens before acceptor.now.state) limit acceptor.now.settled link) }
 {
@@ -182,7 +183,7 @@ impl Association {
 
     /// An association that is over.
     pub(crate) fn over(alloc: Global, aborted: bool, released: bool) -> Association
-        ensures { result ≡ record { state = Sta1; link = None; aborted = aborted; released = released } }
+        ensures { result ≡ closed aborted released }
     {
         Association {
             alloc,
@@ -199,7 +200,8 @@ impl Association {
         titles: &Titles<()>,
         event: Event,
     ) -> Result<Option<Action>, AllocError>
-        ensures action { IfOk result (λ action. action ≡ action_on titles.now.list self.old.state event) }
+        ensures action { IfOk result (λ action.
+            action ≡ action_on titles.now.list self.old.state event) }
         ensures next { OnOk result (self.new ≡ moved titles.now.list self.old event) }
         ensures lawful { HasLawfulPdu event → IfOk result (λ action. IfSome action CanBeWritten) }
     {
@@ -218,7 +220,8 @@ impl Association {
 
     /// Takes a value of a P-DATA-TF.
     pub(crate) fn hear(&mut self, titles: &Titles<()>, value: Pdv) -> Result<Outcome, AllocError>
-        ensures heard { IfOk result (λ outcome. HearsAs titles.now.list self.old value outcome self.new) }
+        ensures heard { IfOk result (λ outcome.
+            HearsAs titles.now.list self.old value outcome self.new) }
         ensures writable { IfOk result IsWritableOutcome }
     {
         match self.state() {
@@ -232,7 +235,8 @@ impl Association {
     /// A value before an acceptance: the table's row for a P-DATA-TF.
     fn refuse(&mut self, titles: &Titles<()>, value: Pdv) -> Result<Outcome, AllocError>
         requires { self.old.state ≡ Sta2 }
-        ensures heard { IfOk result (λ outcome. HearsAs titles.now.list self.old value outcome self.new) }
+        ensures heard { IfOk result (λ outcome.
+            HearsAs titles.now.list self.old value outcome self.new) }
         ensures writable { IfOk result IsWritableOutcome }
     {
         let mut values = ListOf::new(self.alloc);
@@ -259,7 +263,8 @@ impl Association {
     /// Takes a value while the association is established.
     fn hear_linked(&mut self, titles: &Titles<()>, value: Pdv) -> Result<Outcome, AllocError>
         requires { self.old.state ≡ Sta6 }
-        ensures heard { IfOk result (λ outcome. HearsAs titles.now.list self.old value outcome self.new) }
+        ensures heard { IfOk result (λ outcome.
+            HearsAs titles.now.list self.old value outcome self.new) }
         ensures writable { IfOk result IsWritableOutcome }
     {
         let Some(link) = self.link.take() else {
@@ -287,7 +292,8 @@ impl Association {
         requires open { self.old.state ≡ Sta6 }
         requires unlinked { self.old.link ≡ None }
         requires whole { IsWhole message }
-        ensures answered { IfOk result (λ outcome. AnswersAs (Some message) self.old link outcome self.new) }
+        ensures answered { IfOk result (λ outcome.
+            AnswersAs (Some message) self.old link outcome self.new) }
         ensures writable { IfOk result IsWritableOutcome }
     {
         let Message {

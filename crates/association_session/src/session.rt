@@ -150,7 +150,8 @@ impl Session {
             IfOk result (λ actions. Resumes titles.now.list self.old asked reply actions self.new) }
 
         // What comes out of turn changes nothing.
-        ensures ignored { IsOutOfTurn self.old.awaited event → IfOk result (λ actions. actions ≡ []) }
+        ensures ignored { IsOutOfTurn self.old.awaited event →
+            IfOk result (λ actions. actions ≡ []) }
         ensures kept { IsOutOfTurn self.old.awaited event → OnOk result (self.new ≡ self.old) }
 
         // Each PDU that is sent can be written.
@@ -183,7 +184,8 @@ impl Session {
         ensures replied { (asked : Awaited) (reply : Result Taken PortFault) →
             self.old.awaited ≡ Some asked → event ≡ Replied reply →
             IfOk result (λ actions. Resumes titles.now.list self.old asked reply actions self.new) }
-        ensures ignored { IsOutOfTurn self.old.awaited event → IfOk result (λ actions. actions ≡ []) }
+        ensures ignored { IsOutOfTurn self.old.awaited event →
+            IfOk result (λ actions. actions ≡ []) }
         ensures kept { IsOutOfTurn self.old.awaited event → OnOk result (self.new ≡ self.old) }
         ensures writable { IsSound event → IfOk result (All IsWritable) }
     {

@@ -80,6 +80,13 @@ const STORED: &[u8] = b"\x04\x00\x00\x00\x00\x6e\x00\x00\x00\x6a\x01\x03\
     \x00\x00\x00\x08\x02\x00\x00\x00\x01\x01\x00\x00\x00\x09\x02\x00\x00\x00\x00\x00\
     \x00\x00\x00\x10\x0a\x00\x00\x001.2.1.1.1\x00";
 
+// What is asked for the image, before its bytes.
+const ASKED: &[u8] = b"gate store 1.2.1.1.1";
+
+const CT: &[u8] = b"1.2.840.10008.5.1.4.1.1.2\x00";
+
+const ECHO_CLASS: &[u8] = b"1.2.840.10008.1.1\x00";
+
 fn joined(alloc: Global, parts: &[&[u8]]) -> Result<Vec<u8>, AllocError> {
     let mut out = Vec::new(alloc);
     for part in parts {
@@ -95,16 +102,18 @@ fn pdu(alloc: Global, code: u8, body: &[&[u8]]) -> Result<Vec<u8>, AllocError> {
     joined(alloc, &[&[code, 0, a, b, c, d], body.as_slice()])
 }
 
-/// A value: a context's ID, the control bits and a fragment.
-fn value(alloc: Global, context: u8, control: u8, fragment: &[u8]) -> Result<Vec<u8>, AllocError> {
-    let [_, _, _, _, a, b, c, d] = (fragment.len() as u64).saturating_add(2).to_be_bytes();
-    joined(alloc, &[&[a, b, c, d, context, control], fragment])
-}
+/// A value of a P-DATA-TF: a context's ID, the control bits and a fragment.
+type Value<'a> = (u8, u8, &'a [u8]);
 
-/// A P-DATA-TF with one value.
-fn data(alloc: Global, context: u8, control: u8, fragment: &[u8]) -> Result<Vec<u8>, AllocError> {
-    let value = value(alloc, context, control, fragment)?;
-    pdu(alloc, 4, &[value.as_slice()])
+/// A P-DATA-TF with these values.
+fn data(alloc: Global, values: &[Value<'_>]) -> Result<Vec<u8>, AllocError> {
+    let mut body = Vec::new(alloc);
+    for (context, control, fragment) in values {
+        let [_, _, _, _, a, b, c, d] = (fragment.len() as u64).saturating_add(2).to_be_bytes();
+        body.extend_from_slice(&[a, b, c, d, *context, *control])?;
+        body.extend_from_slice(fragment)?;
+    }
+    pdu(alloc, 4, &[body.as_slice()])
 }
 
 fn titles(alloc: Global) -> Result<Titles<()>, AllocError> {
@@ -132,12 +141,10 @@ fn told_by(alloc: Global, action: &SessionAction) -> Result<Vec<u8>, AllocError>
         SessionAction::Send(pdu) => write_pdu(alloc, pdu),
         SessionAction::Close => joined(alloc, &[b"close "]),
         SessionAction::Reach(_) => joined(alloc, &[b"gate "]),
-        SessionAction::Store(content) => {
-            joined(
-                alloc,
-                &[b"store ", content.instance(), content.body().as_slice()],
-            )
-        }
+        SessionAction::Store(content) => joined(
+            alloc,
+            &[b"store ", content.instance(), content.body().as_slice()],
+        ),
     }
 }
 
@@ -161,6 +168,12 @@ fn heard(alloc: Global, session: &mut Session, bytes: &[u8]) -> Result<Vec<u8>, 
     told(alloc, session, event)
 }
 
+/// What a session asks on these values.
+fn said(alloc: Global, session: &mut Session, values: &[Value<'_>]) -> Result<Vec<u8>, Fail> {
+    let data = data(alloc, values)?;
+    heard(alloc, session, data.as_slice())
+}
+
 /// What a session asks on a reply of the port.
 fn replied(alloc: Global, session: &mut Session, reply: Reply) -> Result<Vec<u8>, Fail> {
     told(alloc, session, SessionEvent::Replied(reply))
@@ -174,134 +187,166 @@ fn opened(alloc: Global, contexts: &[u8], user: &[u8]) -> Result<Session, Fail> 
     Ok(session)
 }
 
-/// What a session asks on a message without a data set.
-fn said(
+fn is(
+    rt: &impl Abort,
+    alloc: Global,
+    text: &[u8],
+    wanted: &[&[u8]],
+    why: &str,
+) -> Result<(), Fail> {
+    let wanted = joined(alloc, wanted)?;
+    assert_eq!(rt; text, wanted.as_slice(), "{why}");
+    Ok(())
+}
+
+/// On a PDU a session asks this.
+fn hears(
+    rt: &impl Abort,
     alloc: Global,
     session: &mut Session,
-    context: u8,
-    command: &[u8],
-) -> Result<Vec<u8>, Fail> {
-    let data = data(alloc, context, 3, command)?;
-    heard(alloc, session, data.as_slice())
+    bytes: &[u8],
+    wanted: &[&[u8]],
+    why: &str,
+) -> Result<(), Fail> {
+    let text = heard(alloc, session, bytes)?;
+    is(rt, alloc, text.as_slice(), wanted, why)
 }
 
-/// What a session asks on a message with a data set, in one P-DATA-TF.
-fn brought(
+/// On these values a session asks this.
+fn answers(
+    rt: &impl Abort,
     alloc: Global,
     session: &mut Session,
-    context: u8,
-    command: &[u8],
-    body: &[u8],
-) -> Result<Vec<u8>, Fail> {
-    let command = value(alloc, context, 3, command)?;
-    let body = value(alloc, context, 2, body)?;
-    let data = pdu(alloc, 4, &[command.as_slice(), body.as_slice()])?;
-    heard(alloc, session, data.as_slice())
+    values: &[Value<'_>],
+    wanted: &[&[u8]],
+    why: &str,
+) -> Result<(), Fail> {
+    let text = said(alloc, session, values)?;
+    is(rt, alloc, text.as_slice(), wanted, why)
 }
 
-/// An element of a command set, of at most 255 bytes.
-fn element(alloc: Global, number: [u8; 2], value: &[u8]) -> Result<Vec<u8>, AllocError> {
-    let [a, b] = number;
-    let [size, _, _, _, _, _, _, _] = (value.len() as u64).to_le_bytes();
-    joined(alloc, &[&[0, 0, a, b, size, 0, 0, 0], value])
-}
-
-/// A command set of this class and this field, with message ID 7 and no data set.
-fn command(alloc: Global, class: &[u8], field: [u8; 2]) -> Result<Vec<u8>, AllocError> {
-    let class = element(alloc, [0x02, 0x00], class)?;
-    let rest = unclassed(alloc, field)?;
-    joined(alloc, &[class.as_slice(), rest.as_slice()])
-}
-
-/// The same without a class.
-fn unclassed(alloc: Global, field: [u8; 2]) -> Result<Vec<u8>, AllocError> {
-    let field = element(alloc, [0x00, 0x01], &field)?;
-    let numbers =
-        b"\x00\x00\x10\x01\x02\x00\x00\x00\x07\x00\x00\x00\x00\x08\x02\x00\x00\x00\x01\x01";
-    joined(alloc, &[field.as_slice(), numbers])
-}
-
-/// The status that a response tells, or 1 where there is none.
-fn status_in(text: &[u8]) -> u16 {
-    let mut rest = text;
-    while let [_, others @ ..] = rest {
-        if let [0, 0, 0, 9, 2, 0, 0, 0, low, high, ..] = rest {
-            return u16::from_le_bytes([*low, *high]);
-        }
-        rest = others;
-    }
-    1
-}
-
-/// The response to the C-STORE, with this status.
-fn stored(alloc: Global, status: [u8; 2]) -> Result<Vec<u8>, AllocError> {
-    joined(alloc, &[&STORED[..96], &status, &STORED[98..]])
-}
-
-/// What is asked for the image.
-fn asked(alloc: Global) -> Result<Vec<u8>, AllocError> {
-    joined(alloc, &[b"gate store 1.2.1.1.1", IMAGE])
+/// On a reply a session asks this.
+fn resumes(
+    rt: &impl Abort,
+    alloc: Global,
+    session: &mut Session,
+    reply: Reply,
+    wanted: &[&[u8]],
+    why: &str,
+) -> Result<(), Fail> {
+    let text = replied(alloc, session, reply)?;
+    is(rt, alloc, text.as_slice(), wanted, why)
 }
 
 #[test]
-fn an_association_is_accepted_and_released(rt: HostRuntime) -> Result<(), Fail> {
+fn an_association_is_accepted(rt: HostRuntime) -> Result<(), Fail> {
     let mut session = Session::new(rt.alloc());
     assert_eq!(rt; session.state(), State::Sta2, "a request is awaited");
     let request = pdu(rt.alloc(), 1, &[OPENING, VERIFICATION, USER])?;
-    let answer = heard(rt.alloc(), &mut session, request.as_slice())?;
-    let wanted = pdu(rt.alloc(), 2, &[OPENING, ACCEPTED])?;
-    assert_eq!(rt; answer.as_slice(), wanted.as_slice(), "the acceptance");
-    let answer = heard(rt.alloc(), &mut session, RELEASE)?;
-    assert_eq!(rt; answer.as_slice(), RELEASED, "the release");
-    assert!(rt; session.is_released() && !session.is_aborted(), "released");
-    assert_eq!(rt; session.state(), State::Sta13, "the peer is to close");
+    let wanted: [&[u8]; 3] = [b"\x02\x00\x00\x00\x00\x95", OPENING, ACCEPTED];
+    hears(
+        &rt,
+        rt.alloc(),
+        &mut session,
+        request.as_slice(),
+        &wanted,
+        "the acceptance",
+    )?;
+    assert_eq!(rt; session.state(), State::Sta6, "established");
     Ok(())
 }
 
 #[test]
 fn an_echo_is_answered(rt: HostRuntime) -> Result<(), Fail> {
     let mut session = opened(rt.alloc(), VERIFICATION, USER)?;
-    let answer = said(rt.alloc(), &mut session, 1, ECHO)?;
-    assert_eq!(rt; answer.as_slice(), ECHOED, "a success, with its message ID");
+    answers(
+        &rt,
+        rt.alloc(),
+        &mut session,
+        &[(1, 3, ECHO)],
+        &[ECHOED],
+        "with its message ID",
+    )?;
+    hears(
+        &rt,
+        rt.alloc(),
+        &mut session,
+        RELEASE,
+        &[RELEASED],
+        "and a release",
+    )?;
+    assert!(rt; session.is_released() && !session.is_aborted(), "released");
     Ok(())
 }
 
 #[test]
 fn a_store_comes_in_fragments(rt: HostRuntime) -> Result<(), Fail> {
     let mut session = opened(rt.alloc(), STORAGE, USER)?;
-    let answer = said(rt.alloc(), &mut session, 1, STORE)?;
-    assert_eq!(rt; answer.len(), 0, "a data set is announced");
     fed(&rt, rt.alloc(), &mut session)?;
     let last = b"\x04\x00\x00\x00\x00\x06\x00\x00\x00\x02\x01\x02";
-    let answer = heard(rt.alloc(), &mut session, last)?;
-    let wanted = asked(rt.alloc())?;
-    assert_eq!(rt;
-        answer.as_slice(),
-        wanted.as_slice(),
-        "the gate and then the port"
-    );
-    let answer = replied(rt.alloc(), &mut session, Ok(Taken::New))?;
-    assert_eq!(rt; answer.as_slice(), STORED, "a success");
+    hears(
+        &rt,
+        rt.alloc(),
+        &mut session,
+        last,
+        &[ASKED, IMAGE],
+        "the gate and then the port",
+    )?;
+    resumes(
+        &rt,
+        rt.alloc(),
+        &mut session,
+        Ok(Taken::New),
+        &[STORED],
+        "a success",
+    )?;
     Ok(())
 }
 
-/// Two fragments of the image, none of them the last.
+/// A C-STORE with two fragments of its data set, none of them the last.
 fn fed(rt: &impl Abort, alloc: Global, session: &mut Session) -> Result<(), Fail> {
-    let first = data(alloc, 1, 0, &IMAGE[..50])?;
-    let answer = heard(alloc, session, first.as_slice())?;
-    assert_eq!(rt; answer.len(), 0, "the first fragment");
-    let second = data(alloc, 1, 0, &IMAGE[50..])?;
-    let answer = heard(alloc, session, second.as_slice())?;
-    assert_eq!(rt; answer.len(), 0, "the second fragment");
-    Ok(())
+    answers(
+        rt,
+        alloc,
+        session,
+        &[(1, 3, STORE)],
+        &[],
+        "a data set is announced",
+    )?;
+    answers(
+        rt,
+        alloc,
+        session,
+        &[(1, 0, &IMAGE[..50])],
+        &[],
+        "the first fragment",
+    )?;
+    answers(
+        rt,
+        alloc,
+        session,
+        &[(1, 0, &IMAGE[50..])],
+        &[],
+        "the second fragment",
+    )
 }
 
 /// The status of a C-STORE that the port replied to so.
 fn status_replied(alloc: Global, reply: Reply) -> Result<u16, Fail> {
     let mut session = opened(alloc, STORAGE, USER)?;
-    brought(alloc, &mut session, 1, STORE, IMAGE)?;
-    let answer = replied(alloc, &mut session, reply)?;
-    Ok(status_in(answer.as_slice()))
+    said(alloc, &mut session, &[(1, 3, STORE), (1, 2, IMAGE)])?;
+    let text = replied(alloc, &mut session, reply)?;
+    Ok(status_in(text.as_slice()))
+}
+
+/// The status that a response tells, or 1 where there is none.
+fn status_in(text: &[u8]) -> u16 {
+    for place in 0..text.len() {
+        if let [0, 0, 0, 9, 2, 0, 0, 0, low, high, ..] = &text[place..] {
+            return u16::from_le_bytes([*low, *high]);
+        }
+    }
+    1
 }
 
 #[test]
@@ -334,108 +379,124 @@ fn faults_of_a_port_have_their_numbers(rt: HostRuntime) {
     }
 }
 
-/// The status that a message without a data set is answered with.
-fn status_said(alloc: Global, context: u8, command: &[u8]) -> Result<u16, Fail> {
+/// A command set of this class and this field, with message ID 7 and no data set.
+fn command(alloc: Global, class: &[u8], low: u8, high: u8) -> Result<Vec<u8>, AllocError> {
+    let [size, _, _, _, _, _, _, _] = (class.len() as u64).to_le_bytes();
+    joined(
+        alloc,
+        &[
+            &[0, 0, 2, 0, size, 0, 0, 0],
+            class,
+            &[0, 0, 0, 1, 2, 0, 0, 0, low, high],
+            UNCLASSED,
+        ],
+    )
+}
+
+// Message ID 7, and no data set.
+const UNCLASSED: &[u8] =
+    b"\x00\x00\x10\x01\x02\x00\x00\x00\x07\x00\x00\x00\x00\x08\x02\x00\x00\x00\x01\x01";
+
+/// The status of a request of this class and this field on a context.
+fn status_of(alloc: Global, context: u8, class: &[u8], low: u8, high: u8) -> Result<u16, Fail> {
     let mut session = opened(alloc, STORAGE, USER)?;
-    let answer = said(alloc, &mut session, context, command)?;
-    Ok(status_in(answer.as_slice()))
+    let command = command(alloc, class, low, high)?;
+    let text = said(alloc, &mut session, &[(context, 3, command.as_slice())])?;
+    Ok(status_in(text.as_slice()))
 }
-
-/// What a command set of this class and this field is answered with on a context.
-fn refused(
-    rt: &impl Abort,
-    alloc: Global,
-    context: u8,
-    class: &[u8],
-    field: [u8; 2],
-    wanted: u16,
-) -> Result<(), Fail> {
-    let command = command(alloc, class, field)?;
-    let status = status_said(alloc, context, command.as_slice())?;
-    assert_eq!(rt; status, wanted, "field {field:?} on context {context}");
-    Ok(())
-}
-
-const CT: &[u8] = b"1.2.840.10008.5.1.4.1.1.2\x00";
-
-const ECHO_CLASS: &[u8] = b"1.2.840.10008.1.1\x00";
 
 #[test]
 fn services_are_refused(rt: HostRuntime) -> Result<(), Fail> {
-    refused(&rt, rt.alloc(), 3, CT, [0x20, 0x00], 0x0211)?;
-    refused(&rt, rt.alloc(), 1, CT, [0x10, 0x00], 0x0211)?;
-    refused(&rt, rt.alloc(), 1, CT, [0x40, 0x01], 0x0211)?;
-    refused(&rt, rt.alloc(), 1, ECHO_CLASS, [0x40, 0x01], 0x0122)?;
-    Ok(())
-}
-
-#[test]
-fn an_echo_has_its_own_contexts(rt: HostRuntime) -> Result<(), Fail> {
-    refused(&rt, rt.alloc(), 1, CT, [0x30, 0x00], 0x0211)?;
-    refused(&rt, rt.alloc(), 1, ECHO_CLASS, [0x30, 0x00], 0x0122)?;
-    refused(&rt, rt.alloc(), 3, ECHO_CLASS, [0x30, 0x00], 0x0000)?;
+    let rows: [(u8, &[u8], u8, u8, u16); 7] = [
+        (3, CT, 0x20, 0x00, 0x0211),
+        (1, CT, 0x10, 0x00, 0x0211),
+        (1, CT, 0x40, 0x01, 0x0211),
+        (1, ECHO_CLASS, 0x40, 0x01, 0x0122),
+        (1, CT, 0x30, 0x00, 0x0211),
+        (1, ECHO_CLASS, 0x30, 0x00, 0x0122),
+        (3, ECHO_CLASS, 0x30, 0x00, 0x0000),
+    ];
+    for (context, class, low, high, wanted) in rows {
+        let status = status_of(rt.alloc(), context, class, low, high)?;
+        assert_eq!(rt; status, wanted, "field {high}, {low} on {context}");
+    }
     Ok(())
 }
 
 #[test]
 fn a_request_without_a_class_is_answered_without_it(rt: HostRuntime) -> Result<(), Fail> {
     let mut session = opened(rt.alloc(), STORAGE, USER)?;
-    let command = unclassed(rt.alloc(), [0x40, 0x01])?;
-    let answer = said(rt.alloc(), &mut session, 1, command.as_slice())?;
+    let create = b"\x00\x00\x00\x01\x02\x00\x00\x00\x40\x01\
+        \x00\x00\x10\x01\x02\x00\x00\x00\x07\x00\x00\x00\x00\x08\x02\x00\x00\x00\x01\x01";
     let wanted = b"\x04\x00\x00\x00\x00\x3a\x00\x00\x00\x36\x01\x03\
         \x00\x00\x00\x00\x04\x00\x00\x00\x28\x00\x00\x00\
         \x00\x00\x00\x01\x02\x00\x00\x00\x40\x81\x00\x00\x20\x01\x02\x00\x00\x00\x07\x00\
         \x00\x00\x00\x08\x02\x00\x00\x00\x01\x01\x00\x00\x00\x09\x02\x00\x00\x00\x11\x02";
-    assert_eq!(rt;
-        answer.as_slice(),
-        wanted.as_slice(),
-        "unrecognized operation"
-    );
-    Ok(())
+    answers(
+        &rt,
+        rt.alloc(),
+        &mut session,
+        &[(1, 3, create)],
+        &[wanted],
+        "unrecognized",
+    )
 }
 
-/// The response to a C-STORE that is refused, and its status.
-fn store_refused(alloc: Global, command: &[u8], body: &[u8]) -> Result<u16, Fail> {
+/// The status of a C-STORE with this data set.
+fn status_stored(alloc: Global, command: &[&[u8]], body: &[&[u8]]) -> Result<u16, Fail> {
     let mut session = opened(alloc, STORAGE, USER)?;
-    let answer = brought(alloc, &mut session, 1, command, body)?;
-    Ok(status_in(answer.as_slice()))
+    let command = joined(alloc, command)?;
+    let body = joined(alloc, body)?;
+    let values = [(1, 3, command.as_slice()), (1, 2, body.as_slice())];
+    let text = said(alloc, &mut session, &values)?;
+    Ok(status_in(text.as_slice()))
 }
 
 #[test]
 fn a_data_set_that_is_no_content_is_refused(rt: HostRuntime) -> Result<(), Fail> {
-    let other = joined(rt.alloc(), &[&IMAGE[..50], b"2", &IMAGE[51..]])?;
-    let status = store_refused(rt.alloc(), STORE, other.as_slice())?;
+    let other = [&IMAGE[..50], b"2", &IMAGE[51..]];
+    let status = status_stored(rt.alloc(), &[STORE], &other)?;
     assert_eq!(rt; status, 0xA900, "another instance");
-    let status = store_refused(rt.alloc(), STORE, b"no data set")?;
+    let status = status_stored(rt.alloc(), &[STORE], &[b"no data set"])?;
     assert_eq!(rt; status, 0xC000, "no data set");
     Ok(())
 }
 
 #[test]
 fn a_store_needs_its_class_and_its_data_set(rt: HostRuntime) -> Result<(), Fail> {
-    let other = joined(rt.alloc(), &[&STORE[..44], b"4", &STORE[45..]])?;
-    let status = store_refused(rt.alloc(), other.as_slice(), IMAGE)?;
+    let other = [&STORE[..44], b"4", &STORE[45..]];
+    let status = status_stored(rt.alloc(), &other, &[IMAGE])?;
     assert_eq!(rt; status, 0x0122, "another class");
-    let bare = joined(rt.alloc(), &[&STORE[..84], b"\x01\x01", &STORE[86..]])?;
-    let mut session = opened(rt.alloc(), STORAGE, USER)?;
-    let answer = said(rt.alloc(), &mut session, 1, bare.as_slice())?;
-    let wanted = stored(rt.alloc(), [0x00, 0xC0])?;
-    assert_eq!(rt; answer.as_slice(), wanted.as_slice(), "none is announced");
-    Ok(())
+    announces_nothing(&rt, rt.alloc())
+}
+
+fn announces_nothing(rt: &impl Abort, alloc: Global) -> Result<(), Fail> {
+    let mut session = opened(alloc, STORAGE, USER)?;
+    let bare = joined(alloc, &[&STORE[..84], b"\x01\x01", &STORE[86..]])?;
+    let wanted: [&[u8]; 3] = [&STORED[..96], b"\x00\xC0", &STORED[98..]];
+    let values = [(1, 3, bare.as_slice())];
+    answers(
+        rt,
+        alloc,
+        &mut session,
+        &values,
+        &wanted,
+        "none is announced",
+    )
 }
 
 #[test]
 fn a_response_that_nobody_awaits_is_an_offence(rt: HostRuntime) -> Result<(), Fail> {
     let mut session = opened(rt.alloc(), VERIFICATION, USER)?;
-    let response = value(rt.alloc(), 1, 3, &ECHOED[12..])?;
-    let echo = value(rt.alloc(), 1, 3, ECHO)?;
-    let data = pdu(rt.alloc(), 4, &[response.as_slice(), echo.as_slice()])?;
-    let answer = heard(rt.alloc(), &mut session, data.as_slice())?;
-    assert_eq!(rt;
-        answer.as_slice(),
-        ABORT,
-        "and what stands behind it is dropped"
-    );
+    let values = [(1, 3, &ECHOED[12..]), (1, 3, ECHO)];
+    answers(
+        &rt,
+        rt.alloc(),
+        &mut session,
+        &values,
+        &[ABORT],
+        "what stands behind is dropped",
+    )?;
     assert!(rt; session.is_aborted(), "aborted");
     assert_eq!(rt; session.state(), State::Sta13, "the peer is to close");
     Ok(())
@@ -444,17 +505,15 @@ fn a_response_that_nobody_awaits_is_an_offence(rt: HostRuntime) -> Result<(), Fa
 #[test]
 fn what_stands_before_an_offence_is_answered(rt: HostRuntime) -> Result<(), Fail> {
     let mut session = opened(rt.alloc(), VERIFICATION, USER)?;
-    let echo = value(rt.alloc(), 1, 3, ECHO)?;
-    let other = value(rt.alloc(), 9, 3, ECHO)?;
-    let data = pdu(rt.alloc(), 4, &[echo.as_slice(), other.as_slice()])?;
-    let answer = heard(rt.alloc(), &mut session, data.as_slice())?;
-    let wanted = joined(rt.alloc(), &[ECHOED, ABORT])?;
-    assert_eq!(rt;
-        answer.as_slice(),
-        wanted.as_slice(),
-        "a context that was not accepted"
-    );
-    Ok(())
+    let values = [(1, 3, ECHO), (9, 3, ECHO)];
+    answers(
+        &rt,
+        rt.alloc(),
+        &mut session,
+        &values,
+        &[ECHOED, ABORT],
+        "on a context that was not accepted",
+    )
 }
 
 #[test]
@@ -462,73 +521,95 @@ fn a_cancel_is_passed_over(rt: HostRuntime) -> Result<(), Fail> {
     let mut session = opened(rt.alloc(), VERIFICATION, USER)?;
     let cancel = b"\x00\x00\x00\x01\x02\x00\x00\x00\xFF\x0F\x00\x00\x20\x01\x02\x00\x00\x00\x01\x00\
         \x00\x00\x00\x08\x02\x00\x00\x00\x01\x01";
-    let answer = said(rt.alloc(), &mut session, 1, cancel)?;
-    assert_eq!(rt; answer.len(), 0, "no response");
-    let answer = said(rt.alloc(), &mut session, 1, ECHO)?;
-    assert_eq!(rt; answer.as_slice(), ECHOED, "and the association goes on");
-    Ok(())
-}
-
-/// Two stores of the image in one P-DATA-TF.
-fn two_stores(alloc: Global) -> Result<Vec<u8>, AllocError> {
-    let command = value(alloc, 1, 3, STORE)?;
-    let body = value(alloc, 1, 2, IMAGE)?;
-    let parts = [
-        command.as_slice(),
-        body.as_slice(),
-        command.as_slice(),
-        body.as_slice(),
-    ];
-    pdu(alloc, 4, &parts)
+    answers(
+        &rt,
+        rt.alloc(),
+        &mut session,
+        &[(1, 3, cancel)],
+        &[],
+        "no response",
+    )?;
+    answers(
+        &rt,
+        rt.alloc(),
+        &mut session,
+        &[(1, 3, ECHO)],
+        &[ECHOED],
+        "and it goes on",
+    )
 }
 
 #[test]
 fn a_store_waits_for_the_reply_to_the_one_before(rt: HostRuntime) -> Result<(), Fail> {
     let mut session = opened(rt.alloc(), STORAGE, USER)?;
-    let stores = two_stores(rt.alloc())?;
-    let answer = heard(rt.alloc(), &mut session, stores.as_slice())?;
-    let asked = asked(rt.alloc())?;
-    assert_eq!(rt;
-        answer.as_slice(),
-        asked.as_slice(),
-        "the first is asked alone"
-    );
-    let answer = replied(rt.alloc(), &mut session, Ok(Taken::New))?;
-    let wanted = joined(rt.alloc(), &[STORED, asked.as_slice()])?;
-    assert_eq!(rt;
-        answer.as_slice(),
-        wanted.as_slice(),
-        "its response, and the second"
-    );
-    let answer = replied(rt.alloc(), &mut session, Err(PortFault::Busy))?;
-    let wanted = stored(rt.alloc(), [0x00, 0xA7])?;
-    assert_eq!(rt; answer.as_slice(), wanted.as_slice(), "the second response");
-    Ok(())
+    let values = [(1, 3, STORE), (1, 2, IMAGE), (1, 3, STORE), (1, 2, IMAGE)];
+    answers(
+        &rt,
+        rt.alloc(),
+        &mut session,
+        &values,
+        &[ASKED, IMAGE],
+        "the first alone",
+    )?;
+    let wanted: [&[u8]; 3] = [STORED, ASKED, IMAGE];
+    resumes(
+        &rt,
+        rt.alloc(),
+        &mut session,
+        Ok(Taken::New),
+        &wanted,
+        "and then the second",
+    )?;
+    let wanted: [&[u8]; 3] = [&STORED[..96], b"\x00\xA7", &STORED[98..]];
+    resumes(
+        &rt,
+        rt.alloc(),
+        &mut session,
+        Err(PortFault::Busy),
+        &wanted,
+        "its response",
+    )
 }
 
 #[test]
 fn what_is_out_of_turn_is_passed_over(rt: HostRuntime) -> Result<(), Fail> {
     let mut session = opened(rt.alloc(), STORAGE, USER)?;
-    let answer = replied(rt.alloc(), &mut session, Ok(Taken::New))?;
-    assert_eq!(rt; answer.len(), 0, "a reply to nothing");
-    brought(rt.alloc(), &mut session, 1, STORE, IMAGE)?;
-    let answer = heard(rt.alloc(), &mut session, RELEASE)?;
-    assert_eq!(rt; answer.len(), 0, "a PDU while a reply is awaited");
-    let answer = replied(rt.alloc(), &mut session, Ok(Taken::Known))?;
-    assert_eq!(rt; answer.as_slice(), STORED, "the reply");
-    Ok(())
+    resumes(
+        &rt,
+        rt.alloc(),
+        &mut session,
+        Ok(Taken::New),
+        &[],
+        "a reply to nothing",
+    )?;
+    said(rt.alloc(), &mut session, &[(1, 3, STORE), (1, 2, IMAGE)])?;
+    hears(
+        &rt,
+        rt.alloc(),
+        &mut session,
+        RELEASE,
+        &[],
+        "a PDU while a reply is awaited",
+    )?;
+    resumes(
+        &rt,
+        rt.alloc(),
+        &mut session,
+        Ok(Taken::Known),
+        &[STORED],
+        "the reply",
+    )
 }
 
 #[test]
 fn a_response_is_cut_to_the_limit_of_the_peer(rt: HostRuntime) -> Result<(), Fail> {
     let mut session = opened(rt.alloc(), VERIFICATION, NARROW)?;
-    let answer = said(rt.alloc(), &mut session, 1, ECHO)?;
+    let text = said(rt.alloc(), &mut session, &[(1, 3, ECHO)])?;
     // Five fragments of 14 bytes and one of 8, each with two headers of 6 bytes.
-    assert_eq!(rt; answer.len(), 78 + 6 * 12, "six PDUs");
-    let first = b"\x04\x00\x00\x00\x00\x14\x00\x00\x00\x10\x01\x01";
-    assert_eq!(rt;
-        &answer.as_slice()[..12],
-        first.as_slice(),
+    assert_eq!(rt; text.len(), 78 + 6 * 12, "six PDUs");
+    assert!(rt;
+        text.as_slice()
+            .starts_with(b"\x04\x00\x00\x00\x00\x14\x00\x00\x00\x10\x01\x01"),
         "none is longer"
     );
     Ok(())
@@ -537,10 +618,21 @@ fn a_response_is_cut_to_the_limit_of_the_peer(rt: HostRuntime) -> Result<(), Fai
 #[test]
 fn an_abort_of_the_peer_closes(rt: HostRuntime) -> Result<(), Fail> {
     let mut session = opened(rt.alloc(), VERIFICATION, USER)?;
-    let answer = heard(rt.alloc(), &mut session, ABORT)?;
-    assert_eq!(rt; answer.as_slice(), b"close ".as_slice(), "the connection");
+    hears(
+        &rt,
+        rt.alloc(),
+        &mut session,
+        ABORT,
+        &[b"close "],
+        "the connection",
+    )?;
     assert!(rt; session.is_aborted(), "aborted");
-    let answer = said(rt.alloc(), &mut session, 1, ECHO)?;
-    assert_eq!(rt; answer.len(), 0, "nothing more");
-    Ok(())
+    answers(
+        &rt,
+        rt.alloc(),
+        &mut session,
+        &[(1, 3, ECHO)],
+        &[],
+        "nothing more",
+    )
 }

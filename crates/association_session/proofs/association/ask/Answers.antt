@@ -1,5 +1,5 @@
-use Rattle.std.proofs.Common.{◌≡◌, ◌<◌, ◌∙◌, sym, ap, subst, List, Option, length, arith}
-use Rattle.std.specs.Prelude.{All, IsSome, option_to_list}
+use Rattle.std.proofs.Common.{◌≡◌, ◌∙◌, sym, ap, subst, List, length, arith}
+use Rattle.std.specs.Prelude.{All, option_to_list}
 use Rattle.ul_state.specs.declared.event.Action.{Action}
 use Rattle.ul_state.specs.Acceptor.{CanBeWritten}
 use Rattle.association_session.specs.Saying.{action_on}

@@ -1,4 +1,4 @@
-use Rattle.std.proofs.Common.{◌≡◌, ◌∙◌, sym, ap, subst, ℕ, Bool, List, Option}
+use Rattle.std.proofs.Common.{◌≡◌, ◌∙◌, sym, ap, subst, ℕ, Bool, Option}
 use Rattle.std.specs.Prelude.{IsTrue, ◌||◌}
 use Rattle.ul_state.specs.declared.event.Action.{Action}
 use Rattle.ul_state.specs.declared.acceptor.Acceptor.{Acceptor}

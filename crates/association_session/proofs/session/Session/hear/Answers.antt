@@ -1,4 +1,4 @@
-use Rattle.std.proofs.Common.{◌≡◌, ◌∙◌, sym, ap, subst, List}
+use Rattle.std.proofs.Common.{sym, subst}
 use Rattle.ul_state.specs.declared.event.Event.{Event}
 use Rattle.ul_state.specs.Acceptor.{HasLawfulPdu}
 use Rattle.association_session.proofs.QueueLaws.{turned_in, turned_writable, on_ok_map}

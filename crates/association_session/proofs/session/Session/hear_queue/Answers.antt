@@ -1,8 +1,7 @@
-use Rattle.std.proofs.Common.{◌≡◌, ◌∷◌, ◌++◌, ◌∙◌, sym, ap, subst, List, Option, Some}
-use Rattle.std.specs.Prelude.{All, option_to_list}
+use Rattle.std.proofs.Common.{◌≡◌, ◌∷◌, ◌++◌, ◌∙◌, ap, subst, List, Option}
+use Rattle.std.specs.Prelude.{option_to_list}
 use Rattle.pdu.specs.declared.pdv.Pdv.{Pdv}
 use Rattle.association_session.specs.declared.association.Outcome.{Outcome}
-use Rattle.association_session.specs.declared.association.Outcome.TheVariants.{Sent, Asked}
 use Rattle.association_session.specs.Response.{Awaited, CanBeResponded}
 use Rattle.association_session.specs.Hearing.{HearsAs, IsWritableOutcome}
 use Rattle.association_session.proofs.QueueLaws.{Progress, begins, goes_on, asks, asks_writable}

@@ -1,4 +1,4 @@
-use Rattle.std.proofs.Common.{◌≡◌, ◌∙◌, sym, ap, subst, refl, List}
+use Rattle.std.proofs.Common.{subst, refl}
 use Rattle.dimse.specs.declared.status.Status.{Status}
 use Rattle.association_session.specs.Response.{Responds}
 use Rattle.association_session.proofs.QueueLaws.{resumed, resumed_writable}
