@@ -28,7 +28,7 @@ use Rattle.association_session.specs.Saying.{Says}
 use Rattle.association_session.specs.Service.{status_of_reply}
 use Rattle.association_session.specs.Session.{Sitting, Hears, Resumes, Reaches, IsPlain, bytes_of, sent_bytes, asking}
 use Rattle.association_worker.specs.Port.{Stores, History}
-use Rattle.association_worker.specs.Parts.{Sides, IsFront, Did, Broke, Passed, moments_of}
+use Rattle.association_worker.specs.Parts.{Sides, sides, IsFront, Did, Broke, Passed, moments_of}
 use Rattle.association_worker.specs.Calls.{Answers, Told, TellingBroke, NotTold, Halfway, HeardWhole, HeardFront, moments_for}
 use Rattle.association_worker.proofs.Fronts.{further, nothing_written, all_front, no_front, take_front, front_behind, front_more, passed_none, passed_on}
 use Rattle.association_worker.proofs.RunLaws.{runs_on, history_on, moments_on}
@@ -97,11 +97,11 @@ resumed titles s us xs out content old reply actions new half r =
     let text = flat_map text_of r.response in
     let run = half.5 reply text (r.response, r.responded, refl) in
     let bytes : sent_bytes actions ≡ text ++ sent_bytes r.rest =
-        ap sent_bytes r.parts ∙ flat_map-append bytes_of (map Send r.response) r.rest ∙ ap (λ (t : List ℕ). t ++ sent_bytes r.rest) (sends_bytes r.response) in
+    ap sent_bytes r.parts ∙ flat_map-append bytes_of (map Send r.response) r.rest ∙ ap (λ (t : List ℕ). t ++ sent_bytes r.rest) (sends_bytes r.response) in
     subst (λ (t : List ℕ). Halfway titles s us (xs ++ record { content = content; reply = reply } ∷ []) t r.heard.call new)
     (append_assoc out text (sent_bytes r.rest) ∙ ap (λ (t : List ℕ). out ++ t) (sym bytes))
     (before titles s us (map Value old.queue) half.1 (xs ++ record { content = content; reply = reply } ∷ []) (out ++ text) old.standing (sent_bytes r.rest) r.heard.call new run half.4
-        (from_hears titles old.standing (map Value old.queue) r.rest new r.heard))
+    (from_hears titles old.standing (map Value old.queue) r.rest new r.heard))
 
 -- ---- what is heard somehow, where the rest of it is not
 
@@ -134,9 +134,6 @@ completed titles s us xs out (Some content) new half =
     }
 
 -- ---- with the port, the writer and the gate
-
-abbrev pub sides : {P : Type 0} → P → Option (List ℕ) → Option (List Moment) → Sides P
-sides port written reached = record { port = port; written = written; reached = reached }
 
 pub record Hearing {P : Type 0} (holds : P → Op → Type 0) (own : P → List (List ℕ)) (titles : TitleList) (old now : Sides P) (s : Standing) (us : List Heard) (call : Option ContentParts) (sitting : Sitting) : Type 0 where
   pub exchanges : List Exchange
@@ -199,35 +196,42 @@ module _ {P : Type 0} (holds : P → Op → Type 0) (own : P → List (List ℕ)
 
   pub fails_first : (p : P) (w0 w1 : Option (List ℕ)) (m0 m1 : Option (List Moment)) (old : Sitting) (e : Event) → old.awaited ≡ None
       → NotTold titles w0 w1 m0 m1 old (events.Heard e) → HeardFront holds own titles (sides p w0 m0) (sides p w1 m1) old.standing (heard_of e)
-  fails_first p w0 w1 m0 m1 old e idle (same, inl nothing) = ([], no_front (heard_of e), record {
-    exchanges = [];
-    out = [];
-    end = old.standing;
-    done = (refl, refl, refl);
-    made = [];
-    stores = all_front [];
-    history = refl;
-    wrote = [];
-    front = all_front [];
-    appended = nothing;
-    passed = subst (λ (k : Option (List Moment)). Passed m0 k []) (sym same) (passed_none m0);
-  })
+  fails_first p w0 w1 m0 m1 old e idle (same, inl nothing) = (
+    [],
+    no_front (heard_of e),
+    record {
+      exchanges = [];
+      out = [];
+      end = old.standing;
+      done = (refl, refl, refl);
+      made = [];
+      stores = all_front [];
+      history = refl;
+      wrote = [];
+      front = all_front [];
+      appended = nothing;
+      passed = subst (λ (k : Option (List Moment)). Passed m0 k []) (sym same) (passed_none m0);
+    },
+  )
   fails_first p w0 w1 m0 m1 old e idle (same, inr b) =
       let h = b.answered.0 e idle refl in
-      let k = completed titles old.standing (heard_of e) [] (sent_bytes b.actions) h.call b.new (from_hears titles old.standing (heard_of e) b.actions b.new h) in
-      (k.heard, k.first, record {
-        exchanges = k.more;
-        out = sent_bytes b.actions ++ k.text;
-        end = k.end;
-        done = k.run;
-        made = [];
-        stores = no_front k.more;
-        history = refl;
-        wrote = take b.count (sent_bytes b.actions);
-        front = front_more (take b.count (sent_bytes b.actions)) (sent_bytes b.actions) k.text (take_front b.count (sent_bytes b.actions));
-        appended = b.appended;
-        passed = subst (λ (k : Option (List Moment)). Passed m0 k []) (sym same) (passed_none m0);
-      })
+      let k = completed titles old.standing (heard_of e) [] (sent_bytes b.actions) h.call b.new (from_hears titles old.standing (heard_of e) b.actions b.new h) in (
+        k.heard,
+        k.first,
+        record {
+          exchanges = k.more;
+          out = sent_bytes b.actions ++ k.text;
+          end = k.end;
+          done = k.run;
+          made = [];
+          stores = no_front k.more;
+          history = refl;
+          wrote = take b.count (sent_bytes b.actions);
+          front = front_more (take b.count (sent_bytes b.actions)) (sent_bytes b.actions) k.text (take_front b.count (sent_bytes b.actions));
+          appended = b.appended;
+          passed = subst (λ (k : Option (List Moment)). Passed m0 k []) (sym same) (passed_none m0);
+        },
+      )
 
   pub fails_on : (old now : Sides P) (s : Standing) (us : List Heard) (content : ContentParts) (sitting : Sitting) (p : P) (reply : Result Taken PortFault) (w : Option (List ℕ)) (m : Option (List Moment))
       → Hearing holds own titles old now s us (Some content) sitting → Stores holds own now.port content reply p → NotTold titles now.written w now.reached m sitting (events.Replied reply)
@@ -235,38 +239,44 @@ module _ {P : Type 0} (holds : P → Op → Type 0) (own : P → List (List ℕ)
   fails_on old now s us content sitting p reply w m h stores (same, inl nothing) =
       let x : Exchange = record { content = content; reply = reply } in
       let half = h.halfway in
-      let response = each_has_a_response half.0 (status_of_reply reply) half.3.limit.0 in
-      (half.1, (map Value sitting.queue, half.4), record {
-        exchanges = h.exchanges ++ x ∷ [];
-        out = h.out ++ response.0;
-        end = sitting.standing;
-        done = half.5 reply response.0 response.1;
-        made = h.exchanges ++ x ∷ [];
-        stores = all_front (h.exchanges ++ x ∷ []);
-        history = history_on holds own old.port h.exchanges now.port (x ∷ []) p h.history (p, stores, refl);
-        wrote = h.out;
-        front = (response.0, refl);
-        appended = subst (λ (t : List ℕ). Appends old.written w t) (append-nil h.out) (further old.written now.written w h.out [] h.appended nothing);
-        passed = subst (λ (k : Option (List Moment)). Passed old.reached k (moments_of (h.exchanges ++ x ∷ []))) (sym same) (subst (λ (t : List Moment). Passed old.reached now.reached t) (one_moment h.exchanges x content) h.passed);
-      })
+      let response = each_has_a_response half.0 (status_of_reply reply) half.3.limit.0 in (
+        half.1,
+        (map Value sitting.queue, half.4),
+        record {
+          exchanges = h.exchanges ++ x ∷ [];
+          out = h.out ++ response.0;
+          end = sitting.standing;
+          done = half.5 reply response.0 response.1;
+          made = h.exchanges ++ x ∷ [];
+          stores = all_front (h.exchanges ++ x ∷ []);
+          history = history_on holds own old.port h.exchanges now.port (x ∷ []) p h.history (p, stores, refl);
+          wrote = h.out;
+          front = (response.0, refl);
+          appended = subst (λ (t : List ℕ). Appends old.written w t) (append-nil h.out) (further old.written now.written w h.out [] h.appended nothing);
+          passed = subst (λ (k : Option (List Moment)). Passed old.reached k (moments_of (h.exchanges ++ x ∷ []))) (sym same) (subst (λ (t : List Moment). Passed old.reached now.reached t) (one_moment h.exchanges x content) h.passed);
+        },
+      )
   fails_on old now s us content sitting p reply w m h stores (same, inr b) =
       let x : Exchange = record { content = content; reply = reply } in
       let r = b.answered.1 h.halfway.0 reply h.halfway.2 refl in
       let all = sent_bytes b.actions in
-      let k = completed titles s us (h.exchanges ++ x ∷ []) (h.out ++ all) r.heard.call b.new (resumed titles s us h.exchanges h.out content sitting reply b.actions b.new h.halfway r) in
-      (k.heard, k.first, record {
-        exchanges = (h.exchanges ++ x ∷ []) ++ k.more;
-        out = (h.out ++ all) ++ k.text;
-        end = k.end;
-        done = k.run;
-        made = h.exchanges ++ x ∷ [];
-        stores = (k.more, refl);
-        history = history_on holds own old.port h.exchanges now.port (x ∷ []) p h.history (p, stores, refl);
-        wrote = h.out ++ take b.count all;
-        front = front_more (h.out ++ take b.count all) (h.out ++ all) k.text (front_behind h.out (take b.count all) all (take_front b.count all));
-        appended = further old.written now.written w h.out (take b.count all) h.appended b.appended;
-        passed = subst (λ (k : Option (List Moment)). Passed old.reached k (moments_of (h.exchanges ++ x ∷ []))) (sym same) (subst (λ (t : List Moment). Passed old.reached now.reached t) (one_moment h.exchanges x content) h.passed);
-      })
+      let k = completed titles s us (h.exchanges ++ x ∷ []) (h.out ++ all) r.heard.call b.new (resumed titles s us h.exchanges h.out content sitting reply b.actions b.new h.halfway r) in (
+        k.heard,
+        k.first,
+        record {
+          exchanges = (h.exchanges ++ x ∷ []) ++ k.more;
+          out = (h.out ++ all) ++ k.text;
+          end = k.end;
+          done = k.run;
+          made = h.exchanges ++ x ∷ [];
+          stores = (k.more, refl);
+          history = history_on holds own old.port h.exchanges now.port (x ∷ []) p h.history (p, stores, refl);
+          wrote = h.out ++ take b.count all;
+          front = front_more (h.out ++ take b.count all) (h.out ++ all) k.text (front_behind h.out (take b.count all) all (take_front b.count all));
+          appended = further old.written now.written w h.out (take b.count all) h.appended b.appended;
+          passed = subst (λ (k : Option (List Moment)). Passed old.reached k (moments_of (h.exchanges ++ x ∷ []))) (sym same) (subst (λ (t : List Moment). Passed old.reached now.reached t) (one_moment h.exchanges x content) h.passed);
+        },
+      )
 
 -- ---- what is left to hear
 

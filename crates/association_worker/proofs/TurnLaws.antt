@@ -62,22 +62,24 @@ long_of (Faulty f n) text is = is.1
 cuts_push : (text : List ℕ) (pieces : List Piece) (rest : List ℕ) (piece : Piece) → Cuts text pieces rest → is_cut pieces ≡ true → IsPiece piece rest → Cuts text (pieces ++ piece ∷ []) []
 cuts_push text [] rest piece cuts cut is =
     let same = ap (λ (t : List ℕ). length t) cuts in
-    let long = long_of piece rest is in
-    (omega (arith, same, long),
-     subst (λ (t : List ℕ). IsPiece piece t) (cuts ∙ sym (take_all (size_of_piece piece) text (omega (arith, same, long)))) is,
-     precedes_none piece,
-     sym (drop_all (size_of_piece piece) text (omega (arith, same, long))))
+    let long = long_of piece rest is in (
+      omega (arith, same, long),
+      subst (λ (t : List ℕ). IsPiece piece t) (cuts ∙ sym (take_all (size_of_piece piece) text (omega (arith, same, long)))) is,
+      precedes_none piece,
+      sym (drop_all (size_of_piece piece) text (omega (arith, same, long))),
+    )
 cuts_push text (p ∷ pieces) rest piece cuts cut is =
     (cuts.0, cuts.1, precedes_more p piece pieces cut cuts.2, cuts_push (drop (size_of_piece p) text) pieces rest piece cuts.3 (cut_behind p pieces cut) is)
 
 -- more bytes behind
 cuts_more : (text : List ℕ) (pieces : List Piece) (rest more : List ℕ) → Cuts text pieces rest → Cuts (text ++ more) pieces (rest ++ more)
 cuts_more text [] rest more cuts = ap (λ (t : List ℕ). t ++ more) cuts
-cuts_more text (p ∷ pieces) rest more cuts =
-    (omega (arith, cuts.0, length-append text more),
-     subst (λ (t : List ℕ). IsPiece p t) (sym (take-append-le (size_of_piece p) text more cuts.0)) cuts.1,
-     cuts.2,
-     subst (λ (t : List ℕ). Cuts t pieces (rest ++ more)) (sym (drop-append-le (size_of_piece p) text more cuts.0)) (cuts_more (drop (size_of_piece p) text) pieces rest more cuts.3))
+cuts_more text (p ∷ pieces) rest more cuts = (
+  omega (arith, cuts.0, length-append text more),
+  subst (λ (t : List ℕ). IsPiece p t) (sym (take-append-le (size_of_piece p) text more cuts.0)) cuts.1,
+  cuts.2,
+  subst (λ (t : List ℕ). Cuts t pieces (rest ++ more)) (sym (drop-append-le (size_of_piece p) text more cuts.0)) (cuts_more (drop (size_of_piece p) text) pieces rest more cuts.3),
+)
 
 is_cut-push : (pieces : List Piece) (piece : Piece) → is_cut pieces ≡ true → is_cut (pieces ++ piece ∷ []) ≡ is_whole piece
 is_cut-push [] (Whole p n) cut = refl
@@ -245,24 +247,24 @@ module _ {P : Type 0} (holds : P → Op → Type 0) (own : P → List (List ℕ)
       } in
       subst (λ (k : Sides P). Sofar holds own titles r0 r1 old k t after n) (sym none.0) (subst (λ (k : Sitting). Sofar holds own titles r0 r1 old now k after n) (sym none.1) kept)
   after_take r0 r1 old now then s before t after n so connected (inr h) = elim so.held as (λ _. Sofar holds own titles r0 r1 old then t after n) [
-      inl hand ↦
-      let c : Course = record { standing = s.standing; counted = so.counted } in
-      let is : IsPiece h.piece so.rest = subst (λ (k : List ℕ). IsPiece h.piece k) (sym hand.2) h.is in
-      let empty : after.inbox.text ≡ [] = ap (λ (k : InHand). k.text) h.empty in
-      let size = long_of h.piece before.inbox.text h.is in
-      let counts_kept = ap (λ (k : ℕ). counts s.standing.state k) size in
-      record {
-        text = so.text;
-        read = so.read;
-        many = so.many;
-        pieces = so.pieces ++ h.piece ∷ [];
-        rest = [];
-        counted = so.counted + counts s.standing.state (size_of_piece h.piece);
-        cut = cuts_push so.text so.pieces so.rest h.piece so.cut hand.1 is;
-        ran = did_piece old now then c so.pieces h.piece t.standing so.ran connected h.did;
-        held = held_behind s.standing t.standing before after so.pieces h.piece so.counted h.did.exchanges h.did.out connected h.did.done hand.1 hand.3 h.counted h.cut h.empty;
-        within = omega (arith, counted_empty after t.standing.state empty, h.counted, counts_kept, so.within);
-      }
+    | inl hand ↦
+        let c : Course = record { standing = s.standing; counted = so.counted } in
+        let is : IsPiece h.piece so.rest = subst (λ (k : List ℕ). IsPiece h.piece k) (sym hand.2) h.is in
+        let empty : after.inbox.text ≡ [] = ap (λ (k : InHand). k.text) h.empty in
+        let size = long_of h.piece before.inbox.text h.is in
+        let counts_kept = ap (λ (k : ℕ). counts s.standing.state k) size in
+        record {
+          text = so.text;
+          read = so.read;
+          many = so.many;
+          pieces = so.pieces ++ h.piece ∷ [];
+          rest = [];
+          counted = so.counted + counts s.standing.state (size_of_piece h.piece);
+          cut = cuts_push so.text so.pieces so.rest h.piece so.cut hand.1 is;
+          ran = did_piece old now then c so.pieces h.piece t.standing so.ran connected h.did;
+          held = held_behind s.standing t.standing before after so.pieces h.piece so.counted h.did.exchanges h.did.out connected h.did.done hand.1 hand.3 h.counted h.cut h.empty;
+          within = omega (arith, counted_empty after t.standing.state empty, h.counted, counts_kept, so.within);
+        }
     | inr dropped ↦ absurd (no_piece h.piece (subst (λ (k : List ℕ). IsPiece h.piece k) dropped.3 h.is))
   ]
 
@@ -294,36 +296,36 @@ module _ {P : Type 0} (holds : P → Op → Type 0) (own : P → List (List ℕ)
   pub broken : (r0 r1 : Option (List ℕ)) (old now then : Sides P) (s : Sitting) (intake : Intake) (n : ℕ) → Sofar holds own titles r0 r1 old now s intake n → TakingBroke holds own titles now then s intake → FrontOfOutput holds own titles r0 r1 old then
   broken r0 r1 old now then s intake n so (inl same) = subst (λ (k : Sides P). FrontOfOutput holds own titles r0 r1 old k) (sym same) (stopped r0 r1 r1 old now s intake n so (nothing_read r1))
   broken r0 r1 old now then s intake n so (inr b) = elim so.held as (λ _. FrontOfOutput holds own titles r0 r1 old then) [
-      inl hand ↦
-      let is : IsPiece b.0 so.rest = subst (λ (k : List ℕ). IsPiece b.0 k) (sym hand.2) b.1 in
-      let heard = b.2.0 in
-      let front = b.2.1 in
-      let broke = b.2.2 in
-      let course : Course = record { standing = s.standing; counted = so.counted } in
-      let flat_run = flat titles SETTING_OUT so.pieces so.ran.exchanges so.ran.out course so.ran.done in
-      record {
-        text = so.text;
-        read = so.read;
-        pieces = so.pieces ++ b.0 ∷ [];
-        rest = [];
-        cut = cuts_push so.text so.pieces so.rest b.0 so.cut hand.1 is;
-        heard = heard_in so.pieces ++ heard;
-        first = subst (λ (k : List Heard). IsFront (heard_in so.pieces ++ heard) k) (sym (heard_push so.pieces b.0)) (front_behind (heard_in so.pieces) heard (heard_of (event_of b.0)) front);
-        ran = record {
-          exchanges = so.ran.exchanges ++ broke.exchanges;
-          out = so.ran.out ++ broke.out;
-          end = broke.end;
-          done = runs_on (Says titles) start (heard_in so.pieces) heard so.ran.exchanges broke.exchanges so.ran.out broke.out s.standing broke.end flat_run broke.done;
-          made = so.ran.exchanges ++ broke.made;
-          stores = front_behind so.ran.exchanges broke.made broke.exchanges broke.stores;
-          history = history_on holds own old.port so.ran.exchanges now.port broke.made then.port so.ran.history broke.history;
-          wrote = so.ran.out ++ broke.wrote;
-          front = front_behind so.ran.out broke.wrote broke.out broke.front;
-          appended = further old.written now.written then.written so.ran.out broke.wrote so.ran.appended broke.appended;
-          passed = subst (λ (m : List Moment). Passed old.reached then.reached m) (sym (moments_on so.ran.exchanges broke.made))
-              (passed_on old.reached now.reached then.reached (moments_of so.ran.exchanges) (moments_of broke.made) so.ran.passed broke.passed);
-        };
-      }
+    | inl hand ↦
+        let is : IsPiece b.0 so.rest = subst (λ (k : List ℕ). IsPiece b.0 k) (sym hand.2) b.1 in
+        let heard = b.2.0 in
+        let front = b.2.1 in
+        let broke = b.2.2 in
+        let course : Course = record { standing = s.standing; counted = so.counted } in
+        let flat_run = flat titles SETTING_OUT so.pieces so.ran.exchanges so.ran.out course so.ran.done in
+        record {
+          text = so.text;
+          read = so.read;
+          pieces = so.pieces ++ b.0 ∷ [];
+          rest = [];
+          cut = cuts_push so.text so.pieces so.rest b.0 so.cut hand.1 is;
+          heard = heard_in so.pieces ++ heard;
+          first = subst (λ (k : List Heard). IsFront (heard_in so.pieces ++ heard) k) (sym (heard_push so.pieces b.0)) (front_behind (heard_in so.pieces) heard (heard_of (event_of b.0)) front);
+          ran = record {
+            exchanges = so.ran.exchanges ++ broke.exchanges;
+            out = so.ran.out ++ broke.out;
+            end = broke.end;
+            done = runs_on (Says titles) start (heard_in so.pieces) heard so.ran.exchanges broke.exchanges so.ran.out broke.out s.standing broke.end flat_run broke.done;
+            made = so.ran.exchanges ++ broke.made;
+            stores = front_behind so.ran.exchanges broke.made broke.exchanges broke.stores;
+            history = history_on holds own old.port so.ran.exchanges now.port broke.made then.port so.ran.history broke.history;
+            wrote = so.ran.out ++ broke.wrote;
+            front = front_behind so.ran.out broke.wrote broke.out broke.front;
+            appended = further old.written now.written then.written so.ran.out broke.wrote so.ran.appended broke.appended;
+            passed = subst (λ (m : List Moment). Passed old.reached then.reached m) (sym (moments_on so.ran.exchanges broke.made))
+                (passed_on old.reached now.reached then.reached (moments_of so.ran.exchanges) (moments_of broke.made) so.ran.passed broke.passed);
+          };
+        }
     | inr dropped ↦ absurd (no_piece b.0 (subst (λ (k : List ℕ). IsPiece b.0 k) dropped.3 b.1))
   ]
 

@@ -84,7 +84,7 @@ Halfway titles s us xs out None now = (now.awaited ≡ None) × (now.queue ≡ [
 Halfway titles s us xs out (Some content) now =
     (awaited : Awaited) × (heard : List Heard) × (now.awaited ≡ Some awaited) × CanBeResponded awaited × (us ≡ heard ++ map Value now.queue)
     × ((reply : Result Taken PortFault) (text : List ℕ) → IsResponse awaited (status_of_reply reply) text
-        → Runs (Says titles) s heard (xs ++ record { content = content; reply = reply } ∷ []) (out ++ text) now.standing)
+    → Runs (Says titles) s heard (xs ++ record { content = content; reply = reply } ∷ []) (out ++ text) now.standing)
 
 -- An event was heard whole, and nothing is awaited.
 abbrev pub HeardWhole : {P : Type 0} → (P → Op → Type 0) → (P → List (List ℕ)) → List (Title (Unit {0})) → Sides P → Sides P → Sitting → Event → Sitting → Type 0

@@ -1,5 +1,6 @@
 -- The faults of a run.
-use Rattle.std.specs.Prelude.{ℕ, Bool, true, false, Result, Ok, Err}
+use Rattle.std.specs.Prelude.{◌≡◌, ℕ, Bool, true, false, Result, Err, MatchBool}
+use Rattle.devices.specs.Failures.{Rose}
 use Rattle.association_worker.specs.declared.fault.RunFault.{RunFault}
 use Rattle.association_worker.specs.declared.fault.RunFault.TheVariants.{Read, Write, Memory, Turns}
 
@@ -22,3 +23,7 @@ tells_write _ = false
 abbrev pub tells_turns : {A : Type 0} → Result A RunFault → Bool
 tells_turns (Err Turns) = true
 tells_turns _ = false
+
+-- the failures of a device were counted where one is told, and else there was none
+abbrev pub CountedWhere : Bool → ℕ → ℕ → Type 0
+CountedWhere told old new = MatchBool told (Rose old new) (new ≡ old)

@@ -20,6 +20,9 @@ pub record Sides (P : Type 0) : Type 0 where
   pub written : Option (List ℕ)
   pub reached : Option (List Moment)
 
+abbrev pub sides : {P : Type 0} → P → Option (List ℕ) → Option (List Moment) → Sides P
+sides port written reached = record { port = port; written = written; reached = reached }
+
 -- The gate is reached once for each store.
 abbrev pub moments_of : List Exchange → List Moment
 moments_of exchanges = map (λ _. InStore) exchanges

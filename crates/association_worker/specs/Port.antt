@@ -32,8 +32,8 @@ pub record Stores {P : Type 0} (holds : P → Op → Type 0) (own : P → List (
   pub kept : (op : Op) → holds before op → holds after op
   -- a content that was taken, new or known, is held, and its digest stands at the end of the list once more
   pub replied : MatchResult reply
-    (λ _. holds after (Content content) × HasGrown (own before) (digest_of (Content content)) (own after))
-    (λ fault. Leaves fault (own before) (digest_of (Content content)) (own after))
+      (λ _. holds after (Content content) × HasGrown (own before) (digest_of (Content content)) (own after))
+      (λ fault. Leaves fault (own before) (digest_of (Content content)) (own after))
 
 -- ---- steps, one after another
 

@@ -1,12 +1,11 @@
 //! What a session asks, done.
 
-ghost use Rattle.std.specs.Prelude.{◌≡◌, ◌++◌, ◌∷◌, [], IfOk, OnErr, OnOk, All, MatchBool, false, None, option_to_list};
-ghost use Rattle.devices.specs.Failures.{Rose};
+ghost use Rattle.std.specs.Prelude.{◌≡◌, ◌++◌, ◌∷◌, [], IfOk, OnErr, OnOk, All, false, None, option_to_list};
 ghost use Rattle.association_session.specs.declared.action.SessionEvent.TheVariants.{Heard};
 ghost use Rattle.association_session.specs.Heard.{heard_of};
 ghost use Rattle.association_session.specs.Session.{bytes_of, sent_bytes, IsSound, IsWritable};
-ghost use Rattle.association_worker.specs.Fault.{tells_read, tells_write, tells_turns};
-ghost use Rattle.association_worker.specs.Parts.{Passed};
+ghost use Rattle.association_worker.specs.Fault.{CountedWhere, tells_read, tells_write, tells_turns};
+ghost use Rattle.association_worker.specs.Parts.{Passed, sides};
 ghost use Rattle.association_worker.specs.Calls.{store_in, moment_in, Passes, Told, NotTold, HeardWhole, HeardFront};
 
 use crate::fault::RunFault;
@@ -21,11 +20,7 @@ use std::alloc::{AllocError, Global};
 use ul_state::{Event, Titles};
 
 /// Appends the bytes of what is sent.
-fn put_action(
-    alloc: Global,
-    text: &mut Vec<u8>,
-    action: &SessionAction,
-) -> Result<(), AllocError>
+fn put_action(alloc: Global, text: &mut Vec<u8>, action: &SessionAction) -> Result<(), AllocError>
     requires { IsWritable action.now }
     ensures { OnOk result (text.new.items ≡ text.old.items ++ bytes_of action.now) }
 {
@@ -98,7 +93,7 @@ fn tell<W: Sink, G: Gate>(
     ensures ok { IfOk result (λ call. Told titles.now.list (W.contents writer.old) (W.contents writer.new) (G.reached gate.old) (G.reached gate.new) session.old event call session.new) }
     ensures err { OnErr result (NotTold titles.now.list (W.contents writer.old) (W.contents writer.new) (G.reached gate.old) (G.reached gate.new) session.old event) }
     ensures read { tells_read result ≡ false }
-    ensures write { MatchBool (tells_write result) (Rose (W.failures writer.old) (W.failures writer.new)) (W.failures writer.new ≡ W.failures writer.old) }
+    ensures write { CountedWhere (tells_write result) (W.failures writer.old) (W.failures writer.new) }
     ensures going { tells_turns result ≡ false }
 {
     let actions = session.on(titles, event)?;
@@ -121,16 +116,34 @@ pub(crate) fn hear<W: Sink, P: Port, G: Gate>(
 ) -> Result<(), RunFault>
     requires sound { IsSound (Heard event) }
     requires idle { session.old.awaited ≡ None }
-    ensures ok { OnOk result (HeardWhole P.holds P.own titles.now.list (record { port = port.old; written = W.contents writer.old; reached = G.reached gate.old }) (record { port = port.new; written = W.contents writer.new; reached = G.reached gate.new }) session.old event session.new) }
-    ensures err { OnErr result (HeardFront P.holds P.own titles.now.list (record { port = port.old; written = W.contents writer.old; reached = G.reached gate.old }) (record { port = port.new; written = W.contents writer.new; reached = G.reached gate.new }) session.old.standing (heard_of event)) }
+    ensures ok { OnOk result (HeardWhole P.holds P.own titles.now.list
+        (sides port.old (W.contents writer.old) (G.reached gate.old))
+        (sides port.new (W.contents writer.new) (G.reached gate.new)) session.old event session.new) }
+    ensures err { OnErr result (HeardFront P.holds P.own titles.now.list
+        (sides port.old (W.contents writer.old) (G.reached gate.old))
+        (sides port.new (W.contents writer.new) (G.reached gate.new)) session.old.standing (heard_of event)) }
     ensures read { tells_read result ≡ false }
-    ensures write { MatchBool (tells_write result) (Rose (W.failures writer.old) (W.failures writer.new)) (W.failures writer.new ≡ W.failures writer.old) }
+    ensures write { CountedWhere (tells_write result) (W.failures writer.old) (W.failures writer.new) }
     ensures going { tells_turns result ≡ false }
 {
-    let mut call = tell(alloc, session, titles, SessionEvent::Heard(event), writer, gate)?;
+    let mut call = tell(
+        alloc,
+        session,
+        titles,
+        SessionEvent::Heard(event),
+        writer,
+        gate,
+    )?;
     while let Some(content) = call {
         let reply = port.store(content);
-        call = tell(alloc, session, titles, SessionEvent::Replied(reply), writer, gate)?;
+        call = tell(
+            alloc,
+            session,
+            titles,
+            SessionEvent::Replied(reply),
+            writer,
+            gate,
+        )?;
     }
     Ok(())
 }

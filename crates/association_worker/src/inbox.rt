@@ -1,9 +1,8 @@
 //! The PDU that is being read (PS3.8, section 9.3).
 
-ghost use Rattle.std.specs.Prelude.{◌≡◌, ◌<◌, ◌≤◌, ◌+◌, ◌^◌, ◌++◌, ℕ, List, Option, [], length, take, drop, IfOk, OnErr, MatchBool, MatchResult, false};
+ghost use Rattle.std.specs.Prelude.{◌≡◌, ◌<◌, ◌≤◌, ◌+◌, ◌^◌, ◌++◌, ℕ, List, Option, [], length, take, drop, IfOk, OnErr, MatchResult, false};
 ghost use Rattle.std.specs.Io.KnownBytes.{Consumes, IsAtEnd, Keeps};
-ghost use Rattle.devices.specs.Failures.{Rose};
-ghost use Rattle.association_worker.specs.Fault.{tells_read, tells_write, tells_turns};
+ghost use Rattle.association_worker.specs.Fault.{CountedWhere, tells_read, tells_write, tells_turns};
 ghost use Rattle.association_worker.specs.Inbox.{EMPTY, ReadsOn, Takes, IsBodyWanted, Finds, piece_in};
 ghost use Rattle.pdu.specs.Grammar.{size_of, HasLawfulHeader};
 ghost use Rattle.pdu.specs.declared.header.TheConstants.{HEADER_LENGTH};
@@ -56,7 +55,7 @@ fn read_behind<R: Source>(
     ensures read { IfOk result (λ count. Consumes (R.remaining reader.old) (R.remaining reader.new) (take count (drop filled bytes.new.items))) }
     ensures end { IfOk result (λ count. count ≡ 0 → IsAtEnd (R.remaining reader.new)) }
     ensures kept { OnErr result (Keeps (R.remaining reader.old) (R.remaining reader.new)) }
-    ensures failed { MatchBool (tells_read result) (Rose (R.failures reader.old) (R.failures reader.new)) (R.failures reader.new ≡ R.failures reader.old) }
+    ensures failed { CountedWhere (tells_read result) (R.failures reader.old) (R.failures reader.new) }
     ensures own { tells_write result ≡ false }
     ensures going { tells_turns result ≡ false }
 {
@@ -137,7 +136,7 @@ impl Inbox {
         requires some { 0 < most }
         ensures read { IfOk result (λ count. ReadsOn (R.remaining reader.old) (R.remaining reader.new) self.old most count self.new) }
         ensures kept { OnErr result (Keeps (R.remaining reader.old) (R.remaining reader.new)) }
-        ensures failed { MatchBool (tells_read result) (Rose (R.failures reader.old) (R.failures reader.new)) (R.failures reader.new ≡ R.failures reader.old) }
+        ensures failed { CountedWhere (tells_read result) (R.failures reader.old) (R.failures reader.new) }
         ensures own { tells_write result ≡ false }
         ensures going { tells_turns result ≡ false }
     {

@@ -14,6 +14,8 @@ mod piece;
 mod port;
 mod run;
 mod site_port;
+#[cfg(test)]
+mod tests;
 
 pub use association_session::{Moment, PortFault, Reply, Session, SessionAction, SessionEvent};
 pub use end::End;

@@ -1,12 +1,12 @@
 //! An association from its first byte to its end (PS3.8, section 9.2).
 
-ghost use Rattle.std.specs.Prelude.{◌≡◌, ◌≢◌, ◌<◌, ◌≤◌, ◌+◌, List, ℕ, Option, OnOk, OnErr, IfOk, IsErrOf, MatchBool, None, false, length};
+ghost use Rattle.std.specs.Prelude.{◌≡◌, ◌≢◌, ◌<◌, ◌≤◌, ◌+◌, List, ℕ, Option, OnOk, OnErr, IfOk, IsErrOf, None, false, length};
 ghost use Rattle.std.specs.Io.KnownBytes.{Consumes, IsAtEnd, Keeps};
-ghost use Rattle.devices.specs.Failures.{Rose};
 ghost use Rattle.ul_state.specs.declared.table.State.TheVariants.{Sta13};
 ghost use Rattle.association_worker.specs.Course.{counts, end_in, is_over as is_over_in};
-ghost use Rattle.association_worker.specs.Fault.{tells_read, tells_write, tells_turns};
+ghost use Rattle.association_worker.specs.Fault.{CountedWhere, tells_read, tells_write, tells_turns};
 ghost use Rattle.association_worker.specs.Output.{Output, FrontOfOutput, ReadAtLeast};
+ghost use Rattle.association_worker.specs.Parts.{sides};
 ghost use Rattle.association_worker.specs.Pieces.{event_of, size_of_piece, is_whole as is_whole_piece};
 ghost use Rattle.association_worker.specs.Turns.{NOTHING_READ, counted_in, Reads, TakesHand, TakingBroke, IsReady, Turns};
 
@@ -47,7 +47,7 @@ fn drop_some<R: Source>(reader: &mut R, most: usize) -> Result<usize, RunFault>
     ensures read { IfOk result (λ count. (bytes : List ℕ) × Consumes (R.remaining reader.old) (R.remaining reader.new) bytes × (length bytes ≡ count) × (count ≤ most)) }
     ensures end { IfOk result (λ count. count ≡ 0 → IsAtEnd (R.remaining reader.new)) }
     ensures kept { OnErr result (Keeps (R.remaining reader.old) (R.remaining reader.new)) }
-    ensures failed { MatchBool (tells_read result) (Rose (R.failures reader.old) (R.failures reader.new)) (R.failures reader.new ≡ R.failures reader.old) }
+    ensures failed { CountedWhere (tells_read result) (R.failures reader.old) (R.failures reader.new) }
     ensures own { tells_write result ≡ false }
     ensures going { tells_turns result ≡ false }
 {
@@ -108,7 +108,7 @@ impl Intake {
         ensures read { IfOk result (λ count. Reads (R.remaining reader.old) (R.remaining reader.new) self.old count self.new) }
         ensures within { OnOk result (counted_in self.new state ≤ MOST_DROPPED) }
         ensures kept { OnErr result (Keeps (R.remaining reader.old) (R.remaining reader.new)) }
-        ensures failed { MatchBool (tells_read result) (Rose (R.failures reader.old) (R.failures reader.new)) (R.failures reader.new ≡ R.failures reader.old) }
+        ensures failed { CountedWhere (tells_read result) (R.failures reader.old) (R.failures reader.new) }
         ensures own { tells_write result ≡ false }
         ensures going { tells_turns result ≡ false }
     {
@@ -161,10 +161,14 @@ fn take_piece<W: Sink, P: Port, G: Gate>(
 ) -> Result<(), RunFault>
     requires idle { session.old.awaited ≡ None }
     requires within { counted_in intake.old session.old.standing.state ≤ MOST_DROPPED }
-    ensures ok { OnOk result (TakesHand P.holds P.own titles.now.list (record { port = port.old; written = W.contents writer.old; reached = G.reached gate.old }) (record { port = port.new; written = W.contents writer.new; reached = G.reached gate.new }) session.old intake.old session.new intake.new) }
-    ensures err { OnErr result (TakingBroke P.holds P.own titles.now.list (record { port = port.old; written = W.contents writer.old; reached = G.reached gate.old }) (record { port = port.new; written = W.contents writer.new; reached = G.reached gate.new }) session.old intake.old) }
+    ensures ok { OnOk result (TakesHand P.holds P.own titles.now.list
+        (sides port.old (W.contents writer.old) (G.reached gate.old))
+        (sides port.new (W.contents writer.new) (G.reached gate.new)) session.old intake.old session.new intake.new) }
+    ensures err { OnErr result (TakingBroke P.holds P.own titles.now.list
+        (sides port.old (W.contents writer.old) (G.reached gate.old))
+        (sides port.new (W.contents writer.new) (G.reached gate.new)) session.old intake.old) }
     ensures read { tells_read result ≡ false }
-    ensures write { MatchBool (tells_write result) (Rose (W.failures writer.old) (W.failures writer.new)) (W.failures writer.new ≡ W.failures writer.old) }
+    ensures write { CountedWhere (tells_write result) (W.failures writer.old) (W.failures writer.new) }
     ensures going { tells_turns result ≡ false }
 {
     let Some(piece) = intake.inbox.take()? else {
@@ -211,9 +215,11 @@ fn take_turn<R: Source, W: Sink, P: Port, G: Gate>(
 ) -> Result<Option<End>, RunFault>
     requires { IsReady session.old intake.old }
     ensures ready { IfOk result (λ end. end ≡ None → IsReady session.new intake.new) }
-    ensures turns { Turns P.holds P.own titles.now.list (R.remaining reader.old) (R.remaining reader.new) (record { port = port.old; written = W.contents writer.old; reached = G.reached gate.old }) (record { port = port.new; written = W.contents writer.new; reached = G.reached gate.new }) session.old intake.old result session.new intake.new }
-    ensures read { MatchBool (tells_read result) (Rose (R.failures reader.old) (R.failures reader.new)) (R.failures reader.new ≡ R.failures reader.old) }
-    ensures write { MatchBool (tells_write result) (Rose (W.failures writer.old) (W.failures writer.new)) (W.failures writer.new ≡ W.failures writer.old) }
+    ensures turns { Turns P.holds P.own titles.now.list (R.remaining reader.old) (R.remaining reader.new)
+        (sides port.old (W.contents writer.old) (G.reached gate.old))
+        (sides port.new (W.contents writer.new) (G.reached gate.new)) session.old intake.old result session.new intake.new }
+    ensures read { CountedWhere (tells_read result) (R.failures reader.old) (R.failures reader.new) }
+    ensures write { CountedWhere (tells_write result) (W.failures writer.old) (W.failures writer.new) }
     ensures going { tells_turns result ≡ false }
 {
     let count = intake.read(reader, session.state())?;
@@ -242,12 +248,16 @@ pub fn run_association<R: Source, W: Sink, P: Port, G: Gate>(
     titles: &Titles<()>,
 ) -> Result<End, RunFault>
     // What is written and stored, for what was read.
-    ensures ok { IfOk result (Output P.holds P.own titles.now.list (R.remaining reader.old) (R.remaining reader.new) (record { port = port.old; written = W.contents writer.old; reached = G.reached gate.old }) (record { port = port.new; written = W.contents writer.new; reached = G.reached gate.new })) }
-    ensures err { OnErr result (FrontOfOutput P.holds P.own titles.now.list (R.remaining reader.old) (R.remaining reader.new) (record { port = port.old; written = W.contents writer.old; reached = G.reached gate.old }) (record { port = port.new; written = W.contents writer.new; reached = G.reached gate.new })) }
+    ensures ok { IfOk result (Output P.holds P.own titles.now.list (R.remaining reader.old) (R.remaining reader.new)
+        (sides port.old (W.contents writer.old) (G.reached gate.old))
+        (sides port.new (W.contents writer.new) (G.reached gate.new))) }
+    ensures err { OnErr result (FrontOfOutput P.holds P.own titles.now.list (R.remaining reader.old) (R.remaining reader.new)
+        (sides port.old (W.contents writer.old) (G.reached gate.old))
+        (sides port.new (W.contents writer.new) (G.reached gate.new))) }
 
     // A fault of a device is told exactly where one was counted.
-    ensures read { MatchBool (tells_read result) (Rose (R.failures reader.old) (R.failures reader.new)) (R.failures reader.new ≡ R.failures reader.old) }
-    ensures write { MatchBool (tells_write result) (Rose (W.failures writer.old) (W.failures writer.new)) (W.failures writer.new ≡ W.failures writer.old) }
+    ensures read { CountedWhere (tells_read result) (R.failures reader.old) (R.failures reader.new) }
+    ensures write { CountedWhere (tells_write result) (W.failures writer.old) (W.failures writer.new) }
 
     // Each of the reads before it gave a byte or more.
     ensures turns { IsErrOf result RunFault.Turns → ReadAtLeast MOST_READS (R.remaining reader.old) (R.remaining reader.new) }
@@ -255,7 +265,16 @@ pub fn run_association<R: Source, W: Sink, P: Port, G: Gate>(
     let mut session = Session::new(alloc);
     let mut intake = Intake::new(alloc);
     for _ in 0..MOST_READS {
-        match take_turn(alloc, &mut session, titles, &mut intake, reader, writer, port, gate) {
+        match take_turn(
+            alloc,
+            &mut session,
+            titles,
+            &mut intake,
+            reader,
+            writer,
+            port,
+            gate,
+        ) {
             Ok(None) => {}
             Ok(Some(end)) => return Ok(end),
             Err(fault) => return Err(fault),

@@ -1,6 +1,7 @@
 use Rattle.std.proofs.Common.{◌≡◌, length}
 use Rattle.association_session.specs.Heard.{heard_of}
-use Rattle.association_worker.proofs.HearLaws.{Hearing, sides, left}
+use Rattle.association_worker.specs.Parts.{sides}
+use Rattle.association_worker.proofs.HearLaws.{Hearing, left}
 use Rattle.association_worker.proofs.calls.hear.Given as goal
 
 -- what was heard and done so far

@@ -19,11 +19,10 @@ returns g c sends call parts plain =
     let ends = sym items ∙ c.pop.ensures.items in
     let some : 0 < length c.args.actions → IsSome c.pop.result = λ lt. c.pop.ensures.variant.1 (omega (arith, lt, ap (λ (t : List _). length t) items, c.into_vec-actions.result.ok.0)) in
     let some2 : 0 < length c.pop.new.self.items → IsSome c.pop-2.result = λ lt. c.pop-2.ensures.variant.1 (omega (arith, lt, c.pop.new.self.ok.0)) in
-    let stores = sym c.stored.ensures ∙ c.in-Some.is in
-    (
+    let stores = sym c.stored.ensures ∙ c.in-Some.is in (
       sym stores ∙ store_last c.args.actions c.pop.new.self.items c.pop.result ends some sends call parts plain,
       subst (λ (t : List Moment). Passed (g.G.Gate.reached c.args.gate.now) (g.G.Gate.reached c.reach_if.new.gate) t)
           (ap (λ (m : Option Moment). option_to_list m) c.moment_of.ensures
-            ∙ reach_before c.args.actions c.pop.new.self.items c.pop-2.new.self.items c.pop.result c.pop-2.result c.in-Some.content ends stores c.pop-2.ensures.items some2 sends call parts plain some)
+          ∙ reach_before c.args.actions c.pop.new.self.items c.pop-2.new.self.items c.pop.result c.pop-2.result c.in-Some.content ends stores c.pop-2.ensures.items some2 sends call parts plain some)
           c.reach_if.ensures,
     )

@@ -1,6 +1,6 @@
 use Rattle.std.proofs.Common.{◌≡◌}
 use Rattle.association_worker.specs.Turns.{IsReady, Sofar}
-use Rattle.association_worker.proofs.HearLaws.{sides}
+use Rattle.association_worker.specs.Parts.{sides}
 use Rattle.association_worker.proofs.run.run_association.Given as goal
 
 -- what was done so far
