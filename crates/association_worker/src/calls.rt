@@ -90,10 +90,14 @@ fn tell<W: Sink, G: Gate>(
     gate: &mut G,
 ) -> Result<Option<Content>, RunFault>
     requires { IsSound event }
-    ensures ok { IfOk result (λ call. Told titles.now.list (W.contents writer.old) (W.contents writer.new) (G.reached gate.old) (G.reached gate.new) session.old event call session.new) }
-    ensures err { OnErr result (NotTold titles.now.list (W.contents writer.old) (W.contents writer.new) (G.reached gate.old) (G.reached gate.new) session.old event) }
+    ensures ok { IfOk result (λ call. Told titles.now.list (W.contents writer.old)
+        (W.contents writer.new) (G.reached gate.old) (G.reached gate.new) session.old event call
+        session.new) }
+    ensures err { OnErr result (NotTold titles.now.list (W.contents writer.old)
+        (W.contents writer.new) (G.reached gate.old) (G.reached gate.new) session.old event) }
     ensures read { tells_read result ≡ false }
-    ensures write { CountedWhere (tells_write result) (W.failures writer.old) (W.failures writer.new) }
+    ensures write { CountedWhere (tells_write result) (W.failures writer.old)
+        (W.failures writer.new) }
     ensures going { tells_turns result ≡ false }
 {
     let actions = session.on(titles, event)?;
@@ -118,12 +122,15 @@ pub(crate) fn hear<W: Sink, P: Port, G: Gate>(
     requires idle { session.old.awaited ≡ None }
     ensures ok { OnOk result (HeardWhole P.holds P.own titles.now.list
         (sides port.old (W.contents writer.old) (G.reached gate.old))
-        (sides port.new (W.contents writer.new) (G.reached gate.new)) session.old event session.new) }
+        (sides port.new (W.contents writer.new) (G.reached gate.new)) session.old event
+        session.new) }
     ensures err { OnErr result (HeardFront P.holds P.own titles.now.list
         (sides port.old (W.contents writer.old) (G.reached gate.old))
-        (sides port.new (W.contents writer.new) (G.reached gate.new)) session.old.standing (heard_of event)) }
+        (sides port.new (W.contents writer.new) (G.reached gate.new)) session.old.standing
+        (heard_of event)) }
     ensures read { tells_read result ≡ false }
-    ensures write { CountedWhere (tells_write result) (W.failures writer.old) (W.failures writer.new) }
+    ensures write { CountedWhere (tells_write result) (W.failures writer.old)
+        (W.failures writer.new) }
     ensures going { tells_turns result ≡ false }
 {
     let mut call = tell(

@@ -51,11 +51,14 @@ fn read_behind<R: Source>(
     requires some { 0 < most }
     ensures front { take filled bytes.new.items ≡ take filled bytes.old.items }
     ensures long { length bytes.new.items ≡ length bytes.old.items }
-    ensures count { IfOk result (λ count. (count ≤ most) × (filled + count ≤ length bytes.old.items)) }
-    ensures read { IfOk result (λ count. Consumes (R.remaining reader.old) (R.remaining reader.new) (take count (drop filled bytes.new.items))) }
+    ensures count { IfOk result (λ count. (count ≤ most) ×
+        (filled + count ≤ length bytes.old.items)) }
+    ensures read { IfOk result (λ count. Consumes (R.remaining reader.old)
+        (R.remaining reader.new) (take count (drop filled bytes.new.items))) }
     ensures end { IfOk result (λ count. count ≡ 0 → IsAtEnd (R.remaining reader.new)) }
     ensures kept { OnErr result (Keeps (R.remaining reader.old) (R.remaining reader.new)) }
-    ensures failed { CountedWhere (tells_read result) (R.failures reader.old) (R.failures reader.new) }
+    ensures failed { CountedWhere (tells_read result) (R.failures reader.old)
+        (R.failures reader.new) }
     ensures own { tells_write result ≡ false }
     ensures going { tells_turns result ≡ false }
 {
@@ -134,9 +137,11 @@ impl Inbox {
     ) -> Result<usize, RunFault>
         requires wanted { length self.old.text < self.old.wanted }
         requires some { 0 < most }
-        ensures read { IfOk result (λ count. ReadsOn (R.remaining reader.old) (R.remaining reader.new) self.old most count self.new) }
+        ensures read { IfOk result (λ count. ReadsOn (R.remaining reader.old)
+            (R.remaining reader.new) self.old most count self.new) }
         ensures kept { OnErr result (Keeps (R.remaining reader.old) (R.remaining reader.new)) }
-        ensures failed { CountedWhere (tells_read result) (R.failures reader.old) (R.failures reader.new) }
+        ensures failed { CountedWhere (tells_read result) (R.failures reader.old)
+            (R.failures reader.new) }
         ensures own { tells_write result ≡ false }
         ensures going { tells_turns result ≡ false }
     {
@@ -150,7 +155,8 @@ impl Inbox {
     ///
     /// A faulty header is one as soon as its six bytes are there.
     pub(crate) fn take(&mut self) -> Result<Option<Piece>, RunFault>
-        ensures { MatchResult result (λ piece. Takes self.old piece self.new) (λ fault. fault ≡ RunFault.Memory) }
+        ensures { MatchResult result (λ piece. Takes self.old piece self.new)
+            (λ fault. fault ≡ RunFault.Memory) }
     {
         if self.filled < self.wanted {
             return Ok(None);
@@ -165,7 +171,8 @@ impl Inbox {
     fn take_header(&mut self) -> Result<Option<Piece>, RunFault>
         requires whole { length self.old.text ≡ self.old.wanted }
         requires header { self.old.wanted ≡ HEADER_LENGTH }
-        ensures { MatchResult result (λ piece. Takes self.old piece self.new) (λ fault. fault ≡ RunFault.Memory) }
+        ensures { MatchResult result (λ piece. Takes self.old piece self.new)
+            (λ fault. fault ≡ RunFault.Memory) }
     {
         let piece = header_piece(self.alloc, self.bytes.as_slice())?;
         if piece.is_some() {
@@ -180,7 +187,8 @@ impl Inbox {
     fn take_whole(&mut self) -> Result<Option<Piece>, RunFault>
         requires whole { length self.old.text ≡ self.old.wanted }
         requires lawful { IsBodyWanted self.old }
-        ensures { MatchResult result (λ piece. Takes self.old piece self.new) (λ fault. fault ≡ RunFault.Memory) }
+        ensures { MatchResult result (λ piece. Takes self.old piece self.new)
+            (λ fault. fault ≡ RunFault.Memory) }
     {
         let bytes = mem::replace(&mut self.bytes, Vec::new(self.alloc));
         *self = Inbox::new(self.alloc);

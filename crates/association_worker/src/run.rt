@@ -44,10 +44,12 @@ pub(crate) struct Intake {
 /// Reads some bytes, at most `most`, and drops them.
 fn drop_some<R: Source>(reader: &mut R, most: usize) -> Result<usize, RunFault>
     requires { 0 < most }
-    ensures read { IfOk result (λ count. (bytes : List ℕ) × Consumes (R.remaining reader.old) (R.remaining reader.new) bytes × (length bytes ≡ count) × (count ≤ most)) }
+    ensures read { IfOk result (λ count. (bytes : List ℕ) × Consumes (R.remaining reader.old)
+        (R.remaining reader.new) bytes × (length bytes ≡ count) × (count ≤ most)) }
     ensures end { IfOk result (λ count. count ≡ 0 → IsAtEnd (R.remaining reader.new)) }
     ensures kept { OnErr result (Keeps (R.remaining reader.old) (R.remaining reader.new)) }
-    ensures failed { CountedWhere (tells_read result) (R.failures reader.old) (R.failures reader.new) }
+    ensures failed { CountedWhere (tells_read result) (R.failures reader.old)
+        (R.failures reader.new) }
     ensures own { tells_write result ≡ false }
     ensures going { tells_turns result ≡ false }
 {
@@ -105,10 +107,12 @@ impl Intake {
         requires room { counted_in self.old state < MOST_DROPPED }
         requires short { length self.old.inbox.text < self.old.inbox.wanted }
         requires dropping { self.old.is_cut ≡ false → state ≡ Sta13 }
-        ensures read { IfOk result (λ count. Reads (R.remaining reader.old) (R.remaining reader.new) self.old count self.new) }
+        ensures read { IfOk result (λ count. Reads (R.remaining reader.old)
+            (R.remaining reader.new) self.old count self.new) }
         ensures within { OnOk result (counted_in self.new state ≤ MOST_DROPPED) }
         ensures kept { OnErr result (Keeps (R.remaining reader.old) (R.remaining reader.new)) }
-        ensures failed { CountedWhere (tells_read result) (R.failures reader.old) (R.failures reader.new) }
+        ensures failed { CountedWhere (tells_read result) (R.failures reader.old)
+            (R.failures reader.new) }
         ensures own { tells_write result ≡ false }
         ensures going { tells_turns result ≡ false }
     {
@@ -163,12 +167,14 @@ fn take_piece<W: Sink, P: Port, G: Gate>(
     requires within { counted_in intake.old session.old.standing.state ≤ MOST_DROPPED }
     ensures ok { OnOk result (TakesHand P.holds P.own titles.now.list
         (sides port.old (W.contents writer.old) (G.reached gate.old))
-        (sides port.new (W.contents writer.new) (G.reached gate.new)) session.old intake.old session.new intake.new) }
+        (sides port.new (W.contents writer.new) (G.reached gate.new)) session.old intake.old
+        session.new intake.new) }
     ensures err { OnErr result (TakingBroke P.holds P.own titles.now.list
         (sides port.old (W.contents writer.old) (G.reached gate.old))
         (sides port.new (W.contents writer.new) (G.reached gate.new)) session.old intake.old) }
     ensures read { tells_read result ≡ false }
-    ensures write { CountedWhere (tells_write result) (W.failures writer.old) (W.failures writer.new) }
+    ensures write { CountedWhere (tells_write result) (W.failures writer.old)
+        (W.failures writer.new) }
     ensures going { tells_turns result ≡ false }
 {
     let Some(piece) = intake.inbox.take()? else {
@@ -215,11 +221,14 @@ fn take_turn<R: Source, W: Sink, P: Port, G: Gate>(
 ) -> Result<Option<End>, RunFault>
     requires { IsReady session.old intake.old }
     ensures ready { IfOk result (λ end. end ≡ None → IsReady session.new intake.new) }
-    ensures turns { Turns P.holds P.own titles.now.list (R.remaining reader.old) (R.remaining reader.new)
-        (sides port.old (W.contents writer.old) (G.reached gate.old))
-        (sides port.new (W.contents writer.new) (G.reached gate.new)) session.old intake.old result session.new intake.new }
-    ensures read { CountedWhere (tells_read result) (R.failures reader.old) (R.failures reader.new) }
-    ensures write { CountedWhere (tells_write result) (W.failures writer.old) (W.failures writer.new) }
+    ensures turns { Turns P.holds P.own titles.now.list (R.remaining reader.old)
+        (R.remaining reader.new) (sides port.old (W.contents writer.old) (G.reached gate.old))
+        (sides port.new (W.contents writer.new) (G.reached gate.new)) session.old intake.old
+        result session.new intake.new }
+    ensures read { CountedWhere (tells_read result) (R.failures reader.old)
+        (R.failures reader.new) }
+    ensures write { CountedWhere (tells_write result) (W.failures writer.old)
+        (W.failures writer.new) }
     ensures going { tells_turns result ≡ false }
 {
     let count = intake.read(reader, session.state())?;
@@ -248,19 +257,23 @@ pub fn run_association<R: Source, W: Sink, P: Port, G: Gate>(
     titles: &Titles<()>,
 ) -> Result<End, RunFault>
     // What is written and stored, for what was read.
-    ensures ok { IfOk result (Output P.holds P.own titles.now.list (R.remaining reader.old) (R.remaining reader.new)
-        (sides port.old (W.contents writer.old) (G.reached gate.old))
+    ensures ok { IfOk result (Output P.holds P.own titles.now.list (R.remaining reader.old)
+        (R.remaining reader.new) (sides port.old (W.contents writer.old) (G.reached gate.old))
         (sides port.new (W.contents writer.new) (G.reached gate.new))) }
-    ensures err { OnErr result (FrontOfOutput P.holds P.own titles.now.list (R.remaining reader.old) (R.remaining reader.new)
+    ensures err { OnErr result (FrontOfOutput P.holds P.own titles.now.list
+        (R.remaining reader.old) (R.remaining reader.new)
         (sides port.old (W.contents writer.old) (G.reached gate.old))
         (sides port.new (W.contents writer.new) (G.reached gate.new))) }
 
     // A fault of a device is told exactly where one was counted.
-    ensures read { CountedWhere (tells_read result) (R.failures reader.old) (R.failures reader.new) }
-    ensures write { CountedWhere (tells_write result) (W.failures writer.old) (W.failures writer.new) }
+    ensures read { CountedWhere (tells_read result) (R.failures reader.old)
+        (R.failures reader.new) }
+    ensures write { CountedWhere (tells_write result) (W.failures writer.old)
+        (W.failures writer.new) }
 
     // Each of the reads before it gave a byte or more.
-    ensures turns { IsErrOf result RunFault.Turns → ReadAtLeast MOST_READS (R.remaining reader.old) (R.remaining reader.new) }
+    ensures turns { IsErrOf result RunFault.Turns → ReadAtLeast MOST_READS
+        (R.remaining reader.old) (R.remaining reader.new) }
 {
     let mut session = Session::new(alloc);
     let mut intake = Intake::new(alloc);

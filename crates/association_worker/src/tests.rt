@@ -386,7 +386,10 @@ fn store_in(alloc: Global) -> Result<Vec<u8>, AllocError> {
 
 /// The response to it, with this status.
 fn stored(alloc: Global, status: [u8; 2]) -> Result<Vec<u8>, AllocError> {
-    joined(alloc, &[&STORED[..96], &status, &STORED[98..]])
+    let mut out = Vec::from_slice(alloc, &STORED[..96])?;
+    out.extend_from_slice(&status)?;
+    out.extend_from_slice(&STORED[98..])?;
+    Ok(out)
 }
 
 /// What answers it, with this status.
