@@ -1,11 +1,10 @@
 -- What a read brings to what is in hand.
-use Rattle.std.proofs.Common.{◌≡◌, ℕ, ◌+◌, ◌-◌, ◌<◌, ◌≤◌, List, [], ◌∷◌, ◌++◌, length, take, drop, slice_index, Option, refl, sym, ap, subst, ◌∙◌, arith, ◌⊎◌, inl, inr, length-append, length-drop, length-take-le}
-use Rattle.std.specs.Int.{w32, from_be_bytes}
+use Rattle.std.proofs.Common.{◌≡◌, ℕ, ◌+◌, ◌<◌, ◌≤◌, List, ◌++◌, length, take, drop, slice_index, refl, sym, ap, ◌∙◌, arith, inl, inr, length-append, length-drop, length-take-le}
 use Rattle.std.proofs.Math.Seq.{take-add}
 use Rattle.std.proofs.Math.ListN.{get_or-append}
 use Rattle.std.proofs.lemmas.List.{take_all, take-append-le}
-use Rattle.pdu.specs.Grammar.{HasLawfulHeader, size_of, type_of}
-use Rattle.association_worker.specs.Inbox.{InHand, IsBodyWanted, Wants}
+use Rattle.pdu.specs.Grammar.{HasLawfulHeader, size_of}
+use Rattle.association_worker.specs.Inbox.{Wants}
 
 -- the bytes so far, and those that were read behind them
 pub grown : (filled count : ℕ) (old mid new : List ℕ) → take filled mid ≡ take filled old → take filled new ≡ take filled mid → take (filled + count) new ≡ take filled old ++ take count (drop filled new)

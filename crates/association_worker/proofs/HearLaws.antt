@@ -1,5 +1,5 @@
 -- What a session is told, up to the end of an event.
-use Rattle.std.proofs.Common.{◌≡◌, ◌≢◌, ℕ, ◌+◌, ◌<◌, List, [], ◌∷◌, ◌++◌, length, take, map, Option, Some, None, IfSome, Result, Ok, Err, ◌⊎◌, inl, inr, refl, sym, ap, subst, ◌∙◌, append_assoc, append-nil, arith, length-append, All}
+use Rattle.std.proofs.Common.{◌≡◌, ◌≢◌, ℕ, ◌+◌, ◌<◌, List, [], ◌∷◌, ◌++◌, length, take, map, Option, Some, None, IfSome, Result, Err, inl, inr, refl, sym, ap, subst, ◌∙◌, append_assoc, append-nil, arith, length-append, All}
 use Rattle.std.specs.List.{flat_map}
 use Rattle.std.proofs.lemmas.Grind.{flat_map-append}
 use Rattle.std.proofs.lemmas.List.{length-map}
@@ -18,19 +18,19 @@ use Rattle.association_session.specs.declared.moment.Moment.{Moment}
 use Rattle.association_session.specs.declared.reply.PortFault.{PortFault}
 use Rattle.association_session.specs.declared.reply.PortFault.TheVariants.{Busy}
 use Rattle.association_session.specs.declared.action.SessionAction.{SessionAction}
-use Rattle.association_session.specs.declared.action.SessionAction.TheVariants.{Send, Reach, Store}
+use Rattle.association_session.specs.declared.action.SessionAction.TheVariants.{Send}
 use Rattle.association_session.specs.declared.action.SessionEvent.TheVariants as events
 use Rattle.association_session.specs.Standing.{Standing, Exchange}
 use Rattle.association_session.specs.Heard.{Heard, Value, heard_of}
-use Rattle.association_session.specs.Response.{Awaited, CanBeResponded, IsResponse}
+use Rattle.association_session.specs.Response.{Awaited}
 use Rattle.association_session.specs.Runs.{Runs}
 use Rattle.association_session.specs.Saying.{Says}
 use Rattle.association_session.specs.Service.{status_of_reply}
 use Rattle.association_session.specs.Session.{Sitting, Hears, Resumes, Reaches, IsPlain, bytes_of, sent_bytes, asking}
 use Rattle.association_worker.specs.Port.{Stores, History}
-use Rattle.association_worker.specs.Parts.{Sides, sides, IsFront, Did, Broke, Passed, moments_of}
-use Rattle.association_worker.specs.Calls.{Answers, Told, TellingBroke, NotTold, Halfway, HeardWhole, HeardFront, moments_for}
-use Rattle.association_worker.proofs.Fronts.{further, nothing_written, all_front, no_front, take_front, front_behind, front_more, passed_none, passed_on}
+use Rattle.association_worker.specs.Parts.{Sides, sides, IsFront, Did, Passed, moments_of}
+use Rattle.association_worker.specs.Calls.{Told, NotTold, Halfway, HeardFront, moments_for}
+use Rattle.association_worker.proofs.Fronts.{further, all_front, no_front, take_front, front_behind, front_more, passed_none, passed_on}
 use Rattle.association_worker.proofs.RunLaws.{runs_on, history_on, moments_on}
 
 -- ---- bytes

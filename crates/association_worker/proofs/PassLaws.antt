@@ -1,5 +1,5 @@
 -- What the last two actions of a session are.
-use Rattle.std.proofs.Common.{◌≡◌, ◌≢◌, ℕ, ◌+◌, ◌<◌, ◌≤◌, List, [], ◌∷◌, ◌++◌, length, Option, Some, None, IsSome, refl, sym, ap, ◌∙◌, append_assoc, append-nil, arith, length-append, All, get_or, ◌↔◌, option_to_list, IsTrue}
+use Rattle.std.proofs.Common.{◌≡◌, ◌<◌, List, [], ◌∷◌, ◌++◌, length, Option, Some, None, IsSome, refl, sym, ap, ◌∙◌, append_assoc, append-nil, arith, length-append, All, option_to_list}
 use Rattle.std.proofs.Math.Seq.{get_or-append_seam}
 use Rattle.operation.specs.Parts.{ContentParts}
 use Rattle.association_session.specs.declared.moment.Moment.{Moment}
@@ -9,7 +9,7 @@ use Rattle.association_session.specs.declared.action.SessionAction.TheVariants.{
 use Rattle.association_session.specs.Session.{IsPlain, asking}
 use Rattle.association_worker.specs.Parts.{Passed}
 use Rattle.association_worker.proofs.Fronts.{passed_none}
-use Rattle.association_worker.specs.Calls.{store_in, moment_in, moments_for, Passes}
+use Rattle.association_worker.specs.Calls.{store_in, moment_in, moments_for}
 
 head_is : (x y : SessionAction) (xs ys : List SessionAction) → x ∷ xs ≡ y ∷ ys → x ≡ y
 head_is x y xs ys e = cc

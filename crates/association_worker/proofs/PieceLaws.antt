@@ -1,20 +1,17 @@
 -- What reading the bytes in hand tells of them.
-use Rattle.std.proofs.Common.{◌≡◌, ◌≢◌, ◌⊎◌, inl, inr, ℕ, ◌+◌, ◌≤◌, ◌<◌, List, [], ◌∷◌, length, take, Option, Some, None, Result, Ok, Err, MatchResult, refl, sym, ap, subst, ◌∙◌, ◌↔◌, arith}
+use Rattle.std.proofs.Common.{◌≡◌, ◌⊎◌, inl, inr, ℕ, ◌+◌, ◌≤◌, List, length, take, Option, Some, None, Result, Ok, Err, MatchResult, refl, sym, subst, ◌∙◌, arith}
 use Rattle.std.proofs.lemmas.List.{take_all}
 use Rattle.pdu.specs.declared.fault.PduFault.{PduFault}
 use Rattle.pdu.specs.declared.fault.PduFault.TheVariants.{UnknownType, BadLength, BadItem, TooLong, Memory}
 use Rattle.pdu.specs.declared.value.Pdu.{Pdu}
 use Rattle.pdu.specs.declared.value.Step.{Step}
 use Rattle.pdu.specs.declared.value.Step.TheVariants.{Need, Done}
-use Rattle.pdu.specs.Header.{header_fault}
-use Rattle.pdu.specs.Grammar.{Spells, HasHeaderFault, HasLawfulHeader, HasBadBody, IsUnfinished, IfDone, size_of, type_of}
+use Rattle.pdu.specs.Grammar.{Spells, HasHeaderFault, HasLawfulHeader, HasBadBody, IsUnfinished, IfDone, size_of}
 use Rattle.pdu.specs.Spelling.{IsPdu}
-use Rattle.pdu.proofs.Fronts.{Front, front}
+use Rattle.pdu.proofs.Fronts.{front}
 use Rattle.association_worker.specs.declared.fault.RunFault.{RunFault}
 use Rattle.association_worker.specs.declared.fault.RunFault.TheVariants as run
 use Rattle.association_worker.specs.declared.piece.Piece.{Piece}
-use Rattle.association_worker.specs.declared.piece.Piece.TheVariants.{Whole, Faulty}
-use Rattle.association_worker.specs.Pieces.{IsPiece, TellsOf}
 use Rattle.association_worker.specs.Inbox.{Finds, piece_in}
 
 -- a header, or a PDU whose header is lawful

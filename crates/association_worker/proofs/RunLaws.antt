@@ -1,11 +1,11 @@
 -- Runs and histories, one after another.
-use Rattle.std.proofs.Common.{◌≡◌, ℕ, List, [], ◌∷◌, ◌++◌, refl, sym, ap, subst, ◌∙◌, append_assoc, append-nil, map}
+use Rattle.std.proofs.Common.{◌≡◌, ℕ, List, [], ◌∷◌, ◌++◌, refl, sym, ap, subst, ◌∙◌, append_assoc}
 use Rattle.operation.specs.declared.op.Op.{Op}
 use Rattle.association_session.specs.declared.moment.Moment.{Moment}
 use Rattle.association_session.specs.declared.moment.Moment.TheVariants.{InStore}
 use Rattle.association_session.specs.Standing.{Exchange}
 use Rattle.association_session.specs.Runs.{Steps, Runs}
-use Rattle.association_worker.specs.Port.{Stores, History}
+use Rattle.association_worker.specs.Port.{History}
 use Rattle.association_worker.specs.Parts.{moments_of}
 
 pub runs_on : {S U : Type 0} (step : Steps S U) (s : S) (us vs : List U) (xs ys : List Exchange) (out o : List ℕ) (mid end : S)

@@ -1,10 +1,9 @@
 -- What a turn adds to what was done so far.
-use Rattle.std.proofs.Common.{◌≡◌, ◌≢◌, ℕ, ◌+◌, ◌<◌, ◌≤◌, ◌==◌, true, false, List, [], ◌∷◌, ◌++◌, length, take, drop, Option, Some, None, Result, Ok, Err, ◌⊎◌, inl, inr, refl, sym, ap, subst, ◌∙◌, append_assoc, append-nil, arith, length-append, length-drop}
-use Rattle.std.specs.List.{flat_map}
+use Rattle.std.proofs.Common.{◌≡◌, ◌≢◌, ℕ, ◌+◌, ◌<◌, ◌≤◌, ◌==◌, true, List, [], ◌∷◌, ◌++◌, length, drop, Option, None, ◌⊎◌, inl, inr, refl, sym, ap, subst, ◌∙◌, append-nil, arith, length-append}
 use Rattle.std.proofs.lemmas.Bool.{eqb-true}
 use Rattle.std.proofs.lemmas.Grind.{flat_map-append}
 use Rattle.std.proofs.lemmas.List.{take_all, drop_all, take-append-le, drop-append-le}
-use Rattle.std.specs.Io.KnownBytes.{Appends, Consumes, IsAtEnd}
+use Rattle.std.specs.Io.KnownBytes.{Consumes, IsAtEnd}
 use Rattle.pdu.specs.declared.fault.PduFault.{PduFault}
 use Rattle.pdu.specs.declared.fault.PduFault.TheVariants as faults
 use Rattle.pdu.specs.Grammar.{IsUnfinished}
@@ -26,15 +25,13 @@ use Rattle.association_worker.specs.declared.end.End.{End}
 use Rattle.association_worker.specs.declared.run.Intake.{Intake}
 use Rattle.association_worker.specs.declared.run.TheConstants.{MOST_DROPPED}
 use Rattle.association_worker.specs.Inbox.{EMPTY, InHand}
-use Rattle.association_worker.specs.Port.{History}
 use Rattle.association_worker.specs.Pieces.{IsPiece, Precedes, Cuts, is_cut, is_whole, event_of, heard_in, size_of_piece}
-use Rattle.association_worker.specs.Course.{Course, SETTING_OUT, counts, TakesPiece, all_counted, end_in, end_of, is_over}
-use Rattle.association_worker.specs.Parts.{Sides, IsFront, Did, Broke, Passed, moments_of}
+use Rattle.association_worker.specs.Course.{Course, SETTING_OUT, counts, TakesPiece, all_counted, end_in, is_over}
+use Rattle.association_worker.specs.Parts.{Sides, IsFront, Did, Passed, moments_of}
 use Rattle.association_session.specs.declared.moment.Moment.{Moment}
-use Rattle.association_worker.specs.Calls.{HeardFront}
 use Rattle.association_worker.specs.Output.{Output, FrontOfOutput, IsOver, IsLeft}
-use Rattle.association_worker.specs.Turns.{counted_in, NOTHING_READ, Adds, Drops, Reads, HearsPiece, HearsNothing, TakesHand, TakingBroke, IsInHand, IsDropped, IsReady, Sofar}
-use Rattle.association_worker.proofs.Fronts.{further, nothing_written, read_further, nothing_read, all_front, no_front, front_behind, front_more, passed_none, passed_on}
+use Rattle.association_worker.specs.Turns.{counted_in, NOTHING_READ, Adds, Drops, Reads, TakesHand, TakingBroke, IsInHand, IsDropped, IsReady, Sofar}
+use Rattle.association_worker.proofs.Fronts.{further, nothing_written, read_further, nothing_read, all_front, front_behind, passed_none, passed_on}
 use Rattle.association_worker.proofs.RunLaws.{runs_on, history_on, moments_on}
 
 abbrev pub TitleList : Type 0

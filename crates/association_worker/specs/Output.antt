@@ -1,11 +1,11 @@
 -- What a whole run writes and stores, for what it read.
-use Rattle.std.specs.Prelude.{◌≡◌, ◌≤◌, ◌⊎◌, ℕ, List, ◌++◌, Option, false, length}
+use Rattle.std.specs.Prelude.{◌≡◌, ◌≤◌, ◌⊎◌, ℕ, List, Option, false, length}
 use Rattle.std.specs.Io.KnownBytes.{Consumes, IsAtEnd}
 use Rattle.pdu.specs.Grammar.{IsUnfinished}
 use Rattle.operation.specs.declared.op.Op.{Op}
 use Rattle.ul_state.specs.declared.table.State.TheVariants.{Sta1}
 use Rattle.ul_state.specs.declared.titles.Title.{Title}
-use Rattle.association_session.specs.Standing.{Standing, start}
+use Rattle.association_session.specs.Standing.{start}
 use Rattle.association_session.specs.Heard.{Heard}
 use Rattle.association_session.specs.Runs.{Runs}
 use Rattle.association_session.specs.Saying.{Says}

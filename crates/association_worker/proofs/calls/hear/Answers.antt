@@ -1,9 +1,7 @@
-use Rattle.std.proofs.Common.{◌≡◌, ◌<◌, ◌+◌, ◌∙◌, sym, ap, subst, refl, Option, Some, length, ℕ}
+use Rattle.std.proofs.Common.{◌∙◌}
 use Rattle.std.proofs.lemmas.Result.{err_from_is_err_and}
-use Rattle.operation.specs.Parts.{ContentParts}
 use Rattle.association_session.specs.Heard.{heard_of}
-use Rattle.association_worker.specs.Parts.{sides}
-use Rattle.association_worker.proofs.HearLaws.{Hearing, left, begun, goes_on, ended, fails_first, fails_on, falls}
+use Rattle.association_worker.proofs.HearLaws.{begun, goes_on, fails_first, fails_on, falls}
 use Rattle.association_worker.proofs.calls.hear.Goals as goal
 
 pub returns-in_err-call-clause-err : goal.returns-in_err-call-clause-err

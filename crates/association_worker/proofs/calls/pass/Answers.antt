@@ -1,7 +1,6 @@
-use Rattle.std.proofs.Common.{◌≡◌, ◌<◌, sym, ap, ◌∙◌, refl, arith, length, append-nil, List, ◌++◌, None, Some, Option, option_to_list, IsSome, subst}
+use Rattle.std.proofs.Common.{◌<◌, sym, ap, ◌∙◌, arith, length, List, Option, option_to_list, IsSome, subst}
 use Rattle.association_session.specs.declared.moment.Moment.{Moment}
 use Rattle.association_worker.specs.Parts.{Passed}
-use Rattle.association_worker.specs.Calls.{moments_for, store_in}
 use Rattle.association_worker.proofs.PassLaws.{store_last, reach_before, reached_none}
 use Rattle.association_worker.proofs.calls.pass.Goals as goal
 

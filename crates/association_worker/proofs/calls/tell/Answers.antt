@@ -1,5 +1,4 @@
-use Rattle.std.proofs.Common.{◌≡◌, ◌∙◌, refl, ap, subst, sym, inr, take, List, ℕ}
-use Rattle.std.specs.Io.KnownBytes.{Appends}
+use Rattle.std.proofs.Common.{◌∙◌, refl, ap, inr}
 use Rattle.association_session.specs.Session.{sent_bytes}
 use Rattle.association_worker.proofs.calls.tell.Goals as goal
 

@@ -1,6 +1,5 @@
-use Rattle.std.proofs.Common.{inl, subst, sym}
-use Rattle.association_worker.specs.Inbox.{piece_in}
-use Rattle.association_worker.proofs.PieceLaws.{finds, FindsAll}
+use Rattle.std.proofs.Common.{inl}
+use Rattle.association_worker.proofs.PieceLaws.{finds}
 use Rattle.association_worker.proofs.inbox.header_piece.Goals as goal
 
 pub returns : goal.returns

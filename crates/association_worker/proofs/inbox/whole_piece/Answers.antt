@@ -1,6 +1,5 @@
-use Rattle.std.proofs.Common.{◌≡◌, inr, sym, subst, List, ℕ, ◌∙◌, length, ap, Option}
-use Rattle.association_worker.specs.Inbox.{piece_in}
-use Rattle.association_worker.proofs.PieceLaws.{finds, FindsAll}
+use Rattle.std.proofs.Common.{◌≡◌, inr, ◌∙◌, length}
+use Rattle.association_worker.proofs.PieceLaws.{finds}
 use Rattle.association_worker.proofs.inbox.whole_piece.Goals as goal
 
 pub returns : goal.returns

@@ -1,5 +1,4 @@
-use Rattle.std.proofs.Common.{◌≡◌, ◌∙◌, sym, ap, refl, List, ℕ, inl, inr, arith, None, Some, Ok, Err, Option}
-use Rattle.association_worker.specs.Turns.{IsReady, After, Sofar, Turns, NOTHING_READ}
+use Rattle.std.proofs.Common.{refl}
 use Rattle.association_worker.specs.Parts.{sides}
 use Rattle.association_worker.proofs.Fronts.{nothing_read}
 use Rattle.association_worker.proofs.TurnLaws.{nothing_yet, stopped, starts_ready}

@@ -1,6 +1,6 @@
-use Rattle.std.proofs.Common.{◌≡◌, ◌≤◌, ◌+◌, ◌∙◌, sym, ap, refl, List, ℕ, inl, inr, arith}
+use Rattle.std.proofs.Common.{◌+◌, ◌∙◌, sym, ap, inr, arith}
 use Rattle.std.proofs.lemmas.Result.{err_from_is_err_and}
-use Rattle.association_worker.specs.Course.{end_in, is_over}
+use Rattle.association_worker.specs.Course.{end_in}
 use Rattle.association_worker.specs.Turns.{counted_in}
 use Rattle.association_worker.proofs.Fronts.{kept_read}
 use Rattle.association_worker.proofs.TurnLaws.{after_read, after_take, stopped, broken, finished, fewer_reads, unfinished_after, nothing_more, over_of, or_at_end}

@@ -1,6 +1,5 @@
-use Rattle.std.proofs.Common.{◌≡◌, ◌+◌, ◌++◌, ◌≤◌, ◌∙◌, take, drop, length, sym, ap, subst, refl, arith, List, ℕ, length-take-le, length-drop}
+use Rattle.std.proofs.Common.{◌≡◌, ◌+◌, ◌++◌, ◌≤◌, ◌∙◌, take, drop, length, sym, refl, arith}
 use Rattle.std.proofs.lemmas.List.{length-take}
-use Rattle.association_worker.specs.Inbox.{Wants, InHand}
 use Rattle.association_worker.proofs.HandLaws.{grown, wants_still, resized, counted}
 use Rattle.association_worker.proofs.inbox.Inbox.read_on.Goals as goal
 

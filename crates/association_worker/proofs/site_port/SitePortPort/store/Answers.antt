@@ -1,4 +1,3 @@
-use Rattle.std.proofs.Common.{sym}
 use Rattle.operation.specs.declared.op.Op.TheVariants.{Content}
 use Rattle.association_worker.proofs.PortLaws.{keeps, holds_now}
 use Rattle.association_worker.proofs.site_port.SitePortPort.store.Goals as goal
