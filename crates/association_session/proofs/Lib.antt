@@ -1,3 +1,4 @@
+pub mod GoodbyeLaws
 pub mod HearLaws
 pub mod LimitLaws
 pub mod QueueLaws

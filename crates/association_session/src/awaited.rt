@@ -2,7 +2,7 @@
 
 ghost use Rattle.std.specs.Prelude.{◌≡◌, IfOk, All};
 ghost use Rattle.pdu.specs.Spelling.{IsPdu};
-ghost use Rattle.association_session.specs.Response.{Responds};
+ghost use Rattle.association_session.specs.Response.{response_to, Responds};
 
 use dimse::{Command, Message, Status, fragments};
 use octets::ListOf;
@@ -29,16 +29,24 @@ impl Model for Awaited {
 }
 
 impl Awaited {
+    /// The response with this status.
+    fn response(&self, alloc: Global, status: Status) -> Result<Message, AllocError>
+        ensures { IfOk result (λ message. message ≡ response_to self.now status) }
+    {
+        let command = self.command.response(alloc, status)?;
+        Ok(Message {
+            context: self.context,
+            command,
+            body: None,
+        })
+    }
+
     /// The PDUs of the response with this status.
     pub(crate) fn respond(&self, alloc: Global, status: Status) -> Result<ListOf<Pdu>, AllocError>
         ensures sent { IfOk result (λ pdus. Responds self.now status pdus) }
         ensures lawful { IfOk result (λ pdus. All IsPdu pdus) }
     {
-        let message = Message {
-            context: self.context,
-            command: self.command.response(alloc, status)?,
-            body: None,
-        };
+        let message = self.response(alloc, status)?;
         Ok(ListOf::of(fragments(alloc, &message, self.limit)?))
     }
 }

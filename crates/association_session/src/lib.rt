@@ -19,7 +19,7 @@ mod session;
 mod tests;
 
 pub use action::{SessionAction, SessionEvent};
-pub use laws::each_request_has_a_response;
+pub use laws::{each_request_has_a_response, nothing_is_stored_after_goodbye};
 pub use moment::Moment;
 pub use reply::{PortFault, Reply};
 pub use session::Session;

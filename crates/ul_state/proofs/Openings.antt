@@ -1,10 +1,10 @@
--- A row settles where it establishes the association.
+-- What leads into an association, and what leads out of none.
 use Rattle.std.proofs.Common.{◌≡◌, cond, Option, refl}
 use Rattle.ul_state.specs.declared.table.State.{State}
 use Rattle.ul_state.specs.declared.table.State.TheVariants.{Sta1, Sta2, Sta6, Sta13}
 use Rattle.ul_state.specs.declared.table.Kind.{Kind}
 use Rattle.ul_state.specs.declared.table.Kind.TheVariants.{AcceptableRq, OtherRq, PData, ReleaseRq, Abort, OtherPdu, UnknownPdu, FaultyPdu, StreamEnd, LocalAbort}
-use Rattle.ul_state.specs.Table.{action_of, next_of, opens}
+use Rattle.ul_state.specs.Table.{action_of, next_of, opens, IsLeft}
 use Rattle.ul_state.specs.Acceptor.{settled_on}
 
 abbrev SettlesWhereItOpens : {S : Type 0} → State → Kind → Option S → Option S → Type 0
@@ -51,3 +51,22 @@ settles_where_it_opens Sta1 kind new old = refl
 settles_where_it_opens Sta2 kind new old = awaiting kind new old
 settles_where_it_opens Sta6 kind new old = established kind new old
 settles_where_it_opens Sta13 kind new old = leaving kind new old
+
+left_after : (kind : Kind) → IsLeft (next_of Sta13 kind)
+left_after AcceptableRq = tt
+left_after OtherRq = tt
+left_after PData = tt
+left_after ReleaseRq = tt
+left_after Abort = tt
+left_after OtherPdu = tt
+left_after UnknownPdu = tt
+left_after FaultyPdu = tt
+left_after StreamEnd = tt
+left_after LocalAbort = tt
+
+-- Nothing leads back.
+pub stays_left : (state : State) (kind : Kind) → IsLeft state → IsLeft (next_of state kind)
+stays_left Sta1 kind left = tt
+stays_left Sta2 kind left = absurd left
+stays_left Sta6 kind left = absurd left
+stays_left Sta13 kind left = left_after kind

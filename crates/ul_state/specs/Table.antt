@@ -1,5 +1,5 @@
 -- The acceptor's rows of PS3.8, Table 9-10, in the states in use.
-use Rattle.std.specs.Prelude.{ℕ, ◌+◌, Bool, true, false, List, [], ◌∷◌}
+use Rattle.std.specs.Prelude.{ℕ, ◌+◌, Bool, true, false, List, [], ◌∷◌, ⊤}
 use Rattle.ul_state.specs.declared.table.State.{State}
 use Rattle.ul_state.specs.declared.table.State.TheVariants.{Sta1, Sta2, Sta6, Sta13}
 use Rattle.ul_state.specs.declared.table.Kind.{Kind}
@@ -64,6 +64,13 @@ opens Sta2 Sta13 = false
 opens Sta1 after = false
 opens Sta6 after = false
 opens Sta13 after = false
+
+-- Goodbye was said, or the connection is closed.
+abbrev pub IsLeft : State → Type 0
+IsLeft Sta1 = ⊤
+IsLeft Sta2 = ⊥
+IsLeft Sta6 = ⊥
+IsLeft Sta13 = ⊤
 
 -- the reason of an A-ABORT of the provider (PS3.8, 9.3.8)
 abbrev pub provider_reason : Kind → ℕ

@@ -1,7 +1,8 @@
+use Rattle.std.proofs.Common.{subst}
+use Rattle.association_session.specs.Response.{Awaited, CanBeResponded}
 use Rattle.association_session.proofs.ResponseLaws.{response_whole}
 use Rattle.association_session.proofs.awaited.Awaited.respond.Goals as goal
 
 pub fragments-requires-clause-whole : goal.fragments-requires-clause-whole
 fragments-requires-clause-whole c =
-    response_whole (record { context = c.self.inside.context; limit = c.self.inside.limit; command = c.self.inside.command }) c.args.status c.in_ok-response.field-0
-    c.in_ok-response.ensures.exact (c.in_ok-response.ensures.lawful c.self.invariant.asked c.self.invariant.lawful) (c.in_ok-response.ensures.room c.self.invariant.room)
+    response_whole c.args.self.now c.args.status c.in_ok-message.message (subst (λ (a : Awaited). CanBeResponded a) c.self.view_is c.self.invariant) c.in_ok-message.ensures
