@@ -217,10 +217,14 @@ fn quality_is_shown_what_was_rejected_for_quality(rt: HostRuntime) -> Result<(),
 #[test]
 fn two_contents_of_one_uid_are_flagged(rt: HostRuntime) -> Result<(), Fail> {
     let mut world = two_sites(rt.alloc())?;
-    for (site, given) in [(1, JANE), (1, ANN), (2, ANN), (2, JANE)].iter().copied() {
+    let takes = [(1, JANE), (1, ANN), (1, JANE), (2, ANN), (2, JANE)];
+    for (site, given) in takes.iter().copied() {
         does(&mut world, rt.alloc(), site, given)?;
     }
-    assert!(rt; are_same(&world), "the orders leave one state");
+    assert!(rt;
+        are_same(&world),
+        "the orders and the repeat leave one state"
+    );
     for site in [1, 2].iter().copied() {
         let uids = flagged(&world, rt.alloc(), site)?;
         assert_eq!(rt; uids, 1, "flagged at site {site}");
