@@ -31,7 +31,8 @@ use Rattle.association_worker.specs.Port.{Stores, History}
 use Rattle.association_worker.specs.Parts.{Sides, sides, IsFront, Did, Passed, moments_of}
 use Rattle.association_worker.specs.Calls.{Told, NotTold, Halfway, HeardFront, moments_for}
 use Rattle.association_worker.proofs.Fronts.{further, all_front, no_front, take_front, front_behind, front_more, passed_none, passed_on}
-use Rattle.association_worker.proofs.RunLaws.{runs_on, history_on, moments_on}
+use Rattle.association_session.proofs.RunLaws.{Runs-append}
+use Rattle.association_worker.proofs.RunLaws.{history_on, moments_on}
 
 -- ---- bytes
 
@@ -76,7 +77,7 @@ before titles s us vs hs xs out mid sent None new run all half = (
   half.0,
   half.1,
   subst (λ (t : List Heard). Runs (Says titles) s t xs (out ++ sent) new.standing) (sym all)
-      (subst (λ (t : List Exchange). Runs (Says titles) s (hs ++ vs) t (out ++ sent) new.standing) (append-nil xs) (runs_on (Says titles) s hs vs xs [] out sent mid new.standing run half.2)),
+      (subst (λ (t : List Exchange). Runs (Says titles) s (hs ++ vs) t (out ++ sent) new.standing) (append-nil xs) (Runs-append (Says titles) s hs vs xs [] out sent mid new.standing run half.2)),
 )
 before titles s us vs hs xs out mid sent (Some content) new run all half = (
   half.0,
@@ -86,7 +87,7 @@ before titles s us vs hs xs out mid sent (Some content) new run all half = (
   all ∙ ap (λ (t : List Heard). hs ++ t) half.4 ∙ sym (append_assoc hs half.1 (map Value new.queue)),
   λ reply text resp.
       subst (λ (t : List ℕ). Runs (Says titles) s (hs ++ half.1) (xs ++ record { content = content; reply = reply } ∷ []) t new.standing) (sym (append_assoc out sent text))
-      (runs_on (Says titles) s hs half.1 xs (record { content = content; reply = reply } ∷ []) out (sent ++ text) mid new.standing run (half.5 reply text resp)),
+      (Runs-append (Says titles) s hs half.1 xs (record { content = content; reply = reply } ∷ []) out (sent ++ text) mid new.standing run (half.5 reply text resp)),
 )
 
 -- the port replied, and the session was told

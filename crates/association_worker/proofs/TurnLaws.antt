@@ -32,7 +32,8 @@ use Rattle.association_session.specs.declared.moment.Moment.{Moment}
 use Rattle.association_worker.specs.Output.{Output, FrontOfOutput, IsOver, IsLeft}
 use Rattle.association_worker.specs.Turns.{counted_in, NOTHING_READ, Adds, Drops, Reads, TakesHand, TakingBroke, IsInHand, IsDropped, IsReady, Sofar}
 use Rattle.association_worker.proofs.Fronts.{further, nothing_written, read_further, nothing_read, all_front, front_behind, passed_none, passed_on}
-use Rattle.association_worker.proofs.RunLaws.{runs_on, history_on, moments_on}
+use Rattle.association_session.proofs.RunLaws.{Runs-append}
+use Rattle.association_worker.proofs.RunLaws.{history_on, moments_on}
 
 abbrev pub TitleList : Type 0
 TitleList = List (Title (Unit {0}))
@@ -102,7 +103,7 @@ flat : (titles : TitleList) (c : Course) (pieces : List Piece) (xs : List Exchan
 flat titles c [] xs out end run = (run.0, run.1, ap (λ (k : Course). k.standing) run.2)
 flat titles c (p ∷ pieces) xs out end run =
     let rest = flat titles run.0 pieces run.2 run.4 end run.6 in
-    let all = runs_on (Says titles) c.standing (heard_of (event_of p)) (heard_in pieces) run.1 run.2 run.3 run.4 run.0.standing end.standing run.5.1 rest in
+    let all = Runs-append (Says titles) c.standing (heard_of (event_of p)) (heard_in pieces) run.1 run.2 run.3 run.4 run.0.standing end.standing run.5.1 rest in
     subst (λ (t : List Exchange). Runs (Says titles) c.standing (heard_in (p ∷ pieces)) t out end.standing) (sym run.7)
     (subst (λ (t : List ℕ). Runs (Says titles) c.standing (heard_in (p ∷ pieces)) (run.1 ++ run.2) t end.standing) (sym run.8) all)
 
@@ -206,7 +207,7 @@ module _ {P : Type 0} (holds : P → Op → Type 0) (own : P → List (List ℕ)
       record {
         exchanges = ran.exchanges ++ did.exchanges;
         out = ran.out ++ did.out;
-        done = runs_on (TakesPiece titles) SETTING_OUT pieces (piece ∷ []) ran.exchanges did.exchanges ran.out did.out c to ran.done (one_piece titles c piece did.exchanges did.out to (connected, did.done, refl));
+        done = Runs-append (TakesPiece titles) SETTING_OUT pieces (piece ∷ []) ran.exchanges did.exchanges ran.out did.out c to ran.done (one_piece titles c piece did.exchanges did.out to (connected, did.done, refl));
         history = history_on holds own old.port ran.exchanges now.port did.exchanges then.port ran.history did.history;
         appended = further old.written now.written then.written ran.out did.out ran.appended did.appended;
         passed = subst (λ (m : List Moment). Passed old.reached then.reached m) (sym (moments_on ran.exchanges did.exchanges))
@@ -312,7 +313,7 @@ module _ {P : Type 0} (holds : P → Op → Type 0) (own : P → List (List ℕ)
             exchanges = so.ran.exchanges ++ broke.exchanges;
             out = so.ran.out ++ broke.out;
             end = broke.end;
-            done = runs_on (Says titles) start (heard_in so.pieces) heard so.ran.exchanges broke.exchanges so.ran.out broke.out s.standing broke.end flat_run broke.done;
+            done = Runs-append (Says titles) start (heard_in so.pieces) heard so.ran.exchanges broke.exchanges so.ran.out broke.out s.standing broke.end flat_run broke.done;
             made = so.ran.exchanges ++ broke.made;
             stores = front_behind so.ran.exchanges broke.made broke.exchanges broke.stores;
             history = history_on holds own old.port so.ran.exchanges now.port broke.made then.port so.ran.history broke.history;

@@ -8,6 +8,8 @@ use Rattle.operation.specs.declared.op.Op.{Op}
 use Rattle.operation.specs.declared.op.Op.TheVariants.{Content}
 use Rattle.operation.specs.Spelling.{digest_of}
 use Rattle.site_state.specs.declared.taken.Taken.{Taken}
+use Rattle.site_state.specs.declared.fault.SiteFault.{SiteFault}
+use Rattle.site_state.specs.declared.fault.SiteFault.TheVariants as site_faults
 use Rattle.site_state.specs.Site.{Map, held_at}
 use Rattle.association_session.specs.declared.reply.PortFault.{PortFault}
 use Rattle.association_session.specs.declared.reply.PortFault.TheVariants.{Memory, Busy, Collision, Shelf}
@@ -48,6 +50,11 @@ History {P = P} holds own before (x ∷ xs) after = (mid : P) × Stores holds ow
 pub record PortParts : Type 0 where
   pub site : Map
   pub own : List (List ℕ)
+
+-- what a fault of a site is to a port
+abbrev pub fault_of_site : SiteFault → PortFault
+fault_of_site site_faults.Collision = Collision
+fault_of_site site_faults.Memory = Memory
 
 -- An operation is held under its digest.
 abbrev pub holds_op : Map → Op → Type 0

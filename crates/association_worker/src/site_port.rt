@@ -1,9 +1,11 @@
 //! A site in memory as a port.
 
-ghost use Rattle.std.specs.Prelude.{◌≡◌, ◌++◌, ◌∷◌, [], OnOk, OnErr, IfErr};
+ghost use Rattle.std.specs.Prelude.{◌≡◌, ◌⊎◌, ◌++◌, ◌∷◌, [], Ok, Err, OnOk, OnErr, IfOk, IfErr};
 ghost use Rattle.std.specs.FinMap as finmap;
+ghost use Rattle.operation.specs.declared.op.Op.TheVariants.{Content as AContent};
 ghost use Rattle.operation.specs.Spelling.{digest_of};
-ghost use Rattle.association_worker.specs.Port.{holds_op};
+ghost use Rattle.site_state.specs.Site.{Takes, IsClash};
+ghost use Rattle.association_worker.specs.Port.{holds_op, fault_of_site};
 
 use crate::port::Port;
 use association_session::{PortFault, Reply};
@@ -29,7 +31,9 @@ impl Model for SitePort {
     ghost view = { λ p. record { site = p.site; own = p.own.items } };
 }
 
-fn port_fault(fault: SiteFault) -> PortFault {
+fn port_fault(fault: SiteFault) -> PortFault
+    ensures { result ≡ fault_of_site fault }
+{
     match fault {
         SiteFault::Collision => PortFault::Collision,
         SiteFault::Memory => PortFault::Memory,
@@ -72,14 +76,20 @@ impl SitePort {
     {
         self.own.as_slice()
     }
-}
 
-impl Port for SitePort {
-    ghost holds = { λ p op. holds_op p.site op };
-
-    ghost own = { λ p. p.own };
-
-    fn store(&mut self, content: Content) -> Reply {
+    /// Takes a content, as its site does. A refusal leaves everything as it was.
+    pub fn take(&mut self, content: Content) -> Reply
+        ensures takes { IfOk result (λ taken.
+            Takes self.old.site (AContent content) (Ok taken) self.new.site) }
+        ensures listed { OnOk result (self.new.own
+            ≡ self.old.own ++ digest_of (AContent content) ∷ []) }
+        ensures collision { result ≡ Err PortFault.Collision →
+            IsClash self.old.site (AContent content) }
+        // It is never busy, and has no shelf.
+        ensures fault { IfErr result (λ fault.
+            (fault ≡ PortFault.Collision) ⊎ (fault ≡ PortFault.Memory)) }
+        ensures kept { OnErr result (self.new ≡ self.old) }
+    {
         let op = Op::Content(content);
         put_digest(&mut self.own, &op)?;
         match self.site.take(op) {
@@ -89,5 +99,15 @@ impl Port for SitePort {
                 Err(port_fault(fault))
             }
         }
+    }
+}
+
+impl Port for SitePort {
+    ghost holds = { λ p op. holds_op p.site op };
+
+    ghost own = { λ p. p.own };
+
+    fn store(&mut self, content: Content) -> Reply {
+        self.take(content)
     }
 }
