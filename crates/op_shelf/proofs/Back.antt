@@ -49,3 +49,7 @@ err_then (Err e) P Q f h = f e h
 pub cause_of : (sql : List ℕ) (params : Row) (old new : State) (r : Result ℕ Error) → Executes sql params old new r → IfErr r (λ e. Executes sql params old new (Err e))
 cause_of sql params old new (Ok count) h = tt
 cause_of sql params old new (Err e) h = h
+
+pub ok_both : {A E : Type 0} (r : Result A E) (P Q R : A → Type 0) → ((a : A) → P a → Q a → R a) → IfOk r P → IfOk r Q → IfOk r R
+ok_both (Ok a) P Q R f p q = f a p q
+ok_both (Err e) P Q R f p q = tt

@@ -12,7 +12,7 @@ use Rattle.sqlite_tied.specs.Compute.{everything}
 use Rattle.sqlite.specs.declared.error.Error.{Error}
 use Rattle.sqlite.specs.Listing.{understood}
 use Rattle.sqlite.specs.Effect.{Database}
-use Rattle.sqlite.specs.State.{State, mode_of, Writes, Executes, CommitsBy}
+use Rattle.sqlite.specs.State.{State, mode_of, text_of, Writes, Executes, CommitsBy}
 use Rattle.sqlite.proofs.Callers.{IsPlain, command_of, statement_of, runs_as}
 use Rattle.op_shelf.specs.States.{rows_of, tree_in, IsMade}
 use Rattle.op_shelf.specs.Table.{ops2, shelf_schema, no_schema, IsShelf}
@@ -74,9 +74,12 @@ commits_made old db has h =
     let known = sym h.1.is ∙ ap (λ s. understood s create_text) has in
     let bare = subst IsPlain (sym known) create_plain in
     let is : h.0.command ≡ CreateTable = ap command_of known ∙ create_is.0 in
-    let text = ap (statement_of create_text) known ∙ create_is.1 in
-    let made = rw (bare.0, bare.1, is, text) at h.2 in
+    let text : text_of create_text h.0 ≡ create_text = ap (statement_of create_text) known ∙ create_is.1 in
+    let made = rw (bare.0, bare.1, is) at h.2 in
     elim made [
       | inl ends ↦ absurd (elim ends.0 [ inl commit ↦ let e = commit in cc | inr release ↦ let e = release.2 in cc ])
-      | inr writes ↦ let it = makes old writes.2 writes.1 has writes.3 in ap (λ (t : Trees). t 0) writes.5 ∙ it.1
+      | inr writes ↦
+          let done = subst (λ t. Does old.step_limit (mode_of old) [] old.now t None CreateTable (Ok (writes.1, writes.2))) text writes.3 in
+          let it = makes old writes.2 writes.1 has done in
+          ap (λ (t : Trees). t 0) writes.5 ∙ it.1
     ]

@@ -33,6 +33,26 @@ impl<S: Alter> Model for Shelf<S> {
     ghost view = { λ s. s.database };
 }
 
+// It is written out, so that a caller does not prove again how each part is dropped.
+impl<S: Alter + Drop> Drop for Shelf<S> {
+    fn drop(self) {
+        let Shelf {
+            database: _,
+            alloc: _,
+        } = self;
+    }
+}
+
+impl<S: Alter + Drop> Shelf<S> {
+    /// The connection, which `close_files` closes.
+    pub fn into_connection(self) -> Connection<S>
+        ensures { result ≡ self }
+    {
+        let Shelf { database, alloc: _ } = self;
+        database
+    }
+}
+
 impl<S: Alter> Shelf<S> {
     /// Puts an operation on the shelf, and syncs it. Its data set is copied once, into the spelling
     /// that is stored.

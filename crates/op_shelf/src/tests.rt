@@ -23,6 +23,10 @@ fn put<S: Alter>(shelf: &mut Shelf<S>, alloc: Global, counter: u64) -> Result<Ke
     Ok(shelf.put(&op)?)
 }
 
+fn keep<S: Alter>(shelf: &mut Shelf<S>, op: &Op) -> Result<Kept, ShelfFault> {
+    shelf.put(op)
+}
+
 fn all<S: Alter>(shelf: &mut Shelf<S>) -> Result<Vec<Op>, ShelfFault> {
     shelf.all()
 }
@@ -147,13 +151,13 @@ fn three_puts<S: Alter + Drop>(
     let mut shelf = Shelf { database, alloc };
     let mut kept = 0;
     for counter in 1..4 {
-        if put(&mut shelf, alloc, counter).is_err() {
+        let op = Op::Correction(correction(alloc, counter)?);
+        if keep(&mut shelf, &op).is_err() {
             break;
         }
         kept = counter as usize;
     }
-    let Shelf { database, alloc: _ } = shelf;
-    Ok((kept, database.into_store()))
+    Ok((kept, shelf.into_connection().into_store()))
 }
 
 /// The same over files that are frozen after so many calls.
@@ -184,10 +188,10 @@ fn reopened(
     log.write_at(0, log_bytes)?;
     let mut db = Memory::new(alloc);
     db.write_at(0, db_bytes)?;
-    match Connection::open_files(alloc, Files { log, db }, Options::new(1)) {
-        Ok(database) => Ok(Shelf::adopt(alloc, database)?),
-        Err((error, _left)) => Err(Fail::from(error)),
-    }
+    let database = Connection::open_files(alloc, Files { log, db }, Options::new(1))
+        .ok()
+        .ok_or("opened")?;
+    Ok(Shelf::adopt(alloc, database)?)
 }
 
 /// Whether each acknowledged operation is there after a crash, and one more at most.
