@@ -3,8 +3,8 @@
 ghost use Rattle.std.specs.Prelude.{◌≡◌, IfOk};
 ghost use Rattle.archive_query.specs.Cell.{longest, fitting as fitting_in, padding_of as padding_in, padded as padded_in, cell as cell_in};
 
-use crate::column::Column;
 use data_set::Element;
+use dictionary::vr_of;
 use octets::Octets;
 use std::alloc::{AllocError, Global};
 
@@ -41,11 +41,12 @@ fn padded(alloc: Global, vr: [u8; 2], value: &[u8]) -> Result<Octets, AllocError
     Ok(Octets::of(bytes))
 }
 
-/// The element of a column that holds a value.
+/// The element of a tag that holds a value.
 #[tactic(auto, unfolding(crate::specs::Cell::cell))]
-pub(crate) fn cell(alloc: Global, column: Column, value: &[u8]) -> Result<Element, AllocError>
-    ensures { IfOk result (λ element. element ≡ cell_in column value.now) }
+pub(crate) fn cell(alloc: Global, tag: u32, value: &[u8]) -> Result<Element, AllocError>
+    ensures { IfOk result (λ element. element ≡ cell_in tag value.now) }
 {
-    let bytes = padded(alloc, column.vr, fitting(value))?;
-    Ok(Element::leaf(column.tag, Some(column.vr), bytes))
+    let vr = vr_of(tag);
+    let bytes = padded(alloc, vr, fitting(value))?;
+    Ok(Element::leaf(tag, Some(vr), bytes))
 }

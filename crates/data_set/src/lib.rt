@@ -32,10 +32,7 @@ pub use laws::{
 pub use reader::read;
 pub use set::DataSet;
 pub use syntax::Syntax;
-pub use tags::{
-    CONCEPT_NAME_CODE_SEQUENCE, EVIDENCE_SEQUENCE, REFERENCED_SERIES_SEQUENCE,
-    REFERENCED_SOP_SEQUENCE,
-};
+pub use tags::{has_reserved_group, is_item_or_end, is_sequence_tag};
 pub use uid::is_uid;
 pub use values::{element_of, items_of, padded_of, trimmed_of, value_of, without_pads};
 pub use writer::write;

@@ -12,14 +12,14 @@ ghost use Rattle.operation.specs.Contents.{has_uids, names_itself, is_uid_value,
 use crate::content::{Content, KeyValue};
 use crate::draft::Draft;
 use crate::fault::OpFault;
-use crate::tags::{
+use bytes::Bytes;
+use data_set::{Element, Syntax, is_uid, read, value_of, without_pads};
+use dictionary::{
     ACCESSION_NUMBER, INSTANCE_NUMBER, MODALITY, PATIENT_BIRTH_DATE, PATIENT_ID, PATIENT_NAME,
     PATIENT_SEX, REFERRING_PHYSICIAN_NAME, SERIES_DESCRIPTION, SERIES_INSTANCE_UID, SERIES_NUMBER,
     SOP_CLASS_UID, SOP_INSTANCE_UID, SPECIFIC_CHARACTER_SET, STUDY_DATE, STUDY_DESCRIPTION,
     STUDY_ID, STUDY_INSTANCE_UID, STUDY_TIME,
 };
-use bytes::Bytes;
-use data_set::{Element, Syntax, is_uid, read, value_of, without_pads};
 use octets::{ListOf, Octets};
 use rejection_note::note_of;
 use std::alloc::{AllocError, Global};

@@ -12,12 +12,10 @@ use crate::fault::NoteFault;
 use crate::note::Note;
 use crate::sorted::sorted;
 use crate::title::{Title, title_in};
-use data_set::{CONCEPT_NAME_CODE_SEQUENCE, DataSet, Element, is_uid, items_of};
+use data_set::{DataSet, Element, is_uid, items_of};
+use dictionary::{CONCEPT_NAME_CODE_SEQUENCE, KEY_OBJECT_SELECTION_DOCUMENT_STORAGE};
 use octets::{ListOf, Octets};
 use std::alloc::Global;
-
-/// Key Object Selection Document (PS3.4, section B.5)
-const KEY_OBJECT_SELECTION: &[u8] = b"1.2.840.10008.5.1.4.1.1.88.59";
 
 fn are_uids(uids: &[Octets]) -> bool
     ensures { result ≡ list_all is_uid_text uids.now }
@@ -44,7 +42,7 @@ fn note_of_uids(title: Title, uids: Vec<Octets>) -> Result<Option<Note>, NoteFau
 pub fn note_of(alloc: Global, class: &[u8], set: &DataSet) -> Result<Option<Note>, NoteFault>
     ensures { Gives is_memory (λ note. note) result (note_in class.now set.now.elements) }
 {
-    if class != KEY_OBJECT_SELECTION {
+    if class != KEY_OBJECT_SELECTION_DOCUMENT_STORAGE.as_slice() {
         return Ok(None);
     }
     let elements = set.elements();
