@@ -5,7 +5,7 @@ use Rattle.dictionary.specs.declared.elements.TheConstants.{MODALITY, PATIENT_ID
 use Rattle.operation.specs.declared.op.Op.{Op}
 use Rattle.operation.specs.declared.op.Op.TheVariants.{Content as a_content, Correction as a_correction}
 use Rattle.operation.specs.Parts.{ContentParts, CorrectionParts, own_value}
-use Rattle.archive_model.specs.Texts.{same, ascending}
+use Rattle.octets.specs.Texts.{same, ascending}
 
 abbrev pub content_in : Op → Option ContentParts
 content_in (a_content c) = Some c

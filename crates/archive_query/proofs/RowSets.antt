@@ -8,6 +8,7 @@ use Rattle.dictionary.specs.Elements.{vr_in_table}
 use Rattle.data_set.specs.declared.syntax.Syntax.TheVariants.{Explicit}
 use Rattle.data_set.specs.Tree.{Tree, leaf, trees_of, tag_of}
 use Rattle.data_set.specs.Tags.{is_item_tag, is_reserved_group, is_above}
+use Rattle.data_set.specs.Values.{pad_of, padded}
 use Rattle.data_set.specs.Vr.{is_short, is_name, has_bad_vr, inner_syntax, is_undefined, undefined_length}
 use Rattle.data_set.specs.Header.{offence}
 use Rattle.data_set.specs.Texts.{deepest}
@@ -16,7 +17,7 @@ use Rattle.data_set.specs.Written.{MayStand, IsTree, AreTrees, IsSet}
 use Rattle.archive_query.specs.declared.key.Level.{Level}
 use Rattle.archive_query.specs.declared.key.Level.TheVariants.{Study, Series, Image}
 use Rattle.archive_query.specs.Column.{columns}
-use Rattle.archive_query.specs.Cell.{longest, fitting, padding_of, padded, cell}
+use Rattle.archive_query.specs.Cell.{longest, fitting, cell}
 
 -- ---- columns in order, each of which holds a value
 
@@ -51,7 +52,7 @@ padded_by true value p h = omega arith
 padded_by false value p h = omega (arith, length-append value (p ∷ []))
 
 padded_is_short : (vr value : List ℕ) → length value ≤ 65534 → length (padded vr value) < 65536
-padded_is_short vr value h = padded_by (length value % 2 == 0) value (padding_of vr) h
+padded_is_short vr value h = padded_by (length value % 2 == 0) value (pad_of vr) h
 
 -- ---- one element
 

@@ -6,7 +6,7 @@ use Rattle.octets.specs.Gives.{◌>>=◌}
 use Rattle.dictionary.specs.declared.elements.TheConstants.{QUERY_RETRIEVE_LEVEL, RETRIEVE_AE_TITLE, SERIES_INSTANCE_UID, SPECIFIC_CHARACTER_SET, STUDY_INSTANCE_UID}
 use Rattle.data_set.specs.Tree.{Tree, tag_of}
 use Rattle.data_set.specs.Values.{value_of_tree, value_in}
-use Rattle.data_set.specs.Uid.{is_uid_text}
+use Rattle.octets.specs.Uid.{is_uid_text}
 use Rattle.archive_query.specs.declared.fault.QueryFault.{QueryFault}
 use Rattle.archive_query.specs.declared.fault.QueryFault.TheVariants.{NoLevel, MissingUpperKey, BadKey}
 use Rattle.archive_query.specs.declared.key.Level.{Level}

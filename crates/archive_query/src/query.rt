@@ -11,13 +11,13 @@ ghost use Rattle.archive_query.specs.Query.{level_named, level_in, uid_from, upp
 use crate::asked::Asked;
 use crate::fault::QueryFault;
 use crate::key::{Level, matching_of};
-use data_set::{DataSet, Element, is_uid, trimmed_of};
+use data_set::{DataSet, Element};
 use dictionary::{
     QUERY_RETRIEVE_LEVEL, RETRIEVE_AE_TITLE, SERIES_INSTANCE_UID, SPECIFIC_CHARACTER_SET,
     STUDY_INSTANCE_UID,
 };
 use key_matching::{Matching, is_of_form, is_universal};
-use octets::{ListOf, Octets};
+use octets::{ListOf, Octets, is_uid, trimmed};
 use std::alloc::{AllocError, Global};
 
 /// A query: its level, the study and the series that it names, and what it asks.
@@ -86,7 +86,7 @@ fn text_of(element: &Element) -> &[u8]
 {
     match element.stored() {
         None => &[],
-        Some(value) => trimmed_of(value),
+        Some(value) => trimmed(value),
     }
 }
 

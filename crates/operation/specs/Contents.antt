@@ -6,8 +6,9 @@ use Rattle.std.specs.Cmp.Lexicographic.{pointwise}
 use Rattle.dictionary.specs.declared.elements.TheConstants.{ACCESSION_NUMBER, INSTANCE_NUMBER, MODALITY, PATIENT_BIRTH_DATE, PATIENT_ID, PATIENT_NAME, PATIENT_SEX, REFERRING_PHYSICIAN_NAME, SERIES_DESCRIPTION, SERIES_INSTANCE_UID, SERIES_NUMBER, SOP_CLASS_UID, SOP_INSTANCE_UID, SPECIFIC_CHARACTER_SET, STUDY_DATE, STUDY_DESCRIPTION, STUDY_ID, STUDY_INSTANCE_UID, STUDY_TIME}
 use Rattle.data_set.specs.Tree.{Tree}
 use Rattle.data_set.specs.Texts.{Spells}
-use Rattle.data_set.specs.Uid.{is_uid_text}
-use Rattle.data_set.specs.Values.{value_in, without_padding}
+use Rattle.octets.specs.Uid.{is_uid_text}
+use Rattle.octets.specs.Padding.{without_padding}
+use Rattle.data_set.specs.Values.{value_in}
 use Rattle.data_set.specs.declared.syntax.Syntax.{Syntax}
 use Rattle.rejection_note.specs.declared.fault.NoteFault.{NoteFault}
 use Rattle.rejection_note.specs.declared.note.Note.{Note}

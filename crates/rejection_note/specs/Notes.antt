@@ -1,23 +1,18 @@
 -- What a data set says as a rejection note (PS3.3, C.17.6.2; PS3.16, CID 7010; IHE RAD-66).
-use Rattle.std.specs.Prelude.{ℕ, List, [], ◌∷◌, Bool, true, false, not, ◌||◌, Option, Some, None, Result, Ok, Err, nat_eq, codes, unwrap_or, if◌then◌else◌}
+use Rattle.std.specs.Prelude.{ℕ, List, [], ◌∷◌, Bool, true, false, not, ◌||◌, Option, Some, None, Result, Ok, Err, codes, unwrap_or, if◌then◌else◌}
 use Rattle.std.specs.List.{filter_map, flat_map, list_all}
-use Rattle.std.specs.Cmp.Lexicographic.{pointwise}
 use Rattle.dictionary.specs.declared.elements.TheConstants.{CODE_VALUE, CODING_SCHEME_DESIGNATOR, CONCEPT_NAME_CODE_SEQUENCE, CURRENT_REQUESTED_PROCEDURE_EVIDENCE_SEQUENCE, REFERENCED_SERIES_SEQUENCE, REFERENCED_SOP_INSTANCE_UID, REFERENCED_SOP_SEQUENCE}
 use Rattle.dictionary.specs.declared.uids.TheConstants.{KEY_OBJECT_SELECTION_DOCUMENT_STORAGE}
 use Rattle.dictionary.specs.declared.titles.TheConstants.{CODING_SCHEME_DCM, DATA_RETENTION_POLICY_EXPIRED, INCORRECT_MODALITY_WORKLIST_ENTRY, REJECTED_FOR_PATIENT_SAFETY_REASONS, REJECTED_FOR_QUALITY_REASONS}
 use Rattle.data_set.specs.Tree.{Tree}
-use Rattle.data_set.specs.Uid.{is_uid_text}
+use Rattle.octets.specs.Uid.{is_uid_text}
 use Rattle.data_set.specs.Values.{value_in, items_in}
 use Rattle.rejection_note.specs.declared.fault.NoteFault.{NoteFault}
 use Rattle.rejection_note.specs.declared.fault.NoteFault.TheVariants.{NoTitle, NoReference}
 use Rattle.rejection_note.specs.declared.note.Note.{Note}
 use Rattle.rejection_note.specs.declared.title.Title.{Title}
 use Rattle.rejection_note.specs.declared.title.Title.TheVariants.{Quality, Safety, Worklist, Expired}
-use Rattle.rejection_note.specs.Ascending.{ascending}
-
--- whether both have the same bytes
-abbrev pub same : List ℕ → List ℕ → Bool
-same = pointwise nat_eq
+use Rattle.octets.specs.Texts.{same, ascending}
 
 -- ---- which documents are rejection notes
 

@@ -2,7 +2,7 @@
 
 ghost use Rattle.std.specs.Prelude.{◌≡◌, Ok};
 ghost use Rattle.std.specs.List.{list_all};
-ghost use Rattle.data_set.specs.Uid.{is_uid_text};
+ghost use Rattle.octets.specs.Uid.{is_uid_text};
 ghost use Rattle.octets.specs.Gives.{Gives};
 ghost use Rattle.rejection_note.specs.Fault.{is_memory};
 ghost use Rattle.rejection_note.specs.Notes.{note_in, note_of_title, named};
@@ -10,11 +10,10 @@ ghost use Rattle.rejection_note.specs.Notes.{note_in, note_of_title, named};
 use crate::covers::named_uids;
 use crate::fault::NoteFault;
 use crate::note::Note;
-use crate::sorted::sorted;
 use crate::title::{Title, title_in};
-use data_set::{DataSet, Element, is_uid, items_of};
+use data_set::{DataSet, Element, items_of};
 use dictionary::{CONCEPT_NAME_CODE_SEQUENCE, KEY_OBJECT_SELECTION_DOCUMENT_STORAGE};
-use octets::{ListOf, Octets};
+use octets::{ListOf, Octets, ascending, is_uid};
 use std::alloc::Global;
 
 fn are_uids(uids: &[Octets]) -> bool
@@ -32,7 +31,7 @@ fn note_of_uids(title: Title, uids: Vec<Octets>) -> Result<Option<Note>, NoteFau
     }
     Ok(Some(Note {
         title,
-        covers: ListOf::of(sorted(uids)),
+        covers: ListOf::of(ascending(uids)),
     }))
 }
 

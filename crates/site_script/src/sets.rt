@@ -23,12 +23,7 @@ use operation::{Content, OpFault, content_of};
 use std::alloc::{AllocError, Global};
 
 /// Puts an element that holds a value, padded as its value representation asks.
-fn put(
-    alloc: Global,
-    out: &mut Vec<Element>,
-    tag: u32,
-    value: &[u8],
-) -> Result<(), AllocError>
+fn put(alloc: Global, out: &mut Vec<Element>, tag: u32, value: &[u8]) -> Result<(), AllocError>
     ensures { OnOk result (out.new.items ≡ out.old.items ++ valued tag value.now ∷ []) }
 {
     let value = padded_of(alloc, vr_of(tag), value)?;
@@ -124,7 +119,12 @@ fn title_sequence(alloc: Global, title: &[u8]) -> Result<Element, AllocError>
 {
     let mut item = Vec::new(alloc);
     put(alloc, &mut item, CODE_VALUE, title)?;
-    put(alloc, &mut item, CODING_SCHEME_DESIGNATOR, &CODING_SCHEME_DCM)?;
+    put(
+        alloc,
+        &mut item,
+        CODING_SCHEME_DESIGNATOR,
+        &CODING_SCHEME_DCM,
+    )?;
     Ok(Element::sequence(CONCEPT_NAME_CODE_SEQUENCE, None, one_item(alloc, item)?))
 }
 
@@ -170,7 +170,11 @@ fn evidence_sequence(
     let mut item = Vec::new(alloc);
     item.push(series_sequence(alloc, uids, series)?)?;
     put(alloc, &mut item, STUDY_INSTANCE_UID, study)?;
-    Ok(Element::sequence(CURRENT_REQUESTED_PROCEDURE_EVIDENCE_SEQUENCE, None, one_item(alloc, item)?))
+    Ok(Element::sequence(
+        CURRENT_REQUESTED_PROCEDURE_EVIDENCE_SEQUENCE,
+        None,
+        one_item(alloc, item)?,
+    ))
 }
 
 /// The elements of a note.
@@ -181,7 +185,13 @@ fn note_elements(alloc: Global, line: &NoteLine) -> Result<Vec<Element>, AllocEr
     let mut out = Vec::new(alloc);
     let series = note_series(alloc, line)?;
     let (study, series) = (line.study.as_slice(), series.as_slice());
-    put_sop(alloc, &mut out, &KEY_OBJECT_SELECTION_DOCUMENT_STORAGE, line.note.as_slice(), b"KO")?;
+    put_sop(
+        alloc,
+        &mut out,
+        &KEY_OBJECT_SELECTION_DOCUMENT_STORAGE,
+        line.note.as_slice(),
+        b"KO",
+    )?;
     put_study(alloc, &mut out, study, series)?;
     out.push(title_sequence(alloc, line.title.as_slice())?)?;
     out.push(evidence_sequence(alloc, line.covers.as_slice(), series, study)?)?;
@@ -223,5 +233,10 @@ pub fn note_content(alloc: Global, line: &NoteLine) -> Result<Content, OpFault>
     ensures { Gives is_memory (λ content. content) result (note_made line.now) }
 {
     let elements = note_elements(alloc, line)?;
-    content_from(alloc, &KEY_OBJECT_SELECTION_DOCUMENT_STORAGE, line.note.as_slice(), elements)
+    content_from(
+        alloc,
+        &KEY_OBJECT_SELECTION_DOCUMENT_STORAGE,
+        line.note.as_slice(),
+        elements,
+    )
 }
