@@ -2,7 +2,7 @@
 
 ghost use Rattle.std.specs.Prelude.{◌≡◌};
 ghost use Rattle.std.specs.List.{list_all};
-ghost use Rattle.data_set.specs.Uid.{is_uid_byte, is_uid_text};
+ghost use Rattle.octets.specs.Uid.{is_uid_byte, is_uid_text};
 
 fn is_digit_or_full_stop(byte: u8) -> bool
     ensures { result ≡ is_uid_byte byte }

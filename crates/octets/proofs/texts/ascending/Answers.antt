@@ -7,10 +7,11 @@ use Rattle.std.proofs.lemmas.Cmp.{nat_list_cmp_total}
 use Rattle.std.proofs.lemmas.List.Filters.{dedup_is}
 use Rattle.std.proofs.lemmas.List.Kept.{IsStrictlySortedBy-dedup, Contains-dedup, Contains-from_dedup}
 use Rattle.std.proofs.lemmas.List.Sorted.{Contains-permutation, IsPermutation-sym}
-use Rattle.rejection_note.specs.Ascending.{ascending}
-use Rattle.rejection_note.proofs.AscendingLemmas.{In, ascends, in_ascending, ascending_holds, same_ascending, in_from_contains, contains_from_in, ascends_from_sorted, tied_texts}
-use Rattle.rejection_note.proofs.sorted.sorted.Goals as goal
+use Rattle.octets.specs.Texts.{ascending}
+use Rattle.octets.proofs.TextLemmas.{In, ascends, in_ascending, ascending_holds, same_ascending, in_from_contains, contains_from_in, ascends_from_sorted, tied_texts}
+use Rattle.octets.proofs.texts.ascending.Goals as goal
 
+-- What is sorted and deduplicated ascends and holds the same, and two such lists are one.
 pub returns : goal.returns
 returns c =
     let texts = c.args.texts.items in

@@ -1,8 +1,9 @@
 use Rattle.std.proofs.Common.{◌≡◌, ◌≤◌, ◌+◌, ◌-◌, length, drop}
 use Rattle.std.specs.List.{prefix_len}
-use Rattle.data_set.specs.Values.{is_space}
-use Rattle.data_set.proofs.values.trimmed_of.Given as goal
+use Rattle.octets.specs.Padding.{is_space}
+use Rattle.octets.proofs.padding.trimmed.Given as goal
 
+-- What was dropped so far is spaces.
 abbrev pub invariant-loop-start : goal.invariant-loop-start
 invariant-loop-start l = (l.start ≤ length l.kept) × (l.start + prefix_len is_space (drop l.start l.kept) ≡ prefix_len is_space l.kept)
 

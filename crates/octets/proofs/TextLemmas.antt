@@ -10,15 +10,15 @@ use Rattle.std.specs.FinMap.{nat_cmp-IsAntisymmetric, slice_cmp-IsAntisymmetric}
 use Rattle.std.specs.List.Sorted.{IsStrictlySortedBy}
 use Rattle.std.specs.List.{AllByRecursion}
 use Rattle.std.proofs.lemmas.Cmp.{nat_list_cmp_total, tied_itself}
-use Rattle.rejection_note.specs.Ascending.{put, ascending}
+use Rattle.octets.specs.Members.{Has}
+use Rattle.octets.specs.Texts.{put, ascending}
 
 abbrev order : List ℕ → List ℕ → Ordering
 order = slice_cmp nat_cmp
 
 -- one of them is x
 abbrev pub In : List ℕ → List (List ℕ) → Type 0
-In x [] = ⊥
-In x (y ∷ ys) = (x ≡ y) ⊎ In x ys
+In x xs = Has xs x
 
 -- each is above x
 abbrev pub Above : List ℕ → List (List ℕ) → Type 0
@@ -187,3 +187,6 @@ pub sorted_from_ascends : (xs : List (List ℕ)) → Ascends xs → IsStrictlySo
 unfolding IsStrictlySortedBy
 sorted_from_ascends [] up = tt
 sorted_from_ascends (x ∷ xs) up = (all_from_above x xs up.0, sorted_from_ascends xs up.1)
+
+pub ascending_sorted : (xs : List (List ℕ)) → IsStrictlySortedBy (slice_cmp nat_cmp) (ascending xs)
+ascending_sorted xs = sorted_from_ascends (ascending xs) (ascends xs)
