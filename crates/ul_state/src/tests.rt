@@ -4,8 +4,9 @@ ghost use Rattle.std.specs.Prelude.{IfOk};
 ghost use Rattle.pdu.specs.Spelling.{IsPdu};
 
 use super::*;
+use bytes::Bytes;
 use octets::{ListOf, Octets};
-use pdu::{Accept, Context, Pdu, PduFault, Step, read_pdu, write_pdu};
+use pdu::{Accept, Context, Pdu, PduFault, Pdv, Step, read_pdu, write_pdu};
 use std::alloc::{AllocError, Global};
 use std::process::Abort;
 use std::test::Fail;
@@ -216,8 +217,18 @@ fn peer_aborts() -> Event {
     })
 }
 
-fn data(alloc: Global) -> Event {
-    Event::Got(Pdu::PData(ListOf::new(alloc)))
+/// A P-DATA-TF with values on these contexts.
+fn data(alloc: Global, contexts: &[u8]) -> Result<Event, AllocError> {
+    let mut values = ListOf::new(alloc);
+    for context in contexts {
+        values.push(Pdv {
+            context: *context,
+            command: true,
+            last: false,
+            fragment: Bytes::copy_from_slice(alloc, b"")?,
+        })?;
+    }
+    Ok(Event::Got(Pdu::PData(values)))
 }
 
 #[test]
@@ -259,12 +270,43 @@ fn data_is_handed_on_until_a_release(rt: HostRuntime) -> Result<(), Fail> {
     let mut acceptor = Acceptor::new(alloc);
     let row = told(&mut acceptor, &titles, good_request(alloc)?)?;
     assert_eq!(rt; row, (b'A', 0, 0, State::Sta6), "accepted");
-    let row = told(&mut acceptor, &titles, data(alloc))?;
+    let row = told(&mut acceptor, &titles, data(alloc, &[1])?)?;
     assert_eq!(rt; row, (b'H', 0, 0, State::Sta6), "handed on");
     let row = told(&mut acceptor, &titles, Event::Got(Pdu::ReleaseRq))?;
     assert_eq!(rt; row, (b'R', 0, 0, State::Sta13), "released");
-    let row = told(&mut acceptor, &titles, data(alloc))?;
+    let row = told(&mut acceptor, &titles, data(alloc, &[1])?)?;
     assert_eq!(rt; row, (b'-', 0, 0, State::Sta13), "and not handed on");
+    Ok(())
+}
+
+/// The contexts of the values that are handed on.
+fn handed(
+    alloc: Global,
+    acceptor: &mut Acceptor<u8>,
+    titles: &Titles<u8>,
+    event: Event,
+) -> Result<Vec<u8>, Fail> {
+    let actions = acceptor.on(titles, event)?;
+    let [Action::Hand(values)] = actions.as_slice() else {
+        return Err(Fail::new("handed on"));
+    };
+    let mut contexts = Vec::new(alloc);
+    for value in values.as_slice() {
+        contexts.push(value.context)?;
+    }
+    Ok(contexts)
+}
+
+#[test]
+fn the_values_of_a_p_data_are_handed_on_as_they_came(rt: HostRuntime) -> Result<(), Fail> {
+    let alloc = rt.alloc();
+    let titles = titles(alloc)?;
+    let mut acceptor = Acceptor::new(alloc);
+    acceptor.on(&titles, good_request(alloc)?)?;
+    let told = handed(alloc, &mut acceptor, &titles, data(alloc, &[3, 1, 3])?)?;
+    assert_eq!(rt; told.as_slice(), [3, 1, 3].as_slice(), "in their order");
+    let told = handed(alloc, &mut acceptor, &titles, data(alloc, &[])?)?;
+    assert!(rt; told.is_empty(), "also where there is none");
     Ok(())
 }
 
