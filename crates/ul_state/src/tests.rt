@@ -163,6 +163,14 @@ fn a_limit_in_which_nothing_fits_is_refused(rt: HostRuntime) -> Result<(), Fail>
     Ok(())
 }
 
+#[test]
+fn a_limit_above_our_own_is_accepted(rt: HostRuntime) -> Result<(), Fail> {
+    let above = b"\x50\x00\x00\x08\x51\x00\x00\x04\x00\x01\x11\x70";
+    let told = answered(rt.alloc(), 1, b"ARCHIVE         ", &[CONTEXT_NAME, above])?;
+    assert_eq!(rt; told, [0, 0, 1], "70,000 bytes");
+    Ok(())
+}
+
 // CT Image Storage with both syntaxes on context 3, both roles; a private class on context 5;
 // verification with big endian alone on context 7; Study Root FIND with both on context 9.
 const CONTEXTS: &[u8] = b"\x20\x00\x00\x4d\x03\x00\x00\x00\
@@ -179,6 +187,14 @@ const CONTEXTS: &[u8] = b"\x20\x00\x00\x4d\x03\x00\x00\x00\
     \x30\x00\x00\x1b1.2.840.10008.5.1.4.1.2.2.1\
     \x40\x00\x00\x111.2.840.10008.1.2\
     \x40\x00\x00\x131.2.840.10008.1.2.1";
+
+// Study Root GET on context 1, and Study Root MOVE on context 3.
+const RETRIEVES: &[u8] = b"\x20\x00\x00\x38\x01\x00\x00\x00\
+    \x30\x00\x00\x1b1.2.840.10008.5.1.4.1.2.2.3\
+    \x40\x00\x00\x111.2.840.10008.1.2\
+    \x20\x00\x00\x38\x03\x00\x00\x00\
+    \x30\x00\x00\x1b1.2.840.10008.5.1.4.1.2.2.2\
+    \x40\x00\x00\x111.2.840.10008.1.2";
 
 // Roles for CT Image Storage, SCP and SCU, and for verification.
 const ROLES: &[u8] = b"\x50\x00\x00\x3a\
@@ -450,4 +466,23 @@ fn answers_each(rt: &impl Abort, accept: &Accept) {
     let roles = accept.user.roles.as_slice();
     assert_eq!(rt; roles.len(), 1, "the role of the storage class alone");
     assert!(rt; roles[0].scu == 1 && roles[0].scp == 1, "as proposed");
+}
+
+#[test]
+fn a_get_is_served_and_a_move_is_not(rt: HostRuntime) -> Result<(), Fail> {
+    let alloc = rt.alloc();
+    let titles = titles(alloc)?;
+    let items: [&[u8]; 3] = [CONTEXT_NAME, RETRIEVES, USER];
+    let Pdu::AssociateRq(request) = request(alloc, 1, b"ARCHIVE         ", &items)? else {
+        return Err(Fail::new("a request"));
+    };
+    let Decision::Accepted(accept, contexts, _) = negotiate(alloc, &request, &titles)? else {
+        return Err(Fail::new("accepted"));
+    };
+    let answers = accept.contexts.as_slice();
+    assert_eq!(rt; answers.len(), 2, "an answer for each context");
+    assert_eq!(rt; answers[0].result, 0, "GET is accepted");
+    assert_eq!(rt; answers[1].result, 3, "MOVE is an unknown class");
+    assert_eq!(rt; contexts.len(), 1, "one context is used");
+    Ok(())
 }
