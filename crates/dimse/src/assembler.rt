@@ -21,7 +21,7 @@ use std::mem;
 pub const LONGEST_DATA_SET: usize = 67_108_864;
 
 /// What was put together since the last message.
-#[derive(Debug, Drop)]
+#[derive(Drop)]
 pub(crate) enum Stage {
     /// No fragment.
     Between,
@@ -36,7 +36,7 @@ pub(crate) enum Stage {
 /// Puts fragments together to messages.
 ///
 /// After a fault it takes no fragment.
-#[derive(Debug, Drop)]
+#[derive(Drop)]
 pub struct Assembler {
     alloc: Global,
     contexts: Contexts,

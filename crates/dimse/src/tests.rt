@@ -50,6 +50,15 @@ const CREATE_RESPONSE: [u8; 84] = *b"\x00\x00\x00\x00\x04\x00\x00\x00\x48\x00\x0
     \x00\x00\x00\x01\x02\x00\x00\x00\x40\x81\x00\x00\x20\x01\x02\x00\x00\x00\x03\x00\
     \x00\x00\x00\x08\x02\x00\x00\x00\x01\x01\x00\x00\x00\x09\x02\x00\x00\x00\x11\x02";
 
+// A pending C-GET response to message 5: 3 sub-operations remain, 2 are completed, 1 failed and 4
+// had warnings.
+const GET_RESPONSE: [u8; 128] = *b"\x00\x00\x00\x00\x04\x00\x00\x00\x74\x00\x00\x00\
+    \x00\x00\x02\x00\x1c\x00\x00\x001.2.840.10008.5.1.4.1.2.2.3\x00\
+    \x00\x00\x00\x01\x02\x00\x00\x00\x10\x80\x00\x00\x20\x01\x02\x00\x00\x00\x05\x00\
+    \x00\x00\x00\x08\x02\x00\x00\x00\x01\x01\x00\x00\x00\x09\x02\x00\x00\x00\x00\xFF\
+    \x00\x00\x20\x10\x02\x00\x00\x00\x03\x00\x00\x00\x21\x10\x02\x00\x00\x00\x02\x00\
+    \x00\x00\x22\x10\x02\x00\x00\x00\x01\x00\x00\x00\x23\x10\x02\x00\x00\x00\x04\x00";
+
 // The least C-ECHO request: it has no group length.
 const LEAST: [u8; 56] = *b"\x00\x00\x02\x00\x12\x00\x00\x001.2.840.10008.1.1\x00\
     \x00\x00\x00\x01\x02\x00\x00\x00\x30\x00\x00\x00\x10\x01\x02\x00\x00\x00\x01\x00\
@@ -85,6 +94,24 @@ fn command_sets_are_read_and_written_again(rt: HostRuntime) -> Result<(), Fail> 
     assert_eq!(rt;
         written.as_slice(),
         STORE_RESPONSE.as_slice(),
+        "the same bytes"
+    );
+    Ok(())
+}
+
+#[test]
+fn the_counts_of_sub_operations_are_read_and_written(rt: HostRuntime) -> Result<(), Fail> {
+    let read = read_command(rt.alloc(), &GET_RESPONSE)?;
+    let counts = [read.remaining, read.completed, read.failed, read.warning];
+    assert_eq!(rt;
+        counts,
+        [Some(3), Some(2), Some(1), Some(4)],
+        "(0000,1020) to (0000,1023)"
+    );
+    let written = write_command(rt.alloc(), &read)?;
+    assert_eq!(rt;
+        written.as_slice(),
+        GET_RESPONSE.as_slice(),
         "the same bytes"
     );
     Ok(())

@@ -123,51 +123,98 @@ fn a_rejection_is_written(rt: HostRuntime) -> Result<(), Fail> {
     Ok(())
 }
 
-#[test]
-fn a_known_title_is_accepted(rt: HostRuntime) -> Result<(), Fail> {
-    let items: [&[u8]; 3] = [CONTEXT_NAME, VERIFICATION, USER];
-    let told = answered(rt.alloc(), 1, b"ARCHIVE         ", &items)?;
-    assert_eq!(rt; told, [0, 0, 1], "the first of two equal titles counts");
-    let told = answered(rt.alloc(), 3, b"  QUALITY       ", &items)?;
-    assert_eq!(rt;
-        told,
+// Another application context.
+const OTHER_NAME: &[u8] = b"\x10\x00\x00\x051.2.3";
+
+// Maximum lengths of 7, 8 and 70,000 bytes, and none.
+const SEVEN: &[u8] = b"\x50\x00\x00\x08\x51\x00\x00\x04\x00\x00\x00\x07";
+
+const EIGHT: &[u8] = b"\x50\x00\x00\x08\x51\x00\x00\x04\x00\x00\x00\x08";
+
+const ABOVE_OURS: &[u8] = b"\x50\x00\x00\x08\x51\x00\x00\x04\x00\x01\x11\x70";
+
+const NO_LIMIT: &[u8] = b"\x50\x00\x00\x00";
+
+const ARCHIVE: &[u8] = b"ARCHIVE         ";
+
+const QUALITY: &[u8] = b"  QUALITY       ";
+
+const NOBODY: &[u8] = b"NOBODY          ";
+
+/// Requests by version, title, application context and user information, and what they are
+/// answered.
+const REQUESTS: [(&str, u8, &[u8], &[u8], &[u8], [u8; 3]); 9] = [
+    (
+        "the first of equal titles",
+        1,
+        ARCHIVE,
+        CONTEXT_NAME,
+        USER,
+        [0, 0, 1],
+    ),
+    (
+        "outer spaces, other version bits",
+        3,
+        QUALITY,
+        CONTEXT_NAME,
+        USER,
         [0, 0, 2],
-        "outer spaces are dropped, other version bits not tested"
-    );
-    Ok(())
-}
+    ),
+    (
+        "the version before all",
+        2,
+        NOBODY,
+        OTHER_NAME,
+        USER,
+        [1, 2, 2],
+    ),
+    (
+        "the context before the title",
+        1,
+        NOBODY,
+        OTHER_NAME,
+        USER,
+        [1, 1, 2],
+    ),
+    ("an unknown title", 1, NOBODY, CONTEXT_NAME, USER, [1, 1, 7]),
+    (
+        "a limit in which nothing fits",
+        1,
+        ARCHIVE,
+        CONTEXT_NAME,
+        SEVEN,
+        [1, 1, 1],
+    ),
+    (
+        "a limit of 8 bytes",
+        1,
+        ARCHIVE,
+        CONTEXT_NAME,
+        EIGHT,
+        [0, 0, 1],
+    ),
+    (
+        "a limit above our own",
+        1,
+        ARCHIVE,
+        CONTEXT_NAME,
+        ABOVE_OURS,
+        [0, 0, 1],
+    ),
+    ("no limit", 1, ARCHIVE, CONTEXT_NAME, NO_LIMIT, [0, 0, 1]),
+];
 
 #[test]
-fn the_first_refusal_is_told(rt: HostRuntime) -> Result<(), Fail> {
-    let other = b"\x10\x00\x00\x051.2.3";
-    let told = answered(rt.alloc(), 2, b"NOBODY          ", &[other, USER])?;
-    assert_eq!(rt; told, [1, 2, 2], "the version before all");
-    let told = answered(rt.alloc(), 1, b"NOBODY          ", &[other, USER])?;
-    assert_eq!(rt; told, [1, 1, 2], "the application context before the title");
-    let told = answered(rt.alloc(), 1, b"NOBODY          ", &[CONTEXT_NAME, USER])?;
-    assert_eq!(rt; told, [1, 1, 7], "an unknown title");
-    Ok(())
-}
-
-#[test]
-fn a_limit_in_which_nothing_fits_is_refused(rt: HostRuntime) -> Result<(), Fail> {
-    let seven = b"\x50\x00\x00\x08\x51\x00\x00\x04\x00\x00\x00\x07";
-    let told = answered(rt.alloc(), 1, b"ARCHIVE         ", &[CONTEXT_NAME, seven])?;
-    assert_eq!(rt; told, [1, 1, 1], "7 bytes");
-    let eight = b"\x50\x00\x00\x08\x51\x00\x00\x04\x00\x00\x00\x08";
-    let told = answered(rt.alloc(), 1, b"ARCHIVE         ", &[CONTEXT_NAME, eight])?;
-    assert_eq!(rt; told, [0, 0, 1], "8 bytes");
-    let none = b"\x50\x00\x00\x00";
-    let told = answered(rt.alloc(), 1, b"ARCHIVE         ", &[CONTEXT_NAME, none])?;
-    assert_eq!(rt; told, [0, 0, 1], "no limit");
-    Ok(())
-}
-
-#[test]
-fn a_limit_above_our_own_is_accepted(rt: HostRuntime) -> Result<(), Fail> {
-    let above = b"\x50\x00\x00\x08\x51\x00\x00\x04\x00\x01\x11\x70";
-    let told = answered(rt.alloc(), 1, b"ARCHIVE         ", &[CONTEXT_NAME, above])?;
-    assert_eq!(rt; told, [0, 0, 1], "70,000 bytes");
+fn requests_are_answered_with_the_first_refusal(rt: HostRuntime) -> Result<(), Fail> {
+    for (name, version, title, context_name, user, expected) in REQUESTS {
+        let told = answered(
+            rt.alloc(),
+            version,
+            title,
+            &[context_name, VERIFICATION, user],
+        )?;
+        assert_eq!(rt; told, expected, "{name}");
+    }
     Ok(())
 }
 
@@ -223,14 +270,7 @@ fn told(
 
 fn good_request(alloc: Global) -> Result<Event, PduFault> {
     let items: [&[u8]; 3] = [CONTEXT_NAME, VERIFICATION, USER];
-    Ok(Event::Got(request(alloc, 1, b"ARCHIVE         ", &items)?))
-}
-
-fn peer_aborts() -> Event {
-    Event::Got(Pdu::Abort {
-        source: 0,
-        reason: 0,
-    })
+    Ok(Event::Got(request(alloc, 1, ARCHIVE, &items)?))
 }
 
 /// A P-DATA-TF with values on these contexts.
@@ -247,51 +287,99 @@ fn data(alloc: Global, contexts: &[u8]) -> Result<Event, AllocError> {
     Ok(Event::Got(Pdu::PData(values)))
 }
 
-#[test]
-fn an_unexpected_first_pdu_is_answered_by_an_abort(rt: HostRuntime) -> Result<(), Fail> {
-    let alloc = rt.alloc();
+/// An event by a letter: Q a request, N one of an unknown title, D data, R a release request, B an
+/// abort, U a PDU of an unknown type, L one that is too long, E the stream's end, X a local abort.
+fn event(alloc: Global, letter: u8) -> Result<Event, Fail> {
+    let event = match letter {
+        b'Q' => good_request(alloc)?,
+        b'N' => Event::Got(request(alloc, 1, NOBODY, &[CONTEXT_NAME, USER])?),
+        b'D' => data(alloc, &[1])?,
+        b'R' => Event::Got(Pdu::ReleaseRq),
+        b'B' => Event::Got(Pdu::Abort {
+            source: 0,
+            reason: 0,
+        }),
+        b'U' => Event::Bad(PduFault::UnknownType),
+        b'L' => Event::Bad(PduFault::TooLong),
+        b'E' => Event::Ended,
+        _ => Event::LocalAbort,
+    };
+    Ok(event)
+}
+
+/// An event, what is asked on it, and where it leads.
+type Row = (u8, (u8, u8, u8, State));
+
+/// Events one after another, from Sta2.
+const RUNS: [(&str, &[Row]); 7] = [
+    (
+        "an unexpected first PDU",
+        &[
+            (b'R', (b'B', 0, 0, State::Sta13)),
+            (b'R', (b'-', 0, 0, State::Sta13)),
+            (b'E', (b'C', 0, 0, State::Sta1)),
+        ],
+    ),
+    (
+        "a faulty first PDU",
+        &[
+            (b'U', (b'B', 0, 0, State::Sta13)),
+            (b'L', (b'B', 2, 6, State::Sta13)),
+            (b'Q', (b'B', 2, 2, State::Sta13)),
+        ],
+    ),
+    (
+        "data until a release",
+        &[
+            (b'Q', (b'A', 0, 0, State::Sta6)),
+            (b'D', (b'H', 0, 0, State::Sta6)),
+            (b'R', (b'R', 0, 0, State::Sta13)),
+            (b'D', (b'-', 0, 0, State::Sta13)),
+        ],
+    ),
+    (
+        "a second request",
+        &[
+            (b'Q', (b'A', 0, 0, State::Sta6)),
+            (b'Q', (b'B', 2, 2, State::Sta13)),
+        ],
+    ),
+    (
+        "an unknown PDU",
+        &[
+            (b'Q', (b'A', 0, 0, State::Sta6)),
+            (b'U', (b'B', 2, 1, State::Sta13)),
+            (b'B', (b'C', 0, 0, State::Sta1)),
+            (b'Q', (b'-', 0, 0, State::Sta1)),
+        ],
+    ),
+    (
+        "a local abort",
+        &[
+            (b'X', (b'-', 0, 0, State::Sta2)),
+            (b'Q', (b'A', 0, 0, State::Sta6)),
+            (b'X', (b'B', 0, 0, State::Sta13)),
+        ],
+    ),
+    ("an unknown title", &[(b'N', (b'J', 1, 7, State::Sta13))]),
+];
+
+fn goes(rt: &impl Abort, alloc: Global, name: &str, rows: &[Row]) -> Result<(), Fail> {
     let titles = titles(alloc)?;
     let mut acceptor = Acceptor::new(alloc);
-    let row = told(&mut acceptor, &titles, Event::Got(Pdu::ReleaseRq))?;
-    assert_eq!(rt;
-        row,
-        (b'B', 0, 0, State::Sta13),
-        "a release request in Sta2"
-    );
-    let row = told(&mut acceptor, &titles, Event::Got(Pdu::ReleaseRq))?;
-    assert_eq!(rt; row, (b'-', 0, 0, State::Sta13), "nothing in Sta13");
-    let row = told(&mut acceptor, &titles, Event::Ended)?;
-    assert_eq!(rt; row, (b'C', 0, 0, State::Sta1), "the stream ends");
+    for (letter, row) in rows {
+        let event = event(alloc, *letter)?;
+        let told = told(&mut acceptor, &titles, event)?;
+        assert_eq!(rt; told, *row, "{name}, event {letter}");
+    }
     Ok(())
 }
 
 #[test]
-fn a_faulty_first_pdu_is_answered_by_an_abort(rt: HostRuntime) -> Result<(), Fail> {
-    let alloc = rt.alloc();
-    let titles = titles(alloc)?;
-    let mut acceptor = Acceptor::new(alloc);
-    let row = told(&mut acceptor, &titles, Event::Bad(PduFault::UnknownType))?;
-    assert_eq!(rt; row, (b'B', 0, 0, State::Sta13), "in Sta2 of the user");
-    let row = told(&mut acceptor, &titles, Event::Bad(PduFault::TooLong))?;
-    assert_eq!(rt; row, (b'B', 2, 6, State::Sta13), "in Sta13 of the provider");
-    let row = told(&mut acceptor, &titles, good_request(alloc)?)?;
-    assert_eq!(rt; row, (b'B', 2, 2, State::Sta13), "a request in Sta13");
-    Ok(())
-}
-
-#[test]
-fn data_is_handed_on_until_a_release(rt: HostRuntime) -> Result<(), Fail> {
-    let alloc = rt.alloc();
-    let titles = titles(alloc)?;
-    let mut acceptor = Acceptor::new(alloc);
-    let row = told(&mut acceptor, &titles, good_request(alloc)?)?;
-    assert_eq!(rt; row, (b'A', 0, 0, State::Sta6), "accepted");
-    let row = told(&mut acceptor, &titles, data(alloc, &[1])?)?;
-    assert_eq!(rt; row, (b'H', 0, 0, State::Sta6), "handed on");
-    let row = told(&mut acceptor, &titles, Event::Got(Pdu::ReleaseRq))?;
-    assert_eq!(rt; row, (b'R', 0, 0, State::Sta13), "released");
-    let row = told(&mut acceptor, &titles, data(alloc, &[1])?)?;
-    assert_eq!(rt; row, (b'-', 0, 0, State::Sta13), "and not handed on");
+fn events_are_answered_by_the_table(rt: HostRuntime) -> Result<(), Fail> {
+    for (name, rows) in RUNS {
+        goes(&rt, rt.alloc(), name, rows)?;
+    }
     Ok(())
 }
 
@@ -327,52 +415,10 @@ fn the_values_of_a_p_data_are_handed_on_as_they_came(rt: HostRuntime) -> Result<
 }
 
 #[test]
-fn a_second_request_is_unexpected(rt: HostRuntime) -> Result<(), Fail> {
-    let alloc = rt.alloc();
-    let titles = titles(alloc)?;
-    let mut acceptor = Acceptor::new(alloc);
-    told(&mut acceptor, &titles, good_request(alloc)?)?;
-    let row = told(&mut acceptor, &titles, good_request(alloc)?)?;
-    assert_eq!(rt; row, (b'B', 2, 2, State::Sta13), "reason 2");
-    Ok(())
-}
-
-#[test]
-fn an_unknown_pdu_has_its_own_reason(rt: HostRuntime) -> Result<(), Fail> {
-    let alloc = rt.alloc();
-    let titles = titles(alloc)?;
-    let mut acceptor = Acceptor::new(alloc);
-    told(&mut acceptor, &titles, good_request(alloc)?)?;
-    let row = told(&mut acceptor, &titles, Event::Bad(PduFault::UnknownType))?;
-    assert_eq!(rt; row, (b'B', 2, 1, State::Sta13), "reason 1");
-    let row = told(&mut acceptor, &titles, peer_aborts())?;
-    assert_eq!(rt; row, (b'C', 0, 0, State::Sta1), "the peer aborts");
-    let row = told(&mut acceptor, &titles, good_request(alloc)?)?;
-    assert_eq!(rt; row, (b'-', 0, 0, State::Sta1), "nothing in Sta1");
-    Ok(())
-}
-
-#[test]
-fn a_local_abort_counts_in_an_association_alone(rt: HostRuntime) -> Result<(), Fail> {
-    let alloc = rt.alloc();
-    let titles = titles(alloc)?;
-    let mut acceptor = Acceptor::new(alloc);
-    let row = told(&mut acceptor, &titles, Event::LocalAbort)?;
-    assert_eq!(rt; row, (b'-', 0, 0, State::Sta2), "in Sta2");
-    told(&mut acceptor, &titles, good_request(alloc)?)?;
-    let row = told(&mut acceptor, &titles, Event::LocalAbort)?;
-    assert_eq!(rt; row, (b'B', 0, 0, State::Sta13), "in Sta6");
-    Ok(())
-}
-
-#[test]
-fn an_unknown_title_is_rejected(rt: HostRuntime) -> Result<(), Fail> {
-    let alloc = rt.alloc();
-    let titles = titles(alloc)?;
-    let mut acceptor = Acceptor::new(alloc);
-    let event = Event::Got(request(alloc, 1, b"NOBODY          ", &[CONTEXT_NAME, USER])?);
-    let row = told(&mut acceptor, &titles, event)?;
-    assert_eq!(rt; row, (b'J', 1, 7, State::Sta13), "not recognized");
+fn a_rejection_settles_nothing(rt: HostRuntime) -> Result<(), Fail> {
+    let titles = titles(rt.alloc())?;
+    let mut acceptor = Acceptor::new(rt.alloc());
+    acceptor.on(&titles, event(rt.alloc(), b'N')?)?;
     assert!(rt; acceptor.accepted().is_none(), "nothing was settled");
     Ok(())
 }
