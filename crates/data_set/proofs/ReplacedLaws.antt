@@ -65,14 +65,17 @@ all_may = (
         (
           may_put 0x0008_1030 76 79 (omega arith) refl refl refl refl refl refl refl refl,
           (
-            may_put 0x0010_0010 80 78 (omega arith) refl refl refl refl refl refl refl refl,
+            may_put 0x0008_103e 76 79 (omega arith) refl refl refl refl refl refl refl refl,
             (
-              may_put 0x0010_0020 76 79 (omega arith) refl refl refl refl refl refl refl refl,
+              may_put 0x0010_0010 80 78 (omega arith) refl refl refl refl refl refl refl refl,
               (
-                may_put 0x0010_0030 68 65 (omega arith) refl refl refl refl refl refl refl refl,
+                may_put 0x0010_0020 76 79 (omega arith) refl refl refl refl refl refl refl refl,
                 (
-                  may_put 0x0010_0040 67 83 (omega arith) refl refl refl refl refl refl refl refl,
-                  (may_put 0x0020_0010 83 72 (omega arith) refl refl refl refl refl refl refl refl, tt),
+                  may_put 0x0010_0030 68 65 (omega arith) refl refl refl refl refl refl refl refl,
+                  (
+                    may_put 0x0010_0040 67 83 (omega arith) refl refl refl refl refl refl refl refl,
+                    (may_put 0x0020_0010 83 72 (omega arith) refl refl refl refl refl refl refl refl, tt),
+                  ),
                 ),
               ),
             ),

@@ -3,8 +3,8 @@ use Rattle.std.specs.Prelude.{ℕ, List, [], ◌∷◌, Option, Some, None, ◌=
 use lib.Chars.{codes}
 
 -- (0008,0020) Study Date, (0008,0030) Study Time, (0008,0050) Accession Number, (0008,0090) Referring Physician's Name,
--- (0008,1030) Study Description, (0010,0010) Patient's Name, (0010,0020) Patient ID, (0010,0030) Patient's Birth Date,
--- (0010,0040) Patient's Sex, (0020,0010) Study ID
+-- (0008,1030) Study Description, (0008,103E) Series Description, (0010,0010) Patient's Name, (0010,0020) Patient ID,
+-- (0010,0030) Patient's Birth Date, (0010,0040) Patient's Sex, (0020,0010) Study ID
 abbrev pub corrections : List (ℕ × List ℕ)
 corrections =
     (0x0008_0020, codes "DA")
@@ -12,6 +12,7 @@ corrections =
     ∷ (0x0008_0050, codes "SH")
     ∷ (0x0008_0090, codes "PN")
     ∷ (0x0008_1030, codes "LO")
+    ∷ (0x0008_103e, codes "LO")
     ∷ (0x0010_0010, codes "PN")
     ∷ (0x0010_0020, codes "LO")
     ∷ (0x0010_0030, codes "DA")

@@ -13,9 +13,10 @@ pub fn correction_vr(tag: u32) -> Option<[u8; 2]>
         0x0008_0020 => Some(*b"DA"),
         0x0008_0030 => Some(*b"TM"),
         0x0008_0050 => Some(*b"SH"),
-        // Referring Physician's Name, Study Description
+        // Referring Physician's Name, Study Description, Series Description
         0x0008_0090 => Some(*b"PN"),
         0x0008_1030 => Some(*b"LO"),
+        0x0008_103e => Some(*b"LO"),
         // Patient's Name, Patient ID, Patient's Birth Date, Patient's Sex
         0x0010_0010 => Some(*b"PN"),
         0x0010_0020 => Some(*b"LO"),
