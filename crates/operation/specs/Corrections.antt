@@ -1,8 +1,9 @@
 -- Which corrections there are (docs/DECISIONS.md, "Corrections").
 use Rattle.std.specs.Prelude.{ℕ, ◌<◌, ◌^◌, List, length, Bool, true, false, not, ◌&&◌, ◌||◌, ◌==◌, nat_le, Option, Some, None, Result, Ok, Err, IsTrue, slice_get, is_some, if◌then◌else◌, ◌-◌, ◌/◌}
 use Rattle.std.specs.List.{list_all}
+use Rattle.dictionary.specs.declared.elements.TheConstants.{SERIES_DESCRIPTION}
 use Rattle.data_set.specs.Corrections.{correction_vr_of}
-use Rattle.data_set.specs.Uid.{is_uid_text}
+use Rattle.octets.specs.Uid.{is_uid_text}
 use Rattle.operation.specs.declared.fault.OpFault.{OpFault}
 use Rattle.operation.specs.declared.fault.OpFault.TheVariants.{BadCorrection}
 use Rattle.operation.specs.declared.target.Target.{Target}
@@ -17,9 +18,9 @@ is_corrected tag = is_some (correction_vr_of tag)
 abbrev pub is_of_patient : ℕ → Bool
 is_of_patient tag = tag / 65536 == 0x0010
 
--- (0008,103E) Series Description, the one attribute of a series
+-- the one attribute of a series
 abbrev pub is_of_series : ℕ → Bool
-is_of_series tag = tag == 0x0008_103e
+is_of_series tag = tag == SERIES_DESCRIPTION
 
 -- A study's correction is for any of them but that of a series, a patient's for one of the patient.
 abbrev pub is_tag_for : Target → ℕ → Bool
