@@ -1,3 +1,4 @@
+pub mod AuditLaws
 pub mod Latest
 pub mod MemberLaws
 pub mod ModelLaws

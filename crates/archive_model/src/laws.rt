@@ -1,6 +1,6 @@
 //! What the definitions mean: laws, said as contracts of functions with nothing to do.
 
-ghost use Rattle.archive_model.specs.Laws.{GreatestIsLast, SomeHaveGreatest, LastHaveOneValue, PickIsContent, PickIsLeast, ContentsHavePick, CoveredIsNamed, ShownArePicks, FlaggedHaveTwo, ShownAscend, StudyRepresentativeIsLeast, SeriesRepresentativeIsLeast};
+ghost use Rattle.archive_model.specs.Laws.{GreatestIsLast, SomeHaveGreatest, LastHaveOneValue, PickIsContent, PickIsLeast, ContentsHavePick, CoveredIsNamed, ShownArePicks, AuditCoversNothing, AuditShowsPicks, FlaggedHaveTwo, ShownAscend, StudyRepresentativeIsLeast, SeriesRepresentativeIsLeast};
 ghost use Rattle.archive_model.specs.Index.{CoveredByTitles};
 
 /// The greatest of some corrections is one of them that none comes after, by counter, site and
@@ -26,6 +26,12 @@ pub fn what_a_note_names_is_covered()
 /// What is shown are the picks whose UID is not covered and which are no notes that hide.
 pub fn what_is_shown_is_picked_and_uncovered()
     ensures { ShownArePicks }
+{}
+
+/// In an audit nothing is covered, and every pick is shown.
+pub fn an_audit_shows_every_pick()
+    ensures covered { AuditCoversNothing }
+    ensures shown { AuditShowsPicks }
 {}
 
 /// What is shown ascends by SOP Instance UID, so the representative of a study, or of a series of a

@@ -26,7 +26,7 @@ pub use groups::{
 pub use index::{copies, fix, is_titled, pick_digest};
 pub use keys::{modality, patient, series, study};
 pub use laws::{
-    representatives_have_the_least_uid, the_greatest_correction_is_last,
+    an_audit_shows_every_pick, representatives_have_the_least_uid, the_greatest_correction_is_last,
     the_pick_has_the_least_digest, titles_say_what_is_covered, what_a_note_names_is_covered,
     what_is_flagged_has_two_contents, what_is_shown_is_picked_and_uncovered,
 };

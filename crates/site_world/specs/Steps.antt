@@ -9,7 +9,7 @@ use Rattle.operation.specs.Parts.{CorrectionParts}
 use Rattle.operation.specs.Spelling.{digest_of}
 use Rattle.operation.specs.Corrections.{is_correction}
 use Rattle.archive_model.specs.declared.view.View.{View}
-use Rattle.archive_model.specs.declared.view.View.TheVariants.{Archive, Quality}
+use Rattle.archive_model.specs.declared.view.View.TheVariants.{Archive, Quality, Audit}
 use Rattle.archive_query.specs.declared.query.Query.{Query}
 use Rattle.archive_query.specs.Rows.{rows_of}
 use Rattle.site_state.specs.Site.{Map, held_at, with_op, ops_of, top_counter_of}
@@ -88,6 +88,7 @@ told_of_correcting m made =
 abbrev pub title_of : View → List ℕ
 title_of Archive = codes "ARCHIVE"
 title_of Quality = codes "QUALITY"
+title_of Audit = codes "AUDIT"
 
 -- the rows that answer a query; a look changes nothing
 abbrev pub told_of_looking : Map → View → Query → Told

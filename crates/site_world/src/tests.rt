@@ -36,6 +36,31 @@ fn answered(
     Ok((ended, writer))
 }
 
+/// A series' description is corrected, and its image is rejected.
+const AUDITED: &[u8] = b"site A\nimage A 1.2.1 1.2.1.1 1.2.1.1.1 P1 DOE^JANE\n\
+    correct A series 1.2.1.1 0008103e HEAD\n\
+    correct A study 1.2.1 0008103e HEAD\n\
+    note A 113037 1.2.1 1.2.9 1.2.1.1.1\n\
+    find A ARCHIVE SERIES 0020000d=1.2.1 0008103e=HE*\n\
+    find A AUDIT SERIES 0020000d=1.2.1 0008103e=HE*\n";
+
+#[test]
+fn an_audit_finds_a_rejected_image_by_its_corrected_series(rt: HostRuntime) -> Result<(), Fail> {
+    let (ended, writer) = answered(rt.alloc(), AUDITED, 100, None, 1000)?;
+    assert_eq!(rt; ended, Ok(7), "all lines");
+    assert_eq!(rt;
+        writer.as_slice(),
+        b"site A 1\nnew\nstamp 1 1\nfault world 6\nnew\nend 0\n\
+        answer 0800520006000000534552494553080054000600000041554449542008003e1004000000484541\
+        4420000d0006000000312e322e310020000e0008000000312e322e312e3100\n\
+        answer 0800520006000000534552494553080054000600000041554449542008003e1000000000\
+        20000d0006000000312e322e310020000e0008000000312e322e392e3000\nend 2\n"
+            .as_slice(),
+        "the image's series, and the note's, whose empty description matches"
+    );
+    Ok(())
+}
+
 #[test]
 fn the_cuts_of_the_reads_do_not_matter(rt: HostRuntime) -> Result<(), Fail> {
     for piece in [1, 7, 100_000].iter().copied() {

@@ -116,6 +116,7 @@ fn title_of(view: View) -> &'static [u8]
     match view {
         View::Archive => b"ARCHIVE",
         View::Quality => b"QUALITY",
+        View::Audit => b"AUDIT",
     }
 }
 
