@@ -1,3 +1,4 @@
 pub mod Latest
 pub mod MemberLaws
 pub mod ModelLaws
+pub mod CoercionLaws
