@@ -2,7 +2,7 @@ use Rattle.std.proofs.Common.{◌∙◌, sym, ap}
 use Rattle.std.specs.BTreeMap.{is_at}
 use Rattle.std.specs.Set.{remove_key}
 use Rattle.join_laws.proofs.Undone.{not_true, not_false, remove-insert_key, insert_key_present}
-use Rattle.join_laws.proofs.grow_set.GrowSetSummary.undo.Goals as goal
+use Rattle.join_laws.proofs.grow_set.GrowSetUndoes.undo.Goals as goal
 
 -- the key was absent, and is taken out
 pub returns-then-undo : goal.returns-then-undo

@@ -1,7 +1,7 @@
 use Rattle.std.proofs.lemmas.List.Elements.{All-same}
 use Rattle.join_laws.specs.MapOf.{put_joined}
 use Rattle.join_laws.specs.Proved.Maps.{All-put_joined}
-use Rattle.join_laws.proofs.map_of.MapOfSummaryTuple2.add_with_undo.Goals as goal
+use Rattle.join_laws.proofs.map_of.MapOfSummaryTuple2.add.Goals as goal
 
 -- what was held is held, and so is the value of an operation
 pub invariant_of-self-2 : goal.invariant_of-self-2
