@@ -13,9 +13,11 @@ use Rattle.data_set.specs.Fault.{is_memory}
 use Rattle.data_set.specs.Tree.{Tree}
 use Rattle.data_set.specs.Tags.{is_group_length}
 use Rattle.data_set.specs.Texts.{HasFault}
-use Rattle.data_set.specs.Values.{trimmed, value_in}
+use Rattle.octets.specs.Padding.{trimmed}
+use Rattle.dictionary.specs.Elements.{vr_in_table}
+use Rattle.data_set.specs.Values.{value_in}
 use Rattle.data_set.specs.Converted.{with_value}
-use Rattle.data_set.specs.Corrections.{corrections as corrected_attributes, vr_among, correction_vr_of}
+use Rattle.data_set.specs.Corrections.{corrected_tags, vr_among, correction_vr_of}
 use Rattle.data_set.proofs.Sets.{fault_or_spelled}
 use Rattle.data_set.proofs.ValueLaws.{put_value, other_value}
 use Rattle.operation.specs.declared.op.Op.{Op}
@@ -23,7 +25,7 @@ use Rattle.operation.specs.Parts.{ContentParts, own_value}
 use Rattle.operation.specs.Contents.{IsContent}
 use Rattle.archive_model.specs.Attributes.{attribute}
 use Rattle.archive_model.specs.Members.{Has}
-use Rattle.archive_model.specs.Coercion.{corrected_tags, is_changed, is_coerced, put_attribute, with_attribute, with_attributes, coerced, CoercedHasAttributes, CoercedKeepsOthers, OwnIsNotCoerced}
+use Rattle.archive_model.specs.Coercion.{is_changed, is_coerced, put_attribute, with_attribute, with_attributes, coerced, CoercedHasAttributes, CoercedKeepsOthers, OwnIsNotCoerced}
 use Rattle.archive_model.proofs.ModelLaws.{same_itself}
 
 told_fault : (s : Syntax) (text : List ℕ) (f : SetFault) → f ≢ Memory → Told is_memory f (HasFault s text) → HasFault s text f
@@ -94,18 +96,17 @@ values_kept ops c tag element none (t ∷ tags) ts = values_kept ops c tag eleme
     step (inr apart) = other_kept ops c t tag (correction_vr_of t) ts element apart.1
 
 -- a tag with a value representation is one of those that may be corrected
-has_vr : (tag : ℕ) (vr : List ℕ) (xs : List (ℕ × List ℕ)) → vr_among tag xs ≡ Some vr → Has (map (λ (x : ℕ × List ℕ). x.0) xs) tag
+has_vr : (tag : ℕ) (vr : List ℕ) (tags : List ℕ) → vr_among tag (map (λ (t : ℕ). (t, vr_in_table t)) tags) ≡ Some vr → Has tags tag
 has_vr tag vr [] e = absurd cc
-has_vr tag vr (x ∷ xs) e = step (eqb_tells tag x.0) (has_vr tag vr xs)
+has_vr tag vr (t ∷ tags) e = step (eqb_tells tag t) (has_vr tag vr tags)
   where
-    step : ((eqb tag x.0 ≡ true) × (tag ≡ x.0)) ⊎ ((eqb tag x.0 ≡ false) × (tag ≢ x.0)) → (vr_among tag xs ≡ Some vr → Has (map (λ (x : ℕ × List ℕ). x.0) xs) tag)
-        → Has (map (λ (x : ℕ × List ℕ). x.0) (x ∷ xs)) tag
+    step : ((eqb tag t ≡ true) × (tag ≡ t)) ⊎ ((eqb tag t ≡ false) × (tag ≢ t)) → (vr_among tag (map (λ (t : ℕ). (t, vr_in_table t)) tags) ≡ Some vr → Has tags tag) → Has (t ∷ tags) tag
     step (inl is) later = inl is.1
-    step (inr apart) later = inr (later (ap (λ (b : Bool). if b then Some x.1 else vr_among tag xs) (sym apart.0) ∙ e))
+    step (inr apart) later = inr (later (ap (λ (b : Bool). if b then Some (vr_in_table t) else vr_among tag (map (λ (t : ℕ). (t, vr_in_table t)) tags)) (sym apart.0) ∙ e))
 
 pub coerced_has_attributes : CoercedHasAttributes
 unfolding coerced
-coerced_has_attributes ops c ts tag vr element e changed = values_put ops c tag vr element e changed corrected_tags ts (inl (has_vr tag vr corrected_attributes e))
+coerced_has_attributes ops c ts tag vr element e changed = values_put ops c tag vr element e changed corrected_tags ts (inl (has_vr tag vr corrected_tags e))
 
 pub coerced_keeps_others : CoercedKeepsOthers
 unfolding coerced

@@ -1,21 +1,18 @@
 -- The data set of a content, with its corrections put in (PS3.4, B.4.1).
-use Rattle.std.specs.Prelude.{◌≡◌, ◌⊎◌, ℕ, List, [], ◌∷◌, Option, Some, None, Bool, true, false, not, map, if◌then◌else◌}
+use Rattle.std.specs.Prelude.{◌≡◌, ◌⊎◌, ℕ, List, [], ◌∷◌, Option, Some, None, Bool, true, false, not, if◌then◌else◌}
 use Rattle.std.specs.List.{list_any}
+use Rattle.octets.specs.Padding.{trimmed}
 use Rattle.data_set.specs.Tree.{Tree}
 use Rattle.data_set.specs.Tags.{is_group_length}
 use Rattle.data_set.specs.Texts.{Spells}
-use Rattle.data_set.specs.Values.{trimmed, value_in}
+use Rattle.data_set.specs.Values.{value_in}
 use Rattle.data_set.specs.Converted.{with_value}
-use Rattle.data_set.specs.Corrections.{corrections as corrected_attributes, correction_vr_of}
+use Rattle.data_set.specs.Corrections.{corrected_tags, correction_vr_of}
 use Rattle.operation.specs.declared.op.Op.{Op}
 use Rattle.operation.specs.Parts.{ContentParts, own_value}
 use Rattle.archive_model.specs.Texts.{same}
 use Rattle.archive_model.specs.Attributes.{attribute}
 use Rattle.archive_model.specs.Members.{Has}
-
--- the attributes that a correction may give a value, ascending
-abbrev pub corrected_tags : List ℕ
-corrected_tags = map (λ x. x.0) corrected_attributes
 
 -- whether an attribute of a content has another value than the content's own
 abbrev pub is_changed : List Op → ContentParts → ℕ → Bool

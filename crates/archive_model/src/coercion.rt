@@ -2,29 +2,30 @@
 
 ghost use Rattle.std.specs.Prelude.{◌≡◌, IfOk, map};
 ghost use Rattle.std.specs.List.{list_any};
-ghost use Rattle.archive_model.specs.Coercion.{corrected_tags as corrected_tags_in, is_changed as is_changed_in, is_coerced as is_coerced_in, with_attribute as with_attribute_in, with_attributes as with_attributes_in, AreStored, AreCoerced};
+ghost use Rattle.data_set.specs.Corrections.{corrected_tags as corrected_tags_in};
+ghost use Rattle.archive_model.specs.Coercion.{is_changed as is_changed_in, is_coerced as is_coerced_in, with_attribute as with_attribute_in, with_attributes as with_attributes_in, AreStored, AreCoerced};
 
 use crate::attributes::{attribute, correction_for};
 use data_set::{DataSet, SetFault, correction_vr, read};
+use dictionary::{
+    ACCESSION_NUMBER, PATIENT_BIRTH_DATE, PATIENT_ID, PATIENT_NAME, PATIENT_SEX,
+    REFERRING_PHYSICIAN_NAME, STUDY_DATE, STUDY_DESCRIPTION, STUDY_ID, STUDY_TIME,
+};
 use operation::{Content, Op};
 use std::alloc::{AllocError, Global};
 
 /// The attributes that a correction may give a value (docs/DECISIONS.md, "Corrections").
 const CORRECTED_TAGS: [u32; 10] = [
-    // Study Date, Study Time, Accession Number
-    0x0008_0020,
-    0x0008_0030,
-    0x0008_0050,
-    // Referring Physician's Name, Study Description
-    0x0008_0090,
-    0x0008_1030,
-    // Patient's Name, Patient ID, Patient's Birth Date, Patient's Sex
-    0x0010_0010,
-    0x0010_0020,
-    0x0010_0030,
-    0x0010_0040,
-    // Study ID
-    0x0020_0010,
+    STUDY_DATE,
+    STUDY_TIME,
+    ACCESSION_NUMBER,
+    REFERRING_PHYSICIAN_NAME,
+    STUDY_DESCRIPTION,
+    PATIENT_NAME,
+    PATIENT_ID,
+    PATIENT_BIRTH_DATE,
+    PATIENT_SEX,
+    STUDY_ID,
 ];
 
 fn corrected_tags() -> &'static [u32]

@@ -5,12 +5,12 @@ use Rattle.std.specs.List.{filter, list_any}
 use Rattle.data_set.specs.declared.syntax.Syntax.{Syntax}
 use Rattle.data_set.specs.Tree.{Tree}
 use Rattle.data_set.specs.Converted.{with_value}
-use Rattle.data_set.specs.Corrections.{correction_vr_of}
+use Rattle.data_set.specs.Corrections.{corrected_tags, correction_vr_of}
 use Rattle.operation.specs.declared.op.Op.{Op}
 use Rattle.operation.specs.Parts.{ContentParts, CorrectionParts, own_value}
 use Rattle.archive_model.specs.Texts.{same}
 use Rattle.archive_model.specs.Attributes.{corrections, corrects, greatest, corrected, attribute}
-use Rattle.archive_model.specs.Coercion.{corrected_tags, is_changed, is_coerced, put_attribute, with_attribute, with_attributes, coerced}
+use Rattle.archive_model.specs.Coercion.{is_changed, is_coerced, put_attribute, with_attribute, with_attributes, coerced}
 use Rattle.archive_retrieve.specs.declared.accepts.Accepted.{Accepted}
 use Rattle.archive_retrieve.specs.declared.accepts.Form.{Form}
 use Rattle.archive_retrieve.specs.declared.accepts.Form.TheVariants.{Own, Converted}

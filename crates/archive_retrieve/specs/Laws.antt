@@ -3,8 +3,9 @@ use Rattle.std.specs.Prelude.{◌≡◌, ◌⊎◌, ℕ, List, Option, Some, Non
 use Rattle.data_set.specs.Tree.{Tree}
 use Rattle.data_set.specs.Tags.{is_group_length}
 use Rattle.data_set.specs.Texts.{Spells}
-use Rattle.data_set.specs.Values.{trimmed, value_in}
-use Rattle.data_set.specs.Corrections.{correction_vr_of}
+use Rattle.octets.specs.Padding.{trimmed}
+use Rattle.data_set.specs.Values.{value_in}
+use Rattle.data_set.specs.Corrections.{corrected_tags, correction_vr_of}
 use Rattle.operation.specs.declared.op.Op.{Op}
 use Rattle.operation.specs.Parts.{ContentParts, own_value}
 use Rattle.archive_model.specs.declared.view.View.{View}
@@ -13,7 +14,7 @@ use Rattle.archive_model.specs.Contents.{pick}
 use Rattle.archive_model.specs.Covered.{is_covered, is_hiding}
 use Rattle.archive_model.specs.Shown.{shown}
 use Rattle.archive_model.specs.Attributes.{attribute}
-use Rattle.archive_model.specs.Coercion.{corrected_tags, is_changed, AreStored}
+use Rattle.archive_model.specs.Coercion.{is_changed, AreStored}
 use Rattle.site_state.specs.Site.{Map, ops_of, held_at}
 use Rattle.archive_retrieve.specs.declared.accepts.Accepted.{Accepted}
 use Rattle.archive_retrieve.specs.declared.accepts.Accepts.{Accepts}

@@ -2,8 +2,10 @@
 use Rattle.std.specs.Prelude.{ℕ, List, [], ◌∷◌, Bool, not, ◌&&◌, ◌||◌, map, Option, Some, None, Result, Ok, Err, if◌then◌else◌}
 use Rattle.std.specs.List.{filter}
 use Rattle.octets.specs.Gives.{◌>>=◌}
+use Rattle.octets.specs.Padding.{trimmed}
+use Rattle.dictionary.specs.declared.elements.TheConstants.{QUERY_RETRIEVE_LEVEL, SERIES_INSTANCE_UID, SOP_INSTANCE_UID, STUDY_INSTANCE_UID}
 use Rattle.data_set.specs.Tree.{Tree}
-use Rattle.data_set.specs.Values.{trimmed, value_in}
+use Rattle.data_set.specs.Values.{value_in}
 use Rattle.operation.specs.Parts.{ContentParts}
 use Rattle.archive_model.specs.Texts.{same}
 use Rattle.archive_model.specs.Contents.{study_of, series_of}
@@ -19,11 +21,11 @@ use Rattle.archive_query.specs.Query.{level_in, upper_uid}
 use Rattle.archive_query.specs.Rows.{uid_at}
 use Rattle.archive_retrieve.specs.declared.selection.Selection.{Selection}
 
--- (0020,000D) Study Instance UID, (0020,000E) Series Instance UID, (0008,0018) SOP Instance UID
+-- the unique key of a level (PS3.4, C.6.2.1)
 abbrev pub unique_key : Level → ℕ
-unique_key Study = 0x0020_000d
-unique_key Series = 0x0020_000e
-unique_key Image = 0x0008_0018
+unique_key Study = STUDY_INSTANCE_UID
+unique_key Series = SERIES_INSTANCE_UID
+unique_key Image = SOP_INSTANCE_UID
 
 -- the members of a list of UIDs, one or more, which backslashes part
 abbrev pub uids_from : List ℕ → Result (List (List ℕ)) QueryFault
@@ -36,9 +38,9 @@ uids_in (Some key) = uids_from key
 -- the selection, or the first fault: no level, then a unique key above the level that is not one UID, then no UID at the level
 unfoldable pub selection_of : List Tree → Result Selection QueryFault
 selection_of elements = do
-  level ← level_in (value_in 0x0008_0052 elements)
-  study ← upper_uid (has_study_above level) 0x0020_000d elements
-  series ← upper_uid (has_series_above level) 0x0020_000e elements
+  level ← level_in (value_in QUERY_RETRIEVE_LEVEL elements)
+  study ← upper_uid (has_study_above level) STUDY_INSTANCE_UID elements
+  series ← upper_uid (has_series_above level) SERIES_INSTANCE_UID elements
   uids ← uids_in (value_in (unique_key level) elements)
   Ok (record { level = level; study = study; series = series; uids = uids })
 

@@ -9,18 +9,10 @@ ghost use Rattle.archive_retrieve.specs.Selection.{unique_key as unique_key_in, 
 
 use archive_query::{Level, QueryFault, level_of, upper_uid};
 use data_set::DataSet;
+use dictionary::{SERIES_INSTANCE_UID, SOP_INSTANCE_UID, STUDY_INSTANCE_UID};
 use key_matching::{Matching, is_of_form, members_of};
 use octets::{ListOf, Octets};
 use std::alloc::Global;
-
-/// (0008,0018) SOP Instance UID
-const SOP_INSTANCE_UID: u32 = 0x0008_0018;
-
-/// (0020,000D) Study Instance UID
-const STUDY_INSTANCE_UID: u32 = 0x0020_000d;
-
-/// (0020,000E) Series Instance UID
-const SERIES_INSTANCE_UID: u32 = 0x0020_000e;
 
 /// What is asked for: the studies, series or instances of these UIDs.
 #[derive(Debug, Drop)]

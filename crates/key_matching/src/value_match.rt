@@ -2,14 +2,13 @@
 
 ghost use Rattle.std.specs.Prelude.{◌≡◌, ◌<◌, ◌+◌, ◌++◌, ◌∷◌, [], length, take, drop, map, position, IfSome, IfOk, OnOk};
 ghost use Rattle.std.specs.List.{list_any, list_all};
-ghost use Rattle.data_set.specs.Values.{trimmed};
+ghost use Rattle.octets.specs.Padding.{trimmed as trimmed_in};
 ghost use Rattle.key_matching.specs.Matches.{is_universal as is_universal_in, is_backslash, parts, is_uid_part as is_uid_part_in, is_same_part as is_same_part_in, is_of_form as is_of_form_in, is_match_by as is_match_by_in, matches as matches_in};
 
 use crate::matching::Matching;
 use crate::range::{Moment, is_in_range, is_range};
 use crate::wild_card::is_wild_match;
-use data_set::{is_uid, trimmed_of};
-use octets::Octets;
+use octets::{Octets, is_uid, trimmed};
 use std::alloc::{AllocError, Global};
 
 /// Whether a key matches every value: it is empty, or `*` alone
@@ -23,13 +22,13 @@ pub fn is_universal(key: &[u8]) -> bool
 fn is_uid_part(part: &[u8]) -> bool
     ensures { result ≡ is_uid_part_in part.now }
 {
-    is_uid(trimmed_of(part))
+    is_uid(trimmed(part))
 }
 
 fn is_same_part(value: &[u8], part: &[u8]) -> bool
     ensures { result ≡ is_same_part_in value.now part.now }
 {
-    trimmed_of(part) == value
+    trimmed(part) == value
 }
 
 /// Where the first backslash stands.
@@ -90,15 +89,15 @@ fn is_listed(key: &[u8], value: &[u8]) -> bool
 
 /// Adds a member of a list, trimmed.
 fn add_member(alloc: Global, members: &mut Vec<Octets>, part: &[u8]) -> Result<(), AllocError>
-    ensures { OnOk result (members.new.items ≡ members.old.items ++ trimmed part.now ∷ []) }
+    ensures { OnOk result (members.new.items ≡ members.old.items ++ trimmed_in part.now ∷ []) }
 {
-    members.push(Octets::from_slice(alloc, trimmed_of(part))?)?;
+    members.push(Octets::from_slice(alloc, trimmed(part))?)?;
     Ok(())
 }
 
 /// The members of a list of UIDs, which backslashes part, each trimmed.
 pub fn members_of(alloc: Global, key: &[u8]) -> Result<Vec<Octets>, AllocError>
-    ensures { IfOk result (λ members. members.items ≡ map trimmed (parts key.now)) }
+    ensures { IfOk result (λ members. members.items ≡ map trimmed_in (parts key.now)) }
 {
     let mut members = Vec::new(alloc);
     let mut rest = key;

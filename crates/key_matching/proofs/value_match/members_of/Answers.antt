@@ -1,5 +1,5 @@
 use Rattle.std.proofs.Common.{◌≡◌, ◌++◌, ◌∷◌, [], List, ℕ, map, take, ap, sym, ◌∙◌, append_assoc}
-use Rattle.data_set.specs.Values.{trimmed}
+use Rattle.octets.specs.Padding.{trimmed}
 use Rattle.key_matching.specs.Matches.{parts}
 use Rattle.key_matching.proofs.Parts.{parts_none, parts_some}
 use Rattle.key_matching.proofs.value_match.members_of.Goals as goal

@@ -1,5 +1,5 @@
 use Rattle.std.proofs.Common.{◌≡◌, ◌++◌, map, length}
-use Rattle.data_set.specs.Values.{trimmed}
+use Rattle.octets.specs.Padding.{trimmed}
 use Rattle.key_matching.specs.Matches.{parts}
 use Rattle.key_matching.proofs.value_match.members_of.Given as goal
 
