@@ -60,7 +60,12 @@ pub fn level_of(set: &DataSet) -> Result<Level, QueryFault>
 }
 
 /// A unique key above the level, which names exactly one UID; empty where none is named.
-pub fn upper_uid(alloc: Global, set: &DataSet, is_named: bool, tag: u32) -> Result<Octets, QueryFault>
+pub fn upper_uid(
+    alloc: Global,
+    set: &DataSet,
+    is_named: bool,
+    tag: u32,
+) -> Result<Octets, QueryFault>
     ensures { Gives is_memory (λ uid. uid) result (upper_uid_in is_named tag set.now.elements) }
 {
     if !is_named {
