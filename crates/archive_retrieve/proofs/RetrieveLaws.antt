@@ -1,5 +1,8 @@
 -- What is sent is one thing, and what it is.
-use Rattle.std.proofs.Common.{◌≡◌, ◌⊎◌, inl, inr, ℕ, Bool, true, false, List, [], ◌∷◌, Option, Some, None, refl, sym, ap, subst, ◌∙◌}
+use Rattle.std.proofs.Common.{◌≡◌, ◌⊎◌, inl, inr, ℕ, Bool, true, false, List, [], ◌∷◌, Option, Some, None, cond, map, refl, sym, ap, subst, ◌∙◌, Less}
+use Rattle.std.specs.List.{filter, AllByRecursion}
+use Rattle.std.specs.List.Sorted.{IsStrictlySortedBy}
+use Rattle.octets.specs.Texts.{text_cmp}
 use Rattle.std.specs.Prelude.{not, MatchBool}
 use Rattle.std.specs.Cmp.Lexicographic.{nat_list_cmp_total}
 use Rattle.std.specs.FinMap.{same_map, nat_cmp-IsAntisymmetric, slice_cmp-IsAntisymmetric}
@@ -19,7 +22,7 @@ use Rattle.archive_model.specs.Covered.{is_covered}
 use Rattle.archive_model.specs.Shown.{shown}
 use Rattle.archive_model.specs.Coercion.{is_coerced, coerced, AreCoerced}
 use Rattle.archive_model.proofs.MemberLaws.{has_filter, filter_has}
-use Rattle.archive_model.proofs.ModelLaws.{shown_are_picks}
+use Rattle.archive_model.proofs.ModelLaws.{shown_are_picks, shown_ascend}
 use Rattle.archive_model.proofs.CoercionLaws.{coerced_has_attributes, coerced_keeps_others, own_is_not_coerced}
 use Rattle.site_state.specs.Site.{Map, ops_of}
 use Rattle.archive_retrieve.specs.declared.accepts.Accepted.{Accepted}
@@ -29,7 +32,7 @@ use Rattle.archive_retrieve.specs.declared.sending.Sending.{Sending}
 use Rattle.archive_retrieve.specs.Accepts.{form_for, syntax_of}
 use Rattle.archive_retrieve.specs.Selection.{is_selected, selected}
 use Rattle.archive_retrieve.specs.Sending.{in_form, is_sent_as_stored, IsWritten, IsText, IsBody, IsSending, AreSendings, Gets}
-use Rattle.archive_retrieve.specs.Laws.{SameSitesSendAlike, IsShownPick, NothingHiddenIsSent, WhatIsShownIsSent, WhatNeedsNothingIsSentAsItCame, SentHasAttributes, SentKeepsOthers}
+use Rattle.archive_retrieve.specs.Laws.{SameSitesSendAlike, IsShownPick, NothingHiddenIsSent, WhatIsShownIsSent, WhatIsSentAscends, WhatNeedsNothingIsSentAsItCame, SentHasAttributes, SentKeepsOthers}
 
 -- ---- one answer
 
@@ -113,6 +116,43 @@ pub all_shown : WhatIsShownIsSent
 unfolding Gets
 all_shown view selection accepts ops sendings c gets has is =
     of_one ops accepts.list (selected selection (shown view ops)) sendings c gets (has_filter (is_selected selection) (shown view ops) c has is)
+
+-- ---- in order
+
+abbrev instances_of : List ContentParts → List (List ℕ)
+instances_of cs = map (λ (c : ContentParts). c.instance) cs
+
+all_kept : (P : List ℕ → Type 0) (p : ContentParts → Bool) (cs : List ContentParts) → AllByRecursion P (instances_of cs) → AllByRecursion P (instances_of (filter p cs))
+all_kept P p [] all = all
+all_kept P p (c ∷ cs) all = by_test (p c) (all_kept P p cs all.1)
+  where
+    by_test : (b : Bool) → AllByRecursion P (instances_of (filter p cs)) → AllByRecursion P (instances_of (cond b (c ∷ filter p cs) (filter p cs)))
+    by_test true rest = (all.0, rest)
+    by_test false rest = rest
+
+kept_by : (p : ContentParts → Bool) (c : ContentParts) (cs : List ContentParts) (b : Bool) → AllByRecursion (λ uid. text_cmp c.instance uid ≡ Less) (instances_of (filter p cs)) → IsStrictlySortedBy text_cmp (instances_of (filter p cs))
+    → IsStrictlySortedBy text_cmp (instances_of (cond b (c ∷ filter p cs) (filter p cs)))
+unfolding IsStrictlySortedBy
+kept_by p c cs true above rest = (above, rest)
+kept_by p c cs false above rest = rest
+
+kept_ascend : (p : ContentParts → Bool) (cs : List ContentParts) → IsStrictlySortedBy text_cmp (instances_of cs) → IsStrictlySortedBy text_cmp (instances_of (filter p cs))
+unfolding IsStrictlySortedBy
+kept_ascend p [] up = up
+kept_ascend p (c ∷ cs) up = kept_by p c cs (p c) (all_kept (λ uid. text_cmp c.instance uid ≡ Less) p cs up.0) (kept_ascend p cs up.1)
+
+same_instances : (ops : List Op) (accepted : List Accepted) (cs : List ContentParts) (xs : List Sending) → AreSendings ops accepted cs xs → instances_of cs ≡ map (λ (x : Sending). x.instance) xs
+same_instances ops accepted [] [] are = refl
+same_instances ops accepted [] (x ∷ xs) are = absurd are
+same_instances ops accepted (c ∷ cs) [] are = absurd are
+same_instances ops accepted (c ∷ cs) (x ∷ xs) are =
+    ap (λ (uid : List ℕ). uid ∷ instances_of cs) (sym are.0.instance) ∙ ap (λ (uids : List (List ℕ)). x.instance ∷ uids) (same_instances ops accepted cs xs are.1)
+
+pub sent_ascend : WhatIsSentAscends
+unfolding Gets
+sent_ascend view selection accepts ops sendings gets =
+    subst (IsStrictlySortedBy text_cmp) (same_instances ops accepts.list (selected selection (shown view ops)) sendings gets)
+    (kept_ascend (is_selected selection) (shown view ops) (shown_ascend view ops))
 
 -- ---- as it came
 

@@ -1,5 +1,7 @@
 -- What is sent, said of the set.
-use Rattle.std.specs.Prelude.{◌≡◌, ◌⊎◌, ℕ, List, Option, Some, None, true, false}
+use Rattle.std.specs.Prelude.{◌≡◌, ◌⊎◌, ℕ, List, Option, Some, None, true, false, map}
+use Rattle.std.specs.List.Sorted.{IsStrictlySortedBy}
+use Rattle.octets.specs.Texts.{text_cmp}
 use Rattle.data_set.specs.Tree.{Tree}
 use Rattle.data_set.specs.Tags.{is_group_length}
 use Rattle.data_set.specs.Texts.{Spells}
@@ -53,6 +55,12 @@ WhatIsShownIsSent =
     (view : View) (selection : Selection) (accepts : Accepts) (ops : List Op) (sendings : List Sending) (c : ContentParts)
     → Gets view selection accepts ops sendings → Has (shown view ops) c → is_selected selection c ≡ true
     → (sending : Sending) × Has sendings sending × IsSending ops accepts.list c sending
+
+-- by ascending SOP Instance UID, each once
+abbrev pub WhatIsSentAscends : Type 0
+WhatIsSentAscends =
+    (view : View) (selection : Selection) (accepts : Accepts) (ops : List Op) (sendings : List Sending)
+    → Gets view selection accepts ops sendings → IsStrictlySortedBy text_cmp (map (λ s. s.instance) sendings)
 
 -- where every attribute that a correction may give a value has the content's own, and its syntax is accepted, a data set is sent as
 -- it came, byte for byte

@@ -1,16 +1,18 @@
 //! What is sent, as contracts of functions that do nothing.
 
-ghost use Rattle.archive_retrieve.specs.Laws.{SameSitesSendAlike, NothingHiddenIsSent, WhatIsShownIsSent, WhatNeedsNothingIsSentAsItCame, SentHasAttributes, SentKeepsOthers};
+ghost use Rattle.archive_retrieve.specs.Laws.{SameSitesSendAlike, NothingHiddenIsSent, WhatIsShownIsSent, WhatIsSentAscends, WhatNeedsNothingIsSentAsItCame, SentHasAttributes, SentKeepsOthers};
 
 /// Two sites that hold the same operations send the same, in whatever order they took them.
 pub fn same_sites_send_alike()
     ensures { SameSitesSendAlike }
 {}
 
-/// What is sent is shown and selected, and what is shown and selected is sent.
+/// What is sent is shown and selected, and what is shown and selected is sent, once, by ascending
+/// SOP Instance UID.
 pub fn what_is_sent_is_shown()
     ensures hidden { NothingHiddenIsSent }
     ensures shown { WhatIsShownIsSent }
+    ensures ascends { WhatIsSentAscends }
 {}
 
 /// A data set whose attributes are its own goes out as it came where its syntax is accepted.

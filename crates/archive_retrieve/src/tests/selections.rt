@@ -57,11 +57,13 @@ fn the_uids_of_a_level_are_listed(rt: HostRuntime) -> Result<(), Fail> {
                 b"1.2.1".as_slice(),
                 "the study"
             );
-            let uids: Vec<&[u8]> = vec![in rt.alloc(); b"1.2.1.1".as_slice(), b"1.2.1.2"]?;
-            for (uid, wanted) in selection.uids.as_slice().iter().zip(&uids) {
-                assert_eq!(rt; uid.as_slice(), *wanted, "a series");
+            match selection.uids.as_slice() {
+                [one, other] => {
+                    assert_eq!(rt; one.as_slice(), b"1.2.1.1".as_slice(), "the first");
+                    assert_eq!(rt; other.as_slice(), b"1.2.1.2".as_slice(), "the second");
+                }
+                _ => assert!(rt; false, "two series"),
             }
-            assert_eq!(rt; selection.uids.len(), 2, "both series");
         }
         Err(number) => assert_eq!(rt; number, 0, "no fault"),
     }
