@@ -2,6 +2,7 @@
 
 ghost use Rattle.archive_model.specs.Laws.{GreatestIsLast, SomeHaveGreatest, LastHaveOneValue, PickIsContent, PickIsLeast, ContentsHavePick, CoveredIsNamed, ShownArePicks, AuditCoversNothing, AuditShowsPicks, FlaggedHaveTwo, ShownAscend, StudyRepresentativeIsLeast, SeriesRepresentativeIsLeast};
 ghost use Rattle.archive_model.specs.Index.{CoveredByTitles};
+ghost use Rattle.archive_model.specs.Coercion.{CoercedHasAttributes, CoercedKeepsOthers, OwnIsNotCoerced};
 
 /// The greatest of some corrections is one of them that none comes after, by counter, site and
 /// value.
@@ -50,4 +51,12 @@ pub fn what_is_flagged_has_two_contents()
 /// A UID is covered in a view where it is named under a title that hides there.
 pub fn titles_say_what_is_covered()
     ensures { CoveredByTitles }
+{}
+
+/// A coerced data set has the attributes that corrections give a content, and every other value as
+/// it was stored.
+pub fn coercion_puts_in_what_differs()
+    ensures attributes { CoercedHasAttributes }
+    ensures others { CoercedKeepsOthers }
+    ensures own { OwnIsNotCoerced }
 {}

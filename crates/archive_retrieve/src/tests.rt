@@ -1,0 +1,6 @@
+//! What sites send: data sets from outside.
+
+mod coercions;
+mod conversions;
+mod made;
+mod selections;
