@@ -32,7 +32,7 @@ is_content_of uid (a_correction k) = false
 abbrev pub copies : List ℕ → List Op → List (List ℕ)
 copies uid ops = map digest_of (filter (is_content_of uid) ops)
 
--- the code of a title (PS3.16, CID 7011)
+-- the code of a title (PS3.16, CID 7010)
 abbrev pub code_of : Title → ℕ
 code_of Quality = 113001
 code_of Safety = 113037

@@ -490,6 +490,7 @@ fn a_conversion_leaves_out_group_lengths_at_every_depth(rt: HostRuntime) -> Resu
 }
 
 #[test]
+#[tactic(auto, unfolding(dictionary::specs::Elements::vr_in_table))]
 fn a_value_is_replaced_in_its_place(rt: HostRuntime) -> Result<(), Fail> {
     let alloc = rt.alloc();
     let image = set_of(alloc, Implicit, IMAGE)?;
@@ -515,6 +516,7 @@ fn a_value_is_replaced_in_its_place(rt: HostRuntime) -> Result<(), Fail> {
 }
 
 #[test]
+#[tactic(auto, unfolding(dictionary::specs::Elements::vr_in_table))]
 fn a_missing_value_is_put_in_its_place(rt: HostRuntime) -> Result<(), Fail> {
     let alloc = rt.alloc();
     let mixed = set_of(alloc, Explicit, MIXED)?;

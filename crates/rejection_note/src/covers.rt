@@ -1,5 +1,5 @@
 //! What a Key Object Selection names: (0040,A375) > (0008,1115) > (0008,1199) > (0008,1155)
-//! (PS3.3, section C.17.6.2.1).
+//! (PS3.3, section C.17.6.2; the references, section C.17.2.1).
 
 ghost use Rattle.std.specs.Prelude.{◌≡◌, ◌++◌, OnOk, IfOk, map};
 ghost use Rattle.rejection_note.specs.Notes.{named, named_by_images, named_by_series, named_by_studies};
