@@ -25,7 +25,7 @@ use Rattle.operation.specs.Parts.{ContentParts, own_value}
 use Rattle.operation.specs.Contents.{IsContent}
 use Rattle.archive_model.specs.Attributes.{attribute}
 use Rattle.archive_model.specs.Members.{Has}
-use Rattle.archive_model.specs.Coercion.{is_changed, is_coerced, put_attribute, with_attribute, with_attributes, coerced, CoercedHasAttributes, CoercedKeepsOthers, OwnIsNotCoerced}
+use Rattle.archive_model.specs.Coercion.{is_changed, put_attribute, with_attribute, with_attributes, coerced, CoercedHasAttributes, CoercedKeepsOthers, OwnIsNotCoerced}
 use Rattle.archive_model.proofs.ModelLaws.{same_itself}
 
 told_fault : (s : Syntax) (text : List ℕ) (f : SetFault) → f ≢ Memory → Told is_memory f (HasFault s text) → HasFault s text f

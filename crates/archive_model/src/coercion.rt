@@ -1,7 +1,6 @@
 //! The data set of a content, with its corrections put in (PS3.4, section B.4.1).
 
 ghost use Rattle.std.specs.Prelude.{◌≡◌, IfOk, map};
-ghost use Rattle.std.specs.List.{list_any};
 ghost use Rattle.data_set.specs.Corrections.{corrected_tags as corrected_tags_in};
 ghost use Rattle.archive_model.specs.Coercion.{is_changed as is_changed_in, is_coerced as is_coerced_in, with_attribute as with_attribute_in, with_attributes as with_attributes_in, AreStored, AreCoerced};
 

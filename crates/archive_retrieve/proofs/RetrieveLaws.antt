@@ -1,5 +1,5 @@
 -- What is sent is one thing, and what it is.
-use Rattle.std.proofs.Common.{◌≡◌, ◌⊎◌, inl, inr, ℕ, Bool, true, false, List, [], ◌∷◌, Option, Some, None, cond, map, refl, sym, ap, subst, ◌∙◌, Less}
+use Rattle.std.proofs.Common.{◌≡◌, inl, inr, ℕ, Bool, true, false, List, [], ◌∷◌, Option, Some, None, cond, map, refl, sym, ap, subst, ◌∙◌, Less}
 use Rattle.std.specs.List.{filter, AllByRecursion}
 use Rattle.std.specs.List.Sorted.{IsStrictlySortedBy}
 use Rattle.octets.specs.Texts.{text_cmp}
@@ -31,8 +31,8 @@ use Rattle.archive_retrieve.specs.declared.accepts.Form.TheVariants.{Own, Conver
 use Rattle.archive_retrieve.specs.declared.sending.Sending.{Sending}
 use Rattle.archive_retrieve.specs.Accepts.{form_for, syntax_of}
 use Rattle.archive_retrieve.specs.Selection.{is_selected, selected}
-use Rattle.archive_retrieve.specs.Sending.{in_form, is_sent_as_stored, IsWritten, IsText, IsBody, IsSending, AreSendings, Gets}
-use Rattle.archive_retrieve.specs.Laws.{SameSitesSendAlike, IsShownPick, NothingHiddenIsSent, WhatIsShownIsSent, WhatIsSentAscends, WhatNeedsNothingIsSentAsItCame, SentHasAttributes, SentKeepsOthers}
+use Rattle.archive_retrieve.specs.Sending.{in_form, is_sent_as_stored, IsWritten, IsBody, IsSending, AreSendings, Gets}
+use Rattle.archive_retrieve.specs.Laws.{SameSitesSendAlike, NothingHiddenIsSent, WhatIsShownIsSent, WhatIsSentAscends, WhatNeedsNothingIsSentAsItCame, SentHasAttributes, SentKeepsOthers}
 
 -- ---- one answer
 

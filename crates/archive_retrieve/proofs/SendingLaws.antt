@@ -1,5 +1,5 @@
 -- What is sent needs of a set its corrections alone.
-use Rattle.std.proofs.Common.{◌≡◌, ℕ, Bool, true, false, ◌||◌, cond, List, [], ◌∷◌, ◌++◌, Option, Some, None, refl, sym, ap, subst, ◌∙◌}
+use Rattle.std.proofs.Common.{◌≡◌, ℕ, Bool, true, false, ◌||◌, List, [], ◌∷◌, ◌++◌, Option, Some, None, refl, ap, subst, ◌∙◌}
 use Rattle.std.specs.Prelude.{not, MatchBool, if◌then◌else◌}
 use Rattle.std.specs.List.{filter, list_any}
 use Rattle.data_set.specs.declared.syntax.Syntax.{Syntax}
@@ -15,7 +15,7 @@ use Rattle.archive_retrieve.specs.declared.accepts.Accepted.{Accepted}
 use Rattle.archive_retrieve.specs.declared.accepts.Form.{Form}
 use Rattle.archive_retrieve.specs.declared.accepts.Form.TheVariants.{Own, Converted}
 use Rattle.archive_retrieve.specs.declared.sending.Sending.{Sending}
-use Rattle.archive_retrieve.specs.Accepts.{form_for, syntax_of}
+use Rattle.archive_retrieve.specs.Accepts.{form_for}
 use Rattle.archive_retrieve.specs.Sending.{is_sent_as_stored, IsWritten, IsText, IsBody, IsSending, AreSendings}
 
 -- one more is sent

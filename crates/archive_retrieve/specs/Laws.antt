@@ -1,5 +1,5 @@
 -- What is sent, said of the set.
-use Rattle.std.specs.Prelude.{◌≡◌, ◌⊎◌, ℕ, List, Option, Some, None, true, false, map}
+use Rattle.std.specs.Prelude.{◌≡◌, ◌⊎◌, ℕ, List, Some, None, true, false, map}
 use Rattle.std.specs.List.Sorted.{IsStrictlySortedBy}
 use Rattle.octets.specs.Texts.{text_cmp}
 use Rattle.data_set.specs.Tree.{Tree}

@@ -1,5 +1,5 @@
 -- The selection that the elements of an identifier say (PS3.4, C.4.3.1.3), and what is in it.
-use Rattle.std.specs.Prelude.{ℕ, List, [], ◌∷◌, Bool, not, ◌&&◌, ◌||◌, map, Option, Some, None, Result, Ok, Err, if◌then◌else◌}
+use Rattle.std.specs.Prelude.{ℕ, List, Bool, not, ◌&&◌, ◌||◌, map, Option, Some, None, Result, Ok, Err, if◌then◌else◌}
 use Rattle.std.specs.List.{filter}
 use Rattle.octets.specs.Gives.{◌>>=◌}
 use Rattle.octets.specs.Padding.{trimmed}

@@ -1,6 +1,6 @@
 //! C-GET over a site (PS3.4, section C.4.3).
 
-ghost use Rattle.std.specs.Prelude.{◌≡◌, IfOk, map};
+ghost use Rattle.std.specs.Prelude.{IfOk, map};
 ghost use Rattle.site_state.specs.Site.{ops_of};
 ghost use Rattle.archive_retrieve.specs.Sending.{AreSendings, Gets};
 

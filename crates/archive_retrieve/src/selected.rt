@@ -1,8 +1,6 @@
 //! Which contents are in a selection.
 
 ghost use Rattle.std.specs.Prelude.{◌≡◌, List, ℕ, map, filter, IfOk};
-ghost use Rattle.std.specs.List.{list_any};
-ghost use Rattle.archive_model.specs.Texts.{same};
 ghost use Rattle.archive_model.specs.Covered.{is_among};
 ghost use Rattle.archive_query.specs.CoveredUids.{Rises};
 ghost use Rattle.archive_retrieve.specs.Selection.{is_within as is_within_in, is_among_these as is_among_these_in, selected as selected_in};

@@ -4,7 +4,6 @@ ghost use Rattle.std.specs.Prelude.{◌≡◌};
 ghost use Rattle.octets.specs.Gives.{Gives};
 ghost use Rattle.data_set.specs.Values.{value_in};
 ghost use Rattle.archive_query.specs.Fault.{is_memory};
-ghost use Rattle.archive_query.specs.Key.{has_study_above, has_series_above};
 ghost use Rattle.archive_retrieve.specs.Selection.{unique_key as unique_key_in, uids_from, uids_in, selection_of};
 
 use archive_query::{Level, QueryFault, level_of, upper_uid};

@@ -3,4 +3,5 @@
 mod coercions;
 mod conversions;
 mod made;
+mod many;
 mod selections;

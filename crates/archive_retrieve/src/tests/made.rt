@@ -76,10 +76,52 @@ pub fn spelled(
 
 /// A content of CT Image Storage.
 pub fn content(alloc: Global, instance: &[u8], syntax: Syntax, body: Vec<u8>) -> Result<Op, Fail> {
-    let class = Octets::from_slice(alloc, CT)?;
+    content_as(alloc, CT, instance, syntax, body)
+}
+
+fn content_as(
+    alloc: Global,
+    class: &[u8],
+    instance: &[u8],
+    syntax: Syntax,
+    body: Vec<u8>,
+) -> Result<Op, Fail> {
+    let class = Octets::from_slice(alloc, class)?;
     let instance = Octets::from_slice(alloc, instance)?;
     let body = Bytes::from_vec(body)?;
     Ok(Op::Content(content_of(alloc, class, instance, syntax, body)?))
+}
+
+// The ends of an item and of its sequence.
+const ENDS: &[u8] = b"\xfe\xff\x0d\xe0\0\0\0\0\xfe\xff\xdd\xe0\0\0\0\0";
+
+/// A note of study 1.2.9 that rejects one instance for quality reasons.
+pub fn note(alloc: Global, covered: &[u8]) -> Result<Op, Fail> {
+    const CLASS: &[u8] = b"1.2.840.10008.5.1.4.1.1.88.59\0";
+    let parts: [Part; 4] = [
+        (0x0008_0016, *b"UI", CLASS),
+        (0x0008_0018, *b"UI", b"1.2.9.1\0"),
+        (0x0020_000d, *b"UI", b"1.2.9\0"),
+        (0x0020_000e, *b"UI", b"1.2.9.2\0"),
+    ];
+    let mut body = spelled(alloc, Syntax::Implicit, &parts, 0, b"")?;
+    // The title: (0040,A043) with one item.
+    body.extend_from_slice(
+        b"\x40\0\x43\xa0\xff\xff\xff\xff\xfe\xff\0\xe0\xff\xff\xff\xff\
+        \x08\0\0\x01\x06\0\0\x00113001\x08\0\x02\x01\x04\0\0\0DCM ",
+    )?;
+    body.extend_from_slice(ENDS)?;
+    // The reference: (0040,A375), (0008,1115) and (0008,1199), with one item each.
+    body.extend_from_slice(
+        b"\x40\0\x75\xa3\xff\xff\xff\xff\xfe\xff\0\xe0\xff\xff\xff\xff\
+        \x08\0\x15\x11\xff\xff\xff\xff\xfe\xff\0\xe0\xff\xff\xff\xff\
+        \x08\0\x99\x11\xff\xff\xff\xff\xfe\xff\0\xe0\xff\xff\xff\xff",
+    )?;
+    put(&mut body, Syntax::Implicit, (0x0008_1155, *b"UI", covered))?;
+    for _ in 0..3 {
+        body.extend_from_slice(ENDS)?;
+    }
+    content_as(alloc, CLASS, b"1.2.9.1", Syntax::Implicit, body)
 }
 
 /// A correction of study 1.2.1, by site 1.

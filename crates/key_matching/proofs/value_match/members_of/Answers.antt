@@ -1,4 +1,4 @@
-use Rattle.std.proofs.Common.{◌≡◌, ◌++◌, ◌∷◌, [], List, ℕ, map, take, ap, sym, ◌∙◌, append_assoc}
+use Rattle.std.proofs.Common.{◌++◌, ◌∷◌, [], List, ℕ, map, take, ap, sym, ◌∙◌, append_assoc}
 use Rattle.octets.specs.Padding.{trimmed}
 use Rattle.key_matching.specs.Matches.{parts}
 use Rattle.key_matching.proofs.Parts.{parts_none, parts_some}
