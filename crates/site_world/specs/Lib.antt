@@ -1,6 +1,7 @@
 pub mod Faults
 pub mod Same
 pub mod State
+pub mod Laws
 pub mod Steps
 pub mod Runs
 pub mod Headline

@@ -26,6 +26,14 @@ output_from state front (b ∷ rest) =
     else if is_full front then []
     else output_from state (front ++ (b ∷ [])) rest
 
+-- the same, of the lines that end in it alone: what stands behind the last end is no line yet
+abbrev pub ended_from : State → List ℕ → List ℕ → List ℕ
+ended_from state front [] = []
+ended_from state front (b ∷ rest) =
+    if b == 10 then printed state (command_of (without_cr front)) ++ ended_from (after state (command_of (without_cr front))) [] rest
+    else if is_full front then []
+    else ended_from state (front ++ (b ∷ [])) rest
+
 -- how many lines the rest of an input ends; what stands behind the last end is a line where it has bytes
 abbrev pub count_from : List ℕ → List ℕ → ℕ
 count_from [] [] = 0
@@ -43,6 +51,10 @@ NOTHING = record { names = []; sites = replicate 16 finmap.empty }
 
 abbrev pub output_of : List ℕ → List ℕ
 output_of input = output_from NOTHING [] input
+
+-- what the lines print that end in a front of an input
+abbrev pub ended_of : List ℕ → List ℕ
+ended_of input = ended_from NOTHING [] input
 
 abbrev pub count_of : List ℕ → ℕ
 count_of input = count_from [] input

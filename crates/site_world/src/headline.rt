@@ -1,6 +1,7 @@
 //! What holds of all runs of new worlds.
 
 ghost use Rattle.site_world.specs.Headline.{SameTakenSameMaps, SameTakenSameAnswers, TimeIsFree, TakenAreApart};
+ghost use Rattle.site_world.specs.Laws.{SameOpIsEquality, SameSiteIsEquality};
 ghost use Rattle.site_world.specs.Played.{ScriptsAreRuns};
 ghost use Rattle.site_world.specs.Rejected.{RejectedIsInNoRow, RejectedIsAsIfNeverStored};
 
@@ -26,4 +27,10 @@ pub fn what_is_rejected_is_in_no_row()
 /// The lines of a script are a run of 16 new sites: so the headline holds of what a script prints.
 pub fn a_script_is_a_run()
     ensures { ScriptsAreRuns }
+{}
+
+/// The tests that tell whether two operations, or two sites, are one decide equality.
+pub fn what_is_told_to_be_one_is_one()
+    ensures operations { SameOpIsEquality }
+    ensures sites { SameSiteIsEquality }
 {}
