@@ -65,7 +65,7 @@ impl Sink for Store {
         ensures bytes { WriteAppends (Some self.old.bytes) (Some self.new.bytes) result bytes.now }
         ensures counted { Counts self.old.failures self.new.failures result }
 
-        // What a test told it: as much as there is room for is written, and the room is less by that.
+        // What a test told it: what there is room for is written, and the room is less by that.
         ensures room { IfOk result (λ count. count ≡ min (length bytes.now) self.old.room) }
         ensures left { IfOk result (λ count. self.new.room ≡ self.old.room - count) }
         ensures kept { OnErr result (self.new.room ≡ self.old.room) }

@@ -28,7 +28,13 @@ impl Model for Supply {
 
     ghost Value = { Supplied };
 
-    ghost view = { λ s. record { bytes = drop s.taken s.bytes; piece = s.piece; reads_to_failure = s.reads_to_failure; failures = s.failures } };
+    ghost view = { λ s. record {
+      bytes = drop s.taken s.bytes;
+      piece = s.piece;
+      reads_to_failure =
+          s.reads_to_failure;
+      failures = s.failures;
+    } };
 
     ghost invariant = { λ s. (s.taken ≤ length s.bytes) × (0 < s.piece) };
 }
@@ -37,7 +43,12 @@ impl Supply {
     /// The bytes, of which each read gives `piece` at most, and at least one. The read of number
     /// `fails_at`, counted from 1, fails, and those after it go on.
     pub fn new(bytes: Octets, piece: usize, fails_at: Option<u64>) -> Supply
-        ensures { result ≡ record { bytes = bytes; piece = max piece 1; reads_to_failure = fails_at; failures = 0 } }
+        ensures { result ≡ record {
+          bytes = bytes;
+          piece = max piece 1;
+          reads_to_failure = fails_at;
+          failures = 0;
+        } }
     {
         Supply {
             bytes,
@@ -103,7 +114,8 @@ impl Source for Supply {
 
         // What a test told it: where it fails, and how many bytes it gives else.
         ensures fails { is_err result ≡ fails_at_next self.old.reads_to_failure }
-        ensures piece { IfOk result (λ count. count ≡ min (min (length self.old.bytes) (length buffer.old)) self.old.piece) }
+        ensures piece { IfOk result (λ count. count
+            ≡ min (min (length self.old.bytes) (length buffer.old)) self.old.piece) }
         ensures next { self.new.reads_to_failure ≡ after_one_read self.old.reads_to_failure }
     {
         let fails = fails_next(self.reads_to_failure);

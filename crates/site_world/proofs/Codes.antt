@@ -53,10 +53,12 @@ same_op-other o p other = by_same o p (same_op o p) refl other
 -- a test that decides whether two sites are one is this one
 pub same_site-is : (m n : Map) (b : Bool) → (IsTrue b → m ≡ n) × (m ≡ n → IsTrue b) → b ≡ same_site m n
 unfolding same_site
-same_site-is m n true test = sym (subst (λ (k : Map). same_code (map_code.code m) (map_code.code k) ≡ true) (test.0 refl) (one_code (map_code.code m)))
+same_site-is m n true test = sym (subst (λ (k : Map). same_code (map_code.code m) (map_code.code k)
+    ≡ true) (test.0 refl) (one_code (map_code.code m)))
 same_site-is m n false test = sym (other (same_code (map_code.code m) (map_code.code n)) refl)
   where
-    other : (c : Bool) → same_code (map_code.code m) (map_code.code n) ≡ c → same_code (map_code.code m) (map_code.code n) ≡ false
+    other : (c : Bool) → same_code (map_code.code m) (map_code.code n) ≡ c →
+        same_code (map_code.code m) (map_code.code n) ≡ false
     other true e = absurd cc (test.1 (map_code.inj m n (code_is (map_code.code m) (map_code.code n) e)))
     other false e = e
 

@@ -9,5 +9,6 @@ pub mod Rejected
 pub mod Texts
 pub mod Script
 pub mod Output
+pub mod Lines
 pub mod Played
 pub mod Simulation

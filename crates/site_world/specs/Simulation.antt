@@ -1,12 +1,15 @@
 -- What a script has printed in the middle of its input.
-use Rattle.std.specs.Prelude.{◌≡◌, ℕ, ◌+◌, ◌≤◌, ◌<◌, List, [], ◌++◌, length, take, Option, IfSome, MatchOption, Bool, true, false, Result, Ok, Err, refl}
+use Rattle.std.specs.Prelude.{◌≡◌, ℕ, ◌+◌, ◌≤◌, ◌<◌, List, [], ◌++◌, length, take, Option, IfSome, MatchOption, Bool}
+use Rattle.std.specs.Prelude.{true, false, Result, Ok, Err, refl}
 use Rattle.std.specs.Coded.{Coded, code_by, coded×, coded_ℕ, coded_list}
 use Rattle.std.specs.Io.KnownBytes.{Appends}
 use Rattle.site_world.specs.declared.run.SimFault.{SimFault}
 use Rattle.site_world.specs.declared.run.SimFault.TheVariants.{Read, Write, LongLine, Memory, Turns}
 use Rattle.site_world.specs.declared.progress.LineFault.{LineFault}
-use Rattle.site_world.specs.declared.progress.LineFault.TheVariants.{LongLine as long_line, Memory as line_memory, Turns as line_turns}
-use Rattle.site_world.specs.Output.{NOTHING, output_from, ended_from, count_from, is_long_from, output_of, ended_of, count_of, has_long_line}
+use Rattle.site_world.specs.declared.progress.LineFault.TheVariants.{LongLine as long_line, Memory as line_memory}
+use Rattle.site_world.specs.declared.progress.LineFault.TheVariants.{Turns as line_turns}
+use Rattle.site_world.specs.Output.{NOTHING, output_from, ended_from, count_from, is_long_from, output_of, ended_of}
+use Rattle.site_world.specs.Output.{count_of, has_long_line}
 use Rattle.site_world.specs.State.{State, state_code}
 
 -- what was made, the front of the line in hand, and how many lines ended
@@ -30,12 +33,14 @@ StopsWithin old out bytes text = (count : ℕ) × (mid : Place) × Leads old out
 -- A line among these bytes is too long, and nothing is printed of them.
 abbrev pub HasLong : Place → List ℕ → Type 0
 HasLong old bytes =
-    (rest : List ℕ) → (is_long_from old.front (bytes ++ rest) ≡ true) × (output_from old.state old.front (bytes ++ rest) ≡ [])
+    (rest : List ℕ) → (is_long_from old.front (bytes ++ rest) ≡ true)
+    × (output_from old.state old.front (bytes ++ rest) ≡ [])
 
 -- A line among these bytes is too long, and the lines before it were printed.
 abbrev pub StopsAtLong : Place → List ℕ → List ℕ → List ℕ → Type 0
 StopsAtLong old out bytes text =
-    (rest : List ℕ) → (is_long_from old.front (bytes ++ rest) ≡ true) × (text ≡ out ++ output_from old.state old.front (bytes ++ rest))
+    (rest : List ℕ) → (is_long_from old.front (bytes ++ rest) ≡ true)
+    × (text ≡ out ++ output_from old.state old.front (bytes ++ rest))
 
 -- the most lines that are counted
 abbrev pub MOST_LINES : ℕ
@@ -58,14 +63,16 @@ pub record OwesFor (input : List ℕ) (before now : Option (List ℕ)) (place : 
   pub leads : Leads START [] read place said
 
 abbrev pub Owes : Option (List ℕ) → Option (List ℕ) → Option (List ℕ) → Option (List ℕ) → Place → Type 0
-Owes input before rest now place = IfSome input (λ bytes. MatchOption rest ⊥ (λ left. OwesFor bytes before now place left))
+Owes input before rest now place = IfSome input (λ bytes. MatchOption rest ⊥
+    (λ left. OwesFor bytes before now place left))
 
 -- ---- what was written of an input
 
 -- a front of all that is printed for it
 abbrev pub WroteFront : Option (List ℕ) → Option (List ℕ) → Option (List ℕ) → Type 0
 WroteFront input before now =
-    IfSome input (λ bytes. (said : List ℕ) × (more : List ℕ) × Appends before now said × (said ++ more ≡ output_of bytes))
+    IfSome input (λ bytes. (said : List ℕ) × (more : List ℕ) × Appends before now said
+    × (said ++ more ≡ output_of bytes))
 
 -- what the whole lines of a front of it print, which is a front of all that is printed for it
 abbrev pub WroteWholeLines : Option (List ℕ) → Option (List ℕ) → Option (List ℕ) → Type 0
@@ -76,11 +83,13 @@ WroteWholeLines input before now =
 -- all that is printed for it, and its lines were counted
 abbrev pub WroteAll : Option (List ℕ) → Option (List ℕ) → Option (List ℕ) → ℕ → Type 0
 WroteAll input before now lines =
-    IfSome input (λ bytes. Appends before now (output_of bytes) × (lines ≡ count_of bytes) × (has_long_line bytes ≡ false))
+    IfSome input (λ bytes. Appends before now (output_of bytes) × (lines ≡ count_of bytes)
+    × (has_long_line bytes ≡ false))
 
 -- all that the lines before one that is too long print
 abbrev pub WroteUpToLong : Option (List ℕ) → Option (List ℕ) → Option (List ℕ) → Type 0
-WroteUpToLong input before now = IfSome input (λ bytes. Appends before now (output_of bytes) × (has_long_line bytes ≡ true))
+WroteUpToLong input before now = IfSome input (λ bytes. Appends before now (output_of bytes)
+    × (has_long_line bytes ≡ true))
 
 -- the most reads of a run
 abbrev pub MOST_READS : ℕ
@@ -100,7 +109,8 @@ BreaksOff input before Memory now = WroteWholeLines input before now
 BreaksOff input before Turns now = WroteWholeLines input before now × IsEndless input
 
 -- What a read and what it brings come to.
-abbrev pub Turn : Option (List ℕ) → Option (List ℕ) → Result ℕ SimFault → Option (List ℕ) → Option (List ℕ) → Place → Type 0
+abbrev pub Turn : Option (List ℕ) → Option (List ℕ) → Result ℕ SimFault → Option (List ℕ) → Option (List ℕ) → Place →
+    Type 0
 Turn input before (Ok count) rest now place = Owes input before rest now place
 Turn input before (Err fault) rest now place = BreaksOff input before fault now
 
@@ -137,4 +147,5 @@ number_of Memory = 4
 number_of Turns = 5
 
 abbrev pub place_code : Coded Place
-place_code = code_by (State × (List ℕ × ℕ)) (coded× state_code (coded× (coded_list coded_ℕ) coded_ℕ)) (λ p. (p.state, (p.front, p.lines))) (λ p. record { state = p.0; front = p.1.0; lines = p.1.1 }) (λ _. refl)
+place_code = code_by (State × (List ℕ × ℕ)) (coded× state_code (coded× (coded_list coded_ℕ) coded_ℕ))
+    (λ p. (p.state, (p.front, p.lines))) (λ p. record { state = p.0; front = p.1.0; lines = p.1.1 }) (λ _. refl)

@@ -1,11 +1,14 @@
 //! A script in the middle of its input.
 
-ghost use Rattle.std.specs.Prelude.{◌≡◌, ◌≤◌, ◌<◌, ◌+◌, ◌++◌, ◌∷◌, [], OnOk, OnErr, IfOk, IsErrOf, length};
+ghost use Rattle.std.specs.Prelude.{◌≡◌, ◌≤◌, ◌<◌, ◌+◌, ◌++◌, ◌∷◌, [], OnOk, OnErr, IfOk, IsErrOf};
+ghost use Rattle.std.specs.Prelude.{length};
 ghost use Rattle.site_script.specs.Commands.{command_of as command_of_line};
 ghost use Rattle.site_script.specs.Fitting.{IsShort};
-ghost use Rattle.site_world.specs.Output.{without_cr as without_cr_of, output_from, count_from, NOTHING};
+ghost use Rattle.site_world.specs.Output.{without_cr as without_cr_of, output_from, count_from};
+ghost use Rattle.site_world.specs.Output.{NOTHING};
 ghost use Rattle.site_world.specs.Script.{printed, after};
-ghost use Rattle.site_world.specs.Simulation.{Leads, StopsWithin, StopsAtLong, HasLong, HasTooManyLines, MOST_LINES};
+ghost use Rattle.site_world.specs.Simulation.{Leads, StopsWithin, StopsAtLong, HasLong};
+ghost use Rattle.site_world.specs.Simulation.{HasTooManyLines, MOST_LINES};
 
 use crate::fault::WorldFault;
 use crate::script::Script;
@@ -87,7 +90,8 @@ fn answer(
     out: &mut Vec<u8>,
 ) -> Result<(), AllocError>
     requires { IsShort line.now }
-    ensures printed { OnOk result (out.new.items ≡ out.old.items ++ printed script.old (command_of_line line.now)) }
+    ensures printed { OnOk result
+        (out.new.items ≡ out.old.items ++ printed script.old (command_of_line line.now)) }
     ensures after { OnOk result (script.new ≡ after script.old (command_of_line line.now)) }
     ensures nothing { OnErr result (out.new.items ≡ out.old.items) }
 {
@@ -128,7 +132,8 @@ impl Progress {
 
     /// Ends a line.
     fn end_line(&mut self, out: &mut Vec<u8>) -> Result<(), LineFault>
-        ensures leads { OnOk result (Leads self.old out.old.items (10 ∷ []) self.new out.new.items) }
+        ensures leads { OnOk result
+            (Leads self.old out.old.items (10 ∷ []) self.new out.new.items) }
         ensures kept { OnErr result (out.new.items ≡ out.old.items) }
         ensures short { IsErrOf result LineFault.LongLine → ⊥ }
         ensures many { IsErrOf result LineFault.Turns → HasTooManyLines self.old (10 ∷ []) }
@@ -145,7 +150,8 @@ impl Progress {
 
     /// Takes one byte more.
     fn feed(&mut self, byte: u8, out: &mut Vec<u8>) -> Result<(), LineFault>
-        ensures leads { OnOk result (Leads self.old out.old.items (byte ∷ []) self.new out.new.items) }
+        ensures leads { OnOk result
+            (Leads self.old out.old.items (byte ∷ []) self.new out.new.items) }
         ensures kept { OnErr result (out.new.items ≡ out.old.items) }
         ensures long { IsErrOf result LineFault.LongLine → HasLong self.old (byte ∷ []) }
         ensures many { IsErrOf result LineFault.Turns → HasTooManyLines self.old (byte ∷ []) }
@@ -162,9 +168,11 @@ impl Progress {
 
     /// Takes some bytes more. On a fault the answers of the lines that ended before it are printed.
     pub fn feed_all(&mut self, bytes: &[u8], out: &mut Vec<u8>) -> Result<(), LineFault>
-        ensures leads { OnOk result (Leads self.old out.old.items bytes.now self.new out.new.items) }
+        ensures leads { OnOk result
+            (Leads self.old out.old.items bytes.now self.new out.new.items) }
         ensures within { StopsWithin self.old out.old.items bytes.now out.new.items }
-        ensures long { IsErrOf result LineFault.LongLine → StopsAtLong self.old out.old.items bytes.now out.new.items }
+        ensures long { IsErrOf result LineFault.LongLine →
+            StopsAtLong self.old out.old.items bytes.now out.new.items }
         ensures many { IsErrOf result LineFault.Turns → HasTooManyLines self.old bytes.now }
     {
         for byte in bytes {
@@ -177,11 +185,14 @@ impl Progress {
 
     /// What stands behind the last end of a line is a line, where it has bytes.
     pub fn finish(&mut self, out: &mut Vec<u8>) -> Result<u64, LineFault>
-        ensures printed { OnOk result (out.new.items ≡ out.old.items ++ output_from self.old.state self.old.front []) }
-        ensures counted { IfOk result (λ lines. lines ≡ self.old.lines + count_from self.old.front []) }
+        ensures printed { OnOk result (out.new.items
+            ≡ out.old.items ++ output_from self.old.state self.old.front []) }
+        ensures counted { IfOk result (λ lines. lines
+            ≡ self.old.lines + count_from self.old.front []) }
         ensures kept { OnErr result (out.new.items ≡ out.old.items) }
         ensures short { IsErrOf result LineFault.LongLine → ⊥ }
-        ensures many { IsErrOf result LineFault.Turns → MOST_LINES < self.old.lines + count_from self.old.front [] }
+        ensures many { IsErrOf result LineFault.Turns →
+            MOST_LINES < self.old.lines + count_from self.old.front [] }
     {
         let line = self.front.as_slice();
         let Some(lines) = self.lines.checked_add(last_lines(line)) else {

@@ -1,9 +1,12 @@
 //! A script's answers, over any source and sink.
 
-ghost use Rattle.std.specs.Prelude.{◌≡◌, List, ℕ, Option, OnOk, OnErr, IfOk, IsErrOf, MatchBool, false};
+ghost use Rattle.std.specs.Prelude.{◌≡◌, List, ℕ, Option, OnOk, OnErr, IfOk, IsErrOf, MatchBool};
+ghost use Rattle.std.specs.Prelude.{false};
 ghost use Rattle.std.specs.Io.KnownBytes.{IsAtEnd};
 ghost use Rattle.devices.specs.Failures.{Rose};
-ghost use Rattle.site_world.specs.Simulation.{Owes, Turn, Ends, WroteFront, WroteWholeLines, WroteUpToLong, WroteAll, IsEndless, TookBytes, fault_of_line, tells_read, tells_write, number_of};
+ghost use Rattle.site_world.specs.Simulation.{Owes, Turn, Ends, WroteFront, WroteWholeLines};
+ghost use Rattle.site_world.specs.Simulation.{WroteUpToLong, WroteAll, IsEndless, TookBytes};
+ghost use Rattle.site_world.specs.Simulation.{fault_of_line, tells_read, tells_write, number_of};
 
 use crate::progress::{LineFault, Progress};
 use devices::{Sink, Source, put_all};
@@ -89,12 +92,17 @@ fn step<R: Source, W: Sink>(
     writer: &mut W,
 ) -> Result<usize, SimFault>
     ensures end { IfOk result (λ count. count ≡ 0 → IsAtEnd (R.remaining reader.new)) }
-    ensures took { IfOk result (λ count. TookBytes count (R.remaining reader.old) (R.remaining reader.new)) }
+    ensures took { IfOk result (λ count.
+        TookBytes count (R.remaining reader.old) (R.remaining reader.new)) }
     ensures turn { (input before : Option (List ℕ)) →
         Owes input before (R.remaining reader.old) (W.contents writer.old) progress.old →
         Turn input before result (R.remaining reader.new) (W.contents writer.new) progress.new }
-    ensures read { MatchBool (tells_read result) (Rose (R.failures reader.old) (R.failures reader.new)) (R.failures reader.new ≡ R.failures reader.old) }
-    ensures write { MatchBool (tells_write result) (Rose (W.failures writer.old) (W.failures writer.new)) (W.failures writer.new ≡ W.failures writer.old) }
+    ensures read { MatchBool (tells_read result)
+        (Rose (R.failures reader.old) (R.failures reader.new))
+        (R.failures reader.new ≡ R.failures reader.old) }
+    ensures write { MatchBool (tells_write result)
+        (Rose (W.failures writer.old) (W.failures writer.new))
+        (W.failures writer.new ≡ W.failures writer.old) }
 {
     let mut buffer = [0; PIECE];
     let Ok(count) = reader.read(&mut buffer) else {
@@ -121,7 +129,9 @@ fn finish<W: Sink>(
         Owes input before rest (W.contents writer.old) progress.old →
         Ends input before result (W.contents writer.new) }
     ensures read { tells_read result ≡ false }
-    ensures write { MatchBool (tells_write result) (Rose (W.failures writer.old) (W.failures writer.new)) (W.failures writer.new ≡ W.failures writer.old) }
+    ensures write { MatchBool (tells_write result)
+        (Rose (W.failures writer.old) (W.failures writer.new))
+        (W.failures writer.new ≡ W.failures writer.old) }
 {
     out.clear();
     let lines = match progress.finish(out) {
@@ -143,15 +153,25 @@ pub fn simulate<R: Source, W: Sink>(
     reader: &mut R,
     writer: &mut W,
 ) -> Result<u64, SimFault>
-    ensures all { IfOk result (WroteAll (R.remaining reader.old) (W.contents writer.old) (W.contents writer.new)) }
-    ensures front { OnErr result (WroteFront (R.remaining reader.old) (W.contents writer.old) (W.contents writer.new)) }
-    ensures whole_lines { IsErrOf result SimFault.Memory → WroteWholeLines (R.remaining reader.old) (W.contents writer.old) (W.contents writer.new) }
-    ensures long_line { IsErrOf result SimFault.LongLine → WroteUpToLong (R.remaining reader.old) (W.contents writer.old) (W.contents writer.new) }
+    ensures all { IfOk result
+        (WroteAll (R.remaining reader.old) (W.contents writer.old) (W.contents writer.new)) }
+
+    // What a fault leaves written.
+    ensures front { OnErr result
+        (WroteFront (R.remaining reader.old) (W.contents writer.old) (W.contents writer.new)) }
+    ensures whole_lines { IsErrOf result SimFault.Memory →
+        WroteWholeLines (R.remaining reader.old) (W.contents writer.old) (W.contents writer.new) }
+    ensures long_line { IsErrOf result SimFault.LongLine →
+        WroteUpToLong (R.remaining reader.old) (W.contents writer.old) (W.contents writer.new) }
     ensures turns { IsErrOf result SimFault.Turns → IsEndless (R.remaining reader.old) }
 
     // A fault of a device is told exactly where one was counted.
-    ensures read { MatchBool (tells_read result) (Rose (R.failures reader.old) (R.failures reader.new)) (R.failures reader.new ≡ R.failures reader.old) }
-    ensures write { MatchBool (tells_write result) (Rose (W.failures writer.old) (W.failures writer.new)) (W.failures writer.new ≡ W.failures writer.old) }
+    ensures read { MatchBool (tells_read result)
+        (Rose (R.failures reader.old) (R.failures reader.new))
+        (R.failures reader.new ≡ R.failures reader.old) }
+    ensures write { MatchBool (tells_write result)
+        (Rose (W.failures writer.old) (W.failures writer.new))
+        (W.failures writer.new ≡ W.failures writer.old) }
 {
     let Ok(mut progress) = Progress::new(alloc) else {
         return Err(SimFault::Memory);

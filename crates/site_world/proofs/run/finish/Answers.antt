@@ -6,7 +6,8 @@ use Rattle.site_world.proofs.run.finish.Goals as goal
 -- Where the write failed a front is printed.
 pub returns-in-Err-put_all-clause-end : goal.returns-in-Err-put_all-clause-end
 returns-in-Err-put_all-clause-end g c input before rest at owes =
-    front_ended input before rest (g.W.Sink.contents c.args.writer.now) (g.W.Sink.contents c.put_all.new.sink) c.args.progress.now
+    front_ended input before rest (g.W.Sink.contents c.args.writer.now) (g.W.Sink.contents c.put_all.new.sink)
+    c.args.progress.now
     c.finish.new.out.items c.clear.new.self.items c.as_slice.result.now c.in-Err-put_all.ensures.err.0
     c.clear.ensures.items c.as_slice.ensures.value at c.in-Ok.ensures.printed c.in-Err-put_all.ensures.err.1 owes
 

@@ -18,15 +18,25 @@ returns-in-Err-clause-within c =
 pub returns-in-Err-clause-long : goal.returns-in-Err-clause-long
 returns-in-Err-clause-long c e =
     subst (λ t. StopsAtLong c.args.self.now c.args.out.now.items c.args.bytes.now t) (sym c.in-Err.ensures.kept)
-    (long_of c.args.self.now c.loop-byte.self c.args.out.now.items c.loop-byte.out.items c.args.bytes.now c.loop-byte.byte-index
+    (long_of c.args.self.now c.loop-byte.self c.args.out.now.items c.loop-byte.out.items c.args.bytes.now
+    c.loop-byte.byte-index
     (get_or c.args.bytes.now c.loop-byte.byte-index 0) c.loop-byte.invariant
-    (let here : c.loop-byte.byte-index < length c.args.bytes.now = c.loop-byte-test.true in rw (add-one, drop-cons c.args.bytes.now c.loop-byte.byte-index 0))
+    (let here : c.loop-byte.byte-index < length c.args.bytes.now = c.loop-byte-test.true in rw (
+      add-one,
+      drop-cons
+          c.args.bytes.now c.loop-byte.byte-index 0,
+    ))
     (c.in-Err.ensures.long e))
 
 -- The lines were counted up to the byte.
 pub returns-in-Err-clause-many : goal.returns-in-Err-clause-many
 returns-in-Err-clause-many c e =
-    many_of c.args.self.now c.loop-byte.self c.args.out.now.items c.loop-byte.out.items c.args.bytes.now c.loop-byte.byte-index
+    many_of c.args.self.now c.loop-byte.self c.args.out.now.items c.loop-byte.out.items c.args.bytes.now
+    c.loop-byte.byte-index
     (get_or c.args.bytes.now c.loop-byte.byte-index 0) c.loop-byte.invariant
-    (let here : c.loop-byte.byte-index < length c.args.bytes.now = c.loop-byte-test.true in rw (add-one, drop-cons c.args.bytes.now c.loop-byte.byte-index 0))
+    (let here : c.loop-byte.byte-index < length c.args.bytes.now = c.loop-byte-test.true in rw (
+      add-one,
+      drop-cons
+          c.args.bytes.now c.loop-byte.byte-index 0,
+    ))
     (c.in-Err.ensures.many e)
