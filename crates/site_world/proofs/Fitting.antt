@@ -15,8 +15,8 @@ use Rattle.operation.specs.Spelling.{digest_of}
 use Rattle.operation.specs.Corrections.{is_correction}
 use Rattle.operation.specs.declared.stamp.Stamp.{Stamp}
 use Rattle.archive_model.specs.Members.{Has}
-use Rattle.site_state.specs.declared.taken.Taken.{Taken}
-use Rattle.site_state.specs.declared.taken.Taken.TheVariants.{Known}
+use Rattle.operation.specs.declared.taken.Taken.{Taken}
+use Rattle.operation.specs.declared.taken.Taken.TheVariants.{Known}
 use Rattle.site_state.specs.declared.fault.SiteFault.TheVariants.{Collision}
 use Rattle.site_state.specs.Site.{Map, digest_cmp, held_at, with_op, ops_of, top_counter_of}
 use Rattle.site_state.specs.Laws.{holding, Apart}

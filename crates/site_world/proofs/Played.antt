@@ -8,8 +8,8 @@ use Rattle.operation.specs.declared.op.Op.{Op}
 use Rattle.operation.specs.declared.op.Op.TheVariants.{Correction as a_correction}
 use Rattle.operation.specs.Corrections.{is_correction}
 use Rattle.operation.specs.declared.stamp.Stamp.{Stamp}
-use Rattle.site_state.specs.declared.taken.Taken.{Taken}
-use Rattle.site_state.specs.declared.taken.Taken.TheVariants.{Known}
+use Rattle.operation.specs.declared.taken.Taken.{Taken}
+use Rattle.operation.specs.declared.taken.Taken.TheVariants.{Known}
 use Rattle.site_state.specs.declared.fault.SiteFault.TheVariants.{Collision}
 use Rattle.site_state.specs.Site.{Map, held_at, ops_of, top_counter_of}
 use Rattle.operation.specs.Spelling.{digest_of}

@@ -10,7 +10,7 @@ use Rattle.operation.specs.declared.op.Op.TheVariants.{Correction as a_correctio
 use Rattle.operation.specs.declared.stamp.Stamp.{Stamp}
 use Rattle.operation.specs.declared.target.Target.{Target}
 use Rattle.operation.specs.Corrections.{is_correction}
-use Rattle.site_state.specs.declared.taken.Taken.{Taken}
+use Rattle.operation.specs.declared.taken.Taken.{Taken}
 use Rattle.site_state.specs.Site.{Map, with_op, ops_of, top_counter_of}
 use Rattle.site_state.specs.Laws.{holding}
 use Rattle.site_world.specs.declared.fault.WorldFault.{WorldFault}
