@@ -1,5 +1,6 @@
 -- What the steps of several sites do. A world is the list of what its sites hold, site 1 first.
-use Rattle.std.specs.Prelude.{◌≡◌, ℕ, zero, suc, ◌+◌, min, List, Option, Some, None, Ok, Err, Result, Bool, true, false, not, ◌==◌, if◌then◌else◌, MatchBool, MatchResult, codes}
+use Rattle.std.specs.Prelude.{◌≡◌, ℕ, zero, suc, ◌+◌, min, List, Option, Some, None, Ok, Err, Result, Bool, true, false}
+use Rattle.std.specs.Prelude.{not, ◌==◌, if◌then◌else◌, MatchBool, MatchResult, codes}
 use Rattle.std.specs.List.{slice_get, slice_set}
 use Rattle.operation.specs.declared.op.Op.{Op}
 use Rattle.operation.specs.declared.op.Op.TheVariants.{Correction as a_correction}
@@ -18,7 +19,8 @@ use Rattle.operation.specs.declared.taken.Taken.TheVariants.{New, Known}
 use Rattle.site_state.specs.declared.fault.SiteFault.{SiteFault}
 use Rattle.site_state.specs.declared.fault.SiteFault.TheVariants.{Collision, Memory as site_memory}
 use Rattle.site_world.specs.declared.fault.WorldFault.{WorldFault}
-use Rattle.site_world.specs.declared.fault.WorldFault.TheVariants.{NoSite, NoMessage, Site, StampsSpent, Memory, BadCorrection}
+use Rattle.site_world.specs.declared.fault.WorldFault.TheVariants.{NoSite, NoMessage, Site, StampsSpent, Memory}
+use Rattle.site_world.specs.declared.fault.WorldFault.TheVariants.{BadCorrection}
 use Rattle.site_world.specs.declared.step.Step.{Step}
 use Rattle.site_world.specs.declared.step.Step.TheVariants.{Take, Correct, Look}
 use Rattle.site_world.specs.declared.step.Seen.{Seen}

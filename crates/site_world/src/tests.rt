@@ -140,6 +140,37 @@ fn a_line_has_65536_bytes_at_most(rt: HostRuntime) -> Result<(), Fail> {
     Ok(())
 }
 
+#[test]
+fn a_hundred_thousand_and_one_lines_are_counted(rt: HostRuntime) -> Result<(), Fail> {
+    let mut script = Vec::from_slice(rt.alloc(), b"site A")?;
+    for _ in 0..100_001u32 {
+        script.push(b'\n')?;
+    }
+    let (ended, writer) = answered(rt.alloc(), script.as_slice(), 4096, None, 100)?;
+    assert_eq!(rt; ended, Ok(100_001), "a line, and 100,000 empty ones");
+    assert_eq!(rt; writer.as_slice(), b"site A 1\n".as_slice(), "its answer");
+    Ok(())
+}
+
+#[test]
+fn the_lines_before_a_long_one_are_answered_where_all_came_at_once(
+    rt: HostRuntime,
+) -> Result<(), Fail> {
+    let mut script = Vec::from_slice(rt.alloc(), b"site A\nsite B\n#")?;
+    for _ in 0..65536u32 {
+        script.push(b'x')?;
+    }
+    script.extend_from_slice(b"\nsite C\n")?;
+    let (ended, writer) = answered(rt.alloc(), script.as_slice(), 100_000, None, 100)?;
+    assert_eq!(rt; ended, Err(SimFault::LongLine), "a line of 65,537 bytes");
+    assert_eq!(rt;
+        writer.as_slice(),
+        b"site A 1\nsite B 2\n".as_slice(),
+        "the two lines before it, and none behind it"
+    );
+    Ok(())
+}
+
 fn correction(alloc: Global, site: usize, value: &[u8]) -> Result<Step, Fail> {
     let study = Octets::from_slice(alloc, b"1.2.1")?;
     let value = Octets::from_slice(alloc, value)?;
