@@ -13,8 +13,8 @@ use Rattle.archive_model.specs.declared.view.View.TheVariants.{Archive, Quality}
 use Rattle.archive_query.specs.declared.query.Query.{Query}
 use Rattle.archive_query.specs.Rows.{rows_of}
 use Rattle.site_state.specs.Site.{Map, held_at, with_op, ops_of, top_counter_of}
-use Rattle.site_state.specs.declared.taken.Taken.{Taken}
-use Rattle.site_state.specs.declared.taken.Taken.TheVariants.{New, Known}
+use Rattle.operation.specs.declared.taken.Taken.{Taken}
+use Rattle.operation.specs.declared.taken.Taken.TheVariants.{New, Known}
 use Rattle.site_state.specs.declared.fault.SiteFault.{SiteFault}
 use Rattle.site_state.specs.declared.fault.SiteFault.TheVariants.{Collision, Memory as site_memory}
 use Rattle.site_world.specs.declared.fault.WorldFault.{WorldFault}

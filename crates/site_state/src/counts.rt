@@ -1,13 +1,4 @@
-//! What a site answers.
-
-/// Whether an operation that was taken was held before.
-#[derive(Clone, Copy, Debug, PartialEq, Eq)]
-pub enum Taken {
-    /// It was not, and is held now.
-    New,
-    /// It was, and nothing changed.
-    Known,
-}
+//! What a site is counted by.
 
 /// How many operations a site holds.
 #[derive(Clone, Copy, Debug, PartialEq, Eq)]
