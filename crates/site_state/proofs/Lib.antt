@@ -1,4 +1,5 @@
 pub mod Counted
+pub mod Indexed
 pub mod Maps
 pub mod Same
 pub mod Takings

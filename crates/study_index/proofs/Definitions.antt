@@ -37,7 +37,7 @@ use Rattle.join_laws.specs.Proved.Maps.{lookup-map_joined}
 use Rattle.join_laws.proofs.Folds.{value_held}
 use Rattle.study_index.specs.Keys.{has}
 use Rattle.study_index.specs.Live.{Text, Pick, pick_cmp, flat, pick_at}
-use Rattle.study_index.specs.Index.{FixKey, Fix, Value, copy_cmp, naming_cmp, fix_key_cmp, fix_cmp, fixes_joined, IsIndex, index_joined, nothing, is_short, namings, titles_of, pick_of, fix_key, fix_of, index_of, fix_at}
+use Rattle.study_index.specs.Index.{FixKey, Fix, IndexValue, copy_cmp, naming_cmp, fix_key_cmp, fix_cmp, fixes_joined, IsIndex, index_joined, nothing, is_short, namings, titles_of, pick_of, fix_key, fix_of, index_of, fix_at}
 use Rattle.study_index.specs.Definition.{IsIndexOf}
 use Rattle.study_index.specs.Proved.Picks.{text_exact}
 use Rattle.study_index.specs.Proved.Indexes.{copy_total, copy_exact, naming_total, naming_exact, fix_key_total, fix_key_exact, fix_total, fix_exact, index_laws, index_summary_laws}
@@ -45,7 +45,7 @@ use Rattle.study_index.proofs.KeyLaws.{or_none, at_either}
 use Rattle.study_index.proofs.Trees.{pick_at-joined}
 
 -- the index of a list of operations
-abbrev pub value : List Op → Value
+abbrev pub value : List Op → IndexValue
 value = summary_of index_joined nothing index_of
 
 pub held : (ops : List Op) → IsIndex (value ops)
@@ -122,18 +122,15 @@ has_namings uid title own [] short = none (code_of own == code_of title)
     none : (b : Bool) → false ≡ (b && false)
     none true = refl
     none false = refl
-has_namings uid title own (u ∷ uids) short = by (is_short u) refl
+has_namings uid title own (u ∷ uids) short = by (is_short u) refl (has_namings uid title own uids short)
   where
-    rest : List (Text × ℕ)
-    rest = map (λ x. (x, code_of own)) (filter is_short uids)
-
-    by : (b : Bool) → is_short u ≡ b → has naming_cmp (map (λ x. (x, code_of own)) (cond b (u ∷ filter is_short uids) (filter is_short uids))) (uid, code_of title) ≡ (code_of own == code_of title && (same u uid || list_any (λ x. same x uid) uids))
-    by true e =
+    by : (b : Bool) → is_short u ≡ b → has naming_cmp (map (λ x. (x, code_of own)) (filter is_short uids)) (uid, code_of title) ≡ (code_of own == code_of title && list_any (λ x. same x uid) uids) → has naming_cmp (map (λ x. (x, code_of own)) (cond b (u ∷ filter is_short uids) (filter is_short uids))) (uid, code_of title) ≡ (code_of own == code_of title && (same u uid || list_any (λ x. same x uid) uids))
+    by true e later =
         ap (λ b. b || has naming_cmp (map (λ x. (x, code_of own)) (filter is_short uids)) (uid, code_of title)) (at_naming uid u (code_of title) (code_of own))
-        ∙ ap (λ b. (same u uid && (code_of own == code_of title)) || b) (has_namings uid title own uids short)
+        ∙ ap (λ b. (same u uid && (code_of own == code_of title)) || b) later
         ∙ spread (same u uid) (code_of own == code_of title) (list_any (λ x. same x uid) uids)
-    by false e =
-        has_namings uid title own uids short
+    by false e later =
+        later
         ∙ ap (λ b. code_of own == code_of title && (b || list_any (λ x. same x uid) uids)) (sym (not_longer uid u short e))
 
 has_titles : (uid : Text) (title : Title) (note : Option Note) → IsTrue (is_short uid) → has naming_cmp (titles_of note) (uid, code_of title) ≡ names_under title uid note
@@ -268,8 +265,8 @@ has_fix [] target tag = refl
 has_fix (a_content c ∷ ops) target tag =
     fix_at-joined [] (value ops).1.1.0 index_laws_none (held ops).1.1.0.0 (fix_key target tag) ∙ has_fix ops target tag
   where
-    index_laws_none : IsStrictlySortedBy fix_key_cmp (keys_of {K = FixKey} {V = Option Fix} [])
-    index_laws_none = index_summary_laws.nothing_held.1.1.0.0
+    index_laws_none : IsStrictlySortedBy fix_key_cmp (keys_of (index_of (a_content c)).1.1.0)
+    index_laws_none = (index_summary_laws.one_held (a_content c)).1.1.0.0
 has_fix (a_correction k ∷ ops) target tag =
     fix_at-joined (entry (fix_key k.target k.tag) (Some (fix_of k))) (value ops).1.1.0 (index_summary_laws.one_held (a_correction k)).1.1.0.0 (held ops).1.1.0.0 (fix_key target tag)
     ∙ ap (λ b. greatest_of fix_cmp (flat (cond b (Some (Some (fix_of k))) None)) (fix_at (fix_key target tag) (value ops).1.1.0)) (at_key target tag k)

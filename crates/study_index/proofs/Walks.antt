@@ -8,6 +8,7 @@ use Rattle.std.specs.Cmp.Lexicographic.{nat_list_cmp_total}
 use Rattle.std.specs.Ordering.{nat_cmp, is_gt, is_eq, ordering_then, ordering_reverse}
 use Rattle.std.specs.declared.cmp.Ordering.{Ordering}
 use Rattle.std.specs.declared.cmp.Ordering.TheVariants.{Less, Equal, Greater}
+use Rattle.std.specs.declared.ops.Bound.{Bound}
 use Rattle.std.specs.BTreeMap.Range.{IsFromStart, IsLeBy}
 use Rattle.std.proofs.lemmas.Cmp.{tied_itself}
 use Rattle.archive_model.specs.Texts.{text_cmp}
@@ -48,10 +49,10 @@ second_of_le : (a b : Ordering) → a ≡ Equal → is_gt (ordering_then a b) �
 second_of_le a b e h = sym (ap (λ o. is_gt (ordering_then o b)) e) ∙ h
 
 -- an end stands behind all that stands in it
-past_end : (a c : Ordering) → ordering_then a (ordering_then (nat_cmp 1 0) c) ≡ Less → a ≡ Less
-past_end Less c h = refl
-past_end Equal c h = absurd cc
-past_end Greater c h = absurd cc
+past_end : (a : Ordering) → ordering_then a Greater ≡ Less → a ≡ Less
+past_end Less h = refl
+past_end Equal h = absurd cc
+past_end Greater h = absurd cc
 
 itself : (t : Text) → text_cmp t t ≡ Equal
 itself t = tied_itself nat_list_cmp_total t
@@ -104,10 +105,10 @@ module _ (picks : List (Text × Option Pick)) (s : IsStrictlySortedBy text_cmp (
             place = at ∙ ap (λ (t : Text). (t, (0, (p.1.1, (0, q.1.1.1.1))))) study ∙ ap (λ (t : Text). (q.0, (0, (t, (0, q.1.1.1.1))))) series;
           }
 
-  abbrev IsLeast : Place → _ → Type 0
+  abbrev IsLeast : Place → Bound Place → Type 0
   IsLeast p start = (q : Place) → IsFromStart place_cmp start q → has place_cmp (tree_of picks) q ≡ true → IsLeBy place_cmp p q
 
-  abbrev IsNone : _ → Type 0
+  abbrev IsNone : Bound Place → Type 0
   IsNone start = (q : Place) → IsFromStart place_cmp start q → has place_cmp (tree_of picks) q ≡ false
 
   -- ---- studies
@@ -117,7 +118,7 @@ module _ (picks : List (Text × Option Pick)) (s : IsStrictlySortedBy text_cmp (
 
   study_past : (after : Option Text) (p : Place) → IsListed p → IsFromStart place_cmp (study_start after) p → IsPast after p.0
   study_past None p l h = tt
-  study_past (Some a) p l h = past_end (text_cmp a p.0) _ (sym (ap (place_cmp (a, (1, ([], (0, []))))) (IsListed.place l)) ∙ h)
+  study_past (Some a) p l h = past_end (text_cmp a p.0) (sym (ap (place_cmp (a, (1, ([], (0, []))))) (IsListed.place l)) ∙ h)
 
   pub no_study : (after : Option Text) → IsNone (study_start after) → IsNext (HasStudy picks) after None
   no_study after none uid there past =
@@ -147,7 +148,7 @@ module _ (picks : List (Text × Option Pick)) (s : IsStrictlySortedBy text_cmp (
   series_past : (study : Text) (after : Option Text) (p : Place) → IsListed p → IsFromStart place_cmp (series_start study after) p → p.0 ≡ study → IsPast after p.1.1.0
   series_past study None p l h at = tt
   series_past study (Some a) p l h at =
-      past_end (text_cmp a p.1.1.0) _
+      past_end (text_cmp a p.1.1.0)
       (second_of_less (text_cmp study p.0) _ (equal_texts study p.0 (sym at)) (sym (ap (place_cmp (study, (0, (a, (1, []))))) (IsListed.place l)) ∙ h))
 
   series_above : (study : Text) (after : Option Text) (p : Place) → IsFromStart place_cmp (series_start study after) p → is_gt (text_cmp study p.0) ≡ false

@@ -43,8 +43,8 @@ abbrev pub Fixes : Type 0
 Fixes = List (FixKey × Option Fix)
 
 -- the copies, who is named under which titles, the greatest corrections, and the picks
-abbrev pub Value : Type 0
-Value = List (Text × Text) × (List (Text × ℕ) × (List ((ℕ × (Text × ℕ)) × Option (ℕ × (ℕ × Text))) × List (Text × Option (Text × (Text × Text)))))
+abbrev pub IndexValue : Type 0
+IndexValue = List (Text × Text) × (List (Text × ℕ) × (List ((ℕ × (Text × ℕ)) × Option (ℕ × (ℕ × Text))) × List (Text × Option (Text × (Text × Text)))))
 
 -- ---- orders, part after part
 
@@ -65,15 +65,15 @@ fix_cmp x y = ordering_then (nat_cmp x.0 y.0) (ordering_then (nat_cmp x.1.0 y.1.
 abbrev pub fixes_joined : List (FixKey × Option Fix) → List (FixKey × Option Fix) → List (FixKey × Option Fix)
 fixes_joined = map_joined fix_key_cmp (greatest_of fix_cmp)
 
-abbrev pub IsIndex : Value → Type 0
+abbrev pub IsIndex : IndexValue → Type 0
 IsIndex a =
     IsStrictlySortedBy copy_cmp a.0
     × (IsStrictlySortedBy naming_cmp a.1.0 × (IsMapOf {K = FixKey} {J = Option Fix} fix_key_cmp (λ _. Unit {0}) a.1.1.0 × IsMapOf {K = Text} {J = Option Pick} text_cmp (λ _. Unit {0}) a.1.1.1))
 
-abbrev pub index_joined : Value → Value → Value
+abbrev pub index_joined : IndexValue → IndexValue → IndexValue
 index_joined = pair_joined (union_of copy_cmp) (pair_joined (union_of naming_cmp) (pair_joined fixes_joined picks_joined))
 
-abbrev pub nothing : Value
+abbrev pub nothing : IndexValue
 nothing = ([], ([], ([], [])))
 
 -- ---- the index of one operation
@@ -82,9 +82,13 @@ nothing = ([], ([], ([], [])))
 abbrev pub is_short : Text → Bool
 is_short text = nat_le (length text) 64
 
+-- UIDs that are named under a title
+abbrev pub named : Title → List (List ℕ) → List (Text × ℕ)
+named title uids = map (λ uid. (uid, code_of title)) (filter is_short uids)
+
 -- what a note names, under its title
 abbrev pub namings : Note → List (Text × ℕ)
-namings note = map (λ uid. (uid, code_of note.title)) (filter is_short note.covers)
+namings note = named note.title note.covers
 
 abbrev pub titles_of : Option Note → List (Text × ℕ)
 titles_of None = []
@@ -109,7 +113,7 @@ fix_key target tag = (kind_of target, (key_of target, tag))
 abbrev pub fix_of : CorrectionParts → Fix
 fix_of k = (k.stamp.counter, (k.stamp.site, k.value))
 
-abbrev pub index_of : Op → Value
+abbrev pub index_of : Op → IndexValue
 index_of (a_content c) = (only (c.instance, digest_of (a_content c)), (titles_of c.note, ([], entry c.instance (Some (pick_of c)))))
 index_of (a_correction k) = ([], ([], (entry (fix_key k.target k.tag) (Some (fix_of k)), [])))
 

@@ -1,5 +1,5 @@
 //! The index of a set of operations.
-ghost use Rattle.std.specs.Prelude.{◌≡◌, ◌≤◌, [], length, List, ℕ, OnOk, OnErr, IfOk, Option, None, Some, IfSome};
+ghost use Rattle.std.specs.Prelude.{◌≡◌, ◌≤◌, [], ◌∷◌, length, List, ℕ, OnOk, OnErr, IfOk, Option, None, Some, IfSome};
 ghost use Rattle.std.specs.Option.{option_copied, option_map};
 ghost use Rattle.rejection_note.specs.declared.note.Note.{Note as ANote};
 ghost use Rattle.operation.specs.declared.op.Op.TheVariants.{Content as a_content, Correction as a_correction};
@@ -9,15 +9,18 @@ ghost use Rattle.archive_model.specs.Index.{code_of};
 ghost use Rattle.join_laws.specs.GrowSet.{union_of};
 ghost use Rattle.study_index.specs.Keys.{has};
 ghost use Rattle.study_index.specs.Live.{pick_at, HasStudy, HasSeries, HasInstance, IsNext, picks_joined};
-ghost use Rattle.study_index.specs.Index.{IsIndex, index_joined, index_of, nothing, titles_of, naming_cmp, copy_cmp, fix_key, fix_at};
+ghost use Rattle.study_index.specs.Index.{IsIndex, index_joined, index_of, nothing, titles_of, naming_cmp, copy_cmp, fix_key, fix_at, keys_of, named};
 ghost use Rattle.study_index.specs.Proved.Indexes.{index_laws, index_summary_laws};
 
-use crate::keys::{Fix, FixKey, Keys, fix_in, fix_key_of, key_of};
+use crate::entries::{ContentCopy, Naming};
+use crate::fixes::{Fix, FixKey, fix_in, fix_key_of, key_of};
+use crate::keys::Keys;
 use crate::live_picks::LivePicks;
 use crate::pick::Pick;
 use crate::short_text::ShortText;
 use archive_model::title_code;
 use join_laws::{Copies, Greatest, GrowSet, Join, MapOf, Summary, Undoes};
+use octets::Octets;
 use operation::{Content, Correction, Digest, Op, Target, digest};
 use rejection_note::{Note, Title};
 use std::alloc::{AllocError, Global};
@@ -29,30 +32,46 @@ use std::marker::Model;
 /// refused, it stays as it was.
 #[derive(Drop)]
 pub struct Index {
-    copies: GrowSet<(ShortText, [u8; 32])>,
-    titles: GrowSet<(ShortText, u32)>,
+    copies: GrowSet<ContentCopy>,
+    titles: GrowSet<Naming>,
     fixes: MapOf<FixKey, Greatest<Fix>>,
     live: LivePicks,
     alloc: Global,
 }
 
 impl Model for Index {
-    ghost use Rattle.study_index.specs.Index.{Value};
+    ghost use Rattle.study_index.specs.Index.{IndexValue};
 
-    ghost Value = { Value };
+    ghost Value = { IndexValue };
 
     ghost view = { λ a. (a.copies, (a.titles, (a.fixes, a.live))) };
 }
 
+// Takes in a UID that a note names, unless it has more than 64 bytes.
+fn add_title(
+    titles: &mut GrowSet<Naming>,
+    title: Title,
+    uid: &Octets,
+) -> Result<(), AllocError>
+    ensures { OnOk result (titles.new ≡
+        union_of naming_cmp titles.old (named title (uid.now ∷ []))) }
+{
+    match ShortText::of(uid.as_slice()) {
+        Some(uid) => titles.add(&Naming {
+            uid,
+            title: title_code(title),
+        }),
+        None => Ok(()),
+    }
+}
+
 // What a note names, under its title.
-fn titles_in(alloc: Global, note: &Note) -> Result<GrowSet<(ShortText, u32)>, AllocError>
+fn titles_in(alloc: Global, note: &Note) -> Result<GrowSet<Naming>, AllocError>
     ensures { IfOk result (λ titles. titles ≡ titles_of (Some note.now)) }
 {
     let mut titles = GrowSet::empty(alloc);
     for uid in note.covers.as_slice() {
-        if let Some(uid) = ShortText::of(uid.as_slice()) {
-            titles.add(&(uid, title_code(note.title)))?;
-        }
+        add_title(&mut titles, note.title, uid)?;
     }
     Ok(titles)
 }
@@ -60,9 +79,9 @@ fn titles_in(alloc: Global, note: &Note) -> Result<GrowSet<(ShortText, u32)>, Al
 // The titles with those of one note more.
 fn with_note(
     alloc: Global,
-    titles: &GrowSet<(ShortText, u32)>,
+    titles: &GrowSet<Naming>,
     note: &Note,
-) -> Result<GrowSet<(ShortText, u32)>, AllocError>
+) -> Result<GrowSet<Naming>, AllocError>
     ensures { IfOk result (λ both. both ≡ union_of naming_cmp titles.now
         (titles_of (Some note.now))) }
 {
@@ -72,10 +91,32 @@ fn with_note(
     Ok(both)
 }
 
+// The SOP Instance UID of a content, and its digest.
+fn copy_of(digest: Digest, content: &Content) -> ContentCopy
+    ensures { result ≡ (content.now.instance, digest) }
+{
+    ContentCopy {
+        uid: ShortText::whole(content.instance()),
+        digest,
+    }
+}
+
+// A content under its digest, with its keys.
+fn pick_in(digest: Digest, content: &Content) -> Pick
+    ensures { result ≡ (digest, keys_of content.now) }
+{
+    let keys = Keys::of(content);
+    Pick {
+        digest,
+        study: keys.study,
+        series: keys.series,
+    }
+}
+
 // Takes in the copy and the pick of a content. What can be taken back goes first, and the live list,
 // which cannot, goes last.
 fn add_content(
-    copies: &mut GrowSet<(ShortText, [u8; 32])>,
+    copies: &mut GrowSet<ContentCopy>,
     live: &mut LivePicks,
     digest: Digest,
     content: &Content,
@@ -88,17 +129,10 @@ fn add_content(
     ensures copies_kept { OnErr result (copies.new ≡ copies.old) }
     ensures picks_kept { OnErr result (live.new ≡ live.old) }
 {
-    let instance = ShortText::cut(content.instance());
-    let copy = (instance.duplicate(), *digest.as_bytes());
-    let keys = Keys::of(content);
+    let copy = copy_of(digest, content);
     copies.held();
     let undo = copies.add_with_undo(&copy)?;
-    let pick = Pick {
-        digest,
-        study: keys.study,
-        series: keys.series,
-    };
-    if let Err(refused) = live.add(instance, pick) {
+    if let Err(refused) = live.add(copy.uid.duplicate(), pick_in(digest, content)) {
         copies.undo(&copy, undo);
         return Err(refused);
     }
@@ -230,7 +264,10 @@ impl Index {
     pub fn is_copy(&self, uid: &ShortText, digest: &Digest) -> bool
         ensures { result ≡ has copy_cmp self.now.0 (uid.now, digest.now) }
     {
-        let copy = (uid.duplicate(), *digest.as_bytes());
+        let copy = ContentCopy {
+            uid: uid.duplicate(),
+            digest: *digest,
+        };
         self.copies.get().contains(&copy)
     }
 
@@ -238,7 +275,10 @@ impl Index {
     pub fn is_named_under(&self, uid: &ShortText, title: Title) -> bool
         ensures { result ≡ has naming_cmp self.now.1.0 (uid.now, code_of title) }
     {
-        let naming = (uid.duplicate(), title_code(title));
+        let naming = Naming {
+            uid: uid.duplicate(),
+            title: title_code(title),
+        };
         self.titles.get().contains(&naming)
     }
 
@@ -259,14 +299,14 @@ impl Index {
 
     /// The least study of all picks past `after` as bytes, or the first where there is none.
     pub fn next_study(&self, after: Option<&ShortText>) -> Option<&ShortText>
-        ensures { IsNext (HasStudy self.now.1.1.1) (option_copied after) (option_copied result) }
+        ensures { IsNext (HasStudy self.now.1.1.1) (option_copied after.entry) (option_copied result) }
     {
         self.live.next_study(after)
     }
 
     /// The least series of a study past `after` as bytes, or the first where there is none.
     pub fn next_series(&self, study: &ShortText, after: Option<&ShortText>) -> Option<&ShortText>
-        ensures { IsNext (HasSeries self.now.1.1.1 study.now) (option_copied after)
+        ensures { IsNext (HasSeries self.now.1.1.1 study.now) (option_copied after.entry)
             (option_copied result) }
     {
         self.live.next_series(study, after)
@@ -280,7 +320,7 @@ impl Index {
         series: &ShortText,
         after: Option<&ShortText>,
     ) -> Option<&ShortText>
-        ensures { IsNext (HasInstance self.now.1.1.1 study.now series.now) (option_copied after)
+        ensures { IsNext (HasInstance self.now.1.1.1 study.now series.now) (option_copied after.entry)
             (option_copied result) }
     {
         self.live.next_instance(study, series, after)

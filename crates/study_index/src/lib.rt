@@ -5,6 +5,8 @@
 //! places is walked by study, series and instance, which takes no memory.
 #![tactic(auto)]
 
+mod entries;
+mod fixes;
 mod index;
 mod keys;
 mod live_picks;
@@ -13,7 +15,8 @@ mod place;
 mod short_text;
 mod tree;
 
+pub use fixes::Fix;
 pub use index::Index;
-pub use keys::{Fix, Keys};
+pub use keys::Keys;
 pub use pick::Pick;
 pub use short_text::ShortText;

@@ -56,7 +56,8 @@ fn pick_of<'a>(picks: &'a Picks, instance: &ShortText) -> Option<&'a Pick>
 
 // The lesser of two that may be absent.
 fn lesser<'a>(this: Option<&'a Pick>, other: Option<&'a Pick>) -> Option<&'a Pick>
-    ensures { option_copied result ≡ least_of pick_cmp (option_copied this) (option_copied other) }
+    ensures { option_copied result ≡ least_of pick_cmp (option_copied this.entry)
+        (option_copied other.entry) }
 {
     match (this, other) {
         (None, other) => other,
@@ -79,7 +80,7 @@ fn is_elsewhere(before: &Pick, after: &Pick) -> bool
 }
 
 fn is_moved(before: Option<&Pick>, after: Option<&Pick>) -> bool
-    ensures { result ≡ is_moved (option_copied before) (option_copied after) }
+    ensures { result ≡ is_moved (option_copied before.entry) (option_copied after.entry) }
 {
     match (before, after) {
         (None, None) => false,
@@ -99,10 +100,10 @@ fn note(
 ) -> Result<(), AllocError>
     ensures fresh { OnOk result (fresh.new.items ≡
         fresh.old.items ++
-        gained instance.now (pick_at instance.now picks.now) (option_copied other)) }
+        gained instance.now (pick_at instance.now picks.now) (option_copied other.entry)) }
     ensures stale { OnOk result (stale.new.items ≡
         stale.old.items ++
-        lost instance.now (pick_at instance.now picks.now) (option_copied other)) }
+        lost instance.now (pick_at instance.now picks.now) (option_copied other.entry)) }
 {
     let before = pick_of(picks, instance);
     let after = lesser(before, other);
@@ -162,7 +163,7 @@ fn join_parts(
 
 // Past all that stands in the study `after`.
 fn study_start(after: Option<&ShortText>) -> Bound<Place>
-    ensures { result ≡ study_start (option_copied after) }
+    ensures { result ≡ study_start (option_copied after.entry) }
 {
     match after {
         None => Bound::Unbounded,
@@ -178,7 +179,7 @@ fn study_start(after: Option<&ShortText>) -> Bound<Place>
 
 // In the study, past all that stands in the series `after`.
 fn series_start(study: &ShortText, after: Option<&ShortText>) -> Bound<Place>
-    ensures { result ≡ series_start study.now (option_copied after) }
+    ensures { result ≡ series_start study.now (option_copied after.entry) }
 {
     match after {
         None => Bound::Included(Place {
@@ -204,7 +205,7 @@ fn instance_start(
     series: &ShortText,
     after: Option<&ShortText>,
 ) -> Bound<Place>
-    ensures { result ≡ instance_start study.now series.now (option_copied after) }
+    ensures { result ≡ instance_start study.now series.now (option_copied after.entry) }
 {
     match after {
         None => Bound::Included(Place {
@@ -270,7 +271,7 @@ impl LivePicks {
 
     /// The least study past `after`, or the first where there is none.
     pub fn next_study(&self, after: Option<&ShortText>) -> Option<&ShortText>
-        ensures { IsNext (HasStudy self.now) (option_copied after) (option_copied result) }
+        ensures { IsNext (HasStudy self.now) (option_copied after.entry) (option_copied result) }
     {
         self.picks.held();
         match first_from(&self.tree, study_start(after)) {
@@ -281,14 +282,14 @@ impl LivePicks {
 
     /// The least series of a study past `after`, or the first where there is none.
     pub fn next_series(&self, study: &ShortText, after: Option<&ShortText>) -> Option<&ShortText>
-        ensures { IsNext (HasSeries self.now study.now) (option_copied after)
+        ensures { IsNext (HasSeries self.now study.now) (option_copied after.entry)
             (option_copied result) }
     {
         self.picks.held();
         match first_from(&self.tree, series_start(study, after)) {
             None => None,
             Some(place) => {
-                if place.study.as_slice() != study.as_slice() {
+                if !place.study.equals(study) {
                     return None;
                 }
                 Some(&place.series)
@@ -303,17 +304,17 @@ impl LivePicks {
         series: &ShortText,
         after: Option<&ShortText>,
     ) -> Option<&ShortText>
-        ensures { IsNext (HasInstance self.now study.now series.now) (option_copied after)
+        ensures { IsNext (HasInstance self.now study.now series.now) (option_copied after.entry)
             (option_copied result) }
     {
         self.picks.held();
         match first_from(&self.tree, instance_start(study, series, after)) {
             None => None,
             Some(place) => {
-                if place.study.as_slice() != study.as_slice() {
+                if !place.study.equals(study) {
                     return None;
                 }
-                if place.series.as_slice() != series.as_slice() {
+                if !place.series.equals(series) {
                     return None;
                 }
                 Some(&place.instance)

@@ -1,5 +1,5 @@
 //! Texts of at most 64 bytes, kept in place.
-ghost use Rattle.std.specs.Prelude.{◌≡◌, ◌<◌, ◌↔◌, [], length, take, IfSome, IsNone, Some, nat_eq, refl, IfOk};
+ghost use Rattle.std.specs.Prelude.{◌≡◌, ◌<◌, ◌≤◌, ◌↔◌, [], length, take, IfSome, IsNone, IsTrue, Some, nat_eq, refl, IfOk};
 ghost use Rattle.std.specs.Ordering.{nat_cmp};
 ghost use Rattle.std.specs.Cmp.Lexicographic.{pointwise, slice_cmp, nat_list_eq_equiv, nat_list_cmp_total, texts_ties, texts_po};
 ghost use Rattle.std.specs.Cmp.{partial_equiv_from_equiv};
@@ -32,6 +32,16 @@ impl Model for ShortText {
     ghost invariant = { λ t. t.length ≤ 64 };
 }
 
+// A text, filled up with zeros.
+fn filled(text: &[u8]) -> [u8; 64]
+    requires { length text.now ≤ 64 }
+    ensures { take (length text.now) result ≡ text.now }
+{
+    let mut bytes = [0; LONGEST];
+    bytes[..text.len()].copy_from_slice(text);
+    bytes
+}
+
 impl ShortText {
     /// The text of no bytes.
     pub fn empty() -> ShortText
@@ -43,17 +53,25 @@ impl ShortText {
         }
     }
 
+    /// The text, which has at most 64 bytes.
+    pub fn whole(text: &[u8]) -> ShortText
+        requires { length text.now ≤ 64 }
+        ensures { result ≡ text.now }
+    {
+        ShortText {
+            length: text.len() as u8,
+            bytes: filled(text),
+        }
+    }
+
     /// The first 64 bytes of a text, or all of it where it has no more.
     pub fn cut(text: &[u8]) -> ShortText
         ensures { result ≡ take 64 text.now }
     {
-        let length = text.len().min(LONGEST);
-        let mut bytes = [0; LONGEST];
-        bytes[..length].copy_from_slice(&text[..length]);
-        ShortText {
-            length: length as u8,
-            bytes,
+        if text.len() > LONGEST {
+            return ShortText::whole(&text[..LONGEST]);
         }
+        ShortText::whole(text)
     }
 
     /// The text, or `None` where it has more than 64 bytes.
@@ -64,7 +82,7 @@ impl ShortText {
         if text.len() > LONGEST {
             return None;
         }
-        Some(ShortText::cut(text))
+        Some(ShortText::whole(text))
     }
 
     /// A second owner of the same text. It takes no memory.
@@ -75,6 +93,13 @@ impl ShortText {
             length: self.length,
             bytes: self.bytes,
         }
+    }
+
+    /// Whether both have the same bytes.
+    pub fn equals(&self, other: &ShortText) -> bool
+        ensures { IsTrue result ↔ (self.now ≡ other.now) }
+    {
+        self.as_slice() == other.as_slice()
     }
 
     pub fn as_slice(&self) -> &[u8]

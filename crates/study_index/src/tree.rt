@@ -61,5 +61,8 @@ pub fn first_from(tree: &BTreeSet<Place>, start: Bound<Place>) -> Option<&Place>
     ensures least { IfSome result (λ first. (place : APlace) → IsFromStart place_cmp start place →
         IsTrue (has place_cmp tree.now.keys place) → IsLeBy place_cmp first.now place) }
 {
-    tree.range((start, Bound::Unbounded)).next()
+    match tree.range((start, Bound::Unbounded)).next() {
+        Some(place) => Some(place),
+        None => None,
+    }
 }

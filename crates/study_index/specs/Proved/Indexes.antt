@@ -8,6 +8,7 @@ use Rattle.std.proofs.lemmas.Cmp.{then_total, on_total}
 use Rattle.rejection_note.specs.declared.note.Note.{Note}
 use Rattle.operation.specs.declared.op.Op.{Op}
 use Rattle.operation.specs.declared.op.Op.TheVariants.{Content as a_content, Correction as a_correction}
+use Rattle.operation.specs.Spelling.{digest_of}
 use Rattle.archive_model.specs.Texts.{text_cmp}
 use Rattle.join_laws.specs.Laws.{IsExact, JoinLaws, SummaryLaws}
 use Rattle.join_laws.specs.MapOf.{IsMapOf}
@@ -17,7 +18,7 @@ use Rattle.join_laws.specs.Proved.Orders.{least_laws, least_summary_laws, greate
 use Rattle.join_laws.specs.Proved.Sets.{set_laws, set_summary_laws, sorted-union}
 use Rattle.join_laws.specs.Proved.Pairs.{pair_laws}
 use Rattle.study_index.specs.Live.{Text, Pick, pick_cmp, picks_joined}
-use Rattle.study_index.specs.Index.{FixKey, Fix, Value, copy_cmp, naming_cmp, fix_key_cmp, fix_cmp, fixes_joined, IsIndex, index_joined, index_of, nothing, namings, titles_of}
+use Rattle.study_index.specs.Index.{FixKey, Fix, IndexValue, copy_cmp, naming_cmp, fix_key_cmp, fix_cmp, fixes_joined, IsIndex, index_joined, index_of, nothing, namings, titles_of, pick_of, fix_key, fix_of}
 use Rattle.study_index.specs.Proved.Picks.{text_exact, pick_exact, pick_total, picks_laws}
 
 pub copy_exact : IsExact copy_cmp
@@ -71,10 +72,10 @@ index_summary_laws =
         let copies = set_summary_laws copy_total copy_exact in
         let fixes = map_summary_laws fix_key_total fix_key_exact (greatest_laws fix_cmp fix_total fix_exact) (greatest_summary_laws fix_cmp fix_total fix_exact) in
         let picks = map_summary_laws nat_list_cmp_total text_exact (least_laws pick_cmp pick_total pick_exact) (least_summary_laws pick_cmp pick_total pick_exact) in
-        (copies.one_held _, (titles_held c.note, (fixes.nothing_held, picks.one_held (c.instance, _))))
+        (copies.one_held (c.instance, digest_of (a_content c)), (titles_held c.note, (fixes.nothing_held, picks.one_held (c.instance, pick_of c))))
     held (a_correction k) =
         let copies = set_summary_laws copy_total copy_exact in
         let titles = set_summary_laws naming_total naming_exact in
         let fixes = map_summary_laws fix_key_total fix_key_exact (greatest_laws fix_cmp fix_total fix_exact) (greatest_summary_laws fix_cmp fix_total fix_exact) in
         let picks = map_summary_laws nat_list_cmp_total text_exact (least_laws pick_cmp pick_total pick_exact) (least_summary_laws pick_cmp pick_total pick_exact) in
-        (copies.nothing_held, (titles.nothing_held, (fixes.one_held (_, _), picks.nothing_held)))
+        (copies.nothing_held, (titles.nothing_held, (fixes.one_held (fix_key k.target k.tag, fix_of k), picks.nothing_held)))

@@ -3,6 +3,7 @@ use Rattle.std.specs.Prelude.{ℕ, Option, List}
 use Rattle.std.specs.Cmp.{IsTotalOrder, nat_cmp_total}
 use Rattle.std.specs.Cmp.Lexicographic.{nat_list_cmp_total}
 use Rattle.std.specs.Ordering.{nat_cmp, ordering_then}
+use Rattle.std.specs.declared.cmp.Ordering.{Ordering}
 use Rattle.std.proofs.lemmas.Cmp.{then_total, on_total}
 use Rattle.join_laws.specs.Laws.{IsExact, JoinLaws}
 use Rattle.join_laws.specs.MapOf.{IsMapOf}
@@ -21,13 +22,13 @@ pick_exact = exact_both text_cmp (λ (x y : Text × Text). ordering_then (text_c
 pub pick_total : IsTotalOrder pick_cmp
 pick_total = then_total (on_total (λ p. p.0) nat_list_cmp_total) (then_total (on_total (λ p. p.1.0) nat_list_cmp_total) (on_total (λ p. p.1.1) nat_list_cmp_total))
 
-abbrev last_cmp : ℕ × Text → ℕ × Text → _
+abbrev last_cmp : ℕ × Text → ℕ × Text → Ordering
 last_cmp x y = ordering_then (nat_cmp x.0 y.0) (text_cmp x.1 y.1)
 
-abbrev series_cmp : Text × (ℕ × Text) → Text × (ℕ × Text) → _
+abbrev series_cmp : Text × (ℕ × Text) → Text × (ℕ × Text) → Ordering
 series_cmp x y = ordering_then (text_cmp x.0 y.0) (last_cmp x.1 y.1)
 
-abbrev study_cmp : ℕ × (Text × (ℕ × Text)) → ℕ × (Text × (ℕ × Text)) → _
+abbrev study_cmp : ℕ × (Text × (ℕ × Text)) → ℕ × (Text × (ℕ × Text)) → Ordering
 study_cmp x y = ordering_then (nat_cmp x.0 y.0) (series_cmp x.1 y.1)
 
 pub place_exact : IsExact place_cmp

@@ -3,6 +3,7 @@ use Rattle.site_state.specs.Site.{IsSite, of_entries}
 use Rattle.site_state.specs.Union.{union}
 use Rattle.site_state.proofs.Unions.{merged, union_is_site}
 use Rattle.site_state.proofs.Tops.{top_merged}
+use Rattle.site_state.proofs.Indexed.{index_merged}
 use Rattle.site_state.proofs.site.Site.merge.Goals as goal
 
 pub invariant_of-self : goal.invariant_of-self
@@ -12,6 +13,7 @@ invariant_of-self c =
     let both = merged c.new-union.result.entries c.add_copies.new.tree.entries c.add_copies-2.new.tree.entries es fs c.new-union.ensures.empty c.in_ok-add_copies.ensures c.in_ok-add_copies-2.ensures in (
       subst IsSite (sym both) (union_is_site (of_entries es) (of_entries fs) c.self.invariant.0 c.other.invariant.0),
       top_merged (of_entries es) (of_entries fs) (of_entries c.add_copies-2.new.tree.entries) c.self.inside.top c.other.inside.top c.max-self-inside.result both c.if-do_clash.ensures c.self.invariant.1 c.other.invariant.1 c.max-self-inside.ensures,
+      index_merged (of_entries es) (of_entries fs) (of_entries c.add_copies-2.new.tree.entries) c.self.inside.index c.other.inside.index c.join_with.new.self both c.if-do_clash.ensures c.self.invariant.2 c.other.invariant.2 c.in_ok-join_with.ensures.ok,
     )
 
 pub returns-clause-merged : goal.returns-clause-merged
