@@ -6,8 +6,13 @@ use Rattle.site_state.proofs.Tops.{top_merged}
 use Rattle.site_state.proofs.Indexed.{index_merged}
 use Rattle.site_state.proofs.site.Site.merge.Goals as goal
 
+-- The index was refused, and nothing changed.
 pub invariant_of-self : goal.invariant_of-self
-invariant_of-self c =
+invariant_of-self c = (c.self.invariant.0, c.self.invariant.1, c.in_err-join_with.ensures.refused ∙ c.self.invariant.2)
+
+-- Operations, top and index are those of both sites.
+pub invariant_of-self-2 : goal.invariant_of-self-2
+invariant_of-self-2 c =
     let es = c.self.inside.operations.entries in
     let fs = c.other.inside.operations.entries in
     let both = merged c.new-union.result.entries c.add_copies.new.tree.entries c.add_copies-2.new.tree.entries es fs c.new-union.ensures.empty c.in_ok-add_copies.ensures c.in_ok-add_copies-2.ensures in (

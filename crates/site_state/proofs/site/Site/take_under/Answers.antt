@@ -25,8 +25,8 @@ invariant_of-self c = (
 )
 
 -- take_in is called where nothing is held.
-pub take_in-requires-absent : goal.take_in-requires-absent
-take_in-requires-absent c = sym c.in_default.ensures.value
+pub take_in-requires-clause-absent : goal.take_in-requires-clause-absent
+take_in-requires-clause-absent c = sym c.in_default.ensures.value
 
 pub returns-then-equals : goal.returns-then-equals
 returns-then-equals c = (
