@@ -1,12 +1,12 @@
 -- The index of a site, as operations are added.
-use Rattle.std.proofs.Common.{◌≡◌, ◌≢◌, ℕ, List, [], ◌∷◌, ◌++◌, Bool, true, false, cond, Option, Some, None, inl, inr, ◌⊎◌, refl, sym, ap, subst, ◌∙◌}
-use Rattle.std.specs.Prelude.{Contains, All, ◌↔◌, map, IfSome}
+use Rattle.std.proofs.Common.{◌≡◌, ℕ, List, [], ◌∷◌, ◌++◌, Bool, true, false, cond, Option, Some, None, inl, inr, ◌⊎◌, refl, sym, ap, subst, ◌∙◌}
+use Rattle.std.specs.Prelude.{Contains, All, map, IfSome}
 use Rattle.std.proofs.lemmas.List.Elements.{All-nil, All-cons, All-contains, All-weaker, Contains-push, Contains-append_left, Contains-append_right}
 use Rattle.std.specs.Ordering.{is_eq}
 use Rattle.std.specs.Cmp.{tied_itself}
 use Rattle.std.specs.Cmp.Lexicographic.{nat_list_cmp_total}
 use Rattle.std.specs.BTreeMap.{is_at}
-use Rattle.std.specs.FinMap.{entries, entries_sorted, get-insert, insert}
+use Rattle.std.specs.FinMap.{entries, entries_sorted}
 use Rattle.std.specs.List.{AllByRecursion}
 use Rattle.std.specs.List.Sorted.{IsStrictlySortedBy}
 use Rattle.std.specs.Map.{keys_of, values_of}
@@ -23,8 +23,8 @@ use Rattle.study_index.specs.Proved.Indexes.{index_laws, index_summary_laws}
 use Rattle.study_index.proofs.Definitions.{held as index_held}
 use Rattle.site_state.specs.Site.{Map, digest_cmp, IsSite, of_entries, ops_of, held_at, HasIndex}
 use Rattle.site_state.specs.Union.{either, union, Agree}
-use Rattle.site_state.proofs.Maps.{same_sites, held, get_held, tied, one_more, tree_ops}
-use Rattle.site_state.proofs.Unions.{held_entries, held_in_union, first_held, rest_held, own_entries, of_tree}
+use Rattle.site_state.proofs.Maps.{same_sites, held, get_held, tied, tree_ops}
+use Rattle.site_state.proofs.Unions.{held_entries, held_in_union, first_held, rest_held, own_entries}
 use Rattle.site_state.proofs.Same.{of_ops, has_left, has_right}
 use Rattle.site_state.proofs.Tops.{ascend}
 

@@ -1,14 +1,14 @@
 -- The joined values of a list of operations, ascending by digest, are what the definition says.
-use Rattle.std.proofs.Common.{arith, ◌≡◌, ℕ, ◌≤◌, List, [], ◌∷◌, ◌++◌, Bool, true, false, cond, Option, Some, None, IsTrue, refl, sym, ap, ◌∙◌, subst, inl, inr, ◌⊎◌, map, length}
-use Rattle.std.specs.Prelude.{◌&&◌, ◌||◌, ◌==◌, nat_le, not}
+use Rattle.std.proofs.Common.{arith, ◌≡◌, ℕ, List, [], ◌∷◌, Bool, true, false, cond, Option, Some, None, IsTrue, refl, sym, ap, ◌∙◌, subst, inl, inr, map}
+use Rattle.std.specs.Prelude.{◌&&◌, ◌||◌, ◌==◌}
 use Rattle.std.proofs.lemmas.Bool.{false≢true}
-use Rattle.std.specs.Cmp.{IsTotalOrder, unsigned_ties, tied_itself, alike_right}
+use Rattle.std.specs.Cmp.{unsigned_ties, tied_itself, alike_right}
 use Rattle.std.specs.Cmp.Lexicographic.{nat_list_cmp_total, texts_ties}
 use Rattle.std.specs.Option.{option_map}
-use Rattle.std.specs.List.{filter, filter_map, find, list_any, AllByRecursion}
+use Rattle.std.specs.List.{filter, list_any, AllByRecursion}
 use Rattle.std.specs.List.Sorted.{IsStrictlySortedBy}
 use Rattle.std.specs.Map.{keys_of, lookup}
-use Rattle.std.specs.Ordering.{nat_cmp, is_eq, is_lt, is_le, ord_max, ordering_then, ordering_reverse}
+use Rattle.std.specs.Ordering.{nat_cmp, is_eq, is_lt, is_le, ordering_then, ordering_reverse}
 use Rattle.std.specs.declared.cmp.Ordering.{Ordering}
 use Rattle.std.specs.declared.cmp.Ordering.TheVariants.{Less, Equal, Greater}
 use Rattle.std.specs.BTreeMap.{is_at}
@@ -22,12 +22,12 @@ use Rattle.operation.specs.Parts.{ContentParts, CorrectionParts}
 use Rattle.operation.specs.Spelling.{digest_of}
 use Rattle.archive_model.specs.Texts.{same, text_cmp}
 use Rattle.archive_model.specs.Members.{Has}
-use Rattle.archive_model.specs.Contents.{pick, contents}
+use Rattle.archive_model.specs.Contents.{pick}
 use Rattle.archive_model.specs.Attributes.{corrections, correction_cmp, greatest}
 use Rattle.archive_model.specs.Index.{code_of, copies, is_content_of, names_under, is_titled, is_same_target, is_fix, fix}
 use Rattle.archive_model.specs.Laws.{Ascend}
 use Rattle.archive_model.proofs.Latest.{correction_total}
-use Rattle.archive_model.proofs.ModelLaws.{same_is, same_itself, greatest_is_last, some_have_greatest, pick_is_content, content_has}
+use Rattle.archive_model.proofs.ModelLaws.{same_is, greatest_is_last, some_have_greatest, pick_is_content, content_has}
 use Rattle.join_laws.specs.Laws.{summary_of, joined_options}
 use Rattle.join_laws.specs.Greatest.{greatest_of}
 use Rattle.join_laws.specs.Least.{least_of}
@@ -36,11 +36,10 @@ use Rattle.join_laws.specs.Proved.Sets.{has-union}
 use Rattle.join_laws.specs.Proved.Maps.{lookup-map_joined}
 use Rattle.join_laws.proofs.Folds.{value_held}
 use Rattle.study_index.specs.Keys.{has}
-use Rattle.study_index.specs.Live.{Text, Pick, pick_cmp, flat, pick_at}
+use Rattle.study_index.specs.Live.{Text, pick_cmp, flat, pick_at}
 use Rattle.study_index.specs.Index.{FixKey, Fix, IndexValue, copy_cmp, naming_cmp, fix_key_cmp, fix_cmp, fixes_joined, IsIndex, index_joined, nothing, is_short, namings, titles_of, pick_of, fix_key, fix_of, index_of, fix_at}
 use Rattle.study_index.specs.Definition.{IsIndexOf}
-use Rattle.study_index.specs.Proved.Picks.{text_exact}
-use Rattle.study_index.specs.Proved.Indexes.{copy_total, copy_exact, naming_total, naming_exact, fix_key_total, fix_key_exact, fix_total, fix_exact, index_laws, index_summary_laws}
+use Rattle.study_index.specs.Proved.Indexes.{copy_total, copy_exact, naming_total, naming_exact, fix_key_total, fix_key_exact, fix_exact, index_laws, index_summary_laws}
 use Rattle.study_index.proofs.KeyLaws.{or_none, at_either}
 use Rattle.study_index.proofs.Trees.{pick_at-joined}
 

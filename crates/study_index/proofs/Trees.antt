@@ -1,5 +1,5 @@
 -- What stands in the list of places, and what a change of the picks makes of it.
-use Rattle.std.specs.Prelude.{◌≡◌, ℕ, ◌+◌, ◌<◌, Bool, true, false, cond, not, ◌&&◌, ◌||◌, List, [], ◌∷◌, ◌++◌, fold, Option, None, Some}
+use Rattle.std.specs.Prelude.{◌≡◌, Bool, true, false, cond, not, ◌&&◌, ◌||◌, List, [], ◌∷◌, ◌++◌, fold, Option, None, Some}
 use Rattle.std.proofs.Common.{refl, sym, ap, ◌∙◌}
 use mathlib.Core.Bool.{true≢false}
 use Rattle.std.specs.List.Sorted.{IsStrictlySortedBy}
@@ -20,7 +20,7 @@ use Rattle.join_laws.specs.Proved.Maps.{lookup-map_joined, equal_from_is_eq}
 use Rattle.study_index.specs.Keys.{has, AreApart}
 use Rattle.study_index.specs.Live.{Text, Pick, Place, pick_cmp, place_cmp, instance_of, flat, pick_at, picks_joined, place_of, place_at, tree_of, is_moved, gained, lost, gains, losses}
 use Rattle.study_index.specs.Proved.Picks.{text_exact, place_exact, place_total}
-use Rattle.study_index.proofs.KeyLaws.{or_none, or_assoc, has-append, same_key, at_itself}
+use Rattle.study_index.proofs.KeyLaws.{or_none, or_assoc, has-append, same_key}
 
 pub same_places : (xs ys : List Place) → IsStrictlySortedBy place_cmp xs → IsStrictlySortedBy place_cmp ys → ((q : Place) → has place_cmp xs q ≡ has place_cmp ys q) → xs ≡ ys
 same_places xs ys s t h = same_keys place_total place_exact xs ys s t h

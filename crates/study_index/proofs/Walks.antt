@@ -1,11 +1,11 @@
 -- What follows a study, a series or an instance in the list of places.
-use Rattle.std.specs.Prelude.{◌≡◌, ℕ, true, false, ◌||◌, ◌⊎◌, List, [], ◌∷◌, Option, None, Some}
-use Rattle.std.proofs.Common.{refl, sym, ap, ◌∙◌, inl, inr}
+use Rattle.std.specs.Prelude.{◌≡◌, true, false, ◌||◌, List, [], ◌∷◌, Option, None, Some}
+use Rattle.std.proofs.Common.{refl, sym, ap, ◌∙◌}
 use mathlib.Core.Bool.{true≢false}
 use Rattle.std.specs.List.Sorted.{IsStrictlySortedBy}
 use Rattle.std.specs.Map.{keys_of}
 use Rattle.std.specs.Cmp.Lexicographic.{nat_list_cmp_total}
-use Rattle.std.specs.Ordering.{nat_cmp, is_gt, is_eq, ordering_then, ordering_reverse}
+use Rattle.std.specs.Ordering.{nat_cmp, is_gt, ordering_then, ordering_reverse}
 use Rattle.std.specs.declared.cmp.Ordering.{Ordering}
 use Rattle.std.specs.declared.cmp.Ordering.TheVariants.{Less, Equal, Greater}
 use Rattle.std.specs.declared.ops.Bound.{Bound}
@@ -13,7 +13,7 @@ use Rattle.std.specs.BTreeMap.Range.{IsFromStart, IsLeBy}
 use Rattle.std.proofs.lemmas.Cmp.{tied_itself}
 use Rattle.archive_model.specs.Texts.{text_cmp}
 use Rattle.study_index.specs.Keys.{has}
-use Rattle.study_index.specs.Live.{Text, Pick, Place, place_cmp, instance_of, pick_at, tree_of, HasStudy, HasSeries, HasInstance, IsPast, IsNext, study_start, series_start, instance_start}
+use Rattle.study_index.specs.Live.{Text, Pick, Place, place_cmp, pick_at, tree_of, HasStudy, HasSeries, HasInstance, IsPast, IsNext, study_start, series_start, instance_start}
 use Rattle.study_index.specs.Proved.Picks.{text_exact, place_total}
 use Rattle.study_index.proofs.KeyLaws.{at_itself}
 use Rattle.study_index.proofs.Trees.{has-tree_of, stands, at_of}

@@ -1,5 +1,5 @@
 -- What an index says of a set of operations, which is the list of its operations ascending by digest: the definition, without joins.
-use Rattle.std.specs.Prelude.{◌≡◌, ℕ, List, IsTrue, true, ◌↔◌, Option}
+use Rattle.std.specs.Prelude.{◌≡◌, ℕ, List, IsTrue}
 use Rattle.std.specs.Option.{option_map}
 use Rattle.rejection_note.specs.declared.title.Title.{Title}
 use Rattle.operation.specs.declared.op.Op.{Op}

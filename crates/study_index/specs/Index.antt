@@ -1,5 +1,5 @@
 -- The value of an index: of one operation, and of two indexes together.
-use Rattle.std.specs.Prelude.{ℕ, nat_le, List, [], ◌∷◌, map, length, take, Option, None, Some, Bool}
+use Rattle.std.specs.Prelude.{ℕ, nat_le, List, [], map, length, take, Option, None, Some, Bool}
 use Rattle.std.specs.List.{filter}
 use Rattle.std.specs.Map.{lookup}
 use Rattle.std.specs.Ordering.{nat_cmp, ordering_then}

@@ -135,7 +135,10 @@ impl Ord for Fix {
     ghost matches_eq = { λ x y. refl };
 
     fn cmp(&self, other: &Fix) -> Ordering {
-        let within = self.site.cmp(&other.site).then(self.value.cmp(&other.value));
+        let within = self
+            .site
+            .cmp(&other.site)
+            .then(self.value.cmp(&other.value));
         self.counter.cmp(&other.counter).then(within)
     }
 }

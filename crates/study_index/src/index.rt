@@ -48,11 +48,7 @@ impl Model for Index {
 }
 
 // Takes in a UID that a note names, unless it has more than 64 bytes.
-fn add_title(
-    titles: &mut GrowSet<Naming>,
-    title: Title,
-    uid: &Octets,
-) -> Result<(), AllocError>
+fn add_title(titles: &mut GrowSet<Naming>, title: Title, uid: &Octets) -> Result<(), AllocError>
     ensures { OnOk result (titles.new ≡
         union_of naming_cmp titles.old (named title (uid.now ∷ []))) }
 {
@@ -209,12 +205,7 @@ impl Index {
     }
 
     // Takes in a content that is a note. The titles are joined aside.
-    fn add_note(
-        &mut self,
-        digest: Digest,
-        content: &Content,
-        note: &Note,
-    ) -> Result<(), AllocError>
+    fn add_note(&mut self, digest: Digest, content: &Content, note: &Note) -> Result<(), AllocError>
         requires digest { digest ≡ digest_of (a_content content.now) }
         requires note { content.now.note ≡ Some note.now }
         ensures ok { OnOk result (self.new ≡
@@ -272,7 +263,7 @@ impl Index {
     }
 
     /// Whether a note of a title names a UID.
-    pub fn is_named_under(&self, uid: &ShortText, title: Title) -> bool
+    pub fn covered_by(&self, uid: &ShortText, title: Title) -> bool
         ensures { result ≡ has naming_cmp self.now.1.0 (uid.now, code_of title) }
     {
         let naming = Naming {

@@ -200,11 +200,7 @@ fn series_start(study: &ShortText, after: Option<&ShortText>) -> Bound<Place>
 }
 
 // In the series of the study, past the instance `after`.
-fn instance_start(
-    study: &ShortText,
-    series: &ShortText,
-    after: Option<&ShortText>,
-) -> Bound<Place>
+fn instance_start(study: &ShortText, series: &ShortText, after: Option<&ShortText>) -> Bound<Place>
     ensures { result ≡ instance_start study.now series.now (option_copied after.entry) }
 {
     match after {

@@ -38,7 +38,10 @@ fn of_equal_stamps_the_greater_value_counts(rt: HostRuntime) -> Result<(), Fail>
     let alloc = rt.alloc();
     let ann = renaming(alloc, b"ROE^ANN")?;
     let bea = renaming(alloc, b"ROE^BEA")?;
-    assert!(rt; has_name(alloc, &[ann, bea], b"ROE^BEA")?, "the greater last");
+    assert!(rt;
+        has_name(alloc, &[ann, bea], b"ROE^BEA")?,
+        "the greater last"
+    );
     Ok(())
 }
 
@@ -48,6 +51,9 @@ fn the_order_is_free_and_so_are_repeats(rt: HostRuntime) -> Result<(), Fail> {
     let ann = renaming(alloc, b"ROE^ANN")?;
     let bea = renaming(alloc, b"ROE^BEA")?;
     let again = renaming(alloc, b"ROE^BEA")?;
-    assert!(rt; has_name(alloc, &[bea, ann, again], b"ROE^BEA")?, "the greater twice");
+    assert!(rt;
+        has_name(alloc, &[bea, ann, again], b"ROE^BEA")?,
+        "the greater twice"
+    );
     Ok(())
 }

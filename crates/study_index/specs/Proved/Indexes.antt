@@ -1,5 +1,5 @@
 -- The laws of indexes, which the implementations of the traits name.
-use Rattle.std.specs.Prelude.{ℕ, List, [], Option, None, Some}
+use Rattle.std.specs.Prelude.{ℕ, [], Option, None, Some}
 use Rattle.std.specs.Cmp.{IsTotalOrder, nat_cmp_total}
 use Rattle.std.specs.Cmp.Lexicographic.{nat_list_cmp_total}
 use Rattle.std.specs.Ordering.{nat_cmp, ordering_then}
@@ -17,8 +17,8 @@ use Rattle.join_laws.specs.Proved.Maps.{map_laws, map_summary_laws}
 use Rattle.join_laws.specs.Proved.Orders.{least_laws, least_summary_laws, greatest_laws, greatest_summary_laws}
 use Rattle.join_laws.specs.Proved.Sets.{set_laws, set_summary_laws, sorted-union}
 use Rattle.join_laws.specs.Proved.Pairs.{pair_laws}
-use Rattle.study_index.specs.Live.{Text, Pick, pick_cmp, picks_joined}
-use Rattle.study_index.specs.Index.{FixKey, Fix, IndexValue, copy_cmp, naming_cmp, fix_key_cmp, fix_cmp, fixes_joined, IsIndex, index_joined, index_of, nothing, namings, titles_of, pick_of, fix_key, fix_of}
+use Rattle.study_index.specs.Live.{Text, pick_cmp}
+use Rattle.study_index.specs.Index.{FixKey, Fix, copy_cmp, naming_cmp, fix_key_cmp, fix_cmp, fixes_joined, IsIndex, index_joined, index_of, nothing, namings, titles_of, pick_of, fix_key, fix_of}
 use Rattle.study_index.specs.Proved.Picks.{text_exact, pick_exact, pick_total, picks_laws}
 
 pub copy_exact : IsExact copy_cmp

@@ -1,5 +1,5 @@
 -- The laws of picks, which the implementation of the join names.
-use Rattle.std.specs.Prelude.{ℕ, Option, List}
+use Rattle.std.specs.Prelude.{ℕ, Option}
 use Rattle.std.specs.Cmp.{IsTotalOrder, nat_cmp_total}
 use Rattle.std.specs.Cmp.Lexicographic.{nat_list_cmp_total}
 use Rattle.std.specs.Ordering.{nat_cmp, ordering_then}
@@ -11,7 +11,7 @@ use Rattle.join_laws.specs.Proved.Exact.{exact_unsigned, exact_both, exact_lists
 use Rattle.join_laws.specs.Proved.Maps.{map_laws}
 use Rattle.join_laws.specs.Proved.Orders.{least_laws}
 use Rattle.archive_model.specs.Texts.{text_cmp}
-use Rattle.study_index.specs.Live.{Text, Pick, Place, pick_cmp, place_cmp, picks_joined}
+use Rattle.study_index.specs.Live.{Text, Pick, pick_cmp, place_cmp, picks_joined}
 
 pub text_exact : IsExact text_cmp
 text_exact = exact_lists nat_cmp exact_unsigned

@@ -1,7 +1,6 @@
-use Rattle.std.proofs.Common.{◌≡◌, ap, sym, ◌∙◌, subst, Some}
+use Rattle.std.proofs.Common.{◌≡◌, ap, sym, ◌∙◌, subst}
 use Rattle.std.specs.Prelude.{IfSome}
 use Rattle.operation.specs.Spelling.{digest_of}
-use Rattle.study_index.specs.Index.{index_joined, index_of}
 use Rattle.site_state.specs.Site.{index_with}
 use Rattle.site_state.proofs.Indexed.{put_there, taken_out}
 use Rattle.site_state.proofs.tree.take_in.Goals as goal

@@ -1,4 +1,4 @@
-use Rattle.std.proofs.Common.{sym, subst, IfSome, List}
+use Rattle.std.proofs.Common.{subst, IfSome, List}
 use Rattle.std.specs.List.{slice_get}
 use Rattle.std.specs.BTreeMap.Range.{IsLeBy}
 use Rattle.study_index.specs.Live.{place_cmp, Place}

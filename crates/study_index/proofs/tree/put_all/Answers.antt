@@ -1,8 +1,8 @@
-use Rattle.std.proofs.Common.{◌∙◌, ap, sym, arith, take, cond, true, not, ◌&&◌, ◌||◌}
+use Rattle.std.proofs.Common.{◌∙◌, ap, sym, arith, take, not, ◌&&◌, ◌||◌}
 use Rattle.std.specs.BTreeMap.{is_at}
 use Rattle.join_laws.specs.Proved.Sets.{same_keys, has-insert_key}
 use Rattle.study_index.specs.Keys.{has}
-use Rattle.study_index.specs.Live.{Place, place_cmp}
+use Rattle.study_index.specs.Live.{place_cmp}
 use Rattle.study_index.specs.Proved.Picks.{place_total, place_exact}
 use Rattle.study_index.proofs.KeyLaws.{has-take_more, has-take, step_in, out_again, as_cond}
 use Rattle.study_index.proofs.tree.put_all.Goals as goal

@@ -3,7 +3,6 @@ use Rattle.std.specs.Prelude.{◌||◌}
 use Rattle.std.specs.List.Sorted.{IsStrictlySortedBy}
 use Rattle.study_index.specs.Keys.{has}
 use Rattle.study_index.specs.Live.{Place, place_cmp}
-use Rattle.study_index.specs.Proved.Picks.{place_total, place_exact}
 use Rattle.study_index.proofs.tree.put_all.Given as goal
 
 -- the places so far are in

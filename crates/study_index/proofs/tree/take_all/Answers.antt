@@ -1,8 +1,8 @@
 use Rattle.std.proofs.Common.{◌∙◌, ap, sym, arith, take, cond, false, not, ◌&&◌}
 use Rattle.std.specs.BTreeMap.{is_at}
 use Rattle.study_index.specs.Keys.{has}
-use Rattle.study_index.specs.Live.{Place, place_cmp}
-use Rattle.study_index.specs.Proved.Picks.{place_total, place_exact}
+use Rattle.study_index.specs.Live.{place_cmp}
+use Rattle.study_index.specs.Proved.Picks.{place_total}
 use Rattle.study_index.proofs.KeyLaws.{has-take_more, step_out, at_either}
 use Rattle.study_index.proofs.tree.take_all.Goals as goal
 

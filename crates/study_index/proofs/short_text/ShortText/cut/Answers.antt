@@ -1,4 +1,4 @@
-use Rattle.std.proofs.Common.{◌≡◌, ◌≤◌, ◌<◌, ℕ, List, ◌∙◌, sym, arith, take, length}
+use Rattle.std.proofs.Common.{◌≡◌, ◌<◌, ℕ, List, ◌∙◌, sym, arith, take, length}
 use Rattle.std.proofs.lemmas.List.{take_all, length-take-le}
 use Rattle.study_index.proofs.short_text.ShortText.cut.Goals as goal
 
