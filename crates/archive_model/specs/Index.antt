@@ -12,7 +12,7 @@ use Rattle.operation.specs.declared.target.Target.{Target}
 use Rattle.operation.specs.declared.target.Target.TheVariants.{Study, Patient}
 use Rattle.operation.specs.Parts.{ContentParts, CorrectionParts}
 use Rattle.operation.specs.Spelling.{digest_of}
-use Rattle.archive_model.specs.Texts.{same}
+use Rattle.octets.specs.Texts.{same}
 use Rattle.archive_model.specs.View.{hides}
 use Rattle.archive_model.specs.Contents.{contents, pick}
 use Rattle.archive_model.specs.Covered.{is_among, is_covered}
@@ -32,7 +32,7 @@ is_content_of uid (a_correction k) = false
 abbrev pub copies : List ℕ → List Op → List (List ℕ)
 copies uid ops = map digest_of (filter (is_content_of uid) ops)
 
--- the code of a title (PS3.16, CID 7011)
+-- the code of a title (PS3.16, CID 7010)
 abbrev pub code_of : Title → ℕ
 code_of Quality = 113001
 code_of Safety = 113037

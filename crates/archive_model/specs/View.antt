@@ -1,4 +1,4 @@
--- What each view hides (IHE RAD-66, Rejection Note Stored; titles: PS3.16, CID 7011).
+-- What each view hides (IHE RAD-66, Rejection Note Stored; titles: PS3.16, CID 7010).
 use Rattle.std.specs.Prelude.{Bool, true, false}
 use Rattle.rejection_note.specs.declared.title.Title.{Title}
 use Rattle.rejection_note.specs.declared.title.Title.TheVariants.{Quality as for_quality, Safety, Worklist, Expired}

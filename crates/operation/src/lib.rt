@@ -14,7 +14,6 @@ mod hashing;
 mod laws;
 mod op;
 mod stamp;
-mod tags;
 mod taken;
 mod target;
 #[cfg(test)]

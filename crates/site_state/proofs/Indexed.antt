@@ -12,9 +12,9 @@ use Rattle.std.specs.List.Sorted.{IsStrictlySortedBy}
 use Rattle.std.specs.Map.{keys_of, values_of}
 use Rattle.operation.specs.declared.op.Op.{Op}
 use Rattle.operation.specs.Spelling.{digest_of}
-use Rattle.archive_model.specs.Members.{Has}
+use Rattle.octets.specs.Members.{Has}
 use Rattle.archive_model.specs.Laws.{Ascend}
-use Rattle.archive_model.specs.Texts.{text_cmp}
+use Rattle.octets.specs.Texts.{text_cmp}
 use Rattle.join_laws.specs.Laws.{HasSameMembers}
 use Rattle.join_laws.proofs.Folds.{value_same}
 use Rattle.study_index.specs.Index.{IndexValue, index_joined, index_of, nothing}

@@ -20,8 +20,8 @@ use Rattle.operation.specs.declared.target.Target.{Target}
 use Rattle.operation.specs.declared.target.Target.TheVariants.{Study, Patient}
 use Rattle.operation.specs.Parts.{ContentParts, CorrectionParts}
 use Rattle.operation.specs.Spelling.{digest_of}
-use Rattle.archive_model.specs.Texts.{same, text_cmp}
-use Rattle.archive_model.specs.Members.{Has}
+use Rattle.octets.specs.Texts.{same, text_cmp}
+use Rattle.octets.specs.Members.{Has}
 use Rattle.archive_model.specs.Contents.{pick}
 use Rattle.archive_model.specs.Attributes.{corrections, correction_cmp, greatest}
 use Rattle.archive_model.specs.Index.{code_of, copies, is_content_of, names_under, is_titled, is_same_target, is_fix, fix}

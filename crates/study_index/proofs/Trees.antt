@@ -11,7 +11,7 @@ use Rattle.std.proofs.lemmas.Cmp.{tied_itself, eq_by_cmp_equiv}
 use Rattle.std.proofs.lemmas.Map.{lookup-none}
 use Rattle.std.proofs.lemmas.Map.Keys.{IsDistinct-from_sorted, sorted_tail}
 use Rattle.std.proofs.lemmas.Map.Entries.{none_past_head}
-use Rattle.archive_model.specs.Texts.{same, text_cmp}
+use Rattle.octets.specs.Texts.{same, text_cmp}
 use Rattle.archive_model.proofs.ModelLaws.{same_is, same_itself}
 use Rattle.join_laws.specs.Laws.{joined_options}
 use Rattle.join_laws.specs.Least.{least_of}

@@ -11,7 +11,7 @@ use Rattle.std.specs.declared.cmp.Ordering.TheVariants.{Less, Equal, Greater}
 use Rattle.std.specs.declared.ops.Bound.{Bound}
 use Rattle.std.specs.BTreeMap.Range.{IsFromStart, IsLeBy}
 use Rattle.std.proofs.lemmas.Cmp.{tied_itself}
-use Rattle.archive_model.specs.Texts.{text_cmp}
+use Rattle.octets.specs.Texts.{text_cmp}
 use Rattle.study_index.specs.Keys.{has}
 use Rattle.study_index.specs.Live.{Text, Pick, Place, place_cmp, pick_at, tree_of, HasStudy, HasSeries, HasInstance, IsPast, IsNext, study_start, series_start, instance_start}
 use Rattle.study_index.specs.Proved.Picks.{text_exact, place_total}

@@ -6,7 +6,7 @@ use Rattle.operation.specs.declared.op.Op.{Op}
 use Rattle.operation.specs.declared.target.Target.{Target}
 use Rattle.archive_model.specs.Contents.{pick}
 use Rattle.archive_model.specs.Index.{code_of, copies, is_titled, fix}
-use Rattle.archive_model.specs.Texts.{text_cmp}
+use Rattle.octets.specs.Texts.{text_cmp}
 use Rattle.study_index.specs.Keys.{has}
 use Rattle.study_index.specs.Live.{pick_at}
 use Rattle.join_laws.specs.Laws.{summary_of}

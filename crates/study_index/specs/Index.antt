@@ -14,7 +14,7 @@ use Rattle.operation.specs.declared.target.Target.{Target}
 use Rattle.operation.specs.declared.target.Target.TheVariants.{Study, Patient}
 use Rattle.operation.specs.Parts.{ContentParts, CorrectionParts, key_of}
 use Rattle.operation.specs.Spelling.{digest_of}
-use Rattle.archive_model.specs.Texts.{text_cmp}
+use Rattle.octets.specs.Texts.{text_cmp}
 use Rattle.archive_model.specs.Contents.{study_of, series_of}
 use Rattle.archive_model.specs.Index.{code_of}
 use Rattle.join_laws.specs.Greatest.{greatest_of}

@@ -10,7 +10,7 @@ use Rattle.std.specs.declared.ops.Bound.TheVariants.{Included, Excluded, Unbound
 use Rattle.join_laws.specs.Least.{least_of}
 use Rattle.join_laws.specs.GrowSet.{union_of}
 use Rattle.join_laws.specs.MapOf.{map_joined}
-use Rattle.archive_model.specs.Texts.{same, text_cmp}
+use Rattle.octets.specs.Texts.{same, text_cmp}
 
 abbrev pub Text : Type 0
 Text = List ℕ

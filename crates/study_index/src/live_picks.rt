@@ -2,7 +2,7 @@
 ghost use Rattle.std.specs.Prelude.{◌≡◌, [], ◌++◌, ℕ, List, OnOk, OnErr, IfOk, Option, None, Some};
 ghost use Rattle.std.specs.Option.{option_copied};
 ghost use Rattle.std.specs.Cmp.Lexicographic.{nat_list_cmp_total};
-ghost use Rattle.archive_model.specs.Texts.{text_cmp};
+ghost use Rattle.octets.specs.Texts.{text_cmp};
 ghost use Rattle.join_laws.specs.Least.{least_of};
 ghost use Rattle.join_laws.specs.MapOf.{IsMapOf, entry};
 ghost use Rattle.study_index.specs.Live.{pick_at, picks_joined, tree_of, is_moved, pick_cmp};

@@ -9,7 +9,7 @@ use Rattle.rejection_note.specs.declared.note.Note.{Note}
 use Rattle.operation.specs.declared.op.Op.{Op}
 use Rattle.operation.specs.declared.op.Op.TheVariants.{Content as a_content, Correction as a_correction}
 use Rattle.operation.specs.Spelling.{digest_of}
-use Rattle.archive_model.specs.Texts.{text_cmp}
+use Rattle.octets.specs.Texts.{text_cmp}
 use Rattle.join_laws.specs.Laws.{IsExact, JoinLaws, SummaryLaws}
 use Rattle.join_laws.specs.MapOf.{IsMapOf}
 use Rattle.join_laws.specs.Proved.Exact.{exact_unsigned, exact_both}

@@ -10,7 +10,7 @@ use Rattle.join_laws.specs.MapOf.{IsMapOf}
 use Rattle.join_laws.specs.Proved.Exact.{exact_unsigned, exact_both, exact_lists}
 use Rattle.join_laws.specs.Proved.Maps.{map_laws}
 use Rattle.join_laws.specs.Proved.Orders.{least_laws}
-use Rattle.archive_model.specs.Texts.{text_cmp}
+use Rattle.octets.specs.Texts.{text_cmp}
 use Rattle.study_index.specs.Live.{Text, Pick, pick_cmp, place_cmp, picks_joined}
 
 pub text_exact : IsExact text_cmp

@@ -1,6 +1,6 @@
 use Rattle.std.proofs.Common.{◌∙◌, ap, Some, List, ℕ}
 use Rattle.std.specs.BTreeSet.{insert_key}
-use Rattle.archive_model.specs.Texts.{text_cmp}
+use Rattle.octets.specs.Texts.{text_cmp}
 use Rattle.join_laws.specs.Least.{least_of}
 use Rattle.join_laws.specs.MapOf.{put_joined}
 use Rattle.study_index.specs.Live.{pick_cmp}
