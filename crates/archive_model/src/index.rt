@@ -49,7 +49,7 @@ pub fn copies(alloc: Global, ops: &[&Op], uid: &[u8]) -> Result<Vec<Digest>, All
 }
 
 /// The code of a title (PS3.16, CID 7011).
-fn code(title: Title) -> u32
+pub fn title_code(title: Title) -> u32
     ensures { result ≡ code_of title }
 {
     match title {
@@ -65,7 +65,7 @@ fn names_under(title: Title, uid: &[u8], note: &Option<Note>) -> bool
 {
     match note {
         None => false,
-        Some(note) => code(note.title) == code(title) && is_among(note.covers.as_slice(), uid),
+        Some(note) => title_code(note.title) == title_code(title) && is_among(note.covers.as_slice(), uid),
     }
 }
 

@@ -25,7 +25,7 @@ pub use groups::{
     in_series, in_study, instances_of_series, instances_of_study, modalities_of_study, series_in,
     series_of_study, series_representative, studies, study_representative,
 };
-pub use index::{copies, fix, is_titled, pick_digest};
+pub use index::{copies, fix, is_titled, pick_digest, title_code};
 pub use keys::{modality, patient, series, study};
 pub use laws::{
     an_audit_shows_every_pick, coercion_puts_in_what_differs, representatives_have_the_least_uid,

@@ -295,6 +295,39 @@ fn the_content_of_lesser_digest_is_the_pick(rt: HostRuntime) -> Result<(), Fail>
     Ok(())
 }
 
+/// Whether the walk gives this study, and no other.
+fn walks_to(site: &Site, study: &[u8]) -> bool {
+    let index = site.index();
+    match index.next_study(None) {
+        None => false,
+        Some(first) => first.as_slice() == study && index.next_study(Some(first)).is_none(),
+    }
+}
+
+#[test]
+fn the_walk_gives_the_study_of_the_pick_alone(rt: HostRuntime) -> Result<(), Fail> {
+    let alloc = rt.alloc();
+    let lesser = lesser_study(alloc)?;
+    let this = site_of(alloc, &[JANE, ELSEWHERE])?;
+    let that = site_of(alloc, &[ELSEWHERE, JANE])?;
+    assert!(rt; walks_to(&this, lesser), "in one order");
+    assert!(rt; walks_to(&that, lesser), "in the other");
+    Ok(())
+}
+
+#[test]
+fn merged_sites_walk_to_the_study_of_the_pick_alone(rt: HostRuntime) -> Result<(), Fail> {
+    let alloc = rt.alloc();
+    let lesser = lesser_study(alloc)?;
+    let mut this = site_of(alloc, &[JANE])?;
+    let mut that = site_of(alloc, &[ELSEWHERE])?;
+    assert_eq!(rt; this.merge(&that), Ok(()), "one way");
+    assert_eq!(rt; that.merge(&this), Ok(()), "and the other");
+    assert!(rt; walks_to(&this, lesser), "one way");
+    assert!(rt; walks_to(&that, lesser), "and the other");
+    Ok(())
+}
+
 #[test]
 fn a_site_finds_an_operation_by_its_digest(rt: HostRuntime) -> Result<(), Fail> {
     let alloc = rt.alloc();
