@@ -163,6 +163,7 @@ fn kind(target: &Target) -> u8
     match target {
         Target::Study(_) => 1,
         Target::Patient(_) => 2,
+        Target::Series(_) => 3,
     }
 }
 
@@ -173,6 +174,7 @@ pub fn key_of(target: &Target) -> &[u8]
     match target {
         Target::Study(key) => key.as_slice(),
         Target::Patient(key) => key.as_slice(),
+        Target::Series(key) => key.as_slice(),
     }
 }
 
