@@ -9,7 +9,7 @@ use Rattle.rejection_note.specs.declared.title.Title.TheVariants.{Quality, Safet
 use Rattle.operation.specs.declared.op.Op.{Op}
 use Rattle.operation.specs.declared.op.Op.TheVariants.{Content as a_content, Correction as a_correction}
 use Rattle.operation.specs.declared.target.Target.{Target}
-use Rattle.operation.specs.declared.target.Target.TheVariants.{Study, Patient}
+use Rattle.operation.specs.declared.target.Target.TheVariants.{Study, Patient, Series}
 use Rattle.operation.specs.Parts.{ContentParts, CorrectionParts}
 use Rattle.operation.specs.Spelling.{digest_of}
 use Rattle.octets.specs.Texts.{same}
@@ -52,8 +52,8 @@ is_titled ops uid title = list_any (λ c. names_under title uid c.note) (content
 abbrev pub is_same_target : Target → Target → Bool
 is_same_target (Study a) (Study b) = same a b
 is_same_target (Patient a) (Patient b) = same a b
-is_same_target (Study a) (Patient b) = false
-is_same_target (Patient a) (Study b) = false
+is_same_target (Series a) (Series b) = same a b
+is_same_target _ _ = false
 
 -- whether a correction is one of this target and tag
 abbrev pub is_fix : Target → ℕ → CorrectionParts → Bool

@@ -8,6 +8,7 @@ use Rattle.operation.specs.declared.op.Op.TheVariants.{Content as a_content}
 use Rattle.operation.specs.Parts.{ContentParts, CorrectionParts}
 use Rattle.operation.specs.Spelling.{digest_of}
 use Rattle.archive_model.specs.declared.view.View.{View}
+use Rattle.archive_model.specs.declared.view.View.TheVariants.{Audit}
 use Rattle.octets.specs.Texts.{text_cmp}
 use Rattle.archive_model.specs.View.{hides}
 use Rattle.archive_model.specs.Contents.{contents, contents_of, pick, flagged}
@@ -59,6 +60,14 @@ CoveredIsNamed = (view : View) (ops : List Op) (uid : List ℕ) → IsTrue (is_c
 abbrev pub ShownArePicks : Type 0
 ShownArePicks = (view : View) (ops : List Op) (c : ContentParts) → Has (shown view ops) c
     ↔ ((pick c.instance ops ≡ Some c) × (is_covered view ops c.instance ≡ false) × (is_hiding view c.note ≡ false))
+
+-- in an audit no UID is covered
+abbrev pub AuditCoversNothing : Type 0
+AuditCoversNothing = (ops : List Op) (uid : List ℕ) → is_covered Audit ops uid ≡ false
+
+-- and every pick is shown, a rejected image and a note as any other
+abbrev pub AuditShowsPicks : Type 0
+AuditShowsPicks = (ops : List Op) (c : ContentParts) → Has (shown Audit ops) c ↔ (pick c.instance ops ≡ Some c)
 
 -- the flagged UIDs are those with two contents or more
 abbrev pub FlaggedHaveTwo : Type 0

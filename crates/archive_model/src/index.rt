@@ -89,8 +89,10 @@ fn is_same_target(this: &Target, other: &Target) -> bool
     match (this, other) {
         (Target::Study(a), Target::Study(b)) => a.as_slice() == b.as_slice(),
         (Target::Patient(a), Target::Patient(b)) => a.as_slice() == b.as_slice(),
-        (Target::Study(_), Target::Patient(_)) => false,
-        (Target::Patient(_), Target::Study(_)) => false,
+        (Target::Series(a), Target::Series(b)) => a.as_slice() == b.as_slice(),
+        (Target::Study(_), Target::Patient(_) | Target::Series(_)) => false,
+        (Target::Patient(_), Target::Study(_) | Target::Series(_)) => false,
+        (Target::Series(_), Target::Study(_) | Target::Patient(_)) => false,
     }
 }
 

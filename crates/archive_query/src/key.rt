@@ -83,7 +83,7 @@ fn image_matching(tag: u32) -> Option<Matching>
 
 impl Level {
     /// Whether a query of this level names a study.
-    pub(crate) fn names_study(self) -> bool
+    pub fn names_study(self) -> bool
         ensures { result ≡ has_study_above self }
     {
         match self {
@@ -94,7 +94,7 @@ impl Level {
     }
 
     /// Whether a query of this level names a series.
-    pub(crate) fn names_series(self) -> bool
+    pub fn names_series(self) -> bool
         ensures { result ≡ has_series_above self }
     {
         match self {

@@ -49,7 +49,8 @@ fn level_of_word(word: &[u8]) -> Result<Level, QueryFault>
     Err(QueryFault::NoLevel)
 }
 
-fn level_of(set: &DataSet) -> Result<Level, QueryFault>
+/// The level that an identifier names, (0008,0052).
+pub fn level_of(set: &DataSet) -> Result<Level, QueryFault>
     ensures { result ≡ level_in (value_in QUERY_RETRIEVE_LEVEL set.now.elements) }
 {
     match set.value(QUERY_RETRIEVE_LEVEL) {
@@ -58,8 +59,13 @@ fn level_of(set: &DataSet) -> Result<Level, QueryFault>
     }
 }
 
-/// A unique key above the level, which names exactly one UID.
-fn upper_uid(alloc: Global, set: &DataSet, is_named: bool, tag: u32) -> Result<Octets, QueryFault>
+/// A unique key above the level, which names exactly one UID; empty where none is named.
+pub fn upper_uid(
+    alloc: Global,
+    set: &DataSet,
+    is_named: bool,
+    tag: u32,
+) -> Result<Octets, QueryFault>
     ensures { Gives is_memory (λ uid. uid) result (upper_uid_in is_named tag set.now.elements) }
 {
     if !is_named {

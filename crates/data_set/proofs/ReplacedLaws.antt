@@ -3,7 +3,7 @@ use Rattle.std.proofs.Common.{◌≡◌, ℕ, ◌+◌, ◌%◌, ◌<◌, ◌≤�
 use Rattle.std.specs.Prelude.{◌==◌, nat_lt}
 use Rattle.std.proofs.lemmas.Bool.{eqb-true, ltb-true, lt-ltb, le-ltb}
 use lib.Chars.{codes}
-use Rattle.dictionary.specs.declared.elements.TheConstants.{ACCESSION_NUMBER, PATIENT_BIRTH_DATE, PATIENT_ID, PATIENT_NAME, PATIENT_SEX, REFERRING_PHYSICIAN_NAME, STUDY_DATE, STUDY_DESCRIPTION, STUDY_ID, STUDY_TIME}
+use Rattle.dictionary.specs.declared.elements.TheConstants.{ACCESSION_NUMBER, PATIENT_BIRTH_DATE, PATIENT_ID, PATIENT_NAME, PATIENT_SEX, REFERRING_PHYSICIAN_NAME, SERIES_DESCRIPTION, STUDY_DATE, STUDY_DESCRIPTION, STUDY_ID, STUDY_TIME}
 use Rattle.dictionary.specs.Elements.{vr_in_table}
 use Rattle.data_set.specs.declared.syntax.Syntax.{Syntax}
 use Rattle.data_set.specs.declared.syntax.Syntax.TheVariants.{Implicit, Explicit}
@@ -67,14 +67,17 @@ all_may = (
         (
           may_put STUDY_DESCRIPTION 76 79 (omega arith) refl refl refl refl refl refl refl refl,
           (
-            may_put PATIENT_NAME 80 78 (omega arith) refl refl refl refl refl refl refl refl,
+            may_put SERIES_DESCRIPTION 76 79 (omega arith) refl refl refl refl refl refl refl refl,
             (
-              may_put PATIENT_ID 76 79 (omega arith) refl refl refl refl refl refl refl refl,
+              may_put PATIENT_NAME 80 78 (omega arith) refl refl refl refl refl refl refl refl,
               (
-                may_put PATIENT_BIRTH_DATE 68 65 (omega arith) refl refl refl refl refl refl refl refl,
+                may_put PATIENT_ID 76 79 (omega arith) refl refl refl refl refl refl refl refl,
                 (
-                  may_put PATIENT_SEX 67 83 (omega arith) refl refl refl refl refl refl refl refl,
-                  (may_put STUDY_ID 83 72 (omega arith) refl refl refl refl refl refl refl refl, tt),
+                  may_put PATIENT_BIRTH_DATE 68 65 (omega arith) refl refl refl refl refl refl refl refl,
+                  (
+                    may_put PATIENT_SEX 67 83 (omega arith) refl refl refl refl refl refl refl refl,
+                    (may_put STUDY_ID 83 72 (omega arith) refl refl refl refl refl refl refl refl, tt),
+                  ),
                 ),
               ),
             ),

@@ -1,12 +1,12 @@
 -- The attributes that a correction may give a value (docs/DECISIONS.md, "Corrections"), with their value representations.
 use Rattle.std.specs.Prelude.{ℕ, List, [], ◌∷◌, Option, Some, None, ◌==◌, if◌then◌else◌, map}
-use Rattle.dictionary.specs.declared.elements.TheConstants.{ACCESSION_NUMBER, PATIENT_BIRTH_DATE, PATIENT_ID, PATIENT_NAME, PATIENT_SEX, REFERRING_PHYSICIAN_NAME, STUDY_DATE, STUDY_DESCRIPTION, STUDY_ID, STUDY_TIME}
+use Rattle.dictionary.specs.declared.elements.TheConstants.{ACCESSION_NUMBER, PATIENT_BIRTH_DATE, PATIENT_ID, PATIENT_NAME, PATIENT_SEX, REFERRING_PHYSICIAN_NAME, SERIES_DESCRIPTION, STUDY_DATE, STUDY_DESCRIPTION, STUDY_ID, STUDY_TIME}
 use Rattle.dictionary.specs.Elements.{vr_in_table}
 
 abbrev pub corrected_tags : List ℕ
 corrected_tags =
     STUDY_DATE ∷ STUDY_TIME ∷ ACCESSION_NUMBER ∷ REFERRING_PHYSICIAN_NAME ∷ STUDY_DESCRIPTION
-    ∷ PATIENT_NAME ∷ PATIENT_ID ∷ PATIENT_BIRTH_DATE ∷ PATIENT_SEX ∷ STUDY_ID ∷ []
+    ∷ SERIES_DESCRIPTION ∷ PATIENT_NAME ∷ PATIENT_ID ∷ PATIENT_BIRTH_DATE ∷ PATIENT_SEX ∷ STUDY_ID ∷ []
 
 abbrev pub corrections : List (ℕ × List ℕ)
 corrections = map (λ tag. (tag, vr_in_table tag)) corrected_tags

@@ -543,6 +543,16 @@ fn a_missing_value_is_put_in_its_place(rt: HostRuntime) -> Result<(), Fail> {
 }
 
 #[test]
+fn a_series_description_is_put_in(rt: HostRuntime) -> Result<(), Fail> {
+    let alloc = rt.alloc();
+    let image = set_of(alloc, Implicit, IMAGE)?;
+    let described = image.replaced(alloc, 0x0008_103e, *b"LO", b"HEAD")?;
+    let value = described.value(0x0008_103e).ok_or("no description")?;
+    assert_eq!(rt; value, b"HEAD".as_slice(), "its value");
+    Ok(())
+}
+
+#[test]
 fn values_inside_items_are_found(rt: HostRuntime) -> Result<(), Fail> {
     let alloc = rt.alloc();
     let set = set_of(alloc, Explicit, MIXED)?;

@@ -8,7 +8,8 @@ use Rattle.dimse.specs.declared.command.TheConstants.{LONGEST_COMMAND}
 use Rattle.dictionary.specs.declared.commands.TheConstants.{C_STORE_RQ, NO_DATA_SET, COMMAND_GROUP_LENGTH, AFFECTED_SOP_CLASS_UID, COMMAND_FIELD, MESSAGE_ID, MESSAGE_ID_BEING_RESPONDED_TO, PRIORITY, COMMAND_DATA_SET_TYPE, STATUS, AFFECTED_SOP_INSTANCE_UID, NUMBER_OF_REMAINING_SUBOPERATIONS, NUMBER_OF_COMPLETED_SUBOPERATIONS, NUMBER_OF_FAILED_SUBOPERATIONS, NUMBER_OF_WARNING_SUBOPERATIONS}
 use Rattle.dimse.specs.CommandField.{is_response_code, names_class_code}
 use Rattle.dimse.specs.Elements.{Element, AreElements, text_of, element_text, value_of}
-use Rattle.dimse.specs.Uid.{IsUid, is_graphic, trimmed, padded}
+use Rattle.octets.specs.Padding.{without_padding}
+use Rattle.dimse.specs.Uid.{IsUid, is_graphic, padded}
 
 -- ---- what elements say
 
@@ -26,7 +27,7 @@ is_uid_tag tag = tag == AFFECTED_SOP_CLASS_UID || tag == AFFECTED_SOP_INSTANCE_U
 unfoldable pub is_lawful : Element → Bool
 is_lawful e =
     if is_number_tag e.tag then length e.value == 2
-    else if is_uid_tag e.tag then list_all is_graphic (trimmed e.value)
+    else if is_uid_tag e.tag then list_all is_graphic (without_padding e.value)
     else true
 
 -- a number of two bytes, the low byte first
@@ -39,7 +40,7 @@ number_of es tag = option_and_then number_from (value_of es tag)
 
 -- a UID without its padding
 abbrev pub uid_of : List Element → ℕ → Option (List ℕ)
-uid_of es tag = option_map trimmed (value_of es tag)
+uid_of es tag = option_map without_padding (value_of es tag)
 
 -- what a message of its kind needs: an ID, or that of the request that it answers; a class; an instance
 unfoldable pub is_complete : Command → Bool

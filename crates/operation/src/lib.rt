@@ -28,7 +28,10 @@ pub use digests::Digest;
 pub use encoding::encode;
 pub use fault::OpFault;
 pub use hashing::digest;
-pub use laws::{a_text_has_one_outcome, spellings_tell_operations_apart};
+pub use laws::{
+    a_series_is_corrected_by_its_description_alone, a_text_has_one_outcome,
+    spellings_tell_operations_apart,
+};
 pub use op::Op;
 pub use stamp::Stamp;
 pub use taken::Taken;

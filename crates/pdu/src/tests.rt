@@ -137,17 +137,20 @@ fn a_header_is_judged_before_its_body(rt: HostRuntime) {
     }
 }
 
-/// What a body behind its header tells.
-fn body_told(alloc: Global, code: u8, body: &[u8]) -> Result<Pdu, PduFault> {
+/// What a body behind a header of this type and length tells.
+fn body_told(alloc: Global, code: u8, length: u32, body: &[u8]) -> Result<Pdu, PduFault> {
     let body = Bytes::copy_from_slice(alloc, body)?;
-    let header = read_header(&header(code, body.len() as u32))?;
+    let header = read_header(&header(code, length))?;
+    if body.len() != header.body_length() {
+        return Err(PduFault::TooLong);
+    }
     read_body(alloc, &header, body)
 }
 
 #[test]
 fn a_body_is_read_behind_its_header(rt: HostRuntime) -> Result<(), Fail> {
     let alloc = rt.alloc();
-    let pdu = body_told(alloc, 0x07, &[0, 0, 2, 1])?;
+    let pdu = body_told(alloc, 0x07, 4, &[0, 0, 2, 1])?;
     let aborted = matches!(
         pdu,
         Pdu::Abort {
@@ -156,9 +159,9 @@ fn a_body_is_read_behind_its_header(rt: HostRuntime) -> Result<(), Fail> {
         }
     );
     assert!(rt; aborted, "an A-ABORT of the provider");
-    let pdu = body_told(alloc, 0x04, &ECHO[6..])?;
+    let pdu = body_told(alloc, 0x04, 74, &ECHO[6..])?;
     assert!(rt; matches!(pdu, Pdu::PData(_)), "a P-DATA-TF");
-    let fault = body_told(alloc, 0x04, &[]).err();
+    let fault = body_told(alloc, 0x04, 0, &[]).err();
     assert_eq!(rt; fault, Some(PduFault::BadItem), "no value in it");
     Ok(())
 }

@@ -1,3 +1,4 @@
+pub mod Ascending
 pub mod Counted
 pub mod Indexed
 pub mod Maps

@@ -236,6 +236,11 @@ fn a_covered_note_still_covers(rt: HostRuntime) -> Result<(), Fail> {
         0,
         "the image is covered"
     );
+    assert_eq!(rt;
+        shown_count(alloc, &site, View::Audit)?,
+        3,
+        "nothing hides in an audit"
+    );
     Ok(())
 }
 
@@ -356,6 +361,22 @@ fn of_equal_stamps_the_greater_value_counts(rt: HostRuntime) -> Result<(), Fail>
         has_name(alloc, &that, b"ROE^BEA")?,
         "in the other order too"
     );
+    Ok(())
+}
+
+#[test]
+fn a_correction_of_a_series_is_counted(rt: HostRuntime) -> Result<(), Fail> {
+    let alloc = rt.alloc();
+    let series = Target::Series(Octets::from_slice(alloc, b"1.2.1.1")?);
+    let value = Octets::from_slice(alloc, b"HEAD")?;
+    let stamp = Stamp {
+        counter: 7,
+        site: 1,
+    };
+    let mut site = Site::new(alloc);
+    site.take(Op::Correction(correction_of(series, 0x0008_103e, value, stamp)?))?;
+    assert_eq!(rt; site.counts().corrections, 1, "one correction");
+    assert_eq!(rt; site.top_counter(), 7, "its counter");
     Ok(())
 }
 

@@ -8,3 +8,4 @@ pub mod Told
 pub mod Alike
 pub mod Rejected
 pub mod Played
+pub mod Lined

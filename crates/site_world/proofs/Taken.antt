@@ -1,5 +1,6 @@
 -- After a run each site is what it held, with what was taken at it.
-use Rattle.std.proofs.Common.{◌≡◌, ◌≢◌, ℕ, suc, zero, List, [], ◌∷◌, ◌++◌, Option, Some, None, Ok, Err, Result, Bool, true, false, cond, refl, sym, ap, ◌∙◌, slice_set, ◌==◌}
+use Rattle.std.proofs.Common.{◌≡◌, ◌≢◌, ℕ, suc, zero, List, [], ◌∷◌, ◌++◌, Option, Some, None, Ok, Err, Result, Bool}
+use Rattle.std.proofs.Common.{true, false, cond, refl, sym, ap, ◌∙◌, slice_set, ◌==◌}
 use Rattle.std.specs.Prelude.{MatchBool, not}
 use Rattle.std.specs.List.{slice_get}
 use Rattle.std.specs.Option.{option_map}
@@ -9,7 +10,7 @@ use Rattle.operation.specs.declared.op.Op.TheVariants.{Correction as a_correctio
 use Rattle.operation.specs.declared.stamp.Stamp.{Stamp}
 use Rattle.operation.specs.declared.target.Target.{Target}
 use Rattle.operation.specs.Corrections.{is_correction}
-use Rattle.site_state.specs.declared.taken.Taken.{Taken}
+use Rattle.operation.specs.declared.taken.Taken.{Taken}
 use Rattle.site_state.specs.Site.{Map, with_op, ops_of, top_counter_of}
 use Rattle.site_state.specs.Laws.{holding}
 use Rattle.site_world.specs.declared.fault.WorldFault.{WorldFault}
@@ -17,7 +18,9 @@ use Rattle.site_world.specs.declared.fault.WorldFault.TheVariants.{BadCorrection
 use Rattle.site_world.specs.declared.step.Step.{Step}
 use Rattle.site_world.specs.declared.step.Step.TheVariants.{Take, Correct, Look}
 use Rattle.site_world.specs.declared.step.Seen.{Seen}
-use Rattle.site_world.specs.Steps.{is_refused_memory, site_at, with_site, bring, brought, site_of, told, told_at, told_of_taking, told_of_stamping, taken_by, made_at, LAST_COUNTER, on_site, seen_by, after, Happens}
+use Rattle.site_world.specs.Steps.{is_refused_memory, site_at, with_site, bring, brought, site_of, told, told_at}
+use Rattle.site_world.specs.Steps.{told_of_taking, told_of_stamping, taken_by, made_at, LAST_COUNTER, on_site, seen_by}
+use Rattle.site_world.specs.Steps.{after, Happens}
 use Rattle.site_world.specs.Runs.{Run, took, taken_at, HoldWhatTheyTook}
 
 -- ---- one operation, brought to one site
@@ -109,7 +112,8 @@ by_correcting n m target tag value false false =
 pub told_took : (m : Map) (step : Step) → took step (told_at m step).0 ≡ these (told_at m step).1
 told_took m (Take n op) = by_taking n op (taken_by m op)
 told_took m (Correct n target tag value) =
-    by_correcting n m target tag value (not (is_correction (made_at n m target tag value))) (top_counter_of (ops_of m) == LAST_COUNTER)
+    by_correcting n m target tag value (not (is_correction (made_at n m target tag value))) (top_counter_of (ops_of m)
+    == LAST_COUNTER)
 told_took m (Look n view query) = refl
 
 at_site : (step : Step) (r : Option Map)
@@ -118,7 +122,8 @@ at_site step None = refused_took step _
 at_site step (Some m) = told_took m step
 
 -- A step that memory refused took nothing.
-pub memory_took : (step : Step) (answer : Result Seen WorldFault) → is_refused_memory answer ≡ true → took step answer ≡ []
+pub memory_took : (step : Step) (answer : Result Seen WorldFault) → is_refused_memory answer ≡ true →
+    took step answer ≡ []
 memory_took step (Ok seen) e = absurd (false≢true e)
 memory_took step (Err fault) e = refused_took step fault
 
@@ -127,14 +132,17 @@ by_memory : (b : Bool) (old new : List Map) (step : Step) (answer : Result Seen 
     → site_at new n ≡ option_map (λ m. holding m (cond (site_of step == n) (took step answer) [])) (site_at old n)
 by_memory true old new step answer n is same =
     ap (λ w. site_at w n) same ∙ not_here (site_of step == n) (site_at old n)
-    ∙ ap (λ ops. option_map (λ m. holding m (cond (site_of step == n) ops [])) (site_at old n)) (sym (memory_took step answer is))
+    ∙ ap (λ ops. option_map (λ m. holding m (cond (site_of step == n) ops [])) (site_at old n)) (sym (memory_took step
+    answer is))
 by_memory false old new step answer n is (seen, now) =
     let took_it = at_site step (site_at old (site_of step)) in
     ap (λ w. site_at w n) now ∙ one_brought old (site_of step) n (told old step).1
-    ∙ ap (λ ops. option_map (λ m. holding m (cond (site_of step == n) ops [])) (site_at old n)) (sym took_it ∙ ap (took step) (sym seen))
+    ∙ ap (λ ops. option_map (λ m. holding m (cond (site_of step == n) ops [])) (site_at old n)) (sym took_it
+    ∙ ap (took step) (sym seen))
 
 -- After a step each site has what the step took there.
-pub step_took : (old new : List Map) (step : Step) (answer : Result Seen WorldFault) (n : ℕ) → Happens old step answer new
+pub step_took : (old new : List Map) (step : Step) (answer : Result Seen WorldFault) (n : ℕ) →
+    Happens old step answer new
     → site_at new n ≡ option_map (λ m. holding m (cond (site_of step == n) (took step answer) [])) (site_at old n)
 step_took old new step answer n happens = by_memory (is_refused_memory answer) old new step answer n refl happens
 

@@ -1,6 +1,7 @@
 pub mod Faults
 pub mod Same
 pub mod State
+pub mod Laws
 pub mod Steps
 pub mod Runs
 pub mod Headline
@@ -8,5 +9,6 @@ pub mod Rejected
 pub mod Texts
 pub mod Script
 pub mod Output
+pub mod Lines
 pub mod Played
 pub mod Simulation

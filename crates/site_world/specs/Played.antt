@@ -33,7 +33,8 @@ deed_of state command = deed_by state (move_of state command)
 abbrev pub deeds_from : State → List ℕ → List ℕ → List Deed
 deeds_from state front [] = deed_of state (command_of front) ∷ []
 deeds_from state front (b ∷ rest) =
-    if b == 10 then deed_of state (command_of (without_cr front)) ∷ deeds_from (after state (command_of (without_cr front))) [] rest
+    if b == 10 then deed_of state (command_of (without_cr front)) ∷ deeds_from (after state (command_of (without_cr
+    front))) [] rest
     else if is_full front then []
     else deeds_from state (front ++ (b ∷ [])) rest
 

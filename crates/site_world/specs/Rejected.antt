@@ -45,7 +45,8 @@ pub record Rejects (view : View) (ops : List Op) (uid : List ℕ) : Type 0 where
 -- What a note that was taken names is in no row and in no count where its title hides, whenever the note was taken.
 abbrev pub RejectedIsInNoRow : Type 0
 RejectedIsInNoRow =
-    (a : Map) (ops : List Op) (view : View) (uid : List ℕ) → SiteOf a ops → Rejects view ops uid → IsInNoRow view uid (ops_of a)
+    (a : Map) (ops : List Op) (view : View) (uid : List ℕ) → SiteOf a ops → Rejects view ops uid →
+    IsInNoRow view uid (ops_of a)
 
 -- no content of an instance in a set is itself a note
 abbrev pub IsNoNote : List ℕ → List Op → Type 0
@@ -54,5 +55,6 @@ IsNoNote uid ops = (c : ContentParts) → Has ops (a_content c) → c.instance �
 -- And where it is no note itself, all rows are as if it had never been stored.
 abbrev pub RejectedIsAsIfNeverStored : Type 0
 RejectedIsAsIfNeverStored =
-    (a : Map) (ops : List Op) (view : View) (uid : List ℕ) → SiteOf a ops → Rejects view ops uid → IsNoNote uid (ops_of a)
+    (a : Map) (ops : List Op) (view : View) (uid : List ℕ) → SiteOf a ops → Rejects view ops uid →
+    IsNoNote uid (ops_of a)
     → IsAsIfNeverStored view uid (ops_of a)

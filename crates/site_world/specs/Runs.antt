@@ -22,7 +22,8 @@ use Rattle.site_world.specs.Steps.{site_at, site_of, title_of, Happens}
 -- A world may answer so to these steps, one after another.
 abbrev pub Run : List Map → List Step → List (Result Seen WorldFault) → List Map → Type 0
 Run old [] [] new = new ≡ old
-Run old (step ∷ steps) (answer ∷ answers) new = (mid : List Map) × Happens old step answer mid × Run mid steps answers new
+Run old (step ∷ steps) (answer ∷ answers) new = (mid : List Map) × Happens old step answer mid
+    × Run mid steps answers new
 Run old [] (answer ∷ answers) new = ⊥
 Run old (step ∷ steps) [] new = ⊥
 
@@ -65,7 +66,8 @@ LooksAreRows old steps answers =
     → rows ≡ rows_of view (title_of view) query (ops_of (holding m (taken_before i n steps answers)))
 
 -- What a run comes to.
-pub record Outcome (old : List Map) (steps : List Step) (answers : List (Result Seen WorldFault)) (new : List Map) : Type 0 where
+pub record Outcome (old : List Map) (steps : List Step) (answers : List (Result Seen WorldFault)) (new : List Map) :
+    Type 0 where
   pub answered : Run old steps answers new
   pub taken : HoldWhatTheyTook old steps answers new
   pub looks : LooksAreRows old steps answers

@@ -1,13 +1,16 @@
 //! What holds of all runs of new worlds.
 
-ghost use Rattle.site_world.specs.Headline.{SameTakenSameMaps, SameTakenSameAnswers, TimeIsFree, TakenAreApart};
+ghost use Rattle.site_world.specs.Headline.{SameTakenSameMaps, SameTakenSameAnswers, TimeIsFree};
+ghost use Rattle.site_world.specs.Headline.{TakenAreApart};
+ghost use Rattle.site_world.specs.Laws.{SameOpIsEquality, SameSiteIsEquality};
+ghost use Rattle.site_world.specs.Lines.{LinesAreTheText, OutputIsOfLines};
 ghost use Rattle.site_world.specs.Played.{ScriptsAreRuns};
 ghost use Rattle.site_world.specs.Rejected.{RejectedIsInNoRow, RejectedIsAsIfNeverStored};
 
 /// Sites at which the same operations were taken, in one run or in two, in whatever order and
-/// however often, hold equal maps and give equal answers to every query. So an operation's time does
-/// not matter. That unequal operations have unequal digests is no premise: a site takes one of them
-/// alone.
+/// however often, hold equal maps and give equal answers to every query. So the time of an operation
+/// does not matter. That unequal operations have unequal digests is no premise: a site takes one
+/// of them alone.
 pub fn order_is_free()
     ensures states { SameTakenSameMaps }
     ensures answers { SameTakenSameAnswers }
@@ -26,4 +29,17 @@ pub fn what_is_rejected_is_in_no_row()
 /// The lines of a script are a run of 16 new sites: so the headline holds of what a script prints.
 pub fn a_script_is_a_run()
     ensures { ScriptsAreRuns }
+{}
+
+/// The tests that tell whether two operations, or two sites, are one decide equality.
+pub fn what_is_told_to_be_one_is_one()
+    ensures operations { SameOpIsEquality }
+    ensures sites { SameSiteIsEquality }
+{}
+
+/// The lines of an input, joined by LF, are the input, and what is printed for it is what they
+/// print.
+pub fn lines_are_parted_by_their_ends()
+    ensures text { LinesAreTheText }
+    ensures output { OutputIsOfLines }
 {}

@@ -1,12 +1,16 @@
 //! Several sites.
 
-ghost use Rattle.std.specs.Prelude.{◌≡◌, ◌<◌, ◌≤◌, ◌↔◌, List, ℕ, Ok, Err, Some, None, OnErr, IfOk, IfErr, length, replicate};
+ghost use Rattle.std.specs.Prelude.{◌≡◌, ◌<◌, ◌≤◌, ◌↔◌, List, ℕ, Ok, Err, Some, None, OnErr, IfOk};
+ghost use Rattle.std.specs.Prelude.{IfErr, length, replicate};
 ghost use Rattle.std.specs.Result.{IsErrOf};
 ghost use Rattle.std.specs.Option.{option_copied};
 ghost use Rattle.std.specs.FinMap as finmap;
 ghost use Rattle.operation.specs.declared.op.Op.{Op};
 ghost use Rattle.site_state.specs.Site.{Map};
-ghost use Rattle.site_world.specs.Steps.{fault_of_site, IsTaken, IsTold, Happens, site_at, told_of_taking, told_of_stamping, taken_by, told_of_correcting, made_at, title_of as title_of_view, told_of_looking};
+ghost use Rattle.site_world.specs.Steps.{fault_of_site, IsTaken, IsTold, Happens, site_at};
+ghost use Rattle.site_world.specs.Steps.{told_of_taking, told_of_stamping, taken_by};
+ghost use Rattle.site_world.specs.Steps.{told_of_correcting, made_at, title_of as title_of_view};
+ghost use Rattle.site_world.specs.Steps.{told_of_looking};
 ghost use Rattle.site_world.specs.Runs.{Outcome, IsNew, Headline};
 
 use crate::fault::WorldFault;
@@ -93,7 +97,8 @@ fn correct_at(
     tag: u32,
     value: Octets,
 ) -> Result<Seen, WorldFault>
-    ensures { IsTold site.old (told_of_correcting site.old (made_at number site.old target tag value)) result site.new }
+    ensures { IsTold site.old
+        (told_of_correcting site.old (made_at number site.old target tag value)) result site.new }
 {
     let top = site.top_counter();
     let stamp = Stamp {
@@ -116,6 +121,7 @@ fn title_of(view: View) -> &'static [u8]
     match view {
         View::Archive => b"ARCHIVE",
         View::Quality => b"QUALITY",
+        View::Audit => b"AUDIT",
     }
 }
 
@@ -214,8 +220,10 @@ impl World {
     /// The headline: in a new world, two sites at which the same operations were taken, in whatever
     /// order and however often, hold the same and answer every query in every view alike.
     pub fn run(&mut self, steps: &[Step]) -> Result<Vec<Result<Seen, WorldFault>>, AllocError>
-        ensures outcome { IfOk result (λ answers. Outcome self.old steps.now answers.items self.new) }
-        ensures headline { IfOk result (λ answers. IsNew self.old → Headline steps.now answers.items self.new) }
+        ensures outcome { IfOk result (λ answers.
+            Outcome self.old steps.now answers.items self.new) }
+        ensures headline { IfOk result (λ answers. IsNew self.old →
+            Headline steps.now answers.items self.new) }
         ensures refused { OnErr result (self.new ≡ self.old) }
     {
         let mut answers = Vec::with_capacity(self.alloc, steps.len())?;

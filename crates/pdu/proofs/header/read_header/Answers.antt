@@ -6,6 +6,7 @@ use Rattle.pdu.proofs.header.read_header.Goals as goal
 told : (c : goal.After-header_of) → IsTold c.args.bytes.now c.header_of.result
 told c = is_told c.args.bytes.now c.header_of.result c.told-bytes c.header_of.ensures
 
+-- Each clause is one part of what is told.
 pub returns : goal.returns
 returns c = let t = told c in record {
   found = t.found;

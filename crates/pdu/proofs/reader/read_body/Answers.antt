@@ -12,5 +12,6 @@ read c =
     (subst IsBytes c.as_slice.ensures c.hold_octets.ensures)
     (subst (λ (k : ℕ). Gives c.body_of.result (body_at k c.args.body)) c.code.ensures.value c.body_of.ensures)
 
+-- Each clause is one part of what reading comes to.
 pub returns : goal.returns
 returns c = let r = read c in record { done = r.done; only = r.only; lawful = r.lawful; bad_item = r.bad_item; bad_item_told = r.bad_item_told; fault = r.fault }
