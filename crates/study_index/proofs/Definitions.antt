@@ -17,7 +17,7 @@ use Rattle.rejection_note.specs.declared.title.Title.{Title}
 use Rattle.operation.specs.declared.op.Op.{Op}
 use Rattle.operation.specs.declared.op.Op.TheVariants.{Content as a_content, Correction as a_correction}
 use Rattle.operation.specs.declared.target.Target.{Target}
-use Rattle.operation.specs.declared.target.Target.TheVariants.{Study, Patient}
+use Rattle.operation.specs.declared.target.Target.TheVariants.{Study, Patient, Series}
 use Rattle.operation.specs.Parts.{ContentParts, CorrectionParts}
 use Rattle.operation.specs.Spelling.{digest_of}
 use Rattle.octets.specs.Texts.{same, text_cmp}
@@ -178,8 +178,13 @@ at_key target tag k = by target k.target
     by : (mine yours : Target) → is_at (fix_key_cmp (fix_key mine tag)) (fix_key yours k.tag) ≡ (k.tag == tag && is_same_target yours mine)
     by (Study a) (Study b) = keyed a b
     by (Patient a) (Patient b) = keyed a b
+    by (Series a) (Series b) = keyed a b
     by (Study a) (Patient b) = apart (k.tag == tag)
+    by (Study a) (Series b) = apart (k.tag == tag)
     by (Patient a) (Study b) = apart (k.tag == tag)
+    by (Patient a) (Series b) = apart (k.tag == tag)
+    by (Series a) (Study b) = apart (k.tag == tag)
+    by (Series a) (Patient b) = apart (k.tag == tag)
 
 -- corrections of which neither comes after the other have one counter, site and value
 le_both : (r : Ordering) → is_le r ≡ true → is_le (ordering_reverse r) ≡ true → r ≡ Equal

@@ -11,7 +11,7 @@ use Rattle.rejection_note.specs.declared.title.Title.{Title}
 use Rattle.operation.specs.declared.op.Op.{Op}
 use Rattle.operation.specs.declared.op.Op.TheVariants.{Content as a_content, Correction as a_correction}
 use Rattle.operation.specs.declared.target.Target.{Target}
-use Rattle.operation.specs.declared.target.Target.TheVariants.{Study, Patient}
+use Rattle.operation.specs.declared.target.Target.TheVariants.{Study, Patient, Series}
 use Rattle.operation.specs.Parts.{ContentParts, CorrectionParts, key_of}
 use Rattle.operation.specs.Spelling.{digest_of}
 use Rattle.octets.specs.Texts.{text_cmp}
@@ -106,6 +106,7 @@ pick_of c = (digest_of (a_content c), keys_of c)
 abbrev pub kind_of : Target → ℕ
 kind_of (Study key) = 1
 kind_of (Patient key) = 2
+kind_of (Series key) = 3
 
 abbrev pub fix_key : Target → ℕ → FixKey
 fix_key target tag = (kind_of target, (key_of target, tag))

@@ -17,7 +17,7 @@ use std::marker::Model;
 /// What corrections are about: the kind and the key of a target, and a tag.
 #[derive(Drop)]
 pub struct FixKey {
-    /// 1 for a study, 2 for a patient.
+    /// 1 for a study, 2 for a patient, 3 for a series.
     pub kind: u8,
     pub key: ShortText,
     pub tag: u32,
@@ -163,6 +163,7 @@ fn kind(target: &Target) -> u8
     match target {
         Target::Study(_) => 1,
         Target::Patient(_) => 2,
+        Target::Series(_) => 3,
     }
 }
 
@@ -173,6 +174,7 @@ pub fn key_of(target: &Target) -> &[u8]
     match target {
         Target::Study(key) => key.as_slice(),
         Target::Patient(key) => key.as_slice(),
+        Target::Series(key) => key.as_slice(),
     }
 }
 
