@@ -1,0 +1,8 @@
+mod Back
+mod Changes
+mod Made
+mod Ops
+mod Puts
+mod Queries
+mod Schemas
+mod Texts

@@ -1,0 +1,62 @@
+-- Entries and operations.
+use Rattle.std.proofs.Common.{◌≡◌, ◌++◌, ◌∷◌, ◌<◌, ◌+◌, zero, suc, take, get_or, take-suc, cond, Bool, true, false, filter, length, map, All, Any, Contains, IsPermutation, refl, sym, subst, ◌∙◌, arith, ap, ap₂, List, [], ℕ}
+use Rattle.std.proofs.lemmas.List.Sorted.{IsPermutation-sym, Contains-permutation, All-permutation, length_permutation}
+use Rattle.std.proofs.lemmas.List.Elements.{All-push}
+use Rattle.sqlite.specs.Order.{Row, column}
+use Rattle.sqlite.specs.declared.types.Value.TheVariants.{Blob}
+use Rattle.hex.specs.Hex.{encode_lower}
+use Rattle.sha2.specs.Sha256.{sha256}
+use Rattle.operation.specs.declared.op.Op.{Op}
+use Rattle.operation.specs.Spelling.{spelling, digest_of}
+use Rattle.op_shelf.specs.Entries.{entry_by, entry_of, digest_text}
+
+-- what is spelled alike has one digest
+pub digest_texts : (a b : Op) → spelling a ≡ spelling b → digest_text a ≡ digest_text b
+unfolding digest_of
+digest_texts a b same = ap (λ text. encode_lower (sha256 text)) same
+
+-- and one entry
+pub same_entry : (a b : Op) → spelling a ≡ spelling b → entry_of a ≡ entry_of b
+same_entry a b same = ap₂ entry_by (digest_texts a b same) same
+
+-- the body of an entry is a spelling
+pub body_of : (entry : Row) (op : Op) (body : List ℕ) → entry ≡ entry_of op → column entry 2 ≡ Blob body → body ≡ spelling op
+body_of entry op body is held = let both : Blob body ≡ Blob (spelling op) = sym held ∙ ap (λ e. column e 2) is in cc
+
+-- one more operation is that of one more entry
+pub entries_more : (ops : List Op) (op : Op) (seen : List Row) (entry : Row) → map entry_of ops ≡ seen → entry ≡ entry_of op → map entry_of (ops ++ op ∷ []) ≡ seen ++ entry ∷ []
+entries_more [] op seen entry all is = subst (λ (xs : List Row). entry_of op ∷ [] ≡ xs ++ entry ∷ []) all (ap (λ e. e ∷ []) (sym is))
+entries_more (x ∷ ops) op seen entry all is = subst (λ (xs : List Row). map entry_of ((x ∷ ops) ++ op ∷ []) ≡ xs ++ entry ∷ []) all (ap (λ xs. entry_of x ∷ xs) (entries_more ops op (map entry_of ops) entry refl is))
+
+-- a bad one among rows is one among those that they are a permutation of
+pub any_in : {X : Type 0} (P : X → Type 0) (xs ys : List X) → IsPermutation xs ys → Any P ys → Any P xs
+any_in P xs ys same any =
+    let found : Contains xs any.1 = Contains-permutation ys xs any.1 (IsPermutation-sym xs ys same) (any.0, any.2, any.3) in
+    (found.0, any.1, found.1, found.2, any.4)
+
+pub none_in : {X : Type 0} (xs ys : List X) → IsPermutation xs ys → ys ≡ [] → xs ≡ []
+none_in [] ys same none = refl
+none_in (x ∷ xs) ys same none = absurd (omega (arith, length_permutation (x ∷ xs) ys same, ap length none))
+
+pub first_is : {X : Type 0} (x : X) (ys : List X) → 0 < length ys → All (λ y. y ≡ x) ys → Contains ys x
+first_is x ys some all = (0, some, all 0 x some)
+
+-- what a test lets through was there
+pub kept_was : {X : Type 0} (p : X → Bool) (xs : List X) (x : X) → Contains (filter p xs) x → Contains xs x
+kept_was p [] x h = h
+kept_was p (y ∷ ys) x h = step (p y) h (kept_was p ys x)
+  where
+    later : Contains ys x → Contains (y ∷ ys) x
+    later found = (suc found.0, omega (arith, found.1), found.2)
+
+    step : (b : Bool) → Contains (cond b (y ∷ filter p ys) (filter p ys)) x → (Contains (filter p ys) x → Contains ys x) → Contains (y ∷ ys) x
+    step true (zero, low, at) rest = (0, omega arith, at)
+    step true (suc k, low, at) rest = later (rest (k, omega (arith, low), at))
+    step false found rest = later (rest found)
+
+-- one more of those so far
+pub all_upto : {X : Type 0} (P : X → Type 0) (xs : List X) (i : ℕ) (x : X) → i < length xs → x ≡ get_or xs i x → P x → All P (take i xs) → All P (take (i + 1) xs)
+all_upto P xs i x low at p all =
+    let step : i + 1 ≡ suc i = omega arith in
+    let is : take (i + 1) xs ≡ take i xs ++ x ∷ [] = ap (λ n. take n xs) step ∙ take-suc xs i x low ∙ ap (λ y. take i xs ++ y ∷ []) (sym at) in
+    subst (All P) (sym is) (All-push P (take i xs) x all p)

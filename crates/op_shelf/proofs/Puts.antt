@@ -1,0 +1,85 @@
+-- A look and then an INSERT.
+use Rattle.std.proofs.Common.{◌≡◌, ◌⊎◌, ◌<◌, inl, inr, ℕ, List, [], ◌∷◌, length, All, Contains, IsTrue, IsPermutation, refl, sym, ap, subst, ◌∙◌, le_refl, arith}
+use Rattle.std.specs.Ordering.{is_eq}
+use Rattle.std.proofs.lemmas.List.Sorted.{IsPermutation-sym, Contains-permutation, All-permutation}
+use Rattle.sqlite.specs.Order.{Row, column, value_cmp}
+use Rattle.sqlite.specs.declared.types.Value.TheVariants.{Text}
+use Rattle.sqlite.specs.Tree.{Trees}
+use Rattle.sqlite.specs.Effect.{Database}
+use Rattle.sqlite.specs.State.{State, HasCleanDisk, IsUnchanged, Survives}
+use Rattle.sqlite.proofs.StateLemmas.{survives_then, survives_weaker}
+use Rattle.op_shelf.specs.Entries.{entries, Adds}
+use Rattle.op_shelf.specs.States.{rows_of, rows_left, tree_in, under, IsAdded, IsBare, IsReady, IsPut, IsKnown, KeepsAll, Spares}
+use Rattle.op_shelf.specs.Table.{IsShelf}
+use Rattle.op_shelf.proofs.Ops.{first_is, kept_was}
+
+pub spares_keeps : (s t : State) → IsReady s → Spares s t → KeepsAll s t
+spares_keeps s t ready (inl same) = λ up. (same.0.was_open, same.0.now_is)
+spares_keeps s t ready (inr back) = λ up. (back.was_open up, (back.undone up).0 ∙ sym (ready.settled (back.was_open up)))
+
+pub bare_keeps : (s t : State) → IsBare s → Spares s t → KeepsAll s t
+bare_keeps s t bare (inl same) = λ up. (same.0.was_open, same.0.now_is)
+bare_keeps s t bare (inr back) = λ up. (back.was_open up, (back.undone up).0 ∙ sym (bare.settled (back.was_open up)))
+
+pub ready_then : (s t : State) → IsReady s → IsUnchanged s t → IsReady t
+ready_then s t ready same = record {
+  shelf = subst (λ (d : Database). IsShelf d.schema) (sym same.0.now_is) ready.shelf;
+  alone = same.0.mode ∙ ready.alone;
+  settled = λ up. same.0.now_is ∙ ready.settled same.0.was_open ∙ sym same.0.committed_is;
+}
+
+pub keeps_then : (s m t : State) → IsUnchanged s m → KeepsAll m t → KeepsAll s t
+keeps_then s m t same keeps = λ up. (same.0.was_open, (keeps up).1 ∙ same.0.now_is)
+
+pub known_from : (s t : State) (digest : List ℕ) (entry : Row) (rows : List Row) → IsPermutation (under digest (rows_of s)) rows → 0 < length rows → All (λ e. e ≡ entry) rows → IsUnchanged s t
+    → IsKnown s t digest entry
+known_from s t digest entry rows found some all same =
+    let back = IsPermutation-sym (under digest (rows_of s)) rows found in
+    let test = λ (e : Row). is_eq (value_cmp (column e 0) (Text digest)) in
+    record {
+      held = kept_was test (entries (rows_of s)) entry (Contains-permutation rows (under digest (rows_of s)) entry back (first_is entry rows some all));
+      alone = All-permutation (λ e. e ≡ entry) rows (under digest (rows_of s)) back all;
+      same = same;
+    }
+
+pub added_after : (s m t : State) (entry : Row) → IsUnchanged s m → IsAdded m t entry → IsAdded s t entry
+added_after s m t entry same it = record {
+  was_open = same.0.was_open;
+  is_open = it.is_open;
+  schema = it.schema ∙ ap (λ (d : Database). d.schema) same.0.now_is;
+  rows = subst (λ (d : Database). Adds (d.trees (tree_in d.schema)) (rows_of t) entry) same.0.now_is it.rows;
+  committed = it.committed;
+  alone = it.alone;
+}
+
+-- no call was made
+pub survives_none : (s : State) (P : Trees → Type 0) → Survives s s P
+survives_none s P = record { clean = le_refl _; shield = λ up. up; counts = le_refl _; limit = refl; closes = λ _ up. inl up; crash = λ _ db may. inl may }
+
+-- a fact that stands beforehand
+pub survives_with : (s t : State) (P : Type 0) (Q : Trees → Type 0) → P → Survives s t Q → Survives s t (λ trees. P × Q trees)
+survives_with s t P Q p h = survives_weaker s t Q (λ trees. P × Q trees) (λ _ db q. (p, q)) h
+
+-- what a crash finds after a look and an INSERT
+pub survives_put : (s m t : State) (entry : Row) → (HasCleanDisk m → IsUnchanged s m) → Survives s m (λ _. ⊥) → Survives m t (λ trees. Adds (rows_of m) (rows_left m trees) entry)
+    → Survives s t (λ trees. Adds (rows_of s) (rows_left s trees) entry)
+survives_put s m t entry same one two =
+    survives_then s m t (λ _. ⊥) (λ trees. Adds (rows_of m) (rows_left m trees) entry) (λ trees. Adds (rows_of s) (rows_left s trees) entry) (λ _ db none. absurd none)
+    (λ clean db adds.
+    let early : HasCleanDisk m = omega (arith, two.clean, clean) in
+    subst (λ (d : Database). Adds (d.trees (tree_in d.schema)) (db (tree_in d.schema)) entry) (same early).0.now_is adds) one two
+
+-- every crash leaves what was committed
+module _ (s t : State) (entry : Row) (settled : (db : Trees) → IsTrue t.is_open → t.may_leave db → db ≡ t.committed.trees) where
+  left_of : IsTrue t.is_open → t.committed ≡ t.now → Contains (entries (rows_of t)) entry → (trees : Trees) → t.may_leave trees → Contains (entries (rows_left t trees)) entry
+  left_of up is held trees may =
+      let same : trees ≡ t.now.trees = settled trees up may ∙ ap (λ (d : Database). d.trees) is in
+      subst (λ (x : Trees). Contains (entries (rows_left t x)) entry) (sym same) held
+
+  pub lasts_known : (digest : List ℕ) → IsReady s → IsKnown s t digest entry → (trees : Trees) → t.may_leave trees → Contains (entries (rows_left t trees)) entry
+  lasts_known digest ready it =
+      left_of it.same.0.is_open (it.same.0.committed_is ∙ sym (ready.settled it.same.0.was_open) ∙ sym it.same.0.now_is)
+      (subst (λ (d : Database). Contains (entries (d.trees (tree_in d.schema))) entry) (sym it.same.0.now_is) it.held)
+
+  pub lasts_added : IsAdded s t entry → (trees : Trees) → t.may_leave trees → Contains (entries (rows_left t trees)) entry
+  lasts_added it = left_of it.is_open it.committed (Contains-permutation (entry ∷ entries (rows_of s)) (entries (rows_of t)) entry it.rows (0, omega arith, refl))

@@ -1,0 +1,6 @@
+pub mod Entries
+pub mod Fault
+pub mod Opened
+pub mod States
+pub mod Table
+pub mod Texts

@@ -1,0 +1,125 @@
+-- What a connection shows of the table, and what a call leaves.
+use Rattle.std.specs.Prelude.{◌≡◌, ◌≢◌, ◌⊎◌, ◌∷◌, ℕ, false, All, Any, Contains, Err, List, [], map, filter, length, pos, IsTrue, IsPermutation, IsSorted}
+use Rattle.std.specs.declared.cmp.Ordering.{Ordering}
+use Rattle.std.specs.Ordering.{is_eq, on}
+use Rattle.sqlite.specs.Order.{Row, column, value_cmp}
+use Rattle.sqlite.specs.declared.types.Value.TheVariants.{Int, Text}
+use Rattle.sqlite.specs.Schema.{Schema}
+use Rattle.sqlite.specs.Table.{Table}
+use Rattle.sqlite.specs.Store.{Ghosts}
+use Rattle.sqlite.specs.Tree.{Trees}
+use Rattle.sqlite.specs.State.{State, HasCleanDisk, IsUnchanged, IsRolledBack, FailsToQuery, Executes}
+use Rattle.sqlite.specs.declared.error.Error.{Error}
+use Rattle.op_shelf.specs.declared.fault.ShelfFault.TheVariants.{Store}
+use Rattle.op_shelf.specs.Fault.{fault_of}
+use Rattle.op_shelf.specs.Table.{IsShelf, no_schema}
+use Rattle.op_shelf.specs.Texts.{create_text, held_text, insert_text}
+use Rattle.sqlite.specs.Held.{Held, state}
+use Rattle.op_shelf.specs.Entries.{entries, Adds}
+
+-- the tree of the first table
+abbrev pub first_tree : List Table → ℕ
+first_tree [] = 0
+first_tree (table ∷ rest) = table.tree
+
+abbrev pub tree_in : Schema → ℕ
+tree_in schema = first_tree schema.tables
+
+-- the rows of the table, as the connection sees them
+abbrev pub rows_of : State → List Row
+rows_of s = s.now.trees (tree_in s.now.schema)
+
+-- and as a crash leaves them
+abbrev pub rows_left : State → Trees → List Row
+rows_left s trees = trees (tree_in s.now.schema)
+
+-- what is claimed of the states before and after a call, if so far the disk has returned what was written
+abbrev pub IfClean : {S : Type 0} → Ghosts S → Held S → Held S → (State → State → Type 0) → Type 0
+IfClean g old new P = HasCleanDisk (state g new) → P (state g old) (state g new)
+
+-- the call changed nothing, or rolled back what it did
+abbrev pub Spares : State → State → Type 0
+Spares s t = IsUnchanged s t ⊎ IsRolledBack s t
+
+-- the entries under a digest's text
+abbrev pub under : List ℕ → List Row → List Row
+under digest rows = filter (λ entry. is_eq (value_cmp (column entry 0) (Text digest))) (entries rows)
+
+-- how many entries have the kind
+abbrev pub count_of : ℕ → List Row → ℕ
+count_of kind rows = length (filter (λ entry. is_eq (value_cmp (column entry 1) (Int (pos kind)))) (entries rows))
+
+-- the order of the digests' texts
+abbrev pub digest_cmp : Row → Row → Ordering
+digest_cmp = on (λ entry. column entry 0) value_cmp
+
+-- the entry was added, and the change is committed
+pub record IsAdded (s t : State) (entry : Row) : Type 0 where
+  pub was_open : IsTrue s.is_open
+  pub is_open : IsTrue t.is_open
+  pub schema : t.now.schema ≡ s.now.schema
+  pub rows : Adds (rows_of s) (rows_of t) entry
+  pub committed : t.committed ≡ t.now
+  pub alone : t.in_transaction ≡ false
+
+-- the table stands alone, and no transaction is open
+pub record IsReady (s : State) : Type 0 where
+  pub shelf : IsShelf s.now.schema
+  pub alone : s.in_transaction ≡ false
+  pub settled : IsTrue s.is_open → s.now ≡ s.committed
+
+-- the digest was not there, and the entry was added
+pub record IsPut (s t : State) (digest : List ℕ) (entry : Row) : Type 0 where
+  pub absent : under digest (rows_of s) ≡ []
+  pub added : IsAdded s t entry
+
+-- the entry was there, alone under its digest, and nothing changed
+pub record IsKnown (s t : State) (digest : List ℕ) (entry : Row) : Type 0 where
+  pub held : Contains (entries (rows_of s)) entry
+  pub alone : All (λ e. e ≡ entry) (under digest (rows_of s))
+  pub same : IsUnchanged s t
+
+-- another entry is there under the digest
+abbrev pub HasOther : List Row → List ℕ → Row → Type 0
+HasOther rows digest entry = Any (λ e. e ≢ entry) (under digest rows)
+
+-- the database is as it was, unless a failure of the disk closed it
+abbrev pub KeepsAll : State → State → Type 0
+KeepsAll s t = IsTrue t.is_open → IsTrue s.is_open × (t.now ≡ s.now)
+
+-- the database refused to show the rows of a text, for another cause than memory
+abbrev pub IsNotShown : List ℕ → Row → State → State → Type 0
+IsNotShown text params s t = (e : Error) × (fault_of e ≡ Store) × FailsToQuery text params s t e
+
+-- or to run a text
+abbrev pub IsNotDone : List ℕ → Row → State → State → Type 0
+IsNotDone text params s t = (e : Error) × (fault_of e ≡ Store) × Executes text params s t (Err e)
+
+-- a put was refused: the table does not stand alone, or the database refused to look, or to insert after that
+abbrev pub IsNotKept : {S : Type 0} → Ghosts S → Held S → Held S → List ℕ → Row → Type 0
+IsNotKept {S} g old new digest entry =
+    (¬ IsReady (state g old)) ⊎ (IsNotShown held_text (Text digest ∷ []) (state g old) (state g new)
+    ⊎ ((mid : Held S) × IsUnchanged (state g old) (state g mid) × IsNotDone insert_text entry (state g mid) (state g new)))
+
+-- no table is there, and no transaction is open
+pub record IsBare (s : State) : Type 0 where
+  pub none : s.now.schema ≡ no_schema
+  pub alone : s.in_transaction ≡ false
+  pub settled : IsTrue s.is_open → s.now ≡ s.committed
+
+-- the table was made, without a row, and the change is committed
+pub record IsMade (s t : State) : Type 0 where
+  pub was_open : IsTrue s.is_open
+  pub is_open : IsTrue t.is_open
+  pub shelf : IsShelf t.now.schema
+  pub empty : rows_of t ≡ []
+  pub committed : t.committed ≡ t.now
+  pub alone : t.in_transaction ≡ false
+
+-- what a shelf holds of what was there: the same table, or one that was made in an empty database
+abbrev pub StandsFor : State → State → Type 0
+StandsFor s t = (IsReady s × (t.now ≡ s.now) × (t.committed ≡ s.committed)) ⊎ (IsBare s × IsMade s t)
+
+-- the database refused to make the table, for another cause than memory, or is that of no shelf
+abbrev pub IsNotOpened : State → State → Type 0
+IsNotOpened s t = IsNotDone create_text [] s t ⊎ ((¬ IsReady s) × (¬ IsBare s))

@@ -1,0 +1,23 @@
+//! Operations on disk, which a crash does not lose.
+//!
+//! A shelf is a table of operations over the kit's `sqlite`, in its write-ahead log, with a sync at
+//! every commit. What its clauses say of values they say if nobody else writes the file and the
+//! disk returns what was written.
+#![tactic(auto)]
+
+mod fault;
+mod keep;
+mod kept;
+mod open;
+mod rows;
+mod schema;
+mod shelf;
+mod statements;
+mod table;
+#[cfg(test)]
+mod tests;
+
+pub use fault::ShelfFault;
+pub use keep::Keep;
+pub use kept::Kept;
+pub use shelf::Shelf;

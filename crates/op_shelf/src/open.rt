@@ -1,0 +1,76 @@
+//! From a connection, or a path, to a shelf.
+
+ghost use Rattle.std.specs.Prelude.{◌≡◌, ◌≢◌, [], IfOk, IfErr, IsErrOf, OnOk, OnErr};
+ghost use Rattle.sqlite.specs.Files.{file_state};
+ghost use Rattle.sqlite.specs.Held.{state};
+ghost use Rattle.sqlite.specs.State.{HasCleanDisk, Survives};
+ghost use Rattle.sqlite.specs.WalFiles.{image_at};
+ghost use Rattle.op_shelf.specs.Opened.{IsFound};
+ghost use Rattle.op_shelf.specs.States.{IfClean, IsBare, StandsFor, KeepsAll, IsNotOpened};
+
+use crate::fault::ShelfFault;
+use crate::shelf::Shelf;
+use crate::statements::create;
+use crate::table::{is_blank, is_ready};
+use sqlite::{Alter, Connection, FileFrom, FileStore, Start};
+use std::alloc::Global;
+use std::rt::HostRuntime;
+
+/// Makes the table where the database is empty.
+#[tactic(auto, using(crate::proofs::Puts::survives_with, crate::proofs::Puts::survives_none, crate::proofs::Puts::bare_keeps))]
+pub(crate) fn make_ready<S: Alter>(database: &mut Connection<S>) -> Result<(), ShelfFault>
+    ensures stands { IfClean S.Store database.old database.new (λ s t.
+        OnOk result (StandsFor s t)) }
+    ensures refused { IfClean S.Store database.old database.new (λ s t.
+        OnErr result (KeepsAll s t)) }
+    ensures store { IfClean S.Store database.old database.new (λ s t.
+        IsErrOf result ShelfFault.Store → IsNotOpened s t) }
+    ensures only { IfErr result (λ fault. fault ≢ ShelfFault.BadRow) }
+    ensures crash { Survives (state S.Store database.old) (state S.Store database.new) (λ trees.
+        IsBare (state S.Store database.old) × (trees 0 ≡ [])) }
+{
+    if is_ready(database) {
+        return Ok(());
+    }
+    if !is_blank(database) {
+        return Err(ShelfFault::Store);
+    }
+    create(database)?;
+    Ok(())
+}
+
+impl<S: Alter + Drop> Shelf<S> {
+    /// A shelf over an open connection. An empty database gets the table; one of another schema is
+    /// `Store`, and left as it was. On a refusal the connection is given up.
+    pub fn adopt(alloc: Global, connection: Connection<S>) -> Result<Shelf<S>, ShelfFault>
+        ensures stands { IfOk result (λ shelf. HasCleanDisk (state S.Store shelf)
+            → StandsFor (state S.Store connection) (state S.Store shelf)) }
+        ensures only { IfErr result (λ fault. fault ≢ ShelfFault.BadRow) }
+        // A crash finds what was there, or an empty table in an empty database.
+        ensures crash { IfOk result (λ shelf.
+            Survives (state S.Store connection) (state S.Store shelf) (λ trees.
+            IsBare (state S.Store connection) × (trees 0 ≡ []))) }
+    {
+        let mut database = connection;
+        make_ready(&mut database)?;
+        Ok(Shelf { database, alloc })
+    }
+}
+
+impl<S: Start> Shelf<FileStore<FileFrom<S>>> {
+    /// The shelf in the file at a path, which is made where there is none. `S` stands for what the
+    /// files hold: a program passes `Wary`. The whole file is read and tested.
+    pub fn open(
+        rt: &HostRuntime,
+        path: &str,
+        start: S,
+    ) -> Result<Shelf<FileStore<FileFrom<S>>>, ShelfFault>
+        ensures found { IfOk result (λ shelf. HasCleanDisk (file_state shelf)
+            → IsFound (image_at S.Start) shelf) }
+    {
+        match Connection::open_from(rt, path, false, start) {
+            Ok(connection) => Shelf::adopt(rt.alloc(), connection),
+            Err((error, _left)) => Err(ShelfFault::from(error)),
+        }
+    }
+}

@@ -1,0 +1,136 @@
+//! Entries of the table, and the operations that they stand for.
+
+ghost use Rattle.std.specs.Prelude.{◌≡◌, ◌≢◌, ◌↔◌, ◌<◌, ◌⊎◌, [], true, false, pos, length, map, All, Any, IfOk, IfErr, IfSome, IsNone, IsTrue, IsErrOf, Ok, Err, List, ℕ};
+ghost use Rattle.sqlite.specs.declared.types.Value.TheVariants.{Int, Text, Blob};
+ghost use Rattle.sqlite.specs.Order.{column};
+ghost use Rattle.operation.specs.Reading.{IsOp};
+ghost use Rattle.operation.specs.Spelling.{spelling};
+ghost use Rattle.operation.specs.declared.op.Op.{Op};
+ghost use Rattle.op_shelf.specs.Entries.{kind_in, entry_by, entry_of, IsEntry};
+
+use crate::fault::ShelfFault;
+use bytes::Bytes;
+use operation::{Op, decode, digest};
+use sqlite::Row;
+use sqlite::types::ValueRef;
+use std::alloc::Global;
+
+/// The kind of the operation that bytes spell: the first of them.
+pub(crate) fn kind_of(body: &[u8]) -> u8
+    ensures { result ≡ kind_in body.now }
+{
+    match body {
+        [] => 0,
+        [kind, ..] => *kind,
+    }
+}
+
+fn has_text(entry: &Row, at: usize, text: &[u8]) -> bool
+    requires { at < length entry.now }
+    ensures { IsTrue result ↔ (column entry.now at ≡ Text text.now) }
+{
+    match entry.get_ref(at) {
+        Ok(ValueRef::Text(held)) => held == text,
+        _ => false,
+    }
+}
+
+fn has_kind(entry: &Row, at: usize, kind: u8) -> bool
+    requires { at < length entry.now }
+    ensures { IsTrue result ↔ (column entry.now at ≡ Int (pos kind)) }
+{
+    match entry.get_ref(at) {
+        Ok(ValueRef::Int(held)) => held == i64::from(kind),
+        _ => false,
+    }
+}
+
+fn has_body(entry: &Row, at: usize, body: &[u8]) -> bool
+    requires { at < length entry.now }
+    ensures { IsTrue result ↔ (column entry.now at ≡ Blob body.now) }
+{
+    match entry.get_ref(at) {
+        Ok(ValueRef::Blob(held)) => held == body,
+        _ => false,
+    }
+}
+
+/// Whether an entry is that of a digest and these bytes.
+fn is_entry(entry: &Row, digest: &[u8], body: &[u8]) -> bool
+    ensures { IsTrue result ↔ (entry.now ≡ entry_by digest.now body.now) }
+{
+    if entry.column_count() != 3 {
+        return false;
+    }
+    has_text(entry, 0, digest) && has_kind(entry, 1, kind_of(body)) && has_body(entry, 2, body)
+}
+
+/// Whether an entry is there: `BadRow` where another one is.
+pub(crate) fn find_in(rows: &[Row], digest: &[u8], body: &[u8]) -> Result<bool, ShelfFault>
+    ensures absent { result ≡ Ok false → rows.now ≡ [] }
+    ensures found { result ≡ Ok true → 0 < length rows.now }
+    ensures alone { result ≡ Ok true → All (λ e. e ≡ entry_by digest.now body.now) rows.now }
+    ensures other { IsErrOf result ShelfFault.BadRow
+        → Any (λ e. e ≢ entry_by digest.now body.now) rows.now }
+    ensures only { IfErr result (λ e. e ≢ ShelfFault.Store) }
+{
+    for row in rows {
+        if !is_entry(row, digest, body) {
+            return Err(ShelfFault::BadRow);
+        }
+    }
+    Ok(!rows.is_empty())
+}
+
+fn body_in(entry: &Row) -> Option<&[u8]>
+    ensures found { IfSome result (λ body. column entry.now 2 ≡ Blob body.now) }
+    ensures none { IsNone result → (op : Op) → entry.now ≢ entry_of op }
+{
+    match entry.get_ref(2) {
+        Ok(ValueRef::Blob(body)) => Some(body),
+        _ => None,
+    }
+}
+
+/// The operation that bytes spell. They are copied once.
+fn decoded(alloc: Global, body: &[u8]) -> Result<Op, ShelfFault>
+    ensures found { IfOk result (λ op. body.now ≡ spelling op) }
+    ensures lawful { IfOk result IsOp }
+    ensures bad { IsErrOf result ShelfFault.BadRow → (op : Op) → IsOp op → body.now ≢ spelling op }
+    ensures only { IfErr result (λ e. e ≢ ShelfFault.Store) }
+{
+    let op = decode(alloc, Bytes::copy_from_slice(alloc, body)?)?;
+    Ok(op)
+}
+
+/// The operation of an entry.
+fn op_of(alloc: Global, entry: &Row) -> Result<Op, ShelfFault>
+    ensures found { IfOk result (λ op. entry.now ≡ entry_of op) }
+    ensures lawful { IfOk result IsOp }
+    ensures bad { IsErrOf result ShelfFault.BadRow → ¬ IsEntry entry.now }
+    ensures only { IfErr result (λ e. e ≢ ShelfFault.Store) }
+{
+    let Some(body) = body_in(entry) else {
+        return Err(ShelfFault::BadRow);
+    };
+    let op = decoded(alloc, body)?;
+    let text = digest(&op).text(alloc)?;
+    if !is_entry(entry, text.as_bytes(), body) {
+        return Err(ShelfFault::BadRow);
+    }
+    Ok(op)
+}
+
+/// The operations of entries, in their order.
+pub(crate) fn ops_of(alloc: Global, entries: Vec<Row>) -> Result<Vec<Op>, ShelfFault>
+    ensures found { IfOk result (λ ops. map entry_of ops.items ≡ entries.items) }
+    ensures lawful { IfOk result (λ ops. All IsOp ops.items) }
+    ensures bad { IsErrOf result ShelfFault.BadRow → Any (λ e. ¬ IsEntry e) entries.items }
+    ensures only { IfErr result (λ e. e ≢ ShelfFault.Store) }
+{
+    let mut ops = Vec::with_capacity(alloc, entries.len())?;
+    for entry in entries {
+        ops.push(op_of(alloc, &entry)?)?;
+    }
+    Ok(ops)
+}

@@ -1,0 +1,124 @@
+//! Shelves.
+
+ghost use Rattle.std.specs.Prelude.{◌≡◌, ◌⊎◌, ◌∷◌, [], pos, map, Ok, Err, IfOk, IsErrOf, OnOk, OnErr, IsSorted};
+ghost use Rattle.sqlite.specs.declared.types.Value.TheVariants.{Int};
+ghost use Rattle.sqlite.specs.Held.{Held, held_code, state};
+ghost use Rattle.sqlite.specs.State.{IsUnchanged, Survives};
+ghost use Rattle.sqlite.specs.Tree.{Trees};
+ghost use Rattle.op_shelf.specs.Entries.{Adds, Holds, Lists, HasBadRow, entry_of, digest_text};
+ghost use Rattle.op_shelf.specs.States.{IfClean, IsReady, IsKnown, IsPut, HasOther, KeepsAll, IsNotShown, IsNotKept, rows_of, rows_left, count_of, digest_cmp};
+ghost use Rattle.op_shelf.specs.Texts.{all_text, kind_text};
+
+use crate::fault::ShelfFault;
+use crate::kept::Kept;
+use crate::rows::ops_of;
+use crate::statements::{all_rows, kind_rows};
+use crate::table::{is_ready, put_entry};
+use operation::{Op, digest, encode};
+use sqlite::{Alter, Connection};
+use std::alloc::Global;
+use std::marker::Model;
+
+/// A table of operations, each under its digest. Contracts see it as its connection.
+pub struct Shelf<S: Alter> {
+    pub(crate) database: Connection<S>,
+    pub(crate) alloc: Global,
+}
+
+impl<S: Alter> Model for Shelf<S> {
+    ghost Value = { Held S };
+
+    ghost coded = { held_code S.code };
+
+    ghost view = { λ s. s.database };
+}
+
+// It is written out, so that a caller does not prove again how each part is dropped.
+impl<S: Alter + Drop> Drop for Shelf<S> {
+    fn drop(self) {
+        let Shelf {
+            database: _,
+            alloc: _,
+        } = self;
+    }
+}
+
+impl<S: Alter + Drop> Shelf<S> {
+    /// The connection, which `close_files` closes.
+    pub fn into_connection(self) -> Connection<S>
+        ensures { result ≡ self }
+    {
+        let Shelf { database, alloc: _ } = self;
+        database
+    }
+}
+
+impl<S: Alter> Shelf<S> {
+    /// Puts an operation on the shelf, and syncs it. Its data set is copied once, into the spelling
+    /// that is stored.
+    pub fn put(&mut self, op: &Op) -> Result<Kept, ShelfFault>
+        // New adds exactly that operation, Known finds it there, and a refusal changes nothing.
+        ensures new { IfClean S.Store self.old self.new (λ s t.
+            result ≡ Ok Kept.New → IsPut s t (digest_text op.now) (entry_of op.now)) }
+        ensures known { IfClean S.Store self.old self.new (λ s t.
+            result ≡ Ok Kept.Known → IsKnown s t (digest_text op.now) (entry_of op.now)) }
+        ensures refused { IfClean S.Store self.old self.new (λ s t. OnErr result (KeepsAll s t)) }
+
+        // Each fault, only where it is.
+        ensures bad_row { IfClean S.Store self.old self.new (λ s t. IsErrOf result ShelfFault.BadRow
+            → HasOther (rows_of s) (digest_text op.now) (entry_of op.now)) }
+        ensures store { IfClean S.Store self.old self.new (λ s t. IsErrOf result ShelfFault.Store
+            → IsNotKept S.Store self.old self.new (digest_text op.now) (entry_of op.now)) }
+
+        // A crash finds the operations from before, with this one or without; after Ok with it.
+        ensures crash { Survives (state S.Store self.old) (state S.Store self.new) (λ trees.
+            Adds (rows_of (state S.Store self.old)) (rows_left (state S.Store self.old) trees)
+            (entry_of op.now)) }
+        ensures durable { IfClean S.Store self.old self.new (λ s t. OnOk result
+            ((trees : Trees) → t.may_leave trees → Holds (rows_left t trees) op.now)) }
+    {
+        let name = digest(op).text(self.alloc)?;
+        let body = encode(self.alloc, op)?;
+        put_entry(&mut self.database, name.as_str(), &body)
+    }
+
+    /// The operations of the shelf, ascending by digest.
+    pub fn all(&mut self) -> Result<Vec<Op>, ShelfFault>
+        ensures all { IfClean S.Store self.old self.new (λ s t.
+            IfOk result (λ ops. Lists (rows_of s) ops.items)) }
+        ensures ascending { IfClean S.Store self.old self.new (λ s t.
+            IfOk result (λ ops. IsSorted digest_cmp (map entry_of ops.items))) }
+        ensures same { IfClean S.Store self.old self.new (λ s t. OnOk result (IsUnchanged s t)) }
+        ensures refused { IfClean S.Store self.old self.new (λ s t. OnErr result (KeepsAll s t)) }
+
+        // Each fault, only where it is.
+        ensures bad_row { IfClean S.Store self.old self.new (λ s t.
+            IsErrOf result ShelfFault.BadRow → HasBadRow (rows_of s)) }
+        ensures store { IfClean S.Store self.old self.new (λ s t. IsErrOf result ShelfFault.Store
+            → (¬ IsReady s) ⊎ IsNotShown all_text [] s t) }
+        ensures crash { Survives (state S.Store self.old) (state S.Store self.new) (λ _. ⊥) }
+    {
+        if !is_ready(&self.database) {
+            return Err(ShelfFault::Store);
+        }
+        let entries = all_rows(&mut self.database)?;
+        ops_of(self.alloc, entries)
+    }
+
+    /// How many operations of a kind the table has.
+    pub fn count_kind(&mut self, kind: u8) -> Result<u64, ShelfFault>
+        ensures count { IfClean S.Store self.old self.new (λ s t.
+            IfOk result (λ count. count ≡ count_of kind (rows_of s))) }
+        ensures same { IfClean S.Store self.old self.new (λ s t. OnOk result (IsUnchanged s t)) }
+        ensures refused { IfClean S.Store self.old self.new (λ s t. OnErr result (KeepsAll s t)) }
+        ensures store { IfClean S.Store self.old self.new (λ s t. IsErrOf result ShelfFault.Store
+            → (¬ IsReady s) ⊎ IsNotShown kind_text (Int (pos kind) ∷ []) s t) }
+        ensures crash { Survives (state S.Store self.old) (state S.Store self.new) (λ _. ⊥) }
+    {
+        if !is_ready(&self.database) {
+            return Err(ShelfFault::Store);
+        }
+        let entries = kind_rows(&mut self.database, kind)?;
+        Ok(entries.len() as u64)
+    }
+}

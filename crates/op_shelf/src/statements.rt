@@ -1,0 +1,136 @@
+//! The statements on the table. Each function makes one call of the database.
+
+ghost use Rattle.std.specs.Prelude.{◌≡◌, ◌∷◌, [], pos, length, false, IfOk, IfErr, OnOk, OnErr, Err, IsPermutation, IsSorted};
+ghost use Rattle.sqlite.specs.declared.types.Value.TheVariants.{Int, Text, Blob};
+ghost use Rattle.sqlite.specs.Given.{IsPlain};
+ghost use Rattle.sqlite.specs.Held.{state};
+ghost use Rattle.sqlite.specs.Listing.{understood};
+ghost use Rattle.sqlite.specs.State.{HasCleanDisk, IsUnchanged, Survives, Shown, FailsToQuery, Executes};
+ghost use Rattle.sqlite.specs.Values.{bound};
+ghost use Rattle.op_shelf.specs.Entries.{entries, Adds};
+ghost use Rattle.op_shelf.specs.States.{rows_of, rows_left, IfClean, Spares, under, count_of, digest_cmp, IsAdded, IsBare, IsMade};
+ghost use Rattle.op_shelf.specs.Table.{IsShelf};
+ghost use Rattle.op_shelf.specs.Texts.{all_text, create_text, held_text, kind_text, insert_text};
+
+use sqlite::types::ValueRef;
+use sqlite::{Alter, Connection, Error, Row, params};
+
+/// The rows that a text shows which writes nothing.
+fn select<S: Alter>(
+    database: &mut Connection<S>,
+    text: &str,
+    values: &[ValueRef<'_>],
+) -> Result<Vec<Row>, Error>
+    requires plain { IsPlain (understood (state S.Store database.old).now.schema text.now) }
+    ensures shown { IfClean S.Store database.old database.new (λ s t.
+        IfOk result (λ rows. Shown text.now (bound values.now) s t rows.items)) }
+    ensures same { IfClean S.Store database.old database.new (λ s t. OnOk result (IsUnchanged s t)) }
+    ensures refused { IfClean S.Store database.old database.new (λ s t. OnErr result (Spares s t)) }
+    ensures cause { IfClean S.Store database.old database.new (λ s t.
+        IfErr result (FailsToQuery text.now (bound values.now) s t)) }
+    ensures crash { Survives (state S.Store database.old) (state S.Store database.new) (λ _. ⊥) }
+{
+    database.query_all(text, values)
+}
+
+/// The entries of the table, ascending by the texts of their digests.
+pub(crate) fn all_rows<S: Alter>(database: &mut Connection<S>) -> Result<Vec<Row>, Error>
+    requires shelf { IsShelf (state S.Store database.old).now.schema }
+    ensures rows { IfClean S.Store database.old database.new (λ s t.
+        IfOk result (λ rows. IsPermutation (entries (rows_of s)) rows.items)) }
+    ensures ascending { IfClean S.Store database.old database.new (λ s t.
+        IfOk result (λ rows. IsSorted digest_cmp rows.items)) }
+    ensures same { IfClean S.Store database.old database.new (λ s t. OnOk result (IsUnchanged s t)) }
+    ensures refused { IfClean S.Store database.old database.new (λ s t. OnErr result (Spares s t)) }
+    ensures cause { IfClean S.Store database.old database.new (λ s t.
+        IfErr result (FailsToQuery all_text [] s t)) }
+    ensures crash { Survives (state S.Store database.old) (state S.Store database.new) (λ _. ⊥) }
+{
+    select(
+        database,
+        "SELECT digest, kind, body FROM ops2 ORDER BY digest",
+        &[],
+    )
+}
+
+/// The entries under a digest.
+pub(crate) fn held_rows<S: Alter>(
+    database: &mut Connection<S>,
+    digest: &str,
+) -> Result<Vec<Row>, Error>
+    requires shelf { IsShelf (state S.Store database.old).now.schema }
+    ensures rows { IfClean S.Store database.old database.new (λ s t.
+        IfOk result (λ rows. IsPermutation (under digest.now (rows_of s)) rows.items)) }
+    ensures same { IfClean S.Store database.old database.new (λ s t. OnOk result (IsUnchanged s t)) }
+    ensures refused { IfClean S.Store database.old database.new (λ s t. OnErr result (Spares s t)) }
+    ensures cause { IfClean S.Store database.old database.new (λ s t.
+        IfErr result (FailsToQuery held_text (Text digest.now ∷ []) s t)) }
+    ensures crash { Survives (state S.Store database.old) (state S.Store database.new) (λ _. ⊥) }
+{
+    select(
+        database,
+        "SELECT digest, kind, body FROM ops2 WHERE digest = ?1",
+        params![digest],
+    )
+}
+
+/// As many rows as there are entries of a kind.
+pub(crate) fn kind_rows<S: Alter>(database: &mut Connection<S>, kind: u8) -> Result<Vec<Row>, Error>
+    requires shelf { IsShelf (state S.Store database.old).now.schema }
+    ensures count { IfClean S.Store database.old database.new (λ s t.
+        IfOk result (λ rows. length rows.items ≡ count_of kind (rows_of s))) }
+    ensures same { IfClean S.Store database.old database.new (λ s t. OnOk result (IsUnchanged s t)) }
+    ensures refused { IfClean S.Store database.old database.new (λ s t. OnErr result (Spares s t)) }
+    ensures cause { IfClean S.Store database.old database.new (λ s t.
+        IfErr result (FailsToQuery kind_text (Int (pos kind) ∷ []) s t)) }
+    ensures crash { Survives (state S.Store database.old) (state S.Store database.new) (λ _. ⊥) }
+{
+    select(
+        database,
+        "SELECT kind FROM ops2 WHERE kind = ?1",
+        params![u32::from(kind)],
+    )
+}
+
+/// Adds an entry, and commits it.
+pub(crate) fn insert<S: Alter>(
+    database: &mut Connection<S>,
+    digest: &str,
+    kind: u8,
+    body: &[u8],
+) -> Result<usize, Error>
+    requires shelf { HasCleanDisk (state S.Store database.old)
+        → IsShelf (state S.Store database.old).now.schema }
+    requires alone { HasCleanDisk (state S.Store database.old)
+        → (state S.Store database.old).in_transaction ≡ false }
+    ensures added { IfClean S.Store database.old database.new (λ s t.
+        OnOk result (IsAdded s t (Text digest.now ∷ Int (pos kind) ∷ Blob body.now ∷ []))) }
+    ensures refused { IfClean S.Store database.old database.new (λ s t. OnErr result (Spares s t)) }
+    ensures cause { IfClean S.Store database.old database.new (λ s t. IfErr result (λ e.
+        Executes insert_text (Text digest.now ∷ Int (pos kind) ∷ Blob body.now ∷ []) s t (Err e))) }
+    ensures crash { Survives (state S.Store database.old) (state S.Store database.new) (λ trees.
+        Adds (rows_of (state S.Store database.old)) (rows_left (state S.Store database.old) trees)
+        (Text digest.now ∷ Int (pos kind) ∷ Blob body.now ∷ [])) }
+{
+    database.execute(
+        "INSERT INTO ops2 (digest, kind, body) VALUES (?1, ?2, ?3)",
+        params![digest, u32::from(kind), body],
+    )
+}
+
+/// Makes the table in an empty database, and commits it.
+pub(crate) fn create<S: Alter>(database: &mut Connection<S>) -> Result<usize, Error>
+    requires bare { IsBare (state S.Store database.old) }
+    ensures made { IfClean S.Store database.old database.new (λ s t. OnOk result (IsMade s t)) }
+    ensures refused { IfClean S.Store database.old database.new (λ s t. OnErr result (Spares s t)) }
+    ensures cause { IfClean S.Store database.old database.new (λ s t.
+        IfErr result (λ e. Executes create_text [] s t (Err e))) }
+    ensures crash { Survives (state S.Store database.old) (state S.Store database.new) (λ trees.
+        trees 0 ≡ []) }
+{
+    database.execute(
+        "CREATE TABLE ops2 (digest TEXT PRIMARY KEY, \
+            kind INTEGER NOT NULL CHECK (kind IN (1, 2, 3)), body BLOB NOT NULL)",
+        &[],
+    )
+}

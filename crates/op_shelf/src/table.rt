@@ -1,0 +1,115 @@
+//! A put into the table, over any connection.
+
+ghost use Rattle.std.specs.Prelude.{◌≡◌, ◌≢◌, ◌↔◌, ◌∷◌, [], IfErr, true, false, Ok, Err, IsErrOf, OnOk, OnErr, Contains, IsTrue};
+ghost use Rattle.sqlite.specs.declared.types.Value.TheVariants.{Text};
+ghost use Rattle.sqlite.specs.Held.{state};
+ghost use Rattle.sqlite.specs.State.{HasCleanDisk, IsUnchanged, Survives};
+ghost use Rattle.sqlite.specs.Tree.{Trees};
+ghost use Rattle.op_shelf.specs.Entries.{entries, entry_by, Adds};
+ghost use Rattle.op_shelf.specs.States.{IfClean, IsReady, IsKnown, IsPut, HasOther, KeepsAll, Spares, IsNotShown, IsNotDone, IsNotKept, IsAdded, IsBare, under, rows_of, rows_left};
+ghost use Rattle.op_shelf.specs.Table.{IsShelf};
+ghost use Rattle.op_shelf.specs.Texts.{held_text, insert_text};
+
+use crate::fault::ShelfFault;
+use crate::kept::Kept;
+use crate::rows::{find_in, kind_of};
+use crate::schema::{is_bare, is_shelf};
+use crate::statements::{held_rows, insert};
+use sqlite::{Alter, Connection};
+
+/// Whether the table stands alone and no transaction is open. A failure of the disk may have closed
+/// the database, and then nothing is known of its schema.
+pub(crate) fn is_ready<S: Alter>(database: &Connection<S>) -> bool
+    ensures { IsTrue result ↔ IsReady (state S.Store database.now) }
+{
+    is_shelf(database.schema()) && database.is_autocommit()
+}
+
+/// Whether no table is there and no transaction is open.
+pub(crate) fn is_blank<S: Alter>(database: &Connection<S>) -> bool
+    ensures { IsTrue result ↔ IsBare (state S.Store database.now) }
+{
+    is_bare(database.schema()) && database.is_autocommit()
+}
+
+/// Whether an entry is there.
+fn find<S: Alter>(
+    database: &mut Connection<S>,
+    digest: &str,
+    body: &[u8],
+) -> Result<bool, ShelfFault>
+    requires shelf { IsShelf (state S.Store database.old).now.schema }
+    ensures absent { IfClean S.Store database.old database.new (λ s t.
+        result ≡ Ok false → under digest.now (rows_of s) ≡ []) }
+    ensures known { IfClean S.Store database.old database.new (λ s t.
+        result ≡ Ok true → IsKnown s t digest.now (entry_by digest.now body.now)) }
+    ensures other { IfClean S.Store database.old database.new (λ s t. IsErrOf result ShelfFault.BadRow
+        → HasOther (rows_of s) digest.now (entry_by digest.now body.now)) }
+    ensures same { IfClean S.Store database.old database.new (λ s t. OnOk result (IsUnchanged s t)) }
+    ensures refused { IfClean S.Store database.old database.new (λ s t. OnErr result (Spares s t)) }
+    ensures store { IfClean S.Store database.old database.new (λ s t. IsErrOf result ShelfFault.Store
+        → IsNotShown held_text (Text digest.now ∷ []) s t) }
+    ensures crash { Survives (state S.Store database.old) (state S.Store database.new) (λ _. ⊥) }
+{
+    let held = held_rows(database, digest)?;
+    find_in(&held, digest.as_bytes(), body)
+}
+
+/// Adds an entry, and commits it.
+fn add<S: Alter>(database: &mut Connection<S>, digest: &str, body: &[u8]) -> Result<(), ShelfFault>
+    requires shelf { HasCleanDisk (state S.Store database.old)
+        → IsShelf (state S.Store database.old).now.schema }
+    requires alone { HasCleanDisk (state S.Store database.old)
+        → (state S.Store database.old).in_transaction ≡ false }
+    ensures added { IfClean S.Store database.old database.new (λ s t.
+        OnOk result (IsAdded s t (entry_by digest.now body.now))) }
+    ensures refused { IfClean S.Store database.old database.new (λ s t. OnErr result (Spares s t)) }
+    ensures store { IfClean S.Store database.old database.new (λ s t. IsErrOf result ShelfFault.Store
+        → IsNotDone insert_text (entry_by digest.now body.now) s t) }
+    ensures only { IfErr result (λ e. e ≢ ShelfFault.BadRow) }
+    ensures crash { Survives (state S.Store database.old) (state S.Store database.new) (λ trees.
+        Adds (rows_of (state S.Store database.old)) (rows_left (state S.Store database.old) trees)
+        (entry_by digest.now body.now)) }
+{
+    insert(database, digest, kind_of(body), body)?;
+    Ok(())
+}
+
+/// Puts an entry where none is under its digest.
+pub(crate) fn put_entry<S: Alter>(
+    database: &mut Connection<S>,
+    digest: &str,
+    body: &[u8],
+) -> Result<Kept, ShelfFault>
+    // New adds exactly that entry, Known finds it there, and a refusal changes nothing.
+    ensures new { IfClean S.Store database.old database.new (λ s t. result ≡ Ok Kept.New
+        → IsPut s t digest.now (entry_by digest.now body.now)) }
+    ensures known { IfClean S.Store database.old database.new (λ s t. result ≡ Ok Kept.Known
+        → IsKnown s t digest.now (entry_by digest.now body.now)) }
+    ensures refused { IfClean S.Store database.old database.new (λ s t. OnErr result (KeepsAll s t)) }
+
+    // Each fault, only where it is.
+    ensures bad_row { IfClean S.Store database.old database.new (λ s t.
+        IsErrOf result ShelfFault.BadRow
+        → HasOther (rows_of s) digest.now (entry_by digest.now body.now)) }
+    ensures store { IfClean S.Store database.old database.new (λ s t. IsErrOf result ShelfFault.Store
+        → IsNotKept S.Store database.old database.new digest.now
+        (entry_by digest.now body.now)) }
+
+    // A crash finds the entries from before, with this one or without, and after Ok with it.
+    ensures crash { Survives (state S.Store database.old) (state S.Store database.new) (λ trees.
+        Adds (rows_of (state S.Store database.old)) (rows_left (state S.Store database.old) trees)
+        (entry_by digest.now body.now)) }
+    ensures durable { IfClean S.Store database.old database.new (λ s t. OnOk result
+        ((trees : Trees) → t.may_leave trees
+        → Contains (entries (rows_left t trees)) (entry_by digest.now body.now))) }
+{
+    if !is_ready(database) {
+        return Err(ShelfFault::Store);
+    }
+    if find(database, digest, body)? {
+        return Ok(Kept::Known);
+    }
+    add(database, digest, body)?;
+    Ok(Kept::New)
+}
