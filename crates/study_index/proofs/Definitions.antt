@@ -178,10 +178,10 @@ at_key target tag k = by target k.target
     by : (mine yours : Target) → is_at (fix_key_cmp (fix_key mine tag)) (fix_key yours k.tag) ≡ (k.tag == tag && is_same_target yours mine)
     by (Study a) (Study b) = keyed a b
     by (Patient a) (Patient b) = keyed a b
-    by (Study a) (Patient b) = apart (k.tag == tag)
-    by (Patient a) (Study b) = apart (k.tag == tag)
     by (Series a) (Series b) = keyed a b
+    by (Study a) (Patient b) = apart (k.tag == tag)
     by (Study a) (Series b) = apart (k.tag == tag)
+    by (Patient a) (Study b) = apart (k.tag == tag)
     by (Patient a) (Series b) = apart (k.tag == tag)
     by (Series a) (Study b) = apart (k.tag == tag)
     by (Series a) (Patient b) = apart (k.tag == tag)

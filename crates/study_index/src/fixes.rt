@@ -17,7 +17,7 @@ use std::marker::Model;
 /// What corrections are about: the kind and the key of a target, and a tag.
 #[derive(Drop)]
 pub struct FixKey {
-    /// 1 for a study, 2 for a patient.
+    /// 1 for a study, 2 for a patient, 3 for a series.
     pub kind: u8,
     pub key: ShortText,
     pub tag: u32,
