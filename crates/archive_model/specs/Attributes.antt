@@ -8,7 +8,7 @@ use Rattle.operation.specs.declared.op.Op.TheVariants.{Content as a_content, Cor
 use Rattle.operation.specs.declared.target.Target.{Target}
 use Rattle.operation.specs.declared.target.Target.TheVariants.{Study, Patient}
 use Rattle.operation.specs.Parts.{ContentParts, CorrectionParts, own_value}
-use Rattle.archive_model.specs.Texts.{same, text_cmp}
+use Rattle.octets.specs.Texts.{same, text_cmp}
 use Rattle.archive_model.specs.Contents.{study_of, patient_of}
 
 abbrev pub correction_in : Op → Option CorrectionParts

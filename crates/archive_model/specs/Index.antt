@@ -12,7 +12,7 @@ use Rattle.operation.specs.declared.target.Target.{Target}
 use Rattle.operation.specs.declared.target.Target.TheVariants.{Study, Patient}
 use Rattle.operation.specs.Parts.{ContentParts, CorrectionParts}
 use Rattle.operation.specs.Spelling.{digest_of}
-use Rattle.archive_model.specs.Texts.{same}
+use Rattle.octets.specs.Texts.{same}
 use Rattle.archive_model.specs.View.{hides}
 use Rattle.archive_model.specs.Contents.{contents, pick}
 use Rattle.archive_model.specs.Covered.{is_among, is_covered}

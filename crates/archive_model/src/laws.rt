@@ -1,6 +1,6 @@
 //! What the definitions mean: laws, said as contracts of functions with nothing to do.
 
-ghost use Rattle.archive_model.specs.Laws.{GreatestIsLast, SomeHaveGreatest, LastHaveOneValue, PickIsContent, PickIsLeast, ContentsHavePick, CoveredIsNamed, ShownArePicks, FlaggedHaveTwo, AscendingIsSorted, AscendingHasAll, ShownAscend, StudyRepresentativeIsLeast, SeriesRepresentativeIsLeast};
+ghost use Rattle.archive_model.specs.Laws.{GreatestIsLast, SomeHaveGreatest, LastHaveOneValue, PickIsContent, PickIsLeast, ContentsHavePick, CoveredIsNamed, ShownArePicks, FlaggedHaveTwo, ShownAscend, StudyRepresentativeIsLeast, SeriesRepresentativeIsLeast};
 ghost use Rattle.archive_model.specs.Index.{CoveredByTitles};
 
 /// The greatest of some corrections is one of them that none comes after, by counter, site and
@@ -39,12 +39,6 @@ pub fn representatives_have_the_least_uid()
 /// The flagged UIDs are those with two contents or more.
 pub fn what_is_flagged_has_two_contents()
     ensures { FlaggedHaveTwo }
-{}
-
-/// Texts are put in the order of their bytes, and each stays once.
-pub fn ascending_texts_are_the_same_in_order()
-    ensures sorted { AscendingIsSorted }
-    ensures all { AscendingHasAll }
 {}
 
 /// A UID is covered in a view where it is named under a title that hides there.

@@ -26,10 +26,9 @@ pub use groups::{
 pub use index::{copies, fix, is_titled, pick_digest};
 pub use keys::{modality, patient, series, study};
 pub use laws::{
-    ascending_texts_are_the_same_in_order, representatives_have_the_least_uid,
-    the_greatest_correction_is_last, the_pick_has_the_least_digest, titles_say_what_is_covered,
-    what_a_note_names_is_covered, what_is_flagged_has_two_contents,
-    what_is_shown_is_picked_and_uncovered,
+    representatives_have_the_least_uid, the_greatest_correction_is_last,
+    the_pick_has_the_least_digest, titles_say_what_is_covered, what_a_note_names_is_covered,
+    what_is_flagged_has_two_contents, what_is_shown_is_picked_and_uncovered,
 };
 pub use picks::{content, contents, contents_of, flagged, instances, pick};
 pub use showings::{shown, shown_at};

@@ -1,5 +1,5 @@
 -- What hearing values comes to.
-use Rattle.std.proofs.Common.{◌≡◌, ◌≢◌, ◌<◌, ◌≤◌, ℕ, Bool, List, [], ◌∷◌, ◌++◌, map, Option, Some, None, Result, Ok, Err, refl, sym, ap, subst, ◌∙◌, append_assoc, append-nil, inl, inr, ◌⊎◌, length, length-append, arith, drop}
+use Rattle.std.proofs.Common.{◌≡◌, ◌≢◌, ◌<◌, ℕ, Bool, List, [], ◌∷◌, ◌++◌, map, Option, Some, None, Result, Ok, Err, refl, sym, ap, subst, ◌∙◌, append_assoc, append-nil, inl, inr, length, drop}
 use Rattle.std.specs.Prelude.{IfOk, OnOk, All}
 use Rattle.std.proofs.lemmas.List.Elements.{All-map}
 use Rattle.pdu.specs.Spelling.{IsPdu}
@@ -32,7 +32,7 @@ use Rattle.association_deeds.specs.Projections.{state_after}
 use Rattle.association_deeds.specs.Response.{Awaited}
 use Rattle.association_deeds.specs.Row.{Within, Link, row, met, agreed_by, limit_in, handed_on}
 use Rattle.association_deeds.specs.Service.{Serves, ServesOn, context_in, status_of_reply, status_for_reply}
-use Rattle.association_deeds.specs.Session.{AssociationState, Linked, assembly_in, assembly_of, heard_in, HearsValues, Turned, Answered, Takes, Owes, OwedFor, Stops, entered, stage_by, IsTold, IsWritable}
+use Rattle.association_deeds.specs.Session.{AssociationState, Linked, assembly_in, assembly_of, heard_in, Turned, Answered, Takes, Owes, OwedFor, Stops, entered, stage_by, IsTold, IsWritable}
 use Rattle.association_deeds.specs.Talks.{Heard, Met, Said, Tells, InState, Answers, Talks, awaiting}
 
 -- ---- one value more

@@ -27,10 +27,10 @@ use Rattle.association_deeds.specs.declared.reply.Reply.TheVariants.{Stored}
 use Rattle.association_deeds.specs.declared.service.Service.{Service}
 use Rattle.association_deeds.specs.declared.service.Service.TheVariants.{Ignored, Broken, Responded, Asked}
 use Rattle.association_deeds.specs.Order.{IsOrderly, IsReplied}
-use Rattle.association_deeds.specs.Response.{Awaited, Responds}
+use Rattle.association_deeds.specs.Response.{Awaited}
 use Rattle.association_deeds.specs.Row.{Within, Link, row, met, deeds_of, action_on}
 use Rattle.association_deeds.specs.Service.{status_of_reply}
-use Rattle.association_deeds.specs.Talks.{Heard, Met, Said, Goes, Then, Tells, Follows, Does, InState, Answers, Talks, awaiting}
+use Rattle.association_deeds.specs.Talks.{Heard, Met, Said, Goes, Tells, Follows, Does, InState, Answers, Talks, awaiting}
 
 -- ---- orderly deeds
 

@@ -1,5 +1,5 @@
 -- Where a row's deeds lead, and what an event comes to.
-use Rattle.std.proofs.Common.{◌≡◌, Bool, true, false, List, [], ◌∷◌, ◌++◌, Option, Some, None, Result, Ok, Err, refl, sym, ap, subst, ◌∙◌, inl}
+use Rattle.std.proofs.Common.{◌≡◌, true, List, [], ◌∷◌, ◌++◌, Option, Some, None, Result, Ok, Err, refl, sym, ap, subst, ◌∙◌, inl}
 use Rattle.pdu.specs.declared.request.Request.{Request}
 use Rattle.pdu.specs.declared.reject.Reject.{Reject}
 use Rattle.pdu.specs.declared.value.Pdu.TheVariants as pdus
@@ -16,12 +16,11 @@ use Rattle.ul_state.specs.Table.{next_of}
 use Rattle.ul_state.specs.Acceptor.{kind_for}
 use Rattle.association_deeds.specs.declared.deed.Deed.{Deed}
 use Rattle.association_deeds.specs.declared.event.SessionEvent.TheVariants.{Heard as IsHeard, GoesOn}
-use Rattle.association_deeds.specs.declared.reply.Reply.{Reply}
 use Rattle.association_deeds.specs.Projections.{state_after}
 use Rattle.association_deeds.specs.Response.{Awaited}
-use Rattle.association_deeds.specs.Row.{Within, row, met, deeds_of, values_of, action_on}
+use Rattle.association_deeds.specs.Row.{row, deeds_of, values_of, action_on}
 use Rattle.association_deeds.specs.Session.{AssociationState, HearsValues, Turned, Takes, Owes, Stops, entered, is_left}
-use Rattle.association_deeds.specs.Talks.{Heard, Met, Talks}
+use Rattle.association_deeds.specs.Talks.{Met}
 use Rattle.association_deeds.proofs.HearLaws.{takes_row, idle_owed, owed_idle}
 
 -- ---- where a row leads

@@ -1,5 +1,5 @@
 -- Two lists of deeds over one beginning agree.
-use Rattle.std.proofs.Common.{◌≡◌, ◌<◌, ◌≤◌, ℕ, List, [], ◌∷◌, ◌++◌, map, sym, ap, subst, ◌∙◌, append_assoc, append-nil, Bool, length, length-append, ◌+◌, suc, arith, Option, Some, None, Result, Ok, Err, take, drop, refl}
+use Rattle.std.proofs.Common.{◌≡◌, ℕ, List, [], ◌∷◌, ◌++◌, map, sym, ap, subst, ◌∙◌, append_assoc, append-nil, Bool, length, length-append, ◌+◌, suc, arith, Option, Some, None, Result, Ok, Err, drop}
 use Rattle.pdu.specs.declared.value.Pdu.{Pdu}
 use Rattle.pdu.specs.declared.context.Context.{Context}
 use Rattle.ul_state.specs.declared.event.Event.TheVariants.{LocalAbort}
@@ -9,11 +9,10 @@ use Rattle.ul_state.specs.declared.titles.Title.{Title}
 use Rattle.dimse.specs.declared.command.Command.{Command}
 use Rattle.dimse.specs.declared.message.Message.{Message}
 use Rattle.dimse.specs.declared.status.Status.{Status}
-use Rattle.dimse.specs.Sending.{Sends, IsSending, size_of, sent}
+use Rattle.dimse.specs.Sending.{Sends}
 use Rattle.operation.specs.declared.draft.Draft.{Draft}
 use Rattle.operation.specs.declared.fault.OpFault.{OpFault}
 use Rattle.operation.specs.Parts.{ContentParts}
-use Rattle.operation.specs.Contents.{IsOutcome}
 use Rattle.operation.proofs.ContentLaws.{outcome_once}
 use Rattle.association_deeds.specs.declared.deed.Call.TheVariants.{Store}
 use Rattle.association_deeds.specs.declared.deed.Deed.{Deed}
@@ -26,9 +25,9 @@ use Rattle.association_deeds.specs.declared.service.Kind.TheVariants as kinds
 use Rattle.association_deeds.specs.declared.service.Service.{Service}
 use Rattle.association_deeds.specs.declared.service.Service.TheVariants.{Ignored, Broken, Responded, Asked}
 use Rattle.association_deeds.specs.Projections.{IsFront}
-use Rattle.association_deeds.specs.Response.{Awaited, Responds, response_to}
+use Rattle.association_deeds.specs.Response.{Awaited, Responds}
 use Rattle.association_deeds.specs.Row.{Within, Link, row, met}
-use Rattle.association_deeds.specs.Service.{status_of_reply, status_of_fault, kind_of, context_in, Serves, ServesOn, ServesKind, ServesStore, ServesBody, ServesDraft, store_refusal, draft_for}
+use Rattle.association_deeds.specs.Service.{status_of_reply, status_of_fault, kind_of, context_in, Serves, ServesOn, ServesKind, ServesStore, ServesDraft, store_refusal, draft_for}
 use Rattle.association_deeds.specs.Talks.{Heard, Met, Said, Goes, Then, Tells, Follows, Does, InState, Answers, Talks, awaiting}
 
 -- ---- one response, one service

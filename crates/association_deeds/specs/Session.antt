@@ -1,5 +1,5 @@
 -- What a session has done, and what it is still to do.
-use Rattle.std.specs.Prelude.{◌≡◌, ◌≢◌, ◌⊎◌, Bool, true, false, not, ◌||◌, List, [], ◌∷◌, ◌++◌, Option, Some, None, Result, Ok, Err, IsSome, map, length, ◌<◌, ⊤}
+use Rattle.std.specs.Prelude.{◌≡◌, ◌⊎◌, Bool, true, false, not, ◌||◌, List, [], ◌∷◌, ◌++◌, Option, Some, None, Result, Ok, Err, IsSome, map, length, ◌<◌, ⊤}
 use Rattle.std.specs.List.{list_any}
 use Rattle.pdu.specs.declared.pdv.Pdv.{Pdv}
 use Rattle.pdu.specs.declared.value.Pdu.{Pdu}
@@ -13,7 +13,7 @@ use Rattle.ul_state.specs.declared.table.State.{State}
 use Rattle.ul_state.specs.declared.table.State.TheVariants.{Sta1, Sta2, Sta6, Sta13}
 use Rattle.ul_state.specs.declared.titles.Title.{Title}
 use Rattle.ul_state.specs.Table.{next_of, opens, IsLeft}
-use Rattle.ul_state.specs.Acceptor.{kind_for, settled_by, HasLawfulPdu}
+use Rattle.ul_state.specs.Acceptor.{kind_for, HasLawfulPdu}
 use Rattle.dimse.specs.declared.assembler.Stage.{Stage}
 use Rattle.dimse.specs.declared.assembler.Stage.TheVariants.{Between}
 use Rattle.dimse.specs.declared.fault.DimseFault.{DimseFault}

@@ -280,7 +280,7 @@ impl<V: Copy> Association<V> {
         ensures writable { IfOk result (All IsWritable) }
     {
         while let Some(value) = self.queue.pop_front() {
-            let answer = self.link.feed(self.alloc, value)?;
+            let answer = self.link.feed(value)?;
             match answer {
                 Ok(None) => {}
                 Ok(Some(message)) => return self.answer(titles, message),

@@ -64,7 +64,7 @@ impl Link {
         ensures { result ≡ record { link = NO_LINK; stage = Between } }
     {
         Link {
-            assembler: Assembler::new(ListOf::new(alloc)),
+            assembler: Assembler::new(alloc, ListOf::new(alloc)),
             limit: SENT_WITHOUT_LIMIT,
         }
     }
@@ -86,10 +86,10 @@ impl Link {
             return Ok(());
         }
         let Some(settled) = settled else {
-            self.assembler = Assembler::new(copies_of(alloc, self.assembler.contexts())?);
+            self.assembler = Assembler::new(alloc, copies_of(alloc, self.assembler.contexts())?);
             return Ok(());
         };
-        self.assembler = Assembler::new(copies_of(alloc, settled.contexts.as_slice())?);
+        self.assembler = Assembler::new(alloc, copies_of(alloc, settled.contexts.as_slice())?);
         self.limit = limit;
         Ok(())
     }
@@ -113,7 +113,6 @@ impl Link {
     /// fault.
     pub(crate) fn feed(
         &mut self,
-        alloc: Global,
         value: Pdv,
     ) -> Result<Result<Option<Message>, DimseFault>, AllocError>
         ensures fed { IfOk result (λ answer.
@@ -122,7 +121,7 @@ impl Link {
         ensures limit { self.new.link.limit ≡ self.old.link.limit }
         ensures whole { IfOk result (λ answer. IfOk answer (λ message. IfSome message IsWhole)) }
     {
-        match self.assembler.feed(alloc, value) {
+        match self.assembler.feed(value) {
             Ok(message) => Ok(Ok(message)),
             Err(DimseFault::Memory) => Err(AllocError),
             Err(fault) => Ok(Err(fault)),

@@ -5,7 +5,7 @@ use crate::fault::SetFault;
 use crate::reader::read;
 use crate::set::DataSet;
 use crate::syntax::Syntax;
-use crate::values::{items_of, padded_of, trimmed_of, value_of};
+use crate::values::{items_of, padded_of, value_of};
 use crate::writer::write;
 use Syntax::{Explicit, Implicit};
 use std::alloc::{AllocError, Global};
@@ -94,27 +94,6 @@ fn values_are_trimmed_by_tag(rt: HostRuntime) -> Result<(), Fail> {
     assert!(rt; set.value(0x0020_0010).is_none(), "a missing element");
     assert!(rt; set.items(0x0020_000d).is_none(), "a value has no items");
     Ok(())
-}
-
-#[test]
-fn padding_is_trimmed_at_the_end_and_spaces_at_the_front(rt: HostRuntime) {
-    assert_eq!(rt; trimmed_of(b"  AB \x00 "), b"AB".as_slice(), "both sides");
-    assert_eq!(rt;
-        trimmed_of(b"\x00AB"),
-        b"\x00AB".as_slice(),
-        "a leading 00 stays"
-    );
-    assert_eq!(rt;
-        trimmed_of(b" \x00 A"),
-        b"\x00 A".as_slice(),
-        "and ends the spaces"
-    );
-    assert_eq!(rt;
-        trimmed_of(b" \x00 "),
-        b"".as_slice(),
-        "nothing but padding"
-    );
-    assert_eq!(rt; trimmed_of(b"A B"), b"A B".as_slice(), "inner spaces");
 }
 
 #[test]

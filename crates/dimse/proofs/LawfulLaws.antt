@@ -9,7 +9,7 @@ use Rattle.std.proofs.lemmas.List.Concat.{flat_map-cons}
 use Rattle.std.proofs.lemmas.List.Sums.{suffix_len-le-length, suffix_len-take_no, prefix_len_stops}
 use Rattle.dimse.specs.declared.command.Command.{Command}
 use Rattle.dimse.specs.declared.command.TheConstants.{LONGEST_COMMAND}
-use Rattle.dimse.specs.declared.tags.TheConstants.{AFFECTED_CLASS, AFFECTED_INSTANCE}
+use Rattle.dictionary.specs.declared.commands.TheConstants.{AFFECTED_SOP_CLASS_UID, AFFECTED_SOP_INSTANCE_UID}
 use Rattle.dimse.specs.declared.fault.DimseFault.{DimseFault}
 use Rattle.dimse.specs.Uid.{IsUid, is_padding, is_graphic, trimmed}
 use Rattle.dimse.specs.Elements.{Element, element_text, text_of, tag_text, value_of}
@@ -93,10 +93,10 @@ second_of es None le h = tt
 second_of es (Some uid) le h = omega (arith, h.1)
 
 class_in : (es : List Element) (c : Command) → Says es c → IfSome c.affected_class (ShortIn es)
-class_in es c says = uid_at es AFFECTED_CLASS c.affected_class (value_of es AFFECTED_CLASS) says.lawful refl refl refl says.affected_class
+class_in es c says = uid_at es AFFECTED_SOP_CLASS_UID c.affected_class (value_of es AFFECTED_SOP_CLASS_UID) says.lawful refl refl refl says.affected_class
 
 instance_in : (es : List Element) (c : Command) → Says es c → IfSome c.affected_instance (ShortIn es)
-instance_in es c says = uid_at es AFFECTED_INSTANCE c.affected_instance (value_of es AFFECTED_INSTANCE) says.lawful refl refl refl says.affected_instance
+instance_in es c says = uid_at es AFFECTED_SOP_INSTANCE_UID c.affected_instance (value_of es AFFECTED_SOP_INSTANCE_UID) says.lawful refl refl refl says.affected_instance
 
 pub lawful_read : (es : List Element) (r : Result Command DimseFault) → IfOk r (Says es) → IfOk r IsCommand
 lawful_read es (Ok c) says = record { affected_class = first_of es c.affected_class (class_in es c says); affected_instance = first_of es c.affected_instance (instance_in es c says); complete = says.complete }

@@ -50,6 +50,15 @@ const CREATE_RESPONSE: [u8; 84] = *b"\x00\x00\x00\x00\x04\x00\x00\x00\x48\x00\x0
     \x00\x00\x00\x01\x02\x00\x00\x00\x40\x81\x00\x00\x20\x01\x02\x00\x00\x00\x03\x00\
     \x00\x00\x00\x08\x02\x00\x00\x00\x01\x01\x00\x00\x00\x09\x02\x00\x00\x00\x11\x02";
 
+// A pending C-GET response to message 5: 3 sub-operations remain, 2 are completed, 1 failed and 4
+// had warnings.
+const GET_RESPONSE: [u8; 128] = *b"\x00\x00\x00\x00\x04\x00\x00\x00\x74\x00\x00\x00\
+    \x00\x00\x02\x00\x1c\x00\x00\x001.2.840.10008.5.1.4.1.2.2.3\x00\
+    \x00\x00\x00\x01\x02\x00\x00\x00\x10\x80\x00\x00\x20\x01\x02\x00\x00\x00\x05\x00\
+    \x00\x00\x00\x08\x02\x00\x00\x00\x01\x01\x00\x00\x00\x09\x02\x00\x00\x00\x00\xFF\
+    \x00\x00\x20\x10\x02\x00\x00\x00\x03\x00\x00\x00\x21\x10\x02\x00\x00\x00\x02\x00\
+    \x00\x00\x22\x10\x02\x00\x00\x00\x01\x00\x00\x00\x23\x10\x02\x00\x00\x00\x04\x00";
+
 // The least C-ECHO request: it has no group length.
 const LEAST: [u8; 56] = *b"\x00\x00\x02\x00\x12\x00\x00\x001.2.840.10008.1.1\x00\
     \x00\x00\x00\x01\x02\x00\x00\x00\x30\x00\x00\x00\x10\x01\x02\x00\x00\x00\x01\x00\
@@ -85,6 +94,24 @@ fn command_sets_are_read_and_written_again(rt: HostRuntime) -> Result<(), Fail> 
     assert_eq!(rt;
         written.as_slice(),
         STORE_RESPONSE.as_slice(),
+        "the same bytes"
+    );
+    Ok(())
+}
+
+#[test]
+fn the_counts_of_sub_operations_are_read_and_written(rt: HostRuntime) -> Result<(), Fail> {
+    let read = read_command(rt.alloc(), &GET_RESPONSE)?;
+    let counts = [read.remaining, read.completed, read.failed, read.warning];
+    assert_eq!(rt;
+        counts,
+        [Some(3), Some(2), Some(1), Some(4)],
+        "(0000,1020) to (0000,1023)"
+    );
+    let written = write_command(rt.alloc(), &read)?;
+    assert_eq!(rt;
+        written.as_slice(),
+        GET_RESPONSE.as_slice(),
         "the same bytes"
     );
     Ok(())
@@ -267,7 +294,7 @@ fn feed_cut(
     let mut answer = None;
     for piece in text.chunks(size) {
         left = left.saturating_sub(piece.len());
-        answer = assembler.feed(alloc, pdv(alloc, 1, command, left == 0, piece)?)?;
+        answer = assembler.feed(pdv(alloc, 1, command, left == 0, piece)?)?;
     }
     Ok(answer)
 }
@@ -276,7 +303,7 @@ fn feed_cut(
 fn assert_gathered(rt: &impl Abort, alloc: Global, text: &[u8], size: usize) -> Result<(), Fail>
     requires { 0 < size }
 {
-    let mut assembler = Assembler::new(contexts(alloc)?);
+    let mut assembler = Assembler::new(alloc, contexts(alloc)?);
     let answer = feed_cut(alloc, &mut assembler, true, text, size)?;
     let message = answer.ok_or("no message")?;
     assert!(rt; message.body.is_none(), "no data set, in pieces of {size}");
@@ -301,7 +328,7 @@ const BODY: &[u8] = b"\x08\x00\x16\x00\x02\x00\x00\x001\x00";
 #[test]
 fn a_data_set_is_the_same_however_it_is_cut(rt: HostRuntime) -> Result<(), Fail> {
     let alloc = rt.alloc();
-    let mut assembler = Assembler::new(contexts(alloc)?);
+    let mut assembler = Assembler::new(alloc, contexts(alloc)?);
     for size in [1, 2, 7, 200] {
         let answer = feed_cut(alloc, &mut assembler, true, &STORE_REQUEST, size)?;
         assert!(rt; answer.is_none(), "a data set is announced");
@@ -315,12 +342,12 @@ fn a_data_set_is_the_same_however_it_is_cut(rt: HostRuntime) -> Result<(), Fail>
 #[test]
 fn an_empty_last_fragment_ends_a_message(rt: HostRuntime) -> Result<(), Fail> {
     let alloc = rt.alloc();
-    let mut assembler = Assembler::new(contexts(alloc)?);
-    assembler.feed(alloc, pdv(alloc, 3, true, false, &STORE_REQUEST)?)?;
-    assembler.feed(alloc, pdv(alloc, 3, true, true, b"")?)?;
-    assembler.feed(alloc, pdv(alloc, 3, false, false, b"abc")?)?;
-    assembler.feed(alloc, pdv(alloc, 3, false, false, b"de")?)?;
-    let answer = assembler.feed(alloc, pdv(alloc, 3, false, true, b"")?)?;
+    let mut assembler = Assembler::new(alloc, contexts(alloc)?);
+    assembler.feed(pdv(alloc, 3, true, false, &STORE_REQUEST)?)?;
+    assembler.feed(pdv(alloc, 3, true, true, b"")?)?;
+    assembler.feed(pdv(alloc, 3, false, false, b"abc")?)?;
+    assembler.feed(pdv(alloc, 3, false, false, b"de")?)?;
+    let answer = assembler.feed(pdv(alloc, 3, false, true, b"")?)?;
     let body = answer.ok_or("no message")?.body.ok_or("no data set")?;
     assert_eq!(rt; body.as_slice(), b"abcde".as_slice(), "all its bytes");
     Ok(())
@@ -334,13 +361,9 @@ fn assert_refused(
     refused: Pdv,
     fault: DimseFault,
 ) -> Result<(), Fail> {
-    assert_eq!(rt;
-        assembler.feed(alloc, refused).err(),
-        Some(fault),
-        "the fault"
-    );
+    assert_eq!(rt; assembler.feed(refused).err(), Some(fault), "the fault");
     let next = pdv(alloc, 1, true, true, &ECHO_REQUEST)?;
-    let answer = assembler.feed(alloc, next).err();
+    let answer = assembler.feed(next).err();
     assert_eq!(rt;
         answer,
         Some(DimseFault::Failed),
@@ -351,8 +374,8 @@ fn assert_refused(
 
 // An assembler that awaits more of a command set, or the data set that it announces.
 fn begun(alloc: Global, last: bool) -> Result<Assembler, Fail> {
-    let mut assembler = Assembler::new(contexts(alloc)?);
-    assembler.feed(alloc, pdv(alloc, 1, true, last, &STORE_REQUEST)?)?;
+    let mut assembler = Assembler::new(alloc, contexts(alloc)?);
+    assembler.feed(pdv(alloc, 1, true, last, &STORE_REQUEST)?)?;
     Ok(assembler)
 }
 
@@ -364,7 +387,7 @@ fn a_first_fragment_has_its_place(rt: HostRuntime) -> Result<(), Fail> {
         (1, true, DimseFault::BadCommand),
     ];
     for (context, command, fault) in rows {
-        let mut assembler = Assembler::new(contexts(rt.alloc())?);
+        let mut assembler = Assembler::new(rt.alloc(), contexts(rt.alloc())?);
         let refused = pdv(rt.alloc(), context, command, true, b"ab")?;
         assert_refused(&rt, rt.alloc(), &mut assembler, refused, fault)?;
     }
@@ -420,7 +443,7 @@ fn a_command_set_is_taken_up_to_its_limit(rt: HostRuntime) -> Result<(), Fail> {
     assert_gathered(&rt, rt.alloc(), text.as_slice(), 9_000)?;
     let text = command_of_length(rt.alloc(), 16_385)?;
     let whole = pdv(rt.alloc(), 1, true, true, text.as_slice())?;
-    let mut assembler = Assembler::new(contexts(rt.alloc())?);
+    let mut assembler = Assembler::new(rt.alloc(), contexts(rt.alloc())?);
     assert_refused(&rt, rt.alloc(), &mut assembler, whole, DimseFault::TooLong)
 }
 
@@ -435,7 +458,7 @@ fn feed_longest(alloc: Global, assembler: &mut Assembler, last: bool) -> Result<
             last: last && place == 64,
             fragment: piece.clone()?,
         };
-        ended = assembler.feed(alloc, pdv)?.is_some();
+        ended = assembler.feed(pdv)?.is_some();
     }
     Ok(ended)
 }
@@ -566,8 +589,8 @@ fn success(alloc: Global, message: &Message) -> Result<Vec<u8>, Fail>
 #[test]
 fn a_message_is_answered_on_its_context(rt: HostRuntime) -> Result<(), Fail> {
     let alloc = rt.alloc();
-    let mut assembler = Assembler::new(contexts(alloc)?);
-    let answer = assembler.feed(alloc, pdv(alloc, 3, true, true, &ECHO_REQUEST)?)?;
+    let mut assembler = Assembler::new(alloc, contexts(alloc)?);
+    let answer = assembler.feed(pdv(alloc, 3, true, true, &ECHO_REQUEST)?)?;
     let written = success(alloc, &answer.ok_or("no message")?)?;
     // One P-DATA-TF with one value on context 3, the last fragment of a command set.
     let header = b"\x04\x00\x00\x00\x00\x54\x00\x00\x00\x50\x03\x03";

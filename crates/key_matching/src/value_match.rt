@@ -7,7 +7,7 @@ ghost use Rattle.key_matching.specs.Matches.{is_universal as is_universal_in, is
 use crate::matching::Matching;
 use crate::range::{Moment, is_in_range, is_range};
 use crate::wild_card::is_wild_match;
-use data_set::{is_uid, trimmed_of};
+use octets::{is_uid, trimmed};
 
 /// Whether a key matches every value: it is empty, or `*` alone
 /// (docs/DECISIONS.md, "Universal matching").
@@ -20,13 +20,13 @@ pub fn is_universal(key: &[u8]) -> bool
 fn is_uid_part(part: &[u8]) -> bool
     ensures { result ≡ is_uid_part_in part.now }
 {
-    is_uid(trimmed_of(part))
+    is_uid(trimmed(part))
 }
 
 fn is_same_part(value: &[u8], part: &[u8]) -> bool
     ensures { result ≡ is_same_part_in value.now part.now }
 {
-    trimmed_of(part) == value
+    trimmed(part) == value
 }
 
 /// Where the first backslash stands.

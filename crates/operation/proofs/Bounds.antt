@@ -7,7 +7,7 @@ use Rattle.std.proofs.lemmas.Bool.Decides.{nat_tests}
 use Rattle.std.proofs.Math.Logic.{∥∥₁_elim}
 use Rattle.data_set.specs.Corrections.{corrections, vr_among}
 use Rattle.data_set.specs.Tree.{Tree}
-use Rattle.data_set.specs.Uid.{is_uid_text, is_uid_byte}
+use Rattle.octets.specs.Uid.{is_uid_text, is_uid_byte}
 use Rattle.rejection_note.specs.Notes.{note_in}
 use Rattle.operation.specs.declared.draft.Draft.{Draft}
 use Rattle.operation.specs.declared.fault.OpFault.{OpFault}

@@ -7,8 +7,8 @@ use Rattle.std.specs.Coded.{Coded-set}
 use Rattle.std.proofs.Math.Logic.{∥∥₁_elim}
 use Rattle.octets.specs.Gives.{◌>>=◌, Tells, Gives}
 use Rattle.octets.proofs.ByteLaws.{tells_map}
-use Rattle.data_set.specs.Uid.{is_uid_text, is_uid_byte}
-use Rattle.data_set.specs.Values.{is_padding}
+use Rattle.octets.specs.Uid.{is_uid_text, is_uid_byte}
+use Rattle.octets.specs.Padding.{is_padding}
 use Rattle.operation.specs.declared.draft.Draft.{Draft}
 use Rattle.operation.specs.declared.fault.OpFault.{OpFault}
 use Rattle.operation.specs.declared.fault.OpFault.TheVariants.{Shape, UnknownKind, BadCorrection}

@@ -11,8 +11,8 @@ use Rattle.octets.specs.Gives.{◌>>=◌}
 use Rattle.octets.proofs.ByteLaws.{IsBytes-drop, IsBytes-two, IsBytes-four, bind_ok, guard_ok, guard_end, ok_is}
 use Rattle.data_set.specs.declared.syntax.Syntax.{Syntax}
 use Rattle.data_set.specs.declared.syntax.Syntax.TheVariants.{Implicit, Explicit}
-use Rattle.data_set.specs.Uid.{is_uid_text, is_uid_byte}
-use Rattle.data_set.specs.Values.{is_padding}
+use Rattle.octets.specs.Uid.{is_uid_text, is_uid_byte}
+use Rattle.octets.specs.Padding.{is_padding}
 use Rattle.operation.specs.declared.draft.Draft.{Draft}
 use Rattle.operation.specs.declared.fault.OpFault.{OpFault}
 use Rattle.operation.specs.declared.fault.OpFault.TheVariants.{BadCorrection, Shape}

@@ -2,7 +2,7 @@
 use Rattle.std.specs.Prelude.{◌≡◌, ℕ, ◌<◌, ◌^◌, List, length, Bool, false, not, ◌&&◌, ◌||◌, ◌==◌, nat_le, Option, Some, None, Result, Ok, Err, IsTrue, slice_get, is_some, if◌then◌else◌, ◌-◌, ◌/◌}
 use Rattle.std.specs.List.{list_all}
 use Rattle.data_set.specs.Corrections.{correction_vr_of}
-use Rattle.data_set.specs.Uid.{is_uid_text}
+use Rattle.octets.specs.Uid.{is_uid_text}
 use Rattle.operation.specs.declared.fault.OpFault.{OpFault}
 use Rattle.operation.specs.declared.fault.OpFault.TheVariants.{BadCorrection}
 use Rattle.operation.specs.declared.target.Target.{Target}

@@ -4,7 +4,7 @@ use Rattle.std.specs.Int.{w16, w32, w64, from_be_bytes}
 use Rattle.octets.specs.Gives.{◌>>=◌}
 use Rattle.data_set.specs.declared.syntax.Syntax.{Syntax}
 use Rattle.data_set.specs.declared.syntax.Syntax.TheVariants.{Implicit, Explicit}
-use Rattle.data_set.specs.Values.{is_padding}
+use Rattle.octets.specs.Padding.{is_padding}
 use Rattle.operation.specs.declared.draft.Draft.{Draft}
 use Rattle.operation.specs.declared.fault.OpFault.{OpFault}
 use Rattle.operation.specs.declared.fault.OpFault.TheVariants.{UnknownKind, Shape}

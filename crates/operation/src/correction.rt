@@ -8,8 +8,8 @@ ghost use Rattle.operation.specs.Corrections.{is_tag_for, is_text_byte, has_oute
 use crate::fault::OpFault;
 use crate::stamp::Stamp;
 use crate::target::Target;
-use data_set::{correction_vr, is_uid};
-use octets::Octets;
+use data_set::correction_vr;
+use octets::{Octets, is_uid};
 use std::alloc::{AllocError, Global};
 use std::marker::Model;
 

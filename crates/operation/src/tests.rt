@@ -1,8 +1,8 @@
 //! Operations by hand.
 
 use crate::{
-    Content, Correction, Digest, Op, OpFault, Stamp, Target, content_of, correction_of, decode,
-    digest, encode,
+    Content, Correction, Digest, Digested, Op, OpFault, Stamp, Target, content_of, correction_of,
+    decode, digest, encode,
 };
 use bytes::Bytes;
 use data_set::Syntax;
@@ -45,6 +45,9 @@ const IMAGE: [&[u8]; 7] = [
 
 // Kind, class, instance, syntax, and the length of the data set.
 const FRONT: &[u8] = b"\x01\x191.2.840.10008.5.1.4.1.1.2\x091.2.1.1.1\x01\x00\x00\x00\x76";
+
+// By another program: `openssl dgst -sha256` of the 160 bytes of FRONT and IMAGE.
+const IMAGE_DIGEST: &str = "2703dda98737764221508935b270672f563513afeaf26d114d42019a7e4bc7b4";
 
 // A correction of study 1.2.1: (0010,0010) is ROE^ANN, by counter 1 and site 1.
 const CORRECTION: &[u8] = b"\x02\x01\x051.2.1\x00\x10\x00\x10\x00\x07ROE^ANN\
@@ -185,9 +188,20 @@ fn an_image_has_its_spelling(rt: HostRuntime) -> Result<(), Fail> {
 #[test]
 fn an_image_has_its_digest(rt: HostRuntime) -> Result<(), Fail> {
     let op = image(rt.alloc())?;
-    // By another program: `openssl dgst -sha256` of the 160 bytes.
-    let wanted = "2703dda98737764221508935b270672f563513afeaf26d114d42019a7e4bc7b4";
-    has_digest(&rt, rt.alloc(), &op, wanted)?;
+    has_digest(&rt, rt.alloc(), &op, IMAGE_DIGEST)?;
+    Ok(())
+}
+
+#[test]
+fn a_copy_has_the_digest_that_was_computed(rt: HostRuntime) -> Result<(), Fail> {
+    let op = Digested::of(image(rt.alloc())?);
+    let copy = op.copy(rt.alloc())?;
+    let text = copy.digest().text(rt.alloc())?;
+    assert_eq!(rt; text.as_str(), IMAGE_DIGEST, "the digest of a copy");
+    let (digest, copied) = copy.into_parts();
+    assert!(rt; digest == *op.digest(), "the digest by itself");
+    assert!(rt; copied.equals(op.op()), "the operation by itself");
+    assert!(rt; copied.equals(&op.into_op()), "the first owner's operation");
     Ok(())
 }
 

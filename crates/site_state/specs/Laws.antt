@@ -13,7 +13,7 @@ use Rattle.archive_model.specs.Covered.{is_covered}
 use Rattle.archive_model.specs.Shown.{shown}
 use Rattle.archive_model.specs.Attributes.{attribute}
 use Rattle.archive_model.specs.declared.view.View.{View}
-use Rattle.site_state.specs.declared.taken.Taken.{Taken}
+use Rattle.operation.specs.declared.taken.Taken.{Taken}
 use Rattle.site_state.specs.Site.{Map, IsSite, ops_of, with_op, Takes, top_counter_of, counts_of}
 use Rattle.site_state.specs.Union.{union}
 

@@ -10,11 +10,11 @@ use Rattle.operation.specs.Parts.{CorrectionParts}
 use Rattle.operation.specs.Spelling.{digest_of}
 use Rattle.archive_model.specs.Contents.{contents}
 use Rattle.archive_model.specs.Attributes.{corrections}
-use Rattle.site_state.specs.declared.taken.Taken.{Taken}
-use Rattle.site_state.specs.declared.taken.Taken.TheVariants.{New, Known}
+use Rattle.operation.specs.declared.taken.Taken.{Taken}
+use Rattle.operation.specs.declared.taken.Taken.TheVariants.{New, Known}
 use Rattle.site_state.specs.declared.fault.SiteFault.{SiteFault}
 use Rattle.site_state.specs.declared.fault.SiteFault.TheVariants.{Collision, Memory}
-use Rattle.site_state.specs.declared.taken.Counts.{Counts}
+use Rattle.site_state.specs.declared.counts.Counts.{Counts}
 
 -- the order of digests, as bytes
 abbrev pub digest_cmp : List ℕ → List ℕ → Ordering

@@ -8,11 +8,11 @@ ghost use Rattle.operation.specs.Spelling.{digest_of};
 ghost use Rattle.site_state.specs.Site.{Map, digests_of, is_missing as is_missing_in, ops_of, held_at, with_op, IsClash, Takes, counter_of as counter_of_op, top_counter_of, counts_of};
 ghost use Rattle.site_state.specs.Union.{union, DoClash, Agree};
 
+use crate::counts::Counts;
 use crate::fault::SiteFault;
-use crate::taken::{Counts, Taken};
 use crate::tree::{add_copies, do_clash};
 use octets::Octets;
-use operation::{Digest, Op, digest};
+use operation::{Digest, Digested, Op, Taken};
 use std::alloc::{AllocError, Global};
 use std::collections::BTreeMap;
 use std::marker::Model;
@@ -91,7 +91,24 @@ impl Site {
         ensures kept { OnErr result (self.new ≡ self.old) }
         ensures takes { Takes self.old op result self.new }
     {
-        let digest = digest(&op);
+        self.take_digested(Digested::of(op))
+    }
+
+    /// Takes an operation whose digest is known, once. Nothing is hashed.
+    pub fn take_digested(&mut self, op: Digested) -> Result<Taken, SiteFault>
+        // Each answer, exactly where it is given.
+        ensures new { result ≡ Ok Taken.New → held_at self.old (digest_of op) ≡ None }
+        ensures known { (result ≡ Ok Taken.Known) ↔ (held_at self.old (digest_of op) ≡ Some op) }
+        ensures collision { (result ≡ Err SiteFault.Collision) ↔ IsClash self.old op }
+        ensures memory { result ≡ Err SiteFault.Memory → held_at self.old (digest_of op) ≡ None }
+
+        // What the site holds then.
+        ensures added { result ≡ Ok Taken.New → self.new ≡ with_op self.old op }
+        ensures same { result ≡ Ok Taken.Known → self.new ≡ self.old }
+        ensures kept { OnErr result (self.new ≡ self.old) }
+        ensures takes { Takes self.old op result self.new }
+    {
+        let (digest, op) = op.into_parts();
         self.take_under(digest, op)
     }
 

@@ -1,5 +1,5 @@
 -- Steps at one site are steps of the world.
-use Rattle.std.proofs.Common.{◌≡◌, ◌<◌, ℕ, suc, zero, List, [], ◌∷◌, ◌++◌, Option, Some, None, Result, Bool, true, false, refl, sym, ap, subst, ◌∙◌, length, slice_set, slice_index_or, append_assoc}
+use Rattle.std.proofs.Common.{◌≡◌, ◌<◌, ℕ, suc, zero, List, [], ◌∷◌, ◌++◌, Option, Some, None, Result, Bool, true, false, refl, sym, ap, subst, ◌∙◌, length, slice_set, slice_index_or}
 use Rattle.std.proofs.lemmas.Option.{slice_get_read}
 use Rattle.std.specs.Prelude.{MatchBool}
 use Rattle.std.specs.List.{slice_get}
@@ -13,7 +13,7 @@ use Rattle.site_world.specs.declared.step.Step.{Step}
 use Rattle.site_world.specs.declared.step.Step.TheVariants.{Take, Correct, Look}
 use Rattle.site_world.specs.declared.step.Seen.{Seen}
 use Rattle.site_world.specs.Steps.{Told, is_refused_memory, on_site, site_at, brought, bring, holding_also, IsTold, Happens, told_of_taking, told_of_correcting, told_of_looking, taken_by, made_at}
-use Rattle.site_world.specs.Runs.{Entry, Run, brought_by}
+use Rattle.site_world.specs.Runs.{Run}
 
 set_again : {X : Type 0} (xs : List X) (k : ℕ) (x : X) → slice_get xs k ≡ Some x → slice_set xs k x ≡ xs
 set_again [] k x e = refl
@@ -52,18 +52,14 @@ correct_happens sites k m n target target_copy tag value value_copy r small at o
     step_there sites k m n (λ m. told_of_correcting m (made_at (suc k) m target tag value)) r (slice_get_read sites (length sites) k m refl small at)
     (subst (λ v. IsTold m (told_of_correcting m (made_at (suc k) m target tag v)) r n) other (subst (λ t. IsTold m (told_of_correcting m (made_at (suc k) m t tag value_copy)) r n) one told))
 
-no_more : {X : Type 0} (xs : List X) → [] ++ xs ≡ xs ++ []
-no_more [] = refl
-no_more (x ∷ xs) = ap (λ ys. x ∷ ys) (no_more xs)
-
--- one step more
-pub run_more : (old : List Map) (steps : List Step) (answers : List (Result Seen WorldFault)) (log : List Entry) (mid new : List Map) (step : Step) (answer : Result Seen WorldFault) → Run old steps answers log mid → Happens mid step answer new → Run old (steps ++ (step ∷ [])) (answers ++ (answer ∷ [])) (log ++ brought_by mid step answer) new
-run_more old [] [] log mid new step answer (same, none) happens =
-    (new, [], subst (λ w. Happens w step answer new) same happens, ap (λ l. l ++ brought_by mid step answer) none ∙ ap (λ w. [] ++ brought_by w step answer) same ∙ no_more (brought_by old step answer), (refl, refl))
-run_more old [] (a ∷ answers) log mid new step answer run happens = absurd run
-run_more old (s ∷ steps) [] log mid new step answer run happens = absurd run
-run_more old (s ∷ steps) (a ∷ answers) log mid new step answer (w, later, first, parts, rest) happens =
-    (w, later ++ brought_by mid step answer, first, ap (λ l. l ++ brought_by mid step answer) parts ∙ append_assoc (brought_by old s a) later (brought_by mid step answer), run_more w steps answers later mid new step answer rest happens)
+-- One step more is a longer run.
+pub run_more : (old : List Map) (steps : List Step) (answers : List (Result Seen WorldFault)) (mid new : List Map) (step : Step) (answer : Result Seen WorldFault)
+    → Run old steps answers mid → Happens mid step answer new → Run old (steps ++ (step ∷ [])) (answers ++ (answer ∷ [])) new
+run_more old [] [] mid new step answer same happens = (new, subst (λ w. Happens w step answer new) same happens, refl)
+run_more old [] (a ∷ answers) mid new step answer run happens = absurd run
+run_more old (s ∷ steps) [] mid new step answer run happens = absurd run
+run_more old (s ∷ steps) (a ∷ answers) mid new step answer (w, first, rest) happens =
+    (w, first, run_more w steps answers mid new step answer rest happens)
 
 pub look_happens : (sites : List Map) (n : ℕ) (view : View) (query : Query) (m : Map) (r : Result Seen WorldFault) → Some m ≡ site_at sites n → IsTold m (told_of_looking m view query) r m → Happens sites (Look n view query) r sites
 look_happens sites n view query m r at told =

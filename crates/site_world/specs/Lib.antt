@@ -3,7 +3,10 @@ pub mod Same
 pub mod State
 pub mod Steps
 pub mod Runs
+pub mod Headline
+pub mod Rejected
 pub mod Texts
 pub mod Script
 pub mod Output
+pub mod Played
 pub mod Simulation

@@ -13,8 +13,8 @@ use Rattle.archive_model.specs.declared.view.View.TheVariants.{Archive, Quality}
 use Rattle.archive_query.specs.declared.query.Query.{Query}
 use Rattle.archive_query.specs.Rows.{rows_of}
 use Rattle.site_state.specs.Site.{Map, held_at, with_op, ops_of, top_counter_of}
-use Rattle.site_state.specs.declared.taken.Taken.{Taken}
-use Rattle.site_state.specs.declared.taken.Taken.TheVariants.{New, Known}
+use Rattle.operation.specs.declared.taken.Taken.{Taken}
+use Rattle.operation.specs.declared.taken.Taken.TheVariants.{New, Known}
 use Rattle.site_state.specs.declared.fault.SiteFault.{SiteFault}
 use Rattle.site_state.specs.declared.fault.SiteFault.TheVariants.{Collision, Memory as site_memory}
 use Rattle.site_world.specs.declared.fault.WorldFault.{WorldFault}
@@ -116,11 +116,15 @@ site_of (Take n op) = n
 site_of (Correct n target tag value) = n
 site_of (Look n view query) = n
 
+-- what a step is told at its site, and what it brings there
+abbrev pub told_at : Map → Step → Told
+told_at m (Take n op) = told_of_taking op (taken_by m op)
+told_at m (Correct n target tag value) = told_of_correcting m (made_at n m target tag value)
+told_at m (Look n view query) = told_of_looking m view query
+
 -- what a step is answered, and what it brings
 abbrev pub told : List Map → Step → Told
-told sites (Take n op) = on_site (site_at sites n) (λ m. told_of_taking op (taken_by m op))
-told sites (Correct n target tag value) = on_site (site_at sites n) (λ m. told_of_correcting m (made_at n m target tag value))
-told sites (Look n view query) = on_site (site_at sites n) (λ m. told_of_looking m view query)
+told sites step = on_site (site_at sites (site_of step)) (λ m. told_at m step)
 
 abbrev pub seen_by : List Map → Step → Result Seen WorldFault
 seen_by sites step = (told sites step).0

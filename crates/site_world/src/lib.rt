@@ -15,7 +15,7 @@ mod world;
 mod world_tests;
 
 pub use fault::WorldFault;
-pub use headline::{merge_is_a_join, order_is_free};
+pub use headline::{a_script_is_a_run, order_is_free, what_is_rejected_is_in_no_row};
 pub use run::{SimFault, simulate};
 pub use step::{Seen, Step};
 pub use world::{MOST_SITES, World};

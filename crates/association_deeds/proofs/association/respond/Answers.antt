@@ -1,8 +1,3 @@
-use Rattle.std.specs.Prelude.{All}
-use Rattle.std.proofs.lemmas.List.Elements.{All-map}
-use Rattle.association_deeds.specs.declared.deed.Deed.{Deed}
-use Rattle.association_deeds.specs.declared.deed.Deed.TheVariants.{Send}
-use Rattle.association_deeds.specs.Session.{IsWritable}
 use Rattle.association_deeds.proofs.HearLaws.{ok_map, all_is}
 use Rattle.association_deeds.proofs.association.respond.Goals as goal
 

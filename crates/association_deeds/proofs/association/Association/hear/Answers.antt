@@ -1,4 +1,3 @@
-use Rattle.std.proofs.Common.{refl}
 use Rattle.association_deeds.proofs.HearLaws.{ok_map}
 use Rattle.association_deeds.proofs.RowLaws.{met_only, heard_on}
 use Rattle.association_deeds.proofs.association.Association.hear.Goals as goal

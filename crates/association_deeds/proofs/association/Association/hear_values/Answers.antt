@@ -1,4 +1,4 @@
-use Rattle.std.proofs.Common.{◌≡◌, ◌∷◌, ◌++◌, ◌∙◌, List, Option, Some, None, Result, Ok, Err, refl, sym, ap, subst}
+use Rattle.std.proofs.Common.{◌++◌, ◌∙◌, Option, Result, Ok, Err, refl, ap, subst}
 use Rattle.std.specs.Prelude.{option_to_list}
 use Rattle.pdu.specs.declared.pdv.Pdv.{Pdv}
 use Rattle.dimse.specs.declared.fault.DimseFault.{DimseFault}
