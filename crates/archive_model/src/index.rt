@@ -65,7 +65,8 @@ fn names_under(title: Title, uid: &[u8], note: &Option<Note>) -> bool
 {
     match note {
         None => false,
-        Some(note) => title_code(note.title) == title_code(title) && is_among(note.covers.as_slice(), uid),
+        Some(note) => title_code(note.title) == title_code(title)
+            && is_among(note.covers.as_slice(), uid),
     }
 }
 
