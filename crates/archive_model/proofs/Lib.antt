@@ -1,3 +1,5 @@
+pub mod AuditLaws
 pub mod Latest
 pub mod MemberLaws
 pub mod ModelLaws
+pub mod CoercionLaws

@@ -3,7 +3,7 @@ use Rattle.std.proofs.Common.{◌≡◌, ℕ, List, [], ◌∷◌, Bool, true, f
 use Rattle.std.specs.Prelude.{◌↔◌, ◌&&◌, ◌||◌, nat_eq}
 use Rattle.std.proofs.lemmas.Bool.{false≢true}
 use Rattle.std.specs.List.{filter, filter_map, cons_option, find, list_any, list_all}
-use Rattle.archive_model.specs.Members.{Has}
+use Rattle.octets.specs.Members.{Has}
 
 and_first : (a b : Bool) → (a && b) ≡ true → a ≡ true
 and_first true b e = refl

@@ -20,15 +20,16 @@ use Rattle.operation.specs.declared.op.Op.TheVariants.{Content as a_content, Cor
 use Rattle.operation.specs.Parts.{ContentParts, CorrectionParts}
 use Rattle.operation.specs.Spelling.{digest_of}
 use Rattle.archive_model.specs.declared.view.View.{View}
-use Rattle.archive_model.specs.Texts.{same, text_cmp, put, ascending}
+use Rattle.octets.specs.Texts.{same, text_cmp, put, ascending}
 use Rattle.archive_model.specs.View.{hides}
 use Rattle.archive_model.specs.Contents.{content_in, contents, contents_of, is_of_instance, pick, flagged, is_flagged, instances}
 use Rattle.archive_model.specs.Covered.{is_among, covers, is_covered, is_hiding}
 use Rattle.archive_model.specs.Shown.{shown, shown_at, unless_hiding}
 use Rattle.archive_model.specs.Groups.{is_of_study, is_of_series, first_of}
 use Rattle.archive_model.specs.Attributes.{correction_cmp, is_last, greatest}
-use Rattle.archive_model.specs.Members.{Has}
-use Rattle.archive_model.specs.Laws.{Ascend, IsNotAfter, GreatestIsLast, SomeHaveGreatest, LastHaveOneValue, PickIsContent, PickIsLeast, ContentsHavePick, CoveredIsNamed, ShownArePicks, FlaggedHaveTwo, AscendingIsSorted, AscendingHasAll, ShownAscend, IsLeastOf, StudyRepresentativeIsLeast, SeriesRepresentativeIsLeast}
+use Rattle.octets.specs.Members.{Has}
+use Rattle.archive_model.specs.Laws.{Ascend, IsNotAfter, GreatestIsLast, SomeHaveGreatest, LastHaveOneValue, PickIsContent, PickIsLeast, ContentsHavePick, CoveredIsNamed, ShownArePicks, FlaggedHaveTwo, ShownAscend, IsLeastOf, StudyRepresentativeIsLeast, SeriesRepresentativeIsLeast}
+use Rattle.octets.proofs.TextLemmas.{in_ascending, ascending_sorted}
 use Rattle.archive_model.proofs.MemberLaws.{has_all, found_has, none_has, any_has, has_any, has_filter, filter_has, has_map, map_has, has_filter_map, filter_map_has}
 use Rattle.archive_model.proofs.Latest.{correction_total, latest_from, latest_is_greatest, from_latest}
 
@@ -148,79 +149,10 @@ covered_is_named view ops uid = (
   λ w. has_any (λ (c : ContentParts). covers view uid c.note) (contents ops) w.0 w.2 (ap (covers view uid) w.3 ∙ true_and (hides view w.1.title) (is_among w.1.covers uid) w.4 (has_among w.1.covers uid w.5)),
 )
 
--- ---- texts in order
-
-put_part : (t u x : List ℕ) (us : List (List ℕ)) (r : Ordering) → (Has (put t us) x → (x ≡ t) ⊎ Has us x) → Has (match_ordering r (t ∷ u ∷ us) (u ∷ us) (u ∷ put t us)) x → (x ≡ t) ⊎ Has (u ∷ us) x
-put_part t u x us Less more h = h
-put_part t u x us Equal more h = inr h
-put_part t u x us Greater more (inl s) = inr (inl s)
-put_part t u x us Greater more (inr h) = elim (more h) as (λ _. (x ≡ t) ⊎ Has (u ∷ us) x) [ inl e ↦ inl e | inr k ↦ inr (inr k) ]
-
-put_has : (t : List ℕ) (us : List (List ℕ)) (x : List ℕ) → Has (put t us) x → (x ≡ t) ⊎ Has us x
-put_has t [] x h = h
-put_has t (u ∷ us) x h = put_part t u x us (text_cmp t u) (put_has t us x) h
-
-part_put : (t u x : List ℕ) (us : List (List ℕ)) (r : Ordering) → text_cmp t u ≡ r → ((x ≡ t) ⊎ Has us x → Has (put t us) x) → (x ≡ t) ⊎ Has (u ∷ us) x → Has (match_ordering r (t ∷ u ∷ us) (u ∷ us) (u ∷ put t us)) x
-part_put t u x us Less is more h = h
-part_put t u x us Equal is more (inl e) = inl (e ∙ text_tie t u is)
-part_put t u x us Equal is more (inr h) = h
-part_put t u x us Greater is more (inl e) = inr (more (inl e))
-part_put t u x us Greater is more (inr (inl s)) = inl s
-part_put t u x us Greater is more (inr (inr k)) = inr (more (inr k))
-
-has_put : (t : List ℕ) (us : List (List ℕ)) (x : List ℕ) → (x ≡ t) ⊎ Has us x → Has (put t us) x
-has_put t [] x h = h
-has_put t (u ∷ us) x h = part_put t u x us (text_cmp t u) refl (has_put t us x) h
-
-pub has_ascending : (ts : List (List ℕ)) (x : List ℕ) → Has ts x → Has (ascending ts) x
-has_ascending [] x h = h
-has_ascending (t ∷ ts) x (inl e) = has_put t (ascending ts) x (inl e)
-has_ascending (t ∷ ts) x (inr h) = has_put t (ascending ts) x (inr (has_ascending ts x h))
-
-behind_first : (t : List ℕ) (ts : List (List ℕ)) (x : List ℕ) → (Has (ascending ts) x → Has ts x) → (x ≡ t) ⊎ Has (ascending ts) x → (x ≡ t) ⊎ Has ts x
-behind_first t ts x more (inl e) = inl e
-behind_first t ts x more (inr h) = inr (more h)
-
-pub ascending_has : (ts : List (List ℕ)) (x : List ℕ) → Has (ascending ts) x → Has ts x
-ascending_has [] x h = h
-ascending_has (t ∷ ts) x h = behind_first t ts x (ascending_has ts x) (put_has t (ascending ts) x h)
-
-pub ascending_has_all : AscendingHasAll
-ascending_has_all ts x = (ascending_has ts x, has_ascending ts x)
-
-all_match : (P : List ℕ → Type 0) (t u : List ℕ) (us : List (List ℕ)) (r : Ordering) → P t → P u → AllByRecursion P us → AllByRecursion P (put t us) → AllByRecursion P (match_ordering r (t ∷ u ∷ us) (u ∷ us) (u ∷ put t us))
-all_match P t u us Less p q all more = (p, (q, all))
-all_match P t u us Equal p q all more = (q, all)
-all_match P t u us Greater p q all more = (q, more)
-
-all_put : (P : List ℕ → Type 0) (t : List ℕ) (us : List (List ℕ)) → P t → AllByRecursion P us → AllByRecursion P (put t us)
-all_put P t [] p all = (p, tt)
-all_put P t (u ∷ us) p all = all_match P t u us (text_cmp t u) p all.0 all.1 (all_put P t us p all.1)
-
-all_below : (t u : List ℕ) (us : List (List ℕ)) → text_cmp t u ≡ Less → AllByRecursion (λ y. text_cmp u y ≡ Less) us → AllByRecursion (λ y. text_cmp t y ≡ Less) us
-all_below t u [] less all = tt
-all_below t u (x ∷ us) less all = (nat_list_cmp_total.trans t u x less all.0, all_below t u us less all.1)
-
-sorted_match : (t u : List ℕ) (us : List (List ℕ)) (r : Ordering) → text_cmp t u ≡ r → IsStrictlySortedBy text_cmp (u ∷ us) → IsStrictlySortedBy text_cmp (put t us) → IsStrictlySortedBy text_cmp (match_ordering r (t ∷ u ∷ us) (u ∷ us) (u ∷ put t us))
-unfolding IsStrictlySortedBy
-sorted_match t u us Less is up more = ((is, all_below t u us is up.0), up)
-sorted_match t u us Equal is up more = up
-sorted_match t u us Greater is up more = (all_put (λ y. text_cmp u y ≡ Less) t us (nat_list_cmp_total.antisymm u t ∙ ap ordering_reverse is) up.0, more)
-
-sorted_put : (t : List ℕ) (us : List (List ℕ)) → IsStrictlySortedBy text_cmp us → IsStrictlySortedBy text_cmp (put t us)
-unfolding IsStrictlySortedBy
-sorted_put t [] up = (tt, tt)
-sorted_put t (u ∷ us) up = sorted_match t u us (text_cmp t u) refl up (sorted_put t us up.1)
-
-pub ascending_is_sorted : AscendingIsSorted
-unfolding IsStrictlySortedBy
-ascending_is_sorted [] = tt
-ascending_is_sorted (t ∷ ts) = sorted_put t (ascending ts) (ascending_is_sorted ts)
-
 -- ---- what is shown, and what is flagged
 
 instance_has : (ops : List Op) (c : ContentParts) → Has (contents ops) c → Has (instances ops) c.instance
-instance_has ops c has = has_ascending (map (λ (x : ContentParts). x.instance) (contents ops)) c.instance (has_map (λ (x : ContentParts). x.instance) (contents ops) c has)
+instance_has ops c has = in_ascending c.instance (map (λ (x : ContentParts). x.instance) (contents ops)) (has_map (λ (x : ContentParts). x.instance) (contents ops) c has)
 
 unless_is : (view : View) (x c : ContentParts) (b : Bool) → is_hiding view x.note ≡ b → (if b then None else Some x) ≡ Some c → (x ≡ c) × (is_hiding view c.note ≡ false)
 unless_is view x c true is e = absurd cc
@@ -323,7 +255,7 @@ mapped_sorted f [] of up = tt
 mapped_sorted f (u ∷ us) of up = given_sorted u (filter_map f us) (f u) (of u) (mapped_all (λ y. text_cmp u y ≡ Less) f us of up.0) (mapped_sorted f us of up.1)
 
 pub shown_ascend : ShownAscend
-shown_ascend view ops = mapped_sorted (shown_at view ops) (instances ops) (shown_instance view ops) (ascending_is_sorted (map (λ (c : ContentParts). c.instance) (contents ops)))
+shown_ascend view ops = mapped_sorted (shown_at view ops) (instances ops) (shown_instance view ops) (ascending_sorted (map (λ (c : ContentParts). c.instance) (contents ops)))
 
 first_least : (p : ContentParts → Bool) (x c d : ContentParts) (cs : List ContentParts) (b : Bool) → AllByRecursion (λ y. text_cmp x.instance y ≡ Less) (inst_of cs)
     → (first_of (filter p cs) ≡ Some c → Has (filter p cs) d → is_le (text_cmp c.instance d.instance) ≡ true)

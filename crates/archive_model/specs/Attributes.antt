@@ -6,10 +6,10 @@ use Rattle.std.specs.declared.cmp.Ordering.{Ordering}
 use Rattle.operation.specs.declared.op.Op.{Op}
 use Rattle.operation.specs.declared.op.Op.TheVariants.{Content as a_content, Correction as a_correction}
 use Rattle.operation.specs.declared.target.Target.{Target}
-use Rattle.operation.specs.declared.target.Target.TheVariants.{Study, Patient}
+use Rattle.operation.specs.declared.target.Target.TheVariants.{Study, Patient, Series}
 use Rattle.operation.specs.Parts.{ContentParts, CorrectionParts, own_value}
-use Rattle.archive_model.specs.Texts.{same, text_cmp}
-use Rattle.archive_model.specs.Contents.{study_of, patient_of}
+use Rattle.octets.specs.Texts.{same, text_cmp}
+use Rattle.archive_model.specs.Contents.{study_of, series_of, patient_of}
 
 abbrev pub correction_in : Op → Option CorrectionParts
 correction_in (a_content c) = None
@@ -19,10 +19,11 @@ correction_in (a_correction k) = Some k
 abbrev pub corrections : List Op → List CorrectionParts
 corrections ops = filter_map correction_in ops
 
--- whether a correction's target is a content's study or its stored Patient ID
+-- whether a correction's target is a content's study, its stored Patient ID or its series
 abbrev pub is_target_of : ContentParts → Target → Bool
 is_target_of c (Study key) = same (study_of c) key
 is_target_of c (Patient key) = same (patient_of c) key
+is_target_of c (Series key) = same (series_of c) key
 
 -- whether a correction is one of an attribute of a content
 abbrev pub corrects : ContentParts → ℕ → CorrectionParts → Bool

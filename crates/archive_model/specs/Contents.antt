@@ -1,10 +1,11 @@
 -- The contents of a set of operations. In specs the set is the list of its operations, ascending by digest.
 use Rattle.std.specs.Prelude.{ℕ, List, [], ◌∷◌, Option, Some, None, Bool, nat_lt, map, length}
 use Rattle.std.specs.List.{filter, filter_map, find}
+use Rattle.dictionary.specs.declared.elements.TheConstants.{MODALITY, PATIENT_ID, SERIES_INSTANCE_UID, STUDY_INSTANCE_UID}
 use Rattle.operation.specs.declared.op.Op.{Op}
 use Rattle.operation.specs.declared.op.Op.TheVariants.{Content as a_content, Correction as a_correction}
 use Rattle.operation.specs.Parts.{ContentParts, CorrectionParts, own_value}
-use Rattle.archive_model.specs.Texts.{same, ascending}
+use Rattle.octets.specs.Texts.{same, ascending}
 
 abbrev pub content_in : Op → Option ContentParts
 content_in (a_content c) = Some c
@@ -40,16 +41,16 @@ flagged ops = filter (is_flagged ops) (instances ops)
 
 -- (0020,000D) Study Instance UID
 abbrev pub study_of : ContentParts → List ℕ
-study_of c = own_value c 0x0020_000d
+study_of c = own_value c STUDY_INSTANCE_UID
 
 -- (0020,000E) Series Instance UID
 abbrev pub series_of : ContentParts → List ℕ
-series_of c = own_value c 0x0020_000e
+series_of c = own_value c SERIES_INSTANCE_UID
 
 -- (0010,0020) Patient ID, as stored
 abbrev pub patient_of : ContentParts → List ℕ
-patient_of c = own_value c 0x0010_0020
+patient_of c = own_value c PATIENT_ID
 
 -- (0008,0060) Modality
 abbrev pub modality_of : ContentParts → List ℕ
-modality_of c = own_value c 0x0008_0060
+modality_of c = own_value c MODALITY

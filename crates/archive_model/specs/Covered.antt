@@ -3,7 +3,7 @@ use Rattle.std.specs.Prelude.{ℕ, List, Option, Some, None, Bool, false, ◌&&�
 use Rattle.std.specs.List.{list_any}
 use Rattle.rejection_note.specs.declared.note.Note.{Note}
 use Rattle.operation.specs.declared.op.Op.{Op}
-use Rattle.archive_model.specs.Texts.{same}
+use Rattle.octets.specs.Texts.{same}
 use Rattle.archive_model.specs.View.{hides}
 use Rattle.archive_model.specs.Contents.{contents}
 use Rattle.archive_model.specs.declared.view.View.{View}

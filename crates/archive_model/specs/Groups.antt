@@ -2,7 +2,7 @@
 use Rattle.std.specs.Prelude.{ℕ, List, [], ◌∷◌, Option, Some, None, Bool, ◌&&◌, ◌==◌, not, map, length}
 use Rattle.std.specs.List.{filter}
 use Rattle.operation.specs.Parts.{ContentParts}
-use Rattle.archive_model.specs.Texts.{same, ascending}
+use Rattle.octets.specs.Texts.{same, ascending}
 use Rattle.archive_model.specs.Contents.{study_of, series_of, modality_of}
 
 abbrev pub is_of_study : List ℕ → ContentParts → Bool

@@ -9,10 +9,10 @@ use Rattle.rejection_note.specs.declared.title.Title.TheVariants.{Quality, Safet
 use Rattle.operation.specs.declared.op.Op.{Op}
 use Rattle.operation.specs.declared.op.Op.TheVariants.{Content as a_content, Correction as a_correction}
 use Rattle.operation.specs.declared.target.Target.{Target}
-use Rattle.operation.specs.declared.target.Target.TheVariants.{Study, Patient}
+use Rattle.operation.specs.declared.target.Target.TheVariants.{Study, Patient, Series}
 use Rattle.operation.specs.Parts.{ContentParts, CorrectionParts}
 use Rattle.operation.specs.Spelling.{digest_of}
-use Rattle.archive_model.specs.Texts.{same}
+use Rattle.octets.specs.Texts.{same}
 use Rattle.archive_model.specs.View.{hides}
 use Rattle.archive_model.specs.Contents.{contents, pick}
 use Rattle.archive_model.specs.Covered.{is_among, is_covered}
@@ -32,7 +32,7 @@ is_content_of uid (a_correction k) = false
 abbrev pub copies : List ℕ → List Op → List (List ℕ)
 copies uid ops = map digest_of (filter (is_content_of uid) ops)
 
--- the code of a title (PS3.16, CID 7011)
+-- the code of a title (PS3.16, CID 7010)
 abbrev pub code_of : Title → ℕ
 code_of Quality = 113001
 code_of Safety = 113037
@@ -52,8 +52,8 @@ is_titled ops uid title = list_any (λ c. names_under title uid c.note) (content
 abbrev pub is_same_target : Target → Target → Bool
 is_same_target (Study a) (Study b) = same a b
 is_same_target (Patient a) (Patient b) = same a b
-is_same_target (Study a) (Patient b) = false
-is_same_target (Patient a) (Study b) = false
+is_same_target (Series a) (Series b) = same a b
+is_same_target _ _ = false
 
 -- whether a correction is one of this target and tag
 abbrev pub is_fix : Target → ℕ → CorrectionParts → Bool

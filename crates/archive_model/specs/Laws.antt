@@ -8,14 +8,15 @@ use Rattle.operation.specs.declared.op.Op.TheVariants.{Content as a_content}
 use Rattle.operation.specs.Parts.{ContentParts, CorrectionParts}
 use Rattle.operation.specs.Spelling.{digest_of}
 use Rattle.archive_model.specs.declared.view.View.{View}
-use Rattle.archive_model.specs.Texts.{text_cmp, ascending}
+use Rattle.archive_model.specs.declared.view.View.TheVariants.{Audit}
+use Rattle.octets.specs.Texts.{text_cmp}
 use Rattle.archive_model.specs.View.{hides}
 use Rattle.archive_model.specs.Contents.{contents, contents_of, pick, flagged}
 use Rattle.archive_model.specs.Covered.{is_covered, is_hiding}
 use Rattle.archive_model.specs.Shown.{shown}
 use Rattle.archive_model.specs.Groups.{in_study, in_series, study_representative, series_representative}
 use Rattle.archive_model.specs.Attributes.{correction_cmp, greatest}
-use Rattle.archive_model.specs.Members.{Has}
+use Rattle.octets.specs.Members.{Has}
 
 -- the operations ascend by digest
 abbrev pub Ascend : List Op → Type 0
@@ -60,17 +61,17 @@ abbrev pub ShownArePicks : Type 0
 ShownArePicks = (view : View) (ops : List Op) (c : ContentParts) → Has (shown view ops) c
     ↔ ((pick c.instance ops ≡ Some c) × (is_covered view ops c.instance ≡ false) × (is_hiding view c.note ≡ false))
 
+-- in an audit no UID is covered
+abbrev pub AuditCoversNothing : Type 0
+AuditCoversNothing = (ops : List Op) (uid : List ℕ) → is_covered Audit ops uid ≡ false
+
+-- and every pick is shown, a rejected image and a note as any other
+abbrev pub AuditShowsPicks : Type 0
+AuditShowsPicks = (ops : List Op) (c : ContentParts) → Has (shown Audit ops) c ↔ (pick c.instance ops ≡ Some c)
+
 -- the flagged UIDs are those with two contents or more
 abbrev pub FlaggedHaveTwo : Type 0
 FlaggedHaveTwo = (ops : List Op) (uid : List ℕ) → Has (flagged ops) uid ↔ (1 < length (contents_of uid ops))
-
--- texts are put in order
-abbrev pub AscendingIsSorted : Type 0
-AscendingIsSorted = (texts : List (List ℕ)) → IsStrictlySortedBy text_cmp (ascending texts)
-
--- and stay the same
-abbrev pub AscendingHasAll : Type 0
-AscendingHasAll = (texts : List (List ℕ)) (text : List ℕ) → Has (ascending texts) text ↔ Has texts text
 
 -- what is shown ascends by SOP Instance UID
 abbrev pub ShownAscend : Type 0

@@ -8,3 +8,4 @@ pub mod Attributes
 pub mod Index
 pub mod Members
 pub mod Laws
+pub mod Coercion

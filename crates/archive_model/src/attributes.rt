@@ -5,7 +5,7 @@ ghost use Rattle.std.specs.List.{filter};
 ghost use Rattle.std.specs.Option.{option_copied};
 ghost use Rattle.archive_model.specs.Attributes.{correction_in, corrections, is_target_of as is_target_of_in, corrects as corrects_in, correction_cmp, correction_for as correction_for_in, attribute as attribute_in, later_of};
 
-use crate::keys::{patient, study};
+use crate::keys::{patient, series, study};
 use operation::{Content, Correction, Op, Target};
 use std::cmp::Ordering;
 
@@ -19,13 +19,14 @@ pub fn correction(op: &Op) -> Option<&Correction>
     }
 }
 
-/// Whether a correction's target is a content's study or its stored Patient ID.
+/// Whether a correction's target is a content's study, its stored Patient ID or its series.
 fn is_target_of(content: &Content, target: &Target) -> bool
     ensures { result ≡ is_target_of_in content.now target.now }
 {
     match target {
         Target::Study(key) => study(content) == key.as_slice(),
         Target::Patient(key) => patient(content) == key.as_slice(),
+        Target::Series(key) => series(content) == key.as_slice(),
     }
 }
 

@@ -49,7 +49,7 @@ pub fn copies(alloc: Global, ops: &[&Op], uid: &[u8]) -> Result<Vec<Digest>, All
 }
 
 /// The code of a title (PS3.16, CID 7011).
-fn code(title: Title) -> u32
+pub fn title_code(title: Title) -> u32
     ensures { result ≡ code_of title }
 {
     match title {
@@ -65,7 +65,8 @@ fn names_under(title: Title, uid: &[u8], note: &Option<Note>) -> bool
 {
     match note {
         None => false,
-        Some(note) => code(note.title) == code(title) && is_among(note.covers.as_slice(), uid),
+        Some(note) => title_code(note.title) == title_code(title)
+            && is_among(note.covers.as_slice(), uid),
     }
 }
 
@@ -89,8 +90,10 @@ fn is_same_target(this: &Target, other: &Target) -> bool
     match (this, other) {
         (Target::Study(a), Target::Study(b)) => a.as_slice() == b.as_slice(),
         (Target::Patient(a), Target::Patient(b)) => a.as_slice() == b.as_slice(),
-        (Target::Study(_), Target::Patient(_)) => false,
-        (Target::Patient(_), Target::Study(_)) => false,
+        (Target::Series(a), Target::Series(b)) => a.as_slice() == b.as_slice(),
+        (Target::Study(_), Target::Patient(_) | Target::Series(_)) => false,
+        (Target::Patient(_), Target::Study(_) | Target::Series(_)) => false,
+        (Target::Series(_), Target::Study(_) | Target::Patient(_)) => false,
     }
 }
 

@@ -3,19 +3,8 @@
 ghost use Rattle.std.specs.Prelude.{◌≡◌};
 ghost use Rattle.archive_model.specs.Contents.{study_of, series_of, patient_of, modality_of};
 
+use dictionary::{MODALITY, PATIENT_ID, SERIES_INSTANCE_UID, STUDY_INSTANCE_UID};
 use operation::Content;
-
-/// (0008,0060) Modality
-pub const MODALITY: u32 = 0x0008_0060;
-
-/// (0010,0020) Patient ID
-pub const PATIENT_ID: u32 = 0x0010_0020;
-
-/// (0020,000D) Study Instance UID
-pub const STUDY_INSTANCE_UID: u32 = 0x0020_000d;
-
-/// (0020,000E) Series Instance UID
-pub const SERIES_INSTANCE_UID: u32 = 0x0020_000e;
 
 /// The study of a content.
 pub fn study(content: &Content) -> &[u8]

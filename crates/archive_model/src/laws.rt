@@ -1,7 +1,8 @@
 //! What the definitions mean: laws, said as contracts of functions with nothing to do.
 
-ghost use Rattle.archive_model.specs.Laws.{GreatestIsLast, SomeHaveGreatest, LastHaveOneValue, PickIsContent, PickIsLeast, ContentsHavePick, CoveredIsNamed, ShownArePicks, FlaggedHaveTwo, AscendingIsSorted, AscendingHasAll, ShownAscend, StudyRepresentativeIsLeast, SeriesRepresentativeIsLeast};
+ghost use Rattle.archive_model.specs.Laws.{GreatestIsLast, SomeHaveGreatest, LastHaveOneValue, PickIsContent, PickIsLeast, ContentsHavePick, CoveredIsNamed, ShownArePicks, AuditCoversNothing, AuditShowsPicks, FlaggedHaveTwo, ShownAscend, StudyRepresentativeIsLeast, SeriesRepresentativeIsLeast};
 ghost use Rattle.archive_model.specs.Index.{CoveredByTitles};
+ghost use Rattle.archive_model.specs.Coercion.{CoercedHasAttributes, CoercedKeepsOthers, OwnIsNotCoerced};
 
 /// The greatest of some corrections is one of them that none comes after, by counter, site and
 /// value.
@@ -28,6 +29,12 @@ pub fn what_is_shown_is_picked_and_uncovered()
     ensures { ShownArePicks }
 {}
 
+/// In an audit nothing is covered, and every pick is shown.
+pub fn an_audit_shows_every_pick()
+    ensures covered { AuditCoversNothing }
+    ensures shown { AuditShowsPicks }
+{}
+
 /// What is shown ascends by SOP Instance UID, so the representative of a study, or of a series of a
 /// study, is its shown content of least UID.
 pub fn representatives_have_the_least_uid()
@@ -41,13 +48,15 @@ pub fn what_is_flagged_has_two_contents()
     ensures { FlaggedHaveTwo }
 {}
 
-/// Texts are put in the order of their bytes, and each stays once.
-pub fn ascending_texts_are_the_same_in_order()
-    ensures sorted { AscendingIsSorted }
-    ensures all { AscendingHasAll }
-{}
-
 /// A UID is covered in a view where it is named under a title that hides there.
 pub fn titles_say_what_is_covered()
     ensures { CoveredByTitles }
+{}
+
+/// A coerced data set has the attributes that corrections give a content, and every other value as
+/// it was stored.
+pub fn coercion_puts_in_what_differs()
+    ensures attributes { CoercedHasAttributes }
+    ensures others { CoercedKeepsOthers }
+    ensures own { OwnIsNotCoerced }
 {}

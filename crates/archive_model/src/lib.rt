@@ -7,6 +7,7 @@
 #![tactic(auto)]
 
 mod attributes;
+mod coercion;
 mod covers;
 mod groups;
 mod index;
@@ -18,15 +19,16 @@ mod texts;
 mod view;
 
 pub use attributes::{attribute, compare, correction, correction_for, corrects};
+pub use coercion::{coerced, is_coerced, stored};
 pub use covers::{is_among, is_covered, is_hiding};
 pub use groups::{
     in_series, in_study, instances_of_series, instances_of_study, modalities_of_study, series_in,
     series_of_study, series_representative, studies, study_representative,
 };
-pub use index::{copies, fix, is_titled, pick_digest};
+pub use index::{copies, fix, is_titled, pick_digest, title_code};
 pub use keys::{modality, patient, series, study};
 pub use laws::{
-    ascending_texts_are_the_same_in_order, representatives_have_the_least_uid,
+    an_audit_shows_every_pick, coercion_puts_in_what_differs, representatives_have_the_least_uid,
     the_greatest_correction_is_last, the_pick_has_the_least_digest, titles_say_what_is_covered,
     what_a_note_names_is_covered, what_is_flagged_has_two_contents,
     what_is_shown_is_picked_and_uncovered,

@@ -1,7 +1,7 @@
 //! Texts in the order of their bytes.
 
 ghost use Rattle.std.specs.Prelude.{◌≡◌, List, ℕ, OnOk, IfOk, map};
-ghost use Rattle.archive_model.specs.Texts.{put as put_in, ascending as ascending_of};
+ghost use Rattle.octets.specs.Texts.{put as put_in, ascending as ascending_of};
 
 use octets::Octets;
 use std::alloc::{AllocError, Global};

@@ -12,6 +12,8 @@ pub enum View {
     Archive,
     /// Notes of every title but 113001, Rejected for Quality Reasons, hide.
     Quality,
+    /// Nothing hides: every pick is shown, notes too.
+    Audit,
 }
 
 /// Whether notes of a title hide in a view.
@@ -25,5 +27,7 @@ pub fn hides(view: View, title: Title) -> bool
         (View::Quality, Title::Safety) => true,
         (View::Quality, Title::Worklist) => true,
         (View::Quality, Title::Expired) => true,
+
+        (View::Audit, _) => false,
     }
 }

@@ -4,6 +4,7 @@ use Rattle.std.specs.Prelude.{◌==◌, if◌then◌else◌, is_some}
 use Rattle.std.specs.List.{filter, filter_map, cons_option, list_all, join_with_byte}
 use Rattle.std.specs.Option.{option_map}
 use Rattle.std.specs.Fmt.{decimal}
+use Rattle.dictionary.specs.declared.elements.TheConstants.{MODALITIES_IN_STUDY, NUMBER_OF_SERIES_RELATED_INSTANCES, NUMBER_OF_STUDY_RELATED_INSTANCES, NUMBER_OF_STUDY_RELATED_SERIES, QUERY_RETRIEVE_LEVEL, RETRIEVE_AE_TITLE, SPECIFIC_CHARACTER_SET}
 use Rattle.data_set.specs.Tree.{Tree}
 use Rattle.data_set.specs.Set.{Set}
 use Rattle.data_set.specs.declared.syntax.Syntax.TheVariants.{Explicit}
@@ -13,7 +14,6 @@ use Rattle.archive_model.specs.Texts.{ascending}
 use Rattle.archive_model.specs.Contents.{series_of}
 use Rattle.archive_model.specs.Attributes.{correction_in, corrections, corrects, greatest, corrected, attribute}
 use Rattle.archive_query.specs.declared.asked.Asked.{Asked}
-use Rattle.archive_query.specs.declared.column.Column.{Column}
 use Rattle.archive_query.specs.declared.query.Query.{Query}
 use Rattle.archive_query.specs.Key.{word_of}
 use Rattle.key_matching.specs.Matches.{matches}
@@ -50,21 +50,21 @@ module _ (ops others : List Op) (same_corrections : corrections others ≡ corre
   value_alike : (called : List ℕ) (q : Query) (cs : List ContentParts) (c : ContentParts) (tag : ℕ) → value_in_row others called q cs c tag ≡ value_in_row ops called q cs c tag
   value_alike called q cs c tag =
       ap (λ (own : List ℕ).
-      if tag == 0x0008_0005 then value_at tag c.values
-      else if tag == 0x0008_0052 then Some (word_of q.level)
-      else if tag == 0x0008_0054 then Some called
+      if tag == SPECIFIC_CHARACTER_SET then value_at tag c.values
+      else if tag == QUERY_RETRIEVE_LEVEL then Some (word_of q.level)
+      else if tag == RETRIEVE_AE_TITLE then Some called
       else if is_unique_key tag then Some (own_value c tag)
       else if is_asked q tag then Some (
-      if tag == 0x0008_0061 then join_with_byte 0x5c (modalities_of cs)
-      else if tag == 0x0020_1206 then decimal (length (ascending (map series_of cs)))
-      else if tag == 0x0020_1208 || tag == 0x0020_1209 then decimal (length cs)
+      if tag == MODALITIES_IN_STUDY then join_with_byte 0x5c (modalities_of cs)
+      else if tag == NUMBER_OF_STUDY_RELATED_SERIES then decimal (length (ascending (map series_of cs)))
+      else if tag == NUMBER_OF_STUDY_RELATED_INSTANCES || tag == NUMBER_OF_SERIES_RELATED_INSTANCES then decimal (length cs)
       else own)
       else None) (attribute_alike c tag)
 
   row_alike : (called : List ℕ) (q : Query) (cs : List ContentParts) (c : ContentParts) → row others called q cs c ≡ row ops called q cs c
   row_alike called q cs c =
       ap (λ (ts : List Tree). record { syntax = Explicit; elements = ts })
-      (filter_map_each (cell_in_row others called q cs c) (cell_in_row ops called q cs c) (λ column. ap (option_map (cell column)) (value_alike called q cs c column.tag)) (columns q.level))
+      (filter_map_each (cell_in_row others called q cs c) (cell_in_row ops called q cs c) (λ tag. ap (option_map (cell tag)) (value_alike called q cs c tag)) (columns q.level))
 
   row_of_alike : (called : List ℕ) (q : Query) (cs : List ContentParts) → row_of others called q cs ≡ row_of ops called q cs
   row_of_alike called q [] = refl

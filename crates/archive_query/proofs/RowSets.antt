@@ -4,19 +4,20 @@ use Rattle.std.specs.List.{filter_map, cons_option}
 use Rattle.std.specs.Option.{option_map}
 use Rattle.std.specs.Prelude.{codes}
 use Rattle.std.proofs.lemmas.Bool.{ltb-true, leb-true, lt-ltb}
+use Rattle.dictionary.specs.Elements.{vr_in_table}
 use Rattle.data_set.specs.declared.syntax.Syntax.TheVariants.{Explicit}
 use Rattle.data_set.specs.Tree.{Tree, leaf, trees_of, tag_of}
 use Rattle.data_set.specs.Tags.{is_item_tag, is_reserved_group, is_above}
+use Rattle.data_set.specs.Values.{pad_of, padded}
 use Rattle.data_set.specs.Vr.{is_short, is_name, has_bad_vr, inner_syntax, is_undefined, undefined_length}
 use Rattle.data_set.specs.Header.{offence}
 use Rattle.data_set.specs.Texts.{deepest}
 use Rattle.data_set.specs.Spelling.{FitsHead, SuitsSyntax}
 use Rattle.data_set.specs.Written.{MayStand, IsTree, AreTrees, IsSet}
-use Rattle.archive_query.specs.declared.column.Column.{Column}
 use Rattle.archive_query.specs.declared.key.Level.{Level}
 use Rattle.archive_query.specs.declared.key.Level.TheVariants.{Study, Series, Image}
 use Rattle.archive_query.specs.Column.{columns}
-use Rattle.archive_query.specs.Cell.{longest, fitting, padding_of, padded, cell}
+use Rattle.archive_query.specs.Cell.{longest, fitting, cell}
 
 -- ---- columns in order, each of which holds a value
 
@@ -24,15 +25,15 @@ abbrev is_vr : ℕ → List ℕ → Bool
 is_vr tag (a ∷ b ∷ []) = is_short a b && (not (has_bad_vr tag (Some (a ∷ b ∷ []))) && (not (is_name a b (codes "SQ")) && not (is_name a b (codes "UN"))))
 is_vr tag _ = false
 
-abbrev is_fine : Column → Bool
-is_fine column = nat_lt column.tag 4294967296 && (not (is_item_tag column.tag) && (not (is_reserved_group column.tag) && is_vr column.tag column.vr))
+abbrev is_fine : ℕ → Bool
+is_fine tag = nat_lt tag 4294967296 && (not (is_item_tag tag) && (not (is_reserved_group tag) && is_vr tag (vr_in_table tag)))
 
-abbrev ascend : Option ℕ → List Column → Bool
+abbrev ascend : Option ℕ → List ℕ → Bool
 ascend previous [] = true
-ascend previous (x ∷ xs) = is_above previous x.tag && (is_fine x && ascend (Some x.tag) xs)
+ascend previous (x ∷ xs) = is_above previous x && (is_fine x && ascend (Some x) xs)
 
 columns_ascend : (level : Level) → ascend None (columns level) ≡ true
-unfolding is_short
+unfolding is_short vr_in_table
 columns_ascend Study = refl
 columns_ascend Series = refl
 columns_ascend Image = refl
@@ -51,7 +52,7 @@ padded_by true value p h = omega arith
 padded_by false value p h = omega (arith, length-append value (p ∷ []))
 
 padded_is_short : (vr value : List ℕ) → length value ≤ 65534 → length (padded vr value) < 65536
-padded_is_short vr value h = padded_by (length value % 2 == 0) value (padding_of vr) h
+padded_is_short vr value h = padded_by (length value % 2 == 0) value (pad_of vr) h
 
 -- ---- one element
 
@@ -102,39 +103,39 @@ above_both : (previous : Option ℕ) (tag next : ℕ) → is_above previous tag 
 above_both None tag next g h = refl
 above_both (Some p) tag next g h = lt-ltb p next (omega (arith, ltb-true p tag g, ltb-true tag next h))
 
-weaken : (previous : Option ℕ) (tag : ℕ) (xs : List Column) → is_above previous tag ≡ true → ascend (Some tag) xs ≡ true → ascend previous xs ≡ true
+weaken : (previous : Option ℕ) (tag : ℕ) (xs : List ℕ) → is_above previous tag ≡ true → ascend (Some tag) xs ≡ true → ascend previous xs ≡ true
 weaken previous tag [] above up = refl
 weaken previous tag (y ∷ ys) above up =
-    and_both (is_above previous y.tag) _ (above_both previous tag y.tag above (left (is_above (Some tag) y.tag) _ up)) (right (is_above (Some tag) y.tag) _ up)
+    and_both (is_above previous y) _ (above_both previous tag y above (left (is_above (Some tag) y) _ up)) (right (is_above (Some tag) y) _ up)
 
-cell_is : (previous : Option ℕ) (x : Column) (value : List ℕ) → is_above previous x.tag ≡ true → is_fine x ≡ true → IsTree (cell x value) deepest Explicit previous
+cell_is : (previous : Option ℕ) (x : ℕ) (value : List ℕ) → is_above previous x ≡ true → is_fine x ≡ true → IsTree (cell x value) deepest Explicit previous
 unfolding cell
 cell_is previous x value above fine =
-    let rest = right (nat_lt x.tag 4294967296) _ fine in
-    let more = right (not (is_item_tag x.tag)) _ rest in
-    may_stand previous x.tag x.vr (length (padded x.vr (fitting value))) above
-    (left (nat_lt x.tag 4294967296) _ fine)
-    (off (is_item_tag x.tag) (left (not (is_item_tag x.tag)) _ rest))
-    (off (is_reserved_group x.tag) (left (not (is_reserved_group x.tag)) _ more))
-    (right (not (is_reserved_group x.tag)) _ more)
-    (padded_is_short x.vr (fitting value) (fitting_is_short value))
+    let rest = right (nat_lt x 4294967296) _ fine in
+    let more = right (not (is_item_tag x)) _ rest in
+    may_stand previous x (vr_in_table x) (length (padded (vr_in_table x) (fitting value))) above
+    (left (nat_lt x 4294967296) _ fine)
+    (off (is_item_tag x) (left (not (is_item_tag x)) _ rest))
+    (off (is_reserved_group x) (left (not (is_reserved_group x)) _ more))
+    (right (not (is_reserved_group x)) _ more)
+    (padded_is_short (vr_in_table x) (fitting value) (fitting_is_short value))
 
-one_more : (o : Option (List ℕ)) (previous : Option ℕ) (x : Column) (ts : List Tree) → is_above previous x.tag ≡ true → is_fine x ≡ true → AreTrees (trees_of ts) deepest Explicit previous → AreTrees (trees_of ts) deepest Explicit (Some x.tag) → AreTrees (trees_of (cons_option (option_map (cell x) o) ts)) deepest Explicit previous
+one_more : (o : Option (List ℕ)) (previous : Option ℕ) (x : ℕ) (ts : List Tree) → is_above previous x ≡ true → is_fine x ≡ true → AreTrees (trees_of ts) deepest Explicit previous → AreTrees (trees_of ts) deepest Explicit (Some x) → AreTrees (trees_of (cons_option (option_map (cell x) o) ts)) deepest Explicit previous
 unfolding cell
 one_more None previous x ts above fine without behind = without
 one_more (Some value) previous x ts above fine without behind = (cell_is previous x value above fine, behind)
 
-cells_are : (f : Column → Option (List ℕ)) (previous : Option ℕ) (xs : List Column) → ascend previous xs ≡ true → AreTrees (trees_of (filter_map (λ x. option_map (cell x) (f x)) xs)) deepest Explicit previous
+cells_are : (f : ℕ → Option (List ℕ)) (previous : Option ℕ) (xs : List ℕ) → ascend previous xs ≡ true → AreTrees (trees_of (filter_map (λ x. option_map (cell x) (f x)) xs)) deepest Explicit previous
 cells_are f previous [] up = tt
 cells_are f previous (x ∷ xs) up =
-    let above = left (is_above previous x.tag) _ up in
-    let rest = right (is_above previous x.tag) _ up in
+    let above = left (is_above previous x) _ up in
+    let rest = right (is_above previous x) _ up in
     let later = right (is_fine x) _ rest in
     one_more (f x) previous x (filter_map (λ x. option_map (cell x) (f x)) xs) above (left (is_fine x) _ rest)
-    (cells_are f previous xs (weaken previous x.tag xs above later))
-    (cells_are f (Some x.tag) xs later)
+    (cells_are f previous xs (weaken previous x xs above later))
+    (cells_are f (Some x) xs later)
 
 -- The elements of a row are those of a data set.
-pub row_is_set : (f : Column → Option (List ℕ)) (level : Level) → IsSet Explicit (filter_map (λ x. option_map (cell x) (f x)) (columns level))
+pub row_is_set : (f : ℕ → Option (List ℕ)) (level : Level) → IsSet Explicit (filter_map (λ x. option_map (cell x) (f x)) (columns level))
 unfolding IsSet
 row_is_set f level = cells_are f None (columns level) (columns_ascend level)

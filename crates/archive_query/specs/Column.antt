@@ -1,53 +1,49 @@
--- What a row may answer, in ascending tags, each with its value representation
--- (PS3.6; PS3.4, C.4.1.1.3).
-use Rattle.std.specs.Prelude.{ℕ, List, [], ◌∷◌, codes}
-use Rattle.archive_query.specs.declared.column.Column.{Column}
+-- What a row may answer, in ascending tags (PS3.4, C.4.1.1.3).
+use Rattle.std.specs.Prelude.{ℕ, List, [], ◌∷◌}
+use Rattle.dictionary.specs.declared.elements.TheConstants.{ACCESSION_NUMBER, INSTANCE_NUMBER, MODALITIES_IN_STUDY, MODALITY, NUMBER_OF_SERIES_RELATED_INSTANCES, NUMBER_OF_STUDY_RELATED_INSTANCES, NUMBER_OF_STUDY_RELATED_SERIES, PATIENT_BIRTH_DATE, PATIENT_ID, PATIENT_NAME, PATIENT_SEX, QUERY_RETRIEVE_LEVEL, REFERRING_PHYSICIAN_NAME, RETRIEVE_AE_TITLE, SERIES_DESCRIPTION, SERIES_INSTANCE_UID, SERIES_NUMBER, SOP_CLASS_UID, SOP_INSTANCE_UID, SPECIFIC_CHARACTER_SET, STUDY_DATE, STUDY_DESCRIPTION, STUDY_ID, STUDY_INSTANCE_UID, STUDY_TIME}
 use Rattle.archive_query.specs.declared.key.Level.{Level}
 use Rattle.archive_query.specs.declared.key.Level.TheVariants.{Study, Series, Image}
 
-abbrev pub column : ℕ → List ℕ → Column
-column tag vr = record { tag = tag; vr = vr }
-
 -- (0008,0005) Specific Character Set, the level, (0008,0054) Retrieve AE Title, the unique keys of
 -- the level and of those above, and the keys of the level
-abbrev pub columns : Level → List Column
+abbrev pub columns : Level → List ℕ
 columns Study =
-    column 0x0008_0005 (codes "CS")
-    ∷ column 0x0008_0020 (codes "DA")
-    ∷ column 0x0008_0030 (codes "TM")
-    ∷ column 0x0008_0050 (codes "SH")
-    ∷ column 0x0008_0052 (codes "CS")
-    ∷ column 0x0008_0054 (codes "AE")
-    ∷ column 0x0008_0061 (codes "CS")
-    ∷ column 0x0008_0090 (codes "PN")
-    ∷ column 0x0008_1030 (codes "LO")
-    ∷ column 0x0010_0010 (codes "PN")
-    ∷ column 0x0010_0020 (codes "LO")
-    ∷ column 0x0010_0030 (codes "DA")
-    ∷ column 0x0010_0040 (codes "CS")
-    ∷ column 0x0020_000d (codes "UI")
-    ∷ column 0x0020_0010 (codes "SH")
-    ∷ column 0x0020_1206 (codes "IS")
-    ∷ column 0x0020_1208 (codes "IS")
+    SPECIFIC_CHARACTER_SET
+    ∷ STUDY_DATE
+    ∷ STUDY_TIME
+    ∷ ACCESSION_NUMBER
+    ∷ QUERY_RETRIEVE_LEVEL
+    ∷ RETRIEVE_AE_TITLE
+    ∷ MODALITIES_IN_STUDY
+    ∷ REFERRING_PHYSICIAN_NAME
+    ∷ STUDY_DESCRIPTION
+    ∷ PATIENT_NAME
+    ∷ PATIENT_ID
+    ∷ PATIENT_BIRTH_DATE
+    ∷ PATIENT_SEX
+    ∷ STUDY_INSTANCE_UID
+    ∷ STUDY_ID
+    ∷ NUMBER_OF_STUDY_RELATED_SERIES
+    ∷ NUMBER_OF_STUDY_RELATED_INSTANCES
     ∷ []
 columns Series =
-    column 0x0008_0005 (codes "CS")
-    ∷ column 0x0008_0052 (codes "CS")
-    ∷ column 0x0008_0054 (codes "AE")
-    ∷ column 0x0008_0060 (codes "CS")
-    ∷ column 0x0008_103e (codes "LO")
-    ∷ column 0x0020_000d (codes "UI")
-    ∷ column 0x0020_000e (codes "UI")
-    ∷ column 0x0020_0011 (codes "IS")
-    ∷ column 0x0020_1209 (codes "IS")
+    SPECIFIC_CHARACTER_SET
+    ∷ QUERY_RETRIEVE_LEVEL
+    ∷ RETRIEVE_AE_TITLE
+    ∷ MODALITY
+    ∷ SERIES_DESCRIPTION
+    ∷ STUDY_INSTANCE_UID
+    ∷ SERIES_INSTANCE_UID
+    ∷ SERIES_NUMBER
+    ∷ NUMBER_OF_SERIES_RELATED_INSTANCES
     ∷ []
 columns Image =
-    column 0x0008_0005 (codes "CS")
-    ∷ column 0x0008_0016 (codes "UI")
-    ∷ column 0x0008_0018 (codes "UI")
-    ∷ column 0x0008_0052 (codes "CS")
-    ∷ column 0x0008_0054 (codes "AE")
-    ∷ column 0x0020_000d (codes "UI")
-    ∷ column 0x0020_000e (codes "UI")
-    ∷ column 0x0020_0013 (codes "IS")
+    SPECIFIC_CHARACTER_SET
+    ∷ SOP_CLASS_UID
+    ∷ SOP_INSTANCE_UID
+    ∷ QUERY_RETRIEVE_LEVEL
+    ∷ RETRIEVE_AE_TITLE
+    ∷ STUDY_INSTANCE_UID
+    ∷ SERIES_INSTANCE_UID
+    ∷ INSTANCE_NUMBER
     ∷ []

@@ -1,5 +1,6 @@
 -- The keys that are supported, and how each matches (PS3.4, C.6.2.1).
 use Rattle.std.specs.Prelude.{ℕ, List, [], ◌∷◌, Bool, true, false, Option, Some, None, ◌==◌, if◌then◌else◌, codes}
+use Rattle.dictionary.specs.declared.elements.TheConstants.{ACCESSION_NUMBER, INSTANCE_NUMBER, MODALITIES_IN_STUDY, MODALITY, NUMBER_OF_SERIES_RELATED_INSTANCES, NUMBER_OF_STUDY_RELATED_INSTANCES, NUMBER_OF_STUDY_RELATED_SERIES, PATIENT_BIRTH_DATE, PATIENT_ID, PATIENT_NAME, PATIENT_SEX, REFERRING_PHYSICIAN_NAME, SERIES_DESCRIPTION, SERIES_INSTANCE_UID, SERIES_NUMBER, SOP_CLASS_UID, SOP_INSTANCE_UID, STUDY_DATE, STUDY_DESCRIPTION, STUDY_ID, STUDY_INSTANCE_UID, STUDY_TIME}
 use Rattle.archive_query.specs.declared.key.Level.{Level}
 use Rattle.archive_query.specs.declared.key.Level.TheVariants.{Study, Series, Image}
 use Rattle.key_matching.specs.declared.matching.Matching.{Matching}
@@ -8,32 +9,32 @@ use Rattle.key_matching.specs.declared.matching.Matching.TheVariants.{Dates, Tim
 -- the keys of a level: not those of the levels above
 abbrev pub keys : Level → List (ℕ × Matching)
 keys Study =
-    (0x0008_0020, Dates)
-    ∷ (0x0008_0030, Times)
-    ∷ (0x0008_0050, WildCard)
-    ∷ (0x0008_0061, Answered)
-    ∷ (0x0008_0090, WildCard)
-    ∷ (0x0008_1030, WildCard)
-    ∷ (0x0010_0010, Name)
-    ∷ (0x0010_0020, WildCard)
-    ∷ (0x0010_0030, Dates)
-    ∷ (0x0010_0040, WildCard)
-    ∷ (0x0020_000d, Uids)
-    ∷ (0x0020_0010, WildCard)
-    ∷ (0x0020_1206, Answered)
-    ∷ (0x0020_1208, Answered)
+    (STUDY_DATE, Dates)
+    ∷ (STUDY_TIME, Times)
+    ∷ (ACCESSION_NUMBER, WildCard)
+    ∷ (MODALITIES_IN_STUDY, Answered)
+    ∷ (REFERRING_PHYSICIAN_NAME, WildCard)
+    ∷ (STUDY_DESCRIPTION, WildCard)
+    ∷ (PATIENT_NAME, Name)
+    ∷ (PATIENT_ID, WildCard)
+    ∷ (PATIENT_BIRTH_DATE, Dates)
+    ∷ (PATIENT_SEX, WildCard)
+    ∷ (STUDY_INSTANCE_UID, Uids)
+    ∷ (STUDY_ID, WildCard)
+    ∷ (NUMBER_OF_STUDY_RELATED_SERIES, Answered)
+    ∷ (NUMBER_OF_STUDY_RELATED_INSTANCES, Answered)
     ∷ []
 keys Series =
-    (0x0008_0060, WildCard)
-    ∷ (0x0008_103e, WildCard)
-    ∷ (0x0020_000e, Uids)
-    ∷ (0x0020_0011, Single)
-    ∷ (0x0020_1209, Answered)
+    (MODALITY, WildCard)
+    ∷ (SERIES_DESCRIPTION, WildCard)
+    ∷ (SERIES_INSTANCE_UID, Uids)
+    ∷ (SERIES_NUMBER, Single)
+    ∷ (NUMBER_OF_SERIES_RELATED_INSTANCES, Answered)
     ∷ []
 keys Image =
-    (0x0008_0016, Uids)
-    ∷ (0x0008_0018, Uids)
-    ∷ (0x0020_0013, Single)
+    (SOP_CLASS_UID, Uids)
+    ∷ (SOP_INSTANCE_UID, Uids)
+    ∷ (INSTANCE_NUMBER, Single)
     ∷ []
 
 abbrev pub matching_among : ℕ → List (ℕ × Matching) → Option Matching

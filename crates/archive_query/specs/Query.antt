@@ -3,9 +3,10 @@ use Rattle.std.specs.Prelude.{ℕ, ◌%◌, List, [], ◌∷◌, length, Bool, t
 use Rattle.std.specs.List.{filter_map, list_any}
 use Rattle.std.specs.Cmp.Lexicographic.{pointwise}
 use Rattle.octets.specs.Gives.{◌>>=◌}
+use Rattle.dictionary.specs.declared.elements.TheConstants.{QUERY_RETRIEVE_LEVEL, RETRIEVE_AE_TITLE, SERIES_INSTANCE_UID, SPECIFIC_CHARACTER_SET, STUDY_INSTANCE_UID}
 use Rattle.data_set.specs.Tree.{Tree, tag_of}
 use Rattle.data_set.specs.Values.{value_of_tree, value_in}
-use Rattle.data_set.specs.Uid.{is_uid_text}
+use Rattle.octets.specs.Uid.{is_uid_text}
 use Rattle.archive_query.specs.declared.fault.QueryFault.{QueryFault}
 use Rattle.archive_query.specs.declared.fault.QueryFault.TheVariants.{NoLevel, MissingUpperKey, BadKey}
 use Rattle.archive_query.specs.declared.key.Level.{Level}
@@ -56,9 +57,9 @@ key_text t = text_or_empty (value_of_tree t)
 -- and the unique keys above the level are no keys that are asked.
 abbrev pub is_counted : Level → ℕ → Bool
 is_counted level tag =
-    not (tag % 65536 == 0 || tag == 0x0008_0005 || tag == 0x0008_0052 || tag == 0x0008_0054
-    || (has_study_above level && tag == 0x0020_000d)
-    || (has_series_above level && tag == 0x0020_000e))
+    not (tag % 65536 == 0 || tag == SPECIFIC_CHARACTER_SET || tag == QUERY_RETRIEVE_LEVEL || tag == RETRIEVE_AE_TITLE
+    || (has_study_above level && tag == STUDY_INSTANCE_UID)
+    || (has_series_above level && tag == SERIES_INSTANCE_UID))
 
 abbrev pub is_answered_only : Matching → Bool
 is_answered_only Answered = true
@@ -103,9 +104,9 @@ asked_keys level elements =
 -- then a key of no form
 unfoldable pub query_of : List Tree → Result Query QueryFault
 query_of elements = do
-  level ← level_in (value_in 0x0008_0052 elements)
-  study ← upper_uid (has_study_above level) 0x0020_000d elements
-  series ← upper_uid (has_series_above level) 0x0020_000e elements
+  level ← level_in (value_in QUERY_RETRIEVE_LEVEL elements)
+  study ← upper_uid (has_study_above level) STUDY_INSTANCE_UID elements
+  series ← upper_uid (has_series_above level) SERIES_INSTANCE_UID elements
   asked ← asked_keys level elements
   Ok (record {
     level = level;

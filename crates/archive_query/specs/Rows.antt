@@ -4,6 +4,7 @@ use Rattle.std.specs.Prelude.{ℕ, List, [], ◌∷◌, length, map, Bool, not, 
 use Rattle.std.specs.List.{filter, filter_map, list_all, list_any, join_with_byte}
 use Rattle.std.specs.Option.{option_map}
 use Rattle.std.specs.Fmt.{decimal}
+use Rattle.dictionary.specs.declared.elements.TheConstants.{MODALITIES_IN_STUDY, NUMBER_OF_SERIES_RELATED_INSTANCES, NUMBER_OF_STUDY_RELATED_INSTANCES, NUMBER_OF_STUDY_RELATED_SERIES, QUERY_RETRIEVE_LEVEL, RETRIEVE_AE_TITLE, SERIES_INSTANCE_UID, SOP_INSTANCE_UID, SPECIFIC_CHARACTER_SET, STUDY_INSTANCE_UID}
 use Rattle.data_set.specs.Tree.{Tree}
 use Rattle.data_set.specs.Set.{Set}
 use Rattle.data_set.specs.declared.syntax.Syntax.TheVariants.{Explicit}
@@ -17,7 +18,6 @@ use Rattle.archive_model.specs.Attributes.{attribute}
 use Rattle.archive_query.specs.declared.key.Level.{Level}
 use Rattle.archive_query.specs.declared.key.Level.TheVariants.{Study, Series, Image}
 use Rattle.archive_query.specs.declared.asked.Asked.{Asked}
-use Rattle.archive_query.specs.declared.column.Column.{Column}
 use Rattle.archive_query.specs.declared.query.Query.{Query}
 use Rattle.archive_query.specs.Key.{has_study_above, has_series_above, word_of}
 use Rattle.key_matching.specs.Matches.{matches}
@@ -74,14 +74,14 @@ modalities_of cs = ascending (filter (λ m. not (length m == 0)) (map modality_o
 -- Instances; any other: the attribute of the representative, corrected
 abbrev pub asked_value : List Op → List ContentParts → ContentParts → ℕ → List ℕ
 asked_value ops cs c tag =
-    if tag == 0x0008_0061 then join_with_byte 0x5c (modalities_of cs)
-    else if tag == 0x0020_1206 then decimal (length (ascending (map series_of cs)))
-    else if tag == 0x0020_1208 || tag == 0x0020_1209 then decimal (length cs)
+    if tag == MODALITIES_IN_STUDY then join_with_byte 0x5c (modalities_of cs)
+    else if tag == NUMBER_OF_STUDY_RELATED_SERIES then decimal (length (ascending (map series_of cs)))
+    else if tag == NUMBER_OF_STUDY_RELATED_INSTANCES || tag == NUMBER_OF_SERIES_RELATED_INSTANCES then decimal (length cs)
     else attribute ops c tag
 
 -- (0020,000D) Study Instance UID, (0020,000E) Series Instance UID, (0008,0018) SOP Instance UID
 abbrev pub is_unique_key : ℕ → Bool
-is_unique_key tag = tag == 0x0020_000d || tag == 0x0020_000e || tag == 0x0008_0018
+is_unique_key tag = tag == STUDY_INSTANCE_UID || tag == SERIES_INSTANCE_UID || tag == SOP_INSTANCE_UID
 
 abbrev pub is_asked : Query → ℕ → Bool
 is_asked q tag = list_any (λ asked. asked.tag == tag) q.asked
@@ -91,17 +91,17 @@ is_asked q tag = list_any (λ asked. asked.tag == tag) q.asked
 abbrev pub value_in_row
     : List Op → List ℕ → Query → List ContentParts → ContentParts → ℕ → Option (List ℕ)
 value_in_row ops called q cs c tag =
-    if tag == 0x0008_0005 then value_at tag c.values
-    else if tag == 0x0008_0052 then Some (word_of q.level)
-    else if tag == 0x0008_0054 then Some called
+    if tag == SPECIFIC_CHARACTER_SET then value_at tag c.values
+    else if tag == QUERY_RETRIEVE_LEVEL then Some (word_of q.level)
+    else if tag == RETRIEVE_AE_TITLE then Some called
     else if is_unique_key tag then Some (own_value c tag)
     else if is_asked q tag then Some (asked_value ops cs c tag)
     else None
 
 abbrev pub cell_in_row
-    : List Op → List ℕ → Query → List ContentParts → ContentParts → Column → Option Tree
-cell_in_row ops called q cs c column =
-    option_map (cell column) (value_in_row ops called q cs c column.tag)
+    : List Op → List ℕ → Query → List ContentParts → ContentParts → ℕ → Option Tree
+cell_in_row ops called q cs c tag =
+    option_map (cell tag) (value_in_row ops called q cs c tag)
 
 -- the data set of a row
 abbrev pub row : List Op → List ℕ → Query → List ContentParts → ContentParts → Set

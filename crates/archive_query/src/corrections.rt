@@ -14,7 +14,7 @@ fn is_correction(op: &Op) -> bool
 }
 
 /// Those of some operations that are corrections.
-pub(crate) fn corrections_only<'a>(alloc: Global, ops: &[&'a Op]) -> Result<Vec<&'a Op>, AllocError>
+pub fn corrections_only<'a>(alloc: Global, ops: &[&'a Op]) -> Result<Vec<&'a Op>, AllocError>
     ensures { IfOk result (λ found. map (λ o. o.now) found.items ≡
         filter is_correction_in (map (λ o. o.now) ops.now)) }
 {

@@ -66,7 +66,7 @@ pub(crate) fn covered_uids<'a>(
 }
 
 /// Whether a UID is one of these, which ascend.
-pub(crate) fn is_one_of(uids: &[&[u8]], uid: &[u8]) -> bool
+pub fn is_one_of(uids: &[&[u8]], uid: &[u8]) -> bool
     requires { Rises uids.now }
     ensures { result ≡ list_any (λ u. same u uid.now) (map (λ u. u.now) uids.now) }
 {

@@ -14,7 +14,7 @@ use operation::Content;
 use std::alloc::{AllocError, Global};
 
 /// The UID of a content at a level.
-pub(crate) fn uid_at(level: Level, content: &Content) -> &[u8]
+pub fn uid_at(level: Level, content: &Content) -> &[u8]
     ensures { result.now ≡ uid_in level content.now }
 {
     match level {

@@ -3,82 +3,15 @@
 ghost use Rattle.std.specs.Prelude.{◌≡◌};
 ghost use Rattle.archive_query.specs.Key.{matching_of as matching_in, has_study_above, has_series_above, word_of};
 
+use dictionary::{
+    ACCESSION_NUMBER, INSTANCE_NUMBER, MODALITIES_IN_STUDY, MODALITY,
+    NUMBER_OF_SERIES_RELATED_INSTANCES, NUMBER_OF_STUDY_RELATED_INSTANCES,
+    NUMBER_OF_STUDY_RELATED_SERIES, PATIENT_BIRTH_DATE, PATIENT_ID, PATIENT_NAME, PATIENT_SEX,
+    REFERRING_PHYSICIAN_NAME, SERIES_DESCRIPTION, SERIES_INSTANCE_UID, SERIES_NUMBER,
+    SOP_CLASS_UID, SOP_INSTANCE_UID, STUDY_DATE, STUDY_DESCRIPTION, STUDY_ID, STUDY_INSTANCE_UID,
+    STUDY_TIME,
+};
 use key_matching::Matching;
-
-/// (0008,0005) Specific Character Set
-pub(crate) const SPECIFIC_CHARACTER_SET: u32 = 0x0008_0005;
-
-/// (0008,0016) SOP Class UID
-pub(crate) const SOP_CLASS_UID: u32 = 0x0008_0016;
-
-/// (0008,0018) SOP Instance UID
-pub(crate) const SOP_INSTANCE_UID: u32 = 0x0008_0018;
-
-/// (0008,0020) Study Date
-pub(crate) const STUDY_DATE: u32 = 0x0008_0020;
-
-/// (0008,0030) Study Time
-pub(crate) const STUDY_TIME: u32 = 0x0008_0030;
-
-/// (0008,0050) Accession Number
-pub(crate) const ACCESSION_NUMBER: u32 = 0x0008_0050;
-
-/// (0008,0052) Query/Retrieve Level
-pub(crate) const QUERY_LEVEL: u32 = 0x0008_0052;
-
-/// (0008,0054) Retrieve AE Title
-pub(crate) const RETRIEVE_AE_TITLE: u32 = 0x0008_0054;
-
-/// (0008,0060) Modality
-pub(crate) const MODALITY: u32 = 0x0008_0060;
-
-/// (0008,0061) Modalities in Study
-pub(crate) const MODALITIES_IN_STUDY: u32 = 0x0008_0061;
-
-/// (0008,0090) Referring Physician's Name
-pub(crate) const REFERRING_PHYSICIAN: u32 = 0x0008_0090;
-
-/// (0008,1030) Study Description
-pub(crate) const STUDY_DESCRIPTION: u32 = 0x0008_1030;
-
-/// (0008,103E) Series Description
-pub(crate) const SERIES_DESCRIPTION: u32 = 0x0008_103e;
-
-/// (0010,0010) Patient's Name
-pub(crate) const PATIENT_NAME: u32 = 0x0010_0010;
-
-/// (0010,0020) Patient ID
-pub(crate) const PATIENT_ID: u32 = 0x0010_0020;
-
-/// (0010,0030) Patient's Birth Date
-pub(crate) const PATIENT_BIRTH_DATE: u32 = 0x0010_0030;
-
-/// (0010,0040) Patient's Sex
-pub(crate) const PATIENT_SEX: u32 = 0x0010_0040;
-
-/// (0020,000D) Study Instance UID
-pub(crate) const STUDY_INSTANCE_UID: u32 = 0x0020_000d;
-
-/// (0020,000E) Series Instance UID
-pub(crate) const SERIES_INSTANCE_UID: u32 = 0x0020_000e;
-
-/// (0020,0010) Study ID
-pub(crate) const STUDY_ID: u32 = 0x0020_0010;
-
-/// (0020,0011) Series Number
-pub(crate) const SERIES_NUMBER: u32 = 0x0020_0011;
-
-/// (0020,0013) Instance Number
-pub(crate) const INSTANCE_NUMBER: u32 = 0x0020_0013;
-
-/// (0020,1206) Number of Study Related Series
-pub(crate) const SERIES_OF_STUDY: u32 = 0x0020_1206;
-
-/// (0020,1208) Number of Study Related Instances
-pub(crate) const INSTANCES_OF_STUDY: u32 = 0x0020_1208;
-
-/// (0020,1209) Number of Series Related Instances
-pub(crate) const INSTANCES_OF_SERIES: u32 = 0x0020_1209;
 
 /// What the rows of a query are about (PS3.4, section C.6.2.1.1).
 #[derive(Clone, Copy, Debug, PartialEq, Eq)]
@@ -108,7 +41,7 @@ fn study_matching(tag: u32) -> Option<Matching>
         STUDY_TIME => Some(Times),
         ACCESSION_NUMBER => Some(WildCard),
         MODALITIES_IN_STUDY => Some(Answered),
-        REFERRING_PHYSICIAN => Some(WildCard),
+        REFERRING_PHYSICIAN_NAME => Some(WildCard),
         STUDY_DESCRIPTION => Some(WildCard),
         PATIENT_NAME => Some(Name),
         PATIENT_ID => Some(WildCard),
@@ -116,8 +49,8 @@ fn study_matching(tag: u32) -> Option<Matching>
         PATIENT_SEX => Some(WildCard),
         STUDY_INSTANCE_UID => Some(Uids),
         STUDY_ID => Some(WildCard),
-        SERIES_OF_STUDY => Some(Answered),
-        INSTANCES_OF_STUDY => Some(Answered),
+        NUMBER_OF_STUDY_RELATED_SERIES => Some(Answered),
+        NUMBER_OF_STUDY_RELATED_INSTANCES => Some(Answered),
         _ => None,
     }
 }
@@ -131,7 +64,7 @@ fn series_matching(tag: u32) -> Option<Matching>
         SERIES_DESCRIPTION => Some(WildCard),
         SERIES_INSTANCE_UID => Some(Uids),
         SERIES_NUMBER => Some(Single),
-        INSTANCES_OF_SERIES => Some(Answered),
+        NUMBER_OF_SERIES_RELATED_INSTANCES => Some(Answered),
         _ => None,
     }
 }
@@ -150,7 +83,7 @@ fn image_matching(tag: u32) -> Option<Matching>
 
 impl Level {
     /// Whether a query of this level names a study.
-    pub(crate) fn names_study(self) -> bool
+    pub fn names_study(self) -> bool
         ensures { result ≡ has_study_above self }
     {
         match self {
@@ -161,7 +94,7 @@ impl Level {
     }
 
     /// Whether a query of this level names a series.
-    pub(crate) fn names_series(self) -> bool
+    pub fn names_series(self) -> bool
         ensures { result ≡ has_series_above self }
     {
         match self {

@@ -21,9 +21,13 @@ mod tests;
 
 pub use answer::Answer;
 pub use asked::Asked;
+pub use corrections::corrections_only;
+pub use covered::is_one_of;
 pub use fault::QueryFault;
 pub use finding::find;
+pub use groups::uid_at;
 pub use key::Level;
 pub use key_matching::Matching;
 pub use laws::same_sites_answer_alike;
-pub use query::Query;
+pub use query::{Query, level_of, upper_uid};
+pub use showing::shown;

@@ -4,18 +4,20 @@ ghost use Rattle.std.specs.Prelude.{◌≡◌, ◌↔◌, IfOk, IsTrue};
 ghost use Rattle.std.specs.List.{filter_map, list_any};
 ghost use Rattle.octets.specs.Gives.{Gives};
 ghost use Rattle.data_set.specs.Values.{value_in};
+ghost use Rattle.dictionary.specs.declared.elements.TheConstants.{QUERY_RETRIEVE_LEVEL};
 ghost use Rattle.archive_query.specs.Fault.{is_memory};
 ghost use Rattle.archive_query.specs.Query.{level_named, level_in, uid_from, upper_uid as upper_uid_in, key_text, is_counted as is_counted_in, is_answered_only as is_answered_only_in, makes_partial as makes_partial_in, is_partial_at as is_partial_in, is_bad as is_bad_in, is_bad_at as is_bad_at_in, asked_of as asked_in, query_of};
 
 use crate::asked::Asked;
 use crate::fault::QueryFault;
-use crate::key::{
-    Level, QUERY_LEVEL, RETRIEVE_AE_TITLE, SERIES_INSTANCE_UID, SPECIFIC_CHARACTER_SET,
-    STUDY_INSTANCE_UID, matching_of,
+use crate::key::{Level, matching_of};
+use data_set::{DataSet, Element};
+use dictionary::{
+    QUERY_RETRIEVE_LEVEL, RETRIEVE_AE_TITLE, SERIES_INSTANCE_UID, SPECIFIC_CHARACTER_SET,
+    STUDY_INSTANCE_UID,
 };
-use data_set::{DataSet, Element, is_uid, trimmed_of};
 use key_matching::{Matching, is_of_form, is_universal};
-use octets::{ListOf, Octets};
+use octets::{ListOf, Octets, is_uid, trimmed};
 use std::alloc::{AllocError, Global};
 
 /// A query: its level, the study and the series that it names, and what it asks.
@@ -47,17 +49,23 @@ fn level_of_word(word: &[u8]) -> Result<Level, QueryFault>
     Err(QueryFault::NoLevel)
 }
 
-fn level_of(set: &DataSet) -> Result<Level, QueryFault>
-    ensures { result ≡ level_in (value_in 0x0008_0052 set.now.elements) }
+/// The level that an identifier names, (0008,0052).
+pub fn level_of(set: &DataSet) -> Result<Level, QueryFault>
+    ensures { result ≡ level_in (value_in QUERY_RETRIEVE_LEVEL set.now.elements) }
 {
-    match set.value(QUERY_LEVEL) {
+    match set.value(QUERY_RETRIEVE_LEVEL) {
         None => Err(QueryFault::NoLevel),
         Some(word) => level_of_word(word),
     }
 }
 
-/// A unique key above the level, which names exactly one UID.
-fn upper_uid(alloc: Global, set: &DataSet, is_named: bool, tag: u32) -> Result<Octets, QueryFault>
+/// A unique key above the level, which names exactly one UID; empty where none is named.
+pub fn upper_uid(
+    alloc: Global,
+    set: &DataSet,
+    is_named: bool,
+    tag: u32,
+) -> Result<Octets, QueryFault>
     ensures { Gives is_memory (λ uid. uid) result (upper_uid_in is_named tag set.now.elements) }
 {
     if !is_named {
@@ -84,7 +92,7 @@ fn text_of(element: &Element) -> &[u8]
 {
     match element.stored() {
         None => &[],
-        Some(value) => trimmed_of(value),
+        Some(value) => trimmed(value),
     }
 }
 
@@ -92,7 +100,7 @@ fn text_of(element: &Element) -> &[u8]
 fn is_counted(level: Level, tag: u32) -> bool
     ensures { result ≡ is_counted_in level tag }
 {
-    if tag % 65536 == 0 || tag == SPECIFIC_CHARACTER_SET || tag == QUERY_LEVEL {
+    if tag % 65536 == 0 || tag == SPECIFIC_CHARACTER_SET || tag == QUERY_RETRIEVE_LEVEL {
         return false;
     }
     if tag == RETRIEVE_AE_TITLE || (level.names_study() && tag == STUDY_INSTANCE_UID) {

@@ -12,19 +12,19 @@ ghost use Rattle.archive_query.specs.Rows.{is_key_match as is_key_match_in, is_m
 use crate::answer::Answer;
 use crate::asked::Asked;
 use crate::cell::cell;
-use crate::column::{Column, columns};
+use crate::column::columns;
 use crate::corrections::corrections_only;
 use crate::grouping::{by_uid, groups_of};
 use crate::groups::{count_series, modalities_of, named};
-use crate::key::{
-    INSTANCES_OF_SERIES, INSTANCES_OF_STUDY, MODALITIES_IN_STUDY, QUERY_LEVEL, RETRIEVE_AE_TITLE,
-    SERIES_INSTANCE_UID, SERIES_OF_STUDY, SOP_INSTANCE_UID, SPECIFIC_CHARACTER_SET,
-    STUDY_INSTANCE_UID,
-};
 use crate::query::Query;
 use crate::showing::shown;
 use archive_model::{View, attribute, contents};
 use data_set::{DataSet, Element, Syntax};
+use dictionary::{
+    MODALITIES_IN_STUDY, NUMBER_OF_SERIES_RELATED_INSTANCES, NUMBER_OF_STUDY_RELATED_INSTANCES,
+    NUMBER_OF_STUDY_RELATED_SERIES, QUERY_RETRIEVE_LEVEL, RETRIEVE_AE_TITLE, SERIES_INSTANCE_UID,
+    SOP_INSTANCE_UID, SPECIFIC_CHARACTER_SET, STUDY_INSTANCE_UID,
+};
 use key_matching::matches;
 use octets::Octets;
 use operation::{Content, Op};
@@ -95,51 +95,51 @@ fn digits(alloc: Global, number: usize) -> Result<Octets, AllocError>
     Octets::from_slice(alloc, text.as_bytes())
 }
 
-/// What is asked of a row, in its column.
+/// The element of a row that is asked.
 fn asked_cell(
     alloc: Global,
     ops: &[&Op],
     contents: &[&Content],
     first: &Content,
-    column: Column,
+    tag: u32,
 ) -> Result<Element, AllocError>
     ensures { IfOk result (λ element. element ≡
-        cell_in column
+        cell_in tag
         (asked_value (map (λ o. o.now) ops.now) (map (λ c. c.now) contents.now) first.now
-        column.tag)) }
+        tag)) }
 {
-    if column.tag == MODALITIES_IN_STUDY {
+    if tag == MODALITIES_IN_STUDY {
         let modalities = modalities_of(alloc, contents)?;
         let text = joined(alloc, &modalities)?;
-        return cell(alloc, column, text.as_slice());
+        return cell(alloc, tag, text.as_slice());
     }
-    if column.tag == SERIES_OF_STUDY {
+    if tag == NUMBER_OF_STUDY_RELATED_SERIES {
         let text = digits(alloc, count_series(alloc, contents)?)?;
-        return cell(alloc, column, text.as_slice());
+        return cell(alloc, tag, text.as_slice());
     }
-    if column.tag == INSTANCES_OF_STUDY || column.tag == INSTANCES_OF_SERIES {
+    if tag == NUMBER_OF_STUDY_RELATED_INSTANCES || tag == NUMBER_OF_SERIES_RELATED_INSTANCES {
         let text = digits(alloc, contents.len())?;
-        return cell(alloc, column, text.as_slice());
+        return cell(alloc, tag, text.as_slice());
     }
-    cell(alloc, column, attribute(ops, first, column.tag))
+    cell(alloc, tag, attribute(ops, first, tag))
 }
 
 /// The character set of a row's representative, where it has one.
 fn character_set_cell(
     alloc: Global,
     first: &Content,
-    column: Column,
+    tag: u32,
 ) -> Result<Option<Element>, AllocError>
     ensures { IfOk result (λ element. element ≡
-        option_map (cell_in column) (value_at column.tag first.now.values)) }
+        option_map (cell_in tag) (value_at tag first.now.values)) }
 {
-    match first.value(column.tag) {
+    match first.value(tag) {
         None => Ok(None),
-        Some(value) => Ok(Some(cell(alloc, column, value)?)),
+        Some(value) => Ok(Some(cell(alloc, tag, value)?)),
     }
 }
 
-/// What a row has in a column.
+/// The element of a row with a tag, if it has one.
 fn cell_in_row(
     alloc: Global,
     ops: &[&Op],
@@ -147,28 +147,28 @@ fn cell_in_row(
     query: &Query,
     contents: &[&Content],
     first: &Content,
-    column: Column,
+    tag: u32,
 ) -> Result<Option<Element>, AllocError>
     ensures { IfOk result (λ element. element ≡
         cell_in_row_of (map (λ o. o.now) ops.now) called.now query.now
-        (map (λ c. c.now) contents.now) first.now column) }
+        (map (λ c. c.now) contents.now) first.now tag) }
 {
-    if column.tag == SPECIFIC_CHARACTER_SET {
-        return character_set_cell(alloc, first, column);
+    if tag == SPECIFIC_CHARACTER_SET {
+        return character_set_cell(alloc, first, tag);
     }
-    if column.tag == QUERY_LEVEL {
-        return Ok(Some(cell(alloc, column, query.level.word())?));
+    if tag == QUERY_RETRIEVE_LEVEL {
+        return Ok(Some(cell(alloc, tag, query.level.word())?));
     }
-    if column.tag == RETRIEVE_AE_TITLE {
-        return Ok(Some(cell(alloc, column, called)?));
+    if tag == RETRIEVE_AE_TITLE {
+        return Ok(Some(cell(alloc, tag, called)?));
     }
-    if is_unique_key(column.tag) {
-        return Ok(Some(cell(alloc, column, first.own_value(column.tag))?));
+    if is_unique_key(tag) {
+        return Ok(Some(cell(alloc, tag, first.own_value(tag))?));
     }
-    if !is_asked(query, column.tag) {
+    if !is_asked(query, tag) {
         return Ok(None);
     }
-    Ok(Some(asked_cell(alloc, ops, contents, first, column)?))
+    Ok(Some(asked_cell(alloc, ops, contents, first, tag)?))
 }
 
 /// The elements of a row.
@@ -185,8 +185,8 @@ fn cells(
         first.now).elements) }
 {
     let mut cells = Vec::new(alloc);
-    for column in columns(query.level) {
-        let cell = cell_in_row(alloc, ops, called, query, contents, first, *column)?;
+    for tag in columns(query.level) {
+        let cell = cell_in_row(alloc, ops, called, query, contents, first, *tag)?;
         if let Some(cell) = cell {
             cells.push(cell)?;
         }

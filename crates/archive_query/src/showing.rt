@@ -65,7 +65,7 @@ fn shown_firsts<'a>(
 
 /// What a view shows of a set with these contents, which stand by ascending digest: by ascending SOP
 /// Instance UID.
-pub(crate) fn shown<'a>(
+pub fn shown<'a>(
     alloc: Global,
     view: View,
     contents: &[&'a Content],

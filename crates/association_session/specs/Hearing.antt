@@ -7,7 +7,7 @@ use Rattle.pdu.specs.Spelling.{text_of, IsPdu}
 use Rattle.ul_state.specs.declared.acceptor.Settled.{Settled}
 use Rattle.ul_state.specs.declared.titles.Title.{Title}
 use Rattle.dimse.specs.declared.message.Message.{Message}
-use Rattle.site_state.specs.declared.taken.Taken.{Taken}
+use Rattle.operation.specs.declared.taken.Taken.{Taken}
 use Rattle.association_session.specs.declared.reply.PortFault.{PortFault}
 use Rattle.association_session.specs.declared.association.Outcome.{Outcome}
 use Rattle.association_session.specs.declared.association.Outcome.TheVariants.{Sent, Asked}

@@ -14,7 +14,7 @@ use Rattle.operation.specs.declared.draft.Draft.{Draft}
 use Rattle.operation.specs.declared.fault.OpFault.{OpFault}
 use Rattle.operation.specs.declared.fault.OpFault.TheVariants.{Mismatch}
 use Rattle.operation.specs.Contents.{drafted, IsOutcome}
-use Rattle.site_state.specs.declared.taken.Taken.{Taken}
+use Rattle.operation.specs.declared.taken.Taken.{Taken}
 use Rattle.association_session.specs.declared.reply.PortFault.{PortFault}
 use Rattle.association_session.specs.declared.reply.PortFault.TheVariants.{Memory, Busy, Collision, Shelf}
 use Rattle.association_session.specs.declared.service.Kind.{Kind}

@@ -9,7 +9,7 @@ use Rattle.ul_state.specs.Acceptor.{HasLawfulPdu}
 use Rattle.ul_state.specs.declared.event.Action.{Action}
 use Rattle.ul_state.specs.declared.event.Action.TheVariants as actions
 use Rattle.operation.specs.Parts.{ContentParts}
-use Rattle.site_state.specs.declared.taken.Taken.{Taken}
+use Rattle.operation.specs.declared.taken.Taken.{Taken}
 use Rattle.association_session.specs.declared.reply.PortFault.{PortFault}
 use Rattle.association_session.specs.declared.moment.Moment.TheVariants.{InStore}
 use Rattle.association_session.specs.declared.action.SessionAction.{SessionAction}

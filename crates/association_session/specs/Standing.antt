@@ -6,7 +6,7 @@ use Rattle.ul_state.specs.declared.table.State.TheVariants.{Sta1, Sta2}
 use Rattle.ul_state.specs.declared.acceptor.Acceptor.{Acceptor}
 use Rattle.dimse.specs.declared.assembler.Stage.{Stage}
 use Rattle.operation.specs.Parts.{ContentParts}
-use Rattle.site_state.specs.declared.taken.Taken.{Taken}
+use Rattle.operation.specs.declared.taken.Taken.{Taken}
 use Rattle.association_session.specs.declared.reply.PortFault.{PortFault}
 
 -- what both sides agreed, and what came since the last message

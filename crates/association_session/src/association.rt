@@ -271,7 +271,7 @@ impl Association {
             return Ok(nothing(self.alloc));
         };
         let mut link = link;
-        match link.assembler.feed(self.alloc, value) {
+        match link.assembler.feed(value) {
             Ok(None) => {
                 self.link = Some(link);
                 Ok(nothing(self.alloc))

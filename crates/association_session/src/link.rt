@@ -59,7 +59,7 @@ pub(crate) fn link_of(alloc: Global, settled: &Settled<()>, limit: u32) -> Resul
 {
     let contexts = copies_of(alloc, settled.contexts.as_slice())?;
     Ok(Link {
-        assembler: Assembler::new(contexts),
+        assembler: Assembler::new(alloc, contexts),
         limit,
     })
 }

@@ -3,7 +3,7 @@
 ghost use Rattle.std.specs.Prelude.{◌≡◌};
 ghost use Rattle.association_session.specs.Reply.{number_of};
 
-use site_state::Taken;
+use operation::Taken;
 use thiserror::Error;
 
 /// Why a port took no content.

@@ -7,7 +7,7 @@ ghost use Rattle.pdu.specs.Spelling.{IsPdu};
 ghost use Rattle.pdu.specs.declared.value.Pdu.TheVariants.{PData};
 ghost use Rattle.ul_state.specs.declared.event.Event.{Event};
 ghost use Rattle.ul_state.specs.declared.event.Event.TheVariants.{Got};
-ghost use Rattle.site_state.specs.declared.taken.Taken.{Taken};
+ghost use Rattle.operation.specs.declared.taken.Taken.{Taken};
 ghost use Rattle.association_session.specs.declared.reply.PortFault.{PortFault};
 ghost use Rattle.association_session.specs.declared.action.SessionAction.{SessionAction};
 ghost use Rattle.association_session.specs.declared.action.SessionAction.TheVariants.{Send};

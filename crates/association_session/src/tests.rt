@@ -5,8 +5,8 @@ ghost use Rattle.association_session.specs.Session.{IsSound, IsWritable};
 
 use super::*;
 use octets::{ListOf, Octets};
+use operation::Taken;
 use pdu::{Pdu, Step, read_pdu, write_pdu};
-use site_state::Taken;
 use std::alloc::{AllocError, Global};
 use std::process::Abort;
 use std::test::Fail;

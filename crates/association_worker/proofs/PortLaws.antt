@@ -9,8 +9,8 @@ use Rattle.operation.specs.Parts.{ContentParts}
 use Rattle.operation.specs.declared.op.Op.{Op}
 use Rattle.operation.specs.declared.op.Op.TheVariants.{Content}
 use Rattle.operation.specs.Spelling.{digest_of}
-use Rattle.site_state.specs.declared.taken.Taken.{Taken}
-use Rattle.site_state.specs.declared.taken.Taken.TheVariants.{New, Known}
+use Rattle.operation.specs.declared.taken.Taken.{Taken}
+use Rattle.operation.specs.declared.taken.Taken.TheVariants.{New, Known}
 use Rattle.site_state.specs.Site.{digest_cmp, Map, held_at, with_op, Takes}
 use Rattle.site_state.proofs.Maps.{tied}
 use Rattle.association_session.specs.declared.reply.PortFault.{PortFault}

@@ -3,7 +3,7 @@ use Rattle.std.specs.Prelude.{◌≡◌, ◌⊎◌, ℕ, List, [], ◌∷◌, �
 use Rattle.std.specs.Io.KnownBytes.{Appends}
 use Rattle.operation.specs.Parts.{ContentParts}
 use Rattle.operation.specs.declared.op.Op.{Op}
-use Rattle.site_state.specs.declared.taken.Taken.{Taken}
+use Rattle.operation.specs.declared.taken.Taken.{Taken}
 use Rattle.ul_state.specs.declared.event.Event.{Event}
 use Rattle.ul_state.specs.declared.titles.Title.{Title}
 use Rattle.association_session.specs.declared.moment.Moment.{Moment}

@@ -7,7 +7,7 @@ use Rattle.operation.specs.OpCode.{op_code}
 use Rattle.operation.specs.declared.op.Op.{Op}
 use Rattle.operation.specs.declared.op.Op.TheVariants.{Content}
 use Rattle.operation.specs.Spelling.{digest_of}
-use Rattle.site_state.specs.declared.taken.Taken.{Taken}
+use Rattle.operation.specs.declared.taken.Taken.{Taken}
 use Rattle.site_state.specs.declared.fault.SiteFault.{SiteFault}
 use Rattle.site_state.specs.declared.fault.SiteFault.TheVariants as site_faults
 use Rattle.site_state.specs.Site.{Map, held_at}

@@ -9,7 +9,7 @@ ghost use Rattle.association_worker.specs.Port.{holds_op, fault_of_site};
 
 use crate::port::Port;
 use association_session::{PortFault, Reply};
-use operation::{Content, Digest, Op, digest};
+use operation::{Content, Digest, Digested, Op};
 use site_state::{Site, SiteFault};
 use std::alloc::Global;
 use std::marker::Model;
@@ -41,12 +41,12 @@ fn port_fault(fault: SiteFault) -> PortFault
 }
 
 /// Puts an operation's digest at the end.
-fn put_digest(own: &mut Vec<Digest>, op: &Op) -> Result<(), PortFault>
+fn put_digest(own: &mut Vec<Digest>, op: &Digested) -> Result<(), PortFault>
     ensures put { OnOk result (own.new.items ≡ own.old.items ++ digest_of op.now ∷ []) }
     ensures kept { OnErr result (own.new.items ≡ own.old.items) }
     ensures memory { IfErr result (λ fault. fault ≡ PortFault.Memory) }
 {
-    match own.push(digest(op)) {
+    match own.push(*op.digest()) {
         Ok(()) => Ok(()),
         Err(_refused) => Err(PortFault::Memory),
     }
@@ -90,9 +90,9 @@ impl SitePort {
             (fault ≡ PortFault.Collision) ⊎ (fault ≡ PortFault.Memory)) }
         ensures kept { OnErr result (self.new ≡ self.old) }
     {
-        let op = Op::Content(content);
+        let op = Digested::of(Op::Content(content));
         put_digest(&mut self.own, &op)?;
-        match self.site.take(op) {
+        match self.site.take_digested(op) {
             Ok(taken) => Ok(taken),
             Err(fault) => {
                 self.own.pop();

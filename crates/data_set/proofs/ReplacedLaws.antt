@@ -3,6 +3,8 @@ use Rattle.std.proofs.Common.{◌≡◌, ℕ, ◌+◌, ◌%◌, ◌<◌, ◌≤�
 use Rattle.std.specs.Prelude.{◌==◌, nat_lt}
 use Rattle.std.proofs.lemmas.Bool.{eqb-true, ltb-true, lt-ltb, le-ltb}
 use lib.Chars.{codes}
+use Rattle.dictionary.specs.declared.elements.TheConstants.{ACCESSION_NUMBER, PATIENT_BIRTH_DATE, PATIENT_ID, PATIENT_NAME, PATIENT_SEX, REFERRING_PHYSICIAN_NAME, SERIES_DESCRIPTION, STUDY_DATE, STUDY_DESCRIPTION, STUDY_ID, STUDY_TIME}
+use Rattle.dictionary.specs.Elements.{vr_in_table}
 use Rattle.data_set.specs.declared.syntax.Syntax.{Syntax}
 use Rattle.data_set.specs.declared.syntax.Syntax.TheVariants.{Implicit, Explicit}
 use Rattle.data_set.specs.Tree.{Tree, Trees, leaf, tree, tag_of, trees_of, list_trees}
@@ -53,26 +55,29 @@ found P (x ∷ xs) tag vr all e = by_test (tag == x.0) (eqb-true tag x.0) (λ is
     by_test false same more is = more is
 
 all_may : AllRows MayPut corrections
-unfolding is_short
+unfolding is_short vr_in_table
 all_may = (
-  may_put 0x0008_0020 68 65 (omega arith) refl refl refl refl refl refl refl refl,
+  may_put STUDY_DATE 68 65 (omega arith) refl refl refl refl refl refl refl refl,
   (
-    may_put 0x0008_0030 84 77 (omega arith) refl refl refl refl refl refl refl refl,
+    may_put STUDY_TIME 84 77 (omega arith) refl refl refl refl refl refl refl refl,
     (
-      may_put 0x0008_0050 83 72 (omega arith) refl refl refl refl refl refl refl refl,
+      may_put ACCESSION_NUMBER 83 72 (omega arith) refl refl refl refl refl refl refl refl,
       (
-        may_put 0x0008_0090 80 78 (omega arith) refl refl refl refl refl refl refl refl,
+        may_put REFERRING_PHYSICIAN_NAME 80 78 (omega arith) refl refl refl refl refl refl refl refl,
         (
-          may_put 0x0008_1030 76 79 (omega arith) refl refl refl refl refl refl refl refl,
+          may_put STUDY_DESCRIPTION 76 79 (omega arith) refl refl refl refl refl refl refl refl,
           (
-            may_put 0x0010_0010 80 78 (omega arith) refl refl refl refl refl refl refl refl,
+            may_put SERIES_DESCRIPTION 76 79 (omega arith) refl refl refl refl refl refl refl refl,
             (
-              may_put 0x0010_0020 76 79 (omega arith) refl refl refl refl refl refl refl refl,
+              may_put PATIENT_NAME 80 78 (omega arith) refl refl refl refl refl refl refl refl,
               (
-                may_put 0x0010_0030 68 65 (omega arith) refl refl refl refl refl refl refl refl,
+                may_put PATIENT_ID 76 79 (omega arith) refl refl refl refl refl refl refl refl,
                 (
-                  may_put 0x0010_0040 67 83 (omega arith) refl refl refl refl refl refl refl refl,
-                  (may_put 0x0020_0010 83 72 (omega arith) refl refl refl refl refl refl refl refl, tt),
+                  may_put PATIENT_BIRTH_DATE 68 65 (omega arith) refl refl refl refl refl refl refl refl,
+                  (
+                    may_put PATIENT_SEX 67 83 (omega arith) refl refl refl refl refl refl refl refl,
+                    (may_put STUDY_ID 83 72 (omega arith) refl refl refl refl refl refl refl refl, tt),
+                  ),
                 ),
               ),
             ),

@@ -11,7 +11,8 @@ use Rattle.data_set.specs.declared.syntax.Syntax.{Syntax}
 use Rattle.data_set.specs.Tree.{Tree, Trees, leaf, node, tag_of, trees_of, list_trees, list_rows}
 use Rattle.data_set.specs.Tags.{is_group_length}
 use Rattle.data_set.specs.Vr.{is_name}
-use Rattle.data_set.specs.Values.{is_padding, is_space, without_padding, trimmed, pad_of, padded, value_of_tree, items_of_tree, with_tag, and_then, value_in, items_in}
+use Rattle.octets.specs.Padding.{is_padding, is_space, without_padding, trimmed}
+use Rattle.data_set.specs.Values.{pad_of, padded, value_of_tree, items_of_tree, with_tag, and_then, value_in, items_in}
 use Rattle.data_set.specs.Converted.{vr_in, converted, converted_tree, converted_trees, converted_rows, converted_items_of, below, above, with_element, with_value}
 use Rattle.data_set.proofs.Lists.{rows_back}
 use Rattle.data_set.proofs.ConvertedLaws.{converted_tag}

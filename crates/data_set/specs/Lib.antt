@@ -1,4 +1,3 @@
-pub mod Uid
 pub mod Tree
 pub mod TreeCode
 pub mod ElementView

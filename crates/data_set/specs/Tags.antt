@@ -1,6 +1,7 @@
 -- Tags: a group and an element, of 16 bits each (PS3.5, 7.1.1), as one number of 32 bits.
 use Rattle.std.specs.Prelude.{ℕ, ◌+◌, ◌*◌, ◌/◌, ◌%◌, List, [], ◌∷◌, ◌++◌, Option, Some, None, Bool, true, nat_lt, ◌==◌, ◌||◌}
 use Rattle.std.specs.Int.{w16, from_le_bytes, to_le_bytes}
+use Rattle.dictionary.specs.declared.elements.TheConstants.{CONCEPT_NAME_CODE_SEQUENCE, CURRENT_REQUESTED_PROCEDURE_EVIDENCE_SEQUENCE, ITEM, ITEM_DELIMITATION_ITEM, PIXEL_DATA, REFERENCED_SERIES_SEQUENCE, REFERENCED_SOP_SEQUENCE, SEQUENCE_DELIMITATION_ITEM}
 
 -- the tag in four bytes: group and element, each with the low byte first
 abbrev pub tag_from : ℕ → ℕ → ℕ → ℕ → ℕ
@@ -15,13 +16,13 @@ group_of tag = tag / 65536
 
 -- (FFFE,E000) Item, (FFFE,E00D) Item Delimitation Item, (FFFE,E0DD) Sequence Delimitation Item (PS3.5, 7.5)
 abbrev pub item : ℕ
-item = 0xfffe_e000
+item = ITEM
 
 abbrev pub item_end : ℕ
-item_end = 0xfffe_e00d
+item_end = ITEM_DELIMITATION_ITEM
 
 abbrev pub sequence_end : ℕ
-sequence_end = 0xfffe_e0dd
+sequence_end = SEQUENCE_DELIMITATION_ITEM
 
 -- items and ends have the group FFFE, and no element has it
 abbrev pub is_item_tag : ℕ → Bool
@@ -34,11 +35,13 @@ is_reserved_group tag = group_of tag == 0 || group_of tag == 2
 -- (0008,1115) Referenced Series Sequence, (0008,1199) Referenced SOP Sequence, (0040,A043) Concept Name Code Sequence,
 -- (0040,A375) Current Requested Procedure Evidence Sequence: sequences in whatever way they are spelled
 abbrev pub is_listed : ℕ → Bool
-is_listed tag = tag == 0x0008_1115 || tag == 0x0008_1199 || tag == 0x0040_a043 || tag == 0x0040_a375
+is_listed tag =
+    tag == REFERENCED_SERIES_SEQUENCE || tag == REFERENCED_SOP_SEQUENCE || tag == CONCEPT_NAME_CODE_SEQUENCE
+    || tag == CURRENT_REQUESTED_PROCEDURE_EVIDENCE_SEQUENCE
 
 -- (7FE0,0010) Pixel Data
 abbrev pub is_pixel_data : ℕ → Bool
-is_pixel_data tag = tag == 0x7fe0_0010
+is_pixel_data tag = tag == PIXEL_DATA
 
 -- (gggg,0000) Group Length
 abbrev pub is_group_length : ℕ → Bool

@@ -3,26 +3,29 @@
 ghost use Rattle.std.specs.Prelude.{◌≡◌};
 ghost use Rattle.data_set.specs.Corrections.{correction_vr_of};
 
-/// The value representation of an attribute that a correction may give a value (PS3.6), or `None`
-/// of any other tag (docs/DECISIONS.md, "Corrections").
+use dictionary::{
+    ACCESSION_NUMBER, PATIENT_BIRTH_DATE, PATIENT_ID, PATIENT_NAME, PATIENT_SEX,
+    REFERRING_PHYSICIAN_NAME, SERIES_DESCRIPTION, STUDY_DATE, STUDY_DESCRIPTION, STUDY_ID,
+    STUDY_TIME, vr_of,
+};
+
+/// The value representation of an attribute that a correction may give a value, or `None` of any
+/// other tag (docs/DECISIONS.md, "Corrections").
 pub fn correction_vr(tag: u32) -> Option<[u8; 2]>
     ensures { result ≡ correction_vr_of tag }
 {
     match tag {
-        // Study Date, Study Time, Accession Number
-        0x0008_0020 => Some(*b"DA"),
-        0x0008_0030 => Some(*b"TM"),
-        0x0008_0050 => Some(*b"SH"),
-        // Referring Physician's Name, Study Description
-        0x0008_0090 => Some(*b"PN"),
-        0x0008_1030 => Some(*b"LO"),
-        // Patient's Name, Patient ID, Patient's Birth Date, Patient's Sex
-        0x0010_0010 => Some(*b"PN"),
-        0x0010_0020 => Some(*b"LO"),
-        0x0010_0030 => Some(*b"DA"),
-        0x0010_0040 => Some(*b"CS"),
-        // Study ID
-        0x0020_0010 => Some(*b"SH"),
+        STUDY_DATE
+        | STUDY_TIME
+        | ACCESSION_NUMBER
+        | REFERRING_PHYSICIAN_NAME
+        | STUDY_DESCRIPTION
+        | SERIES_DESCRIPTION
+        | PATIENT_NAME
+        | PATIENT_ID
+        | PATIENT_BIRTH_DATE
+        | PATIENT_SEX
+        | STUDY_ID => Some(vr_of(tag)),
         _ => None,
     }
 }

@@ -8,7 +8,8 @@ ghost use Rattle.data_set.specs.Tree.{Tree};
 ghost use Rattle.data_set.specs.Texts.{Spells, HasFault};
 ghost use Rattle.data_set.specs.Written.{IsSet, text_of};
 ghost use Rattle.data_set.specs.Tags.{is_group_length};
-ghost use Rattle.data_set.specs.Values.{trimmed, value_in, items_in};
+ghost use Rattle.octets.specs.Padding.{trimmed};
+ghost use Rattle.data_set.specs.Values.{value_in, items_in};
 ghost use Rattle.data_set.specs.Converted.{converted, converted_items_of, with_value};
 
 /// A text spells at most one list of elements.

@@ -17,7 +17,6 @@ mod syntax;
 mod tags;
 #[cfg(test)]
 mod tests;
-mod uid;
 mod values;
 mod vr;
 mod writer;
@@ -32,10 +31,6 @@ pub use laws::{
 pub use reader::read;
 pub use set::DataSet;
 pub use syntax::Syntax;
-pub use tags::{
-    CONCEPT_NAME_CODE_SEQUENCE, EVIDENCE_SEQUENCE, REFERENCED_SERIES_SEQUENCE,
-    REFERENCED_SOP_SEQUENCE,
-};
-pub use uid::is_uid;
-pub use values::{element_of, items_of, padded_of, trimmed_of, value_of, without_pads};
+pub use tags::{has_reserved_group, is_item_or_end, is_sequence_tag};
+pub use values::{element_of, items_of, padded_of, value_of};
 pub use writer::write;

@@ -19,8 +19,8 @@ use crate::fault::SetFault;
 use crate::header::{Closing, end_of, front_of, item_of};
 use crate::set::DataSet;
 use crate::syntax::Syntax;
-use crate::tags::{ITEM_END, SEQUENCE_END};
 use crate::vr::UNDEFINED_LENGTH;
+use dictionary::{ITEM_DELIMITATION_ITEM, SEQUENCE_DELIMITATION_ITEM};
 use octets::Octets;
 use std::alloc::Global;
 
@@ -68,7 +68,13 @@ fn read_sequence(
     ensures shorter { IfOk result (λ x. length x.1.now ≤ length text.now) }
 {
     if size == UNDEFINED_LENGTH {
-        return read_items(alloc, depth, syntax, Closing::End(SEQUENCE_END), text);
+        return read_items(
+            alloc,
+            depth,
+            syntax,
+            Closing::End(SEQUENCE_DELIMITATION_ITEM),
+            text,
+        );
     }
     let (place, after) = text.split_at(size as usize);
     let (items, _) = read_items(alloc, depth, syntax, Closing::Filled, place)?;
@@ -113,7 +119,13 @@ fn read_item(
 {
     let (size, rest) = item_of(depth, text)?;
     if size == UNDEFINED_LENGTH {
-        return read_elements(alloc, depth - 1, syntax, Closing::End(ITEM_END), rest);
+        return read_elements(
+            alloc,
+            depth - 1,
+            syntax,
+            Closing::End(ITEM_DELIMITATION_ITEM),
+            rest,
+        );
     }
     let (place, after) = rest.split_at(size as usize);
     let (elements, _) = read_elements(alloc, depth - 1, syntax, Closing::Filled, place)?;

@@ -3,29 +3,10 @@
 ghost use Rattle.std.specs.Prelude.{◌≡◌};
 ghost use Rattle.data_set.specs.Tags.{tag_from, is_item_tag, is_reserved_group, is_listed, is_group_length, is_above};
 
-/// (FFFE,E000) Item
-pub const ITEM: u32 = 0xfffe_e000;
-
-/// (FFFE,E00D) Item Delimitation Item
-pub const ITEM_END: u32 = 0xfffe_e00d;
-
-/// (FFFE,E0DD) Sequence Delimitation Item
-pub const SEQUENCE_END: u32 = 0xfffe_e0dd;
-
-/// (0008,1115) Referenced Series Sequence
-pub const REFERENCED_SERIES_SEQUENCE: u32 = 0x0008_1115;
-
-/// (0008,1199) Referenced SOP Sequence
-pub const REFERENCED_SOP_SEQUENCE: u32 = 0x0008_1199;
-
-/// (0040,A043) Concept Name Code Sequence
-pub const CONCEPT_NAME_CODE_SEQUENCE: u32 = 0x0040_a043;
-
-/// (0040,A375) Current Requested Procedure Evidence Sequence
-pub const EVIDENCE_SEQUENCE: u32 = 0x0040_a375;
-
-/// (7FE0,0010) Pixel Data
-pub const PIXEL_DATA: u32 = 0x7fe0_0010;
+use dictionary::{
+    CONCEPT_NAME_CODE_SEQUENCE, CURRENT_REQUESTED_PROCEDURE_EVIDENCE_SEQUENCE,
+    REFERENCED_SERIES_SEQUENCE, REFERENCED_SOP_SEQUENCE,
+};
 
 /// The tag that four bytes spell: group and element, each with the low byte first.
 pub fn tag_of(g0: u8, g1: u8, e0: u8, e1: u8) -> u32
@@ -62,7 +43,7 @@ pub fn is_sequence_tag(tag: u32) -> bool
         REFERENCED_SERIES_SEQUENCE
             | REFERENCED_SOP_SEQUENCE
             | CONCEPT_NAME_CODE_SEQUENCE
-            | EVIDENCE_SEQUENCE
+            | CURRENT_REQUESTED_PROCEDURE_EVIDENCE_SEQUENCE
     )
 }
 

@@ -5,7 +5,7 @@ use crate::fault::SetFault;
 use crate::reader::read;
 use crate::set::DataSet;
 use crate::syntax::Syntax;
-use crate::values::{items_of, padded_of, trimmed_of, value_of};
+use crate::values::{items_of, padded_of, value_of};
 use crate::writer::write;
 use Syntax::{Explicit, Implicit};
 use std::alloc::{AllocError, Global};
@@ -94,27 +94,6 @@ fn values_are_trimmed_by_tag(rt: HostRuntime) -> Result<(), Fail> {
     assert!(rt; set.value(0x0020_0010).is_none(), "a missing element");
     assert!(rt; set.items(0x0020_000d).is_none(), "a value has no items");
     Ok(())
-}
-
-#[test]
-fn padding_is_trimmed_at_the_end_and_spaces_at_the_front(rt: HostRuntime) {
-    assert_eq!(rt; trimmed_of(b"  AB \x00 "), b"AB".as_slice(), "both sides");
-    assert_eq!(rt;
-        trimmed_of(b"\x00AB"),
-        b"\x00AB".as_slice(),
-        "a leading 00 stays"
-    );
-    assert_eq!(rt;
-        trimmed_of(b" \x00 A"),
-        b"\x00 A".as_slice(),
-        "and ends the spaces"
-    );
-    assert_eq!(rt;
-        trimmed_of(b" \x00 "),
-        b"".as_slice(),
-        "nothing but padding"
-    );
-    assert_eq!(rt; trimmed_of(b"A B"), b"A B".as_slice(), "inner spaces");
 }
 
 #[test]
@@ -511,6 +490,7 @@ fn a_conversion_leaves_out_group_lengths_at_every_depth(rt: HostRuntime) -> Resu
 }
 
 #[test]
+#[tactic(auto, unfolding(dictionary::specs::Elements::vr_in_table))]
 fn a_value_is_replaced_in_its_place(rt: HostRuntime) -> Result<(), Fail> {
     let alloc = rt.alloc();
     let image = set_of(alloc, Implicit, IMAGE)?;
@@ -536,6 +516,7 @@ fn a_value_is_replaced_in_its_place(rt: HostRuntime) -> Result<(), Fail> {
 }
 
 #[test]
+#[tactic(auto, unfolding(dictionary::specs::Elements::vr_in_table))]
 fn a_missing_value_is_put_in_its_place(rt: HostRuntime) -> Result<(), Fail> {
     let alloc = rt.alloc();
     let mixed = set_of(alloc, Explicit, MIXED)?;
@@ -558,6 +539,16 @@ fn a_missing_value_is_put_in_its_place(rt: HostRuntime) -> Result<(), Fail> {
     let written = write(alloc, &behind)?;
     let text = written.as_slice();
     assert!(rt; text.ends_with(last.as_slice()), "behind all others");
+    Ok(())
+}
+
+#[test]
+fn a_series_description_is_put_in(rt: HostRuntime) -> Result<(), Fail> {
+    let alloc = rt.alloc();
+    let image = set_of(alloc, Implicit, IMAGE)?;
+    let described = image.replaced(alloc, 0x0008_103e, *b"LO", b"HEAD")?;
+    let value = described.value(0x0008_103e).ok_or("no description")?;
+    assert_eq!(rt; value, b"HEAD".as_slice(), "its value");
     Ok(())
 }
 

@@ -4,7 +4,8 @@ ghost use Rattle.std.specs.Prelude.{◌≡◌};
 ghost use Rattle.data_set.specs.Vr.{is_capital, is_short, has_bad_vr, inner_syntax, is_undefined};
 
 use crate::syntax::Syntax;
-use crate::tags::{PIXEL_DATA, is_sequence_tag};
+use crate::tags::is_sequence_tag;
+use dictionary::PIXEL_DATA;
 
 /// The length that is no length: an end follows (PS3.5, section 7.1.1).
 pub const UNDEFINED_LENGTH: u32 = 0xffff_ffff;

@@ -14,8 +14,8 @@ ghost use Rattle.data_set.specs.Lengths.{FitsTree, FitsRows, FitsTrees};
 
 use crate::element::{Content, Element};
 use crate::set::DataSet;
-use crate::tags::{ITEM, ITEM_END, SEQUENCE_END};
 use crate::vr::{UNDEFINED_LENGTH, has_short_length};
+use dictionary::{ITEM, ITEM_DELIMITATION_ITEM, SEQUENCE_DELIMITATION_ITEM};
 use std::alloc::{AllocError, Global};
 
 /// Puts a tag at the end: group and element, each with the low byte first.
@@ -83,7 +83,7 @@ fn put_element(out: &mut Vec<u8>, element: &Element) -> Result<(), AllocError>
         Content::Items(items) => {
             put_head(out, element.vr, UNDEFINED_LENGTH)?;
             put_items(out, items.as_slice())?;
-            put_end(out, SEQUENCE_END)
+            put_end(out, SEQUENCE_DELIMITATION_ITEM)
         }
     }
 }
@@ -99,7 +99,7 @@ fn put_items(out: &mut Vec<u8>, items: &[Vec<Element>]) -> Result<(), AllocError
         put_tag(out, ITEM)?;
         out.extend_from_slice(&UNDEFINED_LENGTH.to_le_bytes())?;
         put_elements(out, item.as_slice())?;
-        put_end(out, ITEM_END)?;
+        put_end(out, ITEM_DELIMITATION_ITEM)?;
     }
     Ok(())
 }

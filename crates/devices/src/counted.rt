@@ -24,7 +24,10 @@ pub(crate) fn one_more(failures: u64) -> u64
 
 impl<D> Counted<D> {
     /// The device, which has not failed yet.
-    pub fn new(device: D) -> Counted<D> {
+    pub fn new(device: D) -> Counted<D>
+        ensures device { result.device ≡ device }
+        ensures failures { result.failures ≡ 0 }
+    {
         Counted {
             device,
             failures: 0,

@@ -27,7 +27,8 @@ pub trait Sink {
 /// Writes the whole of `bytes`. Where the device fails, a front of it has been written.
 pub fn put_all<W: Sink>(sink: &mut W, bytes: &[u8]) -> Result<(), DeviceFault>
     ensures ok { OnOk result (Appends (W.contents sink.old) (W.contents sink.new) bytes.now) }
-    ensures err { OnErr result ((n : ℕ) × Appends (W.contents sink.old) (W.contents sink.new) (take n bytes.now)) }
+    ensures err { OnErr result ((n : ℕ) × Appends (W.contents sink.old) (W.contents sink.new) (take
+        n bytes.now)) }
     ensures counted { Counts (W.failures sink.old) (W.failures sink.new) result }
 {
     let mut done = 0;

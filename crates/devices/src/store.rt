@@ -1,6 +1,9 @@
 //! A sink in memory that has no more room than it is told.
 
-ghost use Rattle.std.specs.Prelude.{◌≡◌, [], Some};
+ghost use Rattle.std.specs.Prelude.{◌≡◌, ◌-◌, ◌<◌, [], Some, IfOk, OnErr, length, min};
+ghost use Rattle.std.specs.Io.{WritesAtMost};
+ghost use Rattle.std.specs.Io.KnownBytes.{WriteAppends};
+ghost use Rattle.devices.specs.Failures.{Counts};
 
 use crate::counted::one_more;
 use crate::fault::DeviceFault;
@@ -17,17 +20,17 @@ pub struct Store {
 }
 
 impl Model for Store {
-    ghost use Rattle.devices.specs.Memory.{Device};
+    ghost use Rattle.devices.specs.Memory.{Stored};
 
-    ghost Value = { Device };
+    ghost Value = { Stored };
 
-    ghost view = { λ s. record { bytes = s.bytes.items; failures = s.failures } };
+    ghost view = { λ s. record { bytes = s.bytes.items; room = s.room; failures = s.failures } };
 }
 
 impl Store {
     /// No bytes, and room for `room`.
     pub fn new(alloc: Global, room: usize) -> Store
-        ensures { result ≡ record { bytes = []; failures = 0 } }
+        ensures { result ≡ record { bytes = []; room = room; failures = 0 } }
     {
         Store {
             bytes: Vec::new(alloc),
@@ -56,7 +59,17 @@ impl Sink for Store {
 
     ghost failures = { λ s. s.failures };
 
-    fn write(&mut self, bytes: &[u8]) -> Result<usize, DeviceFault> {
+    fn write(&mut self, bytes: &[u8]) -> Result<usize, DeviceFault>
+        ensures bound { WritesAtMost result bytes.now }
+        ensures some { IfOk result (λ count. 0 < length bytes.now → 0 < count) }
+        ensures bytes { WriteAppends (Some self.old.bytes) (Some self.new.bytes) result bytes.now }
+        ensures counted { Counts self.old.failures self.new.failures result }
+
+        // What a test told it: what there is room for is written, and the room is less by that.
+        ensures room { IfOk result (λ count. count ≡ min (length bytes.now) self.old.room) }
+        ensures left { IfOk result (λ count. self.new.room ≡ self.old.room - count) }
+        ensures kept { OnErr result (self.new.room ≡ self.old.room) }
+    {
         if bytes.is_empty() {
             return Ok(0);
         }

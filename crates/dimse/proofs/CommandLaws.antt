@@ -17,17 +17,17 @@ abbrev remade : Command → Command
 remade c = record { affected_class = c.affected_class; field = c.field; message_id = c.message_id; responded_to = c.responded_to; priority = c.priority; data_set_type = c.data_set_type; status = c.status; affected_instance = c.affected_instance; remaining = c.remaining; completed = c.completed; failed = c.failed; warning = c.warning }
 
 -- a command is its fields
-same : (c d : Command) → c.affected_class ≡ d.affected_class → c.field ≡ d.field → c.message_id ≡ d.message_id → c.responded_to ≡ d.responded_to → c.priority ≡ d.priority → c.data_set_type ≡ d.data_set_type → c.status ≡ d.status → c.affected_instance ≡ d.affected_instance → c.remaining ≡ d.remaining → c.completed ≡ d.completed → c.failed ≡ d.failed → c.warning ≡ d.warning → c ≡ d
-same c d e0 e1 e2 e3 e4 e5 e6 e7 e8 e9 e10 e11 = let e : remade c ≡ remade d = cc in e
+pub same_command : (c d : Command) → c.affected_class ≡ d.affected_class → c.field ≡ d.field → c.message_id ≡ d.message_id → c.responded_to ≡ d.responded_to → c.priority ≡ d.priority → c.data_set_type ≡ d.data_set_type → c.status ≡ d.status → c.affected_instance ≡ d.affected_instance → c.remaining ≡ d.remaining → c.completed ≡ d.completed → c.failed ≡ d.failed → c.warning ≡ d.warning → c ≡ d
+same_command c d e0 e1 e2 e3 e4 e5 e6 e7 e8 e9 e10 e11 = let e : remade c ≡ remade d = cc in e
 
 -- elements say at most one command
 says_once : (es : List Element) (c d : Command) → Says es c → Says es d → c ≡ d
 says_once es c d a b =
-    same c d (sym a.affected_class ∙ b.affected_class) (some_is c.field d.field (sym a.field ∙ b.field)) (sym a.message_id ∙ b.message_id) (sym a.responded_to ∙ b.responded_to) (sym a.priority ∙ b.priority)
+    same_command c d (sym a.affected_class ∙ b.affected_class) (some_is c.field d.field (sym a.field ∙ b.field)) (sym a.message_id ∙ b.message_id) (sym a.responded_to ∙ b.responded_to) (sym a.priority ∙ b.priority)
     (some_is c.data_set_type d.data_set_type (sym a.data_set_type ∙ b.data_set_type)) (sym a.status ∙ b.status) (sym a.affected_instance ∙ b.affected_instance) (sym a.remaining ∙ b.remaining) (sym a.completed ∙ b.completed) (sym a.failed ∙ b.failed) (sym a.warning ∙ b.warning)
 
 -- what a text spells is said by its elements
-said : (text : List ℕ) (es : List Element) (c : Command) → SpellsElements text es → Spells text c → Says es c
+pub said : (text : List ℕ) (es : List Element) (c : Command) → SpellsElements text es → Spells text c → Says es c
 said text es c elements spells = subst (λ (fs : List Element). Says fs c) (one_list text spells.0 es spells.1 elements) spells.2
 
 pub one_command : (text : List ℕ) (c d : Command) → Spells text c → Spells text d → c ≡ d

@@ -9,9 +9,10 @@ use Rattle.std.proofs.lemmas.List.Concat.{flat_map-cons}
 use Rattle.std.proofs.lemmas.List.Sums.{suffix_len-le-length, suffix_len-take_no, prefix_len_stops}
 use Rattle.dimse.specs.declared.command.Command.{Command}
 use Rattle.dimse.specs.declared.command.TheConstants.{LONGEST_COMMAND}
-use Rattle.dimse.specs.declared.tags.TheConstants.{AFFECTED_CLASS, AFFECTED_INSTANCE}
+use Rattle.dictionary.specs.declared.commands.TheConstants.{AFFECTED_SOP_CLASS_UID, AFFECTED_SOP_INSTANCE_UID}
 use Rattle.dimse.specs.declared.fault.DimseFault.{DimseFault}
-use Rattle.dimse.specs.Uid.{IsUid, is_padding, is_graphic, trimmed}
+use Rattle.octets.specs.Padding.{is_padding, without_padding}
+use Rattle.dimse.specs.Uid.{IsUid, is_graphic}
 use Rattle.dimse.specs.Elements.{Element, element_text, text_of, tag_text, value_of}
 use Rattle.dimse.specs.Command.{is_lawful, is_number_tag, is_uid_tag, Says, IsCommand, HasRoom}
 
@@ -25,7 +26,7 @@ bare_at v k (suc n) is len =
     let at : get_or (reverse v) (suffix_len is_padding v) 0 ≡ get_or v (suc n - 1) 0 = get_or-reverse v (suffix_len is_padding v) 0 (omega arith) ∙ ap (λ (i : ℕ). get_or v i 0) place in
     suffix_len-take_no is_padding v (suc n) 0 (omega arith) (omega arith) (ap is_padding (sym at) ∙ stops)
 
-bare : (v : List ℕ) → suffix_len is_padding (trimmed v) ≡ 0
+bare : (v : List ℕ) → suffix_len is_padding (without_padding v) ≡ 0
 bare v = bare_at v (suffix_len is_padding v) (length v - suffix_len is_padding v) refl (omega (arith, suffix_len-le-length is_padding v))
 
 -- the element with a value
@@ -61,21 +62,21 @@ found (e ∷ es) tag v lawful is =
     let both = and_true (is_lawful e) (list_all is_lawful es) lawful in
     found_at e es tag v (e.tag == tag) refl both.0 (found es tag v both.1) is
 
-uid_value : (tag : ℕ) (v : List ℕ) (a b : Bool) → a ≡ false → b ≡ true → cond a (length v == 2) (cond b (list_all is_graphic (trimmed v)) true) ≡ true → list_all is_graphic (trimmed v) ≡ true
+uid_value : (tag : ℕ) (v : List ℕ) (a b : Bool) → a ≡ false → b ≡ true → cond a (length v == 2) (cond b (list_all is_graphic (without_padding v)) true) ≡ true → list_all is_graphic (without_padding v) ≡ true
 uid_value tag v true b p q h = absurd cc
 uid_value tag v false true p q h = h
 uid_value tag v false false p q h = absurd cc
 
-graphic : (e : Element) (tag : ℕ) (v : List ℕ) → is_number_tag tag ≡ false → is_uid_tag tag ≡ true → e.tag ≡ tag → e.value ≡ v → is_lawful e ≡ true → list_all is_graphic (trimmed v) ≡ true
+graphic : (e : Element) (tag : ℕ) (v : List ℕ) → is_number_tag tag ≡ false → is_uid_tag tag ≡ true → e.tag ≡ tag → e.value ≡ v → is_lawful e ≡ true → list_all is_graphic (without_padding v) ≡ true
 unfolding is_lawful
 graphic e tag v p q t w lawful =
     uid_value tag v (is_number_tag e.tag) (is_uid_tag e.tag) (ap is_number_tag t ∙ p) (ap is_uid_tag t ∙ q)
-    (subst (λ (x : List ℕ). cond (is_number_tag e.tag) (length x == 2) (cond (is_uid_tag e.tag) (list_all is_graphic (trimmed x)) true) ≡ true) w lawful)
+    (subst (λ (x : List ℕ). cond (is_number_tag e.tag) (length x == 2) (cond (is_uid_tag e.tag) (list_all is_graphic (without_padding x)) true) ≡ true) w lawful)
 
 abbrev ShortIn : List Element → List ℕ → Type 0
 ShortIn es uid = IsUid uid × (length uid ≤ length (text_of es))
 
-uid_at : (es : List Element) (tag : ℕ) (o w : Option (List ℕ)) → list_all is_lawful es ≡ true → is_number_tag tag ≡ false → is_uid_tag tag ≡ true → value_of es tag ≡ w → option_map trimmed w ≡ o → IfSome o (ShortIn es)
+uid_at : (es : List Element) (tag : ℕ) (o w : Option (List ℕ)) → list_all is_lawful es ≡ true → is_number_tag tag ≡ false → is_uid_tag tag ≡ true → value_of es tag ≡ w → option_map without_padding w ≡ o → IfSome o (ShortIn es)
 uid_at es tag o None lawful p q is uid = subst (λ (x : Option (List ℕ)). IfSome x (ShortIn es)) uid tt
 uid_at es tag o (Some v) lawful p q is uid =
     let f = found es tag v lawful is in
@@ -93,10 +94,10 @@ second_of es None le h = tt
 second_of es (Some uid) le h = omega (arith, h.1)
 
 class_in : (es : List Element) (c : Command) → Says es c → IfSome c.affected_class (ShortIn es)
-class_in es c says = uid_at es AFFECTED_CLASS c.affected_class (value_of es AFFECTED_CLASS) says.lawful refl refl refl says.affected_class
+class_in es c says = uid_at es AFFECTED_SOP_CLASS_UID c.affected_class (value_of es AFFECTED_SOP_CLASS_UID) says.lawful refl refl refl says.affected_class
 
 instance_in : (es : List Element) (c : Command) → Says es c → IfSome c.affected_instance (ShortIn es)
-instance_in es c says = uid_at es AFFECTED_INSTANCE c.affected_instance (value_of es AFFECTED_INSTANCE) says.lawful refl refl refl says.affected_instance
+instance_in es c says = uid_at es AFFECTED_SOP_INSTANCE_UID c.affected_instance (value_of es AFFECTED_SOP_INSTANCE_UID) says.lawful refl refl refl says.affected_instance
 
 pub lawful_read : (es : List Element) (r : Result Command DimseFault) → IfOk r (Says es) → IfOk r IsCommand
 lawful_read es (Ok c) says = record { affected_class = first_of es c.affected_class (class_in es c says); affected_instance = first_of es c.affected_instance (instance_in es c says); complete = says.complete }

@@ -8,3 +8,5 @@ pub mod SoundLaws
 pub mod SpelledLaws
 pub mod FragmentLaws
 pub mod LawfulLaws
+pub mod CutLaws
+pub mod TotalLaws

@@ -15,7 +15,7 @@ use Rattle.dimse.specs.declared.assembler.Stage.TheVariants.{Between, InCommand,
 use Rattle.dimse.specs.declared.command.TheConstants.{LONGEST_COMMAND}
 use Rattle.dimse.specs.declared.assembler.TheConstants.{LONGEST_DATA_SET}
 use Rattle.dimse.specs.Command.{announces}
-use Rattle.dimse.specs.Assembly.{Assembly, accepts, has_place, text_so_far, limit_of, is_over, fault_of, Closes, Advances}
+use Rattle.dimse.specs.Assembly.{Assembly, accepts, has_place, text_so_far, limit_of, is_over, fault_of, Closes, Advances, Feeds}
 use Rattle.dimse.specs.Messages.{IsOf, Opens, Joins, IsBody, IsTaken, BeginsDataSet, Holds, Run, messages, first_fault, Ends}
 
 -- ---- a fragment without a fault
@@ -191,7 +191,7 @@ step_keeps contexts Failed pdvs p m next holds f takes = absurd holds
 
 -- ---- runs
 
-failed_fault : (contexts : List Context) (p : Pdv) → fault_of contexts Failed p ≡ Some HasFailed
+pub failed_fault : (contexts : List Context) (p : Pdv) → fault_of contexts Failed p ≡ Some HasFailed
 unfolding fault_of
 failed_fault contexts p = refl
 
@@ -243,6 +243,16 @@ all_refused a b (p ∷ ps) (r ∷ rs) failed run =
     where_told : {P : Type 0} (r : Result (Option Message) DimseFault) → r ≡ Err HasFailed → OnErr r P → P
     where_told (Ok m) told h = absurd cc
     where_told (Err f) told h = h
+
+-- after a fault the next answer is Failed, and it stays so
+pub refused_again : (a : Assembly) (p : Pdv) (r : Result (Option Message) DimseFault) (b : Assembly) → a.stage ≡ Failed → Feeds a p r b → (r ≡ Err HasFailed) × (b.stage ≡ Failed)
+refused_again a p r b failed fed =
+    let told : r ≡ Err HasFailed = fed.refused HasFailed (rw failed (failed_fault a.contexts p)) in
+    (told, still r told fed.failing)
+  where
+    still : {P : Type 0} (r : Result (Option Message) DimseFault) → r ≡ Err HasFailed → OnErr r P → P
+    still (Ok m) told h = absurd cc
+    still (Err f) told h = h
 
 pub refused_after : (a b : Assembly) (ps : List Pdv) (rs : List (Result (Option Message) DimseFault)) → a.stage ≡ Failed → Run a ps rs b → All (λ r. r ≡ Err HasFailed) rs × (b ≡ a)
 refused_after a b ps rs failed run =

@@ -16,13 +16,11 @@ use Rattle.dimse.specs.Command.{Spells, announces}
 use Rattle.dimse.specs.Assembly.{Assembly, accepts, fault_of, Closes, AdvancesCommand, Advances, EndsNoCommand, IsCause, Feeds}
 use Rattle.dimse.specs.Messages.{IsOf, Opens, Joins, IsTaken, Holds, Splits, Run, fresh, messages, first_fault, Ends, HadMemory}
 use Rattle.dimse.proofs.CommandLaws.{one_command}
+use Rattle.dimse.proofs.StepLaws.{refusal}
 use Rattle.dimse.proofs.RunLaws.{Faultless, faultless_is, with_body, no_more}
 
 abbrev Answer : Type 0
 Answer = Result (Option Message) DimseFault
-
-abbrev refusal : DimseFault → Answer
-refusal f = Err f
 
 abbrev at : List Context → Stage → Assembly
 at contexts stage = record { contexts = contexts; stage = stage }
@@ -135,7 +133,7 @@ goes_ends contexts context text (InCommand k t) p g ends = (ends.0, subst (λ (t
 goes_ends contexts context text (InDataSet k c t) p g ends = absurd g.at_text
 goes_ends contexts context text Failed p g ends = absurd g.at_text
 
-where_false : (b : Bool) (P Q : Type 0) → b ≡ false → MatchBool b P Q → Q
+pub where_false : (b : Bool) (P Q : Type 0) → b ≡ false → MatchBool b P Q → Q
 where_false true P Q e h = absurd cc
 where_false false P Q e h = h
 
@@ -417,9 +415,3 @@ spelled_is_answered contexts pdvs b rs ms (Some f) run memory ends other =
     let left = splits_pass contexts ends.0 ms ends.3 ends.5 (ends.2 ∷ ends.1) rs b (subst (λ (ps : List Pdv). Run (fresh contexts) ps rs b) ends.4 run) memory in
     let end = ends_here (at contexts ends.3) ends.2 ends.1 left.rest b f ends.6 (memory_is f other) left.memory left.run in
     (left.told ∙ ap (λ (t : List Message). ms ++ t) end.0 ∙ append-nil ms, left.fault ∙ end.1)
-
-pub same_however_cut : (contexts : List Context) (ps qs : List Pdv) (b d : Assembly) (rs ss : List Answer) → Run (fresh contexts) ps rs b → HadMemory rs → Run (fresh contexts) qs ss d → HadMemory ss → (ms : List Message) (o : Option DimseFault) → Ends contexts ps ms o → Ends contexts qs ms o → o ≢ Some Memory → (messages rs ≡ messages ss) × (first_fault rs ≡ first_fault ss)
-same_however_cut contexts ps qs b d rs ss run memory other_run other_memory ms o ends other_ends not_memory =
-    let one = spelled_is_answered contexts ps b rs ms o run memory ends not_memory in
-    let two = spelled_is_answered contexts qs d ss ms o other_run other_memory other_ends not_memory in
-    (one.0 ∙ sym two.0, one.1 ∙ sym two.1)

@@ -11,6 +11,9 @@ use Rattle.dimse.specs.declared.assembler.Stage.TheVariants.{Between, InCommand,
 use Rattle.dimse.specs.Refusal.{IsRefusal}
 use Rattle.dimse.specs.Assembly.{Assembly, fault_of, AdvancesCommand, EndsNoCommand, IsRefusalAt, LeadsTo, IsCause, Feeds}
 
+abbrev pub refusal : DimseFault → Result (Option Message) DimseFault
+refusal f = Err f
+
 pub refused_at : {X : Type 0} (text : List ℕ) (p : Pdv) (r : Result X DimseFault) → p.last ≡ true → IfErr r (IsRefusal (text ++ p.fragment)) → IfErr r (IsRefusalAt (InCommand 0 text) p)
 refused_at text p (Ok x) last refused = tt
 refused_at text p (Err BadCommand) last refused = (last, refused)
@@ -51,6 +54,26 @@ not_bad_command contexts (InCommand context text) p e = not_read _ _ _ e
 not_bad_command contexts (InDataSet context command text) p e = not_read _ _ _ e
 not_bad_command contexts Failed p e = cc
 
+-- Want of memory is no fault that a fragment has.
+not_said : (a b c : Bool) → cond a (Some BadContext) (cond b (Some Interleaved) (cond c (Some TooLong) None)) ≡ Some Memory → ⊥
+not_said true b c e = cc
+not_said false true c e = cc
+not_said false false true e = cc
+not_said false false false e = cc
+
+no_memory : (contexts : List Context) (stage : Stage) (p : Pdv) → fault_of contexts stage p ≡ Some Memory → ⊥
+unfolding fault_of
+no_memory contexts Between p e = not_said _ _ _ e
+no_memory contexts (InCommand context text) p e = not_said _ _ _ e
+no_memory contexts (InDataSet context command text) p e = not_said _ _ _ e
+no_memory contexts Failed p e = cc
+
+pub not_memory : (contexts : List Context) (stage : Stage) (p : Pdv) (f : DimseFault) → fault_of contexts stage p ≡ Some f → refusal f ≡ refusal Memory → ⊥
+not_memory contexts stage p f fault is = no_memory contexts stage p (fault ∙ same_refusal f Memory is)
+  where
+    same_refusal : (f g : DimseFault) → refusal f ≡ refusal g → Some f ≡ Some g
+    same_refusal f g e = cc
+
 pub is_cause : (old : Assembly) (p : Pdv) (f : DimseFault) → fault_of old.contexts old.stage p ≡ Some f → IsCause old p f
 is_cause old p BadCommand e = absurd (not_bad_command old.contexts old.stage p e)
 is_cause old p Memory e = tt
@@ -59,10 +82,7 @@ is_cause old p Interleaved e = e
 is_cause old p TooLong e = e
 is_cause old p HasFailed e = e
 
-abbrev refusal : DimseFault → Result (Option Message) DimseFault
-refusal f = Err f
-
-same_fault : (f g : DimseFault) → Some f ≡ Some g → refusal f ≡ refusal g
+pub same_fault : (f g : DimseFault) → Some f ≡ Some g → refusal f ≡ refusal g
 same_fault f g e = cc
 
 -- a fragment with a fault

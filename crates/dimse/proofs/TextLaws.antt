@@ -53,11 +53,11 @@ takes_shorter e rest after parts = omega (arith, ap length parts, length-append 
 
 -- ---- no other elements
 
-abbrev Front : Type 0
+abbrev pub Front : Type 0
 Front = Element × List ℕ
 
 -- two elements at the front of one text
-one_front : (previous : Option ℕ) (d e : Element) (x y : List ℕ) → IsElement previous d → IsElement previous e → element_text d ++ x ≡ element_text e ++ y → (d ≡ e) × (x ≡ y)
+pub one_front : (previous : Option ℕ) (d e : Element) (x y : List ℕ) → IsElement previous d → IsElement previous e → element_text d ++ x ≡ element_text e ++ y → (d ≡ e) × (x ≡ y)
 one_front previous d e x y is_d is_e same =
     let made : Element × List ℕ = (d, x) in
     let other : Element × List ℕ = (e, y) in
@@ -65,7 +65,7 @@ one_front previous d e x y is_d is_e same =
     (ap (λ (p : Front). p.0) both, ap (λ (p : Front). p.1) both)
 
 -- an element has a byte or more
-not_empty : (e : Element) (rest : List ℕ) → [] ≡ element_text e ++ rest → ⊥
+pub not_empty : (e : Element) (rest : List ℕ) → [] ≡ element_text e ++ rest → ⊥
 not_empty e rest same = absurd cc
 
 -- what spells the whole text goes on behind a front of it

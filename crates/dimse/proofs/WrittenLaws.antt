@@ -12,8 +12,9 @@ use Rattle.std.proofs.lemmas.List.Concat.{flat_map-cons, flat_map-append}
 use Rattle.std.proofs.lemmas.Nat.{from_le_bytes-to_le_bytes_2}
 use Rattle.dimse.specs.declared.command.Command.{Command}
 use Rattle.dimse.specs.declared.command.TheConstants.{LONGEST_COMMAND}
-use Rattle.dimse.specs.declared.tags.TheConstants.{GROUP_LENGTH, AFFECTED_CLASS, COMMAND_FIELD, MESSAGE_ID, RESPONDED_TO, PRIORITY, DATA_SET_TYPE, STATUS, AFFECTED_INSTANCE, REMAINING, COMPLETED, FAILED, WARNING}
-use Rattle.dimse.specs.Uid.{IsUid, is_padding, is_graphic, trimmed, padded}
+use Rattle.dictionary.specs.declared.commands.TheConstants.{COMMAND_GROUP_LENGTH, AFFECTED_SOP_CLASS_UID, COMMAND_FIELD, MESSAGE_ID, MESSAGE_ID_BEING_RESPONDED_TO, PRIORITY, COMMAND_DATA_SET_TYPE, STATUS, AFFECTED_SOP_INSTANCE_UID, NUMBER_OF_REMAINING_SUBOPERATIONS, NUMBER_OF_COMPLETED_SUBOPERATIONS, NUMBER_OF_FAILED_SUBOPERATIONS, NUMBER_OF_WARNING_SUBOPERATIONS}
+use Rattle.octets.specs.Padding.{is_padding, without_padding}
+use Rattle.dimse.specs.Uid.{IsUid, is_graphic, padded}
 use Rattle.dimse.specs.Elements.{Element, element_text, text_of, is_above, AreElements, value_of}
 use Rattle.dimse.specs.Command.{is_lawful, is_number_tag, is_uid_tag, number_from, number_of, uid_of, Says, Spells, number_field, uid_field, fields_of, field_elements, elements_of, fields_text, group_length, command_text, FitsTwoBytes, IsCommand, HasRoom}
 
@@ -219,30 +220,30 @@ number_lawful tag (Some n) is = rw is refl
 -- ---- UIDs
 
 -- a 00 more at the end is dropped
-trimmed_zero : (uid : List ℕ) → suffix_len is_padding uid ≡ 0 → trimmed (uid ++ 0 ∷ []) ≡ uid
+trimmed_zero : (uid : List ℕ) → suffix_len is_padding uid ≡ 0 → without_padding (uid ++ 0 ∷ []) ≡ uid
 trimmed_zero uid bare =
     let one : suffix_len is_padding (uid ++ 0 ∷ []) ≡ 1 = ap (prefix_len is_padding) (reverse-append uid (0 ∷ [])) ∙ ap (λ (n : ℕ). 1 + n) bare in
     let len : length (uid ++ 0 ∷ []) - 1 ≡ length uid = omega (arith, length-append uid (0 ∷ [])) in
     rw (one, len) (take_at uid (0 ∷ []) (length uid) refl)
 
-trimmed_bare : (uid : List ℕ) → suffix_len is_padding uid ≡ 0 → trimmed uid ≡ uid
+trimmed_bare : (uid : List ℕ) → suffix_len is_padding uid ≡ 0 → without_padding uid ≡ uid
 trimmed_bare uid bare = rw bare (take_all (length uid - 0) uid (omega arith))
 
-padded_by : (uid : List ℕ) (b : Bool) → suffix_len is_padding uid ≡ 0 → trimmed (if b then uid else uid ++ 0 ∷ []) ≡ uid
+padded_by : (uid : List ℕ) (b : Bool) → suffix_len is_padding uid ≡ 0 → without_padding (if b then uid else uid ++ 0 ∷ []) ≡ uid
 padded_by uid true bare = trimmed_bare uid bare
 padded_by uid false bare = trimmed_zero uid bare
 
-pub trimmed-padded : (uid : List ℕ) → IsUid uid → trimmed (padded uid) ≡ uid
-trimmed-padded uid is = padded_by uid (length uid % 2 == 0) is.bare
+pub without_padding-padded : (uid : List ℕ) → IsUid uid → without_padding (padded uid) ≡ uid
+without_padding-padded uid is = padded_by uid (length uid % 2 == 0) is.bare
 
 uid_lawful : (tag : ℕ) (o : Option (List ℕ)) → is_number_tag tag ≡ false → is_uid_tag tag ≡ true → IfSome o IsUid → IfSome (uid_field o) (λ v. is_lawful (record { tag = tag; value = v }) ≡ true)
 unfolding is_lawful
 uid_lawful tag None not is uid = tt
-uid_lawful tag (Some u) not is uid = rw (not, is) (ap (list_all is_graphic) (trimmed-padded u uid) ∙ uid.graphic)
+uid_lawful tag (Some u) not is uid = rw (not, is) (ap (list_all is_graphic) (without_padding-padded u uid) ∙ uid.graphic)
 
-uid_again : (o : Option (List ℕ)) → IfSome o IsUid → option_map trimmed (uid_field o) ≡ o
+uid_again : (o : Option (List ℕ)) → IfSome o IsUid → option_map without_padding (uid_field o) ≡ o
 uid_again None uid = refl
-uid_again (Some u) uid = ap (λ (x : List ℕ). Some x) (trimmed-padded u uid)
+uid_again (Some u) uid = ap (λ (x : List ℕ). Some x) (without_padding-padded u uid)
 
 number_again : (o : Option ℕ) → IfSome o (λ n. n < 2 ^ 16) → option_and_then number_from (number_field o) ≡ o
 number_again None fits = refl
@@ -250,7 +251,7 @@ number_again (Some n) fits = ap (λ (x : ℕ). Some x) (from_le_bytes-to_le_byte
 
 -- ---- the fields of a command
 
-ascend : (c : Command) → Ascend (Some GROUP_LENGTH) (fields_of c)
+ascend : (c : Command) → Ascend (Some COMMAND_GROUP_LENGTH) (fields_of c)
 ascend c = (refl, lit< tt, (refl, lit< tt, (refl, lit< tt, (refl, lit< tt, (refl, lit< tt, (refl, lit< tt, (refl, lit< tt, (refl, lit< tt, (refl, lit< tt, (refl, lit< tt, (refl, lit< tt, (refl, lit< tt, tt))))))))))))
 
 have_room : (fs : List Field) (n : ℕ) → n < 2 ^ 32 → AreShort n fs → HaveRoom fs
@@ -259,29 +260,29 @@ have_room (f ∷ fs) n lt short = (below f.1 n (2 ^ 32) lt short.0, have_room fs
 
 lawful : (c : Command) → IsCommand c → AreLawful (fields_of c)
 lawful c is = (
-  uid_lawful AFFECTED_CLASS c.affected_class refl refl is.affected_class,
+  uid_lawful AFFECTED_SOP_CLASS_UID c.affected_class refl refl is.affected_class,
   (
     number_lawful COMMAND_FIELD (Some c.field) refl,
     (
       number_lawful MESSAGE_ID c.message_id refl,
       (
-        number_lawful RESPONDED_TO c.responded_to refl,
+        number_lawful MESSAGE_ID_BEING_RESPONDED_TO c.responded_to refl,
         (
           number_lawful PRIORITY c.priority refl,
           (
-            number_lawful DATA_SET_TYPE (Some c.data_set_type) refl,
+            number_lawful COMMAND_DATA_SET_TYPE (Some c.data_set_type) refl,
             (
               number_lawful STATUS c.status refl,
               (
-                uid_lawful AFFECTED_INSTANCE c.affected_instance refl refl is.affected_instance,
+                uid_lawful AFFECTED_SOP_INSTANCE_UID c.affected_instance refl refl is.affected_instance,
                 (
-                  number_lawful REMAINING c.remaining refl,
+                  number_lawful NUMBER_OF_REMAINING_SUBOPERATIONS c.remaining refl,
                   (
-                    number_lawful COMPLETED c.completed refl,
+                    number_lawful NUMBER_OF_COMPLETED_SUBOPERATIONS c.completed refl,
                     (
-                      number_lawful FAILED c.failed refl,
+                      number_lawful NUMBER_OF_FAILED_SUBOPERATIONS c.failed refl,
                       (
-                        number_lawful WARNING c.warning refl,
+                        number_lawful NUMBER_OF_WARNING_SUBOPERATIONS c.warning refl,
                         tt,
                       ),
                     ),
@@ -300,10 +301,10 @@ abbrev written : Command → List Element
 written c = group_length c ∷ elements_of (fields_of c)
 
 number_written : (c : Command) (t : ℕ) (o : Option ℕ) → value_of (written c) t ≡ value_of (elements_of (fields_of c)) t → lookup (fields_of c) t ≡ number_field o → IfSome o (λ n. n < 2 ^ 16) → number_of (written c) t ≡ o
-number_written c t o behind is fits = ap (option_and_then number_from) (behind ∙ value-fields (Some GROUP_LENGTH) (fields_of c) t (ascend c) ∙ is) ∙ number_again o fits
+number_written c t o behind is fits = ap (option_and_then number_from) (behind ∙ value-fields (Some COMMAND_GROUP_LENGTH) (fields_of c) t (ascend c) ∙ is) ∙ number_again o fits
 
 uid_written : (c : Command) (t : ℕ) (o : Option (List ℕ)) → value_of (written c) t ≡ value_of (elements_of (fields_of c)) t → lookup (fields_of c) t ≡ uid_field o → IfSome o IsUid → uid_of (written c) t ≡ o
-uid_written c t o behind is uid = ap (option_map trimmed) (behind ∙ value-fields (Some GROUP_LENGTH) (fields_of c) t (ascend c) ∙ is) ∙ uid_again o uid
+uid_written c t o behind is uid = ap (option_map without_padding) (behind ∙ value-fields (Some COMMAND_GROUP_LENGTH) (fields_of c) t (ascend c) ∙ is) ∙ uid_again o uid
 
 group_lawful : (c : Command) → is_lawful (group_length c) ≡ true
 unfolding is_lawful
@@ -312,23 +313,23 @@ group_lawful c = refl
 says_written : (c : Command) → IsCommand c → FitsTwoBytes c → Says (written c) c
 says_written c is fits = record {
   lawful = rw (group_lawful c) (fields_lawful (fields_of c) (lawful c is));
-  affected_class = uid_written c AFFECTED_CLASS c.affected_class refl refl is.affected_class;
+  affected_class = uid_written c AFFECTED_SOP_CLASS_UID c.affected_class refl refl is.affected_class;
   field = number_written c COMMAND_FIELD (Some c.field) refl refl fits.field;
   message_id = number_written c MESSAGE_ID c.message_id refl refl fits.message_id;
-  responded_to = number_written c RESPONDED_TO c.responded_to refl refl fits.responded_to;
+  responded_to = number_written c MESSAGE_ID_BEING_RESPONDED_TO c.responded_to refl refl fits.responded_to;
   priority = number_written c PRIORITY c.priority refl refl fits.priority;
-  data_set_type = number_written c DATA_SET_TYPE (Some c.data_set_type) refl refl fits.data_set_type;
+  data_set_type = number_written c COMMAND_DATA_SET_TYPE (Some c.data_set_type) refl refl fits.data_set_type;
   status = number_written c STATUS c.status refl refl fits.status;
-  affected_instance = uid_written c AFFECTED_INSTANCE c.affected_instance refl refl is.affected_instance;
-  remaining = number_written c REMAINING c.remaining refl refl fits.remaining;
-  completed = number_written c COMPLETED c.completed refl refl fits.completed;
-  failed = number_written c FAILED c.failed refl refl fits.failed;
-  warning = number_written c WARNING c.warning refl refl fits.warning;
+  affected_instance = uid_written c AFFECTED_SOP_INSTANCE_UID c.affected_instance refl refl is.affected_instance;
+  remaining = number_written c NUMBER_OF_REMAINING_SUBOPERATIONS c.remaining refl refl fits.remaining;
+  completed = number_written c NUMBER_OF_COMPLETED_SUBOPERATIONS c.completed refl refl fits.completed;
+  failed = number_written c NUMBER_OF_FAILED_SUBOPERATIONS c.failed refl refl fits.failed;
+  warning = number_written c NUMBER_OF_WARNING_SUBOPERATIONS c.warning refl refl fits.warning;
   complete = is.complete;
 }
 
 are_written : (c : Command) → HasRoom c → AreElements None (written c)
-are_written c room = (record { tag = lit< tt; size = lit< tt; above = refl }, fields_are (Some GROUP_LENGTH) (fields_of c) (ascend c) (have_room (fields_of c) (length (fields_text c)) (text_fits c room) (fields_short c)))
+are_written c room = (record { tag = lit< tt; size = lit< tt; above = refl }, fields_are (Some COMMAND_GROUP_LENGTH) (fields_of c) (ascend c) (have_room (fields_of c) (length (fields_text c)) (text_fits c room) (fields_short c)))
 
 text-written : (c : Command) → command_text c ≡ text_of (written c)
 unfolding fields_text

@@ -4,29 +4,30 @@ use Rattle.std.specs.List.{list_all}
 use Rattle.std.specs.Option.{option_map}
 use Rattle.std.specs.Int.{w16, w32, to_le_bytes, from_le_bytes}
 use Rattle.dimse.specs.declared.command.Command.{Command}
-use Rattle.dimse.specs.declared.command.TheConstants.{LONGEST_COMMAND, NO_DATA_SET}
-use Rattle.dimse.specs.declared.tags.TheConstants.{GROUP_LENGTH, AFFECTED_CLASS, COMMAND_FIELD, MESSAGE_ID, RESPONDED_TO, PRIORITY, DATA_SET_TYPE, STATUS, AFFECTED_INSTANCE, REMAINING, COMPLETED, FAILED, WARNING}
+use Rattle.dimse.specs.declared.command.TheConstants.{LONGEST_COMMAND}
+use Rattle.dictionary.specs.declared.commands.TheConstants.{C_STORE_RQ, NO_DATA_SET, COMMAND_GROUP_LENGTH, AFFECTED_SOP_CLASS_UID, COMMAND_FIELD, MESSAGE_ID, MESSAGE_ID_BEING_RESPONDED_TO, PRIORITY, COMMAND_DATA_SET_TYPE, STATUS, AFFECTED_SOP_INSTANCE_UID, NUMBER_OF_REMAINING_SUBOPERATIONS, NUMBER_OF_COMPLETED_SUBOPERATIONS, NUMBER_OF_FAILED_SUBOPERATIONS, NUMBER_OF_WARNING_SUBOPERATIONS}
 use Rattle.dimse.specs.CommandField.{is_response_code, names_class_code}
 use Rattle.dimse.specs.Elements.{Element, AreElements, text_of, element_text, value_of}
-use Rattle.dimse.specs.Uid.{IsUid, is_graphic, trimmed, padded}
+use Rattle.octets.specs.Padding.{without_padding}
+use Rattle.dimse.specs.Uid.{IsUid, is_graphic, padded}
 
 -- ---- what elements say
 
 -- the elements that hold a number of two bytes
 abbrev pub is_number_tag : ℕ → Bool
 is_number_tag tag =
-    tag == COMMAND_FIELD || tag == MESSAGE_ID || tag == RESPONDED_TO || tag == PRIORITY || tag == DATA_SET_TYPE || tag == STATUS
-    || tag == REMAINING || tag == COMPLETED || tag == FAILED || tag == WARNING
+    tag == COMMAND_FIELD || tag == MESSAGE_ID || tag == MESSAGE_ID_BEING_RESPONDED_TO || tag == PRIORITY || tag == COMMAND_DATA_SET_TYPE || tag == STATUS
+    || tag == NUMBER_OF_REMAINING_SUBOPERATIONS || tag == NUMBER_OF_COMPLETED_SUBOPERATIONS || tag == NUMBER_OF_FAILED_SUBOPERATIONS || tag == NUMBER_OF_WARNING_SUBOPERATIONS
 
 -- the elements that hold a UID
 abbrev pub is_uid_tag : ℕ → Bool
-is_uid_tag tag = tag == AFFECTED_CLASS || tag == AFFECTED_INSTANCE
+is_uid_tag tag = tag == AFFECTED_SOP_CLASS_UID || tag == AFFECTED_SOP_INSTANCE_UID
 
 -- A number has two bytes, and a UID printable ones before its padding. Nothing is asked of another element.
 unfoldable pub is_lawful : Element → Bool
 is_lawful e =
     if is_number_tag e.tag then length e.value == 2
-    else if is_uid_tag e.tag then list_all is_graphic (trimmed e.value)
+    else if is_uid_tag e.tag then list_all is_graphic (without_padding e.value)
     else true
 
 -- a number of two bytes, the low byte first
@@ -39,30 +40,30 @@ number_of es tag = option_and_then number_from (value_of es tag)
 
 -- a UID without its padding
 abbrev pub uid_of : List Element → ℕ → Option (List ℕ)
-uid_of es tag = option_map trimmed (value_of es tag)
+uid_of es tag = option_map without_padding (value_of es tag)
 
 -- what a message of its kind needs: an ID, or that of the request that it answers; a class; an instance
 unfoldable pub is_complete : Command → Bool
 is_complete c =
     (if is_response_code c.field then is_some c.responded_to else is_some c.message_id)
     && (not (names_class_code c.field) || is_some c.affected_class)
-    && (not (c.field == 0x0001) || is_some c.affected_instance)
+    && (not (c.field == C_STORE_RQ) || is_some c.affected_instance)
 
 -- Lawful elements say this command. Other elements, and the group length, say nothing.
 pub record Says (es : List Element) (c : Command) : Type 0 where
   pub lawful : list_all is_lawful es ≡ true
-  pub affected_class : uid_of es AFFECTED_CLASS ≡ c.affected_class
+  pub affected_class : uid_of es AFFECTED_SOP_CLASS_UID ≡ c.affected_class
   pub field : number_of es COMMAND_FIELD ≡ Some c.field
   pub message_id : number_of es MESSAGE_ID ≡ c.message_id
-  pub responded_to : number_of es RESPONDED_TO ≡ c.responded_to
+  pub responded_to : number_of es MESSAGE_ID_BEING_RESPONDED_TO ≡ c.responded_to
   pub priority : number_of es PRIORITY ≡ c.priority
-  pub data_set_type : number_of es DATA_SET_TYPE ≡ Some c.data_set_type
+  pub data_set_type : number_of es COMMAND_DATA_SET_TYPE ≡ Some c.data_set_type
   pub status : number_of es STATUS ≡ c.status
-  pub affected_instance : uid_of es AFFECTED_INSTANCE ≡ c.affected_instance
-  pub remaining : number_of es REMAINING ≡ c.remaining
-  pub completed : number_of es COMPLETED ≡ c.completed
-  pub failed : number_of es FAILED ≡ c.failed
-  pub warning : number_of es WARNING ≡ c.warning
+  pub affected_instance : uid_of es AFFECTED_SOP_INSTANCE_UID ≡ c.affected_instance
+  pub remaining : number_of es NUMBER_OF_REMAINING_SUBOPERATIONS ≡ c.remaining
+  pub completed : number_of es NUMBER_OF_COMPLETED_SUBOPERATIONS ≡ c.completed
+  pub failed : number_of es NUMBER_OF_FAILED_SUBOPERATIONS ≡ c.failed
+  pub warning : number_of es NUMBER_OF_WARNING_SUBOPERATIONS ≡ c.warning
   pub complete : is_complete c ≡ true
 
 -- The whole text spells these elements.
@@ -86,18 +87,18 @@ uid_field uid = option_map padded uid
 -- the fields by ascending tag, each with its value where the command has it
 abbrev pub fields_of : Command → List (ℕ × Option (List ℕ))
 fields_of c =
-    (AFFECTED_CLASS, uid_field c.affected_class)
+    (AFFECTED_SOP_CLASS_UID, uid_field c.affected_class)
     ∷ (COMMAND_FIELD, number_field (Some c.field))
     ∷ (MESSAGE_ID, number_field c.message_id)
-    ∷ (RESPONDED_TO, number_field c.responded_to)
+    ∷ (MESSAGE_ID_BEING_RESPONDED_TO, number_field c.responded_to)
     ∷ (PRIORITY, number_field c.priority)
-    ∷ (DATA_SET_TYPE, number_field (Some c.data_set_type))
+    ∷ (COMMAND_DATA_SET_TYPE, number_field (Some c.data_set_type))
     ∷ (STATUS, number_field c.status)
-    ∷ (AFFECTED_INSTANCE, uid_field c.affected_instance)
-    ∷ (REMAINING, number_field c.remaining)
-    ∷ (COMPLETED, number_field c.completed)
-    ∷ (FAILED, number_field c.failed)
-    ∷ (WARNING, number_field c.warning)
+    ∷ (AFFECTED_SOP_INSTANCE_UID, uid_field c.affected_instance)
+    ∷ (NUMBER_OF_REMAINING_SUBOPERATIONS, number_field c.remaining)
+    ∷ (NUMBER_OF_COMPLETED_SUBOPERATIONS, number_field c.completed)
+    ∷ (NUMBER_OF_FAILED_SUBOPERATIONS, number_field c.failed)
+    ∷ (NUMBER_OF_WARNING_SUBOPERATIONS, number_field c.warning)
     ∷ []
 
 -- the element of a field that has a value
@@ -115,7 +116,7 @@ fields_text c = text_of (elements_of (fields_of c))
 
 -- the group length, which counts what stands behind it, and then the fields
 abbrev pub group_length : Command → Element
-group_length c = record { tag = GROUP_LENGTH; value = to_le_bytes w32 (length (fields_text c)) }
+group_length c = record { tag = COMMAND_GROUP_LENGTH; value = to_le_bytes w32 (length (fields_text c)) }
 
 abbrev pub command_text : Command → List ℕ
 command_text c = element_text (group_length c) ++ fields_text c

@@ -1,20 +1,21 @@
 -- The command fields (PS3.7, section E.1).
 use Rattle.std.specs.Prelude.{◌≡◌, ◌≢◌, ℕ, Bool, ◌==◌, ◌||◌, nat_le, Result, MatchResult}
+use Rattle.dictionary.specs.declared.commands.TheConstants.{C_STORE_RQ, C_STORE_RSP, C_GET_RQ, C_GET_RSP, C_FIND_RQ, C_FIND_RSP, C_ECHO_RQ, C_ECHO_RSP, C_CANCEL_RQ}
 use Rattle.dimse.specs.declared.command_field.CommandField.{CommandField}
 use Rattle.dimse.specs.declared.command_field.CommandField.TheVariants.{StoreRequest, StoreResponse, GetRequest, GetResponse, FindRequest, FindResponse, EchoRequest, EchoResponse, CancelRequest}
 use Rattle.dimse.specs.declared.command_field.UnknownField.{UnknownField}
 
 -- the value of a command field
 abbrev pub code_of : CommandField → ℕ
-code_of StoreRequest = 0x0001
-code_of StoreResponse = 0x8001
-code_of GetRequest = 0x0010
-code_of GetResponse = 0x8010
-code_of FindRequest = 0x0020
-code_of FindResponse = 0x8020
-code_of EchoRequest = 0x0030
-code_of EchoResponse = 0x8030
-code_of CancelRequest = 0x0FFF
+code_of StoreRequest = C_STORE_RQ
+code_of StoreResponse = C_STORE_RSP
+code_of GetRequest = C_GET_RQ
+code_of GetResponse = C_GET_RSP
+code_of FindRequest = C_FIND_RQ
+code_of FindResponse = C_FIND_RSP
+code_of EchoRequest = C_ECHO_RQ
+code_of EchoResponse = C_ECHO_RSP
+code_of CancelRequest = C_CANCEL_RQ
 
 -- the field with this value, or an error with a value that no field has
 abbrev pub Decodes : ℕ → Result CommandField UnknownField → Type 0
@@ -22,8 +23,8 @@ Decodes code r = MatchResult r (λ field. code_of field ≡ code) (λ e. (e.0 �
 
 -- A response has the highest bit set, also one of no service here; a C-CANCEL answers a request too.
 abbrev pub is_response_code : ℕ → Bool
-is_response_code code = nat_le 0x8000 code || code == 0x0FFF
+is_response_code code = nat_le 0x8000 code || code == C_CANCEL_RQ
 
 -- the requests of C-STORE, C-GET, C-FIND and C-ECHO
 abbrev pub names_class_code : ℕ → Bool
-names_class_code code = code == 0x0001 || code == 0x0010 || code == 0x0020 || code == 0x0030
+names_class_code code = code == C_STORE_RQ || code == C_GET_RQ || code == C_FIND_RQ || code == C_ECHO_RQ

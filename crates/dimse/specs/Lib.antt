@@ -8,4 +8,5 @@ pub mod Refusal
 pub mod Response
 pub mod Sending
 pub mod Status
+pub mod Texts
 pub mod Uid

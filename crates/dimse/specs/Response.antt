@@ -1,7 +1,7 @@
 -- What answers a request (PS3.7, 9.3).
 use Rattle.std.specs.Prelude.{◌≡◌, ◌⊎◌, ℕ, ◌+◌, ◌==◌, nat_lt, true, false, List, Option, Some, None, if◌then◌else◌}
 use Rattle.dimse.specs.declared.command.Command.{Command}
-use Rattle.dimse.specs.declared.command.TheConstants.{NO_DATA_SET}
+use Rattle.dictionary.specs.declared.commands.TheConstants.{C_STORE_RQ, NO_DATA_SET}
 use Rattle.dimse.specs.CommandField.{is_response_code}
 
 -- the request's UID, or none
@@ -22,7 +22,7 @@ response_code code = if nat_lt code 0x8000 then code + 0x8000 else code
 
 -- the instance is told of a C-STORE
 abbrev pub told_instance : Command → Option (List ℕ)
-told_instance request = if request.field == 0x0001 then request.affected_instance else None
+told_instance request = if request.field == C_STORE_RQ then request.affected_instance else None
 
 -- the response without a data set
 unfoldable pub response_of : Command → ℕ → Command

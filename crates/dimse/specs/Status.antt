@@ -1,18 +1,19 @@
 -- The statuses (PS3.7, annex C; PS3.4, B.2.3 and C.4).
 use Rattle.std.specs.Prelude.{ℕ}
+use Rattle.dictionary.specs.declared.statuses.TheConstants.{STATUS_SUCCESS, STATUS_SOP_CLASS_NOT_SUPPORTED, STATUS_UNRECOGNIZED_OPERATION, STATUS_OUT_OF_RESOURCES, STATUS_UNABLE_TO_PERFORM_SUBOPERATIONS, STATUS_DATA_SET_DOES_NOT_MATCH, STATUS_SUBOPERATIONS_WITH_FAILURES, STATUS_CANNOT_UNDERSTAND, STATUS_CANCELED, STATUS_PENDING, STATUS_PENDING_WITHOUT_OPTIONAL_KEYS}
 use Rattle.dimse.specs.declared.status.Status.{Status}
 use Rattle.dimse.specs.declared.status.Status.TheVariants.{Success, SopClassNotSupported, UnrecognizedOperation, OutOfResources, UnableToPerformSubOperations, DataSetMismatch, SubOperationsWithFailures, CannotUnderstand, Cancel, Pending, PendingWithoutOptionalKeys}
 
 -- the value of a status
 abbrev pub status_code : Status → ℕ
-status_code Success = 0x0000
-status_code SopClassNotSupported = 0x0122
-status_code UnrecognizedOperation = 0x0211
-status_code OutOfResources = 0xA700
-status_code UnableToPerformSubOperations = 0xA702
-status_code DataSetMismatch = 0xA900
-status_code SubOperationsWithFailures = 0xB000
-status_code CannotUnderstand = 0xC000
-status_code Cancel = 0xFE00
-status_code Pending = 0xFF00
-status_code PendingWithoutOptionalKeys = 0xFF01
+status_code Success = STATUS_SUCCESS
+status_code SopClassNotSupported = STATUS_SOP_CLASS_NOT_SUPPORTED
+status_code UnrecognizedOperation = STATUS_UNRECOGNIZED_OPERATION
+status_code OutOfResources = STATUS_OUT_OF_RESOURCES
+status_code UnableToPerformSubOperations = STATUS_UNABLE_TO_PERFORM_SUBOPERATIONS
+status_code DataSetMismatch = STATUS_DATA_SET_DOES_NOT_MATCH
+status_code SubOperationsWithFailures = STATUS_SUBOPERATIONS_WITH_FAILURES
+status_code CannotUnderstand = STATUS_CANNOT_UNDERSTAND
+status_code Cancel = STATUS_CANCELED
+status_code Pending = STATUS_PENDING
+status_code PendingWithoutOptionalKeys = STATUS_PENDING_WITHOUT_OPTIONAL_KEYS

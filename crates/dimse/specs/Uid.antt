@@ -1,18 +1,11 @@
 -- UIDs as they stand in command sets (PS3.5, 9.1).
-use Rattle.std.specs.Prelude.{◌≡◌, ℕ, ◌-◌, ◌%◌, Bool, true, List, [], ◌∷◌, ◌++◌, ◌==◌, ◌||◌, ◌&&◌, nat_le, length, take, if◌then◌else◌}
+use Rattle.std.specs.Prelude.{◌≡◌, ℕ, ◌%◌, Bool, true, List, [], ◌∷◌, ◌++◌, ◌==◌, ◌&&◌, nat_le, length, if◌then◌else◌}
 use Rattle.std.specs.List.{list_all, suffix_len}
-
--- 00 and 20 pad a UID
-abbrev pub is_padding : ℕ → Bool
-is_padding b = b == 0 || b == 32
+use Rattle.octets.specs.Padding.{is_padding}
 
 -- a byte of 20 to 7E
 abbrev pub is_graphic : ℕ → Bool
 is_graphic b = nat_le 32 b && nat_le b 126
-
--- without the padding at its end
-abbrev pub trimmed : List ℕ → List ℕ
-trimmed value = take (length value - suffix_len is_padding value) value
 
 -- bytes of 20 to 7E, the last of which pads nothing
 pub record IsUid (uid : List ℕ) : Type 0 where

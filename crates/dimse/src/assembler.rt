@@ -21,7 +21,7 @@ use std::mem;
 pub const LONGEST_DATA_SET: usize = 67_108_864;
 
 /// What was put together since the last message.
-#[derive(Debug, Drop)]
+#[derive(Drop)]
 pub(crate) enum Stage {
     /// No fragment.
     Between,
@@ -36,8 +36,9 @@ pub(crate) enum Stage {
 /// Puts fragments together to messages.
 ///
 /// After a fault it takes no fragment.
-#[derive(Debug, Drop)]
+#[derive(Drop)]
 pub struct Assembler {
+    alloc: Global,
     contexts: Contexts,
     stage: Stage,
 }
@@ -234,11 +235,13 @@ fn advance(alloc: Global, stage: Stage, pdv: Pdv) -> Result<(Option<Message>, St
 }
 
 impl Assembler {
-    /// An assembler between two messages, for the accepted presentation contexts.
-    pub fn new(contexts: Contexts) -> Assembler
+    /// An assembler between two messages, for the accepted presentation contexts. It takes no
+    /// memory.
+    pub fn new(alloc: Global, contexts: Contexts) -> Assembler
         ensures { result ≡ record { contexts = contexts; stage = Stage.Between } }
     {
         Assembler {
+            alloc,
             contexts,
             stage: Stage::Between,
         }
@@ -252,7 +255,7 @@ impl Assembler {
     }
 
     /// Takes the next fragment, and answers the message that it ends, where it ends one.
-    pub fn feed(&mut self, alloc: Global, pdv: Pdv) -> Result<Option<Message>, DimseFault>
+    pub fn feed(&mut self, pdv: Pdv) -> Result<Option<Message>, DimseFault>
         ensures fed { Feeds self.old pdv result self.new }
         // It can be sent again.
         ensures whole { IfOk result (λ message. IfSome message IsWhole) }
@@ -261,7 +264,7 @@ impl Assembler {
         if let Some(fault) = stage.fault_with(self.contexts.as_slice(), &pdv) {
             return Err(fault);
         }
-        let (message, next) = advance(alloc, stage, pdv)?;
+        let (message, next) = advance(self.alloc, stage, pdv)?;
         self.stage = next;
         Ok(message)
     }

@@ -4,13 +4,11 @@ ghost use Rattle.std.specs.Prelude.{◌≡◌};
 ghost use Rattle.dimse.specs.CommandField.{is_response_code, names_class_code};
 ghost use Rattle.dimse.specs.Command.{is_complete, announces};
 
+use dictionary::{C_CANCEL_RQ, C_ECHO_RQ, C_FIND_RQ, C_GET_RQ, C_STORE_RQ, NO_DATA_SET};
 use octets::Octets;
 
 /// The longest command set that is read, in bytes, a limit of this archive.
 pub const LONGEST_COMMAND: usize = 16_384;
-
-/// (0000,0800) where no data set follows. Any other value announces one.
-pub const NO_DATA_SET: u16 = 0x0101;
 
 /// (0000,0800) as it is written where a data set follows.
 pub const DATA_SET_FOLLOWS: u16 = 0x0000;
@@ -50,18 +48,19 @@ pub struct Command {
 fn is_response(field: u16) -> bool
     ensures { result ≡ is_response_code field }
 {
-    field >= 0x8000 || field == 0x0FFF
+    field >= 0x8000 || field == C_CANCEL_RQ
 }
 
 /// Whether the requests of this field name a class.
 fn names_class(field: u16) -> bool
     ensures { result ≡ names_class_code field }
 {
-    matches!(field, 0x0001 | 0x0010 | 0x0020 | 0x0030)
+    matches!(field, C_STORE_RQ | C_GET_RQ | C_FIND_RQ | C_ECHO_RQ)
 }
 
 impl Command {
-    /// Whether a data set follows the command set, on the same presentation context.
+    /// Whether a data set follows the command set, on the same presentation context: where
+    /// (0000,0800) is any other value than 0101H.
     pub fn announces_data_set(&self) -> bool
         ensures { result ≡ announces self.now }
     {
@@ -87,6 +86,6 @@ impl Command {
         };
         identified
             && (!names_class(self.field) || self.affected_class.is_some())
-            && (self.field != 0x0001 || self.affected_instance.is_some())
+            && (self.field != C_STORE_RQ || self.affected_instance.is_some())
     }
 }

@@ -3,10 +3,14 @@
 ghost use Rattle.std.specs.Prelude.{◌≡◌};
 ghost use Rattle.dimse.specs.CommandField.{Decodes, code_of, is_response_code, names_class_code};
 
+use dictionary::{
+    C_CANCEL_RQ, C_ECHO_RQ, C_ECHO_RSP, C_FIND_RQ, C_FIND_RSP, C_GET_RQ, C_GET_RSP, C_STORE_RQ,
+    C_STORE_RSP,
+};
 use thiserror::Error;
 
 /// The values of (0000,0100) Command Field for the services of this archive.
-#[derive(Clone, Copy, Debug, PartialEq, Eq, Hash)]
+#[derive(Clone, Copy, Debug, PartialEq, Eq)]
 pub enum CommandField {
     StoreRequest,
     StoreResponse,
@@ -20,7 +24,7 @@ pub enum CommandField {
 }
 
 /// A value of the command field that is of no service here.
-#[derive(Clone, Copy, Debug, PartialEq, Eq, Hash, Drop, Error)]
+#[derive(Clone, Copy, Debug, PartialEq, Eq, Drop, Error)]
 #[error("command field {0:04X}H is of no service here")]
 pub struct UnknownField(pub u16);
 
@@ -30,15 +34,15 @@ impl CommandField {
         ensures { result ≡ code_of self }
     {
         match self {
-            CommandField::StoreRequest => 0x0001,
-            CommandField::StoreResponse => 0x8001,
-            CommandField::GetRequest => 0x0010,
-            CommandField::GetResponse => 0x8010,
-            CommandField::FindRequest => 0x0020,
-            CommandField::FindResponse => 0x8020,
-            CommandField::EchoRequest => 0x0030,
-            CommandField::EchoResponse => 0x8030,
-            CommandField::CancelRequest => 0x0FFF,
+            CommandField::StoreRequest => C_STORE_RQ,
+            CommandField::StoreResponse => C_STORE_RSP,
+            CommandField::GetRequest => C_GET_RQ,
+            CommandField::GetResponse => C_GET_RSP,
+            CommandField::FindRequest => C_FIND_RQ,
+            CommandField::FindResponse => C_FIND_RSP,
+            CommandField::EchoRequest => C_ECHO_RQ,
+            CommandField::EchoResponse => C_ECHO_RSP,
+            CommandField::CancelRequest => C_CANCEL_RQ,
         }
     }
 }
@@ -50,15 +54,15 @@ impl TryFrom<u16> for CommandField {
 
     fn try_from(code: u16) -> Result<Self, UnknownField> {
         match code {
-            0x0001 => Ok(CommandField::StoreRequest),
-            0x8001 => Ok(CommandField::StoreResponse),
-            0x0010 => Ok(CommandField::GetRequest),
-            0x8010 => Ok(CommandField::GetResponse),
-            0x0020 => Ok(CommandField::FindRequest),
-            0x8020 => Ok(CommandField::FindResponse),
-            0x0030 => Ok(CommandField::EchoRequest),
-            0x8030 => Ok(CommandField::EchoResponse),
-            0x0FFF => Ok(CommandField::CancelRequest),
+            C_STORE_RQ => Ok(CommandField::StoreRequest),
+            C_STORE_RSP => Ok(CommandField::StoreResponse),
+            C_GET_RQ => Ok(CommandField::GetRequest),
+            C_GET_RSP => Ok(CommandField::GetResponse),
+            C_FIND_RQ => Ok(CommandField::FindRequest),
+            C_FIND_RSP => Ok(CommandField::FindResponse),
+            C_ECHO_RQ => Ok(CommandField::EchoRequest),
+            C_ECHO_RSP => Ok(CommandField::EchoResponse),
+            C_CANCEL_RQ => Ok(CommandField::CancelRequest),
             _ => Err(UnknownField(code)),
         }
     }

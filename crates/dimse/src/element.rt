@@ -12,7 +12,7 @@ use std::alloc::Global;
 use std::marker::Model;
 
 /// An element of a command set: its tag, group and element in one number, and its value.
-#[derive(Debug, Drop)]
+#[derive(Drop)]
 pub(crate) struct Element<'a> {
     tag: u32,
     value: &'a [u8],

@@ -8,7 +8,7 @@ use std::alloc::{AllocError, AllocFailed};
 use thiserror::Error;
 
 /// Why fragments are no message, or bytes no command set (PS3.7, section 6.3; PS3.8, annex E).
-#[derive(Clone, Copy, Debug, PartialEq, Eq, Hash, Error)]
+#[derive(Clone, Copy, Debug, PartialEq, Eq, Error)]
 pub enum DimseFault {
     #[error("a fragment is on a presentation context that was not accepted")]
     BadContext,

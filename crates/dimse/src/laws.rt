@@ -1,7 +1,8 @@
 //! What an assembler answers over any list of fragments, as laws of `Assembler::feed`, and what
 //! answers a request.
 
-ghost use Rattle.std.specs.Prelude.{◌≡◌, ◌≢◌, List, Option, None, Some, Result, Err, All};
+ghost use Rattle.std.specs.Prelude.{◌≡◌, ◌≢◌, ◌⊎◌, ◌∷◌, ◌++◌, ℕ, List, Option, None, Some, Result, Err, All, false};
+ghost use Rattle.octets.specs.Bytes.{IsBytes};
 ghost use Rattle.pdu.specs.declared.pdv.Pdv.{Pdv};
 ghost use Rattle.pdu.specs.declared.context.Context.{Context};
 ghost use Rattle.dimse.specs.declared.command.Command.{Command};
@@ -9,8 +10,9 @@ ghost use Rattle.dimse.specs.declared.message.Message.{Message};
 ghost use Rattle.dimse.specs.declared.fault.DimseFault.{DimseFault};
 ghost use Rattle.dimse.specs.declared.assembler.Stage.{Stage};
 ghost use Rattle.dimse.specs.Assembly.{Assembly};
-ghost use Rattle.dimse.specs.Command.{IsCommand, HasRoom};
+ghost use Rattle.dimse.specs.Command.{Spells, IsCommand, HasRoom};
 ghost use Rattle.dimse.specs.Messages.{Splits, Ends, Run, fresh, messages, first_fault, HadMemory};
+ghost use Rattle.dimse.specs.Texts.{as_one, texts_in, AreFragments};
 ghost use Rattle.dimse.specs.Response.{IsResponseTo};
 
 /// The messages are those that the fragments spell, and a fault comes only where its cause stands.
@@ -31,17 +33,34 @@ pub fn what_is_spelled_is_answered()
         (messages answers ≡ spelled) × (first_fault answers ≡ fault) }
 {}
 
-/// The messages and the fault are the same, however the texts were cut into fragments.
+/// The messages and the fault are the same, however the texts were cut into fragments: they are
+/// those of the texts, with their contexts, their kinds and whether their last fragments came.
 pub fn cuts_do_not_matter()
     ensures { (contexts : List Context) (pdvs others : List Pdv) (end other_end : Assembly)
         (answers other_answers : List (Result (Option Message) DimseFault)) →
+        texts_in pdvs ≡ texts_in others →
         Run (fresh contexts) pdvs answers end → HadMemory answers →
         Run (fresh contexts) others other_answers other_end → HadMemory other_answers →
-        (spelled : List Message) (fault : Option DimseFault) →
-        Ends contexts pdvs spelled fault → Ends contexts others spelled fault →
-        fault ≢ Some DimseFault.Memory →
         (messages answers ≡ messages other_answers)
         × (first_fault answers ≡ first_fault other_answers) }
+{}
+
+/// A fragment that is cut in two, anywhere, leaves the texts as they are.
+pub fn a_cut_text_is_the_same_text()
+    ensures { (before behind : List Pdv) (first second : Pdv) →
+        first.last ≡ false → first.context ≡ second.context → first.command ≡ second.command →
+        texts_in (before ++ first ∷ second ∷ behind)
+        ≡ texts_in (before ++ as_one first second ∷ behind) }
+{}
+
+/// Every text of bytes spells a command or none, and all fragments are messages and less than one
+/// more, or have a first fault behind messages.
+pub fn each_text_has_an_outcome()
+    ensures command { (text : List ℕ) → IsBytes text →
+        ((c : Command) × Spells text c) ⊎ ((c : Command) → Spells text c → ⊥) }
+    ensures fragments { (contexts : List Context) (pdvs : List Pdv) → AreFragments pdvs →
+        (spelled : List Message) × (fault : Option DimseFault) × (fault ≢ Some DimseFault.Memory)
+        × Ends contexts pdvs spelled fault }
 {}
 
 /// After a fault every fragment is refused as `Failed`, and nothing changes.

@@ -13,25 +13,28 @@ mod fault;
 mod fragment;
 mod laws;
 mod message;
+mod numbers;
 mod reader;
 mod response;
 mod status;
-mod tags;
 #[cfg(test)]
 mod tests;
 mod uid;
 mod writer;
 
 pub use assembler::{Assembler, LONGEST_DATA_SET};
-pub use command::{Command, DATA_SET_FOLLOWS, LONGEST_COMMAND, NO_DATA_SET};
+pub use command::{Command, DATA_SET_FOLLOWS, LONGEST_COMMAND};
 pub use command_field::{CommandField, UnknownField};
+pub use dictionary::NO_DATA_SET;
 pub use fault::DimseFault;
 pub use fragment::fragments;
 pub use laws::{
-    a_response_can_be_written, cuts_do_not_matter, messages_are_those_spelled,
-    nothing_is_taken_after_a_fault, what_is_spelled_is_answered,
+    a_cut_text_is_the_same_text, a_response_can_be_written, cuts_do_not_matter,
+    each_text_has_an_outcome, messages_are_those_spelled, nothing_is_taken_after_a_fault,
+    what_is_spelled_is_answered,
 };
 pub use message::Message;
+pub use numbers::limits_are_these;
 pub use reader::read_command;
 pub use status::Status;
 pub use writer::write_command;

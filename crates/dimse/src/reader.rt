@@ -12,12 +12,14 @@ ghost use Rattle.std.specs.Option.{option_map};
 use crate::command::{Command, LONGEST_COMMAND};
 use crate::element::{Element, elements_of};
 use crate::fault::DimseFault;
-use crate::tags::{
-    AFFECTED_CLASS, AFFECTED_INSTANCE, COMMAND_FIELD, COMPLETED, DATA_SET_TYPE, FAILED, MESSAGE_ID,
-    PRIORITY, REMAINING, RESPONDED_TO, STATUS, WARNING,
+use crate::uid::are_graphic;
+use dictionary::{
+    AFFECTED_SOP_CLASS_UID, AFFECTED_SOP_INSTANCE_UID, COMMAND_DATA_SET_TYPE, COMMAND_FIELD,
+    MESSAGE_ID, MESSAGE_ID_BEING_RESPONDED_TO, NUMBER_OF_COMPLETED_SUBOPERATIONS,
+    NUMBER_OF_FAILED_SUBOPERATIONS, NUMBER_OF_REMAINING_SUBOPERATIONS,
+    NUMBER_OF_WARNING_SUBOPERATIONS, PRIORITY, STATUS,
 };
-use crate::uid::{are_graphic, without_padding};
-use octets::Octets;
+use octets::{Octets, without_padding};
 use std::alloc::{AllocError, Global};
 
 fn holds_number(tag: u32) -> bool
@@ -27,21 +29,21 @@ fn holds_number(tag: u32) -> bool
         tag,
         COMMAND_FIELD
             | MESSAGE_ID
-            | RESPONDED_TO
+            | MESSAGE_ID_BEING_RESPONDED_TO
             | PRIORITY
-            | DATA_SET_TYPE
+            | COMMAND_DATA_SET_TYPE
             | STATUS
-            | REMAINING
-            | COMPLETED
-            | FAILED
-            | WARNING
+            | NUMBER_OF_REMAINING_SUBOPERATIONS
+            | NUMBER_OF_COMPLETED_SUBOPERATIONS
+            | NUMBER_OF_FAILED_SUBOPERATIONS
+            | NUMBER_OF_WARNING_SUBOPERATIONS
     )
 }
 
 fn holds_uid(tag: u32) -> bool
     ensures { result ≡ is_uid_tag tag }
 {
-    matches!(tag, AFFECTED_CLASS | AFFECTED_INSTANCE)
+    matches!(tag, AFFECTED_SOP_CLASS_UID | AFFECTED_SOP_INSTANCE_UID)
 }
 
 #[tactic(auto, unfolding(crate::specs::Command::is_lawful))]
@@ -105,22 +107,22 @@ fn command_of(alloc: Global, elements: &[Element<'_>]) -> Result<Command, DimseF
     let Some(field) = number_with(elements, COMMAND_FIELD) else {
         return Err(DimseFault::BadCommand);
     };
-    let Some(data_set_type) = number_with(elements, DATA_SET_TYPE) else {
+    let Some(data_set_type) = number_with(elements, COMMAND_DATA_SET_TYPE) else {
         return Err(DimseFault::BadCommand);
     };
     let command = Command {
-        affected_class: uid_with(alloc, elements, AFFECTED_CLASS)?,
+        affected_class: uid_with(alloc, elements, AFFECTED_SOP_CLASS_UID)?,
         field,
         message_id: number_with(elements, MESSAGE_ID),
-        responded_to: number_with(elements, RESPONDED_TO),
+        responded_to: number_with(elements, MESSAGE_ID_BEING_RESPONDED_TO),
         priority: number_with(elements, PRIORITY),
         data_set_type,
         status: number_with(elements, STATUS),
-        affected_instance: uid_with(alloc, elements, AFFECTED_INSTANCE)?,
-        remaining: number_with(elements, REMAINING),
-        completed: number_with(elements, COMPLETED),
-        failed: number_with(elements, FAILED),
-        warning: number_with(elements, WARNING),
+        affected_instance: uid_with(alloc, elements, AFFECTED_SOP_INSTANCE_UID)?,
+        remaining: number_with(elements, NUMBER_OF_REMAINING_SUBOPERATIONS),
+        completed: number_with(elements, NUMBER_OF_COMPLETED_SUBOPERATIONS),
+        failed: number_with(elements, NUMBER_OF_FAILED_SUBOPERATIONS),
+        warning: number_with(elements, NUMBER_OF_WARNING_SUBOPERATIONS),
     };
     if !command.has_what_it_needs() {
         return Err(DimseFault::BadCommand);

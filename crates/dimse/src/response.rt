@@ -6,9 +6,9 @@ ghost use Rattle.dimse.specs.CommandField.{is_response_code};
 ghost use Rattle.dimse.specs.Response.{IsResponseTo, response_code, told_instance, response_of};
 ghost use Rattle.dimse.specs.Status.{status_code};
 
-use crate::command::{Command, NO_DATA_SET};
-use crate::command_field::CommandField;
+use crate::command::Command;
 use crate::status::Status;
+use dictionary::{C_STORE_RQ, NO_DATA_SET};
 use octets::Octets;
 use std::alloc::{AllocError, Global};
 
@@ -25,7 +25,7 @@ fn copied(alloc: Global, uid: &Option<Octets>) -> Result<Option<Octets>, AllocEr
 fn instance_told(alloc: Global, request: &Command) -> Result<Option<Octets>, AllocError>
     ensures { IfOk result (λ instance. instance ≡ told_instance request.now) }
 {
-    if request.field != CommandField::StoreRequest.code() {
+    if request.field != C_STORE_RQ {
         return Ok(None);
     }
     copied(alloc, &request.affected_instance)

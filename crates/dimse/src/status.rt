@@ -3,8 +3,15 @@
 ghost use Rattle.std.specs.Prelude.{◌≡◌};
 ghost use Rattle.dimse.specs.Status.{status_code};
 
+use dictionary::{
+    STATUS_CANCELED, STATUS_CANNOT_UNDERSTAND, STATUS_DATA_SET_DOES_NOT_MATCH,
+    STATUS_OUT_OF_RESOURCES, STATUS_PENDING, STATUS_PENDING_WITHOUT_OPTIONAL_KEYS,
+    STATUS_SOP_CLASS_NOT_SUPPORTED, STATUS_SUBOPERATIONS_WITH_FAILURES, STATUS_SUCCESS,
+    STATUS_UNABLE_TO_PERFORM_SUBOPERATIONS, STATUS_UNRECOGNIZED_OPERATION,
+};
+
 /// The values of (0000,0900) Status that this archive answers.
-#[derive(Clone, Copy, Debug, PartialEq, Eq, Hash)]
+#[derive(Clone, Copy, Debug, PartialEq, Eq)]
 pub enum Status {
     Success,
     /// The class is not that of the presentation context.
@@ -31,17 +38,17 @@ impl Status {
         ensures { result ≡ status_code self }
     {
         match self {
-            Status::Success => 0x0000,
-            Status::SopClassNotSupported => 0x0122,
-            Status::UnrecognizedOperation => 0x0211,
-            Status::OutOfResources => 0xA700,
-            Status::UnableToPerformSubOperations => 0xA702,
-            Status::DataSetMismatch => 0xA900,
-            Status::SubOperationsWithFailures => 0xB000,
-            Status::CannotUnderstand => 0xC000,
-            Status::Cancel => 0xFE00,
-            Status::Pending => 0xFF00,
-            Status::PendingWithoutOptionalKeys => 0xFF01,
+            Status::Success => STATUS_SUCCESS,
+            Status::SopClassNotSupported => STATUS_SOP_CLASS_NOT_SUPPORTED,
+            Status::UnrecognizedOperation => STATUS_UNRECOGNIZED_OPERATION,
+            Status::OutOfResources => STATUS_OUT_OF_RESOURCES,
+            Status::UnableToPerformSubOperations => STATUS_UNABLE_TO_PERFORM_SUBOPERATIONS,
+            Status::DataSetMismatch => STATUS_DATA_SET_DOES_NOT_MATCH,
+            Status::SubOperationsWithFailures => STATUS_SUBOPERATIONS_WITH_FAILURES,
+            Status::CannotUnderstand => STATUS_CANNOT_UNDERSTAND,
+            Status::Cancel => STATUS_CANCELED,
+            Status::Pending => STATUS_PENDING,
+            Status::PendingWithoutOptionalKeys => STATUS_PENDING_WITHOUT_OPTIONAL_KEYS,
         }
     }
 }

@@ -50,28 +50,69 @@ const CREATE_RESPONSE: [u8; 84] = *b"\x00\x00\x00\x00\x04\x00\x00\x00\x48\x00\x0
     \x00\x00\x00\x01\x02\x00\x00\x00\x40\x81\x00\x00\x20\x01\x02\x00\x00\x00\x03\x00\
     \x00\x00\x00\x08\x02\x00\x00\x00\x01\x01\x00\x00\x00\x09\x02\x00\x00\x00\x11\x02";
 
+// A pending C-GET response to message 5: 3 sub-operations remain, 2 are completed, 1 failed and 4
+// had warnings.
+const GET_RESPONSE: [u8; 128] = *b"\x00\x00\x00\x00\x04\x00\x00\x00\x74\x00\x00\x00\
+    \x00\x00\x02\x00\x1c\x00\x00\x001.2.840.10008.5.1.4.1.2.2.3\x00\
+    \x00\x00\x00\x01\x02\x00\x00\x00\x10\x80\x00\x00\x20\x01\x02\x00\x00\x00\x05\x00\
+    \x00\x00\x00\x08\x02\x00\x00\x00\x01\x01\x00\x00\x00\x09\x02\x00\x00\x00\x00\xFF\
+    \x00\x00\x20\x10\x02\x00\x00\x00\x03\x00\x00\x00\x21\x10\x02\x00\x00\x00\x02\x00\
+    \x00\x00\x22\x10\x02\x00\x00\x00\x01\x00\x00\x00\x23\x10\x02\x00\x00\x00\x04\x00";
+
 // The least C-ECHO request: it has no group length.
 const LEAST: [u8; 56] = *b"\x00\x00\x02\x00\x12\x00\x00\x001.2.840.10008.1.1\x00\
     \x00\x00\x00\x01\x02\x00\x00\x00\x30\x00\x00\x00\x10\x01\x02\x00\x00\x00\x01\x00\
     \x00\x00\x00\x08\x02\x00\x00\x00\x01\x01";
 
+// The C-ECHO request with a group length that is wrong.
+const MISCOUNTED: [u8; 68] = *b"\x00\x00\x00\x00\x04\x00\x00\x00\xFF\x00\x00\x00\
+    \x00\x00\x02\x00\x12\x00\x00\x001.2.840.10008.1.1\x00\
+    \x00\x00\x00\x01\x02\x00\x00\x00\x30\x00\x00\x00\x10\x01\x02\x00\x00\x00\x01\x00\
+    \x00\x00\x00\x08\x02\x00\x00\x00\x01\x01";
+
+/// Command sets, and what is written of them.
+const WRITTEN: [(&str, &[u8], &[u8]); 5] = [
+    ("a C-ECHO request", &ECHO_REQUEST, &ECHO_REQUEST),
+    ("a C-STORE response", &STORE_RESPONSE, &STORE_RESPONSE),
+    ("counts of sub-operations", &GET_RESPONSE, &GET_RESPONSE),
+    ("no group length, which is written", &LEAST, &ECHO_REQUEST),
+    (
+        "a group length that is not compared",
+        &MISCOUNTED,
+        &ECHO_REQUEST,
+    ),
+];
+
 #[test]
 fn command_sets_are_read_and_written_again(rt: HostRuntime) -> Result<(), Fail> {
+    for (name, text, expected) in WRITTEN {
+        let command = written_again(rt.alloc(), text)?;
+        assert_eq!(rt; command.as_slice(), expected, "{name}");
+    }
+    Ok(())
+}
+
+// What is written of a command set.
+fn written_again(alloc: Global, text: &[u8]) -> Result<Vec<u8>, Fail> {
+    if text.len() > LONGEST_COMMAND {
+        return Err(Fail::new("too long a command set"));
+    }
+    let command = read_command(alloc, text)?;
+    Ok(write_command(alloc, &command)?)
+}
+
+#[test]
+fn a_request_says_its_fields(rt: HostRuntime) -> Result<(), Fail> {
     let request = read_command(rt.alloc(), &ECHO_REQUEST)?;
-    assert_eq!(rt;
-        request.field,
-        CommandField::EchoRequest.code(),
-        "a C-ECHO request"
-    );
+    let field = CommandField::EchoRequest.code();
+    assert_eq!(rt; request.field, field, "a C-ECHO request");
     assert_eq!(rt; request.message_id, Some(1), "its message ID");
     assert!(rt; !request.announces_data_set(), "0101H announces none");
-    let written = write_command(rt.alloc(), &request)?;
-    assert_eq!(rt;
-        written.as_slice(),
-        ECHO_REQUEST.as_slice(),
-        "the same bytes"
-    );
+    Ok(())
+}
 
+#[test]
+fn a_response_says_its_fields(rt: HostRuntime) -> Result<(), Fail> {
     let response = read_command(rt.alloc(), &STORE_RESPONSE)?;
     let field = CommandField::try_from(response.field);
     assert_eq!(rt;
@@ -81,19 +122,35 @@ fn command_sets_are_read_and_written_again(rt: HostRuntime) -> Result<(), Fail> 
     );
     assert_eq!(rt; response.responded_to, Some(2), "the ID of its request");
     assert_eq!(rt; response.status, Some(Status::Success.code()), "a success");
-    let written = write_command(rt.alloc(), &response)?;
+    Ok(())
+}
+
+#[test]
+fn a_get_response_says_its_counts(rt: HostRuntime) -> Result<(), Fail> {
+    let read = read_command(rt.alloc(), &GET_RESPONSE)?;
+    let counts = [read.remaining, read.completed, read.failed, read.warning];
     assert_eq!(rt;
-        written.as_slice(),
-        STORE_RESPONSE.as_slice(),
-        "the same bytes"
+        counts,
+        [Some(3), Some(2), Some(1), Some(4)],
+        "(0000,1020) to (0000,1023)"
     );
     Ok(())
 }
 
+#[test]
+fn an_element_of_no_service_is_passed_over(rt: HostRuntime) -> Result<(), Fail> {
+    let cancel = b"\x00\x00\x00\x01\x02\x00\x00\x00\xFF\x0F\x00\x00\x20\x01\x02\x00\x00\x00\x07\x00\
+        \x00\x00\x00\x08\x02\x00\x00\x00\x01\x01\x00\x00\x10\x50\x03\x00\x00\x00abc";
+    let read = read_command(rt.alloc(), cancel)?;
+    assert_eq!(rt; read.responded_to, Some(7), "a C-CANCEL");
+    Ok(())
+}
+
 // The bytes of the response to a request.
-fn answered(alloc: Global, text: &[u8], status: Status) -> Result<Vec<u8>, Fail>
-    requires { length text.now ≤ LONGEST_COMMAND }
-{
+fn answered(alloc: Global, text: &[u8], status: Status) -> Result<Vec<u8>, Fail> {
+    if text.len() > LONGEST_COMMAND {
+        return Err(Fail::new("too long a command set"));
+    }
     let request = read_command(alloc, text)?;
     if request.is_response() {
         return Err(Fail::new("no request"));
@@ -102,45 +159,29 @@ fn answered(alloc: Global, text: &[u8], status: Status) -> Result<Vec<u8>, Fail>
     Ok(write_command(alloc, &response)?)
 }
 
-#[test]
-fn requests_are_answered_in_their_terms(rt: HostRuntime) -> Result<(), Fail> {
-    let echo = answered(rt.alloc(), &ECHO_REQUEST, Status::Success)?;
-    assert_eq!(rt; echo.as_slice(), ECHO_RESPONSE.as_slice(), "a C-ECHO");
-    let store = answered(rt.alloc(), &STORE_REQUEST, Status::Success)?;
-    assert_eq!(rt; store.as_slice(), STORE_RESPONSE.as_slice(), "a C-STORE");
-    let create = answered(rt.alloc(), &CREATE_REQUEST, Status::UnrecognizedOperation)?;
-    assert_eq!(rt;
-        create.as_slice(),
-        CREATE_RESPONSE.as_slice(),
-        "of no service"
-    );
-    Ok(())
-}
+/// Requests, a status, and the response.
+const ANSWERED: [(&str, &[u8], Status, &[u8]); 3] = [
+    ("a C-ECHO", &ECHO_REQUEST, Status::Success, &ECHO_RESPONSE),
+    (
+        "a C-STORE",
+        &STORE_REQUEST,
+        Status::Success,
+        &STORE_RESPONSE,
+    ),
+    (
+        "of no service",
+        &CREATE_REQUEST,
+        Status::UnrecognizedOperation,
+        &CREATE_RESPONSE,
+    ),
+];
 
 #[test]
-fn what_a_command_set_may_lack_is_not_asked(rt: HostRuntime) -> Result<(), Fail> {
-    let read = read_command(rt.alloc(), &LEAST)?;
-    assert_eq!(rt; read.message_id, Some(1), "without a group length");
-    let written = write_command(rt.alloc(), &read)?;
-    assert_eq!(rt;
-        written.as_slice(),
-        ECHO_REQUEST.as_slice(),
-        "which is written"
-    );
-    let mut text = ECHO_REQUEST;
-    text[8] = 0xFF;
-    assert!(rt;
-        read_command(rt.alloc(), &text).is_ok(),
-        "a group length is not compared"
-    );
-    let cancel = b"\x00\x00\x00\x01\x02\x00\x00\x00\xFF\x0F\x00\x00\x20\x01\x02\x00\x00\x00\x07\x00\
-        \x00\x00\x00\x08\x02\x00\x00\x00\x01\x01\x00\x00\x10\x50\x03\x00\x00\x00abc";
-    let read = read_command(rt.alloc(), cancel)?;
-    assert_eq!(rt;
-        read.responded_to,
-        Some(7),
-        "an element of no service is passed over"
-    );
+fn requests_are_answered_in_their_terms(rt: HostRuntime) -> Result<(), Fail> {
+    for (name, request, status, expected) in ANSWERED {
+        let response = answered(rt.alloc(), request, status)?;
+        assert_eq!(rt; response.as_slice(), expected, "{name}");
+    }
     Ok(())
 }
 
@@ -267,7 +308,7 @@ fn feed_cut(
     let mut answer = None;
     for piece in text.chunks(size) {
         left = left.saturating_sub(piece.len());
-        answer = assembler.feed(alloc, pdv(alloc, 1, command, left == 0, piece)?)?;
+        answer = assembler.feed(pdv(alloc, 1, command, left == 0, piece)?)?;
     }
     Ok(answer)
 }
@@ -276,7 +317,7 @@ fn feed_cut(
 fn assert_gathered(rt: &impl Abort, alloc: Global, text: &[u8], size: usize) -> Result<(), Fail>
     requires { 0 < size }
 {
-    let mut assembler = Assembler::new(contexts(alloc)?);
+    let mut assembler = Assembler::new(alloc, contexts(alloc)?);
     let answer = feed_cut(alloc, &mut assembler, true, text, size)?;
     let message = answer.ok_or("no message")?;
     assert!(rt; message.body.is_none(), "no data set, in pieces of {size}");
@@ -301,7 +342,7 @@ const BODY: &[u8] = b"\x08\x00\x16\x00\x02\x00\x00\x001\x00";
 #[test]
 fn a_data_set_is_the_same_however_it_is_cut(rt: HostRuntime) -> Result<(), Fail> {
     let alloc = rt.alloc();
-    let mut assembler = Assembler::new(contexts(alloc)?);
+    let mut assembler = Assembler::new(alloc, contexts(alloc)?);
     for size in [1, 2, 7, 200] {
         let answer = feed_cut(alloc, &mut assembler, true, &STORE_REQUEST, size)?;
         assert!(rt; answer.is_none(), "a data set is announced");
@@ -312,15 +353,24 @@ fn a_data_set_is_the_same_however_it_is_cut(rt: HostRuntime) -> Result<(), Fail>
     Ok(())
 }
 
+/// Fragments of a message on context 3: whether of its command set, whether the last, and bytes.
+const FRAGMENTS: [(bool, bool, &[u8]); 5] = [
+    (true, false, &STORE_REQUEST),
+    (true, true, b""),
+    (false, false, b"abc"),
+    (false, false, b"de"),
+    (false, true, b""),
+];
+
 #[test]
 fn an_empty_last_fragment_ends_a_message(rt: HostRuntime) -> Result<(), Fail> {
     let alloc = rt.alloc();
-    let mut assembler = Assembler::new(contexts(alloc)?);
-    assembler.feed(alloc, pdv(alloc, 3, true, false, &STORE_REQUEST)?)?;
-    assembler.feed(alloc, pdv(alloc, 3, true, true, b"")?)?;
-    assembler.feed(alloc, pdv(alloc, 3, false, false, b"abc")?)?;
-    assembler.feed(alloc, pdv(alloc, 3, false, false, b"de")?)?;
-    let answer = assembler.feed(alloc, pdv(alloc, 3, false, true, b"")?)?;
+    let mut assembler = Assembler::new(alloc, contexts(alloc)?);
+    let mut answer = None;
+    for (command, last, fragment) in FRAGMENTS {
+        assert!(rt; answer.is_none(), "not before the last one");
+        answer = assembler.feed(pdv(alloc, 3, command, last, fragment)?)?;
+    }
     let body = answer.ok_or("no message")?.body.ok_or("no data set")?;
     assert_eq!(rt; body.as_slice(), b"abcde".as_slice(), "all its bytes");
     Ok(())
@@ -334,13 +384,9 @@ fn assert_refused(
     refused: Pdv,
     fault: DimseFault,
 ) -> Result<(), Fail> {
-    assert_eq!(rt;
-        assembler.feed(alloc, refused).err(),
-        Some(fault),
-        "the fault"
-    );
+    assert_eq!(rt; assembler.feed(refused).err(), Some(fault), "the fault");
     let next = pdv(alloc, 1, true, true, &ECHO_REQUEST)?;
-    let answer = assembler.feed(alloc, next).err();
+    let answer = assembler.feed(next).err();
     assert_eq!(rt;
         answer,
         Some(DimseFault::Failed),
@@ -351,8 +397,8 @@ fn assert_refused(
 
 // An assembler that awaits more of a command set, or the data set that it announces.
 fn begun(alloc: Global, last: bool) -> Result<Assembler, Fail> {
-    let mut assembler = Assembler::new(contexts(alloc)?);
-    assembler.feed(alloc, pdv(alloc, 1, true, last, &STORE_REQUEST)?)?;
+    let mut assembler = Assembler::new(alloc, contexts(alloc)?);
+    assembler.feed(pdv(alloc, 1, true, last, &STORE_REQUEST)?)?;
     Ok(assembler)
 }
 
@@ -364,7 +410,7 @@ fn a_first_fragment_has_its_place(rt: HostRuntime) -> Result<(), Fail> {
         (1, true, DimseFault::BadCommand),
     ];
     for (context, command, fault) in rows {
-        let mut assembler = Assembler::new(contexts(rt.alloc())?);
+        let mut assembler = Assembler::new(rt.alloc(), contexts(rt.alloc())?);
         let refused = pdv(rt.alloc(), context, command, true, b"ab")?;
         assert_refused(&rt, rt.alloc(), &mut assembler, refused, fault)?;
     }
@@ -420,7 +466,7 @@ fn a_command_set_is_taken_up_to_its_limit(rt: HostRuntime) -> Result<(), Fail> {
     assert_gathered(&rt, rt.alloc(), text.as_slice(), 9_000)?;
     let text = command_of_length(rt.alloc(), 16_385)?;
     let whole = pdv(rt.alloc(), 1, true, true, text.as_slice())?;
-    let mut assembler = Assembler::new(contexts(rt.alloc())?);
+    let mut assembler = Assembler::new(rt.alloc(), contexts(rt.alloc())?);
     assert_refused(&rt, rt.alloc(), &mut assembler, whole, DimseFault::TooLong)
 }
 
@@ -435,7 +481,7 @@ fn feed_longest(alloc: Global, assembler: &mut Assembler, last: bool) -> Result<
             last: last && place == 64,
             fragment: piece.clone()?,
         };
-        ended = assembler.feed(alloc, pdv)?.is_some();
+        ended = assembler.feed(pdv)?.is_some();
     }
     Ok(ended)
 }
@@ -566,8 +612,8 @@ fn success(alloc: Global, message: &Message) -> Result<Vec<u8>, Fail>
 #[test]
 fn a_message_is_answered_on_its_context(rt: HostRuntime) -> Result<(), Fail> {
     let alloc = rt.alloc();
-    let mut assembler = Assembler::new(contexts(alloc)?);
-    let answer = assembler.feed(alloc, pdv(alloc, 3, true, true, &ECHO_REQUEST)?)?;
+    let mut assembler = Assembler::new(alloc, contexts(alloc)?);
+    let answer = assembler.feed(pdv(alloc, 3, true, true, &ECHO_REQUEST)?)?;
     let written = success(alloc, &answer.ok_or("no message")?)?;
     // One P-DATA-TF with one value on context 3, the last fragment of a command set.
     let header = b"\x04\x00\x00\x00\x00\x54\x00\x00\x00\x50\x03\x03";

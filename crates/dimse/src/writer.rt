@@ -7,9 +7,11 @@ ghost use Rattle.dimse.specs.Elements.{tag_text, text_of, Element};
 ghost use Rattle.dimse.specs.Command.{field_elements, number_field, uid_field, fields_text, command_text, FitsTwoBytes, IsCommand, HasRoom, Spells};
 
 use crate::command::{Command, LONGEST_COMMAND};
-use crate::tags::{
-    AFFECTED_CLASS, AFFECTED_INSTANCE, COMMAND_FIELD, COMPLETED, DATA_SET_TYPE, FAILED,
-    GROUP_LENGTH, MESSAGE_ID, PRIORITY, REMAINING, RESPONDED_TO, STATUS, WARNING,
+use dictionary::{
+    AFFECTED_SOP_CLASS_UID, AFFECTED_SOP_INSTANCE_UID, COMMAND_DATA_SET_TYPE, COMMAND_FIELD,
+    COMMAND_GROUP_LENGTH, MESSAGE_ID, MESSAGE_ID_BEING_RESPONDED_TO,
+    NUMBER_OF_COMPLETED_SUBOPERATIONS, NUMBER_OF_FAILED_SUBOPERATIONS,
+    NUMBER_OF_REMAINING_SUBOPERATIONS, NUMBER_OF_WARNING_SUBOPERATIONS, PRIORITY, STATUS,
 };
 use octets::Octets;
 use std::alloc::{AllocError, Global};
@@ -75,18 +77,18 @@ fn put_fields(out: &mut Vec<u8>, command: &Command) -> Result<(), AllocError>
     ensures ok { OnOk result (out.new.items ≡ out.old.items ++ fields_text command.now) }
     ensures fits { OnOk result (FitsTwoBytes command.now) }
 {
-    put_uid(out, AFFECTED_CLASS, &command.affected_class)?;
+    put_uid(out, AFFECTED_SOP_CLASS_UID, &command.affected_class)?;
     put_number(out, COMMAND_FIELD, Some(command.field))?;
     put_number(out, MESSAGE_ID, command.message_id)?;
-    put_number(out, RESPONDED_TO, command.responded_to)?;
+    put_number(out, MESSAGE_ID_BEING_RESPONDED_TO, command.responded_to)?;
     put_number(out, PRIORITY, command.priority)?;
-    put_number(out, DATA_SET_TYPE, Some(command.data_set_type))?;
+    put_number(out, COMMAND_DATA_SET_TYPE, Some(command.data_set_type))?;
     put_number(out, STATUS, command.status)?;
-    put_uid(out, AFFECTED_INSTANCE, &command.affected_instance)?;
-    put_number(out, REMAINING, command.remaining)?;
-    put_number(out, COMPLETED, command.completed)?;
-    put_number(out, FAILED, command.failed)?;
-    put_number(out, WARNING, command.warning)?;
+    put_uid(out, AFFECTED_SOP_INSTANCE_UID, &command.affected_instance)?;
+    put_number(out, NUMBER_OF_REMAINING_SUBOPERATIONS, command.remaining)?;
+    put_number(out, NUMBER_OF_COMPLETED_SUBOPERATIONS, command.completed)?;
+    put_number(out, NUMBER_OF_FAILED_SUBOPERATIONS, command.failed)?;
+    put_number(out, NUMBER_OF_WARNING_SUBOPERATIONS, command.warning)?;
     Ok(())
 }
 
@@ -100,7 +102,7 @@ fn spell(alloc: Global, command: &Command) -> Result<Vec<u8>, AllocError>
     put_fields(&mut fields, command)?;
     let counted = fields.as_slice();
     let mut text = Vec::new(alloc);
-    put_header(&mut text, GROUP_LENGTH, 4)?;
+    put_header(&mut text, COMMAND_GROUP_LENGTH, 4)?;
     text.extend_from_slice(&(counted.len() as u32).to_le_bytes())?;
     text.extend_from_slice(counted)?;
     Ok(text)

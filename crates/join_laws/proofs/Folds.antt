@@ -6,12 +6,12 @@ use Rattle.std.proofs.lemmas.List.Elements.{All-nil, All-cons, All-contains, All
 use Rattle.join_laws.specs.Laws.{JoinLaws, SummaryLaws, summary_of, HasSameMembers}
 
 module _ {V O : Type 0} {IsHeld : V → Type 0} {joined : V → V → V} {nothing : V} {of_one : O → V} (laws : JoinLaws IsHeld joined) (more : SummaryLaws IsHeld joined nothing of_one) where
-  value_held : (ops : List O) → IsHeld (summary_of joined nothing of_one ops)
+  pub value_held : (ops : List O) → IsHeld (summary_of joined nothing of_one ops)
   value_held [] = more.nothing_held
   value_held (op ∷ ops) = laws.held _ _ (more.one_held op) (value_held ops)
 
   -- one operation more, at the end
-  value-push : (ops : List O) (x : O) → summary_of joined nothing of_one (ops ++ x ∷ []) ≡ joined (summary_of joined nothing of_one ops) (of_one x)
+  pub value-push : (ops : List O) (x : O) → summary_of joined nothing of_one (ops ++ x ∷ []) ≡ joined (summary_of joined nothing of_one ops) (of_one x)
   value-push [] x = laws.commutative _ _ (more.one_held x) more.nothing_held
   value-push (op ∷ ops) x = ap (joined (of_one op)) (value-push ops x) ∙ sym (laws.associative _ _ _ (more.one_held op) (value_held ops) (more.one_held x))
 

@@ -8,6 +8,7 @@ ghost use Rattle.join_laws.specs.Proved.Orders.{greatest_laws, greatest_summary_
 use crate::element::{Copies, Exact};
 use crate::join::Join;
 use crate::summary::Summary;
+use crate::undoes::Undoes;
 use std::alloc::{AllocError, Global};
 use std::marker::Model;
 use std::mem::replace;
@@ -94,20 +95,27 @@ impl<T: Exact> Join for Greatest<T> {
 }
 
 impl<T: Exact> Summary<T> for Greatest<T> {
-    type Undo = Option<Option<T>>;
-
     ghost nothing = { None };
 
     ghost of_one = { Some };
-
-    ghost TakesBack = { λ before value undo.
-        IsBefore before (greatest_of T.cmp before (Some value)) undo };
 
     ghost summary_laws = { greatest_summary_laws T.cmp T.total T.exact };
 
     fn empty(alloc: Global) -> Greatest<T> {
         Greatest::empty(alloc)
     }
+
+    fn add(&mut self, value: &T) -> Result<(), AllocError> {
+        let _ = self.take(value)?;
+        Ok(())
+    }
+}
+
+impl<T: Exact> Undoes<T> for Greatest<T> {
+    type Undo = Option<Option<T>>;
+
+    ghost TakesBack = { λ before value undo.
+        IsBefore before (greatest_of T.cmp before (Some value)) undo };
 
     fn add_with_undo(&mut self, value: &T) -> Result<Option<Option<T>>, AllocError> {
         self.take(value)

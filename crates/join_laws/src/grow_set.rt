@@ -11,6 +11,7 @@ ghost use Rattle.join_laws.specs.Proved.Sets.{set_laws, set_summary_laws};
 use crate::element::{Copies, Exact};
 use crate::join::Join;
 use crate::summary::Summary;
+use crate::undoes::Undoes;
 use std::alloc::{AllocError, Global};
 use std::collections::BTreeSet;
 use std::marker::Model;
@@ -161,20 +162,27 @@ impl<K: Exact> Join for GrowSet<K> {
 }
 
 impl<K: Exact> Summary<K> for GrowSet<K> {
-    /// Whether the key was absent.
-    type Undo = bool;
-
     ghost nothing = { [] };
 
     ghost of_one = { only };
-
-    ghost TakesBack = { λ before key absent. absent ≡ not (list_any (is_at (K.cmp key)) before) };
 
     ghost summary_laws = { set_summary_laws K.total K.exact };
 
     fn empty(alloc: Global) -> GrowSet<K> {
         GrowSet::empty(alloc)
     }
+
+    fn add(&mut self, key: &K) -> Result<(), AllocError> {
+        let _ = self.keys.insert(key.copy()?)?;
+        Ok(())
+    }
+}
+
+impl<K: Exact> Undoes<K> for GrowSet<K> {
+    /// Whether the key was absent.
+    type Undo = bool;
+
+    ghost TakesBack = { λ before key absent. absent ≡ not (list_any (is_at (K.cmp key)) before) };
 
     fn add_with_undo(&mut self, key: &K) -> Result<bool, AllocError> {
         Ok(self.keys.insert(key.copy()?)?)

@@ -2,7 +2,8 @@
 //!
 //! A [`Join`] type says what two of its values come to together, and proves that neither the order
 //! nor a repeat is seen in it. A [`Summary`] is such a value of a list of operations, so that it is
-//! what the set of the operations alone says. `specs/Laws.antt` has the laws.
+//! what the set of the operations alone says, and one that [`Undoes`] takes the last one back.
+//! `specs/Laws.antt` has the laws.
 #![tactic(auto)]
 
 pub mod element;
@@ -14,6 +15,7 @@ pub mod least;
 pub mod map_of;
 pub mod pair_of;
 pub mod summary;
+pub mod undoes;
 
 pub use element::{Copies, Exact};
 pub use greatest::Greatest;
@@ -27,6 +29,7 @@ pub use least::Least;
 pub use map_of::MapOf;
 pub use pair_of::PairOf;
 pub use summary::{Summary, fold_ops};
+pub use undoes::Undoes;
 
 #[cfg(test)]
 mod tests;

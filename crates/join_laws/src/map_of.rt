@@ -12,6 +12,7 @@ ghost use Rattle.join_laws.specs.Proved.Maps.{map_laws, map_summary_laws};
 use crate::element::{Copies, Exact};
 use crate::join::Join;
 use crate::summary::Summary;
+use crate::undoes::Undoes;
 use std::alloc::{AllocError, Global};
 use std::collections::BTreeMap;
 use std::marker::Model;
@@ -235,9 +236,51 @@ impl<K: Exact, J: Join + Copies> Join for MapOf<K, J> {
     }
 }
 
+// Takes in an operation at a key. Where memory is refused, the map stays as it was.
+fn add_at<K: Exact, O, J: Summary<O>>(
+    alloc: Global,
+    into: &mut BTreeMap<K, J>,
+    key: &K,
+    op: &O,
+) -> Result<(), AllocError>
+    ensures ok { OnOk result (into.new.entries ≡
+        put_joined K.cmp J.joined into.old.entries key.now (J.of_one op.now)) }
+    ensures refused { OnErr result (into.new.entries ≡ into.old.entries) }
+{
+    match into.get_mut(key) {
+        Some(there) => {
+            there.add(op)?;
+            Ok(())
+        }
+        None => {
+            let mut value = J::empty(alloc);
+            value.add(op)?;
+            into.insert(key.copy()?, value)?;
+            Ok(())
+        }
+    }
+}
+
+impl<K: Exact, O, J: Summary<O> + Copies> Summary<(K, O)> for MapOf<K, J> {
+    ghost nothing = { [] };
+
+    ghost of_one = { entry_of J.of_one };
+
+    ghost summary_laws = { map_summary_laws K.total K.exact J.laws J.summary_laws };
+
+    fn empty(alloc: Global) -> MapOf<K, J> {
+        MapOf::empty(alloc)
+    }
+
+    fn add(&mut self, op: &(K, O)) -> Result<(), AllocError> {
+        add_at(self.alloc, &mut self.map, &op.0, &op.1)?;
+        Ok(())
+    }
+}
+
 // Takes in an operation at a key, and answers what takes it back, or `None` where the key was
 // absent. Where memory is refused, the map stays as it was.
-fn add_at<K: Exact, O, J: Summary<O>>(
+fn add_undoable<K: Exact, O, J: Undoes<O>>(
     alloc: Global,
     into: &mut BTreeMap<K, J>,
     key: &K,
@@ -261,7 +304,7 @@ fn add_at<K: Exact, O, J: Summary<O>>(
 }
 
 // Takes back the operation that was taken in last, where the key was there before.
-fn undo_there<K: Exact, O, J: Summary<O>>(map: &mut BTreeMap<K, J>, key: &K, op: &O, undo: J::Undo)
+fn undo_there<K: Exact, O, J: Undoes<O>>(map: &mut BTreeMap<K, J>, key: &K, op: &O, undo: J::Undo)
     ensures back { (before : List (K × J)) (value : J) → IsMapOf K.cmp J.IsHeld before →
         lookup (is_at (K.cmp key.now)) before ≡ Some value → J.TakesBack value op.now undo →
         map.old.entries ≡ put_joined K.cmp J.joined before key.now (J.of_one op.now) →
@@ -278,7 +321,7 @@ fn undo_there<K: Exact, O, J: Summary<O>>(map: &mut BTreeMap<K, J>, key: &K, op:
 }
 
 // Takes back the operation that was taken in last, at the key.
-fn undo_at<K: Exact, O, J: Summary<O>>(
+fn undo_at<K: Exact, O, J: Undoes<O>>(
     map: &mut BTreeMap<K, J>,
     key: &K,
     op: &O,
@@ -298,24 +341,14 @@ fn undo_at<K: Exact, O, J: Summary<O>>(
     }
 }
 
-impl<K: Exact, O, J: Summary<O> + Copies> Summary<(K, O)> for MapOf<K, J> {
+impl<K: Exact, O, J: Undoes<O> + Copies> Undoes<(K, O)> for MapOf<K, J> {
     type Undo = Option<J::Undo>;
-
-    ghost nothing = { [] };
-
-    ghost of_one = { entry_of J.of_one };
 
     ghost TakesBack = { λ before op undo.
         IsUndoAt J.TakesBack op.1 (lookup (is_at (K.cmp op.0)) before) undo };
 
-    ghost summary_laws = { map_summary_laws K.total K.exact J.laws J.summary_laws };
-
-    fn empty(alloc: Global) -> MapOf<K, J> {
-        MapOf::empty(alloc)
-    }
-
     fn add_with_undo(&mut self, op: &(K, O)) -> Result<Option<J::Undo>, AllocError> {
-        Ok(add_at(self.alloc, &mut self.map, &op.0, &op.1)?)
+        Ok(add_undoable(self.alloc, &mut self.map, &op.0, &op.1)?)
     }
 
     fn undo(&mut self, op: &(K, O), undo: Option<J::Undo>) {

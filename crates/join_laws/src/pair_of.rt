@@ -6,13 +6,14 @@ ghost use Rattle.join_laws.specs.Proved.Pairs.{pair_laws, pair_summary_laws};
 use crate::element::Copies;
 use crate::join::Join;
 use crate::summary::Summary;
+use crate::undoes::Undoes;
 use std::alloc::{AllocError, Global};
 use std::marker::Model;
 
 /// Two values, which are joined part by part.
 ///
 /// To go back where memory is refused in the second part, a join copies the first one, so the
-/// smaller part stands first. One more operation copies nothing.
+/// smaller part stands first. One more operation copies nothing: the first part takes it back.
 #[derive(Drop)]
 pub struct PairOf<A, B> {
     first: A,
@@ -72,15 +73,10 @@ impl<A: Join + Copies, B: Join> Join for PairOf<A, B> {
     }
 }
 
-impl<O, A: Summary<O> + Copies, B: Summary<O>> Summary<O> for PairOf<A, B> {
-    type Undo = (A::Undo, B::Undo);
-
+impl<O, A: Undoes<O> + Copies, B: Summary<O>> Summary<O> for PairOf<A, B> {
     ghost nothing = { (A.nothing, B.nothing) };
 
     ghost of_one = { both A.of_one B.of_one };
-
-    ghost TakesBack = { λ before op undo.
-        A.TakesBack before.0 op undo.0 × B.TakesBack before.1 op undo.1 };
 
     ghost summary_laws = { pair_summary_laws A.summary_laws B.summary_laws };
 
@@ -90,6 +86,23 @@ impl<O, A: Summary<O> + Copies, B: Summary<O>> Summary<O> for PairOf<A, B> {
             second: B::empty(alloc),
         }
     }
+
+    fn add(&mut self, op: &O) -> Result<(), AllocError> {
+        self.first.held();
+        let first = self.first.add_with_undo(op)?;
+        if let Err(refused) = self.second.add(op) {
+            self.first.undo(op, first);
+            return Err(refused);
+        }
+        Ok(())
+    }
+}
+
+impl<O, A: Undoes<O> + Copies, B: Undoes<O>> Undoes<O> for PairOf<A, B> {
+    type Undo = (A::Undo, B::Undo);
+
+    ghost TakesBack = { λ before op undo.
+        A.TakesBack before.0 op undo.0 × B.TakesBack before.1 op undo.1 };
 
     fn add_with_undo(&mut self, op: &O) -> Result<(A::Undo, B::Undo), AllocError> {
         self.first.held();

@@ -2,8 +2,8 @@
 use Rattle.std.specs.Prelude.{ℕ, List, [], ◌∷◌, length, map, Bool, true, false, ◌||◌, ◌==◌, nat_eq}
 use Rattle.std.specs.List.{list_any, list_all, slice_split}
 use Rattle.std.specs.Cmp.Lexicographic.{pointwise}
-use Rattle.data_set.specs.Values.{trimmed}
-use Rattle.data_set.specs.Uid.{is_uid_text}
+use Rattle.octets.specs.Padding.{trimmed}
+use Rattle.octets.specs.Uid.{is_uid_text}
 use Rattle.key_matching.specs.declared.matching.Matching.{Matching}
 use Rattle.key_matching.specs.declared.matching.Matching.TheVariants.{Dates, Times, WildCard, Name, Uids, Single, Answered}
 use Rattle.key_matching.specs.declared.range.Moment.TheVariants.{Date, Time}

@@ -11,4 +11,4 @@ mod value_match;
 mod wild_card;
 
 pub use matching::Matching;
-pub use value_match::{is_of_form, is_universal, matches};
+pub use value_match::{is_of_form, is_universal, matches, members_of};

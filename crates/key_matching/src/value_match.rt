@@ -1,13 +1,15 @@
 //! Which values a key matches, on bytes (PS3.4, section C.2.2.2).
 
-ghost use Rattle.std.specs.Prelude.{◌≡◌, ◌<◌, ◌+◌, length, take, drop, position, IfSome};
+ghost use Rattle.std.specs.Prelude.{◌≡◌, ◌<◌, ◌+◌, ◌++◌, ◌∷◌, [], length, take, drop, map, position, IfSome, IfOk, OnOk};
 ghost use Rattle.std.specs.List.{list_any, list_all};
+ghost use Rattle.octets.specs.Padding.{trimmed as trimmed_in};
 ghost use Rattle.key_matching.specs.Matches.{is_universal as is_universal_in, is_backslash, parts, is_uid_part as is_uid_part_in, is_same_part as is_same_part_in, is_of_form as is_of_form_in, is_match_by as is_match_by_in, matches as matches_in};
 
 use crate::matching::Matching;
 use crate::range::{Moment, is_in_range, is_range};
 use crate::wild_card::is_wild_match;
-use data_set::{is_uid, trimmed_of};
+use octets::{Octets, is_uid, trimmed};
+use std::alloc::{AllocError, Global};
 
 /// Whether a key matches every value: it is empty, or `*` alone
 /// (docs/DECISIONS.md, "Universal matching").
@@ -20,13 +22,13 @@ pub fn is_universal(key: &[u8]) -> bool
 fn is_uid_part(part: &[u8]) -> bool
     ensures { result ≡ is_uid_part_in part.now }
 {
-    is_uid(trimmed_of(part))
+    is_uid(trimmed(part))
 }
 
 fn is_same_part(value: &[u8], part: &[u8]) -> bool
     ensures { result ≡ is_same_part_in value.now part.now }
 {
-    trimmed_of(part) == value
+    trimmed(part) == value
 }
 
 /// Where the first backslash stands.
@@ -79,6 +81,34 @@ fn is_listed(key: &[u8], value: &[u8]) -> bool
                 if is_same_part(value, front(rest, at)) {
                     return true;
                 }
+                rest = after(rest, at);
+            }
+        }
+    }
+}
+
+/// Adds a member of a list, trimmed.
+fn add_member(alloc: Global, members: &mut Vec<Octets>, part: &[u8]) -> Result<(), AllocError>
+    ensures { OnOk result (members.new.items ≡ members.old.items ++ trimmed_in part.now ∷ []) }
+{
+    members.push(Octets::from_slice(alloc, trimmed(part))?)?;
+    Ok(())
+}
+
+/// The members of a list of UIDs, which backslashes part, each trimmed.
+pub fn members_of(alloc: Global, key: &[u8]) -> Result<Vec<Octets>, AllocError>
+    ensures { IfOk result (λ members. members.items ≡ map trimmed_in (parts key.now)) }
+{
+    let mut members = Vec::new(alloc);
+    let mut rest = key;
+    loop {
+        match backslash(rest) {
+            None => {
+                add_member(alloc, &mut members, rest)?;
+                return Ok(members);
+            }
+            Some(at) => {
+                add_member(alloc, &mut members, front(rest, at))?;
                 rest = after(rest, at);
             }
         }

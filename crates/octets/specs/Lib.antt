@@ -1,2 +1,6 @@
 pub mod Bytes
 pub mod Gives
+pub mod Members
+pub mod Padding
+pub mod Texts
+pub mod Uid

@@ -1,4 +1,5 @@
-//! Bytes and lists as contracts see them, and the words in which every codec says its contract.
+//! Bytes and lists as contracts see them, what is asked of texts everywhere (padding, UIDs, order),
+//! and the words in which every codec says its contract.
 //!
 //! A `Vec` in a field would show its capacity and its place to a clause that compares. The types
 //! here show only what they hold: `Octets` its bytes, `ListOf<T>` its elements. Both are made from
@@ -7,8 +8,14 @@
 
 mod list_of;
 mod octets_type;
+mod padding;
 #[cfg(test)]
 mod tests;
+mod texts;
+mod uid;
 
 pub use list_of::ListOf;
 pub use octets_type::Octets;
+pub use padding::{trimmed, without_padding};
+pub use texts::{ascending, ascending_texts_are_the_same_in_order};
+pub use uid::is_uid;

@@ -1,6 +1,6 @@
-//! Bytes and lists, made and given back.
+//! Bytes and lists, made and given back, and texts.
 
-use crate::{ListOf, Octets};
+use crate::{ListOf, Octets, ascending, is_uid, trimmed};
 use std::cmp::Ordering;
 use std::test::Fail;
 
@@ -27,5 +27,43 @@ fn a_list_gives_its_elements_back(rt: HostRuntime) -> Result<(), Fail> {
     assert_eq!(rt; list.len(), 2, "two were pushed");
     let elements = list.into_vec();
     assert_eq!(rt; elements.as_slice(), [7, 8].as_slice(), "in order");
+    Ok(())
+}
+
+#[test]
+fn padding_is_trimmed_at_the_end_and_spaces_at_the_front(rt: HostRuntime) {
+    assert_eq!(rt; trimmed(b"  AB \x00 "), b"AB".as_slice(), "both sides");
+    assert_eq!(rt;
+        trimmed(b"\x00AB"),
+        b"\x00AB".as_slice(),
+        "a leading 00 stays"
+    );
+    assert_eq!(rt;
+        trimmed(b" \x00 A"),
+        b"\x00 A".as_slice(),
+        "and ends the spaces"
+    );
+    assert_eq!(rt; trimmed(b" \x00 "), b"".as_slice(), "nothing but padding");
+    assert_eq!(rt; trimmed(b"A B"), b"A B".as_slice(), "inner spaces");
+}
+
+#[test]
+fn a_uid_has_digits_and_full_stops(rt: HostRuntime) {
+    assert!(rt; is_uid(b"1.2.840"), "a UID");
+    assert!(rt; is_uid(&[b'9'; 64]), "64 bytes");
+    assert!(rt; !is_uid(&[b'9'; 65]), "65 bytes");
+    assert!(rt; !is_uid(b""), "no bytes");
+    assert!(rt; !is_uid(b"1.2 "), "padding");
+}
+
+#[test]
+fn texts_ascend_each_once(rt: HostRuntime) -> Result<(), Fail> {
+    let mut texts = Vec::new(rt.alloc());
+    for text in [b"1.9", b"1.2", b"1.9"] {
+        texts.push(Octets::from_slice(rt.alloc(), text)?)?;
+    }
+    let texts = ascending(texts);
+    assert_eq!(rt; texts.len(), 2, "one of them is there twice");
+    assert_eq!(rt; texts[0].as_slice(), b"1.2".as_slice(), "the lesser first");
     Ok(())
 }

@@ -1,21 +1,22 @@
 -- How long the parts of an operation are.
-use Rattle.std.proofs.Common.{rules, ◌≡◌, ℕ, ◌≤◌, ◌<◌, ◌^◌, [], ◌∷◌, List, length, Bool, true, false, cond, refl, arith}
-use Rattle.std.specs.Prelude.{◌&&◌, not, nat_le, nat_lt, is_some, ◌==◌, Option, Some, None, if◌then◌else◌}
+use Rattle.std.proofs.Common.{rules, ◌≡◌, ℕ, ◌≤◌, ◌<◌, ◌^◌, [], ◌∷◌, List, length, Bool, true, false, refl, subst, arith}
+use Rattle.std.specs.Prelude.{◌&&◌, not, nat_le, nat_lt, is_some, ◌==◌, ◌↔◌, IsTrue, Option, Some, None, if◌then◌else◌}
 use Rattle.std.specs.List.{list_all}
 use Rattle.std.specs.Coded.{Coded-set, coded_bool, le_prop}
+use Rattle.std.proofs.lemmas.Bool.{eqb-true, false≢true}
 use Rattle.std.proofs.lemmas.Bool.Decides.{nat_tests}
 use Rattle.std.proofs.Math.Logic.{∥∥₁_elim}
 use Rattle.data_set.specs.Corrections.{corrections, vr_among}
 use Rattle.data_set.specs.Tree.{Tree}
-use Rattle.data_set.specs.Uid.{is_uid_text, is_uid_byte}
+use Rattle.octets.specs.Uid.{is_uid_text}
 use Rattle.rejection_note.specs.Notes.{note_in}
 use Rattle.operation.specs.declared.draft.Draft.{Draft}
 use Rattle.operation.specs.declared.fault.OpFault.{OpFault}
 use Rattle.operation.specs.declared.fault.OpFault.TheVariants.{NoUid, Mismatch}
 use Rattle.operation.specs.declared.target.Target.{Target}
-use Rattle.operation.specs.declared.target.Target.TheVariants.{Study, Patient}
+use Rattle.operation.specs.declared.target.Target.TheVariants.{Study, Patient, Series}
 use Rattle.operation.specs.Parts.{ContentParts, CorrectionParts, key_of}
-use Rattle.operation.specs.Corrections.{is_correction, is_key, is_plain, is_corrected, is_tag_for, IsCorrection}
+use Rattle.operation.specs.Corrections.{is_correction, is_key, is_plain, is_corrected, is_of_patient, is_of_series, is_tag_for, is_series, IsCorrection}
 use Rattle.operation.specs.Contents.{offence, has_uids, names_itself, note_offence, Describes, IsContent, draft_of, longest}
 
 pub both : (a b : Bool) → (a && b) ≡ true → (a ≡ true) × (b ≡ true)
@@ -36,6 +37,7 @@ plain_short text e = le_from_test _ _ (both _ _ (both _ _ e).0).0
 pub key_short : (target : Target) → is_key target ≡ true → length (key_of target) ≤ 64
 key_short (Study key) e = uid_short key e
 key_short (Patient key) e = plain_short key (both _ _ e).1
+key_short (Series key) e = uid_short key e
 
 pub target_short : (c : CorrectionParts) → IsCorrection c → length (key_of c.target) ≤ 64
 unfolding is_correction
@@ -100,9 +102,27 @@ tag_corrected : (tag : ℕ) → is_corrected tag ≡ true → tag < 2 ^ 32
 tag_corrected tag e = tag_among tag corrections refl e
 
 tag_for : (target : Target) (tag : ℕ) → is_tag_for target tag ≡ true → tag < 2 ^ 32
-tag_for (Study key) tag e = tag_corrected tag e
+tag_for (Study key) tag e = tag_corrected tag (both _ _ e).0
 tag_for (Patient key) tag e = tag_corrected tag (both _ _ e).0
+tag_for (Series key) tag e = tag_corrected tag (both _ _ e).0
 
 pub tag_small : (k : CorrectionParts) → IsCorrection k → k.tag < 2 ^ 32
 unfolding is_correction
 tag_small k is = tag_for k.target k.tag (both _ _ (both _ _ (both _ _ (both _ _ is.lawful).0).0).0).1
+
+-- ---- the tag of a series
+
+of_series : (target : Target) (tag : ℕ) → is_tag_for target tag ≡ true → (tag ≡ 0x0008_103e) ↔ IsTrue (is_series target)
+of_series (Study key) tag e = (
+  λ is. absurd (false≢true (subst (λ (t : ℕ). (is_corrected t && not (is_of_series t)) ≡ true) is e)),
+  λ no. absurd (false≢true no),
+)
+of_series (Patient key) tag e = (
+  λ is. absurd (false≢true (subst (λ (t : ℕ). (is_corrected t && is_of_patient t) ≡ true) is e)),
+  λ no. absurd (false≢true no),
+)
+of_series (Series key) tag e = (λ is. refl, λ yes. eqb-true tag 0x0008_103e (both _ _ e).1)
+
+pub described_series : (k : CorrectionParts) → IsCorrection k → (k.tag ≡ 0x0008_103e) ↔ IsTrue (is_series k.target)
+unfolding is_correction
+described_series k is = of_series k.target k.tag (both _ _ (both _ _ (both _ _ (both _ _ is.lawful).0).0).0).1

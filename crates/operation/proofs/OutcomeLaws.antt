@@ -1,27 +1,28 @@
 -- A text comes to one outcome.
-use Rattle.std.proofs.Common.{◌≡◌, ℕ, zero, suc, ◌^◌, ◌<◌, ◌≤◌, ◌-◌, List, [], ◌∷◌, length, get_or, Bool, true, false, cond, Option, Some, None, Result, Ok, Err, refl, sym, ap, subst, ◌∙◌, arith, rules}
+use Rattle.std.proofs.Common.{◌≡◌, ℕ, zero, suc, ◌<◌, ◌-◌, List, [], ◌∷◌, ◌++◌, length, Bool, true, false, cond, Some, Result, Ok, Err, refl, sym, ap, subst, ◌∙◌, arith}
 use Rattle.std.proofs.lemmas.Bool.Decides.{nat_tests}
-use Rattle.std.specs.Prelude.{not, slice_get, ◌==◌, ◌||◌, ◌&&◌, nat_le}
+use Rattle.std.specs.Prelude.{not, slice_get, ◌==◌, ◌&&◌, nat_le}
+use Rattle.std.specs.Int.{w16, w32, w64, to_be_bytes}
 use Rattle.std.specs.List.{list_all}
-use Rattle.std.specs.Coded.{Coded-set}
-use Rattle.std.proofs.Math.Logic.{∥∥₁_elim}
 use Rattle.octets.specs.Gives.{◌>>=◌, Tells, Gives}
 use Rattle.octets.proofs.ByteLaws.{tells_map}
-use Rattle.data_set.specs.Uid.{is_uid_text, is_uid_byte}
-use Rattle.data_set.specs.Values.{is_padding}
+use Rattle.octets.specs.Uid.{is_uid_text, is_uid_byte}
+use Rattle.octets.specs.Padding.{is_padding}
 use Rattle.operation.specs.declared.draft.Draft.{Draft}
 use Rattle.operation.specs.declared.fault.OpFault.{OpFault}
 use Rattle.operation.specs.declared.fault.OpFault.TheVariants.{Shape, UnknownKind, BadCorrection}
 use Rattle.operation.specs.declared.op.Op.{Op}
 use Rattle.operation.specs.declared.op.Op.TheVariants.{Content as a_content, Correction as a_correction}
+use Rattle.operation.specs.declared.target.Target.{Target}
+use Rattle.operation.specs.declared.target.Target.TheVariants.{Study, Patient, Series}
 use Rattle.operation.specs.Parts.{ContentParts, CorrectionParts}
-use Rattle.operation.specs.Contents.{IsContent, IsOutcome, Describes, draft_of}
-use Rattle.operation.specs.Corrections.{IsCorrection, checked, is_correction}
+use Rattle.operation.specs.Contents.{IsContent, draft_of}
+use Rattle.operation.specs.Corrections.{IsCorrection, checked}
 use Rattle.operation.specs.Fault.{is_memory}
 use Rattle.operation.specs.Reading.{IsReading, IsMade, IsFaultOf, IsOp, HasFault, is_pad, is_padded, draft_at, parts_at, correction_at}
-use Rattle.operation.specs.Spelling.{spelling, draft_text, parts_text}
+use Rattle.operation.specs.Spelling.{spelling, target_text, draft_text, correction_text}
 use Rattle.operation.proofs.Bounds.{both, class_uid, instance_uid, body_short, value_short, tag_small}
-use Rattle.operation.proofs.ContentLaws.{outcome_once, one_content}
+use Rattle.operation.proofs.ContentLaws.{outcome_once}
 use Rattle.operation.proofs.ReadingLaws.{draft_again, parts_again}
 
 -- ---- one outcome
@@ -37,8 +38,9 @@ pub reading_once : (text : List ℕ) (r s : Result Op OpFault) → IsReading tex
 reading_once [] r s p q = p ∙ sym q
 reading_once (suc zero ∷ text) r s p q = p.2 ∙ ap as_content (made_once (draft_at text) p.0 q.0 p.1 q.1) ∙ sym q.2
 reading_once (suc (suc zero) ∷ text) r s p q = p ∙ sym q
+reading_once (suc (suc (suc zero)) ∷ text) r s p q = p ∙ sym q
 reading_once (zero ∷ text) r s p q = p ∙ sym q
-reading_once (suc (suc (suc n)) ∷ text) r s p q = p ∙ sym q
+reading_once (suc (suc (suc (suc n))) ∷ text) r s p q = p ∙ sym q
 
 -- ---- faults
 
@@ -50,8 +52,9 @@ pub fault_reading : (text : List ℕ) (f : OpFault) → HasFault text f → IsRe
 fault_reading [] f e = ap (λ (x : OpFault). Err x) (sym e)
 fault_reading (suc zero ∷ text) f e = (Err f, made_fault (draft_at text) f e, refl)
 fault_reading (suc (suc zero) ∷ text) f e = sym (ap (λ (r : Result CorrectionParts OpFault). r >>= λ k. Ok (a_correction k)) e)
+fault_reading (suc (suc (suc zero)) ∷ text) f e = sym (ap (λ (r : Result CorrectionParts OpFault). r >>= λ k. Ok (a_correction k)) e)
 fault_reading (zero ∷ text) f e = ap (λ (x : OpFault). Err x) (sym e)
-fault_reading (suc (suc (suc n)) ∷ text) f e = ap (λ (x : OpFault). Err x) (sym e)
+fault_reading (suc (suc (suc (suc n))) ∷ text) f e = ap (λ (x : OpFault). Err x) (sym e)
 
 abbrev failed : (A : Type 0) → OpFault → Result A OpFault
 failed A f = Err f
@@ -74,9 +77,10 @@ correction_fault (Err g) f e = ap (failed CorrectionParts) (err_is Op g f (sym e
 pub reading_fault : (text : List ℕ) (f : OpFault) → IsReading text (Err f) → HasFault text f
 reading_fault [] f e = sym (err_is Op f Shape e)
 reading_fault (suc zero ∷ text) f e = fault_from (draft_at text) e.0 f e.1 e.2
-reading_fault (suc (suc zero) ∷ text) f e = correction_fault (correction_at text) f e
+reading_fault (suc (suc zero) ∷ text) f e = correction_fault (correction_at (2 ∷ text)) f e
+reading_fault (suc (suc (suc zero)) ∷ text) f e = correction_fault (correction_at (3 ∷ text)) f e
 reading_fault (zero ∷ text) f e = sym (err_is Op f UnknownKind e)
-reading_fault (suc (suc (suc n)) ∷ text) f e = sym (err_is Op f UnknownKind e)
+reading_fault (suc (suc (suc (suc n))) ∷ text) f e = sym (err_is Op f UnknownKind e)
 
 -- ---- what is spelled is read
 
@@ -109,12 +113,21 @@ content_again c is =
     let read : draft_at (draft_text (draft_of c)) ≡ Ok (draft_of c) = draft_again (draft_of c) (uid_bare c.class (class_uid c is)) (uid_bare c.instance (instance_uid c is)) (omega (arith, body_short c is)) in
     (Ok c, subst (λ (d : Result Draft OpFault). IsMade d (Ok c)) (sym read) (refl, is), refl)
 
+-- whatever its target, a text that begins with one is read as a correction
+behind_target : (target : Target) (rest : List ℕ) (r : Result Op OpFault) → r ≡ (correction_at (target_text target ++ rest) >>= λ k. Ok (a_correction k)) → IsReading (target_text target ++ rest) r
+behind_target (Study key) rest r e = e
+behind_target (Patient key) rest r e = e
+behind_target (Series key) rest r e = e
+
 correction_again : (k : CorrectionParts) → IsCorrection k → IsReading (spelling (a_correction k)) (Ok (a_correction k))
 unfolding spelling correction_at
 correction_again k is =
-    let read : parts_at (parts_text k) ≡ Ok k = parts_again k (tag_small k is) (omega (arith, value_short k is)) is.counter is.site in
+    let read : parts_at (correction_text k) ≡ Ok k = parts_again k (tag_small k is) (omega (arith, value_short k is)) is.counter is.site in
     let lawful : checked k ≡ Ok k = ap (λ (b : Bool). cond b (Ok k) (Err BadCorrection)) is.lawful in
+    let told : Ok (a_correction k) ≡ (correction_at (correction_text k) >>= λ x. Ok (a_correction x)) =
     sym (ap (λ (r : Result CorrectionParts OpFault). (r >>= checked) >>= λ x. Ok (a_correction x)) read ∙ ap (λ (r : Result CorrectionParts OpFault). r >>= λ x. Ok (a_correction x)) lawful)
+    in
+    behind_target k.target (to_be_bytes w32 k.tag ++ (to_be_bytes w16 (length k.value) ++ (k.value ++ (to_be_bytes w64 k.stamp.counter ++ to_be_bytes w16 k.stamp.site)))) (Ok (a_correction k)) told
 
 pub spelled_reading : (op : Op) → IsOp op → IsReading (spelling op) (Ok op)
 spelled_reading (a_content c) is = content_again c is

@@ -1,28 +1,25 @@
 -- What is read is spelled so, and what is spelled so is read.
-use Rattle.std.proofs.Common.{◌≡◌, ℕ, zero, suc, ◌+◌, ◌-◌, ◌^◌, ◌<◌, ◌≤◌, Bool, true, false, cond, ltb, eqb, List, [], ◌∷◌, ◌++◌, length, get_or, take, drop, Option, Some, None, Result, Ok, Err, refl, sym, ap, subst, ◌∙◌, append_assoc, arith, rules}
-use Rattle.std.specs.Prelude.{nat_lt, slice_get, ◌==◌, ◌||◌, ◌&&◌, nat_le, IfOk, if◌then◌else◌}
+use Rattle.std.proofs.Common.{◌≡◌, ℕ, zero, suc, ◌-◌, ◌^◌, ◌<◌, Bool, true, false, cond, ltb, eqb, List, [], ◌∷◌, ◌++◌, length, take, drop, Result, Ok, Err, refl, sym, ap, subst, ◌∙◌, append_assoc, arith}
+use Rattle.std.specs.Prelude.{IfOk, if◌then◌else◌}
 use Rattle.std.specs.Int.{w16, w32, w64, from_be_bytes, to_be_bytes}
-use Rattle.std.specs.List.{list_all}
 use Rattle.std.proofs.lemmas.Bool.{ltb-false, le-ltb, eqb-true}
-use Rattle.std.proofs.lemmas.List.{take_at, drop_at, take-append-drop, length-append, length-take, get_or-drop, append-nil}
+use Rattle.std.proofs.lemmas.List.{take_at, drop_at, take-append-drop, length-append, length-take}
 use Rattle.std.proofs.lemmas.Nat.{be_bytes_2, be_bytes_4, be_bytes_8, from_be_bytes-to_be_bytes_2, from_be_bytes-to_be_bytes_4, from_be_bytes-to_be_bytes_8}
 use Rattle.octets.specs.Bytes.{IsBytes}
 use Rattle.octets.specs.Gives.{◌>>=◌}
 use Rattle.octets.proofs.ByteLaws.{IsBytes-drop, IsBytes-two, IsBytes-four, bind_ok, guard_ok, guard_end, ok_is}
 use Rattle.data_set.specs.declared.syntax.Syntax.{Syntax}
 use Rattle.data_set.specs.declared.syntax.Syntax.TheVariants.{Implicit, Explicit}
-use Rattle.data_set.specs.Uid.{is_uid_text, is_uid_byte}
-use Rattle.data_set.specs.Values.{is_padding}
 use Rattle.operation.specs.declared.draft.Draft.{Draft}
 use Rattle.operation.specs.declared.fault.OpFault.{OpFault}
 use Rattle.operation.specs.declared.fault.OpFault.TheVariants.{BadCorrection, Shape}
 use Rattle.operation.specs.declared.stamp.Stamp.{Stamp}
 use Rattle.operation.specs.declared.target.Target.{Target}
-use Rattle.operation.specs.declared.target.Target.TheVariants.{Study, Patient}
+use Rattle.operation.specs.declared.target.Target.TheVariants.{Study, Patient, Series}
 use Rattle.operation.specs.Corrections.{is_correction, checked}
-use Rattle.operation.specs.Parts.{CorrectionParts, key_of}
-use Rattle.operation.specs.Reading.{Read, short_at, is_pad, is_padded, uid_at, syntax_at, body_at, draft_at, target_at, tag_at, value_text_at, stamp_at, parts_at}
-use Rattle.operation.specs.Spelling.{short_text, syntax_byte, target_text, draft_text, parts_text}
+use Rattle.operation.specs.Parts.{CorrectionParts}
+use Rattle.operation.specs.Reading.{short_at, is_padded, uid_at, syntax_at, body_at, draft_at, target_at, tag_at, value_text_at, stamp_at, parts_at}
+use Rattle.operation.specs.Spelling.{short_text, syntax_byte, target_text, draft_text, correction_text}
 
 -- ---- what is read is spelled so
 
@@ -90,17 +87,28 @@ draft_takes bytes d fits e =
 
 target_takes : (bytes : List ℕ) (x : Target × List ℕ) → IsBytes bytes → target_at bytes ≡ Ok x → Takes bytes (target_text x.0) x.1
 unfolding target_at
-target_takes (suc zero ∷ rest) x fits e =
+target_takes (suc (suc zero) ∷ suc zero ∷ rest) x fits e =
     let p = bind_ok (short_at rest) (λ key. Ok (Study key.0, key.1)) x e in
-    let t = short_takes rest p.0 (λ i. fits (suc i)) p.1 in
-    subst (λ (y : Target × List ℕ). Takes (1 ∷ rest) (target_text y.0) y.1) (ok_is OpFault (Study p.0.0, p.0.1) x p.2) (record { parts = ap (λ (t : List ℕ). 1 ∷ t) t.parts; rest_fits = t.rest_fits })
-target_takes (suc (suc zero) ∷ rest) x fits e =
+    let t = short_takes rest p.0 (λ i. fits (suc (suc i))) p.1 in
+    subst (λ (y : Target × List ℕ). Takes (2 ∷ 1 ∷ rest) (target_text y.0) y.1) (ok_is OpFault (Study p.0.0, p.0.1) x p.2)
+    (record { parts = ap (λ (t : List ℕ). 2 ∷ 1 ∷ t) t.parts; rest_fits = t.rest_fits })
+target_takes (suc (suc zero) ∷ suc (suc zero) ∷ rest) x fits e =
     let p = bind_ok (short_at rest) (λ key. Ok (Patient key.0, key.1)) x e in
+    let t = short_takes rest p.0 (λ i. fits (suc (suc i))) p.1 in
+    subst (λ (y : Target × List ℕ). Takes (2 ∷ 2 ∷ rest) (target_text y.0) y.1) (ok_is OpFault (Patient p.0.0, p.0.1) x p.2)
+    (record { parts = ap (λ (t : List ℕ). 2 ∷ 2 ∷ t) t.parts; rest_fits = t.rest_fits })
+target_takes (suc (suc (suc zero)) ∷ rest) x fits e =
+    let p = bind_ok (short_at rest) (λ key. Ok (Series key.0, key.1)) x e in
     let t = short_takes rest p.0 (λ i. fits (suc i)) p.1 in
-    subst (λ (y : Target × List ℕ). Takes (2 ∷ rest) (target_text y.0) y.1) (ok_is OpFault (Patient p.0.0, p.0.1) x p.2) (record { parts = ap (λ (t : List ℕ). 2 ∷ t) t.parts; rest_fits = t.rest_fits })
+    subst (λ (y : Target × List ℕ). Takes (3 ∷ rest) (target_text y.0) y.1) (ok_is OpFault (Series p.0.0, p.0.1) x p.2)
+    (record { parts = ap (λ (t : List ℕ). 3 ∷ t) t.parts; rest_fits = t.rest_fits })
 target_takes [] x fits e = absurd cc
 target_takes (zero ∷ rest) x fits e = absurd cc
-target_takes (suc (suc (suc n)) ∷ rest) x fits e = absurd cc
+target_takes (suc zero ∷ rest) x fits e = absurd cc
+target_takes (suc (suc zero) ∷ []) x fits e = absurd cc
+target_takes (suc (suc zero) ∷ zero ∷ rest) x fits e = absurd cc
+target_takes (suc (suc zero) ∷ suc (suc (suc n)) ∷ rest) x fits e = absurd cc
+target_takes (suc (suc (suc (suc n))) ∷ rest) x fits e = absurd cc
 
 tag_takes : (bytes : List ℕ) (x : ℕ × List ℕ) → IsBytes bytes → tag_at bytes ≡ Ok x → Takes bytes (to_be_bytes w32 x.0) x.1
 unfolding tag_at
@@ -151,7 +159,7 @@ stamp_takes _ x fits is = absurd cc
 abbrev with_target : Target × List ℕ → Result CorrectionParts OpFault
 with_target target = tag_at target.1 >>= λ tag. value_text_at tag.1 >>= λ value. stamp_at value.1 >>= λ stamp. Ok (record { target = target.0; tag = tag.0; value = value.0; stamp = stamp })
 
-pub parts_takes : (bytes : List ℕ) (k : CorrectionParts) → IsBytes bytes → parts_at bytes ≡ Ok k → (bytes ≡ parts_text k) × (k.stamp.counter < 2 ^ 64) × (k.stamp.site < 2 ^ 16)
+pub parts_takes : (bytes : List ℕ) (k : CorrectionParts) → IsBytes bytes → parts_at bytes ≡ Ok k → (bytes ≡ correction_text k) × (k.stamp.counter < 2 ^ 64) × (k.stamp.site < 2 ^ 16)
 unfolding parts_at
 parts_takes bytes k fits e =
     let p = bind_ok (target_at bytes) with_target k e in
@@ -163,10 +171,10 @@ parts_takes bytes k fits e =
     let t3 = value_takes q.0.1 r.0 t2.rest_fits r.1 in
     let t4 = stamp_takes r.0.1 s.0 t3.rest_fits s.1 in
     let made : CorrectionParts = record { target = p.0.0; tag = q.0.0; value = r.0.0; stamp = s.0 } in
-    let whole : bytes ≡ parts_text made =
+    let whole : bytes ≡ correction_text made =
     t1.parts ∙ ap (λ (t : List ℕ). target_text p.0.0 ++ t) (t2.parts ∙ ap (λ (t : List ℕ). to_be_bytes w32 q.0.0 ++ t) (t3.parts ∙ append_assoc (to_be_bytes w16 (length r.0.0)) r.0.0 r.0.1 ∙ ap (λ (t : List ℕ). to_be_bytes w16 (length r.0.0) ++ (r.0.0 ++ t)) t4.0))
     in
-    subst (λ (y : CorrectionParts). (bytes ≡ parts_text y) × (y.stamp.counter < 2 ^ 64) × (y.stamp.site < 2 ^ 16)) (ok_is OpFault made k s.2) (whole, t4.1, t4.2)
+    subst (λ (y : CorrectionParts). (bytes ≡ correction_text y) × (y.stamp.counter < 2 ^ 64) × (y.stamp.site < 2 ^ 16)) (ok_is OpFault made k s.2) (whole, t4.1, t4.2)
 
 -- ---- what is spelled so is read
 
@@ -202,6 +210,7 @@ target_again : (target : Target) (rest : List ℕ) → target_at (target_text ta
 unfolding target_at
 target_again (Study key) rest = rw (short_again key rest) refl
 target_again (Patient key) rest = rw (short_again key rest) refl
+target_again (Series key) rest = rw (short_again key rest) refl
 
 tag_again : (tag : ℕ) (rest : List ℕ) → tag < 2 ^ 32 → tag_at (to_be_bytes w32 tag ++ rest) ≡ Ok (tag, rest)
 unfolding tag_at
@@ -217,7 +226,7 @@ stamp_again : (x : Stamp) → x.counter < 2 ^ 64 → x.site < 2 ^ 16 → stamp_a
 unfolding stamp_at
 stamp_again x counter site = rw (from_be_bytes-to_be_bytes_8 x.counter counter, from_be_bytes-to_be_bytes_2 x.site site) refl
 
-pub parts_again : (k : CorrectionParts) → k.tag < 2 ^ 32 → length k.value < 2 ^ 16 → k.stamp.counter < 2 ^ 64 → k.stamp.site < 2 ^ 16 → parts_at (parts_text k) ≡ Ok k
+pub parts_again : (k : CorrectionParts) → k.tag < 2 ^ 32 → length k.value < 2 ^ 16 → k.stamp.counter < 2 ^ 64 → k.stamp.site < 2 ^ 16 → parts_at (correction_text k) ≡ Ok k
 unfolding parts_at
 parts_again k tag value counter site =
     rw (target_again k.target (to_be_bytes w32 k.tag ++ (to_be_bytes w16 (length k.value) ++ (k.value ++ (to_be_bytes w64 k.stamp.counter ++ to_be_bytes w16 k.stamp.site)))), tag_again k.tag (to_be_bytes w16 (length k.value) ++ (k.value ++ (to_be_bytes w64 k.stamp.counter ++ to_be_bytes w16 k.stamp.site))) tag, value_again k.value (to_be_bytes w64 k.stamp.counter ++ to_be_bytes w16 k.stamp.site) value, stamp_again k.stamp counter site) refl
@@ -235,9 +244,9 @@ body_behind d text e =
     drop_front (short_text d.class ++ (short_text d.instance ++ (syntax_byte d.syntax ∷ to_be_bytes w32 (length d.body)))) d.body text (e ∙ sym (simp append_assoc))
 
 -- what is made of parts that a text spells is spelled by it
-pub checked_spelled : (k : CorrectionParts) (text : List ℕ) (r : Result CorrectionParts OpFault) → text ≡ parts_text k → r ≡ checked k → IfOk r (λ made. text ≡ parts_text made)
-checked_spelled k text r spelled e = subst (λ (x : Result CorrectionParts OpFault). IfOk x (λ made. text ≡ parts_text made)) (sym e) (by_test (is_correction k))
+pub checked_spelled : (k : CorrectionParts) (text : List ℕ) (r : Result CorrectionParts OpFault) → text ≡ correction_text k → r ≡ checked k → IfOk r (λ made. text ≡ correction_text made)
+checked_spelled k text r spelled e = subst (λ (x : Result CorrectionParts OpFault). IfOk x (λ made. text ≡ correction_text made)) (sym e) (by_test (is_correction k))
   where
-    by_test : (b : Bool) → IfOk (if b then Ok k else Err BadCorrection) (λ made. text ≡ parts_text made)
+    by_test : (b : Bool) → IfOk (if b then Ok k else Err BadCorrection) (λ made. text ≡ correction_text made)
     by_test true = spelled
     by_test false = tt

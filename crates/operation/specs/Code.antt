@@ -1,5 +1,5 @@
 -- Operations as nested pairs, by which proofs tell them apart.
-use Rattle.std.specs.Prelude.{◌≡◌, ℕ, List, [], ◌∷◌, Bool, true, false, refl, ◌⊎◌, Option}
+use Rattle.std.specs.Prelude.{◌≡◌, ℕ, List, Bool, true, false, refl, ◌⊎◌, Option}
 use Rattle.std.proofs.Common.{inl, inr}
 use Rattle.std.specs.Coded.{Coded, code_by, coded×, coded_ℕ, coded_list, coded_bool, coded_option, coded⊎}
 use Rattle.data_set.specs.declared.syntax.Syntax.{Syntax}
@@ -7,9 +7,8 @@ use Rattle.data_set.specs.declared.syntax.Syntax.TheVariants.{Implicit, Explicit
 use Rattle.rejection_note.specs.declared.note.Note.{Note}
 use Rattle.rejection_note.specs.declared.title.Title.{Title}
 use Rattle.rejection_note.specs.declared.title.Title.TheVariants.{Quality, Safety, Worklist, Expired}
-use Rattle.operation.specs.declared.stamp.Stamp.{Stamp}
 use Rattle.operation.specs.declared.target.Target.{Target}
-use Rattle.operation.specs.declared.target.Target.TheVariants.{Study, Patient}
+use Rattle.operation.specs.declared.target.Target.TheVariants.{Study, Patient, Series}
 use Rattle.operation.specs.Parts.{ContentParts, CorrectionParts}
 
 abbrev pub text_code : Coded (List ℕ)
@@ -62,20 +61,24 @@ content_code =
     (λ p. record { class = p.0; instance = p.1.0; syntax = p.1.1.0; body = p.1.1.1.0; values = p.1.1.1.1.0; note = p.1.1.1.1.1 })
     (λ _. refl)
 
-abbrev pub target_to : Target → Bool × List ℕ
-target_to (Study k) = (true, k)
-target_to (Patient k) = (false, k)
+abbrev pub target_to : Target → List ℕ ⊎ (List ℕ ⊎ List ℕ)
+target_to (Study k) = inl k
+target_to (Patient k) = inr (inl k)
+target_to (Series k) = inr (inr k)
 
-abbrev pub target_from : Bool → List ℕ → Target
-target_from true k = Study k
-target_from false k = Patient k
+abbrev pub target_from : List ℕ ⊎ (List ℕ ⊎ List ℕ) → Target
+target_from (inl k) = Study k
+target_from (inr (inl k)) = Patient k
+target_from (inr (inr k)) = Series k
 
-abbrev pub target_back : (t : Target) → target_from (target_to t).0 (target_to t).1 ≡ t
+abbrev pub target_back : (t : Target) → target_from (target_to t) ≡ t
 target_back (Study k) = refl
 target_back (Patient k) = refl
+target_back (Series k) = refl
 
 abbrev pub target_code : Coded Target
-target_code = code_by (Bool × List ℕ) (coded× coded_bool text_code) target_to (λ p. target_from p.0 p.1) target_back
+target_code =
+    code_by (List ℕ ⊎ (List ℕ ⊎ List ℕ)) (coded⊎ text_code (coded⊎ text_code text_code)) target_to target_from target_back
 
 abbrev pub correction_code : Coded CorrectionParts
 correction_code =

@@ -3,10 +3,12 @@ use Rattle.std.specs.Prelude.{◌≡◌, ℕ, ◌<◌, ◌≤◌, List, [], ◌�
 use Rattle.std.specs.List.{filter_map}
 use Rattle.std.specs.Option.{option_map}
 use Rattle.std.specs.Cmp.Lexicographic.{pointwise}
+use Rattle.dictionary.specs.declared.elements.TheConstants.{ACCESSION_NUMBER, INSTANCE_NUMBER, MODALITY, PATIENT_BIRTH_DATE, PATIENT_ID, PATIENT_NAME, PATIENT_SEX, REFERRING_PHYSICIAN_NAME, SERIES_DESCRIPTION, SERIES_INSTANCE_UID, SERIES_NUMBER, SOP_CLASS_UID, SOP_INSTANCE_UID, SPECIFIC_CHARACTER_SET, STUDY_DATE, STUDY_DESCRIPTION, STUDY_ID, STUDY_INSTANCE_UID, STUDY_TIME}
 use Rattle.data_set.specs.Tree.{Tree}
 use Rattle.data_set.specs.Texts.{Spells}
-use Rattle.data_set.specs.Uid.{is_uid_text}
-use Rattle.data_set.specs.Values.{value_in, without_padding}
+use Rattle.octets.specs.Uid.{is_uid_text}
+use Rattle.octets.specs.Padding.{without_padding}
+use Rattle.data_set.specs.Values.{value_in}
 use Rattle.data_set.specs.declared.syntax.Syntax.{Syntax}
 use Rattle.rejection_note.specs.declared.fault.NoteFault.{NoteFault}
 use Rattle.rejection_note.specs.declared.note.Note.{Note}
@@ -28,7 +30,9 @@ IsShort draft = length draft.body ≤ longest
 -- the elements that queries know, ascending
 abbrev pub known_tags : List ℕ
 known_tags =
-    0x0008_0005 ∷ 0x0008_0016 ∷ 0x0008_0018 ∷ 0x0008_0020 ∷ 0x0008_0030 ∷ 0x0008_0050 ∷ 0x0008_0060 ∷ 0x0008_0090 ∷ 0x0008_1030 ∷ 0x0008_103e ∷ 0x0010_0010 ∷ 0x0010_0020 ∷ 0x0010_0030 ∷ 0x0010_0040 ∷ 0x0020_000d ∷ 0x0020_000e ∷ 0x0020_0010 ∷ 0x0020_0011 ∷ 0x0020_0013 ∷ []
+    SPECIFIC_CHARACTER_SET ∷ SOP_CLASS_UID ∷ SOP_INSTANCE_UID ∷ STUDY_DATE ∷ STUDY_TIME ∷ ACCESSION_NUMBER ∷ MODALITY
+    ∷ REFERRING_PHYSICIAN_NAME ∷ STUDY_DESCRIPTION ∷ SERIES_DESCRIPTION ∷ PATIENT_NAME ∷ PATIENT_ID ∷ PATIENT_BIRTH_DATE
+    ∷ PATIENT_SEX ∷ STUDY_INSTANCE_UID ∷ SERIES_INSTANCE_UID ∷ STUDY_ID ∷ SERIES_NUMBER ∷ INSTANCE_NUMBER ∷ []
 
 abbrev pub tagged : ℕ → List Tree → Option (ℕ × List ℕ)
 tagged tag elements = option_map (λ value. (tag, value)) (value_in tag elements)
@@ -51,11 +55,14 @@ is_value text (Some value) = pointwise nat_eq value text
 -- (0020,000D) and Series Instance UID (0020,000E).
 abbrev pub has_uids : List ℕ → List ℕ → List Tree → Bool
 has_uids class instance elements =
-    is_uid_text class && is_uid_text instance && is_uid_value (value_in 0x0008_0016 elements) && is_uid_value (value_in 0x0008_0018 elements) && is_uid_value (value_in 0x0020_000d elements) && is_uid_value (value_in 0x0020_000e elements)
+    is_uid_text class && is_uid_text instance
+    && is_uid_value (value_in SOP_CLASS_UID elements) && is_uid_value (value_in SOP_INSTANCE_UID elements)
+    && is_uid_value (value_in STUDY_INSTANCE_UID elements) && is_uid_value (value_in SERIES_INSTANCE_UID elements)
 
 -- Class and instance are those that the elements name.
 abbrev pub names_itself : List ℕ → List ℕ → List Tree → Bool
-names_itself class instance elements = is_value class (value_in 0x0008_0016 elements) && is_value instance (value_in 0x0008_0018 elements)
+names_itself class instance elements =
+    is_value class (value_in SOP_CLASS_UID elements) && is_value instance (value_in SOP_INSTANCE_UID elements)
 
 abbrev pub note_offence : Result (Option Note) NoteFault → Option OpFault
 note_offence (Ok said) = None

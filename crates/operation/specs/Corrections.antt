@@ -1,15 +1,16 @@
 -- Which corrections there are (docs/DECISIONS.md, "Corrections").
-use Rattle.std.specs.Prelude.{◌≡◌, ℕ, ◌<◌, ◌^◌, List, length, Bool, false, not, ◌&&◌, ◌||◌, ◌==◌, nat_le, Option, Some, None, Result, Ok, Err, IsTrue, slice_get, is_some, if◌then◌else◌, ◌-◌, ◌/◌}
+use Rattle.std.specs.Prelude.{ℕ, ◌<◌, ◌^◌, List, length, Bool, true, false, not, ◌&&◌, ◌||◌, ◌==◌, nat_le, Option, Some, None, Result, Ok, Err, IsTrue, slice_get, is_some, if◌then◌else◌, ◌-◌, ◌/◌}
 use Rattle.std.specs.List.{list_all}
+use Rattle.dictionary.specs.declared.elements.TheConstants.{SERIES_DESCRIPTION}
 use Rattle.data_set.specs.Corrections.{correction_vr_of}
-use Rattle.data_set.specs.Uid.{is_uid_text}
+use Rattle.octets.specs.Uid.{is_uid_text}
 use Rattle.operation.specs.declared.fault.OpFault.{OpFault}
 use Rattle.operation.specs.declared.fault.OpFault.TheVariants.{BadCorrection}
 use Rattle.operation.specs.declared.target.Target.{Target}
-use Rattle.operation.specs.declared.target.Target.TheVariants.{Study, Patient}
+use Rattle.operation.specs.declared.target.Target.TheVariants.{Study, Patient, Series}
 use Rattle.operation.specs.Parts.{CorrectionParts}
 
--- The ten attributes that can be corrected are those whose value representation is known.
+-- The eleven attributes that can be corrected are those whose value representation is known.
 abbrev pub is_corrected : ℕ → Bool
 is_corrected tag = is_some (correction_vr_of tag)
 
@@ -17,10 +18,21 @@ is_corrected tag = is_some (correction_vr_of tag)
 abbrev pub is_of_patient : ℕ → Bool
 is_of_patient tag = tag / 65536 == 0x0010
 
--- A study's correction is for any of them, a patient's for one of the patient.
+-- the one attribute of a series
+abbrev pub is_of_series : ℕ → Bool
+is_of_series tag = tag == SERIES_DESCRIPTION
+
+-- A study's correction is for any of them but that of a series, a patient's for one of the patient.
 abbrev pub is_tag_for : Target → ℕ → Bool
-is_tag_for (Study key) tag = is_corrected tag
+is_tag_for (Study key) tag = is_corrected tag && not (is_of_series tag)
 is_tag_for (Patient key) tag = is_corrected tag && is_of_patient tag
+is_tag_for (Series key) tag = is_corrected tag && is_of_series tag
+
+-- whether a target is a series
+abbrev pub is_series : Target → Bool
+is_series (Study key) = false
+is_series (Patient key) = false
+is_series (Series key) = true
 
 -- printable ASCII without the backslash, which parts values (PS3.5, 6.2)
 abbrev pub is_text_byte : ℕ → Bool
@@ -37,10 +49,11 @@ has_outer_space text = is_space (slice_get text 0) || is_space (slice_get text (
 unfoldable pub is_plain : List ℕ → Bool
 is_plain text = nat_le (length text) 64 && list_all is_text_byte text && not (has_outer_space text)
 
--- A study's key is a UID, and a patient's a Patient ID that is not empty.
+-- The key of a study or a series is a UID, and a patient's a Patient ID that is not empty.
 abbrev pub is_key : Target → Bool
 is_key (Study key) = is_uid_text key
 is_key (Patient key) = not (length key == 0) && is_plain key
+is_key (Series key) = is_uid_text key
 
 -- Counter and site are numbered from 1.
 unfoldable pub is_correction : CorrectionParts → Bool

@@ -4,7 +4,7 @@ use Rattle.data_set.specs.declared.syntax.Syntax.{Syntax}
 use Rattle.rejection_note.specs.declared.note.Note.{Note}
 use Rattle.operation.specs.declared.stamp.Stamp.{Stamp}
 use Rattle.operation.specs.declared.target.Target.{Target}
-use Rattle.operation.specs.declared.target.Target.TheVariants.{Study, Patient}
+use Rattle.operation.specs.declared.target.Target.TheVariants.{Study, Patient, Series}
 
 -- a stored data set with its SOP class, its SOP instance and its transfer syntax, and what is asked of it again and again:
 -- the trimmed values of its elements that queries know, by ascending tag, and what it says as a rejection note
@@ -16,7 +16,7 @@ pub record ContentParts : Type 0 where
   pub values : List (ℕ × List ℕ)
   pub note : Option Note
 
--- a stamped value for one attribute of a study or patient
+-- a stamped value for one attribute of a study, a patient or a series
 pub record CorrectionParts : Type 0 where
   pub target : Target
   pub tag : ℕ
@@ -39,3 +39,4 @@ own_value content tag = value_or_empty (value_at tag content.values)
 abbrev pub key_of : Target → List ℕ
 key_of (Study key) = key
 key_of (Patient key) = key
+key_of (Series key) = key

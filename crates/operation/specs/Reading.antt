@@ -4,7 +4,7 @@ use Rattle.std.specs.Int.{w16, w32, w64, from_be_bytes}
 use Rattle.octets.specs.Gives.{◌>>=◌}
 use Rattle.data_set.specs.declared.syntax.Syntax.{Syntax}
 use Rattle.data_set.specs.declared.syntax.Syntax.TheVariants.{Implicit, Explicit}
-use Rattle.data_set.specs.Values.{is_padding}
+use Rattle.octets.specs.Padding.{is_padding}
 use Rattle.operation.specs.declared.draft.Draft.{Draft}
 use Rattle.operation.specs.declared.fault.OpFault.{OpFault}
 use Rattle.operation.specs.declared.fault.OpFault.TheVariants.{UnknownKind, Shape}
@@ -12,7 +12,7 @@ use Rattle.operation.specs.declared.op.Op.{Op}
 use Rattle.operation.specs.declared.op.Op.TheVariants.{Content as a_content, Correction as a_correction}
 use Rattle.operation.specs.declared.stamp.Stamp.{Stamp}
 use Rattle.operation.specs.declared.target.Target.{Target}
-use Rattle.operation.specs.declared.target.Target.TheVariants.{Study, Patient}
+use Rattle.operation.specs.declared.target.Target.TheVariants.{Study, Patient, Series}
 use Rattle.operation.specs.Corrections.{IsCorrection, checked}
 use Rattle.operation.specs.Contents.{IsContent, IsRefused, IsOutcome}
 use Rattle.operation.specs.Parts.{ContentParts, CorrectionParts}
@@ -59,9 +59,11 @@ draft_at text = do
   body ← body_at syntax.1
   Ok (record { class = class.0; instance = instance.0; syntax = syntax.0; body = body })
 
+-- a kind of correction, 02 of a study or a patient and 03 of a series, and the target
 unfoldable pub target_at : List ℕ → Read Target
-target_at (suc zero ∷ rest) = short_at rest >>= λ key. Ok (Study key.0, key.1)
-target_at (suc (suc zero) ∷ rest) = short_at rest >>= λ key. Ok (Patient key.0, key.1)
+target_at (suc (suc zero) ∷ suc zero ∷ rest) = short_at rest >>= λ key. Ok (Study key.0, key.1)
+target_at (suc (suc zero) ∷ suc (suc zero) ∷ rest) = short_at rest >>= λ key. Ok (Patient key.0, key.1)
+target_at (suc (suc (suc zero)) ∷ rest) = short_at rest >>= λ key. Ok (Series key.0, key.1)
 target_at _ = Err Shape
 
 unfoldable pub tag_at : List ℕ → Read ℕ
@@ -81,7 +83,7 @@ stamp_at (a ∷ b ∷ c ∷ d ∷ e ∷ f ∷ g ∷ h ∷ i ∷ j ∷ []) =
     Ok (record { counter = from_be_bytes w64 (a ∷ b ∷ c ∷ d ∷ e ∷ f ∷ g ∷ h ∷ []); site = from_be_bytes w16 (i ∷ j ∷ []) })
 stamp_at _ = Err Shape
 
--- a correction behind its kind, whether it is lawful or not
+-- a correction with its kind, whether it is lawful or not
 unfoldable pub parts_at : List ℕ → Result CorrectionParts OpFault
 parts_at text = do
   target ← target_at text
@@ -90,7 +92,7 @@ parts_at text = do
   stamp ← stamp_at value.1
   Ok (record { target = target.0; tag = tag.0; value = value.0; stamp = stamp })
 
--- and a correction
+-- and a lawful one
 unfoldable pub correction_at : List ℕ → Result CorrectionParts OpFault
 correction_at text = parts_at text >>= checked
 
@@ -110,7 +112,8 @@ IsMade (Ok draft) r = IsOutcome draft r
 abbrev pub IsReading : List ℕ → Result Op OpFault → Type 0
 IsReading [] r = r ≡ Err Shape
 IsReading (suc zero ∷ text) r = (s : Result ContentParts OpFault) × IsMade (draft_at text) s × (r ≡ (s >>= λ c. Ok (a_content c)))
-IsReading (suc (suc zero) ∷ text) r = r ≡ (correction_at text >>= λ k. Ok (a_correction k))
+IsReading (suc (suc zero) ∷ text) r = r ≡ (correction_at (2 ∷ text) >>= λ k. Ok (a_correction k))
+IsReading (suc (suc (suc zero)) ∷ text) r = r ≡ (correction_at (3 ∷ text) >>= λ k. Ok (a_correction k))
 IsReading (_ ∷ text) r = r ≡ Err UnknownKind
 
 -- The draft that was read is no content, or there was none to read.
@@ -122,5 +125,6 @@ IsFaultOf (Ok draft) fault = IsRefused draft fault
 abbrev pub HasFault : List ℕ → OpFault → Type 0
 HasFault [] fault = Shape ≡ fault
 HasFault (suc zero ∷ text) fault = IsFaultOf (draft_at text) fault
-HasFault (suc (suc zero) ∷ text) fault = correction_at text ≡ Err fault
+HasFault (suc (suc zero) ∷ text) fault = correction_at (2 ∷ text) ≡ Err fault
+HasFault (suc (suc (suc zero)) ∷ text) fault = correction_at (3 ∷ text) ≡ Err fault
 HasFault (_ ∷ text) fault = UnknownKind ≡ fault

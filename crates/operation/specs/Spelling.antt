@@ -1,11 +1,11 @@
 -- The one spelling of each operation, and its digest.
-use Rattle.std.specs.Prelude.{ℕ, List, [], ◌∷◌, ◌++◌, length}
+use Rattle.std.specs.Prelude.{ℕ, List, ◌∷◌, ◌++◌, length}
 use Rattle.std.specs.Int.{w16, w32, w64, to_be_bytes}
 use Rattle.sha2.specs.Sha256.{sha256}
 use Rattle.data_set.specs.declared.syntax.Syntax.{Syntax}
 use Rattle.data_set.specs.declared.syntax.Syntax.TheVariants.{Implicit, Explicit}
 use Rattle.operation.specs.declared.target.Target.{Target}
-use Rattle.operation.specs.declared.target.Target.TheVariants.{Study, Patient}
+use Rattle.operation.specs.declared.target.Target.TheVariants.{Study, Patient, Series}
 use Rattle.operation.specs.declared.op.Op.{Op}
 use Rattle.operation.specs.declared.op.Op.TheVariants.{Content as a_content, Correction as a_correction}
 use Rattle.operation.specs.declared.draft.Draft.{Draft}
@@ -20,25 +20,24 @@ abbrev pub syntax_byte : Syntax → ℕ
 syntax_byte Implicit = 1
 syntax_byte Explicit = 2
 
+-- the kind of a correction and its key: 02 for a study or a patient, which the next byte tells apart, 03 for a series
 abbrev pub target_text : Target → List ℕ
-target_text (Study key) = 1 ∷ short_text key
-target_text (Patient key) = 2 ∷ short_text key
+target_text (Study key) = 2 ∷ (1 ∷ short_text key)
+target_text (Patient key) = 2 ∷ (2 ∷ short_text key)
+target_text (Series key) = 3 ∷ short_text key
 
 -- class, instance, transfer syntax, and the data set behind its length
 abbrev pub draft_text : Draft → List ℕ
 draft_text d = short_text d.class ++ (short_text d.instance ++ (syntax_byte d.syntax ∷ (to_be_bytes w32 (length d.body) ++ d.body)))
 
--- target, tag, the value behind its length, counter and site
-abbrev pub parts_text : CorrectionParts → List ℕ
-parts_text k =
+-- kind and target, tag, the value behind its length, counter and site
+abbrev pub correction_text : CorrectionParts → List ℕ
+correction_text k =
     target_text k.target ++ (to_be_bytes w32 k.tag ++ (to_be_bytes w16 (length k.value) ++ (k.value ++ (to_be_bytes w64 k.stamp.counter ++ to_be_bytes w16 k.stamp.site))))
 
--- behind the kind
+-- its kind, and the draft
 abbrev pub content_text : ContentParts → List ℕ
 content_text c = 1 ∷ draft_text (draft_of c)
-
-abbrev pub correction_text : CorrectionParts → List ℕ
-correction_text k = 2 ∷ parts_text k
 
 -- the bytes of an operation
 unfoldable pub spelling : Op → List ℕ

@@ -3,7 +3,8 @@
 ghost use Rattle.std.specs.Prelude.{◌≡◌, Ok, Err, IfOk, IfErr};
 ghost use Rattle.std.specs.List.{filter_map};
 ghost use Rattle.octets.specs.Gives.{Tells, Told, Gives};
-ghost use Rattle.data_set.specs.Values.{value_in, without_padding};
+ghost use Rattle.octets.specs.Padding.{without_padding};
+ghost use Rattle.data_set.specs.Values.{value_in};
 ghost use Rattle.operation.specs.declared.fault.OpFault.{OpFault};
 ghost use Rattle.operation.specs.Fault.{is_memory};
 ghost use Rattle.operation.specs.Parts.{ContentParts};
@@ -12,15 +13,15 @@ ghost use Rattle.operation.specs.Contents.{has_uids, names_itself, is_uid_value,
 use crate::content::{Content, KeyValue};
 use crate::draft::Draft;
 use crate::fault::OpFault;
-use crate::tags::{
+use bytes::Bytes;
+use data_set::{Element, Syntax, read, value_of};
+use dictionary::{
     ACCESSION_NUMBER, INSTANCE_NUMBER, MODALITY, PATIENT_BIRTH_DATE, PATIENT_ID, PATIENT_NAME,
     PATIENT_SEX, REFERRING_PHYSICIAN_NAME, SERIES_DESCRIPTION, SERIES_INSTANCE_UID, SERIES_NUMBER,
     SOP_CLASS_UID, SOP_INSTANCE_UID, SPECIFIC_CHARACTER_SET, STUDY_DATE, STUDY_DESCRIPTION,
     STUDY_ID, STUDY_INSTANCE_UID, STUDY_TIME,
 };
-use bytes::Bytes;
-use data_set::{Element, Syntax, is_uid, read, value_of, without_pads};
-use octets::{ListOf, Octets};
+use octets::{ListOf, Octets, is_uid, without_padding};
 use rejection_note::note_of;
 use std::alloc::{AllocError, Global};
 
@@ -146,7 +147,7 @@ pub fn content_from(alloc: Global, draft: Draft) -> Result<Content, OpFault>
 fn unpadded(text: Octets) -> Octets
     ensures { result ≡ without_padding text }
 {
-    let len = without_pads(text.as_slice()).len();
+    let len = without_padding(text.as_slice()).len();
     let mut bytes = text.into_vec();
     bytes.truncate(len);
     Octets::of(bytes)

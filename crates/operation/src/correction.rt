@@ -8,15 +8,16 @@ ghost use Rattle.operation.specs.Corrections.{is_tag_for, is_text_byte, has_oute
 use crate::fault::OpFault;
 use crate::stamp::Stamp;
 use crate::target::Target;
-use data_set::{correction_vr, is_uid};
-use octets::Octets;
+use data_set::correction_vr;
+use dictionary::SERIES_DESCRIPTION;
+use octets::{Octets, is_uid};
 use std::alloc::{AllocError, Global};
 use std::marker::Model;
 
 /// The group of the patient's attributes (PS3.6, section 6).
 const PATIENT_GROUP: u32 = 0x0010;
 
-/// A stamped value for one attribute of a study or patient.
+/// A stamped value for one attribute of a study, a patient or a series.
 #[derive(Debug, Drop)]
 pub struct Correction {
     target: Target,
@@ -44,8 +45,9 @@ fn may_have_tag(target: &Target, tag: u32) -> bool
 {
     let is_corrected = correction_vr(tag).is_some();
     match target {
-        Target::Study(_) => is_corrected,
+        Target::Study(_) => is_corrected && tag != SERIES_DESCRIPTION,
         Target::Patient(_) => is_corrected && tag / 65536 == PATIENT_GROUP,
+        Target::Series(_) => is_corrected && tag == SERIES_DESCRIPTION,
     }
 }
 
@@ -81,6 +83,7 @@ fn has_key(target: &Target) -> bool
     match target {
         Target::Study(key) => is_uid(key.as_slice()),
         Target::Patient(key) => !key.is_empty() && is_plain_text(key.as_slice()),
+        Target::Series(key) => is_uid(key.as_slice()),
     }
 }
 
@@ -96,8 +99,8 @@ fn is_lawful(target: &Target, tag: u32, value: &[u8], stamp: Stamp) -> bool
         && stamp.site >= 1
 }
 
-/// The correction of these parts: of one of ten attributes, of a study under its UID or of a
-/// patient under the trimmed stored Patient ID, from counter and site 1 on
+/// The correction of these parts: of one of eleven attributes, of a study or a series under its UID
+/// or of a patient under the trimmed stored Patient ID, from counter and site 1 on
 /// (docs/DECISIONS.md, "Corrections").
 pub fn correction_of(
     target: Target,

@@ -9,7 +9,7 @@ ghost use Rattle.operation.specs.Corrections.{IsCorrection};
 ghost use Rattle.operation.specs.Fault.{is_memory};
 ghost use Rattle.operation.specs.Front.{drafted_front};
 ghost use Rattle.operation.specs.Reading.{short_at, is_padded, uid_at, syntax_at, body_at, draft_at, target_at, tag_at, value_text_at, stamp_at, correction_at, IsMade, IsReading, IsOp, HasFault};
-ghost use Rattle.operation.specs.Spelling.{spelling, draft_text, parts_text};
+ghost use Rattle.operation.specs.Spelling.{spelling, draft_text, correction_text};
 
 use crate::content::Content;
 use crate::contents::content_from;
@@ -130,18 +130,23 @@ fn draft_of(alloc: Global, mut text: Bytes) -> Result<Draft, OpFault>
     })
 }
 
+/// The kind of a correction, and its target.
 #[tactic(auto, unfolding(crate::specs::Reading::target_at))]
 fn target_of(alloc: Global, text: &[u8]) -> Result<(Target, &[u8]), OpFault>
     ensures { Gives is_memory (λ x. (x.0, x.1.now)) result (target_at text.now) }
 {
     match text {
-        [1, rest @ ..] => {
+        [2, 1, rest @ ..] => {
             let (key, rest) = short_of(rest)?;
             Ok((Target::Study(Octets::from_slice(alloc, key)?), rest))
         }
-        [2, rest @ ..] => {
+        [2, 2, rest @ ..] => {
             let (key, rest) = short_of(rest)?;
             Ok((Target::Patient(Octets::from_slice(alloc, key)?), rest))
+        }
+        [3, rest @ ..] => {
+            let (key, rest) = short_of(rest)?;
+            Ok((Target::Series(Octets::from_slice(alloc, key)?), rest))
         }
         _ => Err(OpFault::Shape),
     }
@@ -186,11 +191,11 @@ fn stamp_of(text: &[u8]) -> Result<Stamp, OpFault>
     }
 }
 
-/// A correction behind its kind.
+/// A correction with its kind.
 #[tactic(auto, unfolding(crate::specs::Reading::correction_at, crate::specs::Reading::parts_at))]
 fn correction_from(alloc: Global, text: &[u8]) -> Result<Correction, OpFault>
     ensures exact { Gives is_memory (λ k. k) result (correction_at text.now) }
-    ensures spelled { IfOk result (λ k. text.now ≡ parts_text k) }
+    ensures spelled { IfOk result (λ k. text.now ≡ correction_text k) }
     ensures lawful { IfOk result IsCorrection }
 {
     let (target, rest) = target_of(alloc, text)?;
@@ -219,10 +224,13 @@ fn read_operation(alloc: Global, mut text: Bytes) -> Result<Op, OpFault>
         [] => return Err(OpFault::Shape),
         [kind, ..] => *kind,
     };
-    text.advance(1);
     match kind {
-        1 => Ok(Op::Content(content_behind(alloc, text)?)),
+        1 => {
+            text.advance(1);
+            Ok(Op::Content(content_behind(alloc, text)?))
+        }
         2 => Ok(Op::Correction(correction_from(alloc, text.as_slice())?)),
+        3 => Ok(Op::Correction(correction_from(alloc, text.as_slice())?)),
         _ => Err(OpFault::UnknownKind),
     }
 }

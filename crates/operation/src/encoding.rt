@@ -44,17 +44,22 @@ fn put_content(out: &mut Vec<u8>, content: &Content) -> Result<(), AllocError>
     Ok(())
 }
 
+/// The kind of a correction, and its target.
 fn put_target(out: &mut Vec<u8>, target: &Target) -> Result<(), AllocError>
     requires { length (key_of target.now) ≤ 64 }
     ensures { OnOk result (out.new.items ≡ out.old.items ++ target_text target.now) }
 {
     match target {
         Target::Study(key) => {
-            out.push(1)?;
+            out.extend_from_slice(&[2, 1])?;
             put_short(out, key.as_slice())
         }
         Target::Patient(key) => {
-            out.push(2)?;
+            out.extend_from_slice(&[2, 2])?;
+            put_short(out, key.as_slice())
+        }
+        Target::Series(key) => {
+            out.push(3)?;
             put_short(out, key.as_slice())
         }
     }
@@ -67,7 +72,6 @@ fn put_correction(out: &mut Vec<u8>, correction: &Correction) -> Result<(), Allo
 {
     let value = correction.value();
     let stamp = correction.stamp();
-    out.push(2)?;
     put_target(out, correction.target())?;
     out.extend_from_slice(&correction.tag().to_be_bytes())?;
     out.extend_from_slice(&(value.len() as u16).to_be_bytes())?;

@@ -52,17 +52,22 @@ fn content_digest(content: &Content) -> Digest
     Digest::of(sha2::Digest::finalize(hasher))
 }
 
+/// The kind of a correction, and its target.
 fn feed_target(hasher: &mut Sha256, target: &Target)
     requires { length (key_of target.now) ≤ 64 }
     ensures { (m : List ℕ) → Holds256 hasher.old m → Holds256 hasher.new (m ++ target_text target.now) }
 {
     match target {
         Target::Study(key) => {
-            feed_byte(hasher, 1);
+            feed(hasher, &[2, 1]);
             feed_short(hasher, key.as_slice());
         }
         Target::Patient(key) => {
-            feed_byte(hasher, 2);
+            feed(hasher, &[2, 2]);
+            feed_short(hasher, key.as_slice());
+        }
+        Target::Series(key) => {
+            feed_byte(hasher, 3);
             feed_short(hasher, key.as_slice());
         }
     }
@@ -74,7 +79,6 @@ fn correction_digest(correction: &Correction) -> Digest
     let mut hasher = <Sha256 as sha2::Digest>::new();
     let value = correction.value();
     let stamp = correction.stamp();
-    feed_byte(&mut hasher, 2);
     feed_target(&mut hasher, correction.target());
     feed(&mut hasher, &correction.tag().to_be_bytes());
     feed(&mut hasher, &(value.len() as u16).to_be_bytes());

@@ -1,14 +1,22 @@
 //! What follows from the definitions, for those who stand on them.
 
-ghost use Rattle.std.specs.Prelude.{◌≡◌, List, ℕ};
+ghost use Rattle.std.specs.Prelude.{◌≡◌, ◌↔◌, List, ℕ, IsTrue};
 ghost use Rattle.operation.specs.declared.fault.OpFault.{OpFault};
 ghost use Rattle.operation.specs.declared.op.Op.{Op};
+ghost use Rattle.operation.specs.Corrections.{IsCorrection, is_series};
+ghost use Rattle.operation.specs.Parts.{CorrectionParts};
 ghost use Rattle.operation.specs.Reading.{IsOp, HasFault};
 ghost use Rattle.operation.specs.Spelling.{spelling};
 
 /// Unequal operations have unequal spellings.
 pub fn spellings_tell_operations_apart()
     ensures { (a b : Op) → IsOp a → IsOp b → spelling a ≡ spelling b → a ≡ b }
+{}
+
+/// A correction is one of a series where it is one of (0008,103E) Series Description.
+pub fn a_series_is_corrected_by_its_description_alone()
+    ensures { (k : CorrectionParts) → IsCorrection k
+        → (k.tag ≡ 0x0008_103e) ↔ IsTrue (is_series k.target) }
 {}
 
 /// A text spells an operation or has a fault, and never two of these.

@@ -5,6 +5,7 @@ mod content;
 mod contents;
 mod correction;
 mod decoding;
+mod digested;
 mod digests;
 mod draft;
 mod encoding;
@@ -13,7 +14,7 @@ mod hashing;
 mod laws;
 mod op;
 mod stamp;
-mod tags;
+mod taken;
 mod target;
 #[cfg(test)]
 mod tests;
@@ -22,11 +23,16 @@ pub use content::Content;
 pub use contents::content_of;
 pub use correction::{Correction, correction_of};
 pub use decoding::decode;
+pub use digested::Digested;
 pub use digests::Digest;
 pub use encoding::encode;
 pub use fault::OpFault;
 pub use hashing::digest;
-pub use laws::{a_text_has_one_outcome, spellings_tell_operations_apart};
+pub use laws::{
+    a_series_is_corrected_by_its_description_alone, a_text_has_one_outcome,
+    spellings_tell_operations_apart,
+};
 pub use op::Op;
 pub use stamp::Stamp;
+pub use taken::Taken;
 pub use target::Target;

@@ -5,13 +5,15 @@ ghost use Rattle.std.specs.Prelude.{◌≡◌, ◌↔◌, IfOk, IsTrue};
 use octets::Octets;
 use std::alloc::{AllocError, Global};
 
-/// The study or the patient whose attribute is corrected.
+/// The study, the patient or the series whose attribute is corrected.
 #[derive(Debug, Drop)]
 pub enum Target {
     /// The study of this Study Instance UID.
     Study(Octets),
     /// The patient of this stored Patient ID.
     Patient(Octets),
+    /// The series of this Series Instance UID.
+    Series(Octets),
 }
 
 impl Target {
@@ -22,6 +24,7 @@ impl Target {
         match self {
             Target::Study(key) => Ok(Target::Study(key.copy(alloc)?)),
             Target::Patient(key) => Ok(Target::Patient(key.copy(alloc)?)),
+            Target::Series(key) => Ok(Target::Series(key.copy(alloc)?)),
         }
     }
 
@@ -32,8 +35,10 @@ impl Target {
         match (self, other) {
             (Target::Study(a), Target::Study(b)) => a.equals(b),
             (Target::Patient(a), Target::Patient(b)) => a.equals(b),
-            (Target::Study(_), Target::Patient(_)) => false,
-            (Target::Patient(_), Target::Study(_)) => false,
+            (Target::Series(a), Target::Series(b)) => a.equals(b),
+            (Target::Study(_), Target::Patient(_) | Target::Series(_)) => false,
+            (Target::Patient(_), Target::Study(_) | Target::Series(_)) => false,
+            (Target::Series(_), Target::Study(_) | Target::Patient(_)) => false,
         }
     }
 }

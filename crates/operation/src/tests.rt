@@ -1,8 +1,8 @@
 //! Operations by hand.
 
 use crate::{
-    Content, Correction, Digest, Op, OpFault, Stamp, Target, content_of, correction_of, decode,
-    digest, encode,
+    Content, Correction, Digest, Digested, Op, OpFault, Stamp, Target, content_of, correction_of,
+    decode, digest, encode,
 };
 use bytes::Bytes;
 use data_set::Syntax;
@@ -46,8 +46,15 @@ const IMAGE: [&[u8]; 7] = [
 // Kind, class, instance, syntax, and the length of the data set.
 const FRONT: &[u8] = b"\x01\x191.2.840.10008.5.1.4.1.1.2\x091.2.1.1.1\x01\x00\x00\x00\x76";
 
+// By another program: `openssl dgst -sha256` of the 160 bytes of FRONT and IMAGE.
+const IMAGE_DIGEST: &str = "2703dda98737764221508935b270672f563513afeaf26d114d42019a7e4bc7b4";
+
 // A correction of study 1.2.1: (0010,0010) is ROE^ANN, by counter 1 and site 1.
 const CORRECTION: &[u8] = b"\x02\x01\x051.2.1\x00\x10\x00\x10\x00\x07ROE^ANN\
+    \x00\x00\x00\x00\x00\x00\x00\x01\x00\x01";
+
+// A correction of series 1.2.1.1: (0008,103E) is HEAD, by counter 1 and site 1.
+const OF_A_SERIES: &[u8] = b"\x03\x071.2.1.1\x00\x08\x10\x3e\x00\x04HEAD\
     \x00\x00\x00\x00\x00\x00\x00\x01\x00\x01";
 
 fn joined(alloc: Global, parts: &[&[u8]]) -> Result<Vec<u8>, AllocError> {
@@ -142,6 +149,16 @@ fn of_study(alloc: Global) -> Result<Op, OpFault> {
     Ok(Op::Correction(correction_of(target, 0x0010_0010, value, stamp)?))
 }
 
+fn of_series(alloc: Global) -> Result<Op, OpFault> {
+    let target = Target::Series(octets(alloc, b"1.2.1.1")?);
+    let value = octets(alloc, b"HEAD")?;
+    let stamp = Stamp {
+        counter: 1,
+        site: 1,
+    };
+    Ok(Op::Correction(correction_of(target, 0x0008_103e, value, stamp)?))
+}
+
 /// Asks that an operation is spelled so.
 fn is_spelled(rt: &impl Abort, alloc: Global, op: &Op, wanted: &[&[u8]]) -> Result<(), AllocError> {
     let spelled = encode(alloc, op)?;
@@ -185,9 +202,20 @@ fn an_image_has_its_spelling(rt: HostRuntime) -> Result<(), Fail> {
 #[test]
 fn an_image_has_its_digest(rt: HostRuntime) -> Result<(), Fail> {
     let op = image(rt.alloc())?;
-    // By another program: `openssl dgst -sha256` of the 160 bytes.
-    let wanted = "2703dda98737764221508935b270672f563513afeaf26d114d42019a7e4bc7b4";
-    has_digest(&rt, rt.alloc(), &op, wanted)?;
+    has_digest(&rt, rt.alloc(), &op, IMAGE_DIGEST)?;
+    Ok(())
+}
+
+#[test]
+fn a_copy_has_the_digest_that_was_computed(rt: HostRuntime) -> Result<(), Fail> {
+    let op = Digested::of(image(rt.alloc())?);
+    let copy = op.copy(rt.alloc())?;
+    let text = copy.digest().text(rt.alloc())?;
+    assert_eq!(rt; text.as_str(), IMAGE_DIGEST, "the digest of a copy");
+    let (digest, copied) = copy.into_parts();
+    assert!(rt; digest == *op.digest(), "the digest by itself");
+    assert!(rt; copied.equals(op.op()), "the operation by itself");
+    assert!(rt; copied.equals(&op.into_op()), "the first owner's operation");
     Ok(())
 }
 
@@ -265,6 +293,24 @@ fn a_correction_has_its_digest(rt: HostRuntime) -> Result<(), Fail> {
 fn a_correction_is_decoded(rt: HostRuntime) -> Result<(), Fail> {
     let made = of_study(rt.alloc())?;
     let op = decoded(rt.alloc(), &[CORRECTION])?;
+    assert!(rt; op.equals(&made), "what was spelled");
+    Ok(())
+}
+
+#[test]
+fn a_correction_of_a_series_has_its_spelling_and_digest(rt: HostRuntime) -> Result<(), Fail> {
+    let op = of_series(rt.alloc())?;
+    is_spelled(&rt, rt.alloc(), &op, &[OF_A_SERIES])?;
+    // By another program: `openssl dgst -sha256` of the 29 bytes.
+    let wanted = "d2feaf22bf526ec96b2f38d44690738fed9576f70b38bee42e95a5589250387d";
+    has_digest(&rt, rt.alloc(), &op, wanted)?;
+    Ok(())
+}
+
+#[test]
+fn a_correction_of_a_series_is_decoded(rt: HostRuntime) -> Result<(), Fail> {
+    let made = of_series(rt.alloc())?;
+    let op = decoded(rt.alloc(), &[OF_A_SERIES])?;
     assert!(rt; op.equals(&made), "what was spelled");
     Ok(())
 }
@@ -407,6 +453,35 @@ fn a_correction_keeps_to_its_value_and_tag(rt: HostRuntime) {
     corrected(&rt, alloc, b"P1", 0x0010_0021, b"P2", 5);
 }
 
+/// What becomes of a correction of this target.
+fn targeted(rt: &impl Abort, alloc: Global, target: Target, tag: u32, wanted: u8) {
+    let stamp = Stamp {
+        counter: 1,
+        site: 1,
+    };
+    let told = match octets(alloc, b"HEAD") {
+        Ok(value) => number(correction_of(target, tag, value, stamp)),
+        Err(_) => 8,
+    };
+    assert_eq!(rt; told, wanted, "tag {tag:08x}");
+}
+
+#[test]
+fn a_series_has_its_description_alone(rt: HostRuntime) -> Result<(), Fail> {
+    let alloc = rt.alloc();
+    let uid = octets(alloc, b"1.2.1.1")?;
+    let series = Target::Series(uid.copy(alloc)?);
+    targeted(&rt, alloc, series.copy(alloc)?, 0x0008_103e, 0);
+    targeted(&rt, alloc, series, 0x0008_1030, 5);
+    targeted(&rt, alloc, Target::Study(uid.copy(alloc)?), 0x0008_1030, 0);
+    targeted(&rt, alloc, Target::Study(uid), 0x0008_103e, 5);
+    let patient = Target::Patient(octets(alloc, b"P1")?);
+    targeted(&rt, alloc, patient, 0x0008_103e, 5);
+    let letters = Target::Series(octets(alloc, b"SERIES 1")?);
+    targeted(&rt, alloc, letters, 0x0008_103e, 5);
+    Ok(())
+}
+
 #[test]
 fn counter_and_site_begin_at_1(rt: HostRuntime) -> Result<(), Fail> {
     for (counter, site, wanted) in [(0, 1, 5), (1, 0, 5), (u64::MAX, u16::MAX, 0)] {
@@ -457,6 +532,20 @@ fn only_the_spelling_of_a_content_is_decoded(rt: HostRuntime) -> Result<(), Fail
 }
 
 #[test]
+fn only_the_spelling_of_a_correction_of_a_series_is_decoded(rt: HostRuntime) {
+    let of_a_target: &[u8] = b"\x03\x01\x071.2.1.1\x00\x08\x10\x3e\x00\x04HEAD\
+        \x00\x00\x00\x00\x00\x00\x00\x01\x00\x01";
+    let of_a_study: &[u8] = b"\x03\x051.2.1\x00\x10\x00\x10\x00\x07ROE^ANN\
+        \x00\x00\x00\x00\x00\x00\x00\x01\x00\x01";
+    let alloc = rt.alloc();
+    spelled(&rt, alloc, &[OF_A_SERIES], 0, "a correction");
+    spelled(&rt, alloc, &[OF_A_SERIES, b"\x00"], 9, "a byte left over");
+    spelled(&rt, alloc, &[b"\x03"], 9, "cut short");
+    spelled(&rt, alloc, &[of_a_target], 9, "a byte for its target");
+    spelled(&rt, alloc, &[of_a_study], 5, "the tag of a study");
+}
+
+#[test]
 fn only_the_spelling_of_a_correction_is_decoded(rt: HostRuntime) {
     let third: &[u8] = b"\x02\x03\x051.2.1\x00\x10\x00\x10\x00\x07ROE^ANN\
         \x00\x00\x00\x00\x00\x00\x00\x01\x00\x01";
@@ -475,5 +564,5 @@ fn only_the_spelling_of_a_correction_is_decoded(rt: HostRuntime) {
     );
     spelled(&rt, alloc, &[], 9, "no bytes");
     spelled(&rt, alloc, &[b"\x00"], 7, "kind 00");
-    spelled(&rt, alloc, &[b"\x03"], 7, "UnknownKind before Shape");
+    spelled(&rt, alloc, &[b"\x04"], 7, "UnknownKind before Shape");
 }

@@ -12,7 +12,7 @@ use Rattle.pdu.specs.declared.value.Pdu.{Pdu}
 use Rattle.pdu.specs.declared.value.Step.{Step}
 use Rattle.pdu.specs.declared.value.Step.TheVariants.{Need, Done}
 use Rattle.pdu.specs.Fault.{Gives}
-use Rattle.pdu.specs.Header.{header_fault}
+use Rattle.pdu.specs.Header.{header_fault, HeaderParts, or_fault, header_at}
 use Rattle.pdu.specs.Grammar.{IsBody, code_of, Spells, type_of, size_of, HasHeaderFault, HasLawfulHeader, IsUnfinished, HasBadBody, IfDone}
 use Rattle.pdu.specs.Reading.{behind_header, front_at, Behind, Answers, body_at}
 use Rattle.pdu.proofs.Bodies.{body-found, body-again}
@@ -84,12 +84,15 @@ one_pdu bytes p q n m le lf s t =
 abbrev Whole : List ℕ → Type 0
 Whole bytes = HasLawfulHeader bytes × (size_of bytes + 6 ≤ length bytes)
 
-abbrev FrontIs : List ℕ → Result (Option ℕ) PduFault → Type 0
+abbrev header_in : List ℕ → HeaderParts
+header_in bytes = record { code = type_of bytes; length = size_of bytes }
+
+abbrev FrontIs : List ℕ → Result (Option HeaderParts) PduFault → Type 0
 FrontIs bytes read = ((read ≡ Ok None) × IsUnfinished bytes)
     ⊎ (((fault : PduFault) × (read ≡ Err fault) × HasHeaderFault fault bytes)
-    ⊎ ((read ≡ Ok (Some (size_of bytes))) × Whole bytes))
+    ⊎ ((read ≡ Ok (Some (header_in bytes))) × Whole bytes))
 
-behind_is : (bytes : List ℕ) (o : Option PduFault) → 6 ≤ length bytes → header_fault (type_of bytes) (size_of bytes) ≡ o → FrontIs bytes (behind_header o bytes)
+behind_is : (bytes : List ℕ) (o : Option PduFault) → 6 ≤ length bytes → header_fault (type_of bytes) (size_of bytes) ≡ o → FrontIs bytes (behind_header (or_fault o (header_in bytes)) bytes)
 behind_is bytes (Some fault) long is = inr (inl (fault, refl, (long, is)))
 behind_is bytes None long is =
     elim (cases_lt (length bytes - 6) (size_of bytes)) [
@@ -105,7 +108,7 @@ front_is bytes =
       | inr le ↦ subst (FrontIs bytes) (sym (past le)) (behind_is bytes (header_fault (type_of bytes) (size_of bytes)) le refl)
     ]
   where
-    past : 6 ≤ length bytes → front_at bytes ≡ behind_header (header_fault (type_of bytes) (size_of bytes)) bytes
+    past : 6 ≤ length bytes → front_at bytes ≡ behind_header (header_at (type_of bytes) (size_of bytes)) bytes
     past le = rw (le-ltb _ _ le) refl
 
 -- ---- what is told of it

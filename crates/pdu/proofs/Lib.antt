@@ -9,3 +9,4 @@ pub mod Pieces
 pub mod Sizes
 pub mod Values
 pub mod Writable
+pub mod Parts

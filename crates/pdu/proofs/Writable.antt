@@ -408,15 +408,19 @@ short_data n e = grind (arith, e)
 behind_header : (p : Pdu) (text : List ℕ) → IsBytes text → (s : Spells p text) → IsBytes s.body
 behind_header p text is s = λ i. (subst (λ (t : List ℕ). IsBytes t) s.parts is) (suc (suc (suc (suc (suc (suc i))))))
 
+-- whatever bytes are the body of can be written
+pub body_writable : (p : Pdu) (body : List ℕ) → IsBytes body → header_fault (code_of p) (length body) ≡ None → IsBody p body → IsPdu p
+body_writable (AssociateRq request) body is lawful h = request_fits request body is (short_request (length body) lawful) h
+body_writable (AssociateAc accept) body is lawful h = accept_fits accept body is (short_accept (length body) lawful) h
+body_writable (AssociateRj reject) body is lawful h = tt
+body_writable (PData values) body is lawful h = (h.0, omega (arith, short_data (length body) lawful, data_size values body h.1))
+body_writable ReleaseRq body is lawful h = tt
+body_writable ReleaseRp body is lawful h = tt
+body_writable (Abort source reason) body is lawful h = tt
+
 -- whatever bytes spell can be written
 pub writable : (text : List ℕ) (p : Pdu) → IsBytes text → Spells p text → IsPdu p
-writable text (AssociateRq request) is s = request_fits request s.body (behind_header (AssociateRq request) text is s) (short_request (length s.body) s.lawful) s.is_body
-writable text (AssociateAc accept) is s = accept_fits accept s.body (behind_header (AssociateAc accept) text is s) (short_accept (length s.body) s.lawful) s.is_body
-writable text (AssociateRj reject) is s = tt
-writable text (PData values) is s = (s.is_body.0, omega (arith, short_data (length s.body) s.lawful, data_size values s.body s.is_body.1))
-writable text ReleaseRq is s = tt
-writable text ReleaseRp is s = tt
-writable text (Abort source reason) is s = tt
+writable text p is s = body_writable p s.body (behind_header p text is s) s.lawful s.is_body
 
 fixed_size : (code n : ℕ) → (code ≡ 3) ⊎ ((code ≡ 5) ⊎ ((code ≡ 6) ⊎ (code ≡ 7))) → header_fault code n ≡ None → n ≡ 4
 fixed_size code n which e = grind (arith, which, e)

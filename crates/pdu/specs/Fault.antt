@@ -1,5 +1,5 @@
 -- Faults, and what a function that reads may answer.
-use Rattle.std.specs.Prelude.{ℕ, Bool, true, false, Result}
+use Rattle.std.specs.Prelude.{ℕ, Bool, true, false, Result, ⊤}
 use Rattle.pdu.specs.declared.fault.PduFault.{PduFault}
 use Rattle.pdu.specs.declared.fault.PduFault.TheVariants.{UnknownType, BadLength, BadItem, TooLong, Memory}
 use Rattle.octets.specs.Gives.{Gives as GivesBy}
@@ -23,3 +23,11 @@ is_memory Memory = true
 -- A function gave what reading comes to, unless memory ran out.
 abbrev pub Gives : {X : Type 0} → Result X PduFault → Result X PduFault → Type 0
 Gives given read = GivesBy is_memory (λ x. x) given read
+
+-- a body that is malformed, or want of memory: the type and the length were told of before
+abbrev pub IsBodyFault : PduFault → Type 0
+IsBodyFault UnknownType = ⊥
+IsBodyFault BadLength = ⊥
+IsBodyFault BadItem = ⊤
+IsBodyFault TooLong = ⊥
+IsBodyFault Memory = ⊤

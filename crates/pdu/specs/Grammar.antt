@@ -18,7 +18,7 @@ use Rattle.pdu.specs.declared.value.Pdu.TheVariants.{AssociateRq, AssociateAc, A
 use Rattle.pdu.specs.declared.value.Step.{Step}
 use Rattle.pdu.specs.declared.value.Step.TheVariants.{Need, Done}
 use Rattle.pdu.specs.declared.fault.PduFault.{PduFault}
-use Rattle.pdu.specs.Header.{header_fault}
+use Rattle.pdu.specs.Header.{header_fault, HeaderParts}
 
 -- ---- lists in a text
 
@@ -245,6 +245,10 @@ HasHeaderFault fault bytes = (HEADER_LENGTH ≤ length bytes) × (header_fault (
 -- a whole header with no fault
 abbrev pub HasLawfulHeader : List ℕ → Type 0
 HasLawfulHeader bytes = (HEADER_LENGTH ≤ length bytes) × (header_fault (type_of bytes) (size_of bytes) ≡ None)
+
+-- six bytes that say this type and this length
+abbrev pub IsHeader : HeaderParts → List ℕ → Type 0
+IsHeader header bytes = (length bytes ≡ HEADER_LENGTH) × (type_of bytes ≡ header.code) × (size_of bytes ≡ header.length)
 
 -- fewer bytes than a header, or a lawful header whose body is not whole
 abbrev pub IsUnfinished : List ℕ → Type 0

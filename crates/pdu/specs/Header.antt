@@ -1,5 +1,5 @@
 -- The header of a PDU (PS3.8, 9.3.1): its type, a reserved byte, and the length of its body.
-use Rattle.std.specs.Prelude.{ℕ, ◌==◌, ◌||◌, nat_lt, Option, Some, None, if◌then◌else◌}
+use Rattle.std.specs.Prelude.{ℕ, ◌==◌, ◌||◌, nat_lt, Option, Some, None, Result, Ok, Err, if◌then◌else◌}
 use Rattle.pdu.specs.declared.fault.PduFault.{PduFault}
 use Rattle.pdu.specs.declared.fault.PduFault.TheVariants.{UnknownType, BadLength, TooLong}
 use Rattle.pdu.specs.declared.header.TheConstants.{LONGEST_BODY, LONGEST_ACCEPT, OPENING_LENGTH, FIXED_LENGTH, ASSOCIATE_RQ, ASSOCIATE_AC, ASSOCIATE_RJ, P_DATA, RELEASE_RQ, RELEASE_RP, ABORT}
@@ -18,3 +18,16 @@ header_fault code size =
     else if code == ASSOCIATE_RJ || code == RELEASE_RQ || code == RELEASE_RP || code == ABORT
     then (if size == FIXED_LENGTH then None else Some BadLength)
     else Some UnknownType
+
+-- a type, and the length of a body
+pub record HeaderParts : Type 0 where
+  pub code : ℕ
+  pub length : ℕ
+
+abbrev pub or_fault : Option PduFault → HeaderParts → Result HeaderParts PduFault
+or_fault None header = Ok header
+or_fault (Some fault) header = Err fault
+
+-- a type and a length, or the fault that they have
+abbrev pub header_at : ℕ → ℕ → Result HeaderParts PduFault
+header_at code length = or_fault (header_fault code length) (record { code = code; length = length })

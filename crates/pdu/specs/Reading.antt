@@ -22,7 +22,7 @@ use Rattle.pdu.specs.declared.value.Pdu.TheVariants.{AssociateRq, AssociateAc, A
 use Rattle.pdu.specs.declared.value.Step.{Step}
 use Rattle.pdu.specs.declared.value.Step.TheVariants.{Need, Done}
 use Rattle.pdu.specs.Fault.{Gives}
-use Rattle.pdu.specs.Header.{header_fault}
+use Rattle.pdu.specs.Header.{HeaderParts, header_at}
 use Rattle.pdu.specs.Grammar.{type_of, size_of, contents_of, is_graphic, trimmed, first_or, first_of, is_odd, are_distinct, is_command, is_last}
 
 -- a piece at the front, and what comes behind it
@@ -187,18 +187,19 @@ body_at code body =
 
 -- ---- the front of a stream
 
-abbrev pub behind_header : Option PduFault → List ℕ → Result (Option ℕ) PduFault
-behind_header (Some fault) bytes = Err fault
-behind_header None bytes = if nat_lt (length bytes - HEADER_LENGTH) (size_of bytes) then Ok None else Ok (Some (size_of bytes))
+abbrev pub behind_header : Result HeaderParts PduFault → List ℕ → Result (Option HeaderParts) PduFault
+behind_header (Err fault) bytes = Err fault
+behind_header (Ok header) bytes = if nat_lt (length bytes - HEADER_LENGTH) header.length then Ok None else Ok (Some header)
 
--- the length of the body at the front, once it is whole
-unfoldable pub front_at : List ℕ → Result (Option ℕ) PduFault
-front_at bytes = if nat_lt (length bytes) HEADER_LENGTH then Ok None else behind_header (header_fault (type_of bytes) (size_of bytes)) bytes
+-- the header at the front, once the body behind it is whole
+unfoldable pub front_at : List ℕ → Result (Option HeaderParts) PduFault
+front_at bytes = if nat_lt (length bytes) HEADER_LENGTH then Ok None else behind_header (header_at (type_of bytes) (size_of bytes)) bytes
 
-abbrev pub Behind : Result (Option ℕ) PduFault → List ℕ → Result Step PduFault → Type 0
+abbrev pub Behind : Result (Option HeaderParts) PduFault → List ℕ → Result Step PduFault → Type 0
 Behind (Err fault) bytes result = result ≡ Err fault
 Behind (Ok None) bytes result = result ≡ Ok Need
-Behind (Ok (Some size)) bytes result = Gives result (body_at (type_of bytes) (take size (drop HEADER_LENGTH bytes)) >>= λ p. Ok (Done p (size + HEADER_LENGTH)))
+Behind (Ok (Some header)) bytes result =
+    Gives result (body_at header.code (take header.length (drop HEADER_LENGTH bytes)) >>= λ p. Ok (Done p (header.length + HEADER_LENGTH)))
 
 -- what is told of a front: want of memory only where a body is read
 unfoldable pub Answers : Result Step PduFault → List ℕ → Type 0

@@ -111,6 +111,61 @@ fn the_first_pdu_is_read_once_it_is_whole(rt: HostRuntime) -> Result<(), Fail> {
     Ok(())
 }
 
+/// The six bytes of a header.
+fn header(code: u8, length: u32) -> [u8; 6] {
+    let [a, b, c, d] = length.to_be_bytes();
+    [code, 0, a, b, c, d]
+}
+
+#[test]
+fn a_header_is_judged_before_its_body(rt: HostRuntime) {
+    let rows = [
+        (0x00, 4, Err(PduFault::UnknownType)),
+        (0x08, 4, Err(PduFault::UnknownType)),
+        (0x01, 67, Err(PduFault::BadLength)),
+        (0x01, 65_537, Err(PduFault::TooLong)),
+        (0x02, 70_000, Ok(70_000)),
+        (0x02, 70_001, Err(PduFault::TooLong)),
+        (0x04, 65_536, Ok(65_536)),
+        (0x04, 65_537, Err(PduFault::TooLong)),
+        (0x05, 5, Err(PduFault::BadLength)),
+        (0x07, 4, Ok(4)),
+    ];
+    for (code, length, told) in rows {
+        let read = read_header(&header(code, length)).map(|header| header.body_length());
+        assert_eq!(rt; read, told, "type {code}, length {length}");
+    }
+}
+
+/// What a body behind a header of this type and length tells.
+fn body_told(alloc: Global, code: u8, length: u32, body: &[u8]) -> Result<Pdu, PduFault> {
+    let body = Bytes::copy_from_slice(alloc, body)?;
+    let header = read_header(&header(code, length))?;
+    if body.len() != header.body_length() {
+        return Err(PduFault::TooLong);
+    }
+    read_body(alloc, &header, body)
+}
+
+#[test]
+fn a_body_is_read_behind_its_header(rt: HostRuntime) -> Result<(), Fail> {
+    let alloc = rt.alloc();
+    let pdu = body_told(alloc, 0x07, 4, &[0, 0, 2, 1])?;
+    let aborted = matches!(
+        pdu,
+        Pdu::Abort {
+            source: 2,
+            reason: 1
+        }
+    );
+    assert!(rt; aborted, "an A-ABORT of the provider");
+    let pdu = body_told(alloc, 0x04, 74, &ECHO[6..])?;
+    assert!(rt; matches!(pdu, Pdu::PData(_)), "a P-DATA-TF");
+    let fault = body_told(alloc, 0x04, 0, &[]).err();
+    assert_eq!(rt; fault, Some(PduFault::BadItem), "no value in it");
+    Ok(())
+}
+
 #[test]
 fn a_request_says_what_it_proposes(rt: HostRuntime) -> Result<(), Fail> {
     let alloc = rt.alloc();

@@ -1,39 +1,33 @@
--- What a data set says as a rejection note (PS3.3, C.17.6.2; PS3.16, CID 7011; IHE RAD-66).
-use Rattle.std.specs.Prelude.{ℕ, List, [], ◌∷◌, Bool, true, false, not, ◌||◌, Option, Some, None, Result, Ok, Err, nat_eq, codes, unwrap_or, if◌then◌else◌}
+-- What a data set says as a rejection note (PS3.3, C.17.6.2; PS3.16, CID 7010; IHE RAD-66).
+use Rattle.std.specs.Prelude.{ℕ, List, [], ◌∷◌, Bool, true, false, not, ◌||◌, Option, Some, None, Result, Ok, Err, codes, unwrap_or, if◌then◌else◌}
 use Rattle.std.specs.List.{filter_map, flat_map, list_all}
-use Rattle.std.specs.Cmp.Lexicographic.{pointwise}
+use Rattle.dictionary.specs.declared.elements.TheConstants.{CODE_VALUE, CODING_SCHEME_DESIGNATOR, CONCEPT_NAME_CODE_SEQUENCE, CURRENT_REQUESTED_PROCEDURE_EVIDENCE_SEQUENCE, REFERENCED_SERIES_SEQUENCE, REFERENCED_SOP_INSTANCE_UID, REFERENCED_SOP_SEQUENCE}
+use Rattle.dictionary.specs.declared.uids.TheConstants.{KEY_OBJECT_SELECTION_DOCUMENT_STORAGE}
+use Rattle.dictionary.specs.declared.titles.TheConstants.{CODING_SCHEME_DCM, DATA_RETENTION_POLICY_EXPIRED, INCORRECT_MODALITY_WORKLIST_ENTRY, REJECTED_FOR_PATIENT_SAFETY_REASONS, REJECTED_FOR_QUALITY_REASONS}
 use Rattle.data_set.specs.Tree.{Tree}
-use Rattle.data_set.specs.Uid.{is_uid_text}
+use Rattle.octets.specs.Uid.{is_uid_text}
 use Rattle.data_set.specs.Values.{value_in, items_in}
 use Rattle.rejection_note.specs.declared.fault.NoteFault.{NoteFault}
 use Rattle.rejection_note.specs.declared.fault.NoteFault.TheVariants.{NoTitle, NoReference}
 use Rattle.rejection_note.specs.declared.note.Note.{Note}
 use Rattle.rejection_note.specs.declared.title.Title.{Title}
 use Rattle.rejection_note.specs.declared.title.Title.TheVariants.{Quality, Safety, Worklist, Expired}
-use Rattle.rejection_note.specs.Ascending.{ascending}
-
--- whether both have the same bytes
-abbrev pub same : List ℕ → List ℕ → Bool
-same = pointwise nat_eq
+use Rattle.octets.specs.Texts.{same, ascending}
 
 -- ---- which documents are rejection notes
 
--- Key Object Selection Document (PS3.4, B.5)
-abbrev pub key_object_selection : List ℕ
-key_object_selection = codes "1.2.840.10008.5.1.4.1.1.88.59"
-
--- the title with this code value in the coding scheme DCM (PS3.16, CID 7011)
+-- the title with this code value in the coding scheme DCM (PS3.16, CID 7010)
 abbrev pub title_of : List ℕ → Option Title
 title_of code =
-    if same code (codes "113001") then Some Quality
-    else if same code (codes "113037") then Some Safety
-    else if same code (codes "113038") then Some Worklist
-    else if same code (codes "113039") then Some Expired
+    if same code REJECTED_FOR_QUALITY_REASONS then Some Quality
+    else if same code REJECTED_FOR_PATIENT_SAFETY_REASONS then Some Safety
+    else if same code INCORRECT_MODALITY_WORKLIST_ENTRY then Some Worklist
+    else if same code DATA_RETENTION_POLICY_EXPIRED then Some Expired
     else None
 
 abbrev pub is_dcm : Option (List ℕ) → Bool
 is_dcm None = false
-is_dcm (Some scheme) = same scheme (codes "DCM")
+is_dcm (Some scheme) = same scheme CODING_SCHEME_DCM
 
 abbrev pub title_of_code : Option (List ℕ) → Option Title
 title_of_code None = None
@@ -41,7 +35,8 @@ title_of_code (Some code) = title_of code
 
 -- the rejection title that an item of (0040,A043) names by Code Value (0008,0100) and Coding Scheme Designator (0008,0102)
 abbrev pub title_in : List Tree → Option Title
-title_in item = if is_dcm (value_in 0x0008_0102 item) then title_of_code (value_in 0x0008_0100 item) else None
+title_in item =
+    if is_dcm (value_in CODING_SCHEME_DESIGNATOR item) then title_of_code (value_in CODE_VALUE item) else None
 
 -- ---- what they name
 
@@ -51,19 +46,19 @@ sequence tag elements = unwrap_or (items_in tag elements) []
 
 -- the Referenced SOP Instance UIDs (0008,1155) of the items of (0008,1199)
 abbrev pub named_by_images : List (List Tree) → List (List ℕ)
-named_by_images items = filter_map (value_in 0x0008_1155) items
+named_by_images items = filter_map (value_in REFERENCED_SOP_INSTANCE_UID) items
 
 -- those under the items of (0008,1115)
 abbrev pub named_by_series : List (List Tree) → List (List ℕ)
-named_by_series items = flat_map (λ item. named_by_images (sequence 0x0008_1199 item)) items
+named_by_series items = flat_map (λ item. named_by_images (sequence REFERENCED_SOP_SEQUENCE item)) items
 
 -- those under the items of (0040,A375)
 abbrev pub named_by_studies : List (List Tree) → List (List ℕ)
-named_by_studies items = flat_map (λ item. named_by_series (sequence 0x0008_1115 item)) items
+named_by_studies items = flat_map (λ item. named_by_series (sequence REFERENCED_SERIES_SEQUENCE item)) items
 
 -- all that a document names
 abbrev pub named : List Tree → List (List ℕ)
-named elements = named_by_studies (sequence 0x0040_a375 elements)
+named elements = named_by_studies (sequence CURRENT_REQUESTED_PROCEDURE_EVIDENCE_SEQUENCE elements)
 
 -- ---- the note
 
@@ -85,4 +80,5 @@ note_of_items (item ∷ items) uids = note_of_title (title_in item) uids
 -- the note that a data set of this class is, if it is one
 unfoldable pub note_in : List ℕ → List Tree → Result (Option Note) NoteFault
 note_in class elements =
-    if same class key_object_selection then note_of_items (sequence 0x0040_a043 elements) (named elements) else Ok None
+    if same class KEY_OBJECT_SELECTION_DOCUMENT_STORAGE then note_of_items (sequence CONCEPT_NAME_CODE_SEQUENCE elements) (named elements)
+    else Ok None

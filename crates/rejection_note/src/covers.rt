@@ -1,18 +1,16 @@
 //! What a Key Object Selection names: (0040,A375) > (0008,1115) > (0008,1199) > (0008,1155)
-//! (PS3.3, section C.17.6.2.1).
+//! (PS3.3, section C.17.6.2; the references, section C.17.2.1).
 
 ghost use Rattle.std.specs.Prelude.{◌≡◌, ◌++◌, OnOk, IfOk, map};
 ghost use Rattle.rejection_note.specs.Notes.{named, named_by_images, named_by_series, named_by_studies};
 
-use data_set::{
-    EVIDENCE_SEQUENCE, Element, REFERENCED_SERIES_SEQUENCE, REFERENCED_SOP_SEQUENCE, items_of,
-    value_of,
+use data_set::{Element, items_of, value_of};
+use dictionary::{
+    CURRENT_REQUESTED_PROCEDURE_EVIDENCE_SEQUENCE, REFERENCED_SERIES_SEQUENCE,
+    REFERENCED_SOP_INSTANCE_UID, REFERENCED_SOP_SEQUENCE,
 };
 use octets::Octets;
 use std::alloc::{AllocError, Global};
-
-/// (0008,1155) Referenced SOP Instance UID
-const REFERENCED_SOP_INSTANCE_UID: u32 = 0x0008_1155;
 
 fn push_images(
     alloc: Global,
@@ -68,7 +66,7 @@ pub fn named_uids(alloc: Global, elements: &[Element]) -> Result<Vec<Octets>, Al
     ensures { IfOk result (λ uids. uids.items ≡ named elements.now) }
 {
     let mut found = Vec::new(alloc);
-    if let Some(studies) = items_of(elements, EVIDENCE_SEQUENCE) {
+    if let Some(studies) = items_of(elements, CURRENT_REQUESTED_PROCEDURE_EVIDENCE_SEQUENCE) {
         push_studies(alloc, &mut found, studies)?;
     }
     Ok(found)

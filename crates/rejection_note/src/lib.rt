@@ -6,16 +6,13 @@
 
 mod covers;
 mod fault;
-mod laws;
 mod note;
 mod notes;
-mod sorted;
 #[cfg(test)]
 mod tests;
 mod title;
 
 pub use fault::NoteFault;
-pub use laws::covers_ascend_each_once;
 pub use note::Note;
 pub use notes::note_of;
 pub use title::Title;

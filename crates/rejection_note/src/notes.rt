@@ -2,7 +2,7 @@
 
 ghost use Rattle.std.specs.Prelude.{◌≡◌, Ok};
 ghost use Rattle.std.specs.List.{list_all};
-ghost use Rattle.data_set.specs.Uid.{is_uid_text};
+ghost use Rattle.octets.specs.Uid.{is_uid_text};
 ghost use Rattle.octets.specs.Gives.{Gives};
 ghost use Rattle.rejection_note.specs.Fault.{is_memory};
 ghost use Rattle.rejection_note.specs.Notes.{note_in, note_of_title, named};
@@ -10,14 +10,11 @@ ghost use Rattle.rejection_note.specs.Notes.{note_in, note_of_title, named};
 use crate::covers::named_uids;
 use crate::fault::NoteFault;
 use crate::note::Note;
-use crate::sorted::sorted;
 use crate::title::{Title, title_in};
-use data_set::{CONCEPT_NAME_CODE_SEQUENCE, DataSet, Element, is_uid, items_of};
-use octets::{ListOf, Octets};
+use data_set::{DataSet, Element, items_of};
+use dictionary::{CONCEPT_NAME_CODE_SEQUENCE, KEY_OBJECT_SELECTION_DOCUMENT_STORAGE};
+use octets::{ListOf, Octets, ascending, is_uid};
 use std::alloc::Global;
-
-/// Key Object Selection Document (PS3.4, section B.5)
-const KEY_OBJECT_SELECTION: &[u8] = b"1.2.840.10008.5.1.4.1.1.88.59";
 
 fn are_uids(uids: &[Octets]) -> bool
     ensures { result ≡ list_all is_uid_text uids.now }
@@ -34,7 +31,7 @@ fn note_of_uids(title: Title, uids: Vec<Octets>) -> Result<Option<Note>, NoteFau
     }
     Ok(Some(Note {
         title,
-        covers: ListOf::of(sorted(uids)),
+        covers: ListOf::of(ascending(uids)),
     }))
 }
 
@@ -44,7 +41,7 @@ fn note_of_uids(title: Title, uids: Vec<Octets>) -> Result<Option<Note>, NoteFau
 pub fn note_of(alloc: Global, class: &[u8], set: &DataSet) -> Result<Option<Note>, NoteFault>
     ensures { Gives is_memory (λ note. note) result (note_in class.now set.now.elements) }
 {
-    if class != KEY_OBJECT_SELECTION {
+    if class != KEY_OBJECT_SELECTION_DOCUMENT_STORAGE.as_slice() {
         return Ok(None);
     }
     let elements = set.elements();

@@ -1,26 +1,14 @@
-//! The document titles of rejection notes (PS3.16, CID 7011).
+//! The document titles of rejection notes (PS3.16, CID 7010).
 
 ghost use Rattle.std.specs.Prelude.{◌≡◌};
 ghost use Rattle.rejection_note.specs.Notes.{title_of as title_of_value, title_in as title_in_item};
 
 use data_set::{Element, value_of};
-
-/// (0008,0100) Code Value
-const CODE_VALUE: u32 = 0x0008_0100;
-
-/// (0008,0102) Coding Scheme Designator
-const CODING_SCHEME_DESIGNATOR: u32 = 0x0008_0102;
-
-/// The coding scheme of DICOM's own terms (PS3.16, section 8).
-const DCM: &[u8] = b"DCM";
-
-const REJECTED_FOR_QUALITY_REASONS: &[u8] = b"113001";
-
-const REJECTED_FOR_PATIENT_SAFETY_REASONS: &[u8] = b"113037";
-
-const INCORRECT_MODALITY_WORKLIST_ENTRY: &[u8] = b"113038";
-
-const DATA_RETENTION_POLICY_EXPIRED: &[u8] = b"113039";
+use dictionary::{
+    CODE_VALUE, CODING_SCHEME_DCM, CODING_SCHEME_DESIGNATOR, DATA_RETENTION_POLICY_EXPIRED,
+    INCORRECT_MODALITY_WORKLIST_ENTRY, REJECTED_FOR_PATIENT_SAFETY_REASONS,
+    REJECTED_FOR_QUALITY_REASONS,
+};
 
 /// Why images were rejected.
 #[derive(Clone, Copy, Debug, PartialEq, Eq)]
@@ -38,16 +26,16 @@ pub enum Title {
 fn title_of(code: &[u8]) -> Option<Title>
     ensures { result ≡ title_of_value code.now }
 {
-    if code == REJECTED_FOR_QUALITY_REASONS {
+    if code == REJECTED_FOR_QUALITY_REASONS.as_slice() {
         return Some(Title::Quality);
     }
-    if code == REJECTED_FOR_PATIENT_SAFETY_REASONS {
+    if code == REJECTED_FOR_PATIENT_SAFETY_REASONS.as_slice() {
         return Some(Title::Safety);
     }
-    if code == INCORRECT_MODALITY_WORKLIST_ENTRY {
+    if code == INCORRECT_MODALITY_WORKLIST_ENTRY.as_slice() {
         return Some(Title::Worklist);
     }
-    if code == DATA_RETENTION_POLICY_EXPIRED {
+    if code == DATA_RETENTION_POLICY_EXPIRED.as_slice() {
         return Some(Title::Expired);
     }
     None
@@ -58,7 +46,7 @@ pub fn title_in(item: &[Element]) -> Option<Title>
     ensures { result ≡ title_in_item item.now }
 {
     let scheme = value_of(item, CODING_SCHEME_DESIGNATOR)?;
-    if scheme != DCM {
+    if scheme != CODING_SCHEME_DCM.as_slice() {
         return None;
     }
     title_of(value_of(item, CODE_VALUE)?)

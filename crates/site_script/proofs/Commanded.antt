@@ -19,7 +19,8 @@ use Rattle.site_script.specs.declared.command.Command.{Command}
 use Rattle.site_script.specs.declared.command.Command.TheVariants.{Skip, Bad, Site}
 use Rattle.site_script.specs.Words.{a_word, words_from, words_of, uid_in}
 use Rattle.site_script.specs.Names.{digit_of, byte_from, tag_from, tag_in, view_in, is_site_name}
-use Rattle.site_script.specs.Keys.{LEVEL, is_askable, key_from, key_in, put_key, keys_from, keys_in, and_then}
+use Rattle.dictionary.specs.declared.elements.TheConstants.{QUERY_RETRIEVE_LEVEL}
+use Rattle.site_script.specs.Keys.{is_askable, key_from, key_in, put_key, keys_from, keys_in, and_then}
 use Rattle.site_script.specs.Sets.{key_element, identifier}
 use Rattle.site_script.specs.Commands.{command_of, command_in, asked, site_in, image_in, note_in, correct_in, correct_for, target_in, find_in, find_for, same_in, flagged_in, verb_of}
 use Rattle.site_script.specs.Fitting.{IsShort, MakesSets}
@@ -127,7 +128,7 @@ by_tests false false false true e = absurd cc
 askable_fine : (tag : ℕ) (value : List ℕ) → tag < 2 ^ 32 → length value ≤ 65536 → is_askable tag ≡ true → Fine (record { tag = tag; value = value })
 unfolding is_askable
 askable_fine tag value fits short e =
-    let tests = by_tests (tag == LEVEL) (is_listed tag) (is_reserved_group tag) (is_item_tag tag) e in
+    let tests = by_tests (tag == QUERY_RETRIEVE_LEVEL) (is_listed tag) (is_reserved_group tag) (is_item_tag tag) e in
     record { tag = fits; value = short; item = tests.2; reserved = tests.1; listed = tests.0 }
 
 by_askable : (b : Bool) (tag : ℕ) (value : List ℕ) → is_askable tag ≡ b → tag < 2 ^ 32 → length value ≤ 65536 → IsFine (cond b (Some (record { tag = tag; value = value })) None)
@@ -205,7 +206,7 @@ keys_lawful : (keys : List Key) → AreKeys None keys → IsSet Implicit (identi
 unfolding IsSet identifier
 keys_lawful keys are = keys_stand 16 None keys are
 
-level_fine : (level : List ℕ) → length level ≤ 65536 → AreKeys None (record { tag = LEVEL; value = level } ∷ [])
+level_fine : (level : List ℕ) → length level ≤ 65536 → AreKeys None (record { tag = QUERY_RETRIEVE_LEVEL; value = level } ∷ [])
 level_fine level short = (refl, record { tag = omega arith; value = short; item = refl; reserved = refl; listed = refl }, tt)
 
 -- ---- commands

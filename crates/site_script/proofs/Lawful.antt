@@ -1,6 +1,9 @@
 -- The data sets that the lines of a script make are data sets.
 use Rattle.std.proofs.Common.{◌≡◌, ℕ, suc, ◌+◌, ◌%◌, ◌^◌, ◌<◌, ◌≤◌, List, [], ◌∷◌, ◌++◌, length, Bool, true, false, cond, Option, Some, None, refl, sym, ap, ◌∙◌, arith, map, length-append, ◌==◌, codes}
 use Rattle.std.specs.Prelude.{not, ◌||◌}
+use Rattle.dictionary.specs.Elements.{vr_in_table}
+use Rattle.dictionary.specs.declared.uids.TheConstants.{CT_IMAGE_STORAGE, KEY_OBJECT_SELECTION_DOCUMENT_STORAGE}
+use Rattle.dictionary.specs.declared.titles.TheConstants.{CODING_SCHEME_DCM}
 use Rattle.data_set.specs.declared.syntax.Syntax.{Syntax}
 use Rattle.data_set.specs.declared.syntax.Syntax.TheVariants.{Implicit}
 use Rattle.data_set.specs.declared.fault.SetFault.TheVariants.{Order, Group, Undefined}
@@ -11,7 +14,8 @@ use Rattle.data_set.specs.Values.{padded, pad_of}
 use Rattle.data_set.specs.Vr.{undefined_length, inner_syntax, is_undefined}
 use Rattle.data_set.specs.Written.{MayStand, AreRows, IsSet}
 use Rattle.std.proofs.lemmas.Bool.{eqb-true}
-use Rattle.site_script.specs.Sets.{image_elements, note_elements, named, note_series, CT, KEY_OBJECTS}
+use Rattle.dictionary.specs.declared.elements.TheConstants.{CODE_VALUE, CODING_SCHEME_DESIGNATOR, CONCEPT_NAME_CODE_SEQUENCE, CURRENT_REQUESTED_PROCEDURE_EVIDENCE_SEQUENCE, MODALITY, PATIENT_ID, PATIENT_NAME, REFERENCED_SERIES_SEQUENCE, REFERENCED_SOP_INSTANCE_UID, REFERENCED_SOP_SEQUENCE, SERIES_INSTANCE_UID, SOP_CLASS_UID, SOP_INSTANCE_UID, STUDY_INSTANCE_UID}
+use Rattle.site_script.specs.Sets.{image_elements, note_elements, named, note_series}
 use Rattle.site_script.specs.declared.command.ImageLine.{ImageLine}
 use Rattle.site_script.specs.declared.command.NoteLine.{NoteLine}
 
@@ -55,9 +59,10 @@ padded_short vr value = padded_by (length value % 2 == 0) value (pad_of vr)
 abbrev pub MOST : ℕ
 MOST = 65600
 
-pub valued_stands : (previous : Option ℕ) (tag : ℕ) (vr value : List ℕ) → tag < 2 ^ 32 → length value ≤ MOST → is_item_tag tag ≡ false → is_above previous tag ≡ true → is_reserved_group tag ≡ false → is_listed tag ≡ false → MayStand Implicit previous tag None (length (padded vr value)) None
-valued_stands previous tag vr value fits short item above reserved listed =
-    leaf_stands previous tag (padded vr value) fits (omega (arith, padded_short vr value, short)) item above reserved listed
+pub valued_stands : (previous : Option ℕ) (tag : ℕ) (value : List ℕ) → tag < 2 ^ 32 → length value ≤ MOST → is_item_tag tag ≡ false → is_above previous tag ≡ true → is_reserved_group tag ≡ false → is_listed tag ≡ false → MayStand Implicit previous tag None (length (padded (vr_in_table tag) value)) None
+valued_stands previous tag value fits short item above reserved listed =
+    leaf_stands previous tag (padded (vr_in_table tag) value) fits
+    (omega (arith, padded_short (vr_in_table tag) value, short)) item above reserved listed
 
 pub record ImageFits (line : ImageLine) : Type 0 where
   pub study : length line.study ≤ 65536
@@ -69,19 +74,19 @@ pub record ImageFits (line : ImageLine) : Type 0 where
 pub image_lawful : (line : ImageLine) → ImageFits line → IsSet Implicit (image_elements line)
 unfolding IsSet image_elements
 image_lawful line fits = (
-  valued_stands None 0x0008_0016 (codes "UI") (CT) (omega arith) (omega arith) refl refl refl refl,
+  valued_stands None SOP_CLASS_UID CT_IMAGE_STORAGE (omega arith) (omega arith) refl refl refl refl,
   (
-    valued_stands (Some 0x0008_0016) 0x0008_0018 (codes "UI") (line.instance) (omega arith) (omega (arith, fits.instance)) refl refl refl refl,
+    valued_stands (Some SOP_CLASS_UID) SOP_INSTANCE_UID (line.instance) (omega arith) (omega (arith, fits.instance)) refl refl refl refl,
     (
-      valued_stands (Some 0x0008_0018) 0x0008_0060 (codes "CS") (codes "CT") (omega arith) (omega arith) refl refl refl refl,
+      valued_stands (Some SOP_INSTANCE_UID) MODALITY (codes "CT") (omega arith) (omega arith) refl refl refl refl,
       (
-        valued_stands (Some 0x0008_0060) 0x0010_0010 (codes "PN") (line.name) (omega arith) (omega (arith, fits.name)) refl refl refl refl,
+        valued_stands (Some MODALITY) PATIENT_NAME (line.name) (omega arith) (omega (arith, fits.name)) refl refl refl refl,
         (
-          valued_stands (Some 0x0010_0010) 0x0010_0020 (codes "LO") (line.patient) (omega arith) (omega (arith, fits.patient)) refl refl refl refl,
+          valued_stands (Some PATIENT_NAME) PATIENT_ID (line.patient) (omega arith) (omega (arith, fits.patient)) refl refl refl refl,
           (
-            valued_stands (Some 0x0010_0020) 0x0020_000d (codes "UI") (line.study) (omega arith) (omega (arith, fits.study)) refl refl refl refl,
+            valued_stands (Some PATIENT_ID) STUDY_INSTANCE_UID (line.study) (omega arith) (omega (arith, fits.study)) refl refl refl refl,
             (
-              valued_stands (Some 0x0020_000d) 0x0020_000e (codes "UI") (line.series) (omega arith) (omega (arith, fits.series)) refl refl refl refl,
+              valued_stands (Some STUDY_INSTANCE_UID) SERIES_INSTANCE_UID (line.series) (omega arith) (omega (arith, fits.series)) refl refl refl refl,
               tt,
             ),
           ),
@@ -111,7 +116,7 @@ AllShort (word ∷ words) = (length word ≤ 65536) × AllShort words
 
 images_lawful : (m : ℕ) (uids : List (List ℕ)) → AllShort uids → AreRows (rows_of (map named uids)) (suc m) Implicit
 images_lawful m [] short = tt
-images_lawful m (uid ∷ uids) (short, more) = ((valued_stands None 0x0008_1155 (codes "UI") (uid) (omega arith) (omega (arith, short)) refl refl refl refl, tt), images_lawful m uids more)
+images_lawful m (uid ∷ uids) (short, more) = ((valued_stands None REFERENCED_SOP_INSTANCE_UID (uid) (omega arith) (omega (arith, short)) refl refl refl refl, tt), images_lawful m uids more)
 
 pub record NoteFits (line : NoteLine) : Type 0 where
   pub title : length line.title ≤ 65536
@@ -123,23 +128,23 @@ pub note_lawful : (line : NoteLine) → NoteFits line → IsSet Implicit (note_e
 unfolding IsSet note_elements
 note_lawful line fits =
     let series : length (line.note ++ codes ".0") ≤ MOST = omega (arith, length-append line.note (codes ".0"), fits.note) in (
-      valued_stands None 0x0008_0016 (codes "UI") (KEY_OBJECTS) (omega arith) (omega arith) refl refl refl refl,
+      valued_stands None SOP_CLASS_UID KEY_OBJECT_SELECTION_DOCUMENT_STORAGE (omega arith) (omega arith) refl refl refl refl,
       (
-        valued_stands (Some 0x0008_0016) 0x0008_0018 (codes "UI") (line.note) (omega arith) (omega (arith, fits.note)) refl refl refl refl,
+        valued_stands (Some SOP_CLASS_UID) SOP_INSTANCE_UID (line.note) (omega arith) (omega (arith, fits.note)) refl refl refl refl,
         (
-          valued_stands (Some 0x0008_0018) 0x0008_0060 (codes "CS") (codes "KO") (omega arith) (omega arith) refl refl refl refl,
+          valued_stands (Some SOP_INSTANCE_UID) MODALITY (codes "KO") (omega arith) (omega arith) refl refl refl refl,
           (
-            valued_stands (Some 0x0008_0060) 0x0020_000d (codes "UI") (line.study) (omega arith) (omega (arith, fits.study)) refl refl refl refl,
+            valued_stands (Some MODALITY) STUDY_INSTANCE_UID (line.study) (omega arith) (omega (arith, fits.study)) refl refl refl refl,
             (
-              valued_stands (Some 0x0020_000d) 0x0020_000e (codes "UI") (note_series line) (omega arith) series refl refl refl refl,
+              valued_stands (Some STUDY_INSTANCE_UID) SERIES_INSTANCE_UID (note_series line) (omega arith) series refl refl refl refl,
               (
                 (
                   Implicit,
-                  node_stands (Some 0x0020_000e) 0x0040_a043 (omega arith) refl refl refl refl,
+                  node_stands (Some SERIES_INSTANCE_UID) CONCEPT_NAME_CODE_SEQUENCE (omega arith) refl refl refl refl,
                   (
                     (
-                      valued_stands None 0x0008_0100 (codes "SH") (line.title) (omega arith) (omega (arith, fits.title)) refl refl refl refl,
-                      (valued_stands (Some 0x0008_0100) 0x0008_0102 (codes "SH") (codes "DCM") (omega arith) (omega arith) refl refl refl refl, tt),
+                      valued_stands None CODE_VALUE (line.title) (omega arith) (omega (arith, fits.title)) refl refl refl refl,
+                      (valued_stands (Some CODE_VALUE) CODING_SCHEME_DESIGNATOR CODING_SCHEME_DCM (omega arith) (omega arith) refl refl refl refl, tt),
                     ),
                     tt,
                   ),
@@ -147,21 +152,21 @@ note_lawful line fits =
                 (
                   (
                     Implicit,
-                    node_stands (Some 0x0040_a043) 0x0040_a375 (omega arith) refl refl refl refl,
+                    node_stands (Some CONCEPT_NAME_CODE_SEQUENCE) CURRENT_REQUESTED_PROCEDURE_EVIDENCE_SEQUENCE (omega arith) refl refl refl refl,
                     (
                       (
                         (
                           Implicit,
-                          node_stands None 0x0008_1115 (omega arith) refl refl refl refl,
+                          node_stands None REFERENCED_SERIES_SEQUENCE (omega arith) refl refl refl refl,
                           (
                             (
-                              (Implicit, node_stands None 0x0008_1199 (omega arith) refl refl refl refl, images_lawful 13 line.covers fits.covers),
-                              (valued_stands (Some 0x0008_1199) 0x0020_000e (codes "UI") (note_series line) (omega arith) series refl refl refl refl, tt),
+                              (Implicit, node_stands None REFERENCED_SOP_SEQUENCE (omega arith) refl refl refl refl, images_lawful 13 line.covers fits.covers),
+                              (valued_stands (Some REFERENCED_SOP_SEQUENCE) SERIES_INSTANCE_UID (note_series line) (omega arith) series refl refl refl refl, tt),
                             ),
                             tt,
                           ),
                         ),
-                        (valued_stands (Some 0x0008_1115) 0x0020_000d (codes "UI") (line.study) (omega arith) (omega (arith, fits.study)) refl refl refl refl, tt),
+                        (valued_stands (Some REFERENCED_SERIES_SEQUENCE) STUDY_INSTANCE_UID (line.study) (omega arith) (omega (arith, fits.study)) refl refl refl refl, tt),
                       ),
                       tt,
                     ),

@@ -1,3 +1,4 @@
 pub mod Made
 pub mod Lawful
 pub mod Commanded
+pub mod Worded

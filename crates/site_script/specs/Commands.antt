@@ -1,7 +1,7 @@
 -- What a line of a script asks for.
 use Rattle.std.specs.Prelude.{ℕ, List, [], ◌∷◌, Option, Some, None, ◌==◌, if◌then◌else◌, map, codes}
 use Rattle.operation.specs.declared.target.Target.{Target}
-use Rattle.operation.specs.declared.target.Target.TheVariants.{Study, Patient}
+use Rattle.operation.specs.declared.target.Target.TheVariants.{Study, Patient, Series}
 use Rattle.archive_model.specs.declared.view.View.{View}
 use Rattle.site_script.specs.declared.key.Key.{Key}
 use Rattle.site_script.specs.declared.verb.Verb.{Verb}
@@ -47,13 +47,17 @@ note_in _ = Bad
 
 -- a word for a kind of target, and its key
 unfoldable pub target_in : List ℕ → List ℕ → Option Target
-target_in kind key = if is kind (codes "study") then Some (Study key) else if is kind (codes "patient") then Some (Patient key) else None
+target_in kind key =
+    if is kind (codes "study") then Some (Study key)
+    else if is kind (codes "patient") then Some (Patient key)
+    else if is kind (codes "series") then Some (Series key)
+    else None
 
 abbrev pub correct_for : List ℕ → Option Target → Option ℕ → List ℕ → Command
 correct_for site (Some target) (Some tag) value = Correct (record { site = site; target = target; tag = tag; value = value })
 correct_for site _ _ value = Bad
 
--- correct A study KEY TAG VALUE, or patient
+-- correct A study KEY TAG VALUE, or patient, or series
 abbrev pub correct_in : List (List ℕ) → Command
 correct_in (site ∷ kind ∷ key ∷ tag ∷ value ∷ []) = correct_for site (target_in kind key) (tag_in tag) value
 correct_in _ = Bad

@@ -1,6 +1,7 @@
 -- The keys of a query, as TAG=VALUE words give them.
 use Rattle.std.specs.Prelude.{◌≡◌, ℕ, true, false, List, [], ◌∷◌, Option, Some, None, Bool, not, nat_lt, ◌==◌, ◌||◌, if◌then◌else◌}
 use Rattle.std.specs.Option.{option_map}
+use Rattle.dictionary.specs.declared.elements.TheConstants.{QUERY_RETRIEVE_LEVEL}
 use Rattle.data_set.specs.Tags.{is_item_tag, is_reserved_group, is_listed}
 use Rattle.site_script.specs.declared.key.Key.{Key}
 use Rattle.site_script.specs.Names.{tag_in}
@@ -9,13 +10,9 @@ abbrev pub and_then : {X Y : Type 0} → (X → Option Y) → Option X → Optio
 and_then f (Some x) = f x
 and_then f None = None
 
--- (0008,0052) Query/Retrieve Level
-abbrev pub LEVEL : ℕ
-LEVEL = 0x0008_0052
-
 -- Keys are asked by any tag but that of the level, those of sequences, and those that no data set has.
 unfoldable pub is_askable : ℕ → Bool
-is_askable tag = not (tag == LEVEL || is_listed tag || is_reserved_group tag || is_item_tag tag)
+is_askable tag = not (tag == QUERY_RETRIEVE_LEVEL || is_listed tag || is_reserved_group tag || is_item_tag tag)
 
 abbrev pub key_from : List ℕ → Option ℕ → Option Key
 key_from value (Some tag) = if is_askable tag then Some (record { tag = tag; value = value }) else None
@@ -41,7 +38,7 @@ keys_from keys (word ∷ words) = and_then (λ more. keys_from more words) (and_
 
 -- the keys of a query: its level, and those of some words
 abbrev pub keys_in : List ℕ → List (List ℕ) → Option (List Key)
-keys_in level words = keys_from (record { tag = LEVEL; value = level } ∷ []) words
+keys_in level words = keys_from (record { tag = QUERY_RETRIEVE_LEVEL; value = level } ∷ []) words
 
 -- a list became what is put, where anything is
 abbrev pub Puts : Option (List Key) → Bool → List Key → Type 0

@@ -1,4 +1,5 @@
 pub mod Words
+pub mod WordLaws
 pub mod Names
 pub mod Keys
 pub mod Commands

@@ -4,7 +4,7 @@ use Rattle.std.specs.List.{list_all}
 use Rattle.std.specs.Int.{w32, from_be_bytes}
 use Rattle.std.specs.Cmp.Lexicographic.{pointwise}
 use Rattle.archive_model.specs.declared.view.View.{View}
-use Rattle.archive_model.specs.declared.view.View.TheVariants.{Archive, Quality}
+use Rattle.archive_model.specs.declared.view.View.TheVariants.{Archive, Quality, Audit}
 
 -- whether a word is this one
 abbrev pub is : List ℕ → List ℕ → Bool
@@ -42,4 +42,8 @@ tag_in _ = None
 
 -- a view, by the called title that asks for it
 unfoldable pub view_in : List ℕ → Option View
-view_in word = if is word (codes "ARCHIVE") then Some Archive else if is word (codes "QUALITY") then Some Quality else None
+view_in word =
+    if is word (codes "ARCHIVE") then Some Archive
+    else if is word (codes "QUALITY") then Some Quality
+    else if is word (codes "AUDIT") then Some Audit
+    else None

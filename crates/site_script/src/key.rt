@@ -2,14 +2,14 @@
 
 ghost use Rattle.std.specs.Prelude.{◌≡◌, ◌∷◌, [], IfOk};
 ghost use Rattle.std.specs.Option.{option_map};
-ghost use Rattle.site_script.specs.Keys.{is_askable as is_askable_tag, key_in as key_in_word, put_key, keys_in as keys_in_words, Puts, LEVEL};
+ghost use Rattle.site_script.specs.Keys.{is_askable as is_askable_tag, key_in as key_in_word, put_key, keys_in as keys_in_words, Puts};
+ghost use Rattle.dictionary.specs.declared.elements.TheConstants.{QUERY_RETRIEVE_LEVEL};
 
 use crate::tag::tag_in;
+use data_set::{has_reserved_group, is_item_or_end, is_sequence_tag};
+use dictionary::QUERY_RETRIEVE_LEVEL;
 use octets::Octets;
 use std::alloc::{AllocError, Global};
-
-/// (0008,0052) Query/Retrieve Level
-const QUERY_LEVEL: u32 = 0x0008_0052;
 
 /// A key: the tag of an element, and its value.
 #[derive(Debug, Drop)]
@@ -24,14 +24,8 @@ pub struct Key {
 fn is_askable(tag: u32) -> bool
     ensures { result ≡ is_askable_tag tag }
 {
-    let group = tag / 65536;
-    let is_level = tag == QUERY_LEVEL;
-    let is_sequence = tag == 0x0008_1115
-        || tag == 0x0008_1199
-        || tag == 0x0040_a043
-        || tag == 0x0040_a375;
-    let is_reserved = group == 0x0000 || group == 0x0002;
-    !(is_level || is_sequence || is_reserved || group == 0xfffe)
+    let is_level = tag == QUERY_RETRIEVE_LEVEL;
+    !(is_level || is_sequence_tag(tag) || has_reserved_group(tag) || is_item_or_end(tag))
 }
 
 /// The key that a word gives.
@@ -75,11 +69,11 @@ fn put(keys: &mut Vec<Key>, key: Key) -> Result<bool, AllocError>
 
 /// The key of the level, and no other.
 fn level_alone(alloc: Global, level: &Octets) -> Result<Vec<Key>, AllocError>
-    ensures { IfOk result (λ keys. keys.items ≡ record { tag = LEVEL; value = level.now } ∷ []) }
+    ensures { IfOk result (λ keys. keys.items ≡ record { tag = QUERY_RETRIEVE_LEVEL; value = level.now } ∷ []) }
 {
     let mut keys = Vec::new(alloc);
     keys.push(Key {
-        tag: QUERY_LEVEL,
+        tag: QUERY_RETRIEVE_LEVEL,
         value: level.copy(alloc)?,
     })?;
     Ok(keys)

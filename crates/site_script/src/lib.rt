@@ -7,6 +7,7 @@
 mod command;
 mod identifier;
 mod key;
+mod laws;
 mod name;
 mod sets;
 mod tag;
@@ -18,4 +19,5 @@ mod word;
 pub use command::{Command, CorrectLine, FindLine, ImageLine, NoteLine, command_of};
 pub use identifier::query_in;
 pub use key::Key;
+pub use laws::words_are_parted_by_spaces;
 pub use sets::{image_content, note_content};

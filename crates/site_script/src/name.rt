@@ -44,10 +44,13 @@ pub fn view_in(word: &[u8]) -> Option<View>
     if word == b"QUALITY".as_slice() {
         return Some(View::Quality);
     }
+    if word == b"AUDIT".as_slice() {
+        return Some(View::Audit);
+    }
     None
 }
 
-/// The target of a correction: `study` or `patient`, and its key.
+/// The target of a correction: `study`, `patient` or `series`, and its key.
 #[tactic(auto, unfolding(crate::specs::Commands::target_in))]
 pub fn target_in(alloc: Global, kind: &[u8], key: &Octets) -> Result<Option<Target>, AllocError>
     ensures { IfOk result (λ target. target ≡ target_in_words kind.now key.now) }
@@ -57,6 +60,9 @@ pub fn target_in(alloc: Global, kind: &[u8], key: &Octets) -> Result<Option<Targ
     }
     if kind == b"patient".as_slice() {
         return Ok(Some(Target::Patient(key.copy(alloc)?)));
+    }
+    if kind == b"series".as_slice() {
+        return Ok(Some(Target::Series(key.copy(alloc)?)));
     }
     Ok(None)
 }

@@ -6,40 +6,27 @@ ghost use Rattle.octets.specs.Gives.{Gives};
 ghost use Rattle.data_set.specs.Written.{IsSet};
 ghost use Rattle.data_set.specs.declared.syntax.Syntax.TheVariants.{Implicit};
 ghost use Rattle.operation.specs.Fault.{is_memory};
-ghost use Rattle.site_script.specs.Sets.{CT, KEY_OBJECTS, valued, sop_elements, patient_elements, study_elements, image_elements as image_elements_of, note_elements as note_elements_of, note_series as note_series_of, title_sequence as title_sequence_of, named as named_by, images_sequence as images_sequence_of, series_sequence as series_sequence_of, evidence_sequence as evidence_sequence_of, made_of, image_made, note_made};
+ghost use Rattle.site_script.specs.Sets.{valued, sop_elements, patient_elements, study_elements, image_elements as image_elements_of, note_elements as note_elements_of, note_series as note_series_of, title_sequence as title_sequence_of, named as named_by, images_sequence as images_sequence_of, series_sequence as series_sequence_of, evidence_sequence as evidence_sequence_of, made_of, image_made, note_made};
 
 use crate::command::{ImageLine, NoteLine};
 use bytes::Bytes;
 use data_set::{DataSet, Element, Syntax, padded_of, write};
+use dictionary::{
+    CODE_VALUE, CODING_SCHEME_DCM, CODING_SCHEME_DESIGNATOR, CONCEPT_NAME_CODE_SEQUENCE,
+    CT_IMAGE_STORAGE, CURRENT_REQUESTED_PROCEDURE_EVIDENCE_SEQUENCE,
+    KEY_OBJECT_SELECTION_DOCUMENT_STORAGE, MODALITY, PATIENT_ID, PATIENT_NAME,
+    REFERENCED_SERIES_SEQUENCE, REFERENCED_SOP_INSTANCE_UID, REFERENCED_SOP_SEQUENCE,
+    SERIES_INSTANCE_UID, SOP_CLASS_UID, SOP_INSTANCE_UID, STUDY_INSTANCE_UID, vr_of,
+};
 use octets::Octets;
 use operation::{Content, OpFault, content_of};
 use std::alloc::{AllocError, Global};
 
-/// CT Image Storage (PS3.4, section B.5)
-fn ct_class() -> &'static [u8]
-    ensures { result.now ≡ CT }
+/// Puts an element that holds a value, padded as its value representation asks.
+fn put(alloc: Global, out: &mut Vec<Element>, tag: u32, value: &[u8]) -> Result<(), AllocError>
+    ensures { OnOk result (out.new.items ≡ out.old.items ++ valued tag value.now ∷ []) }
 {
-    b"1.2.840.10008.5.1.4.1.1.2"
-}
-
-/// Key Object Selection Document Storage
-fn note_class() -> &'static [u8]
-    ensures { result.now ≡ KEY_OBJECTS }
-{
-    b"1.2.840.10008.5.1.4.1.1.88.59"
-}
-
-/// Puts an element that holds a value.
-fn put(
-    alloc: Global,
-    out: &mut Vec<Element>,
-    tag: u32,
-    vr: [u8; 2],
-    value: &[u8],
-) -> Result<(), AllocError>
-    ensures { OnOk result (out.new.items ≡ out.old.items ++ valued tag vr value.now ∷ []) }
-{
-    let value = padded_of(alloc, vr, value)?;
+    let value = padded_of(alloc, vr_of(tag), value)?;
     out.push(Element::leaf(tag, None, value))?;
     Ok(())
 }
@@ -54,9 +41,9 @@ fn put_sop(
 ) -> Result<(), AllocError>
     ensures { OnOk result (out.new.items ≡ out.old.items ++ sop_elements class.now instance.now modality.now) }
 {
-    put(alloc, out, 0x0008_0016, *b"UI", class)?;
-    put(alloc, out, 0x0008_0018, *b"UI", instance)?;
-    put(alloc, out, 0x0008_0060, *b"CS", modality)
+    put(alloc, out, SOP_CLASS_UID, class)?;
+    put(alloc, out, SOP_INSTANCE_UID, instance)?;
+    put(alloc, out, MODALITY, modality)
 }
 
 /// The patient's name and ID.
@@ -68,8 +55,8 @@ fn put_patient(
 ) -> Result<(), AllocError>
     ensures { OnOk result (out.new.items ≡ out.old.items ++ patient_elements name.now patient.now) }
 {
-    put(alloc, out, 0x0010_0010, *b"PN", name)?;
-    put(alloc, out, 0x0010_0020, *b"LO", patient)
+    put(alloc, out, PATIENT_NAME, name)?;
+    put(alloc, out, PATIENT_ID, patient)
 }
 
 /// Study and series.
@@ -81,8 +68,8 @@ fn put_study(
 ) -> Result<(), AllocError>
     ensures { OnOk result (out.new.items ≡ out.old.items ++ study_elements study.now series.now) }
 {
-    put(alloc, out, 0x0020_000d, *b"UI", study)?;
-    put(alloc, out, 0x0020_000e, *b"UI", series)
+    put(alloc, out, STUDY_INSTANCE_UID, study)?;
+    put(alloc, out, SERIES_INSTANCE_UID, series)
 }
 
 /// The elements of an image.
@@ -92,7 +79,7 @@ fn image_elements(alloc: Global, line: &ImageLine) -> Result<Vec<Element>, Alloc
 {
     let mut out = Vec::new(alloc);
     let instance = line.instance.as_slice();
-    put_sop(alloc, &mut out, ct_class(), instance, b"CT")?;
+    put_sop(alloc, &mut out, &CT_IMAGE_STORAGE, instance, b"CT")?;
     put_patient(
         alloc,
         &mut out,
@@ -131,9 +118,14 @@ fn title_sequence(alloc: Global, title: &[u8]) -> Result<Element, AllocError>
     ensures { IfOk result (λ element. element ≡ title_sequence_of title.now) }
 {
     let mut item = Vec::new(alloc);
-    put(alloc, &mut item, 0x0008_0100, *b"SH", title)?;
-    put(alloc, &mut item, 0x0008_0102, *b"SH", b"DCM")?;
-    Ok(Element::sequence(0x0040_a043, None, one_item(alloc, item)?))
+    put(alloc, &mut item, CODE_VALUE, title)?;
+    put(
+        alloc,
+        &mut item,
+        CODING_SCHEME_DESIGNATOR,
+        &CODING_SCHEME_DCM,
+    )?;
+    Ok(Element::sequence(CONCEPT_NAME_CODE_SEQUENCE, None, one_item(alloc, item)?))
 }
 
 /// An item that names an instance.
@@ -141,7 +133,7 @@ fn named(alloc: Global, uid: &[u8]) -> Result<Vec<Element>, AllocError>
     ensures { IfOk result (λ item. item.items ≡ named_by uid.now) }
 {
     let mut item = Vec::new(alloc);
-    put(alloc, &mut item, 0x0008_1155, *b"UI", uid)?;
+    put(alloc, &mut item, REFERENCED_SOP_INSTANCE_UID, uid)?;
     Ok(item)
 }
 
@@ -153,7 +145,7 @@ fn images_sequence(alloc: Global, uids: &[Octets]) -> Result<Element, AllocError
     for uid in uids {
         items.push(named(alloc, uid.as_slice())?)?;
     }
-    Ok(Element::sequence(0x0008_1199, None, items))
+    Ok(Element::sequence(REFERENCED_SOP_SEQUENCE, None, items))
 }
 
 /// The series, with the instances that it names.
@@ -162,8 +154,8 @@ fn series_sequence(alloc: Global, uids: &[Octets], series: &[u8]) -> Result<Elem
 {
     let mut item = Vec::new(alloc);
     item.push(images_sequence(alloc, uids)?)?;
-    put(alloc, &mut item, 0x0020_000e, *b"UI", series)?;
-    Ok(Element::sequence(0x0008_1115, None, one_item(alloc, item)?))
+    put(alloc, &mut item, SERIES_INSTANCE_UID, series)?;
+    Ok(Element::sequence(REFERENCED_SERIES_SEQUENCE, None, one_item(alloc, item)?))
 }
 
 /// The evidence: the study, with its series.
@@ -177,8 +169,12 @@ fn evidence_sequence(
 {
     let mut item = Vec::new(alloc);
     item.push(series_sequence(alloc, uids, series)?)?;
-    put(alloc, &mut item, 0x0020_000d, *b"UI", study)?;
-    Ok(Element::sequence(0x0040_a375, None, one_item(alloc, item)?))
+    put(alloc, &mut item, STUDY_INSTANCE_UID, study)?;
+    Ok(Element::sequence(
+        CURRENT_REQUESTED_PROCEDURE_EVIDENCE_SEQUENCE,
+        None,
+        one_item(alloc, item)?,
+    ))
 }
 
 /// The elements of a note.
@@ -189,7 +185,13 @@ fn note_elements(alloc: Global, line: &NoteLine) -> Result<Vec<Element>, AllocEr
     let mut out = Vec::new(alloc);
     let series = note_series(alloc, line)?;
     let (study, series) = (line.study.as_slice(), series.as_slice());
-    put_sop(alloc, &mut out, note_class(), line.note.as_slice(), b"KO")?;
+    put_sop(
+        alloc,
+        &mut out,
+        &KEY_OBJECT_SELECTION_DOCUMENT_STORAGE,
+        line.note.as_slice(),
+        b"KO",
+    )?;
     put_study(alloc, &mut out, study, series)?;
     out.push(title_sequence(alloc, line.title.as_slice())?)?;
     out.push(evidence_sequence(alloc, line.covers.as_slice(), series, study)?)?;
@@ -221,7 +223,7 @@ pub fn image_content(alloc: Global, line: &ImageLine) -> Result<Content, OpFault
     ensures { Gives is_memory (λ content. content) result (image_made line.now) }
 {
     let elements = image_elements(alloc, line)?;
-    content_from(alloc, ct_class(), line.instance.as_slice(), elements)
+    content_from(alloc, &CT_IMAGE_STORAGE, line.instance.as_slice(), elements)
 }
 
 /// The content of a `note` line.
@@ -231,5 +233,10 @@ pub fn note_content(alloc: Global, line: &NoteLine) -> Result<Content, OpFault>
     ensures { Gives is_memory (λ content. content) result (note_made line.now) }
 {
     let elements = note_elements(alloc, line)?;
-    content_from(alloc, note_class(), line.note.as_slice(), elements)
+    content_from(
+        alloc,
+        &KEY_OBJECT_SELECTION_DOCUMENT_STORAGE,
+        line.note.as_slice(),
+        elements,
+    )
 }

@@ -31,7 +31,7 @@ fn lines_of_no_form_are_bad(rt: HostRuntime) -> Result<(), Fail> {
         b"find A PRIVATE STUDY",
         b"find A ARCHIVE STUDY 0020000D=1 0020000d=2",
         b"find A ARCHIVE STUDY 00080052=STUDY",
-        b"correct A series 1.2.1.1 00100010 ROE^ANN",
+        b"correct A instance 1.2.1.1.1 00100010 ROE^ANN",
     ];
     for (number, line) in lines.iter().enumerate() {
         assert!(rt;
@@ -44,12 +44,14 @@ fn lines_of_no_form_are_bad(rt: HostRuntime) -> Result<(), Fail> {
 
 #[test]
 fn lines_of_a_form_are_read(rt: HostRuntime) -> Result<(), Fail> {
-    let lines: [&[u8]; 6] = [
+    let lines: [&[u8]; 8] = [
         b"",
         b"# find",
         b"  site  ABCDEFGHIJKLMNOP ",
         b"find A ARCHIVE STUDY 0020000D=1 0010000d=",
+        b"find A AUDIT STUDY",
         b"correct A patient P1 00100010 ROE^ANN",
+        b"correct A series 1.2.1.1 0008103e HEAD",
         b"note A 113001 1.2.1 1.2.9 1.2.1.1.1 1.2.1.1.2",
     ];
     for (number, line) in lines.iter().enumerate() {

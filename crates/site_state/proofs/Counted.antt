@@ -3,7 +3,7 @@ use Rattle.std.proofs.Common.{◌≡◌, ℕ, ◌+◌, List, length, arith}
 use Rattle.operation.specs.declared.op.Op.{Op}
 use Rattle.archive_model.specs.Contents.{contents}
 use Rattle.archive_model.specs.Attributes.{corrections}
-use Rattle.site_state.specs.declared.taken.Counts.{Counts}
+use Rattle.site_state.specs.declared.counts.Counts.{Counts}
 use Rattle.site_state.specs.Site.{counts_of}
 
 abbrev pub counts : ℕ → ℕ → ℕ → Counts

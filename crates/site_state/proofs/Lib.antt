@@ -1,4 +1,6 @@
+pub mod Ascending
 pub mod Counted
+pub mod Indexed
 pub mod Maps
 pub mod Same
 pub mod Takings

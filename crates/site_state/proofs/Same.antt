@@ -16,7 +16,7 @@ use Rattle.archive_model.specs.Shown.{shown}
 use Rattle.archive_model.specs.Attributes.{attribute}
 use Rattle.archive_model.proofs.MemberLaws.{has_filter_map}
 use Rattle.archive_model.proofs.ModelLaws.{covered_is_named, shown_are_picks}
-use Rattle.site_state.specs.declared.taken.Taken.TheVariants.{New, Known}
+use Rattle.operation.specs.declared.taken.Taken.TheVariants.{New, Known}
 use Rattle.site_state.specs.Site.{digest_cmp, Map, IsSite, ops_of, held_at, with_op, top_counter_of, counts_of}
 use Rattle.site_state.specs.Union.{either, Agree}
 use Rattle.site_state.specs.Laws.{Apart, holding, after_taking, TakingAdds, IsCommutative, UnionIsOfBoth, EqualMaps, EqualContents, EqualPicks, EqualCovers, EqualShown, EqualFlagged, EqualAttributes, EqualCounts, EqualTops, NoteBeforeIsNoteAfter, NamedIsNotShown}

@@ -41,7 +41,7 @@ all_above : (d : List ℕ) (es : List (List ℕ × Op)) → T (below_all digest_
 all_above d [] p = tt
 all_above d (e ∷ es) p = (is_less (digest_cmp d e.0) (and_left _ _ p), all_above d es (and_right _ _ p))
 
-ascend : (es : List (List ℕ × Op)) → T (is_sorted digest_cmp es) → IsStrictlySortedBy digest_cmp (keys_of es)
+pub ascend : (es : List (List ℕ × Op)) → T (is_sorted digest_cmp es) → IsStrictlySortedBy digest_cmp (keys_of es)
 unfolding IsStrictlySortedBy
 ascend [] p = tt
 ascend (e ∷ es) p = (all_above e.0 es (and_left _ _ p), ascend es (and_right _ _ p))

@@ -185,7 +185,7 @@ tail_own true d x r none own = subst (λ (s : Option Op). IfSome s (λ o. d ≡ 
 tail_own false d x r none own = own
 
 -- each entry of the tree of a site has its own digest
-own_entries : (es : List (List ℕ × Op)) → IsStrictlySortedBy digest_cmp (keys_of es) → ((d : List ℕ) → IfSome (held es d) (λ o. d ≡ digest_of o)) → AllByRecursion (λ e. e.0 ≡ digest_of e.1) es
+pub own_entries : (es : List (List ℕ × Op)) → IsStrictlySortedBy digest_cmp (keys_of es) → ((d : List ℕ) → IfSome (held es d) (λ o. d ≡ digest_of o)) → AllByRecursion (λ e. e.0 ≡ digest_of e.1) es
 unfolding IsStrictlySortedBy
 own_entries [] sorted own = tt
 own_entries (e ∷ es) sorted own = (
@@ -204,7 +204,7 @@ same_entries (x ∷ es) (f ∷ fs) p q e =
     let more = same_entries es fs p.1 q.1 rest in
     λ i. (digest i, op i) ∷ more i
 
-of_tree : (es : List (List ℕ × Op)) → IsSite (of_entries es) → (d : List ℕ) → IfSome (held es d) (λ o. d ≡ digest_of o)
+pub of_tree : (es : List (List ℕ × Op)) → IsSite (of_entries es) → (d : List ℕ) → IfSome (held es d) (λ o. d ≡ digest_of o)
 of_tree es site d = subst (λ (r : Option Op). IfSome r (λ o. d ≡ digest_of o)) (get_held es d) (site d)
 
 -- sites with the same operations are one

@@ -1,19 +1,22 @@
 -- What sites are, whatever the order in which they took their operations.
 use Rattle.std.specs.Prelude.{◌≡◌, ℕ, List, [], ◌∷◌, ◌++◌, Some, Ok, IsTrue}
 use Rattle.std.specs.FinMap as finmap
+use Rattle.std.specs.Ordering.{is_le}
 use Rattle.rejection_note.specs.declared.note.Note.{Note}
 use Rattle.operation.specs.declared.op.Op.{Op}
 use Rattle.operation.specs.declared.op.Op.TheVariants.{Content as a_content}
 use Rattle.operation.specs.Parts.{ContentParts}
 use Rattle.operation.specs.Spelling.{digest_of}
 use Rattle.archive_model.specs.Members.{Has, SameMembers}
+use Rattle.archive_model.specs.Laws.{Ascend}
+use Rattle.archive_model.specs.Texts.{text_cmp}
 use Rattle.archive_model.specs.View.{hides}
 use Rattle.archive_model.specs.Contents.{contents_of, pick, flagged}
 use Rattle.archive_model.specs.Covered.{is_covered}
 use Rattle.archive_model.specs.Shown.{shown}
 use Rattle.archive_model.specs.Attributes.{attribute}
 use Rattle.archive_model.specs.declared.view.View.{View}
-use Rattle.site_state.specs.declared.taken.Taken.{Taken}
+use Rattle.operation.specs.declared.taken.Taken.{Taken}
 use Rattle.site_state.specs.Site.{Map, IsSite, ops_of, with_op, Takes, top_counter_of, counts_of}
 use Rattle.site_state.specs.Union.{union}
 
@@ -94,3 +97,24 @@ NoteBeforeIsNoteAfter = (view : View) (note : ContentParts) (images : List Op) �
 abbrev pub NamedIsNotShown : Type 0
 NamedIsNotShown = (view : View) (ops : List Op) (note : ContentParts) (says : Note) (image : ContentParts) → Apart ops → Has ops (a_content note) → note.note ≡ Some says → IsTrue (hides view says.title)
     → Has says.covers image.instance → Has (shown view (ops_of (after_taking ops))) image → ⊥
+
+-- ---- the order of the operations
+
+-- what a new site holds once it took some operations is a site
+abbrev pub TakenIsSite : Type 0
+TakenIsSite = (ops : List Op) → IsSite (after_taking ops)
+
+-- the operations of a site ascend by digest
+abbrev pub OperationsAscend : Type 0
+OperationsAscend = (m : Map) → IsSite m → Ascend (ops_of m)
+
+-- a content of a UID that a site holds, and none of the UID that it holds has a lesser digest
+pub record HasLeastDigest (m : Map) (uid : List ℕ) (c : ContentParts) : Type 0 where
+  pub held : Has (ops_of m) (a_content c)
+  pub of_uid : c.instance ≡ uid
+  pub least : (d : ContentParts) → Has (ops_of m) (a_content d) → d.instance ≡ uid
+      → IsTrue (is_le (text_cmp (digest_of (a_content c)) (digest_of (a_content d))))
+
+-- so the pick of a UID is the one of least digest
+abbrev pub PickHasLeastDigest : Type 0
+PickHasLeastDigest = (m : Map) (uid : List ℕ) (c : ContentParts) → IsSite m → pick uid (ops_of m) ≡ Some c → HasLeastDigest m uid c

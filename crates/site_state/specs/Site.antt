@@ -8,13 +8,17 @@ use Rattle.operation.specs.declared.op.Op.{Op}
 use Rattle.operation.specs.declared.op.Op.TheVariants.{Content as a_content, Correction as a_correction}
 use Rattle.operation.specs.Parts.{CorrectionParts}
 use Rattle.operation.specs.Spelling.{digest_of}
+use Rattle.std.specs.BTreeMap.{is_at}
+use Rattle.std.specs.Map.{lookup}
+use Rattle.study_index.specs.Index.{IndexValue, index_joined, index_of}
+use Rattle.study_index.specs.Definition.{index_value}
 use Rattle.archive_model.specs.Contents.{contents}
 use Rattle.archive_model.specs.Attributes.{corrections}
-use Rattle.site_state.specs.declared.taken.Taken.{Taken}
-use Rattle.site_state.specs.declared.taken.Taken.TheVariants.{New, Known}
+use Rattle.operation.specs.declared.taken.Taken.{Taken}
+use Rattle.operation.specs.declared.taken.Taken.TheVariants.{New, Known}
 use Rattle.site_state.specs.declared.fault.SiteFault.{SiteFault}
 use Rattle.site_state.specs.declared.fault.SiteFault.TheVariants.{Collision, Memory}
-use Rattle.site_state.specs.declared.taken.Counts.{Counts}
+use Rattle.site_state.specs.declared.counts.Counts.{Counts}
 
 -- the order of digests, as bytes
 abbrev pub digest_cmp : List ℕ → List ℕ → Ordering
@@ -87,6 +91,19 @@ counter_of (a_correction k) = k.stamp.counter
 -- this is the greatest counter of the corrections of a site
 abbrev pub HasTop : Map → ℕ → Type 0
 HasTop m top = top ≡ top_counter_of (ops_of m)
+
+-- this is the index of the operations of a site
+abbrev pub HasIndex : Map → IndexValue → Type 0
+HasIndex m index = index ≡ index_value (ops_of m)
+
+-- what entries have under a digest
+abbrev pub entry_at : List ℕ → List (List ℕ × Op) → Option Op
+entry_at d es = lookup (is_at (digest_cmp d)) es
+
+-- an index with what is held under a digest, if anything is
+abbrev pub index_with : IndexValue → Option Op → IndexValue
+index_with index None = index
+index_with index (Some o) = index_joined index (index_of o)
 
 -- how many operations a set has, and of which kind
 abbrev pub counts_of : List Op → Counts

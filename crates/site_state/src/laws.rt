@@ -1,7 +1,7 @@
 //! What sites are, whatever the order in which they took their operations: laws, said as contracts
 //! of functions with nothing to do.
 
-ghost use Rattle.site_state.specs.Laws.{TakingAdds, IsCommutative, IsAssociative, IsIdempotent, UnionIsOfBoth, EqualMaps, EqualContents, EqualPicks, EqualCovers, EqualShown, EqualFlagged, EqualAttributes, EqualCounts, EqualTops, NoteBeforeIsNoteAfter, NamedIsNotShown};
+ghost use Rattle.site_state.specs.Laws.{TakingAdds, IsCommutative, IsAssociative, IsIdempotent, UnionIsOfBoth, EqualMaps, EqualContents, EqualPicks, EqualCovers, EqualShown, EqualFlagged, EqualAttributes, EqualCounts, EqualTops, NoteBeforeIsNoteAfter, NamedIsNotShown, TakenIsSite, OperationsAscend, PickHasLeastDigest};
 
 /// An operation that is taken, new or known, is added to the site.
 pub fn taking_adds_the_operation()
@@ -35,4 +35,12 @@ pub fn order_and_repeats_are_free()
 pub fn a_note_before_its_images_hides_as_one_after()
     ensures alike { NoteBeforeIsNoteAfter }
     ensures hidden { NamedIsNotShown }
+{}
+
+/// The operations of a site ascend by digest, so the pick of a SOP Instance UID, which stands first
+/// of its contents, is the one of least digest.
+pub fn operations_ascend_by_digest()
+    ensures taken { TakenIsSite }
+    ensures ascend { OperationsAscend }
+    ensures pick { PickHasLeastDigest }
 {}

@@ -5,18 +5,19 @@
 //! operations.
 #![tactic(auto)]
 
+mod counts;
 mod fault;
 mod laws;
 mod site;
-mod taken;
 #[cfg(test)]
 mod tests;
 mod tree;
 
+pub use counts::Counts;
 pub use fault::SiteFault;
 pub use laws::{
-    a_note_before_its_images_hides_as_one_after, order_and_repeats_are_free,
-    taking_adds_the_operation, union_is_a_join,
+    a_note_before_its_images_hides_as_one_after, operations_ascend_by_digest,
+    order_and_repeats_are_free, taking_adds_the_operation, union_is_a_join,
 };
+pub use operation::Taken;
 pub use site::Site;
-pub use taken::{Counts, Taken};

@@ -6,21 +6,26 @@ ghost use Rattle.std.specs.Option.{option_copied};
 ghost use Rattle.std.specs.FinMap as finmap;
 ghost use Rattle.operation.specs.Spelling.{digest_of};
 ghost use Rattle.site_state.specs.Site.{Map, digests_of, is_missing as is_missing_in, ops_of, held_at, with_op, IsClash, Takes, counter_of as counter_of_op, top_counter_of, counts_of};
+ghost use Rattle.study_index.specs.Definition.{IsIndexOf};
 ghost use Rattle.site_state.specs.Union.{union, DoClash, Agree};
 
+use crate::counts::Counts;
 use crate::fault::SiteFault;
-use crate::taken::{Counts, Taken};
-use crate::tree::{add_copies, do_clash};
+use crate::tree::{add_copies, do_clash, take_in};
+use join_laws::Join;
 use octets::Octets;
-use operation::{Digest, Op, digest};
+use operation::{Digest, Digested, Op, Taken};
 use std::alloc::{AllocError, Global};
 use std::collections::BTreeMap;
 use std::marker::Model;
+use study_index::Index;
 
-/// The operations of a site, each under its digest, and the greatest counter of its corrections.
+/// The operations of a site, each under its digest, with their index and the greatest counter of its
+/// corrections.
 #[derive(Drop)]
 pub struct Site {
     operations: BTreeMap<Digest, Op>,
+    index: Index,
     top: u64,
     alloc: Global,
 }
@@ -29,7 +34,7 @@ impl Model for Site {
     ghost use Rattle.std.specs.FinMap as finmap;
     ghost use Rattle.std.specs.Coded.{coded_list, coded_ℕ};
     ghost use Rattle.operation.specs.OpCode.{op_code};
-    ghost use Rattle.site_state.specs.Site.{Map, IsSite, HasTop};
+    ghost use Rattle.site_state.specs.Site.{Map, IsSite, HasTop, HasIndex};
 
     ghost Value = { Map };
 
@@ -37,7 +42,7 @@ impl Model for Site {
 
     ghost view = { λ s. finmap.from_entries s.operations.entries };
 
-    ghost invariant = { λ s. IsSite (finmap.from_entries s.operations.entries) × HasTop (finmap.from_entries s.operations.entries) s.top };
+    ghost invariant = { λ s. IsSite (finmap.from_entries s.operations.entries) × HasTop (finmap.from_entries s.operations.entries) s.top × HasIndex (finmap.from_entries s.operations.entries) s.index };
 }
 
 /// The counter of a correction, and 0 of a content.
@@ -57,6 +62,7 @@ impl Site {
     {
         Site {
             operations: BTreeMap::new(alloc),
+            index: Index::new(alloc),
             top: 0,
             alloc,
         }
@@ -91,7 +97,24 @@ impl Site {
         ensures kept { OnErr result (self.new ≡ self.old) }
         ensures takes { Takes self.old op result self.new }
     {
-        let digest = digest(&op);
+        self.take_digested(Digested::of(op))
+    }
+
+    /// Takes an operation whose digest is known, once. Nothing is hashed.
+    pub fn take_digested(&mut self, op: Digested) -> Result<Taken, SiteFault>
+        // Each answer, exactly where it is given.
+        ensures new { result ≡ Ok Taken.New → held_at self.old (digest_of op) ≡ None }
+        ensures known { (result ≡ Ok Taken.Known) ↔ (held_at self.old (digest_of op) ≡ Some op) }
+        ensures collision { (result ≡ Err SiteFault.Collision) ↔ IsClash self.old op }
+        ensures memory { result ≡ Err SiteFault.Memory → held_at self.old (digest_of op) ≡ None }
+
+        // What the site holds then.
+        ensures added { result ≡ Ok Taken.New → self.new ≡ with_op self.old op }
+        ensures same { result ≡ Ok Taken.Known → self.new ≡ self.old }
+        ensures kept { OnErr result (self.new ≡ self.old) }
+        ensures takes { Takes self.old op result self.new }
+    {
+        let (digest, op) = op.into_parts();
         self.take_under(digest, op)
     }
 
@@ -107,7 +130,7 @@ impl Site {
             return Err(SiteFault::Collision);
         }
         let counter = counter_of(&op);
-        self.operations.insert(digest, op)?;
+        take_in(&mut self.operations, &mut self.index, digest, op)?;
         self.top = self.top.max(counter);
         Ok(Taken::New)
     }
@@ -125,9 +148,18 @@ impl Site {
         let mut union = BTreeMap::new(self.alloc);
         add_copies(self.alloc, &mut union, &self.operations)?;
         add_copies(self.alloc, &mut union, &other.operations)?;
+        self.index.join_with(&other.index)?;
         self.operations = union;
         self.top = self.top.max(other.top);
         Ok(())
+    }
+
+    /// What queries look up in the operations: picks, copies, the titles under which UIDs are named,
+    /// the greatest corrections, and the walk by study, series and instance.
+    pub fn index(&self) -> &Index
+        ensures { IsIndexOf (ops_of self.now) result.now }
+    {
+        &self.index
     }
 
     /// Whether both sites hold the same.

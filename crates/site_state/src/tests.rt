@@ -236,6 +236,11 @@ fn a_covered_note_still_covers(rt: HostRuntime) -> Result<(), Fail> {
         0,
         "the image is covered"
     );
+    assert_eq!(rt;
+        shown_count(alloc, &site, View::Audit)?,
+        3,
+        "nothing hides in an audit"
+    );
     Ok(())
 }
 
@@ -290,6 +295,39 @@ fn the_content_of_lesser_digest_is_the_pick(rt: HostRuntime) -> Result<(), Fail>
     Ok(())
 }
 
+/// Whether the walk gives this study, and no other.
+fn walks_to(site: &Site, study: &[u8]) -> bool {
+    let index = site.index();
+    match index.next_study(None) {
+        None => false,
+        Some(first) => first.as_slice() == study && index.next_study(Some(first)).is_none(),
+    }
+}
+
+#[test]
+fn the_walk_gives_the_study_of_the_pick_alone(rt: HostRuntime) -> Result<(), Fail> {
+    let alloc = rt.alloc();
+    let lesser = lesser_study(alloc)?;
+    let this = site_of(alloc, &[JANE, ELSEWHERE])?;
+    let that = site_of(alloc, &[ELSEWHERE, JANE])?;
+    assert!(rt; walks_to(&this, lesser), "in one order");
+    assert!(rt; walks_to(&that, lesser), "in the other");
+    Ok(())
+}
+
+#[test]
+fn merged_sites_walk_to_the_study_of_the_pick_alone(rt: HostRuntime) -> Result<(), Fail> {
+    let alloc = rt.alloc();
+    let lesser = lesser_study(alloc)?;
+    let mut this = site_of(alloc, &[JANE])?;
+    let mut that = site_of(alloc, &[ELSEWHERE])?;
+    assert_eq!(rt; this.merge(&that), Ok(()), "one way");
+    assert_eq!(rt; that.merge(&this), Ok(()), "and the other");
+    assert!(rt; walks_to(&this, lesser), "one way");
+    assert!(rt; walks_to(&that, lesser), "and the other");
+    Ok(())
+}
+
 #[test]
 fn a_site_finds_an_operation_by_its_digest(rt: HostRuntime) -> Result<(), Fail> {
     let alloc = rt.alloc();
@@ -323,6 +361,22 @@ fn of_equal_stamps_the_greater_value_counts(rt: HostRuntime) -> Result<(), Fail>
         has_name(alloc, &that, b"ROE^BEA")?,
         "in the other order too"
     );
+    Ok(())
+}
+
+#[test]
+fn a_correction_of_a_series_is_counted(rt: HostRuntime) -> Result<(), Fail> {
+    let alloc = rt.alloc();
+    let series = Target::Series(Octets::from_slice(alloc, b"1.2.1.1")?);
+    let value = Octets::from_slice(alloc, b"HEAD")?;
+    let stamp = Stamp {
+        counter: 7,
+        site: 1,
+    };
+    let mut site = Site::new(alloc);
+    site.take(Op::Correction(correction_of(series, 0x0008_103e, value, stamp)?))?;
+    assert_eq!(rt; site.counts().corrections, 1, "one correction");
+    assert_eq!(rt; site.top_counter(), 7, "its counter");
     Ok(())
 }
 

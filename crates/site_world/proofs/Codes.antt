@@ -6,6 +6,7 @@ use base.Stored.{Gv, gnil, gnum, gcons}
 use Rattle.operation.specs.declared.op.Op.{Op}
 use Rattle.operation.specs.OpCode.{op_code}
 use Rattle.site_state.specs.Site.{Map}
+use Rattle.site_world.specs.Laws.{SameOpIsEquality, SameSiteIsEquality}
 use Rattle.site_world.specs.Same.{same_code, same_op, same_site, map_code}
 
 both : (a b : Bool) → (a && b) ≡ true → (a ≡ true) × (b ≡ true)
@@ -52,9 +53,21 @@ same_op-other o p other = by_same o p (same_op o p) refl other
 -- a test that decides whether two sites are one is this one
 pub same_site-is : (m n : Map) (b : Bool) → (IsTrue b → m ≡ n) × (m ≡ n → IsTrue b) → b ≡ same_site m n
 unfolding same_site
-same_site-is m n true test = sym (subst (λ (k : Map). same_code (map_code.code m) (map_code.code k) ≡ true) (test.0 refl) (one_code (map_code.code m)))
+same_site-is m n true test = sym (subst (λ (k : Map). same_code (map_code.code m) (map_code.code k)
+    ≡ true) (test.0 refl) (one_code (map_code.code m)))
 same_site-is m n false test = sym (other (same_code (map_code.code m) (map_code.code n)) refl)
   where
-    other : (c : Bool) → same_code (map_code.code m) (map_code.code n) ≡ c → same_code (map_code.code m) (map_code.code n) ≡ false
+    other : (c : Bool) → same_code (map_code.code m) (map_code.code n) ≡ c →
+        same_code (map_code.code m) (map_code.code n) ≡ false
     other true e = absurd cc (test.1 (map_code.inj m n (code_is (map_code.code m) (map_code.code n) e)))
     other false e = e
+
+pub same_op-equal : SameOpIsEquality
+same_op-equal o p = (λ e. same_op-is o p e, λ e. subst (λ x. same_op o x ≡ true) e (same_op-itself o))
+
+pub same_site-equal : SameSiteIsEquality
+unfolding same_site
+same_site-equal m n = (
+  λ e. map_code.inj m n (code_is (map_code.code m) (map_code.code n) e),
+  λ e. subst (λ (k : Map). same_code (map_code.code m) (map_code.code k) ≡ true) e (one_code (map_code.code m)),
+)

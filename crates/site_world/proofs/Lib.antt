@@ -2,6 +2,10 @@ pub mod Codes
 pub mod Known
 pub mod Takings
 pub mod Worlds
-pub mod Brought
+pub mod Taken
+pub mod Fitting
 pub mod Told
 pub mod Alike
+pub mod Rejected
+pub mod Played
+pub mod Lined

@@ -1,5 +1,6 @@
 -- Steps at one site are steps of the world.
-use Rattle.std.proofs.Common.{◌≡◌, ◌<◌, ℕ, suc, zero, List, [], ◌∷◌, ◌++◌, Option, Some, None, Result, Bool, true, false, refl, sym, ap, subst, ◌∙◌, length, slice_set, slice_index_or, append_assoc}
+use Rattle.std.proofs.Common.{◌≡◌, ◌<◌, ℕ, suc, zero, List, [], ◌∷◌, ◌++◌, Option, Some, None, Result, Bool, true}
+use Rattle.std.proofs.Common.{false, refl, sym, ap, subst, ◌∙◌, length, slice_set, slice_index_or}
 use Rattle.std.proofs.lemmas.Option.{slice_get_read}
 use Rattle.std.specs.Prelude.{MatchBool}
 use Rattle.std.specs.List.{slice_get}
@@ -12,8 +13,9 @@ use Rattle.site_world.specs.declared.fault.WorldFault.{WorldFault}
 use Rattle.site_world.specs.declared.step.Step.{Step}
 use Rattle.site_world.specs.declared.step.Step.TheVariants.{Take, Correct, Look}
 use Rattle.site_world.specs.declared.step.Seen.{Seen}
-use Rattle.site_world.specs.Steps.{Told, is_refused_memory, on_site, site_at, brought, bring, holding_also, IsTold, Happens, told_of_taking, told_of_correcting, told_of_looking, taken_by, made_at}
-use Rattle.site_world.specs.Runs.{Entry, Run, brought_by}
+use Rattle.site_world.specs.Steps.{Told, is_refused_memory, on_site, site_at, brought, bring, holding_also, IsTold}
+use Rattle.site_world.specs.Steps.{Happens, told_of_taking, told_of_correcting, told_of_looking, taken_by, made_at}
+use Rattle.site_world.specs.Runs.{Run}
 
 set_again : {X : Type 0} (xs : List X) (k : ℕ) (x : X) → slice_get xs k ≡ Some x → slice_set xs k x ≡ xs
 set_again [] k x e = refl
@@ -24,13 +26,16 @@ set_again (y ∷ xs) zero x e = ap (λ z. z ∷ xs) (is x y (sym e))
 set_again (y ∷ xs) (suc k) x e = ap (λ ys. y ∷ ys) (set_again xs k x e)
 
 -- what was brought to the site that stands at a place
-brought_there : (sites : List Map) (k : ℕ) (m n : Map) (op : Option Op) → slice_get sites k ≡ Some m → n ≡ holding_also m op → slice_set sites k n ≡ brought sites (suc k) op
+brought_there : (sites : List Map) (k : ℕ) (m n : Map) (op : Option Op) → slice_get sites k ≡ Some m →
+    n ≡ holding_also m op → slice_set sites k n ≡ brought sites (suc k) op
 brought_there sites k m n None at now = ap (slice_set sites k) now ∙ set_again sites k m at
 brought_there sites k m n (Some op) at now = ap (slice_set sites k) now ∙ ap (λ r. bring sites (suc k) r op) (sym at)
 
-by_memory : (b : Bool) (sites : List Map) (k : ℕ) (m n : Map) (tells : Map → Told) (r : Result Seen WorldFault) → slice_get sites k ≡ Some m
+by_memory : (b : Bool) (sites : List Map) (k : ℕ) (m n : Map) (tells : Map → Told) (r : Result Seen WorldFault) →
+    slice_get sites k ≡ Some m
     → MatchBool b (n ≡ m) ((r ≡ (tells m).0) × (n ≡ holding_also m (tells m).1))
-    → MatchBool b (slice_set sites k n ≡ sites) ((r ≡ (on_site (slice_get sites k) tells).0) × (slice_set sites k n ≡ brought sites (suc k) (on_site (slice_get sites k) tells).1))
+    → MatchBool b (slice_set sites k n ≡ sites) ((r ≡ (on_site (slice_get sites k) tells).0)
+    × (slice_set sites k n ≡ brought sites (suc k) (on_site (slice_get sites k) tells).1))
 by_memory true sites k m n tells r at same = ap (slice_set sites k) same ∙ set_again sites k m at
 by_memory false sites k m n tells r at did = (
   did.0 ∙ ap (λ s. (on_site s tells).0) (sym at),
@@ -38,38 +43,50 @@ by_memory false sites k m n tells r at did = (
 )
 
 -- a step at the site that stands at a place
-pub step_there : (sites : List Map) (k : ℕ) (m n : Map) (tells : Map → Told) (r : Result Seen WorldFault) → slice_get sites k ≡ Some m → IsTold m (tells m) r n
-    → MatchBool (is_refused_memory r) (slice_set sites k n ≡ sites) ((r ≡ (on_site (slice_get sites k) tells).0) × (slice_set sites k n ≡ brought sites (suc k) (on_site (slice_get sites k) tells).1))
+pub step_there : (sites : List Map) (k : ℕ) (m n : Map) (tells : Map → Told) (r : Result Seen WorldFault) →
+    slice_get sites k ≡ Some m → IsTold m (tells m) r n
+    → MatchBool (is_refused_memory r) (slice_set sites k n ≡ sites) ((r ≡ (on_site (slice_get sites k) tells).0)
+    × (slice_set sites k n ≡ brought sites (suc k) (on_site (slice_get sites k) tells).1))
 step_there sites k m n tells r at told = by_memory (is_refused_memory r) sites k m n tells r at told
 
-pub take_happens : (sites : List Map) (k : ℕ) (m n : Map) (op copy : Op) (r : Result Seen WorldFault) → k < length sites → m ≡ slice_index_or sites k m → copy ≡ op → IsTold m (told_of_taking copy (taken_by m copy)) r n → Happens sites (Take (suc k) op) r (slice_set sites k n)
+pub take_happens : (sites : List Map) (k : ℕ) (m n : Map) (op copy : Op) (r : Result Seen WorldFault) →
+    k < length sites → m ≡ slice_index_or sites k m → copy ≡ op → IsTold m (told_of_taking copy (taken_by m copy)) r n →
+    Happens sites (Take (suc k) op) r (slice_set sites k n)
 take_happens sites k m n op copy r small at copied told =
-    step_there sites k m n (λ m. told_of_taking op (taken_by m op)) r (slice_get_read sites (length sites) k m refl small at) (subst (λ o. IsTold m (told_of_taking o (taken_by m o)) r n) copied told)
+    step_there sites k m n (λ m. told_of_taking op (taken_by m op)) r (slice_get_read sites (length sites) k m refl
+    small at) (subst (λ o. IsTold m (told_of_taking o (taken_by m o)) r n) copied told)
 
-pub correct_happens : (sites : List Map) (k : ℕ) (m n : Map) (target target_copy : Target) (tag : ℕ) (value value_copy : List ℕ) (r : Result Seen WorldFault) → k < length sites → m ≡ slice_index_or sites k m → target_copy ≡ target → value_copy ≡ value
-    → IsTold m (told_of_correcting m (made_at (suc k) m target_copy tag value_copy)) r n → Happens sites (Correct (suc k) target tag value) r (slice_set sites k n)
+pub correct_happens : (sites : List Map) (k : ℕ) (m n : Map) (target target_copy : Target) (tag : ℕ) (value value_copy :
+    List ℕ) (r : Result Seen WorldFault) → k < length sites → m ≡ slice_index_or sites k m → target_copy ≡ target →
+    value_copy ≡ value
+    → IsTold m (told_of_correcting m (made_at (suc k) m target_copy tag value_copy)) r n →
+    Happens sites (Correct (suc k) target tag value) r (slice_set sites k n)
 correct_happens sites k m n target target_copy tag value value_copy r small at one other told =
-    step_there sites k m n (λ m. told_of_correcting m (made_at (suc k) m target tag value)) r (slice_get_read sites (length sites) k m refl small at)
-    (subst (λ v. IsTold m (told_of_correcting m (made_at (suc k) m target tag v)) r n) other (subst (λ t. IsTold m (told_of_correcting m (made_at (suc k) m t tag value_copy)) r n) one told))
+    step_there sites k m n (λ m. told_of_correcting m (made_at (suc k) m target tag value)) r (slice_get_read sites
+    (length sites) k m refl small at)
+    (subst (λ v. IsTold m (told_of_correcting m (made_at (suc k) m target tag v)) r n) other (subst
+    (λ t. IsTold m (told_of_correcting m (made_at (suc k) m t tag value_copy)) r n) one told))
 
-no_more : {X : Type 0} (xs : List X) → [] ++ xs ≡ xs ++ []
-no_more [] = refl
-no_more (x ∷ xs) = ap (λ ys. x ∷ ys) (no_more xs)
+-- One step more is a longer run.
+pub run_more : (old : List Map) (steps : List Step) (answers : List (Result Seen WorldFault)) (mid new : List Map) (step
+    : Step) (answer : Result Seen WorldFault)
+    → Run old steps answers mid → Happens mid step answer new →
+    Run old (steps ++ (step ∷ [])) (answers ++ (answer ∷ [])) new
+run_more old [] [] mid new step answer same happens = (new, subst (λ w. Happens w step answer new) same happens, refl)
+run_more old [] (a ∷ answers) mid new step answer run happens = absurd run
+run_more old (s ∷ steps) [] mid new step answer run happens = absurd run
+run_more old (s ∷ steps) (a ∷ answers) mid new step answer (w, first, rest) happens =
+    (w, first, run_more w steps answers mid new step answer rest happens)
 
--- one step more
-pub run_more : (old : List Map) (steps : List Step) (answers : List (Result Seen WorldFault)) (log : List Entry) (mid new : List Map) (step : Step) (answer : Result Seen WorldFault) → Run old steps answers log mid → Happens mid step answer new → Run old (steps ++ (step ∷ [])) (answers ++ (answer ∷ [])) (log ++ brought_by mid step answer) new
-run_more old [] [] log mid new step answer (same, none) happens =
-    (new, [], subst (λ w. Happens w step answer new) same happens, ap (λ l. l ++ brought_by mid step answer) none ∙ ap (λ w. [] ++ brought_by w step answer) same ∙ no_more (brought_by old step answer), (refl, refl))
-run_more old [] (a ∷ answers) log mid new step answer run happens = absurd run
-run_more old (s ∷ steps) [] log mid new step answer run happens = absurd run
-run_more old (s ∷ steps) (a ∷ answers) log mid new step answer (w, later, first, parts, rest) happens =
-    (w, later ++ brought_by mid step answer, first, ap (λ l. l ++ brought_by mid step answer) parts ∙ append_assoc (brought_by old s a) later (brought_by mid step answer), run_more w steps answers later mid new step answer rest happens)
-
-pub look_happens : (sites : List Map) (n : ℕ) (view : View) (query : Query) (m : Map) (r : Result Seen WorldFault) → Some m ≡ site_at sites n → IsTold m (told_of_looking m view query) r m → Happens sites (Look n view query) r sites
+pub look_happens : (sites : List Map) (n : ℕ) (view : View) (query : Query) (m : Map) (r : Result Seen WorldFault) →
+    Some m ≡ site_at sites n → IsTold m (told_of_looking m view query) r m → Happens sites (Look n view query) r sites
 look_happens sites n view query m r at told =
-    subst (λ s. MatchBool (is_refused_memory r) (sites ≡ sites) ((r ≡ (on_site s (λ x. told_of_looking x view query)).0) × (sites ≡ brought sites n (on_site s (λ x. told_of_looking x view query)).1))) at
+    subst (λ s. MatchBool (is_refused_memory r) (sites ≡ sites) ((r
+    ≡ (on_site s (λ x. told_of_looking x view query)).0) × (sites
+    ≡ brought sites n (on_site s (λ x. told_of_looking x view query)).1))) at
     (by_told (is_refused_memory r) told)
   where
-    by_told : (b : Bool) → MatchBool b (m ≡ m) ((r ≡ (told_of_looking m view query).0) × (m ≡ m)) → MatchBool b (sites ≡ sites) ((r ≡ (told_of_looking m view query).0) × (sites ≡ sites))
+    by_told : (b : Bool) → MatchBool b (m ≡ m) ((r ≡ (told_of_looking m view query).0) × (m ≡ m)) →
+        MatchBool b (sites ≡ sites) ((r ≡ (told_of_looking m view query).0) × (sites ≡ sites))
     by_told true told = refl
     by_told false told = (told.0, refl)

@@ -3,7 +3,8 @@ use Rattle.std.specs.Prelude.{ℕ}
 use Rattle.site_state.specs.declared.fault.SiteFault.{SiteFault}
 use Rattle.site_state.specs.declared.fault.SiteFault.TheVariants.{Collision, Memory as site_memory}
 use Rattle.site_world.specs.declared.fault.WorldFault.{WorldFault}
-use Rattle.site_world.specs.declared.fault.WorldFault.TheVariants.{NoSite, NoMessage, Site, StampsSpent, Memory, BadCorrection}
+use Rattle.site_world.specs.declared.fault.WorldFault.TheVariants.{NoSite, NoMessage, Site, StampsSpent, Memory}
+use Rattle.site_world.specs.declared.fault.WorldFault.TheVariants.{BadCorrection}
 
 abbrev pub number_of_world_fault : WorldFault → ℕ
 number_of_world_fault NoSite = 1

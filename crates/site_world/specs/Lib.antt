@@ -1,9 +1,14 @@
 pub mod Faults
 pub mod Same
 pub mod State
+pub mod Laws
 pub mod Steps
 pub mod Runs
+pub mod Headline
+pub mod Rejected
 pub mod Texts
 pub mod Script
 pub mod Output
+pub mod Lines
+pub mod Played
 pub mod Simulation

@@ -1,92 +1,107 @@
 -- Runs of steps, and what they come to.
-use Rattle.std.specs.Prelude.{◌≡◌, ℕ, List, [], ◌∷◌, ◌++◌, Option, Some, None, Result, ◌==◌, cond, ◌⊎◌, if◌then◌else◌}
+use Rattle.std.specs.Prelude.{◌≡◌, ℕ, List, [], ◌∷◌, ◌++◌, Some, Ok, Result, ◌==◌, cond, take, replicate, length}
+use Rattle.std.specs.List.{slice_get}
 use Rattle.std.specs.Option.{option_map}
 use Rattle.std.specs.FinMap as finmap
+use Rattle.data_set.specs.Set.{Set}
 use Rattle.operation.specs.declared.op.Op.{Op}
-use Rattle.operation.specs.Spelling.{digest_of}
+use Rattle.operation.specs.declared.op.Op.TheVariants.{Correction as a_correction}
+use Rattle.archive_model.specs.Members.{SameMembers}
 use Rattle.archive_model.specs.declared.view.View.{View}
 use Rattle.archive_query.specs.declared.query.Query.{Query}
 use Rattle.archive_query.specs.Rows.{rows_of}
-use Rattle.site_state.specs.Site.{Map, with_op, ops_of}
-use Rattle.site_state.specs.Union.{union, Agree}
+use Rattle.site_state.specs.Site.{Map, ops_of}
+use Rattle.site_state.specs.Laws.{holding}
 use Rattle.site_world.specs.declared.fault.WorldFault.{WorldFault}
 use Rattle.site_world.specs.declared.step.Step.{Step}
+use Rattle.site_world.specs.declared.step.Step.TheVariants.{Take, Correct, Look}
 use Rattle.site_world.specs.declared.step.Seen.{Seen}
-use Rattle.site_world.specs.Steps.{site_at, site_of, told, is_refused_memory, Happens}
+use Rattle.site_world.specs.declared.step.Seen.TheVariants.{Took, Stamped, Rows}
+use Rattle.site_world.specs.Steps.{site_at, site_of, title_of, Happens}
 
--- an operation, and the number of the site that it was brought to
-abbrev pub Entry : Type 0
-Entry = ℕ × Op
+-- A world may answer so to these steps, one after another.
+abbrev pub Run : List Map → List Step → List (Result Seen WorldFault) → List Map → Type 0
+Run old [] [] new = new ≡ old
+Run old (step ∷ steps) (answer ∷ answers) new = (mid : List Map) × Happens old step answer mid
+    × Run mid steps answers new
+Run old [] (answer ∷ answers) new = ⊥
+Run old (step ∷ steps) [] new = ⊥
 
-abbrev pub entry_of : ℕ → Option Op → List Entry
-entry_of n None = []
-entry_of n (Some op) = (n, op) ∷ []
+-- ---- what was taken, by the steps and their answers alone
 
--- what a step that was answered so brought
-abbrev pub brought_by : List Map → Step → Result Seen WorldFault → List Entry
-brought_by sites step answer = if is_refused_memory answer then [] else entry_of (site_of step) (told sites step).1
+-- what a step took, if it was answered Ok: a Take its operation, a Correct the correction with the stamp of the answer
+abbrev pub took : Step → Result Seen WorldFault → List Op
+took (Take n op) (Ok (Took taken)) = op ∷ []
+took (Correct n target tag value) (Ok (Stamped stamp)) =
+    a_correction (record { target = target; tag = tag; value = value; stamp = stamp }) ∷ []
+took step answer = []
 
--- A world may answer so to these steps, one after another; log is what was brought to which site, in order.
-abbrev pub Run : List Map → List Step → List (Result Seen WorldFault) → List Entry → List Map → Type 0
-Run old [] [] log new = (new ≡ old) × (log ≡ [])
-Run old (step ∷ steps) (answer ∷ answers) log new =
-    (mid : List Map) × (later : List Entry) × Happens old step answer mid × (log ≡ brought_by old step answer ++ later) × Run mid steps answers later new
-Run old [] (answer ∷ answers) log new = ⊥
-Run old (step ∷ steps) [] log new = ⊥
+-- the operations taken at the site of a number, in order
+abbrev pub taken_at : ℕ → List Step → List (Result Seen WorldFault) → List Op
+taken_at n [] answers = []
+taken_at n (step ∷ steps) [] = []
+taken_at n (step ∷ steps) (answer ∷ answers) =
+    cond (site_of step == n) (took step answer) [] ++ taken_at n steps answers
 
--- what was brought to a site, in order
-abbrev pub brought_to : ℕ → List Entry → List Op
-brought_to n [] = []
-brought_to n (entry ∷ log) = cond (entry.0 == n) (entry.1 ∷ brought_to n log) (brought_to n log)
+-- Each site is what it held, with what was taken at it.
+abbrev pub HoldWhatTheyTook : List Map → List Step → List (Result Seen WorldFault) → List Map → Type 0
+HoldWhatTheyTook old steps answers new =
+    (n : ℕ) → site_at new n ≡ option_map (λ m. holding m (taken_at n steps answers)) (site_at old n)
 
--- what a site holds once these operations were added to what it held
-abbrev pub holding : Map → List Op → Map
-holding m [] = m
-holding m (op ∷ ops) = holding (with_op m op) ops
+-- Step i is a look at site n, and was answered these rows.
+abbrev pub IsLook
+    : List Step → List (Result Seen WorldFault) → ℕ → ℕ → View → Query → List Set → Type 0
+IsLook steps answers i n view query rows =
+    (slice_get steps i ≡ Some (Look n view query)) × (slice_get answers i ≡ Some (Ok (Rows rows)))
 
--- Each site of a world is what it held, with what was brought to it.
-abbrev pub AreBrought : List Map → List Entry → List Map → Type 0
-AreBrought old log new = (n : ℕ) → site_at new n ≡ option_map (λ m. holding m (brought_to n log)) (site_at old n)
+-- the operations taken at a site before step i
+abbrev pub taken_before : ℕ → ℕ → List Step → List (Result Seen WorldFault) → List Op
+taken_before i n steps answers = taken_at n (take i steps) (take i answers)
 
--- What a run of a world comes to: its answers are those of the steps, one after another, and each site has what it took.
-abbrev pub IsOutcome : List Map → List Step → List (Result Seen WorldFault) → List Map → Type 0
-IsOutcome old steps answers new = (log : List Entry) × Run old steps answers log new × AreBrought old log new
+-- Each look was answered the rows of the definition over what its site held, with what was taken at it before.
+abbrev pub LooksAreRows : List Map → List Step → List (Result Seen WorldFault) → Type 0
+LooksAreRows old steps answers =
+    (i n : ℕ) (m : Map) (view : View) (query : Query) (rows : List Set) → IsLook steps answers i n view query rows
+    → site_at old n ≡ Some m
+    → rows ≡ rows_of view (title_of view) query (ops_of (holding m (taken_before i n steps answers)))
 
--- ---- the order of operations is free
+-- What a run comes to.
+pub record Outcome (old : List Map) (steps : List Step) (answers : List (Result Seen WorldFault)) (new : List Map) :
+    Type 0 where
+  pub answered : Run old steps answers new
+  pub taken : HoldWhatTheyTook old steps answers new
+  pub looks : LooksAreRows old steps answers
 
--- an operation is one of these
-abbrev pub Has : List Op → Op → Type 0
-Has [] o = ⊥
-Has (x ∷ xs) o = (o ≡ x) ⊎ Has xs o
+-- ---- the headline
 
--- These are the same operations, in whatever order and however often.
-abbrev pub SameMembers : List Op → List Op → Type 0
-SameMembers xs ys = (o : Op) → (Has xs o → Has ys o) × (Has ys o → Has xs o)
+-- a world of sites that hold nothing
+abbrev pub IsNew : List Map → Type 0
+IsNew sites = sites ≡ replicate (length sites) finmap.empty
 
--- Operations of one digest are one.
-abbrev pub Apart : List Op → Type 0
-Apart ops = (o p : Op) → Has ops o → Has ops p → digest_of o ≡ digest_of p → o ≡ p
+-- Two sites answer every query in every view alike.
+abbrev pub AnswerAlike : Map → Map → Type 0
+AnswerAlike a b =
+    (view : View) (called : List ℕ) (query : Query)
+    → rows_of view called query (ops_of a) ≡ rows_of view called query (ops_of b)
 
--- The same operations make one set, in whatever order and however often they came.
-abbrev pub OrderIsFree : Type 0
-OrderIsFree = (xs ys : List Op) → SameMembers xs ys → Apart xs → holding finmap.empty xs ≡ holding finmap.empty ys
+-- Two sites at which the same operations were taken, in whatever order and however often, hold equal maps and answer
+-- every query in every view alike.
+abbrev pub SitesAreAlike : List Step → List (Result Seen WorldFault) → List Map → Type 0
+SitesAreAlike steps answers sites =
+    (m n : ℕ) (a b : Map) → site_at sites m ≡ Some a → site_at sites n ≡ Some b
+    → SameMembers (taken_at m steps answers) (taken_at n steps answers)
+    → (a ≡ b) × AnswerAlike a b
 
--- So sites that took the same operations answer every query alike.
-abbrev pub AnswersAgree : Type 0
-AnswersAgree = (xs ys : List Op) (view : View) (called : List ℕ) (query : Query) → SameMembers xs ys → Apart xs
-    → rows_of view called query (ops_of (holding finmap.empty xs)) ≡ rows_of view called query (ops_of (holding finmap.empty ys))
+-- Two looks of one query in one view, at whatever sites and times, were answered equal rows where the same operations
+-- were taken there before.
+abbrev pub LooksAreAlike : List Step → List (Result Seen WorldFault) → Type 0
+LooksAreAlike steps answers =
+    (i j m n : ℕ) (view : View) (query : Query) (rows others : List Set)
+    → IsLook steps answers i m view query rows → IsLook steps answers j n view query others
+    → SameMembers (taken_before i m steps answers) (taken_before j n steps answers)
+    → rows ≡ others
 
--- So a note that comes before its images hides them as one that comes after.
-abbrev pub NoteTimeIsFree : Type 0
-NoteTimeIsFree = (note : Op) (images : List Op) (view : View) (called : List ℕ) (query : Query) → Apart (note ∷ images)
-    → rows_of view called query (ops_of (holding finmap.empty (note ∷ images))) ≡ rows_of view called query (ops_of (holding finmap.empty (images ++ (note ∷ []))))
-
--- Where the operations of two sites are apart, merging them is commutative and associative, and merging a site with itself changes nothing.
-abbrev pub MergeIsCommutative : Type 0
-MergeIsCommutative = (m n : Map) → Agree m n → union m n ≡ union n m
-
-abbrev pub MergeIsAssociative : Type 0
-MergeIsAssociative = (m n k : Map) → union (union m n) k ≡ union m (union n k)
-
-abbrev pub MergeIsIdempotent : Type 0
-MergeIsIdempotent = (m : Map) → union m m ≡ m
+-- What a run of a new world comes to: the same operations, the same answers.
+pub record Headline (steps : List Step) (answers : List (Result Seen WorldFault)) (sites : List Map) : Type 0 where
+  pub sites_alike : SitesAreAlike steps answers sites
+  pub looks_alike : LooksAreAlike steps answers

@@ -1,5 +1,6 @@
 -- What the lines of a script do, and what each prints.
-use Rattle.std.specs.Prelude.{ℕ, ◌+◌, List, [], ◌∷◌, ◌++◌, length, Option, Some, None, Ok, Err, Result, Bool, true, false, nat_le, codes, if◌then◌else◌}
+use Rattle.std.specs.Prelude.{ℕ, ◌+◌, List, [], ◌∷◌, ◌++◌, length, Option, Some, None, Ok, Err, Result, Bool, true}
+use Rattle.std.specs.Prelude.{false, nat_le, codes, if◌then◌else◌}
 use Rattle.operation.specs.declared.op.Op.TheVariants.{Content as a_content}
 use Rattle.operation.specs.declared.fault.OpFault.{OpFault}
 use Rattle.operation.specs.Fault.{number_of}
@@ -12,7 +13,8 @@ use Rattle.archive_query.specs.Fault.{number_of as number_of_query_fault}
 use Rattle.archive_query.specs.Query.{query_of}
 use Rattle.site_state.specs.Site.{Map, ops_of}
 use Rattle.site_script.specs.declared.command.Command.{Command}
-use Rattle.site_script.specs.declared.command.Command.TheVariants.{Skip, Bad, Site, Image, Note, Correct as correct_line, Find, Same, Flagged}
+use Rattle.site_script.specs.declared.command.Command.TheVariants.{Skip, Bad, Site, Image, Note}
+use Rattle.site_script.specs.declared.command.Command.TheVariants.{Correct as correct_line, Find, Same, Flagged}
 use Rattle.site_world.specs.declared.step.Step.TheVariants.{Take, Correct, Look}
 use Rattle.site_world.specs.declared.script.Move.{Move}
 use Rattle.site_world.specs.declared.script.Move.TheVariants.{Says, Names, Does}
@@ -71,10 +73,13 @@ move_of state Bad = Says BAD
 move_of state (Site name) = site_move state name
 move_of state (Image line) = at_site (number_named line.site state.names) (λ n. take_move n (image_made line))
 move_of state (Note line) = at_site (number_named line.site state.names) (λ n. take_move n (note_made line))
-move_of state (correct_line line) = at_site (number_named line.site state.names) (λ n. Does (Correct n line.target line.tag line.value))
-move_of state (Find line) = at_site (number_named line.site state.names) (λ n. look_move n line.view (query_of (identifier line.keys)))
+move_of state (correct_line line) = at_site (number_named line.site state.names)
+    (λ n. Does (Correct n line.target line.tag line.value))
+move_of state (Find line) = at_site (number_named line.site state.names)
+    (λ n. look_move n line.view (query_of (identifier line.keys)))
 move_of state (Same a b) =
-    at_site (number_named a state.names) (λ m. at_site (number_named b state.names) (λ n. same_move (site_at state.sites m) (site_at state.sites n)))
+    at_site (number_named a state.names) (λ m. at_site (number_named b state.names)
+    (λ n. same_move (site_at state.sites m) (site_at state.sites n)))
 move_of state (Flagged site) = at_site (number_named site state.names) (λ n. flagged_move (site_at state.sites n))
 
 abbrev pub said : State → Move → List ℕ

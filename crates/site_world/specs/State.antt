@@ -12,4 +12,5 @@ pub record State : Type 0 where
 
 abbrev pub state_code : Coded State
 state_code =
-    code_by (List (List ℕ) × List Map) (coded× (coded_list (coded_list coded_ℕ)) (coded_list (finmap.code (coded_list coded_ℕ) op_code))) (λ s. (s.names, s.sites)) (λ p. record { names = p.0; sites = p.1 }) (λ _. refl)
+    code_by (List (List ℕ) × List Map) (coded× (coded_list (coded_list coded_ℕ)) (coded_list (finmap.code (coded_list
+    coded_ℕ) op_code))) (λ s. (s.names, s.sites)) (λ p. record { names = p.0; sites = p.1 }) (λ _. refl)

@@ -1,5 +1,6 @@
 -- What the steps of several sites do. A world is the list of what its sites hold, site 1 first.
-use Rattle.std.specs.Prelude.{◌≡◌, ℕ, zero, suc, ◌+◌, min, List, Option, Some, None, Ok, Err, Result, Bool, true, false, not, ◌==◌, if◌then◌else◌, MatchBool, MatchResult, codes}
+use Rattle.std.specs.Prelude.{◌≡◌, ℕ, zero, suc, ◌+◌, min, List, Option, Some, None, Ok, Err, Result, Bool, true, false}
+use Rattle.std.specs.Prelude.{not, ◌==◌, if◌then◌else◌, MatchBool, MatchResult, codes}
 use Rattle.std.specs.List.{slice_get, slice_set}
 use Rattle.operation.specs.declared.op.Op.{Op}
 use Rattle.operation.specs.declared.op.Op.TheVariants.{Correction as a_correction}
@@ -9,16 +10,17 @@ use Rattle.operation.specs.Parts.{CorrectionParts}
 use Rattle.operation.specs.Spelling.{digest_of}
 use Rattle.operation.specs.Corrections.{is_correction}
 use Rattle.archive_model.specs.declared.view.View.{View}
-use Rattle.archive_model.specs.declared.view.View.TheVariants.{Archive, Quality}
+use Rattle.archive_model.specs.declared.view.View.TheVariants.{Archive, Quality, Audit}
 use Rattle.archive_query.specs.declared.query.Query.{Query}
 use Rattle.archive_query.specs.Rows.{rows_of}
 use Rattle.site_state.specs.Site.{Map, held_at, with_op, ops_of, top_counter_of}
-use Rattle.site_state.specs.declared.taken.Taken.{Taken}
-use Rattle.site_state.specs.declared.taken.Taken.TheVariants.{New, Known}
+use Rattle.operation.specs.declared.taken.Taken.{Taken}
+use Rattle.operation.specs.declared.taken.Taken.TheVariants.{New, Known}
 use Rattle.site_state.specs.declared.fault.SiteFault.{SiteFault}
 use Rattle.site_state.specs.declared.fault.SiteFault.TheVariants.{Collision, Memory as site_memory}
 use Rattle.site_world.specs.declared.fault.WorldFault.{WorldFault}
-use Rattle.site_world.specs.declared.fault.WorldFault.TheVariants.{NoSite, NoMessage, Site, StampsSpent, Memory, BadCorrection}
+use Rattle.site_world.specs.declared.fault.WorldFault.TheVariants.{NoSite, NoMessage, Site, StampsSpent, Memory}
+use Rattle.site_world.specs.declared.fault.WorldFault.TheVariants.{BadCorrection}
 use Rattle.site_world.specs.declared.step.Step.{Step}
 use Rattle.site_world.specs.declared.step.Step.TheVariants.{Take, Correct, Look}
 use Rattle.site_world.specs.declared.step.Seen.{Seen}
@@ -88,6 +90,7 @@ told_of_correcting m made =
 abbrev pub title_of : View → List ℕ
 title_of Archive = codes "ARCHIVE"
 title_of Quality = codes "QUALITY"
+title_of Audit = codes "AUDIT"
 
 -- the rows that answer a query; a look changes nothing
 abbrev pub told_of_looking : Map → View → Query → Told
@@ -116,11 +119,15 @@ site_of (Take n op) = n
 site_of (Correct n target tag value) = n
 site_of (Look n view query) = n
 
+-- what a step is told at its site, and what it brings there
+abbrev pub told_at : Map → Step → Told
+told_at m (Take n op) = told_of_taking op (taken_by m op)
+told_at m (Correct n target tag value) = told_of_correcting m (made_at n m target tag value)
+told_at m (Look n view query) = told_of_looking m view query
+
 -- what a step is answered, and what it brings
 abbrev pub told : List Map → Step → Told
-told sites (Take n op) = on_site (site_at sites n) (λ m. told_of_taking op (taken_by m op))
-told sites (Correct n target tag value) = on_site (site_at sites n) (λ m. told_of_correcting m (made_at n m target tag value))
-told sites (Look n view query) = on_site (site_at sites n) (λ m. told_of_looking m view query)
+told sites step = on_site (site_at sites (site_of step)) (λ m. told_at m step)
 
 abbrev pub seen_by : List Map → Step → Result Seen WorldFault
 seen_by sites step = (told sites step).0

@@ -8,10 +8,11 @@ use Rattle.data_set.specs.Set.{Set}
 use Rattle.data_set.specs.Converted.{converted}
 use Rattle.data_set.specs.Written.{text_of}
 use Rattle.operation.specs.declared.stamp.Stamp.{Stamp}
-use Rattle.site_state.specs.declared.taken.Taken.{Taken}
-use Rattle.site_state.specs.declared.taken.Taken.TheVariants.{New, Known}
+use Rattle.operation.specs.declared.taken.Taken.{Taken}
+use Rattle.operation.specs.declared.taken.Taken.TheVariants.{New, Known}
 use Rattle.site_world.specs.declared.fault.WorldFault.{WorldFault}
-use Rattle.site_world.specs.declared.fault.WorldFault.TheVariants.{NoSite, NoMessage, Site, StampsSpent, Memory, BadCorrection}
+use Rattle.site_world.specs.declared.fault.WorldFault.TheVariants.{NoSite, NoMessage, Site, StampsSpent, Memory}
+use Rattle.site_world.specs.declared.fault.WorldFault.TheVariants.{BadCorrection}
 use Rattle.site_world.specs.declared.step.Seen.{Seen}
 use Rattle.site_world.specs.declared.step.Seen.TheVariants.{Took, Stamped, Rows}
 use Rattle.site_world.specs.Faults.{number_of_site_fault}

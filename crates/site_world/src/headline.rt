@@ -1,19 +1,45 @@
-//! What holds of every run: the order of operations is free.
+//! What holds of all runs of new worlds.
 
-ghost use Rattle.site_world.specs.Runs.{OrderIsFree, AnswersAgree, NoteTimeIsFree, MergeIsCommutative, MergeIsAssociative, MergeIsIdempotent};
+ghost use Rattle.site_world.specs.Headline.{SameTakenSameMaps, SameTakenSameAnswers, TimeIsFree};
+ghost use Rattle.site_world.specs.Headline.{TakenAreApart};
+ghost use Rattle.site_world.specs.Laws.{SameOpIsEquality, SameSiteIsEquality};
+ghost use Rattle.site_world.specs.Lines.{LinesAreTheText, OutputIsOfLines};
+ghost use Rattle.site_world.specs.Played.{ScriptsAreRuns};
+ghost use Rattle.site_world.specs.Rejected.{RejectedIsInNoRow, RejectedIsAsIfNeverStored};
 
-/// Sites that took the same operations, in whatever order and with whatever repeats, hold the same
-/// and give equal answers to every query, where no two of the operations have one digest. So a
-/// note that comes before its images hides them as one that comes after.
+/// Sites at which the same operations were taken, in one run or in two, in whatever order and
+/// however often, hold equal maps and give equal answers to every query. So the time of an operation
+/// does not matter. That unequal operations have unequal digests is no premise: a site takes one
+/// of them alone.
 pub fn order_is_free()
-    ensures states { OrderIsFree }
-    ensures answers { AnswersAgree }
-    ensures notes { NoteTimeIsFree }
+    ensures states { SameTakenSameMaps }
+    ensures answers { SameTakenSameAnswers }
+    ensures times { TimeIsFree }
+    ensures apart { TakenAreApart }
 {}
 
-/// What two sites hold together knows no order either, where they agree on each digest.
-pub fn merge_is_a_join()
-    ensures commutative { MergeIsCommutative }
-    ensures associative { MergeIsAssociative }
-    ensures idempotent { MergeIsIdempotent }
+/// An instance that a note names is in no row and in no count of any query in a view where the
+/// note's title hides, whether the note was taken before or after it. All rows are as if the
+/// instance had never been stored, where it is no note itself.
+pub fn what_is_rejected_is_in_no_row()
+    ensures nowhere { RejectedIsInNoRow }
+    ensures as_if_never_stored { RejectedIsAsIfNeverStored }
+{}
+
+/// The lines of a script are a run of 16 new sites: so the headline holds of what a script prints.
+pub fn a_script_is_a_run()
+    ensures { ScriptsAreRuns }
+{}
+
+/// The tests that tell whether two operations, or two sites, are one decide equality.
+pub fn what_is_told_to_be_one_is_one()
+    ensures operations { SameOpIsEquality }
+    ensures sites { SameSiteIsEquality }
+{}
+
+/// The lines of an input, joined by LF, are the input, and what is printed for it is what they
+/// print.
+pub fn lines_are_parted_by_their_ends()
+    ensures text { LinesAreTheText }
+    ensures output { OutputIsOfLines }
 {}

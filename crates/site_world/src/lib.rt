@@ -15,7 +15,10 @@ mod world;
 mod world_tests;
 
 pub use fault::WorldFault;
-pub use headline::{merge_is_a_join, order_is_free};
+pub use headline::{
+    a_script_is_a_run, lines_are_parted_by_their_ends, order_is_free,
+    what_is_rejected_is_in_no_row, what_is_told_to_be_one_is_one,
+};
 pub use run::{SimFault, simulate};
 pub use step::{Seen, Step};
 pub use world::{MOST_SITES, World};

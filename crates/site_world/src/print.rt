@@ -3,7 +3,10 @@
 ghost use Rattle.std.specs.Prelude.{◌≡◌, ◌++◌, ◌∷◌, [], OnOk};
 ghost use Rattle.std.specs.Fmt.{decimal};
 ghost use Rattle.site_world.specs.Faults.{number_of_site_fault};
-ghost use Rattle.site_world.specs.Texts.{line, fault_line, site_line, taken_line, stamp_line, end_line, uid_lines, flagged_lines, same_line, world_fault_line, seen_lines, answer_line, answer_lines, rows_lines};
+ghost use Rattle.site_world.specs.Texts.{line, fault_line, site_line, taken_line, stamp_line};
+ghost use Rattle.site_world.specs.Texts.{end_line, uid_lines, flagged_lines, same_line};
+ghost use Rattle.site_world.specs.Texts.{world_fault_line, seen_lines, answer_line, answer_lines};
+ghost use Rattle.site_world.specs.Texts.{rows_lines};
 
 use crate::fault::WorldFault;
 use crate::step::Seen;

@@ -1,20 +1,54 @@
 //! A script in the middle of its input.
 
-ghost use Rattle.std.specs.Prelude.{◌≡◌, ◌≤◌, ◌<◌, ◌+◌, ◌++◌, ◌∷◌, [], OnOk, OnErr, IfOk, IfErr, IsErrOf, false, length};
+ghost use Rattle.std.specs.Prelude.{◌≡◌, ◌≤◌, ◌<◌, ◌+◌, ◌++◌, ◌∷◌, [], OnOk, OnErr, IfOk, IsErrOf};
+ghost use Rattle.std.specs.Prelude.{length};
 ghost use Rattle.site_script.specs.Commands.{command_of as command_of_line};
 ghost use Rattle.site_script.specs.Fitting.{IsShort};
-ghost use Rattle.site_world.specs.Output.{without_cr as without_cr_of, output_from, count_from, NOTHING};
+ghost use Rattle.site_world.specs.Output.{without_cr as without_cr_of, output_from, count_from};
+ghost use Rattle.site_world.specs.Output.{NOTHING};
 ghost use Rattle.site_world.specs.Script.{printed, after};
-ghost use Rattle.site_world.specs.Simulation.{Leads, IsFront, HasLong, HasTooManyLines, MOST_LINES, is_of_device};
+ghost use Rattle.site_world.specs.Simulation.{Leads, StopsWithin, StopsAtLong, HasLong};
+ghost use Rattle.site_world.specs.Simulation.{HasTooManyLines, MOST_LINES};
 
 use crate::fault::WorldFault;
-use crate::run::SimFault;
 use crate::script::Script;
-use std::alloc::{AllocError, Global};
+use std::alloc::{AllocError, AllocFailed, Global};
 use std::marker::Model;
 
 /// The most bytes of a line, with its CR and without its LF.
 const LONGEST_LINE: usize = 65536;
+
+/// Why a line was not done. It printed nothing.
+#[derive(Clone, Copy)]
+pub enum LineFault {
+    /// It has more than 65,536 bytes.
+    LongLine,
+    Memory,
+    /// 18,446,744,073,709,551,615 lines ended before it.
+    Turns,
+}
+
+impl From<AllocError> for LineFault {
+    ghost use Rattle.std.specs.Prelude.{◌≡◌};
+    ghost use Rattle.site_world.specs.declared.progress.LineFault.TheVariants.{Memory};
+
+    ghost from_gives = { λ _ e. e ≡ Memory };
+
+    fn from(_error: AllocError) -> LineFault {
+        LineFault::Memory
+    }
+}
+
+impl<T: Drop> From<AllocFailed<T>> for LineFault {
+    ghost use Rattle.std.specs.Prelude.{◌≡◌};
+    ghost use Rattle.site_world.specs.declared.progress.LineFault.TheVariants.{Memory};
+
+    ghost from_gives = { λ _ e. e ≡ Memory };
+
+    fn from(_error: AllocFailed<T>) -> LineFault {
+        LineFault::Memory
+    }
+}
 
 /// What a script has made, the front of the line in hand, and how many lines ended.
 #[derive(Drop)]
@@ -56,7 +90,8 @@ fn answer(
     out: &mut Vec<u8>,
 ) -> Result<(), AllocError>
     requires { IsShort line.now }
-    ensures printed { OnOk result (out.new.items ≡ out.old.items ++ printed script.old (command_of_line line.now)) }
+    ensures printed { OnOk result
+        (out.new.items ≡ out.old.items ++ printed script.old (command_of_line line.now)) }
     ensures after { OnOk result (script.new ≡ after script.old (command_of_line line.now)) }
     ensures nothing { OnErr result (out.new.items ≡ out.old.items) }
 {
@@ -96,15 +131,15 @@ impl Progress {
     }
 
     /// Ends a line.
-    fn end_line(&mut self, out: &mut Vec<u8>) -> Result<(), SimFault>
-        ensures leads { OnOk result (Leads self.old out.old.items (10 ∷ []) self.new out.new.items) }
+    fn end_line(&mut self, out: &mut Vec<u8>) -> Result<(), LineFault>
+        ensures leads { OnOk result
+            (Leads self.old out.old.items (10 ∷ []) self.new out.new.items) }
         ensures kept { OnErr result (out.new.items ≡ out.old.items) }
-        ensures short { IsErrOf result SimFault.LongLine → ⊥ }
-        ensures many { IsErrOf result SimFault.Turns → HasTooManyLines self.old (10 ∷ []) }
-        ensures own { IfErr result (λ fault. is_of_device fault ≡ false) }
+        ensures short { IsErrOf result LineFault.LongLine → ⊥ }
+        ensures many { IsErrOf result LineFault.Turns → HasTooManyLines self.old (10 ∷ []) }
     {
         let Some(lines) = self.lines.checked_add(1) else {
-            return Err(SimFault::Turns);
+            return Err(LineFault::Turns);
         };
         let line = without_cr(self.front.as_slice());
         answer(&mut self.script, line, &mut self.text, out)?;
@@ -114,30 +149,31 @@ impl Progress {
     }
 
     /// Takes one byte more.
-    fn feed(&mut self, byte: u8, out: &mut Vec<u8>) -> Result<(), SimFault>
-        ensures leads { OnOk result (Leads self.old out.old.items (byte ∷ []) self.new out.new.items) }
+    fn feed(&mut self, byte: u8, out: &mut Vec<u8>) -> Result<(), LineFault>
+        ensures leads { OnOk result
+            (Leads self.old out.old.items (byte ∷ []) self.new out.new.items) }
         ensures kept { OnErr result (out.new.items ≡ out.old.items) }
-        ensures long { IsErrOf result SimFault.LongLine → HasLong self.old (byte ∷ []) }
-        ensures many { IsErrOf result SimFault.Turns → HasTooManyLines self.old (byte ∷ []) }
-        ensures own { IfErr result (λ fault. is_of_device fault ≡ false) }
+        ensures long { IsErrOf result LineFault.LongLine → HasLong self.old (byte ∷ []) }
+        ensures many { IsErrOf result LineFault.Turns → HasTooManyLines self.old (byte ∷ []) }
     {
         if byte == b'\n' {
             return self.end_line(out);
         }
         if self.front.len() >= LONGEST_LINE {
-            return Err(SimFault::LongLine);
+            return Err(LineFault::LongLine);
         }
         self.front.push(byte)?;
         Ok(())
     }
 
     /// Takes some bytes more. On a fault the answers of the lines that ended before it are printed.
-    pub fn feed_all(&mut self, bytes: &[u8], out: &mut Vec<u8>) -> Result<(), SimFault>
-        ensures leads { OnOk result (Leads self.old out.old.items bytes.now self.new out.new.items) }
-        ensures front { IsFront self.old out.old.items bytes.now out.new.items }
-        ensures long { IsErrOf result SimFault.LongLine → HasLong self.old bytes.now }
-        ensures many { IsErrOf result SimFault.Turns → HasTooManyLines self.old bytes.now }
-        ensures own { IfErr result (λ fault. is_of_device fault ≡ false) }
+    pub fn feed_all(&mut self, bytes: &[u8], out: &mut Vec<u8>) -> Result<(), LineFault>
+        ensures leads { OnOk result
+            (Leads self.old out.old.items bytes.now self.new out.new.items) }
+        ensures within { StopsWithin self.old out.old.items bytes.now out.new.items }
+        ensures long { IsErrOf result LineFault.LongLine →
+            StopsAtLong self.old out.old.items bytes.now out.new.items }
+        ensures many { IsErrOf result LineFault.Turns → HasTooManyLines self.old bytes.now }
     {
         for byte in bytes {
             if let Err(fault) = self.feed(*byte, out) {
@@ -148,17 +184,19 @@ impl Progress {
     }
 
     /// What stands behind the last end of a line is a line, where it has bytes.
-    pub fn finish(&mut self, out: &mut Vec<u8>) -> Result<u64, SimFault>
-        ensures printed { OnOk result (out.new.items ≡ out.old.items ++ output_from self.old.state self.old.front []) }
-        ensures counted { IfOk result (λ lines. lines ≡ self.old.lines + count_from self.old.front []) }
+    pub fn finish(&mut self, out: &mut Vec<u8>) -> Result<u64, LineFault>
+        ensures printed { OnOk result (out.new.items
+            ≡ out.old.items ++ output_from self.old.state self.old.front []) }
+        ensures counted { IfOk result (λ lines. lines
+            ≡ self.old.lines + count_from self.old.front []) }
         ensures kept { OnErr result (out.new.items ≡ out.old.items) }
-        ensures short { IsErrOf result SimFault.LongLine → ⊥ }
-        ensures many { IsErrOf result SimFault.Turns → MOST_LINES < self.old.lines + count_from self.old.front [] }
-        ensures own { IfErr result (λ fault. is_of_device fault ≡ false) }
+        ensures short { IsErrOf result LineFault.LongLine → ⊥ }
+        ensures many { IsErrOf result LineFault.Turns →
+            MOST_LINES < self.old.lines + count_from self.old.front [] }
     {
         let line = self.front.as_slice();
         let Some(lines) = self.lines.checked_add(last_lines(line)) else {
-            return Err(SimFault::Turns);
+            return Err(LineFault::Turns);
         };
         answer(&mut self.script, line, &mut self.text, out)?;
         Ok(lines)

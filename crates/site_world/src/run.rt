@@ -1,11 +1,14 @@
 //! A script's answers, over any source and sink.
 
-ghost use Rattle.std.specs.Prelude.{◌≡◌, List, ℕ, Option, OnOk, OnErr, IfOk, IsErrOf, MatchBool, false};
+ghost use Rattle.std.specs.Prelude.{◌≡◌, List, ℕ, Option, OnOk, OnErr, IfOk, IsErrOf, MatchBool};
+ghost use Rattle.std.specs.Prelude.{false};
 ghost use Rattle.std.specs.Io.KnownBytes.{IsAtEnd};
 ghost use Rattle.devices.specs.Failures.{Rose};
-ghost use Rattle.site_world.specs.Simulation.{Owes, WroteFront, WroteAll, IsTooLong, IsEndless, TookBytes, tells_read, tells_write, number_of};
+ghost use Rattle.site_world.specs.Simulation.{Owes, Turn, Ends, WroteFront, WroteWholeLines};
+ghost use Rattle.site_world.specs.Simulation.{WroteUpToLong, WroteAll, IsEndless, TookBytes};
+ghost use Rattle.site_world.specs.Simulation.{fault_of_line, tells_read, tells_write, number_of};
 
-use crate::progress::Progress;
+use crate::progress::{LineFault, Progress};
 use devices::{Sink, Source, put_all};
 use std::alloc::{AllocError, AllocFailed, Global};
 use thiserror::Error;
@@ -70,6 +73,17 @@ impl<T: Drop> From<AllocFailed<T>> for SimFault {
     }
 }
 
+/// What the fault of a line is in a script.
+fn fault_of(fault: LineFault) -> SimFault
+    ensures { result ≡ fault_of_line fault }
+{
+    match fault {
+        LineFault::LongLine => SimFault::LongLine,
+        LineFault::Memory => SimFault::Memory,
+        LineFault::Turns => SimFault::Turns,
+    }
+}
+
 /// One read, and what it brings. It says how many bytes were read.
 fn step<R: Source, W: Sink>(
     progress: &mut Progress,
@@ -78,13 +92,17 @@ fn step<R: Source, W: Sink>(
     writer: &mut W,
 ) -> Result<usize, SimFault>
     ensures end { IfOk result (λ count. count ≡ 0 → IsAtEnd (R.remaining reader.new)) }
-    ensures took { IfOk result (λ count. TookBytes count (R.remaining reader.old) (R.remaining reader.new)) }
-    ensures owes { (input before : Option (List ℕ)) → Owes input before (R.remaining reader.old) (W.contents writer.old) progress.old → OnOk result (Owes input before (R.remaining reader.new) (W.contents writer.new) progress.new) }
-    ensures front { (input before : Option (List ℕ)) → Owes input before (R.remaining reader.old) (W.contents writer.old) progress.old → OnErr result (WroteFront input before (W.contents writer.new)) }
-    ensures long { (input before : Option (List ℕ)) → Owes input before (R.remaining reader.old) (W.contents writer.old) progress.old → IsErrOf result SimFault.LongLine → IsTooLong input }
-    ensures turns { (input before : Option (List ℕ)) → Owes input before (R.remaining reader.old) (W.contents writer.old) progress.old → IsErrOf result SimFault.Turns → IsEndless input }
-    ensures read { MatchBool (tells_read result) (Rose (R.failures reader.old) (R.failures reader.new)) (R.failures reader.new ≡ R.failures reader.old) }
-    ensures write { MatchBool (tells_write result) (Rose (W.failures writer.old) (W.failures writer.new)) (W.failures writer.new ≡ W.failures writer.old) }
+    ensures took { IfOk result (λ count.
+        TookBytes count (R.remaining reader.old) (R.remaining reader.new)) }
+    ensures turn { (input before : Option (List ℕ)) →
+        Owes input before (R.remaining reader.old) (W.contents writer.old) progress.old →
+        Turn input before result (R.remaining reader.new) (W.contents writer.new) progress.new }
+    ensures read { MatchBool (tells_read result)
+        (Rose (R.failures reader.old) (R.failures reader.new))
+        (R.failures reader.new ≡ R.failures reader.old) }
+    ensures write { MatchBool (tells_write result)
+        (Rose (W.failures writer.old) (W.failures writer.new))
+        (W.failures writer.new ≡ W.failures writer.old) }
 {
     let mut buffer = [0; PIECE];
     let Ok(count) = reader.read(&mut buffer) else {
@@ -97,7 +115,7 @@ fn step<R: Source, W: Sink>(
     }
     match fed {
         Ok(()) => Ok(count),
-        Err(fault) => Err(fault),
+        Err(fault) => Err(fault_of(fault)),
     }
 }
 
@@ -107,17 +125,18 @@ fn finish<W: Sink>(
     out: &mut Vec<u8>,
     writer: &mut W,
 ) -> Result<u64, SimFault>
-    ensures all { (input before rest : Option (List ℕ)) → IsAtEnd rest → Owes input before rest (W.contents writer.old) progress.old → IfOk result (WroteAll input before (W.contents writer.new)) }
-    ensures front { (input before rest : Option (List ℕ)) → IsAtEnd rest → Owes input before rest (W.contents writer.old) progress.old → OnErr result (WroteFront input before (W.contents writer.new)) }
-    ensures short { IsErrOf result SimFault.LongLine → ⊥ }
-    ensures turns { (input before rest : Option (List ℕ)) → IsAtEnd rest → Owes input before rest (W.contents writer.old) progress.old → IsErrOf result SimFault.Turns → IsEndless input }
+    ensures end { (input before rest : Option (List ℕ)) → IsAtEnd rest →
+        Owes input before rest (W.contents writer.old) progress.old →
+        Ends input before result (W.contents writer.new) }
     ensures read { tells_read result ≡ false }
-    ensures write { MatchBool (tells_write result) (Rose (W.failures writer.old) (W.failures writer.new)) (W.failures writer.new ≡ W.failures writer.old) }
+    ensures write { MatchBool (tells_write result)
+        (Rose (W.failures writer.old) (W.failures writer.new))
+        (W.failures writer.new ≡ W.failures writer.old) }
 {
     out.clear();
     let lines = match progress.finish(out) {
         Ok(lines) => lines,
-        Err(fault) => return Err(fault),
+        Err(fault) => return Err(fault_of(fault)),
     };
     if let Err(_failed) = put_all(writer, out.as_slice()) {
         return Err(SimFault::Write);
@@ -134,14 +153,25 @@ pub fn simulate<R: Source, W: Sink>(
     reader: &mut R,
     writer: &mut W,
 ) -> Result<u64, SimFault>
-    ensures all { IfOk result (WroteAll (R.remaining reader.old) (W.contents writer.old) (W.contents writer.new)) }
-    ensures front { OnErr result (WroteFront (R.remaining reader.old) (W.contents writer.old) (W.contents writer.new)) }
-    ensures long_line { IsErrOf result SimFault.LongLine → IsTooLong (R.remaining reader.old) }
+    ensures all { IfOk result
+        (WroteAll (R.remaining reader.old) (W.contents writer.old) (W.contents writer.new)) }
+
+    // What a fault leaves written.
+    ensures front { OnErr result
+        (WroteFront (R.remaining reader.old) (W.contents writer.old) (W.contents writer.new)) }
+    ensures whole_lines { IsErrOf result SimFault.Memory →
+        WroteWholeLines (R.remaining reader.old) (W.contents writer.old) (W.contents writer.new) }
+    ensures long_line { IsErrOf result SimFault.LongLine →
+        WroteUpToLong (R.remaining reader.old) (W.contents writer.old) (W.contents writer.new) }
     ensures turns { IsErrOf result SimFault.Turns → IsEndless (R.remaining reader.old) }
 
     // A fault of a device is told exactly where one was counted.
-    ensures read { MatchBool (tells_read result) (Rose (R.failures reader.old) (R.failures reader.new)) (R.failures reader.new ≡ R.failures reader.old) }
-    ensures write { MatchBool (tells_write result) (Rose (W.failures writer.old) (W.failures writer.new)) (W.failures writer.new ≡ W.failures writer.old) }
+    ensures read { MatchBool (tells_read result)
+        (Rose (R.failures reader.old) (R.failures reader.new))
+        (R.failures reader.new ≡ R.failures reader.old) }
+    ensures write { MatchBool (tells_write result)
+        (Rose (W.failures writer.old) (W.failures writer.new))
+        (W.failures writer.new ≡ W.failures writer.old) }
 {
     let Ok(mut progress) = Progress::new(alloc) else {
         return Err(SimFault::Memory);

@@ -1,6 +1,7 @@
 //! The sites of a script by their names, and what its lines do.
 
-ghost use Rattle.std.specs.Prelude.{◌≡◌, ◌++◌, ◌∷◌, [], ◌≤◌, IfOk, OnOk, OnErr, Result, length, map, codes};
+ghost use Rattle.std.specs.Prelude.{◌≡◌, ◌++◌, ◌∷◌, [], ◌≤◌, IfOk, OnOk, OnErr, Result, length};
+ghost use Rattle.std.specs.Prelude.{map, codes};
 ghost use Rattle.std.specs.Option.{option_map, option_copied};
 ghost use Rattle.octets.specs.Gives.{Gives};
 ghost use Rattle.data_set.specs.declared.syntax.Syntax.TheVariants.{Implicit};
@@ -17,8 +18,11 @@ ghost use Rattle.site_script.specs.Commands.{command_of as command_of_line};
 ghost use Rattle.site_script.specs.Fitting.{IsShort, MakesSets};
 ghost use Rattle.site_world.specs.Output.{NOTHING};
 ghost use Rattle.site_world.specs.Same.{same_site};
-ghost use Rattle.site_script.specs.Sets.{image_made, note_made, image_elements, note_elements, identifier};
-ghost use Rattle.site_world.specs.Script.{number_named, site_move, take_move, look_move, same_move, flagged_move, at_site, move_of as move_of_command, said, moved, printed, after};
+ghost use Rattle.site_script.specs.Sets.{image_made, note_made, image_elements, note_elements};
+ghost use Rattle.site_script.specs.Sets.{identifier};
+ghost use Rattle.site_world.specs.Script.{number_named, site_move, take_move, look_move, same_move};
+ghost use Rattle.site_world.specs.Script.{flagged_move, at_site, move_of as move_of_command, said};
+ghost use Rattle.site_world.specs.Script.{moved, printed, after};
 ghost use Rattle.site_world.specs.State.{State};
 ghost use Rattle.site_world.specs.Steps.{site_at, is_refused_memory};
 ghost use Rattle.site_world.specs.Texts.{BAD, fault_line, flagged_lines, same_line};
@@ -105,7 +109,8 @@ fn says_no_site(alloc: Global) -> Result<Move, AllocError>
 
 /// A step that takes a content, or the refusal of the content.
 fn take_of(alloc: Global, number: usize, made: Result<Content, OpFault>) -> Result<Move, AllocError>
-    ensures { (r : Result ContentParts OpFault) → Gives is_memory_fault (λ c. c) made r → IfOk result (λ did. did ≡ take_move number r) }
+    ensures { (r : Result ContentParts OpFault) → Gives is_memory_fault (λ c. c) made r →
+        IfOk result (λ did. did ≡ take_move number r) }
 {
     match made {
         Ok(content) => Ok(Move::Does(Step::Take(number, Op::Content(content)))),
@@ -121,7 +126,8 @@ fn look_of(
     view: View,
     query: Result<Query, QueryFault>,
 ) -> Result<Move, AllocError>
-    ensures { (r : Result Query QueryFault) → Gives is_memory_query (λ q. q) query r → IfOk result (λ did. did ≡ look_move number view r) }
+    ensures { (r : Result Query QueryFault) → Gives is_memory_query (λ q. q) query r →
+        IfOk result (λ did. did ≡ look_move number view r) }
 {
     match query {
         Ok(query) => Ok(Move::Does(Step::Look(number, view, query))),
@@ -138,7 +144,8 @@ fn is_same(a: &Site, b: &Site) -> bool
 }
 
 fn same_of(alloc: Global, a: Option<&Site>, b: Option<&Site>) -> Result<Move, AllocError>
-    ensures { IfOk result (λ said. said ≡ same_move (option_copied a.entry) (option_copied b.entry)) }
+    ensures { IfOk result (λ said.
+        said ≡ same_move (option_copied a.entry) (option_copied b.entry)) }
 {
     match (a, b) {
         (Some(a), Some(b)) => {
@@ -190,7 +197,8 @@ impl Script {
 
     fn image(&self, line: &ImageLine) -> Result<Move, AllocError>
         requires { IsSet Implicit (image_elements line.now) }
-        ensures { IfOk result (λ did. did ≡ at_site (number_named line.now.site self.now.names) (λ n. take_move n (image_made line.now))) }
+        ensures { IfOk result (λ did. did ≡ at_site (number_named line.now.site self.now.names)
+            (λ n. take_move n (image_made line.now))) }
     {
         match number_of(self.names.as_slice(), &line.site) {
             None => says_no_site(self.alloc),
@@ -200,7 +208,8 @@ impl Script {
 
     fn note(&self, line: &NoteLine) -> Result<Move, AllocError>
         requires { IsSet Implicit (note_elements line.now) }
-        ensures { IfOk result (λ did. did ≡ at_site (number_named line.now.site self.now.names) (λ n. take_move n (note_made line.now))) }
+        ensures { IfOk result (λ did. did ≡ at_site (number_named line.now.site self.now.names)
+            (λ n. take_move n (note_made line.now))) }
     {
         match number_of(self.names.as_slice(), &line.site) {
             None => says_no_site(self.alloc),
@@ -209,7 +218,8 @@ impl Script {
     }
 
     fn correct(&self, line: CorrectLine) -> Result<Move, AllocError>
-        ensures { IfOk result (λ did. did ≡ at_site (number_named line.site self.now.names) (λ n. Move.Does (Step.Correct n line.target line.tag line.value))) }
+        ensures { IfOk result (λ did. did ≡ at_site (number_named line.site self.now.names)
+            (λ n. Move.Does (Step.Correct n line.target line.tag line.value))) }
     {
         match number_of(self.names.as_slice(), &line.site) {
             None => says_no_site(self.alloc),
@@ -224,7 +234,8 @@ impl Script {
 
     fn find(&self, line: &FindLine) -> Result<Move, AllocError>
         requires { IsSet Implicit (identifier line.now.keys) }
-        ensures { IfOk result (λ did. did ≡ at_site (number_named line.now.site self.now.names) (λ n. look_move n line.now.view (query_of (identifier line.now.keys)))) }
+        ensures { IfOk result (λ did. did ≡ at_site (number_named line.now.site self.now.names)
+            (λ n. look_move n line.now.view (query_of (identifier line.now.keys)))) }
     {
         match number_of(self.names.as_slice(), &line.site) {
             None => says_no_site(self.alloc),
@@ -273,7 +284,8 @@ impl Script {
 
     /// Does a step, and prints what is seen.
     fn step(&mut self, step: Step, out: &mut Vec<u8>) -> Result<(), AllocError>
-        ensures said { OnOk result (out.new.items ≡ out.old.items ++ said self.old (Move.Does step)) }
+        ensures said { OnOk result
+            (out.new.items ≡ out.old.items ++ said self.old (Move.Does step)) }
         ensures moved { OnOk result (self.new ≡ moved self.old (Move.Does step)) }
     {
         let seen = self.world.step(&step);
@@ -303,7 +315,8 @@ impl Script {
     #[tactic(auto, unfolding(crate::specs::Script::printed, crate::specs::Script::after))]
     pub fn line(&mut self, line: &[u8], out: &mut Vec<u8>) -> Result<(), AllocError>
         requires { IsShort line.now }
-        ensures printed { OnOk result (out.new.items ≡ out.old.items ++ printed self.old (command_of_line line.now)) }
+        ensures printed { OnOk result (out.new.items
+            ≡ out.old.items ++ printed self.old (command_of_line line.now)) }
         ensures after { OnOk result (self.new ≡ after self.old (command_of_line line.now)) }
     {
         let command = command_of(self.alloc, line)?;

@@ -36,6 +36,31 @@ fn answered(
     Ok((ended, writer))
 }
 
+/// A series' description is corrected, and its image is rejected.
+const AUDITED: &[u8] = b"site A\nimage A 1.2.1 1.2.1.1 1.2.1.1.1 P1 DOE^JANE\n\
+    correct A series 1.2.1.1 0008103e HEAD\n\
+    correct A study 1.2.1 0008103e HEAD\n\
+    note A 113037 1.2.1 1.2.9 1.2.1.1.1\n\
+    find A ARCHIVE SERIES 0020000d=1.2.1 0008103e=HE*\n\
+    find A AUDIT SERIES 0020000d=1.2.1 0008103e=HE*\n";
+
+#[test]
+fn an_audit_finds_a_rejected_image_by_its_corrected_series(rt: HostRuntime) -> Result<(), Fail> {
+    let (ended, writer) = answered(rt.alloc(), AUDITED, 100, None, 1000)?;
+    assert_eq!(rt; ended, Ok(7), "all lines");
+    assert_eq!(rt;
+        writer.as_slice(),
+        b"site A 1\nnew\nstamp 1 1\nfault world 6\nnew\nend 0\n\
+        answer 0800520006000000534552494553080054000600000041554449542008003e1004000000484541\
+        4420000d0006000000312e322e310020000e0008000000312e322e312e3100\n\
+        answer 0800520006000000534552494553080054000600000041554449542008003e1000000000\
+        20000d0006000000312e322e310020000e0008000000312e322e392e3000\nend 2\n"
+            .as_slice(),
+        "the image's series, and the note's, whose empty description matches"
+    );
+    Ok(())
+}
+
 #[test]
 fn the_cuts_of_the_reads_do_not_matter(rt: HostRuntime) -> Result<(), Fail> {
     for piece in [1, 7, 100_000].iter().copied() {
@@ -111,6 +136,37 @@ fn a_line_has_65536_bytes_at_most(rt: HostRuntime) -> Result<(), Fail> {
         writer.as_slice(),
         b"site A 1\n".as_slice(),
         "what came before stands"
+    );
+    Ok(())
+}
+
+#[test]
+fn a_hundred_thousand_and_one_lines_are_counted(rt: HostRuntime) -> Result<(), Fail> {
+    let mut script = Vec::from_slice(rt.alloc(), b"site A")?;
+    for _ in 0..100_001u32 {
+        script.push(b'\n')?;
+    }
+    let (ended, writer) = answered(rt.alloc(), script.as_slice(), 4096, None, 100)?;
+    assert_eq!(rt; ended, Ok(100_001), "a line, and 100,000 empty ones");
+    assert_eq!(rt; writer.as_slice(), b"site A 1\n".as_slice(), "its answer");
+    Ok(())
+}
+
+#[test]
+fn the_lines_before_a_long_one_are_answered_where_all_came_at_once(
+    rt: HostRuntime,
+) -> Result<(), Fail> {
+    let mut script = Vec::from_slice(rt.alloc(), b"site A\nsite B\n#")?;
+    for _ in 0..65536u32 {
+        script.push(b'x')?;
+    }
+    script.extend_from_slice(b"\nsite C\n")?;
+    let (ended, writer) = answered(rt.alloc(), script.as_slice(), 100_000, None, 100)?;
+    assert_eq!(rt; ended, Err(SimFault::LongLine), "a line of 65,537 bytes");
+    assert_eq!(rt;
+        writer.as_slice(),
+        b"site A 1\nsite B 2\n".as_slice(),
+        "the two lines before it, and none behind it"
     );
     Ok(())
 }

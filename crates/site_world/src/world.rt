@@ -1,13 +1,17 @@
 //! Several sites.
 
-ghost use Rattle.std.specs.Prelude.{◌≡◌, ◌<◌, ◌≤◌, ◌↔◌, List, ℕ, Ok, Err, Some, None, OnErr, IfOk, length, replicate};
+ghost use Rattle.std.specs.Prelude.{◌≡◌, ◌<◌, ◌≤◌, ◌↔◌, List, ℕ, Ok, Err, Some, None, OnErr, IfOk};
+ghost use Rattle.std.specs.Prelude.{IfErr, length, replicate};
 ghost use Rattle.std.specs.Result.{IsErrOf};
 ghost use Rattle.std.specs.Option.{option_copied};
 ghost use Rattle.std.specs.FinMap as finmap;
 ghost use Rattle.operation.specs.declared.op.Op.{Op};
 ghost use Rattle.site_state.specs.Site.{Map};
-ghost use Rattle.site_world.specs.Steps.{fault_of_site, IsTaken, IsTold, Happens, site_at, told_of_taking, told_of_stamping, taken_by, told_of_correcting, made_at, title_of as title_of_view, told_of_looking};
-ghost use Rattle.site_world.specs.Runs.{IsOutcome};
+ghost use Rattle.site_world.specs.Steps.{fault_of_site, IsTaken, IsTold, Happens, site_at};
+ghost use Rattle.site_world.specs.Steps.{told_of_taking, told_of_stamping, taken_by};
+ghost use Rattle.site_world.specs.Steps.{told_of_correcting, made_at, title_of as title_of_view};
+ghost use Rattle.site_world.specs.Steps.{told_of_looking};
+ghost use Rattle.site_world.specs.Runs.{Outcome, IsNew, Headline};
 
 use crate::fault::WorldFault;
 use crate::step::{Seen, Step};
@@ -16,7 +20,7 @@ use archive_query::{Query, find};
 use octets::{ListOf, Octets};
 use operation::{Op, Stamp, Target, correction_of};
 use site_state::{Site, SiteFault, Taken};
-use std::alloc::Global;
+use std::alloc::{AllocError, Global};
 use std::marker::Model;
 
 /// How many sites a world may have.
@@ -93,7 +97,8 @@ fn correct_at(
     tag: u32,
     value: Octets,
 ) -> Result<Seen, WorldFault>
-    ensures { IsTold site.old (told_of_correcting site.old (made_at number site.old target tag value)) result site.new }
+    ensures { IsTold site.old
+        (told_of_correcting site.old (made_at number site.old target tag value)) result site.new }
 {
     let top = site.top_counter();
     let stamp = Stamp {
@@ -116,6 +121,7 @@ fn title_of(view: View) -> &'static [u8]
     match view {
         View::Archive => b"ARCHIVE",
         View::Quality => b"QUALITY",
+        View::Audit => b"AUDIT",
     }
 }
 
@@ -132,6 +138,7 @@ impl World {
     pub fn new(alloc: Global, sites: usize) -> Result<World, WorldFault>
         ensures empty { IfOk result (λ world. world ≡ replicate sites finmap.empty) }
         ensures no_site { IsErrOf result WorldFault.NoSite ↔ (16 < sites) }
+        ensures memory { sites ≤ 16 → IfErr result (λ fault. fault ≡ WorldFault.Memory) }
     {
         if sites > MOST_SITES {
             return Err(WorldFault::NoSite);
@@ -207,10 +214,16 @@ impl World {
         }
     }
 
-    /// All of the steps, in order, and what each was answered. Where the list of answers is
-    /// refused, nothing was done.
-    pub fn run(&mut self, steps: &[Step]) -> Result<Vec<Result<Seen, WorldFault>>, WorldFault>
-        ensures run { IfOk result (λ answers. IsOutcome self.old steps.now answers.items self.new) }
+    /// All of the steps, in order, and what each was answered. It is refused for want of memory for
+    /// the list of answers alone, and then nothing was done.
+    ///
+    /// The headline: in a new world, two sites at which the same operations were taken, in whatever
+    /// order and however often, hold the same and answer every query in every view alike.
+    pub fn run(&mut self, steps: &[Step]) -> Result<Vec<Result<Seen, WorldFault>>, AllocError>
+        ensures outcome { IfOk result (λ answers.
+            Outcome self.old steps.now answers.items self.new) }
+        ensures headline { IfOk result (λ answers. IsNew self.old →
+            Headline steps.now answers.items self.new) }
         ensures refused { OnErr result (self.new ≡ self.old) }
     {
         let mut answers = Vec::with_capacity(self.alloc, steps.len())?;

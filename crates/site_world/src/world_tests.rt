@@ -1,6 +1,6 @@
 //! Worlds whose sites take images, notes and corrections, in whatever order.
 
-use crate::{Seen, Step, World};
+use crate::{Seen, Step, World, WorldFault};
 use archive_model::View;
 use archive_query::Query;
 use bytes::Bytes;
@@ -242,5 +242,35 @@ fn a_correction_before_its_image_is_matched(rt: HostRuntime) -> Result<(), Fail>
     assert_eq!(rt; found, Some(1), "found by the corrected name");
     let stored = rows(&mut world, rt.alloc(), 1, View::Archive, DOE)?;
     assert_eq!(rt; stored, Some(0), "and not by the stored one");
+    Ok(())
+}
+
+#[test]
+fn a_run_does_its_steps_in_order_and_goes_on_after_a_refusal(rt: HostRuntime) -> Result<(), Fail> {
+    let mut world = two_sites(rt.alloc())?;
+    let mut steps = Vec::new(rt.alloc());
+    let givens = [
+        (1, JANE),
+        (3, JANE),
+        (2, SAFETY),
+        (1, SAFETY),
+        (1, JANE),
+        (2, JANE),
+    ];
+    for (site, given) in givens.iter().copied() {
+        steps.push(step_of(rt.alloc(), site, given)?)?;
+    }
+    let answers = world.run(steps.as_slice())?;
+    let words = ["new", "no site", "new", "new", "known", "new"];
+    assert_eq!(rt; answers.len(), words.len(), "an answer a step");
+    for i in 0..words.len() {
+        let told = match &answers[i] {
+            Ok(seen) => word_of(seen),
+            Err(WorldFault::NoSite) => "no site",
+            Err(_) => "fault",
+        };
+        assert_eq!(rt; told, words[i], "the answer of step {i}");
+    }
+    assert!(rt; are_same(&world), "both sites took the same");
     Ok(())
 }

@@ -2,3 +2,4 @@ pub mod Lawful
 pub mod Openings
 pub mod Runs
 pub mod Spaces
+pub mod Handing

@@ -1,5 +1,5 @@
 -- What an event is to the machine, and what is sent on it.
-use Rattle.std.specs.Prelude.{List, Option, Some, None, Result, Ok, Err, option_to_list, ⊤}
+use Rattle.std.specs.Prelude.{List, [], ◌∷◌, Option, Some, None, Result, Ok, Err, option_to_list, ⊤}
 use Rattle.pdu.specs.declared.value.Pdu.{Pdu}
 use Rattle.pdu.specs.declared.value.Pdu.TheVariants as pdus
 use Rattle.pdu.specs.declared.fault.PduFault.{PduFault}
@@ -21,7 +21,7 @@ use Rattle.ul_state.specs.declared.acceptor.Settled.{Settled}
 use Rattle.ul_state.specs.Titles.{without_spaces}
 use Rattle.ul_state.specs.Answer.{accept_for, contexts_for}
 use Rattle.ul_state.specs.Decision.{value_for}
-use Rattle.ul_state.specs.Table.{action_of, provider_reason}
+use Rattle.ul_state.specs.Table.{action_of, next_of, provider_reason}
 
 -- ---- the kind of an event
 
@@ -79,10 +79,21 @@ action_for does.AbortAsProvider kind titles event = Some (actions.Send (pdus.Abo
 action_for does.HandOn kind titles event = hand_for event
 action_for does.Close kind titles event = Some actions.Close
 
--- what is asked of the caller on an event: the row's action
+-- what is asked of the caller on an event, where anything is: the row's action
+abbrev pub action_on : {V : Type 0} → State → List (Title V) → Event → Option Action
+action_on state titles event = action_for (action_of state (kind_for titles event)) (kind_for titles event) titles event
+
 abbrev pub actions_for : {V : Type 0} → State → List (Title V) → Event → List Action
-actions_for state titles event =
-    option_to_list (action_for (action_of state (kind_for titles event)) (kind_for titles event) titles event)
+actions_for state titles event = option_to_list (action_on state titles event)
+
+-- where an event leads
+abbrev pub state_on : {V : Type 0} → State → List (Title V) → Event → State
+state_on state titles event = next_of state (kind_for titles event)
+
+-- where events lead, one after another
+abbrev pub state_after_events : {V : Type 0} → State → List (Title V) → List Event → State
+state_after_events state titles [] = state
+state_after_events state titles (event ∷ events) = state_after_events (state_on state titles event) titles events
 
 -- ---- what can be written
 

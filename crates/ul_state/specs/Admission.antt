@@ -2,7 +2,8 @@
 use Rattle.std.specs.Prelude.{ℕ, ◌%◌, Bool, not, List, ◌==◌, ◌&&◌, nat_lt, Option, Some, None, Result, Ok, Err, if◌then◌else◌}
 use Rattle.pdu.specs.declared.request.Request.{Request}
 use Rattle.pdu.specs.declared.reject.Reject.{Reject}
-use Rattle.ul_state.specs.declared.admission.TheConstants.{APPLICATION_CONTEXT_NAME, LEAST_MAXIMUM}
+use Rattle.dictionary.specs.declared.uids.TheConstants.{APPLICATION_CONTEXT_NAME}
+use Rattle.ul_state.specs.declared.admission.TheConstants.{LEAST_MAXIMUM}
 use Rattle.ul_state.specs.Titles.{is_text}
 
 -- bit 0 is version 1 (PS3.8, 9.3.2)

@@ -8,7 +8,8 @@ use Rattle.pdu.specs.declared.context.AnsweredContext.{AnsweredContext}
 use Rattle.pdu.specs.declared.context.Context.{Context}
 use Rattle.pdu.specs.declared.request.Request.{Request}
 use Rattle.pdu.specs.declared.accept.Accept.{Accept}
-use Rattle.ul_state.specs.declared.answer.TheConstants.{IMPLICIT, EXPLICIT, VERIFICATION, STUDY_ROOT_FIND, STUDY_ROOT_GET, STORAGE_ROOT, IMPLEMENTATION_CLASS, MAXIMUM_LENGTH, ACCEPTANCE, NO_ABSTRACT_SYNTAX, NO_TRANSFER_SYNTAX}
+use Rattle.dictionary.specs.declared.uids.TheConstants.{VERIFICATION, STUDY_ROOT_FIND, STUDY_ROOT_GET, STORAGE_ROOT, IMPLICIT_VR_LITTLE_ENDIAN, EXPLICIT_VR_LITTLE_ENDIAN}
+use Rattle.ul_state.specs.declared.answer.TheConstants.{IMPLEMENTATION_CLASS, MAXIMUM_LENGTH, ACCEPTANCE, NO_ABSTRACT_SYNTAX, NO_TRANSFER_SYNTAX}
 use Rattle.ul_state.specs.Titles.{is_text}
 
 -- an ID of one byte, as its type keeps
@@ -16,8 +17,8 @@ abbrev pub HasByteId : ProposedContext → Type 0
 HasByteId context = context.id < 256
 
 -- verification, Study Root FIND and GET
-unfoldable pub is_query : List ℕ → Bool
-is_query class = is_text class VERIFICATION || is_text class STUDY_ROOT_FIND || is_text class STUDY_ROOT_GET
+unfoldable pub is_verification_or_query : List ℕ → Bool
+is_verification_or_query class = is_text class VERIFICATION || is_text class STUDY_ROOT_FIND || is_text class STUDY_ROOT_GET
 
 unfoldable pub is_storage : List ℕ → Bool
 is_storage class = starts_with nat_eq class STORAGE_ROOT
@@ -48,8 +49,8 @@ or_refused (Some explicit) = Ok explicit
 -- whether the explicit syntax is taken for a context, or the number of its refusal
 unfoldable pub taken_syntax : List Role → ProposedContext → Result Bool ℕ
 taken_syntax roles context =
-    if not (is_query context.abstract_syntax) && not (is_storage context.abstract_syntax) then Err NO_ABSTRACT_SYNTAX
-    else or_refused (chosen (has_scp_role roles context.abstract_syntax) (proposes context.transfer_syntaxes IMPLICIT) (proposes context.transfer_syntaxes EXPLICIT))
+    if not (is_verification_or_query context.abstract_syntax) && not (is_storage context.abstract_syntax) then Err NO_ABSTRACT_SYNTAX
+    else or_refused (chosen (has_scp_role roles context.abstract_syntax) (proposes context.transfer_syntaxes IMPLICIT_VR_LITTLE_ENDIAN) (proposes context.transfer_syntaxes EXPLICIT_VR_LITTLE_ENDIAN))
 
 -- the number of an answer and the syntax that it names
 abbrev pub answer_number : Result Bool ℕ → ℕ
@@ -57,9 +58,9 @@ answer_number (Ok explicit) = ACCEPTANCE
 answer_number (Err number) = number
 
 abbrev pub answer_syntax : Result Bool ℕ → List ℕ
-answer_syntax (Ok true) = EXPLICIT
-answer_syntax (Ok false) = IMPLICIT
-answer_syntax (Err number) = IMPLICIT
+answer_syntax (Ok true) = EXPLICIT_VR_LITTLE_ENDIAN
+answer_syntax (Ok false) = IMPLICIT_VR_LITTLE_ENDIAN
+answer_syntax (Err number) = IMPLICIT_VR_LITTLE_ENDIAN
 
 unfoldable pub answered : List Role → ProposedContext → AnsweredContext
 answered roles context = record { id = context.id; result = answer_number (taken_syntax roles context); transfer_syntax = answer_syntax (taken_syntax roles context) }

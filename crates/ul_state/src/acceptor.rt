@@ -5,8 +5,7 @@ ghost use Rattle.std.specs.Option.{option_copied};
 ghost use Rattle.pdu.specs.declared.value.Pdu.TheVariants.{Abort};
 ghost use Rattle.ul_state.specs.declared.event.Action.TheVariants.{Send};
 ghost use Rattle.ul_state.specs.declared.table.State.TheVariants.{Sta2};
-ghost use Rattle.ul_state.specs.Table.{next_of};
-ghost use Rattle.ul_state.specs.Acceptor.{kind_for, kind_for_pdu, acceptance_for, rejection_for, hand_for, action_for, actions_for, settled_for, settled_by, HasLawfulPdu, CanBeWritten};
+ghost use Rattle.ul_state.specs.Acceptor.{kind_for, kind_for_pdu, acceptance_for, rejection_for, hand_for, action_for, actions_for, state_on, settled_for, settled_by, HasLawfulPdu, CanBeWritten};
 
 use crate::answer::{accept_of, contexts_of};
 use crate::decision::admission;
@@ -61,12 +60,13 @@ impl<V: Copy> Acceptor<V> {
         self.settled.as_ref()
     }
 
-    /// Takes one event. What is done, and the next state, are those of the table's row.
+    /// Takes one event. What is done, and the next state, are those of the table's row: at most one
+    /// action, and for a P-DATA-TF of an association its values, be they none or many.
     pub fn on(&mut self, titles: &Titles<V>, event: Event) -> Result<ListOf<Action>, AllocError>
         ensures done { IfOk result (λ actions.
             actions ≡ actions_for self.old.state titles.now.list event) }
         ensures next { OnOk result (self.new.state
-            ≡ next_of self.old.state (kind_for titles.now.list event)) }
+            ≡ state_on self.old.state titles.now.list event) }
         ensures settled { OnOk result (self.new.settled
             ≡ settled_by self.old.state titles.now.list event self.old.settled) }
         ensures refused { OnErr result (self.new ≡ self.old) }

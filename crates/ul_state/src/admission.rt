@@ -3,10 +3,8 @@
 ghost use Rattle.std.specs.Prelude.{◌≡◌};
 ghost use Rattle.ul_state.specs.Admission.{is_version_one, is_known_context, is_too_short, refused, admitted};
 
+use dictionary::APPLICATION_CONTEXT_NAME;
 use pdu::{Reject, Request};
-
-/// The DICOM application context name (PS3.7, annex A).
-pub(crate) const APPLICATION_CONTEXT_NAME: [u8; 21] = *b"1.2.840.10008.3.1.1.1";
 
 /// A PDV takes six bytes beside its fragment, and a fragment of even length two or more.
 pub(crate) const LEAST_MAXIMUM: u32 = 8;
@@ -17,6 +15,7 @@ fn has_version_one(version: u16) -> bool
     version % 2 == 1
 }
 
+/// Whether it is the DICOM application context name (PS3.7, annex A).
 #[tactic(auto, unfolding(crate::specs::Admission::is_known_context))]
 fn has_known_context(name: &[u8]) -> bool
     ensures { result ≡ is_known_context name.now }

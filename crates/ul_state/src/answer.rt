@@ -3,32 +3,18 @@
 ghost use Rattle.std.specs.Prelude.{◌≡◌, map, filter, IfOk, OnOk};
 ghost use Rattle.std.specs.List.{AllByRecursion};
 ghost use Rattle.pdu.specs.Spelling.{FitsRequest, FitsAccept};
-ghost use Rattle.ul_state.specs.Answer.{is_query, is_storage, has_scp, has_scp_role, proposes, chosen, taken_syntax, answered, accepted, opening_back, accept_for, contexts_for, HasByteId};
+ghost use Rattle.ul_state.specs.Answer.{is_verification_or_query, is_storage, has_scp, has_scp_role, proposes, chosen, taken_syntax, answered, accepted, opening_back, accept_for, contexts_for, HasByteId};
 
+use dictionary::{
+    EXPLICIT_VR_LITTLE_ENDIAN, IMPLICIT_VR_LITTLE_ENDIAN, STORAGE_ROOT, STUDY_ROOT_FIND,
+    STUDY_ROOT_GET, VERIFICATION,
+};
 use octets::{ListOf, Octets};
 use pdu::{
     Accept, AnsweredContext, Context, Contexts, Opening, ProposedContext, Request, Role,
     UserInformation,
 };
 use std::alloc::{AllocError, Global};
-
-/// Implicit VR Little Endian (PS3.5, section A.1).
-pub(crate) const IMPLICIT: [u8; 17] = *b"1.2.840.10008.1.2";
-
-/// Explicit VR Little Endian (PS3.5, section A.2).
-pub(crate) const EXPLICIT: [u8; 19] = *b"1.2.840.10008.1.2.1";
-
-/// Verification (PS3.4, annex A).
-pub(crate) const VERIFICATION: [u8; 17] = *b"1.2.840.10008.1.1";
-
-/// Study Root Query/Retrieve, FIND (PS3.4, section C.6).
-pub(crate) const STUDY_ROOT_FIND: [u8; 27] = *b"1.2.840.10008.5.1.4.1.2.2.1";
-
-/// Study Root Query/Retrieve, GET (PS3.4, section C.6).
-pub(crate) const STUDY_ROOT_GET: [u8; 27] = *b"1.2.840.10008.5.1.4.1.2.2.3";
-
-/// Each class below this root counts as one of Storage (docs/DECISIONS.md, "Storage classes").
-pub(crate) const STORAGE_ROOT: [u8; 24] = *b"1.2.840.10008.5.1.4.1.1.";
 
 /// The implementation class UID of this archive.
 pub(crate) const IMPLEMENTATION_CLASS: [u8; 11] = *b"2.25.113001";
@@ -45,16 +31,18 @@ pub(crate) const NO_ABSTRACT_SYNTAX: u8 = 3;
 /// None of the transfer syntaxes is supported.
 pub(crate) const NO_TRANSFER_SYNTAX: u8 = 4;
 
-#[tactic(auto, unfolding(crate::specs::Answer::is_query))]
-fn is_query_class(class: &[u8]) -> bool
-    ensures { result ≡ is_query class.now }
+/// Whether a class is Verification (PS3.4, annex A), or Study Root FIND or GET (PS3.4, section C.6).
+#[tactic(auto, unfolding(crate::specs::Answer::is_verification_or_query))]
+fn is_of_verification_or_query(class: &[u8]) -> bool
+    ensures { result ≡ is_verification_or_query class.now }
 {
     class == VERIFICATION.as_slice()
         || class == STUDY_ROOT_FIND.as_slice()
         || class == STUDY_ROOT_GET.as_slice()
 }
 
-/// Whether a class counts as one of Storage (docs/DECISIONS.md, "Storage classes").
+/// Whether a class counts as one of Storage: each below the root does (docs/DECISIONS.md, "Storage
+/// classes").
 #[tactic(auto, unfolding(crate::specs::Answer::is_storage))]
 pub fn is_storage_class(class: &[u8]) -> bool
     ensures { result ≡ is_storage class.now }
@@ -105,12 +93,18 @@ fn take_syntax(roles: &[Role], context: &ProposedContext) -> Result<bool, u8>
     ensures { result ≡ taken_syntax roles.now context.now }
 {
     let class = context.abstract_syntax.as_slice();
-    if !is_query_class(class) && !is_storage_class(class) {
+    if !is_of_verification_or_query(class) && !is_storage_class(class) {
         return Err(NO_ABSTRACT_SYNTAX);
     }
     let implicit_first = takes_scp_role(roles, class);
-    let implicit = is_proposed(context.transfer_syntaxes.as_slice(), IMPLICIT.as_slice());
-    let explicit = is_proposed(context.transfer_syntaxes.as_slice(), EXPLICIT.as_slice());
+    let implicit = is_proposed(
+        context.transfer_syntaxes.as_slice(),
+        IMPLICIT_VR_LITTLE_ENDIAN.as_slice(),
+    );
+    let explicit = is_proposed(
+        context.transfer_syntaxes.as_slice(),
+        EXPLICIT_VR_LITTLE_ENDIAN.as_slice(),
+    );
     match choose(implicit_first, implicit, explicit) {
         Some(explicit) => Ok(explicit),
         None => Err(NO_TRANSFER_SYNTAX),
@@ -129,9 +123,18 @@ fn answer(
 {
     let id = context.id;
     let (number, syntax) = match take_syntax(roles, context) {
-        Ok(true) => (ACCEPTANCE, Octets::from_slice(alloc, EXPLICIT.as_slice())?),
-        Ok(false) => (ACCEPTANCE, Octets::from_slice(alloc, IMPLICIT.as_slice())?),
-        Err(number) => (number, Octets::from_slice(alloc, IMPLICIT.as_slice())?),
+        Ok(true) => (
+            ACCEPTANCE,
+            Octets::from_slice(alloc, EXPLICIT_VR_LITTLE_ENDIAN.as_slice())?,
+        ),
+        Ok(false) => (
+            ACCEPTANCE,
+            Octets::from_slice(alloc, IMPLICIT_VR_LITTLE_ENDIAN.as_slice())?,
+        ),
+        Err(number) => (
+            number,
+            Octets::from_slice(alloc, IMPLICIT_VR_LITTLE_ENDIAN.as_slice())?,
+        ),
     };
     Ok(AnsweredContext {
         id,

@@ -9,6 +9,8 @@ mod admission;
 mod answer;
 mod decision;
 mod event;
+mod laws;
+mod numbers;
 mod table;
 #[cfg(test)]
 mod tests;
@@ -18,6 +20,11 @@ pub use acceptor::{Acceptor, Settled};
 pub use answer::is_storage_class;
 pub use decision::{Decision, negotiate};
 pub use event::{Action, Event};
+pub use laws::{
+    a_p_data_is_handed_on_whole, a_p_data_is_ignored_after_goodbye,
+    no_event_after_goodbye_hands_on, only_a_p_data_of_an_association_is_handed_on,
+};
+pub use numbers::acceptances_say_these;
 pub use table::{
     State, accepts_nothing_after_an_acceptance, answers_once, never_hands_on_after_goodbye,
     never_hands_on_before_an_acceptance,

@@ -4,8 +4,9 @@ ghost use Rattle.std.specs.Prelude.{IfOk};
 ghost use Rattle.pdu.specs.Spelling.{IsPdu};
 
 use super::*;
+use bytes::Bytes;
 use octets::{ListOf, Octets};
-use pdu::{Accept, Context, Pdu, PduFault, Step, read_pdu, write_pdu};
+use pdu::{Accept, Context, Pdu, PduFault, Pdv, Step, read_pdu, write_pdu};
 use std::alloc::{AllocError, Global};
 use std::process::Abort;
 use std::test::Fail;
@@ -122,43 +123,98 @@ fn a_rejection_is_written(rt: HostRuntime) -> Result<(), Fail> {
     Ok(())
 }
 
-#[test]
-fn a_known_title_is_accepted(rt: HostRuntime) -> Result<(), Fail> {
-    let items: [&[u8]; 3] = [CONTEXT_NAME, VERIFICATION, USER];
-    let told = answered(rt.alloc(), 1, b"ARCHIVE         ", &items)?;
-    assert_eq!(rt; told, [0, 0, 1], "the first of two equal titles counts");
-    let told = answered(rt.alloc(), 3, b"  QUALITY       ", &items)?;
-    assert_eq!(rt;
-        told,
+// Another application context.
+const OTHER_NAME: &[u8] = b"\x10\x00\x00\x051.2.3";
+
+// Maximum lengths of 7, 8 and 70,000 bytes, and none.
+const SEVEN: &[u8] = b"\x50\x00\x00\x08\x51\x00\x00\x04\x00\x00\x00\x07";
+
+const EIGHT: &[u8] = b"\x50\x00\x00\x08\x51\x00\x00\x04\x00\x00\x00\x08";
+
+const ABOVE_OURS: &[u8] = b"\x50\x00\x00\x08\x51\x00\x00\x04\x00\x01\x11\x70";
+
+const NO_LIMIT: &[u8] = b"\x50\x00\x00\x00";
+
+const ARCHIVE: &[u8] = b"ARCHIVE         ";
+
+const QUALITY: &[u8] = b"  QUALITY       ";
+
+const NOBODY: &[u8] = b"NOBODY          ";
+
+/// Requests by version, title, application context and user information, and what they are
+/// answered.
+const REQUESTS: [(&str, u8, &[u8], &[u8], &[u8], [u8; 3]); 9] = [
+    (
+        "the first of equal titles",
+        1,
+        ARCHIVE,
+        CONTEXT_NAME,
+        USER,
+        [0, 0, 1],
+    ),
+    (
+        "outer spaces, other version bits",
+        3,
+        QUALITY,
+        CONTEXT_NAME,
+        USER,
         [0, 0, 2],
-        "outer spaces are dropped, other version bits not tested"
-    );
-    Ok(())
-}
+    ),
+    (
+        "the version before all",
+        2,
+        NOBODY,
+        OTHER_NAME,
+        USER,
+        [1, 2, 2],
+    ),
+    (
+        "the context before the title",
+        1,
+        NOBODY,
+        OTHER_NAME,
+        USER,
+        [1, 1, 2],
+    ),
+    ("an unknown title", 1, NOBODY, CONTEXT_NAME, USER, [1, 1, 7]),
+    (
+        "a limit in which nothing fits",
+        1,
+        ARCHIVE,
+        CONTEXT_NAME,
+        SEVEN,
+        [1, 1, 1],
+    ),
+    (
+        "a limit of 8 bytes",
+        1,
+        ARCHIVE,
+        CONTEXT_NAME,
+        EIGHT,
+        [0, 0, 1],
+    ),
+    (
+        "a limit above our own",
+        1,
+        ARCHIVE,
+        CONTEXT_NAME,
+        ABOVE_OURS,
+        [0, 0, 1],
+    ),
+    ("no limit", 1, ARCHIVE, CONTEXT_NAME, NO_LIMIT, [0, 0, 1]),
+];
 
 #[test]
-fn the_first_refusal_is_told(rt: HostRuntime) -> Result<(), Fail> {
-    let other = b"\x10\x00\x00\x051.2.3";
-    let told = answered(rt.alloc(), 2, b"NOBODY          ", &[other, USER])?;
-    assert_eq!(rt; told, [1, 2, 2], "the version before all");
-    let told = answered(rt.alloc(), 1, b"NOBODY          ", &[other, USER])?;
-    assert_eq!(rt; told, [1, 1, 2], "the application context before the title");
-    let told = answered(rt.alloc(), 1, b"NOBODY          ", &[CONTEXT_NAME, USER])?;
-    assert_eq!(rt; told, [1, 1, 7], "an unknown title");
-    Ok(())
-}
-
-#[test]
-fn a_limit_in_which_nothing_fits_is_refused(rt: HostRuntime) -> Result<(), Fail> {
-    let seven = b"\x50\x00\x00\x08\x51\x00\x00\x04\x00\x00\x00\x07";
-    let told = answered(rt.alloc(), 1, b"ARCHIVE         ", &[CONTEXT_NAME, seven])?;
-    assert_eq!(rt; told, [1, 1, 1], "7 bytes");
-    let eight = b"\x50\x00\x00\x08\x51\x00\x00\x04\x00\x00\x00\x08";
-    let told = answered(rt.alloc(), 1, b"ARCHIVE         ", &[CONTEXT_NAME, eight])?;
-    assert_eq!(rt; told, [0, 0, 1], "8 bytes");
-    let none = b"\x50\x00\x00\x00";
-    let told = answered(rt.alloc(), 1, b"ARCHIVE         ", &[CONTEXT_NAME, none])?;
-    assert_eq!(rt; told, [0, 0, 1], "no limit");
+fn requests_are_answered_with_the_first_refusal(rt: HostRuntime) -> Result<(), Fail> {
+    for (name, version, title, context_name, user, expected) in REQUESTS {
+        let told = answered(
+            rt.alloc(),
+            version,
+            title,
+            &[context_name, VERIFICATION, user],
+        )?;
+        assert_eq!(rt; told, expected, "{name}");
+    }
     Ok(())
 }
 
@@ -178,6 +234,14 @@ const CONTEXTS: &[u8] = b"\x20\x00\x00\x4d\x03\x00\x00\x00\
     \x30\x00\x00\x1b1.2.840.10008.5.1.4.1.2.2.1\
     \x40\x00\x00\x111.2.840.10008.1.2\
     \x40\x00\x00\x131.2.840.10008.1.2.1";
+
+// Study Root GET on context 1, and Study Root MOVE on context 3.
+const RETRIEVES: &[u8] = b"\x20\x00\x00\x38\x01\x00\x00\x00\
+    \x30\x00\x00\x1b1.2.840.10008.5.1.4.1.2.2.3\
+    \x40\x00\x00\x111.2.840.10008.1.2\
+    \x20\x00\x00\x38\x03\x00\x00\x00\
+    \x30\x00\x00\x1b1.2.840.10008.5.1.4.1.2.2.2\
+    \x40\x00\x00\x111.2.840.10008.1.2";
 
 // Roles for CT Image Storage, SCP and SCU, and for verification.
 const ROLES: &[u8] = b"\x50\x00\x00\x3a\
@@ -206,115 +270,155 @@ fn told(
 
 fn good_request(alloc: Global) -> Result<Event, PduFault> {
     let items: [&[u8]; 3] = [CONTEXT_NAME, VERIFICATION, USER];
-    Ok(Event::Got(request(alloc, 1, b"ARCHIVE         ", &items)?))
+    Ok(Event::Got(request(alloc, 1, ARCHIVE, &items)?))
 }
 
-fn peer_aborts() -> Event {
-    Event::Got(Pdu::Abort {
-        source: 0,
-        reason: 0,
-    })
+/// A P-DATA-TF with values on these contexts.
+fn data(alloc: Global, contexts: &[u8]) -> Result<Event, AllocError> {
+    let mut values = ListOf::new(alloc);
+    for context in contexts {
+        values.push(Pdv {
+            context: *context,
+            command: true,
+            last: false,
+            fragment: Bytes::copy_from_slice(alloc, b"")?,
+        })?;
+    }
+    Ok(Event::Got(Pdu::PData(values)))
 }
 
-fn data(alloc: Global) -> Event {
-    Event::Got(Pdu::PData(ListOf::new(alloc)))
+/// An event by a letter: Q a request, N one of an unknown title, D data, R a release request, B an
+/// abort, U a PDU of an unknown type, L one that is too long, E the stream's end, X a local abort.
+fn event(alloc: Global, letter: u8) -> Result<Event, Fail> {
+    let event = match letter {
+        b'Q' => good_request(alloc)?,
+        b'N' => Event::Got(request(alloc, 1, NOBODY, &[CONTEXT_NAME, USER])?),
+        b'D' => data(alloc, &[1])?,
+        b'R' => Event::Got(Pdu::ReleaseRq),
+        b'B' => Event::Got(Pdu::Abort {
+            source: 0,
+            reason: 0,
+        }),
+        b'U' => Event::Bad(PduFault::UnknownType),
+        b'L' => Event::Bad(PduFault::TooLong),
+        b'E' => Event::Ended,
+        _ => Event::LocalAbort,
+    };
+    Ok(event)
 }
 
-#[test]
-fn an_unexpected_first_pdu_is_answered_by_an_abort(rt: HostRuntime) -> Result<(), Fail> {
-    let alloc = rt.alloc();
+/// An event, what is asked on it, and where it leads.
+type Row = (u8, (u8, u8, u8, State));
+
+/// Events one after another, from Sta2.
+const RUNS: [(&str, &[Row]); 7] = [
+    (
+        "an unexpected first PDU",
+        &[
+            (b'R', (b'B', 0, 0, State::Sta13)),
+            (b'R', (b'-', 0, 0, State::Sta13)),
+            (b'E', (b'C', 0, 0, State::Sta1)),
+        ],
+    ),
+    (
+        "a faulty first PDU",
+        &[
+            (b'U', (b'B', 0, 0, State::Sta13)),
+            (b'L', (b'B', 2, 6, State::Sta13)),
+            (b'Q', (b'B', 2, 2, State::Sta13)),
+        ],
+    ),
+    (
+        "data until a release",
+        &[
+            (b'Q', (b'A', 0, 0, State::Sta6)),
+            (b'D', (b'H', 0, 0, State::Sta6)),
+            (b'R', (b'R', 0, 0, State::Sta13)),
+            (b'D', (b'-', 0, 0, State::Sta13)),
+        ],
+    ),
+    (
+        "a second request",
+        &[
+            (b'Q', (b'A', 0, 0, State::Sta6)),
+            (b'Q', (b'B', 2, 2, State::Sta13)),
+        ],
+    ),
+    (
+        "an unknown PDU",
+        &[
+            (b'Q', (b'A', 0, 0, State::Sta6)),
+            (b'U', (b'B', 2, 1, State::Sta13)),
+            (b'B', (b'C', 0, 0, State::Sta1)),
+            (b'Q', (b'-', 0, 0, State::Sta1)),
+        ],
+    ),
+    (
+        "a local abort",
+        &[
+            (b'X', (b'-', 0, 0, State::Sta2)),
+            (b'Q', (b'A', 0, 0, State::Sta6)),
+            (b'X', (b'B', 0, 0, State::Sta13)),
+        ],
+    ),
+    ("an unknown title", &[(b'N', (b'J', 1, 7, State::Sta13))]),
+];
+
+fn goes(rt: &impl Abort, alloc: Global, name: &str, rows: &[Row]) -> Result<(), Fail> {
     let titles = titles(alloc)?;
     let mut acceptor = Acceptor::new(alloc);
-    let row = told(&mut acceptor, &titles, Event::Got(Pdu::ReleaseRq))?;
-    assert_eq!(rt;
-        row,
-        (b'B', 0, 0, State::Sta13),
-        "a release request in Sta2"
-    );
-    let row = told(&mut acceptor, &titles, Event::Got(Pdu::ReleaseRq))?;
-    assert_eq!(rt; row, (b'-', 0, 0, State::Sta13), "nothing in Sta13");
-    let row = told(&mut acceptor, &titles, Event::Ended)?;
-    assert_eq!(rt; row, (b'C', 0, 0, State::Sta1), "the stream ends");
+    for (letter, row) in rows {
+        let event = event(alloc, *letter)?;
+        let told = told(&mut acceptor, &titles, event)?;
+        assert_eq!(rt; told, *row, "{name}, event {letter}");
+    }
     Ok(())
 }
 
 #[test]
-fn a_faulty_first_pdu_is_answered_by_an_abort(rt: HostRuntime) -> Result<(), Fail> {
+fn events_are_answered_by_the_table(rt: HostRuntime) -> Result<(), Fail> {
+    for (name, rows) in RUNS {
+        goes(&rt, rt.alloc(), name, rows)?;
+    }
+    Ok(())
+}
+
+/// The contexts of the values that are handed on.
+fn handed(
+    alloc: Global,
+    acceptor: &mut Acceptor<u8>,
+    titles: &Titles<u8>,
+    event: Event,
+) -> Result<Vec<u8>, Fail> {
+    let actions = acceptor.on(titles, event)?;
+    let [Action::Hand(values)] = actions.as_slice() else {
+        return Err(Fail::new("handed on"));
+    };
+    let mut contexts = Vec::new(alloc);
+    for value in values.as_slice() {
+        contexts.push(value.context)?;
+    }
+    Ok(contexts)
+}
+
+#[test]
+fn the_values_of_a_p_data_are_handed_on_as_they_came(rt: HostRuntime) -> Result<(), Fail> {
     let alloc = rt.alloc();
     let titles = titles(alloc)?;
     let mut acceptor = Acceptor::new(alloc);
-    let row = told(&mut acceptor, &titles, Event::Bad(PduFault::UnknownType))?;
-    assert_eq!(rt; row, (b'B', 0, 0, State::Sta13), "in Sta2 of the user");
-    let row = told(&mut acceptor, &titles, Event::Bad(PduFault::TooLong))?;
-    assert_eq!(rt; row, (b'B', 2, 6, State::Sta13), "in Sta13 of the provider");
-    let row = told(&mut acceptor, &titles, good_request(alloc)?)?;
-    assert_eq!(rt; row, (b'B', 2, 2, State::Sta13), "a request in Sta13");
+    acceptor.on(&titles, good_request(alloc)?)?;
+    let told = handed(alloc, &mut acceptor, &titles, data(alloc, &[3, 1, 3])?)?;
+    assert_eq!(rt; told.as_slice(), [3, 1, 3].as_slice(), "in their order");
+    let told = handed(alloc, &mut acceptor, &titles, data(alloc, &[])?)?;
+    assert!(rt; told.is_empty(), "also where there is none");
     Ok(())
 }
 
 #[test]
-fn data_is_handed_on_until_a_release(rt: HostRuntime) -> Result<(), Fail> {
-    let alloc = rt.alloc();
-    let titles = titles(alloc)?;
-    let mut acceptor = Acceptor::new(alloc);
-    let row = told(&mut acceptor, &titles, good_request(alloc)?)?;
-    assert_eq!(rt; row, (b'A', 0, 0, State::Sta6), "accepted");
-    let row = told(&mut acceptor, &titles, data(alloc))?;
-    assert_eq!(rt; row, (b'H', 0, 0, State::Sta6), "handed on");
-    let row = told(&mut acceptor, &titles, Event::Got(Pdu::ReleaseRq))?;
-    assert_eq!(rt; row, (b'R', 0, 0, State::Sta13), "released");
-    let row = told(&mut acceptor, &titles, data(alloc))?;
-    assert_eq!(rt; row, (b'-', 0, 0, State::Sta13), "and not handed on");
-    Ok(())
-}
-
-#[test]
-fn a_second_request_is_unexpected(rt: HostRuntime) -> Result<(), Fail> {
-    let alloc = rt.alloc();
-    let titles = titles(alloc)?;
-    let mut acceptor = Acceptor::new(alloc);
-    told(&mut acceptor, &titles, good_request(alloc)?)?;
-    let row = told(&mut acceptor, &titles, good_request(alloc)?)?;
-    assert_eq!(rt; row, (b'B', 2, 2, State::Sta13), "reason 2");
-    Ok(())
-}
-
-#[test]
-fn an_unknown_pdu_has_its_own_reason(rt: HostRuntime) -> Result<(), Fail> {
-    let alloc = rt.alloc();
-    let titles = titles(alloc)?;
-    let mut acceptor = Acceptor::new(alloc);
-    told(&mut acceptor, &titles, good_request(alloc)?)?;
-    let row = told(&mut acceptor, &titles, Event::Bad(PduFault::UnknownType))?;
-    assert_eq!(rt; row, (b'B', 2, 1, State::Sta13), "reason 1");
-    let row = told(&mut acceptor, &titles, peer_aborts())?;
-    assert_eq!(rt; row, (b'C', 0, 0, State::Sta1), "the peer aborts");
-    let row = told(&mut acceptor, &titles, good_request(alloc)?)?;
-    assert_eq!(rt; row, (b'-', 0, 0, State::Sta1), "nothing in Sta1");
-    Ok(())
-}
-
-#[test]
-fn a_local_abort_counts_in_an_association_alone(rt: HostRuntime) -> Result<(), Fail> {
-    let alloc = rt.alloc();
-    let titles = titles(alloc)?;
-    let mut acceptor = Acceptor::new(alloc);
-    let row = told(&mut acceptor, &titles, Event::LocalAbort)?;
-    assert_eq!(rt; row, (b'-', 0, 0, State::Sta2), "in Sta2");
-    told(&mut acceptor, &titles, good_request(alloc)?)?;
-    let row = told(&mut acceptor, &titles, Event::LocalAbort)?;
-    assert_eq!(rt; row, (b'B', 0, 0, State::Sta13), "in Sta6");
-    Ok(())
-}
-
-#[test]
-fn an_unknown_title_is_rejected(rt: HostRuntime) -> Result<(), Fail> {
-    let alloc = rt.alloc();
-    let titles = titles(alloc)?;
-    let mut acceptor = Acceptor::new(alloc);
-    let event = Event::Got(request(alloc, 1, b"NOBODY          ", &[CONTEXT_NAME, USER])?);
-    let row = told(&mut acceptor, &titles, event)?;
-    assert_eq!(rt; row, (b'J', 1, 7, State::Sta13), "not recognized");
+fn a_rejection_settles_nothing(rt: HostRuntime) -> Result<(), Fail> {
+    let titles = titles(rt.alloc())?;
+    let mut acceptor = Acceptor::new(rt.alloc());
+    acceptor.on(&titles, event(rt.alloc(), b'N')?)?;
     assert!(rt; acceptor.accepted().is_none(), "nothing was settled");
     Ok(())
 }
@@ -408,4 +512,23 @@ fn answers_each(rt: &impl Abort, accept: &Accept) {
     let roles = accept.user.roles.as_slice();
     assert_eq!(rt; roles.len(), 1, "the role of the storage class alone");
     assert!(rt; roles[0].scu == 1 && roles[0].scp == 1, "as proposed");
+}
+
+#[test]
+fn a_get_is_served_and_a_move_is_not(rt: HostRuntime) -> Result<(), Fail> {
+    let alloc = rt.alloc();
+    let titles = titles(alloc)?;
+    let items: [&[u8]; 3] = [CONTEXT_NAME, RETRIEVES, USER];
+    let Pdu::AssociateRq(request) = request(alloc, 1, b"ARCHIVE         ", &items)? else {
+        return Err(Fail::new("a request"));
+    };
+    let Decision::Accepted(accept, contexts, _) = negotiate(alloc, &request, &titles)? else {
+        return Err(Fail::new("accepted"));
+    };
+    let answers = accept.contexts.as_slice();
+    assert_eq!(rt; answers.len(), 2, "an answer for each context");
+    assert_eq!(rt; answers[0].result, 0, "GET is accepted");
+    assert_eq!(rt; answers[1].result, 3, "MOVE is an unknown class");
+    assert_eq!(rt; contexts.len(), 1, "one context is used");
+    Ok(())
 }

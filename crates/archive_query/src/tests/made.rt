@@ -128,6 +128,10 @@ pub fn patient(alloc: Global, id: &[u8]) -> Result<Target, Fail> {
     Ok(Target::Patient(Octets::from_slice(alloc, id)?))
 }
 
+pub fn series(alloc: Global, uid: &[u8]) -> Result<Target, Fail> {
+    Ok(Target::Series(Octets::from_slice(alloc, uid)?))
+}
+
 /// A correction of site 1.
 pub fn correction(
     alloc: Global,
@@ -231,11 +235,12 @@ pub fn found(
             return Ok(format!(in alloc; "fault {number}")?);
         }
     };
-    let called = match view {
+    let called: &[u8] = match view {
         View::Archive => b"ARCHIVE",
         View::Quality => b"QUALITY",
+        View::Audit => b"AUDIT",
     };
-    let rows = find(alloc, site, view, called.as_slice(), &query)?;
+    let rows = find(alloc, site, view, called, &query)?;
     let mut text = String::new(alloc);
     for row in &rows {
         text.push_str(spelled(alloc, row)?.as_str())?;

@@ -134,7 +134,7 @@ fn a_hundred_sites_answer_as_the_plain_definitions(rt: HostRuntime) -> Result<()
     let mut answered = 0usize;
     for seed in 0..100u64 {
         let site = some_site(alloc, seed)?;
-        for view in [View::Archive, View::Quality] {
+        for view in [View::Archive, View::Quality, View::Audit] {
             for key in KEYS {
                 let plain = plain_rows(alloc, &site, view, key)?;
                 let found = found_rows(alloc, &site, view, key)?;

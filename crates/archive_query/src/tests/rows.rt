@@ -2,7 +2,7 @@
 
 use crate::tests::made::{
     IMAGE, Image, content, correction, found, found_among, has_lesser_digest, image_of, note,
-    patient, put, query, site_of, study, take_id, take_images,
+    patient, put, query, series, site_of, study, take_id, take_images,
 };
 use archive_model::View;
 use site_state::Site;
@@ -86,6 +86,25 @@ fn what_is_rejected_for_quality_is_shown_to_quality(rt: HostRuntime) -> Result<(
     assert_eq!(rt;
         text.as_str(),
         "080052000600000053545544592008005400080000005155414c4954592020000d0006000000312e322e310020000812020000003220\nend 1",
+        "image and note are counted"
+    );
+    Ok(())
+}
+
+#[test]
+fn audit_shows_what_is_rejected_and_the_note(rt: HostRuntime) -> Result<(), Fail> {
+    let alloc = rt.alloc();
+    let covers: [&[u8]; 1] = [b"1.2.1.1.1"];
+    let ops = vec![in alloc;
+        image_of(alloc, &IMAGE)?,
+        note(alloc, b"113037", b"1.2.9", &covers)?,
+    ]?;
+    let site = site_of(alloc, ops)?;
+    let keys: [(u32, &[u8]); 1] = [(0x0020_1208, b"")];
+    let text = found(alloc, &site, View::Audit, b"STUDY", &keys)?;
+    assert_eq!(rt;
+        text.as_str(),
+        "0800520006000000535455445920080054000600000041554449542020000d0006000000312e322e310020000812020000003220\nend 1",
         "image and note are counted"
     );
     Ok(())
@@ -259,6 +278,27 @@ fn series_are_found_in_the_study_that_is_named(rt: HostRuntime) -> Result<(), Fa
     let keys: [(u32, &[u8]); 2] = [(0x0020_000d, b"1.2.2"), (0x0020_1209, b"")];
     let text = found(alloc, &site, View::Archive, b"SERIES", &keys)?;
     assert_eq!(rt; text.as_str(), "end 0", "another study");
+    Ok(())
+}
+
+#[test]
+fn a_series_is_found_by_its_corrected_description(rt: HostRuntime) -> Result<(), Fail> {
+    let alloc = rt.alloc();
+    let head = series(alloc, b"1.2.1.1")?;
+    let neck = series(alloc, b"1.2.1.2")?;
+    let ops = vec![in alloc;
+        image_of(alloc, &IMAGE)?,
+        correction(alloc, head, 0x0008_103e, b"HEAD", 1)?,
+        correction(alloc, neck, 0x0008_103e, b"NECK", 2)?,
+    ]?;
+    let site = site_of(alloc, ops)?;
+    let keys: [(u32, &[u8]); 2] = [(0x0008_103e, b"HE*"), (0x0020_000d, b"1.2.1")];
+    let text = found(alloc, &site, View::Archive, b"SERIES", &keys)?;
+    assert_eq!(rt;
+        text.as_str(),
+        "08005200060000005345524945530800540008000000415243484956452008003e10040000004845414420000d0006000000312e322e310020000e0008000000312e322e312e3100\nend 1",
+        "of its own series"
+    );
     Ok(())
 }
 

@@ -1,5 +1,5 @@
 use Rattle.std.proofs.Common.{◌≡◌, ◌≤◌, length, drop, map}
-use Rattle.archive_model.specs.Texts.{ascending}
+use Rattle.octets.specs.Texts.{ascending}
 use Rattle.archive_model.proofs.texts.ascending.Given as goal
 
 abbrev pub invariant-loop-left : goal.invariant-loop-left

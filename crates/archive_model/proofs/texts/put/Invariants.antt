@@ -1,5 +1,5 @@
 use Rattle.std.proofs.Common.{◌≡◌, ◌++◌, take, drop}
-use Rattle.archive_model.specs.Texts.{put}
+use Rattle.octets.specs.Texts.{put}
 use Rattle.archive_model.proofs.texts.put.Given as goal
 
 abbrev pub invariant-loop-i : goal.invariant-loop-i

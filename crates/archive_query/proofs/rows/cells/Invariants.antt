@@ -4,7 +4,7 @@ use Rattle.archive_query.specs.Column.{columns}
 use Rattle.archive_query.specs.Rows.{cell_in_row}
 use Rattle.archive_query.proofs.rows.cells.Given as goal
 
-abbrev pub invariant-loop-column : goal.invariant-loop-column
-invariant-loop-column l =
-    l.cells.items ++ filter_map (cell_in_row (map (λ o. o.now) l.ops) l.called l.query (map (λ c. c.now) l.contents) l.first) (drop l.column-index l.column-items)
-    ≡ filter_map (cell_in_row (map (λ o. o.now) l.ops) l.called l.query (map (λ c. c.now) l.contents) l.first) l.column-items
+abbrev pub invariant-loop-tag : goal.invariant-loop-tag
+invariant-loop-tag l =
+    l.cells.items ++ filter_map (cell_in_row (map (λ o. o.now) l.ops) l.called l.query (map (λ c. c.now) l.contents) l.first) (drop l.tag-index l.tag-items)
+    ≡ filter_map (cell_in_row (map (λ o. o.now) l.ops) l.called l.query (map (λ c. c.now) l.contents) l.first) l.tag-items

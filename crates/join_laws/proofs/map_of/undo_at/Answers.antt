@@ -10,7 +10,7 @@ use Rattle.join_laws.proofs.map_of.undo_at.Goals as goal
 pub returns-in-None-clause-back : goal.returns-in-None-clause-back
 returns-in-None-clause-back g c = λ before held takes eq.
     let test = is_at (g.K.Ord.cmp c.args.key.now) in
-    let absent = subst (IsUndoAt g.J.Summary.TakesBack c.args.op.now (lookup test before)) c.in-None.is takes in
+    let absent = subst (IsUndoAt g.J.Undoes.TakesBack c.args.op.now (lookup test before)) c.in-None.is takes in
     c.remove.ensures.entries
     ∙ ap (remove_entry test) eq
     ∙ remove-put_joined g.met.K.Ord.total g.J.Join.joined c.args.key.now (g.J.Summary.of_one c.args.op.now) before absent

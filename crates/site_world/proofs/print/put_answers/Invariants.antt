@@ -4,4 +4,5 @@ use Rattle.site_world.specs.Texts.{answer_line}
 use Rattle.site_world.proofs.print.put_answers.Given as goal
 
 abbrev pub invariant-loop-row : goal.invariant-loop-row
-invariant-loop-row l = l.out.items ++ flat_map answer_line (drop l.row-index l.rows) ≡ l.fn.out.items ++ flat_map answer_line l.rows
+invariant-loop-row l = l.out.items ++ flat_map answer_line (drop l.row-index l.rows)
+    ≡ l.fn.out.items ++ flat_map answer_line l.rows

@@ -4,7 +4,8 @@ use Rattle.site_world.proofs.run.simulate.Given as goal
 
 abbrev pub invariant-loop : goal.invariant-loop
 invariant-loop g l = record {
-  owes : Owes (g.R.Source.remaining l.fn.reader) (g.W.Sink.contents l.fn.writer) (g.R.Source.remaining l.reader) (g.W.Sink.contents l.writer) l.progress;
+  owes : Owes (g.R.Source.remaining l.fn.reader) (g.W.Sink.contents l.fn.writer) (g.R.Source.remaining l.reader)
+      (g.W.Sink.contents l.writer) l.progress;
   took : TookBytes l.counter (g.R.Source.remaining l.fn.reader) (g.R.Source.remaining l.reader);
   read : g.R.Source.failures l.reader ≡ g.R.Source.failures l.fn.reader;
   write : g.W.Sink.failures l.writer ≡ g.W.Sink.failures l.fn.writer;

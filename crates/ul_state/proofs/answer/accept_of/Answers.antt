@@ -4,6 +4,7 @@ use Rattle.ul_state.specs.Answer.{HasByteId, accept_for}
 use Rattle.ul_state.proofs.Lawful.{accept_fits}
 use Rattle.ul_state.proofs.answer.accept_of.Goals as goal
 
+-- Each part of the answer fits its length where the request did.
 pub returns-clause-lawful : goal.returns-clause-lawful
 unfolding accept_for
 returns-clause-lawful c = λ fits.

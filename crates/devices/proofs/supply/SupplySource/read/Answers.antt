@@ -1,6 +1,6 @@
 use Rattle.std.proofs.Common.{◌≡◌, ℕ, ◌+◌, ◌-◌, ◌≤◌, ◌<◌, List, [], min, ◌++◌, take, drop, length, arith, sym, ap, ◌∙◌, drop-drop, length-drop}
 use Rattle.std.proofs.lemmas.List.{take-append-drop, take_all, drop_all}
-use Rattle.devices.specs.Memory.{Device}
+use Rattle.devices.specs.Memory.{Supplied}
 use Rattle.devices.proofs.supply.SupplySource.read.Goals as goal
 
 pub returns-clause-bytes : goal.returns-clause-bytes
@@ -13,7 +13,7 @@ returns-clause-bytes c =
     let put : take n c.put_piece-count.new.buffer ≡ take n (take (length s.bytes - s.taken) rest) = rw c.as_slice.ensures at c.put_piece-count.ensures.put in
     let count : n ≡ min (min (length (take (length s.bytes - s.taken) rest)) (length c.args.buffer.now)) s.piece = rw c.as_slice.ensures at c.put_piece-count.ensures.count in
     let cut : length (take (length s.bytes - s.taken) rest) ≡ length rest = ap (λ (t : List ℕ). length t) whole in
-    let is : rest ≡ c.args.self.now.bytes = ap (λ (d : Device). d.bytes) c.self.view_is in (
+    let is : rest ≡ c.args.self.now.bytes = ap (λ (d : Supplied). d.bytes) c.self.view_is in (
       sym is ∙ sym (take-append-drop n rest) ∙ ap (λ (t : List ℕ). t ++ drop n rest) (sym (put ∙ ap (take n) whole)) ∙ ap (λ (t : List ℕ). take n c.put_piece-count.new.buffer ++ t) (drop-drop n s.taken s.bytes),
       λ none some. drop_all (s.taken + n) s.bytes (omega (arith, long, count, cut, c.self.invariant)),
     )

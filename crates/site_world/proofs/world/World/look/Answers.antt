@@ -2,4 +2,5 @@ use Rattle.site_world.proofs.Worlds.{look_happens}
 use Rattle.site_world.proofs.world.World.look.Goals as goal
 
 pub returns-in-Some : goal.returns-in-Some
-returns-in-Some c = look_happens c.args.self.now c.args.number c.args.view c.args.query.now c.in-Some.site.now c.look_at.result c.in-Some.ensures c.look_at.ensures
+returns-in-Some c = look_happens c.args.self.now c.args.number c.args.view c.args.query.now c.in-Some.site.now
+    c.look_at.result c.in-Some.ensures c.look_at.ensures

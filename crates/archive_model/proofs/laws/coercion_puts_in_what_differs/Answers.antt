@@ -1,0 +1,11 @@
+use Rattle.archive_model.proofs.CoercionLaws.{coerced_has_attributes, coerced_keeps_others, own_is_not_coerced}
+use Rattle.archive_model.proofs.laws.coercion_puts_in_what_differs.Goals as goal
+
+pub returns-clause-attributes : goal.returns-clause-attributes
+returns-clause-attributes c = coerced_has_attributes
+
+pub returns-clause-others : goal.returns-clause-others
+returns-clause-others c = coerced_keeps_others
+
+pub returns-clause-own : goal.returns-clause-own
+returns-clause-own c = own_is_not_coerced

@@ -1,0 +1,3 @@
+pub mod SendingLaws
+pub mod SelectedLaws
+pub mod RetrieveLaws

@@ -1,0 +1,4 @@
+pub mod Accepts
+pub mod Selection
+pub mod Sending
+pub mod Laws

@@ -1,0 +1,23 @@
+//! Answers to C-GET over a site's set of operations (PS3.4, section C.4.3).
+//!
+//! What is sent is what a view shows of a selection, corrected, in a transfer syntax that is
+//! accepted. A data set that needs no change is the stored one, whose bytes are shared with the site.
+#![tactic(auto)]
+
+mod accepts;
+mod getting;
+mod laws;
+mod selected;
+mod selection;
+mod sending;
+#[cfg(test)]
+mod tests;
+
+pub use accepts::{Accepted, Accepts};
+pub use getting::get;
+pub use laws::{
+    same_sites_send_alike, what_is_sent_is_shown, what_is_sent_reads_again_corrected,
+    what_needs_nothing_is_sent_as_it_came,
+};
+pub use selection::Selection;
+pub use sending::Sending;

@@ -1,0 +1,43 @@
+-- How a request is responded (PS3.7, 9.3).
+use Rattle.std.specs.Prelude.{◌≡◌, ◌≤◌, ℕ, false, List, None}
+use Rattle.std.specs.List.{flat_map}
+use Rattle.pdu.specs.declared.value.Pdu.{Pdu}
+use Rattle.pdu.specs.Spelling.{text_of}
+use Rattle.dimse.specs.declared.command.Command.{Command}
+use Rattle.dimse.specs.declared.message.Message.{Message}
+use Rattle.dimse.specs.declared.status.Status.{Status}
+use Rattle.dimse.specs.Command.{IsCommand, HasRoom}
+use Rattle.dimse.specs.CommandField.{is_response_code}
+use Rattle.dimse.specs.Response.{response_of}
+use Rattle.dimse.specs.Status.{status_code}
+use Rattle.dimse.specs.Sending.{IsSending}
+
+-- a request that awaits its response: its context, its command set, and the most bytes of a P-DATA-TF's body that are sent
+pub record Awaited : Type 0 where
+  pub context : ℕ
+  pub limit : ℕ
+  pub command : Command
+
+-- how long what is sent may be: one fragment has room, and a PDU is no longer than is read
+abbrev pub FitsLimit : ℕ → Type 0
+FitsLimit limit = (8 ≤ limit) × (limit ≤ 65536)
+
+-- a request that can be written, and no response and no C-CANCEL, within such a limit
+pub record CanBeResponded (awaited : Awaited) : Type 0 where
+  pub asked : is_response_code awaited.command.field ≡ false
+  pub lawful : IsCommand awaited.command
+  pub room : HasRoom awaited.command
+  pub limit : FitsLimit awaited.limit
+
+-- the response, on the request's context and without a data set
+abbrev pub response_to : Awaited → Status → Message
+response_to awaited status =
+    record { context = awaited.context; command = response_of awaited.command (status_code status); body = None }
+
+-- the PDUs of a response
+abbrev pub Responds : Awaited → Status → List Pdu → Type 0
+Responds awaited status pdus = IsSending (response_to awaited status) awaited.limit pdus
+
+-- the bytes of a response
+abbrev pub IsResponse : Awaited → Status → List ℕ → Type 0
+IsResponse awaited status out = (pdus : List Pdu) × Responds awaited status pdus × (out ≡ flat_map text_of pdus)

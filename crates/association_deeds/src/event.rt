@@ -1,0 +1,15 @@
+//! What reaches a session.
+
+use crate::reply::Reply;
+use ul_state::Event;
+
+/// What reaches a session.
+#[derive(Debug, Drop)]
+pub enum SessionEvent {
+    /// An event of the acceptor, while nothing is awaited and no value is left.
+    Heard(Event),
+    /// What the port replied to the call that was asked last.
+    Replied(Reply),
+    /// The values that are left of a P-DATA-TF are heard on, while nothing is awaited.
+    GoesOn,
+}

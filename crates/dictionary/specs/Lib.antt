@@ -1,0 +1,6 @@
+pub mod Agree
+pub mod Elements
+pub mod Commands
+pub mod Statuses
+pub mod Uids
+pub mod Titles

@@ -1,0 +1,162 @@
+-- A script is a run of a world.
+use Rattle.std.proofs.Common.{◌≡◌, ℕ, List, [], ◌∷◌, ◌++◌, Option, Some, None, Ok, Err, Result, Bool, true, false, cond}
+use Rattle.std.proofs.Common.{refl, sym, ap, subst, ◌∙◌, ◌==◌}
+use Rattle.std.specs.Prelude.{MatchBool, not}
+use Rattle.std.specs.List.{flat_map}
+use Rattle.std.proofs.lemmas.List.{append-nil}
+use Rattle.operation.specs.declared.op.Op.{Op}
+use Rattle.operation.specs.declared.op.Op.TheVariants.{Correction as a_correction}
+use Rattle.operation.specs.Corrections.{is_correction}
+use Rattle.operation.specs.declared.stamp.Stamp.{Stamp}
+use Rattle.operation.specs.declared.taken.Taken.{Taken}
+use Rattle.operation.specs.declared.taken.Taken.TheVariants.{Known}
+use Rattle.site_state.specs.declared.fault.SiteFault.TheVariants.{Collision}
+use Rattle.site_state.specs.Site.{Map, held_at, ops_of, top_counter_of}
+use Rattle.operation.specs.Spelling.{digest_of}
+use Rattle.site_script.specs.Commands.{command_of}
+use Rattle.site_script.specs.declared.command.Command.{Command}
+use Rattle.site_world.specs.declared.fault.WorldFault.{WorldFault}
+use Rattle.site_world.specs.declared.fault.WorldFault.TheVariants.{Site, BadCorrection, StampsSpent}
+use Rattle.site_world.specs.declared.script.Move.{Move}
+use Rattle.site_world.specs.declared.script.Move.TheVariants.{Says, Names, Does}
+use Rattle.site_world.specs.declared.step.Step.{Step}
+use Rattle.site_world.specs.declared.step.Step.TheVariants.{Take, Correct, Look}
+use Rattle.site_world.specs.Output.{without_cr, is_full, NOTHING, output_from}
+use Rattle.site_world.specs.Played.{Deed, deed_by, deed_of, deeds_from, end_from, text_of, steps_in, answers_in}
+use Rattle.site_world.specs.Played.{deeds_of, sites_of, ScriptsAreRuns}
+use Rattle.site_world.specs.Runs.{Run}
+use Rattle.site_world.specs.Same.{same_op}
+use Rattle.site_world.specs.Script.{move_of, said, moved, printed as printed_by, after}
+use Rattle.site_world.specs.State.{State}
+use Rattle.site_world.specs.Steps.{is_refused_memory, site_at, site_of, told_at, told_of_taking, told_of_stamping}
+use Rattle.site_world.specs.Steps.{taken_by, answer_to, made_at, LAST_COUNTER, on_site, seen_by, after as after_step}
+use Rattle.site_world.specs.Steps.{Happens}
+use Rattle.site_world.proofs.Alike.{headline}
+
+-- ---- what is answered by definition is no want of memory
+
+by_answer : (r : Option Op) (op : Op) (b : Bool) → is_refused_memory (cond b (Ok Known) (Err (Site Collision))) ≡ false
+by_answer r op true = refl
+by_answer r op false = refl
+
+answer_is : (r : Option Op) (op : Op) → is_refused_memory (answer_to r op) ≡ false
+answer_is None op = refl
+answer_is (Some held) op = by_answer (Some held) op (same_op held op)
+
+by_taking : (op : Op) (r : Result Taken WorldFault) → is_refused_memory r ≡ false →
+    is_refused_memory (told_of_taking op r).0 ≡ false
+by_taking op (Ok taken) e = refl
+by_taking op (Err fault) e = e
+
+by_stamping : (stamp : Stamp) (op : Op) (r : Result Taken WorldFault) → is_refused_memory r ≡ false →
+    is_refused_memory (told_of_stamping stamp op r).0 ≡ false
+by_stamping stamp op (Ok taken) e = refl
+by_stamping stamp op (Err fault) e = e
+
+by_correcting : (m : Map) (stamp : Stamp) (op : Op) (is_bad is_spent : Bool)
+    → is_refused_memory (cond is_bad (Err BadCorrection, None) (cond is_spent (Err StampsSpent, None) (told_of_stamping
+    stamp op (taken_by m op)))).0 ≡ false
+by_correcting m stamp op true is_spent = refl
+by_correcting m stamp op false true = refl
+by_correcting m stamp op false false = by_stamping stamp op (taken_by m op) (answer_is (held_at m (digest_of op)) op)
+
+told_is : (m : Map) (step : Step) → is_refused_memory (told_at m step).0 ≡ false
+told_is m (Take n op) = by_taking op (taken_by m op) (answer_is (held_at m (digest_of op)) op)
+told_is m (Correct n target tag value) =
+    let made = made_at n m target tag value in
+    by_correcting m made.stamp (a_correction made) (not (is_correction made)) (top_counter_of (ops_of m) ==
+    LAST_COUNTER)
+told_is m (Look n view query) = refl
+
+at_site : (step : Step) (r : Option Map) → is_refused_memory (on_site r (λ m. told_at m step)).0 ≡ false
+at_site step None = refl
+at_site step (Some m) = told_is m step
+
+-- A step that is answered by definition is a step of a run.
+step_happens : (sites : List Map) (step : Step) → Happens sites step (seen_by sites step) (after_step sites step)
+step_happens sites step =
+    subst (λ b. MatchBool b (after_step sites step ≡ sites) ((seen_by sites step ≡ seen_by sites step)
+    × (after_step sites step ≡ after_step sites step)))
+    (sym (at_site step (site_at sites (site_of step)))) (refl, refl)
+
+-- ---- a line
+
+by_move : (state : State) (move : Move) (deeds : List Deed) (new : List Map) →
+    Run (moved state move).sites (steps_in deeds) (answers_in deeds) new
+    → Run state.sites (steps_in (deed_by state move ∷ deeds)) (answers_in (deed_by state move ∷ deeds)) new
+by_move state (Says text) deeds new run = run
+by_move state (Names name) deeds new run = run
+by_move state (Does step) deeds new run = (after_step state.sites step, step_happens state.sites step, run)
+
+-- What a line does is a run before that of the lines behind it.
+line_run : (state : State) (command : Command) (deeds : List Deed) (new : List Map) →
+    Run (after state command).sites (steps_in deeds) (answers_in deeds) new
+    → Run state.sites (steps_in (deed_of state command ∷ deeds)) (answers_in (deed_of state command ∷ deeds)) new
+unfolding after
+line_run state command deeds new run = by_move state (move_of state command) deeds new run
+
+text_by : (state : State) (move : Move) → said state move ≡ text_of (deed_by state move)
+text_by state (Says text) = refl
+text_by state (Names name) = refl
+text_by state (Does step) = refl
+
+line_text : (state : State) (command : Command) → printed_by state command ≡ text_of (deed_of state command)
+unfolding printed_by
+line_text state command = text_by state (move_of state command)
+
+-- ---- an input
+
+by_byte : (is_end full : Bool) (state now later : State) (deed : Deed) (mine others : List Deed)
+    → Run state.sites (steps_in (deed ∷ mine)) (answers_in (deed ∷ mine)) now.sites →
+    Run state.sites (steps_in others) (answers_in others) later.sites
+    → let deeds = cond is_end (deed ∷ mine) (cond full [] others) in
+    Run state.sites (steps_in deeds) (answers_in deeds) (cond is_end now (cond full state later)).sites
+by_byte true full state now later deed mine others one other = one
+by_byte false true state now later deed mine others one other = refl
+by_byte false false state now later deed mine others one other = other
+
+-- The lines of the rest of an input are a run.
+played_from : (state : State) (front rest : List ℕ)
+    → Run state.sites (steps_in (deeds_from state front rest)) (answers_in (deeds_from state front rest)) (end_from
+    state front rest).sites
+played_from state front [] = line_run state (command_of front) [] (after state (command_of front)).sites refl
+played_from state front (b ∷ rest) =
+    let command = command_of (without_cr front) in
+    let next = after state command in
+    by_byte (b == 10) (is_full front) state (end_from next [] rest) (end_from state (front ++ b ∷ []) rest) (deed_of
+    state command)
+    (deeds_from next [] rest) (deeds_from state (front ++ b ∷ []) rest)
+    (line_run state command (deeds_from next [] rest) (end_from next [] rest).sites (played_from next [] rest))
+    (played_from state (front ++ b ∷ []) rest)
+
+text_byte : (is_end full : Bool) (said rest other : List ℕ) (deed : Deed) (mine others : List Deed)
+    → said ≡ text_of deed → rest ≡ flat_map text_of mine → other ≡ flat_map text_of others
+    → cond is_end (said ++ rest) (cond full [] other) ≡ flat_map text_of (cond is_end (deed ∷ mine) (cond full []
+    others))
+text_byte true full said rest other deed mine others one more later = ap (λ (t : List ℕ). t ++ rest) one
+    ∙ ap (λ (t : List ℕ). text_of deed ++ t) more
+text_byte false true said rest other deed mine others one more later = refl
+text_byte false false said rest other deed mine others one more later = later
+
+-- And they print what they did.
+text_from : (state : State) (front rest : List ℕ) → output_from state front rest
+    ≡ flat_map text_of (deeds_from state front rest)
+text_from state front [] = line_text state (command_of front)
+    ∙ sym (append-nil (text_of (deed_of state (command_of front))))
+text_from state front (b ∷ rest) =
+    let command = command_of (without_cr front) in
+    let next = after state command in
+    text_byte (b == 10) (is_full front) (printed_by state command) (output_from next [] rest) (output_from state (front
+    ++ b ∷ []) rest) (deed_of state command)
+    (deeds_from next [] rest) (deeds_from state (front ++ b ∷ []) rest)
+    (line_text state command) (text_from next [] rest) (text_from state (front ++ b ∷ []) rest)
+
+pub scripts_are_runs : ScriptsAreRuns
+scripts_are_runs input =
+    let run = played_from NOTHING [] input in
+    record {
+      run = run;
+      headline = headline NOTHING.sites (sites_of input) (steps_in (deeds_of input)) (answers_in (deeds_of input)) refl
+          run;
+      printed_all = text_from NOTHING [] input;
+    }

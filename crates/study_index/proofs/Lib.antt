@@ -1,0 +1,4 @@
+pub mod Definitions
+pub mod KeyLaws
+pub mod Trees
+pub mod Walks

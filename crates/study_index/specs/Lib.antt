@@ -1,0 +1,5 @@
+pub mod Definition
+pub mod Index
+pub mod Keys
+pub mod Live
+pub mod Proved

@@ -1,0 +1,319 @@
+//! The index of a set of operations.
+ghost use Rattle.std.specs.Prelude.{◌≡◌, ◌≤◌, [], ◌∷◌, length, List, ℕ, OnOk, OnErr, IfOk, Option, None, Some, IfSome};
+ghost use Rattle.std.specs.Option.{option_copied, option_map};
+ghost use Rattle.rejection_note.specs.declared.note.Note.{Note as ANote};
+ghost use Rattle.operation.specs.declared.op.Op.TheVariants.{Content as a_content, Correction as a_correction};
+ghost use Rattle.operation.specs.Parts.{key_of as key_in};
+ghost use Rattle.operation.specs.Spelling.{digest_of};
+ghost use Rattle.archive_model.specs.Index.{code_of};
+ghost use Rattle.join_laws.specs.GrowSet.{union_of};
+ghost use Rattle.study_index.specs.Keys.{has};
+ghost use Rattle.study_index.specs.Live.{pick_at, HasStudy, HasSeries, HasInstance, IsNext, picks_joined};
+ghost use Rattle.study_index.specs.Index.{IsIndex, index_joined, index_of, nothing, titles_of, naming_cmp, copy_cmp, fix_key, fix_at, keys_of, named};
+ghost use Rattle.study_index.specs.Proved.Indexes.{index_laws, index_summary_laws};
+
+use crate::entries::{ContentCopy, Naming};
+use crate::fixes::{Fix, FixKey, fix_in, fix_key_of, key_of};
+use crate::keys::Keys;
+use crate::live_picks::LivePicks;
+use crate::pick::Pick;
+use crate::short_text::ShortText;
+use archive_model::title_code;
+use join_laws::{Copies, Greatest, GrowSet, Join, MapOf, Summary, Undoes};
+use octets::Octets;
+use operation::{Content, Correction, Digest, Op, Target, digest};
+use rejection_note::{Note, Title};
+use std::alloc::{AllocError, Global};
+use std::marker::Model;
+
+/// What queries look up in a set of operations.
+///
+/// It takes operations and whole indexes in, in any order and any number of times. Where memory is
+/// refused, it stays as it was.
+#[derive(Drop)]
+pub struct Index {
+    copies: GrowSet<ContentCopy>,
+    titles: GrowSet<Naming>,
+    fixes: MapOf<FixKey, Greatest<Fix>>,
+    live: LivePicks,
+    alloc: Global,
+}
+
+impl Model for Index {
+    ghost use Rattle.study_index.specs.Index.{IndexValue};
+
+    ghost Value = { IndexValue };
+
+    ghost view = { λ a. (a.copies, (a.titles, (a.fixes, a.live))) };
+}
+
+// Takes in a UID that a note names, unless it has more than 64 bytes.
+fn add_title(titles: &mut GrowSet<Naming>, title: Title, uid: &Octets) -> Result<(), AllocError>
+    ensures { OnOk result (titles.new ≡
+        union_of naming_cmp titles.old (named title (uid.now ∷ []))) }
+{
+    match ShortText::of(uid.as_slice()) {
+        Some(uid) => titles.add(&Naming {
+            uid,
+            title: title_code(title),
+        }),
+        None => Ok(()),
+    }
+}
+
+// What a note names, under its title.
+fn titles_in(alloc: Global, note: &Note) -> Result<GrowSet<Naming>, AllocError>
+    ensures { IfOk result (λ titles. titles ≡ titles_of (Some note.now)) }
+{
+    let mut titles = GrowSet::empty(alloc);
+    for uid in note.covers.as_slice() {
+        add_title(&mut titles, note.title, uid)?;
+    }
+    Ok(titles)
+}
+
+// The titles with those of one note more.
+fn with_note(
+    alloc: Global,
+    titles: &GrowSet<Naming>,
+    note: &Note,
+) -> Result<GrowSet<Naming>, AllocError>
+    ensures { IfOk result (λ both. both ≡ union_of naming_cmp titles.now
+        (titles_of (Some note.now))) }
+{
+    let more = titles_in(alloc, note)?;
+    let mut both = titles.copy()?;
+    both.join_with(&more)?;
+    Ok(both)
+}
+
+// The SOP Instance UID of a content, and its digest.
+fn copy_of(digest: Digest, content: &Content) -> ContentCopy
+    ensures { result ≡ (content.now.instance, digest) }
+{
+    ContentCopy {
+        uid: ShortText::whole(content.instance()),
+        digest,
+    }
+}
+
+// A content under its digest, with its keys.
+fn pick_in(digest: Digest, content: &Content) -> Pick
+    ensures { result ≡ (digest, keys_of content.now) }
+{
+    let keys = Keys::of(content);
+    Pick {
+        digest,
+        study: keys.study,
+        series: keys.series,
+    }
+}
+
+// Takes in the copy and the pick of a content. What can be taken back goes first, and the live list,
+// which cannot, goes last.
+fn add_content(
+    copies: &mut GrowSet<ContentCopy>,
+    live: &mut LivePicks,
+    digest: Digest,
+    content: &Content,
+) -> Result<(), AllocError>
+    requires { digest ≡ digest_of (a_content content.now) }
+    ensures copies { OnOk result (copies.new ≡
+        union_of copy_cmp copies.old (index_of (a_content content.now)).0) }
+    ensures picks { OnOk result (live.new ≡
+        picks_joined live.old (index_of (a_content content.now)).1.1.1) }
+    ensures copies_kept { OnErr result (copies.new ≡ copies.old) }
+    ensures picks_kept { OnErr result (live.new ≡ live.old) }
+{
+    let copy = copy_of(digest, content);
+    copies.held();
+    let undo = copies.add_with_undo(&copy)?;
+    if let Err(refused) = live.add(copy.uid.duplicate(), pick_in(digest, content)) {
+        copies.undo(&copy, undo);
+        return Err(refused);
+    }
+    Ok(())
+}
+
+impl Join for Index {
+    ghost IsHeld = { IsIndex };
+
+    ghost joined = { index_joined };
+
+    ghost laws = { index_laws };
+
+    fn held(&self) {
+        self.copies.held();
+        self.titles.held();
+        self.fixes.held();
+        self.live.held();
+    }
+
+    fn join_with(&mut self, other: &Index) -> Result<(), AllocError> {
+        let mut copies = self.copies.copy()?;
+        copies.join_with(&other.copies)?;
+        let mut titles = self.titles.copy()?;
+        titles.join_with(&other.titles)?;
+        let mut fixes = self.fixes.copy()?;
+        fixes.join_with(&other.fixes)?;
+        self.live.join_with(&other.live)?;
+        self.copies = copies;
+        self.titles = titles;
+        self.fixes = fixes;
+        Ok(())
+    }
+}
+
+impl Summary<Op> for Index {
+    ghost nothing = { nothing };
+
+    ghost of_one = { index_of };
+
+    ghost summary_laws = { index_summary_laws };
+
+    fn empty(alloc: Global) -> Index {
+        Index::new(alloc)
+    }
+
+    fn add(&mut self, op: &Op) -> Result<(), AllocError> {
+        self.add_under(digest(op), op)
+    }
+}
+
+impl Index {
+    /// The index of nothing. It takes no memory.
+    pub fn new(alloc: Global) -> Index
+        ensures { result ≡ nothing }
+    {
+        Index {
+            copies: GrowSet::empty(alloc),
+            titles: GrowSet::empty(alloc),
+            fixes: MapOf::empty(alloc),
+            live: LivePicks::empty(alloc),
+            alloc,
+        }
+    }
+
+    // Takes in a correction.
+    fn add_correction(&mut self, correction: &Correction) -> Result<(), AllocError>
+        ensures ok { OnOk result (self.new ≡
+            index_joined self.old (index_of (a_correction correction.now))) }
+        ensures refused { OnErr result (self.new ≡ self.old) }
+    {
+        let key = fix_key_of(correction.target(), correction.tag());
+        self.fixes.add(&(key, fix_in(correction)))
+    }
+
+    // Takes in a content that is a note. The titles are joined aside.
+    fn add_note(&mut self, digest: Digest, content: &Content, note: &Note) -> Result<(), AllocError>
+        requires digest { digest ≡ digest_of (a_content content.now) }
+        requires note { content.now.note ≡ Some note.now }
+        ensures ok { OnOk result (self.new ≡
+            index_joined self.old (index_of (a_content content.now))) }
+        ensures refused { OnErr result (self.new ≡ self.old) }
+    {
+        let titles = with_note(self.alloc, &self.titles, note)?;
+        add_content(&mut self.copies, &mut self.live, digest, content)?;
+        self.titles = titles;
+        Ok(())
+    }
+
+    // Takes in a content that is no note.
+    fn add_image(&mut self, digest: Digest, content: &Content) -> Result<(), AllocError>
+        requires digest { digest ≡ digest_of (a_content content.now) }
+        requires image { content.now.note ≡ None }
+        ensures ok { OnOk result (self.new ≡
+            index_joined self.old (index_of (a_content content.now))) }
+        ensures refused { OnErr result (self.new ≡ self.old) }
+    {
+        add_content(&mut self.copies, &mut self.live, digest, content)
+    }
+
+    /// Takes in an operation under its digest. Where memory is refused, the index stays as it was.
+    pub fn add_under(&mut self, digest: Digest, op: &Op) -> Result<(), AllocError>
+        requires { digest ≡ digest_of op.now }
+        ensures ok { OnOk result (self.new ≡ index_joined self.old (index_of op.now)) }
+        ensures refused { OnErr result (self.new ≡ self.old) }
+    {
+        match op {
+            Op::Correction(correction) => self.add_correction(correction),
+            Op::Content(content) => match content.note() {
+                Some(note) => self.add_note(digest, content, note),
+                None => self.add_image(digest, content),
+            },
+        }
+    }
+
+    /// The digest of the pick of a SOP Instance UID, and behind it the pick's study and series.
+    pub fn pick(&self, uid: &ShortText) -> Option<&Pick>
+        ensures { option_copied result ≡ pick_at uid.now self.now.1.1.1 }
+    {
+        self.live.pick(uid)
+    }
+
+    /// Whether a digest is that of a content of a SOP Instance UID.
+    pub fn is_copy(&self, uid: &ShortText, digest: &Digest) -> bool
+        ensures { result ≡ has copy_cmp self.now.0 (uid.now, digest.now) }
+    {
+        let copy = ContentCopy {
+            uid: uid.duplicate(),
+            digest: *digest,
+        };
+        self.copies.get().contains(&copy)
+    }
+
+    /// Whether a note of a title names a UID.
+    pub fn covered_by(&self, uid: &ShortText, title: Title) -> bool
+        ensures { result ≡ has naming_cmp self.now.1.0 (uid.now, code_of title) }
+    {
+        let naming = Naming {
+            uid: uid.duplicate(),
+            title: title_code(title),
+        };
+        self.titles.get().contains(&naming)
+    }
+
+    /// Counter, site and value of the greatest correction of a target and a tag. A target's key has
+    /// at most 64 bytes, and one of more has no correction.
+    pub fn fix(&self, target: &Target, tag: u32) -> Option<&Fix>
+        ensures { length (key_in target.now) ≤ 64 →
+            option_copied result ≡ fix_at (fix_key target.now tag) self.now.1.1.0 }
+    {
+        if key_of(target).len() > 64 {
+            return None;
+        }
+        match self.fixes.value(&fix_key_of(target, tag)) {
+            Some(greatest) => greatest.get(),
+            None => None,
+        }
+    }
+
+    /// The least study of all picks past `after` as bytes, or the first where there is none.
+    pub fn next_study(&self, after: Option<&ShortText>) -> Option<&ShortText>
+        ensures { IsNext (HasStudy self.now.1.1.1) (option_copied after.entry) (option_copied result) }
+    {
+        self.live.next_study(after)
+    }
+
+    /// The least series of a study past `after` as bytes, or the first where there is none.
+    pub fn next_series(&self, study: &ShortText, after: Option<&ShortText>) -> Option<&ShortText>
+        ensures { IsNext (HasSeries self.now.1.1.1 study.now) (option_copied after.entry)
+            (option_copied result) }
+    {
+        self.live.next_series(study, after)
+    }
+
+    /// The least instance of a series of a study past `after` as bytes, or the first where there is
+    /// none.
+    pub fn next_instance(
+        &self,
+        study: &ShortText,
+        series: &ShortText,
+        after: Option<&ShortText>,
+    ) -> Option<&ShortText>
+        ensures { IsNext (HasInstance self.now.1.1.1 study.now series.now) (option_copied after.entry)
+            (option_copied result) }
+    {
+        self.live.next_instance(study, series, after)
+    }
+}
