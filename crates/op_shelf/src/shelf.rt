@@ -14,7 +14,7 @@ use crate::kept::Kept;
 use crate::rows::ops_of;
 use crate::statements::{all_rows, kind_rows};
 use crate::table::{is_ready, put_entry};
-use operation::{Op, digest, encode};
+use operation::{Digested, Op, encode};
 use sqlite::{Alter, Connection};
 use std::alloc::Global;
 use std::marker::Model;
@@ -54,8 +54,8 @@ impl<S: Alter + Drop> Shelf<S> {
 }
 
 impl<S: Alter> Shelf<S> {
-    /// Puts an operation on the shelf, and syncs it. Its data set is copied once, into the spelling
-    /// that is stored.
+    /// Puts an operation on the shelf, and syncs it. It is hashed here, and put as
+    /// `put_digested` does.
     pub fn put(&mut self, op: &Op) -> Result<Kept, ShelfFault>
         // New adds exactly that operation, Known finds it there, and a refusal changes nothing.
         ensures new { IfClean S.Store self.old self.new (λ s t.
@@ -77,8 +77,35 @@ impl<S: Alter> Shelf<S> {
         ensures durable { IfClean S.Store self.old self.new (λ s t. OnOk result
             ((trees : Trees) → t.may_leave trees → Holds (rows_left t trees) op.now)) }
     {
-        let name = digest(op).text(self.alloc)?;
-        let body = encode(self.alloc, op)?;
+        let digested = Digested::of(op.copy(self.alloc)?);
+        self.put_digested(&digested)
+    }
+
+    /// Puts an operation on the shelf under the digest that it has, and syncs it. Nothing is
+    /// hashed. The data set is copied once, into the spelling that is stored.
+    pub fn put_digested(&mut self, op: &Digested) -> Result<Kept, ShelfFault>
+        // New adds exactly that operation, Known finds it there, and a refusal changes nothing.
+        ensures new { IfClean S.Store self.old self.new (λ s t.
+            result ≡ Ok Kept.New → IsPut s t (digest_text op.now) (entry_of op.now)) }
+        ensures known { IfClean S.Store self.old self.new (λ s t.
+            result ≡ Ok Kept.Known → IsKnown s t (digest_text op.now) (entry_of op.now)) }
+        ensures refused { IfClean S.Store self.old self.new (λ s t. OnErr result (KeepsAll s t)) }
+
+        // Each fault, only where it is.
+        ensures bad_row { IfClean S.Store self.old self.new (λ s t. IsErrOf result ShelfFault.BadRow
+            → HasOther (rows_of s) (digest_text op.now) (entry_of op.now)) }
+        ensures store { IfClean S.Store self.old self.new (λ s t. IsErrOf result ShelfFault.Store
+            → IsNotKept S.Store self.old self.new (digest_text op.now) (entry_of op.now)) }
+
+        // A crash finds the operations from before, with this one or without; after Ok with it.
+        ensures crash { Survives (state S.Store self.old) (state S.Store self.new) (λ trees.
+            Adds (rows_of (state S.Store self.old)) (rows_left (state S.Store self.old) trees)
+            (entry_of op.now)) }
+        ensures durable { IfClean S.Store self.old self.new (λ s t. OnOk result
+            ((trees : Trees) → t.may_leave trees → Holds (rows_left t trees) op.now)) }
+    {
+        let name = op.digest().text(self.alloc)?;
+        let body = encode(self.alloc, op.op())?;
         put_entry(&mut self.database, name.as_str(), &body)
     }
 

@@ -7,6 +7,7 @@ use operation::{Correction, Op, Stamp, Target, correction_of, digest};
 use sqlite::{Alter, Connection, FileStore, Files, MemStore, Options, Wary};
 use sqlite_disk::{Crash, Disk, Fuse, Memory};
 use std::alloc::Global;
+use std::fs;
 use std::test::Fail;
 
 /// A correction of study 1.2.1 by a counter.
@@ -137,6 +138,37 @@ fn what_is_no_file_is_refused(rt: HostRuntime) -> Result<(), Fail> {
         "no place"
     );
     assert_eq!(rt; opened(&rt, ":memory:"), Some(ShelfFault::Store), "no path");
+    Ok(())
+}
+
+/// What an open of a file with these bytes answers, and what it leaves of them.
+fn opened_over(
+    rt: &HostRuntime,
+    folder: &str,
+    bytes: &[u8],
+) -> Result<(Option<ShelfFault>, Vec<u8>), Fail> {
+    let _ = fs::remove_dir_all(rt, folder);
+    fs::create_dir(rt, folder)?;
+    let path = format!(in rt.alloc(); "{folder}/ops.db")?;
+    fs::write(rt, path.as_str(), bytes)?;
+    let fault = opened(rt, path.as_str());
+    let left = fs::read(rt, path.as_str())?;
+    fs::remove_dir_all(rt, folder)?;
+    Ok((fault, left))
+}
+
+#[test]
+fn a_file_that_is_no_database_is_left_as_it_was(rt: HostRuntime) -> Result<(), Fail> {
+    let (fault, left) = opened_over(&rt, "op_shelf_text", b"no database")?;
+    assert_eq!(rt; fault, Some(ShelfFault::Store));
+    assert_eq!(rt; left.as_slice(), b"no database".as_slice());
+    Ok(())
+}
+
+#[test]
+fn an_empty_file_becomes_a_shelf(rt: HostRuntime) -> Result<(), Fail> {
+    let (fault, _left) = opened_over(&rt, "op_shelf_empty", b"")?;
+    assert_eq!(rt; fault, None);
     Ok(())
 }
 
