@@ -543,6 +543,7 @@ fn a_missing_value_is_put_in_its_place(rt: HostRuntime) -> Result<(), Fail> {
 }
 
 #[test]
+#[tactic(auto, unfolding(dictionary::specs::Elements::vr_in_table))]
 fn a_series_description_is_put_in(rt: HostRuntime) -> Result<(), Fail> {
     let alloc = rt.alloc();
     let image = set_of(alloc, Implicit, IMAGE)?;
