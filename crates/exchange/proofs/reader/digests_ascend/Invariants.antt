@@ -1,0 +1,7 @@
+use Rattle.std.proofs.Common.{◌≡◌, ◌-◌, drop}
+use Rattle.octets.specs.Texts.{text_cmp}
+use Rattle.exchange.specs.Spelling.{ascends}
+use Rattle.exchange.proofs.reader.digests_ascend.Given as goal
+
+abbrev pub invariant-loop-at : goal.invariant-loop-at
+invariant-loop-at l = ascends text_cmp (drop (l.at - 1) l.digests) ≡ ascends text_cmp l.digests

@@ -1,0 +1,9 @@
+use Rattle.std.proofs.Common.{◌≡◌, ◌++◌, ◌-◌, ◌*◌, length}
+use Rattle.exchange.specs.Reading.{cut}
+use Rattle.exchange.proofs.reader.digests_of.Given as goal
+
+abbrev pub invariant-loop : goal.invariant-loop
+invariant-loop l = record {
+  fits : length l.rest ≡ 32 * (l.count - l.counter);
+  so_far : l.digests.items ++ cut (l.count - l.counter) l.rest ≡ cut l.count l.text;
+}

@@ -1,0 +1,4 @@
+pub mod Fault
+pub mod Header
+pub mod Spelling
+pub mod Reading

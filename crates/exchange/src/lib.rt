@@ -1,0 +1,18 @@
+//! Frames, in which two sites tell each other what they hold, ask for what they lack and give it.
+//!
+//! Bytes come in and values go out: nothing here reads a socket. A frame is read in two steps, its
+//! header of five bytes and then its body, so that what is too long is refused before any of it is
+//! kept. What reads and what writes cite one spelling (docs/DECISIONS.md, "Frames").
+#![tactic(auto)]
+
+mod fault;
+mod frame;
+mod header;
+mod reader;
+#[cfg(test)]
+mod tests;
+
+pub use fault::ExchangeFault;
+pub use frame::Frame;
+pub use header::{FrameHeader, HEADER_LENGTH, LONGEST_BODY, read_frame_header};
+pub use reader::{MOST_DIGESTS, a_text_spells_one_frame, read_frame_body};

@@ -1,0 +1,219 @@
+//! Frames from outside.
+
+use super::*;
+use bytes::Bytes;
+use std::alloc::{AllocError, Global};
+use std::process::Abort;
+use std::test::Fail;
+
+// The correction of study 1.2.1 by which (0010,0010) is ROE^ANN, counter 1 and site 1.
+const CORRECTION: &[u8] = b"\x03\x00\x00\x00\x1f\
+    \x02\x01\x051.2.1\x00\x10\x00\x10\x00\x07ROE^ANN\x00\x00\x00\x00\x00\x00\x00\x01\x00\x01";
+
+fn told(header: &[u8; 5]) -> u8 {
+    match read_frame_header(header) {
+        Ok(_header) => 0,
+        Err(fault) => fault.number(),
+    }
+}
+
+#[test]
+fn a_kind_is_told_before_a_length(rt: HostRuntime) {
+    assert_eq!(rt; told(&[0x08, 0x00, 0x00, 0x00, 0x00]), 1, "kind 08");
+    assert_eq!(rt;
+        told(&[0x00, 0xff, 0xff, 0xff, 0xff]),
+        1,
+        "kind 00, however long"
+    );
+    assert_eq!(rt;
+        told(&[0x03, 0xff, 0xff, 0xff, 0xff]),
+        2,
+        "the greatest length"
+    );
+    assert_eq!(rt;
+        told(&[0x03, 0x04, 0x00, 0x00, 0x89]),
+        2,
+        "67,109,001 bytes"
+    );
+    assert_eq!(rt;
+        told(&[0x03, 0x04, 0x00, 0x00, 0x88]),
+        0,
+        "67,109,000 bytes"
+    );
+}
+
+/// The frame that a whole text spells.
+fn read(alloc: Global, text: &[u8]) -> Result<Frame, ExchangeFault> {
+    let [kind, a, b, c, d, body @ ..] = text else {
+        return Err(ExchangeFault::BadFrame);
+    };
+    let header = read_frame_header(&[*kind, *a, *b, *c, *d])?;
+    if body.len() != header.body_length() {
+        return Err(ExchangeFault::BadFrame);
+    }
+    read_frame_body(alloc, &header, Bytes::copy_from_slice(alloc, body)?)
+}
+
+fn is_read(rt: &impl Abort, alloc: Global, text: &[u8], wanted: u8, why: &str) {
+    let number = match read(alloc, text) {
+        Ok(_frame) => 0,
+        Err(fault) => fault.number(),
+    };
+    assert_eq!(rt; number, wanted, "{why}");
+}
+
+#[test]
+fn frames_are_read(rt: HostRuntime) {
+    is_read(
+        &rt,
+        rt.alloc(),
+        b"\x01\x00\x00\x00\x04\x00\x00\x00\x00",
+        0,
+        "an empty HAVE",
+    );
+    is_read(
+        &rt,
+        rt.alloc(),
+        b"\x02\x00\x00\x00\x04\x00\x00\x00\x00",
+        0,
+        "an empty WANT",
+    );
+    is_read(&rt, rt.alloc(), CORRECTION, 0, "the GIVE of a correction");
+    is_read(&rt, rt.alloc(), b"\x04\x00\x00\x00\x00", 0, "END");
+    is_read(
+        &rt,
+        rt.alloc(),
+        b"\x06\x00\x00\x00\x02\x00\x00",
+        0,
+        "an empty DIFFER",
+    );
+    is_read(&rt, rt.alloc(), b"\x07\x00\x00\x00\x02\x00\x02", 0, "HELLO");
+}
+
+#[test]
+fn bodies_of_no_frame_are_told(rt: HostRuntime) {
+    is_read(
+        &rt,
+        rt.alloc(),
+        b"\x01\x00\x00\x00\x03\x00\x00\x00",
+        1,
+        "a HAVE without a count",
+    );
+    is_read(
+        &rt,
+        rt.alloc(),
+        b"\x02\x00\x00\x00\x04\x00\x10\x00\x01",
+        2,
+        "a count of 1,048,577",
+    );
+    is_read(
+        &rt,
+        rt.alloc(),
+        b"\x02\x00\x00\x00\x04\x00\x10\x00\x00",
+        1,
+        "a count of 1,048,576",
+    );
+    is_read(
+        &rt,
+        rt.alloc(),
+        b"\x03\x00\x00\x00\x00",
+        1,
+        "a GIVE of nothing",
+    );
+    is_read(
+        &rt,
+        rt.alloc(),
+        b"\x03\x00\x00\x00\x01\x04",
+        1,
+        "a GIVE of an unknown kind",
+    );
+    is_read(
+        &rt,
+        rt.alloc(),
+        b"\x04\x00\x00\x00\x01\x00",
+        1,
+        "an END with a byte",
+    );
+    is_read(&rt, rt.alloc(), b"\x05\x00\x00\x00\x00", 1, "no buckets");
+    is_read(
+        &rt,
+        rt.alloc(),
+        b"\x07\x00\x00\x00\x01\x02",
+        1,
+        "half a version",
+    );
+}
+
+#[test]
+fn first_bytes_ascend(rt: HostRuntime) {
+    is_read(
+        &rt,
+        rt.alloc(),
+        b"\x06\x00\x00\x00\x04\x00\x02\x00\xff",
+        0,
+        "00 and FF",
+    );
+    is_read(
+        &rt,
+        rt.alloc(),
+        b"\x06\x00\x00\x00\x04\x00\x02\xff\x00",
+        1,
+        "FF and 00",
+    );
+    is_read(
+        &rt,
+        rt.alloc(),
+        b"\x06\x00\x00\x00\x04\x00\x02\x07\x07",
+        1,
+        "07 twice",
+    );
+    is_read(
+        &rt,
+        rt.alloc(),
+        b"\x06\x00\x00\x00\x04\x00\x01\x07\x08",
+        1,
+        "one byte more",
+    );
+}
+
+/// A HAVE that says this count, with digests of 32 equal bytes.
+fn have(alloc: Global, length: u8, count: u8, firsts: &[u8]) -> Result<Vec<u8>, AllocError> {
+    let mut text = Vec::new(alloc);
+    text.extend_from_slice(&[0x01, 0, 0, 0, length, 0, 0, 0, count])?;
+    for first in firsts {
+        text.extend_from_slice(&[*first; 32])?;
+    }
+    Ok(text)
+}
+
+#[test]
+fn digests_ascend(rt: HostRuntime) -> Result<(), Fail> {
+    let text = have(rt.alloc(), 68, 2, &[1, 2])?;
+    is_read(&rt, rt.alloc(), text.as_slice(), 0, "01.. and 02..");
+    let text = have(rt.alloc(), 68, 2, &[2, 1])?;
+    is_read(&rt, rt.alloc(), text.as_slice(), 1, "02.. and 01..");
+    Ok(())
+}
+
+#[test]
+fn a_count_is_that_of_the_digests(rt: HostRuntime) -> Result<(), Fail> {
+    let text = have(rt.alloc(), 68, 3, &[1, 2])?;
+    is_read(
+        &rt,
+        rt.alloc(),
+        text.as_slice(),
+        1,
+        "one more than there are",
+    );
+    let text = have(rt.alloc(), 68, 2, &[1, 1])?;
+    is_read(&rt, rt.alloc(), text.as_slice(), 1, "01.. twice");
+    Ok(())
+}
+
+#[test]
+fn a_frame_says_what_was_read(rt: HostRuntime) {
+    let hello = read(rt.alloc(), b"\x07\x00\x00\x00\x02\x00\x02");
+    assert!(rt; matches!(hello, Ok(Frame::Hello(2))), "version 2");
+    let end = read(rt.alloc(), b"\x04\x00\x00\x00\x00");
+    assert!(rt; matches!(end, Ok(Frame::End)), "END");
+}
