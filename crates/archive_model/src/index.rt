@@ -48,7 +48,7 @@ pub fn copies(alloc: Global, ops: &[&Op], uid: &[u8]) -> Result<Vec<Digest>, All
     Ok(found)
 }
 
-/// The code of a title (PS3.16, CID 7011).
+/// The code of a title (PS3.16, CID 7010).
 pub fn title_code(title: Title) -> u32
     ensures { result ≡ code_of title }
 {

@@ -79,7 +79,7 @@ impl Exact for ContentCopy {
     ghost exact = { copy_exact };
 }
 
-/// A UID that a note names, and the code of the note's title (PS3.16, CID 7011).
+/// A UID that a note names, and the code of the note's title (PS3.16, CID 7010).
 #[derive(Drop)]
 pub struct Naming {
     pub uid: ShortText,
