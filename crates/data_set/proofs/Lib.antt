@@ -4,6 +4,7 @@ pub mod Steps
 pub mod Once
 pub mod Sets
 pub mod Kept
+pub mod Outcomes
 pub mod Lists
 pub mod Walks
 pub mod WrittenLaws
