@@ -33,7 +33,7 @@ use Rattle.association_deeds.specs.Response.{Awaited}
 use Rattle.association_deeds.specs.Row.{Within, Link, row, met, agreed_by, limit_in, handed_on}
 use Rattle.association_deeds.specs.Service.{Serves, ServesOn, context_in, status_of_reply, status_for_reply}
 use Rattle.association_deeds.specs.Session.{AssociationState, Linked, assembly_in, assembly_of, heard_in, Turned, Answered, Takes, Owes, OwedFor, Stops, entered, stage_by, IsTold, IsWritable}
-use Rattle.association_deeds.specs.Talks.{Heard, Met, Said, Tells, InState, Answers, Talks, awaiting}
+use Rattle.association_deeds.specs.Talks.{Heard, Met, Said, Tells, InState, Answers, Talks, Leads, awaiting}
 
 -- ---- one value more
 
@@ -171,9 +171,11 @@ took {V = W} titles old now stood v q l m deeds new same held first feeds limit 
     memory = memory_push so.answers (Ok (Some m)) so.memory (λ e. absurd cc);
     says = sym (heard_push so.answers (Ok (Some m)) ∙ ap (λ (t : List Heard). t ++ Said m ∷ []) so.none);
   };
+  leads = subst (λ (w : Within W). Leads titles w (Said m ∷ []) new.within) (same_within now l q feeds.contexts limit ∙ so.within) answered.leads;
   takes = takes_from titles (fed_state now l q) old (Said m ∷ []) [] deeds new (same_within now l q feeds.contexts limit ∙ so.within) so.awaited answered.takes;
   stops = answered.stops;
   state = answered.state ∙ ap (λ (w : Within W). state_after w.state deeds) so.within;
+  told = tt;
 }
 
 -- a value that is refused: the local user aborts
@@ -197,11 +199,13 @@ broke {V = W} titles old now stood v q l f deeds new same held first feeds not_m
         memory = memory_push so.answers (Err f) so.memory (λ e. not_memory (err_once f Memory e));
         says = sym (heard_push so.answers (Err f) ∙ ap (λ (t : List Heard). t ++ Met LocalAbort ∷ []) so.none);
       };
+      leads = ap (λ (t : AssociationState W). t.within) next ∙ ap (λ (w : Within W). met titles w LocalAbort) (same_within now l q feeds.contexts limit ∙ so.within);
       takes = takes_from titles mid old (Met LocalAbort ∷ []) [] deeds new (same_within now l q feeds.contexts limit ∙ so.within) so.awaited
           (subst (λ (t : List Deed). Takes titles mid (Met LocalAbort ∷ []) [] t new) (sym row_here) (takes_row titles mid new LocalAbort idle next));
       stops = subst (λ (t : List Deed). Stops t new.awaited) (sym sent) (subst (λ (a : Option Awaited). Stops [] a) (sym (ap (λ (t : AssociationState W). t.awaited) next ∙ idle)) tt);
       state = ap (λ (t : AssociationState W). t.within.state) next ∙ gone_state titles now.within.state opened
           ∙ sym (ap (λ (t : List Deed). state_after old.within.state t) sent);
+      told = tt;
     }
 
 -- no value is there any more
@@ -213,9 +217,11 @@ all_heard {V = W} titles old now stood q deeds same held idle rest none =
     record {
       said = [];
       values = record { fed = so.fed; left = q; answers = so.answers; parts = so.parts ∙ ap (λ (t : List Pdv). so.fed ++ t) rest; kept = inl refl; run = so.run; memory = so.memory; says = sym so.none };
+      leads = so.within;
       takes = takes_from titles new old [] [] deeds new so.within so.awaited (subst (λ (t : List Deed). Takes titles new [] [] t new) (sym none) (λ us rs more owed. owed));
       stops = subst (λ (t : List Deed). Stops t now.awaited) (sym none) (subst (λ (a : Option Awaited). Stops [] a) (sym (so.awaited ∙ idle)) tt);
       state = ap (λ (w : Within W). w.state) so.within ∙ ap (λ (t : List Deed). state_after old.within.state t) (sym none);
+      told = tt;
     }
 
 pub both_map : {X E : Type 0} (r : Result X E) (P Q : X → Type 0) (N : Type 0) → ((x : X) → P x → N → Q x) → IfOk r P → OnOk r N → IfOk r Q
@@ -281,6 +287,7 @@ answered_told {V = W} titles now new m status service contexts limit deeds opene
     let serves_here : Serves now.within.link.contexts m (Responded status) =
     subst (λ (s : Service). Serves now.within.link.contexts m s) is (subst (λ (k : List Context). Serves k m service) cs serves) in
     record {
+      leads = (opened, Responded status, serves_here, ap (λ (t : AssociationState W). t.within) same);
       takes = λ us rs rest owed.
           idle_owed titles now (Said m ∷ us) rs (deeds ++ rest) idle
           (subst (λ (s : State). InState s (Answers now.within.link m (row titles now.within.state LocalAbort) (Talks titles now.within us) (Talks titles (met titles now.within LocalAbort) us)) (Talks titles now.within us) rs (deeds ++ rest)) (sym opened) (
@@ -315,12 +322,14 @@ resumed {V = W} titles now new awaited shown (Stored reply) status deeds has wit
         memory = tt;
         says = refl;
       };
+      leads = within;
       takes = λ us rs rest owed.
           subst (λ (a : Option Awaited). OwedFor a (Talks titles now.within us) (Stored reply ∷ rs) (deeds ++ rest)) (sym has)
           (tells awaited (status_of_reply reply) deeds rest (Talks titles now.within us rs) told_here
           (subst (λ (w : Within W). Talks titles w us rs rest) within (owed_idle titles new us rs rest none owed)));
       stops = told_stops awaited (status_of_reply reply) deeds new.awaited none told_here;
       state = ap (λ (w : Within W). w.state) within ∙ sym (told_state awaited (status_of_reply reply) deeds now.within.state told_here);
+      told = none;
     }
 
 pub all_is : (deeds : List Deed) (pdus : List Pdu) → deeds ≡ map Send pdus → All IsPdu pdus → All IsWritable deeds

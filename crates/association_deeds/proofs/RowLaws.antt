@@ -20,7 +20,7 @@ use Rattle.association_deeds.specs.Projections.{state_after}
 use Rattle.association_deeds.specs.Response.{Awaited}
 use Rattle.association_deeds.specs.Row.{row, deeds_of, values_of, action_on}
 use Rattle.association_deeds.specs.Session.{AssociationState, HearsValues, Turned, Takes, Owes, Stops, entered, is_left}
-use Rattle.association_deeds.specs.Talks.{Met}
+use Rattle.association_deeds.specs.Talks.{Met, Leads}
 use Rattle.association_deeds.proofs.HearLaws.{takes_row, idle_owed, owed_idle}
 
 -- ---- where a row leads
@@ -109,9 +109,11 @@ met_only {V = W} titles now new event deeds idle is row_is = record {
   said = [];
   values = subst (λ (t : AssociationState W). HearsValues (entered titles now event) [] t) (sym is)
       (record { fed = []; left = (entered titles now event).queue; answers = []; parts = refl; kept = inl refl; run = refl; memory = tt; says = refl });
+  leads = ap (λ (t : AssociationState W). t.within) is;
   takes = subst (λ (t : List Deed). Takes titles now (Met event ∷ []) [] t new) (sym row_is) (takes_row titles now new event idle is);
   stops = subst (λ (t : List Deed). Stops t new.awaited) (sym row_is) (row_stops (action_on titles now.within.state event) new.awaited (ap (λ (t : AssociationState W). t.awaited) is ∙ idle));
   state = ap (λ (t : AssociationState W). t.within.state) is ∙ sym (row_state titles now.within.state event) ∙ sym (ap (λ (t : List Deed). state_after now.within.state t) row_is);
+  told = tt;
 }
 
 -- an event whose values are heard
@@ -123,6 +125,7 @@ heard_on {V = W} titles now mid new event deeds idle is left turned =
     record {
       said = turned.said;
       values = subst (λ (t : AssociationState W). HearsValues t turned.said new) is turned.values;
+      leads = subst (λ (t : AssociationState W). Leads titles t.within turned.said new.within) is turned.leads;
       takes = λ us rs rest owed.
           idle_owed titles now (Met event ∷ (turned.said ++ us)) rs (deeds ++ rest) idle (
             deeds ++ rest,
@@ -133,4 +136,5 @@ heard_on {V = W} titles now mid new event deeds idle is left turned =
       stops = turned.stops;
       state = turned.state
           ∙ ap (λ (s : State). state_after s deeds) (ap (λ (t : AssociationState W). t.within.state) is ∙ sym (row_state titles now.within.state event) ∙ ap (λ (t : List Deed). state_after now.within.state t) none);
+      told = tt;
     }

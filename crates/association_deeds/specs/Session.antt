@@ -29,7 +29,7 @@ use Rattle.association_deeds.specs.declared.reply.Reply.{Reply}
 use Rattle.association_deeds.specs.Projections.{state_after}
 use Rattle.association_deeds.specs.Response.{Awaited, Responds}
 use Rattle.association_deeds.specs.Row.{Link, Within, met, handed_on, opening, NO_LINK}
-use Rattle.association_deeds.specs.Talks.{Heard, Met, Said, Goes, Follows, Talks}
+use Rattle.association_deeds.specs.Talks.{Heard, Met, Said, Goes, Follows, Talks, Leads}
 
 -- ---- where a session is
 
@@ -173,13 +173,21 @@ in_turn None left inputs.GoesOn = left
 abbrev pub is_in_turn : {V : Type 0} → AssociationState V → SessionEvent → Bool
 is_in_turn s event = in_turn s.awaited (is_left s.within.state s.queue) event
 
+-- A reply is told at once, and nothing is awaited behind it.
+abbrev pub IsToldBy : SessionEvent → Option Awaited → Type 0
+IsToldBy (inputs.Replied reply) awaited = awaited ≡ None
+IsToldBy (inputs.Heard event) awaited = ⊤
+IsToldBy inputs.GoesOn awaited = ⊤
+
 -- what it says, and the deeds for it, in order
 pub record Turned {V : Type 0} (titles : List (Title V)) (old : AssociationState V) (event : SessionEvent) (deeds : List Deed) (new : AssociationState V) : Type 0 where
   pub said : List Heard
   pub values : HearsValues (started titles old event) said new
+  pub leads : Leads titles (started titles old event).within said new.within
   pub takes : Takes titles old (met_in event ++ said) (replies_in event) deeds new
   pub stops : Stops deeds new.awaited
   pub state : new.within.state ≡ state_after old.within.state deeds
+  pub told : IsToldBy event new.awaited
 
 -- the deeds that respond to a request
 abbrev pub IsTold : Awaited → Status → List Deed → Type 0
@@ -187,6 +195,7 @@ IsTold awaited status deeds = (response : List Pdu) × Responds awaited status r
 
 -- the deeds for a message, in order
 pub record Answered {V : Type 0} (titles : List (Title V)) (old : AssociationState V) (m : Message) (deeds : List Deed) (new : AssociationState V) : Type 0 where
+  pub leads : Leads titles old.within (Said m ∷ []) new.within
   pub takes : Takes titles old (Said m ∷ []) [] deeds new
   pub stops : Stops deeds new.awaited
   pub state : new.within.state ≡ state_after old.within.state deeds
@@ -226,11 +235,14 @@ is_release (Reach moment) = false
 is_release (Ask call) = false
 is_release Close = false
 
+abbrev pub is_abort_event : SessionEvent → Bool
+is_abort_event (inputs.Heard (events.Got (pdus.Abort source reason))) = true
+is_abort_event event = false
+
 -- an A-ABORT is read; nothing is in Sta1
 abbrev pub reads_abort : State → SessionEvent → Bool
 reads_abort Sta1 event = false
-reads_abort state (inputs.Heard (events.Got (pdus.Abort source reason))) = true
-reads_abort state event = false
+reads_abort state event = is_abort_event event
 
 abbrev pub aborted_by : Bool → State → SessionEvent → List Deed → Bool
 aborted_by before state event deeds = before || (reads_abort state event || list_any is_abort deeds)

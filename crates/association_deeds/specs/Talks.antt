@@ -84,3 +84,18 @@ Talks titles w (Said m ∷ us) rs deeds =
     InState w.state
     (Answers w.link m (row titles w.state LocalAbort) (Talks titles w us) (Talks titles (met titles w LocalAbort) us))
     (Talks titles w us) rs deeds
+
+-- ---- where what is heard leads
+
+-- what a message is answered leads on, or to goodbye
+abbrev pub behind : {V : Type 0} → List (Title V) → Within V → Service → Within V
+behind titles w Ignored = w
+behind titles w Broken = met titles w LocalAbort
+behind titles w (Responded status) = w
+behind titles w (Asked content) = w
+
+-- A message is heard only while the association is established.
+abbrev pub Leads : {V : Type 0} → List (Title V) → Within V → List Heard → Within V → Type 0
+Leads titles w [] end = end ≡ w
+Leads titles w (Met event ∷ us) end = Leads titles (met titles w event) us end
+Leads titles w (Said m ∷ us) end = (w.state ≡ Sta6) × (service : Service) × Serves w.link.contexts m service × Leads titles (behind titles w service) us end
