@@ -12,7 +12,9 @@ use Rattle.data_set.specs.Tree.{Tree}
 use Rattle.data_set.specs.Tags.{is_group_length}
 use Rattle.data_set.specs.Values.{value_in}
 use Rattle.data_set.specs.Written.{text_of}
+use Rattle.data_set.specs.Reading.{elements_in}
 use Rattle.data_set.proofs.Sets.{spelled_once}
+use Rattle.data_set.proofs.Reading.{spelled_in}
 use Rattle.data_set.proofs.ValueLaws.{converted_value}
 use Rattle.operation.specs.declared.op.Op.{Op}
 use Rattle.operation.specs.Parts.{ContentParts}
@@ -31,8 +33,8 @@ use Rattle.archive_retrieve.specs.declared.accepts.Form.TheVariants.{Own, Conver
 use Rattle.archive_retrieve.specs.declared.sending.Sending.{Sending}
 use Rattle.archive_retrieve.specs.Accepts.{form_for, syntax_of}
 use Rattle.archive_retrieve.specs.Selection.{is_selected, selected}
-use Rattle.archive_retrieve.specs.Sending.{in_form, is_sent_as_stored, IsWritten, IsBody, IsSending, AreSendings, Gets}
-use Rattle.archive_retrieve.specs.Laws.{SameSitesSendAlike, NothingHiddenIsSent, WhatIsShownIsSent, WhatIsSentAscends, WhatNeedsNothingIsSentAsItCame, SentHasAttributes, SentKeepsOthers}
+use Rattle.archive_retrieve.specs.Sending.{in_form, is_sent_as_stored, IsWritten, IsBody, IsSending, AreSendings, Gets, text_for, body_for, sending_for, sendings_of}
+use Rattle.archive_retrieve.specs.Laws.{SameSitesSendAlike, WhatIsSentIsComputed, NothingHiddenIsSent, WhatIsShownIsSent, WhatIsSentAscends, WhatNeedsNothingIsSentAsItCame, SentHasAttributes, SentKeepsOthers}
 
 -- ---- one answer
 
@@ -77,6 +79,37 @@ same_sites view selection accepts one other these those same a b =
     let is = same_map nat_list_cmp_total (slice_cmp-IsAntisymmetric nat_cmp-IsAntisymmetric) one other same in
     sendings_once (ops_of other) accepts.list (selected selection (shown view (ops_of other))) these those
     (subst (λ (m : Map). AreSendings (ops_of m) accepts.list (selected selection (shown view (ops_of m))) these) is a) b
+
+-- ---- computed
+
+text_computed : (ops : List Op) (c : ContentParts) (form : Form) (b : Bool) (t : List ℕ) → MatchBool b (t ≡ c.body) (IsWritten ops c form t)
+    → t ≡ cond b c.body (text_of (in_form form (coerced ops c (elements_in c.syntax c.body))))
+text_computed ops c form true t is = is
+text_computed ops c form false t is =
+    is.exact
+    ∙ ap (λ (ts : List Tree). text_of (in_form form ts)) is.are_coerced.2
+    ∙ ap (λ (ts : List Tree). text_of (in_form form (coerced ops c ts))) (sym (spelled_in c.syntax c.body is.are_coerced.0 is.are_coerced.1))
+
+body_computed : (ops : List Op) (c : ContentParts) (form : Option Form) (body : Option (Syntax × List ℕ)) → IsBody ops c form body → body ≡ body_for ops c form
+body_computed ops c None body is = is
+body_computed ops c (Some form) body is =
+    is.1 ∙ ap (λ (t : List ℕ). Some (syntax_of form c.syntax, t)) (text_computed ops c form (is_sent_as_stored ops c form) is.0 is.2)
+
+sending_computed : (ops : List Op) (accepted : List Accepted) (c : ContentParts) (x : Sending) → IsSending ops accepted c x → x ≡ sending_for ops accepted c
+sending_computed ops accepted c x is =
+    sending_of x (sending_for ops accepted c) is.class is.instance (body_computed ops c (form_for accepted c.class c.syntax) x.body is.body)
+
+sendings_computed : (ops : List Op) (accepted : List Accepted) (cs : List ContentParts) (xs : List Sending) → AreSendings ops accepted cs xs → xs ≡ map (sending_for ops accepted) cs
+sendings_computed ops accepted [] [] are = refl
+sendings_computed ops accepted [] (x ∷ xs) are = absurd are
+sendings_computed ops accepted (c ∷ cs) [] are = absurd are
+sendings_computed ops accepted (c ∷ cs) (x ∷ xs) are =
+    ap (λ (y : Sending). y ∷ xs) (sending_computed ops accepted c x are.0)
+    ∙ ap (λ (ys : List Sending). sending_for ops accepted c ∷ ys) (sendings_computed ops accepted cs xs are.1)
+
+pub sent_computed : WhatIsSentIsComputed
+unfolding Gets sendings_of
+sent_computed view selection accepts ops sendings gets = sendings_computed ops accepts.list (selected selection (shown view ops)) sendings gets
 
 -- ---- what is sent is shown
 

@@ -26,7 +26,7 @@ use Rattle.archive_retrieve.specs.declared.selection.Selection.{Selection}
 use Rattle.archive_retrieve.specs.declared.sending.Sending.{Sending}
 use Rattle.archive_retrieve.specs.Accepts.{form_for, syntax_of}
 use Rattle.archive_retrieve.specs.Selection.{is_selected}
-use Rattle.archive_retrieve.specs.Sending.{IsWritten, IsSending, Gets}
+use Rattle.archive_retrieve.specs.Sending.{IsWritten, IsSending, Gets, sendings_of}
 
 -- two sites that hold the same operation under each digest send the same, byte for byte
 abbrev pub SameSitesSendAlike : Type 0
@@ -35,6 +35,12 @@ SameSitesSendAlike =
     → ((digest : List ℕ) → held_at one digest ≡ held_at other digest)
     → Gets view selection accepts (ops_of one) these → Gets view selection accepts (ops_of other) those
     → these ≡ those
+
+-- what is sent is a function of the set
+abbrev pub WhatIsSentIsComputed : Type 0
+WhatIsSentIsComputed =
+    (view : View) (selection : Selection) (accepts : Accepts) (ops : List Op) (sendings : List Sending)
+    → Gets view selection accepts ops sendings → sendings ≡ sendings_of view selection accepts ops
 
 -- an instance that is sent is a pick that is selected, is not covered in the view, and is no note that hides there
 pub record IsShownPick (view : View) (selection : Selection) (ops : List Op) (sending : Sending) : Type 0 where

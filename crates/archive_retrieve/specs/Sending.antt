@@ -1,5 +1,5 @@
 -- What a C-GET sends over a set of operations, which is the list of its operations ascending by digest (PS3.4, C.4.3).
-use Rattle.std.specs.Prelude.{◌≡◌, ℕ, List, [], ◌∷◌, Bool, false, not, Option, Some, None, MatchBool}
+use Rattle.std.specs.Prelude.{◌≡◌, ℕ, List, [], ◌∷◌, Bool, false, not, Option, Some, None, MatchBool, map, if◌then◌else◌}
 use Rattle.data_set.specs.declared.syntax.Syntax.{Syntax}
 use Rattle.data_set.specs.declared.syntax.Syntax.TheVariants.{Implicit}
 use Rattle.data_set.specs.Tree.{Tree}
@@ -7,11 +7,12 @@ use Rattle.data_set.specs.Set.{Set}
 use Rattle.data_set.specs.Texts.{Spells}
 use Rattle.data_set.specs.Written.{text_of}
 use Rattle.data_set.specs.Converted.{converted}
+use Rattle.data_set.specs.Reading.{elements_in}
 use Rattle.operation.specs.declared.op.Op.{Op}
 use Rattle.operation.specs.Parts.{ContentParts}
 use Rattle.archive_model.specs.declared.view.View.{View}
 use Rattle.archive_model.specs.Shown.{shown}
-use Rattle.archive_model.specs.Coercion.{is_coerced, AreCoerced}
+use Rattle.archive_model.specs.Coercion.{is_coerced, coerced as coerced_by, AreCoerced}
 use Rattle.archive_retrieve.specs.declared.accepts.Accepted.{Accepted}
 use Rattle.archive_retrieve.specs.declared.accepts.Accepts.{Accepts}
 use Rattle.archive_retrieve.specs.declared.accepts.Form.{Form}
@@ -74,3 +75,23 @@ AreSendings ops accepted (c ∷ cs) [] = ⊥
 -- what a C-GET sends: of each content that is shown and selected, by ascending SOP Instance UID
 unfoldable pub Gets : View → Selection → Accepts → List Op → List Sending → Type 0
 Gets view selection accepts ops sendings = AreSendings ops accepts.list (selected selection (shown view ops)) sendings
+
+-- ---- the same as a function of the set
+
+-- the bytes of a content that are sent, with its elements as they are read from its bytes
+abbrev pub text_for : List Op → ContentParts → Form → List ℕ
+text_for ops c form =
+    if is_sent_as_stored ops c form then c.body
+    else text_of (in_form form (coerced_by ops c (elements_in c.syntax c.body)))
+
+abbrev pub body_for : List Op → ContentParts → Option Form → Option (Syntax × List ℕ)
+body_for ops c None = None
+body_for ops c (Some form) = Some (syntax_of form c.syntax, text_for ops c form)
+
+abbrev pub sending_for : List Op → List Accepted → ContentParts → Sending
+sending_for ops accepted c =
+    record { class = c.class; instance = c.instance; body = body_for ops c (form_for accepted c.class c.syntax) }
+
+-- what a C-GET sends, computed
+unfoldable pub sendings_of : View → Selection → Accepts → List Op → List Sending
+sendings_of view selection accepts ops = map (sending_for ops accepts.list) (selected selection (shown view ops))

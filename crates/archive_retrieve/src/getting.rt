@@ -1,8 +1,8 @@
 //! C-GET over a site (PS3.4, section C.4.3).
 
-ghost use Rattle.std.specs.Prelude.{IfOk, map};
+ghost use Rattle.std.specs.Prelude.{◌≡◌, IfOk, map};
 ghost use Rattle.site_state.specs.Site.{ops_of};
-ghost use Rattle.archive_retrieve.specs.Sending.{AreSendings, Gets};
+ghost use Rattle.archive_retrieve.specs.Sending.{AreSendings, Gets, sendings_of};
 
 use crate::accepts::Accepts;
 use crate::selected::selected;
@@ -39,8 +39,10 @@ fn gotten(
     selection: &Selection,
     accepts: &Accepts,
 ) -> Result<Vec<Sending>, AllocError>
-    ensures { IfOk result (λ found.
+    ensures gets { IfOk result (λ found.
         Gets view selection.now accepts.now (map (λ o. o.now) ops.now) found.items) }
+    ensures computed { IfOk result (λ found.
+        found.items ≡ sendings_of view selection.now accepts.now (map (λ o. o.now) ops.now)) }
 {
     let held = contents(alloc, ops)?;
     let corrections = corrections_only(alloc, ops)?;
@@ -62,8 +64,10 @@ pub fn get(
     selection: &Selection,
     accepts: &Accepts,
 ) -> Result<Vec<Sending>, AllocError>
-    ensures { IfOk result (λ found.
+    ensures gets { IfOk result (λ found.
         Gets view selection.now accepts.now (ops_of site.now) found.items) }
+    ensures computed { IfOk result (λ found.
+        found.items ≡ sendings_of view selection.now accepts.now (ops_of site.now)) }
 {
     let ops = site.operations(alloc)?;
     let found = gotten(alloc, &ops, view, selection, accepts)?;

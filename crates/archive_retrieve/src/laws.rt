@@ -1,10 +1,15 @@
 //! What is sent, as contracts of functions that do nothing.
 
-ghost use Rattle.archive_retrieve.specs.Laws.{SameSitesSendAlike, NothingHiddenIsSent, WhatIsShownIsSent, WhatIsSentAscends, WhatNeedsNothingIsSentAsItCame, SentHasAttributes, SentKeepsOthers};
+ghost use Rattle.archive_retrieve.specs.Laws.{SameSitesSendAlike, WhatIsSentIsComputed, NothingHiddenIsSent, WhatIsShownIsSent, WhatIsSentAscends, WhatNeedsNothingIsSentAsItCame, SentHasAttributes, SentKeepsOthers};
 
 /// Two sites that hold the same operations send the same, in whatever order they took them.
 pub fn same_sites_send_alike()
     ensures { SameSitesSendAlike }
+{}
+
+/// What is sent is a function of the set, which computes it.
+pub fn what_is_sent_is_computed()
+    ensures { WhatIsSentIsComputed }
 {}
 
 /// What is sent is shown and selected, and what is shown and selected is sent, once, by ascending

@@ -3,6 +3,7 @@ pub mod HeaderLaws
 pub mod Steps
 pub mod Once
 pub mod Sets
+pub mod Reading
 pub mod Kept
 pub mod Outcomes
 pub mod Lists

@@ -8,6 +8,7 @@ pub mod Vr
 pub mod Header
 pub mod Spelling
 pub mod Texts
+pub mod Reading
 pub mod Seen
 pub mod Written
 pub mod Set

@@ -7,6 +7,7 @@ ghost use Rattle.data_set.specs.declared.fault.SetFault.{SetFault};
 ghost use Rattle.data_set.specs.declared.syntax.Syntax.{Syntax};
 ghost use Rattle.data_set.specs.Tree.{Tree};
 ghost use Rattle.data_set.specs.Texts.{Spells, HasFault};
+ghost use Rattle.data_set.specs.Reading.{elements_in};
 ghost use Rattle.data_set.specs.Written.{IsSet, text_of};
 ghost use Rattle.data_set.specs.Tags.{is_group_length};
 ghost use Rattle.octets.specs.Padding.{trimmed};
@@ -17,6 +18,12 @@ ghost use Rattle.data_set.specs.Converted.{converted, converted_items_of, with_v
 pub fn one_reading()
     ensures { (syntax : Syntax) (text : List ℕ) (ts us : List Tree) →
         Spells syntax text ts → Spells syntax text us → ts ≡ us }
+{}
+
+/// What a text spells is a function of the text.
+pub fn what_is_spelled_is_computed()
+    ensures { (syntax : Syntax) (text : List ℕ) (ts : List Tree) →
+        Spells syntax text ts → elements_in syntax text ≡ ts }
 {}
 
 /// A text that spells elements has no fault.

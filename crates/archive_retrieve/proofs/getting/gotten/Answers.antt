@@ -7,13 +7,14 @@ use Rattle.archive_model.specs.Shown.{shown}
 use Rattle.archive_query.proofs.RowLaws.{corrections_alone}
 use Rattle.archive_retrieve.specs.Selection.{selected}
 use Rattle.archive_retrieve.specs.Sending.{AreSendings, Gets}
+use Rattle.archive_retrieve.proofs.RetrieveLaws.{sent_computed}
 use Rattle.archive_retrieve.proofs.SendingLaws.{sendings_alike}
 use Rattle.archive_retrieve.proofs.getting.gotten.Goals as goal
 
 -- What is sent is sent of what is shown and selected, with the corrections of the set.
-pub returns : goal.returns
+pub returns-clause-gets : goal.returns-clause-gets
 unfolding Gets
-returns c =
+returns-clause-gets c =
     let accepted = c.args.accepts.now.list in
     let selection = c.args.selection.now in
     let op_of = λ (o : Bor Op). o.now in
@@ -31,3 +32,9 @@ returns c =
     let sent = subst (λ (os : List (Bor Op)). AreSendings (map op_of os) accepted (map content_of c.deref-4.result.now) found) c.deref-3.ensures.value c.in_ok-found.ensures in
     subst (λ (cs : List ContentParts). AreSendings ops accepted cs found) these
     (sendings_alike ops corrected (ap corrections c.in_ok-corrections.ensures ∙ corrections_alone ops) accepted (map content_of c.deref-4.result.now) found sent)
+
+-- And it is what the definition computes.
+pub returns-clause-computed : goal.returns-clause-computed
+returns-clause-computed c =
+    sent_computed c.args.view c.args.selection.now c.args.accepts.now (map (λ (o : Bor Op). o.now) c.args.ops.now)
+    c.in_ok-found.found.items (returns-clause-gets c)
