@@ -32,29 +32,40 @@ use Rattle.operation.proofs.ReadingLaws.{draft_takes, parts_takes}
 abbrev Judged : Draft → Type 0
 Judged d = ((c : ContentParts) × (draft_of c ≡ d) × IsContent c) ⊎ ((f : OpFault) × IsRefused d f)
 
-by_note : (d : Draft) (elements : List Tree) → IsShort d → Spells d.syntax d.body elements → has_uids d.class d.instance elements ≡ true → names_itself d.class d.instance elements ≡ true
+by_note : (d : Draft) (elements : List Tree) → IsShort d → Spells d.syntax d.body elements
+    → has_uids d.class d.instance elements ≡ true → names_itself d.class d.instance elements ≡ true
     → (r : Result (Option Note) NoteFault) → note_in d.class elements ≡ r → Judged d
 by_note d elements short spelled uids names (Ok note) said =
     let c : ContentParts =
-    record { class = d.class; instance = d.instance; syntax = d.syntax; body = d.body; values = values_in elements; note = note }
+    record {
+      class = d.class;
+      instance = d.instance;
+      syntax = d.syntax;
+      body = d.body;
+      values = values_in elements;
+      note = note;
+    }
     in
     inl (c, refl, made c elements short spelled uids names said refl)
 by_note d elements short spelled uids names (Err f) said =
     inr (BadNote, (short, (elements, spelled, of_its_names d elements uids names ∙ ap note_offence said)))
 
-by_names : (d : Draft) (elements : List Tree) → IsShort d → Spells d.syntax d.body elements → has_uids d.class d.instance elements ≡ true → (b : Bool) → names_itself d.class d.instance elements ≡ b → Judged d
+by_names : (d : Draft) (elements : List Tree) → IsShort d → Spells d.syntax d.body elements
+    → has_uids d.class d.instance elements ≡ true → (b : Bool) → names_itself d.class d.instance elements ≡ b → Judged d
 by_names d elements short spelled uids true names =
     by_note d elements short spelled uids names (note_in d.class elements) refl
 by_names d elements short spelled uids false names =
     inr (Mismatch, (short, (elements, spelled, of_other_names d elements uids names)))
 
-by_uids : (d : Draft) (elements : List Tree) → IsShort d → Spells d.syntax d.body elements → (b : Bool) → has_uids d.class d.instance elements ≡ b → Judged d
+by_uids : (d : Draft) (elements : List Tree) → IsShort d → Spells d.syntax d.body elements → (b : Bool)
+    → has_uids d.class d.instance elements ≡ b → Judged d
 by_uids d elements short spelled true uids =
     by_names d elements short spelled uids (names_itself d.class d.instance elements) refl
 by_uids d elements short spelled false uids =
     inr (NoUid, (short, (elements, spelled, without_uids d elements uids)))
 
-by_set : (d : Draft) → IsShort d → ((ts : List Tree) × Spells d.syntax d.body ts) ⊎ ((f : SetFault) × set_has_fault d.syntax d.body f) → Judged d
+by_set : (d : Draft) → IsShort d
+    → ((ts : List Tree) × Spells d.syntax d.body ts) ⊎ ((f : SetFault) × set_has_fault d.syntax d.body f) → Judged d
 by_set d short (inl (ts, spelled)) = by_uids d ts short spelled (has_uids d.class d.instance ts) refl
 by_set d short (inr (f, has)) = inr (BadSet, (short, λ ts spelled. fault_or_spelled d.syntax d.body ts f spelled has))
 
@@ -78,7 +89,8 @@ body_bytes : (d : Draft) (text : List ℕ) → IsBytes text → text ≡ draft_t
 body_bytes d text fits spelled =
     let size = to_be_bytes w32 (length d.body) in
     let whole : IsBytes (draft_text d) = subst IsBytes spelled fits in
-    let behind_class = rest_bytes (short_text d.class) (short_text d.instance ++ (syntax_byte d.syntax ∷ (size ++ d.body))) whole in
+    let behind_class = rest_bytes (short_text d.class) (short_text d.instance ++
+    (syntax_byte d.syntax ∷ (size ++ d.body))) whole in
     let behind_instance = rest_bytes (short_text d.instance) (syntax_byte d.syntax ∷ (size ++ d.body)) behind_class in
     rest_bytes size d.body (IsBytes-tail (syntax_byte d.syntax) (size ++ d.body) behind_instance)
 
@@ -95,23 +107,28 @@ of_draft text fits (Ok d) read =
     of_judged text d read spelled (by_length d (body_bytes d text fits spelled) (nat_le (length d.body) longest) refl)
 of_draft text fits (Err f) read = inr (f, subst (λ (r : Result Draft OpFault). IsFaultOf r f) (sym read) refl)
 
-corrected : (text : List ℕ) (k : CorrectionParts) → IsBytes text → correction_at text ≡ Ok k → IsCorrection k × (text ≡ spelling (a_correction k))
+corrected : (text : List ℕ) (k : CorrectionParts) → IsBytes text → correction_at text ≡ Ok k
+    → IsCorrection k × (text ≡ spelling (a_correction k))
 unfolding correction_at spelling
 corrected text k fits e =
     let p = bind_ok (parts_at text) checked k e in
     let t = parts_takes text p.0 fits p.1 in
     let g = guard_end (is_correction p.0) BadCorrection p.0 k p.2 in
-    subst (λ (x : CorrectionParts). IsCorrection x × (text ≡ correction_text x)) g.1 (record { lawful = g.0; counter = t.1; site = t.2 }, t.0)
+    subst (λ (x : CorrectionParts). IsCorrection x × (text ≡ correction_text x)) g.1
+    (record { lawful = g.0; counter = t.1; site = t.2 }, t.0)
 
-of_second : (text : List ℕ) → IsBytes (2 ∷ text) → (r : Result CorrectionParts OpFault) → correction_at (2 ∷ text) ≡ r → Comes (2 ∷ text)
+of_second : (text : List ℕ) → IsBytes (2 ∷ text) → (r : Result CorrectionParts OpFault) → correction_at (2 ∷ text) ≡ r
+    → Comes (2 ∷ text)
 of_second text fits (Ok k) e = let c = corrected (2 ∷ text) k fits e in inl (a_correction k, c.0, c.1)
 of_second text fits (Err f) e = inr (f, e)
 
-of_third : (text : List ℕ) → IsBytes (3 ∷ text) → (r : Result CorrectionParts OpFault) → correction_at (3 ∷ text) ≡ r → Comes (3 ∷ text)
+of_third : (text : List ℕ) → IsBytes (3 ∷ text) → (r : Result CorrectionParts OpFault) → correction_at (3 ∷ text) ≡ r
+    → Comes (3 ∷ text)
 of_third text fits (Ok k) e = let c = corrected (3 ∷ text) k fits e in inl (a_correction k, c.0, c.1)
 of_third text fits (Err f) e = inr (f, e)
 
-pub has_outcome : (text : List ℕ) → IsBytes text → ((op : Op) × IsOp op × (text ≡ spelling op)) ⊎ ((f : OpFault) × HasFault text f)
+pub has_outcome : (text : List ℕ) → IsBytes text
+    → ((op : Op) × IsOp op × (text ≡ spelling op)) ⊎ ((f : OpFault) × HasFault text f)
 has_outcome [] fits = inr (Shape, refl)
 has_outcome (zero ∷ text) fits = inr (UnknownKind, refl)
 has_outcome (suc zero ∷ text) fits = of_draft text (IsBytes-tail 1 text fits) (draft_at text) refl
