@@ -1,9 +1,0 @@
-pub mod Heard
-pub mod Hearing
-pub mod Reply
-pub mod Response
-pub mod Runs
-pub mod Saying
-pub mod Service
-pub mod Session
-pub mod Standing
