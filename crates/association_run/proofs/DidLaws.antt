@@ -6,12 +6,12 @@ use Rattle.std.proofs.lemmas.Grind.{flat_map-append}
 use Rattle.pdu.specs.declared.value.Pdu.{Pdu}
 use Rattle.pdu.specs.Spelling.{text_of}
 use Rattle.operation.specs.declared.op.Op.{Op}
-use Rattle.association_deeds.specs.declared.deed.Call.{Call}
-use Rattle.association_deeds.specs.declared.deed.Deed.{Deed}
-use Rattle.association_deeds.specs.declared.deed.Deed.TheVariants.{Send, Reach, Ask, Close}
-use Rattle.association_deeds.specs.declared.deed.Moment.{Moment}
-use Rattle.association_deeds.specs.declared.reply.Reply.{Reply}
-use Rattle.association_deeds.specs.Projections.{IsFront, sent_in, moments_in, calls_in}
+use Rattle.association_session.specs.declared.deed.Call.{Call}
+use Rattle.association_session.specs.declared.deed.Deed.{Deed}
+use Rattle.association_session.specs.declared.deed.Deed.TheVariants.{Send, Reach, Ask, Close}
+use Rattle.association_session.specs.declared.deed.Moment.{Moment}
+use Rattle.association_session.specs.declared.reply.Reply.{Reply}
+use Rattle.association_session.specs.Projections.{IsFront, sent_in, moments_in, calls_in}
 use Rattle.association_run.specs.Port.{Replies, History}
 use Rattle.association_run.specs.Parts.{Passed, Sides, sides, bytes_in, Did, next_bytes, Begins}
 use Rattle.association_run.specs.Steps.{Halts, BreaksOff}

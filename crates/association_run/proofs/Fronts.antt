@@ -2,9 +2,9 @@
 use Rattle.std.proofs.Common.{ℕ, List, [], ◌++◌, take, drop, Option, Some, None, refl, sym, ap, ◌∙◌, append_assoc, append-nil}
 use Rattle.std.specs.Io.KnownBytes.{Appends, Consumes, Keeps}
 use Rattle.std.proofs.lemmas.List.{take-append-drop}
-use Rattle.association_deeds.specs.Projections.{IsFront}
+use Rattle.association_session.specs.Projections.{IsFront}
 use Rattle.association_run.specs.Parts.{Passed}
-use Rattle.association_deeds.specs.declared.deed.Moment.{Moment}
+use Rattle.association_session.specs.declared.deed.Moment.{Moment}
 
 pub further : (a b c : Option (List ℕ)) (x y : List ℕ) → Appends a b x → Appends b c y → Appends a c (x ++ y)
 further None b c x y p q = tt

@@ -14,20 +14,20 @@ use Rattle.dimse.specs.declared.fault.DimseFault.{DimseFault}
 use Rattle.dimse.specs.declared.message.Message.{Message}
 use Rattle.dimse.specs.Assembly.{Assembly}
 use Rattle.dimse.specs.Messages.{Run, HadMemory}
-use Rattle.association_deeds.specs.declared.deed.Call.{Call}
-use Rattle.association_deeds.specs.declared.deed.Deed.{Deed}
-use Rattle.association_deeds.specs.declared.deed.Deed.TheVariants.{Send, Reach, Ask, Close}
-use Rattle.association_deeds.specs.declared.event.SessionEvent.{SessionEvent}
-use Rattle.association_deeds.specs.declared.event.SessionEvent.TheVariants as inputs
-use Rattle.association_deeds.specs.declared.reply.Reply.{Reply}
-use Rattle.association_deeds.specs.Order.{IsOrderly}
-use Rattle.association_deeds.specs.Projections.{IsFront, calls_in, state_after, state_by_pdu}
-use Rattle.association_deeds.specs.Response.{Awaited}
-use Rattle.association_deeds.specs.Row.{Within, met}
-use Rattle.association_deeds.specs.Session.{AssociationState, SessionState, HearsValues, Turned, Takes, Owes, OwedFor, Stops, IsFewer, started, heard_in, is_left, in_turn, is_in_turn, is_abort, is_release, is_abort_event, reads_abort, aborted_by, met_in, replies_in}
-use Rattle.association_deeds.specs.Talks.{Heard, Met, Said, Leads, Talks, behind}
-use Rattle.association_deeds.proofs.HearLaws.{owed_idle}
-use Rattle.association_deeds.proofs.OrderLaws.{orderly}
+use Rattle.association_session.specs.declared.deed.Call.{Call}
+use Rattle.association_session.specs.declared.deed.Deed.{Deed}
+use Rattle.association_session.specs.declared.deed.Deed.TheVariants.{Send, Reach, Ask, Close}
+use Rattle.association_session.specs.declared.event.SessionEvent.{SessionEvent}
+use Rattle.association_session.specs.declared.event.SessionEvent.TheVariants as inputs
+use Rattle.association_session.specs.declared.reply.Reply.{Reply}
+use Rattle.association_session.specs.Order.{IsOrderly}
+use Rattle.association_session.specs.Projections.{IsFront, calls_in, state_after, state_by_pdu}
+use Rattle.association_session.specs.Response.{Awaited}
+use Rattle.association_session.specs.Row.{Within, met}
+use Rattle.association_session.specs.Session.{AssociationState, SessionState, HearsValues, Turned, Takes, Owes, OwedFor, Stops, IsFewer, started, heard_in, is_left, in_turn, is_in_turn, is_abort, is_release, is_abort_event, reads_abort, aborted_by, met_in, replies_in}
+use Rattle.association_session.specs.Talks.{Heard, Met, Said, Leads, Talks, behind}
+use Rattle.association_session.proofs.HearLaws.{owed_idle}
+use Rattle.association_session.proofs.OrderLaws.{orderly}
 use Rattle.association_run.specs.Hearing.{Place, Says, Hears, HearsSome}
 use Rattle.association_run.specs.Parts.{Sides, Did, Begins}
 use Rattle.association_run.specs.Port.{History}

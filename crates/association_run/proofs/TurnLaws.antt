@@ -21,14 +21,14 @@ use Rattle.dimse.specs.declared.fault.DimseFault.{DimseFault}
 use Rattle.dimse.specs.declared.message.Message.{Message}
 use Rattle.dimse.specs.Assembly.{Assembly}
 use Rattle.dimse.specs.Messages.{Run}
-use Rattle.association_deeds.specs.declared.deed.Deed.{Deed}
-use Rattle.association_deeds.specs.declared.event.SessionEvent.TheVariants as inputs
-use Rattle.association_deeds.specs.declared.reply.Reply.{Reply}
-use Rattle.association_deeds.specs.Projections.{IsFront}
-use Rattle.association_deeds.specs.Row.{Within, opening, handed_on}
-use Rattle.association_deeds.specs.Session.{AssociationState, SessionState, Takes, Owes, start, is_left, heard_in, is_abort, is_release, is_abort_event}
-use Rattle.association_deeds.specs.Talks.{Heard, Leads, Talks}
-use Rattle.association_deeds.proofs.TalkLaws.{talks_front}
+use Rattle.association_session.specs.declared.deed.Deed.{Deed}
+use Rattle.association_session.specs.declared.event.SessionEvent.TheVariants as inputs
+use Rattle.association_session.specs.declared.reply.Reply.{Reply}
+use Rattle.association_session.specs.Projections.{IsFront}
+use Rattle.association_session.specs.Row.{Within, opening, handed_on}
+use Rattle.association_session.specs.Session.{AssociationState, SessionState, Takes, Owes, start, is_left, heard_in, is_abort, is_release, is_abort_event}
+use Rattle.association_session.specs.Talks.{Heard, Leads, Talks}
+use Rattle.association_session.proofs.TalkLaws.{talks_front}
 use Rattle.association_run.specs.declared.piece.Piece.{Piece}
 use Rattle.association_run.specs.declared.piece.Piece.TheVariants.{Whole, Faulty}
 use Rattle.association_run.specs.declared.end.End.{End}

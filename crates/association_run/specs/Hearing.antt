@@ -13,9 +13,9 @@ use Rattle.dimse.specs.declared.fault.DimseFault.{DimseFault}
 use Rattle.dimse.specs.declared.message.Message.{Message}
 use Rattle.dimse.specs.Assembly.{Assembly}
 use Rattle.dimse.specs.Messages.{Run, HadMemory}
-use Rattle.association_deeds.specs.Row.{Within, opening, met, handed_on}
-use Rattle.association_deeds.specs.Session.{heard_in, stage_by}
-use Rattle.association_deeds.specs.Talks.{Heard, Met, Leads}
+use Rattle.association_session.specs.Row.{Within, opening, met, handed_on}
+use Rattle.association_session.specs.Session.{heard_in, stage_by}
+use Rattle.association_session.specs.Talks.{Heard, Met, Leads}
 use Rattle.association_run.specs.declared.piece.Piece.{Piece}
 use Rattle.association_run.specs.Pieces.{event_of, size_of_piece}
 

@@ -7,13 +7,13 @@ use Rattle.operation.specs.declared.op.Op.{Op}
 use Rattle.ul_state.specs.declared.table.State.{State}
 use Rattle.ul_state.specs.declared.table.State.TheVariants.{Sta1, Sta2, Sta6, Sta13}
 use Rattle.ul_state.specs.declared.titles.Title.{Title}
-use Rattle.association_deeds.specs.declared.deed.Deed.{Deed}
-use Rattle.association_deeds.specs.declared.event.SessionEvent.TheVariants as inputs
-use Rattle.association_deeds.specs.declared.reply.Reply.{Reply}
-use Rattle.association_deeds.specs.Projections.{IsFront}
-use Rattle.association_deeds.specs.Row.{opening}
-use Rattle.association_deeds.specs.Session.{is_abort, is_release, is_abort_event}
-use Rattle.association_deeds.specs.Talks.{Heard, Talks}
+use Rattle.association_session.specs.declared.deed.Deed.{Deed}
+use Rattle.association_session.specs.declared.event.SessionEvent.TheVariants as inputs
+use Rattle.association_session.specs.declared.reply.Reply.{Reply}
+use Rattle.association_session.specs.Projections.{IsFront}
+use Rattle.association_session.specs.Row.{opening}
+use Rattle.association_session.specs.Session.{is_abort, is_release, is_abort_event}
+use Rattle.association_session.specs.Talks.{Heard, Talks}
 use Rattle.association_run.specs.declared.end.End.{End}
 use Rattle.association_run.specs.declared.end.End.TheVariants.{Released, Aborted, Closed, Dropped}
 use Rattle.association_run.specs.declared.piece.Piece.{Piece}

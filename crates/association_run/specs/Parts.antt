@@ -4,11 +4,11 @@ use Rattle.std.specs.List.{flat_map}
 use Rattle.std.specs.Io.KnownBytes.{Appends}
 use Rattle.pdu.specs.Spelling.{text_of}
 use Rattle.operation.specs.declared.op.Op.{Op}
-use Rattle.association_deeds.specs.declared.deed.Deed.{Deed}
-use Rattle.association_deeds.specs.declared.deed.Deed.TheVariants.{Send, Reach, Ask, Close}
-use Rattle.association_deeds.specs.declared.deed.Moment.{Moment}
-use Rattle.association_deeds.specs.declared.reply.Reply.{Reply}
-use Rattle.association_deeds.specs.Projections.{IsFront, sent_in, moments_in, calls_in}
+use Rattle.association_session.specs.declared.deed.Deed.{Deed}
+use Rattle.association_session.specs.declared.deed.Deed.TheVariants.{Send, Reach, Ask, Close}
+use Rattle.association_session.specs.declared.deed.Moment.{Moment}
+use Rattle.association_session.specs.declared.reply.Reply.{Reply}
+use Rattle.association_session.specs.Projections.{IsFront, sent_in, moments_in, calls_in}
 use Rattle.association_run.specs.Port.{History}
 
 -- The gate was reached at these moments. A gate that keeps none says nothing, nor does one from the moment on that it could not keep.

@@ -5,12 +5,12 @@ use Rattle.operation.specs.declared.op.Op.{Op}
 use Rattle.operation.specs.declared.op.Op.TheVariants.{Content}
 use Rattle.operation.specs.Spelling.{digest_of}
 use Rattle.operation.specs.declared.taken.Taken.{Taken}
-use Rattle.association_deeds.specs.declared.deed.Call.{Call}
-use Rattle.association_deeds.specs.declared.deed.Call.TheVariants.{Store}
-use Rattle.association_deeds.specs.declared.reply.PortFault.{PortFault}
-use Rattle.association_deeds.specs.declared.reply.PortFault.TheVariants.{Memory, Busy, Collision, Shelf}
-use Rattle.association_deeds.specs.declared.reply.Reply.{Reply}
-use Rattle.association_deeds.specs.declared.reply.Reply.TheVariants.{Stored}
+use Rattle.association_session.specs.declared.deed.Call.{Call}
+use Rattle.association_session.specs.declared.deed.Call.TheVariants.{Store}
+use Rattle.association_session.specs.declared.reply.PortFault.{PortFault}
+use Rattle.association_session.specs.declared.reply.PortFault.TheVariants.{Memory, Busy, Collision, Shelf}
+use Rattle.association_session.specs.declared.reply.Reply.{Reply}
+use Rattle.association_session.specs.declared.reply.Reply.TheVariants.{Stored}
 
 -- ---- one call
 

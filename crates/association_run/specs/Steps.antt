@@ -5,15 +5,15 @@ use Rattle.operation.specs.declared.op.Op.{Op}
 use Rattle.pdu.specs.declared.pdv.Pdv.{Pdv}
 use Rattle.ul_state.specs.declared.event.Event.{Event}
 use Rattle.ul_state.specs.declared.titles.Title.{Title}
-use Rattle.association_deeds.specs.declared.deed.Deed.{Deed}
-use Rattle.association_deeds.specs.declared.deed.Deed.TheVariants.{Send, Reach, Ask, Close}
-use Rattle.association_deeds.specs.declared.event.SessionEvent.{SessionEvent}
-use Rattle.association_deeds.specs.declared.event.SessionEvent.TheVariants as inputs
-use Rattle.association_deeds.specs.declared.reply.Reply.{Reply}
-use Rattle.association_deeds.specs.Projections.{IsFront}
-use Rattle.association_deeds.specs.Response.{Awaited}
-use Rattle.association_deeds.specs.Session.{AssociationState, SessionState, Turned, Takes, IsFewer, IsSound, is_in_turn, is_left, is_abort, is_release, is_abort_event, aborted_by, released_by, met_in, replies_in}
-use Rattle.association_deeds.specs.Talks.{Heard}
+use Rattle.association_session.specs.declared.deed.Deed.{Deed}
+use Rattle.association_session.specs.declared.deed.Deed.TheVariants.{Send, Reach, Ask, Close}
+use Rattle.association_session.specs.declared.event.SessionEvent.{SessionEvent}
+use Rattle.association_session.specs.declared.event.SessionEvent.TheVariants as inputs
+use Rattle.association_session.specs.declared.reply.Reply.{Reply}
+use Rattle.association_session.specs.Projections.{IsFront}
+use Rattle.association_session.specs.Response.{Awaited}
+use Rattle.association_session.specs.Session.{AssociationState, SessionState, Turned, Takes, IsFewer, IsSound, is_in_turn, is_left, is_abort, is_release, is_abort_event, aborted_by, released_by, met_in, replies_in}
+use Rattle.association_session.specs.Talks.{Heard}
 use Rattle.association_run.specs.Hearing.{Place, Hears, HearsSome}
 use Rattle.association_run.specs.Parts.{Sides, Did, Begins}
 

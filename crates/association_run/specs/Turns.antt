@@ -6,10 +6,10 @@ use Rattle.operation.specs.declared.op.Op.{Op}
 use Rattle.ul_state.specs.declared.table.State.{State}
 use Rattle.ul_state.specs.declared.table.State.TheVariants.{Sta1, Sta13}
 use Rattle.ul_state.specs.declared.titles.Title.{Title}
-use Rattle.association_deeds.specs.declared.deed.Deed.{Deed}
-use Rattle.association_deeds.specs.declared.reply.Reply.{Reply}
-use Rattle.association_deeds.specs.Session.{SessionState, Takes, start, is_left}
-use Rattle.association_deeds.specs.Talks.{Heard}
+use Rattle.association_session.specs.declared.deed.Deed.{Deed}
+use Rattle.association_session.specs.declared.reply.Reply.{Reply}
+use Rattle.association_session.specs.Session.{SessionState, Takes, start, is_left}
+use Rattle.association_session.specs.Talks.{Heard}
 use Rattle.association_run.specs.declared.end.End.{End}
 use Rattle.association_run.specs.declared.fault.RunFault.{RunFault}
 use Rattle.association_run.specs.declared.piece.Piece.{Piece}

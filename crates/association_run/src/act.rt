@@ -4,9 +4,9 @@ ghost use Rattle.std.specs.Prelude.{◌≡◌, ◌≢◌, ◌∷◌, [], ℕ, Li
 ghost use Rattle.std.specs.Io.KnownBytes.{Appends};
 ghost use Rattle.pdu.specs.Spelling.{IsPdu, text_of};
 ghost use Rattle.ul_state.specs.declared.table.State.TheVariants.{Sta1};
-ghost use Rattle.association_deeds.specs.declared.event.SessionEvent.TheVariants.{Heard};
-ghost use Rattle.association_deeds.specs.Projections.{IsFront};
-ghost use Rattle.association_deeds.specs.Session.{IsSound, IsWritable, is_in_turn, is_left};
+ghost use Rattle.association_session.specs.declared.event.SessionEvent.TheVariants.{Heard};
+ghost use Rattle.association_session.specs.Projections.{IsFront};
+ghost use Rattle.association_session.specs.Session.{IsSound, IsWritable, is_in_turn, is_left};
 ghost use Rattle.association_run.specs.Fault.{CountedWhere, tells_read, tells_write, tells_turns};
 ghost use Rattle.association_run.specs.Parts.{sides, Did};
 ghost use Rattle.association_run.specs.Port.{Replies};
@@ -15,7 +15,7 @@ ghost use Rattle.association_run.specs.Steps.{Halts, BreaksOff, Pends, IsNext, D
 use crate::fault::RunFault;
 use crate::gate::Gate;
 use crate::port::Port;
-use association_deeds::{Call, Deed, Reply, Session, SessionEvent};
+use association_session::{Call, Deed, Reply, Session, SessionEvent};
 use devices::{Sink, put_all};
 use octets::ListOf;
 use pdu::{Pdu, write_pdu};

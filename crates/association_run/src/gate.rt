@@ -1,10 +1,10 @@
 //! Where a test may hold an association up.
 
 ghost use Rattle.std.specs.Prelude.{◌∷◌, [], List, Option, None};
-ghost use Rattle.association_deeds.specs.declared.deed.Moment.{Moment};
+ghost use Rattle.association_session.specs.declared.deed.Moment.{Moment};
 ghost use Rattle.association_run.specs.Parts.{Passed};
 
-use association_deeds::Moment;
+use association_session::Moment;
 
 /// What an association passes at certain moments.
 pub trait Gate {

@@ -3,7 +3,7 @@
 //! `run_association` reads PDUs, tells a session of them, and does its deeds in order: what is sent
 //! is written, a call goes to a port, and a gate lets a test hold an association up. Each of them
 //! is a type parameter, so that what was done can be said of what was read and replied. The deeds
-//! are those of `association_deeds`; what is heard of the bytes is `specs/Hearing.antt`.
+//! are those of `association_session`; what is heard of the bytes is `specs/Hearing.antt`.
 #![tactic(auto)]
 
 mod act;

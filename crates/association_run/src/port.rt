@@ -4,7 +4,7 @@ ghost use Rattle.std.specs.Prelude.{List, ℕ};
 ghost use Rattle.operation.specs.declared.op.Op.{Op};
 ghost use Rattle.association_run.specs.Port.{Stores};
 
-use association_deeds::PortFault;
+use association_session::PortFault;
 use operation::{Content, Taken};
 
 /// A site, as one association sees it.

@@ -3,7 +3,7 @@
 ghost use Rattle.std.specs.Prelude.{◌≡◌, ◌≢◌, ◌<◌, ◌≤◌, ◌+◌, List, ℕ, Option, OnOk, OnErr, IfOk, IsErrOf, None, false, length};
 ghost use Rattle.std.specs.Io.KnownBytes.{Consumes, IsAtEnd, Keeps};
 ghost use Rattle.ul_state.specs.declared.table.State.TheVariants.{Sta1, Sta13};
-ghost use Rattle.association_deeds.specs.Session.{is_left};
+ghost use Rattle.association_session.specs.Session.{is_left};
 ghost use Rattle.association_run.specs.Hearing.{counts};
 ghost use Rattle.association_run.specs.Fault.{CountedWhere, tells_read, tells_write, tells_turns};
 ghost use Rattle.association_run.specs.Output.{Output, FrontOfOutput, ReadAtLeast, end_in, is_over as is_over_in};
@@ -18,7 +18,7 @@ use crate::gate::Gate;
 use crate::inbox::Inbox;
 use crate::piece::Piece;
 use crate::port::Port;
-use association_deeds::Session;
+use association_session::Session;
 use devices::{Sink, Source};
 use std::alloc::Global;
 use ul_state::{Event, State, Titles};

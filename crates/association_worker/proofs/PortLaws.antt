@@ -13,8 +13,8 @@ use Rattle.operation.specs.declared.taken.Taken.{Taken}
 use Rattle.operation.specs.declared.taken.Taken.TheVariants.{New, Known}
 use Rattle.site_state.specs.Site.{digest_cmp, Map, held_at, with_op, Takes}
 use Rattle.site_state.proofs.Maps.{tied}
-use Rattle.association_deeds.specs.declared.reply.PortFault.{PortFault}
-use Rattle.association_deeds.specs.declared.reply.PortFault.TheVariants.{Memory, Busy, Collision, Shelf}
+use Rattle.association_session.specs.declared.reply.PortFault.{PortFault}
+use Rattle.association_session.specs.declared.reply.PortFault.TheVariants.{Memory, Busy, Collision, Shelf}
 use Rattle.association_run.specs.Port.{Leaves, Stores}
 use Rattle.association_worker.specs.Port.{PortParts, holds_op}
 

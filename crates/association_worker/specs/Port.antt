@@ -8,8 +8,8 @@ use Rattle.operation.specs.Spelling.{digest_of}
 use Rattle.site_state.specs.declared.fault.SiteFault.{SiteFault}
 use Rattle.site_state.specs.declared.fault.SiteFault.TheVariants as site_faults
 use Rattle.site_state.specs.Site.{Map, held_at}
-use Rattle.association_deeds.specs.declared.reply.PortFault.{PortFault}
-use Rattle.association_deeds.specs.declared.reply.PortFault.TheVariants.{Memory, Collision}
+use Rattle.association_session.specs.declared.reply.PortFault.{PortFault}
+use Rattle.association_session.specs.declared.reply.PortFault.TheVariants.{Memory, Collision}
 
 -- what a site holds, and the digests of the contents that were stored in it
 pub record PortParts : Type 0 where

@@ -7,8 +7,8 @@ ghost use Rattle.operation.specs.Spelling.{digest_of};
 ghost use Rattle.site_state.specs.Site.{Takes, IsClash};
 ghost use Rattle.association_worker.specs.Port.{holds_op, fault_of_site};
 
-use association_deeds::PortFault;
 use association_run::Port;
+use association_session::PortFault;
 use operation::{Content, Digest, Digested, Op, Taken};
 use site_state::{Site, SiteFault};
 use std::alloc::Global;

@@ -3,8 +3,8 @@
 ghost use Rattle.std.specs.Prelude.{[], None};
 
 use super::*;
-use association_deeds::{Moment, PortFault};
 use association_run::{End, Gate, OpenGate, Port, RunFault, run_association};
+use association_session::{Moment, PortFault};
 use devices::{Store, Supply};
 use octets::{ListOf, Octets};
 use operation::{Content, Taken};

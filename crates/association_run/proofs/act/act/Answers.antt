@@ -1,7 +1,7 @@
 use Rattle.std.proofs.Common.{◌∙◌, refl}
 use Rattle.std.proofs.lemmas.List.Elements.{All-same, All-rest}
 use Rattle.std.proofs.lemmas.Result.{err_from_is_err_and}
-use Rattle.association_deeds.specs.Session.{IsWritable}
+use Rattle.association_session.specs.Session.{IsWritable}
 use Rattle.association_run.proofs.DidLaws.{acting_start, acting_send, acting_reach, acted_ask, acted_close, acting_broke}
 use Rattle.association_run.proofs.act.act.Goals as goal
 

@@ -1,6 +1,6 @@
 use Rattle.std.proofs.Common.{◌≡◌}
 use Rattle.std.specs.Prelude.{All}
-use Rattle.association_deeds.specs.Session.{IsWritable}
+use Rattle.association_session.specs.Session.{IsWritable}
 use Rattle.association_run.specs.Parts.{sides}
 use Rattle.association_run.proofs.DidLaws.{Acting}
 use Rattle.association_run.proofs.act.act.Given as goal

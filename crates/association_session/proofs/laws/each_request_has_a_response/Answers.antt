@@ -1,0 +1,5 @@
+use Rattle.association_session.proofs.ResponseLaws.{each_has_a_response}
+use Rattle.association_session.proofs.laws.each_request_has_a_response.Goals as goal
+
+pub returns : goal.returns
+returns c = each_has_a_response

@@ -1,0 +1,164 @@
+//! An association as a machine (PS3.8, section 9.2; PS3.7, section 9).
+
+ghost use Rattle.std.specs.Prelude.{◌≡◌, [], IfOk, OnOk, OnErr, IsTrue, All, false};
+ghost use Rattle.std.specs.List.{list_any};
+ghost use Rattle.association_session.specs.declared.event.SessionEvent.TheVariants.{GoesOn};
+ghost use Rattle.association_session.specs.Session.{start, over, is_abort as is_abort_deed, is_release as is_release_deed, is_in_turn, Turned, IsFewer, IsWritable, IsSound, reads_abort, aborted_by, released_by};
+
+use crate::association::Association;
+use crate::deed::Deed;
+use crate::event::SessionEvent;
+use octets::ListOf;
+use pdu::Pdu;
+use std::alloc::{AllocError, Global};
+use std::marker::Model;
+use ul_state::{Event, State, Titles};
+
+/// An association without its reader, its writer and its port.
+///
+/// It asks the port for one thing at a time, and takes the reply before anything else. `V` is what
+/// the called title stands for.
+#[derive(Drop)]
+pub struct Session<V> {
+    alloc: Global,
+    association: Association<V>,
+    aborted: bool,
+    released: bool,
+}
+
+impl<V> Model for Session<V> {
+    ghost use Rattle.association_session.specs.Session.{SessionState};
+
+    ghost Value = { SessionState V };
+
+    ghost view = { λ s. record { association = s.association; aborted = s.aborted; released = s.released } };
+}
+
+fn is_abort(deed: &Deed) -> bool
+    ensures { result ≡ is_abort_deed deed.now }
+{
+    matches!(deed, Deed::Send(Pdu::Abort { .. }))
+}
+
+fn is_release(deed: &Deed) -> bool
+    ensures { result ≡ is_release_deed deed.now }
+{
+    matches!(deed, Deed::Send(Pdu::ReleaseRp))
+}
+
+fn reads_an_abort(state: State, event: &SessionEvent) -> bool
+    ensures { result ≡ reads_abort state event.now }
+{
+    match (state, event) {
+        (State::Sta1, _) => false,
+        (_, SessionEvent::Heard(Event::Got(Pdu::Abort { .. }))) => true,
+        (_, _) => false,
+    }
+}
+
+fn is_aborted_by(deeds: &[Deed]) -> bool
+    ensures { result ≡ list_any is_abort_deed deeds.now }
+{
+    deeds.iter().any(|deed| is_abort(deed))
+}
+
+fn is_released_by(deeds: &[Deed]) -> bool
+    ensures { result ≡ list_any is_release_deed deeds.now }
+{
+    deeds.iter().any(|deed| is_release(deed))
+}
+
+impl<V: Copy> Session<V> {
+    /// A session on an open connection, where a request is awaited. It takes no memory.
+    pub fn new(alloc: Global) -> Session<V>
+        ensures association { result.association ≡ start }
+        ensures aborted { result.aborted ≡ false }
+        ensures released { result.released ≡ false }
+    {
+        Session {
+            alloc,
+            association: Association::new(alloc),
+            aborted: false,
+            released: false,
+        }
+    }
+
+    /// The acceptor's state.
+    pub fn state(&self) -> State
+        ensures { result ≡ self.now.association.within.state }
+    {
+        self.association.state()
+    }
+
+    /// Whether what is left of a P-DATA-TF is to be heard on, by `SessionEvent::GoesOn`.
+    pub fn goes_on(&self) -> bool
+        ensures { result ≡ is_in_turn self.now.association GoesOn }
+    {
+        !self.association.is_awaiting() && self.association.is_left()
+    }
+
+    /// Whether an A-ABORT was sent or read.
+    pub fn is_aborted(&self) -> bool
+        ensures { result ≡ self.now.aborted }
+    {
+        self.aborted
+    }
+
+    /// Whether an A-RELEASE-RP was sent.
+    pub fn is_released(&self) -> bool
+        ensures { result ≡ self.now.released }
+    {
+        self.released
+    }
+
+    /// Takes an event of the acceptor, or the port's reply to the call that was asked last, or hears
+    /// on what is left of a P-DATA-TF: up to the end of one message.
+    ///
+    /// The deeds are for the caller to do in order. Where they end with a call, what comes next is
+    /// its reply.
+    pub fn on(
+        &mut self,
+        titles: &Titles<V>,
+        event: SessionEvent,
+    ) -> Result<ListOf<Deed>, AllocError>
+        // What is done: whatever is done from the new state on, these deeds and that are done from
+        // the old one.
+        ensures turned { IsTrue (is_in_turn self.old.association event) → IfOk result (λ deeds.
+            Turned titles.now.list self.old.association event deeds self.new.association) }
+        ensures fewer { IsTrue (is_in_turn self.old.association event) → OnOk result
+            (IsFewer event self.old.association.queue self.new.association.queue) }
+        ensures aborted { IsTrue (is_in_turn self.old.association event) → IfOk result (λ deeds.
+            self.new.aborted
+            ≡ aborted_by self.old.aborted self.old.association.within.state event deeds) }
+        ensures released { IsTrue (is_in_turn self.old.association event) → IfOk result (λ deeds.
+            self.new.released ≡ released_by self.old.released deeds) }
+
+        // What comes out of turn changes nothing.
+        ensures ignored { is_in_turn self.old.association event ≡ false →
+            IfOk result (λ deeds. deeds ≡ []) }
+        ensures kept { is_in_turn self.old.association event ≡ false →
+            OnOk result (self.new ≡ self.old) }
+
+        // Each PDU that is sent can be written.
+        ensures writable { IsSound event → IfOk result (All IsWritable) }
+
+        // Once memory was refused, nothing is done any more.
+        ensures refused { OnErr result (self.new ≡ over self.old) }
+    {
+        if !self.association.is_in_turn(&event) {
+            return Ok(ListOf::new(self.alloc));
+        }
+        let read = reads_an_abort(self.association.state(), &event);
+        match self.association.on(titles, event) {
+            Ok(deeds) => {
+                self.aborted = self.aborted || read || is_aborted_by(deeds.as_slice());
+                self.released = self.released || is_released_by(deeds.as_slice());
+                Ok(deeds)
+            }
+            Err(fault) => {
+                self.association = Association::over(self.alloc);
+                Err(fault)
+            }
+        }
+    }
+}
