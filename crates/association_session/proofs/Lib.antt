@@ -1,3 +1,4 @@
+pub mod FinalLaws
 pub mod HearLaws
 pub mod LimitLaws
 pub mod OrderLaws

@@ -1,3 +1,4 @@
+pub mod Finals
 pub mod Order
 pub mod Projections
 pub mod Reply

@@ -5,6 +5,7 @@ ghost use Rattle.ul_state.specs.declared.titles.Title.{Title};
 ghost use Rattle.dimse.specs.declared.status.Status.{Status};
 ghost use Rattle.association_session.specs.declared.deed.Deed.{Deed};
 ghost use Rattle.association_session.specs.declared.reply.Reply.{Reply};
+ghost use Rattle.association_session.specs.Finals.{HasResponses};
 ghost use Rattle.association_session.specs.Order.{IsOrderly, IsReplied};
 ghost use Rattle.association_session.specs.Projections.{IsFront};
 ghost use Rattle.association_session.specs.Response.{Awaited, IsResponse};
@@ -45,4 +46,12 @@ pub fn a_response_stands_behind_its_call<V: Copy>()
     ensures { (titles : List (Title V)) (w : Within V) (heard : List Heard)
         (replies : List Reply) (deeds : List Deed) →
         Talks titles w heard replies deeds → IsReplied replies deeds }
+{}
+
+/// Each request that was heard has one response, in order, and no other P-DATA-TF is sent; where a
+/// call has no reply yet, each request but the one that awaits it.
+pub fn each_request_has_one_response<V: Copy>()
+    ensures { (titles : List (Title V)) (w : Within V) (heard : List Heard)
+        (replies : List Reply) (deeds : List Deed) →
+        Talks titles w heard replies deeds → HasResponses titles w heard deeds }
 {}

@@ -22,8 +22,8 @@ mod tests;
 pub use deed::{Call, Deed, Moment};
 pub use event::SessionEvent;
 pub use laws::{
-    a_response_stands_behind_its_call, each_request_has_a_response, more_is_only_added,
-    nothing_is_asked_after_goodbye, there_is_one_list_of_deeds,
+    a_response_stands_behind_its_call, each_request_has_a_response, each_request_has_one_response,
+    more_is_only_added, nothing_is_asked_after_goodbye, there_is_one_list_of_deeds,
 };
 pub use reply::{PortFault, Reply};
 pub use session::Session;
