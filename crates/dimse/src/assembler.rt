@@ -10,10 +10,11 @@ use crate::command::{Command, LONGEST_COMMAND};
 use crate::fault::DimseFault;
 use crate::message::Message;
 use crate::reader::read_command;
+use crate::whole::closed;
 use bytes::Bytes;
 use octets::Octets;
 use pdu::{Context, Contexts, Pdv};
-use std::alloc::{AllocError, Global};
+use std::alloc::Global;
 use std::marker::Model;
 use std::mem;
 
@@ -127,18 +128,6 @@ impl Stage {
         }
         None
     }
-}
-
-/// A text with one fragment more. A text that came whole is not copied.
-fn closed(text: Octets, fragment: Bytes) -> Result<Bytes, AllocError>
-    ensures { IfOk result (λ whole. whole ≡ text ++ fragment) }
-{
-    if text.is_empty() {
-        return Ok(fragment);
-    }
-    let mut text = text;
-    text.extend_from_slice(fragment.as_slice())?;
-    Ok(Bytes::from_vec(text.into_vec())?)
 }
 
 /// What a whole command set leads to.

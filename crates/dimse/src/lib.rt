@@ -20,6 +20,7 @@ mod status;
 #[cfg(test)]
 mod tests;
 mod uid;
+mod whole;
 mod writer;
 
 pub use assembler::{Assembler, LONGEST_DATA_SET};
