@@ -61,7 +61,7 @@ weigh [] = 0
 weigh (word ∷ words) = length word + 1 + weigh words
 
 weigh_more : (xs ys : List (List ℕ)) → weigh (xs ++ ys) ≡ weigh xs + weigh ys
-weigh_more [] ys = refl
+weigh_more [] ys = omega arith
 weigh_more (x ∷ xs) ys = omega (arith, weigh_more xs ys)
 
 weigh_word : (front : List ℕ) → weigh (a_word front) ≤ length front + 1
