@@ -1,9 +1,9 @@
 -- The studies and series of what is shown, their representatives and their counts (PS3.4, C.3).
-use Rattle.std.specs.Prelude.{ℕ, List, [], ◌∷◌, Option, Some, None, Bool, ◌&&◌, ◌==◌, not, map, length}
+use Rattle.std.specs.Prelude.{ℕ, List, [], ◌∷◌, Option, Some, None, Bool, ◌&&◌, map, length}
 use Rattle.std.specs.List.{filter}
 use Rattle.operation.specs.Parts.{ContentParts}
 use Rattle.octets.specs.Texts.{same, ascending}
-use Rattle.archive_model.specs.Contents.{study_of, series_of, modality_of}
+use Rattle.archive_model.specs.Contents.{study_of, series_of}
 
 abbrev pub is_of_study : List ℕ → ContentParts → Bool
 is_of_study study c = same (study_of c) study
@@ -47,11 +47,3 @@ instances_of_study study shown = length (in_study study shown)
 -- (0020,1206) Number of Study Related Series
 abbrev pub series_of_study : List ℕ → List ContentParts → ℕ
 series_of_study study shown = length (series_in study shown)
-
--- (0020,1209) Number of Series Related Instances
-abbrev pub instances_of_series : List ℕ → List ℕ → List ContentParts → ℕ
-instances_of_series study series shown = length (in_series study series shown)
-
--- (0008,0061) Modalities in Study: the distinct modalities of its contents that have one, ascending
-abbrev pub modalities_of_study : List ℕ → List ContentParts → List (List ℕ)
-modalities_of_study study shown = ascending (filter (λ m. not (length m == 0)) (map modality_of (in_study study shown)))

@@ -6,9 +6,9 @@
 ghost use Rattle.std.specs.Prelude.{◌≡◌, List, ℕ, IfOk, map, length};
 ghost use Rattle.std.specs.List.{filter};
 ghost use Rattle.std.specs.Option.{option_copied};
-ghost use Rattle.archive_model.specs.Groups.{is_of_study as is_of_study_in, is_of_series as is_of_series_in, in_study as in_study_of, in_series as in_series_of, studies as studies_of, series_in as series_in_of, study_representative as study_representative_of, series_representative as series_representative_of, instances_of_study as instances_of_study_in, series_of_study as series_of_study_in, instances_of_series as instances_of_series_in, modalities_of_study as modalities_of_study_in};
+ghost use Rattle.archive_model.specs.Groups.{is_of_study as is_of_study_in, in_study as in_study_of, studies as studies_of, series_in as series_in_of, study_representative as study_representative_of, instances_of_study as instances_of_study_in, series_of_study as series_of_study_in};
 
-use crate::keys::{modality, series, study};
+use crate::keys::{series, study};
 use crate::texts::ascending;
 use octets::Octets;
 use operation::Content;
@@ -18,12 +18,6 @@ fn is_of_study(content: &Content, uid: &[u8]) -> bool
     ensures { result ≡ is_of_study_in uid.now content.now }
 {
     study(content) == uid
-}
-
-fn is_of_series(content: &Content, study: &[u8], uid: &[u8]) -> bool
-    ensures { result ≡ is_of_series_in study.now uid.now content.now }
-{
-    is_of_study(content, study) && series(content) == uid
 }
 
 /// The contents of a study.
@@ -39,26 +33,6 @@ pub fn in_study<'a>(
     for content in shown {
         let content: &'a Content = content;
         if is_of_study(content, study) {
-            found.push(content)?;
-        }
-    }
-    Ok(found)
-}
-
-/// The contents of a series of a study.
-pub fn in_series<'a>(
-    alloc: Global,
-    shown: &[&'a Content],
-    study: &[u8],
-    series: &[u8],
-) -> Result<Vec<&'a Content>, AllocError>
-    ensures { IfOk result (λ found. map (λ c. c.now) found.items
-        ≡ in_series_of study.now series.now (map (λ c. c.now) shown.now)) }
-{
-    let mut found = Vec::new(alloc);
-    for content in shown {
-        let content: &'a Content = content;
-        if is_of_series(content, study, series) {
             found.push(content)?;
         }
     }
@@ -104,24 +78,6 @@ pub fn study_representative<'a>(shown: &[&'a Content], study: &[u8]) -> Option<&
     None
 }
 
-/// The representative of a series of a study: its shown content of least SOP Instance UID.
-pub fn series_representative<'a>(
-    shown: &[&'a Content],
-    study: &[u8],
-    series: &[u8],
-) -> Option<&'a Content>
-    ensures { option_copied result
-        ≡ series_representative_of study.now series.now (map (λ c. c.now) shown.now) }
-{
-    for content in shown {
-        let content: &'a Content = content;
-        if is_of_series(content, study, series) {
-            return Some(content);
-        }
-    }
-    None
-}
-
 /// (0020,1208) Number of Study Related Instances
 pub fn instances_of_study(shown: &[&Content], study: &[u8]) -> usize
     ensures { result ≡ instances_of_study_in study.now (map (λ c. c.now) shown.now) }
@@ -142,35 +98,4 @@ pub fn series_of_study(alloc: Global, shown: &[&Content], study: &[u8]) -> Resul
 {
     let uids = series_in(alloc, shown, study)?;
     Ok(uids.len())
-}
-
-/// (0020,1209) Number of Series Related Instances
-pub fn instances_of_series(shown: &[&Content], study: &[u8], series: &[u8]) -> usize
-    ensures { result ≡ instances_of_series_in study.now series.now (map (λ c. c.now) shown.now) }
-{
-    let mut count = 0;
-    for content in shown {
-        if is_of_series(content, study, series) {
-            count += 1;
-        }
-    }
-    count
-}
-
-/// (0008,0061) Modalities in Study: those of its contents that have one, ascending, each once.
-pub fn modalities_of_study(
-    alloc: Global,
-    shown: &[&Content],
-    study: &[u8],
-) -> Result<Vec<Octets>, AllocError>
-    ensures { IfOk result (λ found. found.items
-        ≡ modalities_of_study_in study.now (map (λ c. c.now) shown.now)) }
-{
-    let mut found = Vec::new(alloc);
-    for content in shown {
-        if is_of_study(content, study) && !modality(content).is_empty() {
-            found.push(modality(content))?;
-        }
-    }
-    ascending(alloc, &found)
 }

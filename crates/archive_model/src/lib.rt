@@ -22,10 +22,9 @@ pub use attributes::{attribute, compare, correction, correction_for, corrects};
 pub use coercion::{coerced, is_coerced, stored};
 pub use covers::{is_among, is_covered, is_hiding};
 pub use groups::{
-    in_series, in_study, instances_of_series, instances_of_study, modalities_of_study, series_in,
-    series_of_study, series_representative, studies, study_representative,
+    in_study, instances_of_study, series_in, series_of_study, studies, study_representative,
 };
-pub use index::{copies, fix, is_titled, pick_digest, title_code};
+pub use index::title_code;
 pub use keys::{modality, patient, series, study};
 pub use laws::{
     an_audit_shows_every_pick, coercion_puts_in_what_differs, representatives_have_the_least_uid,

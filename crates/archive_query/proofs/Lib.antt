@@ -5,3 +5,4 @@ pub mod GroupingLaws
 pub mod CoveredLaws
 pub mod ShowingLaws
 pub mod RowLaws
+pub mod CandidateLaws

@@ -9,3 +9,4 @@ pub mod CoveredUids
 pub mod Showing
 pub mod CorrectionsOnly
 pub mod Laws
+pub mod Candidates

@@ -5,8 +5,10 @@ ghost use Rattle.site_state.specs.Site.{ops_of};
 ghost use Rattle.archive_query.specs.Rows.{rows_of};
 
 use crate::answer::Answer;
+use crate::candidates::{candidates, shown_of};
+use crate::groups::named;
 use crate::query::Query;
-use crate::rows::rows;
+use crate::rows::rows_among;
 use archive_model::View;
 use site_state::Site;
 use std::alloc::{AllocError, Global};
@@ -24,6 +26,10 @@ pub fn find(
     ensures { IfOk result (λ rows. rows.items ≡
         rows_of view called.now query.now (ops_of site.now)) }
 {
-    let ops = site.operations(alloc)?;
-    rows(alloc, &ops, view, called, query)
+    site.see_lawful();
+    let uids = candidates(alloc, site.index(), query)?;
+    let shown = shown_of(alloc, site, view, &uids)?;
+    let named = named(alloc, query, &shown)?;
+    let rows = rows_among(alloc, site, called, query, &named)?;
+    Ok(rows)
 }

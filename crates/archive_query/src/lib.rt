@@ -3,6 +3,7 @@
 
 mod answer;
 mod asked;
+mod candidates;
 mod cell;
 mod column;
 mod corrections;

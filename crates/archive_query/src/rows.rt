@@ -5,20 +5,18 @@ ghost use Rattle.std.specs.Option.{option_map};
 ghost use Rattle.std.specs.Fmt.{decimal};
 ghost use Rattle.std.specs.List.{join_with_byte, filter_map};
 ghost use Rattle.operation.specs.Parts.{value_at};
+ghost use Rattle.site_state.specs.Site.{ops_of};
 ghost use Rattle.archive_query.specs.Column.{columns as columns_of};
 ghost use Rattle.archive_query.specs.Cell.{cell as cell_in};
-ghost use Rattle.archive_query.specs.Rows.{is_key_match as is_key_match_in, is_match as is_match_in, is_unique_key as is_unique_key_in, is_asked as is_asked_in, asked_value, value_in_row, cell_in_row as cell_in_row_of, row as row_in, row_of as row_of_in, rows_among as rows_among_in, rows_of};
+ghost use Rattle.archive_query.specs.Rows.{is_key_match as is_key_match_in, is_match as is_match_in, is_unique_key as is_unique_key_in, is_asked as is_asked_in, asked_value, value_in_row, cell_in_row as cell_in_row_of, row as row_in, row_of as row_of_in, rows_among as rows_among_in};
 
 use crate::answer::Answer;
 use crate::asked::Asked;
 use crate::cell::cell;
 use crate::column::columns;
-use crate::corrections::corrections_only;
 use crate::grouping::{by_uid, groups_of};
-use crate::groups::{count_series, modalities_of, named};
+use crate::groups::{count_series, modalities_of};
 use crate::query::Query;
-use crate::showing::shown;
-use archive_model::{View, attribute, contents};
 use data_set::{DataSet, Element, Syntax};
 use dictionary::{
     MODALITIES_IN_STUDY, NUMBER_OF_SERIES_RELATED_INSTANCES, NUMBER_OF_STUDY_RELATED_INSTANCES,
@@ -27,29 +25,30 @@ use dictionary::{
 };
 use key_matching::matches;
 use octets::Octets;
-use operation::{Content, Op};
+use operation::Content;
+use site_state::Site;
 use std::alloc::{AllocError, Global};
 
 /// Whether a key matches an attribute of a representative, corrected.
-fn is_key_match(ops: &[&Op], content: &Content, asked: &Asked) -> bool
-    ensures { result ≡ is_key_match_in (map (λ o. o.now) ops.now) content.now asked.now }
+fn is_key_match(site: &Site, content: &Content, asked: &Asked) -> bool
+    ensures { result ≡ is_key_match_in (ops_of site.now) content.now asked.now }
 {
     matches(
         asked.matching,
         asked.key.as_slice(),
-        attribute(ops, content, asked.tag),
+        site.attribute(content, asked.tag),
     )
 }
 
 /// Whether every key does.
-fn is_match(ops: &[&Op], query: &Query, content: &Content) -> bool
-    ensures { result ≡ is_match_in (map (λ o. o.now) ops.now) query.now content.now }
+fn is_match(site: &Site, query: &Query, content: &Content) -> bool
+    ensures { result ≡ is_match_in (ops_of site.now) query.now content.now }
 {
     query
         .asked
         .as_slice()
         .iter()
-        .all(|asked| is_key_match(ops, content, asked))
+        .all(|asked| is_key_match(site, content, asked))
 }
 
 fn is_unique_key(tag: u32) -> bool
@@ -98,14 +97,14 @@ fn digits(alloc: Global, number: usize) -> Result<Octets, AllocError>
 /// The element of a row that is asked.
 fn asked_cell(
     alloc: Global,
-    ops: &[&Op],
+    site: &Site,
     contents: &[&Content],
     first: &Content,
     tag: u32,
 ) -> Result<Element, AllocError>
     ensures { IfOk result (λ element. element ≡
         cell_in tag
-        (asked_value (map (λ o. o.now) ops.now) (map (λ c. c.now) contents.now) first.now
+        (asked_value (ops_of site.now) (map (λ c. c.now) contents.now) first.now
         tag)) }
 {
     if tag == MODALITIES_IN_STUDY {
@@ -121,7 +120,7 @@ fn asked_cell(
         let text = digits(alloc, contents.len())?;
         return cell(alloc, tag, text.as_slice());
     }
-    cell(alloc, tag, attribute(ops, first, tag))
+    cell(alloc, tag, site.attribute(first, tag))
 }
 
 /// The character set of a row's representative, where it has one.
@@ -142,7 +141,7 @@ fn character_set_cell(
 /// The element of a row with a tag, if it has one.
 fn cell_in_row(
     alloc: Global,
-    ops: &[&Op],
+    site: &Site,
     called: &[u8],
     query: &Query,
     contents: &[&Content],
@@ -150,7 +149,7 @@ fn cell_in_row(
     tag: u32,
 ) -> Result<Option<Element>, AllocError>
     ensures { IfOk result (λ element. element ≡
-        cell_in_row_of (map (λ o. o.now) ops.now) called.now query.now
+        cell_in_row_of (ops_of site.now) called.now query.now
         (map (λ c. c.now) contents.now) first.now tag) }
 {
     if tag == SPECIFIC_CHARACTER_SET {
@@ -168,25 +167,25 @@ fn cell_in_row(
     if !is_asked(query, tag) {
         return Ok(None);
     }
-    Ok(Some(asked_cell(alloc, ops, contents, first, tag)?))
+    Ok(Some(asked_cell(alloc, site, contents, first, tag)?))
 }
 
 /// The elements of a row.
 fn cells(
     alloc: Global,
-    ops: &[&Op],
+    site: &Site,
     called: &[u8],
     query: &Query,
     contents: &[&Content],
     first: &Content,
 ) -> Result<Vec<Element>, AllocError>
     ensures { IfOk result (λ cells. cells.items ≡
-        (row_in (map (λ o. o.now) ops.now) called.now query.now (map (λ c. c.now) contents.now)
+        (row_in (ops_of site.now) called.now query.now (map (λ c. c.now) contents.now)
         first.now).elements) }
 {
     let mut cells = Vec::new(alloc);
     for tag in columns(query.level) {
-        let cell = cell_in_row(alloc, ops, called, query, contents, first, *tag)?;
+        let cell = cell_in_row(alloc, site, called, query, contents, first, *tag)?;
         if let Some(cell) = cell {
             cells.push(cell)?;
         }
@@ -197,38 +196,38 @@ fn cells(
 /// The row of some contents, of which the first is its representative.
 fn row(
     alloc: Global,
-    ops: &[&Op],
+    site: &Site,
     called: &[u8],
     query: &Query,
     contents: &[&Content],
     first: &Content,
 ) -> Result<Answer, AllocError>
     ensures { IfOk result (λ answer. answer ≡
-        row_in (map (λ o. o.now) ops.now) called.now query.now (map (λ c. c.now) contents.now)
+        row_in (ops_of site.now) called.now query.now (map (λ c. c.now) contents.now)
         first.now) }
 {
-    let cells = cells(alloc, ops, called, query, contents, first)?;
+    let cells = cells(alloc, site, called, query, contents, first)?;
     Ok(Answer::of(DataSet::of(Syntax::Explicit, cells)))
 }
 
 /// The row of some contents, where the first of them matches.
 fn row_of(
     alloc: Global,
-    ops: &[&Op],
+    site: &Site,
     called: &[u8],
     query: &Query,
     contents: &[&Content],
 ) -> Result<Option<Answer>, AllocError>
     ensures { IfOk result (λ answer. answer ≡
-        row_of_in (map (λ o. o.now) ops.now) called.now query.now (map (λ c. c.now) contents.now)) }
+        row_of_in (ops_of site.now) called.now query.now (map (λ c. c.now) contents.now)) }
 {
     match contents {
         [] => Ok(None),
         [first, ..] => {
-            if !is_match(ops, query, first) {
+            if !is_match(site, query, first) {
                 return Ok(None);
             }
-            Ok(Some(row(alloc, ops, called, query, contents, first)?))
+            Ok(Some(row(alloc, site, called, query, contents, first)?))
         }
     }
 }
@@ -236,18 +235,18 @@ fn row_of(
 /// The rows of some groups of contents.
 fn rows_of_groups(
     alloc: Global,
-    ops: &[&Op],
+    site: &Site,
     called: &[u8],
     query: &Query,
     groups: &[&[&Content]],
 ) -> Result<Vec<Answer>, AllocError>
     ensures { IfOk result (λ rows. rows.items ≡
-        filter_map (row_of_in (map (λ o. o.now) ops.now) called.now query.now)
+        filter_map (row_of_in (ops_of site.now) called.now query.now)
         (map (λ g. map (λ c. c.now) g.now) groups.now)) }
 {
     let mut rows = Vec::new(alloc);
     for group in groups {
-        if let Some(row) = row_of(alloc, ops, called, query, group)? {
+        if let Some(row) = row_of(alloc, site, called, query, group)? {
             rows.push(row)?;
         }
     }
@@ -255,39 +254,19 @@ fn rows_of_groups(
 }
 
 /// The rows of some contents: one sort, and a row for each run of one UID.
-fn rows_among(
+pub(crate) fn rows_among(
     alloc: Global,
-    ops: &[&Op],
+    site: &Site,
     called: &[u8],
     query: &Query,
     contents: &[&Content],
 ) -> Result<Vec<Answer>, AllocError>
     ensures { IfOk result (λ rows. rows.items ≡
-        rows_among_in (map (λ o. o.now) ops.now) called.now query.now
+        rows_among_in (ops_of site.now) called.now query.now
         (map (λ c. c.now) contents.now)) }
 {
     let sorted = by_uid(alloc, query.level, contents)?;
     let groups = groups_of(alloc, query.level, &sorted)?;
-    let rows = rows_of_groups(alloc, ops, called, query, &groups)?;
-    Ok(rows)
-}
-
-/// What a C-FIND answers over some operations, ascending by digest: one pass over them.
-#[tactic(auto, unfolding(crate::specs::Rows::rows_of))]
-pub(crate) fn rows(
-    alloc: Global,
-    ops: &[&Op],
-    view: View,
-    called: &[u8],
-    query: &Query,
-) -> Result<Vec<Answer>, AllocError>
-    ensures { IfOk result (λ rows. rows.items ≡
-        rows_of view called.now query.now (map (λ o. o.now) ops.now)) }
-{
-    let held = contents(alloc, ops)?;
-    let corrections = corrections_only(alloc, ops)?;
-    let shown = shown(alloc, view, &held)?;
-    let named = named(alloc, query, &shown)?;
-    let rows = rows_among(alloc, &corrections, called, query, &named)?;
+    let rows = rows_of_groups(alloc, site, called, query, &groups)?;
     Ok(rows)
 }

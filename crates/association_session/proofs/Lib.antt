@@ -1,7 +1,7 @@
-pub mod GoodbyeLaws
 pub mod HearLaws
 pub mod LimitLaws
-pub mod QueueLaws
+pub mod OrderLaws
 pub mod ResponseLaws
-pub mod RunLaws
+pub mod RowLaws
+pub mod TalkLaws
 pub mod TurnLaws

@@ -12,7 +12,7 @@ use Rattle.ul_state.specs.Decision.{value_for}
 use Rattle.ul_state.specs.Titles.{value_of, without_spaces}
 use Rattle.ul_state.specs.Acceptor.{settled_with, settled_for}
 use Rattle.association_session.specs.Response.{FitsLimit}
-use Rattle.association_session.specs.Saying.{sending_limit, limit_in}
+use Rattle.association_session.specs.Row.{sending_limit, limit_in}
 
 -- a limit that is not too short
 fits_by : (n : ℕ) (zero large small : Bool) → (n == 0) ≡ zero → nat_lt 65536 n ≡ large → nat_lt n 8 ≡ small → (not zero && small) ≡ false
@@ -45,12 +45,12 @@ admitted_fits titles request v is =
     fits request.user.maximum_length (by_title_fits request value v (is_too_short request.user.maximum_length) refl
     (admitted_by request value v (is_version_one request.opening.version) (is_known_context request.application_context) refl refl is))
 
-settled_request : (titles : List (Title (Unit {0}))) (request : Request) (value : Result (Unit {0}) Reject) → value_for titles request ≡ value → IsSome (settled_with request value) → FitsLimit (sending_limit request.user.maximum_length)
+settled_request : {V : Type 0} (titles : List (Title V)) (request : Request) (value : Result V Reject) → value_for titles request ≡ value → IsSome (settled_with request value) → FitsLimit (sending_limit request.user.maximum_length)
 settled_request titles request (Ok v) is some = admitted_fits titles request v is
 settled_request titles request (Err reject) is some = absurd cc
 
 -- what an event settles takes a fragment
-pub settled_fits : (titles : List (Title (Unit {0}))) (event : Event) → IsSome (settled_for titles event) → FitsLimit (limit_in event)
+pub settled_fits : {V : Type 0} (titles : List (Title V)) (event : Event) → IsSome (settled_for titles event) → FitsLimit (limit_in event)
 settled_fits titles (events.Got (pdus.AssociateRq request)) some = settled_request titles request (value_for titles request) refl some
 settled_fits titles (events.Got (pdus.AssociateAc accept)) some = absurd cc
 settled_fits titles (events.Got (pdus.AssociateRj reject)) some = absurd cc

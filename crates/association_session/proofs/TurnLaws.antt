@@ -1,7 +1,6 @@
--- The table's rows, and what an association does on them.
-use Rattle.std.proofs.Common.{◌≡◌, ℕ, Bool, true, false, cond, List, [], ◌∷◌, Option, Some, None, ◌++◌, ◌<◌, length, arith, refl, sym, ap, subst, ◌∙◌}
-use Rattle.std.specs.Prelude.{◌||◌, IsTrue, IsSome, IfSome, option_to_list, All}
-use Rattle.std.specs.Option.{option_map}
+-- What the acceptor answers, and what an acceptance agrees.
+use Rattle.std.proofs.Common.{◌≡◌, Bool, true, cond, List, [], ◌∷◌, Option, Some, None, ◌++◌, ◌<◌, length, arith, refl, sym, ap, subst, ◌∙◌}
+use Rattle.std.specs.Prelude.{IsTrue, IsSome, IfSome, option_to_list, All}
 use Rattle.ul_state.specs.declared.table.State.{State}
 use Rattle.ul_state.specs.declared.acceptor.Settled.{Settled}
 use Rattle.ul_state.specs.declared.event.Action.{Action}
@@ -10,34 +9,20 @@ use Rattle.ul_state.specs.declared.titles.Title.{Title}
 use Rattle.ul_state.specs.Table.{next_of, opens}
 use Rattle.ul_state.specs.Acceptor.{kind_for, settled_for, settled_by, CanBeWritten}
 use Rattle.ul_state.proofs.Openings.{settles_where_it_opens}
-use Rattle.association_session.specs.Standing.{Link, Standing}
 use Rattle.association_session.specs.Response.{FitsLimit}
-use Rattle.association_session.specs.Saying.{link_with, link_on, limit_in, action_on, reads_abort, sends, is_abort, is_release_response, moved}
-use Rattle.association_session.specs.Hearing.{agreed_by}
+use Rattle.pdu.specs.declared.pdv.Pdv.{Pdv}
+use Rattle.association_session.specs.Response.{Awaited}
+use Rattle.association_session.specs.Row.{limit_in, agreed_by, handed_on}
+use Rattle.association_session.specs.Session.{AssociationState, Linked, stage_by, entered}
 use Rattle.association_session.proofs.LimitLaws.{settled_fits}
 
-agreed_cond : (opened : Bool) (limit : ℕ) (new old : Option (Settled (Unit {0}))) (link : Option Link) → agreed_by opened limit (cond opened new old) link ≡ cond opened (option_map (link_with limit) new) link
-agreed_cond true limit new old link = refl
-agreed_cond false limit new old link = refl
-
--- what is agreed is what the row settles
-pub agreed_row : (titles : List (Title (Unit {0}))) (state next : State) (event : Event) (old settled : Option (Settled (Unit {0}))) (link : Option Link) → next ≡ next_of state (kind_for titles event) → settled ≡ settled_by state titles event old
-    → agreed_by (opens state next) (limit_in event) settled link ≡ link_on titles state event link
-agreed_row titles state next event old settled link is settles =
-    let kind = kind_for titles event in
-    let opened = opens state (next_of state kind) in
-    ap (λ (t : State). agreed_by (opens state t) (limit_in event) settled link) is
-    ∙ ap (λ (t : Option (Settled (Unit {0}))). agreed_by opened (limit_in event) t link) (settles ∙ settles_where_it_opens state kind (settled_for titles event) old)
-    ∙ agreed_cond opened (limit_in event) (settled_for titles event) old link
-    ∙ sym (settles_where_it_opens state kind (option_map (link_with (limit_in event)) (settled_for titles event)) link)
-
 -- What is agreed then takes a fragment.
-pub agreed_fits : (titles : List (Title (Unit {0}))) (state next : State) (event : Event) (old settled : Option (Settled (Unit {0}))) → next ≡ next_of state (kind_for titles event) → settled ≡ settled_by state titles event old
+pub agreed_fits : {V : Type 0} (titles : List (Title V)) (state next : State) (event : Event) (old settled : Option (Settled V)) → next ≡ next_of state (kind_for titles event) → settled ≡ settled_by state titles event old
     → IsTrue (opens state next) → IsSome settled → FitsLimit (limit_in event)
-agreed_fits titles state next event old settled is settles opened some =
+agreed_fits {V = W} titles state next event old settled is settles opened some =
     let kind = kind_for titles event in
     let opens_so : opens state (next_of state kind) ≡ true = ap (opens state) (sym is) ∙ opened in
-    settled_fits titles event (subst IsSome (settles ∙ settles_where_it_opens state kind (settled_for titles event) old ∙ ap (λ (b : Bool). cond b (settled_for titles event) old) opens_so) some)
+    settled_fits titles event (subst (λ (o : Option (Settled W)). IsSome o) (settles ∙ settles_where_it_opens state kind (settled_for titles event) old ∙ ap (λ (b : Bool). cond b (settled_for titles event) old) opens_so) some)
 
 none_is_some : IsSome {T = Action} None → ⊥
 none_is_some some = absurd cc
@@ -57,10 +42,18 @@ pub popped_writable : (action last : Option Action) → last ≡ action → All 
 popped_writable None last is all = subst (λ (o : Option Action). IfSome o CanBeWritten) (sym is) tt
 popped_writable (Some a) last is all = subst (λ (o : Option Action). IfSome o CanBeWritten) (sym is) (all 0 a (omega arith))
 
+pub some_same : {A : Type 0} (a b : Option A) → a ≡ b → IsSome a → IsSome b
+some_same {A = B} a b same some = subst (λ (o : Option B). IsSome o) same some
+
 -- where an event leads, part by part
-pub moved_by : (titles : List (Title (Unit {0}))) (s : Standing) (event : Event) (state : State) (link : Option Link) (aborted released : Bool)
-    → state ≡ next_of s.state (kind_for titles event) → link ≡ link_on titles s.state event s.link
-    → aborted ≡ (s.aborted || (reads_abort s.state event || sends is_abort (action_on titles s.state event)))
-    → released ≡ (s.released || sends is_release_response (action_on titles s.state event))
-    → record { state = state; link = link; aborted = aborted; released = released } ≡ moved titles s event
-moved_by titles s event state link aborted released a b c d = cc
+pub entered_is : {V : Type 0} (titles : List (Title V)) (now : AssociationState V) (event : Event) (before : State) (agreed : Option (Settled V)) (old : Linked) (awaited : Option Awaited) (queue : List Pdv)
+    (state : State) (settled : Option (Settled V)) (l : Linked) (left : List Pdv)
+    → record { within = record { state = before; settled = agreed; link = old.link }; stage = old.stage; awaited = awaited; queue = queue } ≡ now
+    → state ≡ next_of before (kind_for titles event) → settled ≡ settled_by before titles event agreed
+    → l.link ≡ agreed_by (opens before state) (limit_in event) settled old.link → l.stage ≡ stage_by (opens before state) old.stage → left ≡ handed_on titles before event
+    → record { within = record { state = state; settled = settled; link = l.link }; stage = l.stage; awaited = awaited; queue = left } ≡ entered titles now event
+entered_is {V = W} titles now event before agreed old awaited queue state settled l left stood a b c d e =
+    let s : AssociationState W = record { within = record { state = before; settled = agreed; link = old.link }; stage = old.stage; awaited = awaited; queue = queue } in
+    let t : AssociationState W = record { within = record { state = state; settled = settled; link = l.link }; stage = l.stage; awaited = awaited; queue = left } in
+    let here : t ≡ entered titles s event = cc in
+    here ∙ ap (λ (k : AssociationState W). entered titles k event) stood

@@ -1,9 +1,8 @@
-pub mod Heard
-pub mod Hearing
+pub mod Order
+pub mod Projections
 pub mod Reply
 pub mod Response
-pub mod Runs
-pub mod Saying
+pub mod Row
 pub mod Service
 pub mod Session
-pub mod Standing
+pub mod Talks

@@ -17,6 +17,8 @@ use Rattle.operation.specs.Contents.{drafted, IsOutcome}
 use Rattle.operation.specs.declared.taken.Taken.{Taken}
 use Rattle.association_session.specs.declared.reply.PortFault.{PortFault}
 use Rattle.association_session.specs.declared.reply.PortFault.TheVariants.{Memory, Busy, Collision, Shelf}
+use Rattle.association_session.specs.declared.reply.Reply.{Reply}
+use Rattle.association_session.specs.declared.reply.Reply.TheVariants.{Stored}
 use Rattle.association_session.specs.declared.service.Kind.{Kind}
 use Rattle.association_session.specs.declared.service.Kind.TheVariants as kinds
 use Rattle.association_session.specs.declared.service.Service.{Service}
@@ -80,6 +82,9 @@ status_of_reply (Err Memory) = OutOfResources
 status_of_reply (Err Busy) = OutOfResources
 status_of_reply (Err Collision) = CannotUnderstand
 status_of_reply (Err Shelf) = OutOfResources
+
+abbrev pub status_for_reply : Reply → Status
+status_for_reply (Stored reply) = status_of_reply reply
 
 -- ---- services
 

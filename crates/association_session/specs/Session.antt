@@ -1,124 +1,269 @@
--- What a session asks of its caller, and what it has done then.
-use Rattle.std.specs.Prelude.{◌≡◌, ◌≢◌, ℕ, List, [], ◌∷◌, ◌++◌, Option, Some, None, Result, map, All, IfSome, ⊤}
-use Rattle.std.specs.List.{flat_map}
+-- What a session has done, and what it is still to do.
+use Rattle.std.specs.Prelude.{◌≡◌, ◌⊎◌, Bool, true, false, not, ◌||◌, List, [], ◌∷◌, ◌++◌, Option, Some, None, Result, Ok, Err, IsSome, map, length, ◌<◌, ⊤}
+use Rattle.std.specs.List.{list_any}
 use Rattle.pdu.specs.declared.pdv.Pdv.{Pdv}
 use Rattle.pdu.specs.declared.value.Pdu.{Pdu}
-use Rattle.pdu.specs.Spelling.{text_of, IsPdu}
+use Rattle.pdu.specs.declared.value.Pdu.TheVariants as pdus
+use Rattle.pdu.specs.Spelling.{IsPdu}
+use Rattle.ul_state.specs.declared.acceptor.Acceptor.{Acceptor}
+use Rattle.ul_state.specs.declared.acceptor.Settled.{Settled}
+use Rattle.ul_state.specs.declared.event.Event.{Event}
+use Rattle.ul_state.specs.declared.event.Event.TheVariants as events
+use Rattle.ul_state.specs.declared.table.State.{State}
+use Rattle.ul_state.specs.declared.table.State.TheVariants.{Sta1, Sta2, Sta6, Sta13}
 use Rattle.ul_state.specs.declared.titles.Title.{Title}
-use Rattle.ul_state.specs.Acceptor.{HasLawfulPdu}
-use Rattle.ul_state.specs.declared.event.Action.{Action}
-use Rattle.ul_state.specs.declared.event.Action.TheVariants as actions
-use Rattle.operation.specs.Parts.{ContentParts}
-use Rattle.operation.specs.declared.taken.Taken.{Taken}
-use Rattle.association_session.specs.declared.reply.PortFault.{PortFault}
-use Rattle.association_session.specs.declared.moment.Moment.TheVariants.{InStore}
-use Rattle.association_session.specs.declared.action.SessionAction.{SessionAction}
-use Rattle.association_session.specs.declared.action.SessionAction.TheVariants.{Send, Close, Reach, Store}
-use Rattle.association_session.specs.declared.action.SessionEvent.{SessionEvent}
-use Rattle.association_session.specs.declared.action.SessionEvent.TheVariants as inputs
-use Rattle.association_session.specs.Standing.{Standing, closed}
-use Rattle.association_session.specs.Heard.{Heard, Value}
-use Rattle.association_session.specs.Response.{Awaited, CanBeResponded, Responds, IsResponse}
-use Rattle.association_session.specs.Service.{status_of_reply}
-use Rattle.association_session.specs.Runs.{Runs}
-use Rattle.association_session.specs.Saying.{Says}
+use Rattle.ul_state.specs.Table.{next_of, opens, IsLeft}
+use Rattle.ul_state.specs.Acceptor.{kind_for, HasLawfulPdu}
+use Rattle.dimse.specs.declared.assembler.Stage.{Stage}
+use Rattle.dimse.specs.declared.assembler.Stage.TheVariants.{Between}
+use Rattle.dimse.specs.declared.fault.DimseFault.{DimseFault}
+use Rattle.dimse.specs.declared.message.Message.{Message}
+use Rattle.dimse.specs.declared.status.Status.{Status}
+use Rattle.dimse.specs.Assembly.{Assembly}
+use Rattle.dimse.specs.Messages.{Run, HadMemory}
+use Rattle.association_session.specs.declared.deed.Deed.{Deed}
+use Rattle.association_session.specs.declared.deed.Deed.TheVariants.{Send, Reach, Ask, Close}
+use Rattle.association_session.specs.declared.event.SessionEvent.{SessionEvent}
+use Rattle.association_session.specs.declared.event.SessionEvent.TheVariants as inputs
+use Rattle.association_session.specs.declared.reply.Reply.{Reply}
+use Rattle.association_session.specs.Projections.{state_after}
+use Rattle.association_session.specs.Response.{Awaited, Responds}
+use Rattle.association_session.specs.Row.{Link, Within, met, handed_on, opening, NO_LINK}
+use Rattle.association_session.specs.Talks.{Heard, Met, Said, Goes, Follows, Talks, Leads}
 
--- where an association stands; the request whose content the port was asked to store, where it was; the values that are heard once it replied
-pub record Sitting : Type 0 where
-  pub standing : Standing
+-- ---- where a session is
+
+-- what was agreed, and what came since the last message
+pub record Linked : Type 0 where
+  pub link : Link
+  pub stage : Stage
+
+-- what was agreed; what came since the last message; the request whose response awaits a reply of the port, where it was asked; and the
+-- values of the last P-DATA-TF that are not heard yet
+pub record AssociationState (V : Type 0) : Type 0 where
+  pub within : Within V
+  pub stage : Stage
   pub awaited : Option Awaited
   pub queue : List Pdv
 
--- ---- actions
+-- whether an A-ABORT was sent or read, and whether an A-RELEASE-RP was sent
+pub record SessionState (V : Type 0) : Type 0 where
+  pub association : AssociationState V
+  pub aborted : Bool
+  pub released : Bool
 
--- what is sent
-abbrev pub bytes_of : SessionAction → List ℕ
-bytes_of (Send pdu) = text_of pdu
-bytes_of Close = []
-bytes_of (Reach moment) = []
-bytes_of (Store content) = []
+abbrev pub start : {V : Type 0} → AssociationState V
+start = record { within = opening; stage = Between; awaited = None; queue = [] }
 
-abbrev pub sent_bytes : List SessionAction → List ℕ
-sent_bytes actions = flat_map bytes_of actions
+-- no connection any more
+abbrev pub closed : {V : Type 0} → AssociationState V
+closed = record {
+  within = record { state = Sta1; settled = None; link = NO_LINK };
+  stage = Between;
+  awaited = None;
+  queue = [];
+}
 
--- a PDU, or the connection's end
-abbrev pub IsPlain : SessionAction → Type 0
-IsPlain (Send pdu) = ⊤
-IsPlain Close = ⊤
-IsPlain (Reach moment) = ⊥
-IsPlain (Store content) = ⊥
+abbrev pub state_of : {V : Type 0} → Option (Acceptor V) → State
+state_of None = Sta1
+state_of (Some acceptor) = acceptor.state
 
--- A PDU that is sent can be written.
-abbrev pub IsWritable : SessionAction → Type 0
+abbrev pub settled_of : {V : Type 0} → Option (Acceptor V) → Option (Settled V)
+settled_of None = None
+settled_of (Some acceptor) = acceptor.settled
+
+-- ---- what is still to be done
+
+abbrev pub OwedFor : Option Awaited → Goes → Goes
+OwedFor None goes = goes
+OwedFor (Some awaited) goes = Follows awaited goes
+
+-- what is still to be done for what is heard and replied from here on
+abbrev pub Owes : {V : Type 0} → List (Title V) → AssociationState V → List Heard → Goes
+Owes titles s us = OwedFor s.awaited (Talks titles s.within us)
+
+-- These deeds bring it from there to here: whatever is owed here, they and that are owed there.
+abbrev pub Takes : {V : Type 0} → List (Title V) → AssociationState V → List Heard → List Reply → List Deed → AssociationState V → Type 0
+Takes titles old heard replied deeds new =
+    (us : List Heard) (rs : List Reply) (rest : List Deed) → Owes titles new us rs rest → Owes titles old (heard ++ us) (replied ++ rs) (deeds ++ rest)
+
+-- A call is the last deed, and its reply is awaited. So is a close, and nothing is awaited.
+abbrev pub Stops : List Deed → Option Awaited → Type 0
+Stops [] (Some awaited) = ⊥
+Stops [] None = ⊤
+Stops (Ask call ∷ ds) awaited = (ds ≡ []) × IsSome awaited
+Stops (Close ∷ ds) awaited = (ds ≡ []) × (awaited ≡ None)
+Stops (Send pdu ∷ ds) awaited = Stops ds awaited
+Stops (Reach moment ∷ ds) awaited = Stops ds awaited
+
+-- ---- what values say
+
+-- each message that they end, and the local user's abort for what is none
+abbrev pub heard_in : List (Result (Option Message) DimseFault) → List Heard
+heard_in [] = []
+heard_in (Ok None ∷ rs) = heard_in rs
+heard_in (Ok (Some m) ∷ rs) = Said m ∷ heard_in rs
+heard_in (Err fault ∷ rs) = Met events.LocalAbort ∷ heard_in rs
+
+abbrev pub assembly_in : Linked → Assembly
+assembly_in l = record { contexts = l.link.contexts; stage = l.stage }
+
+abbrev pub assembly_of : {V : Type 0} → AssociationState V → Assembly
+assembly_of s = record { contexts = s.within.link.contexts; stage = s.stage }
+
+-- The first of the values were put together, and say this. The others are left, or are dropped where goodbye was said.
+pub record HearsValues {V : Type 0} (old : AssociationState V) (said : List Heard) (new : AssociationState V) : Type 0 where
+  pub fed : List Pdv
+  pub left : List Pdv
+  pub answers : List (Result (Option Message) DimseFault)
+  pub parts : old.queue ≡ fed ++ left
+  pub kept : (new.queue ≡ left) ⊎ IsLeft new.within.state
+  pub run : Run (assembly_of old) fed answers (assembly_of new)
+  pub memory : HadMemory answers
+  pub says : said ≡ heard_in answers
+
+-- ---- turns
+
+-- what came since the last message: nothing, where the association is established
+abbrev pub stage_by : Bool → Stage → Stage
+stage_by true stage = Between
+stage_by false stage = stage
+
+-- what an event brings, before its values are heard
+abbrev pub entered : {V : Type 0} → List (Title V) → AssociationState V → Event → AssociationState V
+entered titles s event = record {
+  within = met titles s.within event;
+  stage = stage_by (opens s.within.state (next_of s.within.state (kind_for titles event))) s.stage;
+  awaited = s.awaited;
+  queue = handed_on titles s.within.state event;
+}
+
+abbrev pub started : {V : Type 0} → List (Title V) → AssociationState V → SessionEvent → AssociationState V
+started titles s (inputs.Heard event) = entered titles s event
+started titles s (inputs.Replied reply) = record { within = s.within; stage = s.stage; awaited = None; queue = s.queue }
+started titles s inputs.GoesOn = s
+
+abbrev pub met_in : SessionEvent → List Heard
+met_in (inputs.Heard event) = Met event ∷ []
+met_in (inputs.Replied reply) = []
+met_in inputs.GoesOn = []
+
+abbrev pub replies_in : SessionEvent → List Reply
+replies_in (inputs.Heard event) = []
+replies_in (inputs.Replied reply) = reply ∷ []
+replies_in inputs.GoesOn = []
+
+-- whether values are to be heard on
+abbrev pub is_left : State → List Pdv → Bool
+is_left Sta6 (p ∷ ps) = true
+is_left Sta6 [] = false
+is_left Sta1 queue = false
+is_left Sta2 queue = false
+is_left Sta13 queue = false
+
+-- A reply comes where it is awaited; else the values that are left are heard; else an event.
+abbrev pub in_turn : Option Awaited → Bool → SessionEvent → Bool
+in_turn (Some awaited) left (inputs.Replied reply) = true
+in_turn (Some awaited) left (inputs.Heard event) = false
+in_turn (Some awaited) left inputs.GoesOn = false
+in_turn None left (inputs.Replied reply) = false
+in_turn None left (inputs.Heard event) = not left
+in_turn None left inputs.GoesOn = left
+
+abbrev pub is_in_turn : {V : Type 0} → AssociationState V → SessionEvent → Bool
+is_in_turn s event = in_turn s.awaited (is_left s.within.state s.queue) event
+
+-- A reply is told at once, and nothing is awaited behind it.
+abbrev pub IsToldBy : SessionEvent → Option Awaited → Type 0
+IsToldBy (inputs.Replied reply) awaited = awaited ≡ None
+IsToldBy (inputs.Heard event) awaited = ⊤
+IsToldBy inputs.GoesOn awaited = ⊤
+
+-- what it says, and the deeds for it, in order
+pub record Turned {V : Type 0} (titles : List (Title V)) (old : AssociationState V) (event : SessionEvent) (deeds : List Deed) (new : AssociationState V) : Type 0 where
+  pub said : List Heard
+  pub values : HearsValues (started titles old event) said new
+  pub leads : Leads titles (started titles old event).within said new.within
+  pub takes : Takes titles old (met_in event ++ said) (replies_in event) deeds new
+  pub stops : Stops deeds new.awaited
+  pub state : new.within.state ≡ state_after old.within.state deeds
+  pub told : IsToldBy event new.awaited
+
+-- the deeds that respond to a request
+abbrev pub IsTold : Awaited → Status → List Deed → Type 0
+IsTold awaited status deeds = (response : List Pdu) × Responds awaited status response × (deeds ≡ map Send response)
+
+-- the deeds for a message, in order
+pub record Answered {V : Type 0} (titles : List (Title V)) (old : AssociationState V) (m : Message) (deeds : List Deed) (new : AssociationState V) : Type 0 where
+  pub leads : Leads titles old.within (Said m ∷ []) new.within
+  pub takes : Takes titles old (Said m ∷ []) [] deeds new
+  pub stops : Stops deeds new.awaited
+  pub state : new.within.state ≡ state_after old.within.state deeds
+  pub link : new.within.link ≡ old.within.link
+  pub stage : new.stage ≡ old.stage
+  pub kept : (new.queue ≡ old.queue) ⊎ IsLeft new.within.state
+
+-- Values that are heard on become fewer, and a reply leaves them.
+abbrev pub IsFewer : SessionEvent → List Pdv → List Pdv → Type 0
+IsFewer (inputs.Heard event) old new = ⊤
+IsFewer (inputs.Replied reply) old new = new ≡ old
+IsFewer inputs.GoesOn old new = length new < length old
+
+-- ---- how it ends
+
+abbrev pub is_abort : Deed → Bool
+is_abort (Send (pdus.Abort source reason)) = true
+is_abort (Send (pdus.AssociateRq request)) = false
+is_abort (Send (pdus.AssociateAc accept)) = false
+is_abort (Send (pdus.AssociateRj reject)) = false
+is_abort (Send (pdus.PData values)) = false
+is_abort (Send pdus.ReleaseRq) = false
+is_abort (Send pdus.ReleaseRp) = false
+is_abort (Reach moment) = false
+is_abort (Ask call) = false
+is_abort Close = false
+
+abbrev pub is_release : Deed → Bool
+is_release (Send pdus.ReleaseRp) = true
+is_release (Send (pdus.AssociateRq request)) = false
+is_release (Send (pdus.AssociateAc accept)) = false
+is_release (Send (pdus.AssociateRj reject)) = false
+is_release (Send (pdus.PData values)) = false
+is_release (Send pdus.ReleaseRq) = false
+is_release (Send (pdus.Abort source reason)) = false
+is_release (Reach moment) = false
+is_release (Ask call) = false
+is_release Close = false
+
+abbrev pub is_abort_event : SessionEvent → Bool
+is_abort_event (inputs.Heard (events.Got (pdus.Abort source reason))) = true
+is_abort_event event = false
+
+-- an A-ABORT is read; nothing is in Sta1
+abbrev pub reads_abort : State → SessionEvent → Bool
+reads_abort Sta1 event = false
+reads_abort state event = is_abort_event event
+
+abbrev pub aborted_by : Bool → State → SessionEvent → List Deed → Bool
+aborted_by before state event deeds = before || (reads_abort state event || list_any is_abort deeds)
+
+abbrev pub released_by : Bool → List Deed → Bool
+released_by before deeds = before || list_any is_release deeds
+
+-- It is over: nothing is awaited, and nothing is done any more.
+abbrev pub over : {V : Type 0} → SessionState V → SessionState V
+over old = record { association = closed; aborted = old.aborted; released = old.released }
+
+-- ---- what can be written
+
+abbrev pub IsWritable : Deed → Type 0
 IsWritable (Send pdu) = IsPdu pdu
 IsWritable Close = ⊤
 IsWritable (Reach moment) = ⊤
-IsWritable (Store content) = ⊤
+IsWritable (Ask call) = ⊤
 
 -- A PDU that was read can be written.
 abbrev pub IsSound : SessionEvent → Type 0
 IsSound (inputs.Heard event) = HasLawfulPdu event
 IsSound (inputs.Replied reply) = ⊤
-
--- The gate is reached, and then the port is asked.
-abbrev pub asking : Option ContentParts → List SessionAction
-asking None = []
-asking (Some content) = Reach InStore ∷ Store content ∷ []
-
--- ---- what is done
-
--- From s these were heard, this was sent, and a session is left. Where the port was asked, a response is sent next, whatever the reply is, and
--- the session stands where that leads.
-abbrev pub Reaches : List (Title (Unit {0})) → Standing → List Heard → Option ContentParts → List ℕ → Sitting → Type 0
-Reaches titles s us None out new = (new.awaited ≡ None) × (new.queue ≡ []) × Runs (Says titles) s us [] out new.standing
-Reaches titles s us (Some content) out new =
-    (awaited : Awaited) × (new.awaited ≡ Some awaited) × CanBeResponded awaited
-    × ((reply : Result Taken PortFault) (text : List ℕ) → IsResponse awaited (status_of_reply reply) text
-    → Runs (Says titles) s us (record { content = content; reply = reply } ∷ []) (out ++ text) new.standing)
-
--- From s a front of these was heard, up to the end of all or to a content that the port is asked to store; the others are left in the queue.
-pub record Hears (titles : List (Title (Unit {0}))) (s : Standing) (us : List Heard) (actions : List SessionAction) (new : Sitting) : Type 0 where
-  pub heard : List Heard
-  pub sends : List SessionAction
-  pub call : Option ContentParts
-  pub parts : actions ≡ sends ++ asking call
-  pub plain : All IsPlain sends
-  pub all : us ≡ heard ++ map Value new.queue
-  pub some : IfSome call (λ content. heard ≢ [])
-  pub reached : Reaches titles s heard call (sent_bytes sends) new
-
--- The awaited response is sent for this reply, and then the queue is heard.
-pub record Resumes (titles : List (Title (Unit {0}))) (old : Sitting) (awaited : Awaited) (reply : Result Taken PortFault) (actions : List SessionAction) (new : Sitting) : Type 0 where
-  pub response : List Pdu
-  pub rest : List SessionAction
-  pub parts : actions ≡ map Send response ++ rest
-  pub responded : Responds awaited (status_of_reply reply) response
-  pub heard : Hears titles old.standing (map Value old.queue) rest new
-
--- An event of the acceptor is out of turn while a reply is awaited, and a reply while none is.
-abbrev pub IsOutOfTurn : Option Awaited → SessionEvent → Type 0
-IsOutOfTurn (Some awaited) (inputs.Heard event) = ⊤
-IsOutOfTurn (Some awaited) (inputs.Replied reply) = ⊥
-IsOutOfTurn None (inputs.Heard event) = ⊥
-IsOutOfTurn None (inputs.Replied reply) = ⊤
-
--- It is over: nothing is awaited, and nothing is done any more.
-abbrev pub over : Sitting → Sitting
-over old = record {
-  standing = closed old.standing.aborted old.standing.released;
-  awaited = None;
-  queue = [];
-}
-
--- ---- parts of a call
-
--- these came behind the actions so far
-abbrev pub Adds : List SessionAction → List SessionAction → (List SessionAction → Type 0) → Type 0
-Adds old new Are = (more : List SessionAction) × (new ≡ old ++ more) × Are more
-
--- what is asked of the caller where the acceptor asks this
-abbrev pub asked_by : Option Action → List SessionAction
-asked_by None = []
-asked_by (Some (actions.Send pdu)) = Send pdu ∷ []
-asked_by (Some actions.Close) = Close ∷ []
-asked_by (Some (actions.Hand values)) = []
+IsSound inputs.GoesOn = ⊤

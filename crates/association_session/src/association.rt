@@ -1,109 +1,60 @@
-//! Where an association stands, and what it does on one event or one value.
+//! Where an association is, and what it does on one event, one message or one reply.
 
-ghost use Rattle.std.specs.Prelude.{◌≡◌, ◌∷◌, ◌||◌, [], IfOk, OnOk, IsSome, IsTrue, IfSome, None, Some, All, true};
-ghost use Rattle.std.specs.Option.{option_map};
-ghost use Rattle.pdu.specs.declared.value.Pdu.TheVariants.{Abort};
-ghost use Rattle.ul_state.specs.declared.table.State.TheVariants.{Sta1, Sta2, Sta6};
+ghost use Rattle.std.specs.Prelude.{◌≡◌, ◌<◌, ◌++◌, ◌∷◌, [], IfOk, OnOk, OnErr, IsTrue, IsSome, IfSome, None, Some, All, ◌≤◌, is_some, length, List, map};
+ghost use Rattle.ul_state.specs.declared.table.State.TheVariants.{Sta6};
+ghost use Rattle.ul_state.specs.declared.event.Event.TheVariants.{LocalAbort};
 ghost use Rattle.ul_state.specs.Table.{next_of, opens};
 ghost use Rattle.ul_state.specs.Acceptor.{kind_for, settled_by, HasLawfulPdu, CanBeWritten};
 ghost use Rattle.dimse.specs.Sending.{IsWhole};
-ghost use Rattle.association_session.specs.Standing.{Standing, start, closed};
-ghost use Rattle.association_session.specs.Response.{FitsLimit};
-ghost use Rattle.association_session.specs.Saying.{action_on, moved, reads_abort, sends, is_abort, is_release_response, link_with, aborted_from};
-ghost use Rattle.association_session.specs.Hearing.{agreed_by, HearsAs, AnswersAs, IsWritableOutcome};
+ghost use Rattle.ul_state.specs.declared.titles.Title.{Title};
+ghost use Rattle.association_session.specs.declared.deed.Call.TheVariants.{Store};
+ghost use Rattle.association_session.specs.declared.deed.Deed.TheVariants.{Send, Reach, Ask};
+ghost use Rattle.association_session.specs.declared.deed.Moment.TheVariants.{InStore};
+ghost use Rattle.association_session.specs.declared.event.SessionEvent.TheVariants.{Heard, Replied, GoesOn};
+ghost use Rattle.association_session.specs.Row.{action_on, agreed_by, limit_in, deeds_of, values_of, row};
+ghost use Rattle.association_session.specs.Session.{start, closed, is_left, is_in_turn, stage_by, IsTold, Answered, Turned, entered, IsWritable, IsSound, IsFewer};
 
 use crate::awaited::Awaited;
+use crate::deed::{Call, Deed, Moment};
+use crate::event::SessionEvent;
 use crate::limit::limit_of;
-use crate::link::{Link, link_of};
-use crate::service::{Service, serve};
-use dimse::{DimseFault, Message};
+use crate::link::Link;
+use crate::reply::Reply;
+use crate::service::{Service, serve, status_for};
+use dimse::{Message, Status};
 use octets::ListOf;
 use operation::Content;
 use pdu::{Pdu, Pdv};
 use std::alloc::{AllocError, Global};
+use std::collections::VecDeque;
 use std::marker::Model;
 use ul_state::{Acceptor, Action, Event, State, Titles};
 
-/// Where an association stands.
+/// An association without its reader, its writer and its port.
 #[derive(Drop)]
-pub(crate) struct Association {
+pub(crate) struct Association<V> {
     alloc: Global,
     /// `None` once memory was refused.
-    acceptor: Option<Acceptor<()>>,
-    link: Option<Link>,
-    aborted: bool,
-    released: bool,
+    acceptor: Option<Acceptor<V>>,
+    link: Link,
+    /// The request whose response awaits a reply of the port.
+    awaited: Option<Awaited>,
+    /// The values of the last P-DATA-TF that are not heard yet.
+    queue: VecDeque<Pdv>,
 }
 
-impl Model for Association {
-    ghost use Rattle.association_session.specs.Standing.{Standing, state_of};
+impl<V> Model for Association<V> {
+    ghost use Rattle.association_session.specs.Session.{AssociationState, state_of, settled_of};
 
-    ghost Value = { Standing };
+    ghost Value = { AssociationState V };
 
-    ghost view = { λ a. record { state = state_of a.acceptor; link = a.link; aborted = a.aborted; released = a.released } };
-}
-
-/// What is to be done for a value.
-#[derive(Drop)]
-pub(crate) enum Outcome {
-    /// These are sent.
-    Sent(ListOf<Pdu>),
-    /// The port is asked to store this, and then this request is responded.
-    Asked(Awaited, Content),
-}
-
-fn reads_an_abort(state: State, event: &Event) -> bool
-    ensures { result ≡ reads_abort state event.now }
-{
-    match (state, event) {
-        (State::Sta1, _) => false,
-        (_, Event::Got(Pdu::Abort { .. })) => true,
-        (_, _) => false,
-    }
-}
-
-fn sends_an_abort(action: &Option<Action>) -> bool
-    ensures { result ≡ sends is_abort action.now }
-{
-    matches!(action, Some(Action::Send(Pdu::Abort { .. })))
-}
-
-fn sends_a_release(action: &Option<Action>) -> bool
-    ensures { result ≡ sends is_release_response action.now }
-{
-    matches!(action, Some(Action::Send(Pdu::ReleaseRp)))
-}
-
-fn is_aborted_by(before: bool, read: bool, action: &Option<Action>) -> bool
-    ensures { result ≡ (before || (read || sends is_abort action.now)) }
-{
-    before || read || sends_an_abort(action)
-}
-
-fn is_released_by(before: bool, action: &Option<Action>) -> bool
-    ensures { result ≡ (before || sends is_release_response action.now) }
-{
-    before || sends_a_release(action)
-}
-
-fn nothing(alloc: Global) -> Outcome
-    ensures { result ≡ Outcome.Sent [] }
-{
-    Outcome::Sent(ListOf::new(alloc))
-}
-
-fn one(alloc: Global, pdu: Pdu) -> Result<Outcome, AllocError>
-    ensures { IfOk result (λ outcome. outcome ≡ Outcome.Sent (pdu ∷ [])) }
-{
-    let mut pdus = ListOf::new(alloc);
-    pdus.push(pdu)?;
-    Ok(Outcome::Sent(pdus))
+    ghost view = { λ a. record { within = record { state = state_of a.acceptor; settled = settled_of a.acceptor; link = a.link.link }; stage = a.link.stage; awaited = a.awaited; queue = a.queue.items } };
 }
 
 /// What an acceptor asks on an event.
-fn ask(
-    acceptor: &mut Acceptor<()>,
-    titles: &Titles<()>,
+fn ask<V: Copy>(
+    acceptor: &mut Acceptor<V>,
+    titles: &Titles<V>,
     event: Event,
 ) -> Result<Option<Action>, AllocError>
     ensures action { IfOk result (λ action.
@@ -125,43 +76,114 @@ fn is_opened(before: State, after: State) -> bool
     matches!((before, after), (State::Sta2, State::Sta6))
 }
 
-/// What is agreed once an acceptor has left this state.
-fn agreed(
+/// The table's row, and what an acceptance agrees.
+fn turn<V: Copy>(
     alloc: Global,
-    before: State,
-    acceptor: &Acceptor<()>,
-    limit: u32,
-    link: Option<Link>,
-) -> Result<Option<Link>, AllocError>
-    requires { IsTrue (opens before acceptor.now.state) →
-        IsSome acceptor.now.settled → FitsLimit limit }
-    ensures { IfOk result (λ new. new
-        ≡ agreed_by (opens before acceptor.now.state) limit acceptor.now.settled link) }
+    acceptor: &mut Acceptor<V>,
+    link: &mut Link,
+    titles: &Titles<V>,
+    event: Event,
+) -> Result<Option<Action>, AllocError>
+    ensures action { IfOk result (λ action.
+        action ≡ action_on titles.now.list acceptor.old.state event) }
+    ensures next { OnOk result (acceptor.new.state
+        ≡ next_of acceptor.old.state (kind_for titles.now.list event)) }
+    ensures settled { OnOk result (acceptor.new.settled
+        ≡ settled_by acceptor.old.state titles.now.list event acceptor.old.settled) }
+    ensures link { OnOk result (link.new.link ≡ agreed_by (opens acceptor.old.state
+        acceptor.new.state) (limit_in event) acceptor.new.settled link.old.link) }
+    ensures stage { OnOk result (link.new.stage
+        ≡ stage_by (opens acceptor.old.state acceptor.new.state) link.old.stage) }
+    ensures lawful { HasLawfulPdu event → IfOk result (λ action. IfSome action CanBeWritten) }
 {
-    if !is_opened(before, acceptor.state()) {
-        return Ok(link);
+    let before = acceptor.state();
+    let limit = limit_of(&event);
+    let action = ask(acceptor, titles, event)?;
+    let opened = is_opened(before, acceptor.state());
+    link.agree(alloc, opened, acceptor.accepted(), limit)?;
+    Ok(action)
+}
+
+fn one(alloc: Global, deed: Deed) -> Result<ListOf<Deed>, AllocError>
+    ensures { IfOk result (λ deeds. deeds ≡ deed ∷ []) }
+{
+    let mut deeds = ListOf::new(alloc);
+    deeds.push(deed)?;
+    Ok(deeds)
+}
+
+/// The deeds that send these PDUs.
+fn sends(alloc: Global, pdus: ListOf<Pdu>) -> Result<ListOf<Deed>, AllocError>
+    ensures { IfOk result (λ deeds. deeds ≡ map Send pdus) }
+{
+    let mut deeds = ListOf::new(alloc);
+    for pdu in pdus.into_vec() {
+        deeds.push(Deed::Send(pdu))?;
     }
-    match acceptor.accepted() {
-        None => Ok(None),
-        Some(settled) => Ok(Some(link_of(alloc, settled, limit)?)),
+    Ok(deeds)
+}
+
+/// The deeds that respond to a request.
+fn respond(alloc: Global, awaited: &Awaited, status: Status) -> Result<ListOf<Deed>, AllocError>
+    ensures told { IfOk result (λ deeds. IsTold awaited.now status deeds) }
+    ensures writable { IfOk result (All IsWritable) }
+{
+    sends(alloc, awaited.respond(alloc, status)?)
+}
+
+/// The gate is reached, and the port is asked to store a content.
+fn asks(alloc: Global, content: Content) -> Result<ListOf<Deed>, AllocError>
+    ensures { IfOk result (λ deeds.
+        deeds ≡ Reach InStore ∷ Ask (Store content) ∷ []) }
+{
+    let mut deeds = ListOf::new(alloc);
+    deeds.push(Deed::Reach(Moment::InStore))?;
+    deeds.push(Deed::Ask(Call::Store(content)))?;
+    Ok(deeds)
+}
+
+/// What a row's action does, and the values that it hands on.
+fn parted(alloc: Global, action: Option<Action>) -> Result<(ListOf<Deed>, ListOf<Pdv>), AllocError>
+    ensures deeds { IfOk result (λ x. x.0 ≡ deeds_of action) }
+    ensures values { IfOk result (λ x. x.1 ≡ values_of action) }
+    ensures writable { IfSome action CanBeWritten → IfOk result (λ x. All IsWritable x.0) }
+{
+    match action {
+        None => Ok((ListOf::new(alloc), ListOf::new(alloc))),
+        Some(Action::Send(pdu)) => Ok((one(alloc, Deed::Send(pdu))?, ListOf::new(alloc))),
+        Some(Action::Close) => Ok((one(alloc, Deed::Close)?, ListOf::new(alloc))),
+        Some(Action::Hand(values)) => Ok((ListOf::new(alloc), values)),
     }
 }
 
-impl Association {
-    pub(crate) fn new(alloc: Global) -> Association
+impl<V: Copy> Association<V> {
+    pub(crate) fn new(alloc: Global) -> Association<V>
         ensures { result ≡ start }
     {
         Association {
             alloc,
             acceptor: Some(Acceptor::new(alloc)),
-            link: None,
-            aborted: false,
-            released: false,
+            link: Link::new(alloc),
+            awaited: None,
+            queue: VecDeque::new(alloc),
+        }
+    }
+
+    /// An association that is over.
+    pub(crate) fn over(alloc: Global) -> Association<V>
+        ensures { result ≡ closed }
+    {
+        Association {
+            alloc,
+            acceptor: None,
+            link: Link::new(alloc),
+            awaited: None,
+            queue: VecDeque::new(alloc),
         }
     }
 
     pub(crate) fn state(&self) -> State
-        ensures { result ≡ self.now.state }
+        ensures { result ≡ self.now.within.state }
     {
         match &self.acceptor {
             None => State::Sta1,
@@ -169,169 +191,161 @@ impl Association {
         }
     }
 
-    pub(crate) fn is_aborted(&self) -> bool
-        ensures { result ≡ self.now.aborted }
+    /// Whether a reply of the port is awaited.
+    pub(crate) fn is_awaiting(&self) -> bool
+        ensures { result ≡ is_some self.now.awaited }
     {
-        self.aborted
+        self.awaited.is_some()
     }
 
-    pub(crate) fn is_released(&self) -> bool
-        ensures { result ≡ self.now.released }
+    /// Whether values are to be heard on.
+    pub(crate) fn is_left(&self) -> bool
+        ensures { result ≡ is_left self.now.within.state self.now.queue }
     {
-        self.released
+        self.state() == State::Sta6 && !self.queue.is_empty()
     }
 
-    /// An association that is over.
-    pub(crate) fn over(alloc: Global, aborted: bool, released: bool) -> Association
-        ensures { result ≡ closed aborted released }
-    {
-        Association {
-            alloc,
-            acceptor: None,
-            link: None,
-            aborted,
-            released,
-        }
-    }
-
-    /// Takes an event of the table's, and answers what the row asks.
-    pub(crate) fn turn(
-        &mut self,
-        titles: &Titles<()>,
-        event: Event,
-    ) -> Result<Option<Action>, AllocError>
-        ensures action { IfOk result (λ action.
-            action ≡ action_on titles.now.list self.old.state event) }
-        ensures next { OnOk result (self.new ≡ moved titles.now.list self.old event) }
-        ensures lawful { HasLawfulPdu event → IfOk result (λ action. IfSome action CanBeWritten) }
+    /// Takes an event by the table's row. The values that are handed on are left to be heard.
+    fn meet(&mut self, titles: &Titles<V>, event: Event) -> Result<ListOf<Deed>, AllocError>
+        requires { self.old.awaited ≡ None }
+        ensures row { IfOk result (λ deeds.
+            deeds ≡ row titles.now.list self.old.within.state event) }
+        ensures next { OnOk result (self.new ≡ entered titles.now.list self.old event) }
+        ensures writable { HasLawfulPdu event → IfOk result (All IsWritable) }
     {
         let Some(acceptor) = &mut self.acceptor else {
-            return Ok(None);
+            self.queue = VecDeque::new(self.alloc);
+            return Ok(ListOf::new(self.alloc));
         };
-        let before = acceptor.state();
-        let limit = limit_of(&event);
-        let read = reads_an_abort(before, &event);
-        let action = ask(acceptor, titles, event)?;
-        self.link = agreed(self.alloc, before, acceptor, limit, self.link.take())?;
-        self.aborted = is_aborted_by(self.aborted, read, &action);
-        self.released = is_released_by(self.released, &action);
-        Ok(action)
+        let action = turn(self.alloc, acceptor, &mut self.link, titles, event)?;
+        let (deeds, values) = parted(self.alloc, action)?;
+        self.queue = VecDeque::from_vec(values.into_vec());
+        Ok(deeds)
     }
 
-    /// Takes a value of a P-DATA-TF.
-    pub(crate) fn hear(&mut self, titles: &Titles<()>, value: Pdv) -> Result<Outcome, AllocError>
-        ensures heard { IfOk result (λ outcome.
-            HearsAs titles.now.list self.old value outcome self.new) }
-        ensures writable { IfOk result IsWritableOutcome }
+    /// The local user aborts. What is left of a P-DATA-TF is dropped.
+    fn abort(&mut self, titles: &Titles<V>) -> Result<ListOf<Deed>, AllocError>
+        requires established { self.old.within.state ≡ Sta6 }
+        requires idle { self.old.awaited ≡ None }
+        ensures sent { IfOk result (λ deeds. deeds ≡ row titles.now.list Sta6 LocalAbort) }
+        ensures next { OnOk result (self.new ≡ entered titles.now.list self.old LocalAbort) }
+        ensures writable { IfOk result (All IsWritable) }
     {
-        match self.state() {
-            State::Sta1 => Ok(nothing(self.alloc)),
-            State::Sta2 => self.refuse(titles, value),
-            State::Sta6 => self.hear_linked(titles, value),
-            State::Sta13 => Ok(nothing(self.alloc)),
-        }
-    }
-
-    /// A value before an acceptance: the table's row for a P-DATA-TF.
-    fn refuse(&mut self, titles: &Titles<()>, value: Pdv) -> Result<Outcome, AllocError>
-        requires { self.old.state ≡ Sta2 }
-        ensures heard { IfOk result (λ outcome.
-            HearsAs titles.now.list self.old value outcome self.new) }
-        ensures writable { IfOk result IsWritableOutcome }
-    {
-        let mut values = ListOf::new(self.alloc);
-        values.push(value)?;
-        match self.turn(titles, Event::Got(Pdu::PData(values)))? {
-            Some(Action::Send(pdu)) => one(self.alloc, pdu),
-            _ => Ok(nothing(self.alloc)),
-        }
-    }
-
-    /// The local user aborts.
-    fn abort(&mut self, titles: &Titles<()>) -> Result<Outcome, AllocError>
-        requires open { self.old.state ≡ Sta6 }
-        requires unlinked { self.old.link ≡ None }
-        ensures sent { IfOk result (λ outcome. outcome ≡ Outcome.Sent (Abort 0 0 ∷ [])) }
-        ensures next { OnOk result (self.new ≡ aborted_from self.old) }
-    {
-        match self.turn(titles, Event::LocalAbort)? {
-            Some(Action::Send(pdu)) => one(self.alloc, pdu),
-            _ => Ok(nothing(self.alloc)),
-        }
-    }
-
-    /// Takes a value while the association is established.
-    fn hear_linked(&mut self, titles: &Titles<()>, value: Pdv) -> Result<Outcome, AllocError>
-        requires { self.old.state ≡ Sta6 }
-        ensures heard { IfOk result (λ outcome.
-            HearsAs titles.now.list self.old value outcome self.new) }
-        ensures writable { IfOk result IsWritableOutcome }
-    {
-        let Some(link) = self.link.take() else {
-            return Ok(nothing(self.alloc));
-        };
-        let mut link = link;
-        match link.assembler.feed(value) {
-            Ok(None) => {
-                self.link = Some(link);
-                Ok(nothing(self.alloc))
-            }
-            Ok(Some(message)) => self.answer(titles, link, message),
-            Err(DimseFault::Memory) => Err(AllocError),
-            Err(_) => self.abort(titles),
-        }
+        self.meet(titles, Event::LocalAbort)
     }
 
     /// Answers a message.
-    fn answer(
-        &mut self,
-        titles: &Titles<()>,
-        link: Link,
-        message: Message,
-    ) -> Result<Outcome, AllocError>
-        requires open { self.old.state ≡ Sta6 }
-        requires unlinked { self.old.link ≡ None }
+    fn answer(&mut self, titles: &Titles<V>, message: Message) -> Result<ListOf<Deed>, AllocError>
+        requires established { self.old.within.state ≡ Sta6 }
+        requires idle { self.old.awaited ≡ None }
         requires whole { IsWhole message }
-        ensures answered { IfOk result (λ outcome.
-            AnswersAs (Some message) self.old link outcome self.new) }
-        ensures writable { IfOk result IsWritableOutcome }
+        ensures answered { IfOk result (λ deeds.
+            Answered titles.now.list self.old message deeds self.new) }
+        ensures fewer { OnOk result (length self.new.queue ≤ length self.old.queue) }
+        ensures writable { IfOk result (All IsWritable) }
     {
         let Message {
             context,
             command,
             body,
         } = message;
-        let service = serve(
-            self.alloc,
-            link.assembler.contexts(),
+        let contexts = self.link.contexts();
+        let service = serve(self.alloc, contexts, context, &command, body)?;
+        let limit = self.link.limit();
+        let awaited = Awaited {
             context,
-            &command,
-            body,
-        )?;
+            limit,
+            command,
+        };
         match service {
+            Service::Ignored => Ok(ListOf::new(self.alloc)),
             Service::Broken => self.abort(titles),
-            Service::Ignored => {
-                self.link = Some(link);
-                Ok(nothing(self.alloc))
-            }
-            Service::Responded(status) => {
-                let awaited = Awaited {
-                    context,
-                    limit: link.limit,
-                    command,
-                };
-                self.link = Some(link);
-                Ok(Outcome::Sent(awaited.respond(self.alloc, status)?))
-            }
+            Service::Responded(status) => respond(self.alloc, &awaited, status),
             Service::Asked(content) => {
-                let awaited = Awaited {
-                    context,
-                    limit: link.limit,
-                    command,
-                };
-                self.link = Some(link);
-                Ok(Outcome::Asked(awaited, content))
+                let deeds = asks(self.alloc, content)?;
+                self.awaited = Some(awaited);
+                Ok(deeds)
             }
+        }
+    }
+
+    /// Hears the values that are left, up to the end of a message.
+    fn hear_values(&mut self, titles: &Titles<V>) -> Result<ListOf<Deed>, AllocError>
+        requires established { self.old.within.state ≡ Sta6 }
+        requires idle { self.old.awaited ≡ None }
+        ensures turned { IfOk result (λ deeds.
+            Turned titles.now.list self.old GoesOn deeds self.new) }
+        ensures fewer { OnOk result (0 < length self.old.queue →
+            length self.new.queue < length self.old.queue) }
+        ensures writable { IfOk result (All IsWritable) }
+    {
+        while let Some(value) = self.queue.pop_front() {
+            let answer = self.link.feed(value)?;
+            match answer {
+                Ok(None) => {}
+                Ok(Some(message)) => return self.answer(titles, message),
+                Err(_fault) => return self.abort(titles),
+            }
+        }
+        Ok(ListOf::new(self.alloc))
+    }
+
+    /// Hears an event.
+    fn hear(&mut self, titles: &Titles<V>, event: Event) -> Result<ListOf<Deed>, AllocError>
+        requires { self.old.awaited ≡ None }
+        ensures turned { IfOk result (λ deeds.
+            Turned titles.now.list self.old (Heard event) deeds self.new) }
+        ensures writable { HasLawfulPdu event → IfOk result (All IsWritable) }
+    {
+        let deeds = self.meet(titles, event)?;
+        if self.is_left() {
+            // Of what is handed on the row asks nothing else.
+            return self.hear_values(titles);
+        }
+        Ok(deeds)
+    }
+
+    /// Responds to the request that awaits this reply.
+    fn resume(&mut self, reply: Reply) -> Result<ListOf<Deed>, AllocError>
+        requires { IsSome self.old.awaited }
+        ensures turned { (titles : List (Title V)) → IfOk result (λ deeds.
+            Turned titles self.old (Replied reply) deeds self.new) }
+        ensures left { OnOk result (self.new.queue ≡ self.old.queue) }
+        ensures writable { IfOk result (All IsWritable) }
+    {
+        let Some(awaited) = self.awaited.take() else {
+            return Ok(ListOf::new(self.alloc));
+        };
+        respond(self.alloc, &awaited, status_for(reply))
+    }
+
+    /// Whether this comes in its turn.
+    pub(crate) fn is_in_turn(&self, event: &SessionEvent) -> bool
+        ensures { result ≡ is_in_turn self.now event.now }
+    {
+        match event {
+            SessionEvent::Heard(_) => !self.is_awaiting() && !self.is_left(),
+            SessionEvent::Replied(_) => self.is_awaiting(),
+            SessionEvent::GoesOn => !self.is_awaiting() && self.is_left(),
+        }
+    }
+
+    /// What is done on what comes in its turn.
+    pub(crate) fn on(
+        &mut self,
+        titles: &Titles<V>,
+        event: SessionEvent,
+    ) -> Result<ListOf<Deed>, AllocError>
+        requires { IsTrue (is_in_turn self.old event) }
+        ensures turned { IfOk result (λ deeds.
+            Turned titles.now.list self.old event deeds self.new) }
+        ensures fewer { OnOk result (IsFewer event self.old.queue self.new.queue) }
+        ensures writable { IsSound event → IfOk result (All IsWritable) }
+    {
+        match event {
+            SessionEvent::Heard(event) => self.hear(titles, event),
+            SessionEvent::Replied(reply) => self.resume(reply),
+            SessionEvent::GoesOn => self.hear_values(titles),
         }
     }
 }

@@ -1,14 +1,15 @@
 //! What holds of every association.
 
-ghost use Rattle.std.specs.Prelude.{◌≡◌, ◌≤◌, List, [], ℕ};
+ghost use Rattle.std.specs.Prelude.{◌≡◌, ◌≤◌, ◌++◌, List, ℕ};
 ghost use Rattle.ul_state.specs.declared.titles.Title.{Title};
-ghost use Rattle.ul_state.specs.Table.{IsLeft};
 ghost use Rattle.dimse.specs.declared.status.Status.{Status};
-ghost use Rattle.association_session.specs.Standing.{Standing, Exchange};
-ghost use Rattle.association_session.specs.Heard.{Heard};
+ghost use Rattle.association_session.specs.declared.deed.Deed.{Deed};
+ghost use Rattle.association_session.specs.declared.reply.Reply.{Reply};
+ghost use Rattle.association_session.specs.Order.{IsOrderly, IsReplied};
+ghost use Rattle.association_session.specs.Projections.{IsFront};
 ghost use Rattle.association_session.specs.Response.{Awaited, IsResponse};
-ghost use Rattle.association_session.specs.Runs.{Runs};
-ghost use Rattle.association_session.specs.Saying.{Says};
+ghost use Rattle.association_session.specs.Row.{Within};
+ghost use Rattle.association_session.specs.Talks.{Heard, Talks};
 
 /// Whatever the status is, a request has a response.
 pub fn each_request_has_a_response()
@@ -16,9 +17,32 @@ pub fn each_request_has_a_response()
         (text : List ℕ) × IsResponse awaited status text }
 {}
 
-/// Once goodbye is said no content is stored, whatever comes.
-pub fn nothing_is_stored_after_goodbye()
-    ensures { (titles : List (Title (Unit {0}))) (s end : Standing) (heard : List Heard)
-        (exchanges : List Exchange) (out : List ℕ) → IsLeft s.state →
-        Runs (Says titles) s heard exchanges out end → exchanges ≡ [] }
+/// What was heard and what was replied leave one list of deeds.
+pub fn there_is_one_list_of_deeds<V: Copy>()
+    ensures { (titles : List (Title V)) (w : Within V) (heard : List Heard)
+        (replies : List Reply) (a b : List Deed) →
+        Talks titles w heard replies a → Talks titles w heard replies b → a ≡ b }
+{}
+
+/// Whatever is heard or replied later only adds deeds.
+pub fn more_is_only_added<V: Copy>()
+    ensures { (titles : List (Title V)) (w : Within V) (heard more : List Heard)
+        (replies others : List Reply) (a b : List Deed) → Talks titles w heard replies a →
+        Talks titles w (heard ++ more) (replies ++ others) b → IsFront a b }
+{}
+
+/// Nothing is asked of the port but while the association is established; once goodbye was said
+/// nothing is sent but an A-ABORT; and once the connection is closed nothing is done.
+pub fn nothing_is_asked_after_goodbye<V: Copy>()
+    ensures { (titles : List (Title V)) (w : Within V) (heard : List Heard)
+        (replies : List Reply) (deeds : List Deed) →
+        Talks titles w heard replies deeds → IsOrderly w.state deeds }
+{}
+
+/// Behind a call of the port nothing is done before its reply: so no response to a store is sent
+/// that was not asked and replied.
+pub fn a_response_stands_behind_its_call<V: Copy>()
+    ensures { (titles : List (Title V)) (w : Within V) (heard : List Heard)
+        (replies : List Reply) (deeds : List Deed) →
+        Talks titles w heard replies deeds → IsReplied replies deeds }
 {}

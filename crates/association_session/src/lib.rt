@@ -1,25 +1,29 @@
-//! An association as a machine: PDUs and replies of a port come in, and actions go out.
+//! An association as a machine: PDUs and replies of a port come in, and deeds go out.
 //!
 //! A session has no reader, no writer and no port. `Session::on` is told what was read, or what the
-//! port replied, and answers what is to be sent, where the gate is reached and what the port is
-//! asked. What an association does on each thing that it hears is `Says` of `specs/Saying.antt`.
+//! port replied, and answers what is done: PDUs are sent, the gate is reached, the port is asked,
+//! the connection is closed. What an association does for all that it hears is `Talks` of
+//! `specs/Talks.antt`, and what each message is answered is `specs/Service.antt`.
 #![tactic(auto)]
 
-mod action;
 mod association;
 mod awaited;
+mod deed;
+mod event;
 mod laws;
 mod limit;
 mod link;
-mod moment;
 mod reply;
 mod service;
 mod session;
 #[cfg(test)]
 mod tests;
 
-pub use action::{SessionAction, SessionEvent};
-pub use laws::{each_request_has_a_response, nothing_is_stored_after_goodbye};
-pub use moment::Moment;
+pub use deed::{Call, Deed, Moment};
+pub use event::SessionEvent;
+pub use laws::{
+    a_response_stands_behind_its_call, each_request_has_a_response, more_is_only_added,
+    nothing_is_asked_after_goodbye, there_is_one_list_of_deeds,
+};
 pub use reply::{PortFault, Reply};
 pub use session::Session;

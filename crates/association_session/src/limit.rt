@@ -1,7 +1,7 @@
 //! How long what is sent may be (PS3.8, section D.1; docs/DECISIONS.md, "Sending limit").
 
 ghost use Rattle.std.specs.Prelude.{◌≡◌};
-ghost use Rattle.association_session.specs.Saying.{sending_limit, limit_in};
+ghost use Rattle.association_session.specs.Row.{sending_limit, limit_in};
 
 use pdu::Pdu;
 use ul_state::Event;
@@ -13,7 +13,7 @@ pub(crate) const MOST_SENT: u32 = 65_536;
 pub(crate) const SENT_WITHOUT_LIMIT: u32 = 16_384;
 
 /// The sending limit for a peer with this maximum length.
-#[tactic(auto, unfolding(crate::specs::Saying::sending_limit))]
+#[tactic(auto, unfolding(crate::specs::Row::sending_limit))]
 fn limit_for(maximum: u32) -> u32
     ensures { result ≡ sending_limit maximum }
 {

@@ -1,13 +1,18 @@
 //! What both sides of an association agreed.
 
-ghost use Rattle.std.specs.Prelude.{◌≡◌, ◌≤◌, IfOk};
-ghost use Rattle.ul_state.specs.declared.acceptor.Settled.{Settled};
+ghost use Rattle.std.specs.Prelude.{◌≡◌, ◌≢◌, Err, IfOk, OnOk, IsTrue, IsSome, IfSome};
+ghost use Rattle.std.specs.Option.{option_copied};
+ghost use Rattle.dimse.specs.Assembly.{Feeds};
+ghost use Rattle.dimse.specs.Sending.{IsWhole};
+ghost use Rattle.dimse.specs.declared.assembler.Stage.TheVariants.{Between};
 ghost use Rattle.association_session.specs.Response.{FitsLimit};
-ghost use Rattle.association_session.specs.Saying.{link_with};
+ghost use Rattle.association_session.specs.Row.{NO_LINK, agreed_by};
+ghost use Rattle.association_session.specs.Session.{stage_by, assembly_in};
 
-use dimse::Assembler;
+use crate::limit::SENT_WITHOUT_LIMIT;
+use dimse::{Assembler, DimseFault, Message};
 use octets::{ListOf, Octets};
-use pdu::{Context, Contexts};
+use pdu::{Context, Contexts, Pdv};
 use std::alloc::{AllocError, Global};
 use std::marker::Model;
 use ul_state::Settled;
@@ -21,12 +26,13 @@ pub(crate) struct Link {
 }
 
 impl Model for Link {
-    ghost use Rattle.association_session.specs.Standing.{Link as Agreed};
+    ghost use Rattle.association_session.specs.Row.{Link as Agreed};
+    ghost use Rattle.association_session.specs.Session.{Linked};
     ghost use Rattle.association_session.specs.Response.{FitsLimit};
 
-    ghost Value = { Agreed };
+    ghost Value = { Linked };
 
-    ghost view = { λ l. record { contexts = l.assembler.contexts; limit = l.limit; stage = l.assembler.stage } };
+    ghost view = { λ l. record { link = record { contexts = l.assembler.contexts; limit = l.limit }; stage = l.assembler.stage } };
 
     ghost invariant = { λ l. FitsLimit l.limit };
 }
@@ -52,14 +58,73 @@ fn copies_of(alloc: Global, contexts: &[Context]) -> Result<Contexts, AllocError
     Ok(ListOf::of(copies))
 }
 
-/// What an acceptance agreed.
-pub(crate) fn link_of(alloc: Global, settled: &Settled<()>, limit: u32) -> Result<Link, AllocError>
-    requires { FitsLimit limit }
-    ensures { IfOk result (λ link. link ≡ link_with limit settled.now) }
-{
-    let contexts = copies_of(alloc, settled.contexts.as_slice())?;
-    Ok(Link {
-        assembler: Assembler::new(alloc, contexts),
-        limit,
-    })
+impl Link {
+    /// Nothing is agreed yet.
+    pub(crate) fn new(alloc: Global) -> Link
+        ensures { result ≡ record { link = NO_LINK; stage = Between } }
+    {
+        Link {
+            assembler: Assembler::new(alloc, ListOf::new(alloc)),
+            limit: SENT_WITHOUT_LIMIT,
+        }
+    }
+
+    /// Where an association is established, this was agreed.
+    pub(crate) fn agree<V: Copy>(
+        &mut self,
+        alloc: Global,
+        opened: bool,
+        settled: Option<&Settled<V>>,
+        limit: u32,
+    ) -> Result<(), AllocError>
+        requires { IsTrue opened → IsSome (option_copied settled) → FitsLimit limit }
+        ensures link { OnOk result (self.new.link
+            ≡ agreed_by opened limit (option_copied settled.entry) self.old.link) }
+        ensures stage { OnOk result (self.new.stage ≡ stage_by opened self.old.stage) }
+    {
+        if !opened {
+            return Ok(());
+        }
+        let Some(settled) = settled else {
+            self.assembler = Assembler::new(alloc, copies_of(alloc, self.assembler.contexts())?);
+            return Ok(());
+        };
+        self.assembler = Assembler::new(alloc, copies_of(alloc, settled.contexts.as_slice())?);
+        self.limit = limit;
+        Ok(())
+    }
+
+    /// The accepted presentation contexts.
+    pub(crate) fn contexts(&self) -> &[Context]
+        ensures { result.now ≡ self.now.link.contexts }
+    {
+        self.assembler.contexts()
+    }
+
+    /// The most bytes of a P-DATA-TF's body that are sent.
+    pub(crate) fn limit(&self) -> u32
+        ensures limit { result ≡ self.now.link.limit }
+        ensures fits { FitsLimit result }
+    {
+        self.limit
+    }
+
+    /// Puts a value to those since the last message, and answers the message that it ends, or its
+    /// fault.
+    pub(crate) fn feed(
+        &mut self,
+        value: Pdv,
+    ) -> Result<Result<Option<Message>, DimseFault>, AllocError>
+        ensures fed { IfOk result (λ answer.
+            Feeds (assembly_in self.old) value answer (assembly_in self.new)) }
+        ensures memory { IfOk result (λ answer. answer ≢ Err DimseFault.Memory) }
+        ensures limit { self.new.link.limit ≡ self.old.link.limit }
+        ensures whole { IfOk result (λ answer. IfOk answer (λ message. IfSome message IsWhole)) }
+    {
+        match self.assembler.feed(value) {
+            Ok(message) => Ok(Ok(message)),
+            Err(DimseFault::Memory) => Err(AllocError),
+            Err(fault) => Ok(Err(fault)),
+        }
+    }
 }

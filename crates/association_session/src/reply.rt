@@ -37,5 +37,9 @@ impl PortFault {
     }
 }
 
-/// What a port replies to a store.
-pub type Reply = Result<Taken, PortFault>;
+/// What a port replies, by the kind of the call.
+#[derive(Clone, Copy, Debug, PartialEq, Eq)]
+pub enum Reply {
+    /// To a store.
+    Stored(Result<Taken, PortFault>),
+}

@@ -2,7 +2,7 @@
 
 ghost use Rattle.std.specs.Prelude.{◌≡◌, IfOk, None, Option, Some};
 ghost use Rattle.std.specs.Option.{option_map};
-ghost use Rattle.association_session.specs.Service.{kind_of, context_in, is_other_class, is_verification, syntax_of, echo_status, unknown_status, store_refusal, status_of_fault, status_of_reply, draft_for, uid_or_empty, Serves, ServesOn, ServesKind, ServesStore, ServesBody, ServesDraft};
+ghost use Rattle.association_session.specs.Service.{kind_of, context_in, is_other_class, is_verification, syntax_of, echo_status, unknown_status, store_refusal, status_of_fault, status_for_reply, draft_for, uid_or_empty, Serves, ServesOn, ServesKind, ServesStore, ServesBody, ServesDraft};
 
 use crate::reply::{PortFault, Reply};
 use bytes::Bytes;
@@ -116,8 +116,9 @@ fn refusal_of_store(context: &Context, command: &Command) -> Option<Status>
 
 /// The status of the port's reply.
 pub(crate) fn status_for(reply: Reply) -> Status
-    ensures { result ≡ status_of_reply reply }
+    ensures { result ≡ status_for_reply reply }
 {
+    let Reply::Stored(reply) = reply;
     match reply {
         Ok(_) => Status::Success,
         Err(PortFault::Memory) => Status::OutOfResources,

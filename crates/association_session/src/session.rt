@@ -1,158 +1,143 @@
 //! An association as a machine (PS3.8, section 9.2; PS3.7, section 9).
 
-ghost use Rattle.std.specs.Prelude.{◌≡◌, ◌∷◌, ◌++◌, [], List, Result, IfOk, OnOk, OnErr, None, Some, Ok, All, map, MatchResult};
-ghost use Rattle.pdu.specs.declared.pdv.Pdv.{Pdv};
-ghost use Rattle.pdu.specs.declared.value.Pdu.{Pdu};
-ghost use Rattle.pdu.specs.Spelling.{IsPdu};
-ghost use Rattle.pdu.specs.declared.value.Pdu.TheVariants.{PData};
-ghost use Rattle.ul_state.specs.declared.event.Event.{Event};
-ghost use Rattle.ul_state.specs.declared.event.Event.TheVariants.{Got};
-ghost use Rattle.operation.specs.declared.taken.Taken.{Taken};
-ghost use Rattle.association_session.specs.declared.reply.PortFault.{PortFault};
-ghost use Rattle.association_session.specs.declared.action.SessionAction.{SessionAction};
-ghost use Rattle.association_session.specs.declared.action.SessionAction.TheVariants.{Send};
-ghost use Rattle.association_session.specs.declared.action.SessionEvent.TheVariants.{Heard, Replied};
-ghost use Rattle.association_session.specs.Standing.{start};
-ghost use Rattle.association_session.specs.Heard.{Value, Other, heard_of};
-ghost use Rattle.association_session.specs.Response.{Awaited};
-ghost use Rattle.association_session.specs.Session.{Adds, asked_by, Hears, Resumes, IsOutOfTurn, IsSound, IsWritable, over};
+ghost use Rattle.std.specs.Prelude.{◌≡◌, [], IfOk, OnOk, OnErr, IsTrue, All, false};
+ghost use Rattle.std.specs.List.{list_any};
+ghost use Rattle.association_session.specs.declared.event.SessionEvent.TheVariants.{GoesOn};
+ghost use Rattle.association_session.specs.Session.{start, over, is_abort as is_abort_deed, is_release as is_release_deed, is_in_turn, Turned, IsFewer, IsWritable, IsSound, reads_abort, aborted_by, released_by};
 
-use crate::action::{SessionAction, SessionEvent};
-use crate::association::{Association, Outcome};
-use crate::awaited::Awaited;
-use crate::moment::Moment;
-use crate::reply::Reply;
-use crate::service::status_for;
+use crate::association::Association;
+use crate::deed::Deed;
+use crate::event::SessionEvent;
 use octets::ListOf;
-use pdu::{Pdu, Pdv};
+use pdu::Pdu;
 use std::alloc::{AllocError, Global};
-use std::collections::VecDeque;
 use std::marker::Model;
-use ul_state::{Action, Event, State, Titles};
+use ul_state::{Event, State, Titles};
 
 /// An association without its reader, its writer and its port.
 ///
-/// It asks the port for at most one store at a time, and takes its reply before anything else.
+/// It asks the port for one thing at a time, and takes the reply before anything else. `V` is what
+/// the called title stands for.
 #[derive(Drop)]
-pub struct Session {
+pub struct Session<V> {
     alloc: Global,
-    association: Association,
-    /// The request whose content the port was asked to store.
-    awaited: Option<Awaited>,
-    /// The values that are heard once the port replied.
-    queue: VecDeque<Pdv>,
+    association: Association<V>,
+    aborted: bool,
+    released: bool,
 }
 
-impl Model for Session {
-    ghost use Rattle.association_session.specs.Session.{Sitting};
+impl<V> Model for Session<V> {
+    ghost use Rattle.association_session.specs.Session.{SessionState};
 
-    ghost Value = { Sitting };
+    ghost Value = { SessionState V };
 
-    ghost view = { λ s. record { standing = s.association; awaited = s.awaited; queue = s.queue.items } };
+    ghost view = { λ s. record { association = s.association; aborted = s.aborted; released = s.released } };
 }
 
-/// The values of a P-DATA-TF, or another event.
-fn values_in(event: Event) -> Result<ListOf<Pdv>, Event>
-    ensures { MatchResult result
-        (λ values. event ≡ Got (PData values))
-        (λ other. (other ≡ event) × (heard_of event ≡ Other event ∷ [])) }
+fn is_abort(deed: &Deed) -> bool
+    ensures { result ≡ is_abort_deed deed.now }
 {
-    match event {
-        Event::Got(Pdu::PData(values)) => Ok(values),
-        event => Err(event),
+    matches!(deed, Deed::Send(Pdu::Abort { .. }))
+}
+
+fn is_release(deed: &Deed) -> bool
+    ensures { result ≡ is_release_deed deed.now }
+{
+    matches!(deed, Deed::Send(Pdu::ReleaseRp))
+}
+
+fn reads_an_abort(state: State, event: &SessionEvent) -> bool
+    ensures { result ≡ reads_abort state event.now }
+{
+    match (state, event) {
+        (State::Sta1, _) => false,
+        (_, SessionEvent::Heard(Event::Got(Pdu::Abort { .. }))) => true,
+        (_, _) => false,
     }
 }
 
-/// Asks what the acceptor asks.
-fn put_action(actions: &mut ListOf<SessionAction>, action: Action) -> Result<(), AllocError>
-    ensures { OnOk result (actions.new ≡ actions.old ++ asked_by (Some action)) }
+fn is_aborted_by(deeds: &[Deed]) -> bool
+    ensures { result ≡ list_any is_abort_deed deeds.now }
 {
-    match action {
-        Action::Send(pdu) => actions.push(SessionAction::Send(pdu))?,
-        Action::Close => actions.push(SessionAction::Close)?,
-        // Values are heard one by one, and handed on by no event.
-        Action::Hand(_) => {}
-    }
-    Ok(())
+    deeds.iter().any(|deed| is_abort(deed))
 }
 
-/// The same, where it asks something.
-fn put_asked(actions: &mut ListOf<SessionAction>, action: Option<Action>) -> Result<(), AllocError>
-    ensures { OnOk result (actions.new ≡ actions.old ++ asked_by action) }
+fn is_released_by(deeds: &[Deed]) -> bool
+    ensures { result ≡ list_any is_release_deed deeds.now }
 {
-    match action {
-        None => Ok(()),
-        Some(action) => put_action(actions, action),
-    }
+    deeds.iter().any(|deed| is_release(deed))
 }
 
-/// Sends PDUs.
-fn put_sends(actions: &mut ListOf<SessionAction>, pdus: ListOf<Pdu>) -> Result<(), AllocError>
-    ensures { OnOk result (actions.new ≡ actions.old ++ map Send pdus) }
-{
-    for pdu in pdus.into_vec() {
-        actions.push(SessionAction::Send(pdu))?;
-    }
-    Ok(())
-}
-
-impl Session {
+impl<V: Copy> Session<V> {
     /// A session on an open connection, where a request is awaited. It takes no memory.
-    pub fn new(alloc: Global) -> Session
-        ensures standing { result.standing ≡ start }
-        ensures awaited { result.awaited ≡ None }
-        ensures queue { result.queue ≡ [] }
+    pub fn new(alloc: Global) -> Session<V>
+        ensures association { result.association ≡ start }
+        ensures aborted { result.aborted ≡ false }
+        ensures released { result.released ≡ false }
     {
         Session {
             alloc,
             association: Association::new(alloc),
-            awaited: None,
-            queue: VecDeque::new(alloc),
+            aborted: false,
+            released: false,
         }
     }
 
     /// The acceptor's state.
     pub fn state(&self) -> State
-        ensures { result ≡ self.now.standing.state }
+        ensures { result ≡ self.now.association.within.state }
     {
         self.association.state()
     }
 
+    /// Whether what is left of a P-DATA-TF is to be heard on, by `SessionEvent::GoesOn`.
+    pub fn goes_on(&self) -> bool
+        ensures { result ≡ is_in_turn self.now.association GoesOn }
+    {
+        !self.association.is_awaiting() && self.association.is_left()
+    }
+
     /// Whether an A-ABORT was sent or read.
     pub fn is_aborted(&self) -> bool
-        ensures { result ≡ self.now.standing.aborted }
+        ensures { result ≡ self.now.aborted }
     {
-        self.association.is_aborted()
+        self.aborted
     }
 
     /// Whether an A-RELEASE-RP was sent.
     pub fn is_released(&self) -> bool
-        ensures { result ≡ self.now.standing.released }
+        ensures { result ≡ self.now.released }
     {
-        self.association.is_released()
+        self.released
     }
 
-    /// Takes an event of the acceptor, or the port's reply to the store that was asked last.
+    /// Takes an event of the acceptor, or the port's reply to the call that was asked last, or hears
+    /// on what is left of a P-DATA-TF: up to the end of one message.
     ///
-    /// The actions are for the caller to do in order. Where they end with a store, what is heard
-    /// next is its reply.
+    /// The deeds are for the caller to do in order. Where they end with a call, what comes next is
+    /// its reply.
     pub fn on(
         &mut self,
-        titles: &Titles<()>,
+        titles: &Titles<V>,
         event: SessionEvent,
-    ) -> Result<ListOf<SessionAction>, AllocError>
-        // What is done, and what is left.
-        ensures heard { (e : Event) → self.old.awaited ≡ None → event ≡ Heard e →
-            IfOk result (λ actions.
-            Hears titles.now.list self.old.standing (heard_of e) actions self.new) }
-        ensures replied { (asked : Awaited) (reply : Result Taken PortFault) →
-            self.old.awaited ≡ Some asked → event ≡ Replied reply →
-            IfOk result (λ actions. Resumes titles.now.list self.old asked reply actions self.new) }
+    ) -> Result<ListOf<Deed>, AllocError>
+        // What is done: whatever is done from the new state on, these deeds and that are done from
+        // the old one.
+        ensures turned { IsTrue (is_in_turn self.old.association event) → IfOk result (λ deeds.
+            Turned titles.now.list self.old.association event deeds self.new.association) }
+        ensures fewer { IsTrue (is_in_turn self.old.association event) → OnOk result
+            (IsFewer event self.old.association.queue self.new.association.queue) }
+        ensures aborted { IsTrue (is_in_turn self.old.association event) → IfOk result (λ deeds.
+            self.new.aborted
+            ≡ aborted_by self.old.aborted self.old.association.within.state event deeds) }
+        ensures released { IsTrue (is_in_turn self.old.association event) → IfOk result (λ deeds.
+            self.new.released ≡ released_by self.old.released deeds) }
 
         // What comes out of turn changes nothing.
-        ensures ignored { IsOutOfTurn self.old.awaited event →
-            IfOk result (λ actions. actions ≡ []) }
-        ensures kept { IsOutOfTurn self.old.awaited event → OnOk result (self.new ≡ self.old) }
+        ensures ignored { is_in_turn self.old.association event ≡ false →
+            IfOk result (λ deeds. deeds ≡ []) }
+        ensures kept { is_in_turn self.old.association event ≡ false →
+            OnOk result (self.new ≡ self.old) }
 
         // Each PDU that is sent can be written.
         ensures writable { IsSound event → IfOk result (All IsWritable) }
@@ -160,117 +145,20 @@ impl Session {
         // Once memory was refused, nothing is done any more.
         ensures refused { OnErr result (self.new ≡ over self.old) }
     {
-        let aborted = self.is_aborted();
-        let released = self.is_released();
-        match self.step(titles, event) {
-            Ok(actions) => Ok(actions),
+        if !self.association.is_in_turn(&event) {
+            return Ok(ListOf::new(self.alloc));
+        }
+        let read = reads_an_abort(self.association.state(), &event);
+        match self.association.on(titles, event) {
+            Ok(deeds) => {
+                self.aborted = self.aborted || read || is_aborted_by(deeds.as_slice());
+                self.released = self.released || is_released_by(deeds.as_slice());
+                Ok(deeds)
+            }
             Err(fault) => {
-                self.association = Association::over(self.alloc, aborted, released);
-                self.awaited = None;
-                self.queue = VecDeque::new(self.alloc);
+                self.association = Association::over(self.alloc);
                 Err(fault)
             }
         }
-    }
-
-    fn step(
-        &mut self,
-        titles: &Titles<()>,
-        event: SessionEvent,
-    ) -> Result<ListOf<SessionAction>, AllocError>
-        ensures heard { (e : Event) → self.old.awaited ≡ None → event ≡ Heard e →
-            IfOk result (λ actions.
-            Hears titles.now.list self.old.standing (heard_of e) actions self.new) }
-        ensures replied { (asked : Awaited) (reply : Result Taken PortFault) →
-            self.old.awaited ≡ Some asked → event ≡ Replied reply →
-            IfOk result (λ actions. Resumes titles.now.list self.old asked reply actions self.new) }
-        ensures ignored { IsOutOfTurn self.old.awaited event →
-            IfOk result (λ actions. actions ≡ []) }
-        ensures kept { IsOutOfTurn self.old.awaited event → OnOk result (self.new ≡ self.old) }
-        ensures writable { IsSound event → IfOk result (All IsWritable) }
-    {
-        let mut actions = ListOf::new(self.alloc);
-        match event {
-            SessionEvent::Heard(event) => {
-                if self.awaited.is_none() {
-                    self.hear(titles, event, &mut actions)?;
-                }
-            }
-            SessionEvent::Replied(reply) => {
-                if let Some(awaited) = self.awaited.take() {
-                    self.resume(titles, awaited, reply, &mut actions)?;
-                }
-            }
-        }
-        Ok(actions)
-    }
-
-    /// Takes an event of the acceptor.
-    fn hear(
-        &mut self,
-        titles: &Titles<()>,
-        event: Event,
-        actions: &mut ListOf<SessionAction>,
-    ) -> Result<(), AllocError>
-        requires { self.old.awaited ≡ None }
-        ensures heard { OnOk result (Adds actions.old actions.new (λ more.
-            Hears titles.now.list self.old.standing (heard_of event) more self.new)) }
-        ensures writable { IsSound (Heard event) → All IsWritable actions.old →
-            OnOk result (All IsWritable actions.new) }
-    {
-        match values_in(event) {
-            Ok(values) => {
-                self.queue = VecDeque::from_vec(values.into_vec());
-                self.hear_queue(titles, actions)
-            }
-            Err(event) => {
-                self.queue = VecDeque::new(self.alloc);
-                let action = self.association.turn(titles, event)?;
-                put_asked(actions, action)
-            }
-        }
-    }
-
-    /// Responds to the awaited request, and takes the values in the queue.
-    fn resume(
-        &mut self,
-        titles: &Titles<()>,
-        awaited: Awaited,
-        reply: Reply,
-        actions: &mut ListOf<SessionAction>,
-    ) -> Result<(), AllocError>
-        requires { self.old.awaited ≡ None }
-        ensures resumed { OnOk result (Adds actions.old actions.new (λ more.
-            Resumes titles.now.list self.old awaited reply more self.new)) }
-        ensures writable { All IsWritable actions.old → OnOk result (All IsWritable actions.new) }
-    {
-        let response = awaited.respond(self.alloc, status_for(reply))?;
-        put_sends(actions, response)?;
-        self.hear_queue(titles, actions)
-    }
-
-    /// Takes the values in the queue, up to a content that the port is asked to store.
-    fn hear_queue(
-        &mut self,
-        titles: &Titles<()>,
-        actions: &mut ListOf<SessionAction>,
-    ) -> Result<(), AllocError>
-        requires { self.old.awaited ≡ None }
-        ensures heard { OnOk result (Adds actions.old actions.new (λ more.
-            Hears titles.now.list self.old.standing (map Value self.old.queue) more self.new)) }
-        ensures writable { All IsWritable actions.old → OnOk result (All IsWritable actions.new) }
-    {
-        while let Some(value) = self.queue.pop_front() {
-            match self.association.hear(titles, value)? {
-                Outcome::Sent(pdus) => put_sends(actions, pdus)?,
-                Outcome::Asked(awaited, content) => {
-                    actions.push(SessionAction::Reach(Moment::InStore))?;
-                    actions.push(SessionAction::Store(content))?;
-                    self.awaited = Some(awaited);
-                    return Ok(());
-                }
-            }
-        }
-        Ok(())
     }
 }

@@ -1,4 +1,4 @@
-//! Associations from outside: PDUs and replies in, actions out.
+//! Associations from outside: PDUs and replies in, deeds out.
 
 ghost use Rattle.std.specs.Prelude.{IfOk};
 ghost use Rattle.association_session.specs.Session.{IsSound, IsWritable};
@@ -102,6 +102,8 @@ fn pdu(alloc: Global, code: u8, body: &[&[u8]]) -> Result<Vec<u8>, AllocError> {
     joined(alloc, &[&[code, 0, a, b, c, d], body.as_slice()])
 }
 
+type Stored = Result<Taken, PortFault>;
+
 /// A value of a P-DATA-TF: a context's ID, the control bits and a fragment.
 type Value<'a> = (u8, u8, &'a [u8]);
 
@@ -133,54 +135,72 @@ fn event_of(alloc: Global, bytes: &[u8]) -> Result<SessionEvent, Fail>
     }
 }
 
-/// What an action asks: the bytes of a PDU, or a word.
-fn told_by(alloc: Global, action: &SessionAction) -> Result<Vec<u8>, AllocError>
-    requires { IsWritable action.now }
+/// What a deed is: the bytes of a PDU, or a word.
+fn told_by(alloc: Global, deed: &Deed) -> Result<Vec<u8>, AllocError>
+    requires { IsWritable deed.now }
 {
-    match action {
-        SessionAction::Send(pdu) => write_pdu(alloc, pdu),
-        SessionAction::Close => joined(alloc, &[b"close "]),
-        SessionAction::Reach(_) => joined(alloc, &[b"gate "]),
-        SessionAction::Store(content) => joined(
+    match deed {
+        Deed::Send(pdu) => write_pdu(alloc, pdu),
+        Deed::Close => joined(alloc, &[b"close "]),
+        Deed::Reach(_) => joined(alloc, &[b"gate "]),
+        Deed::Ask(Call::Store(content)) => joined(
             alloc,
             &[b"store ", content.instance(), content.body().as_slice()],
         ),
     }
 }
 
-/// What the actions of a call ask, in order.
-fn told(alloc: Global, session: &mut Session, event: SessionEvent) -> Result<Vec<u8>, Fail>
+/// Puts the deeds of a call behind others.
+fn put_told(
+    alloc: Global,
+    session: &mut Session<()>,
+    event: SessionEvent,
+    out: &mut Vec<u8>,
+) -> Result<(), Fail>
     requires { IsSound event }
 {
     let titles = titles(alloc)?;
-    let actions = session.on(&titles, event)?;
-    let mut out = Vec::new(alloc);
-    for action in actions.as_slice() {
-        let text = told_by(alloc, action)?;
+    let deeds = session.on(&titles, event)?;
+    for deed in deeds.as_slice() {
+        let text = told_by(alloc, deed)?;
         out.extend_from_slice(text.as_slice())?;
+    }
+    Ok(())
+}
+
+/// The deeds for an event and for all that it leaves, in order.
+fn told(alloc: Global, session: &mut Session<()>, event: SessionEvent) -> Result<Vec<u8>, Fail>
+    requires { IsSound event }
+{
+    let mut out = Vec::new(alloc);
+    put_told(alloc, session, event, &mut out)?;
+    for _ in 0..100 {
+        if session.goes_on() {
+            put_told(alloc, session, SessionEvent::GoesOn, &mut out)?;
+        }
     }
     Ok(out)
 }
 
 /// What a session asks on the PDU of these bytes.
-fn heard(alloc: Global, session: &mut Session, bytes: &[u8]) -> Result<Vec<u8>, Fail> {
+fn heard(alloc: Global, session: &mut Session<()>, bytes: &[u8]) -> Result<Vec<u8>, Fail> {
     let event = event_of(alloc, bytes)?;
     told(alloc, session, event)
 }
 
 /// What a session asks on these values.
-fn said(alloc: Global, session: &mut Session, values: &[Value<'_>]) -> Result<Vec<u8>, Fail> {
+fn said(alloc: Global, session: &mut Session<()>, values: &[Value<'_>]) -> Result<Vec<u8>, Fail> {
     let data = data(alloc, values)?;
     heard(alloc, session, data.as_slice())
 }
 
 /// What a session asks on a reply of the port.
-fn replied(alloc: Global, session: &mut Session, reply: Reply) -> Result<Vec<u8>, Fail> {
-    told(alloc, session, SessionEvent::Replied(reply))
+fn replied(alloc: Global, session: &mut Session<()>, reply: Stored) -> Result<Vec<u8>, Fail> {
+    told(alloc, session, SessionEvent::Replied(Reply::Stored(reply)))
 }
 
 /// A session that took a request for these contexts.
-fn opened(alloc: Global, contexts: &[u8], user: &[u8]) -> Result<Session, Fail> {
+fn opened(alloc: Global, contexts: &[u8], user: &[u8]) -> Result<Session<()>, Fail> {
     let mut session = Session::new(alloc);
     let request = pdu(alloc, 1, &[OPENING, contexts, user])?;
     heard(alloc, &mut session, request.as_slice())?;
@@ -203,7 +223,7 @@ fn is(
 fn hears(
     rt: &impl Abort,
     alloc: Global,
-    session: &mut Session,
+    session: &mut Session<()>,
     bytes: &[u8],
     wanted: &[&[u8]],
     why: &str,
@@ -216,7 +236,7 @@ fn hears(
 fn answers(
     rt: &impl Abort,
     alloc: Global,
-    session: &mut Session,
+    session: &mut Session<()>,
     values: &[Value<'_>],
     wanted: &[&[u8]],
     why: &str,
@@ -229,8 +249,8 @@ fn answers(
 fn resumes(
     rt: &impl Abort,
     alloc: Global,
-    session: &mut Session,
-    reply: Reply,
+    session: &mut Session<()>,
+    reply: Stored,
     wanted: &[&[u8]],
     why: &str,
 ) -> Result<(), Fail> {
@@ -304,7 +324,7 @@ fn a_store_comes_in_fragments(rt: HostRuntime) -> Result<(), Fail> {
 }
 
 /// A C-STORE with two fragments of its data set, none of them the last.
-fn fed(rt: &impl Abort, alloc: Global, session: &mut Session) -> Result<(), Fail> {
+fn fed(rt: &impl Abort, alloc: Global, session: &mut Session<()>) -> Result<(), Fail> {
     answers(
         rt,
         alloc,
@@ -332,7 +352,7 @@ fn fed(rt: &impl Abort, alloc: Global, session: &mut Session) -> Result<(), Fail
 }
 
 /// The status of a C-STORE that the port replied to so.
-fn status_replied(alloc: Global, reply: Reply) -> Result<u16, Fail> {
+fn status_replied(alloc: Global, reply: Stored) -> Result<u16, Fail> {
     let mut session = opened(alloc, STORAGE, USER)?;
     said(alloc, &mut session, &[(1, 3, STORE), (1, 2, IMAGE)])?;
     let text = replied(alloc, &mut session, reply)?;
@@ -351,7 +371,7 @@ fn status_in(text: &[u8]) -> u16 {
 
 #[test]
 fn each_reply_has_its_status(rt: HostRuntime) -> Result<(), Fail> {
-    let rows: [(Reply, u16); 6] = [
+    let rows: [(Stored, u16); 6] = [
         (Ok(Taken::New), 0x0000),
         (Ok(Taken::Known), 0x0000),
         (Err(PortFault::Memory), 0xA700),

@@ -15,7 +15,8 @@ use Rattle.site_state.specs.Site.{digest_cmp, Map, held_at, with_op, Takes}
 use Rattle.site_state.proofs.Maps.{tied}
 use Rattle.association_session.specs.declared.reply.PortFault.{PortFault}
 use Rattle.association_session.specs.declared.reply.PortFault.TheVariants.{Memory, Busy, Collision, Shelf}
-use Rattle.association_worker.specs.Port.{PortParts, holds_op, Leaves, Stores}
+use Rattle.association_run.specs.Port.{Leaves, Stores}
+use Rattle.association_worker.specs.Port.{PortParts, holds_op}
 
 other_at : (m : Map) (d q : List ℕ) (op o : Op) (b : Bool) → is_at (digest_cmp q) d ≡ b → get m d ≡ None → get m q ≡ Some o → cond b (Some op) (get m q) ≡ Some o
 other_at m d q op o true is none held = absurd (let same : Some o ≡ None = sym held ∙ ap (λ (x : List ℕ). get m x) (tied q d is) ∙ none in cc)

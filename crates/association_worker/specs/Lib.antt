@@ -1,9 +1,1 @@
-pub mod Calls
-pub mod Course
-pub mod Fault
-pub mod Inbox
-pub mod Output
-pub mod Parts
-pub mod Pieces
 pub mod Port
-pub mod Turns

@@ -7,9 +7,9 @@ ghost use Rattle.operation.specs.Spelling.{digest_of};
 ghost use Rattle.site_state.specs.Site.{Takes, IsClash};
 ghost use Rattle.association_worker.specs.Port.{holds_op, fault_of_site};
 
-use crate::port::Port;
-use association_session::{PortFault, Reply};
-use operation::{Content, Digest, Digested, Op};
+use association_run::Port;
+use association_session::PortFault;
+use operation::{Content, Digest, Digested, Op, Taken};
 use site_state::{Site, SiteFault};
 use std::alloc::Global;
 use std::marker::Model;
@@ -78,7 +78,7 @@ impl SitePort {
     }
 
     /// Takes a content, as its site does. A refusal leaves everything as it was.
-    pub fn take(&mut self, content: Content) -> Reply
+    pub fn take(&mut self, content: Content) -> Result<Taken, PortFault>
         ensures takes { IfOk result (λ taken.
             Takes self.old.site (AContent content) (Ok taken) self.new.site) }
         ensures listed { OnOk result (self.new.own
@@ -107,7 +107,7 @@ impl Port for SitePort {
 
     ghost own = { λ p. p.own };
 
-    fn store(&mut self, content: Content) -> Reply {
+    fn store(&mut self, content: Content) -> Result<Taken, PortFault> {
         self.take(content)
     }
 }

@@ -3,9 +3,11 @@
 ghost use Rattle.std.specs.Prelude.{[], None};
 
 use super::*;
+use association_run::{End, Gate, OpenGate, Port, RunFault, run_association};
+use association_session::{Moment, PortFault};
 use devices::{Store, Supply};
 use octets::{ListOf, Octets};
-use operation::Content;
+use operation::{Content, Taken};
 use std::alloc::{AllocError, Global};
 use std::process::Abort;
 use std::test::Fail;
@@ -137,7 +139,7 @@ impl Port for Refuser {
 
     ghost own = { λ _. [] };
 
-    fn store(&mut self, _content: Content) -> Reply {
+    fn store(&mut self, _content: Content) -> Result<Taken, PortFault> {
         match self.fault {
             PortFault::Memory => Err(PortFault::Memory),
             PortFault::Busy => Err(PortFault::Busy),

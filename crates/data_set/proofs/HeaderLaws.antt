@@ -216,7 +216,7 @@ pair_takes previous tag g0 g1 e0 e1 a b text x false fits lt t long e fine =
     let is : is_short a b ≡ true = not_false _ (rw (item, caps.0, caps.1) at long) in
     short_takes tag g0 g1 e0 e1 a b text x fits lt t is e
 
-rest_bytes : (front text : List ℕ) → IsBytes (front ++ text) → IsBytes text
+pub rest_bytes : (front text : List ℕ) → IsBytes (front ++ text) → IsBytes text
 rest_bytes [] text fits = fits
 rest_bytes (b ∷ front) text fits = rest_bytes front text (λ i. fits (suc i))
 

@@ -5,6 +5,7 @@ pub mod Once
 pub mod Sets
 pub mod Reading
 pub mod Kept
+pub mod Outcomes
 pub mod Lists
 pub mod Walks
 pub mod WrittenLaws

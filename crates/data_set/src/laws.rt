@@ -1,7 +1,8 @@
 //! What the grammar comes to, as contracts of functions that do nothing.
 
-ghost use Rattle.std.specs.Prelude.{◌≡◌, ◌≢◌, ℕ, List, Some, false};
+ghost use Rattle.std.specs.Prelude.{◌≡◌, ◌≢◌, ◌⊎◌, ℕ, List, Some, false};
 ghost use Rattle.std.specs.Option.{option_map};
+ghost use Rattle.octets.specs.Bytes.{IsBytes};
 ghost use Rattle.data_set.specs.declared.fault.SetFault.{SetFault};
 ghost use Rattle.data_set.specs.declared.syntax.Syntax.{Syntax};
 ghost use Rattle.data_set.specs.Tree.{Tree};
@@ -35,6 +36,12 @@ pub fn no_fault_where_spelled()
 pub fn one_fault()
     ensures { (syntax : Syntax) (text : List ℕ) (f g : SetFault) →
         HasFault syntax text f → HasFault syntax text g → f ≡ g }
+{}
+
+/// Every text of bytes spells elements, or has the fault of the first that offends.
+pub fn each_text_has_an_outcome()
+    ensures { (syntax : Syntax) (text : List ℕ) → IsBytes text →
+        ((ts : List Tree) × Spells syntax text ts) ⊎ ((f : SetFault) × HasFault syntax text f) }
 {}
 
 /// The elements that a data set may have are those that some text spells.

@@ -26,7 +26,8 @@ pub use element::{Content, Element};
 pub use fault::SetFault;
 pub use laws::{
     a_conversion_keeps_values, a_set_is_what_a_text_spells, a_value_put_in_is_read_again,
-    no_fault_where_spelled, one_fault, one_reading, what_is_spelled_is_computed,
+    each_text_has_an_outcome, no_fault_where_spelled, one_fault, one_reading,
+    what_is_spelled_is_computed,
 };
 pub use reader::read;
 pub use set::DataSet;

@@ -1,6 +1,8 @@
 //! Texts by hand, in hexadecimal, spaced as the format is.
 
-use crate::element::Element;
+ghost use Rattle.std.specs.Prelude.{◌≤◌, length};
+
+use crate::corrections::correction_vr;
 use crate::fault::SetFault;
 use crate::reader::read;
 use crate::set::DataSet;
@@ -9,6 +11,7 @@ use crate::values::{items_of, padded_of, value_of};
 use crate::writer::write;
 use Syntax::{Explicit, Implicit};
 use std::alloc::{AllocError, Global};
+use std::process::Abort;
 use std::test::Fail;
 
 fn digit(c: u8) -> Option<u8> {
@@ -62,50 +65,91 @@ const IMAGE: &str = "08001600 1a000000 312e322e3834302e31303030382e352e312e342e3
     20000d00 06000000 312e322e3100
     20000e00 08000000 312e322e312e3100";
 
+/// The fault of a text, if it has one.
+fn fault_of(alloc: Global, syntax: Syntax, text: &[u8]) -> Option<SetFault> {
+    match read(alloc, syntax, text) {
+        Ok(_) => None,
+        Err(fault) => Some(fault),
+    }
+}
+
 #[test]
 fn a_text_cut_between_elements_is_read_and_no_other(rt: HostRuntime) -> Result<(), Fail> {
-    let alloc = rt.alloc();
-    let text = bytes(alloc, IMAGE)?;
-    let image = text.as_slice();
+    let image = bytes(rt.alloc(), IMAGE)?;
     assert_eq!(rt; image.len(), 118, "the whole image");
-    for end in 0..118usize {
-        let ends = matches!(end, 0 | 34 | 52 | 62 | 78 | 88 | 102);
-        let read_so_far = read(alloc, Implicit, &image[..end]);
-        match read_so_far {
-            Ok(_) => assert!(rt; ends, "read, of {end} bytes"),
-            Err(fault) => {
-                assert!(rt; !ends, "refused, of {end} bytes");
-                assert_eq!(rt; fault, SetFault::Truncated, "of {end} bytes");
-            }
-        }
+    for end in 0..image.len() {
+        let expected = match end {
+            0 | 34 | 52 | 62 | 78 | 88 | 102 => None,
+            _ => Some(SetFault::Truncated),
+        };
+        let told = fault_of(rt.alloc(), Implicit, &image.as_slice()[..end]);
+        assert_eq!(rt; told, expected, "of {end} bytes");
+    }
+    Ok(())
+}
+
+/// A value that is trimmed, or none.
+fn trimmed(set: &DataSet, tag: u32) -> &[u8] {
+    set.value(tag).unwrap_or(b"none")
+}
+
+/// Trimmed values of the image.
+const TRIMMED: [(u32, &[u8], &str); 3] = [
+    (0x0010_0010, b"DOE^JANE", "a name"),
+    (0x0020_000d, b"1.2.1", "without its 00"),
+    (0x0020_0010, b"none", "a missing element"),
+];
+
+#[test]
+fn values_are_trimmed_by_tag(rt: HostRuntime) -> Result<(), Fail> {
+    let set = set_of(rt.alloc(), Implicit, IMAGE)?;
+    for (tag, value, name) in TRIMMED {
+        assert_eq!(rt; trimmed(&set, tag), value, "{name}");
     }
     Ok(())
 }
 
 #[test]
-fn values_are_trimmed_by_tag(rt: HostRuntime) -> Result<(), Fail> {
-    let alloc = rt.alloc();
-    let set = set_of(alloc, Implicit, IMAGE)?;
+fn a_value_has_no_items(rt: HostRuntime) -> Result<(), Fail> {
+    let set = set_of(rt.alloc(), Implicit, IMAGE)?;
     assert!(rt; set.syntax() == Implicit, "as it was asked");
-    let name = set.value(0x0010_0010).ok_or("no name")?;
-    assert_eq!(rt; name, b"DOE^JANE".as_slice(), "a name");
-    let study = set.value(0x0020_000d).ok_or("no study")?;
-    assert_eq!(rt; study, b"1.2.1".as_slice(), "without its 00");
-    assert!(rt; set.value(0x0020_0010).is_none(), "a missing element");
     assert!(rt; set.items(0x0020_000d).is_none(), "a value has no items");
     Ok(())
 }
 
+/// Value representations and values, and what they are padded to.
+const PADDED: [([u8; 2], &[u8], &[u8], &str); 3] = [
+    (*b"UI", b"1.2.3", b"1.2.3\x00", "a UID"),
+    (*b"PN", b"ROE^ANN", b"ROE^ANN ", "a name"),
+    (*b"UI", b"1.22", b"1.22", "an even length"),
+];
+
 #[test]
 fn values_are_padded_to_even_length(rt: HostRuntime) -> Result<(), Fail> {
-    let alloc = rt.alloc();
-    let uid = padded_of(alloc, *b"UI", b"1.2.3")?;
-    assert_eq!(rt; uid.as_slice(), b"1.2.3\x00".as_slice(), "a UID");
-    let name = padded_of(alloc, *b"PN", b"ROE^ANN")?;
-    assert_eq!(rt; name.as_slice(), b"ROE^ANN ".as_slice(), "a name");
-    let even = padded_of(alloc, *b"UI", b"1.22")?;
-    assert_eq!(rt; even.as_slice(), b"1.22".as_slice(), "an even length");
+    for (vr, value, expected, name) in PADDED {
+        let padded = padded_of(rt.alloc(), vr, value)?;
+        assert_eq!(rt; padded.as_slice(), expected, "{name}");
+    }
     Ok(())
+}
+
+/// Asks that a text is the one that these digits spell.
+fn is_text(
+    rt: &impl Abort,
+    alloc: Global,
+    text: &[u8],
+    hex: &str,
+    name: &str,
+) -> Result<(), AllocError> {
+    let expected = bytes(alloc, hex)?;
+    assert_eq!(rt; text, expected.as_slice(), "{name}");
+    Ok(())
+}
+
+/// What is written of what was read and converted to the implicit syntax.
+fn converted(alloc: Global, hex: &str) -> Result<Vec<u8>, SetFault> {
+    let set = set_of(alloc, Explicit, hex)?;
+    Ok(write(alloc, &set.to_implicit(alloc)?)?)
 }
 
 // (0009,1001) UN of undefined length: an item, of which (0009,0002) is implicit.
@@ -114,20 +158,27 @@ const UNKNOWN: &str = "09000110 554e 0000 ffffffff feff00e0 ffffffff 09000200 02
 
 #[test]
 fn the_items_of_an_unknown_sequence_are_implicit(rt: HostRuntime) -> Result<(), Fail> {
-    let alloc = rt.alloc();
-    let set = set_of(alloc, Explicit, UNKNOWN)?;
+    let set = set_of(rt.alloc(), Explicit, UNKNOWN)?;
     let items = set.items(0x0009_1001).ok_or("no sequence")?;
     assert_eq!(rt; items.len(), 1, "one item");
-    let inner = value_of(items[0].as_slice(), 0x0009_0002).ok_or("no value")?;
+    let inner = value_of(items[0].as_slice(), 0x0009_0002).unwrap_or(b"none");
     assert_eq!(rt; inner, b"AB".as_slice(), "an implicit element");
+    Ok(())
+}
 
-    let implicit = write(alloc, &set.to_implicit(alloc)?)?;
-    let expected = bytes(
-        alloc,
-        "09000110 ffffffff feff00e0 ffffffff 09000200 02000000 4142
-        feff0de0 00000000 feffdde0 00000000",
+const UNKNOWN_IMPLICIT: &str = "09000110 ffffffff feff00e0 ffffffff 09000200 02000000 4142
+    feff0de0 00000000 feffdde0 00000000";
+
+#[test]
+fn an_unknown_sequence_is_converted(rt: HostRuntime) -> Result<(), Fail> {
+    let implicit = converted(rt.alloc(), UNKNOWN)?;
+    is_text(
+        &rt,
+        rt.alloc(),
+        implicit.as_slice(),
+        UNKNOWN_IMPLICIT,
+        "with its items",
     )?;
-    assert_eq!(rt; implicit.as_slice(), expected.as_slice(), "converted");
     Ok(())
 }
 
@@ -162,39 +213,44 @@ fn depth_outcome(alloc: Global, depth: usize, inside: &str) -> Result<usize, Set
     Ok(set.elements().len())
 }
 
+/// Sequences around a text, the text, and how many elements or which fault there are.
+const DEPTHS: [(usize, &str, Result<usize, SetFault>, &str); 4] = [
+    (16, "08006000 4353 0200 4354", Ok(1), "sixteen"),
+    (
+        17,
+        "08006000 4353 0200 4354",
+        Err(SetFault::Depth),
+        "seventeen",
+    ),
+    (
+        16,
+        "08004011 5351 0000 ffffffff feffdde0 00000000",
+        Ok(1),
+        "a seventeenth without items",
+    ),
+    (
+        16,
+        "08004011 5351 0000 ffffffff 08006000",
+        Err(SetFault::Order),
+        "in the seventeenth: Order before Depth",
+    ),
+];
+
 #[test]
 fn sixteen_sequences_may_stand_around_an_element(rt: HostRuntime) {
-    let alloc = rt.alloc();
-    let element = "08006000 4353 0200 4354";
-    assert_eq!(rt; depth_outcome(alloc, 16, element), Ok(1), "sixteen");
-    assert_eq!(rt;
-        depth_outcome(alloc, 17, element),
-        Err(SetFault::Depth),
-        "seventeen"
-    );
-    let empty = "08004011 5351 0000 ffffffff feffdde0 00000000";
-    assert_eq!(rt;
-        depth_outcome(alloc, 16, empty),
-        Ok(1),
-        "a seventeenth without items"
-    );
-    let no_item = "08004011 5351 0000 ffffffff 08006000";
-    assert_eq!(rt;
-        depth_outcome(alloc, 16, no_item),
-        Err(SetFault::Order),
-        "in the seventeenth: Order before Depth"
-    );
+    for (depth, inside, expected, name) in DEPTHS {
+        assert_eq!(rt;
+            depth_outcome(rt.alloc(), depth, inside),
+            expected,
+            "{name}"
+        );
+    }
 }
 
 #[test]
-fn nothing_is_read_behind_a_hostile_depth(rt: HostRuntime) -> Result<(), Fail> {
-    let alloc = rt.alloc();
-    let text = nested(alloc, 100_000, "")?;
-    match read(alloc, Explicit, text.as_slice()) {
-        Ok(_) => assert!(rt; false, "a hundred thousand levels were read"),
-        Err(fault) => assert_eq!(rt; fault, SetFault::Depth, "a hundred thousand levels"),
-    }
-    Ok(())
+fn nothing_is_read_behind_a_hostile_depth(rt: HostRuntime) {
+    let told = depth_outcome(rt.alloc(), 100_000, "");
+    assert_eq!(rt; told, Err(SetFault::Depth), "a hundred thousand levels");
 }
 
 // A text and its fault, at the top.
@@ -234,22 +290,24 @@ fn each_fault_is_told_at_the_top(rt: HostRuntime) {
     }
 }
 
+/// What an item of these elements comes to, behind the header of its sequence.
+fn inside_outcome(alloc: Global, syntax: Syntax, hex: &str) -> Result<usize, SetFault> {
+    let around = match syntax {
+        Explicit => "08004011 5351 0000 ffffffff feff00e0 ffffffff",
+        Implicit => "08004011 ffffffff feff00e0 ffffffff",
+    };
+    let mut text = bytes(alloc, around)?;
+    text.extend_from_slice(bytes(alloc, hex)?.as_slice())?;
+    let set = read(alloc, syntax, text.as_slice())?;
+    Ok(set.elements().len())
+}
+
 #[test]
-fn each_fault_is_told_inside_an_item(rt: HostRuntime) -> Result<(), Fail> {
+fn each_fault_is_told_inside_an_item(rt: HostRuntime) {
     for (syntax, hex, fault) in FAULTS {
-        let around = match syntax {
-            Explicit => "08004011 5351 0000 ffffffff feff00e0 ffffffff",
-            Implicit => "08004011 ffffffff feff00e0 ffffffff",
-        };
-        let mut text = bytes(rt.alloc(), around)?;
-        text.extend_from_slice(bytes(rt.alloc(), hex)?.as_slice())?;
-        let told = match read(rt.alloc(), syntax, text.as_slice()) {
-            Ok(_) => None,
-            Err(told) => Some(told),
-        };
-        assert_eq!(rt; told, Some(fault), "of {hex} in an item");
+        let told = inside_outcome(rt.alloc(), syntax, hex);
+        assert_eq!(rt; told, Err(fault), "of {hex} in an item");
     }
-    Ok(())
 }
 
 // Two faults in one element, or in two: the one that is told.
@@ -423,182 +481,227 @@ const MIXED: &str = "08000000 554c 0400 00000000
     feff00e0 ffffffff 08000000 554c 0400 02000000 08006000 4353 0200 4354
     feff0de0 00000000 feffdde0 00000000";
 
+/// Texts that are written as they were read.
+const KEPT: [(Syntax, &str); 7] = [
+    (Implicit, ""),
+    (Explicit, ""),
+    (Implicit, IMAGE),
+    (Explicit, UNKNOWN),
+    (Explicit, LONG),
+    (Explicit, SHORT),
+    (Explicit, MIXED),
+];
+
 #[test]
 fn what_is_read_is_written_as_it_was(rt: HostRuntime) -> Result<(), Fail> {
-    let alloc = rt.alloc();
-    for (syntax, hex) in [
-        (Implicit, ""),
-        (Explicit, ""),
-        (Implicit, IMAGE),
-        (Explicit, UNKNOWN),
-        (Explicit, LONG),
-        (Explicit, SHORT),
-        (Explicit, MIXED),
-    ] {
-        let text = bytes(alloc, hex)?;
-        let written = rewritten(alloc, syntax, hex)?;
-        assert_eq!(rt; written.as_slice(), text.as_slice(), "of {hex}");
+    for (syntax, hex) in KEPT {
+        let written = rewritten(rt.alloc(), syntax, hex)?;
+        is_text(&rt, rt.alloc(), written.as_slice(), hex, hex)?;
     }
     Ok(())
 }
 
+/// Texts of the explicit syntax that are written otherwise than they were read.
+const REWRITTEN: [(&str, &str, &str); 2] = [
+    (
+        "09000110 4f42 4142 01000000 aa",
+        "09000110 4f42 0000 01000000 aa",
+        "reserved bytes, whatever they were",
+    ),
+    (
+        "08004011 5351 0000 10000000 feff00e0 08000000 08006000 4353 0000",
+        "08004011 5351 0000 ffffffff feff00e0 ffffffff 08006000 4353 0000
+        feff0de0 00000000 feffdde0 00000000",
+        "defined lengths, with both ends",
+    ),
+];
+
 #[test]
-fn reserved_bytes_are_written_as_00(rt: HostRuntime) -> Result<(), Fail> {
-    let written = rewritten(rt.alloc(), Explicit, "09000110 4f42 4142 01000000 aa")?;
-    let expected = bytes(rt.alloc(), "09000110 4f42 0000 01000000 aa")?;
-    assert_eq!(rt;
-        written.as_slice(),
-        expected.as_slice(),
-        "whatever they were"
-    );
+fn reserved_bytes_are_00_and_lengths_are_undefined(rt: HostRuntime) -> Result<(), Fail> {
+    for (hex, expected, name) in REWRITTEN {
+        let written = rewritten(rt.alloc(), Explicit, hex)?;
+        is_text(&rt, rt.alloc(), written.as_slice(), expected, name)?;
+    }
     Ok(())
 }
 
-#[test]
-fn defined_lengths_are_written_as_undefined_ones(rt: HostRuntime) -> Result<(), Fail> {
-    let alloc = rt.alloc();
-    let filled = "08004011 5351 0000 10000000 feff00e0 08000000 08006000 4353 0000";
-    let written = rewritten(alloc, Explicit, filled)?;
-    let expected = bytes(
-        alloc,
-        "08004011 5351 0000 ffffffff feff00e0 ffffffff 08006000 4353 0000
-        feff0de0 00000000 feffdde0 00000000",
-    )?;
-    assert_eq!(rt; written.as_slice(), expected.as_slice(), "with both ends");
-    Ok(())
-}
+// What was mixed, without (gggg,0000).
+const MIXED_IMPLICIT: &str = "09001000 04000000 41434d45
+    09000110 03000000 414243
+    09000210 ffffffff feffdde0 00000000
+    10000210 ffffffff feff00e0 ffffffff feff0de0 00000000
+    feff00e0 ffffffff 08006000 02000000 4354
+    feff0de0 00000000 feffdde0 00000000";
 
 #[test]
 fn a_conversion_leaves_out_group_lengths_at_every_depth(rt: HostRuntime) -> Result<(), Fail> {
-    let alloc = rt.alloc();
-    let implicit = write(alloc, &set_of(alloc, Explicit, MIXED)?.to_implicit(alloc)?)?;
-    let expected = bytes(
-        alloc,
-        "09001000 04000000 41434d45
-        09000110 03000000 414243
-        09000210 ffffffff feffdde0 00000000
-        10000210 ffffffff feff00e0 ffffffff feff0de0 00000000
-        feff00e0 ffffffff 08006000 02000000 4354
-        feff0de0 00000000 feffdde0 00000000",
-    )?;
-    assert_eq!(rt;
+    let implicit = converted(rt.alloc(), MIXED)?;
+    is_text(
+        &rt,
+        rt.alloc(),
         implicit.as_slice(),
-        expected.as_slice(),
-        "without (gggg,0000)"
-    );
-    Ok(())
-}
-
-#[test]
-#[tactic(auto, unfolding(dictionary::specs::Elements::vr_in_table))]
-fn a_value_is_replaced_in_its_place(rt: HostRuntime) -> Result<(), Fail> {
-    let alloc = rt.alloc();
-    let image = set_of(alloc, Implicit, IMAGE)?;
-    let renamed = image.replaced(alloc, 0x0010_0010, *b"PN", b"ROE^ANN")?;
-    let expected = bytes(
-        alloc,
-        "
-        08001600 1a000000 312e322e3834302e31303030382e352e312e342e312e312e3200
-        08001800 0a000000 312e322e312e312e3100
-        08006000 02000000 4354
-        10001000 08000000 524f455e414e4e20
-        10002000 02000000 5031
-        20000d00 06000000 312e322e3100
-        20000e00 08000000 312e322e312e3100",
+        MIXED_IMPLICIT,
+        "converted",
     )?;
-    let written = write(alloc, &renamed)?;
-    assert_eq!(rt;
+    Ok(())
+}
+
+/// What is written of what was read, with a value put in.
+fn with_value(
+    alloc: Global,
+    syntax: Syntax,
+    hex: &str,
+    tag: u32,
+    value: &[u8],
+) -> Result<Vec<u8>, Fail>
+    requires { length value.now ≤ 64 }
+{
+    let vr = correction_vr(tag).ok_or("no attribute that is corrected")?;
+    let set = set_of(alloc, syntax, hex)?;
+    Ok(write(alloc, &set.replaced(alloc, tag, vr, value)?)?)
+}
+
+// The image under another name, padded with a space.
+const RENAMED: &str = "08001600 1a000000 312e322e3834302e31303030382e352e312e342e312e312e3200
+    08001800 0a000000 312e322e312e312e3100
+    08006000 02000000 4354
+    10001000 08000000 524f455e414e4e20
+    10002000 02000000 5031
+    20000d00 06000000 312e322e3100
+    20000e00 08000000 312e322e312e3100";
+
+#[test]
+fn a_value_is_replaced_in_its_place(rt: HostRuntime) -> Result<(), Fail> {
+    let written = with_value(rt.alloc(), Implicit, IMAGE, 0x0010_0010, b"ROE^ANN")?;
+    is_text(
+        &rt,
+        rt.alloc(),
         written.as_slice(),
-        expected.as_slice(),
-        "padded with a space"
-    );
+        RENAMED,
+        "padded with a space",
+    )?;
     Ok(())
 }
 
 #[test]
-#[tactic(auto, unfolding(dictionary::specs::Elements::vr_in_table))]
-fn a_missing_value_is_put_in_its_place(rt: HostRuntime) -> Result<(), Fail> {
-    let alloc = rt.alloc();
-    let mixed = set_of(alloc, Explicit, MIXED)?;
-    let dated = mixed.replaced(alloc, 0x0008_0020, *b"DA", b"20240229")?;
+fn a_missing_value_is_put_in_front(rt: HostRuntime) -> Result<(), Fail> {
+    let written = with_value(rt.alloc(), Explicit, MIXED, 0x0008_0020, b"20240229")?;
     let first = bytes(
-        alloc,
+        rt.alloc(),
         "08002000 4441 0800 3230323430323239 09001000 4c4f 0400 41434d45",
     )?;
-    let written = write(alloc, &dated)?;
-    let text = written.as_slice();
     assert!(rt;
-        text.starts_with(first.as_slice()),
-        "in front, and no group length"
+        written.as_slice().starts_with(first.as_slice()),
+        "and no group length"
     );
-    let behind = mixed.replaced(alloc, 0x0020_0010, *b"SH", b"7")?;
-    let last = bytes(
-        alloc,
-        "feff0de0 00000000 feffdde0 00000000 20001000 5348 0200 3720",
-    )?;
-    let written = write(alloc, &behind)?;
-    let text = written.as_slice();
-    assert!(rt; text.ends_with(last.as_slice()), "behind all others");
     Ok(())
 }
 
 #[test]
-#[tactic(auto, unfolding(dictionary::specs::Elements::vr_in_table))]
+fn a_missing_value_is_put_behind_all_others(rt: HostRuntime) -> Result<(), Fail> {
+    let written = with_value(rt.alloc(), Explicit, MIXED, 0x0020_0010, b"7")?;
+    let last = bytes(
+        rt.alloc(),
+        "feff0de0 00000000 feffdde0 00000000 20001000 5348 0200 3720",
+    )?;
+    assert!(rt;
+        written.as_slice().ends_with(last.as_slice()),
+        "behind their ends"
+    );
+    Ok(())
+}
+
+// The image with (0008,103E), in its place.
+const DESCRIBED: &str = "08001600 1a000000 312e322e3834302e31303030382e352e312e342e312e312e3200
+    08001800 0a000000 312e322e312e312e3100
+    08006000 02000000 4354
+    08003e10 04000000 48454144
+    10001000 08000000 444f455e4a414e45
+    10002000 02000000 5031
+    20000d00 06000000 312e322e3100
+    20000e00 08000000 312e322e312e3100";
+
+#[test]
 fn a_series_description_is_put_in(rt: HostRuntime) -> Result<(), Fail> {
-    let alloc = rt.alloc();
-    let image = set_of(alloc, Implicit, IMAGE)?;
-    let described = image.replaced(alloc, 0x0008_103e, *b"LO", b"HEAD")?;
-    let value = described.value(0x0008_103e).ok_or("no description")?;
-    assert_eq!(rt; value, b"HEAD".as_slice(), "its value");
+    let written = with_value(rt.alloc(), Implicit, IMAGE, 0x0008_103e, b"HEAD")?;
+    is_text(
+        &rt,
+        rt.alloc(),
+        written.as_slice(),
+        DESCRIBED,
+        "in its place",
+    )?;
+    Ok(())
+}
+
+#[test]
+fn an_empty_sequence_has_no_items(rt: HostRuntime) -> Result<(), Fail> {
+    let set = set_of(rt.alloc(), Explicit, MIXED)?;
+    assert!(rt; set.value(0x0009_1002).is_none(), "a sequence has no value");
+    let items = set.items(0x0009_1002).ok_or("no sequence")?;
+    assert_eq!(rt; items.len(), 0, "an empty sequence");
     Ok(())
 }
 
 #[test]
 fn values_inside_items_are_found(rt: HostRuntime) -> Result<(), Fail> {
-    let alloc = rt.alloc();
-    let set = set_of(alloc, Explicit, MIXED)?;
-    assert!(rt; set.value(0x0009_1002).is_none(), "a sequence has no value");
-    let none = set.items(0x0009_1002).ok_or("no sequence")?;
-    assert_eq!(rt; none.len(), 0, "an empty sequence");
+    let set = set_of(rt.alloc(), Explicit, MIXED)?;
     let items = set.items(0x0010_1002).ok_or("no sequence")?;
     assert_eq!(rt; items.len(), 2, "two items");
     assert_eq!(rt; items[0].len(), 0, "an empty item");
-    let modality = value_of(items[1].as_slice(), 0x0008_0060).ok_or("no modality")?;
-    assert_eq!(rt; modality, b"CT".as_slice(), "in the second");
-    assert!(rt;
-        items_of(items[1].as_slice(), 0x0008_0060).is_none(),
-        "a value"
+    let second = items[1].as_slice();
+    assert_eq!(rt;
+        value_of(second, 0x0008_0060).unwrap_or(b"none"),
+        b"CT".as_slice(),
+        "in the second"
     );
+    assert!(rt; items_of(second, 0x0008_0060).is_none(), "a value");
     Ok(())
+}
+
+/// How many bytes are written of what was read of these.
+fn length_written(alloc: Global, text: &[u8]) -> Result<usize, SetFault> {
+    let set = read(alloc, Explicit, text)?;
+    Ok(write(alloc, &set)?.len())
 }
 
 #[test]
 fn a_flat_image_of_64_mib_is_read_and_written(rt: HostRuntime) -> Result<(), Fail> {
-    let alloc = rt.alloc();
-    let mut text = bytes(alloc, "e07f1000 4f57 0000 00000004")?;
-    text.resize(12 + 0x0400_0000, 0x5a)?;
-    let set = read(alloc, Explicit, text.as_slice())?;
-    assert_eq!(rt; set.elements().len(), 1, "one element");
-    let written = write(alloc, &set)?;
-    assert_eq!(rt; written.len(), text.len(), "its text");
+    let mut text = bytes(rt.alloc(), "e07f1000 4f57 0000 00000004")?;
+    text.resize(67_108_876, 0x5a)?;
+    assert_eq!(rt;
+        length_written(rt.alloc(), text.as_slice()),
+        Ok(67_108_876),
+        "its text"
+    );
     Ok(())
+}
+
+/// The digits of ten thousand elements.
+fn ten_thousand(alloc: Global) -> Result<String, AllocError> {
+    let mut elements = String::new(alloc);
+    for element in 1..10_001u32 {
+        let (high, low) = (element / 256, element % 256);
+        let hex = format!(in alloc; "0900{low:02x}{high:02x} 4c4f 0200 4142 ")?;
+        elements.push_str(hex.as_str())?;
+    }
+    Ok(elements)
+}
+
+/// What is written of an explicit text, and how many elements a conversion has at the top.
+fn written_again(alloc: Global, text: &[u8]) -> Result<(Vec<u8>, usize), SetFault> {
+    let set = read(alloc, Explicit, text)?;
+    let implicit = set.to_implicit(alloc)?;
+    Ok((write(alloc, &set)?, implicit.elements().len()))
 }
 
 #[test]
 fn ten_thousand_elements_at_depth_16_are_read_and_written(rt: HostRuntime) -> Result<(), Fail> {
-    let alloc = rt.alloc();
-    let mut inside = String::new(alloc);
-    for element in 1..10_001u32 {
-        let (high, low) = (element / 256, element % 256);
-        let hex = format!(in alloc; "0900{low:02x}{high:02x} 4c4f 0200 4142 ")?;
-        inside.push_str(hex.as_str())?;
-    }
-    let text = nested(alloc, 16, inside.as_str())?;
-    let set = read(alloc, Explicit, text.as_slice())?;
-    let written = write(alloc, &set)?;
+    let inside = ten_thousand(rt.alloc())?;
+    let text = nested(rt.alloc(), 16, inside.as_str())?;
+    let (written, converted) = written_again(rt.alloc(), text.as_slice())?;
     assert_eq!(rt; written.as_slice(), text.as_slice(), "as it was");
-    let implicit = set.to_implicit(alloc)?;
-    assert_eq!(rt; implicit.elements().len(), 1, "converted");
+    assert_eq!(rt; converted, 1, "converted");
     Ok(())
 }
 

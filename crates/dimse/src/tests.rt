@@ -8,7 +8,7 @@ use super::*;
 use bytes::Bytes;
 use octets::{ListOf, Octets};
 use pdu::{Context, Contexts, Pdu, Pdv, write_pdu};
-use std::alloc::Global;
+use std::alloc::{AllocError, Global};
 use std::process::Abort;
 use std::test::Fail;
 
@@ -266,16 +266,23 @@ fn malformed_command_sets_are_refused(rt: HostRuntime) {
     }
 }
 
-fn contexts(alloc: Global) -> Result<Contexts, Fail> {
+const VERIFICATION: &[u8] = b"1.2.840.10008.1.1";
+
+// A context of verification, with the implicit syntax.
+fn context(alloc: Global, id: u8) -> Result<Context, AllocError> {
+    let abstract_syntax = Octets::from_slice(alloc, VERIFICATION)?;
+    Ok(Context {
+        id,
+        abstract_syntax,
+        explicit: false,
+        scp: false,
+    })
+}
+
+fn contexts(alloc: Global) -> Result<Contexts, AllocError> {
     let mut contexts = ListOf::new(alloc);
-    for id in [1, 3] {
-        contexts.push(Context {
-            id,
-            abstract_syntax: Octets::from_slice(alloc, b"1.2.840.10008.1.1")?,
-            explicit: false,
-            scp: false,
-        })?;
-    }
+    contexts.push(context(alloc, 1)?)?;
+    contexts.push(context(alloc, 3)?)?;
     Ok(contexts)
 }
 
@@ -294,6 +301,24 @@ fn pdv(
     })
 }
 
+fn echo_request() -> &'static [u8] {
+    &ECHO_REQUEST
+}
+
+fn store_request() -> &'static [u8] {
+    &STORE_REQUEST
+}
+
+// An assembler of both contexts.
+fn assembler(alloc: Global) -> Result<Assembler, Fail> {
+    Ok(Assembler::new(alloc, contexts(alloc)?))
+}
+
+// What a fragment ends.
+fn fed(assembler: &mut Assembler, fragment: Pdv) -> Result<Option<Message>, DimseFault> {
+    assembler.feed(fragment)
+}
+
 // Feeds a text in fragments of a size, and answers what its last one ends.
 fn feed_cut(
     alloc: Global,
@@ -308,7 +333,7 @@ fn feed_cut(
     let mut answer = None;
     for piece in text.chunks(size) {
         left = left.saturating_sub(piece.len());
-        answer = assembler.feed(pdv(alloc, 1, command, left == 0, piece)?)?;
+        answer = fed(assembler, pdv(alloc, 1, command, left == 0, piece)?)?;
     }
     Ok(answer)
 }
@@ -317,7 +342,7 @@ fn feed_cut(
 fn assert_gathered(rt: &impl Abort, alloc: Global, text: &[u8], size: usize) -> Result<(), Fail>
     requires { 0 < size }
 {
-    let mut assembler = Assembler::new(alloc, contexts(alloc)?);
+    let mut assembler = assembler(alloc)?;
     let answer = feed_cut(alloc, &mut assembler, true, text, size)?;
     let message = answer.ok_or("no message")?;
     assert!(rt; message.body.is_none(), "no data set, in pieces of {size}");
@@ -339,23 +364,29 @@ fn command_sets_are_the_same_however_they_are_cut(rt: HostRuntime) -> Result<(),
 
 const BODY: &[u8] = b"\x08\x00\x16\x00\x02\x00\x00\x001\x00";
 
+// Feeds a message with a data set in fragments of a size, and answers the data set.
+fn gathered(alloc: Global, assembler: &mut Assembler, size: usize) -> Result<Bytes, Fail>
+    requires { 0 < size }
+{
+    if feed_cut(alloc, assembler, true, store_request(), size)?.is_some() {
+        return Err(Fail::new("a data set is announced"));
+    }
+    let answer = feed_cut(alloc, assembler, false, BODY, size)?;
+    Ok(answer.ok_or("no message")?.body.ok_or("no data set")?)
+}
+
 #[test]
 fn a_data_set_is_the_same_however_it_is_cut(rt: HostRuntime) -> Result<(), Fail> {
-    let alloc = rt.alloc();
-    let mut assembler = Assembler::new(alloc, contexts(alloc)?);
+    let mut assembler = assembler(rt.alloc())?;
     for size in [1, 2, 7, 200] {
-        let answer = feed_cut(alloc, &mut assembler, true, &STORE_REQUEST, size)?;
-        assert!(rt; answer.is_none(), "a data set is announced");
-        let answer = feed_cut(alloc, &mut assembler, false, BODY, size)?;
-        let body = answer.ok_or("no message")?.body.ok_or("no data set")?;
+        let body = gathered(rt.alloc(), &mut assembler, size)?;
         assert_eq!(rt; body.as_slice(), BODY, "in pieces of {size}");
     }
     Ok(())
 }
 
-/// Fragments of a message on context 3: whether of its command set, whether the last, and bytes.
-const FRAGMENTS: [(bool, bool, &[u8]); 5] = [
-    (true, false, &STORE_REQUEST),
+/// Fragments behind a command set on context 3: whether of that, whether the last, and bytes.
+const FRAGMENTS: [(bool, bool, &[u8]); 4] = [
     (true, true, b""),
     (false, false, b"abc"),
     (false, false, b"de"),
@@ -365,11 +396,11 @@ const FRAGMENTS: [(bool, bool, &[u8]); 5] = [
 #[test]
 fn an_empty_last_fragment_ends_a_message(rt: HostRuntime) -> Result<(), Fail> {
     let alloc = rt.alloc();
-    let mut assembler = Assembler::new(alloc, contexts(alloc)?);
-    let mut answer = None;
+    let mut assembler = assembler(alloc)?;
+    let mut answer = fed(&mut assembler, pdv(alloc, 3, true, false, store_request())?)?;
     for (command, last, fragment) in FRAGMENTS {
         assert!(rt; answer.is_none(), "not before the last one");
-        answer = assembler.feed(pdv(alloc, 3, command, last, fragment)?)?;
+        answer = fed(&mut assembler, pdv(alloc, 3, command, last, fragment)?)?;
     }
     let body = answer.ok_or("no message")?.body.ok_or("no data set")?;
     assert_eq!(rt; body.as_slice(), b"abcde".as_slice(), "all its bytes");
@@ -384,9 +415,9 @@ fn assert_refused(
     refused: Pdv,
     fault: DimseFault,
 ) -> Result<(), Fail> {
-    assert_eq!(rt; assembler.feed(refused).err(), Some(fault), "the fault");
-    let next = pdv(alloc, 1, true, true, &ECHO_REQUEST)?;
-    let answer = assembler.feed(next).err();
+    assert_eq!(rt; fed(assembler, refused).err(), Some(fault), "the fault");
+    let next = pdv(alloc, 1, true, true, echo_request())?;
+    let answer = fed(assembler, next).err();
     assert_eq!(rt;
         answer,
         Some(DimseFault::Failed),
@@ -397,30 +428,32 @@ fn assert_refused(
 
 // An assembler that awaits more of a command set, or the data set that it announces.
 fn begun(alloc: Global, last: bool) -> Result<Assembler, Fail> {
-    let mut assembler = Assembler::new(alloc, contexts(alloc)?);
-    assembler.feed(pdv(alloc, 1, true, last, &STORE_REQUEST)?)?;
+    let mut assembler = assembler(alloc)?;
+    fed(&mut assembler, pdv(alloc, 1, true, last, store_request())?)?;
     Ok(assembler)
 }
 
+/// Contexts and kinds of a first fragment, and their faults.
+const MISPLACED: [(u8, bool, DimseFault); 3] = [
+    (5, true, DimseFault::BadContext),
+    (1, false, DimseFault::Interleaved),
+    (1, true, DimseFault::BadCommand),
+];
+
 #[test]
 fn a_first_fragment_has_its_place(rt: HostRuntime) -> Result<(), Fail> {
-    let rows = [
-        (5, true, DimseFault::BadContext),
-        (1, false, DimseFault::Interleaved),
-        (1, true, DimseFault::BadCommand),
-    ];
-    for (context, command, fault) in rows {
-        let mut assembler = Assembler::new(rt.alloc(), contexts(rt.alloc())?);
+    for (context, command, fault) in MISPLACED {
+        let mut assembler = assembler(rt.alloc())?;
         let refused = pdv(rt.alloc(), context, command, true, b"ab")?;
         assert_refused(&rt, rt.alloc(), &mut assembler, refused, fault)?;
     }
-    assert_eq!(rt;
-        DimseFault::BadContext.number(),
-        1,
-        "the numbers begin at 1"
-    );
-    assert_eq!(rt; DimseFault::Failed.number(), 6, "and end at 6");
     Ok(())
+}
+
+#[test]
+fn faults_are_numbered_from_1_to_6(rt: HostRuntime) {
+    assert_eq!(rt; DimseFault::BadContext.number(), 1, "the first");
+    assert_eq!(rt; DimseFault::Failed.number(), 6, "the last");
 }
 
 #[test]
@@ -446,27 +479,34 @@ fn fragments_of_two_messages_are_not_mixed(rt: HostRuntime) -> Result<(), Fail> 
     Ok(())
 }
 
-// A C-ECHO request with an element of no service behind it, of this many bytes in all.
-fn command_of_length(alloc: Global, length: u16) -> Result<Vec<u8>, Fail>
-    requires { 64 ≤ length }
-{
+// A C-ECHO request with an element of no service behind it, of 64 bytes and this many more.
+fn command_and(alloc: Global, rest: u16) -> Result<Vec<u8>, AllocError> {
     let mut text = LEAST.to_vec(alloc)?;
-    let rest = length - 64;
     text.extend_from_slice(b"\x00\x00\x10\x50")?;
     text.extend_from_slice(&u32::from(rest).to_le_bytes())?;
-    for _ in 0..rest {
-        text.push(0)?;
-    }
+    let length = text.len().saturating_add(rest as usize);
+    text.resize(length, 0)?;
     Ok(text)
 }
 
 #[test]
 fn a_command_set_is_taken_up_to_its_limit(rt: HostRuntime) -> Result<(), Fail> {
-    let text = command_of_length(rt.alloc(), 16_384)?;
-    assert_gathered(&rt, rt.alloc(), text.as_slice(), 9_000)?;
-    let text = command_of_length(rt.alloc(), 16_385)?;
+    let text = command_and(rt.alloc(), 16_320)?;
+    assert_gathered(&rt, rt.alloc(), text.as_slice(), 9_000)
+}
+
+#[test]
+fn a_command_set_of_5000_bytes_is_gathered_byte_by_byte(rt: HostRuntime) -> Result<(), Fail> {
+    let text = command_and(rt.alloc(), 4_936)?;
+    assert_eq!(rt; text.len(), 5_000, "its length");
+    assert_gathered(&rt, rt.alloc(), text.as_slice(), 1)
+}
+
+#[test]
+fn a_command_set_past_its_limit_is_too_long(rt: HostRuntime) -> Result<(), Fail> {
+    let text = command_and(rt.alloc(), 16_321)?;
     let whole = pdv(rt.alloc(), 1, true, true, text.as_slice())?;
-    let mut assembler = Assembler::new(rt.alloc(), contexts(rt.alloc())?);
+    let mut assembler = assembler(rt.alloc())?;
     assert_refused(&rt, rt.alloc(), &mut assembler, whole, DimseFault::TooLong)
 }
 
@@ -481,7 +521,7 @@ fn feed_longest(alloc: Global, assembler: &mut Assembler, last: bool) -> Result<
             last: last && place == 64,
             fragment: piece.clone()?,
         };
-        ended = assembler.feed(pdv)?.is_some();
+        ended = fed(assembler, pdv)?.is_some();
     }
     Ok(ended)
 }
@@ -582,13 +622,21 @@ fn a_data_set_is_cut_in_even_fragments(rt: HostRuntime) -> Result<(), Fail> {
     Ok(())
 }
 
+// Puts the bytes of a PDU behind others.
+fn put_pdu(alloc: Global, out: &mut Vec<u8>, pdu: &Pdu) -> Result<(), Fail>
+    requires { IsPdu pdu.now }
+{
+    out.extend_from_slice(write_pdu(alloc, pdu)?.as_slice())?;
+    Ok(())
+}
+
 // The bytes of PDUs.
 fn joined(alloc: Global, pdus: &[Pdu]) -> Result<Vec<u8>, Fail>
     requires { All IsPdu pdus.now }
 {
     let mut out = Vec::new(alloc);
     for pdu in pdus {
-        out.extend_from_slice(write_pdu(alloc, pdu)?.as_slice())?;
+        put_pdu(alloc, &mut out, pdu)?;
     }
     Ok(out)
 }
@@ -609,15 +657,22 @@ fn success(alloc: Global, message: &Message) -> Result<Vec<u8>, Fail>
     joined(alloc, pdus.as_slice())
 }
 
+// The bytes of a success that answers a C-ECHO request on context 3.
+fn echoed(alloc: Global) -> Result<Vec<u8>, Fail> {
+    let mut assembler = assembler(alloc)?;
+    match assembler.feed(pdv(alloc, 3, true, true, echo_request())?)? {
+        None => Err(Fail::new("no message")),
+        Some(message) => success(alloc, &message),
+    }
+}
+
+// One P-DATA-TF with one value on context 3, the last fragment of a command set.
+const ECHO_HEADERS: &[u8] = b"\x04\x00\x00\x00\x00\x54\x00\x00\x00\x50\x03\x03";
+
 #[test]
 fn a_message_is_answered_on_its_context(rt: HostRuntime) -> Result<(), Fail> {
-    let alloc = rt.alloc();
-    let mut assembler = Assembler::new(alloc, contexts(alloc)?);
-    let answer = assembler.feed(pdv(alloc, 3, true, true, &ECHO_REQUEST)?)?;
-    let written = success(alloc, &answer.ok_or("no message")?)?;
-    // One P-DATA-TF with one value on context 3, the last fragment of a command set.
-    let header = b"\x04\x00\x00\x00\x00\x54\x00\x00\x00\x50\x03\x03";
-    assert!(rt; written.starts_with(header), "its headers");
+    let written = echoed(rt.alloc())?;
+    assert!(rt; written.starts_with(ECHO_HEADERS), "its headers");
     assert!(rt; written.ends_with(&ECHO_RESPONSE), "its command set");
     assert_eq!(rt; written.len(), 90, "and no more");
     Ok(())

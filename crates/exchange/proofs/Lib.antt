@@ -1,3 +1,4 @@
 pub mod Lists
 pub mod Frames
 pub mod Outcomes
+pub mod Writings

@@ -4,7 +4,8 @@ use Rattle.std.specs.Prelude.{◌&&◌, ◌==◌, not}
 use Rattle.std.specs.Ordering.{match_ordering, ordering_index}
 use Rattle.std.specs.declared.cmp.Ordering.{Ordering}
 use Rattle.std.specs.declared.cmp.Ordering.TheVariants.{Less, Equal, Greater}
-use Rattle.std.proofs.lemmas.List.{append-nil, take_at, drop_at, take-append-drop, length-append, length-take-le, length-drop, nil_from_length}
+use Rattle.std.proofs.lemmas.Grind.{flat_map-append}
+use Rattle.std.proofs.lemmas.List.{take_more, append-nil, take_at, drop_at, take-append-drop, length-append, length-take-le, length-drop, nil_from_length}
 use Rattle.std.proofs.lemmas.List.Concat.{flat_map-cons}
 use Rattle.exchange.specs.Spelling.{digests_text, ascends, AreDigests}
 use Rattle.exchange.specs.Reading.{cut}
@@ -57,6 +58,20 @@ unfolding cut
 cut_text zero text len = sym (nil_from_length text (omega (arith, len)))
 cut_text (suc n) text len =
     flat_map-cons (λ x. x) (take 32 text) (cut n (drop 32 text)) ∙ ap (λ (t : List ℕ). take 32 text ++ t) (cut_text n (drop 32 text) (omega (arith, len, length-drop 32 text))) ∙ take-append-drop 32 text
+
+-- one digest more is written
+pub put_one : (ds : List (List ℕ)) (i : ℕ) (d front out out2 : List ℕ) → i < length ds → d ≡ get_or ds i d → length d ≡ 32
+    → out ≡ front ++ digests_text (take i ds) → out2 ≡ out ++ d → length (digests_text (take i ds)) ≡ 32 * i
+    → (i + 1 ≤ length ds) × (out2 ≡ front ++ digests_text (take (i + 1) ds)) × (length (digests_text (take (i + 1) ds)) ≡ 32 * (i + 1))
+put_one ds i d front out out2 lt at len so_far more long =
+    let grown : take (i + 1) ds ≡ take i ds ++ d ∷ [] = take_more ds i d lt ∙ ap (λ (x : List ℕ). take i ds ++ x ∷ []) (sym at) in
+    let text : digests_text (take (i + 1) ds) ≡ digests_text (take i ds) ++ d =
+    ap digests_text grown ∙ flat_map-append (λ x. x) (take i ds) (d ∷ []) ∙ ap (λ (t : List ℕ). digests_text (take i ds) ++ t) (flat_map-cons (λ x. x) d [] ∙ append-nil d)
+    in (
+      omega (arith, lt),
+      more ∙ ap (λ (t : List ℕ). t ++ d) so_far ∙ append_assoc front (digests_text (take i ds)) d ∙ ap (λ (t : List ℕ). front ++ t) (sym text),
+      omega (arith, ap length text, length-append (digests_text (take i ds)) d, long, len),
+    )
 
 -- ---- lists that ascend
 

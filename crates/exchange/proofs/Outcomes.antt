@@ -7,8 +7,8 @@ use Rattle.octets.specs.Gives.{Gives, Tells}
 use Rattle.octets.proofs.ByteLaws.{tells_map}
 use Rattle.operation.specs.declared.op.Op.{Op}
 use Rattle.operation.proofs.OutcomeLaws.{spelling_once}
-use Rattle.exchange.specs.declared.fault.ExchangeFault.{ExchangeFault}
-use Rattle.exchange.specs.declared.fault.ExchangeFault.TheVariants.{BadFrame, TooLong, Memory}
+use Rattle.exchange.specs.declared.fault.FrameFault.{FrameFault}
+use Rattle.exchange.specs.declared.fault.FrameFault.TheVariants.{BadFrame, TooLong, Memory}
 use Rattle.exchange.specs.declared.frame.Frame.{Frame}
 use Rattle.exchange.specs.declared.frame.Frame.TheVariants.{Have, Want, Give, End, Buckets, Differ, Hello}
 use Rattle.exchange.specs.Fault.{is_memory}
@@ -18,7 +18,7 @@ use Rattle.exchange.specs.Reading.{is_long, frame_at, or_bad, IsBodyOf, HasFault
 use Rattle.exchange.proofs.Frames.{frame_takes, frame_again, frame_few}
 
 abbrev Answer : Type 0
-Answer = Result Frame ExchangeFault
+Answer = Result Frame FrameFault
 
 -- ---- one frame
 
@@ -52,10 +52,10 @@ frame_once f g kind body p q = by_kind (given f) (given g)
 opposite : (b : Bool) → b ≡ true → b ≡ false → ⊥
 opposite b p q = absurd cc
 
-abbrev failed : ExchangeFault → Answer
+abbrev failed : FrameFault → Answer
 failed e = Err e
 
-fault_once : (kind : ℕ) (body : List ℕ) (d e : ExchangeFault) → HasFault kind body d → HasFault kind body e → failed d ≡ failed e
+fault_once : (kind : ℕ) (body : List ℕ) (d e : FrameFault) → HasFault kind body d → HasFault kind body e → failed d ≡ failed e
 fault_once kind body BadFrame BadFrame p q = refl
 fault_once kind body TooLong TooLong p q = refl
 fault_once kind body BadFrame TooLong p q = absurd (opposite (is_long kind body) q p.0)
@@ -63,7 +63,7 @@ fault_once kind body TooLong BadFrame p q = absurd (opposite (is_long kind body)
 fault_once kind body Memory e p q = absurd p
 fault_once kind body d Memory p q = absurd q
 
-frame_or_fault : (kind : ℕ) (body : List ℕ) (f : Frame) (e : ExchangeFault) → IsBodyOf f kind body → HasFault kind body e → ⊥
+frame_or_fault : (kind : ℕ) (body : List ℕ) (f : Frame) (e : FrameFault) → IsBodyOf f kind body → HasFault kind body e → ⊥
 frame_or_fault kind body f BadFrame p q = q.1 f p
 frame_or_fault kind body f TooLong p q = opposite (is_long kind body) q (frame_few f kind body p)
 frame_or_fault kind body f Memory p q = q

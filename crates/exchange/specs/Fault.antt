@@ -1,16 +1,44 @@
--- Faults of frames.
+-- Faults of frames, of holders and of exchanges.
 use Rattle.std.specs.Prelude.{ℕ, Bool, true, false}
+use Rattle.exchange.specs.declared.fault.FrameFault.{FrameFault}
+use Rattle.exchange.specs.declared.fault.FrameFault.TheVariants.{BadFrame, TooLong, Memory}
+use Rattle.exchange.specs.declared.fault.HolderFault.{HolderFault}
+use Rattle.exchange.specs.declared.fault.HolderFault.TheVariants as holders
 use Rattle.exchange.specs.declared.fault.ExchangeFault.{ExchangeFault}
-use Rattle.exchange.specs.declared.fault.ExchangeFault.TheVariants.{BadFrame, TooLong, Memory}
+use Rattle.exchange.specs.declared.fault.ExchangeFault.TheVariants as exchanges
 
 -- the public number of a fault
-abbrev pub number_of : ExchangeFault → ℕ
+abbrev pub number_of : FrameFault → ℕ
 number_of BadFrame = 1
 number_of TooLong = 2
 number_of Memory = 5
 
 -- Want of memory says nothing of the text.
-abbrev pub is_memory : ExchangeFault → Bool
+abbrev pub is_memory : FrameFault → Bool
 is_memory BadFrame = false
 is_memory TooLong = false
 is_memory Memory = true
+
+abbrev pub number_of_holder : HolderFault → ℕ
+number_of_holder holders.Memory = 1
+number_of_holder holders.Refused = 2
+
+abbrev pub number_of_exchange : ExchangeFault → ℕ
+number_of_exchange exchanges.BadFrame = 1
+number_of_exchange exchanges.TooLong = 2
+number_of_exchange exchanges.Stranger = 3
+number_of_exchange exchanges.Io = 4
+number_of_exchange exchanges.Memory = 5
+number_of_exchange exchanges.Turns = 6
+number_of_exchange exchanges.Refused = 7
+
+-- what the fault of a frame is to an exchange
+abbrev pub of_frame : FrameFault → ExchangeFault
+of_frame BadFrame = exchanges.BadFrame
+of_frame TooLong = exchanges.TooLong
+of_frame Memory = exchanges.Memory
+
+-- and that of a holder
+abbrev pub of_holder : HolderFault → ExchangeFault
+of_holder holders.Memory = exchanges.Memory
+of_holder holders.Refused = exchanges.Refused

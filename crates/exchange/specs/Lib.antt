@@ -2,3 +2,4 @@ pub mod Fault
 pub mod Header
 pub mod Spelling
 pub mod Reading
+pub mod Writing

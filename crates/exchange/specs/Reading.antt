@@ -7,8 +7,8 @@ use Rattle.octets.specs.Texts.{text_cmp}
 use Rattle.operation.specs.declared.op.Op.{Op}
 use Rattle.operation.specs.Reading.{IsOp}
 use Rattle.operation.specs.Spelling.{spelling}
-use Rattle.exchange.specs.declared.fault.ExchangeFault.{ExchangeFault}
-use Rattle.exchange.specs.declared.fault.ExchangeFault.TheVariants.{BadFrame, TooLong, Memory}
+use Rattle.exchange.specs.declared.fault.FrameFault.{FrameFault}
+use Rattle.exchange.specs.declared.fault.FrameFault.TheVariants.{BadFrame, TooLong, Memory}
 use Rattle.exchange.specs.declared.frame.Frame.{Frame}
 use Rattle.exchange.specs.declared.frame.Frame.TheVariants.{Have, Want, End, Buckets, Differ, Hello}
 use Rattle.exchange.specs.declared.header.TheConstants.{HAVE, WANT, END, BUCKETS, DIFFER, HELLO}
@@ -64,7 +64,7 @@ frame_at kind body =
     else if kind == HELLO then option_map (λ v. Hello v) (version_at body)
     else None
 
-abbrev pub or_bad : {X : Type 0} → Option X → Result X ExchangeFault
+abbrev pub or_bad : {X : Type 0} → Option X → Result X FrameFault
 or_bad None = Err BadFrame
 or_bad (Some x) = Ok x
 
@@ -80,16 +80,16 @@ abbrev pub SpellsNone : ℕ → List ℕ → Type 0
 SpellsNone kind body = (frame : Frame) → IsBodyOf frame kind body → ⊥
 
 -- the fault of a body: too many digests are told before anything else
-abbrev pub HasFault : ℕ → List ℕ → ExchangeFault → Type 0
+abbrev pub HasFault : ℕ → List ℕ → FrameFault → Type 0
 HasFault kind body BadFrame = (is_long kind body ≡ false) × SpellsNone kind body
 HasFault kind body TooLong = is_long kind body ≡ true
 HasFault kind body Memory = ⊥
 
-abbrev pub IsOutcome : ℕ → List ℕ → Result Frame ExchangeFault → Type 0
+abbrev pub IsOutcome : ℕ → List ℕ → Result Frame FrameFault → Type 0
 IsOutcome kind body (Ok frame) = IsBodyOf frame kind body
 IsOutcome kind body (Err fault) = HasFault kind body fault
 
 -- The bytes spell this operation, or none.
-abbrev pub IsGiven : List ℕ → Result Op ExchangeFault → Type 0
+abbrev pub IsGiven : List ℕ → Result Op FrameFault → Type 0
 IsGiven body (Ok op) = (body ≡ spelling op) × IsOp op
 IsGiven body (Err fault) = (fault ≡ BadFrame) × ((op : Op) → IsOp op → body ≡ spelling op → ⊥)

@@ -4,7 +4,7 @@ ghost use Rattle.std.specs.Prelude.{◌≡◌, ◌≤◌, IfOk};
 ghost use Rattle.std.specs.Int.{w32, from_be_bytes};
 ghost use Rattle.exchange.specs.Header.{header_fault, header_of as header_by, header_at, header_text};
 
-use crate::fault::ExchangeFault;
+use crate::fault::FrameFault;
 use std::marker::Model;
 
 /// How many bytes stand before a body.
@@ -63,21 +63,21 @@ impl FrameHeader {
 }
 
 /// The fault of a kind and a length, where they have one.
-fn fault_of(kind: u8, length: usize) -> Option<ExchangeFault>
+fn fault_of(kind: u8, length: usize) -> Option<FrameFault>
     ensures { result ≡ header_fault kind length }
 {
     match kind {
         HAVE | WANT | GIVE | END | BUCKETS | DIFFER | HELLO => {
             if length > LONGEST_BODY {
-                return Some(ExchangeFault::TooLong);
+                return Some(FrameFault::TooLong);
             }
             None
         }
-        _ => Some(ExchangeFault::BadFrame),
+        _ => Some(FrameFault::BadFrame),
     }
 }
 
-fn header_of(kind: u8, length: [u8; 4]) -> Result<FrameHeader, ExchangeFault>
+fn header_of(kind: u8, length: [u8; 4]) -> Result<FrameHeader, FrameFault>
     ensures { result ≡ header_by kind (from_be_bytes w32 length) }
 {
     let length = u32::from_be_bytes(length) as usize;
@@ -89,7 +89,7 @@ fn header_of(kind: u8, length: [u8; 4]) -> Result<FrameHeader, ExchangeFault>
 
 /// Reads a header, before any byte of its body. An unknown kind is `BadFrame`, and is told before a
 /// length above `LONGEST_BODY`, which is `TooLong`.
-pub fn read_frame_header(bytes: &[u8; 5]) -> Result<FrameHeader, ExchangeFault>
+pub fn read_frame_header(bytes: &[u8; 5]) -> Result<FrameHeader, FrameFault>
     ensures exact { result ≡ header_at bytes.now }
     ensures spelled { IfOk result (λ header. header_text header ≡ bytes.now) }
 {

@@ -11,8 +11,10 @@ mod header;
 mod reader;
 #[cfg(test)]
 mod tests;
+mod writer;
 
-pub use fault::ExchangeFault;
+pub use fault::{ExchangeFault, FrameFault, HolderFault};
 pub use frame::Frame;
 pub use header::{FrameHeader, HEADER_LENGTH, LONGEST_BODY, read_frame_header};
 pub use reader::{MOST_DIGESTS, a_text_spells_one_frame, read_frame_body};
+pub use writer::{FrameText, what_is_written_is_read_again, write_frame};

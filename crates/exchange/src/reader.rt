@@ -5,14 +5,14 @@ ghost use Rattle.octets.specs.Bytes.{IsBytes};
 ghost use Rattle.octets.specs.Gives.{Gives, Tells, Told};
 ghost use Rattle.octets.specs.Texts.{text_cmp};
 ghost use Rattle.std.specs.Ordering.{nat_cmp};
-ghost use Rattle.exchange.specs.declared.fault.ExchangeFault.{ExchangeFault};
+ghost use Rattle.exchange.specs.declared.fault.FrameFault.{FrameFault};
 ghost use Rattle.exchange.specs.declared.frame.Frame.{Frame};
 ghost use Rattle.exchange.specs.Fault.{is_memory};
 ghost use Rattle.exchange.specs.Header.{header_text};
 ghost use Rattle.exchange.specs.Spelling.{text_of, ascends, IsFrame};
 ghost use Rattle.exchange.specs.Reading.{cut, counts_too_many as has_many, is_long, or_bad, counted_at, buckets_at, places_at, version_at, end_at, frame_at, IsGiven, IsOutcome, HasFault};
 
-use crate::fault::ExchangeFault;
+use crate::fault::FrameFault;
 use crate::frame::Frame;
 use crate::header::{BUCKETS, DIFFER, END, FrameHeader, GIVE, HAVE, HELLO, WANT};
 use bytes::Bytes;
@@ -94,72 +94,72 @@ fn says_too_many(kind: u8, body: &[u8]) -> bool
 
 /// A count and that many digests, ascending.
 #[tactic(auto, unfolding(crate::specs::Reading::counted_at))]
-fn counted_of(alloc: Global, text: &[u8]) -> Result<ListOf<Digest>, ExchangeFault>
+fn counted_of(alloc: Global, text: &[u8]) -> Result<ListOf<Digest>, FrameFault>
     ensures { Gives is_memory (λ digests. digests) result (or_bad (counted_at text.now)) }
 {
     let [a, b, c, d, rest @ ..] = text else {
-        return Err(ExchangeFault::BadFrame);
+        return Err(FrameFault::BadFrame);
     };
     let count = u32::from_be_bytes([*a, *b, *c, *d]) as usize;
     if rest.len() != DIGEST_LENGTH * count {
-        return Err(ExchangeFault::BadFrame);
+        return Err(FrameFault::BadFrame);
     }
     let digests = digests_of(alloc, count, rest)?;
     if !digests_ascend(digests.as_slice()) {
-        return Err(ExchangeFault::BadFrame);
+        return Err(FrameFault::BadFrame);
     }
     Ok(ListOf::of(digests))
 }
 
 #[tactic(auto, unfolding(crate::specs::Reading::buckets_at))]
-fn buckets_of(alloc: Global, text: &[u8]) -> Result<ListOf<Digest>, ExchangeFault>
+fn buckets_of(alloc: Global, text: &[u8]) -> Result<ListOf<Digest>, FrameFault>
     ensures { Gives is_memory (λ digests. digests) result (or_bad (buckets_at text.now)) }
 {
     if text.len() != DIGEST_LENGTH * BUCKET_COUNT {
-        return Err(ExchangeFault::BadFrame);
+        return Err(FrameFault::BadFrame);
     }
     Ok(ListOf::of(digests_of(alloc, BUCKET_COUNT, text)?))
 }
 
 /// A count and that many first bytes, ascending.
 #[tactic(auto, unfolding(crate::specs::Reading::places_at))]
-fn places_of(alloc: Global, text: &[u8]) -> Result<Octets, ExchangeFault>
+fn places_of(alloc: Global, text: &[u8]) -> Result<Octets, FrameFault>
     ensures { Gives is_memory (λ places. places) result (or_bad (places_at text.now)) }
 {
     let [a, b, rest @ ..] = text else {
-        return Err(ExchangeFault::BadFrame);
+        return Err(FrameFault::BadFrame);
     };
     let count = u16::from_be_bytes([*a, *b]) as usize;
     if rest.len() != count {
-        return Err(ExchangeFault::BadFrame);
+        return Err(FrameFault::BadFrame);
     }
     if !bytes_ascend(rest) {
-        return Err(ExchangeFault::BadFrame);
+        return Err(FrameFault::BadFrame);
     }
     Ok(Octets::from_slice(alloc, rest)?)
 }
 
-fn version_of(text: &[u8]) -> Result<u16, ExchangeFault>
+fn version_of(text: &[u8]) -> Result<u16, FrameFault>
     ensures { Gives is_memory (λ version. version) result (or_bad (version_at text.now)) }
 {
     let [a, b] = text else {
-        return Err(ExchangeFault::BadFrame);
+        return Err(FrameFault::BadFrame);
     };
     Ok(u16::from_be_bytes([*a, *b]))
 }
 
-fn end_of(text: &[u8]) -> Result<Frame, ExchangeFault>
+fn end_of(text: &[u8]) -> Result<Frame, FrameFault>
     ensures { Gives is_memory (λ frame. frame) result (or_bad (end_at text.now)) }
 {
     if !text.is_empty() {
-        return Err(ExchangeFault::BadFrame);
+        return Err(FrameFault::BadFrame);
     }
     Ok(Frame::End)
 }
 
 /// What a body says that is none of a GIVE.
 #[tactic(auto, unfolding(crate::specs::Reading::frame_at))]
-fn frame_of(alloc: Global, kind: u8, text: &[u8]) -> Result<Frame, ExchangeFault>
+fn frame_of(alloc: Global, kind: u8, text: &[u8]) -> Result<Frame, FrameFault>
     ensures exact { Gives is_memory (λ frame. frame) result (or_bad (frame_at kind text.now)) }
     ensures octets { IsBytes text.now }
 {
@@ -170,17 +170,17 @@ fn frame_of(alloc: Global, kind: u8, text: &[u8]) -> Result<Frame, ExchangeFault
         BUCKETS => Ok(Frame::Buckets(buckets_of(alloc, text)?)),
         DIFFER => Ok(Frame::Differ(places_of(alloc, text)?)),
         HELLO => Ok(Frame::Hello(version_of(text)?)),
-        _ => Err(ExchangeFault::BadFrame),
+        _ => Err(FrameFault::BadFrame),
     }
 }
 
 /// The operation of a GIVE, which shares the bytes of the body.
-fn given_of(alloc: Global, body: Bytes) -> Result<Op, ExchangeFault>
+fn given_of(alloc: Global, body: Bytes) -> Result<Op, FrameFault>
     ensures { Tells is_memory (λ op. op) result (IsGiven body) }
 {
     match decode(alloc, body) {
         Ok(op) => Ok(op),
-        Err(OpFault::Memory) => Err(ExchangeFault::Memory),
+        Err(OpFault::Memory) => Err(FrameFault::Memory),
         Err(
             OpFault::NoUid
             | OpFault::Mismatch
@@ -190,15 +190,15 @@ fn given_of(alloc: Global, body: Bytes) -> Result<Op, ExchangeFault>
             | OpFault::TooLong
             | OpFault::UnknownKind
             | OpFault::Shape,
-        ) => Err(ExchangeFault::BadFrame),
+        ) => Err(FrameFault::BadFrame),
     }
 }
 
-fn body_of(alloc: Global, kind: u8, body: Bytes) -> Result<Frame, ExchangeFault>
+fn body_of(alloc: Global, kind: u8, body: Bytes) -> Result<Frame, FrameFault>
     ensures { Tells is_memory (λ frame. frame) result (IsOutcome kind body) }
 {
     if says_too_many(kind, body.as_slice()) {
-        return Err(ExchangeFault::TooLong);
+        return Err(FrameFault::TooLong);
     }
     if kind == GIVE {
         return Ok(Frame::Give(given_of(alloc, body)?));
@@ -214,7 +214,7 @@ pub fn read_frame_body(
     alloc: Global,
     header: &FrameHeader,
     body: Bytes,
-) -> Result<Frame, ExchangeFault>
+) -> Result<Frame, FrameFault>
     requires { length body ≡ header.now.length }
     // What is read is spelled so, and what is spelled so is read, unless memory ran out.
     ensures found { IfOk result (λ frame. header_text header.now ++ body ≡ text_of frame) }
@@ -224,7 +224,7 @@ pub fn read_frame_body(
 
     // Each fault, exactly where it is.
     ensures fault { IfErr result (λ e. Told is_memory e (HasFault header.now.kind body)) }
-    ensures faulty { (e : ExchangeFault) → HasFault header.now.kind body e
+    ensures faulty { (e : FrameFault) → HasFault header.now.kind body e
         → Gives is_memory (λ frame. frame) result (Err e) }
 {
     body_of(alloc, header.kind(), body)

@@ -43,13 +43,13 @@ fn a_kind_is_told_before_a_length(rt: HostRuntime) {
 }
 
 /// The frame that a whole text spells.
-fn read(alloc: Global, text: &[u8]) -> Result<Frame, ExchangeFault> {
+fn read(alloc: Global, text: &[u8]) -> Result<Frame, FrameFault> {
     let [kind, a, b, c, d, body @ ..] = text else {
-        return Err(ExchangeFault::BadFrame);
+        return Err(FrameFault::BadFrame);
     };
     let header = read_frame_header(&[*kind, *a, *b, *c, *d])?;
     if body.len() != header.body_length() {
-        return Err(ExchangeFault::BadFrame);
+        return Err(FrameFault::BadFrame);
     }
     read_frame_body(alloc, &header, Bytes::copy_from_slice(alloc, body)?)
 }

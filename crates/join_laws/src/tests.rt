@@ -127,6 +127,22 @@ fn a_map_joins_the_values_of_a_key(rt: HostRuntime) -> Result<(), Fail> {
     Ok(())
 }
 
+// A map of 1,001 keys from one on, each with its own number.
+fn numbered(alloc: Global, first: u64) -> Result<MapOf<u64, Greatest<u64>>, AllocError> {
+    let mut map: MapOf<u64, Greatest<u64>> = MapOf::empty(alloc);
+    for key in first..first.saturating_add(1_001) {
+        map.add(&(key, key))?;
+    }
+    Ok(map)
+}
+
+#[test]
+fn maps_of_1001_keys_are_joined(rt: HostRuntime) -> Result<(), Fail> {
+    let both = join_of(numbered(rt.alloc(), 0)?, &numbered(rt.alloc(), 500)?)?;
+    assert_eq!(rt; both.get().len(), 1_501, "the keys of both");
+    Ok(())
+}
+
 #[test]
 fn a_pair_joins_both_parts(rt: HostRuntime) -> Result<(), Fail> {
     let left = PairOf::of(Least::of(4u64), Greatest::of(4u64));

@@ -2,3 +2,4 @@ pub mod Bounds
 pub mod ContentLaws
 pub mod ReadingLaws
 pub mod OutcomeLaws
+pub mod ExistenceLaws

@@ -1,6 +1,7 @@
 //! What follows from the definitions, for those who stand on them.
 
-ghost use Rattle.std.specs.Prelude.{◌≡◌, ◌↔◌, List, ℕ, IsTrue};
+ghost use Rattle.std.specs.Prelude.{◌≡◌, ◌↔◌, ◌⊎◌, List, ℕ, IsTrue};
+ghost use Rattle.octets.specs.Bytes.{IsBytes};
 ghost use Rattle.operation.specs.declared.fault.OpFault.{OpFault};
 ghost use Rattle.operation.specs.declared.op.Op.{Op};
 ghost use Rattle.operation.specs.Corrections.{IsCorrection, is_series};
@@ -23,4 +24,10 @@ pub fn a_series_is_corrected_by_its_description_alone()
 pub fn a_text_has_one_outcome()
     ensures spelled { (op : Op) (f : OpFault) → IsOp op → HasFault (spelling op) f → ⊥ }
     ensures fault { (text : List ℕ) (f g : OpFault) → HasFault text f → HasFault text g → f ≡ g }
+{}
+
+/// Every text of bytes spells an operation, or has a fault.
+pub fn each_text_has_an_outcome()
+    ensures { (text : List ℕ) → IsBytes text →
+        ((op : Op) × IsOp op × (text ≡ spelling op)) ⊎ ((f : OpFault) × HasFault text f) }
 {}

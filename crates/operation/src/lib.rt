@@ -30,7 +30,7 @@ pub use fault::OpFault;
 pub use hashing::digest;
 pub use laws::{
     a_series_is_corrected_by_its_description_alone, a_text_has_one_outcome,
-    spellings_tell_operations_apart,
+    each_text_has_an_outcome, spellings_tell_operations_apart,
 };
 pub use op::Op;
 pub use stamp::Stamp;

@@ -73,7 +73,7 @@ held_of (e ∷ es) sorted o (inr h) =
     let there = held_of es sorted.1 o h in
     (there.0, rest_held (e ∷ es) es e.0 e.1 refl sorted there.0 o there.1)
 
-ops_held : (m : Map) (o : Op) → Has (ops_of m) o → (d : List ℕ) × (held_at m d ≡ Some o)
+pub ops_held : (m : Map) (o : Op) → Has (ops_of m) o → (d : List ℕ) × (held_at m d ≡ Some o)
 ops_held m o h =
     let there = held_of (entries m) (ascend (entries m) (entries_sorted m)) o h in
     (there.0, sym (held_entries m there.0) ∙ there.1)

@@ -1,6 +1,8 @@
 pub mod Ascending
 pub mod Counted
 pub mod Indexed
+pub mod Lawful
+pub mod Lookups
 pub mod Maps
 pub mod Same
 pub mod Takings

@@ -2,3 +2,4 @@ pub mod Fault
 pub mod Site
 pub mod Union
 pub mod Laws
+pub mod Hidden

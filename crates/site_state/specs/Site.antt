@@ -11,7 +11,7 @@ use Rattle.operation.specs.Spelling.{digest_of}
 use Rattle.std.specs.BTreeMap.{is_at}
 use Rattle.std.specs.Map.{lookup}
 use Rattle.study_index.specs.Index.{IndexValue, index_joined, index_of}
-use Rattle.study_index.specs.Definition.{index_value}
+use Rattle.study_index.specs.Definition.{index_value, IsLawful}
 use Rattle.archive_model.specs.Contents.{contents}
 use Rattle.archive_model.specs.Attributes.{corrections}
 use Rattle.operation.specs.declared.taken.Taken.{Taken}
@@ -54,6 +54,10 @@ with_op m o = finmap.insert m (digest_of o) o
 -- each operation lies under its own digest
 abbrev pub IsSite : Map → Type 0
 IsSite m = (d : List ℕ) → IfSome (held_at m d) (λ o. d ≡ digest_of o)
+
+-- each operation that is held has what every operation keeps true of its parts
+abbrev pub HasLawful : Map → Type 0
+HasLawful m = (d : List ℕ) → IfSome (held_at m d) IsLawful
 
 -- another operation than this one is held under a digest
 abbrev pub HasOther : Map → List ℕ → Op → Type 0

@@ -5,6 +5,7 @@
 //! operations.
 #![tactic(auto)]
 
+mod copying;
 mod counts;
 mod fault;
 mod laws;

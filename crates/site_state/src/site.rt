@@ -1,24 +1,30 @@
 //! One site.
 
 ghost use Rattle.std.specs.Prelude.{◌≡◌, ◌≢◌, ◌↔◌, List, ℕ, Some, None, Ok, Err, OnOk, OnErr, IfOk, IfSome, IsTrue, map, filter};
-ghost use Rattle.archive_model.specs.Contents.{flagged as flagged_in};
+ghost use Rattle.archive_model.specs.Contents.{flagged as flagged_in, pick as pick_in};
+ghost use Rattle.archive_model.specs.Covered.{is_covered as is_covered_in};
+ghost use Rattle.archive_model.specs.Shown.{shown_at};
+ghost use Rattle.archive_model.specs.Attributes.{attribute as attribute_in};
 ghost use Rattle.std.specs.Option.{option_copied};
 ghost use Rattle.std.specs.FinMap as finmap;
 ghost use Rattle.operation.specs.Spelling.{digest_of};
-ghost use Rattle.site_state.specs.Site.{Map, digests_of, is_missing as is_missing_in, ops_of, held_at, with_op, IsClash, Takes, counter_of as counter_of_op, top_counter_of, counts_of};
-ghost use Rattle.study_index.specs.Definition.{IsIndexOf};
+ghost use Rattle.site_state.specs.Site.{IsSite, Map, digests_of, is_missing as is_missing_in, ops_of, held_at, with_op, IsClash, Takes, counter_of as counter_of_op, top_counter_of, counts_of};
+ghost use Rattle.study_index.specs.Definition.{IsIndexOf, IsLawful, AreLawful};
 ghost use Rattle.site_state.specs.Union.{union, DoClash, Agree};
+ghost use Rattle.site_state.specs.Hidden.{hides_under, is_hidden as is_hidden_in, content_held};
 
 use crate::counts::Counts;
 use crate::fault::SiteFault;
 use crate::tree::{add_copies, do_clash, take_in};
+use archive_model::{View, content, hides, is_hiding};
 use join_laws::Join;
 use octets::Octets;
-use operation::{Digest, Digested, Op, Taken};
+use operation::{Content, Digest, Digested, Op, Taken};
+use rejection_note::Title;
 use std::alloc::{AllocError, Global};
 use std::collections::BTreeMap;
 use std::marker::Model;
-use study_index::Index;
+use study_index::{Index, ShortText};
 
 /// The operations of a site, each under its digest, with their index and the greatest counter of its
 /// corrections.
@@ -34,7 +40,7 @@ impl Model for Site {
     ghost use Rattle.std.specs.FinMap as finmap;
     ghost use Rattle.std.specs.Coded.{coded_list, coded_ℕ};
     ghost use Rattle.operation.specs.OpCode.{op_code};
-    ghost use Rattle.site_state.specs.Site.{Map, IsSite, HasTop, HasIndex};
+    ghost use Rattle.site_state.specs.Site.{Map, IsSite, HasTop, HasIndex, HasLawful};
 
     ghost Value = { Map };
 
@@ -42,7 +48,7 @@ impl Model for Site {
 
     ghost view = { λ s. finmap.from_entries s.operations.entries };
 
-    ghost invariant = { λ s. IsSite (finmap.from_entries s.operations.entries) × HasTop (finmap.from_entries s.operations.entries) s.top × HasIndex (finmap.from_entries s.operations.entries) s.index };
+    ghost invariant = { λ s. IsSite (finmap.from_entries s.operations.entries) × HasTop (finmap.from_entries s.operations.entries) s.top × HasIndex (finmap.from_entries s.operations.entries) s.index × HasLawful (finmap.from_entries s.operations.entries) };
 }
 
 /// The counter of a correction, and 0 of a content.
@@ -52,6 +58,18 @@ fn counter_of(op: &Op) -> u64
     match op {
         Op::Content(_) => 0,
         Op::Correction(correction) => correction.stamp().counter,
+    }
+}
+
+/// An operation keeps true what it may hold.
+fn see_lawful(op: &Op)
+    ensures { IsLawful op.now }
+{
+    match op {
+        Op::Content(_) => {}
+        Op::Correction(correction) => {
+            let _ = correction.stamp();
+        }
     }
 }
 
@@ -130,6 +148,7 @@ impl Site {
             return Err(SiteFault::Collision);
         }
         let counter = counter_of(&op);
+        see_lawful(&op);
         take_in(&mut self.operations, &mut self.index, digest, op)?;
         self.top = self.top.max(counter);
         Ok(Taken::New)
@@ -160,6 +179,93 @@ impl Site {
         ensures { IsIndexOf (ops_of self.now) result.now }
     {
         &self.index
+    }
+
+    /// Each operation that is held lies under its digest, and has what every operation keeps true of
+    /// its parts. Nothing is done: these are facts for callers.
+    pub fn see_lawful(&self)
+        ensures own { IsSite self.now }
+        ensures lawful { AreLawful (ops_of self.now) }
+    {
+        let _ = self.operations.len();
+    }
+
+    // The content of a digest.
+    fn content_under(&self, digest: &Digest) -> Option<&Content>
+        ensures { option_copied result ≡ content_held (held_at self.now digest.now) }
+    {
+        match self.op(digest) {
+            None => None,
+            Some(op) => content(op),
+        }
+    }
+
+    /// The pick of a SOP Instance UID, by two look-ups.
+    pub fn pick(&self, uid: &ShortText) -> Option<&Content>
+        ensures { option_copied result ≡ pick_in uid.now (ops_of self.now) }
+    {
+        self.see_lawful();
+        match self.index().pick(uid) {
+            None => None,
+            Some(picked) => self.content_under(&picked.digest),
+        }
+    }
+
+    // Whether notes of a title name a UID and hide.
+    fn is_hidden_by(&self, view: View, uid: &ShortText, title: Title) -> bool
+        ensures { result ≡ hides_under view (ops_of self.now) uid.now title }
+    {
+        let _ = uid.as_slice();
+        if !hides(view, title) {
+            return false;
+        }
+        self.index().covered_by(uid, title)
+    }
+
+    // Whether notes of one of the titles do.
+    fn is_hidden(&self, view: View, uid: &ShortText) -> bool
+        ensures { result ≡ is_hidden_in view (ops_of self.now) uid.now }
+    {
+        self.is_hidden_by(view, uid, Title::Quality)
+            || self.is_hidden_by(view, uid, Title::Safety)
+            || self.is_hidden_by(view, uid, Title::Worklist)
+            || self.is_hidden_by(view, uid, Title::Expired)
+    }
+
+    /// Whether a UID is covered in a view, by one look-up for each title.
+    pub fn is_covered(&self, view: View, uid: &ShortText) -> bool
+        ensures { result ≡ is_covered_in view (ops_of self.now) uid.now }
+    {
+        self.is_hidden(view, uid)
+    }
+
+    /// What a view shows of a SOP Instance UID, by look-ups.
+    pub fn shown(&self, view: View, uid: &ShortText) -> Option<&Content>
+        ensures { option_copied result ≡ shown_at view (ops_of self.now) uid.now }
+    {
+        if self.is_covered(view, uid) {
+            return None;
+        }
+        match self.pick(uid) {
+            None => None,
+            Some(content) => {
+                if is_hiding(view, content.note()) {
+                    return None;
+                }
+                Some(content)
+            }
+        }
+    }
+
+    /// An attribute of a content, corrected, by one look-up for each kind of target.
+    pub fn attribute<'a>(&'a self, content: &'a Content, tag: u32) -> &'a [u8]
+        ensures { result.now ≡ attribute_in (ops_of self.now) content.now tag }
+    {
+        self.see_lawful();
+        match self.index().latest(content, tag) {
+            Some(fix) => fix.value.as_slice(),
+            None => content.own_value(tag),
+        }
     }
 
     /// Whether both sites hold the same.

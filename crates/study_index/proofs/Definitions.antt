@@ -231,7 +231,7 @@ is_greatest ks x has last = by (greatest ks) refl
         let found = greatest_is_last ks g e in
         ap (λ (f : Fix). Some f) (one_fix g x (last g found.0) (found.1 x has))
 
-greatest_more : (k : CorrectionParts) (ks : List CorrectionParts) → option_map fix_of (greatest (k ∷ ks)) ≡ greatest_of fix_cmp (Some (fix_of k)) (option_map fix_of (greatest ks))
+pub greatest_more : (k : CorrectionParts) (ks : List CorrectionParts) → option_map fix_of (greatest (k ∷ ks)) ≡ greatest_of fix_cmp (Some (fix_of k)) (option_map fix_of (greatest ks))
 greatest_more k ks = by (greatest ks) refl
   where
     alone : (other : CorrectionParts) → ks ≡ [] → Has (k ∷ ks) other → is_le (correction_cmp other k) ≡ true

@@ -1,4 +1,6 @@
+pub mod Corrected
 pub mod Definitions
 pub mod KeyLaws
+pub mod Studies
 pub mod Trees
 pub mod Walks

@@ -1,8 +1,11 @@
 -- What an index says of a set of operations, which is the list of its operations ascending by digest: the definition, without joins.
-use Rattle.std.specs.Prelude.{◌≡◌, ℕ, List, IsTrue}
+use Rattle.std.specs.Prelude.{◌≡◌, ℕ, List, IsTrue, ⊤}
 use Rattle.std.specs.Option.{option_map}
 use Rattle.rejection_note.specs.declared.title.Title.{Title}
 use Rattle.operation.specs.declared.op.Op.{Op}
+use Rattle.operation.specs.declared.op.Op.TheVariants.{Content as a_content, Correction as a_correction}
+use Rattle.operation.specs.Corrections.{is_correction}
+use Rattle.octets.specs.Members.{Has}
 use Rattle.operation.specs.declared.target.Target.{Target}
 use Rattle.archive_model.specs.Contents.{pick}
 use Rattle.archive_model.specs.Index.{code_of, copies, is_titled, fix}
@@ -23,3 +26,12 @@ pub record IsIndexOf (ops : List Op) (index : IndexValue) : Type 0 where
 -- the index of a list of operations: those of its operations, joined
 abbrev pub index_value : List Op → IndexValue
 index_value = summary_of index_joined nothing index_of
+
+-- an operation that is a correction has what every correction keeps true of its parts
+abbrev pub IsLawful : Op → Type 0
+IsLawful (a_content c) = ⊤
+IsLawful (a_correction k) = IsTrue (is_correction k)
+
+-- each of some operations has
+abbrev pub AreLawful : List Op → Type 0
+AreLawful ops = (op : Op) → Has ops op → IsLawful op

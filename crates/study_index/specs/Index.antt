@@ -1,5 +1,5 @@
 -- The value of an index: of one operation, and of two indexes together.
-use Rattle.std.specs.Prelude.{ℕ, nat_le, List, [], map, length, take, Option, None, Some, Bool}
+use Rattle.std.specs.Prelude.{ℕ, nat_le, List, [], map, length, take, Option, None, Some, Bool, if◌then◌else◌}
 use Rattle.std.specs.List.{filter}
 use Rattle.std.specs.Map.{lookup}
 use Rattle.std.specs.Ordering.{nat_cmp, ordering_then}
@@ -15,7 +15,7 @@ use Rattle.operation.specs.declared.target.Target.TheVariants.{Study, Patient, S
 use Rattle.operation.specs.Parts.{ContentParts, CorrectionParts, key_of}
 use Rattle.operation.specs.Spelling.{digest_of}
 use Rattle.octets.specs.Texts.{text_cmp}
-use Rattle.archive_model.specs.Contents.{study_of, series_of}
+use Rattle.archive_model.specs.Contents.{study_of, series_of, patient_of}
 use Rattle.archive_model.specs.Index.{code_of}
 use Rattle.join_laws.specs.Greatest.{greatest_of}
 use Rattle.join_laws.specs.GrowSet.{union_of, only}
@@ -123,3 +123,13 @@ index_of (a_correction k) = ([], ([], (entry (fix_key k.target k.tag) (Some (fix
 -- the correction at a key
 abbrev pub fix_at : FixKey → List (FixKey × Option Fix) → Option Fix
 fix_at key fixes = flat (lookup (is_at (fix_key_cmp key)) fixes)
+
+-- the correction at a key of at most 64 bytes, which every target's key has
+abbrev pub short_fix_at : FixKey → List (FixKey × Option Fix) → Option Fix
+short_fix_at key fixes = if is_short key.1.0 then fix_at key fixes else None
+
+-- of the corrections of an attribute of a content the greatest: of its study, of its patient and of its series
+abbrev pub latest_at : ContentParts → ℕ → List (FixKey × Option Fix) → Option Fix
+latest_at c tag fixes =
+    greatest_of fix_cmp (short_fix_at (fix_key (Study (study_of c)) tag) fixes)
+    (greatest_of fix_cmp (short_fix_at (fix_key (Patient (patient_of c)) tag) fixes) (short_fix_at (fix_key (Series (series_of c)) tag) fixes))

@@ -5,6 +5,7 @@ use Rattle.std.specs.Ordering.{nat_cmp, ordering_then, is_gt}
 use Rattle.std.specs.declared.cmp.Ordering.{Ordering}
 use Rattle.std.specs.declared.cmp.Ordering.TheVariants.{Less}
 use Rattle.std.specs.BTreeMap.{is_at}
+use Rattle.std.specs.BTreeMap.Range.{range_contains}
 use Rattle.std.specs.declared.ops.Bound.{Bound}
 use Rattle.std.specs.declared.ops.Bound.TheVariants.{Included, Excluded, Unbounded}
 use Rattle.join_laws.specs.Least.{least_of}
@@ -122,3 +123,19 @@ series_start study (Some series) = Excluded (study, (0, (series, (1, []))))
 abbrev pub instance_start : List ℕ → List ℕ → Option (List ℕ) → Bound Place
 instance_start study series None = Included (study, (0, (series, (0, []))))
 instance_start study series (Some instance) = Excluded (study, (0, (series, (0, instance))))
+
+-- whether a pick is of a study
+abbrev pub is_of_study : List ℕ → Option Pick → Bool
+is_of_study study None = false
+is_of_study study (Some pick) = same pick.1.0 study
+
+-- where the places of a study begin and where they end
+abbrev pub front_of : List ℕ → Place
+front_of study = (study, (0, ([], (0, []))))
+
+abbrev pub end_of : List ℕ → Place
+end_of study = (study, (1, ([], (0, []))))
+
+-- whether a place is from a front on and before an end
+abbrev pub is_between : Text × (ℕ × (Text × (ℕ × Text))) → Text × (ℕ × (Text × (ℕ × Text))) → Text × (ℕ × (Text × (ℕ × Text))) → Bool
+is_between front end place = range_contains place_cmp (Included front) (Excluded end) place

@@ -1,5 +1,7 @@
 //! What an index holds of corrections.
 ghost use Rattle.std.specs.Prelude.{◌≡◌, ◌≤◌, length, refl, Some};
+ghost use Rattle.std.specs.Option.{option_copied};
+ghost use Rattle.join_laws.specs.Greatest.{greatest_of};
 ghost use Rattle.std.specs.Ordering.{eq_by_cmp};
 ghost use Rattle.std.specs.Cmp.{partial_equiv_from_equiv, eq_by_cmp_equiv, partial_order_from_total};
 ghost use Rattle.study_index.specs.Index.{fix_key_cmp, fix_cmp};
@@ -199,5 +201,23 @@ pub fn fix_in(correction: &Correction) -> Fix
         counter: stamp.counter,
         site: stamp.site,
         value: ShortText::whole(correction.value()),
+    }
+}
+
+/// The greater of two that may be absent.
+pub fn later<'a>(this: Option<&'a Fix>, other: Option<&'a Fix>) -> Option<&'a Fix>
+    ensures { option_copied result ≡ greatest_of fix_cmp (option_copied this.entry)
+        (option_copied other.entry) }
+{
+    match (this, other) {
+        (None, other) => other,
+        (Some(this), None) => Some(this),
+        (Some(this), Some(other)) => {
+            if other < this {
+                Some(this)
+            } else {
+                Some(other)
+            }
+        }
     }
 }

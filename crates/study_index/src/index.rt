@@ -1,6 +1,8 @@
 //! The index of a set of operations.
-ghost use Rattle.std.specs.Prelude.{◌≡◌, ◌≤◌, [], ◌∷◌, length, List, ℕ, OnOk, OnErr, IfOk, Option, None, Some, IfSome};
+ghost use Rattle.std.specs.Prelude.{◌≡◌, ◌≤◌, ◌||◌, [], ◌∷◌, length, List, ℕ, OnOk, OnErr, IfOk, Option, None, Some, IfSome};
 ghost use Rattle.std.specs.Option.{option_copied, option_map};
+ghost use Rattle.std.specs.Map.{keys_of as uids_in};
+ghost use Rattle.octets.specs.Texts.{text_cmp};
 ghost use Rattle.rejection_note.specs.declared.note.Note.{Note as ANote};
 ghost use Rattle.operation.specs.declared.op.Op.TheVariants.{Content as a_content, Correction as a_correction};
 ghost use Rattle.operation.specs.Parts.{key_of as key_in};
@@ -8,22 +10,23 @@ ghost use Rattle.operation.specs.Spelling.{digest_of};
 ghost use Rattle.archive_model.specs.Index.{code_of};
 ghost use Rattle.join_laws.specs.GrowSet.{union_of};
 ghost use Rattle.study_index.specs.Keys.{has};
-ghost use Rattle.study_index.specs.Live.{pick_at, HasStudy, HasSeries, HasInstance, IsNext, picks_joined};
-ghost use Rattle.study_index.specs.Index.{IsIndex, index_joined, index_of, nothing, titles_of, naming_cmp, copy_cmp, fix_key, fix_at, keys_of, named};
+ghost use Rattle.study_index.specs.Live.{pick_at, HasStudy, HasSeries, HasInstance, IsNext, picks_joined, is_of_study};
+ghost use Rattle.study_index.specs.Index.{IsIndex, index_joined, index_of, nothing, titles_of, naming_cmp, copy_cmp, fix_key, fix_at, short_fix_at, latest_at, keys_of, named};
 ghost use Rattle.study_index.specs.Proved.Indexes.{index_laws, index_summary_laws};
 
 use crate::entries::{ContentCopy, Naming};
-use crate::fixes::{Fix, FixKey, fix_in, fix_key_of, key_of};
+use crate::fixes::{Fix, FixKey, fix_in, fix_key_of, key_of, later};
 use crate::keys::Keys;
 use crate::live_picks::LivePicks;
 use crate::pick::Pick;
 use crate::short_text::ShortText;
-use archive_model::title_code;
+use archive_model::{patient, series, study, title_code};
 use join_laws::{Copies, Greatest, GrowSet, Join, MapOf, Summary, Undoes};
 use octets::Octets;
 use operation::{Content, Correction, Digest, Op, Target, digest};
 use rejection_note::{Note, Title};
 use std::alloc::{AllocError, Global};
+use std::collections::BTreeSet;
 use std::marker::Model;
 
 /// What queries look up in a set of operations.
@@ -286,6 +289,54 @@ impl Index {
             Some(greatest) => greatest.get(),
             None => None,
         }
+    }
+
+    // The correction of a kind of target under a key, and a tag.
+    fn fix_under(&self, kind: u8, key: &[u8], tag: u32) -> Option<&Fix>
+        ensures { option_copied result ≡ short_fix_at (kind, (key.now, tag)) self.now.1.1.0 }
+    {
+        if key.len() > 64 {
+            return None;
+        }
+        let key = ShortText::whole(key);
+        match self.fixes.value(&FixKey { kind, key, tag }) {
+            Some(greatest) => greatest.get(),
+            None => None,
+        }
+    }
+
+    /// Counter, site and value of the correction of an attribute of a content that counts: of those
+    /// of its study, its patient and its series the greatest.
+    pub fn latest(&self, content: &Content, tag: u32) -> Option<&Fix>
+        ensures { option_copied result ≡ latest_at content.now tag self.now.1.1.0 }
+    {
+        let of_study = self.fix_under(1, study(content), tag);
+        let of_patient = self.fix_under(2, patient(content), tag);
+        let of_series = self.fix_under(3, series(content), tag);
+        later(of_study, later(of_patient, of_series))
+    }
+
+    /// Puts the SOP Instance UIDs of the picks of a study into a set. What was put in before memory
+    /// was refused stays.
+    pub fn put_study(
+        &self,
+        study: &ShortText,
+        uids: &mut BTreeSet<ShortText>,
+    ) -> Result<(), AllocError>
+        ensures { OnOk result ((uid : List ℕ) → has text_cmp uids.new.keys uid ≡
+            (has text_cmp uids.old.keys uid
+            || is_of_study study.now (pick_at uid self.now.1.1.1))) }
+    {
+        self.live.put_study(study, uids)
+    }
+
+    /// Puts the SOP Instance UIDs of all picks into a set. What was put in before memory was refused
+    /// stays.
+    pub fn put_all(&self, uids: &mut BTreeSet<ShortText>) -> Result<(), AllocError>
+        ensures { OnOk result ((uid : List ℕ) → has text_cmp uids.new.keys uid
+            ≡ (has text_cmp uids.old.keys uid || has text_cmp (uids_in self.now.1.1.1) uid)) }
+    {
+        self.live.put_all(uids)
     }
 
     /// The least study of all picks past `after` as bytes, or the first where there is none.

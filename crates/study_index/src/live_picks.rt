@@ -1,20 +1,24 @@
 //! Picks, with a live list of their places.
-ghost use Rattle.std.specs.Prelude.{◌≡◌, [], ◌++◌, ℕ, List, OnOk, OnErr, IfOk, Option, None, Some};
+ghost use Rattle.std.specs.Prelude.{◌≡◌, [], ◌++◌, ◌||◌, ℕ, List, OnOk, OnErr, IfOk, Option, None, Some};
 ghost use Rattle.std.specs.Option.{option_copied};
+ghost use Rattle.std.specs.Map.{keys_of};
 ghost use Rattle.std.specs.Cmp.Lexicographic.{nat_list_cmp_total};
 ghost use Rattle.octets.specs.Texts.{text_cmp};
 ghost use Rattle.join_laws.specs.Least.{least_of};
+ghost use Rattle.join_laws.specs.GrowSet.{union_of};
 ghost use Rattle.join_laws.specs.MapOf.{IsMapOf, entry};
 ghost use Rattle.study_index.specs.Live.{pick_at, picks_joined, tree_of, is_moved, pick_cmp};
 ghost use Rattle.study_index.specs.Live.{gained, lost, gains, losses};
 ghost use Rattle.study_index.specs.Live.{study_start, series_start, instance_start};
 ghost use Rattle.study_index.specs.Live.{HasStudy, HasSeries, HasInstance, IsNext};
+ghost use Rattle.study_index.specs.Keys.{has};
+ghost use Rattle.study_index.specs.Live.{is_of_study, front_of, end_of};
 ghost use Rattle.study_index.specs.Proved.Picks.{picks_laws};
 
 use crate::pick::Pick;
 use crate::place::Place;
 use crate::short_text::ShortText;
-use crate::tree::{first_from, put_all, take_all};
+use crate::tree::{first_from, put_all, put_between, put_uid, take_all};
 use join_laws::{Join, Least, MapOf};
 use std::alloc::{AllocError, Global};
 use std::collections::{BTreeMap, BTreeSet};
@@ -161,6 +165,20 @@ fn join_parts(
     Ok(())
 }
 
+// Puts all instances that have a pick into a set.
+fn put_keys(
+    picks: &BTreeMap<ShortText, Least<Pick>>,
+    uids: &mut BTreeSet<ShortText>,
+) -> Result<(), AllocError>
+    ensures { OnOk result (uids.new.keys ≡
+        union_of text_cmp uids.old.keys (keys_of picks.now.entries)) }
+{
+    for (instance, _) in picks {
+        put_uid(uids, instance)?;
+    }
+    Ok(())
+}
+
 // Past all that stands in the study `after`.
 fn study_start(after: Option<&ShortText>) -> Bound<Place>
     ensures { result ≡ study_start (option_copied after.entry) }
@@ -196,6 +214,32 @@ fn series_start(study: &ShortText, after: Option<&ShortText>) -> Bound<Place>
             series_end: 1,
             instance: ShortText::empty(),
         }),
+    }
+}
+
+// Where the places of a study begin.
+fn front_of(study: &ShortText) -> Place
+    ensures { result ≡ front_of study.now }
+{
+    Place {
+        study: study.duplicate(),
+        study_end: 0,
+        series: ShortText::empty(),
+        series_end: 0,
+        instance: ShortText::empty(),
+    }
+}
+
+// Where they end.
+fn end_of(study: &ShortText) -> Place
+    ensures { result ≡ end_of study.now }
+{
+    Place {
+        study: study.duplicate(),
+        study_end: 1,
+        series: ShortText::empty(),
+        series_end: 0,
+        instance: ShortText::empty(),
     }
 }
 
@@ -316,5 +360,28 @@ impl LivePicks {
                 Some(&place.instance)
             }
         }
+    }
+
+    /// Puts the instances of a study's picks into a set.
+    pub fn put_study(
+        &self,
+        study: &ShortText,
+        uids: &mut BTreeSet<ShortText>,
+    ) -> Result<(), AllocError>
+        ensures { OnOk result ((uid : List ℕ) → has text_cmp uids.new.keys uid
+            ≡ (has text_cmp uids.old.keys uid || is_of_study study.now (pick_at uid self.now))) }
+    {
+        self.picks.held();
+        put_between(&self.tree, front_of(study), end_of(study), uids)?;
+        Ok(())
+    }
+
+    /// Puts the instances of all picks into a set.
+    pub fn put_all(&self, uids: &mut BTreeSet<ShortText>) -> Result<(), AllocError>
+        ensures { OnOk result ((uid : List ℕ) → has text_cmp uids.new.keys uid
+            ≡ (has text_cmp uids.old.keys uid || has text_cmp (keys_of self.now) uid)) }
+    {
+        put_keys(self.picks.get(), uids)?;
+        Ok(())
     }
 }

@@ -1,12 +1,16 @@
 //! The list of places, as a tree.
-ghost use Rattle.std.specs.Prelude.{◌≡◌, OnOk, OnErr, IfNone, IfSome, IsTrue, false, not, ◌&&◌, ◌||◌};
+ghost use Rattle.std.specs.Prelude.{◌≡◌, map, OnOk, OnErr, IfNone, IfSome, IsTrue, false, not, ◌&&◌, ◌||◌};
 ghost use Rattle.std.specs.BTreeMap.Range.{IsFromStart, IsLeBy};
 ghost use Rattle.std.specs.List.Sorted.{IsStrictlySortedBy};
 ghost use Rattle.std.specs.BTreeSet.{insert_key};
 ghost use Rattle.study_index.specs.Keys.{has, AreApart};
-ghost use Rattle.study_index.specs.Live.{Place as APlace, place_cmp};
+ghost use Rattle.std.specs.List.{filter};
+ghost use Rattle.octets.specs.Texts.{text_cmp};
+ghost use Rattle.join_laws.specs.GrowSet.{union_of};
+ghost use Rattle.study_index.specs.Live.{Place as APlace, place_cmp, instance_of, is_between};
 
 use crate::place::Place;
+use crate::short_text::ShortText;
 use std::alloc::AllocError;
 use std::collections::BTreeSet;
 use std::ops::Bound;
@@ -65,4 +69,29 @@ pub fn first_from(tree: &BTreeSet<Place>, start: Bound<Place>) -> Option<&Place>
         Some(place) => Some(place),
         None => None,
     }
+}
+
+/// Puts a copy of a UID into a set. Where memory is refused, the set stays as it was.
+pub fn put_uid(uids: &mut BTreeSet<ShortText>, uid: &ShortText) -> Result<(), AllocError>
+    ensures { OnOk result (uids.new.keys ≡ insert_key text_cmp uids.old.keys uid.now) }
+{
+    uids.insert(uid.duplicate())?;
+    Ok(())
+}
+
+/// Puts the instances of the places from a front on and before an end into a set.
+pub fn put_between(
+    tree: &BTreeSet<Place>,
+    front: Place,
+    end: Place,
+    uids: &mut BTreeSet<ShortText>,
+) -> Result<(), AllocError>
+    requires { IsLeBy place_cmp front end }
+    ensures { OnOk result (uids.new.keys ≡ union_of text_cmp uids.old.keys
+        (map instance_of (filter (is_between front end) tree.now.keys))) }
+{
+    for place in tree.range((Bound::Included(front), Bound::Excluded(end))) {
+        put_uid(uids, &place.instance)?;
+    }
+    Ok(())
 }

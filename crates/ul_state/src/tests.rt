@@ -1,7 +1,8 @@
 //! Rows of the table and of negotiation, from outside.
 
-ghost use Rattle.std.specs.Prelude.{IfOk};
+ghost use Rattle.std.specs.Prelude.{IfOk, All};
 ghost use Rattle.pdu.specs.Spelling.{IsPdu};
+ghost use Rattle.ul_state.specs.Acceptor.{CanBeWritten};
 
 use super::*;
 use bytes::Bytes;
@@ -59,28 +60,53 @@ fn titles(alloc: Global) -> Result<Titles<u8>, AllocError> {
     Ok(Titles { list })
 }
 
+/// What is decided on a request.
+fn decided(
+    alloc: Global,
+    version: u8,
+    title: &[u8],
+    items: &[&[u8]],
+) -> Result<Decision<u8>, Fail> {
+    let titles = titles(alloc)?;
+    match request(alloc, version, title, items)? {
+        Pdu::AssociateRq(request) => Ok(negotiate(alloc, &request, &titles)?),
+        _ => Err(Fail::new("a request")),
+    }
+}
+
 /// What a request is answered in Sta2: result, source and reason, or 0, 0 and the value.
 fn answered(alloc: Global, version: u8, title: &[u8], items: &[&[u8]]) -> Result<[u8; 3], Fail> {
-    let titles = titles(alloc)?;
-    let Pdu::AssociateRq(request) = request(alloc, version, title, items)? else {
-        return Err(Fail::new("a request"));
-    };
-    match negotiate(alloc, &request, &titles)? {
+    match decided(alloc, version, title, items)? {
         Decision::Accepted(_, _, value) => Ok([0, 0, value]),
         Decision::Rejected(reject) => Ok([reject.result, reject.source, reject.reason]),
     }
 }
 
-/// The bytes that answer a request.
-fn written(alloc: Global, title: &[u8], items: &[&[u8]]) -> Result<Vec<u8>, Fail> {
+/// What a request is answered where it is accepted, and how many contexts are used.
+fn accepted(alloc: Global, items: &[&[u8]]) -> Result<(Accept, usize), Fail> {
+    match decided(alloc, 1, ARCHIVE, items)? {
+        Decision::Accepted(accept, contexts, _) => Ok((accept, contexts.len())),
+        Decision::Rejected(_) => Err(Fail::new("accepted")),
+    }
+}
+
+/// What a machine in Sta2 does on a request.
+fn done(alloc: Global, title: &[u8], items: &[&[u8]]) -> Result<ListOf<Action>, Fail>
+    ensures { IfOk result (All CanBeWritten) }
+{
     let titles = titles(alloc)?;
     let event = Event::Got(request(alloc, 1, title, items)?);
     let mut acceptor = Acceptor::new(alloc);
-    let actions = acceptor.on(&titles, event)?;
-    let [Action::Send(pdu)] = actions.as_slice() else {
-        return Err(Fail::new("one answer"));
-    };
-    Ok(write_pdu(alloc, pdu)?)
+    Ok(acceptor.on(&titles, event)?)
+}
+
+/// The bytes that answer a request.
+fn written(alloc: Global, title: &[u8], items: &[&[u8]]) -> Result<Vec<u8>, Fail> {
+    let actions = done(alloc, title, items)?;
+    match actions.as_slice() {
+        [Action::Send(pdu)] => Ok(write_pdu(alloc, pdu)?),
+        _ => Err(Fail::new("one answer")),
+    }
 }
 
 // Verification is accepted on context 1, with the implicit syntax.
@@ -90,23 +116,26 @@ const VERIFICATION_ACCEPTED: &[u8] = b"\x21\x00\x00\x19\x01\x00\x00\x00\
 const OUR_USER: &[u8] =
     b"\x50\x00\x00\x17\x51\x00\x00\x04\x00\x01\x00\x00\x52\x00\x00\x0b2.25.113001";
 
+// Its opening: type, length, version, reserved, and the titles.
+const ACCEPTANCE: &[u8] =
+    b"\x02\x00\x00\x00\x00\x95\x00\x01\x00\x00ARCHIVE         SCU1            ";
+
+/// The bytes of an acceptance of verification.
+fn acceptance(alloc: Global) -> Result<Vec<u8>, AllocError> {
+    let parts: [&[u8]; 5] = [
+        ACCEPTANCE,
+        &[0; 32],
+        CONTEXT_NAME,
+        VERIFICATION_ACCEPTED,
+        OUR_USER,
+    ];
+    joined(alloc, &parts)
+}
+
 #[test]
 fn an_acceptance_is_written(rt: HostRuntime) -> Result<(), Fail> {
-    let title = b"ARCHIVE         ";
-    let items: [&[u8]; 3] = [CONTEXT_NAME, VERIFICATION, USER];
-    let expected = joined(
-        rt.alloc(),
-        &[
-            &[2, 0, 0, 0, 0, 0x95, 0, 1, 0, 0],
-            title,
-            b"SCU1            ",
-            &[0; 32],
-            CONTEXT_NAME,
-            VERIFICATION_ACCEPTED,
-            OUR_USER,
-        ],
-    )?;
-    let answer = written(rt.alloc(), title, &items)?;
+    let expected = acceptance(rt.alloc())?;
+    let answer = written(rt.alloc(), ARCHIVE, &[CONTEXT_NAME, VERIFICATION, USER])?;
     assert_eq!(rt;
         answer.as_slice(),
         expected.as_slice(),
@@ -473,62 +502,81 @@ fn the_implicit_syntax_is_preferred_where_the_requestor_is_scp(
     Ok(())
 }
 
+/// The ID and the result of each context.
+fn results(alloc: Global, accept: &Accept) -> Result<Vec<[u8; 2]>, AllocError> {
+    let mut results = Vec::new(alloc);
+    for context in accept.contexts.as_slice() {
+        results.push([context.id, context.result])?;
+    }
+    Ok(results)
+}
+
+// Storage is accepted, an unknown class is not, nor an unknown syntax, and FIND is.
+const RESULTS: &[[u8; 2]] = &[[3, 0], [5, 3], [7, 4], [9, 0]];
+
 #[test]
 fn each_context_is_answered(rt: HostRuntime) -> Result<(), Fail> {
-    let alloc = rt.alloc();
-    let titles = titles(alloc)?;
-    let items: [&[u8]; 3] = [CONTEXT_NAME, CONTEXTS, ROLES];
-    let Pdu::AssociateRq(request) = request(alloc, 1, b"ARCHIVE         ", &items)? else {
-        return Err(Fail::new("a request"));
-    };
-    match negotiate(alloc, &request, &titles)? {
-        Decision::Accepted(accept, _, _) => answers_each(&rt, &accept),
-        Decision::Rejected(_) => assert!(rt; false, "accepted"),
+    let (accept, _) = accepted(rt.alloc(), &[CONTEXT_NAME, CONTEXTS, ROLES])?;
+    assert_eq!(rt;
+        results(rt.alloc(), &accept)?.as_slice(),
+        RESULTS,
+        "in their order"
+    );
+    Ok(())
+}
+
+#[test]
+fn an_acceptance_has_our_limit(rt: HostRuntime) -> Result<(), Fail> {
+    let (accept, _) = accepted(rt.alloc(), &[CONTEXT_NAME, CONTEXTS, ROLES])?;
+    assert_eq!(rt; accept.opening.version, 1, "the version");
+    assert_eq!(rt; accept.user.maximum_length, 65536, "the maximum length");
+    Ok(())
+}
+
+#[test]
+fn the_role_of_a_storage_class_alone_is_accepted(rt: HostRuntime) -> Result<(), Fail> {
+    let (accept, _) = accepted(rt.alloc(), &[CONTEXT_NAME, CONTEXTS, ROLES])?;
+    match accept.user.roles.as_slice() {
+        [role] => assert!(rt; role.scu == 1 && role.scp == 1, "as proposed"),
+        _ => assert!(rt; false, "one role"),
     }
     Ok(())
 }
 
-fn answers_each(rt: &impl Abort, accept: &Accept) {
-    let contexts = accept.contexts.as_slice();
-    assert_eq!(rt; contexts.len(), 4, "an answer for each context");
-    assert!(rt;
-        contexts[0].id == 3 && contexts[0].result == 0,
-        "storage is accepted"
-    );
-    assert!(rt;
-        contexts[1].id == 5 && contexts[1].result == 3,
-        "an unknown class"
-    );
-    assert!(rt;
-        contexts[2].id == 7 && contexts[2].result == 4,
-        "an unknown syntax"
-    );
-    assert!(rt;
-        contexts[3].id == 9 && contexts[3].result == 0,
-        "FIND is accepted"
-    );
-    assert_eq!(rt; accept.opening.version, 1, "the version");
-    assert_eq!(rt; accept.user.maximum_length, 65536, "the maximum length");
-    let roles = accept.user.roles.as_slice();
-    assert_eq!(rt; roles.len(), 1, "the role of the storage class alone");
-    assert!(rt; roles[0].scu == 1 && roles[0].scp == 1, "as proposed");
-}
+// GET is accepted, and MOVE is an unknown class.
+const RETRIEVE_RESULTS: &[[u8; 2]] = &[[1, 0], [3, 3]];
 
 #[test]
 fn a_get_is_served_and_a_move_is_not(rt: HostRuntime) -> Result<(), Fail> {
-    let alloc = rt.alloc();
-    let titles = titles(alloc)?;
-    let items: [&[u8]; 3] = [CONTEXT_NAME, RETRIEVES, USER];
-    let Pdu::AssociateRq(request) = request(alloc, 1, b"ARCHIVE         ", &items)? else {
-        return Err(Fail::new("a request"));
-    };
-    let Decision::Accepted(accept, contexts, _) = negotiate(alloc, &request, &titles)? else {
-        return Err(Fail::new("accepted"));
-    };
-    let answers = accept.contexts.as_slice();
-    assert_eq!(rt; answers.len(), 2, "an answer for each context");
-    assert_eq!(rt; answers[0].result, 0, "GET is accepted");
-    assert_eq!(rt; answers[1].result, 3, "MOVE is an unknown class");
-    assert_eq!(rt; contexts.len(), 1, "one context is used");
+    let (accept, used) = accepted(rt.alloc(), &[CONTEXT_NAME, RETRIEVES, USER])?;
+    assert_eq!(rt;
+        results(rt.alloc(), &accept)?.as_slice(),
+        RETRIEVE_RESULTS,
+        "an answer for each"
+    );
+    assert_eq!(rt; used, 1, "one context is used");
+    Ok(())
+}
+
+// A context of verification, but for its ID.
+const BEHIND_ID: &[u8] =
+    b"\x00\x00\x00\x30\x00\x00\x111.2.840.10008.1.1\x40\x00\x00\x111.2.840.10008.1.2";
+
+/// Contexts of verification with these many odd IDs.
+fn verifications(alloc: Global, count: u8) -> Result<Vec<u8>, AllocError> {
+    let mut items = Vec::new(alloc);
+    for place in 0..count {
+        items.extend_from_slice(&[0x20, 0, 0, 0x2e, place.wrapping_mul(2).wrapping_add(1)])?;
+        items.extend_from_slice(BEHIND_ID)?;
+    }
+    Ok(items)
+}
+
+#[test]
+fn thirty_contexts_are_answered(rt: HostRuntime) -> Result<(), Fail> {
+    let items = verifications(rt.alloc(), 30)?;
+    let (accept, used) = accepted(rt.alloc(), &[CONTEXT_NAME, items.as_slice(), USER])?;
+    assert_eq!(rt; accept.contexts.len(), 30, "an answer for each");
+    assert_eq!(rt; used, 30, "each is used");
     Ok(())
 }

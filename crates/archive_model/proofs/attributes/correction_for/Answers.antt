@@ -5,6 +5,7 @@ use Rattle.archive_model.specs.Attributes.{corrects, corrections}
 use Rattle.archive_model.proofs.Latest.{latest_is_greatest}
 use Rattle.archive_model.proofs.attributes.correction_for.Goals as goal
 
+-- All operations were passed, and what is held is the greatest of those that correct.
 pub returns : goal.returns
 returns c =
     let none = drop_all c.loop-op.op-index c.args.ops.now c.loop-op-test.false in

@@ -2,9 +2,10 @@ use Rattle.std.proofs.Common.{◌≡◌, ◌++◌, drop, map}
 use Rattle.std.specs.List.{filter_map}
 use Rattle.archive_query.specs.Column.{columns}
 use Rattle.archive_query.specs.Rows.{cell_in_row}
+use Rattle.site_state.specs.Site.{ops_of}
 use Rattle.archive_query.proofs.rows.cells.Given as goal
 
 abbrev pub invariant-loop-tag : goal.invariant-loop-tag
 invariant-loop-tag l =
-    l.cells.items ++ filter_map (cell_in_row (map (λ o. o.now) l.ops) l.called l.query (map (λ c. c.now) l.contents) l.first) (drop l.tag-index l.tag-items)
-    ≡ filter_map (cell_in_row (map (λ o. o.now) l.ops) l.called l.query (map (λ c. c.now) l.contents) l.first) l.tag-items
+    l.cells.items ++ filter_map (cell_in_row (ops_of l.site) l.called l.query (map (λ c. c.now) l.contents) l.first) (drop l.tag-index l.tag-items)
+    ≡ filter_map (cell_in_row (ops_of l.site) l.called l.query (map (λ c. c.now) l.contents) l.first) l.tag-items

@@ -5,13 +5,14 @@ use Rattle.operation.specs.declared.content.Content.{Content}
 use Rattle.archive_query.specs.Grouping.{under, groups_by}
 use Rattle.archive_query.specs.Rows.{uid_at, row_of, row_at, uids_at}
 use Rattle.archive_query.proofs.ShowingLaws.{map-map, groups-map, filter_map-map}
+use Rattle.site_state.specs.Site.{ops_of}
 use Rattle.archive_query.proofs.rows.rows_among.Goals as goal
 
 pub returns : goal.returns
 returns c =
     let now = λ (x : Bor Content). x.now in
     let q = c.args.query.now in
-    let ops = map (λ o. o.now) c.args.ops.now in
+    let ops = ops_of c.args.site.now in
     let cs = map now c.args.contents.now in
     let one = row_of ops c.args.called.now q in
     let key = λ (x : Bor Content). uid_at q.level x.now in

@@ -4,6 +4,7 @@ use Rattle.std.proofs.lemmas.List.{length-take, take_all}
 use Rattle.devices.proofs.Fronts.{further}
 use Rattle.devices.proofs.sink.put_all.Goals as goal
 
+-- What was put goes behind what was put before, and nothing failed.
 pub loop-done-preserved : goal.loop-done-preserved
 loop-done-preserved g c =
     let bytes = c.args.bytes.now in

@@ -3,6 +3,7 @@ use Rattle.join_laws.specs.Journal.{taken_out}
 use Rattle.join_laws.proofs.Journals.{taken_out-push}
 use Rattle.join_laws.proofs.grow_set.take_out.Goals as goal
 
+-- The last key added is taken out, and the others are still to be.
 pub loop-key-preserved : goal.loop-key-preserved
 loop-key-preserved g c =
     let left = c.pop.new.self.items in

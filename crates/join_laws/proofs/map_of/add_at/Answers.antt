@@ -19,6 +19,7 @@ returns-in_ok-add-in-Some-clause-ok g c =
     ∙ ap (set_value test before) c.in_ok-add-in-Some.ensures.ok
     ∙ put_found g.met.K.Ord.total g.J.Join.joined c.args.key.now one before c.in-Some.there.now c.get_mut.ensures.ordered (sym c.in-Some.ensures.value)
 
+-- the value refused the operation, and kept what was there
 pub returns-in_err-add-in-Some-clause-refused : goal.returns-in_err-add-in-Some-clause-refused
 returns-in_err-add-in-Some-clause-refused g c =
     let before = c.args.into.now.entries in

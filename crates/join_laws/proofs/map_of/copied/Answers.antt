@@ -3,6 +3,7 @@ use Rattle.join_laws.specs.MapOf.{map_joined}
 use Rattle.join_laws.specs.Proved.Maps.{map_joined_none}
 use Rattle.join_laws.proofs.map_of.copied.Goals as goal
 
+-- All entries were put into a map that was empty, so they are the entries.
 pub returns : goal.returns
 returns g c =
     let entries = c.args.map.now.entries in

@@ -15,6 +15,7 @@ returns-in-Some-clause-ok g c =
     let found = put_found g.met.K.Ord.total g.J.Join.joined key c.args.value.now before c.in-Some.there.now c.get_mut.ensures.ordered (sym c.in-Some.ensures.value) in
     on_ok_weaker c.join_with.result (λ joined. written ∙ ap (set_value (is_at (g.K.Ord.cmp key)) before) joined ∙ found) c.join_with.ensures.ok
 
+-- the join was refused, and kept the value that was there
 pub returns-in-Some-clause-refused : goal.returns-in-Some-clause-refused
 returns-in-Some-clause-refused g c =
     let before = c.args.into.now.entries in

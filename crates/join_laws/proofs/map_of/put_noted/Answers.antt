@@ -16,6 +16,7 @@ returns-in_err-before-in-Some-clause-noted g c =
     let test = is_at (g.K.Ord.cmp c.args.key.now) in
     ap (undone g.K.Ord.cmp c.args.notes.now.items) ((c.get_mut.follows.holds there).0 ∙ set_value_same test entries there (sym c.in-Some.ensures.value))
 
+-- the note was refused, and nothing was written
 pub returns-in_err-push-in-Some-clause-noted : goal.returns-in_err-push-in-Some-clause-noted
 returns-in_err-push-in-Some-clause-noted g c =
     let entries = c.args.into.now.entries in
@@ -33,6 +34,7 @@ returns-in_err-join_with-in-Some-clause-noted g c =
     let back = written_back (is_at (g.K.Ord.cmp c.args.key.now)) entries new c.in-Some.there.now before c.join_with.new.self (sym c.in-Some.ensures.value) c.in_ok-before-in-Some.ensures (c.get_mut.follows.holds c.join_with.new.self).0 in
     undone-noted g.K.Ord.cmp c.args.notes.now.items c.push.new.self.items (c.args.key, Some before) entries new c.in_ok-push-in-Some.ensures.items back
 
+-- the value takes in the other
 pub returns-in_ok-join_with-in-Some-clause-ok : goal.returns-in_ok-join_with-in-Some-clause-ok
 returns-in_ok-join_with-in-Some-clause-ok g c =
     let before = c.args.into.now.entries in
@@ -41,6 +43,7 @@ returns-in_ok-join_with-in-Some-clause-ok g c =
     ∙ ap (set_value test before) c.in_ok-join_with-in-Some.ensures.ok
     ∙ put_found g.met.K.Ord.total g.J.Join.joined c.args.key.now c.args.value.now before c.in-Some.there.now c.get_mut.ensures.ordered (sym c.in-Some.ensures.value)
 
+-- the last note gives back the value before it
 pub returns-in_ok-join_with-in-Some-clause-noted : goal.returns-in_ok-join_with-in-Some-clause-noted
 returns-in_ok-join_with-in-Some-clause-noted g c =
     let entries = c.args.into.now.entries in
@@ -58,6 +61,7 @@ returns-in_err-insert-in-None-clause-noted g c =
     let back = ap (remove_entry test) kept ∙ remove_absent test entries (sym c.in-None.ensures.value) in
     undone-noted g.K.Ord.cmp c.args.notes.now.items c.push-in-None.new.self.items (c.args.key, None) entries c.insert.new.self.entries c.in_ok-push-in-None.ensures.items back
 
+-- the entry was put where there was none
 pub returns-in_ok-insert-in-None-clause-ok : goal.returns-in_ok-insert-in-None-clause-ok
 returns-in_ok-insert-in-None-clause-ok g c =
     let before = c.args.into.now.entries in
@@ -67,6 +71,7 @@ returns-in_ok-insert-in-None-clause-ok g c =
     ∙ ap (insert_entry g.K.Ord.cmp before c.args.key.now) c.in_ok-copy-in-None-2.ensures
     ∙ put_absent g.met.K.Ord.total g.J.Join.joined c.args.key.now c.args.value.now before (sym c.in-None.ensures.value)
 
+-- the last note takes the entry out again
 pub returns-in_ok-insert-in-None-clause-noted : goal.returns-in_ok-insert-in-None-clause-noted
 returns-in_ok-insert-in-None-clause-noted g c =
     let entries = c.args.into.now.entries in

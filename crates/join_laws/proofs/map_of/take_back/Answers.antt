@@ -3,6 +3,7 @@ use Rattle.join_laws.specs.Journal.{undone}
 use Rattle.join_laws.proofs.Journals.{undone-push}
 use Rattle.join_laws.proofs.map_of.take_back.Goals as goal
 
+-- The last note is undone, and those before it are still to be.
 pub loop-note-preserved : goal.loop-note-preserved
 loop-note-preserved g c =
     let left = c.pop.new.self.items in

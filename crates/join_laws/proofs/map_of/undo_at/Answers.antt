@@ -15,6 +15,7 @@ returns-in-None-clause-back g c = λ before held takes eq.
     ∙ ap (remove_entry test) eq
     ∙ remove-put_joined g.met.K.Ord.total g.J.Join.joined c.args.key.now (g.J.Summary.of_one c.args.op.now) before absent
 
+-- what is left were entries before
 pub returns-in-None-clause-held : goal.returns-in-None-clause-held
 returns-in-None-clause-held g c = λ all.
     let Held : g.row.K.Denot × g.row.J.Denot → Type 0 = λ e. g.J.Join.IsHeld e.1 in

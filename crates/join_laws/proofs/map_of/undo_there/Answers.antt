@@ -20,6 +20,7 @@ returns-in-Some-clause-back g c = λ before value held was takes eq.
     ∙ ap (λ es. set_value test es value) eq
     ∙ set_value-put_joined g.met.K.Ord.total join c.args.key.now one before value held.0 was
 
+-- the value that was written is held, and so are the others
 pub returns-in-Some-clause-held : goal.returns-in-Some-clause-held
 returns-in-Some-clause-held g c = λ all.
     let Held : g.row.K.Denot × g.row.J.Denot → Type 0 = λ e. g.J.Join.IsHeld e.1 in

@@ -2,6 +2,7 @@ use Rattle.std.proofs.Common.{arith, add-one, ◌∙◌, sym}
 use Rattle.key_matching.proofs.WildCards.{starless_more, front_more}
 use Rattle.key_matching.proofs.wild_card.matching_front.Goals as goal
 
+-- The bytes up to here match, none of them a star, and so does this one.
 pub loop-n-preserved : goal.loop-n-preserved
 loop-n-preserved c = record {
   within_key = omega arith;

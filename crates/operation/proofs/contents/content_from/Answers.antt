@@ -8,6 +8,7 @@ use Rattle.operation.specs.Contents.{has_uids, names_itself, IsShort}
 use Rattle.operation.proofs.ContentLaws.{without_uids, of_other_names, of_its_names, of_a_note, made}
 use Rattle.operation.proofs.contents.content_from.Goals as goal
 
+-- The data set was read, and the test of its UIDs failed: NoUid offends.
 pub returns-then-not-has_all_uids : goal.returns-then-not-has_all_uids
 returns-then-not-has_all_uids c =
     let draft = c.args.draft in
@@ -17,6 +18,7 @@ returns-then-not-has_all_uids c =
     in
     (short, (c.in_ok-set.set.elements, rw c.as_slice.ensures at c.in_ok-set.ensures.found, without_uids draft c.in_ok-set.set.elements uids))
 
+-- The UIDs are there, and it names another class or instance: Mismatch offends.
 pub returns-then-not-is_named_so : goal.returns-then-not-is_named_so
 returns-then-not-is_named_so c =
     let draft = c.args.draft in
@@ -29,6 +31,7 @@ returns-then-not-is_named_so c =
     in
     (short, (c.in_ok-set.set.elements, rw c.as_slice.ensures at c.in_ok-set.ensures.found, of_other_names draft c.in_ok-set.set.elements uids names))
 
+-- All tests before the note's were passed, so the fault of the note offends.
 pub returns-in_err-note : goal.returns-in_err-note
 returns-in_err-note c =
     let draft = c.args.draft in
@@ -43,6 +46,7 @@ returns-in_err-note c =
     let p = err_from_is_err_and c.from_residual-in_err-note.result c.from_residual-in_err-note.ensures.1 in
     rw (p.1, p.2) (of_a_note draft elements c.in_err-note.field-0.0 short (rw c.as_slice.ensures at c.in_ok-set.ensures.found) (of_its_names draft elements uids names) (rw c.as_slice-2.ensures at c.in_err-note.ensures))
 
+-- Every test was passed, so the parts are those of a content.
 pub invariant_of-result : goal.invariant_of-result
 invariant_of-result c =
     let draft = c.args.draft in
@@ -62,6 +66,7 @@ invariant_of-result c =
     in
     made content elements short (rw c.as_slice.ensures at c.in_ok-set.ensures.found) uids names said (c.of-values.ensures ∙ rw c.elements-elements.ensures.elements at c.in_ok-key_values.ensures)
 
+-- Every test was passed, so the outcome is this content.
 pub returns : goal.returns
 returns c =
     let draft = c.args.draft in

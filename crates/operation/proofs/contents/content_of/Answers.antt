@@ -12,10 +12,12 @@ told c =
     let e : given ≡ drafted c.args.class c.args.instance c.args.syntax c.args.body = cc in
     subst (λ (d : Draft). Tells is_memory (λ x. x) c.content_from.result (IsOutcome d)) e c.content_from.ensures
 
+-- A draft has one outcome, and the content is one.
 pub returns-clause-only : goal.returns-clause-only
 returns-clause-only c = λ content is e.
     only_outcome (drafted c.args.class c.args.instance c.args.syntax c.args.body) c.content_from.result (Ok content) (told c) (e, is)
 
+-- A draft has one outcome, and its refusal is one.
 pub returns-clause-faulty : goal.returns-clause-faulty
 returns-clause-faulty c = λ f refused.
     only_outcome (drafted c.args.class c.args.instance c.args.syntax c.args.body) c.content_from.result (Err f) (told c) refused

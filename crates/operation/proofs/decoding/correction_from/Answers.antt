@@ -5,6 +5,7 @@ use Rattle.operation.specs.Spelling.{correction_text}
 use Rattle.operation.proofs.ReadingLaws.{parts_takes, checked_spelled}
 use Rattle.operation.proofs.decoding.correction_from.Goals as goal
 
+-- The parts were taken from the front one after the other, so the text spells them.
 pub returns-clause-spelled : goal.returns-clause-spelled
 unfolding parts_at
 returns-clause-spelled c =

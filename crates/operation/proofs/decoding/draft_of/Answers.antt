@@ -24,10 +24,12 @@ same c =
     let body : front.body ≡ c.advance.new.self = sym (c.advance.ensures ∙ behind) in
     λ i. record { class = class i; instance = instance i; syntax = front.syntax; body = body i }
 
+-- The draft that was read is the one that is answered: its data set is what stands behind the rest.
 pub returns-clause-exact : goal.returns-clause-exact
 unfolding made
 returns-clause-exact c = (rw c.as_slice.ensures at c.in_ok-front.ensures.exact) ∙ ap (λ (d : Draft). Ok d) (same c)
 
+-- The text spells the draft that was read, and that is the one that is answered.
 pub returns-clause-spelled : goal.returns-clause-spelled
 unfolding made
 returns-clause-spelled c = subst (λ (d : Draft). c.args.text ≡ draft_text d) (same c) (spelled c)

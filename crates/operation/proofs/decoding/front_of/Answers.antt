@@ -4,6 +4,7 @@ use Rattle.operation.specs.Reading.{draft_at}
 use Rattle.operation.proofs.ReadingLaws.{draft_takes}
 use Rattle.operation.proofs.decoding.front_of.Goals as goal
 
+-- The parts were taken from the front one after the other, so the text spells them.
 pub returns-clause-spelled : goal.returns-clause-spelled
 unfolding draft_at
 returns-clause-spelled c =

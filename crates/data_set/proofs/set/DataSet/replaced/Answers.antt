@@ -15,6 +15,7 @@ put_together s new given tag ts us vs start lesser pushed out a b c d e f g =
     let with_new : pushed ≡ converted s (below tag ts) ++ (new ∷ []) = d ∙ ap (λ (x : List Tree). x ++ (given ∷ [])) low ∙ ap (λ (x : Tree). converted s (below tag ts) ++ (x ∷ [])) e in
     f ∙ ap (λ (x : List Tree). x ++ converted s (above tag vs)) with_new ∙ append_assoc (converted s (below tag ts)) (new ∷ []) (converted s (above tag vs)) ∙ ap (λ (x : List Tree). converted s (below tag ts) ++ (new ∷ converted s (above tag x))) g
 
+-- With the value in its place the tags ascend, and its length fits its header.
 pub of-requires : goal.of-requires
 of-requires c =
     let s = c.syntax-syntax.result in

@@ -3,6 +3,7 @@ use Rattle.std.proofs.lemmas.List.{take-append-drop, take_all, drop_all}
 use Rattle.devices.specs.Memory.{Supplied}
 use Rattle.devices.proofs.supply.SupplySource.read.Goals as goal
 
+-- What was read stands in front of what is left, and something was read where something was left.
 pub returns-clause-bytes : goal.returns-clause-bytes
 returns-clause-bytes c =
     let s = c.self.inside in

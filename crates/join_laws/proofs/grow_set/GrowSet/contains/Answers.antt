@@ -2,6 +2,7 @@ use Rattle.std.proofs.Common.{◌∙◌, sym, subst, Contains, List}
 use Rattle.std.proofs.lemmas.Map.Views.{btree_set_contains_iff}
 use Rattle.join_laws.proofs.grow_set.GrowSet.contains.Goals as goal
 
+-- The tree has a key where its list of keys has it.
 pub returns : goal.returns
 returns g c =
     let key = c.args.key.now in

@@ -3,6 +3,7 @@ use Rattle.join_laws.specs.GrowSet.{union_of}
 use Rattle.join_laws.specs.Proved.Sets.{union_of_none}
 use Rattle.join_laws.proofs.grow_set.GrowSetCopies.copy.Goals as goal
 
+-- All keys were put into a set that was empty, so they are the keys.
 pub returns : goal.returns
 returns g c =
     let keys = c.self.inside.keys in

@@ -3,6 +3,7 @@ use Rattle.operation.specs.Parts.{ContentParts}
 use Rattle.operation.specs.Contents.{IsContent}
 use Rattle.operation.proofs.content.Content.copy.Goals as goal
 
+-- A copy has the same parts, which are those of a content.
 pub invariant_of-result : goal.invariant_of-result
 invariant_of-result c =
     let old = c.self.inside in

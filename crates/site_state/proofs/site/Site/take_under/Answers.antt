@@ -1,10 +1,11 @@
 use Rattle.std.proofs.Common.{ap, sym, ◌∙◌, Some, refl, subst}
 use Rattle.std.specs.FinMap as map
-use Rattle.site_state.specs.Site.{held_at, IsSite, HasTop}
+use Rattle.site_state.specs.Site.{held_at, IsSite, HasTop, HasLawful}
 use Rattle.site_state.proofs.Maps.{one_more, one_more_is_site, found_at}
 use Rattle.site_state.proofs.Takings.{no_room}
 use Rattle.site_state.proofs.Tops.{top_taken}
 use Rattle.site_state.proofs.Indexed.{index_taken, index_kept}
+use Rattle.site_state.proofs.Lawful.{one_more_lawful}
 use Rattle.site_state.proofs.site.Site.take_under.Goals as goal
 
 pub invariant_of-self-2 : goal.invariant_of-self-2
@@ -14,6 +15,7 @@ invariant_of-self-2 c =
       one_more_is_site es fs c.args.digest c.args.op c.in_ok-take_in.ensures.held c.requires c.self.invariant.0,
       top_taken es fs c.args.digest c.args.op c.self.inside.top c.counter_of-counter.result c.max-self-inside.result c.in_ok-take_in.ensures.held c.requires c.in_default.ensures.value c.self.invariant.1 c.counter_of-counter.ensures c.max-self-inside.ensures,
       index_taken es fs c.args.digest c.args.op c.self.inside.index c.take_in.new.index c.in_ok-take_in.ensures.held c.requires c.in_default.ensures.value c.self.invariant.2 c.in_ok-take_in.ensures.indexed,
+      one_more_lawful es fs c.args.digest c.args.op c.in_ok-take_in.ensures.held c.see_lawful.ensures c.self.invariant.3,
     )
 
 -- A refusal left the tree and the index as they were.
@@ -22,6 +24,7 @@ invariant_of-self c = (
   subst IsSite (sym c.in_err-take_in.ensures.kept) c.self.invariant.0,
   subst (λ m. HasTop m c.self.inside.top) (sym c.in_err-take_in.ensures.kept) c.self.invariant.1,
   index_kept _ _ _ _ c.in_err-take_in.ensures.kept c.in_err-take_in.ensures.index_kept c.self.invariant.2,
+  subst HasLawful (sym c.in_err-take_in.ensures.kept) c.self.invariant.3,
 )
 
 -- take_in is called where nothing is held.

@@ -1,6 +1,0 @@
-use Rattle.std.proofs.Common.{◌≡◌, drop, map}
-use Rattle.archive_model.specs.Groups.{series_representative as representative}
-use Rattle.archive_model.proofs.groups.series_representative.Given as goal
-
-abbrev pub invariant-loop-content : goal.invariant-loop-content
-invariant-loop-content l = representative l.study l.series (map (λ c. c.now) (drop l.content-index l.shown)) ≡ representative l.study l.series (map (λ c. c.now) l.shown)

@@ -1,0 +1,21 @@
+use Rattle.std.proofs.Common.{List, map, ap, ◌∙◌, Bor}
+use Rattle.operation.specs.declared.content.Content.{Content}
+use Rattle.site_state.specs.Site.{ops_of}
+use Rattle.archive_query.specs.Rows.{named, rows_among}
+use Rattle.archive_query.proofs.CandidateLaws.{rows_enough}
+use Rattle.archive_query.proofs.finding.find.Goals as goal
+
+-- The candidates are enough.
+pub returns : goal.returns
+returns c =
+    let q = c.args.query.now in
+    let called = c.args.called.now in
+    let ops = ops_of c.args.site.now in
+    let content_of = λ (x : Bor Content). x.now in
+    c.in_ok-rows.ensures
+    ∙ ap (λ (xs : List (Bor Content)). rows_among ops called q (map content_of xs)) c.deref-2.ensures.value
+    ∙ ap (rows_among ops called q) (
+    c.in_ok-named.ensures
+    ∙ ap (λ (xs : List (Bor Content)). named q (map content_of xs)) c.deref.ensures.value
+    ∙ ap (named q) c.in_ok-shown.ensures.found)
+    ∙ rows_enough c.args.view called q ops c.index.result.now c.index.ensures c.see_lawful.ensures.lawful c.in_ok-uids.uids.keys c.in_ok-shown.ensures.ordered c.in_ok-uids.ensures

@@ -1,0 +1,151 @@
+//! Among which contents the answers to a query are: where it names studies, only what the index has
+//! of them is walked.
+
+ghost use Rattle.std.specs.Prelude.{◌≡◌, ◌||◌, List, ℕ, IfOk, OnOk, map};
+ghost use Rattle.std.specs.List.{find, filter_map};
+ghost use Rattle.std.specs.List.Sorted.{IsStrictlySortedBy};
+ghost use Rattle.std.specs.Option.{option_map};
+ghost use Rattle.octets.specs.Texts.{text_cmp};
+ghost use Rattle.archive_model.specs.Shown.{shown_at};
+ghost use Rattle.study_index.specs.Keys.{has};
+ghost use Rattle.study_index.specs.Live.{pick_at};
+ghost use Rattle.site_state.specs.Site.{ops_of};
+ghost use Rattle.archive_query.specs.Candidates.{is_uids as is_uids_in, is_study_key as is_study_key_in, is_of_some, is_listed, is_reached};
+
+use crate::asked::Asked;
+use crate::query::Query;
+use archive_model::View;
+use dictionary::STUDY_INSTANCE_UID;
+use key_matching::{Matching, is_universal, members_of};
+use octets::Octets;
+use operation::Content;
+use site_state::Site;
+use std::alloc::{AllocError, Global};
+use std::collections::BTreeSet;
+use study_index::{Index, ShortText};
+
+fn is_uids(matching: Matching) -> bool
+    ensures { result ≡ is_uids_in matching }
+{
+    match matching {
+        Matching::Uids => true,
+        Matching::Dates => false,
+        Matching::Times => false,
+        Matching::WildCard => false,
+        Matching::Name => false,
+        Matching::Single => false,
+        Matching::Answered => false,
+    }
+}
+
+/// Whether a key lists studies.
+fn is_study_key(asked: &Asked) -> bool
+    ensures { result ≡ is_study_key_in asked.now }
+{
+    asked.tag == STUDY_INSTANCE_UID
+        && is_uids(asked.matching)
+        && !is_universal(asked.key.as_slice())
+}
+
+/// The key of a query that lists studies, if it has one.
+fn study_key(query: &Query) -> Option<&Asked>
+    ensures { option_map (λ asked. asked.now) result ≡ find is_study_key_in query.now.asked }
+{
+    query
+        .asked
+        .as_slice()
+        .iter()
+        .find(|asked| is_study_key(asked))
+}
+
+/// Puts in what is of some studies.
+fn put_studies(
+    index: &Index,
+    studies: &[Octets],
+    uids: &mut BTreeSet<ShortText>,
+) -> Result<(), AllocError>
+    ensures { OnOk result ((uid : List ℕ) → has text_cmp uids.new.keys uid ≡
+        (has text_cmp uids.old.keys uid
+        || is_of_some studies.now (pick_at uid index.now.1.1.1))) }
+{
+    for study in studies {
+        index.put_study(&ShortText::cut(study.as_slice()), uids)?;
+    }
+    Ok(())
+}
+
+/// Puts in what is of the studies that a key lists, or of one without a name.
+fn put_listed(
+    alloc: Global,
+    index: &Index,
+    key: &[u8],
+    uids: &mut BTreeSet<ShortText>,
+) -> Result<(), AllocError>
+    ensures { OnOk result ((uid : List ℕ) → has text_cmp uids.new.keys uid ≡
+        (has text_cmp uids.old.keys uid || is_listed key.now (pick_at uid index.now.1.1.1))) }
+{
+    let studies = members_of(alloc, key)?;
+    index.put_study(&ShortText::empty(), uids)?;
+    put_studies(index, &studies, uids)?;
+    Ok(())
+}
+
+/// Puts in the candidates of a query at STUDY.
+fn put_reached(
+    alloc: Global,
+    index: &Index,
+    query: &Query,
+    uids: &mut BTreeSet<ShortText>,
+) -> Result<(), AllocError>
+    ensures { OnOk result ((uid : List ℕ) → has text_cmp uids.new.keys uid ≡
+        (has text_cmp uids.old.keys uid || is_reached query.now index.now.1.1.1 uid)) }
+{
+    if query.level.names_study() {
+        index.put_study(&ShortText::cut(query.study.as_slice()), uids)?;
+        return Ok(());
+    }
+    match study_key(query) {
+        None => {
+            index.put_all(uids)?;
+            Ok(())
+        }
+        Some(asked) => {
+            put_listed(alloc, index, asked.key.as_slice(), uids)?;
+            Ok(())
+        }
+    }
+}
+
+/// The SOP Instance UIDs of the candidates of a query, ascending.
+pub(crate) fn candidates(
+    alloc: Global,
+    index: &Index,
+    query: &Query,
+) -> Result<BTreeSet<ShortText>, AllocError>
+    ensures { IfOk result (λ uids. (uid : List ℕ) → has text_cmp uids.keys uid
+        ≡ is_reached query.now index.now.1.1.1 uid) }
+{
+    let mut uids = BTreeSet::new(alloc);
+    put_reached(alloc, index, query, &mut uids)?;
+    Ok(uids)
+}
+
+/// What a view shows of some SOP Instance UIDs.
+pub(crate) fn shown_of<'a>(
+    alloc: Global,
+    site: &'a Site,
+    view: View,
+    uids: &BTreeSet<ShortText>,
+) -> Result<Vec<&'a Content>, AllocError>
+    ensures found { IfOk result (λ found. map (λ c. c.now) found.items
+        ≡ filter_map (shown_at view (ops_of site.now)) uids.now.keys) }
+    ensures ordered { IfOk result (λ _. IsStrictlySortedBy text_cmp uids.now.keys) }
+{
+    let mut found = Vec::new(alloc);
+    for uid in uids.iter() {
+        if let Some(content) = site.shown(view, uid) {
+            found.push(content)?;
+        }
+    }
+    Ok(found)
+}

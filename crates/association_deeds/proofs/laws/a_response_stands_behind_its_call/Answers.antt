@@ -1,6 +1,0 @@
-use Rattle.association_deeds.proofs.OrderLaws.{replied}
-use Rattle.association_deeds.proofs.laws.a_response_stands_behind_its_call.Goals as goal
-
--- The lemma says it.
-pub returns : goal.returns
-returns g c = replied

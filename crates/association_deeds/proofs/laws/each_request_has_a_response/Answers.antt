@@ -1,5 +1,0 @@
-use Rattle.association_deeds.proofs.ResponseLaws.{each_has_a_response}
-use Rattle.association_deeds.proofs.laws.each_request_has_a_response.Goals as goal
-
-pub returns : goal.returns
-returns c = each_has_a_response

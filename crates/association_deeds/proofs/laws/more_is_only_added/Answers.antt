@@ -1,6 +1,0 @@
-use Rattle.association_deeds.proofs.TalkLaws.{talks_front}
-use Rattle.association_deeds.proofs.laws.more_is_only_added.Goals as goal
-
--- The lemma says it.
-pub returns : goal.returns
-returns g c = talks_front

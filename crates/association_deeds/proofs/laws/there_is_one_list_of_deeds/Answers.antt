@@ -1,6 +1,0 @@
-use Rattle.association_deeds.proofs.TalkLaws.{talks_once}
-use Rattle.association_deeds.proofs.laws.there_is_one_list_of_deeds.Goals as goal
-
--- The lemma says it.
-pub returns : goal.returns
-returns g c = talks_once

@@ -1,5 +1,0 @@
-use Rattle.std.proofs.Common.{◌≡◌, take}
-use Rattle.association_deeds.proofs.link.copies_of.Given as goal
-
-abbrev pub invariant-loop-context : goal.invariant-loop-context
-invariant-loop-context l = l.copies.items ≡ take l.context-index l.contexts

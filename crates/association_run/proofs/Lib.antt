@@ -1,0 +1,6 @@
+pub mod DidLaws
+pub mod Fronts
+pub mod HandLaws
+pub mod PieceLaws
+pub mod StepLaws
+pub mod TurnLaws

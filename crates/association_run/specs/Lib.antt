@@ -1,0 +1,9 @@
+pub mod Fault
+pub mod Hearing
+pub mod Inbox
+pub mod Output
+pub mod Parts
+pub mod Pieces
+pub mod Port
+pub mod Steps
+pub mod Turns

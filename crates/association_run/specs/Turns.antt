@@ -1,0 +1,127 @@
+-- What one turn of a run does: a read, and the piece that it may end.
+use Rattle.std.specs.Prelude.{◌≡◌, ◌≢◌, ◌<◌, ◌≤◌, ◌⊎◌, ℕ, ◌+◌, true, false, List, [], ◌++◌, length, Option, Some, None, Result, Ok, Err}
+use Rattle.std.specs.Io.KnownBytes.{Consumes, IsAtEnd}
+use Rattle.pdu.specs.Grammar.{IsUnfinished}
+use Rattle.operation.specs.declared.op.Op.{Op}
+use Rattle.ul_state.specs.declared.table.State.{State}
+use Rattle.ul_state.specs.declared.table.State.TheVariants.{Sta1, Sta13}
+use Rattle.ul_state.specs.declared.titles.Title.{Title}
+use Rattle.association_session.specs.declared.deed.Deed.{Deed}
+use Rattle.association_session.specs.declared.reply.Reply.{Reply}
+use Rattle.association_session.specs.Session.{SessionState, Takes, start, is_left}
+use Rattle.association_session.specs.Talks.{Heard}
+use Rattle.association_run.specs.declared.end.End.{End}
+use Rattle.association_run.specs.declared.fault.RunFault.{RunFault}
+use Rattle.association_run.specs.declared.piece.Piece.{Piece}
+use Rattle.association_run.specs.declared.run.Intake.{Intake}
+use Rattle.association_run.specs.declared.run.TheConstants.{MOST_DROPPED}
+use Rattle.association_run.specs.Inbox.{EMPTY}
+use Rattle.association_run.specs.Pieces.{IsPiece, Cuts, is_cut, is_whole, event_of, size_of_piece}
+use Rattle.association_run.specs.Hearing.{SETTING_OUT, counts, TakesPieces}
+use Rattle.association_run.specs.Parts.{Sides, Did}
+use Rattle.association_run.specs.Steps.{place_of, HeardWhole, HeardFront}
+use Rattle.association_run.specs.Output.{Output, FrontOfOutput, was_aborted, was_released}
+
+-- ---- what was read and not yet heard
+
+abbrev pub NOTHING_READ : Intake
+NOTHING_READ = record { inbox = EMPTY; is_cut = true; counted = 0 }
+
+-- how many bytes count, with those in hand
+abbrev pub counted_in : Intake → State → ℕ
+counted_in intake state = intake.counted + counts state (length intake.inbox.text)
+
+-- a read that brought bytes to those in hand
+abbrev pub Adds : Intake → List ℕ → Intake → Type 0
+Adds old bytes new =
+    (old.is_cut ≡ true) × (new.is_cut ≡ true) × (new.counted ≡ old.counted)
+    × (new.inbox.text ≡ old.inbox.text ++ bytes) × (new.inbox.wanted ≡ old.inbox.wanted)
+
+-- a read whose bytes were dropped, and counted
+abbrev pub Drops : Intake → List ℕ → Intake → Type 0
+Drops old bytes new =
+    (old.is_cut ≡ false) × (new.is_cut ≡ false) × (new.counted ≡ old.counted + length bytes) × (new.inbox ≡ old.inbox)
+
+pub record Reads (r0 r1 : Option (List ℕ)) (old : Intake) (count : ℕ) (new : Intake) : Type 0 where
+  pub bytes : List ℕ
+  pub read : Consumes r0 r1 bytes
+  pub long : length bytes ≡ count
+  pub end : count ≡ 0 → IsAtEnd r1
+  pub brought : Adds old bytes new ⊎ Drops old bytes new
+
+-- ---- the piece in hand
+
+-- A piece was heard, and nothing is in hand.
+pub record HearsPiece {P V : Type 0} (holds : P → Op → Type 0) (own : P → List (List ℕ)) (titles : List (Title V)) (old new : Sides P) (s : SessionState V) (before : Intake) (t : SessionState V) (after : Intake) : Type 0 where
+  pub piece : Piece
+  pub is : IsPiece piece before.inbox.text
+  pub heard : HeardWhole holds own titles old new s (event_of piece) t
+  pub counted : after.counted ≡ before.counted + counts s.association.within.state (size_of_piece piece)
+  pub cut : after.is_cut ≡ is_whole piece
+  pub empty : after.inbox ≡ EMPTY
+
+-- Nothing was heard, since no piece is whole. A header may have told how many bytes are wanted.
+abbrev pub HearsNothing : {P V : Type 0} → Sides P → Sides P → SessionState V → Intake → SessionState V → Intake → Type 0
+HearsNothing old new s before t after =
+    (new ≡ old) × (t ≡ s) × (after.is_cut ≡ before.is_cut) × (after.counted ≡ before.counted)
+    × (after.inbox.text ≡ before.inbox.text) × (length after.inbox.text < after.inbox.wanted) × IsUnfinished after.inbox.text
+
+abbrev pub TakesHand : {P V : Type 0} → (P → Op → Type 0) → (P → List (List ℕ)) → List (Title V) → Sides P → Sides P → SessionState V → Intake → SessionState V → Intake → Type 0
+TakesHand holds own titles old new s before t after = HearsNothing old new s before t after ⊎ HearsPiece holds own titles old new s before t after
+
+-- Nothing was heard for want of memory, or of a piece a front was heard.
+abbrev pub TakingBroke : {P V : Type 0} → (P → Op → Type 0) → (P → List (List ℕ)) → List (Title V) → Sides P → Sides P → SessionState V → Intake → Type 0
+TakingBroke holds own titles old new s before =
+    (new ≡ old) ⊎ ((piece : Piece) × IsPiece piece before.inbox.text × HeardFront holds own titles old new s.association (event_of piece))
+
+-- ---- turns
+
+-- a run that goes on: nothing is awaited or left, there is a connection, and a read is allowed that ends no piece that was read before
+pub record IsReady {V : Type 0} (s : SessionState V) (intake : Intake) : Type 0 where
+  pub idle : s.association.awaited ≡ None
+  pub finished : is_left s.association.within.state s.association.queue ≡ false
+  pub connected : s.association.within.state ≢ Sta1
+  pub room : counted_in intake s.association.within.state < MOST_DROPPED
+  pub short : length intake.inbox.text < intake.inbox.wanted
+  pub unfinished : IsUnfinished intake.inbox.text
+  pub dropping : intake.is_cut ≡ false → s.association.within.state ≡ Sta13
+
+-- the pieces so far are those of what was read, and the rest is in hand
+abbrev pub IsInHand : Intake → List Piece → List ℕ → ℕ → Type 0
+IsInHand intake pieces rest counted =
+    (intake.is_cut ≡ true) × (is_cut pieces ≡ true) × (rest ≡ intake.inbox.text) × (counted ≡ intake.counted)
+
+-- the rest is no longer cut, and was dropped
+abbrev pub IsDropped : Intake → State → List Piece → List ℕ → ℕ → Type 0
+IsDropped intake state pieces rest counted =
+    (intake.is_cut ≡ false) × (is_cut pieces ≡ false) × (intake.counted ≡ counted + length rest) × (intake.inbox.text ≡ []) × (state ≡ Sta13)
+
+-- all that was read, heard, and done so far, by n reads
+pub record Sofar {P V : Type 0} (holds : P → Op → Type 0) (own : P → List (List ℕ)) (titles : List (Title V)) (r0 r1 : Option (List ℕ)) (old now : Sides P) (s : SessionState V) (intake : Intake) (n : ℕ) : Type 0 where
+  pub text : List ℕ
+  pub read : Consumes r0 r1 text
+  pub many : n ≤ length text
+  pub pieces : List Piece
+  pub rest : List ℕ
+  pub counted : ℕ
+  pub cut : Cuts text pieces rest
+  pub heard : List Heard
+  pub replies : List Reply
+  pub done : List Deed
+  pub hears : TakesPieces titles SETTING_OUT pieces heard (record { place = place_of s.association; counted = counted })
+  pub takes : Takes titles start heard replies done s.association
+  pub did : Did holds own old now done [] replies
+  pub held : IsInHand intake pieces rest counted ⊎ IsDropped intake s.association.within.state pieces rest counted
+  pub within : counted_in intake s.association.within.state ≤ MOST_DROPPED
+  pub aborted : s.aborted ≡ was_aborted pieces done
+  pub released : s.released ≡ was_released done
+
+abbrev pub After : {P V : Type 0} → (P → Op → Type 0) → (P → List (List ℕ)) → List (Title V) → Option (List ℕ) → Option (List ℕ) → Sides P → Sides P → SessionState V → Intake → ℕ → Result (Option End) RunFault → Type 0
+After holds own titles r0 r1 old now s intake n (Ok None) = Sofar holds own titles r0 r1 old now s intake (n + 1)
+After holds own titles r0 r1 old now s intake n (Ok (Some end)) = Output holds own titles r0 r1 old now end
+After holds own titles r0 r1 old now s intake n (Err fault) = FrontOfOutput holds own titles r0 r1 old now
+
+-- whatever was done so far, the turn goes on with it, ends it, or breaks it off
+abbrev pub Turns : {P V : Type 0} → (P → Op → Type 0) → (P → List (List ℕ)) → List (Title V) → Option (List ℕ) → Option (List ℕ) → Sides P → Sides P → SessionState V → Intake → Result (Option End) RunFault → SessionState V → Intake → Type 0
+Turns {P = P} holds own titles r1 r2 now then s before result t after =
+    (r0 : Option (List ℕ)) (old : Sides P) (n : ℕ) → Sofar holds own titles r0 r1 old now s before n → After holds own titles r0 r2 old then t after n result

@@ -1,9 +1,0 @@
-use Rattle.std.proofs.Common.{inl}
-use Rattle.association_worker.proofs.PieceLaws.{finds}
-use Rattle.association_worker.proofs.inbox.header_piece.Goals as goal
-
-pub returns : goal.returns
-returns c =
-    let text = c.args.header.now in
-    let e = c.read_pdu.ensures in
-    rw c.piece_of.ensures (finds text c.read_pdu.result (inl c.requires) e.done e.lawful e.need.0 e.unknown_type.0 e.bad_length.0 e.bad_item e.too_long.0)

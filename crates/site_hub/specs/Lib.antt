@@ -1,0 +1,5 @@
+pub mod Fault
+pub mod History
+pub mod Hub
+pub mod Laws
+pub mod Rules

@@ -1,0 +1,191 @@
+//! The one writer of a hub.
+ghost use Rattle.std.specs.Prelude.{◌≡◌, ◌⊎◌, ◌∷◌, ◌++◌, [], Ok, Err, IfOk, IfErr, OnOk, MatchResult, true, false};
+ghost use mathlib.Core.List.{IsPrefix};
+ghost use Rattle.operation.specs.Spelling.{digest_of};
+ghost use Rattle.site_state.specs.Site.{IsClash};
+ghost use Rattle.site_hub.specs.History.{set_of, entry_of};
+ghost use Rattle.site_hub.specs.Hub.{WasHeld, HasStayed};
+
+use crate::book::{Book, Front, HubName};
+use crate::entry::{Entry, Logged};
+use crate::fault::HubFault;
+use crate::pair::{Pair, Shows};
+use crate::pass::Pass;
+use crate::snapshot::Item;
+use crate::told::Told;
+use operation::{Digested, Taken};
+use std::marker::Model;
+use std::sync::Wait;
+
+/// More entries than a history ever has.
+const MOST: u64 = 1 << 61;
+
+/// Contracts see what is published, and the whole history with what is pending behind it.
+pub struct Keeper<H: HubName, T: Shows<H>, R: Wait + Drop> {
+    pub(crate) book: Book<H>,
+    pub(crate) pair: Pair<H, T, R>,
+    // an item that the pair had no room for
+    pub(crate) late: Option<Item<H>>,
+    pub(crate) front: Front<H>,
+    pub(crate) log: Vec<Logged>,
+    pub(crate) number: u16,
+    pub(crate) passes: usize,
+}
+
+impl<H: HubName, T: Shows<H>, R: Wait + Drop> Drop for Keeper<H, T, R> {
+    fn drop(self) {
+        let Keeper {
+            book: _,
+            pair: _,
+            late: _,
+            front: _,
+            log: _,
+            number: _,
+            passes: _,
+        } = self;
+    }
+}
+
+impl<H: HubName, T: Shows<H>, R: Wait + Drop> Model for Keeper<H, T, R> {
+    ghost use Rattle.std.specs.Prelude.{◌≡◌};
+    ghost use Rattle.site_hub.specs.History.{logged_of};
+    ghost use Rattle.site_hub.specs.Hub.{Desk, IsBehind};
+
+    ghost Value = { Desk };
+
+    ghost view = { λ k. record { published = k.pair.published; all = k.front } };
+
+    ghost invariant = { λ k. IsBehind k.pair.published k.pair.reached k.late k.front
+        × (k.log.items ≡ logged_of k.front) × (k.number ≡ H.number) × (k.passes ≡ H.passes) };
+}
+
+impl<H: HubName, T: Shows<H>, R: Wait + Drop> Keeper<H, T, R> {
+    /// Publishes all. False where memory ran out: then what is published stays.
+    pub(crate) fn flush(&mut self) -> bool
+        ensures all { self.new.all ≡ self.old.all }
+        ensures shown { result ≡ true → self.new.published ≡ self.new.all }
+        ensures kept { result ≡ false → self.new.published ≡ self.old.published }
+    {
+        if let Some(item) = self.late.take() {
+            if let Err(item) = self.pair.append(item) {
+                self.late = Some(item);
+                return false;
+            }
+        }
+        self.pair.publish()
+    }
+
+    /// Whether an operation is held, or `Collision` where its digest is held with another.
+    #[tactic(auto, using(crate::proofs::Histories::clash))]
+    fn check(&self, op: &Digested) -> Result<Taken, HubFault>
+        requires { self.now.published ≡ self.now.all }
+        ensures { MatchResult result (WasHeld (set_of H.opening self.now.all) op.now)
+            (λ e. (e ≡ HubFault.Collision) × IsClash (set_of H.opening self.now.all) op.now) }
+    {
+        match self.pair.site().op(op.digest()) {
+            None => Ok(Taken::New),
+            Some(held) => {
+                if held.equals(op.op()) {
+                    return Ok(Taken::Known);
+                }
+                Err(HubFault::Collision)
+            }
+        }
+    }
+
+    /// Adds an entry for a pass and publishes it. All before it is published.
+    pub(crate) fn add(
+        &mut self,
+        pass: &mut Pass<H>,
+        op: Digested,
+        taken: Taken,
+    ) -> Result<Told<H>, HubFault>
+        requires { self.old.published ≡ self.old.all }
+        ensures told { IfOk result (λ told.
+            told ≡ record { reached = self.new.all; taken = taken }) }
+        ensures history { OnOk result (self.new.all
+            ≡ self.old.all ++ entry_of pass.old.number op ∷ []) }
+        ensures published { OnOk result (self.new.published ≡ self.new.all) }
+        ensures seen { OnOk result (pass.new.seen ≡ self.new.all) }
+        ensures older { OnOk result (IsPrefix pass.old.seen pass.new.seen) }
+        ensures mine { OnOk result (pass.new.mine ≡ pass.old.mine ++ digest_of op ∷ []) }
+        ensures number { pass.new.number ≡ pass.old.number }
+
+        ensures pending { IfErr result (λ e. e ≡ HubFault.Pending →
+            (self.new.all ≡ self.old.all ++ entry_of pass.old.number op ∷ [])
+            × (self.new.published ≡ self.old.published)
+            × (pass.new.mine ≡ pass.old.mine ++ digest_of op ∷ [])
+            × (pass.new.seen ≡ pass.old.seen)) }
+        ensures kept { IfErr result (λ e. (e ≡ HubFault.Pending)
+            ⊎ ((self.new ≡ self.old) × (pass.new ≡ pass.old))) }
+        ensures fault { IfErr result (λ e.
+            (e ≡ HubFault.Busy) ⊎ (e ≡ HubFault.Memory) ⊎ (e ≡ HubFault.Pending)) }
+    {
+        let digest = *op.digest();
+        if pass.mine.reserve(1).is_err() || self.log.reserve(1).is_err() {
+            return Err(HubFault::Memory);
+        }
+        if self.front.len() > MOST || !pass.seen.begins(&self.front) {
+            return Err(HubFault::Busy);
+        }
+        let entry = Entry {
+            pass: pass.number,
+            op,
+        };
+        let mut front = self.front.again();
+        if !front.add(&self.book, &entry) {
+            return Err(HubFault::Busy);
+        }
+        pass.mine.push_reserved(digest);
+        self.log.push_reserved(Logged {
+            pass: entry.pass,
+            digest,
+        });
+        self.late = Some(Item::new(entry, front.again()));
+        self.front = front;
+        if !self.flush() {
+            return Err(HubFault::Pending);
+        }
+        pass.seen = self.front.again();
+        Ok(Told {
+            front: self.front.again(),
+            taken,
+        })
+    }
+
+    /// Takes an operation for a pass, and publishes it with all that was pending.
+    ///
+    /// It goes to the back of the history, also where it was held before. A refusal leaves the history
+    /// and the pass as they were, save `Pending`; what was pending before may have been published.
+    pub fn take(&mut self, pass: &mut Pass<H>, op: Digested) -> Result<Told<H>, HubFault>
+        // What was taken, and where it stands.
+        ensures told { IfOk result (λ told. told.reached ≡ self.new.all) }
+        ensures taken { IfOk result (λ told.
+            WasHeld (set_of H.opening self.old.all) op told.taken) }
+        ensures history { OnOk result (self.new.all
+            ≡ self.old.all ++ entry_of pass.old.number op ∷ []) }
+        ensures published { OnOk result (self.new.published ≡ self.new.all) }
+
+        // The pass.
+        ensures seen { OnOk result (pass.new.seen ≡ self.new.all) }
+        ensures older { OnOk result (IsPrefix pass.old.seen pass.new.seen) }
+        ensures mine { OnOk result (pass.new.mine ≡ pass.old.mine ++ digest_of op ∷ []) }
+        ensures number { pass.new.number ≡ pass.old.number }
+
+        // Each fault.
+        ensures pending { IfErr result (λ e. e ≡ HubFault.Pending →
+            (self.new.all ≡ self.old.all ++ entry_of pass.old.number op ∷ [])
+            × (pass.new.mine ≡ pass.old.mine ++ digest_of op ∷ [])
+            × (pass.new.seen ≡ pass.old.seen)) }
+        ensures collision { result ≡ Err HubFault.Collision →
+            IsClash (set_of H.opening self.old.all) op }
+        ensures kept { IfErr result (λ e. (e ≡ HubFault.Pending)
+            ⊎ (HasStayed self.old self.new × (pass.new ≡ pass.old))) }
+    {
+        if !self.flush() {
+            return Err(HubFault::Memory);
+        }
+        let taken = self.check(&op)?;
+        self.add(pass, op, taken)
+    }
+}

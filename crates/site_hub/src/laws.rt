@@ -1,0 +1,11 @@
+//! What running sites answer, as contracts of functions that do nothing.
+
+ghost use Rattle.site_hub.specs.Laws.{SeenAlikeIsOneSet, SeenAlikeAnswersAlike, SeenAlikeSendsAlike};
+
+/// Two running sites whose opening sets and seen histories hold the same operations are looked at
+/// alike, whatever the order and the passes of their entries.
+pub fn running_sites_that_hold_the_same_answer_alike()
+    ensures sets { SeenAlikeIsOneSet }
+    ensures rows { SeenAlikeAnswersAlike }
+    ensures sendings { SeenAlikeSendsAlike }
+{}

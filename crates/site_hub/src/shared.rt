@@ -1,0 +1,34 @@
+//! The keeper behind a lock.
+ghost use Rattle.std.specs.Prelude.{◌≡◌, ◌⊎◌, ◌∷◌, ◌++◌, [], OnOk, IfOk, IfErr};
+ghost use Rattle.operation.specs.Spelling.{digest_of};
+ghost use Rattle.site_hub.specs.History.{entry_of, EndsWith};
+ghost use mathlib.Core.List.{IsPrefix};
+
+use crate::book::HubName;
+use crate::fault::HubFault;
+use crate::keeper::Keeper;
+use crate::pair::Shows;
+use crate::pass::Pass;
+use crate::told::Told;
+use operation::{Digested, Op};
+use std::sync::{Mutex, Wait};
+
+/// Takes an operation for a pass, in any thread. It is hashed before the lock is taken.
+pub fn store<H: HubName, T: Shows<H>, R: Wait + Drop>(
+    rt: &impl Wait,
+    keeper: &Mutex<Keeper<H, T, R>>,
+    pass: &mut Pass<H>,
+    op: Op,
+) -> Result<Told<H>, HubFault>
+    ensures told { IfOk result (λ told. told.reached ≡ pass.new.seen) }
+    ensures seen { OnOk result (EndsWith pass.new.seen (entry_of pass.old.number op)) }
+    ensures mine { OnOk result (pass.new.mine ≡ pass.old.mine ++ digest_of op ∷ []) }
+    ensures older { OnOk result (IsPrefix pass.old.seen pass.new.seen) }
+    ensures number { pass.new.number ≡ pass.old.number }
+    ensures pending { IfErr result (λ e. e ≡ HubFault.Pending →
+        (pass.new.mine ≡ pass.old.mine ++ digest_of op ∷ []) × (pass.new.seen ≡ pass.old.seen)) }
+    ensures kept { IfErr result (λ e. (e ≡ HubFault.Pending) ⊎ (pass.new ≡ pass.old)) }
+{
+    let op = Digested::of(op);
+    keeper.lock(rt).take(pass, op)
+}
