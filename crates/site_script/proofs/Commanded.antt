@@ -1,11 +1,12 @@
 -- What a line that is not too long asks for is made of data sets.
-use Rattle.std.proofs.Common.{◌≡◌, ℕ, ◌+◌, ◌-◌, ◌^◌, ◌<◌, ◌≤◌, List, [], ◌∷◌, ◌++◌, length, Bool, true, false, cond, Option, Some, None, Result, Ok, Err, IfOk, refl, sym, ap, subst, ◌∙◌, arith, map, length-append, ◌==◌}
+use Rattle.std.proofs.Common.{◌≡◌, ℕ, ◌+◌, ◌-◌, ◌^◌, ◌<◌, ◌≤◌, List, [], ◌∷◌, ◌++◌, length, codes, Bool, true, false, cond, Option, Some, None, Result, Ok, Err, IfOk, refl, sym, ap, subst, ◌∙◌, arith, map, length-append, ◌==◌}
 use Rattle.std.specs.Prelude.{not, ◌||◌, ◌&&◌, nat_lt, nat_le}
 use Rattle.std.specs.Int.{w32, from_be_bytes}
 use Rattle.std.specs.Option.{option_map}
 use Rattle.std.specs.List.{suffix_len}
 use Rattle.std.proofs.lemmas.Bool.{eqb-false, ltb-false, lt-ltb, leb-true}
 use Rattle.std.proofs.lemmas.List.{length-take}
+use Rattle.octets.specs.Padding.{trimmed}
 use Rattle.data_set.specs.declared.syntax.Syntax.TheVariants.{Implicit}
 use Rattle.data_set.specs.Tags.{is_item_tag, is_reserved_group, is_listed, is_above}
 use Rattle.data_set.specs.Tree.{trees_of}
@@ -14,17 +15,18 @@ use Rattle.operation.specs.declared.target.Target.{Target}
 use Rattle.archive_model.specs.declared.view.View.{View}
 use Rattle.site_script.specs.declared.key.Key.{Key}
 use Rattle.site_script.specs.declared.verb.Verb.{Verb}
-use Rattle.site_script.specs.declared.verb.Verb.TheVariants.{Site as verb_site, Image as verb_image, Note as verb_note, Correct as verb_correct, Find as verb_find, Same as verb_same, Flagged as verb_flagged, Other as verb_other}
+use Rattle.site_script.specs.declared.verb.Verb.TheVariants.{Site as verb_site, Image as verb_image, Note as verb_note, Correct as verb_correct, Find as verb_find, Get as verb_get, Same as verb_same, Flagged as verb_flagged, Other as verb_other}
 use Rattle.site_script.specs.declared.command.Command.{Command}
 use Rattle.site_script.specs.declared.command.Command.TheVariants.{Skip, Bad, Site}
 use Rattle.site_script.specs.Words.{a_word, words_from, words_of, uid_in}
-use Rattle.site_script.specs.Names.{digit_of, byte_from, tag_from, tag_in, view_in, is_site_name}
-use Rattle.dictionary.specs.declared.elements.TheConstants.{QUERY_RETRIEVE_LEVEL}
+use Rattle.site_script.specs.Names.{is as is_word, digit_of, byte_from, tag_from, tag_in, view_in, is_site_name}
+use Rattle.dictionary.specs.declared.elements.TheConstants.{QUERY_RETRIEVE_LEVEL, SERIES_INSTANCE_UID, SOP_INSTANCE_UID, STUDY_INSTANCE_UID}
 use Rattle.site_script.specs.Keys.{is_askable, key_from, key_in, put_key, keys_from, keys_in, and_then}
 use Rattle.site_script.specs.Sets.{key_element, identifier}
-use Rattle.site_script.specs.Commands.{command_of, command_in, asked, site_in, image_in, note_in, correct_in, correct_for, target_in, find_in, find_for, same_in, flagged_in, verb_of}
+use Rattle.site_script.specs.Commands.{command_of, command_in, asked, site_in, image_in, note_in, correct_in, correct_for, target_in, find_in, find_for, get_in, get_for, same_in, flagged_in, verb_of}
+use Rattle.site_script.specs.Retrieves.{parted, joined, first_in, behind_first, key_at, study_keys, series_keys, image_keys, named_keys}
 use Rattle.site_script.specs.Fitting.{IsShort, MakesSets}
-use Rattle.site_script.proofs.Lawful.{leaf_stands, image_lawful, note_lawful, AllShort}
+use Rattle.site_script.proofs.Lawful.{leaf_stands, image_lawful, note_lawful, AllShort, MOST}
 
 -- ---- words
 
@@ -52,6 +54,51 @@ uid_short word short = omega (arith, short, length-take (length word - suffix_le
 uids_short : (words : List (List ℕ)) → AllShort words → AllShort (map uid_in words)
 uids_short [] short = tt
 uids_short (w ∷ words) (s, more) = (uid_short w s, uids_short words more)
+
+-- how many bytes some words have, with one behind each
+abbrev weigh : List (List ℕ) → ℕ
+weigh [] = 0
+weigh (word ∷ words) = length word + 1 + weigh words
+
+weigh_more : (xs ys : List (List ℕ)) → weigh (xs ++ ys) ≡ weigh xs + weigh ys
+weigh_more [] ys = omega arith
+weigh_more (x ∷ xs) ys = omega (arith, weigh_more xs ys)
+
+weigh_word : (front : List ℕ) → weigh (a_word front) ≤ length front + 1
+weigh_word [] = omega arith
+weigh_word (b ∷ front) = omega arith
+
+weigh_by : (c : Bool) (front : List ℕ) (xs ys : List (List ℕ)) (most : ℕ) → length front + 1 + weigh xs ≤ most → weigh ys ≤ most
+    → weigh (cond c (a_word front ++ xs) ys) ≤ most
+weigh_by true front xs ys most one more = omega (arith, weigh_more (a_word front) xs, weigh_word front, one)
+weigh_by false front xs ys most one more = more
+
+-- The words of a line weigh no more than the line and its end.
+words_weigh : (front rest : List ℕ) → weigh (words_from front rest) ≤ length front + length rest + 1
+words_weigh front [] = omega (arith, weigh_word front)
+words_weigh front (b ∷ rest) =
+    weigh_by (b == 32) front (words_from [] rest) (words_from (front ++ b ∷ []) rest) (length front + length (b ∷ rest) + 1)
+    (omega (arith, words_weigh [] rest)) (omega (arith, words_weigh (front ++ b ∷ []) rest, length-append front (b ∷ [])))
+
+uids_weigh : (words : List (List ℕ)) → weigh (map uid_in words) ≤ weigh words
+uids_weigh [] = omega arith
+uids_weigh (w ∷ words) = omega (arith, uids_weigh words, length-take (length w - suffix_len (λ b. b == 0) w) w)
+
+parted_weighs : (uids : List (List ℕ)) → length (parted uids) ≤ weigh uids
+parted_weighs [] = omega arith
+parted_weighs (u ∷ uids) = omega (arith, parted_weighs uids, length-append (92 ∷ u) (parted uids))
+
+joined_weighs : (uids : List (List ℕ)) → length (joined uids) ≤ weigh uids
+joined_weighs [] = omega arith
+joined_weighs (u ∷ uids) = omega (arith, parted_weighs uids, length-append u (parted uids))
+
+first_weighs : (uids : List (List ℕ)) → length (first_in uids) ≤ weigh uids
+first_weighs [] = omega arith
+first_weighs (u ∷ uids) = omega arith
+
+behind_weighs : (uids : List (List ℕ)) → weigh (behind_first uids) ≤ weigh uids
+behind_weighs [] = omega arith
+behind_weighs (u ∷ uids) = omega arith
 
 -- ---- tags
 
@@ -109,7 +156,7 @@ eight_small a b c d e f g h =
 
 pub record Fine (key : Key) : Type 0 where
   pub tag : key.tag < 2 ^ 32
-  pub value : length key.value ≤ 65536
+  pub value : length key.value ≤ MOST
   pub item : is_item_tag key.tag ≡ false
   pub reserved : is_reserved_group key.tag ≡ false
   pub listed : is_listed key.tag ≡ false
@@ -129,7 +176,7 @@ askable_fine : (tag : ℕ) (value : List ℕ) → tag < 2 ^ 32 → length value 
 unfolding is_askable
 askable_fine tag value fits short e =
     let tests = by_tests (tag == QUERY_RETRIEVE_LEVEL) (is_listed tag) (is_reserved_group tag) (is_item_tag tag) e in
-    record { tag = fits; value = short; item = tests.2; reserved = tests.1; listed = tests.0 }
+    record { tag = fits; value = omega (arith, short); item = tests.2; reserved = tests.1; listed = tests.0 }
 
 by_askable : (b : Bool) (tag : ℕ) (value : List ℕ) → is_askable tag ≡ b → tag < 2 ^ 32 → length value ≤ 65536 → IsFine (cond b (Some (record { tag = tag; value = value })) None)
 by_askable true tag value e fits short = askable_fine tag value fits short e
@@ -207,7 +254,7 @@ unfolding IsSet identifier
 keys_lawful keys are = keys_stand 16 None keys are
 
 level_fine : (level : List ℕ) → length level ≤ 65536 → AreKeys None (record { tag = QUERY_RETRIEVE_LEVEL; value = level } ∷ [])
-level_fine level short = (refl, record { tag = omega arith; value = short; item = refl; reserved = refl; listed = refl }, tt)
+level_fine level short = (refl, record { tag = omega arith; value = omega (arith, short); item = refl; reserved = refl; listed = refl }, tt)
 
 -- ---- commands
 
@@ -215,6 +262,51 @@ find_lawful : (site : List ℕ) (view : Option View) (keys : Option (List Key)) 
 find_lawful site None keys kept = tt
 find_lawful site (Some view) None kept = tt
 find_lawful site (Some view) (Some keys) kept = keys_lawful keys kept
+
+-- a key of a level or of UIDs
+named_fine : (tag : ℕ) (value : List ℕ) → tag < 2 ^ 32 → length value ≤ 65600 → is_item_tag tag ≡ false → is_reserved_group tag ≡ false → is_listed tag ≡ false → Fine (key_at tag value)
+named_fine tag value fits short item reserved listed = record { tag = fits; value = short; item = item; reserved = reserved; listed = listed }
+
+by_level : (is_series is_image : Bool) (level : List ℕ) (uids : List (List ℕ)) → length level ≤ 65600 → weigh uids ≤ 65600
+    → AreKeys None (cond is_series (series_keys level uids) (cond is_image (image_keys level uids) (study_keys level uids)))
+by_level true is_image level uids short few = (
+  refl,
+  named_fine QUERY_RETRIEVE_LEVEL level (omega arith) short refl refl refl,
+  (
+    refl,
+    named_fine STUDY_INSTANCE_UID (first_in uids) (omega arith) (omega (arith, few, first_weighs uids)) refl refl refl,
+    (
+      refl,
+      named_fine SERIES_INSTANCE_UID (joined (behind_first uids)) (omega arith) (omega (arith, few, behind_weighs uids, joined_weighs (behind_first uids))) refl refl refl,
+      tt,
+    ),
+  ),
+)
+by_level false true level uids short few =
+    let below = behind_first uids in (
+      refl,
+      named_fine SOP_INSTANCE_UID (joined (behind_first below)) (omega arith) (omega (arith, few, behind_weighs uids, behind_weighs below, joined_weighs (behind_first below))) refl refl refl,
+      (
+        refl,
+        named_fine QUERY_RETRIEVE_LEVEL level (omega arith) short refl refl refl,
+        (
+          refl,
+          named_fine STUDY_INSTANCE_UID (first_in uids) (omega arith) (omega (arith, few, first_weighs uids)) refl refl refl,
+          (refl, named_fine SERIES_INSTANCE_UID (first_in below) (omega arith) (omega (arith, few, behind_weighs uids, first_weighs below)) refl refl refl, tt),
+        ),
+      ),
+    )
+by_level false false level uids short few = (
+  refl,
+  named_fine QUERY_RETRIEVE_LEVEL level (omega arith) short refl refl refl,
+  (refl, named_fine STUDY_INSTANCE_UID (joined uids) (omega arith) (omega (arith, few, joined_weighs uids)) refl refl refl, tt),
+)
+
+get_lawful : (site : List ℕ) (view : Option View) (level : List ℕ) (uids : List (List ℕ)) → length level ≤ 65600 → weigh uids ≤ 65600 → MakesSets (get_for site view level uids)
+unfolding named_keys
+get_lawful site None level uids short few = tt
+get_lawful site (Some view) level uids short few =
+    keys_lawful (named_keys level uids) (by_level (is_word (trimmed level) (codes "SERIES")) (is_word (trimmed level) (codes "IMAGE")) level uids short few)
 
 correct_lawful : (site : List ℕ) (target : Option Target) (tag : Option ℕ) (value : List ℕ) → MakesSets (correct_for site target tag value)
 correct_lawful site None tag value = tt
@@ -265,6 +357,14 @@ find_words (a ∷ []) s = tt
 find_words (a ∷ b ∷ []) s = tt
 find_words (a ∷ b ∷ c ∷ words) s = find_lawful a (view_in b) (keys_in c words) (keys_keep _ words (level_fine c s.1.1.0) s.1.1.1)
 
+get_words : (words : List (List ℕ)) → weigh words ≤ 65537 → MakesSets (get_in words)
+get_words [] few = tt
+get_words (a ∷ []) few = tt
+get_words (a ∷ b ∷ []) few = tt
+get_words (a ∷ b ∷ c ∷ []) few = tt
+get_words (a ∷ b ∷ c ∷ d ∷ words) few =
+    get_lawful a (view_in b) c (map uid_in (d ∷ words)) (omega (arith, few)) (omega (arith, few, uids_weigh (d ∷ words)))
+
 same_words : (words : List (List ℕ)) → MakesSets (same_in words)
 same_words [] = tt
 same_words (a ∷ []) = tt
@@ -276,19 +376,24 @@ flagged_words [] = tt
 flagged_words (a ∷ []) = tt
 flagged_words (a ∷ b ∷ words) = tt
 
-asked_lawful : (verb : Verb) (words : List (List ℕ)) → AllShort words → MakesSets (asked verb words)
-asked_lawful verb_site words s = site_lawful words
-asked_lawful verb_image words s = image_words words s
-asked_lawful verb_note words s = note_words words s
-asked_lawful verb_correct words s = correct_words words
-asked_lawful verb_find words s = find_words words s
-asked_lawful verb_same words s = same_words words
-asked_lawful verb_flagged words s = flagged_words words
-asked_lawful verb_other words s = tt
+asked_lawful : (verb : Verb) (words : List (List ℕ)) → AllShort words → weigh words ≤ 65537 → MakesSets (asked verb words)
+asked_lawful verb_site words s few = site_lawful words
+asked_lawful verb_image words s few = image_words words s
+asked_lawful verb_note words s few = note_words words s
+asked_lawful verb_correct words s few = correct_words words
+asked_lawful verb_find words s few = find_words words s
+asked_lawful verb_get words s few = get_words words few
+asked_lawful verb_same words s few = same_words words
+asked_lawful verb_flagged words s few = flagged_words words
+asked_lawful verb_other words s few = tt
 
-words_lawful : (words : List (List ℕ)) → AllShort words → MakesSets (command_in words)
-words_lawful [] s = tt
-words_lawful (word ∷ words) s = asked_lawful (verb_of word) words s.1
+words_lawful : (words : List (List ℕ)) → AllShort words → weigh words ≤ 65537 → MakesSets (command_in words)
+words_lawful [] s few = tt
+words_lawful (word ∷ words) s few = asked_lawful (verb_of word) words s.1 (omega (arith, few))
+
+line_lawful : (line : List ℕ) → IsShort line → MakesSets (command_in (words_of line))
+line_lawful line short =
+    words_lawful (words_of line) (words_short [] line (omega (arith, short))) (omega (arith, short, words_weigh [] line))
 
 by_comment : (b : Bool) (line : List ℕ) → MakesSets (command_in (words_of line)) → MakesSets (cond b Skip (command_in (words_of line)))
 by_comment true line lawful = tt
@@ -296,9 +401,9 @@ by_comment false line lawful = lawful
 
 pub command_lawful : (line : List ℕ) → IsShort line → MakesSets (command_of line)
 command_lawful [] short = tt
-command_lawful (b ∷ line) short = by_comment (b == 35) (b ∷ line) (words_lawful (words_of (b ∷ line)) (words_short [] (b ∷ line) (omega (arith, short))))
+command_lawful (b ∷ line) short = by_comment (b == 35) (b ∷ line) (line_lawful (b ∷ line) short)
 
 -- what is read of the words of a line that is not too long
 pub read_lawful : {E : Type 0} (line : List ℕ) (words slice : List (List ℕ)) (r : Result Command E) → slice ≡ words → words ≡ words_of line → IfOk r (λ command. command ≡ command_in slice) → IsShort line → IfOk r MakesSets
-read_lawful line words slice (Ok command) whole are is short = subst MakesSets (sym (is ∙ ap command_in (whole ∙ are))) (words_lawful (words_of line) (words_short [] line (omega (arith, short))))
+read_lawful line words slice (Ok command) whole are is short = subst MakesSets (sym (is ∙ ap command_in (whole ∙ are))) (line_lawful line short)
 read_lawful line words slice (Err fault) whole are is short = tt

@@ -5,13 +5,14 @@ use Rattle.operation.specs.declared.target.Target.TheVariants.{Study, Patient, S
 use Rattle.archive_model.specs.declared.view.View.{View}
 use Rattle.site_script.specs.declared.key.Key.{Key}
 use Rattle.site_script.specs.declared.verb.Verb.{Verb}
-use Rattle.site_script.specs.declared.verb.Verb.TheVariants.{Site as verb_site, Image as verb_image, Note as verb_note, Correct as verb_correct, Find as verb_find, Same as verb_same, Flagged as verb_flagged, Other as verb_other}
+use Rattle.site_script.specs.declared.verb.Verb.TheVariants.{Site as verb_site, Image as verb_image, Note as verb_note, Correct as verb_correct, Find as verb_find, Get as verb_get, Same as verb_same, Flagged as verb_flagged, Other as verb_other}
 use Rattle.site_script.specs.declared.command.Command.{Command}
 use Rattle.site_script.specs.declared.command.ImageLine.{ImageLine}
-use Rattle.site_script.specs.declared.command.Command.TheVariants.{Skip, Bad, Site, Image, Note, Correct, Find, Same, Flagged}
+use Rattle.site_script.specs.declared.command.Command.TheVariants.{Skip, Bad, Site, Image, Note, Correct, Find, Get, Same, Flagged}
 use Rattle.site_script.specs.Words.{words_of, uid_in}
 use Rattle.site_script.specs.Names.{is, is_site_name, tag_in, view_in}
 use Rattle.site_script.specs.Keys.{keys_in}
+use Rattle.site_script.specs.Retrieves.{named_keys}
 
 -- the first word of a line
 unfoldable pub verb_of : List ℕ → Verb
@@ -21,6 +22,7 @@ verb_of word =
     else if is word (codes "note") then verb_note
     else if is word (codes "correct") then verb_correct
     else if is word (codes "find") then verb_find
+    else if is word (codes "get") then verb_get
     else if is word (codes "same") then verb_same
     else if is word (codes "flagged") then verb_flagged
     else verb_other
@@ -71,6 +73,15 @@ abbrev pub find_in : List (List ℕ) → Command
 find_in (site ∷ view ∷ level ∷ keys) = find_for site (view_in view) (keys_in level keys)
 find_in _ = Bad
 
+abbrev pub get_for : List ℕ → Option View → List ℕ → List (List ℕ) → Command
+get_for site (Some view) level uids = Get (record { site = site; view = view; keys = named_keys level uids })
+get_for site None level uids = Bad
+
+-- get A VIEW LEVEL UID..
+abbrev pub get_in : List (List ℕ) → Command
+get_in (site ∷ view ∷ level ∷ uid ∷ uids) = get_for site (view_in view) level (map uid_in (uid ∷ uids))
+get_in _ = Bad
+
 -- same A B
 abbrev pub same_in : List (List ℕ) → Command
 same_in (a ∷ b ∷ []) = Same a b
@@ -88,6 +99,7 @@ asked verb_image words = image_in words
 asked verb_note words = note_in words
 asked verb_correct words = correct_in words
 asked verb_find words = find_in words
+asked verb_get words = get_in words
 asked verb_same words = same_in words
 asked verb_flagged words = flagged_in words
 asked verb_other words = Bad

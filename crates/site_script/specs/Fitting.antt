@@ -3,7 +3,7 @@ use Rattle.std.specs.Prelude.{ℕ, ◌≤◌, List, length}
 use Rattle.data_set.specs.declared.syntax.Syntax.TheVariants.{Implicit}
 use Rattle.data_set.specs.Written.{IsSet}
 use Rattle.site_script.specs.declared.command.Command.{Command}
-use Rattle.site_script.specs.declared.command.Command.TheVariants.{Skip, Bad, Site, Image, Note, Correct, Find, Same, Flagged}
+use Rattle.site_script.specs.declared.command.Command.TheVariants.{Skip, Bad, Site, Image, Note, Correct, Find, Get, Same, Flagged}
 use Rattle.site_script.specs.Sets.{image_elements, note_elements, identifier}
 
 -- the most bytes of a line
@@ -22,5 +22,6 @@ MakesSets (Image line) = IsSet Implicit (image_elements line)
 MakesSets (Note line) = IsSet Implicit (note_elements line)
 MakesSets (Correct line) = Unit {0}
 MakesSets (Find line) = IsSet Implicit (identifier line.keys)
+MakesSets (Get line) = IsSet Implicit (identifier line.keys)
 MakesSets (Same a b) = Unit {0}
 MakesSets (Flagged site) = Unit {0}

@@ -2,10 +2,11 @@
 
 ghost use Rattle.std.specs.Prelude.{◌≡◌, IfOk};
 ghost use Rattle.site_script.specs.Fitting.{IsShort, MakesSets};
-ghost use Rattle.site_script.specs.Commands.{site_in as site_in_words, image_in as image_in_words, image_parts, note_in as note_in_words, correct_in as correct_in_words, find_in as find_in_words, same_in as same_in_words, flagged_in as flagged_in_words, asked as asked_by, command_in as command_in_words, command_of as command_of_line};
+ghost use Rattle.site_script.specs.Commands.{site_in as site_in_words, image_in as image_in_words, image_parts, note_in as note_in_words, correct_in as correct_in_words, find_in as find_in_words, get_in as get_in_words, same_in as same_in_words, flagged_in as flagged_in_words, asked as asked_by, command_in as command_in_words, command_of as command_of_line};
 
 use crate::key::{Key, keys_in};
 use crate::name::{is_site_name, target_in, view_in};
+use crate::retrieve::named_keys;
 use crate::tag::tag_in;
 use crate::verb::{Verb, verb_of};
 use crate::word::{uid_in, uids_in, words_of};
@@ -53,6 +54,15 @@ pub struct FindLine {
     pub keys: ListOf<Key>,
 }
 
+/// The selection that a `get` line asks for, and the site that answers.
+#[derive(Debug, Drop)]
+pub struct GetLine {
+    pub site: Octets,
+    pub view: View,
+    /// The level and the UIDs that are named, ascending by tag.
+    pub keys: ListOf<Key>,
+}
+
 /// What a line asks for.
 #[derive(Debug, Drop)]
 pub enum Command {
@@ -65,6 +75,7 @@ pub enum Command {
     Note(NoteLine),
     Correct(CorrectLine),
     Find(FindLine),
+    Get(GetLine),
     Same(Octets, Octets),
     Flagged(Octets),
 }
@@ -180,6 +191,28 @@ fn find_in(alloc: Global, words: &[Octets]) -> Result<Command, AllocError>
     }
 }
 
+fn get_in(alloc: Global, words: &[Octets]) -> Result<Command, AllocError>
+    ensures { IfOk result (λ command. command ≡ get_in_words words.now) }
+{
+    match words {
+        [site, view, level, uids @ ..] => {
+            if uids.is_empty() {
+                return Ok(Command::Bad);
+            }
+            let Some(view) = view_in(view.as_slice()) else {
+                return Ok(Command::Bad);
+            };
+            let uids = uids_in(alloc, uids)?;
+            Ok(Command::Get(GetLine {
+                site: site.copy(alloc)?,
+                view,
+                keys: ListOf::of(named_keys(alloc, level, uids.as_slice())?),
+            }))
+        }
+        _ => Ok(Command::Bad),
+    }
+}
+
 fn same_in(alloc: Global, words: &[Octets]) -> Result<Command, AllocError>
     ensures { IfOk result (λ command. command ≡ same_in_words words.now) }
 {
@@ -208,6 +241,7 @@ fn asked(alloc: Global, verb: Verb, words: &[Octets]) -> Result<Command, AllocEr
         Verb::Note => note_in(alloc, words),
         Verb::Correct => correct_in(alloc, words),
         Verb::Find => find_in(alloc, words),
+        Verb::Get => get_in(alloc, words),
         Verb::Same => same_in(alloc, words),
         Verb::Flagged => flagged_in(alloc, words),
         Verb::Other => Ok(Command::Bad),

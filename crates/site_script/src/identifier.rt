@@ -1,4 +1,5 @@
-//! The identifiers of the queries that a script asks (PS3.4, section C.4.1.1.3).
+//! The identifiers of the queries and selections that a script asks for (PS3.4, sections C.4.1.1.3
+//! and C.4.3.1.3).
 
 ghost use Rattle.std.specs.Prelude.{◌≡◌, IfOk};
 ghost use Rattle.octets.specs.Gives.{Gives};
@@ -22,7 +23,7 @@ fn key_element(alloc: Global, key: &Key) -> Result<Element, AllocError>
 
 /// The elements of the keys.
 #[tactic(auto, unfolding(crate::specs::Sets::identifier))]
-fn identifier(alloc: Global, keys: &[Key]) -> Result<Vec<Element>, AllocError>
+pub fn identifier(alloc: Global, keys: &[Key]) -> Result<Vec<Element>, AllocError>
     ensures { IfOk result (λ elements. elements.items ≡ identifier_of keys.now) }
 {
     let mut elements = Vec::with_capacity(alloc, keys.len())?;

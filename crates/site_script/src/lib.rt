@@ -1,4 +1,5 @@
-//! What the lines of a script ask for, and the contents and queries that they make.
+//! What the lines of a script ask for, and the contents, queries and selections that they
+//! make.
 //!
 //! A line is read without a site: its words say a command, and nothing here knows what a site holds
 //! or which names are taken.
@@ -9,6 +10,7 @@ mod identifier;
 mod key;
 mod laws;
 mod name;
+mod retrieve;
 mod sets;
 mod tag;
 #[cfg(test)]
@@ -16,8 +18,9 @@ mod tests;
 mod verb;
 mod word;
 
-pub use command::{Command, CorrectLine, FindLine, ImageLine, NoteLine, command_of};
+pub use command::{Command, CorrectLine, FindLine, GetLine, ImageLine, NoteLine, command_of};
 pub use identifier::query_in;
 pub use key::Key;
 pub use laws::words_are_parted_by_spaces;
+pub use retrieve::{script_accepts, selection_in};
 pub use sets::{image_content, note_content};

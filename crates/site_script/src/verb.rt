@@ -11,6 +11,7 @@ pub enum Verb {
     Note,
     Correct,
     Find,
+    Get,
     Same,
     Flagged,
     /// Any other word.
@@ -36,6 +37,9 @@ pub fn verb_of(word: &[u8]) -> Verb
     }
     if word == b"find".as_slice() {
         return Verb::Find;
+    }
+    if word == b"get".as_slice() {
+        return Verb::Get;
     }
     if word == b"same".as_slice() {
         return Verb::Same;

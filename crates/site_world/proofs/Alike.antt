@@ -11,17 +11,21 @@ use Rattle.archive_model.specs.Members.{Has, SameMembers}
 use Rattle.archive_model.specs.declared.view.View.{View}
 use Rattle.archive_query.specs.declared.query.Query.{Query}
 use Rattle.archive_query.specs.Rows.{rows_of}
+use Rattle.archive_retrieve.specs.declared.accepts.Accepts.{Accepts}
+use Rattle.archive_retrieve.specs.declared.selection.Selection.{Selection}
+use Rattle.archive_retrieve.specs.declared.sending.Sending.{Sending}
+use Rattle.archive_retrieve.specs.Sending.{sendings_of}
 use Rattle.site_state.specs.Site.{Map, ops_of}
 use Rattle.site_state.specs.Laws.{holding}
 use Rattle.site_state.proofs.Same.{equal_maps}
 use Rattle.site_world.specs.declared.fault.WorldFault.{WorldFault}
 use Rattle.site_world.specs.declared.step.Step.{Step}
-use Rattle.site_world.specs.declared.step.Step.TheVariants.{Look}
+use Rattle.site_world.specs.declared.step.Step.TheVariants.{Look, Get}
 use Rattle.site_world.specs.declared.step.Seen.{Seen}
-use Rattle.site_world.specs.declared.step.Seen.TheVariants.{Rows}
-use Rattle.site_world.specs.Steps.{site_at, title_of, on_site, told_of_looking, Happens}
-use Rattle.site_world.specs.Runs.{Run, taken_at, taken_before, IsLook, LooksAreRows, Outcome, IsNew, AnswerAlike}
-use Rattle.site_world.specs.Runs.{SitesAreAlike, LooksAreAlike, Headline}
+use Rattle.site_world.specs.declared.step.Seen.TheVariants.{Rows, Sent}
+use Rattle.site_world.specs.Steps.{site_at, site_of, title_of, on_site, told_at, Happens}
+use Rattle.site_world.specs.Runs.{Run, taken_at, taken_before, IsLook, LooksAreRows, GetsAreSendings, Outcome, IsNew, AnswerAlike}
+use Rattle.site_world.specs.Runs.{SitesAreAlike, LooksAreAlike, GetsAreAlike, Headline}
 use Rattle.site_world.specs.Headline.{SiteOf, SameTakenSameMaps, SameTakenSameAnswers, TimeIsFree, TakenAreApart}
 use Rattle.site_world.proofs.Taken.{run_took}
 use Rattle.site_world.proofs.Fitting.{Fits, run_fits, fits_apart}
@@ -49,24 +53,53 @@ before old new (s ∷ steps) (a ∷ answers) (suc i) step answer (mid, first, re
     let later = before mid new steps answers i step answer rest at told in
     (later.0, later.1, (mid, first, later.2), later.3)
 
-ok_rows : (rows others : List Set) (r : Result Seen WorldFault) → Ok (Rows rows) ≡ r → r ≡ Ok (Rows others) →
-    rows ≡ others
-ok_rows rows others r e f = let g = e ∙ f in cc
+ok_is : (x y : Seen) (r : Result Seen WorldFault) → Ok x ≡ r → r ≡ Ok y → x ≡ y
+ok_is x y r e f = let g = e ∙ f in cc
 
--- A look at a site is answered the rows of what the site holds.
-look_rows : (mid next : List Map) (n : ℕ) (view : View) (query : Query) (rows : List Set) (m : Map)
-    → Happens mid (Look n view query) (Ok (Rows rows)) next → site_at mid n ≡ Some m →
-    rows ≡ rows_of view (title_of view) query (ops_of m)
-look_rows mid next n view query rows m happens at =
-    ok_rows rows _ _ happens.0 (ap (λ r. (on_site r (λ x. told_of_looking x view query)).0) at)
+-- a step that asks a site and brings nothing there
+abbrev Asks : Step → (Map → Seen) → Type 0
+Asks step seen = (m : Map) → (told_at m step).0 ≡ Ok (seen m)
+
+-- It is answered what the site says of what it holds.
+seen_here : (mid next : List Map) (step : Step) (seen : Map → Seen) (answer : Seen) (m : Map) → Asks step seen
+    → Happens mid step (Ok answer) next → site_at mid (site_of step) ≡ Some m → answer ≡ seen m
+seen_here mid next step seen answer m asks happens at =
+    ok_is answer (seen m) _ happens.0 (ap (λ r. (on_site r (λ x. told_at x step)).0) at ∙ asks m)
+
+-- And its site has what was taken there before.
+seen_before : (old new : List Map) (steps : List Step) (answers : List (Result Seen WorldFault)) (i : ℕ) (step : Step)
+    (seen : Map → Seen) (answer : Seen) (m : Map) → Run old steps answers new → Asks step seen
+    → slice_get steps i ≡ Some step → slice_get answers i ≡ Some (Ok answer) → site_at old (site_of step) ≡ Some m
+    → answer ≡ seen (holding m (taken_before i (site_of step) steps answers))
+seen_before old new steps answers i step seen answer m run asks is told at =
+    let here = before old new steps answers i step (Ok answer) run is told in
+    seen_here here.0 here.1 step seen answer _ asks here.3
+    (run_took old here.0 (take i steps) (take i answers) here.2 (site_of step)
+    ∙ ap (option_map (λ x. holding x (taken_before i (site_of step) steps answers))) at)
+
+rows_are : (rows others : List Set) → Rows rows ≡ Rows others → rows ≡ others
+rows_are rows others e = cc
+
+sent_are : (sendings others : List Sending) → Sent sendings ≡ Sent others → sendings ≡ others
+sent_are sendings others e = cc
+
+abbrev rows_seen : View → Query → Map → Seen
+rows_seen view query m = Rows (rows_of view (title_of view) query (ops_of m))
+
+abbrev sent_seen : View → Selection → Accepts → Map → Seen
+sent_seen view selection accepts m = Sent (sendings_of view selection accepts (ops_of m))
 
 pub looks_are_rows : (old new : List Map) (steps : List Step) (answers : List (Result Seen WorldFault)) →
     Run old steps answers new → LooksAreRows old steps answers
 looks_are_rows old new steps answers run i n m view query rows look at =
-    let here = before old new steps answers i (Look n view query) (Ok (Rows rows)) run look.0 look.1 in
-    look_rows here.0 here.1 n view query rows _ here.3
-    (run_took old here.0 (take i steps) (take i answers) here.2 n
-    ∙ ap (option_map (λ x. holding x (taken_before i n steps answers))) at)
+    rows_are rows _ (seen_before old new steps answers i (Look n view query) (rows_seen view query) (Rows rows) m run
+    (λ x. refl) look.0 look.1 at)
+
+pub gets_are_sendings : (old new : List Map) (steps : List Step) (answers : List (Result Seen WorldFault)) →
+    Run old steps answers new → GetsAreSendings old steps answers
+gets_are_sendings old new steps answers run i n m view selection accepts sendings got at =
+    sent_are sendings _ (seen_before old new steps answers i (Get n view selection accepts) (sent_seen view selection
+    accepts) (Sent sendings) m run (λ x. refl) got.0 got.1 at)
 
 -- What a run comes to.
 pub outcome : (old new : List Map) (steps : List Step) (answers : List (Result Seen WorldFault)) →
@@ -75,6 +108,7 @@ outcome old new steps answers run = record {
   answered = run;
   taken = run_took old new steps answers run;
   looks = looks_are_rows old new steps answers run;
+  gets = gets_are_sendings old new steps answers run;
 }
 
 -- ---- new worlds
@@ -113,7 +147,10 @@ same_took : (a b : Map) (xs ys : List Op) → Took a xs → Took b ys → SameMe
 same_took a b xs ys p q same = p.0 ∙ equal_maps xs ys (same, fits_apart empty xs p.1) ∙ sym q.0
 
 pub answer_alike : (a b : Map) → a ≡ b → AnswerAlike a b
-answer_alike a b e view called query = ap (λ m. rows_of view called query (ops_of m)) e
+answer_alike a b e = record {
+  rows = λ view called query. ap (λ m. rows_of view called query (ops_of m)) e;
+  sendings = λ view selection accepts. ap (λ m. sendings_of view selection accepts (ops_of m)) e;
+}
 
 -- ---- laws over runs
 
@@ -165,30 +202,45 @@ module _ (old new : List Map) (steps : List Step) (answers : List (Result Seen W
       let e = same_took a b _ _ p q same in
       (e, answer_alike a b e)
 
-  rows_at : (i n : ℕ) (view : View) (query : Query) (rows : List Set) → IsLook steps answers i n view query rows
-      → (a : Map) × Took a (taken_before i n steps answers) × (rows ≡ rows_of view (title_of view) query (ops_of a))
-  rows_at i n view query rows look =
-      let here = before old new steps answers i (Look n view query) (Ok (Rows rows)) run look.0 look.1 in
-      by_held here (site_at here.0 n) refl
+  -- a step that asks was answered over a site that holds what was taken there before
+  answer_at : (i : ℕ) (step : Step) (seen : Map → Seen) (answer : Seen) → Asks step seen
+      → slice_get steps i ≡ Some step → slice_get answers i ≡ Some (Ok answer)
+      → (a : Map) × Took a (taken_before i (site_of step) steps answers) × (answer ≡ seen a)
+  answer_at i step seen answer asks is told =
+      let here = before old new steps answers i step (Ok answer) run is told in
+      by_held here (site_at here.0 (site_of step)) refl
     where
       by_held : (here : (mid : List Map) × (next : List Map) × Run old (take i steps) (take i answers) mid
-          × Happens mid (Look n view query) (Ok (Rows rows)) next)
-          (r : Option Map) → site_at here.0 n ≡ r → (a : Map) × Took a (taken_before i n steps answers)
-          × (rows ≡ rows_of view (title_of view) query (ops_of a))
-      by_held here None at = absurd (let e = here.3.0 ∙ ap (λ r. (on_site r
-          (λ x. told_of_looking x view query)).0) at in cc)
+          × Happens mid step (Ok answer) next) (r : Option Map) → site_at here.0 (site_of step) ≡ r
+          → (a : Map) × Took a (taken_before i (site_of step) steps answers) × (answer ≡ seen a)
+      by_held here None at = absurd (let e = here.3.0 ∙ ap (λ r. (on_site r (λ x. told_at x step)).0) at in cc)
       by_held here (Some a) at = (
         a,
-        by_site old here.0 (take i steps) (take i answers) n a _ (nothing n) refl here.2 at,
-        look_rows here.0
-            here.1 n view query rows a here.3 at,
+        by_site old here.0 (take i steps) (take i answers) (site_of step) a _ (nothing (site_of step)) refl here.2 at,
+        seen_here here.0 here.1 step seen answer a asks here.3 at,
       )
+
+  -- Two that ask the same, where the same was taken before, are answered alike.
+  answers_alike : (i j : ℕ) (step other : Step) (seen : Map → Seen) (answer second : Seen) → Asks step seen → Asks other seen
+      → slice_get steps i ≡ Some step → slice_get answers i ≡ Some (Ok answer)
+      → slice_get steps j ≡ Some other → slice_get answers j ≡ Some (Ok second)
+      → SameMembers (taken_before i (site_of step) steps answers) (taken_before j (site_of other) steps answers)
+      → answer ≡ second
+  answers_alike i j step other seen answer second asks asks' is told is' told' same =
+      let p = answer_at i step seen answer asks is told in
+      let q = answer_at j other seen second asks' is' told' in
+      p.2 ∙ ap seen (same_took p.0 q.0 _ _ p.1 q.1 same) ∙ sym q.2
 
   looks_alike : LooksAreAlike steps answers
   looks_alike i j m n view query rows others one other same =
-      let p = rows_at i m view query rows one in
-      let q = rows_at j n view query others other in
-      p.2 ∙ answer_alike p.0 q.0 (same_took p.0 q.0 _ _ p.1 q.1 same) view (title_of view) query ∙ sym q.2
+      rows_are rows others (answers_alike i j (Look m view query) (Look n view query) (rows_seen view query) (Rows rows)
+      (Rows others) (λ x. refl) (λ x. refl) one.0 one.1 other.0 other.1 same)
+
+  gets_alike : GetsAreAlike steps answers
+  gets_alike i j m n view selection accepts sendings others one other same =
+      sent_are sendings others (answers_alike i j (Get m view selection accepts) (Get n view selection accepts)
+      (sent_seen view selection accepts) (Sent sendings) (Sent others) (λ x. refl) (λ x. refl) one.0 one.1 other.0
+      other.1 same)
 
   pub headline : Headline steps answers new
-  headline = record { sites_alike = sites_alike; looks_alike = looks_alike }
+  headline = record { sites_alike = sites_alike; looks_alike = looks_alike; gets_alike = gets_alike }

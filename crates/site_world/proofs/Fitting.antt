@@ -24,7 +24,7 @@ use Rattle.site_state.proofs.Maps.{tied}
 use Rattle.site_world.specs.declared.fault.WorldFault.{WorldFault}
 use Rattle.site_world.specs.declared.fault.WorldFault.TheVariants.{Site, BadCorrection, StampsSpent}
 use Rattle.site_world.specs.declared.step.Step.{Step}
-use Rattle.site_world.specs.declared.step.Step.TheVariants.{Take, Correct, Look}
+use Rattle.site_world.specs.declared.step.Step.TheVariants.{Take, Correct, Look, Get}
 use Rattle.site_world.specs.declared.step.Seen.{Seen}
 use Rattle.site_world.specs.Steps.{is_refused_memory, site_at, site_of, told_at, told_of_taking, told_of_stamping}
 use Rattle.site_world.specs.Steps.{taken_by, answer_to, made_at, LAST_COUNTER, on_site, seen_by, after, Happens}
@@ -133,6 +133,7 @@ told_fits m (Correct n target tag value) =
     by_correcting m made.stamp (a_correction made) (not (is_correction made)) (top_counter_of (ops_of m) ==
     LAST_COUNTER)
 told_fits m (Look n view query) = tt
+told_fits m (Get n view selection accepts) = tt
 
 took_fits : (m : Map) (step : Step) → Fits m (took step (told_at m step).0)
 took_fits m step = subst (Fits m) (sym (told_took m step)) (told_fits m step)

@@ -20,7 +20,7 @@ use Rattle.site_world.specs.declared.fault.WorldFault.TheVariants.{Site, BadCorr
 use Rattle.site_world.specs.declared.script.Move.{Move}
 use Rattle.site_world.specs.declared.script.Move.TheVariants.{Says, Names, Does}
 use Rattle.site_world.specs.declared.step.Step.{Step}
-use Rattle.site_world.specs.declared.step.Step.TheVariants.{Take, Correct, Look}
+use Rattle.site_world.specs.declared.step.Step.TheVariants.{Take, Correct, Look, Get}
 use Rattle.site_world.specs.Output.{without_cr, is_full, NOTHING, output_from}
 use Rattle.site_world.specs.Played.{Deed, deed_by, deed_of, deeds_from, end_from, text_of, steps_in, answers_in}
 use Rattle.site_world.specs.Played.{deeds_of, sites_of, ScriptsAreRuns}
@@ -67,6 +67,7 @@ told_is m (Correct n target tag value) =
     by_correcting m made.stamp (a_correction made) (not (is_correction made)) (top_counter_of (ops_of m) ==
     LAST_COUNTER)
 told_is m (Look n view query) = refl
+told_is m (Get n view selection accepts) = refl
 
 at_site : (step : Step) (r : Option Map) → is_refused_memory (on_site r (λ m. told_at m step)).0 ≡ false
 at_site step None = refl

@@ -16,7 +16,7 @@ use Rattle.site_state.specs.Laws.{holding}
 use Rattle.site_world.specs.declared.fault.WorldFault.{WorldFault}
 use Rattle.site_world.specs.declared.fault.WorldFault.TheVariants.{BadCorrection, StampsSpent}
 use Rattle.site_world.specs.declared.step.Step.{Step}
-use Rattle.site_world.specs.declared.step.Step.TheVariants.{Take, Correct, Look}
+use Rattle.site_world.specs.declared.step.Step.TheVariants.{Take, Correct, Look, Get}
 use Rattle.site_world.specs.declared.step.Seen.{Seen}
 use Rattle.site_world.specs.Steps.{is_refused_memory, site_at, with_site, bring, brought, site_of, told, told_at}
 use Rattle.site_world.specs.Steps.{told_of_taking, told_of_stamping, taken_by, made_at, LAST_COUNTER, on_site, seen_by}
@@ -86,6 +86,7 @@ pub refused_took : (step : Step) (fault : WorldFault) → took step (Err fault) 
 refused_took (Take n op) fault = refl
 refused_took (Correct n target tag value) fault = refl
 refused_took (Look n view query) fault = refl
+refused_took (Get n view selection accepts) fault = refl
 
 by_taking : (n : ℕ) (op : Op) (r : Result Taken WorldFault)
     → took (Take n op) (told_of_taking op r).0 ≡ these (told_of_taking op r).1
@@ -115,6 +116,7 @@ told_took m (Correct n target tag value) =
     by_correcting n m target tag value (not (is_correction (made_at n m target tag value))) (top_counter_of (ops_of m)
     == LAST_COUNTER)
 told_took m (Look n view query) = refl
+told_took m (Get n view selection accepts) = refl
 
 at_site : (step : Step) (r : Option Map)
     → took step (on_site r (λ m. told_at m step)).0 ≡ these (on_site r (λ m. told_at m step)).1

@@ -8,13 +8,15 @@ use Rattle.operation.specs.declared.op.Op.{Op}
 use Rattle.operation.specs.declared.target.Target.{Target}
 use Rattle.archive_model.specs.declared.view.View.{View}
 use Rattle.archive_query.specs.declared.query.Query.{Query}
+use Rattle.archive_retrieve.specs.declared.accepts.Accepts.{Accepts}
+use Rattle.archive_retrieve.specs.declared.selection.Selection.{Selection}
 use Rattle.site_state.specs.Site.{Map}
 use Rattle.site_world.specs.declared.fault.WorldFault.{WorldFault}
 use Rattle.site_world.specs.declared.step.Step.{Step}
-use Rattle.site_world.specs.declared.step.Step.TheVariants.{Take, Correct, Look}
+use Rattle.site_world.specs.declared.step.Step.TheVariants.{Take, Correct, Look, Get}
 use Rattle.site_world.specs.declared.step.Seen.{Seen}
 use Rattle.site_world.specs.Steps.{Told, is_refused_memory, on_site, site_at, brought, bring, holding_also, IsTold}
-use Rattle.site_world.specs.Steps.{Happens, told_of_taking, told_of_correcting, told_of_looking, taken_by, made_at}
+use Rattle.site_world.specs.Steps.{Happens, told_of_taking, told_of_correcting, told_of_looking, told_of_getting, taken_by, made_at}
 use Rattle.site_world.specs.Runs.{Run}
 
 set_again : {X : Type 0} (xs : List X) (k : ℕ) (x : X) → slice_get xs k ≡ Some x → slice_set xs k x ≡ xs
@@ -78,15 +80,30 @@ run_more old (s ∷ steps) [] mid new step answer run happens = absurd run
 run_more old (s ∷ steps) (a ∷ answers) mid new step answer (w, first, rest) happens =
     (w, first, run_more w steps answers mid new step answer rest happens)
 
+-- A site that is asked and stays as it is.
+abbrev asks : (Map → Result Seen WorldFault) → Map → Told
+asks seen m = (seen m, None)
+
+seen_happens : (sites : List Map) (n : ℕ) (seen : Map → Result Seen WorldFault) (m : Map) (r : Result Seen WorldFault)
+    → Some m ≡ site_at sites n → IsTold m (asks seen m) r m
+    → MatchBool (is_refused_memory r) (sites ≡ sites) ((r ≡ (on_site (site_at sites n) (asks seen)).0)
+    × (sites ≡ brought sites n (on_site (site_at sites n) (asks seen)).1))
+seen_happens sites n seen m r at told =
+    subst (λ s. MatchBool (is_refused_memory r) (sites ≡ sites) ((r ≡ (on_site s (asks seen)).0)
+    × (sites ≡ brought sites n (on_site s (asks seen)).1))) at (by_told (is_refused_memory r) told)
+  where
+    by_told : (b : Bool) → MatchBool b (m ≡ m) ((r ≡ seen m) × (m ≡ m)) →
+        MatchBool b (sites ≡ sites) ((r ≡ seen m) × (sites ≡ sites))
+    by_told true told = refl
+    by_told false told = (told.0, refl)
+
 pub look_happens : (sites : List Map) (n : ℕ) (view : View) (query : Query) (m : Map) (r : Result Seen WorldFault) →
     Some m ≡ site_at sites n → IsTold m (told_of_looking m view query) r m → Happens sites (Look n view query) r sites
 look_happens sites n view query m r at told =
-    subst (λ s. MatchBool (is_refused_memory r) (sites ≡ sites) ((r
-    ≡ (on_site s (λ x. told_of_looking x view query)).0) × (sites
-    ≡ brought sites n (on_site s (λ x. told_of_looking x view query)).1))) at
-    (by_told (is_refused_memory r) told)
-  where
-    by_told : (b : Bool) → MatchBool b (m ≡ m) ((r ≡ (told_of_looking m view query).0) × (m ≡ m)) →
-        MatchBool b (sites ≡ sites) ((r ≡ (told_of_looking m view query).0) × (sites ≡ sites))
-    by_told true told = refl
-    by_told false told = (told.0, refl)
+    seen_happens sites n (λ x. (told_of_looking x view query).0) m r at told
+
+pub get_happens : (sites : List Map) (n : ℕ) (view : View) (selection : Selection) (accepts : Accepts) (m : Map)
+    (r : Result Seen WorldFault) → Some m ≡ site_at sites n → IsTold m (told_of_getting m view selection accepts) r m →
+    Happens sites (Get n view selection accepts) r sites
+get_happens sites n view selection accepts m r at told =
+    seen_happens sites n (λ x. (told_of_getting x view selection accepts).0) m r at told

@@ -10,13 +10,17 @@ use Rattle.archive_model.specs.Members.{SameMembers}
 use Rattle.archive_model.specs.declared.view.View.{View}
 use Rattle.archive_query.specs.declared.query.Query.{Query}
 use Rattle.archive_query.specs.Rows.{rows_of}
+use Rattle.archive_retrieve.specs.declared.accepts.Accepts.{Accepts}
+use Rattle.archive_retrieve.specs.declared.selection.Selection.{Selection}
+use Rattle.archive_retrieve.specs.declared.sending.Sending.{Sending}
+use Rattle.archive_retrieve.specs.Sending.{sendings_of}
 use Rattle.site_state.specs.Site.{Map, ops_of}
 use Rattle.site_state.specs.Laws.{holding}
 use Rattle.site_world.specs.declared.fault.WorldFault.{WorldFault}
 use Rattle.site_world.specs.declared.step.Step.{Step}
-use Rattle.site_world.specs.declared.step.Step.TheVariants.{Take, Correct, Look}
+use Rattle.site_world.specs.declared.step.Step.TheVariants.{Take, Correct, Look, Get}
 use Rattle.site_world.specs.declared.step.Seen.{Seen}
-use Rattle.site_world.specs.declared.step.Seen.TheVariants.{Took, Stamped, Rows}
+use Rattle.site_world.specs.declared.step.Seen.TheVariants.{Took, Stamped, Rows, Sent}
 use Rattle.site_world.specs.Steps.{site_at, site_of, title_of, Happens}
 
 -- A world may answer so to these steps, one after another.
@@ -65,12 +69,25 @@ LooksAreRows old steps answers =
     → site_at old n ≡ Some m
     → rows ≡ rows_of view (title_of view) query (ops_of (holding m (taken_before i n steps answers)))
 
+-- Step i is a get at site n, and was answered these.
+abbrev pub IsGet : List Step → List (Result Seen WorldFault) → ℕ → ℕ → View → Selection → Accepts → List Sending → Type 0
+IsGet steps answers i n view selection accepts sendings =
+    (slice_get steps i ≡ Some (Get n view selection accepts)) × (slice_get answers i ≡ Some (Ok (Sent sendings)))
+
+-- Each get was answered what is sent by definition over what its site held, with what was taken at it before.
+abbrev pub GetsAreSendings : List Map → List Step → List (Result Seen WorldFault) → Type 0
+GetsAreSendings old steps answers =
+    (i n : ℕ) (m : Map) (view : View) (selection : Selection) (accepts : Accepts) (sendings : List Sending)
+    → IsGet steps answers i n view selection accepts sendings → site_at old n ≡ Some m
+    → sendings ≡ sendings_of view selection accepts (ops_of (holding m (taken_before i n steps answers)))
+
 -- What a run comes to.
 pub record Outcome (old : List Map) (steps : List Step) (answers : List (Result Seen WorldFault)) (new : List Map) :
     Type 0 where
   pub answered : Run old steps answers new
   pub taken : HoldWhatTheyTook old steps answers new
   pub looks : LooksAreRows old steps answers
+  pub gets : GetsAreSendings old steps answers
 
 -- ---- the headline
 
@@ -78,14 +95,15 @@ pub record Outcome (old : List Map) (steps : List Step) (answers : List (Result 
 abbrev pub IsNew : List Map → Type 0
 IsNew sites = sites ≡ replicate (length sites) finmap.empty
 
--- Two sites answer every query in every view alike.
-abbrev pub AnswerAlike : Map → Map → Type 0
-AnswerAlike a b =
-    (view : View) (called : List ℕ) (query : Query)
-    → rows_of view called query (ops_of a) ≡ rows_of view called query (ops_of b)
+-- Two sites answer every query in every view alike, and send the same of every selection in every view.
+pub record AnswerAlike (a b : Map) : Type 0 where
+  pub rows : (view : View) (called : List ℕ) (query : Query)
+      → rows_of view called query (ops_of a) ≡ rows_of view called query (ops_of b)
+  pub sendings : (view : View) (selection : Selection) (accepts : Accepts)
+      → sendings_of view selection accepts (ops_of a) ≡ sendings_of view selection accepts (ops_of b)
 
 -- Two sites at which the same operations were taken, in whatever order and however often, hold equal maps and answer
--- every query in every view alike.
+-- every query in every view alike, and send the same.
 abbrev pub SitesAreAlike : List Step → List (Result Seen WorldFault) → List Map → Type 0
 SitesAreAlike steps answers sites =
     (m n : ℕ) (a b : Map) → site_at sites m ≡ Some a → site_at sites n ≡ Some b
@@ -101,7 +119,16 @@ LooksAreAlike steps answers =
     → SameMembers (taken_before i m steps answers) (taken_before j n steps answers)
     → rows ≡ others
 
+-- The same of two gets of one selection.
+abbrev pub GetsAreAlike : List Step → List (Result Seen WorldFault) → Type 0
+GetsAreAlike steps answers =
+    (i j m n : ℕ) (view : View) (selection : Selection) (accepts : Accepts) (sendings others : List Sending)
+    → IsGet steps answers i m view selection accepts sendings → IsGet steps answers j n view selection accepts others
+    → SameMembers (taken_before i m steps answers) (taken_before j n steps answers)
+    → sendings ≡ others
+
 -- What a run of a new world comes to: the same operations, the same answers.
 pub record Headline (steps : List Step) (answers : List (Result Seen WorldFault)) (sites : List Map) : Type 0 where
   pub sites_alike : SitesAreAlike steps answers sites
   pub looks_alike : LooksAreAlike steps answers
+  pub gets_alike : GetsAreAlike steps answers

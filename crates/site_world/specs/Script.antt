@@ -11,16 +11,19 @@ use Rattle.archive_query.specs.declared.query.Query.{Query}
 use Rattle.archive_query.specs.declared.fault.QueryFault.{QueryFault}
 use Rattle.archive_query.specs.Fault.{number_of as number_of_query_fault}
 use Rattle.archive_query.specs.Query.{query_of}
+use Rattle.archive_retrieve.specs.declared.selection.Selection.{Selection}
+use Rattle.archive_retrieve.specs.Selection.{selection_of}
 use Rattle.site_state.specs.Site.{Map, ops_of}
 use Rattle.site_script.specs.declared.command.Command.{Command}
 use Rattle.site_script.specs.declared.command.Command.TheVariants.{Skip, Bad, Site, Image, Note}
-use Rattle.site_script.specs.declared.command.Command.TheVariants.{Correct as correct_line, Find, Same, Flagged}
-use Rattle.site_world.specs.declared.step.Step.TheVariants.{Take, Correct, Look}
+use Rattle.site_script.specs.declared.command.Command.TheVariants.{Correct as correct_line, Find, Get as get_line, Same, Flagged}
+use Rattle.site_world.specs.declared.step.Step.TheVariants.{Take, Correct, Look, Get}
 use Rattle.site_world.specs.declared.script.Move.{Move}
 use Rattle.site_world.specs.declared.script.Move.TheVariants.{Says, Names, Does}
 use Rattle.site_script.specs.Names.{is}
 use Rattle.site_world.specs.Same.{same_site}
 use Rattle.site_script.specs.Sets.{image_made, note_made, identifier}
+use Rattle.site_script.specs.Retrieves.{SCRIPT_ACCEPTS}
 use Rattle.site_world.specs.State.{State}
 use Rattle.site_world.specs.Steps.{site_at, seen_by, after as after_step}
 use Rattle.site_world.specs.Texts.{BAD, fault_line, site_line, seen_lines, same_line, flagged_lines}
@@ -58,6 +61,10 @@ abbrev pub look_move : ℕ → View → Result Query QueryFault → Move
 look_move n view (Ok query) = Does (Look n view query)
 look_move n view (Err fault) = Says (fault_line (codes "query") (number_of_query_fault fault))
 
+abbrev pub get_move : ℕ → View → Result Selection QueryFault → Move
+get_move n view (Ok selection) = Does (Get n view selection SCRIPT_ACCEPTS)
+get_move n view (Err fault) = Says (fault_line (codes "query") (number_of_query_fault fault))
+
 abbrev pub same_move : Option Map → Option Map → Move
 same_move (Some a) (Some b) = Says (same_line (same_site a b))
 same_move _ _ = Says (fault_line (codes "world") 1)
@@ -77,6 +84,8 @@ move_of state (correct_line line) = at_site (number_named line.site state.names)
     (λ n. Does (Correct n line.target line.tag line.value))
 move_of state (Find line) = at_site (number_named line.site state.names)
     (λ n. look_move n line.view (query_of (identifier line.keys)))
+move_of state (get_line line) = at_site (number_named line.site state.names)
+    (λ n. get_move n line.view (selection_of (identifier line.keys)))
 move_of state (Same a b) =
     at_site (number_named a state.names) (λ m. at_site (number_named b state.names)
     (λ n. same_move (site_at state.sites m) (site_at state.sites n)))

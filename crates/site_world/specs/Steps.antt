@@ -13,6 +13,9 @@ use Rattle.archive_model.specs.declared.view.View.{View}
 use Rattle.archive_model.specs.declared.view.View.TheVariants.{Archive, Quality, Audit}
 use Rattle.archive_query.specs.declared.query.Query.{Query}
 use Rattle.archive_query.specs.Rows.{rows_of}
+use Rattle.archive_retrieve.specs.declared.accepts.Accepts.{Accepts}
+use Rattle.archive_retrieve.specs.declared.selection.Selection.{Selection}
+use Rattle.archive_retrieve.specs.Sending.{sendings_of}
 use Rattle.site_state.specs.Site.{Map, held_at, with_op, ops_of, top_counter_of}
 use Rattle.operation.specs.declared.taken.Taken.{Taken}
 use Rattle.operation.specs.declared.taken.Taken.TheVariants.{New, Known}
@@ -22,9 +25,9 @@ use Rattle.site_world.specs.declared.fault.WorldFault.{WorldFault}
 use Rattle.site_world.specs.declared.fault.WorldFault.TheVariants.{NoSite, NoMessage, Site, StampsSpent, Memory}
 use Rattle.site_world.specs.declared.fault.WorldFault.TheVariants.{BadCorrection}
 use Rattle.site_world.specs.declared.step.Step.{Step}
-use Rattle.site_world.specs.declared.step.Step.TheVariants.{Take, Correct, Look}
+use Rattle.site_world.specs.declared.step.Step.TheVariants.{Take, Correct, Look, Get}
 use Rattle.site_world.specs.declared.step.Seen.{Seen}
-use Rattle.site_world.specs.declared.step.Seen.TheVariants.{Took, Stamped, Rows}
+use Rattle.site_world.specs.declared.step.Seen.TheVariants.{Took, Stamped, Rows, Sent}
 use Rattle.site_world.specs.Same.{same_op}
 
 -- want of memory, which may refuse any step
@@ -96,6 +99,10 @@ title_of Audit = codes "AUDIT"
 abbrev pub told_of_looking : Map → View → Query → Told
 told_of_looking m view query = (Ok (Rows (rows_of view (title_of view) query (ops_of m))), None)
 
+-- what is sent of a selection; nor does this
+abbrev pub told_of_getting : Map → View → Selection → Accepts → Told
+told_of_getting m view selection accepts = (Ok (Sent (sendings_of view selection accepts (ops_of m))), None)
+
 -- ---- several sites
 
 -- the site of this number, from 1
@@ -118,12 +125,14 @@ abbrev pub site_of : Step → ℕ
 site_of (Take n op) = n
 site_of (Correct n target tag value) = n
 site_of (Look n view query) = n
+site_of (Get n view selection accepts) = n
 
 -- what a step is told at its site, and what it brings there
 abbrev pub told_at : Map → Step → Told
 told_at m (Take n op) = told_of_taking op (taken_by m op)
 told_at m (Correct n target tag value) = told_of_correcting m (made_at n m target tag value)
 told_at m (Look n view query) = told_of_looking m view query
+told_at m (Get n view selection accepts) = told_of_getting m view selection accepts
 
 -- what a step is answered, and what it brings
 abbrev pub told : List Map → Step → Told

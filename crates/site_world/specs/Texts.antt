@@ -1,8 +1,9 @@
 -- The texts that a script prints.
-use Rattle.std.specs.Prelude.{ℕ, List, [], ◌∷◌, ◌++◌, length, Ok, Err, Result, Bool, codes, if◌then◌else◌}
+use Rattle.std.specs.Prelude.{ℕ, List, [], ◌∷◌, ◌++◌, length, Option, Some, None, Ok, Err, Result, Bool, codes, if◌then◌else◌}
 use Rattle.std.specs.List.{flat_map}
 use Rattle.std.specs.Fmt.{decimal}
 use Rattle.hex.specs.Hex.{encode_lower}
+use Rattle.data_set.specs.declared.syntax.Syntax.{Syntax}
 use Rattle.data_set.specs.declared.syntax.Syntax.TheVariants.{Implicit}
 use Rattle.data_set.specs.Set.{Set}
 use Rattle.data_set.specs.Converted.{converted}
@@ -10,11 +11,12 @@ use Rattle.data_set.specs.Written.{text_of}
 use Rattle.operation.specs.declared.stamp.Stamp.{Stamp}
 use Rattle.operation.specs.declared.taken.Taken.{Taken}
 use Rattle.operation.specs.declared.taken.Taken.TheVariants.{New, Known}
+use Rattle.archive_retrieve.specs.declared.sending.Sending.{Sending}
 use Rattle.site_world.specs.declared.fault.WorldFault.{WorldFault}
 use Rattle.site_world.specs.declared.fault.WorldFault.TheVariants.{NoSite, NoMessage, Site, StampsSpent, Memory}
 use Rattle.site_world.specs.declared.fault.WorldFault.TheVariants.{BadCorrection}
 use Rattle.site_world.specs.declared.step.Seen.{Seen}
-use Rattle.site_world.specs.declared.step.Seen.TheVariants.{Took, Stamped, Rows}
+use Rattle.site_world.specs.declared.step.Seen.TheVariants.{Took, Stamped, Rows, Sent}
 use Rattle.site_world.specs.Faults.{number_of_site_fault}
 
 -- a line, with its end
@@ -63,6 +65,21 @@ answer_lines rows = flat_map answer_line rows
 abbrev pub rows_lines : List Set → List ℕ
 rows_lines rows = answer_lines rows ++ end_line (length rows)
 
+-- the bytes of a data set that is sent, and none where no accepted syntax serves
+abbrev pub bytes_of : Option (Syntax × List ℕ) → List ℕ
+bytes_of None = []
+bytes_of (Some sent) = sent.1
+
+-- an instance that is sent, in hexadecimal digits
+abbrev pub sending_line : Sending → List ℕ
+sending_line sending = line (codes "answer " ++ encode_lower (bytes_of sending.body))
+
+abbrev pub sending_lines : List Sending → List ℕ
+sending_lines sendings = flat_map sending_line sendings
+
+abbrev pub sent_lines : List Sending → List ℕ
+sent_lines sendings = sending_lines sendings ++ end_line (length sendings)
+
 -- the refusal of a step
 abbrev pub world_fault_line : WorldFault → List ℕ
 world_fault_line (Site fault) = fault_line (codes "site") (number_of_site_fault fault)
@@ -77,4 +94,5 @@ abbrev pub seen_lines : Result Seen WorldFault → List ℕ
 seen_lines (Ok (Took taken)) = taken_line taken
 seen_lines (Ok (Stamped stamp)) = stamp_line stamp
 seen_lines (Ok (Rows rows)) = rows_lines rows
+seen_lines (Ok (Sent sendings)) = sent_lines sendings
 seen_lines (Err fault) = world_fault_line fault

@@ -8,9 +8,9 @@ ghost use Rattle.site_world.specs.Played.{ScriptsAreRuns};
 ghost use Rattle.site_world.specs.Rejected.{RejectedIsInNoRow, RejectedIsAsIfNeverStored};
 
 /// Sites at which the same operations were taken, in one run or in two, in whatever order and
-/// however often, hold equal maps and give equal answers to every query. So the time of an operation
-/// does not matter. That unequal operations have unequal digests is no premise: a site takes one
-/// of them alone.
+/// however often, hold equal maps, give equal answers to every query, and send the same of every
+/// selection. So the time of an operation does not matter. That unequal operations have unequal
+/// digests is no premise: a site takes one of them alone.
 pub fn order_is_free()
     ensures states { SameTakenSameMaps }
     ensures answers { SameTakenSameAnswers }

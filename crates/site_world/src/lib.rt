@@ -2,6 +2,8 @@
 #![tactic(auto)]
 
 mod fault;
+#[cfg(test)]
+mod get_tests;
 mod headline;
 mod print;
 mod progress;

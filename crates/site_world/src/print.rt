@@ -6,12 +6,15 @@ ghost use Rattle.site_world.specs.Faults.{number_of_site_fault};
 ghost use Rattle.site_world.specs.Texts.{line, fault_line, site_line, taken_line, stamp_line};
 ghost use Rattle.site_world.specs.Texts.{end_line, uid_lines, flagged_lines, same_line};
 ghost use Rattle.site_world.specs.Texts.{world_fault_line, seen_lines, answer_line, answer_lines};
-ghost use Rattle.site_world.specs.Texts.{rows_lines};
+ghost use Rattle.site_world.specs.Texts.{rows_lines, bytes_of as bytes_of_body, sending_line};
+ghost use Rattle.site_world.specs.Texts.{sending_lines, sent_lines};
 
 use crate::fault::WorldFault;
 use crate::step::Seen;
 use archive_query::Answer;
-use data_set::write;
+use archive_retrieve::Sending;
+use bytes::Bytes;
+use data_set::{Syntax, write};
 use octets::Octets;
 use operation::Stamp;
 use site_state::{SiteFault, Taken};
@@ -177,6 +180,43 @@ fn put_rows(alloc: Global, out: &mut Vec<u8>, rows: &[Answer]) -> Result<(), All
     put_end(alloc, out, rows.len())
 }
 
+/// The bytes of a data set that is sent, and none where there is no data set.
+fn bytes_of(body: &Option<(Syntax, Bytes)>) -> &[u8]
+    ensures { result.now ≡ bytes_of_body body.now }
+{
+    match body {
+        None => &[],
+        Some((_syntax, text)) => text.as_slice(),
+    }
+}
+
+/// An instance that is sent.
+fn put_sending(alloc: Global, out: &mut Vec<u8>, sending: &Sending) -> Result<(), AllocError>
+    ensures { OnOk result (out.new.items ≡ out.old.items ++ sending_line sending.now) }
+{
+    let digits = hex::encode(alloc, bytes_of(&sending.body))?;
+    out.extend_from_slice(b"answer ")?;
+    put_line(out, digits.as_bytes())
+}
+
+/// Instances that are sent, a line each.
+fn put_sendings(alloc: Global, out: &mut Vec<u8>, sendings: &[Sending]) -> Result<(), AllocError>
+    ensures { OnOk result (out.new.items ≡ out.old.items ++ sending_lines sendings.now) }
+{
+    for sending in sendings {
+        put_sending(alloc, out, sending)?;
+    }
+    Ok(())
+}
+
+/// What is sent of a selection.
+fn put_sent(alloc: Global, out: &mut Vec<u8>, sendings: &[Sending]) -> Result<(), AllocError>
+    ensures { OnOk result (out.new.items ≡ out.old.items ++ sent_lines sendings.now) }
+{
+    put_sendings(alloc, out, sendings)?;
+    put_end(alloc, out, sendings.len())
+}
+
 /// What is seen of a step.
 pub fn put_seen(
     alloc: Global,
@@ -189,6 +229,7 @@ pub fn put_seen(
         Ok(Seen::Took(taken)) => put_taken(out, *taken),
         Ok(Seen::Stamped(stamp)) => put_stamp(alloc, out, *stamp),
         Ok(Seen::Rows(rows)) => put_rows(alloc, out, rows.as_slice()),
+        Ok(Seen::Sent(sendings)) => put_sent(alloc, out, sendings.as_slice()),
         Err(fault) => put_world_fault(alloc, out, *fault),
     }
 }

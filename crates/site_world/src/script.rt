@@ -14,14 +14,17 @@ ghost use Rattle.archive_query.specs.declared.query.Query.{Query};
 ghost use Rattle.archive_query.specs.declared.fault.QueryFault.{QueryFault};
 ghost use Rattle.archive_query.specs.Fault.{is_memory as is_memory_query};
 ghost use Rattle.archive_query.specs.Query.{query_of};
+ghost use Rattle.archive_retrieve.specs.declared.selection.Selection.{Selection};
+ghost use Rattle.archive_retrieve.specs.Selection.{selection_of};
 ghost use Rattle.site_script.specs.Commands.{command_of as command_of_line};
 ghost use Rattle.site_script.specs.Fitting.{IsShort, MakesSets};
 ghost use Rattle.site_world.specs.Output.{NOTHING};
 ghost use Rattle.site_world.specs.Same.{same_site};
 ghost use Rattle.site_script.specs.Sets.{image_made, note_made, image_elements, note_elements};
 ghost use Rattle.site_script.specs.Sets.{identifier};
-ghost use Rattle.site_world.specs.Script.{number_named, site_move, take_move, look_move, same_move};
-ghost use Rattle.site_world.specs.Script.{flagged_move, at_site, move_of as move_of_command, said};
+ghost use Rattle.site_world.specs.Script.{number_named, site_move, take_move, look_move, get_move};
+ghost use Rattle.site_world.specs.Script.{same_move, flagged_move, at_site, said};
+ghost use Rattle.site_world.specs.Script.{move_of as move_of_command};
 ghost use Rattle.site_world.specs.Script.{moved, printed, after};
 ghost use Rattle.site_world.specs.State.{State};
 ghost use Rattle.site_world.specs.Steps.{site_at, is_refused_memory};
@@ -33,11 +36,12 @@ use crate::step::{Seen, Step};
 use crate::world::{MOST_SITES, World};
 use archive_model::View;
 use archive_query::{Query, QueryFault};
+use archive_retrieve::Selection;
 use octets::Octets;
 use operation::{Content, Op, OpFault};
 use site_script::{
-    Command, CorrectLine, FindLine, ImageLine, NoteLine, command_of, image_content, note_content,
-    query_in,
+    Command, CorrectLine, FindLine, GetLine, ImageLine, NoteLine, command_of, image_content,
+    note_content, query_in, script_accepts, selection_in,
 };
 use site_state::Site;
 use std::alloc::{AllocError, Global};
@@ -131,6 +135,26 @@ fn look_of(
 {
     match query {
         Ok(query) => Ok(Move::Does(Step::Look(number, view, query))),
+        Err(QueryFault::Memory) => Err(AllocError),
+        Err(fault) => says_fault(alloc, b"query", fault.number()),
+    }
+}
+
+/// A step that gets, or the refusal of the selection.
+fn get_of(
+    alloc: Global,
+    number: usize,
+    view: View,
+    selection: Result<Selection, QueryFault>,
+) -> Result<Move, AllocError>
+    ensures { (r : Result Selection QueryFault) → Gives is_memory_query (λ s. s) selection r →
+        IfOk result (λ did. did ≡ get_move number view r) }
+{
+    match selection {
+        Ok(selection) => {
+            let accepts = script_accepts(alloc)?;
+            Ok(Move::Does(Step::Get(number, view, selection, accepts)))
+        }
         Err(QueryFault::Memory) => Err(AllocError),
         Err(fault) => says_fault(alloc, b"query", fault.number()),
     }
@@ -243,6 +267,22 @@ impl Script {
         }
     }
 
+    fn get(&self, line: &GetLine) -> Result<Move, AllocError>
+        requires { IsSet Implicit (identifier line.now.keys) }
+        ensures { IfOk result (λ did. did ≡ at_site (number_named line.now.site self.now.names)
+            (λ n. get_move n line.now.view (selection_of (identifier line.now.keys)))) }
+    {
+        match number_of(self.names.as_slice(), &line.site) {
+            None => says_no_site(self.alloc),
+            Some(number) => get_of(
+                self.alloc,
+                number,
+                line.view,
+                selection_in(self.alloc, line),
+            ),
+        }
+    }
+
     fn same(&self, a: &Octets, b: &Octets) -> Result<Move, AllocError>
         ensures { IfOk result (λ did. did ≡ move_of_command self.now (Command.Same a.now b.now)) }
     {
@@ -277,6 +317,7 @@ impl Script {
             Command::Note(line) => self.note(&line),
             Command::Correct(line) => self.correct(line),
             Command::Find(line) => self.find(&line),
+            Command::Get(line) => self.get(&line),
             Command::Same(a, b) => self.same(&a, &b),
             Command::Flagged(name) => self.flagged(&name),
         }

@@ -2,6 +2,7 @@
 
 use archive_model::View;
 use archive_query::{Answer, Query};
+use archive_retrieve::{Accepts, Selection, Sending};
 use octets::{ListOf, Octets};
 use operation::{Op, Stamp, Target};
 use site_state::Taken;
@@ -15,6 +16,8 @@ pub enum Step {
     Correct(usize, Target, u32, Octets),
     /// The site is asked in a view, whose name is the called title.
     Look(usize, View, Query),
+    /// What the site sends of a selection in a view, where this is accepted.
+    Get(usize, View, Selection, Accepts),
 }
 
 /// What a step is answered.
@@ -25,4 +28,6 @@ pub enum Seen {
     Stamped(Stamp),
     /// The rows that answer a query.
     Rows(ListOf<Answer>),
+    /// What is sent of a selection, by ascending SOP Instance UID.
+    Sent(ListOf<Sending>),
 }

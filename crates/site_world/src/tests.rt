@@ -23,7 +23,8 @@ const ANSWERS: &[u8] = b"site A 1\nsite B 2\nnew\nnew\nnew\nnew\nknown\nequal\n\
 /// How many lines the script has, with the comment, the empty line and the last one.
 const LINES: u64 = 16;
 
-fn answered(
+/// How a script ended, and what it wrote.
+pub fn answered(
     alloc: Global,
     script: &[u8],
     piece: usize,

@@ -10,13 +10,14 @@ ghost use Rattle.site_state.specs.Site.{Map};
 ghost use Rattle.site_world.specs.Steps.{fault_of_site, IsTaken, IsTold, Happens, site_at};
 ghost use Rattle.site_world.specs.Steps.{told_of_taking, told_of_stamping, taken_by};
 ghost use Rattle.site_world.specs.Steps.{told_of_correcting, made_at, title_of as title_of_view};
-ghost use Rattle.site_world.specs.Steps.{told_of_looking};
+ghost use Rattle.site_world.specs.Steps.{told_of_looking, told_of_getting};
 ghost use Rattle.site_world.specs.Runs.{Outcome, IsNew, Headline};
 
 use crate::fault::WorldFault;
 use crate::step::{Seen, Step};
 use archive_model::View;
 use archive_query::{Query, find};
+use archive_retrieve::{Accepts, Selection, get};
 use octets::{ListOf, Octets};
 use operation::{Op, Stamp, Target, correction_of};
 use site_state::{Site, SiteFault, Taken};
@@ -133,6 +134,21 @@ fn look_at(alloc: Global, site: &Site, view: View, query: &Query) -> Result<Seen
     Ok(Seen::Rows(ListOf::of(rows)))
 }
 
+/// A step that gets, at its site.
+fn get_at(
+    alloc: Global,
+    site: &Site,
+    view: View,
+    selection: &Selection,
+    accepts: &Accepts,
+) -> Result<Seen, WorldFault>
+    ensures { IsTold site.now
+        (told_of_getting site.now view selection.now accepts.now) result site.now }
+{
+    let sendings = get(alloc, site, view, selection, accepts)?;
+    Ok(Seen::Sent(ListOf::of(sendings)))
+}
+
 impl World {
     /// A world of so many sites, which hold nothing.
     pub fn new(alloc: Global, sites: usize) -> Result<World, WorldFault>
@@ -202,6 +218,22 @@ impl World {
         }
     }
 
+    fn get(
+        &self,
+        number: usize,
+        view: View,
+        selection: &Selection,
+        accepts: &Accepts,
+    ) -> Result<Seen, WorldFault>
+        ensures { Happens self.now
+            (Step.Get number view selection.now accepts.now) result self.now }
+    {
+        match self.site(number) {
+            None => Err(WorldFault::NoSite),
+            Some(site) => get_at(self.alloc, site, view, selection, accepts),
+        }
+    }
+
     /// One step. A step that is refused changes nothing.
     pub fn step(&mut self, step: &Step) -> Result<Seen, WorldFault>
         ensures happens { Happens self.old step.now result self.new }
@@ -211,6 +243,9 @@ impl World {
             Step::Take(number, op) => self.take(*number, op),
             Step::Correct(number, target, tag, value) => self.correct(*number, target, *tag, value),
             Step::Look(number, view, query) => self.look(*number, *view, query),
+            Step::Get(number, view, selection, accepts) => {
+                self.get(*number, *view, selection, accepts)
+            }
         }
     }
 
@@ -218,7 +253,8 @@ impl World {
     /// the list of answers alone, and then nothing was done.
     ///
     /// The headline: in a new world, two sites at which the same operations were taken, in whatever
-    /// order and however often, hold the same and answer every query in every view alike.
+    /// order and however often, hold the same, answer every query in every view alike, and send the
+    /// same of every selection in every view.
     pub fn run(&mut self, steps: &[Step]) -> Result<Vec<Result<Seen, WorldFault>>, AllocError>
         ensures outcome { IfOk result (λ answers.
             Outcome self.old steps.now answers.items self.new) }

@@ -108,6 +108,7 @@ fn word_of(seen: &Seen) -> &'static str {
         Seen::Took(Taken::Known) => "known",
         Seen::Stamped(_) => "stamped",
         Seen::Rows(_) => "rows",
+        Seen::Sent(_) => "sent",
     }
 }
 
