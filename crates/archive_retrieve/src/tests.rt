@@ -5,4 +5,3 @@ mod conversions;
 mod made;
 mod many;
 mod selections;
-mod views;

@@ -8,13 +8,12 @@ use std::alloc::Global;
 use std::test::Fail;
 
 // A tag, its value representation, and a value as it is sent: of even length.
-const CORRECTED: [Part<'static>; 11] = [
+const CORRECTED: [Part<'static>; 10] = [
     (0x0008_0020, *b"DA", b"20240229"),
     (0x0008_0030, *b"TM", b"101500"),
     (0x0008_0050, *b"SH", b"ACC "),
     (0x0008_0090, *b"PN", b"ROE^ANN "),
     (0x0008_1030, *b"LO", b"HEAD"),
-    (0x0008_103e, *b"LO", b"HEAD"),
     (0x0010_0010, *b"PN", b"ROE^ANN "),
     (0x0010_0020, *b"LO", b"P22 "),
     (0x0010_0030, *b"DA", b"19700101"),

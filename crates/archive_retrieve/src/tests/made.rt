@@ -124,17 +124,9 @@ pub fn note(alloc: Global, covered: &[u8]) -> Result<Op, Fail> {
     content_as(alloc, CLASS, b"1.2.9.1", Syntax::Implicit, body)
 }
 
-/// Study 1.2.1, or its series 1.2.1.1 where a series' attribute is corrected.
-fn target_of(alloc: Global, tag: u32) -> Result<Target, Fail> {
-    if tag == 0x0008_103e {
-        return Ok(Target::Series(Octets::from_slice(alloc, b"1.2.1.1")?));
-    }
-    Ok(Target::Study(Octets::from_slice(alloc, b"1.2.1")?))
-}
-
-/// A correction of study 1.2.1 or of its series 1.2.1.1, by site 1.
+/// A correction of study 1.2.1, by site 1.
 pub fn correction(alloc: Global, tag: u32, value: &[u8], counter: u64) -> Result<Op, Fail> {
-    let target = target_of(alloc, tag)?;
+    let target = Target::Study(Octets::from_slice(alloc, b"1.2.1")?);
     let value = Octets::from_slice(alloc, value)?;
     Ok(Op::Correction(correction_of(target, tag, value, Stamp { counter, site: 1 })?))
 }
@@ -158,23 +150,14 @@ pub fn selection(alloc: Global, parts: &[Part]) -> Result<Result<Selection, u8>,
     }
 }
 
-/// The studies of these UIDs.
-pub fn studies(alloc: Global, named: &[&[u8]]) -> Result<Selection, Fail> {
-    let mut uids = Vec::new(alloc);
-    for uid in named {
-        uids.push(Octets::from_slice(alloc, uid)?)?;
-    }
+/// Study 1.2.1.
+pub fn study(alloc: Global) -> Result<Selection, Fail> {
     Ok(Selection {
         level: archive_query::Level::Study,
         study: Octets::of(Vec::new(alloc)),
         series: Octets::of(Vec::new(alloc)),
-        uids: ListOf::of(uids),
+        uids: ListOf::of(vec![in alloc; Octets::from_slice(alloc, b"1.2.1")?]?),
     })
-}
-
-/// Study 1.2.1.
-pub fn study(alloc: Global) -> Result<Selection, Fail> {
-    studies(alloc, &[b"1.2.1"])
 }
 
 /// What is accepted of CT Image Storage.
