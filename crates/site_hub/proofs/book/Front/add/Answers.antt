@@ -2,6 +2,7 @@ use Rattle.std.proofs.Common.{sym, ◌∙◌, ap}
 use Rattle.site_hub.proofs.Adding.{adds_moves}
 use Rattle.site_hub.proofs.book.Front.add.Goals as goal
 
+-- The entry may be written: the book, the pen and the offer are those of this history, which the step makes longer by it.
 pub compare_exchange-found-requires : goal.compare_exchange-found-requires
 compare_exchange-found-requires g c =
     let h = c.args.book.now.head_is in

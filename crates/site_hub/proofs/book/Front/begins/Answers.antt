@@ -5,6 +5,7 @@ use Rattle.site_hub.specs.declared.entry.Entry.{Entry}
 use Rattle.site_hub.proofs.Fronts.{prefix_shorter}
 use Rattle.site_hub.proofs.book.Front.begins.Goals as goal
 
+-- Of two beginnings of one history the one that is no longer begins the other.
 pub returns-clause-goes_on : goal.returns-clause-goes_on
 returns-clause-goes_on g c is_le =
     let both = c.learn.new.self.log in

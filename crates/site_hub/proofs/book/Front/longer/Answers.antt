@@ -4,6 +4,7 @@ use Rattle.site_hub.specs.declared.entry.Entry.{Entry}
 use Rattle.site_hub.proofs.Fronts.{prefix_shorter}
 use Rattle.site_hub.proofs.book.Front.longer.Goals as goal
 
+-- Where the other one is no shorter, this one begins it.
 pub returns-then-self-other-clause-this : goal.returns-then-self-other-clause-this
 returns-then-self-other-clause-this g c =
     let both = c.learn.new.self.log in
@@ -11,6 +12,7 @@ returns-then-self-other-clause-this g c =
     let less : length c.self.inside.seen.log ≤ length c.other.inside.seen.log = omega (arith, c.self.invariant.0, c.other.invariant.0) in
     rw (c.again.ensures, ← c.self.view_is, ← c.other.view_is) (prefix_shorter c.self.inside.seen.log c.other.inside.seen.log both this c.learn.ensures.3 less)
 
+-- Where this one is longer, the other one begins it.
 pub returns-clause-that : goal.returns-clause-that
 returns-clause-that g c =
     let both = c.learn.new.self.log in
