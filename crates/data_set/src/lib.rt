@@ -15,8 +15,6 @@ mod replaced;
 mod set;
 mod syntax;
 mod tags;
-#[cfg(test)]
-mod tests;
 mod values;
 mod vr;
 mod writer;

@@ -12,8 +12,6 @@ mod sink;
 mod source;
 mod store;
 mod supply;
-#[cfg(test)]
-mod tests;
 
 pub use counted::Counted;
 pub use fault::DeviceFault;

@@ -17,8 +17,6 @@ mod numbers;
 mod reader;
 mod response;
 mod status;
-#[cfg(test)]
-mod tests;
 mod uid;
 mod whole;
 mod writer;

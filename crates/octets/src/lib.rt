@@ -9,8 +9,6 @@
 mod list_of;
 mod octets_type;
 mod padding;
-#[cfg(test)]
-mod tests;
 mod texts;
 mod uid;
 

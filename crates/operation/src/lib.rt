@@ -16,8 +16,6 @@ mod op;
 mod stamp;
 mod taken;
 mod target;
-#[cfg(test)]
-mod tests;
 
 pub use content::Content;
 pub use contents::content_of;

@@ -12,8 +12,6 @@ mod pdv;
 mod reader;
 mod reject;
 mod request;
-#[cfg(test)]
-mod tests;
 mod uid;
 mod user;
 mod value;

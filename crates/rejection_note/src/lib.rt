@@ -8,8 +8,6 @@ mod covers;
 mod fault;
 mod note;
 mod notes;
-#[cfg(test)]
-mod tests;
 mod title;
 
 pub use fault::NoteFault;

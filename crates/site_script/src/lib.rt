@@ -13,8 +13,6 @@ mod name;
 mod retrieve;
 mod sets;
 mod tag;
-#[cfg(test)]
-mod tests;
 mod verb;
 mod word;
 

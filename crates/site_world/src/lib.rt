@@ -2,19 +2,13 @@
 #![tactic(auto)]
 
 mod fault;
-#[cfg(test)]
-mod get_tests;
 mod headline;
 mod print;
 mod progress;
 mod run;
 mod script;
 mod step;
-#[cfg(test)]
-mod tests;
 mod world;
-#[cfg(test)]
-mod world_tests;
 
 pub use fault::WorldFault;
 pub use headline::{

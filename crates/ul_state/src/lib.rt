@@ -12,8 +12,6 @@ mod event;
 mod laws;
 mod numbers;
 mod table;
-#[cfg(test)]
-mod tests;
 mod titles;
 
 pub use acceptor::{Acceptor, Settled};

@@ -4,7 +4,7 @@ ghost use Rattle.std.specs.Prelude.{◌<◌, ◌≤◌, All, length};
 ghost use Rattle.pdu.specs.Spelling.{IsPdu};
 ghost use Rattle.dimse.specs.Sending.{IsWhole};
 
-use super::*;
+use dimse::*;
 use bytes::Bytes;
 use octets::{ListOf, Octets};
 use pdu::{Context, Contexts, Pdu, Pdv, write_pdu};

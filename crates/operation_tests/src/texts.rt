@@ -1,6 +1,6 @@
 //! Bytes and lists, made and given back, and texts.
 
-use crate::{ListOf, Octets, ascending, is_uid, trimmed};
+use octets::{ListOf, Octets, ascending, is_uid, trimmed};
 use std::cmp::Ordering;
 use std::test::Fail;
 

@@ -1,6 +1,6 @@
 //! What a script gets.
 
-use crate::tests::answered;
+use crate::scripts::answered;
 use std::test::Fail;
 
 /// An image is sent as it came, and then corrected; an image of another study stands beside it.

@@ -1,6 +1,6 @@
 //! Devices in memory, and texts that are written to them.
 
-use crate::{Counted, DeviceFault, Sink, Source, Store, Supply, put_all};
+use devices::{Counted, DeviceFault, Sink, Source, Store, Supply, put_all};
 use octets::Octets;
 use std::test::Fail;
 

@@ -1,6 +1,6 @@
 //! Key Object Selections by hand, in Implicit VR Little Endian.
 
-use crate::{Note, NoteFault, Title, note_of};
+use rejection_note::{Note, NoteFault, Title, note_of};
 use data_set::{DataSet, SetFault, Syntax, read};
 use std::alloc::{AllocError, Global};
 use std::test::Fail;

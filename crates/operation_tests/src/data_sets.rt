@@ -2,13 +2,9 @@
 
 ghost use Rattle.std.specs.Prelude.{◌≤◌, length};
 
-use crate::corrections::correction_vr;
-use crate::fault::SetFault;
-use crate::reader::read;
-use crate::set::DataSet;
-use crate::syntax::Syntax;
-use crate::values::{items_of, padded_of, value_of};
-use crate::writer::write;
+use data_set::{
+    DataSet, SetFault, Syntax, correction_vr, items_of, padded_of, read, value_of, write,
+};
 use Syntax::{Explicit, Implicit};
 use std::alloc::{AllocError, Global};
 use std::process::Abort;

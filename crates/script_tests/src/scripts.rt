@@ -1,6 +1,6 @@
 //! Scripts over devices in memory, and steps of worlds.
 
-use crate::{Seen, SimFault, Step, World, WorldFault, simulate};
+use site_world::{Seen, SimFault, Step, World, WorldFault, simulate};
 use devices::{Store, Supply};
 use octets::Octets;
 use operation::{Op, Stamp, Target, correction_of};

@@ -1,6 +1,6 @@
 //! Worlds whose sites take images, notes and corrections, in whatever order.
 
-use crate::{Seen, Step, World, WorldFault};
+use site_world::{Seen, Step, World, WorldFault};
 use archive_model::View;
 use archive_query::Query;
 use bytes::Bytes;

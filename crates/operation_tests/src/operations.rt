@@ -1,6 +1,6 @@
 //! Operations by hand.
 
-use crate::{
+use operation::{
     Content, Correction, Digest, Digested, Op, OpFault, Stamp, Target, content_of, correction_of,
     decode, digest, encode,
 };

@@ -1,6 +1,6 @@
 //! Lines, and the bytes of what they make.
 
-use crate::{Command, command_of, image_content};
+use site_script::{Command, command_of, image_content};
 use operation::OpFault;
 use std::alloc::{AllocError, Global};
 use std::test::Fail;

@@ -1,6 +1,6 @@
 //! Bytes from outside, read and written.
 
-use super::*;
+use pdu::*;
 use bytes::Bytes;
 use octets::ListOf;
 use std::alloc::{AllocError, Global};

@@ -4,7 +4,7 @@ ghost use Rattle.std.specs.Prelude.{IfOk, All};
 ghost use Rattle.pdu.specs.Spelling.{IsPdu};
 ghost use Rattle.ul_state.specs.Acceptor.{CanBeWritten};
 
-use super::*;
+use ul_state::*;
 use bytes::Bytes;
 use octets::{ListOf, Octets};
 use pdu::{Accept, Context, Pdu, PduFault, Pdv, Step, read_pdu, write_pdu};

@@ -1,0 +1,13 @@
+//! Tests of texts, data sets, rejection notes and operations: rows of bytes from outside.
+//!
+//! They stand in a crate of their own, so that no crate is proved once more with its tests.
+#![tactic(auto)]
+
+#[cfg(test)]
+mod data_sets;
+#[cfg(test)]
+mod notes;
+#[cfg(test)]
+mod operations;
+#[cfg(test)]
+mod texts;

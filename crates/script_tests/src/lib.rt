@@ -1,0 +1,15 @@
+//! Tests of scripts and of worlds, and of the readers and writers in memory that they run over.
+//!
+//! They stand in a crate of their own, so that no crate is proved once more with its tests.
+#![tactic(auto)]
+
+#[cfg(test)]
+mod gets;
+#[cfg(test)]
+mod lines;
+#[cfg(test)]
+mod readers_and_writers;
+#[cfg(test)]
+mod scripts;
+#[cfg(test)]
+mod worlds;
