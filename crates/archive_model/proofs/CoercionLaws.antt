@@ -1,5 +1,6 @@
 -- A content's data set is read again, and what coercion leaves of its values.
-use Rattle.std.proofs.Common.{◌≡◌, ◌≢◌, ℕ, List, [], ◌∷◌, map, Bool, true, false, ◌||◌, Option, Some, None, refl, sym, ap, ◌∙◌, ◌⊎◌, inl, inr}
+use Rattle.std.proofs.Common.{◌≡◌, ◌≢◌, ℕ, List, [], ◌∷◌, map, Bool, true, false, ◌||◌, Option, Some, None, refl, sym}
+use Rattle.std.proofs.Common.{ap, ◌∙◌, ◌⊎◌, inl, inr}
 use Rattle.std.specs.Prelude.{not, if◌then◌else◌}
 use Rattle.std.specs.List.{list_any}
 use Rattle.std.proofs.Math.Dec.{eqb}
@@ -25,10 +26,12 @@ use Rattle.operation.specs.Parts.{ContentParts, own_value}
 use Rattle.operation.specs.Contents.{IsContent}
 use Rattle.archive_model.specs.Attributes.{attribute}
 use Rattle.archive_model.specs.Members.{Has}
-use Rattle.archive_model.specs.Coercion.{is_changed, put_attribute, with_attribute, with_attributes, coerced, CoercedHasAttributes, CoercedKeepsOthers, OwnIsNotCoerced}
+use Rattle.archive_model.specs.Coercion.{is_changed, put_attribute, with_attribute, with_attributes, coerced}
+use Rattle.archive_model.specs.Coercion.{CoercedHasAttributes, CoercedKeepsOthers, OwnIsNotCoerced}
 use Rattle.archive_model.proofs.ModelLaws.{same_itself}
 
-told_fault : (s : Syntax) (text : List ℕ) (f : SetFault) → f ≢ Memory → Told is_memory f (HasFault s text) → HasFault s text f
+told_fault : (s : Syntax) (text : List ℕ) (f : SetFault) → f ≢ Memory → Told is_memory f (HasFault s text)
+    → HasFault s text f
 told_fault s text Truncated other told = told
 told_fault s text Order other told = told
 told_fault s text Depth other told = told
@@ -38,40 +41,52 @@ told_fault s text Group other told = told
 told_fault s text Memory other told = absurd (other refl)
 
 -- what is told of it is want of memory
-pub content_has_no_fault : (c : ContentParts) (f : SetFault) → IsContent c → f ≢ Memory → Told is_memory f (HasFault c.syntax c.body) → ⊥
+pub content_has_no_fault : (c : ContentParts) (f : SetFault) → IsContent c → f ≢ Memory
+    → Told is_memory f (HasFault c.syntax c.body) → ⊥
 content_has_no_fault c f is other told =
-    ∥∥₁_elim is (λ (x y : ⊥). absurd x) (λ d. fault_or_spelled c.syntax c.body d.0 f d.1.spelled (told_fault c.syntax c.body f other told))
+    ∥∥₁_elim is (λ (x y : ⊥). absurd x) (λ d. fault_or_spelled c.syntax c.body d.0 f d.1.spelled
+    (told_fault c.syntax c.body f other told))
 
 -- ---- values of coerced elements
 
-by_vr : (ops : List Op) (c : ContentParts) (tag : ℕ) (vr : List ℕ) (ts : List Tree) → correction_vr_of tag ≡ Some vr → is_changed ops c tag ≡ true → with_attribute ops c tag ts ≡ with_value c.syntax tag vr (attribute ops c tag) ts
+by_vr : (ops : List Op) (c : ContentParts) (tag : ℕ) (vr : List ℕ) (ts : List Tree) → correction_vr_of tag ≡ Some vr
+    → is_changed ops c tag ≡ true → with_attribute ops c tag ts ≡ with_value c.syntax tag vr (attribute ops c tag) ts
 by_vr ops c tag vr ts e changed =
-    ap (λ (o : Option (List ℕ)). put_attribute ops c tag o ts) e ∙ ap (λ (b : Bool). if b then with_value c.syntax tag vr (attribute ops c tag) ts else ts) changed
+    ap (λ (o : Option (List ℕ)). put_attribute ops c tag o ts) e
+    ∙ ap (λ (b : Bool). if b then with_value c.syntax tag vr (attribute ops c tag) ts else ts) changed
 
-unchanged : (ops : List Op) (c : ContentParts) (tag : ℕ) (vr : Option (List ℕ)) (ts : List Tree) → is_changed ops c tag ≡ false → put_attribute ops c tag vr ts ≡ ts
+unchanged : (ops : List Op) (c : ContentParts) (tag : ℕ) (vr : Option (List ℕ)) (ts : List Tree)
+    → is_changed ops c tag ≡ false → put_attribute ops c tag vr ts ≡ ts
 unchanged ops c tag None ts same_value = refl
-unchanged ops c tag (Some vr) ts same_value = ap (λ (b : Bool). if b then with_value c.syntax tag vr (attribute ops c tag) ts else ts) same_value
+unchanged ops c tag (Some vr) ts same_value = ap (λ (b : Bool). if b then with_value c.syntax tag
+    vr (attribute ops c tag) ts else ts) same_value
 
 -- nothing is put in for a tag that has its own value, or that no correction may give a value
-not_put : (ops : List Op) (c : ContentParts) (tag : ℕ) (ts : List Tree) → (is_changed ops c tag ≡ false) ⊎ (correction_vr_of tag ≡ None) → with_attribute ops c tag ts ≡ ts
+not_put : (ops : List Op) (c : ContentParts) (tag : ℕ) (ts : List Tree) → (is_changed ops c tag ≡ false)
+    ⊎ (correction_vr_of tag ≡ None) → with_attribute ops c tag ts ≡ ts
 not_put ops c tag ts (inl same_value) = unchanged ops c tag (correction_vr_of tag) ts same_value
 not_put ops c tag ts (inr none) = ap (λ (o : Option (List ℕ)). put_attribute ops c tag o ts) none
 
 -- what is put in for one tag leaves the values of others
-other_kept : (ops : List Op) (c : ContentParts) (put other : ℕ) (vr : Option (List ℕ)) (ts : List Tree) → is_group_length other ≡ false → other ≢ put → value_in other (put_attribute ops c put vr ts) ≡ value_in other ts
+other_kept : (ops : List Op) (c : ContentParts) (put other : ℕ) (vr : Option (List ℕ)) (ts : List Tree)
+    → is_group_length other ≡ false → other ≢ put → value_in other (put_attribute ops c put vr ts) ≡ value_in other ts
 other_kept ops c put other None ts element apart = refl
 other_kept ops c put other (Some vr) ts element apart = by_test (is_changed ops c put)
   where
-    by_test : (b : Bool) → value_in other (if b then with_value c.syntax put vr (attribute ops c put) ts else ts) ≡ value_in other ts
+    by_test : (b : Bool) → value_in other (if b then with_value c.syntax put vr (attribute ops c put) ts else ts)
+        ≡ value_in other ts
     by_test true = other_value c.syntax put other vr (attribute ops c put) ts element apart
     by_test false = refl
 
 -- the tag is one of these, or its value is there
-values_put : (ops : List Op) (c : ContentParts) (tag : ℕ) (vr : List ℕ) → is_group_length tag ≡ false → correction_vr_of tag ≡ Some vr → is_changed ops c tag ≡ true
-    → (tags : List ℕ) (ts : List Tree) → Has tags tag ⊎ (value_in tag ts ≡ Some (trimmed (attribute ops c tag))) → value_in tag (with_attributes ops c tags ts) ≡ Some (trimmed (attribute ops c tag))
+values_put : (ops : List Op) (c : ContentParts) (tag : ℕ) (vr : List ℕ) → is_group_length tag ≡ false
+    → correction_vr_of tag ≡ Some vr → is_changed ops c tag ≡ true
+    → (tags : List ℕ) (ts : List Tree) → Has tags tag ⊎ (value_in tag ts ≡ Some (trimmed (attribute ops c tag)))
+    → value_in tag (with_attributes ops c tags ts) ≡ Some (trimmed (attribute ops c tag))
 values_put ops c tag vr element e changed [] ts (inl has) = absurd has
 values_put ops c tag vr element e changed [] ts (inr there) = there
-values_put ops c tag vr element e changed (t ∷ tags) ts at = values_put ops c tag vr element e changed tags (with_attribute ops c t ts) (step (eqb_tells tag t) at)
+values_put ops c tag vr element e changed (t ∷ tags) ts at = values_put ops c tag vr element e changed
+    tags (with_attribute ops c t ts) (step (eqb_tells tag t) at)
   where
     put_here : tag ≡ t → value_in tag (with_attribute ops c t ts) ≡ Some (trimmed (attribute ops c tag))
     put_here is =
@@ -79,43 +94,54 @@ values_put ops c tag vr element e changed (t ∷ tags) ts at = values_put ops c 
         ∙ ap (value_in tag) (by_vr ops c tag vr ts e changed)
         ∙ put_value c.syntax tag vr (attribute ops c tag) ts element
 
-    step : ((eqb tag t ≡ true) × (tag ≡ t)) ⊎ ((eqb tag t ≡ false) × (tag ≢ t)) → Has (t ∷ tags) tag ⊎ (value_in tag ts ≡ Some (trimmed (attribute ops c tag)))
+    step : ((eqb tag t ≡ true) × (tag ≡ t)) ⊎ ((eqb tag t ≡ false) × (tag ≢ t)) → Has (t ∷ tags) tag
+        ⊎ (value_in tag ts ≡ Some (trimmed (attribute ops c tag)))
         → Has tags tag ⊎ (value_in tag (with_attribute ops c t ts) ≡ Some (trimmed (attribute ops c tag)))
     step (inl same_tag) was = inr (put_here same_tag.1)
     step (inr apart) (inl (inl is)) = absurd (apart.1 is)
     step (inr apart) (inl (inr later)) = inl later
     step (inr apart) (inr there) = inr (other_kept ops c t tag (correction_vr_of t) ts element apart.1 ∙ there)
 
-values_kept : (ops : List Op) (c : ContentParts) (tag : ℕ) → is_group_length tag ≡ false → (is_changed ops c tag ≡ false) ⊎ (correction_vr_of tag ≡ None)
+values_kept : (ops : List Op) (c : ContentParts) (tag : ℕ) → is_group_length tag ≡ false
+    → (is_changed ops c tag ≡ false) ⊎ (correction_vr_of tag ≡ None)
     → (tags : List ℕ) (ts : List Tree) → value_in tag (with_attributes ops c tags ts) ≡ value_in tag ts
 values_kept ops c tag element none [] ts = refl
-values_kept ops c tag element none (t ∷ tags) ts = values_kept ops c tag element none tags (with_attribute ops c t ts) ∙ step (eqb_tells tag t)
+values_kept ops c tag element none (t ∷ tags) ts = values_kept ops c tag element none tags (with_attribute ops c t ts)
+    ∙ step (eqb_tells tag t)
   where
-    step : ((eqb tag t ≡ true) × (tag ≡ t)) ⊎ ((eqb tag t ≡ false) × (tag ≢ t)) → value_in tag (with_attribute ops c t ts) ≡ value_in tag ts
-    step (inl same_tag) = ap (λ (u : ℕ). value_in tag (with_attribute ops c u ts)) (sym same_tag.1) ∙ ap (value_in tag) (not_put ops c tag ts none)
+    step : ((eqb tag t ≡ true) × (tag ≡ t)) ⊎ ((eqb tag t ≡ false) × (tag ≢ t))
+        → value_in tag (with_attribute ops c t ts) ≡ value_in tag ts
+    step (inl same_tag) = ap (λ (u : ℕ). value_in tag (with_attribute ops c u ts)) (sym same_tag.1)
+        ∙ ap (value_in tag) (not_put ops c tag ts none)
     step (inr apart) = other_kept ops c t tag (correction_vr_of t) ts element apart.1
 
 -- a tag with a value representation is one of those that may be corrected
-has_vr : (tag : ℕ) (vr : List ℕ) (tags : List ℕ) → vr_among tag (map (λ (t : ℕ). (t, vr_in_table t)) tags) ≡ Some vr → Has tags tag
+has_vr : (tag : ℕ) (vr : List ℕ) (tags : List ℕ) → vr_among tag (map (λ (t : ℕ). (t, vr_in_table t)) tags) ≡ Some vr
+    → Has tags tag
 has_vr tag vr [] e = absurd cc
 has_vr tag vr (t ∷ tags) e = step (eqb_tells tag t) (has_vr tag vr tags)
   where
-    step : ((eqb tag t ≡ true) × (tag ≡ t)) ⊎ ((eqb tag t ≡ false) × (tag ≢ t)) → (vr_among tag (map (λ (t : ℕ). (t, vr_in_table t)) tags) ≡ Some vr → Has tags tag) → Has (t ∷ tags) tag
+    step : ((eqb tag t ≡ true) × (tag ≡ t)) ⊎ ((eqb tag t ≡ false) × (tag ≢ t))
+        → (vr_among tag (map (λ (t : ℕ). (t, vr_in_table t)) tags) ≡ Some vr → Has tags tag) → Has (t ∷ tags) tag
     step (inl is) later = inl is.1
-    step (inr apart) later = inr (later (ap (λ (b : Bool). if b then Some (vr_in_table t) else vr_among tag (map (λ (t : ℕ). (t, vr_in_table t)) tags)) (sym apart.0) ∙ e))
+    step (inr apart) later = inr (later (ap (λ (b : Bool). if b then Some (vr_in_table t) else vr_among
+        tag (map (λ (t : ℕ). (t, vr_in_table t)) tags)) (sym apart.0) ∙ e))
 
 pub coerced_has_attributes : CoercedHasAttributes
 unfolding coerced
-coerced_has_attributes ops c ts tag vr element e changed = values_put ops c tag vr element e changed corrected_tags ts (inl (has_vr tag vr corrected_tags e))
+coerced_has_attributes ops c ts tag vr element e changed = values_put ops c tag vr element e changed corrected_tags
+    ts (inl (has_vr tag vr corrected_tags e))
 
 pub coerced_keeps_others : CoercedKeepsOthers
 unfolding coerced
 coerced_keeps_others ops c ts tag element none = values_kept ops c tag element none corrected_tags ts
 
-none_changed : (ops : List Op) (c : ContentParts) (tags : List ℕ) → ((tag : ℕ) → Has tags tag → attribute ops c tag ≡ own_value c tag) → list_any (is_changed ops c) tags ≡ false
+none_changed : (ops : List Op) (c : ContentParts) (tags : List ℕ)
+    → ((tag : ℕ) → Has tags tag → attribute ops c tag ≡ own_value c tag) → list_any (is_changed ops c) tags ≡ false
 none_changed ops c [] own = refl
 none_changed ops c (tag ∷ tags) own =
-    ap (λ (b : Bool). not b || list_any (is_changed ops c) tags) (same_itself (attribute ops c tag) (own_value c tag) (own tag (inl refl)))
+    ap (λ (b : Bool). not b || list_any (is_changed ops c) tags) (same_itself (attribute ops c tag) (own_value c tag)
+    (own tag (inl refl)))
     ∙ none_changed ops c tags (λ t has. own t (inr has))
 
 pub own_is_not_coerced : OwnIsNotCoerced

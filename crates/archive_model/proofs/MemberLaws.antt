@@ -1,5 +1,6 @@
 -- Members of lists that are made of lists.
-use Rattle.std.proofs.Common.{◌≡◌, ℕ, List, [], ◌∷◌, Bool, true, false, cond, Option, Some, None, refl, sym, ap, ◌∙◌, subst, inl, inr, ◌⊎◌, map}
+use Rattle.std.proofs.Common.{◌≡◌, ℕ, List, [], ◌∷◌, Bool, true, false, cond, Option, Some, None, refl, sym, ap, ◌∙◌}
+use Rattle.std.proofs.Common.{subst, inl, inr, ◌⊎◌, map}
 use Rattle.std.specs.Prelude.{◌↔◌, ◌&&◌, ◌||◌, nat_eq}
 use Rattle.std.proofs.lemmas.Bool.{false≢true}
 use Rattle.std.specs.List.{filter, filter_map, cons_option, find, list_any, list_all}
@@ -34,7 +35,9 @@ module _ {X : Type 0} where
   some_same : (x y : X) → Some x ≡ Some y → x ≡ y
   some_same x y e = cc
 
-  found_first : (p : X → Bool) (y x : X) (ys : List X) (b : Bool) → p y ≡ b → (find p ys ≡ Some x → Has ys x × (p x ≡ true)) → cond b (Some y) (find p ys) ≡ Some x → Has (y ∷ ys) x × (p x ≡ true)
+  found_first : (p : X → Bool) (y x : X) (ys : List X) (b : Bool) → p y ≡ b
+      → (find p ys ≡ Some x → Has ys x × (p x ≡ true)) → cond b (Some y) (find p ys) ≡ Some x → Has (y ∷ ys) x
+      × (p x ≡ true)
   found_first p y x ys true is later e = (inl (sym (some_same y x e)), ap p (sym (some_same y x e)) ∙ is)
   found_first p y x ys false is later e = (inr (later e).0, (later e).1)
 
@@ -42,7 +45,8 @@ module _ {X : Type 0} where
   found_has p [] x e = absurd cc
   found_has p (y ∷ ys) x e = found_first p y x ys (p y) refl (found_has p ys x) e
 
-  none_first : (p : X → Bool) (y x : X) (ys : List X) (b : Bool) → p y ≡ b → (find p ys ≡ None → Has ys x → p x ≡ false) → cond b (Some y) (find p ys) ≡ None → Has (y ∷ ys) x → p x ≡ false
+  none_first : (p : X → Bool) (y x : X) (ys : List X) (b : Bool) → p y ≡ b → (find p ys ≡ None → Has ys x → p x ≡ false)
+      → cond b (Some y) (find p ys) ≡ None → Has (y ∷ ys) x → p x ≡ false
   none_first p y x ys true is later e has = absurd cc
   none_first p y x ys false is later e (inl s) = ap p s ∙ is
   none_first p y x ys false is later e (inr h) = later e h
@@ -51,7 +55,8 @@ module _ {X : Type 0} where
   none_has p [] x e has = absurd has
   none_has p (y ∷ ys) x e has = none_first p y x ys (p y) refl (none_has p ys x) e has
 
-  any_first : (p : X → Bool) (y : X) (ys : List X) (b : Bool) → p y ≡ b → (list_any p ys ≡ true → (x : X) × Has ys x × (p x ≡ true)) → (b || list_any p ys) ≡ true → (x : X) × Has (y ∷ ys) x × (p x ≡ true)
+  any_first : (p : X → Bool) (y : X) (ys : List X) (b : Bool) → p y ≡ b → (list_any p ys ≡ true → (x : X) × Has ys x
+      × (p x ≡ true)) → (b || list_any p ys) ≡ true → (x : X) × Has (y ∷ ys) x × (p x ≡ true)
   any_first p y ys true is more e = (y, inl refl, is)
   any_first p y ys false is more e = let later = more e in (later.0, inr later.1, later.2)
 
@@ -77,7 +82,9 @@ module _ {X : Type 0} where
   has_filter p (y ∷ ys) x (inl s) e = kept (p y) y x (filter p ys) (ap p (sym s) ∙ e) (inl s)
   has_filter p (y ∷ ys) x (inr later) e = passed (p y) y x (filter p ys) (has_filter p ys x later e)
 
-  filtered_first : (p : X → Bool) (y x : X) (ys : List X) (b : Bool) → p y ≡ b → (Has (filter p ys) x → Has ys x × (p x ≡ true)) → Has (cond b (y ∷ filter p ys) (filter p ys)) x → Has (y ∷ ys) x × (p x ≡ true)
+  filtered_first : (p : X → Bool) (y x : X) (ys : List X) (b : Bool) → p y ≡ b
+      → (Has (filter p ys) x → Has ys x × (p x ≡ true)) → Has (cond b (y ∷ filter p ys) (filter p ys)) x
+      → Has (y ∷ ys) x × (p x ≡ true)
   filtered_first p y x ys true is more (inl s) = (inl s, ap p s ∙ is)
   filtered_first p y x ys true is more (inr h) = (inr (more h).0, (more h).1)
   filtered_first p y x ys false is more h = (inr (more h).0, (more h).1)
@@ -97,16 +104,20 @@ module _ {X Y : Type 0} where
   map_has f (x ∷ xs) y (inl s) = (x, inl refl, s)
   map_has f (x ∷ xs) y (inr h) = let later = map_has f xs y h in (later.0, inr later.1, later.2)
 
-  pub has_filter_map : (f : X → Option Y) (xs : List X) (x : X) (y : Y) → Has xs x → f x ≡ Some y → Has (filter_map f xs) y
+  pub has_filter_map : (f : X → Option Y) (xs : List X) (x : X) (y : Y) → Has xs x → f x ≡ Some y
+      → Has (filter_map f xs) y
   has_filter_map f [] x y has e = absurd has
   has_filter_map f (z ∷ zs) x y (inl s) e = given (f z) y (filter_map f zs) (ap f (sym s) ∙ e)
   has_filter_map f (z ∷ zs) x y (inr later) e = behind (f z) y (filter_map f zs) (has_filter_map f zs x y later e)
 
-  mapped_first : (f : X → Option Y) (x : X) (y : Y) (xs : List X) (r : Option Y) → f x ≡ r → (Has (filter_map f xs) y → (z : X) × Has xs z × (f z ≡ Some y)) → Has (cons_option r (filter_map f xs)) y → (z : X) × Has (x ∷ xs) z × (f z ≡ Some y)
+  mapped_first : (f : X → Option Y) (x : X) (y : Y) (xs : List X) (r : Option Y) → f x ≡ r
+      → (Has (filter_map f xs) y → (z : X) × Has xs z × (f z ≡ Some y)) → Has (cons_option r (filter_map f xs)) y
+      → (z : X) × Has (x ∷ xs) z × (f z ≡ Some y)
   mapped_first f x y xs None is more h = ((more h).0, inr (more h).1, (more h).2)
   mapped_first f x y xs (Some w) is more (inl s) = (x, inl refl, is ∙ ap Some (sym s))
   mapped_first f x y xs (Some w) is more (inr h) = ((more h).0, inr (more h).1, (more h).2)
 
-  pub filter_map_has : (f : X → Option Y) (xs : List X) (y : Y) → Has (filter_map f xs) y → (x : X) × Has xs x × (f x ≡ Some y)
+  pub filter_map_has : (f : X → Option Y) (xs : List X) (y : Y) → Has (filter_map f xs) y → (x : X) × Has xs x
+      × (f x ≡ Some y)
   filter_map_has f [] y has = absurd has
   filter_map_has f (x ∷ xs) y has = mapped_first f x y xs (f x) refl (filter_map_has f xs y) has

@@ -1,5 +1,6 @@
 -- What the definitions mean, member by member.
-use Rattle.std.proofs.Common.{◌≡◌, ℕ, ◌<◌, ◌≤◌, List, [], ◌∷◌, Bool, true, false, cond, Option, Some, None, IsTrue, refl, sym, ap, ◌∙◌, subst, inl, inr, ◌⊎◌, map, length, arith}
+use Rattle.std.proofs.Common.{◌≡◌, ℕ, ◌<◌, ◌≤◌, List, [], ◌∷◌, Bool, true, false, cond, Option, Some, None, IsTrue}
+use Rattle.std.proofs.Common.{refl, sym, ap, ◌∙◌, subst, inl, inr, ◌⊎◌, map, length, arith}
 use Rattle.std.specs.Prelude.{◌↔◌, ◌&&◌, ◌||◌, nat_eq, nat_lt, ◌==◌, if◌then◌else◌}
 use Rattle.std.proofs.lemmas.Bool.{false≢true}
 use borrow.Author.Tests.{ltb-true, lt-ltb, eq-eqb}
@@ -12,8 +13,8 @@ use Rattle.std.specs.FinMap.{nat_cmp-IsAntisymmetric, slice_cmp-IsAntisymmetric}
 use Rattle.std.specs.List.{filter, filter_map, cons_option, find, list_any, list_all, AllByRecursion}
 use Rattle.std.specs.List.Sorted.{IsStrictlySortedBy}
 use Rattle.rejection_note.specs.declared.note.Note.{Note}
-use Rattle.rejection_note.specs.declared.title.Title.{Title}
-use Rattle.rejection_note.specs.declared.title.Title.TheVariants.{Quality, Safety, Worklist, Expired}
+use Rattle.rejection_note.specs.declared.title.NoteTitle.{NoteTitle}
+use Rattle.rejection_note.specs.declared.title.NoteTitle.TheVariants.{Quality, Safety, Worklist, Expired}
 use Rattle.archive_model.specs.Index.{code_of, names_under, is_titled, CoveredByTitles}
 use Rattle.operation.specs.declared.op.Op.{Op}
 use Rattle.operation.specs.declared.op.Op.TheVariants.{Content as a_content, Correction as a_correction}
@@ -22,15 +23,20 @@ use Rattle.operation.specs.Spelling.{digest_of}
 use Rattle.archive_model.specs.declared.view.View.{View}
 use Rattle.octets.specs.Texts.{same, text_cmp, put, ascending}
 use Rattle.archive_model.specs.View.{hides}
-use Rattle.archive_model.specs.Contents.{content_in, contents, contents_of, is_of_instance, pick, flagged, is_flagged, instances}
+use Rattle.archive_model.specs.Contents.{content_in, contents, contents_of, is_of_instance, pick, flagged, is_flagged}
+use Rattle.archive_model.specs.Contents.{instances}
 use Rattle.archive_model.specs.Covered.{is_among, covers, is_covered, is_hiding}
 use Rattle.archive_model.specs.Shown.{shown, shown_at, unless_hiding}
 use Rattle.archive_model.specs.Groups.{is_of_study, is_of_series, first_of}
 use Rattle.archive_model.specs.Attributes.{correction_cmp, is_last, greatest}
 use Rattle.octets.specs.Members.{Has}
-use Rattle.archive_model.specs.Laws.{Ascend, IsNotAfter, GreatestIsLast, SomeHaveGreatest, LastHaveOneValue, PickIsContent, PickIsLeast, ContentsHavePick, CoveredIsNamed, ShownArePicks, FlaggedHaveTwo, ShownAscend, IsLeastOf, StudyRepresentativeIsLeast, SeriesRepresentativeIsLeast}
+use Rattle.archive_model.specs.Laws.{Ascend, IsNotAfter, GreatestIsLast, SomeHaveGreatest, LastHaveOneValue}
+use Rattle.archive_model.specs.Laws.{PickIsContent, PickIsLeast, ContentsHavePick, CoveredIsNamed, ShownArePicks}
+use Rattle.archive_model.specs.Laws.{FlaggedHaveTwo, ShownAscend, IsLeastOf, StudyRepresentativeIsLeast}
+use Rattle.archive_model.specs.Laws.{SeriesRepresentativeIsLeast}
 use Rattle.octets.proofs.TextLemmas.{in_ascending, ascending_sorted}
-use Rattle.archive_model.proofs.MemberLaws.{has_all, found_has, none_has, any_has, has_any, has_filter, filter_has, has_map, map_has, has_filter_map, filter_map_has}
+use Rattle.archive_model.proofs.MemberLaws.{has_all, found_has, none_has, any_has, has_any, has_filter, filter_has}
+use Rattle.archive_model.proofs.MemberLaws.{has_map, map_has, has_filter_map, filter_map_has}
 use Rattle.archive_model.proofs.Latest.{correction_total, latest_from, latest_is_greatest, from_latest}
 
 -- ---- texts
@@ -82,7 +88,8 @@ pick_is_content uid ops c e =
     let found = found_has (is_of_instance uid) (contents ops) c e in (found.0, same_is c.instance uid found.1)
 
 pub contents_have_pick : ContentsHavePick
-contents_have_pick uid ops c none has is = false≢true (sym (none_has (is_of_instance uid) (contents ops) c none has) ∙ same_itself c.instance uid is)
+contents_have_pick uid ops c none has is = false≢true (sym (none_has (is_of_instance uid) (contents ops) c none has)
+    ∙ same_itself c.instance uid is)
 
 all_has : {X : Type 0} (P : X → Type 0) (xs : List X) (x : X) → AllByRecursion P xs → Has xs x → P x
 all_has P [] x all has = absurd has
@@ -105,21 +112,27 @@ le_itself d = ap is_le (tied_itself nat_list_cmp_total d)
 abbrev pub digest_in : ContentParts → List ℕ
 digest_in c = digest_of (a_content c)
 
-least_first : (uid : List ℕ) (x c d : ContentParts) (ops : List Op) (b : Bool) → is_of_instance uid x ≡ b → AllByRecursion (λ y. text_cmp (digest_in x) y ≡ Less) (map digest_of ops)
+least_first : (uid : List ℕ) (x c d : ContentParts) (ops : List Op) (b : Bool) → is_of_instance uid x ≡ b
+    → AllByRecursion (λ y. text_cmp (digest_in x) y ≡ Less) (map digest_of ops)
     → (pick uid ops ≡ Some c → Has (contents ops) d → is_le (text_cmp (digest_in c) (digest_in d)) ≡ true)
-    → cond b (Some x) (pick uid ops) ≡ Some c → (d ≡ x) ⊎ Has (contents ops) d → d.instance ≡ uid → is_le (text_cmp (digest_in c) (digest_in d)) ≡ true
+    → cond b (Some x) (pick uid ops) ≡ Some c → (d ≡ x) ⊎ Has (contents ops) d → d.instance ≡ uid
+    → is_le (text_cmp (digest_in c) (digest_in d)) ≡ true
 least_first uid x c d ops true is up more e (inl s) inst =
-    ap (λ y. is_le (text_cmp (digest_in y) (digest_in d))) (sym (some_content x c e)) ∙ ap (λ y. is_le (text_cmp (digest_in x) (digest_in y))) s ∙ le_itself (digest_in x)
+    ap (λ y. is_le (text_cmp (digest_in y) (digest_in d))) (sym (some_content x c e))
+    ∙ ap (λ y. is_le (text_cmp (digest_in x) (digest_in y))) s ∙ le_itself (digest_in x)
 least_first uid x c d ops true is up more e (inr h) inst =
     ap (λ y. is_le (text_cmp (digest_in y) (digest_in d))) (sym (some_content x c e))
-    ∙ ap is_le (all_has (λ y. text_cmp (digest_in x) y ≡ Less) (map digest_of ops) (digest_in d) up (has_map digest_of ops (a_content d) (content_has ops d h)))
-least_first uid x c d ops false is up more e (inl s) inst = absurd (false≢true (sym is ∙ same_itself x.instance uid (ap (λ (y : ContentParts). y.instance) (sym s) ∙ inst)))
+    ∙ ap is_le (all_has (λ y. text_cmp (digest_in x) y ≡ Less) (map digest_of ops) (digest_in d)
+    up (has_map digest_of ops (a_content d) (content_has ops d h)))
+least_first uid x c d ops false is up more e (inl s) inst =
+    absurd (false≢true (sym is ∙ same_itself x.instance uid (ap (λ (y : ContentParts). y.instance) (sym s) ∙ inst)))
 least_first uid x c d ops false is up more e (inr h) inst = more e h
 
 pub pick_is_least : PickIsLeast
 unfolding IsStrictlySortedBy
 pick_is_least uid [] c d up e has inst = absurd has
-pick_is_least uid (a_content x ∷ ops) c d up e has inst = least_first uid x c d ops (is_of_instance uid x) refl up.0 (λ p h. pick_is_least uid ops c d up.1 p h inst) e has inst
+pick_is_least uid (a_content x ∷ ops) c d up e has inst = least_first uid x c d ops (is_of_instance uid x) refl
+    up.0 (λ p h. pick_is_least uid ops c d up.1 p h inst) e has inst
 pick_is_least uid (a_correction k ∷ ops) c d up e has inst = pick_is_least uid ops c d up.1 e has inst
 
 -- ---- what is covered
@@ -137,28 +150,35 @@ among_has uids uid e = let at = any_has (λ u. same u uid) uids e in subst (Has 
 pub has_among : (uids : List (List ℕ)) (uid : List ℕ) → Has uids uid → is_among uids uid ≡ true
 has_among uids uid has = has_any (λ u. same u uid) uids uid has (same_itself uid uid refl)
 
-covers_is : (view : View) (uid : List ℕ) (r : Option Note) → covers view uid r ≡ true → (note : Note) × (r ≡ Some note) × (hides view note.title ≡ true) × Has note.covers uid
+covers_is : (view : View) (uid : List ℕ) (r : Option Note) → covers view uid r ≡ true → (note : Note) × (r ≡ Some note)
+    × (hides view note.title ≡ true) × Has note.covers uid
 covers_is view uid None e = absurd (false≢true e)
-covers_is view uid (Some note) e = let both = and_true (hides view note.title) (is_among note.covers uid) e in (note, refl, both.0, among_has note.covers uid both.1)
+covers_is view uid (Some note) e = let both = and_true (hides view note.title) (is_among note.covers uid) e in
+    (note, refl, both.0, among_has note.covers uid both.1)
 
 pub covered_is_named : CoveredIsNamed
 covered_is_named view ops uid = (
   λ e. let at = any_has (λ (c : ContentParts). covers view uid c.note) (contents ops) e in
       let says = covers_is view uid at.0.note at.2 in
       (at.0, says.0, at.1, says.1, says.2, says.3),
-  λ w. has_any (λ (c : ContentParts). covers view uid c.note) (contents ops) w.0 w.2 (ap (covers view uid) w.3 ∙ true_and (hides view w.1.title) (is_among w.1.covers uid) w.4 (has_among w.1.covers uid w.5)),
+  λ w. has_any (λ (c : ContentParts). covers view uid c.note) (contents ops) w.0 w.2 (ap (covers view uid) w.3
+      ∙ true_and (hides view w.1.title) (is_among w.1.covers uid) w.4 (has_among w.1.covers uid w.5)),
 )
 
 -- ---- what is shown, and what is flagged
 
 instance_has : (ops : List Op) (c : ContentParts) → Has (contents ops) c → Has (instances ops) c.instance
-instance_has ops c has = in_ascending c.instance (map (λ (x : ContentParts). x.instance) (contents ops)) (has_map (λ (x : ContentParts). x.instance) (contents ops) c has)
+instance_has ops c has = in_ascending c.instance (map (λ (x : ContentParts). x.instance) (contents ops))
+    (has_map (λ (x : ContentParts). x.instance) (contents ops) c has)
 
-unless_is : (view : View) (x c : ContentParts) (b : Bool) → is_hiding view x.note ≡ b → (if b then None else Some x) ≡ Some c → (x ≡ c) × (is_hiding view c.note ≡ false)
+unless_is : (view : View) (x c : ContentParts) (b : Bool) → is_hiding view x.note ≡ b
+    → (if b then None else Some x) ≡ Some c → (x ≡ c) × (is_hiding view c.note ≡ false)
 unless_is view x c true is e = absurd cc
-unless_is view x c false is e = let s = some_content x c e in (s, ap (λ (y : ContentParts). is_hiding view y.note) (sym s) ∙ is)
+unless_is view x c false is e = let s = some_content x c e in
+    (s, ap (λ (y : ContentParts). is_hiding view y.note) (sym s) ∙ is)
 
-shown_is : (view : View) (ops : List Op) (uid : List ℕ) (c : ContentParts) (b : Bool) (r : Option ContentParts) → is_covered view ops uid ≡ b → pick uid ops ≡ r → (if b then None else unless_hiding view r) ≡ Some c
+shown_is : (view : View) (ops : List Op) (uid : List ℕ) (c : ContentParts) (b : Bool) (r : Option ContentParts)
+    → is_covered view ops uid ≡ b → pick uid ops ≡ r → (if b then None else unless_hiding view r) ≡ Some c
     → (pick uid ops ≡ Some c) × (is_covered view ops uid ≡ false) × (is_hiding view c.note ≡ false)
 shown_is view ops uid c true r covered picked e = absurd cc
 shown_is view ops uid c false None covered picked e = absurd cc
@@ -171,8 +191,10 @@ shown_are_picks view ops c = (
       let is = shown_is view ops at.0 c (is_covered view ops at.0) (pick at.0 ops) refl refl at.2 in
       let uid = (pick_is_content at.0 ops c is.0).1 in
       (ap (λ u. pick u ops) uid ∙ is.0, ap (is_covered view ops) uid ∙ is.1, is.2),
-  λ w. has_filter_map (shown_at view ops) (instances ops) c.instance c (instance_has ops c (pick_is_content c.instance ops c w.0).0)
-      (ap (λ b. if b then None else unless_hiding view (pick c.instance ops)) w.1 ∙ ap (unless_hiding view) w.0 ∙ ap (λ b. if b then None else Some c) w.2),
+  λ w. has_filter_map (shown_at view ops) (instances ops) c.instance
+      c (instance_has ops c (pick_is_content c.instance ops c w.0).0)
+      (ap (λ b. if b then None else unless_hiding view (pick c.instance ops)) w.1 ∙ ap (unless_hiding view) w.0
+      ∙ ap (λ b. if b then None else Some c) w.2),
 )
 
 one_there : {X : Type 0} (xs : List X) → 1 < length xs → (x : X) × Has xs x
@@ -184,18 +206,24 @@ flagged_have_two ops uid = (
   λ has. ltb-true 1 (length (contents_of uid ops)) (filter_has (is_flagged ops) (instances ops) uid has).1,
   λ two. let at = one_there (contents_of uid ops) two in
       let of = filter_has (is_of_instance uid) (contents ops) at.0 at.1 in
-      has_filter (is_flagged ops) (instances ops) uid (subst (Has (instances ops)) (same_is at.0.instance uid of.1) (instance_has ops at.0 of.0)) (lt-ltb 1 (length (contents_of uid ops)) two),
+      has_filter (is_flagged ops) (instances ops) uid (subst (Has (instances ops)) (same_is at.0.instance uid of.1)
+      (instance_has ops at.0 of.0)) (lt-ltb 1 (length (contents_of uid ops)) two),
 )
 
 -- ---- titles
 
-says_title : (view : View) (uid : List ℕ) (r : Option Note) → covers view uid r ≡ true → (title : Title) × (names_under title uid r ≡ true) × (hides view title ≡ true)
+says_title : (view : View) (uid : List ℕ) (r : Option Note) → covers view uid r ≡ true → (title : NoteTitle)
+    × (names_under title uid r ≡ true) × (hides view title ≡ true)
 says_title view uid None e = absurd (false≢true e)
 says_title view uid (Some note) e =
-    let both = and_true (hides view note.title) (is_among note.covers uid) e in
-    (note.title, true_and (code_of note.title == code_of note.title) (is_among note.covers uid) (eq-eqb (code_of note.title) (code_of note.title) refl) both.1, both.0)
+    let both = and_true (hides view note.title) (is_among note.covers uid) e in (
+      note.title,
+      true_and (code_of note.title == code_of note.title) (is_among note.covers uid)
+          (eq-eqb (code_of note.title) (code_of note.title) refl) both.1,
+      both.0,
+    )
 
-one_title : (a b : Title) → (code_of a == code_of b) ≡ true → a ≡ b
+one_title : (a b : NoteTitle) → (code_of a == code_of b) ≡ true → a ≡ b
 one_title Quality Quality e = refl
 one_title Quality Safety e = absurd (false≢true e)
 one_title Quality Worklist e = absurd (false≢true e)
@@ -213,11 +241,13 @@ one_title Expired Safety e = absurd (false≢true e)
 one_title Expired Worklist e = absurd (false≢true e)
 one_title Expired Expired e = refl
 
-hides_named : (view : View) (uid : List ℕ) (title : Title) (r : Option Note) → names_under title uid r ≡ true → hides view title ≡ true → covers view uid r ≡ true
+hides_named : (view : View) (uid : List ℕ) (title : NoteTitle) (r : Option Note) → names_under title uid r ≡ true
+    → hides view title ≡ true → covers view uid r ≡ true
 hides_named view uid title None e h = absurd (false≢true e)
 hides_named view uid title (Some note) e h =
     let both = and_true (code_of note.title == code_of title) (is_among note.covers uid) e in
-    true_and (hides view note.title) (is_among note.covers uid) (ap (hides view) (one_title note.title title both.0) ∙ h) both.1
+    true_and (hides view note.title) (is_among note.covers uid) (ap (hides view) (one_title note.title title both.0)
+    ∙ h) both.1
 
 pub covered_by_titles : CoveredByTitles
 covered_by_titles view ops uid = (
@@ -225,7 +255,8 @@ covered_by_titles view ops uid = (
       let says = says_title view uid at.0.note at.2 in
       (says.0, has_any (λ (c : ContentParts). names_under says.0 uid c.note) (contents ops) at.0 at.1 says.1, says.2),
   λ w. let at = any_has (λ (c : ContentParts). names_under w.0 uid c.note) (contents ops) w.1 in
-      has_any (λ (c : ContentParts). covers view uid c.note) (contents ops) at.0 at.1 (hides_named view uid w.0 at.0.note at.2 w.2),
+      has_any (λ (c : ContentParts). covers view uid c.note) (contents ops) at.0
+      at.1 (hides_named view uid w.0 at.0.note at.2 w.2),
 )
 
 -- ---- representatives
@@ -233,41 +264,62 @@ covered_by_titles view ops uid = (
 abbrev inst_of : List ContentParts → List (List ℕ)
 inst_of cs = map (λ (c : ContentParts). c.instance) cs
 
-shown_instance : (view : View) (ops : List Op) (uid : List ℕ) (c : ContentParts) → shown_at view ops uid ≡ Some c → c.instance ≡ uid
-shown_instance view ops uid c e = (pick_is_content uid ops c (shown_is view ops uid c (is_covered view ops uid) (pick uid ops) refl refl e).0).1
+shown_instance : (view : View) (ops : List Op) (uid : List ℕ) (c : ContentParts) → shown_at view ops uid ≡ Some c
+    → c.instance ≡ uid
+shown_instance view ops uid c e = (pick_is_content uid ops c (shown_is view ops uid c (is_covered view ops uid)
+    (pick uid ops) refl refl e).0).1
 
-given_all : (P : List ℕ → Type 0) (u : List ℕ) (cs : List ContentParts) (r : Option ContentParts) → ((c : ContentParts) → r ≡ Some c → c.instance ≡ u) → P u → AllByRecursion P (inst_of cs) → AllByRecursion P (inst_of (cons_option r cs))
+given_all : (P : List ℕ → Type 0) (u : List ℕ) (cs : List ContentParts) (r : Option ContentParts)
+    → ((c : ContentParts) → r ≡ Some c → c.instance ≡ u) → P u → AllByRecursion P (inst_of cs)
+    → AllByRecursion P (inst_of (cons_option r cs))
 given_all P u cs None of p all = all
 given_all P u cs (Some c) of p all = (subst P (sym (of c refl)) p, all)
 
-mapped_all : (P : List ℕ → Type 0) (f : List ℕ → Option ContentParts) (us : List (List ℕ)) → ((u : List ℕ) (c : ContentParts) → f u ≡ Some c → c.instance ≡ u) → AllByRecursion P us → AllByRecursion P (inst_of (filter_map f us))
+mapped_all : (P : List ℕ → Type 0) (f : List ℕ → Option ContentParts) (us : List (List ℕ))
+    → ((u : List ℕ) (c : ContentParts) → f u ≡ Some c → c.instance ≡ u) → AllByRecursion P us
+    → AllByRecursion P (inst_of (filter_map f us))
 mapped_all P f [] of all = tt
 mapped_all P f (u ∷ us) of all = given_all P u (filter_map f us) (f u) (of u) all.0 (mapped_all P f us of all.1)
 
-given_sorted : (u : List ℕ) (cs : List ContentParts) (r : Option ContentParts) → ((c : ContentParts) → r ≡ Some c → c.instance ≡ u) → AllByRecursion (λ y. text_cmp u y ≡ Less) (inst_of cs) → IsStrictlySortedBy text_cmp (inst_of cs) → IsStrictlySortedBy text_cmp (inst_of (cons_option r cs))
+given_sorted : (u : List ℕ) (cs : List ContentParts) (r : Option ContentParts)
+    → ((c : ContentParts) → r ≡ Some c → c.instance ≡ u) → AllByRecursion (λ y. text_cmp u y ≡ Less) (inst_of cs)
+    → IsStrictlySortedBy text_cmp (inst_of cs) → IsStrictlySortedBy text_cmp (inst_of (cons_option r cs))
 unfolding IsStrictlySortedBy
 given_sorted u cs None of below up = up
-given_sorted u cs (Some c) of below up = (subst (λ v. AllByRecursion (λ y. text_cmp v y ≡ Less) (inst_of cs)) (sym (of c refl)) below, up)
+given_sorted u cs (Some c) of below up = (
+  subst (λ v. AllByRecursion (λ y. text_cmp v y ≡ Less) (inst_of cs))
+      (sym (of c refl)) below,
+  up,
+)
 
-mapped_sorted : (f : List ℕ → Option ContentParts) (us : List (List ℕ)) → ((u : List ℕ) (c : ContentParts) → f u ≡ Some c → c.instance ≡ u) → IsStrictlySortedBy text_cmp us → IsStrictlySortedBy text_cmp (inst_of (filter_map f us))
+mapped_sorted : (f : List ℕ → Option ContentParts) (us : List (List ℕ))
+    → ((u : List ℕ) (c : ContentParts) → f u ≡ Some c → c.instance ≡ u) → IsStrictlySortedBy text_cmp us
+    → IsStrictlySortedBy text_cmp (inst_of (filter_map f us))
 unfolding IsStrictlySortedBy
 mapped_sorted f [] of up = tt
-mapped_sorted f (u ∷ us) of up = given_sorted u (filter_map f us) (f u) (of u) (mapped_all (λ y. text_cmp u y ≡ Less) f us of up.0) (mapped_sorted f us of up.1)
+mapped_sorted f (u ∷ us) of up = given_sorted u (filter_map f us) (f u) (of u) (mapped_all (λ y. text_cmp u y ≡ Less) f
+    us of up.0) (mapped_sorted f us of up.1)
 
 pub shown_ascend : ShownAscend
-shown_ascend view ops = mapped_sorted (shown_at view ops) (instances ops) (shown_instance view ops) (ascending_sorted (map (λ (c : ContentParts). c.instance) (contents ops)))
+shown_ascend view ops = mapped_sorted (shown_at view ops) (instances ops) (shown_instance view ops)
+    (ascending_sorted (map (λ (c : ContentParts). c.instance) (contents ops)))
 
-first_least : (p : ContentParts → Bool) (x c d : ContentParts) (cs : List ContentParts) (b : Bool) → AllByRecursion (λ y. text_cmp x.instance y ≡ Less) (inst_of cs)
+first_least : (p : ContentParts → Bool) (x c d : ContentParts) (cs : List ContentParts) (b : Bool)
+    → AllByRecursion (λ y. text_cmp x.instance y ≡ Less) (inst_of cs)
     → (first_of (filter p cs) ≡ Some c → Has (filter p cs) d → is_le (text_cmp c.instance d.instance) ≡ true)
-    → first_of (cond b (x ∷ filter p cs) (filter p cs)) ≡ Some c → Has (cond b (x ∷ filter p cs) (filter p cs)) d → is_le (text_cmp c.instance d.instance) ≡ true
+    → first_of (cond b (x ∷ filter p cs) (filter p cs)) ≡ Some c → Has (cond b (x ∷ filter p cs) (filter p cs)) d
+    → is_le (text_cmp c.instance d.instance) ≡ true
 first_least p x c d cs true up more e (inl s) =
-    ap (λ (y : ContentParts). is_le (text_cmp y.instance d.instance)) (sym (some_content x c e)) ∙ ap (λ (y : ContentParts). is_le (text_cmp x.instance y.instance)) s ∙ le_itself x.instance
+    ap (λ (y : ContentParts). is_le (text_cmp y.instance d.instance)) (sym (some_content x c e))
+    ∙ ap (λ (y : ContentParts). is_le (text_cmp x.instance y.instance)) s ∙ le_itself x.instance
 first_least p x c d cs true up more e (inr h) =
     ap (λ (y : ContentParts). is_le (text_cmp y.instance d.instance)) (sym (some_content x c e))
-    ∙ ap is_le (all_has (λ y. text_cmp x.instance y ≡ Less) (inst_of cs) d.instance up (has_map (λ (y : ContentParts). y.instance) cs d (filter_has p cs d h).0))
+    ∙ ap is_le (all_has (λ y. text_cmp x.instance y ≡ Less) (inst_of cs) d.instance
+    up (has_map (λ (y : ContentParts). y.instance) cs d (filter_has p cs d h).0))
 first_least p x c d cs false up more e h = more e h
 
-filtered_least : (p : ContentParts → Bool) (cs : List ContentParts) (c d : ContentParts) → IsStrictlySortedBy text_cmp (inst_of cs) → first_of (filter p cs) ≡ Some c → Has (filter p cs) d → is_le (text_cmp c.instance d.instance) ≡ true
+filtered_least : (p : ContentParts → Bool) (cs : List ContentParts) (c d : ContentParts) → IsStrictlySortedBy text_cmp
+    (inst_of cs) → first_of (filter p cs) ≡ Some c → Has (filter p cs) d → is_le (text_cmp c.instance d.instance) ≡ true
 unfolding IsStrictlySortedBy
 filtered_least p [] c d up e h = absurd h
 filtered_least p (x ∷ cs) c d up e h = first_least p x c d cs (p x) up.0 (filtered_least p cs c d up.1) e h
@@ -277,7 +329,13 @@ first_there [] c e = absurd cc
 first_there (x ∷ cs) c e = inl (sym (some_content x c e))
 
 pub study_is_least : StudyRepresentativeIsLeast
-study_is_least view ops study c e = (first_there (filter (is_of_study study) (shown view ops)) c e, λ d h. filtered_least (is_of_study study) (shown view ops) c d (shown_ascend view ops) e h)
+study_is_least view ops study c e = (
+  first_there (filter (is_of_study study) (shown view ops)) c e,
+  λ d h. filtered_least (is_of_study study) (shown view ops) c d (shown_ascend view ops) e h,
+)
 
 pub series_is_least : SeriesRepresentativeIsLeast
-series_is_least view ops study series c e = (first_there (filter (is_of_series study series) (shown view ops)) c e, λ d h. filtered_least (is_of_series study series) (shown view ops) c d (shown_ascend view ops) e h)
+series_is_least view ops study series c e = (
+  first_there (filter (is_of_series study series) (shown view ops)) c e,
+  λ d h. filtered_least (is_of_series study series) (shown view ops) c d (shown_ascend view ops) e h,
+)

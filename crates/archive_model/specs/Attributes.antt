@@ -31,7 +31,8 @@ corrects c tag k = k.tag == tag && is_target_of c k.target
 
 -- the order of corrections: by counter, then by site, then by value
 abbrev pub correction_cmp : CorrectionParts → CorrectionParts → Ordering
-correction_cmp a b = ordering_then (nat_cmp a.stamp.counter b.stamp.counter) (ordering_then (nat_cmp a.stamp.site b.stamp.site) (text_cmp a.value b.value))
+correction_cmp a b = ordering_then (nat_cmp a.stamp.counter b.stamp.counter)
+    (ordering_then (nat_cmp a.stamp.site b.stamp.site) (text_cmp a.value b.value))
 
 -- the one held, unless the next comes after it
 abbrev pub later_of : Option CorrectionParts → CorrectionParts → Option CorrectionParts

@@ -25,7 +25,8 @@ is_coerced ops c = list_any (is_changed ops c) corrected_tags
 -- An attribute of this value representation is put in, padded, where it has another value than the content's own.
 abbrev pub put_attribute : List Op → ContentParts → ℕ → Option (List ℕ) → List Tree → List Tree
 put_attribute ops c tag None ts = ts
-put_attribute ops c tag (Some vr) ts = if is_changed ops c tag then with_value c.syntax tag vr (attribute ops c tag) ts else ts
+put_attribute ops c tag (Some vr) ts = if is_changed ops c tag then with_value c.syntax tag vr (attribute ops c tag) ts
+    else ts
 
 abbrev pub with_attribute : List Op → ContentParts → ℕ → List Tree → List Tree
 with_attribute ops c tag ts = put_attribute ops c tag (correction_vr_of tag) ts
@@ -56,7 +57,8 @@ CoercedHasAttributes =
     → is_group_length tag ≡ false → correction_vr_of tag ≡ Some vr → is_changed ops c tag ≡ true
     → value_in tag (coerced ops c ts) ≡ Some (trimmed (attribute ops c tag))
 
--- every other value is as it was: of an attribute that has the content's own value, and of one that no correction may give a value
+-- every other value is as it was: of an attribute that has the content's own value, and of one that no correction may
+-- give a value
 abbrev pub CoercedKeepsOthers : Type 0
 CoercedKeepsOthers =
     (ops : List Op) (c : ContentParts) (ts : List Tree) (tag : ℕ)

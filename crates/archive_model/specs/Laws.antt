@@ -28,7 +28,8 @@ IsNotAfter other k = IsTrue (is_le (correction_cmp other k))
 
 -- the greatest of some corrections is one of them that none comes after
 abbrev pub GreatestIsLast : Type 0
-GreatestIsLast = (ks : List CorrectionParts) (k : CorrectionParts) → greatest ks ≡ Some k → Has ks k × ((other : CorrectionParts) → Has ks other → IsNotAfter other k)
+GreatestIsLast = (ks : List CorrectionParts) (k : CorrectionParts) → greatest ks ≡ Some k → Has ks k
+    × ((other : CorrectionParts) → Has ks other → IsNotAfter other k)
 
 -- some corrections have a greatest
 abbrev pub SomeHaveGreatest : Type 0
@@ -40,21 +41,25 @@ LastHaveOneValue = (j k : CorrectionParts) → IsNotAfter j k → IsNotAfter k j
 
 -- the pick of a UID is one of its contents
 abbrev pub PickIsContent : Type 0
-PickIsContent = (uid : List ℕ) (ops : List Op) (c : ContentParts) → pick uid ops ≡ Some c → Has (contents ops) c × (c.instance ≡ uid)
+PickIsContent = (uid : List ℕ) (ops : List Op) (c : ContentParts) → pick uid ops ≡ Some c → Has (contents ops) c
+    × (c.instance ≡ uid)
 
 -- and none of them has a lesser digest
 abbrev pub PickIsLeast : Type 0
-PickIsLeast = (uid : List ℕ) (ops : List Op) (c d : ContentParts) → Ascend ops → pick uid ops ≡ Some c → Has (contents ops) d → d.instance ≡ uid
+PickIsLeast = (uid : List ℕ) (ops : List Op) (c d : ContentParts) → Ascend ops → pick uid ops ≡ Some c
+    → Has (contents ops) d → d.instance ≡ uid
     → IsTrue (is_le (text_cmp (digest_of (a_content c)) (digest_of (a_content d))))
 
 -- a UID with no pick has no content
 abbrev pub ContentsHavePick : Type 0
-ContentsHavePick = (uid : List ℕ) (ops : List Op) (c : ContentParts) → pick uid ops ≡ None → Has (contents ops) c → c.instance ≡ uid → ⊥
+ContentsHavePick = (uid : List ℕ) (ops : List Op) (c : ContentParts) → pick uid ops ≡ None → Has (contents ops) c
+    → c.instance ≡ uid → ⊥
 
 -- a UID is covered where a content of the set is a note that names it and whose title hides
 abbrev pub CoveredIsNamed : Type 0
 CoveredIsNamed = (view : View) (ops : List Op) (uid : List ℕ) → IsTrue (is_covered view ops uid)
-    ↔ ((c : ContentParts) × (note : Note) × Has (contents ops) c × (c.note ≡ Some note) × IsTrue (hides view note.title) × Has note.covers uid)
+    ↔ ((c : ContentParts) × (note : Note) × Has (contents ops) c × (c.note ≡ Some note) × IsTrue (hides view note.title)
+    × Has note.covers uid)
 
 -- what is shown are the picks whose UID is not covered and which are no notes that hide
 abbrev pub ShownArePicks : Type 0
@@ -83,9 +88,11 @@ IsLeastOf cs c = Has cs c × ((d : ContentParts) → Has cs d → IsTrue (is_le 
 
 -- the representative of a study has the least UID of what is shown of the study
 abbrev pub StudyRepresentativeIsLeast : Type 0
-StudyRepresentativeIsLeast = (view : View) (ops : List Op) (study : List ℕ) (c : ContentParts) → study_representative study (shown view ops) ≡ Some c → IsLeastOf (in_study study (shown view ops)) c
+StudyRepresentativeIsLeast = (view : View) (ops : List Op) (study : List ℕ) (c : ContentParts) → study_representative
+    study (shown view ops) ≡ Some c → IsLeastOf (in_study study (shown view ops)) c
 
 -- that of a series of a study the least UID of what is shown of the series
 abbrev pub SeriesRepresentativeIsLeast : Type 0
-SeriesRepresentativeIsLeast = (view : View) (ops : List Op) (study series : List ℕ) (c : ContentParts) → series_representative study series (shown view ops) ≡ Some c
+SeriesRepresentativeIsLeast = (view : View) (ops : List Op) (study series : List ℕ) (c : ContentParts)
+    → series_representative study series (shown view ops) ≡ Some c
     → IsLeastOf (in_series study series (shown view ops)) c

@@ -3,7 +3,7 @@
 ghost use Rattle.std.specs.Prelude.{◌≡◌};
 ghost use Rattle.archive_model.specs.View.{hides as hides_in};
 
-use rejection_note::Title;
+use rejection_note::NoteTitle;
 
 /// What an archive shows depends on the called AE title of who asks.
 #[derive(Clone, Copy, Debug, PartialEq, Eq)]
@@ -17,16 +17,16 @@ pub enum View {
 }
 
 /// Whether notes of a title hide in a view.
-pub fn hides(view: View, title: Title) -> bool
+pub fn hides(view: View, title: NoteTitle) -> bool
     ensures { result ≡ hides_in view title }
 {
     match (view, title) {
         (View::Archive, _) => true,
 
-        (View::Quality, Title::Quality) => false,
-        (View::Quality, Title::Safety) => true,
-        (View::Quality, Title::Worklist) => true,
-        (View::Quality, Title::Expired) => true,
+        (View::Quality, NoteTitle::Quality) => false,
+        (View::Quality, NoteTitle::Safety) => true,
+        (View::Quality, NoteTitle::Worklist) => true,
+        (View::Quality, NoteTitle::Expired) => true,
 
         (View::Audit, _) => false,
     }

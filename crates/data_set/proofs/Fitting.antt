@@ -1,5 +1,6 @@
 -- The elements of a data set have lengths that their headers can spell.
-use Rattle.std.proofs.Common.{ℕ, zero, suc, ◌<◌, ◌^◌, Bool, true, false, MatchBool, List, [], ◌∷◌, length, Option, Some, None, arith}
+use Rattle.std.proofs.Common.{ℕ, zero, suc, ◌<◌, ◌^◌, Bool, true, false, MatchBool, List, [], ◌∷◌, length, Option, Some}
+use Rattle.std.proofs.Common.{None, arith}
 use Rattle.data_set.specs.declared.syntax.Syntax.{Syntax}
 use Rattle.data_set.specs.Tree.{Tree, Rows, Trees, leaf, node, no_rows, row, no_trees, tree, tag_of, trees_of}
 use Rattle.data_set.specs.Vr.{is_short}

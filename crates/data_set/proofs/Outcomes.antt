@@ -1,5 +1,6 @@
 -- Every text of bytes comes to an outcome: elements that it spells, or the fault of the first that offends.
-use Rattle.std.proofs.Common.{inl, inr, ◌≡◌, ◌⊎◌, ℕ, zero, suc, ◌<◌, ◌≤◌, Bool, true, false, cond, List, [], ◌∷◌, ◌++◌, length, take, drop, Option, Some, None, Ok, Err, refl, ap, subst, arith}
+use Rattle.std.proofs.Common.{inl, inr, ◌≡◌, ◌⊎◌, ℕ, zero, suc, ◌<◌, ◌≤◌, Bool, true, false, cond, List, [], ◌∷◌, ◌++◌}
+use Rattle.std.proofs.Common.{length, take, drop, Option, Some, None, Ok, Err, refl, ap, subst, arith}
 use Rattle.std.specs.Prelude.{◌==◌}
 use Rattle.std.proofs.lemmas.List.{length-append, length-drop}
 use Rattle.std.specs.Int.{w32, to_le_bytes}
@@ -16,7 +17,8 @@ use Rattle.data_set.specs.Tags.{item, item_end, sequence_end, tag_text}
 use Rattle.data_set.specs.Vr.{undefined_length}
 use Rattle.data_set.specs.Header.{behind_end, eight_at, end_at, front_at, item_at}
 use Rattle.data_set.specs.Spelling.{Begins, BeginsItem}
-use Rattle.data_set.specs.Texts.{All_of, Behind, Body, ElementOver, Given, HasContent, HasFault, IsItem, Spells, Takes, after_tag, behind, closing_of, deepest, no_order, place_of}
+use Rattle.data_set.specs.Texts.{All_of, Behind, Body, ElementOver, Given, HasContent, HasFault, IsItem, Spells, Takes}
+use Rattle.data_set.specs.Texts.{after_tag, behind, closing_of, deepest, no_order, place_of}
 use Rattle.data_set.proofs.HeaderLaws.{front_takes, item_takes, rest_bytes}
 use Rattle.data_set.proofs.Sets.{whole}
 

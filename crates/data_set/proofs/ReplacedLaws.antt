@@ -1,9 +1,13 @@
 -- A value put into a data set in its place leaves a data set of the grammar.
-use Rattle.std.proofs.Common.{◌≡◌, ℕ, ◌+◌, ◌%◌, ◌<◌, ◌≤◌, ◌^◌, Bool, true, false, cond, List, [], ◌∷◌, ◌++◌, length, Option, Some, None, refl, sym, ap, subst, arith, length-append}
+use Rattle.std.proofs.Common.{◌≡◌, ℕ, ◌+◌, ◌%◌, ◌<◌, ◌≤◌, ◌^◌, Bool, true, false, cond, List, [], ◌∷◌, ◌++◌, length}
+use Rattle.std.proofs.Common.{Option, Some, None, refl, sym, ap, subst, arith, length-append}
 use Rattle.std.specs.Prelude.{◌==◌, nat_lt}
 use Rattle.std.proofs.lemmas.Bool.{eqb-true, ltb-true, lt-ltb, le-ltb}
 use lib.Chars.{codes}
-use Rattle.dictionary.specs.declared.elements.TheConstants.{ACCESSION_NUMBER, PATIENT_BIRTH_DATE, PATIENT_ID, PATIENT_NAME, PATIENT_SEX, REFERRING_PHYSICIAN_NAME, SERIES_DESCRIPTION, STUDY_DATE, STUDY_DESCRIPTION, STUDY_ID, STUDY_TIME}
+use Rattle.dictionary.specs.declared.elements.TheConstants.{ACCESSION_NUMBER, PATIENT_BIRTH_DATE, PATIENT_ID}
+use Rattle.dictionary.specs.declared.elements.TheConstants.{PATIENT_NAME, PATIENT_SEX, REFERRING_PHYSICIAN_NAME}
+use Rattle.dictionary.specs.declared.elements.TheConstants.{SERIES_DESCRIPTION, STUDY_DATE, STUDY_DESCRIPTION, STUDY_ID}
+use Rattle.dictionary.specs.declared.elements.TheConstants.{STUDY_TIME}
 use Rattle.dictionary.specs.Elements.{vr_in_table}
 use Rattle.data_set.specs.declared.syntax.Syntax.{Syntax}
 use Rattle.data_set.specs.declared.syntax.Syntax.TheVariants.{Implicit, Explicit}
@@ -22,7 +26,8 @@ use Rattle.data_set.proofs.ConvertedLaws.{NoLater, skip, tag_above, converted_ta
 -- ---- what a correction puts in may stand anywhere behind a lesser tag
 
 abbrev MayPut : ℕ → List ℕ → Type 0
-MayPut tag vr = (s : Syntax) (q : Option ℕ) (size : ℕ) → is_above q tag ≡ true → size < 2 ^ 16 → MayStand s q tag (vr_in s (Some vr)) size None
+MayPut tag vr = (s : Syntax) (q : Option ℕ) (size : ℕ) → is_above q tag ≡ true → size < 2 ^ 16
+    → MayStand s q tag (vr_in s (Some vr)) size None
 
 small : (size : ℕ) → size < 2 ^ 16 → (size == undefined_length) ≡ false
 small size lt = other (size == undefined_length) (λ e. absurd (omega (arith, eqb-true size undefined_length e)))
@@ -31,13 +36,30 @@ small size lt = other (size == undefined_length) (λ e. absurd (omega (arith, eq
     other true no_way = absurd (no_way refl)
     other false no_way = refl
 
-may_put : (tag a b : ℕ) → tag < 2 ^ 32 → is_item_tag tag ≡ false → is_reserved_group tag ≡ false → is_listed tag ≡ false → is_capital a ≡ true → is_capital b ≡ true → is_short a b ≡ true → is_name a b (codes "SQ") ≡ false → is_name a b (codes "UN") ≡ false
+may_put : (tag a b : ℕ) → tag < 2 ^ 32 → is_item_tag tag ≡ false → is_reserved_group tag ≡ false → is_listed tag ≡ false
+    → is_capital a ≡ true → is_capital b ≡ true → is_short a b ≡ true → is_name a b (codes "SQ") ≡ false
+    → is_name a b (codes "UN") ≡ false
     → MayPut tag (a ∷ b ∷ [])
 unfolding offence
 may_put tag a b lt item group listed cap_a cap_b short sq un Implicit q size above_q fits =
-    record { tag_fits = lt; suits = tt; fits = omega arith; faultless = rw (item, above_q, group, small size fits, listed) (rw (small size fits) refl); is_inner = rw (small size fits, listed) refl }
+    record {
+      tag_fits = lt;
+      suits = tt;
+      fits = omega arith;
+      faultless =
+          rw (item, above_q, group, small size fits, listed) (rw (small size fits) refl);
+      is_inner =
+          rw (small size fits, listed) refl;
+    }
 may_put tag a b lt item group listed cap_a cap_b short sq un Explicit q size above_q fits =
-    record { tag_fits = lt; suits = tt; fits = rw short fits; faultless = rw (item, above_q, group, cap_a, cap_b, listed, sq, un, small size fits) refl; is_inner = rw (sq, un) refl }
+    record {
+      tag_fits = lt;
+      suits = tt;
+      fits = rw short fits;
+      faultless =
+          rw (item, above_q, group, cap_a, cap_b, listed, sq, un, small size fits) refl;
+      is_inner = rw (sq, un) refl;
+    }
 
 abbrev AllRows : (ℕ → List ℕ → Type 0) → List (ℕ × List ℕ) → Type 0
 AllRows P [] = Unit {0}
@@ -46,12 +68,15 @@ AllRows P (x ∷ xs) = P x.0 x.1 × AllRows P xs
 some_is : (u v : List ℕ) → Some u ≡ Some v → u ≡ v
 some_is u v same = cc
 
-found : (P : ℕ → List ℕ → Type 0) (rows : List (ℕ × List ℕ)) (tag : ℕ) (vr : List ℕ) → AllRows P rows → vr_among tag rows ≡ Some vr → P tag vr
+found : (P : ℕ → List ℕ → Type 0) (rows : List (ℕ × List ℕ)) (tag : ℕ) (vr : List ℕ) → AllRows P rows
+    → vr_among tag rows ≡ Some vr → P tag vr
 found P [] tag vr all e = absurd cc
 found P (x ∷ xs) tag vr all e = by_test (tag == x.0) (eqb-true tag x.0) (λ is. found P xs tag vr all.1 is) e
   where
-    by_test : (b : Bool) → (b ≡ true → tag ≡ x.0) → (vr_among tag xs ≡ Some vr → P tag vr) → cond b (Some x.1) (vr_among tag xs) ≡ Some vr → P tag vr
-    by_test true same more is = subst (λ (t : ℕ). P t vr) (sym (same refl)) (subst (λ (v : List ℕ). P x.0 v) (some_is x.1 vr is) all.0)
+    by_test : (b : Bool) → (b ≡ true → tag ≡ x.0) → (vr_among tag xs ≡ Some vr → P tag vr) → cond b (Some x.1)
+        (vr_among tag xs) ≡ Some vr → P tag vr
+    by_test true same more is = subst (λ (t : ℕ). P t vr) (sym (same refl))
+        (subst (λ (v : List ℕ). P x.0 v) (some_is x.1 vr is) all.0)
     by_test false same more is = more is
 
 all_may : AllRows MayPut corrections
@@ -98,7 +123,8 @@ padded_length vr value = by_test (length value % 2 == 0)
 -- ---- in its place
 
 -- behind a tag that is no less, all tags are greater
-greater : (n : ℕ) (s : Syntax) (tag x : ℕ) (ts : List Tree) → tag ≤ x → AreTrees (trees_of ts) n s (Some x) → (below tag ts ≡ []) × (above tag ts ≡ ts)
+greater : (n : ℕ) (s : Syntax) (tag x : ℕ) (ts : List Tree) → tag ≤ x → AreTrees (trees_of ts) n s (Some x)
+    → (below tag ts ≡ []) × (above tag ts ≡ ts)
 greater n s tag x [] le are = (refl, refl)
 greater n s tag x (t ∷ ts) le are =
     let lt : x < tag_of t = ltb-true x (tag_of t) (tag_above s (Some x) t n are.0) in
@@ -114,18 +140,27 @@ abbrev placed : Syntax → Tree → Trees → Trees → List Tree
 placed s new lesser rest = list_trees lesser ++ (new ∷ list_trees rest)
 
 -- an element and those behind it, none of them a group length
-converted_front : (s : Syntax) (n : ℕ) (t : Tree) (ts : Trees) (p q : Option ℕ) → is_above q (tag_of t) ≡ true → IsTree t n s p → AreTrees ts n s (Some (tag_of t)) → AreTrees (converted_trees s (tree t ts)) n s q
+converted_front : (s : Syntax) (n : ℕ) (t : Tree) (ts : Trees) (p q : Option ℕ) → is_above q (tag_of t) ≡ true
+    → IsTree t n s p → AreTrees ts n s (Some (tag_of t)) → AreTrees (converted_trees s (tree t ts)) n s q
 converted_front s n t ts p q up is are = by_test (is_group_length (tag_of t))
   where
-    by_test : (b : Bool) → AreTrees (cond b (converted_trees s ts) (tree (converted_tree s t) (converted_trees s ts))) n s q
+    by_test : (b : Bool) → AreTrees (cond b (converted_trees s ts) (tree (converted_tree s t) (converted_trees s ts))) n
+        s q
     by_test true = own_trees s ts n (Some (tag_of t)) q (skip q (tag_of t) up) are
-    by_test false = (own_tree s t n p q up is, own_trees s ts n (Some (tag_of t)) (Some (tag_of (converted_tree s t))) (λ tag up'. subst (λ (x : ℕ). is_above (Some x) tag ≡ true) (converted_tag s t) up') are)
+    by_test false = (
+      own_tree s t n p q up is,
+      own_trees s ts n (Some (tag_of t)) (Some (tag_of (converted_tree s t)))
+          (λ tag up'. subst (λ (x : ℕ). is_above (Some x) tag ≡ true) (converted_tag s t) up') are,
+    )
 
 -- one element more, in front
-put_step : (n : ℕ) (s : Syntax) (new : Tree) → IsPut n s new → (t : Tree) (ts : List Tree) (p q : Option ℕ) → NoLater q p → is_above q (tag_of new) ≡ true → AreTrees (trees_of (t ∷ ts)) n s p
-    → ((r : Option ℕ) → NoLater r (Some (tag_of t)) → is_above r (tag_of new) ≡ true → AreTrees (trees_of (with_element s new ts)) n s r)
+put_step : (n : ℕ) (s : Syntax) (new : Tree) → IsPut n s new → (t : Tree) (ts : List Tree) (p q : Option ℕ)
+    → NoLater q p → is_above q (tag_of new) ≡ true → AreTrees (trees_of (t ∷ ts)) n s p
+    → ((r : Option ℕ) → NoLater r (Some (tag_of t)) → is_above r (tag_of new) ≡ true
+    → AreTrees (trees_of (with_element s new ts)) n s r)
     → AreTrees (trees_of (with_element s new (t ∷ ts))) n s q
-put_step n s new put t ts p q later up are more = by_order (nat_lt (tag_of t) (tag_of new)) (nat_lt (tag_of new) (tag_of t)) refl refl
+put_step n s new put t ts p q later up are more = by_order (nat_lt (tag_of t) (tag_of new))
+    (nat_lt (tag_of new) (tag_of t)) refl refl
   where
     here : is_above q (tag_of t) ≡ true
     here = later (tag_of t) (tag_above s p t n are.0)
@@ -135,27 +170,44 @@ put_step n s new put t ts p q later up are more = by_order (nat_lt (tag_of t) (t
 
     -- t is lesser: it stays, or is left out
     first : (b : Bool) → nat_lt (tag_of t) (tag_of new) ≡ true
-        → AreTrees (trees_of (placed s new (cond b (converted_trees s (trees_of (below (tag_of new) ts))) (tree (converted_tree s t) (converted_trees s (trees_of (below (tag_of new) ts))))) (converted_trees s (trees_of (above (tag_of new) ts))))) n s q
+        → AreTrees (trees_of (placed s new (cond b (converted_trees s (trees_of (below (tag_of new) ts)))
+        (tree (converted_tree s t) (converted_trees s (trees_of (below (tag_of new) ts)))))
+        (converted_trees s (trees_of (above (tag_of new) ts))))) n s q
     first true lt = more q rest up
-    first false lt =
-        (own_tree s t n p q here are.0, more (Some (tag_of (converted_tree s t))) (λ tag up'. subst (λ (x : ℕ). is_above (Some x) tag ≡ true) (converted_tag s t) up') (subst (λ (x : ℕ). is_above (Some x) (tag_of new) ≡ true) (converted_tag s t) lt))
+    first false lt = (
+      own_tree s t n p q here are.0,
+      more (Some (tag_of (converted_tree s t)))
+          (λ tag up'. subst (λ (x : ℕ). is_above (Some x) tag ≡ true) (converted_tag s t) up')
+          (subst (λ (x : ℕ). is_above (Some x) (tag_of new) ≡ true) (converted_tag s t) lt),
+    )
 
-    by_order : (low high : Bool) → nat_lt (tag_of t) (tag_of new) ≡ low → nat_lt (tag_of new) (tag_of t) ≡ high → AreTrees (trees_of (with_element s new (t ∷ ts))) n s q
+    by_order : (low high : Bool) → nat_lt (tag_of t) (tag_of new) ≡ low → nat_lt (tag_of new) (tag_of t) ≡ high
+        → AreTrees (trees_of (with_element s new (t ∷ ts))) n s q
     by_order true high a b =
-        let none : nat_lt (tag_of new) (tag_of t) ≡ false = le-ltb (tag_of new) (tag_of t) (omega (arith, ltb-true (tag_of t) (tag_of new) a)) in
+        let none : nat_lt (tag_of new) (tag_of t) ≡ false = le-ltb (tag_of new) (tag_of t)
+        (omega (arith, ltb-true (tag_of t) (tag_of new) a)) in
         rw (a, none) (first (is_group_length (tag_of t)) a)
     by_order false false a b = rw (a, b) (more q rest up)
     by_order false true a b =
         let g = greater n s (tag_of new) (tag_of t) ts (omega (arith, ltb-true (tag_of new) (tag_of t) b)) are.1 in
-        rw (a, b, g.0, g.1) (put q up, subst (λ (us : Trees). AreTrees us n s (Some (tag_of new))) (sym (trees_back (converted_trees s (tree t (trees_of ts))))) (converted_front s n t (trees_of ts) p (Some (tag_of new)) b are.0 are.1))
+        rw (a, b, g.0, g.1) (
+          put q up,
+          subst (λ (us : Trees). AreTrees us n s (Some (tag_of new)))
+              (sym (trees_back (converted_trees s (tree t (trees_of ts))))) (converted_front s n t (trees_of ts)
+              p (Some (tag_of new)) b are.0 are.1),
+        )
 
-put_are : (n : ℕ) (s : Syntax) (new : Tree) → IsPut n s new → (ts : List Tree) (p q : Option ℕ) → NoLater q p → is_above q (tag_of new) ≡ true → AreTrees (trees_of ts) n s p
+put_are : (n : ℕ) (s : Syntax) (new : Tree) → IsPut n s new → (ts : List Tree) (p q : Option ℕ) → NoLater q p
+    → is_above q (tag_of new) ≡ true → AreTrees (trees_of ts) n s p
     → AreTrees (trees_of (with_element s new ts)) n s q
 put_are n s new put [] p q later up are = (put q up, tt)
-put_are n s new put (t ∷ ts) p q later up are = put_step n s new put t ts p q later up are (λ r later' up'. put_are n s new put ts (Some (tag_of t)) r later' up' are.1)
+put_are n s new put (t ∷ ts) p q later up are = put_step n s new put t ts p q later up
+    are (λ r later' up'. put_are n s new put ts (Some (tag_of t)) r later' up' are.1)
 
 -- a correction's value, in a data set
-pub replaced_set : (s : Syntax) (ts : List Tree) (tag : ℕ) (vr value : List ℕ) → IsSet s ts → correction_vr_of tag ≡ Some vr → length value ≤ 64 → IsSet s (with_element s (leaf tag (vr_in s (Some vr)) (padded vr value)) ts)
+pub replaced_set : (s : Syntax) (ts : List Tree) (tag : ℕ) (vr value : List ℕ) → IsSet s ts
+    → correction_vr_of tag ≡ Some vr → length value ≤ 64
+    → IsSet s (with_element s (leaf tag (vr_in s (Some vr)) (padded vr value)) ts)
 unfolding IsSet
 replaced_set s ts tag vr value are corrected short =
     let new = leaf tag (vr_in s (Some vr)) (padded vr value) in

@@ -17,11 +17,19 @@ filled [] after e = cc
 filled (b ∷ rest) after e = absurd cc
 
 -- elements up to the end of the text are those that the whole text spells
-pub whole : (s : Syntax) (text : List ℕ) (ts : List Tree) (after : List ℕ) → Elements deepest s Filled text (Ok (ts, after)) → Spells s text ts
+pub whole : (s : Syntax) (text : List ℕ) (ts : List Tree) (after : List ℕ) → Elements deepest s Filled
+    text (Ok (ts, after)) → Spells s text ts
 unfolding Spells
-whole s text ts after stand = record { last = stand.last; rest = stand.rest; takes = stand.takes; ends = stand.ends ∙ ap Some (sym (filled stand.rest after stand.ends)) }
+whole s text ts after stand = record {
+  last = stand.last;
+  rest = stand.rest;
+  takes = stand.takes;
+  ends = stand.ends
+      ∙ ap Some (sym (filled stand.rest after stand.ends));
+}
 
-pub whole_fault : (s : Syntax) (text : List ℕ) (e : SetFault) → Told is_memory e (λ f. Elements deepest s Filled text (Err f)) → Told is_memory e (HasFault s text)
+pub whole_fault : (s : Syntax) (text : List ℕ) (e : SetFault)
+    → Told is_memory e (λ f. Elements deepest s Filled text (Err f)) → Told is_memory e (HasFault s text)
 unfolding HasFault
 whole_fault s text e told = told
 
@@ -45,9 +53,11 @@ err_is A f g e = cc
 
 pub spelled_once : (s : Syntax) (text : List ℕ) (ts us : List Tree) → Spells s text ts → Spells s text us → ts ≡ us
 unfolding Spells HasFault
-spelled_once s text ts us a b = first (ts, []) (us, []) (elements_once deepest s Filled text (Ok (ts, [])) (Ok (us, [])) a b)
+spelled_once s text ts us a b = first (ts, []) (us, []) (elements_once deepest s Filled text (Ok (ts, [])) (Ok (us, []))
+    a b)
 
-pub fault_or_spelled : (s : Syntax) (text : List ℕ) (ts : List Tree) (f : SetFault) → Spells s text ts → HasFault s text f → ⊥
+pub fault_or_spelled : (s : Syntax) (text : List ℕ) (ts : List Tree) (f : SetFault) → Spells s text ts
+    → HasFault s text f → ⊥
 unfolding Spells HasFault
 fault_or_spelled s text ts f a b = apart (ts, []) f (elements_once deepest s Filled text (Ok (ts, [])) (Err f) a b)
 
@@ -55,8 +65,12 @@ pub one_fault : (s : Syntax) (text : List ℕ) (f g : SetFault) → HasFault s t
 unfolding Spells HasFault
 one_fault s text f g a b = err_is (List Tree × List ℕ) f g (elements_once deepest s Filled text (Err f) (Err g) a b)
 
-pub spells_none : (s : Syntax) (text : List ℕ) (e : SetFault) → Told is_memory e (HasFault s text) → (ts : List Tree) → Spells s text ts → Told is_memory e (λ f. Ok ts ≡ failed (List Tree) f)
-spells_none s text e told ts spells = told_map is_memory e (HasFault s text) (λ f. Ok ts ≡ failed (List Tree) f) (λ has. absurd (fault_or_spelled s text ts e spells has)) told
+pub spells_none : (s : Syntax) (text : List ℕ) (e : SetFault) → Told is_memory e (HasFault s text) → (ts : List Tree)
+    → Spells s text ts → Told is_memory e (λ f. Ok ts ≡ failed (List Tree) f)
+spells_none s text e told ts spells = told_map is_memory e (HasFault s text) (λ f. Ok ts ≡ failed (List Tree) f)
+    (λ has. absurd (fault_or_spelled s text ts e spells has)) told
 
-pub this_fault : (s : Syntax) (text : List ℕ) (e : SetFault) → Told is_memory e (HasFault s text) → (f : SetFault) → HasFault s text f → Told is_memory e (λ g. failed (List Tree) f ≡ failed (List Tree) g)
-this_fault s text e told f has = told_map is_memory e (HasFault s text) (λ g. failed (List Tree) f ≡ failed (List Tree) g) (λ has'. ap (failed (List Tree)) (one_fault s text f e has has')) told
+pub this_fault : (s : Syntax) (text : List ℕ) (e : SetFault) → Told is_memory e (HasFault s text) → (f : SetFault)
+    → HasFault s text f → Told is_memory e (λ g. failed (List Tree) f ≡ failed (List Tree) g)
+this_fault s text e told f has = told_map is_memory e (HasFault s text) (λ g. failed (List Tree) f ≡ failed (List Tree)
+    g) (λ has'. ap (failed (List Tree)) (one_fault s text f e has has')) told

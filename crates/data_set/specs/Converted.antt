@@ -1,9 +1,11 @@
--- Data sets made of a data set: in the implicit syntax, and with one value put in. Group lengths (gggg,0000) are left out of
+-- Data sets made of a data set: in the implicit syntax, and with one value put in. Group lengths (gggg,0000) are left
+-- out of
 -- both, at every depth (PS3.5, 7.2).
 use Rattle.std.specs.Prelude.{ℕ, List, ◌∷◌, ◌++◌, Option, Some, None, nat_lt, filter, if◌then◌else◌}
 use Rattle.data_set.specs.declared.syntax.Syntax.{Syntax}
 use Rattle.data_set.specs.declared.syntax.Syntax.TheVariants.{Implicit, Explicit}
-use Rattle.data_set.specs.Tree.{Tree, Rows, Trees, leaf, node, no_rows, row, no_trees, tree, tag_of, trees_of, list_trees, rows_of, list_rows}
+use Rattle.data_set.specs.Tree.{Tree, Rows, Trees, leaf, node, no_rows, row, no_trees, tree, tag_of, trees_of}
+use Rattle.data_set.specs.Tree.{list_trees, rows_of, list_rows}
 use Rattle.data_set.specs.Tags.{is_group_length}
 use Rattle.data_set.specs.Values.{padded}
 
@@ -24,7 +26,8 @@ abbrev mutual
   pub converted_trees : Syntax → Trees → Trees
   converted_trees syntax no_trees = no_trees
   converted_trees syntax (tree t ts) =
-      if is_group_length (tag_of t) then converted_trees syntax ts else tree (converted_tree syntax t) (converted_trees syntax ts)
+      if is_group_length (tag_of t) then converted_trees syntax ts else tree (converted_tree syntax t)
+      (converted_trees syntax ts)
 
 -- the elements without group lengths, and in the implicit syntax without value representations
 abbrev pub converted : Syntax → List Tree → List Tree
@@ -43,7 +46,8 @@ above tag ts = filter (λ t. nat_lt tag (tag_of t)) ts
 
 -- an element put in its place, where it replaces the one of its tag
 abbrev pub with_element : Syntax → Tree → List Tree → List Tree
-with_element syntax new ts = converted syntax (below (tag_of new) ts) ++ (new ∷ converted syntax (above (tag_of new) ts))
+with_element syntax new ts = converted syntax (below (tag_of new) ts)
+    ++ (new ∷ converted syntax (above (tag_of new) ts))
 
 -- a value, padded to even length, put in its place
 abbrev pub with_value : Syntax → ℕ → List ℕ → List ℕ → List Tree → List Tree

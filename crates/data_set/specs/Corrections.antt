@@ -1,6 +1,10 @@
--- The attributes that a correction may give a value (docs/DECISIONS.md, "Corrections"), with their value representations.
+-- The attributes that a correction may give a value (docs/DECISIONS.md, "Corrections"), with their value
+-- representations.
 use Rattle.std.specs.Prelude.{ℕ, List, [], ◌∷◌, Option, Some, None, ◌==◌, if◌then◌else◌, map}
-use Rattle.dictionary.specs.declared.elements.TheConstants.{ACCESSION_NUMBER, PATIENT_BIRTH_DATE, PATIENT_ID, PATIENT_NAME, PATIENT_SEX, REFERRING_PHYSICIAN_NAME, SERIES_DESCRIPTION, STUDY_DATE, STUDY_DESCRIPTION, STUDY_ID, STUDY_TIME}
+use Rattle.dictionary.specs.declared.elements.TheConstants.{ACCESSION_NUMBER, PATIENT_BIRTH_DATE, PATIENT_ID}
+use Rattle.dictionary.specs.declared.elements.TheConstants.{PATIENT_NAME, PATIENT_SEX, REFERRING_PHYSICIAN_NAME}
+use Rattle.dictionary.specs.declared.elements.TheConstants.{SERIES_DESCRIPTION, STUDY_DATE, STUDY_DESCRIPTION, STUDY_ID}
+use Rattle.dictionary.specs.declared.elements.TheConstants.{STUDY_TIME}
 use Rattle.dictionary.specs.Elements.{vr_in_table}
 
 abbrev pub corrected_tags : List ℕ

@@ -13,10 +13,12 @@ inner : (ts : List Tree) → most (λ y. count y + 1) ts ≤ count_trees (trees_
 inner [] = omega arith
 inner (t ∷ ts) = omega (arith, inner ts)
 
-rows : (vs : List (Vec Tree)) → most (λ w. most (λ y. count y + 1) w.items) vs ≤ count_rows (rows_of (map (λ w. w.items) vs)) + 1
+rows : (vs : List (Vec Tree)) → most (λ w. most (λ y. count y + 1) w.items) vs ≤ count_rows
+    (rows_of (map (λ w. w.items) vs)) + 1
 rows [] = omega arith
 rows (v ∷ vs) = omega (arith, inner v.items, rows vs)
 
 pub falls : (a : Content) (tag : ℕ) (vr : Option (List ℕ)) → deep-Content a ≤ count (tree_of tag vr a)
 falls (Bytes v) tag vr = omega arith
-falls (Items v) tag vr = let r : most (λ w. most (λ y. count y + 1) w.items) v.items ≤ count_rows (rows_of (map (λ w. w.items) v.items)) + 1 = rows v.items in omega (arith, r)
+falls (Items v) tag vr = let r : most (λ w. most (λ y. count y + 1) w.items) v.items ≤ count_rows
+    (rows_of (map (λ w. w.items) v.items)) + 1 = rows v.items in omega (arith, r)

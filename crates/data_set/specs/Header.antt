@@ -1,5 +1,7 @@
--- How the header at the front of a text is read, with the fault that is told: this is the order of faults in one element.
-use Rattle.std.specs.Prelude.{ℕ, List, [], ◌∷◌, length, Option, Some, None, Result, Ok, Err, Bool, not, nat_le, ◌==◌, ◌&&◌, ◌||◌, if◌then◌else◌}
+-- How the header at the front of a text is read, with the fault that is told: this is the order of faults in one
+-- element.
+use Rattle.std.specs.Prelude.{ℕ, List, [], ◌∷◌, length, Option, Some, None, Result, Ok, Err, Bool, not, nat_le, ◌==◌}
+use Rattle.std.specs.Prelude.{◌&&◌, ◌||◌, if◌then◌else◌}
 use Rattle.std.specs.Int.{w16, w32, from_le_bytes}
 use Rattle.octets.specs.Gives.{◌>>=◌}
 use Rattle.data_set.specs.declared.fault.SetFault.{SetFault}
@@ -29,7 +31,10 @@ long_size tag vr _ = Err Truncated
 
 -- behind any other
 abbrev pub short_size : ℕ → List ℕ → List ℕ → Result (Header × List ℕ) SetFault
-short_size tag vr (l0 ∷ l1 ∷ rest) = Ok (record { tag = tag; vr = Some vr; size = from_le_bytes w16 (l0 ∷ l1 ∷ []) }, rest)
+short_size tag vr (l0 ∷ l1 ∷ rest) = Ok (
+  record { tag = tag; vr = Some vr; size = from_le_bytes w16 (l0 ∷ l1 ∷ []) },
+  rest,
+)
 short_size tag vr _ = Err Truncated
 
 -- Twelve bytes stand before the value where the length has four of them, else eight.
@@ -79,13 +84,15 @@ front_at syntax previous text = do
 unfoldable pub item_at : ℕ → List ℕ → Result (ℕ × List ℕ) SetFault
 item_at n text = do
   h ← header_at Implicit text
-  if not (h.0.tag == item) then Err Order else if n == 0 then Err Depth else if not (is_place h.0.size h.1) then Err Truncated else Ok (h.0.size, h.1)
+  if not (h.0.tag == item) then Err Order else if n == 0 then Err Depth else if not (is_place h.0.size h.1) then Err
+      Truncated else Ok (h.0.size, h.1)
 
 -- ---- ends
 
 -- a tag and a length, and what comes behind them
 unfoldable pub eight_at : List ℕ → Option (ℕ × (ℕ × List ℕ))
-eight_at (g0 ∷ g1 ∷ e0 ∷ e1 ∷ l0 ∷ l1 ∷ l2 ∷ l3 ∷ rest) = Some (tag_from g0 g1 e0 e1, (from_le_bytes w32 (l0 ∷ l1 ∷ l2 ∷ l3 ∷ []), rest))
+eight_at (g0 ∷ g1 ∷ e0 ∷ e1 ∷ l0 ∷ l1 ∷ l2 ∷ l3 ∷ rest) =
+    Some (tag_from g0 g1 e0 e1, (from_le_bytes w32 (l0 ∷ l1 ∷ l2 ∷ l3 ∷ []), rest))
 eight_at _ = None
 
 abbrev pub behind_end : ℕ → Option (ℕ × (ℕ × List ℕ)) → Option (List ℕ)

@@ -25,6 +25,7 @@ bytes_seen bytes = option_map (λ seen. seen.now) bytes
 abbrev pub GivesAt : {X : Type 0} → Result (X × Bor (List ℕ)) SetFault → Given X → Type 0
 GivesAt given read = Gives is_memory (λ x. (x.0, x.1.now)) given read
 
--- A function gave a value, seen by view, and what comes behind it, or a fault: that is what the grammar has, unless memory ran out.
+-- A function gave a value, seen by view, and what comes behind it, or a fault: that is what the grammar has, unless
+-- memory ran out.
 abbrev pub TellsAt : {X Y : Type 0} → (X → Y) → Result (X × Bor (List ℕ)) SetFault → (Given Y → Type 0) → Type 0
 TellsAt view given Is = Tells is_memory (λ x. (view x.0, x.1.now)) given Is

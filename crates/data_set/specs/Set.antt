@@ -30,4 +30,5 @@ abbrev pub from_pair : (Syntax × List Tree) → Set
 from_pair p = record { syntax = p.0; elements = p.1 }
 
 abbrev pub set_code : Coded Set
-set_code = code_by (Syntax × List Tree) (coded× syntax_code (coded_list tree_code)) (λ s. (s.syntax, s.elements)) from_pair (λ s. refl)
+set_code = code_by (Syntax × List Tree) (coded× syntax_code (coded_list tree_code)) (λ s. (s.syntax, s.elements))
+    from_pair (λ s. refl)

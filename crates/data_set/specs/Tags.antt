@@ -1,7 +1,12 @@
 -- Tags: a group and an element, of 16 bits each (PS3.5, 7.1.1), as one number of 32 bits.
-use Rattle.std.specs.Prelude.{ℕ, ◌+◌, ◌*◌, ◌/◌, ◌%◌, List, [], ◌∷◌, ◌++◌, Option, Some, None, Bool, true, nat_lt, ◌==◌, ◌||◌}
+use Rattle.std.specs.Prelude.{ℕ, ◌+◌, ◌*◌, ◌/◌, ◌%◌, List, [], ◌∷◌, ◌++◌, Option, Some, None, Bool, true, nat_lt, ◌==◌}
+use Rattle.std.specs.Prelude.{◌||◌}
 use Rattle.std.specs.Int.{w16, from_le_bytes, to_le_bytes}
-use Rattle.dictionary.specs.declared.elements.TheConstants.{CONCEPT_NAME_CODE_SEQUENCE, CURRENT_REQUESTED_PROCEDURE_EVIDENCE_SEQUENCE, ITEM, ITEM_DELIMITATION_ITEM, PIXEL_DATA, REFERENCED_SERIES_SEQUENCE, REFERENCED_SOP_SEQUENCE, SEQUENCE_DELIMITATION_ITEM}
+use Rattle.dictionary.specs.declared.elements.TheConstants.{CONCEPT_NAME_CODE_SEQUENCE}
+use Rattle.dictionary.specs.declared.elements.TheConstants.{CURRENT_REQUESTED_PROCEDURE_EVIDENCE_SEQUENCE, ITEM}
+use Rattle.dictionary.specs.declared.elements.TheConstants.{ITEM_DELIMITATION_ITEM, PIXEL_DATA}
+use Rattle.dictionary.specs.declared.elements.TheConstants.{REFERENCED_SERIES_SEQUENCE, REFERENCED_SOP_SEQUENCE}
+use Rattle.dictionary.specs.declared.elements.TheConstants.{SEQUENCE_DELIMITATION_ITEM}
 
 -- the tag in four bytes: group and element, each with the low byte first
 abbrev pub tag_from : ℕ → ℕ → ℕ → ℕ → ℕ

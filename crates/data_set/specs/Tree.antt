@@ -1,4 +1,5 @@
--- The elements of a data set as trees: an element holds a value, or items, each of which holds elements (PS3.5, 7.1 and 7.5).
+-- The elements of a data set as trees: an element holds a value, or items, each of which holds elements (PS3.5, 7.1 and
+-- 7.5).
 use Rattle.std.specs.Prelude.{ℕ, ◌+◌, List, [], ◌∷◌, Option}
 
 -- `leaf` and `node` have the tag and the value representation, where the syntax spells one

@@ -55,17 +55,23 @@ join_rows-none no_rows = refl
 join_rows-none (row ts rows) = ap (row ts) (join_rows-none rows)
 
 mutual
-  back_tree : (t : Tree) (k : List Token) (us : Trees) (s : List Frame) → back k ≡ in_trees us ∷ s → back (put_tree t k) ≡ in_trees (tree t us) ∷ s
+  back_tree : (t : Tree) (k : List Token) (us : Trees) (s : List Frame) → back k ≡ in_trees us ∷ s
+      → back (put_tree t k) ≡ in_trees (tree t us) ∷ s
   back_tree (leaf t v b) k us s e = ap (step 0 t v b) e
   back_tree (node t v rows) k us s e =
-      ap (step 1 t v []) (back_rows rows ((2, (0, (None, []))) ∷ k) no_rows (in_trees us ∷ s) (ap (step 2 0 None []) e) ∙ ap (λ (r : Rows). in_rows r ∷ in_trees us ∷ s) (join_rows-none rows))
+      ap (step 1 t v []) (back_rows rows ((2, (0, (None, []))) ∷ k) no_rows (in_trees us ∷ s) (ap (step 2 0 None []) e)
+      ∙ ap (λ (r : Rows). in_rows r ∷ in_trees us ∷ s) (join_rows-none rows))
 
-  back_rows : (rows : Rows) (k : List Token) (qs : Rows) (s : List Frame) → back k ≡ in_rows qs ∷ s → back (put_rows rows k) ≡ in_rows (join_rows rows qs) ∷ s
+  back_rows : (rows : Rows) (k : List Token) (qs : Rows) (s : List Frame) → back k ≡ in_rows qs ∷ s
+      → back (put_rows rows k) ≡ in_rows (join_rows rows qs) ∷ s
   back_rows no_rows k qs s e = e
   back_rows (row ts rows) k qs s e =
-      ap (step 3 0 None []) (back_trees ts ((4, (0, (None, []))) ∷ put_rows rows k) no_trees (in_rows (join_rows rows qs) ∷ s) (ap (step 4 0 None []) (back_rows rows k qs s e)) ∙ ap (λ (r : Trees). in_trees r ∷ in_rows (join_rows rows qs) ∷ s) (join_trees-none ts))
+      ap (step 3 0 None []) (back_trees ts ((4, (0, (None, []))) ∷ put_rows rows k) no_trees
+      (in_rows (join_rows rows qs) ∷ s) (ap (step 4 0 None []) (back_rows rows k qs s e))
+      ∙ ap (λ (r : Trees). in_trees r ∷ in_rows (join_rows rows qs) ∷ s) (join_trees-none ts))
 
-  back_trees : (ts : Trees) (k : List Token) (us : Trees) (s : List Frame) → back k ≡ in_trees us ∷ s → back (put_trees ts k) ≡ in_trees (join_trees ts us) ∷ s
+  back_trees : (ts : Trees) (k : List Token) (us : Trees) (s : List Frame) → back k ≡ in_trees us ∷ s
+      → back (put_trees ts k) ≡ in_trees (join_trees ts us) ∷ s
   back_trees no_trees k us s e = e
   back_trees (tree t ts) k us s e = back_tree t (put_trees ts k) (join_trees ts us) s (back_trees ts k us s e)
 
@@ -77,4 +83,6 @@ pub back_first : (t : Tree) → first_tree (back (put_tree t [])) ≡ t
 back_first t = ap first_tree (back_tree t [] no_trees [] refl)
 
 abbrev pub tree_code : Coded Tree
-tree_code = code_by (List Token) (coded_list (coded× coded_ℕ (coded× coded_ℕ (coded× (coded_option (coded_list coded_ℕ)) (coded_list coded_ℕ))))) (λ t. put_tree t []) (λ xs. first_tree (back xs)) back_first
+tree_code = code_by (List Token) (coded_list
+    (coded× coded_ℕ (coded× coded_ℕ (coded× (coded_option (coded_list coded_ℕ)) (coded_list coded_ℕ)))))
+    (λ t. put_tree t []) (λ xs. first_tree (back xs)) back_first

@@ -1,5 +1,6 @@
 -- Value representations (PS3.5, 6.2 and 7.1.2).
-use Rattle.std.specs.Prelude.{ℕ, List, [], ◌∷◌, Option, Some, None, Bool, false, not, nat_le, ◌==◌, ◌&&◌, ◌||◌, if◌then◌else◌}
+use Rattle.std.specs.Prelude.{ℕ, List, [], ◌∷◌, Option, Some, None, Bool, false, not, nat_le, ◌==◌, ◌&&◌, ◌||◌}
+use Rattle.std.specs.Prelude.{if◌then◌else◌}
 use lib.Chars.{codes}
 use Rattle.data_set.specs.declared.syntax.Syntax.{Syntax}
 use Rattle.data_set.specs.declared.syntax.Syntax.TheVariants.{Implicit, Explicit}
@@ -15,7 +16,9 @@ is_capital c = nat_le 65 c && nat_le c 90
 -- the value representations whose length has two bytes (PS3.5, 7.1.2)
 abbrev pub short_names : List (List ℕ)
 short_names =
-    codes "AE" ∷ codes "AS" ∷ codes "AT" ∷ codes "CS" ∷ codes "DA" ∷ codes "DS" ∷ codes "DT" ∷ codes "FL" ∷ codes "FD" ∷ codes "IS" ∷ codes "LO" ∷ codes "LT" ∷ codes "PN" ∷ codes "SH" ∷ codes "SL" ∷ codes "SS" ∷ codes "ST" ∷ codes "TM" ∷ codes "UI" ∷ codes "UL" ∷ codes "US" ∷ []
+    codes "AE" ∷ codes "AS" ∷ codes "AT" ∷ codes "CS" ∷ codes "DA" ∷ codes "DS" ∷ codes "DT" ∷ codes "FL" ∷ codes "FD"
+    ∷ codes "IS" ∷ codes "LO" ∷ codes "LT" ∷ codes "PN" ∷ codes "SH" ∷ codes "SL" ∷ codes "SS" ∷ codes "ST" ∷ codes
+    "TM" ∷ codes "UI" ∷ codes "UL" ∷ codes "US" ∷ []
 
 abbrev pub is_name : ℕ → ℕ → List ℕ → Bool
 is_name a b (x ∷ y ∷ []) = a == x && b == y
@@ -30,7 +33,8 @@ is_short a b = is_among a b short_names
 
 -- The pair is no two capital letters, or a listed tag has another value representation than SQ or UN.
 abbrev pub has_bad_vr : ℕ → Option (List ℕ) → Bool
-has_bad_vr tag (Some (a ∷ b ∷ [])) = not (is_capital a && is_capital b) || (is_listed tag && not (is_name a b (codes "SQ")) && not (is_name a b (codes "UN")))
+has_bad_vr tag (Some (a ∷ b ∷ [])) = not (is_capital a && is_capital b) ||
+    (is_listed tag && not (is_name a b (codes "SQ")) && not (is_name a b (codes "UN")))
 has_bad_vr tag _ = false
 
 -- The syntax of the items of a sequence, or none for a value (PS3.5, 6.2.2 and 7.5). Where no SQ names a sequence, an

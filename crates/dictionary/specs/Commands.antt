@@ -1,6 +1,14 @@
 -- The elements of command sets and the values of two of them (PS3.7, E.1), each constant with its number.
 use Rattle.std.specs.Prelude.{ℕ, List, [], ◌∷◌}
-use Rattle.dictionary.specs.declared.commands.TheConstants.{COMMAND_GROUP_LENGTH, AFFECTED_SOP_CLASS_UID, COMMAND_FIELD, MESSAGE_ID, MESSAGE_ID_BEING_RESPONDED_TO, PRIORITY, COMMAND_DATA_SET_TYPE, STATUS, AFFECTED_SOP_INSTANCE_UID, NUMBER_OF_REMAINING_SUBOPERATIONS, NUMBER_OF_COMPLETED_SUBOPERATIONS, NUMBER_OF_FAILED_SUBOPERATIONS, NUMBER_OF_WARNING_SUBOPERATIONS, C_STORE_RQ, C_STORE_RSP, C_GET_RQ, C_GET_RSP, C_FIND_RQ, C_FIND_RSP, C_ECHO_RQ, C_ECHO_RSP, C_CANCEL_RQ, NO_DATA_SET}
+use Rattle.dictionary.specs.declared.commands.TheConstants.{COMMAND_GROUP_LENGTH, AFFECTED_SOP_CLASS_UID, COMMAND_FIELD}
+use Rattle.dictionary.specs.declared.commands.TheConstants.{MESSAGE_ID, MESSAGE_ID_BEING_RESPONDED_TO, PRIORITY}
+use Rattle.dictionary.specs.declared.commands.TheConstants.{COMMAND_DATA_SET_TYPE, STATUS, AFFECTED_SOP_INSTANCE_UID}
+use Rattle.dictionary.specs.declared.commands.TheConstants.{NUMBER_OF_REMAINING_SUBOPERATIONS}
+use Rattle.dictionary.specs.declared.commands.TheConstants.{NUMBER_OF_COMPLETED_SUBOPERATIONS}
+use Rattle.dictionary.specs.declared.commands.TheConstants.{NUMBER_OF_FAILED_SUBOPERATIONS}
+use Rattle.dictionary.specs.declared.commands.TheConstants.{NUMBER_OF_WARNING_SUBOPERATIONS, C_STORE_RQ, C_STORE_RSP}
+use Rattle.dictionary.specs.declared.commands.TheConstants.{C_GET_RQ, C_GET_RSP, C_FIND_RQ, C_FIND_RSP, C_ECHO_RQ}
+use Rattle.dictionary.specs.declared.commands.TheConstants.{C_ECHO_RSP, C_CANCEL_RQ, NO_DATA_SET}
 
 abbrev pub elements : List (ℕ × ℕ)
 elements =

@@ -1,6 +1,22 @@
--- The elements of data sets that this archive knows (PS3.6, 6), each with its constant, its tag and its value representation.
+-- The elements of data sets that this archive knows (PS3.6, 6), each with its constant, its tag and its value
+-- representation.
 use Rattle.std.specs.Prelude.{ℕ, List, [], ◌∷◌, ◌==◌, if◌then◌else◌, codes, map}
-use Rattle.dictionary.specs.declared.elements.TheConstants.{SPECIFIC_CHARACTER_SET, SOP_CLASS_UID, SOP_INSTANCE_UID, STUDY_DATE, STUDY_TIME, ACCESSION_NUMBER, QUERY_RETRIEVE_LEVEL, RETRIEVE_AE_TITLE, MODALITY, MODALITIES_IN_STUDY, REFERRING_PHYSICIAN_NAME, CODE_VALUE, CODING_SCHEME_DESIGNATOR, STUDY_DESCRIPTION, SERIES_DESCRIPTION, REFERENCED_SERIES_SEQUENCE, REFERENCED_SOP_INSTANCE_UID, REFERENCED_SOP_SEQUENCE, PATIENT_NAME, PATIENT_ID, PATIENT_BIRTH_DATE, PATIENT_SEX, STUDY_INSTANCE_UID, SERIES_INSTANCE_UID, STUDY_ID, SERIES_NUMBER, INSTANCE_NUMBER, NUMBER_OF_STUDY_RELATED_SERIES, NUMBER_OF_STUDY_RELATED_INSTANCES, NUMBER_OF_SERIES_RELATED_INSTANCES, CONCEPT_NAME_CODE_SEQUENCE, CURRENT_REQUESTED_PROCEDURE_EVIDENCE_SEQUENCE, PIXEL_DATA, ITEM, ITEM_DELIMITATION_ITEM, SEQUENCE_DELIMITATION_ITEM}
+use Rattle.dictionary.specs.declared.elements.TheConstants.{SPECIFIC_CHARACTER_SET, SOP_CLASS_UID, SOP_INSTANCE_UID}
+use Rattle.dictionary.specs.declared.elements.TheConstants.{STUDY_DATE, STUDY_TIME, ACCESSION_NUMBER}
+use Rattle.dictionary.specs.declared.elements.TheConstants.{QUERY_RETRIEVE_LEVEL, RETRIEVE_AE_TITLE, MODALITY}
+use Rattle.dictionary.specs.declared.elements.TheConstants.{MODALITIES_IN_STUDY, REFERRING_PHYSICIAN_NAME, CODE_VALUE}
+use Rattle.dictionary.specs.declared.elements.TheConstants.{CODING_SCHEME_DESIGNATOR, STUDY_DESCRIPTION}
+use Rattle.dictionary.specs.declared.elements.TheConstants.{SERIES_DESCRIPTION, REFERENCED_SERIES_SEQUENCE}
+use Rattle.dictionary.specs.declared.elements.TheConstants.{REFERENCED_SOP_INSTANCE_UID, REFERENCED_SOP_SEQUENCE}
+use Rattle.dictionary.specs.declared.elements.TheConstants.{PATIENT_NAME, PATIENT_ID, PATIENT_BIRTH_DATE, PATIENT_SEX}
+use Rattle.dictionary.specs.declared.elements.TheConstants.{STUDY_INSTANCE_UID, SERIES_INSTANCE_UID, STUDY_ID}
+use Rattle.dictionary.specs.declared.elements.TheConstants.{SERIES_NUMBER, INSTANCE_NUMBER}
+use Rattle.dictionary.specs.declared.elements.TheConstants.{NUMBER_OF_STUDY_RELATED_SERIES}
+use Rattle.dictionary.specs.declared.elements.TheConstants.{NUMBER_OF_STUDY_RELATED_INSTANCES}
+use Rattle.dictionary.specs.declared.elements.TheConstants.{NUMBER_OF_SERIES_RELATED_INSTANCES}
+use Rattle.dictionary.specs.declared.elements.TheConstants.{CONCEPT_NAME_CODE_SEQUENCE}
+use Rattle.dictionary.specs.declared.elements.TheConstants.{CURRENT_REQUESTED_PROCEDURE_EVIDENCE_SEQUENCE, PIXEL_DATA}
+use Rattle.dictionary.specs.declared.elements.TheConstants.{ITEM, ITEM_DELIMITATION_ITEM, SEQUENCE_DELIMITATION_ITEM}
 
 -- the name of a tag in code, its number, and its value representation
 pub record Line : Type 0 where

@@ -1,6 +1,13 @@
--- The values of (0000,0900) Status (PS3.7, annex C; PS3.4, B.2.3, C.4.1.1.4 and C.4.3.1.4), each constant with its number.
+-- The values of (0000,0900) Status (PS3.7, annex C; PS3.4, B.2.3, C.4.1.1.4 and C.4.3.1.4), each constant with its
+-- number.
 use Rattle.std.specs.Prelude.{ℕ, List, [], ◌∷◌}
-use Rattle.dictionary.specs.declared.statuses.TheConstants.{STATUS_SUCCESS, STATUS_SOP_CLASS_NOT_SUPPORTED, STATUS_UNRECOGNIZED_OPERATION, STATUS_OUT_OF_RESOURCES, STATUS_UNABLE_TO_PERFORM_SUBOPERATIONS, STATUS_DATA_SET_DOES_NOT_MATCH, STATUS_SUBOPERATIONS_WITH_FAILURES, STATUS_CANNOT_UNDERSTAND, STATUS_CANCELED, STATUS_PENDING, STATUS_PENDING_WITHOUT_OPTIONAL_KEYS}
+use Rattle.dictionary.specs.declared.statuses.TheConstants.{STATUS_SUCCESS, STATUS_SOP_CLASS_NOT_SUPPORTED}
+use Rattle.dictionary.specs.declared.statuses.TheConstants.{STATUS_UNRECOGNIZED_OPERATION, STATUS_OUT_OF_RESOURCES}
+use Rattle.dictionary.specs.declared.statuses.TheConstants.{STATUS_UNABLE_TO_PERFORM_SUBOPERATIONS}
+use Rattle.dictionary.specs.declared.statuses.TheConstants.{STATUS_DATA_SET_DOES_NOT_MATCH}
+use Rattle.dictionary.specs.declared.statuses.TheConstants.{STATUS_SUBOPERATIONS_WITH_FAILURES}
+use Rattle.dictionary.specs.declared.statuses.TheConstants.{STATUS_CANNOT_UNDERSTAND, STATUS_CANCELED, STATUS_PENDING}
+use Rattle.dictionary.specs.declared.statuses.TheConstants.{STATUS_PENDING_WITHOUT_OPTIONAL_KEYS}
 
 abbrev pub statuses : List (ℕ × ℕ)
 statuses =

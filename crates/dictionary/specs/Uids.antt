@@ -1,6 +1,9 @@
 -- The UIDs that the standard registers (PS3.6, annex A), each constant with its text.
 use Rattle.std.specs.Prelude.{ℕ, List, [], ◌∷◌, codes}
-use Rattle.dictionary.specs.declared.uids.TheConstants.{VERIFICATION, CT_IMAGE_STORAGE, KEY_OBJECT_SELECTION_DOCUMENT_STORAGE, STUDY_ROOT_FIND, STUDY_ROOT_GET, STORAGE_ROOT, IMPLICIT_VR_LITTLE_ENDIAN, EXPLICIT_VR_LITTLE_ENDIAN, APPLICATION_CONTEXT_NAME}
+use Rattle.dictionary.specs.declared.uids.TheConstants.{VERIFICATION, CT_IMAGE_STORAGE}
+use Rattle.dictionary.specs.declared.uids.TheConstants.{KEY_OBJECT_SELECTION_DOCUMENT_STORAGE, STUDY_ROOT_FIND}
+use Rattle.dictionary.specs.declared.uids.TheConstants.{STUDY_ROOT_GET, STORAGE_ROOT, IMPLICIT_VR_LITTLE_ENDIAN}
+use Rattle.dictionary.specs.declared.uids.TheConstants.{EXPLICIT_VR_LITTLE_ENDIAN, APPLICATION_CONTEXT_NAME}
 
 abbrev pub uids : List (List ℕ × List ℕ)
 uids =

@@ -1,12 +1,14 @@
 -- What is sent is put together to the same message.
-use Rattle.std.proofs.Common.{◌≡◌, ℕ, Bool, true, false, List, [], ◌∷◌, ◌++◌, take, drop, Option, Some, None, Result, Ok, Err, refl, sym, ap, subst, ◌∙◌, append_assoc}
+use Rattle.std.proofs.Common.{◌≡◌, ℕ, Bool, true, false, List, [], ◌∷◌, ◌++◌, take, drop, Option, Some, None, Result}
+use Rattle.std.proofs.Common.{Ok, Err, refl, sym, ap, subst, ◌∙◌, append_assoc}
 use Rattle.std.specs.Prelude.{IfOk, OnOk, MatchOption, is_some}
 use Rattle.std.specs.Global.{Vec}
 use Rattle.std.specs.declared.alloc.AllocError.{AllocError}
 use Rattle.std.proofs.lemmas.List.{take-append-drop}
 use Rattle.pdu.specs.declared.pdv.Pdv.{Pdv}
 use Rattle.pdu.specs.declared.value.Pdu.{Pdu}
-use Rattle.pdu.specs.declared.value.Pdu.TheVariants.{AssociateRq, AssociateAc, AssociateRj, PData, ReleaseRq, ReleaseRp, Abort}
+use Rattle.pdu.specs.declared.value.Pdu.TheVariants.{AssociateRq, AssociateAc, AssociateRj, PData, ReleaseRq, ReleaseRp}
+use Rattle.pdu.specs.declared.value.Pdu.TheVariants.{Abort}
 use Rattle.dimse.specs.declared.message.Message.{Message}
 use Rattle.dimse.specs.Command.{Spells, announces, command_text}
 use Rattle.dimse.specs.Messages.{IsOf, Joins, SpellsMessage}
@@ -14,7 +16,8 @@ use Rattle.dimse.specs.Sending.{size_of, Sends, IsSending, IsWhole, pdvs_in}
 
 pdvs-append : (a b : List Pdu) → pdvs_in (a ++ b) ≡ pdvs_in a ++ pdvs_in b
 pdvs-append [] b = refl
-pdvs-append (PData pdvs ∷ a) b = ap (λ (t : List Pdv). pdvs ++ t) (pdvs-append a b) ∙ sym (append_assoc pdvs (pdvs_in a) (pdvs_in b))
+pdvs-append (PData pdvs ∷ a) b = ap (λ (t : List Pdv). pdvs ++ t) (pdvs-append a b)
+    ∙ sym (append_assoc pdvs (pdvs_in a) (pdvs_in b))
 pdvs-append (AssociateRq r ∷ a) b = pdvs-append a b
 pdvs-append (AssociateAc r ∷ a) b = pdvs-append a b
 pdvs-append (AssociateRj r ∷ a) b = pdvs-append a b
@@ -23,24 +26,37 @@ pdvs-append (ReleaseRp ∷ a) b = pdvs-append a b
 pdvs-append (Abort source reason ∷ a) b = pdvs-append a b
 
 -- a fragment before others
-joins_before : (context : ℕ) (command : Bool) (p : Pdv) (ps : List Pdv) (text rest : List ℕ) → IsOf context command p → p.last ≡ false → text ≡ p.fragment ++ rest → Joins context command ps rest → Joins context command (p ∷ ps) text
+joins_before : (context : ℕ) (command : Bool) (p : Pdv) (ps : List Pdv) (text rest : List ℕ) → IsOf context command p
+    → p.last ≡ false → text ≡ p.fragment ++ rest → Joins context command ps rest → Joins context command (p ∷ ps) text
 joins_before context command p [] text rest is not_last parts joins = absurd joins
 joins_before context command p (q ∷ ps) text rest is not_last parts joins = (is, not_last, rest, parts, joins)
 
 -- the fragments of a text that is sent
-sends_joins : (size context : ℕ) (command : Bool) (text : List ℕ) (pdus : List Pdu) → Sends size context command text pdus → Joins context command (pdvs_in pdus) text
+sends_joins : (size context : ℕ) (command : Bool) (text : List ℕ) (pdus : List Pdu) → Sends size context command text
+    pdus → Joins context command (pdvs_in pdus) text
 sends_joins size context command text [] sends = absurd sends
-sends_joins size context command text (p ∷ []) sends = subst (λ (x : Pdu). Joins context command (pdvs_in (x ∷ [])) text) (sym sends.1) ((refl, refl), refl, refl)
+sends_joins size context command text (p ∷ []) sends = subst (λ (x : Pdu). Joins context command (pdvs_in (x ∷ []))
+    text) (sym sends.1) ((refl, refl), refl, refl)
 sends_joins size context command text (p ∷ q ∷ ps) sends =
     subst (λ (x : Pdu). Joins context command (pdvs_in (x ∷ q ∷ ps)) text) (sym sends.1)
-    (joins_before context command (record { context = context; command = command; last = false; fragment = take size text }) (pdvs_in (q ∷ ps)) text (drop size text) (refl, refl) refl (sym (take-append-drop size text)) (sends_joins size context command (drop size text) (q ∷ ps) sends.2))
+    (joins_before context command (record {
+      context = context;
+      command = command;
+      last = false;
+      fragment = take size
+          text;
+    }) (pdvs_in (q ∷ ps)) text (drop size text) (refl, refl) refl (sym (take-append-drop size text))
+    (sends_joins size context command (drop size text) (q ∷ ps) sends.2))
 
-body_joins : (m : Message) (size : ℕ) (body : Option (List ℕ)) (pdus : List Pdu) → announces m.command ≡ is_some body → MatchOption body (pdus ≡ []) (λ b. Sends size m.context false b pdus)
-    → MatchOption body ((announces m.command ≡ false) × (pdvs_in pdus ≡ [])) (λ b. (announces m.command ≡ true) × Joins m.context false (pdvs_in pdus) b)
+body_joins : (m : Message) (size : ℕ) (body : Option (List ℕ)) (pdus : List Pdu) → announces m.command ≡ is_some body
+    → MatchOption body (pdus ≡ []) (λ b. Sends size m.context false b pdus)
+    → MatchOption body ((announces m.command ≡ false) × (pdvs_in pdus ≡ [])) (λ b. (announces m.command ≡ true)
+    × Joins m.context false (pdvs_in pdus) b)
 body_joins m size None pdus is none = (is, ap pdvs_in none)
 body_joins m size (Some b) pdus is sends = (is, sends_joins size m.context false b pdus sends)
 
-put_together : (m : Message) (max : ℕ) (pdus : List Pdu) → IsWhole m → Spells (command_text m.command) m.command → IsSending m max pdus → SpellsMessage (pdvs_in pdus) m
+put_together : (m : Message) (max : ℕ) (pdus : List Pdu) → IsWhole m → Spells (command_text m.command) m.command
+    → IsSending m max pdus → SpellsMessage (pdvs_in pdus) m
 put_together m max pdus whole spells s = record {
   of_command = pdvs_in s.of_command;
   of_data = pdvs_in s.of_data;
@@ -52,19 +68,25 @@ put_together m max pdus whole spells s = record {
 }
 
 -- what a call cut
-pub cut_again : (m : Message) (max : ℕ) (r : Result (Vec Pdu) AllocError) → IsWhole m → IfOk r (λ pdus. IsSending m max pdus.items) → OnOk r (Spells (command_text m.command) m.command) → IfOk r (λ pdus. SpellsMessage (pdvs_in pdus.items) m)
+pub cut_again : (m : Message) (max : ℕ) (r : Result (Vec Pdu) AllocError) → IsWhole m
+    → IfOk r (λ pdus. IsSending m max pdus.items) → OnOk r (Spells (command_text m.command) m.command)
+    → IfOk r (λ pdus. SpellsMessage (pdvs_in pdus.items) m)
 cut_again m max (Ok pdus) whole sending spells = put_together m max pdus.items whole spells sending
 cut_again m max (Err e) whole sending spells = tt
 
 -- the command set's fragments, and then the data set's
-pub sending : (m : Message) (max size : ℕ) (all some : List Pdu) (text : List ℕ) → size ≡ size_of max → text ≡ command_text m.command
+pub sending : (m : Message) (max size : ℕ) (all some : List Pdu) (text : List ℕ) → size ≡ size_of max
+    → text ≡ command_text m.command
     → (first : List Pdu) → some ≡ first → Sends size m.context true text first
-    → (second : List Pdu) → all ≡ some ++ second → MatchOption m.body (second ≡ []) (λ body. Sends size m.context false body second)
+    → (second : List Pdu) → all ≡ some ++ second → MatchOption m.body (second ≡ [])
+    (λ body. Sends size m.context false body second)
     → IsSending m max all
 sending m max size all some text is text_is first some_is sends second all_is data_set = record {
   of_command = first;
   of_data = second;
   parts = all_is ∙ ap (λ (t : List Pdu). t ++ second) some_is;
-  command = subst (λ (k : ℕ). Sends k m.context true (command_text m.command) first) is (subst (λ (t : List ℕ). Sends size m.context true t first) text_is sends);
-  data_set = subst (λ (k : ℕ). MatchOption m.body (second ≡ []) (λ body. Sends k m.context false body second)) is data_set;
+  command = subst (λ (k : ℕ). Sends k m.context true (command_text m.command) first)
+      is (subst (λ (t : List ℕ). Sends size m.context true t first) text_is sends);
+  data_set = subst (λ (k : ℕ). MatchOption m.body (second ≡ []) (λ body. Sends k m.context false body second)) is
+      data_set;
 }

@@ -1,5 +1,7 @@
 -- What was put together or cut can be sent, and so can what answers a request.
-use Rattle.std.proofs.Common.{◌≡◌, ℕ, ◌≤◌, Bool, true, false, cond, List, [], ◌∷◌, ◌++◌, length, take, drop, length-append, Option, Some, None, Result, Ok, Err, refl, sym, ap, subst, ◌∙◌, arith, inl, inr}
+use Rattle.std.proofs.Common.{◌≡◌, ℕ, ◌≤◌, Bool, true, false, cond, List, [], ◌∷◌, ◌++◌, length, take, drop}
+use Rattle.std.proofs.Common.{length-append, Option, Some, None, Result, Ok, Err, refl, sym, ap, subst, ◌∙◌, arith, inl}
+use Rattle.std.proofs.Common.{inr}
 use Rattle.std.specs.Prelude.{IfOk, IfSome, MatchOption, All, is_some, ◌==◌, ◌&&◌, ◌||◌, not}
 use Rattle.std.specs.List.{AllByRecursion}
 use Rattle.std.specs.Global.{Vec}
@@ -23,19 +25,24 @@ use Rattle.dimse.specs.Sending.{size_of, sent, Sends, IsSending}
 
 -- ---- fragments
 
-sent_fits : (max context : ℕ) (command last : Bool) (fragment : List ℕ) → 8 ≤ max → max ≤ 65536 → length fragment ≤ size_of max → IsPdu (sent context command last fragment)
-sent_fits max context command last fragment least most le = (λ e. absurd (omega (arith, e)), omega (arith, least, most, le, length-append fragment []))
+sent_fits : (max context : ℕ) (command last : Bool) (fragment : List ℕ) → 8 ≤ max → max ≤ 65536 → length fragment ≤
+    size_of max → IsPdu (sent context command last fragment)
+sent_fits max context command last fragment least most le =
+    (λ e. absurd (omega (arith, e)), omega (arith, least, most, le, length-append fragment []))
 
-text_fits : (max context : ℕ) (command : Bool) (text : List ℕ) (pdus : List Pdu) → 8 ≤ max → max ≤ 65536 → Sends (size_of max) context command text pdus → AllByRecursion IsPdu pdus
+text_fits : (max context : ℕ) (command : Bool) (text : List ℕ) (pdus : List Pdu) → 8 ≤ max → max ≤ 65536
+    → Sends (size_of max) context command text pdus → AllByRecursion IsPdu pdus
 text_fits max context command text [] least most sends = absurd sends
 text_fits max context command text (p ∷ []) least most sends =
     (subst IsPdu (sym sends.1) (sent_fits max context command true text least most sends.0), tt)
 text_fits max context command text (p ∷ q ∷ ps) least most sends = (
-  subst IsPdu (sym sends.1) (sent_fits max context command false (take (size_of max) text) least most (omega (arith, length-take (size_of max) text))),
+  subst IsPdu (sym sends.1) (sent_fits max context command false (take (size_of max) text) least
+      most (omega (arith, length-take (size_of max) text))),
   text_fits max context command (drop (size_of max) text) (q ∷ ps) least most sends.2,
 )
 
-body_fits : (max context : ℕ) (body : Option (List ℕ)) (pdus : List Pdu) → 8 ≤ max → max ≤ 65536 → MatchOption body (pdus ≡ []) (λ b. Sends (size_of max) context false b pdus) → AllByRecursion IsPdu pdus
+body_fits : (max context : ℕ) (body : Option (List ℕ)) (pdus : List Pdu) → 8 ≤ max → max ≤ 65536
+    → MatchOption body (pdus ≡ []) (λ b. Sends (size_of max) context false b pdus) → AllByRecursion IsPdu pdus
 body_fits max context None pdus least most is = subst (λ (ps : List Pdu). AllByRecursion IsPdu ps) (sym is) tt
 body_fits max context (Some body) pdus least most sends = text_fits max context false body pdus least most sends
 
@@ -44,16 +51,19 @@ both_fit [] qs one other = other
 both_fit (p ∷ ps) qs one other = (one.0, both_fit ps qs one.1 other)
 
 -- each PDU that was cut can be written
-pub cut_fits : (m : Message) (max : ℕ) (r : Result (Vec Pdu) AllocError) → 8 ≤ max → IfOk r (λ pdus. IsSending m max pdus.items) → max ≤ 65536 → IfOk r (λ pdus. All IsPdu pdus.items)
+pub cut_fits : (m : Message) (max : ℕ) (r : Result (Vec Pdu) AllocError) → 8 ≤ max
+    → IfOk r (λ pdus. IsSending m max pdus.items) → max ≤ 65536 → IfOk r (λ pdus. All IsPdu pdus.items)
 cut_fits m max (Ok pdus) least s most =
     let first = text_fits max m.context true (command_text m.command) s.of_command least most s.command in
     let second = body_fits max m.context m.body s.of_data least most s.data_set in
-    All-from_recursion IsPdu pdus.items (subst (λ (ps : List Pdu). AllByRecursion IsPdu ps) (sym s.parts) (both_fit s.of_command s.of_data first second))
+    All-from_recursion IsPdu pdus.items (subst (λ (ps : List Pdu). AllByRecursion IsPdu ps) (sym s.parts)
+    (both_fit s.of_command s.of_data first second))
 cut_fits m max (Err e) least s most = tt
 
 -- ---- responses
 
-told_fits : (P : List ℕ → Type 0) (request response : Option (List ℕ)) → IfSome request P → IsToldOf request response → IfSome response P
+told_fits : (P : List ℕ → Type 0) (request response : Option (List ℕ)) → IfSome request P → IsToldOf request response
+    → IfSome response P
 told_fits P request response fits (inl is) = subst (λ (o : Option (List ℕ)). IfSome o P) (sym is) fits
 told_fits P request response fits (inr is) = subst (λ (o : Option (List ℕ)). IfSome o P) (sym is) tt
 
@@ -62,7 +72,8 @@ id_told true a b p q e all = absurd cc
 id_told false a true p q e all = refl
 id_told false a false p q e all = absurd cc
 
-all_told : (t a b n i f j : Bool) → t ≡ true → a ≡ true → n ≡ false → f ≡ false → (cond t a b && (not n || i) && (not f || j)) ≡ true
+all_told : (t a b n i f j : Bool) → t ≡ true → a ≡ true → n ≡ false → f ≡ false
+    → (cond t a b && (not n || i) && (not f || j)) ≡ true
 all_told t a b n i f j p q r s = rw (p, q, r, s) refl
 
 names_none : (code : ℕ) → is_response_code code ≡ true → names_class_code code ≡ false
@@ -71,17 +82,24 @@ names_none code e = grind (arith, e)
 no_store : (code : ℕ) → is_response_code code ≡ true → (code == 0x0001) ≡ false
 no_store code e = grind (arith, e)
 
-complete : (request response : Command) → is_complete request ≡ true → IsResponseTo request response → is_complete response ≡ true
+complete : (request response : Command) → is_complete request ≡ true → IsResponseTo request response
+    → is_complete response ≡ true
 unfolding is_complete
 complete request response whole h =
-    let id : is_some request.message_id ≡ true = id_told (is_response_code request.field) (is_some request.responded_to) (is_some request.message_id) _ _ h.asked whole in
+    let id : is_some request.message_id ≡ true = id_told (is_response_code request.field) (is_some request.responded_to)
+    (is_some request.message_id) _ _ h.asked whole in
     let told : is_some response.responded_to ≡ true = ap is_some h.responded_to ∙ id in
-    all_told (is_response_code response.field) (is_some response.responded_to) (is_some response.message_id) (names_class_code response.field) (is_some response.affected_class) (response.field == 0x0001) (is_some response.affected_instance) h.field told (names_none response.field h.field) (no_store response.field h.field)
+    all_told (is_response_code response.field) (is_some response.responded_to) (is_some response.message_id)
+    (names_class_code response.field) (is_some response.affected_class) (response.field == 0x0001)
+    (is_some response.affected_instance) h.field told (names_none response.field h.field)
+    (no_store response.field h.field)
 
-pub response_lawful : (request response : Command) → IsCommand request → IsResponseTo request response → IsCommand response
+pub response_lawful : (request response : Command) → IsCommand request → IsResponseTo request response
+    → IsCommand response
 response_lawful request response is h = record {
   affected_class = told_fits IsUid request.affected_class response.affected_class is.affected_class h.affected_class;
-  affected_instance = told_fits IsUid request.affected_instance response.affected_instance is.affected_instance h.affected_instance;
+  affected_instance = told_fits IsUid request.affected_instance response.affected_instance is.affected_instance
+      h.affected_instance;
   complete = complete request response is.complete h;
 }
 
@@ -92,7 +110,8 @@ told : (t : Bool) (instance : Option (List ℕ)) → IsToldOf instance (cond t i
 told true instance = inl refl
 told false instance = inr refl
 
-pub answers_it : (request : Command) (status : ℕ) → is_response_code request.field ≡ false → IsResponseTo request (response_of request status)
+pub answers_it : (request : Command) (status : ℕ) → is_response_code request.field ≡ false
+    → IsResponseTo request (response_of request status)
 unfolding response_of
 answers_it request status asked = record {
   asked = asked;
@@ -102,11 +121,15 @@ answers_it request status asked = record {
   affected_instance = told (request.field == 0x0001) request.affected_instance;
 }
 
-pub answer_lawful : (request : Command) (status : ℕ) → is_response_code request.field ≡ false → IsCommand request → IsCommand (response_of request status)
-answer_lawful request status asked is = response_lawful request (response_of request status) is (answers_it request status asked)
+pub answer_lawful : (request : Command) (status : ℕ) → is_response_code request.field ≡ false → IsCommand request
+    → IsCommand (response_of request status)
+answer_lawful request status asked is = response_lawful request (response_of request status)
+    is (answers_it request status asked)
 
 -- ---- messages
 
 -- A fragment without a fault leaves what is read no longer than its limit.
-pub when_taken : {P : Type 0} (contexts : List Context) (was stage : Stage) (p : Pdv) → stage ≡ was → Keeps was → fault_of contexts stage p ≡ None → (Keeps stage → is_over stage p ≡ false → P) → P
-when_taken contexts was stage p is keeps none sound = sound (subst Keeps (sym is) keeps) (faultless_parts contexts stage p none).room
+pub when_taken : {P : Type 0} (contexts : List Context) (was stage : Stage) (p : Pdv) → stage ≡ was → Keeps
+    was → fault_of contexts stage p ≡ None → (Keeps stage → is_over stage p ≡ false → P) → P
+when_taken contexts was stage p is keeps none sound = sound (subst Keeps (sym is) keeps)
+    (faultless_parts contexts stage p none).room

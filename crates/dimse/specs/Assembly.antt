@@ -1,12 +1,14 @@
 -- What a fragment leads to, given what came since the last message.
-use Rattle.std.specs.Prelude.{◌≡◌, ℕ, Bool, true, false, not, ◌==◌, ◌&&◌, nat_lt, List, [], ◌++◌, length, Option, Some, None, Result, Ok, Err, MatchBool, IfOk, IfErr, OnOk, OnErr, if◌then◌else◌, ⊤}
+use Rattle.std.specs.Prelude.{◌≡◌, ℕ, Bool, true, false, not, ◌==◌, ◌&&◌, nat_lt, List, [], ◌++◌, length, Option, Some}
+use Rattle.std.specs.Prelude.{None, Result, Ok, Err, MatchBool, IfOk, IfErr, OnOk, OnErr, if◌then◌else◌, ⊤}
 use Rattle.std.specs.List.{list_any}
 use Rattle.pdu.specs.declared.pdv.Pdv.{Pdv}
 use Rattle.pdu.specs.declared.context.Context.{Context}
 use Rattle.dimse.specs.declared.command.Command.{Command}
 use Rattle.dimse.specs.declared.message.Message.{Message}
 use Rattle.dimse.specs.declared.fault.DimseFault.{DimseFault}
-use Rattle.dimse.specs.declared.fault.DimseFault.TheVariants.{BadContext, Interleaved, BadCommand, TooLong, Memory, Failed as HasFailed}
+use Rattle.dimse.specs.declared.fault.DimseFault.TheVariants.{BadContext, Interleaved, BadCommand, TooLong, Memory}
+use Rattle.dimse.specs.declared.fault.DimseFault.TheVariants.{Failed as HasFailed}
 use Rattle.dimse.specs.declared.assembler.Stage.{Stage}
 use Rattle.dimse.specs.declared.assembler.Stage.TheVariants.{Between, InCommand, InDataSet, Failed}
 use Rattle.dimse.specs.declared.command.TheConstants.{LONGEST_COMMAND}
@@ -73,7 +75,8 @@ fault_of contexts stage p =
 
 -- A whole command set ends a message, or announces a data set.
 abbrev pub Closes : ℕ → List ℕ → Option Message → Stage → Type 0
-Closes context text (Some m) next = (m.context ≡ context) × Spells text m.command × (announces m.command ≡ false) × (m.body ≡ None) × (next ≡ Between)
+Closes context text (Some m) next = (m.context ≡ context) × Spells text m.command × (announces m.command ≡ false)
+    × (m.body ≡ None) × (next ≡ Between)
 Closes context text None next = (c : Command) × Spells text c × (announces c ≡ true) × (next ≡ InDataSet context c [])
 
 -- a fragment of a command set behind this text
@@ -87,7 +90,8 @@ AdvancesCommand text p m next =
 abbrev pub AdvancesData : Command → List ℕ → Pdv → Option Message → Stage → Type 0
 AdvancesData command text p m next =
     MatchBool p.last
-    ((m ≡ Some (record { context = p.context; command = command; body = Some (text ++ p.fragment) })) × (next ≡ Between))
+    ((m ≡ Some (record { context = p.context; command = command; body = Some (text ++ p.fragment) }))
+    × (next ≡ Between))
     ((m ≡ None) × (next ≡ InDataSet p.context command (text ++ p.fragment)))
 
 -- A fragment that is taken ends this message, where it ends one, and leaves this.
@@ -121,13 +125,14 @@ IsCause old p BadCommand = (fault_of old.contexts old.stage p ≡ None) × EndsN
 IsCause old p f = fault_of old.contexts old.stage p ≡ Some f
 
 -- what feeding a fragment answers and leaves
-pub record Feeds (old : Assembly) (p : Pdv) (answer : Result (Option Message) DimseFault) (new : Assembly) : Type 0 where
-  pub contexts : new.contexts ≡ old.contexts
-  -- A fault that it has before it is kept is told.
-  pub refused : (f : DimseFault) → fault_of old.contexts old.stage p ≡ Some f → answer ≡ Err f
-  -- No other is told but of its cause, and after it no fragment is taken.
-  pub cause : IfErr answer (IsCause old p)
-  pub failing : OnErr answer (new.stage ≡ Failed)
-  -- A fragment without a fault is taken.
-  pub faultless : OnOk answer (fault_of old.contexts old.stage p ≡ None)
-  pub taken : IfOk answer (λ m. Advances old.stage p m new.stage)
+pub record Feeds (old : Assembly) (p : Pdv) (answer : Result (Option Message) DimseFault) (new : Assembly) : Type 0
+  where
+    pub contexts : new.contexts ≡ old.contexts
+    -- A fault that it has before it is kept is told.
+    pub refused : (f : DimseFault) → fault_of old.contexts old.stage p ≡ Some f → answer ≡ Err f
+    -- No other is told but of its cause, and after it no fragment is taken.
+    pub cause : IfErr answer (IsCause old p)
+    pub failing : OnErr answer (new.stage ≡ Failed)
+    -- A fragment without a fault is taken.
+    pub faultless : OnOk answer (fault_of old.contexts old.stage p ≡ None)
+    pub taken : IfOk answer (λ m. Advances old.stage p m new.stage)

@@ -1,11 +1,19 @@
 -- What a command set says, and the elements that say it (PS3.7, E.1).
-use Rattle.std.specs.Prelude.{◌≡◌, ℕ, ◌<◌, ◌≤◌, ◌^◌, Bool, true, not, ◌==◌, ◌&&◌, ◌||◌, List, [], ◌∷◌, ◌++◌, length, Option, Some, None, is_some, option_and_then, IfSome, if◌then◌else◌}
+use Rattle.std.specs.Prelude.{◌≡◌, ℕ, ◌<◌, ◌≤◌, ◌^◌, Bool, true, not, ◌==◌, ◌&&◌, ◌||◌, List, [], ◌∷◌, ◌++◌, length}
+use Rattle.std.specs.Prelude.{Option, Some, None, is_some, option_and_then, IfSome, if◌then◌else◌}
 use Rattle.std.specs.List.{list_all}
 use Rattle.std.specs.Option.{option_map}
 use Rattle.std.specs.Int.{w16, w32, to_le_bytes, from_le_bytes}
 use Rattle.dimse.specs.declared.command.Command.{Command}
 use Rattle.dimse.specs.declared.command.TheConstants.{LONGEST_COMMAND}
-use Rattle.dictionary.specs.declared.commands.TheConstants.{C_STORE_RQ, NO_DATA_SET, COMMAND_GROUP_LENGTH, AFFECTED_SOP_CLASS_UID, COMMAND_FIELD, MESSAGE_ID, MESSAGE_ID_BEING_RESPONDED_TO, PRIORITY, COMMAND_DATA_SET_TYPE, STATUS, AFFECTED_SOP_INSTANCE_UID, NUMBER_OF_REMAINING_SUBOPERATIONS, NUMBER_OF_COMPLETED_SUBOPERATIONS, NUMBER_OF_FAILED_SUBOPERATIONS, NUMBER_OF_WARNING_SUBOPERATIONS}
+use Rattle.dictionary.specs.declared.commands.TheConstants.{C_STORE_RQ, NO_DATA_SET, COMMAND_GROUP_LENGTH}
+use Rattle.dictionary.specs.declared.commands.TheConstants.{AFFECTED_SOP_CLASS_UID, COMMAND_FIELD, MESSAGE_ID}
+use Rattle.dictionary.specs.declared.commands.TheConstants.{MESSAGE_ID_BEING_RESPONDED_TO, PRIORITY}
+use Rattle.dictionary.specs.declared.commands.TheConstants.{COMMAND_DATA_SET_TYPE, STATUS, AFFECTED_SOP_INSTANCE_UID}
+use Rattle.dictionary.specs.declared.commands.TheConstants.{NUMBER_OF_REMAINING_SUBOPERATIONS}
+use Rattle.dictionary.specs.declared.commands.TheConstants.{NUMBER_OF_COMPLETED_SUBOPERATIONS}
+use Rattle.dictionary.specs.declared.commands.TheConstants.{NUMBER_OF_FAILED_SUBOPERATIONS}
+use Rattle.dictionary.specs.declared.commands.TheConstants.{NUMBER_OF_WARNING_SUBOPERATIONS}
 use Rattle.dimse.specs.CommandField.{is_response_code, names_class_code}
 use Rattle.dimse.specs.Elements.{Element, AreElements, text_of, element_text, value_of}
 use Rattle.octets.specs.Padding.{without_padding}
@@ -16,8 +24,10 @@ use Rattle.dimse.specs.Uid.{IsUid, is_graphic, padded}
 -- the elements that hold a number of two bytes
 abbrev pub is_number_tag : ℕ → Bool
 is_number_tag tag =
-    tag == COMMAND_FIELD || tag == MESSAGE_ID || tag == MESSAGE_ID_BEING_RESPONDED_TO || tag == PRIORITY || tag == COMMAND_DATA_SET_TYPE || tag == STATUS
-    || tag == NUMBER_OF_REMAINING_SUBOPERATIONS || tag == NUMBER_OF_COMPLETED_SUBOPERATIONS || tag == NUMBER_OF_FAILED_SUBOPERATIONS || tag == NUMBER_OF_WARNING_SUBOPERATIONS
+    tag == COMMAND_FIELD || tag == MESSAGE_ID || tag == MESSAGE_ID_BEING_RESPONDED_TO || tag == PRIORITY || tag ==
+    COMMAND_DATA_SET_TYPE || tag == STATUS
+    || tag == NUMBER_OF_REMAINING_SUBOPERATIONS || tag == NUMBER_OF_COMPLETED_SUBOPERATIONS || tag ==
+    NUMBER_OF_FAILED_SUBOPERATIONS || tag == NUMBER_OF_WARNING_SUBOPERATIONS
 
 -- the elements that hold a UID
 abbrev pub is_uid_tag : ℕ → Bool

@@ -1,7 +1,8 @@
 -- Faults, and what a function that reads may answer.
 use Rattle.std.specs.Prelude.{ℕ, Bool, true, false, Result}
 use Rattle.dimse.specs.declared.fault.DimseFault.{DimseFault}
-use Rattle.dimse.specs.declared.fault.DimseFault.TheVariants.{BadContext, Interleaved, BadCommand, TooLong, Memory, Failed}
+use Rattle.dimse.specs.declared.fault.DimseFault.TheVariants.{BadContext, Interleaved, BadCommand, TooLong, Memory}
+use Rattle.dimse.specs.declared.fault.DimseFault.TheVariants.{Failed}
 use Rattle.octets.specs.Gives.{Gives as GivesBy}
 
 -- the public number of a fault

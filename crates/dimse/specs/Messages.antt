@@ -1,5 +1,6 @@
 -- Messages, and the fragments that they come in (PS3.7, 6.3; PS3.8, E).
-use Rattle.std.specs.Prelude.{◌≡◌, ◌≢◌, ◌≤◌, ℕ, Bool, true, false, List, [], ◌∷◌, ◌++◌, length, Option, Some, None, Result, Ok, Err, MatchOption, IfSome}
+use Rattle.std.specs.Prelude.{◌≡◌, ◌≢◌, ◌≤◌, ℕ, Bool, true, false, List, [], ◌∷◌, ◌++◌, length, Option, Some, None}
+use Rattle.std.specs.Prelude.{Result, Ok, Err, MatchOption, IfSome}
 use Rattle.pdu.specs.declared.pdv.Pdv.{Pdv}
 use Rattle.pdu.specs.declared.context.Context.{Context}
 use Rattle.dimse.specs.declared.command.Command.{Command}
@@ -22,17 +23,20 @@ IsOf context command p = (p.context ≡ context) × (p.command ≡ command)
 -- fragments of one text, none of them the last
 abbrev pub Opens : ℕ → Bool → List Pdv → List ℕ → Type 0
 Opens context command [] text = text ≡ []
-Opens context command (p ∷ ps) text = IsOf context command p × (p.last ≡ false) × (rest : List ℕ) × (text ≡ p.fragment ++ rest) × Opens context command ps rest
+Opens context command (p ∷ ps) text = IsOf context command p × (p.last ≡ false) × (rest : List ℕ)
+    × (text ≡ p.fragment ++ rest) × Opens context command ps rest
 
 -- the fragments of one text, up to the last one
 abbrev pub Joins : ℕ → Bool → List Pdv → List ℕ → Type 0
 Joins context command [] text = ⊥
 Joins context command (p ∷ []) text = IsOf context command p × (p.last ≡ true) × (text ≡ p.fragment)
-Joins context command (p ∷ q ∷ ps) text = IsOf context command p × (p.last ≡ false) × (rest : List ℕ) × (text ≡ p.fragment ++ rest) × Joins context command (q ∷ ps) rest
+Joins context command (p ∷ q ∷ ps) text = IsOf context command p × (p.last ≡ false) × (rest : List ℕ)
+    × (text ≡ p.fragment ++ rest) × Joins context command (q ∷ ps) rest
 
 -- The data set is there where the command set announces one.
 abbrev pub IsBody : Message → List Pdv → Type 0
-IsBody m data_pdvs = MatchOption m.body ((announces m.command ≡ false) × (data_pdvs ≡ [])) (λ body. (announces m.command ≡ true) × Joins m.context false data_pdvs body)
+IsBody m data_pdvs = MatchOption m.body ((announces m.command ≡ false) × (data_pdvs ≡ []))
+    (λ body. (announces m.command ≡ true) × Joins m.context false data_pdvs body)
 
 -- The fragments of a message: those of its command set, and then those of its data set.
 pub record SpellsMessage (pdvs : List Pdv) (m : Message) : Type 0 where
@@ -61,7 +65,8 @@ pub record BeginsCommand (contexts : List Context) (context : ℕ) (text : List 
   pub short : length text ≤ LONGEST_COMMAND
 
 -- the fragments of a command set that announces a data set, and those of this that are there
-pub record BeginsDataSet (contexts : List Context) (context : ℕ) (c : Command) (text : List ℕ) (pdvs : List Pdv) : Type 0 where
+pub record BeginsDataSet (contexts : List Context) (context : ℕ) (c : Command) (text : List ℕ) (pdvs : List Pdv) : Type
+    0 where
   pub of_command : List Pdv
   pub of_data : List Pdv
   pub whole : List ℕ
@@ -84,7 +89,8 @@ Holds contexts Failed pdvs = ⊥
 -- these messages, one after another, and then less than a message
 abbrev pub Splits : List Context → List Pdv → List Message → Stage → Type 0
 Splits contexts pdvs [] stage = Holds contexts stage pdvs
-Splits contexts pdvs (m ∷ ms) stage = (front behind : List Pdv) × (pdvs ≡ front ++ behind) × IsTaken contexts front m × Splits contexts behind ms stage
+Splits contexts pdvs (m ∷ ms) stage = (front behind : List Pdv) × (pdvs ≡ front ++ behind) × IsTaken contexts front m
+    × Splits contexts behind ms stage
 
 -- ---- runs
 

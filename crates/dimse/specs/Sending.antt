@@ -1,5 +1,6 @@
 -- How a message is sent: each fragment in a PDU of its own (PS3.8, D.1 and E).
-use Rattle.std.specs.Prelude.{◌≡◌, ◌<◌, ◌≤◌, ℕ, ◌-◌, ◌*◌, ◌/◌, Bool, true, false, List, [], ◌∷◌, ◌++◌, length, take, drop, Option, MatchOption, IfSome, is_some}
+use Rattle.std.specs.Prelude.{◌≡◌, ◌<◌, ◌≤◌, ℕ, ◌-◌, ◌*◌, ◌/◌, Bool, true, false, List, [], ◌∷◌, ◌++◌, length, take}
+use Rattle.std.specs.Prelude.{drop, Option, MatchOption, IfSome, is_some}
 use Rattle.pdu.specs.declared.pdv.Pdv.{Pdv}
 use Rattle.pdu.specs.declared.value.Pdu.{Pdu}
 use Rattle.pdu.specs.declared.value.Pdu.TheVariants.{PData}
@@ -14,14 +15,22 @@ size_of max = (max - 6) / 2 * 2
 
 -- a PDU with one fragment
 abbrev pub sent : ℕ → Bool → Bool → List ℕ → Pdu
-sent context command last fragment = PData (record { context = context; command = command; last = last; fragment = fragment } ∷ [])
+sent context command last fragment = PData (record {
+  context = context;
+  command = command;
+  last = last;
+  fragment =
+      fragment;
+} ∷ [])
 
--- A text goes in fragments of this size while more than that is left, and then in a last one. A text of length 0 is one empty fragment.
+-- A text goes in fragments of this size while more than that is left, and then in a last one. A text of length 0 is one
+-- empty fragment.
 abbrev pub Sends : ℕ → ℕ → Bool → List ℕ → List Pdu → Type 0
 Sends size context command text [] = ⊥
 Sends size context command text (p ∷ []) = (length text ≤ size) × (p ≡ sent context command true text)
 Sends size context command text (p ∷ q ∷ ps) =
-    (size < length text) × (p ≡ sent context command false (take size text)) × Sends size context command (drop size text) (q ∷ ps)
+    (size < length text) × (p ≡ sent context command false (take size text)) × Sends size context
+    command (drop size text) (q ∷ ps)
 
 -- the command set, and then the data set where there is one
 pub record IsSending (m : Message) (max : ℕ) (pdus : List Pdu) : Type 0 where

@@ -1,8 +1,17 @@
 -- The statuses (PS3.7, annex C; PS3.4, B.2.3 and C.4).
 use Rattle.std.specs.Prelude.{ℕ}
-use Rattle.dictionary.specs.declared.statuses.TheConstants.{STATUS_SUCCESS, STATUS_SOP_CLASS_NOT_SUPPORTED, STATUS_UNRECOGNIZED_OPERATION, STATUS_OUT_OF_RESOURCES, STATUS_UNABLE_TO_PERFORM_SUBOPERATIONS, STATUS_DATA_SET_DOES_NOT_MATCH, STATUS_SUBOPERATIONS_WITH_FAILURES, STATUS_CANNOT_UNDERSTAND, STATUS_CANCELED, STATUS_PENDING, STATUS_PENDING_WITHOUT_OPTIONAL_KEYS}
+use Rattle.dictionary.specs.declared.statuses.TheConstants.{STATUS_SUCCESS, STATUS_SOP_CLASS_NOT_SUPPORTED}
+use Rattle.dictionary.specs.declared.statuses.TheConstants.{STATUS_UNRECOGNIZED_OPERATION, STATUS_OUT_OF_RESOURCES}
+use Rattle.dictionary.specs.declared.statuses.TheConstants.{STATUS_UNABLE_TO_PERFORM_SUBOPERATIONS}
+use Rattle.dictionary.specs.declared.statuses.TheConstants.{STATUS_DATA_SET_DOES_NOT_MATCH}
+use Rattle.dictionary.specs.declared.statuses.TheConstants.{STATUS_SUBOPERATIONS_WITH_FAILURES}
+use Rattle.dictionary.specs.declared.statuses.TheConstants.{STATUS_CANNOT_UNDERSTAND, STATUS_CANCELED, STATUS_PENDING}
+use Rattle.dictionary.specs.declared.statuses.TheConstants.{STATUS_PENDING_WITHOUT_OPTIONAL_KEYS}
 use Rattle.dimse.specs.declared.status.Status.{Status}
-use Rattle.dimse.specs.declared.status.Status.TheVariants.{Success, SopClassNotSupported, UnrecognizedOperation, OutOfResources, UnableToPerformSubOperations, DataSetMismatch, SubOperationsWithFailures, CannotUnderstand, Cancel, Pending, PendingWithoutOptionalKeys}
+use Rattle.dimse.specs.declared.status.Status.TheVariants.{Success, SopClassNotSupported, UnrecognizedOperation}
+use Rattle.dimse.specs.declared.status.Status.TheVariants.{OutOfResources, UnableToPerformSubOperations}
+use Rattle.dimse.specs.declared.status.Status.TheVariants.{DataSetMismatch, SubOperationsWithFailures, CannotUnderstand}
+use Rattle.dimse.specs.declared.status.Status.TheVariants.{Cancel, Pending, PendingWithoutOptionalKeys}
 
 -- the value of a status
 abbrev pub status_code : Status → ℕ

@@ -5,7 +5,8 @@ use Rattle.std.specs.Cmp.Lexicographic.{pointwise}
 use Rattle.octets.specs.Padding.{trimmed}
 use Rattle.octets.specs.Uid.{is_uid_text}
 use Rattle.key_matching.specs.declared.matching.Matching.{Matching}
-use Rattle.key_matching.specs.declared.matching.Matching.TheVariants.{Dates, Times, WildCard, Name, Uids, Single, Answered}
+use Rattle.key_matching.specs.declared.matching.Matching.TheVariants.{Dates, Times, WildCard, Name, Uids, Single}
+use Rattle.key_matching.specs.declared.matching.Matching.TheVariants.{Answered}
 use Rattle.key_matching.specs.declared.range.Moment.TheVariants.{Date, Time}
 use Rattle.key_matching.specs.WildCard.{star, is_wild_match}
 use Rattle.key_matching.specs.Range.{is_range, is_in_range}

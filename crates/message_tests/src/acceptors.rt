@@ -4,13 +4,13 @@ ghost use Rattle.std.specs.Prelude.{IfOk, All};
 ghost use Rattle.pdu.specs.Spelling.{IsPdu};
 ghost use Rattle.ul_state.specs.Acceptor.{CanBeWritten};
 
-use ul_state::*;
 use bytes::Bytes;
 use octets::{ListOf, Octets};
 use pdu::{Accept, Context, Pdu, PduFault, Pdv, Step, read_pdu, write_pdu};
 use std::alloc::{AllocError, Global};
 use std::process::Abort;
 use std::test::Fail;
+use ul_state::*;
 
 const CONTEXT_NAME: &[u8] = b"\x10\x00\x00\x151.2.840.10008.3.1.1.1";
 

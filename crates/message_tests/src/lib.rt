@@ -1,4 +1,4 @@
-//! Tests of PDUs, of the acceptor and of messages: rows of bytes from outside.
+//! Tests of the acceptor and of messages: rows of bytes from outside.
 //!
 //! They stand in a crate of their own, so that no crate is proved once more with its tests.
 #![tactic(auto)]
@@ -7,5 +7,3 @@
 mod acceptors;
 #[cfg(test)]
 mod messages;
-#[cfg(test)]
-mod pdus;

@@ -4,8 +4,8 @@ ghost use Rattle.std.specs.Prelude.{◌<◌, ◌≤◌, All, length};
 ghost use Rattle.pdu.specs.Spelling.{IsPdu};
 ghost use Rattle.dimse.specs.Sending.{IsWhole};
 
-use dimse::*;
 use bytes::Bytes;
+use dimse::*;
 use octets::{ListOf, Octets};
 use pdu::{Context, Contexts, Pdu, Pdv, write_pdu};
 use std::alloc::{AllocError, Global};

@@ -1,5 +1,6 @@
 -- Texts that ascend, each once, are told by what they hold.
-use Rattle.std.proofs.Common.{◌≡◌, ℕ, zero, suc, ◌<◌, List, [], ◌∷◌, length, get_or, Bool, true, false, cond, refl, sym, ap, subst, ◌∙◌, ◌⊎◌, inl, inr, arith}
+use Rattle.std.proofs.Common.{◌≡◌, ℕ, zero, suc, ◌<◌, List, [], ◌∷◌, length, get_or, Bool, true, false, cond, refl, sym}
+use Rattle.std.proofs.Common.{ap, subst, ◌∙◌, ◌⊎◌, inl, inr, arith}
 use Rattle.std.specs.Prelude.{Contains, nat_eq}
 use Rattle.std.specs.declared.cmp.Ordering.{Ordering}
 use Rattle.std.specs.declared.cmp.Ordering.TheVariants.{Less, Equal, Greater}
@@ -129,13 +130,16 @@ ascending_holds q (x ∷ xs) there = first (ascending_holds q xs) (put_holds q x
 same_head : (x y : List ℕ) (xs ys : List (List ℕ)) → Above x xs → Above y ys → In x (y ∷ ys) → In y (x ∷ xs) → x ≡ y
 same_head x y xs ys up down (inl e) back = e
 same_head x y xs ys up down (inr there) (inl e) = sym e
-same_head x y xs ys up down (inr there) (inr back) = absurd (irreflexive x (nat_list_cmp_total.trans x y x (above_in x y xs up back) (above_in y x ys down there)))
+same_head x y xs ys up down (inr there) (inr back) =
+    absurd (irreflexive x (nat_list_cmp_total.trans x y x (above_in x y xs up back) (above_in y x ys down there)))
 
 tail_holds : (q x : List ℕ) (xs ys : List (List ℕ)) → Above x xs → In q xs → In q (x ∷ ys) → In q ys
 tail_holds q x xs ys up mine (inr there) = there
-tail_holds q x xs ys up mine (inl e) = absurd (irreflexive x (subst (λ (w : List ℕ). order x w ≡ Less) e (above_in x q xs up mine)))
+tail_holds q x xs ys up mine (inl e) = absurd
+    (irreflexive x (subst (λ (w : List ℕ). order x w ≡ Less) e (above_in x q xs up mine)))
 
-pub same_ascending : (xs ys : List (List ℕ)) → Ascends xs → Ascends ys → ((q : List ℕ) → In q xs → In q ys) → ((q : List ℕ) → In q ys → In q xs) → xs ≡ ys
+pub same_ascending : (xs ys : List (List ℕ)) → Ascends xs → Ascends ys → ((q : List ℕ) → In q xs → In q ys)
+    → ((q : List ℕ) → In q ys → In q xs) → xs ≡ ys
 same_ascending [] [] up down here there = refl
 same_ascending [] (y ∷ ys) up down here there = absurd (there y (inl refl))
 same_ascending (x ∷ xs) [] up down here there = absurd (here x (inl refl))

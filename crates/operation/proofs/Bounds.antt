@@ -1,5 +1,6 @@
 -- How long the parts of an operation are.
-use Rattle.std.proofs.Common.{rules, ◌≡◌, ℕ, ◌≤◌, ◌<◌, ◌^◌, [], ◌∷◌, List, length, Bool, true, false, refl, subst, arith}
+use Rattle.std.proofs.Common.{rules, ◌≡◌, ℕ, ◌≤◌, ◌<◌, ◌^◌, [], ◌∷◌, List, length, Bool, true, false, refl, subst}
+use Rattle.std.proofs.Common.{arith}
 use Rattle.std.specs.Prelude.{◌&&◌, not, nat_le, nat_lt, is_some, ◌==◌, ◌↔◌, IsTrue, Option, Some, None, if◌then◌else◌}
 use Rattle.std.specs.List.{list_all}
 use Rattle.std.specs.Coded.{Coded-set, coded_bool, le_prop}
@@ -16,8 +17,10 @@ use Rattle.operation.specs.declared.fault.OpFault.TheVariants.{NoUid, Mismatch}
 use Rattle.operation.specs.declared.target.Target.{Target}
 use Rattle.operation.specs.declared.target.Target.TheVariants.{Study, Patient, Series}
 use Rattle.operation.specs.Parts.{ContentParts, CorrectionParts, key_of}
-use Rattle.operation.specs.Corrections.{is_correction, is_key, is_plain, is_corrected, is_of_patient, is_of_series, is_tag_for, is_series, IsCorrection}
-use Rattle.operation.specs.Contents.{offence, has_uids, names_itself, note_offence, Describes, IsContent, draft_of, longest}
+use Rattle.operation.specs.Corrections.{is_correction, is_key, is_plain, is_corrected, is_of_patient, is_of_series}
+use Rattle.operation.specs.Corrections.{is_tag_for, is_series, IsCorrection}
+use Rattle.operation.specs.Contents.{offence, has_uids, names_itself, note_offence, Describes, IsContent, draft_of}
+use Rattle.operation.specs.Contents.{longest}
 
 pub both : (a b : Bool) → (a && b) ≡ true → (a ≡ true) × (b ≡ true)
 both true b e = (refl, e)
@@ -48,22 +51,26 @@ unfolding is_correction
 value_short c is = plain_short c.value (both _ _ (both _ _ (both _ _ is.lawful).0).0).1
 
 -- each test of `offence` was passed
-pub passed : (uids names : Bool) (last : Option OpFault) → (if not uids then Some NoUid else if not names then Some Mismatch else last) ≡ None → (uids ≡ true) × (names ≡ true) × (last ≡ None)
+pub passed : (uids names : Bool) (last : Option OpFault) → (if not uids then Some NoUid else if not names then Some
+    Mismatch else last) ≡ None → (uids ≡ true) × (names ≡ true) × (last ≡ None)
 passed true true last e = (refl, refl, e)
 passed true false last e = absurd cc
 passed false names last e = absurd cc
 
-pub uids_of : (draft : Draft) (elements : List Tree) → offence draft elements ≡ None → has_uids draft.class draft.instance elements ≡ true
+pub uids_of : (draft : Draft) (elements : List Tree) → offence draft elements ≡ None → has_uids draft.class
+    draft.instance elements ≡ true
 unfolding offence
 uids_of draft elements e =
-    (passed (has_uids draft.class draft.instance elements) (names_itself draft.class draft.instance elements) (note_offence (note_in draft.class elements)) e).0
+    (passed (has_uids draft.class draft.instance elements) (names_itself draft.class draft.instance elements)
+    (note_offence (note_in draft.class elements)) e).0
 
 class_is_uid : (a b c d e f : Bool) → (a && b && c && d && e && f) ≡ true → (a ≡ true) × (b ≡ true)
 class_is_uid true true c d e f h = (refl, refl)
 class_is_uid true false c d e f h = absurd cc
 class_is_uid false b c d e f h = absurd cc
 
-uids_described : (c : ContentParts) (elements : List Tree) → Describes elements c → (is_uid_text c.class ≡ true) × (is_uid_text c.instance ≡ true)
+uids_described : (c : ContentParts) (elements : List Tree) → Describes elements c → (is_uid_text c.class ≡ true)
+    × (is_uid_text c.instance ≡ true)
 uids_described c elements d = class_is_uid _ _ _ _ _ _ (uids_of (draft_of c) elements d.faultless)
 
 test_set : (a b : Bool) → IsProp (a ≡ b)
@@ -87,14 +94,16 @@ body_short c is = ∥∥₁_elim is le_prop (λ d. d.1.short)
 -- ---- tags
 
 -- a tag in a table of tags is one of 32 bits if they are
-tag_among : (tag : ℕ) (xs : List (ℕ × List ℕ)) → list_all (λ x. nat_lt x.0 (2 ^ 32)) xs ≡ true → is_some (vr_among tag xs) ≡ true → tag < 2 ^ 32
+tag_among : (tag : ℕ) (xs : List (ℕ × List ℕ)) → list_all (λ x. nat_lt x.0 (2 ^ 32)) xs ≡ true
+    → is_some (vr_among tag xs) ≡ true → tag < 2 ^ 32
 tag_among tag [] all found = absurd cc
 tag_among tag (x ∷ xs) all found = by_test (tag == x.0) (tag_among tag xs (both _ _ all).1) refl found
   where
     here : nat_lt x.0 (2 ^ 32) ≡ true → (tag == x.0) ≡ true → tag < 2 ^ 32
     here small same = grind (arith, nat_tests)
 
-    by_test : (b : Bool) → (is_some (vr_among tag xs) ≡ true → tag < 2 ^ 32) → (tag == x.0) ≡ b → is_some (if b then Some x.1 else vr_among tag xs) ≡ true → tag < 2 ^ 32
+    by_test : (b : Bool) → (is_some (vr_among tag xs) ≡ true → tag < 2 ^ 32) → (tag == x.0) ≡ b
+        → is_some (if b then Some x.1 else vr_among tag xs) ≡ true → tag < 2 ^ 32
     by_test true deeper same found = here (both _ _ all).0 same
     by_test false deeper other found = deeper found
 

@@ -1,5 +1,6 @@
 -- A draft has one outcome.
-use Rattle.std.proofs.Common.{◌≡◌, ℕ, ◌<◌, ◌≤◌, List, length, Bool, true, false, cond, Option, Some, None, Result, Ok, Err, refl, sym, ap, subst, ◌∙◌, ◌⊎◌, inl, inr, arith}
+use Rattle.std.proofs.Common.{◌≡◌, ℕ, ◌<◌, ◌≤◌, List, length, Bool, true, false, cond, Option, Some, None, Result, Ok}
+use Rattle.std.proofs.Common.{Err, refl, sym, ap, subst, ◌∙◌, ◌⊎◌, inl, inr, arith}
 use Rattle.std.specs.Prelude.{not, if◌then◌else◌}
 use Rattle.std.specs.Coded.{Coded-set}
 use Rattle.std.proofs.Math.Logic.{∥∥₁_elim}
@@ -14,47 +15,74 @@ use Rattle.rejection_note.specs.declared.fault.NoteFault.TheVariants.{NoTitle, N
 use Rattle.rejection_note.specs.Notes.{note_in}
 use Rattle.operation.specs.declared.draft.Draft.{Draft}
 use Rattle.operation.specs.declared.fault.OpFault.{OpFault}
-use Rattle.operation.specs.declared.fault.OpFault.TheVariants.{NoUid, Mismatch, BadSet, BadNote, BadCorrection, TooLong, UnknownKind, Memory, Shape}
+use Rattle.operation.specs.declared.fault.OpFault.TheVariants.{NoUid, Mismatch, BadSet, BadNote, BadCorrection, TooLong}
+use Rattle.operation.specs.declared.fault.OpFault.TheVariants.{UnknownKind, Memory, Shape}
 use Rattle.operation.specs.Code.{content_code}
 use Rattle.operation.specs.Fault.{is_memory, fault_of_note}
 use Rattle.operation.specs.Parts.{ContentParts}
-use Rattle.operation.specs.Contents.{offence, has_uids, names_itself, note_offence, Describes, IsContent, IsRefused, IsShort, IsOutcome, SpellsNothing, Offends, values_in, draft_of, longest}
+use Rattle.operation.specs.Contents.{offence, has_uids, names_itself, note_offence, Describes, IsContent, IsRefused}
+use Rattle.operation.specs.Contents.{IsShort, IsOutcome, SpellsNothing, Offends, values_in, draft_of, longest}
 
 -- ---- what offends
 
-pub without_uids : (draft : Draft) (elements : List Tree) → has_uids draft.class draft.instance elements ≡ false → offence draft elements ≡ Some NoUid
+pub without_uids : (draft : Draft) (elements : List Tree) → has_uids draft.class draft.instance elements ≡ false
+    → offence draft elements ≡ Some NoUid
 unfolding offence
-without_uids draft elements e = ap (λ (b : Bool). if not b then Some NoUid else if not (names_itself draft.class draft.instance elements) then Some Mismatch else note_offence (note_in draft.class elements)) e
+without_uids draft elements e = ap (λ (b : Bool). if not b then Some NoUid else if not (names_itself draft.class
+    draft.instance elements) then Some Mismatch else note_offence (note_in draft.class elements)) e
 
-pub behind_uids : (draft : Draft) (elements : List Tree) → has_uids draft.class draft.instance elements ≡ true → offence draft elements ≡ (if not (names_itself draft.class draft.instance elements) then Some Mismatch else note_offence (note_in draft.class elements))
+pub behind_uids : (draft : Draft) (elements : List Tree) → has_uids draft.class draft.instance elements ≡ true
+    → offence draft elements ≡ (if not (names_itself draft.class draft.instance elements) then Some Mismatch
+    else note_offence (note_in draft.class elements))
 unfolding offence
-behind_uids draft elements e = ap (λ (b : Bool). if not b then Some NoUid else if not (names_itself draft.class draft.instance elements) then Some Mismatch else note_offence (note_in draft.class elements)) e
+behind_uids draft elements e = ap (λ (b : Bool). if not b then Some NoUid else if not (names_itself draft.class
+    draft.instance elements) then Some Mismatch else note_offence (note_in draft.class elements)) e
 
-pub of_other_names : (draft : Draft) (elements : List Tree) → has_uids draft.class draft.instance elements ≡ true → names_itself draft.class draft.instance elements ≡ false → offence draft elements ≡ Some Mismatch
+pub of_other_names : (draft : Draft) (elements : List Tree) → has_uids draft.class draft.instance elements ≡ true
+    → names_itself draft.class draft.instance elements ≡ false → offence draft elements ≡ Some Mismatch
 of_other_names draft elements u n =
-    behind_uids draft elements u ∙ ap (λ (b : Bool). if not b then Some Mismatch else note_offence (note_in draft.class elements)) n
+    behind_uids draft elements u ∙ ap (λ (b : Bool). if not b then Some Mismatch else note_offence
+    (note_in draft.class elements)) n
 
-pub of_its_names : (draft : Draft) (elements : List Tree) → has_uids draft.class draft.instance elements ≡ true → names_itself draft.class draft.instance elements ≡ true → offence draft elements ≡ note_offence (note_in draft.class elements)
+pub of_its_names : (draft : Draft) (elements : List Tree) → has_uids draft.class draft.instance elements ≡ true
+    → names_itself draft.class draft.instance elements ≡ true → offence draft elements ≡ note_offence
+    (note_in draft.class elements)
 of_its_names draft elements u n =
-    behind_uids draft elements u ∙ ap (λ (b : Bool). if not b then Some Mismatch else note_offence (note_in draft.class elements)) n
+    behind_uids draft elements u ∙ ap (λ (b : Bool). if not b then Some Mismatch else note_offence
+    (note_in draft.class elements)) n
 
 -- a note's fault offends, unless memory ran out
-pub of_a_note : (draft : Draft) (elements : List Tree) (f : NoteFault) → IsShort draft → Spells draft.syntax draft.body elements → offence draft elements ≡ note_offence (note_in draft.class elements)
-    → Told Rattle.rejection_note.specs.Fault.is_memory f (λ g. note_in draft.class elements ≡ Err g) → Told is_memory (fault_of_note f) (IsRefused draft)
+pub of_a_note : (draft : Draft) (elements : List Tree) (f : NoteFault) → IsShort draft → Spells draft.syntax draft.body
+    elements → offence draft elements ≡ note_offence (note_in draft.class elements)
+    → Told Rattle.rejection_note.specs.Fault.is_memory f (λ g. note_in draft.class elements ≡ Err g)
+    → Told is_memory (fault_of_note f) (IsRefused draft)
 of_a_note draft elements NoTitle short spelled e told = (short, (elements, spelled, e ∙ ap note_offence told))
 of_a_note draft elements NoReference short spelled e told = (short, (elements, spelled, e ∙ ap note_offence told))
 of_a_note draft elements note_memory short spelled e told = tt
 
 -- what passed each test is a content
-pub made : (c : ContentParts) (elements : List Tree) → IsShort (draft_of c) → Spells c.syntax c.body elements → has_uids c.class c.instance elements ≡ true → names_itself c.class c.instance elements ≡ true → note_in c.class elements ≡ Ok c.note → c.values ≡ values_in elements → IsContent c
+pub made : (c : ContentParts) (elements : List Tree) → IsShort (draft_of c) → Spells c.syntax c.body elements
+    → has_uids c.class c.instance elements ≡ true → names_itself c.class c.instance elements ≡ true
+    → note_in c.class elements ≡ Ok c.note → c.values ≡ values_in elements → IsContent c
 made c elements short spelled uids names said values =
-    ∣ (elements, record { short = short; spelled = spelled; faultless = of_its_names (draft_of c) elements uids names ∙ ap note_offence said; values = values; note = said }) ∣₁
+    ∣ (
+      elements,
+      record {
+        short = short;
+        spelled = spelled;
+        faultless = of_its_names (draft_of c) elements uids names
+            ∙ ap note_offence said;
+        values = values;
+        note = said;
+      },
+    ) ∣₁
 
 -- ---- one outcome
 
 -- the three ways of a refusal
 abbrev Ways : Draft → OpFault → Type 0
-Ways draft f = ((f ≡ TooLong) × (longest < length draft.body)) ⊎ (((f ≡ BadSet) × IsShort draft × SpellsNothing draft) ⊎ (IsShort draft × Offends draft f))
+Ways draft f = ((f ≡ TooLong) × (longest < length draft.body)) ⊎ (((f ≡ BadSet) × IsShort draft × SpellsNothing draft)
+    ⊎ (IsShort draft × Offends draft f))
 
 ways : (draft : Draft) (f : OpFault) → IsRefused draft f → Ways draft f
 ways draft TooLong r = inl (refl, r)
@@ -75,7 +103,8 @@ some_is f g o a b = same f g (sym a ∙ b)
 
 one_offence : (draft : Draft) (f g : OpFault) → Offends draft f → Offends draft g → f ≡ g
 one_offence draft f g a b =
-    some_is f g (offence draft b.0) (subst (λ (es : List Tree). offence draft es ≡ Some f) (spelled_once draft.syntax draft.body a.0 b.0 a.1 b.1) a.2) b.2
+    some_is f g (offence draft b.0) (subst (λ (es : List Tree). offence draft es ≡ Some f)
+    (spelled_once draft.syntax draft.body a.0 b.0 a.1 b.1) a.2) b.2
 
 pub one_refusal : (draft : Draft) (f g : OpFault) → IsRefused draft f → IsRefused draft g → f ≡ g
 one_refusal draft f g a b = both (ways draft f a) (ways draft g b)
@@ -97,14 +126,17 @@ none_is f o a b = apart f (sym a ∙ b)
     apart : (f : OpFault) → Some f ≡ None → ⊥
     apart f e = cc
 
-described_or_refused : (c : ContentParts) (elements : List Tree) (f : OpFault) → Describes elements c → Ways (draft_of c) f → ⊥
+described_or_refused : (c : ContentParts) (elements : List Tree) (f : OpFault) → Describes elements c
+    → Ways (draft_of c) f → ⊥
 described_or_refused c elements f d (inl x) = omega (arith, d.short, x.1)
 described_or_refused c elements f d (inr (inl x)) = x.2 elements d.spelled
 described_or_refused c elements f d (inr (inr x)) =
-    none_is f (offence (draft_of c) elements) (subst (λ (es : List Tree). offence (draft_of c) es ≡ Some f) (spelled_once c.syntax c.body x.1.0 elements x.1.1 d.spelled) x.1.2) d.faultless
+    none_is f (offence (draft_of c) elements) (subst (λ (es : List Tree). offence (draft_of c) es ≡ Some f)
+    (spelled_once c.syntax c.body x.1.0 elements x.1.1 d.spelled) x.1.2) d.faultless
 
 pub content_or_refused : (c : ContentParts) (f : OpFault) → IsContent c → IsRefused (draft_of c) f → ⊥
-content_or_refused c f is refused = ∥∥₁_elim is (λ (x y : ⊥). absurd x) (λ d. described_or_refused c d.0 f d.1 (ways (draft_of c) f refused))
+content_or_refused c f is refused = ∥∥₁_elim is (λ (x y : ⊥). absurd x)
+    (λ d. described_or_refused c d.0 f d.1 (ways (draft_of c) f refused))
 
 note_is : (a b : Option Note) (r : Result (Option Note) NoteFault) → r ≡ Ok a → r ≡ Ok b → a ≡ b
 note_is a b r p q = same a b (sym p ∙ q)
@@ -116,28 +148,44 @@ note_is a b r p q = same a b (sym p ∙ q)
     same a b e = cc
 
 -- equal drafts are of equal contents
-described_once : (a b : ContentParts) (es us : List Tree) → Describes es a → Describes us b → draft_of a ≡ draft_of b → a ≡ b
+described_once : (a b : ContentParts) (es us : List Tree) → Describes es a → Describes us b → draft_of a ≡ draft_of b
+    → a ≡ b
 described_once a b es us p q e =
-    let same : es ≡ us = spelled_once b.syntax b.body es us (subst (λ (d : Draft). Spells d.syntax d.body es) e p.spelled) q.spelled in
+    let same : es ≡ us = spelled_once b.syntax b.body es us (subst (λ (d : Draft). Spells d.syntax d.body es) e
+    p.spelled) q.spelled in
     let values : a.values ≡ b.values = p.values ∙ ap values_in same ∙ sym q.values in
     let class : a.class ≡ b.class = ap (λ (d : Draft). d.class) e in
-    let read : note_in a.class es ≡ note_in b.class us = ap (λ (x : List ℕ). note_in x es) class ∙ ap (λ (x : List Tree). note_in b.class x) same in
+    let read : note_in a.class es ≡ note_in b.class us = ap (λ (x : List ℕ). note_in x es) class
+    ∙ ap (λ (x : List Tree). note_in b.class x) same in
     let said : a.note ≡ b.note = note_is a.note b.note (note_in b.class us) (sym read ∙ p.note) q.note in
     let instance : a.instance ≡ b.instance = ap (λ (d : Draft). d.instance) e in
     let syntax : a.syntax ≡ b.syntax = ap (λ (d : Draft). d.syntax) e in
     let body : a.body ≡ b.body = ap (λ (d : Draft). d.body) e in
-    λ i. record { class = class i; instance = instance i; syntax = syntax i; body = body i; values = values i; note = said i }
+    λ i. record {
+      class = class i;
+      instance = instance i;
+      syntax = syntax i;
+      body = body i;
+      values = values i;
+      note =
+          said i;
+    }
 
 pub one_content : (a b : ContentParts) → IsContent a → IsContent b → draft_of a ≡ draft_of b → a ≡ b
 one_content a b is is' e =
-    ∥∥₁_elim is (Coded-set content_code a b) (λ d. ∥∥₁_elim is' (Coded-set content_code a b) (λ d'. described_once a b d.0 d'.0 d.1 d'.1 e))
+    ∥∥₁_elim is (Coded-set content_code a b) (λ d. ∥∥₁_elim is' (Coded-set content_code a b)
+    (λ d'. described_once a b d.0 d'.0 d.1 d'.1 e))
 
 pub outcome_once : (draft : Draft) (r s : Result ContentParts OpFault) → IsOutcome draft r → IsOutcome draft s → r ≡ s
 outcome_once draft (Ok a) (Ok b) p q = ap (λ (c : ContentParts). Ok c) (one_content a b p.1 q.1 (p.0 ∙ sym q.0))
-outcome_once draft (Ok a) (Err g) p q = absurd (content_or_refused a g p.1 (subst (λ (d : Draft). IsRefused d g) (sym p.0) q))
-outcome_once draft (Err f) (Ok b) p q = absurd (content_or_refused b f q.1 (subst (λ (d : Draft). IsRefused d f) (sym q.0) p))
+outcome_once draft (Ok a) (Err g) p q = absurd (content_or_refused a g p.1 (subst (λ (d : Draft). IsRefused d g)
+    (sym p.0) q))
+outcome_once draft (Err f) (Ok b) p q = absurd (content_or_refused b f q.1 (subst (λ (d : Draft). IsRefused d f)
+    (sym q.0) p))
 outcome_once draft (Err f) (Err g) p q = ap (λ (e : OpFault). Err e) (one_refusal draft f g p q)
 
 -- whatever the outcome is, it is told, unless memory ran out
-pub only_outcome : (draft : Draft) (given s : Result ContentParts OpFault) → Tells is_memory (λ c. c) given (IsOutcome draft) → IsOutcome draft s → Gives is_memory (λ c. c) given s
-only_outcome draft given s told is = tells_map is_memory (λ c. c) given (IsOutcome draft) (λ r. s ≡ r) (λ r p. outcome_once draft s r is p) told
+pub only_outcome : (draft : Draft) (given s : Result ContentParts OpFault) → Tells is_memory (λ c. c)
+    given (IsOutcome draft) → IsOutcome draft s → Gives is_memory (λ c. c) given s
+only_outcome draft given s told is = tells_map is_memory (λ c. c) given (IsOutcome draft) (λ r. s ≡ r)
+    (λ r p. outcome_once draft s r is p) told

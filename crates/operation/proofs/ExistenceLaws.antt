@@ -1,5 +1,6 @@
 -- Every text of bytes comes to an outcome: it spells an operation, or has a fault.
-use Rattle.std.proofs.Common.{inl, inr, ◌≡◌, ◌⊎◌, ℕ, zero, suc, ◌<◌, ◌≤◌, Bool, true, false, List, [], ◌∷◌, ◌++◌, length, Option, Result, Ok, Err, refl, sym, ap, subst, ◌∙◌, arith}
+use Rattle.std.proofs.Common.{inl, inr, ◌≡◌, ◌⊎◌, ℕ, zero, suc, ◌<◌, ◌≤◌, Bool, true, false, List, [], ◌∷◌, ◌++◌}
+use Rattle.std.proofs.Common.{length, Option, Result, Ok, Err, refl, sym, ap, subst, ◌∙◌, arith}
 use Rattle.std.specs.Prelude.{nat_le}
 use Rattle.std.specs.Int.{w32, to_be_bytes}
 use Rattle.std.proofs.lemmas.Bool.Decides.{nat_tests}
@@ -16,11 +17,13 @@ use Rattle.rejection_note.specs.declared.fault.NoteFault.{NoteFault}
 use Rattle.rejection_note.specs.Notes.{note_in}
 use Rattle.operation.specs.declared.draft.Draft.{Draft}
 use Rattle.operation.specs.declared.fault.OpFault.{OpFault}
-use Rattle.operation.specs.declared.fault.OpFault.TheVariants.{NoUid, Mismatch, BadSet, BadNote, BadCorrection, TooLong, UnknownKind, Shape}
+use Rattle.operation.specs.declared.fault.OpFault.TheVariants.{NoUid, Mismatch, BadSet, BadNote, BadCorrection, TooLong}
+use Rattle.operation.specs.declared.fault.OpFault.TheVariants.{UnknownKind, Shape}
 use Rattle.operation.specs.declared.op.Op.{Op}
 use Rattle.operation.specs.declared.op.Op.TheVariants.{Content as a_content, Correction as a_correction}
 use Rattle.operation.specs.Parts.{ContentParts, CorrectionParts}
-use Rattle.operation.specs.Contents.{IsContent, IsRefused, IsShort, draft_of, has_uids, longest, names_itself, note_offence, values_in}
+use Rattle.operation.specs.Contents.{IsContent, IsRefused, IsShort, draft_of, has_uids, longest, names_itself}
+use Rattle.operation.specs.Contents.{note_offence, values_in}
 use Rattle.operation.specs.Corrections.{IsCorrection, checked, is_correction}
 use Rattle.operation.specs.Reading.{HasFault, IsFaultOf, IsOp, correction_at, draft_at, parts_at}
 use Rattle.operation.specs.Spelling.{correction_text, draft_text, short_text, spelling, syntax_byte}

@@ -1,9 +1,15 @@
 -- Which contents there are (docs/DECISIONS.md, "Contents").
-use Rattle.std.specs.Prelude.{◌≡◌, ℕ, ◌<◌, ◌≤◌, List, [], ◌∷◌, length, Bool, false, not, ◌&&◌, Option, Some, None, Result, Ok, Err, nat_eq, if◌then◌else◌}
+use Rattle.std.specs.Prelude.{◌≡◌, ℕ, ◌<◌, ◌≤◌, List, [], ◌∷◌, length, Bool, false, not, ◌&&◌, Option, Some, None}
+use Rattle.std.specs.Prelude.{Result, Ok, Err, nat_eq, if◌then◌else◌}
 use Rattle.std.specs.List.{filter_map}
 use Rattle.std.specs.Option.{option_map}
 use Rattle.std.specs.Cmp.Lexicographic.{pointwise}
-use Rattle.dictionary.specs.declared.elements.TheConstants.{ACCESSION_NUMBER, INSTANCE_NUMBER, MODALITY, PATIENT_BIRTH_DATE, PATIENT_ID, PATIENT_NAME, PATIENT_SEX, REFERRING_PHYSICIAN_NAME, SERIES_DESCRIPTION, SERIES_INSTANCE_UID, SERIES_NUMBER, SOP_CLASS_UID, SOP_INSTANCE_UID, SPECIFIC_CHARACTER_SET, STUDY_DATE, STUDY_DESCRIPTION, STUDY_ID, STUDY_INSTANCE_UID, STUDY_TIME}
+use Rattle.dictionary.specs.declared.elements.TheConstants.{ACCESSION_NUMBER, INSTANCE_NUMBER, MODALITY}
+use Rattle.dictionary.specs.declared.elements.TheConstants.{PATIENT_BIRTH_DATE, PATIENT_ID, PATIENT_NAME, PATIENT_SEX}
+use Rattle.dictionary.specs.declared.elements.TheConstants.{REFERRING_PHYSICIAN_NAME, SERIES_DESCRIPTION}
+use Rattle.dictionary.specs.declared.elements.TheConstants.{SERIES_INSTANCE_UID, SERIES_NUMBER, SOP_CLASS_UID}
+use Rattle.dictionary.specs.declared.elements.TheConstants.{SOP_INSTANCE_UID, SPECIFIC_CHARACTER_SET, STUDY_DATE}
+use Rattle.dictionary.specs.declared.elements.TheConstants.{STUDY_DESCRIPTION, STUDY_ID, STUDY_INSTANCE_UID, STUDY_TIME}
 use Rattle.data_set.specs.Tree.{Tree}
 use Rattle.data_set.specs.Texts.{Spells}
 use Rattle.octets.specs.Uid.{is_uid_text}
@@ -99,7 +105,8 @@ SpellsNothing draft = (elements : List Tree) → Spells draft.syntax draft.body 
 
 -- Its data set spells elements of which this is the first that offends.
 abbrev pub Offends : Draft → OpFault → Type 0
-Offends draft fault = (elements : List Tree) × Spells draft.syntax draft.body elements × (offence draft elements ≡ Some fault)
+Offends draft fault = (elements : List Tree) × Spells draft.syntax draft.body elements
+    × (offence draft elements ≡ Some fault)
 
 -- The draft is no content, for this fault.
 abbrev pub IsRefused : Draft → OpFault → Type 0

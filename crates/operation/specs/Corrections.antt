@@ -1,5 +1,6 @@
 -- Which corrections there are (docs/DECISIONS.md, "Corrections").
-use Rattle.std.specs.Prelude.{ℕ, ◌<◌, ◌^◌, List, length, Bool, true, false, not, ◌&&◌, ◌||◌, ◌==◌, nat_le, Option, Some, None, Result, Ok, Err, IsTrue, slice_get, is_some, if◌then◌else◌, ◌-◌, ◌/◌}
+use Rattle.std.specs.Prelude.{ℕ, ◌<◌, ◌^◌, List, length, Bool, true, false, not, ◌&&◌, ◌||◌, ◌==◌, nat_le, Option, Some}
+use Rattle.std.specs.Prelude.{None, Result, Ok, Err, IsTrue, slice_get, is_some, if◌then◌else◌, ◌-◌, ◌/◌}
 use Rattle.std.specs.List.{list_all}
 use Rattle.dictionary.specs.declared.elements.TheConstants.{SERIES_DESCRIPTION}
 use Rattle.data_set.specs.Corrections.{correction_vr_of}
@@ -58,7 +59,8 @@ is_key (Series key) = is_uid_text key
 -- Counter and site are numbered from 1.
 unfoldable pub is_correction : CorrectionParts → Bool
 is_correction c =
-    is_key c.target && is_tag_for c.target c.tag && is_plain c.value && nat_le 1 c.stamp.counter && nat_le 1 c.stamp.site
+    is_key c.target && is_tag_for c.target c.tag && is_plain c.value && nat_le 1 c.stamp.counter && nat_le 1
+    c.stamp.site
 
 -- a correction, or the fault that it is none
 abbrev pub checked : CorrectionParts → Result CorrectionParts OpFault

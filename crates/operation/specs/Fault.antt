@@ -5,7 +5,8 @@ use Rattle.data_set.specs.declared.fault.SetFault.TheVariants.{Memory as set_mem
 use Rattle.rejection_note.specs.declared.fault.NoteFault.{NoteFault}
 use Rattle.rejection_note.specs.declared.fault.NoteFault.TheVariants.{Memory as note_memory}
 use Rattle.operation.specs.declared.fault.OpFault.{OpFault}
-use Rattle.operation.specs.declared.fault.OpFault.TheVariants.{NoUid, Mismatch, BadSet, BadNote, BadCorrection, TooLong, UnknownKind, Memory, Shape}
+use Rattle.operation.specs.declared.fault.OpFault.TheVariants.{NoUid, Mismatch, BadSet, BadNote, BadCorrection, TooLong}
+use Rattle.operation.specs.declared.fault.OpFault.TheVariants.{UnknownKind, Memory, Shape}
 
 abbrev pub is_memory : OpFault → Bool
 is_memory Memory = true

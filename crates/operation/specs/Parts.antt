@@ -6,7 +6,8 @@ use Rattle.operation.specs.declared.stamp.Stamp.{Stamp}
 use Rattle.operation.specs.declared.target.Target.{Target}
 use Rattle.operation.specs.declared.target.Target.TheVariants.{Study, Patient, Series}
 
--- a stored data set with its SOP class, its SOP instance and its transfer syntax, and what is asked of it again and again:
+-- a stored data set with its SOP class, its SOP instance and its transfer syntax, and what is asked of it again and
+-- again:
 -- the trimmed values of its elements that queries know, by ascending tag, and what it says as a rejection note
 pub record ContentParts : Type 0 where
   pub class : List ℕ

@@ -1,5 +1,6 @@
 -- Reading the spelling of an operation from left to right.
-use Rattle.std.specs.Prelude.{◌≡◌, ℕ, zero, suc, ◌-◌, List, [], ◌∷◌, length, take, drop, Bool, false, Option, Some, None, Result, Ok, Err, nat_lt, slice_get, ◌==◌, if◌then◌else◌}
+use Rattle.std.specs.Prelude.{◌≡◌, ℕ, zero, suc, ◌-◌, List, [], ◌∷◌, length, take, drop, Bool, false, Option, Some}
+use Rattle.std.specs.Prelude.{None, Result, Ok, Err, nat_lt, slice_get, ◌==◌, if◌then◌else◌}
 use Rattle.std.specs.Int.{w16, w32, w64, from_be_bytes}
 use Rattle.octets.specs.Gives.{◌>>=◌}
 use Rattle.data_set.specs.declared.syntax.Syntax.{Syntax}
@@ -80,7 +81,10 @@ value_text_at _ = Err Shape
 -- counter and site, and nothing behind them
 unfoldable pub stamp_at : List ℕ → Result Stamp OpFault
 stamp_at (a ∷ b ∷ c ∷ d ∷ e ∷ f ∷ g ∷ h ∷ i ∷ j ∷ []) =
-    Ok (record { counter = from_be_bytes w64 (a ∷ b ∷ c ∷ d ∷ e ∷ f ∷ g ∷ h ∷ []); site = from_be_bytes w16 (i ∷ j ∷ []) })
+    Ok (record {
+      counter = from_be_bytes w64 (a ∷ b ∷ c ∷ d ∷ e ∷ f ∷ g ∷ h ∷ []);
+      site = from_be_bytes w16 (i ∷ j ∷ []);
+    })
 stamp_at _ = Err Shape
 
 -- a correction with its kind, whether it is lawful or not
@@ -111,7 +115,8 @@ IsMade (Ok draft) r = IsOutcome draft r
 -- what a text comes to
 abbrev pub IsReading : List ℕ → Result Op OpFault → Type 0
 IsReading [] r = r ≡ Err Shape
-IsReading (suc zero ∷ text) r = (s : Result ContentParts OpFault) × IsMade (draft_at text) s × (r ≡ (s >>= λ c. Ok (a_content c)))
+IsReading (suc zero ∷ text) r = (s : Result ContentParts OpFault) × IsMade (draft_at text) s
+    × (r ≡ (s >>= λ c. Ok (a_content c)))
 IsReading (suc (suc zero) ∷ text) r = r ≡ (correction_at (2 ∷ text) >>= λ k. Ok (a_correction k))
 IsReading (suc (suc (suc zero)) ∷ text) r = r ≡ (correction_at (3 ∷ text) >>= λ k. Ok (a_correction k))
 IsReading (_ ∷ text) r = r ≡ Err UnknownKind

@@ -28,12 +28,14 @@ target_text (Series key) = 3 ∷ short_text key
 
 -- class, instance, transfer syntax, and the data set behind its length
 abbrev pub draft_text : Draft → List ℕ
-draft_text d = short_text d.class ++ (short_text d.instance ++ (syntax_byte d.syntax ∷ (to_be_bytes w32 (length d.body) ++ d.body)))
+draft_text d = short_text d.class ++ (short_text d.instance
+    ++ (syntax_byte d.syntax ∷ (to_be_bytes w32 (length d.body) ++ d.body)))
 
 -- kind and target, tag, the value behind its length, counter and site
 abbrev pub correction_text : CorrectionParts → List ℕ
 correction_text k =
-    target_text k.target ++ (to_be_bytes w32 k.tag ++ (to_be_bytes w16 (length k.value) ++ (k.value ++ (to_be_bytes w64 k.stamp.counter ++ to_be_bytes w16 k.stamp.site))))
+    target_text k.target ++ (to_be_bytes w32 k.tag ++ (to_be_bytes w16 (length k.value)
+    ++ (k.value ++ (to_be_bytes w64 k.stamp.counter ++ to_be_bytes w16 k.stamp.site))))
 
 -- its kind, and the draft
 abbrev pub content_text : ContentParts → List ℕ

@@ -2,10 +2,10 @@
 
 ghost use Rattle.std.specs.Prelude.{◌≤◌, length};
 
+use Syntax::{Explicit, Implicit};
 use data_set::{
     DataSet, SetFault, Syntax, correction_vr, items_of, padded_of, read, value_of, write,
 };
-use Syntax::{Explicit, Implicit};
 use std::alloc::{AllocError, Global};
 use std::process::Abort;
 use std::test::Fail;

@@ -1,7 +1,7 @@
 //! Key Object Selections by hand, in Implicit VR Little Endian.
 
-use rejection_note::{Note, NoteFault, Title, note_of};
 use data_set::{DataSet, SetFault, Syntax, read};
+use rejection_note::{Note, NoteFault, NoteTitle, note_of};
 use std::alloc::{AllocError, Global};
 use std::test::Fail;
 
@@ -128,7 +128,7 @@ fn naming(alloc: Global, first: &[u8], second: &[u8]) -> Result<DataSet, SetFaul
     )
 }
 
-fn title(note: Option<Note>) -> Option<Title> {
+fn title(note: Option<Note>) -> Option<NoteTitle> {
     match note {
         None => None,
         Some(note) => Some(note.title),
@@ -145,10 +145,10 @@ fn fault(note: Result<Option<Note>, NoteFault>) -> Option<u8> {
 #[test]
 fn each_rejection_title_is_known(rt: HostRuntime) -> Result<(), Fail> {
     for (code, wanted) in [
-        (QUALITY, Title::Quality),
-        (SAFETY, Title::Safety),
-        (WORKLIST, Title::Worklist),
-        (EXPIRED, Title::Expired),
+        (QUALITY, NoteTitle::Quality),
+        (SAFETY, NoteTitle::Safety),
+        (WORKLIST, NoteTitle::Worklist),
+        (EXPIRED, NoteTitle::Expired),
     ] {
         let set = titled(rt.alloc(), code, DCM)?;
         let note = note_of(rt.alloc(), KEY_OBJECT_SELECTION, &set)?;

@@ -1,12 +1,12 @@
 //! Operations by hand.
 
+use bytes::Bytes;
+use data_set::Syntax;
+use octets::Octets;
 use operation::{
     Content, Correction, Digest, Digested, Op, OpFault, Stamp, Target, content_of, correction_of,
     decode, digest, encode,
 };
-use bytes::Bytes;
-use data_set::Syntax;
-use octets::Octets;
 use std::alloc::{AllocError, Global};
 use std::cmp::Ordering;
 use std::process::Abort;

@@ -1,11 +1,15 @@
 -- What is written for a PDU spells it.
-use Rattle.std.proofs.Common.{◌≡◌, ℕ, ◌+◌, ◌<◌, ◌≤◌, ◌^◌, Bool, true, false, cond, eqb, List, [], ◌∷◌, ◌++◌, length, take, map, append_assoc, length-append, Option, Some, None, refl, sym, ap, subst, ◌∙◌, arith}
+use Rattle.std.proofs.Common.{◌≡◌, ℕ, ◌+◌, ◌<◌, ◌≤◌, ◌^◌, Bool, true, false, cond, eqb, List, [], ◌∷◌, ◌++◌, length}
+use Rattle.std.proofs.Common.{take, map, append_assoc, length-append, Option, Some, None, refl, sym, ap, subst, ◌∙◌}
+use Rattle.std.proofs.Common.{arith}
 use Rattle.std.specs.Prelude.{IfSome}
 use Rattle.std.specs.Int.{w16, w32, to_be_bytes}
 use Rattle.std.specs.List.{flat_map, AllByRecursion}
 use Rattle.std.proofs.lemmas.List.{append-nil, take_at}
 use Rattle.std.proofs.lemmas.Nat.{from_be_bytes-to_be_bytes_2, from_be_bytes-to_be_bytes_4}
-use Rattle.pdu.specs.declared.item.TheConstants.{APPLICATION_CONTEXT, PROPOSED_CONTEXT, ANSWERED_CONTEXT, ABSTRACT_SYNTAX, TRANSFER_SYNTAX, USER_INFORMATION, MAXIMUM_LENGTH, IMPLEMENTATION_CLASS, ROLE_SELECTION}
+use Rattle.pdu.specs.declared.item.TheConstants.{APPLICATION_CONTEXT, PROPOSED_CONTEXT, ANSWERED_CONTEXT}
+use Rattle.pdu.specs.declared.item.TheConstants.{ABSTRACT_SYNTAX, TRANSFER_SYNTAX, USER_INFORMATION, MAXIMUM_LENGTH}
+use Rattle.pdu.specs.declared.item.TheConstants.{IMPLEMENTATION_CLASS, ROLE_SELECTION}
 use Rattle.pdu.specs.declared.item.Item.{Item}
 use Rattle.pdu.specs.declared.user.Role.{Role}
 use Rattle.pdu.specs.declared.user.UserInformation.{UserInformation}
@@ -16,41 +20,63 @@ use Rattle.pdu.specs.declared.request.Request.{Request}
 use Rattle.pdu.specs.declared.accept.Accept.{Accept}
 use Rattle.pdu.specs.declared.pdv.Pdv.{Pdv}
 use Rattle.pdu.specs.declared.value.Pdu.{Pdu}
-use Rattle.pdu.specs.declared.value.Pdu.TheVariants.{AssociateRq, AssociateAc, AssociateRj, PData, ReleaseRq, ReleaseRp, Abort}
+use Rattle.pdu.specs.declared.value.Pdu.TheVariants.{AssociateRq, AssociateAc, AssociateRj, PData, ReleaseRq, ReleaseRp}
+use Rattle.pdu.specs.declared.value.Pdu.TheVariants.{Abort}
 use Rattle.pdu.specs.Header.{header_fault}
-use Rattle.pdu.specs.Grammar.{Fill, Each, BeginsItem, contents_of, IsUid, IsLength, IsRole, first_or, first_of, IsUser, IsProposal, IsAnswer, BeginsOpening, IsRequest, IsAccept, is_command, is_last, BeginsPdv, IsBody, code_of, Spells}
-use Rattle.pdu.specs.Spelling.{item_of, items_text, HasLength, role_text, role_item, class_items, user_items, user_item, proposal_items, proposal_item, answer_items, answer_item, opening_text, request_items, accept_items, control_of, pdv_text, body_text, text_of, IsUidText, FitsRole, FitsUser, FitsProposal, FitsAnswer, FitsOpening, FitsRequest, FitsAccept, IsPdu}
+use Rattle.pdu.specs.Grammar.{Fill, Each, BeginsItem, contents_of, IsUid, IsLength, IsRole, first_or, first_of, IsUser}
+use Rattle.pdu.specs.Grammar.{IsProposal, IsAnswer, BeginsOpening, IsRequest, IsAccept, is_command, is_last, BeginsPdv}
+use Rattle.pdu.specs.Grammar.{IsBody, code_of, Spells}
+use Rattle.pdu.specs.Spelling.{item_of, items_text, HasLength, role_text, role_item, class_items, user_items, user_item}
+use Rattle.pdu.specs.Spelling.{proposal_items, proposal_item, answer_items, answer_item, opening_text, request_items}
+use Rattle.pdu.specs.Spelling.{accept_items, control_of, pdv_text, body_text, text_of, IsUidText, FitsRole, FitsUser}
+use Rattle.pdu.specs.Spelling.{FitsProposal, FitsAnswer, FitsOpening, FitsRequest, FitsAccept, IsPdu}
 
 -- ---- items
 
 items_fill : (items : List Item) → AllByRecursion HasLength items → Fill BeginsItem items (items_text items)
 items_fill [] fits = refl
-items_fill (i ∷ is) fits =
-    (items_text is, (0, _, _, from_be_bytes-to_be_bytes_2 (length i.content) fits.0, ap (λ (t : List ℕ). i.kind ∷ 0 ∷ t) (append_assoc (to_be_bytes w16 (length i.content)) i.content (items_text is))), items_fill is fits.1)
+items_fill (i ∷ is) fits = (
+  items_text is,
+  (
+    0,
+    _,
+    _,
+    from_be_bytes-to_be_bytes_2 (length i.content) fits.0,
+    ap (λ (t : List ℕ). i.kind ∷ 0 ∷ t)
+        (append_assoc (to_be_bytes w16 (length i.content)) i.content (items_text is)),
+  ),
+  items_fill is fits.1,
+)
 
 contents_append : (k : ℕ) (xs ys : List Item) → contents_of k (xs ++ ys) ≡ contents_of k xs ++ contents_of k ys
 contents_append k [] ys = refl
 contents_append k (x ∷ xs) ys = by_kind (eqb x.kind k) x.content _ _ _ (contents_append k xs ys)
   where
-    by_kind : (b : Bool) (c : List ℕ) (all left right : List (List ℕ)) → all ≡ left ++ right → cond b (c ∷ all) all ≡ cond b (c ∷ left) left ++ right
+    by_kind : (b : Bool) (c : List ℕ) (all left right : List (List ℕ)) → all ≡ left ++ right
+        → cond b (c ∷ all) all ≡ cond b (c ∷ left) left ++ right
     by_kind true c all left right e = ap (λ (t : List (List ℕ)). c ∷ t) e
     by_kind false c all left right e = e
 
 -- of items of one kind, all or none are of a kind
-contents_same : {A : Type 0} (k : ℕ) (f : A → List ℕ) (xs : List A) → eqb k k ≡ true → contents_of k (map (λ x. item_of k (f x)) xs) ≡ map f xs
+contents_same : {A : Type 0} (k : ℕ) (f : A → List ℕ) (xs : List A) → eqb k k ≡ true
+    → contents_of k (map (λ x. item_of k (f x)) xs) ≡ map f xs
 contents_same k f [] e = refl
 contents_same k f (x ∷ xs) e = rw e (ap (λ (t : List (List ℕ)). f x ∷ t) (contents_same k f xs e))
 
-contents_other : {A : Type 0} (k j : ℕ) (f : A → List ℕ) (xs : List A) → eqb j k ≡ false → contents_of k (map (λ x. item_of j (f x)) xs) ≡ []
+contents_other : {A : Type 0} (k j : ℕ) (f : A → List ℕ) (xs : List A) → eqb j k ≡ false
+    → contents_of k (map (λ x. item_of j (f x)) xs) ≡ []
 contents_other k j f [] e = refl
 contents_other k j f (x ∷ xs) e = rw e (contents_other k j f xs e)
 
-each_map : {V : Type 0} (Is : V → List ℕ → Type 0) (Fits : V → Type 0) (f : V → List ℕ) → ((v : V) → Fits v → Is v (f v)) → (vs : List V) → AllByRecursion Fits vs → Each Is vs (map f vs)
+each_map : {V : Type 0} (Is : V → List ℕ → Type 0) (Fits : V → Type 0) (f : V → List ℕ)
+    → ((v : V) → Fits v → Is v (f v)) → (vs : List V) → AllByRecursion Fits vs → Each Is vs (map f vs)
 each_map Is Fits f one [] fits = tt
 each_map Is Fits f one (v ∷ vs) fits = (one v fits.0, each_map Is Fits f one vs fits.1)
 
 -- the same beside the lengths of the items
-each_map_long : {V : Type 0} (Is : V → List ℕ → Type 0) (Fits : V → Type 0) (g : V → Item) → ((v : V) → Fits v → HasLength (g v) → Is v (g v).content) → (vs : List V) → AllByRecursion Fits vs → AllByRecursion HasLength (map g vs) → Each Is vs (map (λ v. (g v).content) vs)
+each_map_long : {V : Type 0} (Is : V → List ℕ → Type 0) (Fits : V → Type 0) (g : V → Item)
+    → ((v : V) → Fits v → HasLength (g v) → Is v (g v).content) → (vs : List V) → AllByRecursion Fits vs
+    → AllByRecursion HasLength (map g vs) → Each Is vs (map (λ v. (g v).content) vs)
 each_map_long Is Fits g one [] fits long = tt
 each_map_long Is Fits g one (v ∷ vs) fits long = (one v fits.0 long.0, each_map_long Is Fits g one vs fits.1 long.1)
 
@@ -93,19 +119,26 @@ classes_of (Some class) = class ∷ []
 abbrev length_part : Bool → ℕ → List Item
 length_part b n = cond b [] (item_of MAXIMUM_LENGTH (to_be_bytes w32 n) ∷ [])
 
-user_lengths : (b : Bool) (n : ℕ) (class : Option (List ℕ)) (roles : List Role) → contents_of MAXIMUM_LENGTH (length_part b n ++ (class_items class ++ map role_item roles)) ≡ map (to_be_bytes w32) (lengths_of b n)
+user_lengths : (b : Bool) (n : ℕ) (class : Option (List ℕ)) (roles : List Role) → contents_of MAXIMUM_LENGTH
+    (length_part b n ++ (class_items class ++ map role_item roles)) ≡ map (to_be_bytes w32) (lengths_of b n)
 user_lengths true n None roles = contents_other MAXIMUM_LENGTH ROLE_SELECTION role_text roles refl
 user_lengths true n (Some class) roles = contents_other MAXIMUM_LENGTH ROLE_SELECTION role_text roles refl
-user_lengths false n None roles = ap (λ (t : List (List ℕ)). to_be_bytes w32 n ∷ t) (contents_other MAXIMUM_LENGTH ROLE_SELECTION role_text roles refl)
-user_lengths false n (Some class) roles = ap (λ (t : List (List ℕ)). to_be_bytes w32 n ∷ t) (contents_other MAXIMUM_LENGTH ROLE_SELECTION role_text roles refl)
+user_lengths false n None roles = ap (λ (t : List (List ℕ)). to_be_bytes w32 n ∷ t)
+    (contents_other MAXIMUM_LENGTH ROLE_SELECTION role_text roles refl)
+user_lengths false n (Some class) roles = ap (λ (t : List (List ℕ)). to_be_bytes w32 n ∷ t)
+    (contents_other MAXIMUM_LENGTH ROLE_SELECTION role_text roles refl)
 
-user_classes : (b : Bool) (n : ℕ) (class : Option (List ℕ)) (roles : List Role) → contents_of IMPLEMENTATION_CLASS (length_part b n ++ (class_items class ++ map role_item roles)) ≡ classes_of class
+user_classes : (b : Bool) (n : ℕ) (class : Option (List ℕ)) (roles : List Role) → contents_of IMPLEMENTATION_CLASS
+    (length_part b n ++ (class_items class ++ map role_item roles)) ≡ classes_of class
 user_classes true n None roles = contents_other IMPLEMENTATION_CLASS ROLE_SELECTION role_text roles refl
-user_classes true n (Some class) roles = ap (λ (t : List (List ℕ)). class ∷ t) (contents_other IMPLEMENTATION_CLASS ROLE_SELECTION role_text roles refl)
+user_classes true n (Some class) roles = ap (λ (t : List (List ℕ)). class ∷ t) (contents_other IMPLEMENTATION_CLASS
+    ROLE_SELECTION role_text roles refl)
 user_classes false n None roles = contents_other IMPLEMENTATION_CLASS ROLE_SELECTION role_text roles refl
-user_classes false n (Some class) roles = ap (λ (t : List (List ℕ)). class ∷ t) (contents_other IMPLEMENTATION_CLASS ROLE_SELECTION role_text roles refl)
+user_classes false n (Some class) roles = ap (λ (t : List (List ℕ)). class ∷ t) (contents_other IMPLEMENTATION_CLASS
+    ROLE_SELECTION role_text roles refl)
 
-user_roles : (b : Bool) (n : ℕ) (class : Option (List ℕ)) (roles : List Role) → contents_of ROLE_SELECTION (length_part b n ++ (class_items class ++ map role_item roles)) ≡ map role_text roles
+user_roles : (b : Bool) (n : ℕ) (class : Option (List ℕ)) (roles : List Role) → contents_of ROLE_SELECTION
+    (length_part b n ++ (class_items class ++ map role_item roles)) ≡ map role_text roles
 user_roles true n None roles = contents_same ROLE_SELECTION role_text roles refl
 user_roles true n (Some class) roles = contents_same ROLE_SELECTION role_text roles refl
 user_roles false n None roles = contents_same ROLE_SELECTION role_text roles refl
@@ -137,12 +170,17 @@ user_again user fits =
       items = user_items user;
       filled = items_fill (user_items user) fits.lengths;
       lengths = lengths_of b user.maximum_length;
-      are_lengths = subst (Each IsLength (lengths_of b user.maximum_length)) (sym (user_lengths b user.maximum_length user.implementation_class user.roles)) (length_again b user.maximum_length fits.maximum_length);
+      are_lengths = subst (Each IsLength (lengths_of b user.maximum_length))
+          (sym (user_lengths b user.maximum_length user.implementation_class user.roles))
+          (length_again b user.maximum_length fits.maximum_length);
       maximum_length = first_again b user.maximum_length refl;
       classes = classes_of user.implementation_class;
-      are_classes = subst (Each IsUid (classes_of user.implementation_class)) (sym (user_classes b user.maximum_length user.implementation_class user.roles)) (class_again user.implementation_class fits.class);
+      are_classes = subst (Each IsUid (classes_of user.implementation_class))
+          (sym (user_classes b user.maximum_length user.implementation_class user.roles))
+          (class_again user.implementation_class fits.class);
       implementation_class = first_class_again user.implementation_class;
-      roles = subst (Each IsRole user.roles) (sym (user_roles b user.maximum_length user.implementation_class user.roles)) (each_map IsRole FitsRole role_text role_again user.roles fits.roles);
+      roles = subst (Each IsRole user.roles) (sym (user_roles b user.maximum_length user.implementation_class
+          user.roles)) (each_map IsRole FitsRole role_text role_again user.roles fits.roles);
     }
 
 -- ---- presentation contexts
@@ -161,8 +199,15 @@ proposal_again context fits = record {
   odd = fits.odd;
   items = proposal_items context;
   filled = items_fill (proposal_items context) fits.lengths;
-  abstract_syntax = (context.abstract_syntax, ap (λ (t : List (List ℕ)). context.abstract_syntax ∷ t) (contents_other ABSTRACT_SYNTAX TRANSFER_SYNTAX (λ x. x) context.transfer_syntaxes refl), fits.abstract_syntax);
-  transfer_syntaxes = subst (Each IsUid context.transfer_syntaxes) (sym (contents_same TRANSFER_SYNTAX (λ x. x) context.transfer_syntaxes refl ∙ map_same context.transfer_syntaxes)) (uids_again context.transfer_syntaxes fits.transfer_syntaxes);
+  abstract_syntax = (
+    context.abstract_syntax,
+    ap (λ (t : List (List ℕ)). context.abstract_syntax ∷ t)
+        (contents_other ABSTRACT_SYNTAX TRANSFER_SYNTAX (λ x. x) context.transfer_syntaxes refl),
+    fits.abstract_syntax,
+  );
+  transfer_syntaxes = subst (Each IsUid context.transfer_syntaxes)
+      (sym (contents_same TRANSFER_SYNTAX (λ x. x) context.transfer_syntaxes refl ∙ map_same context.transfer_syntaxes))
+      (uids_again context.transfer_syntaxes fits.transfer_syntaxes);
   some = fits.some;
 }
 
@@ -180,7 +225,8 @@ answer_again context fits = record {
 
 -- ---- bodies
 
-opening_again : (opening : Opening) (rest : List ℕ) → FitsOpening opening → BeginsOpening opening (opening_text opening ++ rest) rest
+opening_again : (opening : Opening) (rest : List ℕ) → FitsOpening opening
+    → BeginsOpening opening (opening_text opening ++ rest) rest
 opening_again opening rest fits = record {
   high = _;
   low = _;
@@ -190,15 +236,23 @@ opening_again opening rest fits = record {
   called = fits.called;
   calling = fits.calling;
   reserved = fits.reserved;
-  parts = ap (λ (t : List ℕ). to_be_bytes w16 opening.version ++ 0 ∷ 0 ∷ t) (append_assoc opening.called (opening.calling ++ opening.reserved) rest ∙ ap (λ (t : List ℕ). opening.called ++ t) (append_assoc opening.calling opening.reserved rest));
+  parts = ap (λ (t : List ℕ). to_be_bytes w16 opening.version ++ 0 ∷ 0 ∷ t)
+      (append_assoc opening.called (opening.calling ++ opening.reserved) rest ∙ ap (λ (t : List ℕ). opening.called ++ t)
+      (append_assoc opening.calling opening.reserved rest));
 }
 
 -- of the items of a body, those of each kind
-first_kind : (context : List ℕ) (middle : List Item) (user : List ℕ) → contents_of APPLICATION_CONTEXT middle ≡ [] → contents_of APPLICATION_CONTEXT (item_of APPLICATION_CONTEXT context ∷ (middle ++ item_of USER_INFORMATION user ∷ [])) ≡ context ∷ []
-first_kind context middle user e = ap (λ (t : List (List ℕ)). context ∷ t) (contents_append APPLICATION_CONTEXT middle (item_of USER_INFORMATION user ∷ []) ∙ ap (λ (t : List (List ℕ)). t ++ []) e)
+first_kind : (context : List ℕ) (middle : List Item) (user : List ℕ) → contents_of APPLICATION_CONTEXT middle ≡ []
+    → contents_of APPLICATION_CONTEXT (item_of APPLICATION_CONTEXT context ∷ (middle ++ item_of USER_INFORMATION user
+    ∷ [])) ≡ context ∷ []
+first_kind context middle user e = ap (λ (t : List (List ℕ)). context ∷ t) (contents_append APPLICATION_CONTEXT
+    middle (item_of USER_INFORMATION user ∷ []) ∙ ap (λ (t : List (List ℕ)). t ++ []) e)
 
-last_kind : (context : List ℕ) (middle : List Item) (user : List ℕ) → contents_of USER_INFORMATION middle ≡ [] → contents_of USER_INFORMATION (item_of APPLICATION_CONTEXT context ∷ (middle ++ item_of USER_INFORMATION user ∷ [])) ≡ user ∷ []
-last_kind context middle user e = contents_append USER_INFORMATION middle (item_of USER_INFORMATION user ∷ []) ∙ ap (λ (t : List (List ℕ)). t ++ user ∷ []) e
+last_kind : (context : List ℕ) (middle : List Item) (user : List ℕ) → contents_of USER_INFORMATION middle ≡ []
+    → contents_of USER_INFORMATION (item_of APPLICATION_CONTEXT context ∷ (middle ++ item_of USER_INFORMATION user
+    ∷ [])) ≡ user ∷ []
+last_kind context middle user e = contents_append USER_INFORMATION middle (item_of USER_INFORMATION user ∷ [])
+    ∙ ap (λ (t : List (List ℕ)). t ++ user ∷ []) e
 
 request_again : (request : Request) → FitsRequest request → IsRequest request (body_text (AssociateRq request))
 request_again request fits =
@@ -210,11 +264,23 @@ request_again request fits =
       opening = opening_again request.opening (items_text (request_items request)) fits.opening;
       items = request_items request;
       filled = items_fill (request_items request) fits.lengths;
-      application_context = (request.application_context, first_kind request.application_context contexts user (contents_other APPLICATION_CONTEXT PROPOSED_CONTEXT f request.contexts refl), fits.application_context);
-      contexts = subst (Each IsProposal request.contexts) (sym (contents_append PROPOSED_CONTEXT contexts (user_item request.user ∷ []) ∙ append-nil _ ∙ contents_same PROPOSED_CONTEXT f request.contexts refl))
+      application_context = (
+        request.application_context,
+        first_kind request.application_context contexts
+            user (contents_other APPLICATION_CONTEXT PROPOSED_CONTEXT f request.contexts refl),
+        fits.application_context,
+      );
+      contexts = subst (Each IsProposal request.contexts)
+          (sym (contents_append PROPOSED_CONTEXT contexts (user_item request.user ∷ []) ∙ append-nil _
+          ∙ contents_same PROPOSED_CONTEXT f request.contexts refl))
           (each_map IsProposal FitsProposal f proposal_again request.contexts fits.contexts);
       distinct = fits.distinct;
-      user = (user, last_kind request.application_context contexts user (contents_other USER_INFORMATION PROPOSED_CONTEXT f request.contexts refl), user_again request.user fits.user);
+      user = (
+        user,
+        last_kind request.application_context contexts user (contents_other USER_INFORMATION
+            PROPOSED_CONTEXT f request.contexts refl),
+        user_again request.user fits.user,
+      );
     }
 
 accept_again : (accept : Accept) → FitsAccept accept → IsAccept accept (body_text (AssociateAc accept))
@@ -227,11 +293,23 @@ accept_again accept fits =
       opening = opening_again accept.opening (items_text (accept_items accept)) fits.opening;
       items = accept_items accept;
       filled = items_fill (accept_items accept) fits.lengths;
-      application_context = (accept.application_context, first_kind accept.application_context contexts user (contents_other APPLICATION_CONTEXT ANSWERED_CONTEXT f accept.contexts refl), fits.application_context);
-      contexts = subst (Each IsAnswer accept.contexts) (sym (contents_append ANSWERED_CONTEXT contexts (user_item accept.user ∷ []) ∙ append-nil _ ∙ contents_same ANSWERED_CONTEXT f accept.contexts refl))
+      application_context = (
+        accept.application_context,
+        first_kind accept.application_context contexts
+            user (contents_other APPLICATION_CONTEXT ANSWERED_CONTEXT f accept.contexts refl),
+        fits.application_context,
+      );
+      contexts = subst (Each IsAnswer accept.contexts)
+          (sym (contents_append ANSWERED_CONTEXT contexts (user_item accept.user ∷ []) ∙ append-nil _
+          ∙ contents_same ANSWERED_CONTEXT f accept.contexts refl))
           (each_map IsAnswer FitsAnswer f answer_again accept.contexts fits.contexts);
       distinct = fits.distinct;
-      user = (user, last_kind accept.application_context contexts user (contents_other USER_INFORMATION ANSWERED_CONTEXT f accept.contexts refl), user_again accept.user fits.user);
+      user = (
+        user,
+        last_kind accept.application_context contexts user (contents_other USER_INFORMATION ANSWERED_CONTEXT
+            f accept.contexts refl),
+        user_again accept.user fits.user,
+      );
     }
 
 command_again : (c l : Bool) → is_command (control_of c l) ≡ c
@@ -249,7 +327,8 @@ last_again true true = refl
 data_again : (vs : List Pdv) → length (flat_map pdv_text vs) ≤ 65536 → Fill BeginsPdv vs (flat_map pdv_text vs)
 data_again [] fits = refl
 data_again (v ∷ vs) fits =
-    let short : length (pdv_text v) + length (flat_map pdv_text vs) ≤ 65536 = omega (arith, fits, length-append (pdv_text v) (flat_map pdv_text vs)) in
+    let short : length (pdv_text v) + length (flat_map pdv_text vs) ≤ 65536 =
+    omega (arith, fits, length-append (pdv_text v) (flat_map pdv_text vs)) in
     let n = 2 + length v.fragment in
     let lt : n < 2 ^ 32 = omega (arith, short) in (
       flat_map pdv_text vs,
@@ -278,7 +357,16 @@ body_again (Abort source reason) fits = (0, 0, refl)
 
 opening_long : (opening : Opening) (rest : List ℕ) → FitsOpening opening → 68 ≤ length (opening_text opening ++ rest)
 opening_long opening rest fits =
-    omega (arith, fits.called, fits.calling, fits.reserved, length-append (opening_text opening) rest, length-append opening.called (opening.calling ++ opening.reserved), length-append opening.calling opening.reserved)
+    omega (
+      arith,
+      fits.called,
+      fits.calling,
+      fits.reserved,
+      length-append (opening_text opening) rest,
+      length-append
+          opening.called (opening.calling ++ opening.reserved),
+      length-append opening.calling opening.reserved,
+    )
 
 lawful_request : (n : ℕ) → 68 ≤ n → n ≤ 65536 → header_fault 1 n ≡ None
 lawful_request n low high = grind arith
@@ -291,8 +379,10 @@ lawful_data n high = grind arith
 
 -- what is written has a lawful length
 pub lawful_body : (p : Pdu) → IsPdu p → header_fault (code_of p) (length (body_text p)) ≡ None
-lawful_body (AssociateRq request) fits = lawful_request _ (opening_long request.opening (items_text (request_items request)) fits.opening) fits.whole
-lawful_body (AssociateAc accept) fits = lawful_accept _ (opening_long accept.opening (items_text (accept_items accept)) fits.opening) fits.whole
+lawful_body (AssociateRq request) fits = lawful_request
+    _ (opening_long request.opening (items_text (request_items request)) fits.opening) fits.whole
+lawful_body (AssociateAc accept) fits = lawful_accept _ (opening_long accept.opening (items_text (accept_items accept))
+    fits.opening) fits.whole
 lawful_body (AssociateRj reject) fits = refl
 lawful_body (PData values) fits = lawful_data _ fits.1
 lawful_body ReleaseRq fits = refl
@@ -326,4 +416,5 @@ spells_again p fits = record {
 
 -- the same, whatever follows
 pub spells_before : (p : Pdu) (more : List ℕ) → IsPdu p → Spells p (take (length (text_of p)) (text_of p ++ more))
-spells_before p more fits = subst (Spells p) (sym (take_at (text_of p) more (length (text_of p)) refl)) (spells_again p fits)
+spells_before p more fits = subst (Spells p) (sym (take_at (text_of p) more (length (text_of p)) refl))
+    (spells_again p fits)

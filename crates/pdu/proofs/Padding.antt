@@ -1,5 +1,6 @@
 -- A text without the padding at its end.
-use Rattle.std.proofs.Common.{◌≡◌, ℕ, suc, ◌-◌, ◌≤◌, ◌<◌, true, false, List, [], ◌∷◌, ◌++◌, length, get_or, take, drop, drop-cons, length-drop, refl, sym, ap, ◌∙◌, arith}
+use Rattle.std.proofs.Common.{◌≡◌, ℕ, suc, ◌-◌, ◌≤◌, ◌<◌, true, false, List, [], ◌∷◌, ◌++◌, length, get_or, take, drop}
+use Rattle.std.proofs.Common.{drop-cons, length-drop, refl, sym, ap, ◌∙◌, arith}
 use Rattle.std.proofs.lemmas.List.{take-append-drop, nil_from_length}
 use Rattle.pdu.specs.Grammar.{is_padding, before, trimmed}
 
@@ -34,16 +35,22 @@ last_is : (text : List ℕ) → 1 ≤ length text → take (length text - 1) tex
 last_is text some =
     let n = length text - 1 in
     let one : drop n text ≡ get_or text n 0 ∷ drop (suc n) text = drop-cons text n 0 (omega (arith, some)) in
-    let none : drop (suc n) text ≡ [] = nil_from_length (drop (suc n) text) (omega (arith, length-drop (suc n) text, some)) in
-    ap (λ (t : List ℕ). take n text ++ get_or text n 0 ∷ t) (sym none) ∙ ap (λ (t : List ℕ). take n text ++ t) (sym one) ∙ take-append-drop n text
+    let none : drop (suc n) text ≡ [] = nil_from_length (drop (suc n) text)
+    (omega (arith, length-drop (suc n) text, some)) in
+    ap (λ (t : List ℕ). take n text ++ get_or text n 0 ∷ t) (sym none) ∙ ap (λ (t : List ℕ). take n text ++ t) (sym one)
+    ∙ take-append-drop n text
 
-pub trimmed-last_pad : (text : List ℕ) → 1 ≤ length text → is_padding (get_or text (length text - 1) 0) ≡ true → trimmed (take (length text - 1) text) ≡ trimmed text
+pub trimmed-last_pad : (text : List ℕ) → 1 ≤ length text → is_padding (get_or text (length text - 1) 0) ≡ true
+    → trimmed (take (length text - 1) text) ≡ trimmed text
 trimmed-last_pad text some pad =
-    sym (trimmed-pad (take (length text - 1) text) (get_or text (length text - 1) 0) pad) ∙ ap trimmed (last_is text some)
+    sym (trimmed-pad (take (length text - 1) text) (get_or text (length text - 1) 0) pad)
+    ∙ ap trimmed (last_is text some)
 
-pub trimmed-last_kept : (text : List ℕ) → 1 ≤ length text → is_padding (get_or text (length text - 1) 0) ≡ false → trimmed text ≡ text
+pub trimmed-last_kept : (text : List ℕ) → 1 ≤ length text → is_padding (get_or text (length text - 1) 0) ≡ false
+    → trimmed text ≡ text
 trimmed-last_kept text some kept =
-    ap trimmed (sym (last_is text some)) ∙ trimmed-kept (take (length text - 1) text) (get_or text (length text - 1) 0) kept ∙ last_is text some
+    ap trimmed (sym (last_is text some)) ∙ trimmed-kept (take (length text - 1) text) (get_or text (length text - 1) 0)
+    kept ∙ last_is text some
 
 pub trimmed-empty : (text : List ℕ) → length text < 1 → text ≡ trimmed text
 trimmed-empty text none =

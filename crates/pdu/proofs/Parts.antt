@@ -1,5 +1,6 @@
 -- A header and the body behind it, read one after the other.
-use Rattle.std.proofs.Common.{◌≡◌, ℕ, ◌+◌, ◌≤◌, List, [], ◌∷◌, ◌++◌, length, take, Option, Some, None, Result, Ok, Err, refl, sym, ap, subst, ◌∙◌, arith, length-append, take_all}
+use Rattle.std.proofs.Common.{◌≡◌, ℕ, ◌+◌, ◌≤◌, List, [], ◌∷◌, ◌++◌, length, take, Option, Some, None, Result, Ok, Err}
+use Rattle.std.proofs.Common.{refl, sym, ap, subst, ◌∙◌, arith, length-append, take_all}
 use Rattle.std.specs.Prelude.{IfOk, IfErr, IsOk}
 use Rattle.std.specs.Int.{w32, from_be_bytes}
 use Rattle.octets.specs.Bytes.{IsBytes}
@@ -8,7 +9,8 @@ use Rattle.pdu.specs.declared.fault.PduFault.TheVariants.{UnknownType, BadLength
 use Rattle.pdu.specs.declared.value.Pdu.{Pdu}
 use Rattle.pdu.specs.Fault.{Gives, IsBodyFault}
 use Rattle.pdu.specs.Header.{HeaderParts, header_fault, or_fault}
-use Rattle.pdu.specs.Grammar.{IsBody, code_of, Spells, type_of, size_of, HasHeaderFault, HasLawfulHeader, HasBadBody, IsHeader}
+use Rattle.pdu.specs.Grammar.{IsBody, code_of, Spells, type_of, size_of, HasHeaderFault, HasLawfulHeader, HasBadBody}
+use Rattle.pdu.specs.Grammar.{IsHeader}
 use Rattle.pdu.specs.Spelling.{IsPdu}
 use Rattle.pdu.specs.Reading.{body_at}
 use Rattle.pdu.proofs.Bodies.{body-found, body-again}
@@ -37,7 +39,8 @@ one_fault o f g a b = cc
 abbrev refused : PduFault → HeaderResult
 refused f = Err f
 
-told : (bytes : List ℕ) (o : Option PduFault) → length bytes ≡ 6 → header_fault (type_of bytes) (size_of bytes) ≡ o → IsTold bytes (or_fault o (record { code = type_of bytes; length = size_of bytes }))
+told : (bytes : List ℕ) (o : Option PduFault) → length bytes ≡ 6 → header_fault (type_of bytes) (size_of bytes) ≡ o
+    → IsTold bytes (or_fault o (record { code = type_of bytes; length = size_of bytes }))
 told bytes None six is = record {
   found = (six, refl, refl);
   lawful = λ ok. (omega (arith, six), is);
@@ -53,11 +56,15 @@ told bytes (Some g) six is = record {
   told = λ f has. ap refused (one_fault (header_fault (type_of bytes) (size_of bytes)) g f is has.1);
 }
 
-pub is_told : (bytes : List ℕ) (r : HeaderResult) → length bytes ≡ 6 → r ≡ or_fault (header_fault (type_of bytes) (size_of bytes)) (record { code = type_of bytes; length = size_of bytes }) → IsTold bytes r
-is_told bytes r six e = subst (IsTold bytes) (sym e) (told bytes (header_fault (type_of bytes) (size_of bytes)) six refl)
+pub is_told : (bytes : List ℕ) (r : HeaderResult) → length bytes ≡ 6
+    → r ≡ or_fault (header_fault (type_of bytes) (size_of bytes))
+    (record { code = type_of bytes; length = size_of bytes }) → IsTold bytes r
+is_told bytes r six e = subst (IsTold bytes) (sym e) (told bytes (header_fault (type_of bytes) (size_of bytes)) six
+    refl)
 
 -- Each fault is told exactly where it is.
-pub fault_told : (bytes : List ℕ) (r : HeaderResult) (f : PduFault) → IsTold bytes r → (r ≡ Err f → HasHeaderFault f bytes) × (HasHeaderFault f bytes → r ≡ Err f)
+pub fault_told : (bytes : List ℕ) (r : HeaderResult) (f : PduFault) → IsTold bytes r
+    → (r ≡ Err f → HasHeaderFault f bytes) × (HasHeaderFault f bytes → r ≡ Err f)
 fault_told bytes r f t = (λ e. subst (λ (s : HeaderResult). IfErr s (λ g. HasHeaderFault g bytes)) e t.fault, t.told f)
 
 -- ---- a body behind them
@@ -74,10 +81,12 @@ record IsText (header : HeaderParts) (bytes body : List ℕ) : Type 0 where
 first_is : (a b : ℕ) (xs ys : List ℕ) → a ∷ xs ≡ b ∷ ys → a ≡ b
 first_is a b xs ys e = cc
 
-behind_is : (k r a b c d l s h i m n : ℕ) (xs ys : List ℕ) → k ∷ r ∷ a ∷ b ∷ c ∷ d ∷ xs ≡ l ∷ s ∷ h ∷ i ∷ m ∷ n ∷ ys → xs ≡ ys
+behind_is : (k r a b c d l s h i m n : ℕ) (xs ys : List ℕ) → k ∷ r ∷ a ∷ b ∷ c ∷ d ∷ xs ≡ l ∷ s ∷ h ∷ i ∷ m ∷ n ∷ ys
+    → xs ≡ ys
 behind_is k r a b c d l s h i m n xs ys e = cc
 
-text_of_six : (k r a b c d : ℕ) (body : List ℕ) → header_fault k (length body) ≡ None → from_be_bytes w32 (a ∷ b ∷ c ∷ d ∷ []) ≡ length body
+text_of_six : (k r a b c d : ℕ) (body : List ℕ) → header_fault k (length body) ≡ None
+    → from_be_bytes w32 (a ∷ b ∷ c ∷ d ∷ []) ≡ length body
     → IsText (record { code = k; length = length body }) (k ∷ r ∷ a ∷ b ∷ c ∷ d ∷ []) body
 text_of_six k r a b c d body lawful size = record {
   lawful = (omega arith, ap (header_fault k) size ∙ lawful);
@@ -102,11 +111,14 @@ text_of_six k r a b c d body lawful size = record {
   );
 }
 
-is_text : (header : HeaderParts) (bytes body : List ℕ) → header_fault header.code header.length ≡ None → length body ≡ header.length → IsHeader header bytes → IsText header bytes body
+is_text : (header : HeaderParts) (bytes body : List ℕ) → header_fault header.code header.length ≡ None
+    → length body ≡ header.length → IsHeader header bytes → IsText header bytes body
 is_text header (k ∷ r ∷ a ∷ b ∷ c ∷ d ∷ []) body lawful long is =
-    let same : record { code = k; length = length body } ≡ header = ap (λ (n : ℕ). made n (length body)) is.1 ∙ ap (made header.code) long in
+    let same : record { code = k; length = length body } ≡ header = ap (λ (n : ℕ). made n (length body)) is.1
+    ∙ ap (made header.code) long in
     subst (λ (h : HeaderParts). IsText h (k ∷ r ∷ a ∷ b ∷ c ∷ d ∷ []) body) same
-    (text_of_six k r a b c d body (ap (λ (n : ℕ). header_fault n (length body)) is.1 ∙ ap (header_fault header.code) long ∙ lawful) (is.2 ∙ sym long))
+    (text_of_six k r a b c d body (ap (λ (n : ℕ). header_fault n (length body)) is.1 ∙ ap (header_fault header.code)
+    long ∙ lawful) (is.2 ∙ sym long))
   where
     made : ℕ → ℕ → HeaderParts
     made code length = record { code = code; length = length }
@@ -128,20 +140,25 @@ wholly : (n : ℕ) (text : List ℕ) → length text ≡ n → take n text ≡ t
 wholly n text e = take_all n text (omega (arith, e))
 
 -- A text that is read as a PDU has no bad body.
-not_bad : (header : HeaderParts) (bytes body : List ℕ) (p : Pdu) → IsText header bytes body → Spells p (bytes ++ body) → HasBadBody (bytes ++ body) → ⊥
+not_bad : (header : HeaderParts) (bytes body : List ℕ) (p : Pdu) → IsText header bytes body → Spells p (bytes ++ body)
+    → HasBadBody (bytes ++ body) → ⊥
 not_bad header bytes body p t s bad =
-    bad.2 p (subst (Spells p) (sym (wholly (size_of (bytes ++ body) + 6) (bytes ++ body) (t.whole ∙ ap (λ (n : ℕ). n + 6) (sym t.size)))) s)
+    bad.2 p (subst (Spells p) (sym (wholly (size_of (bytes ++ body) + 6) (bytes ++ body)
+    (t.whole ∙ ap (λ (n : ℕ). n + 6) (sym t.size)))) s)
 
 -- A text that spells no PDU has one.
-has_bad : (header : HeaderParts) (bytes body : List ℕ) → IsText header bytes body → ((p : Pdu) → Spells p (bytes ++ body) → ⊥) → HasBadBody (bytes ++ body)
+has_bad : (header : HeaderParts) (bytes body : List ℕ) → IsText header bytes body
+    → ((p : Pdu) → Spells p (bytes ++ body) → ⊥) → HasBadBody (bytes ++ body)
 has_bad header bytes body t none = (
   t.lawful,
   omega (arith, t.whole, t.size),
-  λ p s. none p (subst (Spells p) (wholly (size_of (bytes ++ body) + 6) (bytes ++ body) (t.whole ∙ ap (λ (n : ℕ). n + 6) (sym t.size))) s),
+  λ p s. none p (subst (Spells p) (wholly (size_of (bytes ++ body) + 6) (bytes ++ body)
+      (t.whole ∙ ap (λ (n : ℕ). n + 6) (sym t.size))) s),
 )
 
 -- What a body is spelled by is read of it.
-read_again : (header : HeaderParts) (bytes body : List ℕ) (p : Pdu) → IsText header bytes body → Spells p (bytes ++ body) → body_at header.code body ≡ Ok p
+read_again : (header : HeaderParts) (bytes body : List ℕ) (p : Pdu) → IsText header bytes body
+    → Spells p (bytes ++ body) → body_at header.code body ≡ Ok p
 read_again header bytes body p t s =
     let is = t.is_body p s in
     ap (λ (k : ℕ). body_at k body) (sym is.0) ∙ body-again p body is.1
@@ -170,7 +187,8 @@ length_is_bad e = cc
 long_is_bad : TooLong ≡ BadItem → ⊥
 long_is_bad e = cc
 
-pub is_read : (header : HeaderParts) (body : List ℕ) (r : BodyResult) → header_fault header.code header.length ≡ None → length body ≡ header.length → IsBytes body → Gives r (body_at header.code body) → IsRead header body r
+pub is_read : (header : HeaderParts) (body : List ℕ) (r : BodyResult) → header_fault header.code header.length ≡ None
+    → length body ≡ header.length → IsBytes body → Gives r (body_at header.code body) → IsRead header body r
 is_read header body (Ok p) lawful long octets gives =
     let here : header_fault header.code (length body) ≡ None = ap (header_fault header.code) long ∙ lawful in
     let is = body-found header.code body p here gives in
@@ -179,7 +197,8 @@ is_read header body (Ok p) lawful long octets gives =
       only = λ q bytes h s. sym (read_again header bytes body q (is_text header bytes body lawful long h) s) ∙ gives;
       lawful = body_writable p body octets (ap (λ (k : ℕ). header_fault k (length body)) is.0 ∙ here) is.1;
       bad_item = λ e. absurd (not_that p BadItem e);
-      bad_item_told = λ bytes h bad. let t = is_text header bytes body lawful long h in absurd (not_bad header bytes body p t (t.spelled p is.0 is.1) bad);
+      bad_item_told = λ bytes h bad. let t = is_text header bytes body lawful long h in
+          absurd (not_bad header bytes body p t (t.spelled p is.0 is.1) bad);
       fault = tt;
     }
 is_read header body (Err Memory) lawful long octets gives = record {
@@ -191,7 +210,9 @@ is_read header body (Err Memory) lawful long octets gives = record {
   fault = tt;
 }
 is_read header body (Err BadItem) lawful long octets gives =
-    let none : (bytes : List ℕ) → IsHeader header bytes → (p : Pdu) → Spells p (bytes ++ body) → ⊥ = λ bytes h p s. no_value p BadItem (body_at header.code body) (read_again header bytes body p (is_text header bytes body lawful long h) s) gives in
+    let none : (bytes : List ℕ) → IsHeader header bytes → (p : Pdu) → Spells p (bytes ++ body)
+    → ⊥ = λ bytes h p s. no_value p BadItem (body_at header.code body)
+    (read_again header bytes body p (is_text header bytes body lawful long h) s) gives in
     record {
       done = tt;
       only = λ q bytes h s. absurd (none bytes h q s);
@@ -200,6 +221,9 @@ is_read header body (Err BadItem) lawful long octets gives =
       bad_item_told = λ bytes h bad. refl;
       fault = tt;
     }
-is_read header body (Err UnknownType) lawful long octets gives = absurd (type_is_bad (body-bad header.code body UnknownType gives))
-is_read header body (Err BadLength) lawful long octets gives = absurd (length_is_bad (body-bad header.code body BadLength gives))
-is_read header body (Err TooLong) lawful long octets gives = absurd (long_is_bad (body-bad header.code body TooLong gives))
+is_read header body (Err UnknownType) lawful long octets gives =
+    absurd (type_is_bad (body-bad header.code body UnknownType gives))
+is_read header body (Err BadLength) lawful long octets gives =
+    absurd (length_is_bad (body-bad header.code body BadLength gives))
+is_read header body (Err TooLong) lawful long octets gives =
+    absurd (long_is_bad (body-bad header.code body TooLong gives))

@@ -1,24 +1,31 @@
 -- What an item's content says is what it has, and the other way round.
-use Rattle.std.proofs.Common.{◌≡◌, ◌≢◌, ℕ, zero, suc, ◌+◌, Bool, true, false, not, cond, eqb, ◌&&◌, List, [], ◌∷◌, ◌++◌, length, take, drop, get_or, length-append, length-drop, drop-cons, Option, Result, Ok, Err, refl, sym, ap, subst, ◌∙◌, arith}
+use Rattle.std.proofs.Common.{◌≡◌, ◌≢◌, ℕ, zero, suc, ◌+◌, Bool, true, false, not, cond, eqb, ◌&&◌, List, [], ◌∷◌, ◌++◌}
+use Rattle.std.proofs.Common.{length, take, drop, get_or, length-append, length-drop, drop-cons, Option, Result, Ok}
+use Rattle.std.proofs.Common.{Err, refl, sym, ap, subst, ◌∙◌, arith}
 use Rattle.std.specs.List.{list_all}
 use Rattle.std.specs.Int.{w16, w32, from_be_bytes}
 use Rattle.std.proofs.lemmas.List.{take_at, drop_at, take-append-drop, length-take, nil_from_length}
 use Rattle.octets.specs.Gives.{◌>>=◌}
 use Rattle.octets.proofs.ByteLaws.{bind_ok, guard_end, ok_is}
-use Rattle.pdu.specs.declared.item.TheConstants.{ABSTRACT_SYNTAX, TRANSFER_SYNTAX, MAXIMUM_LENGTH, IMPLEMENTATION_CLASS, ROLE_SELECTION}
+use Rattle.pdu.specs.declared.item.TheConstants.{ABSTRACT_SYNTAX, TRANSFER_SYNTAX, MAXIMUM_LENGTH, IMPLEMENTATION_CLASS}
+use Rattle.pdu.specs.declared.item.TheConstants.{ROLE_SELECTION}
 use Rattle.pdu.specs.declared.fault.PduFault.{PduFault}
 use Rattle.pdu.specs.declared.fault.PduFault.TheVariants.{BadItem}
 use Rattle.pdu.specs.declared.user.Role.{Role}
 use Rattle.pdu.specs.declared.user.UserInformation.{UserInformation}
 use Rattle.pdu.specs.declared.context.ProposedContext.{ProposedContext}
 use Rattle.pdu.specs.declared.context.AnsweredContext.{AnsweredContext}
-use Rattle.pdu.specs.Grammar.{contents_of, is_graphic, trimmed, IsUid, IsLength, IsRole, first_or, first_of, IsUser, is_odd, IsProposal, IsAnswer}
-use Rattle.pdu.specs.Reading.{pieces_of, item_at, each_at, sole_at, uid_at, length_at, role_at, user_at, proposal_at, answer_at}
-use Rattle.pdu.proofs.Pieces.{FoundIn, AgainIn, pieces-found, pieces-again, each-found, each-again, sole-found, sole-again}
+use Rattle.pdu.specs.Grammar.{contents_of, is_graphic, trimmed, IsUid, IsLength, IsRole, first_or, first_of, IsUser}
+use Rattle.pdu.specs.Grammar.{is_odd, IsProposal, IsAnswer}
+use Rattle.pdu.specs.Reading.{pieces_of, item_at, each_at, sole_at, uid_at, length_at, role_at, user_at, proposal_at}
+use Rattle.pdu.specs.Reading.{answer_at}
+use Rattle.pdu.proofs.Pieces.{FoundIn, AgainIn, pieces-found, pieces-again, each-found, each-again, sole-found}
+use Rattle.pdu.proofs.Pieces.{sole-again}
 use Rattle.pdu.proofs.Items.{item-found, item-again, item-shorter}
 
 -- a test that was passed before a reading
-pub tested : {A : Type 0} (t : Bool) (read : Result A PduFault) (x : A) → cond t read (Err BadItem) ≡ Ok x → (t ≡ true) × (read ≡ Ok x)
+pub tested : {A : Type 0} (t : Bool) (read : Result A PduFault) (x : A) → cond t read (Err BadItem) ≡ Ok x → (t ≡ true)
+    × (read ≡ Ok x)
 tested true read x e = (refl, e)
 tested false read x e = absurd cc
 
@@ -54,13 +61,18 @@ eq_of_test m n e = grind arith
 test_of_eq : (m n : ℕ) → m ≡ n → eqb m n ≡ true
 test_of_eq m n e = grind arith
 
-two_last : (size : ℕ) (rest : List ℕ) → length rest ≡ size + 2 → rest ≡ take size rest ++ get_or rest size 0 ∷ get_or rest (size + 1) 0 ∷ []
+two_last : (size : ℕ) (rest : List ℕ) → length rest ≡ size + 2 → rest ≡ take size rest ++ get_or rest size 0 ∷ get_or
+    rest (size + 1) 0 ∷ []
 two_last size rest len =
     let one : drop size rest ≡ get_or rest size 0 ∷ drop (suc size) rest = drop-cons rest size 0 (omega (arith, len)) in
-    let two : drop (suc size) rest ≡ get_or rest (suc size) 0 ∷ drop (suc (suc size)) rest = drop-cons rest (suc size) 0 (omega (arith, len)) in
-    let none : drop (suc (suc size)) rest ≡ [] = nil_from_length (drop (suc (suc size)) rest) (omega (arith, length-drop (suc (suc size)) rest, len)) in
+    let two : drop (suc size) rest ≡ get_or rest (suc size) 0 ∷ drop (suc (suc size)) rest = drop-cons rest (suc size)
+    0 (omega (arith, len)) in
+    let none : drop (suc (suc size)) rest ≡ [] = nil_from_length (drop (suc (suc size)) rest)
+    (omega (arith, length-drop (suc (suc size)) rest, len)) in
     let next : suc size ≡ size + 1 = omega arith in
-    sym (take-append-drop size rest) ∙ ap (λ (t : List ℕ). take size rest ++ t) (one ∙ ap (λ (t : List ℕ). get_or rest size 0 ∷ t) (two ∙ ap (λ (t : List ℕ). get_or rest (suc size) 0 ∷ t) none))
+    sym (take-append-drop size rest) ∙ ap (λ (t : List ℕ). take size rest ++ t)
+    (one ∙ ap (λ (t : List ℕ). get_or rest size 0 ∷ t) (two ∙ ap (λ (t : List ℕ). get_or rest (suc size) 0 ∷ t)
+    none))
     ∙ ap (λ (n : ℕ). take size rest ++ get_or rest size 0 ∷ get_or rest n 0 ∷ []) next
 
 pub role-found : FoundIn role_at IsRole
@@ -85,9 +97,12 @@ last_two : (size : ℕ) (text : List ℕ) (p q : ℕ) → size ≡ length text �
 last_two size text p q is = drop_at text (p ∷ q ∷ []) size (sym is)
 
 read_role : (size : ℕ) (class text : List ℕ) (p q : ℕ) → size ≡ length text → uid_at text ≡ Ok class
-    → cond (eqb (length (text ++ p ∷ q ∷ [])) (size + 2)) (uid_at (take size (text ++ p ∷ q ∷ [])) >>= λ c. Ok (role c (get_or (text ++ p ∷ q ∷ []) size 0) (get_or (text ++ p ∷ q ∷ []) (size + 1) 0))) (Err BadItem) ≡ Ok (role class p q)
+    → cond (eqb (length (text ++ p ∷ q ∷ [])) (size + 2)) (uid_at (take size (text ++ p ∷ q ∷ [])) >>=
+    λ c. Ok (role c (get_or (text ++ p ∷ q ∷ []) size 0) (get_or (text ++ p ∷ q ∷ []) (size + 1) 0))) (Err BadItem) ≡ Ok
+    (role class p q)
 read_role size class text p q is uid =
-    let long : eqb (length (text ++ p ∷ q ∷ [])) (size + 2) ≡ true = test_of_eq _ _ (omega (arith, is, length-append text (p ∷ q ∷ []))) in
+    let long : eqb (length (text ++ p ∷ q ∷ [])) (size + 2) ≡ true = test_of_eq _
+    _ (omega (arith, is, length-append text (p ∷ q ∷ []))) in
     let cut : take size (text ++ p ∷ q ∷ []) ≡ text = take_at text (p ∷ q ∷ []) size (sym is) in
     let first : get_or (text ++ p ∷ q ∷ []) size 0 ≡ p = at_length size text p q is in
     let second : get_or (text ++ p ∷ q ∷ []) (size + 1) 0 ≡ q = past_length size text p q is in
@@ -98,7 +113,8 @@ read_role size class text p q is uid =
     at_length zero (t ∷ ts) p q is = absurd (omega (arith, is))
     at_length (suc n) (t ∷ ts) p q is = at_length n ts p q (omega (arith, is))
 
-    past_length : (size : ℕ) (text : List ℕ) (p q : ℕ) → size ≡ length text → get_or (text ++ p ∷ q ∷ []) (size + 1) 0 ≡ q
+    past_length : (size : ℕ) (text : List ℕ) (p q : ℕ) → size ≡ length text → get_or (text ++ p ∷ q ∷ []) (size + 1)
+        0 ≡ q
     past_length size text p q is = ap (λ (n : ℕ). get_or (text ++ p ∷ q ∷ []) n 0) (omega (arith, is)) ∙ behind text p q
       where
         behind : (text : List ℕ) (p q : ℕ) → get_or (text ++ p ∷ q ∷ []) (suc (length text)) 0 ≡ q
@@ -108,7 +124,8 @@ read_role size class text p q is uid =
 pub role-again : AgainIn role_at IsRole
 unfolding role_at
 role-again v content r =
-    ap role_at r.parts ∙ read_role (from_be_bytes w16 (r.high ∷ r.low ∷ [])) v.class r.text v.scu v.scp r.size (uid-again v.class r.text r.uid)
+    ap role_at r.parts ∙ read_role (from_be_bytes w16 (r.high ∷ r.low ∷ [])) v.class r.text v.scu v.scp
+    r.size (uid-again v.class r.text r.uid)
 
 -- ---- user information
 
@@ -118,10 +135,19 @@ user n class roles = record { maximum_length = n; implementation_class = class; 
 pub user-found : FoundIn user_at IsUser
 unfolding user_at
 user-found text v e =
-    let i = bind_ok (pieces_of item_at text) (λ items. each_at length_at (contents_of MAXIMUM_LENGTH items) >>= λ lengths. each_at uid_at (contents_of IMPLEMENTATION_CLASS items) >>= λ classes. each_at role_at (contents_of ROLE_SELECTION items) >>= λ roles. Ok (user (first_or 0 lengths) (first_of classes) roles)) v e in
-    let l = bind_ok (each_at length_at (contents_of MAXIMUM_LENGTH i.0)) (λ lengths. each_at uid_at (contents_of IMPLEMENTATION_CLASS i.0) >>= λ classes. each_at role_at (contents_of ROLE_SELECTION i.0) >>= λ roles. Ok (user (first_or 0 lengths) (first_of classes) roles)) v i.2 in
-    let c = bind_ok (each_at uid_at (contents_of IMPLEMENTATION_CLASS i.0)) (λ classes. each_at role_at (contents_of ROLE_SELECTION i.0) >>= λ roles. Ok (user (first_or 0 l.0) (first_of classes) roles)) v l.2 in
-    let r = bind_ok (each_at role_at (contents_of ROLE_SELECTION i.0)) (λ roles. Ok (user (first_or 0 l.0) (first_of c.0) roles)) v c.2 in
+    let i = bind_ok (pieces_of item_at text) (λ items. each_at length_at (contents_of MAXIMUM_LENGTH items) >>=
+    λ lengths. each_at uid_at (contents_of IMPLEMENTATION_CLASS items) >>= λ classes. each_at
+    role_at (contents_of ROLE_SELECTION items) >>= λ roles. Ok (user (first_or 0 lengths) (first_of classes) roles))
+    v e in
+    let l = bind_ok (each_at length_at (contents_of MAXIMUM_LENGTH i.0))
+    (λ lengths. each_at uid_at (contents_of IMPLEMENTATION_CLASS i.0) >>= λ classes. each_at
+    role_at (contents_of ROLE_SELECTION i.0) >>= λ roles. Ok (user (first_or 0 lengths) (first_of classes) roles)) v
+    i.2 in
+    let c = bind_ok (each_at uid_at (contents_of IMPLEMENTATION_CLASS i.0))
+    (λ classes. each_at role_at (contents_of ROLE_SELECTION i.0) >>= λ roles. Ok
+    (user (first_or 0 l.0) (first_of classes) roles)) v l.2 in
+    let r = bind_ok (each_at role_at (contents_of ROLE_SELECTION i.0))
+    (λ roles. Ok (user (first_or 0 l.0) (first_of c.0) roles)) v c.2 in
     subst (λ u. IsUser u text) (ok_is PduFault (user (first_or 0 l.0) (first_of c.0) r.0) v r.2) (record {
       items = i.0;
       filled = pieces-found item_at _ item-found text i.0 i.1;
@@ -141,7 +167,8 @@ user-again v text h =
     let l = each-again length_at IsLength length-again h.lengths _ h.are_lengths in
     let c = each-again uid_at IsUid uid-again h.classes _ h.are_classes in
     let r = each-again role_at IsRole role-again v.roles _ h.roles in
-    rw (i, l, c, r) (ap (λ (n : ℕ). Ok (user n (first_of h.classes) v.roles)) h.maximum_length ∙ ap (λ (o : Option (List ℕ)). Ok (user v.maximum_length o v.roles)) h.implementation_class)
+    rw (i, l, c, r) (ap (λ (n : ℕ). Ok (user n (first_of h.classes) v.roles)) h.maximum_length
+    ∙ ap (λ (o : Option (List ℕ)). Ok (user v.maximum_length o v.roles)) h.implementation_class)
 
 -- ---- presentation contexts
 
@@ -162,9 +189,15 @@ proposal id abstract syntaxes = record { id = id; abstract_syntax = abstract; tr
 pub proposal-found : FoundIn proposal_at IsProposal
 unfolding proposal_at
 proposal-found (id ∷ a ∷ b ∷ c ∷ text) v e =
-    let i = bind_ok (pieces_of item_at text) (λ items. sole_at uid_at (contents_of ABSTRACT_SYNTAX items) >>= λ abstract. each_at uid_at (contents_of TRANSFER_SYNTAX items) >>= λ syntaxes. cond (is_odd id && not (eqb (length syntaxes) 0)) (Ok (proposal id abstract syntaxes)) (Err BadItem)) v e in
-    let s = bind_ok (sole_at uid_at (contents_of ABSTRACT_SYNTAX i.0)) (λ abstract. each_at uid_at (contents_of TRANSFER_SYNTAX i.0) >>= λ syntaxes. cond (is_odd id && not (eqb (length syntaxes) 0)) (Ok (proposal id abstract syntaxes)) (Err BadItem)) v i.2 in
-    let t = bind_ok (each_at uid_at (contents_of TRANSFER_SYNTAX i.0)) (λ syntaxes. cond (is_odd id && not (eqb (length syntaxes) 0)) (Ok (proposal id s.0 syntaxes)) (Err BadItem)) v s.2 in
+    let i = bind_ok (pieces_of item_at text) (λ items. sole_at uid_at (contents_of ABSTRACT_SYNTAX items) >>=
+    λ abstract. each_at uid_at (contents_of TRANSFER_SYNTAX items) >>= λ syntaxes. cond
+    (is_odd id && not (eqb (length syntaxes) 0)) (Ok (proposal id abstract syntaxes)) (Err BadItem)) v e in
+    let s = bind_ok (sole_at uid_at (contents_of ABSTRACT_SYNTAX i.0))
+    (λ abstract. each_at uid_at (contents_of TRANSFER_SYNTAX i.0) >>= λ syntaxes. cond
+    (is_odd id && not (eqb (length syntaxes) 0)) (Ok (proposal id abstract syntaxes)) (Err BadItem)) v i.2 in
+    let t = bind_ok (each_at uid_at (contents_of TRANSFER_SYNTAX i.0))
+    (λ syntaxes. cond (is_odd id && not (eqb (length syntaxes) 0)) (Ok (proposal id s.0 syntaxes)) (Err BadItem)) v
+    s.2 in
     let g = guard_end (is_odd id && not (eqb (length t.0) 0)) BadItem (proposal id s.0 t.0) v t.2 in
     let both = and_true (is_odd id) (not (eqb (length t.0) 0)) g.0 in
     subst (λ p. IsProposal p (id ∷ a ∷ b ∷ c ∷ text)) g.1 (record {
@@ -196,8 +229,10 @@ answer id result syntax = record { id = id; result = result; transfer_syntax = s
 pub answer-found : FoundIn answer_at IsAnswer
 unfolding answer_at
 answer-found (id ∷ a ∷ result ∷ b ∷ text) v e =
-    let i = bind_ok (pieces_of item_at text) (λ items. sole_at uid_at (contents_of TRANSFER_SYNTAX items) >>= λ syntax. cond (is_odd id) (Ok (answer id result syntax)) (Err BadItem)) v e in
-    let s = bind_ok (sole_at uid_at (contents_of TRANSFER_SYNTAX i.0)) (λ syntax. cond (is_odd id) (Ok (answer id result syntax)) (Err BadItem)) v i.2 in
+    let i = bind_ok (pieces_of item_at text) (λ items. sole_at uid_at (contents_of TRANSFER_SYNTAX items) >>=
+    λ syntax. cond (is_odd id) (Ok (answer id result syntax)) (Err BadItem)) v e in
+    let s = bind_ok (sole_at uid_at (contents_of TRANSFER_SYNTAX i.0))
+    (λ syntax. cond (is_odd id) (Ok (answer id result syntax)) (Err BadItem)) v i.2 in
     let g = guard_end (is_odd id) BadItem (answer id result s.0) v s.2 in
     subst (λ p. IsAnswer p (id ∷ a ∷ result ∷ b ∷ text)) g.1 (record {
       a = a;

@@ -1,9 +1,14 @@
 -- Which texts spell a PDU (PS3.8, 9.3; PS3.7, D.3.3), from the side of the value.
-use Rattle.std.specs.Prelude.{◌≡◌, ◌≢◌, ◌<◌, ◌≤◌, ◌⊎◌, ℕ, ◌+◌, ◌/◌, ◌%◌, Result, Ok, Err, take, slice_index, Bool, true, IsTrue, not, List, [], ◌∷◌, ◌++◌, ◌==◌, ◌||◌, ◌&&◌, length, map, nat_le, Option, Some, None, if◌then◌else◌, ⊤}
+use Rattle.std.specs.Prelude.{◌≡◌, ◌≢◌, ◌<◌, ◌≤◌, ◌⊎◌, ℕ, ◌+◌, ◌/◌, ◌%◌, Result, Ok, Err, take, slice_index, Bool, true}
+use Rattle.std.specs.Prelude.{IsTrue, not, List, [], ◌∷◌, ◌++◌, ◌==◌, ◌||◌, ◌&&◌, length, map, nat_le, Option, Some}
+use Rattle.std.specs.Prelude.{None, if◌then◌else◌, ⊤}
 use Rattle.std.specs.List.{list_all, list_any}
 use Rattle.std.specs.Int.{w16, w32, from_be_bytes}
-use Rattle.pdu.specs.declared.header.TheConstants.{HEADER_LENGTH, ASSOCIATE_RQ, ASSOCIATE_AC, ASSOCIATE_RJ, P_DATA, RELEASE_RQ, RELEASE_RP, ABORT, FIXED_LENGTH}
-use Rattle.pdu.specs.declared.item.TheConstants.{APPLICATION_CONTEXT, PROPOSED_CONTEXT, ANSWERED_CONTEXT, ABSTRACT_SYNTAX, TRANSFER_SYNTAX, USER_INFORMATION, MAXIMUM_LENGTH, IMPLEMENTATION_CLASS, ROLE_SELECTION}
+use Rattle.pdu.specs.declared.header.TheConstants.{HEADER_LENGTH, ASSOCIATE_RQ, ASSOCIATE_AC, ASSOCIATE_RJ, P_DATA}
+use Rattle.pdu.specs.declared.header.TheConstants.{RELEASE_RQ, RELEASE_RP, ABORT, FIXED_LENGTH}
+use Rattle.pdu.specs.declared.item.TheConstants.{APPLICATION_CONTEXT, PROPOSED_CONTEXT, ANSWERED_CONTEXT}
+use Rattle.pdu.specs.declared.item.TheConstants.{ABSTRACT_SYNTAX, TRANSFER_SYNTAX, USER_INFORMATION, MAXIMUM_LENGTH}
+use Rattle.pdu.specs.declared.item.TheConstants.{IMPLEMENTATION_CLASS, ROLE_SELECTION}
 use Rattle.pdu.specs.declared.item.Item.{Item}
 use Rattle.pdu.specs.declared.user.Role.{Role}
 use Rattle.pdu.specs.declared.user.UserInformation.{UserInformation}
@@ -14,7 +19,8 @@ use Rattle.pdu.specs.declared.request.Request.{Request}
 use Rattle.pdu.specs.declared.accept.Accept.{Accept}
 use Rattle.pdu.specs.declared.pdv.Pdv.{Pdv}
 use Rattle.pdu.specs.declared.value.Pdu.{Pdu}
-use Rattle.pdu.specs.declared.value.Pdu.TheVariants.{AssociateRq, AssociateAc, AssociateRj, PData, ReleaseRq, ReleaseRp, Abort}
+use Rattle.pdu.specs.declared.value.Pdu.TheVariants.{AssociateRq, AssociateAc, AssociateRj, PData, ReleaseRq, ReleaseRp}
+use Rattle.pdu.specs.declared.value.Pdu.TheVariants.{Abort}
 use Rattle.pdu.specs.declared.value.Step.{Step}
 use Rattle.pdu.specs.declared.value.Step.TheVariants.{Need, Done}
 use Rattle.pdu.specs.declared.fault.PduFault.{PduFault}
@@ -200,7 +206,8 @@ BeginsPdv v text rest = (a b c d control : ℕ)
 abbrev pub IsBody : Pdu → List ℕ → Type 0
 IsBody (AssociateRq request) body = IsRequest request body
 IsBody (AssociateAc accept) body = IsAccept accept body
-IsBody (AssociateRj reject) body = (reserved : ℕ) × (body ≡ reserved ∷ reject.result ∷ reject.source ∷ reject.reason ∷ [])
+IsBody (AssociateRj reject) body = (reserved : ℕ) × (body ≡ reserved ∷ reject.result ∷ reject.source ∷ reject.reason
+    ∷ [])
 IsBody (PData values) body = (length values ≢ 0) × Fill BeginsPdv values body
 IsBody ReleaseRq body = length body ≡ FIXED_LENGTH
 IsBody ReleaseRp body = length body ≡ FIXED_LENGTH
@@ -236,11 +243,13 @@ type_of bytes = slice_index bytes 0
 
 -- the length in the header, the high byte first
 abbrev pub size_of : List ℕ → ℕ
-size_of bytes = from_be_bytes w32 (slice_index bytes 2 ∷ slice_index bytes 3 ∷ slice_index bytes 4 ∷ slice_index bytes 5 ∷ [])
+size_of bytes = from_be_bytes w32 (slice_index bytes 2 ∷ slice_index bytes 3 ∷ slice_index bytes 4 ∷ slice_index bytes 5
+    ∷ [])
 
 -- a whole header with this fault, whatever stands behind it
 abbrev pub HasHeaderFault : PduFault → List ℕ → Type 0
-HasHeaderFault fault bytes = (HEADER_LENGTH ≤ length bytes) × (header_fault (type_of bytes) (size_of bytes) ≡ Some fault)
+HasHeaderFault fault bytes = (HEADER_LENGTH ≤ length bytes)
+    × (header_fault (type_of bytes) (size_of bytes) ≡ Some fault)
 
 -- a whole header with no fault
 abbrev pub HasLawfulHeader : List ℕ → Type 0

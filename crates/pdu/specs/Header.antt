@@ -2,7 +2,9 @@
 use Rattle.std.specs.Prelude.{ℕ, ◌==◌, ◌||◌, nat_lt, Option, Some, None, Result, Ok, Err, if◌then◌else◌}
 use Rattle.pdu.specs.declared.fault.PduFault.{PduFault}
 use Rattle.pdu.specs.declared.fault.PduFault.TheVariants.{UnknownType, BadLength, TooLong}
-use Rattle.pdu.specs.declared.header.TheConstants.{LONGEST_BODY, LONGEST_ACCEPT, OPENING_LENGTH, FIXED_LENGTH, ASSOCIATE_RQ, ASSOCIATE_AC, ASSOCIATE_RJ, P_DATA, RELEASE_RQ, RELEASE_RP, ABORT}
+use Rattle.pdu.specs.declared.header.TheConstants.{LONGEST_BODY, LONGEST_ACCEPT, OPENING_LENGTH, FIXED_LENGTH}
+use Rattle.pdu.specs.declared.header.TheConstants.{ASSOCIATE_RQ, ASSOCIATE_AC, ASSOCIATE_RJ, P_DATA, RELEASE_RQ}
+use Rattle.pdu.specs.declared.header.TheConstants.{RELEASE_RP, ABORT}
 
 -- a length that is below the least, or above the greatest
 abbrev pub range_fault : ℕ → ℕ → ℕ → Option PduFault

@@ -1,12 +1,16 @@
 -- How a body is read, step by step. Each step is a function of the text.
-use Rattle.std.specs.Prelude.{◌≡◌, ℕ, zero, suc, ◌+◌, ◌-◌, not, List, [], ◌∷◌, ◌==◌, ◌&&◌, length, take, drop, map, slice_index, nat_lt, Option, Some, None, Result, Ok, Err, if◌then◌else◌}
+use Rattle.std.specs.Prelude.{◌≡◌, ℕ, zero, suc, ◌+◌, ◌-◌, not, List, [], ◌∷◌, ◌==◌, ◌&&◌, length, take, drop, map}
+use Rattle.std.specs.Prelude.{slice_index, nat_lt, Option, Some, None, Result, Ok, Err, if◌then◌else◌}
 use Rattle.std.specs.List.{list_all}
 use Rattle.std.specs.Int.{w16, w32, from_be_bytes}
 use Rattle.octets.specs.Gives.{◌>>=◌}
 use Rattle.pdu.specs.declared.fault.PduFault.{PduFault}
 use Rattle.pdu.specs.declared.fault.PduFault.TheVariants.{BadItem}
-use Rattle.pdu.specs.declared.header.TheConstants.{HEADER_LENGTH, OPENING_LENGTH, ASSOCIATE_RQ, ASSOCIATE_AC, ASSOCIATE_RJ, P_DATA, RELEASE_RQ, RELEASE_RP}
-use Rattle.pdu.specs.declared.item.TheConstants.{APPLICATION_CONTEXT, PROPOSED_CONTEXT, ANSWERED_CONTEXT, ABSTRACT_SYNTAX, TRANSFER_SYNTAX, USER_INFORMATION, MAXIMUM_LENGTH, IMPLEMENTATION_CLASS, ROLE_SELECTION}
+use Rattle.pdu.specs.declared.header.TheConstants.{HEADER_LENGTH, OPENING_LENGTH, ASSOCIATE_RQ, ASSOCIATE_AC}
+use Rattle.pdu.specs.declared.header.TheConstants.{ASSOCIATE_RJ, P_DATA, RELEASE_RQ, RELEASE_RP}
+use Rattle.pdu.specs.declared.item.TheConstants.{APPLICATION_CONTEXT, PROPOSED_CONTEXT, ANSWERED_CONTEXT}
+use Rattle.pdu.specs.declared.item.TheConstants.{ABSTRACT_SYNTAX, TRANSFER_SYNTAX, USER_INFORMATION, MAXIMUM_LENGTH}
+use Rattle.pdu.specs.declared.item.TheConstants.{IMPLEMENTATION_CLASS, ROLE_SELECTION}
 use Rattle.pdu.specs.declared.item.Item.{Item}
 use Rattle.pdu.specs.declared.user.Role.{Role}
 use Rattle.pdu.specs.declared.user.UserInformation.{UserInformation}
@@ -18,12 +22,14 @@ use Rattle.pdu.specs.declared.accept.Accept.{Accept}
 use Rattle.pdu.specs.declared.reject.Reject.{Reject}
 use Rattle.pdu.specs.declared.pdv.Pdv.{Pdv}
 use Rattle.pdu.specs.declared.value.Pdu.{Pdu}
-use Rattle.pdu.specs.declared.value.Pdu.TheVariants.{AssociateRq, AssociateAc, AssociateRj, PData, ReleaseRq, ReleaseRp, Abort}
+use Rattle.pdu.specs.declared.value.Pdu.TheVariants.{AssociateRq, AssociateAc, AssociateRj, PData, ReleaseRq, ReleaseRp}
+use Rattle.pdu.specs.declared.value.Pdu.TheVariants.{Abort}
 use Rattle.pdu.specs.declared.value.Step.{Step}
 use Rattle.pdu.specs.declared.value.Step.TheVariants.{Need, Done}
 use Rattle.pdu.specs.Fault.{Gives}
 use Rattle.pdu.specs.Header.{HeaderParts, header_at}
-use Rattle.pdu.specs.Grammar.{type_of, size_of, contents_of, is_graphic, trimmed, first_or, first_of, is_odd, are_distinct, is_command, is_last}
+use Rattle.pdu.specs.Grammar.{type_of, size_of, contents_of, is_graphic, trimmed, first_or, first_of, is_odd}
+use Rattle.pdu.specs.Grammar.{are_distinct, is_command, is_last}
 
 -- a piece at the front, and what comes behind it
 abbrev pub Piece : Type 0 → Type 0
@@ -119,7 +125,12 @@ answer_at _ = Err BadItem
 unfoldable pub opening_at : List ℕ → Result Opening PduFault
 opening_at (v ∷ w ∷ r ∷ s ∷ rest) =
     if nat_lt (length rest) 64 then Err BadItem
-    else Ok (record { version = from_be_bytes w16 (v ∷ w ∷ []); called = take 16 rest; calling = take 16 (drop 16 rest); reserved = take 32 (drop 32 rest) })
+    else Ok (record {
+      version = from_be_bytes w16 (v ∷ w ∷ []);
+      called = take 16 rest;
+      calling = take 16 (drop 16 rest);
+      reserved = take 32 (drop 32 rest);
+    })
 opening_at _ = Err BadItem
 
 unfoldable pub request_in : Opening → List Item → Result Request PduFault
@@ -158,7 +169,16 @@ pdv_at (a ∷ b ∷ c ∷ d ∷ context ∷ control ∷ rest) =
     let size = from_be_bytes w32 (a ∷ b ∷ c ∷ d ∷ []) in
     if nat_lt size 2 then Err BadItem
     else if nat_lt (length rest) (size - 2) then Err BadItem
-    else Ok (record { context = context; command = is_command control; last = is_last control; fragment = take (size - 2) rest }, drop (size - 2) rest)
+    else Ok (
+      record {
+        context = context;
+        command = is_command control;
+        last = is_last control;
+        fragment =
+            take (size - 2) rest;
+      },
+      drop (size - 2) rest,
+    )
 pdv_at _ = Err BadItem
 
 unfoldable pub data_at : List ℕ → Result (List Pdv) PduFault
@@ -189,17 +209,20 @@ body_at code body =
 
 abbrev pub behind_header : Result HeaderParts PduFault → List ℕ → Result (Option HeaderParts) PduFault
 behind_header (Err fault) bytes = Err fault
-behind_header (Ok header) bytes = if nat_lt (length bytes - HEADER_LENGTH) header.length then Ok None else Ok (Some header)
+behind_header (Ok header) bytes = if nat_lt (length bytes - HEADER_LENGTH) header.length then Ok None
+    else Ok (Some header)
 
 -- the header at the front, once the body behind it is whole
 unfoldable pub front_at : List ℕ → Result (Option HeaderParts) PduFault
-front_at bytes = if nat_lt (length bytes) HEADER_LENGTH then Ok None else behind_header (header_at (type_of bytes) (size_of bytes)) bytes
+front_at bytes = if nat_lt (length bytes) HEADER_LENGTH then Ok None else behind_header
+    (header_at (type_of bytes) (size_of bytes)) bytes
 
 abbrev pub Behind : Result (Option HeaderParts) PduFault → List ℕ → Result Step PduFault → Type 0
 Behind (Err fault) bytes result = result ≡ Err fault
 Behind (Ok None) bytes result = result ≡ Ok Need
 Behind (Ok (Some header)) bytes result =
-    Gives result (body_at header.code (take header.length (drop HEADER_LENGTH bytes)) >>= λ p. Ok (Done p (header.length + HEADER_LENGTH)))
+    Gives result (body_at header.code (take header.length (drop HEADER_LENGTH bytes)) >>=
+    λ p. Ok (Done p (header.length + HEADER_LENGTH)))
 
 -- what is told of a front: want of memory only where a body is read
 unfoldable pub Answers : Result Step PduFault → List ℕ → Type 0

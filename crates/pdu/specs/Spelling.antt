@@ -1,9 +1,12 @@
 -- The text that is written for a PDU, and which PDUs have one.
-use Rattle.std.specs.Prelude.{◌≡◌, ◌≢◌, ◌<◌, ◌≤◌, ℕ, ◌+◌, ◌^◌, Bool, true, false, IsTrue, List, [], ◌∷◌, ◌++◌, ◌==◌, length, map, Option, Some, None, IfSome, if◌then◌else◌, ⊤}
+use Rattle.std.specs.Prelude.{◌≡◌, ◌≢◌, ◌<◌, ◌≤◌, ℕ, ◌+◌, ◌^◌, Bool, true, false, IsTrue, List, [], ◌∷◌, ◌++◌, ◌==◌}
+use Rattle.std.specs.Prelude.{length, map, Option, Some, None, IfSome, if◌then◌else◌, ⊤}
 use Rattle.std.specs.List.{flat_map, list_all, AllByRecursion}
 use Rattle.std.specs.Int.{w16, w32, to_be_bytes}
 use Rattle.pdu.specs.declared.header.TheConstants.{LONGEST_BODY, LONGEST_ACCEPT}
-use Rattle.pdu.specs.declared.item.TheConstants.{APPLICATION_CONTEXT, PROPOSED_CONTEXT, ANSWERED_CONTEXT, ABSTRACT_SYNTAX, TRANSFER_SYNTAX, USER_INFORMATION, MAXIMUM_LENGTH, IMPLEMENTATION_CLASS, ROLE_SELECTION}
+use Rattle.pdu.specs.declared.item.TheConstants.{APPLICATION_CONTEXT, PROPOSED_CONTEXT, ANSWERED_CONTEXT}
+use Rattle.pdu.specs.declared.item.TheConstants.{ABSTRACT_SYNTAX, TRANSFER_SYNTAX, USER_INFORMATION, MAXIMUM_LENGTH}
+use Rattle.pdu.specs.declared.item.TheConstants.{IMPLEMENTATION_CLASS, ROLE_SELECTION}
 use Rattle.pdu.specs.declared.item.Item.{Item}
 use Rattle.pdu.specs.declared.user.Role.{Role}
 use Rattle.pdu.specs.declared.user.UserInformation.{UserInformation}
@@ -14,7 +17,8 @@ use Rattle.pdu.specs.declared.request.Request.{Request}
 use Rattle.pdu.specs.declared.accept.Accept.{Accept}
 use Rattle.pdu.specs.declared.pdv.Pdv.{Pdv}
 use Rattle.pdu.specs.declared.value.Pdu.{Pdu}
-use Rattle.pdu.specs.declared.value.Pdu.TheVariants.{AssociateRq, AssociateAc, AssociateRj, PData, ReleaseRq, ReleaseRp, Abort}
+use Rattle.pdu.specs.declared.value.Pdu.TheVariants.{AssociateRq, AssociateAc, AssociateRj, PData, ReleaseRq, ReleaseRp}
+use Rattle.pdu.specs.declared.value.Pdu.TheVariants.{Abort}
 use Rattle.pdu.specs.Grammar.{trimmed, is_graphic, is_odd, are_distinct, code_of}
 
 -- ---- items
@@ -49,7 +53,8 @@ class_items None = []
 class_items (Some class) = item_of IMPLEMENTATION_CLASS class ∷ []
 
 abbrev pub user_items : UserInformation → List Item
-user_items user = length_items user.maximum_length ++ (class_items user.implementation_class ++ map role_item user.roles)
+user_items user = length_items user.maximum_length ++ (class_items user.implementation_class ++ map role_item
+    user.roles)
 
 abbrev pub user_item : UserInformation → Item
 user_item user = item_of USER_INFORMATION (items_text (user_items user))
@@ -74,14 +79,17 @@ answer_item context = item_of ANSWERED_CONTEXT (context.id ∷ 0 ∷ context.res
 -- ---- bodies
 
 abbrev pub opening_text : Opening → List ℕ
-opening_text opening = to_be_bytes w16 opening.version ++ 0 ∷ 0 ∷ (opening.called ++ (opening.calling ++ opening.reserved))
+opening_text opening = to_be_bytes w16 opening.version ++ 0 ∷ 0
+    ∷ (opening.called ++ (opening.calling ++ opening.reserved))
 
 -- the application context, the presentation contexts and the user information
 abbrev pub request_items : Request → List Item
-request_items request = item_of APPLICATION_CONTEXT request.application_context ∷ (map proposal_item request.contexts ++ user_item request.user ∷ [])
+request_items request = item_of APPLICATION_CONTEXT request.application_context ∷ (map proposal_item request.contexts
+    ++ user_item request.user ∷ [])
 
 abbrev pub accept_items : Accept → List Item
-accept_items accept = item_of APPLICATION_CONTEXT accept.application_context ∷ (map answer_item accept.contexts ++ user_item accept.user ∷ [])
+accept_items accept = item_of APPLICATION_CONTEXT accept.application_context
+    ∷ (map answer_item accept.contexts ++ user_item accept.user ∷ [])
 
 abbrev pub control_of : Bool → Bool → ℕ
 control_of false false = 0

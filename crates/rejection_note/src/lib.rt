@@ -13,4 +13,4 @@ mod title;
 pub use fault::NoteFault;
 pub use note::Note;
 pub use notes::note_of;
-pub use title::Title;
+pub use title::NoteTitle;

@@ -2,14 +2,14 @@
 
 ghost use Rattle.std.specs.Prelude.{◌≡◌, ◌↔◌, IfOk, IsTrue};
 
-use crate::title::Title;
+use crate::title::NoteTitle;
 use octets::{ListOf, Octets};
 use std::alloc::{AllocError, Global};
 
 /// The title of a rejection note and the instance UIDs that it covers, ascending, each once.
 #[derive(Debug, Drop)]
 pub struct Note {
-    pub title: Title,
+    pub title: NoteTitle,
     pub covers: ListOf<Octets>,
 }
 

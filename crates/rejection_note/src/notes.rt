@@ -10,7 +10,7 @@ ghost use Rattle.rejection_note.specs.Notes.{note_in, note_of_title, named};
 use crate::covers::named_uids;
 use crate::fault::NoteFault;
 use crate::note::Note;
-use crate::title::{Title, title_in};
+use crate::title::{NoteTitle, title_in};
 use data_set::{DataSet, Element, items_of};
 use dictionary::{CONCEPT_NAME_CODE_SEQUENCE, KEY_OBJECT_SELECTION_DOCUMENT_STORAGE};
 use octets::{ListOf, Octets, ascending, is_uid};
@@ -23,7 +23,7 @@ fn are_uids(uids: &[Octets]) -> bool
 }
 
 /// What a document of this title covers.
-fn note_of_uids(title: Title, uids: Vec<Octets>) -> Result<Option<Note>, NoteFault>
+fn note_of_uids(title: NoteTitle, uids: Vec<Octets>) -> Result<Option<Note>, NoteFault>
     ensures { result ≡ note_of_title (Some title) uids.items }
 {
     if uids.is_empty() || !are_uids(uids.as_slice()) {

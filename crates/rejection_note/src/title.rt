@@ -12,7 +12,7 @@ use dictionary::{
 
 /// Why images were rejected.
 #[derive(Clone, Copy, Debug, PartialEq, Eq)]
-pub enum Title {
+pub enum NoteTitle {
     /// 113001, Rejected for Quality Reasons.
     Quality,
     /// 113037, Rejected for Patient Safety Reasons.
@@ -23,26 +23,26 @@ pub enum Title {
     Expired,
 }
 
-fn title_of(code: &[u8]) -> Option<Title>
+fn title_of(code: &[u8]) -> Option<NoteTitle>
     ensures { result ≡ title_of_value code.now }
 {
     if code == REJECTED_FOR_QUALITY_REASONS.as_slice() {
-        return Some(Title::Quality);
+        return Some(NoteTitle::Quality);
     }
     if code == REJECTED_FOR_PATIENT_SAFETY_REASONS.as_slice() {
-        return Some(Title::Safety);
+        return Some(NoteTitle::Safety);
     }
     if code == INCORRECT_MODALITY_WORKLIST_ENTRY.as_slice() {
-        return Some(Title::Worklist);
+        return Some(NoteTitle::Worklist);
     }
     if code == DATA_RETENTION_POLICY_EXPIRED.as_slice() {
-        return Some(Title::Expired);
+        return Some(NoteTitle::Expired);
     }
     None
 }
 
 /// The rejection title that an item of (0040,A043) names, if it is one.
-pub fn title_in(item: &[Element]) -> Option<Title>
+pub fn title_in(item: &[Element]) -> Option<NoteTitle>
     ensures { result ≡ title_in_item item.now }
 {
     let scheme = value_of(item, CODING_SCHEME_DESIGNATOR)?;

@@ -1,7 +1,7 @@
 //! Lines, and the bytes of what they make.
 
-use site_script::{Command, command_of, image_content};
 use operation::OpFault;
+use site_script::{Command, command_of, image_content};
 use std::alloc::{AllocError, Global};
 use std::test::Fail;
 

@@ -1,10 +1,10 @@
 //! Scripts over devices in memory, and steps of worlds.
 
-use site_world::{Seen, SimFault, Step, World, WorldFault, simulate};
 use devices::{Store, Supply};
 use octets::Octets;
 use operation::{Op, Stamp, Target, correction_of};
 use site_state::Taken;
+use site_world::{Seen, SimFault, Step, World, WorldFault, simulate};
 use std::alloc::Global;
 use std::test::Fail;
 

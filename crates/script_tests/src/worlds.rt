@@ -1,6 +1,5 @@
 //! Worlds whose sites take images, notes and corrections, in whatever order.
 
-use site_world::{Seen, Step, World, WorldFault};
 use archive_model::View;
 use archive_query::Query;
 use bytes::Bytes;
@@ -8,6 +7,7 @@ use data_set::{Syntax, read};
 use octets::Octets;
 use operation::{Op, Target, content_of};
 use site_state::Taken;
+use site_world::{Seen, Step, World, WorldFault};
 use std::alloc::{AllocError, Global};
 use std::test::Fail;
 

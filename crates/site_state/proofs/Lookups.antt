@@ -3,8 +3,8 @@ use Rattle.std.proofs.Common.{◌≡◌, ℕ, List, Bool, true, false, Option, S
 use Rattle.std.specs.Prelude.{IfSome, ◌&&◌, ◌||◌}
 use Rattle.std.proofs.lemmas.Bool.{false≢true}
 use Rattle.std.specs.Option.{option_map}
-use Rattle.rejection_note.specs.declared.title.Title.{Title}
-use Rattle.rejection_note.specs.declared.title.Title.TheVariants.{Quality, Safety, Worklist, Expired}
+use Rattle.rejection_note.specs.declared.title.NoteTitle.{NoteTitle}
+use Rattle.rejection_note.specs.declared.title.NoteTitle.TheVariants.{Quality, Safety, Worklist, Expired}
 use Rattle.operation.specs.declared.op.Op.{Op}
 use Rattle.operation.specs.declared.op.Op.TheVariants.{Content as a_content}
 use Rattle.operation.specs.Parts.{ContentParts, CorrectionParts}
@@ -84,13 +84,13 @@ first_true false b e = absurd (false≢true e)
 pub covered_is : (view : View) (ops : List Op) (uid : List ℕ) → is_hidden view ops uid ≡ is_covered view ops uid
 covered_is view ops uid = both_ways _ _ there back
   where
-    under : (title : Title) → hides_under view ops uid title ≡ true → is_covered view ops uid ≡ true
+    under : (title : NoteTitle) → hides_under view ops uid title ≡ true → is_covered view ops uid ≡ true
     under title e = let both = and_both (hides view title) (is_titled ops uid title) e in (covered_by_titles view ops uid).1 (title, both.1, both.0)
 
     there : is_hidden view ops uid ≡ true → is_covered view ops uid ≡ true
     there e = one_of_four (hides_under view ops uid Quality) (hides_under view ops uid Safety) (hides_under view ops uid Worklist) (hides_under view ops uid Expired) e (under Quality) (under Safety) (under Worklist) (under Expired)
 
-    named : (title : Title) → hides_under view ops uid title ≡ true → is_hidden view ops uid ≡ true
+    named : (title : NoteTitle) → hides_under view ops uid title ≡ true → is_hidden view ops uid ≡ true
     named Quality e = first_true _ _ (first_true _ _ (first_true _ _ e))
     named Safety e = first_true _ _ (first_true _ _ (second_true _ _ e))
     named Worklist e = first_true _ _ (second_true _ _ e)

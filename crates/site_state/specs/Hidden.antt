@@ -1,7 +1,7 @@
 -- What notes of one title hide, and of all of them.
 use Rattle.std.specs.Prelude.{ℕ, List, Bool, ◌&&◌, ◌||◌, Option, Some, None}
-use Rattle.rejection_note.specs.declared.title.Title.{Title}
-use Rattle.rejection_note.specs.declared.title.Title.TheVariants.{Quality, Safety, Worklist, Expired}
+use Rattle.rejection_note.specs.declared.title.NoteTitle.{NoteTitle}
+use Rattle.rejection_note.specs.declared.title.NoteTitle.TheVariants.{Quality, Safety, Worklist, Expired}
 use Rattle.operation.specs.declared.op.Op.{Op}
 use Rattle.operation.specs.Parts.{ContentParts}
 use Rattle.archive_model.specs.Contents.{content_in}
@@ -10,7 +10,7 @@ use Rattle.archive_model.specs.View.{hides}
 use Rattle.archive_model.specs.declared.view.View.{View}
 
 -- whether notes of a title name a UID and hide in a view
-abbrev pub hides_under : View → List Op → List ℕ → Title → Bool
+abbrev pub hides_under : View → List Op → List ℕ → NoteTitle → Bool
 hides_under view ops uid title = hides view title && is_titled ops uid title
 
 -- whether notes of one of the four titles do

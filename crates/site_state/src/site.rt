@@ -20,7 +20,7 @@ use archive_model::{View, content, hides, is_hiding};
 use join_laws::Join;
 use octets::Octets;
 use operation::{Content, Digest, Digested, Op, Taken};
-use rejection_note::Title;
+use rejection_note::NoteTitle;
 use std::alloc::{AllocError, Global};
 use std::collections::BTreeMap;
 use std::marker::Model;
@@ -212,7 +212,7 @@ impl Site {
     }
 
     // Whether notes of a title name a UID and hide.
-    fn is_hidden_by(&self, view: View, uid: &ShortText, title: Title) -> bool
+    fn is_hidden_by(&self, view: View, uid: &ShortText, title: NoteTitle) -> bool
         ensures { result ≡ hides_under view (ops_of self.now) uid.now title }
     {
         let _ = uid.as_slice();
@@ -226,10 +226,10 @@ impl Site {
     fn is_hidden(&self, view: View, uid: &ShortText) -> bool
         ensures { result ≡ is_hidden_in view (ops_of self.now) uid.now }
     {
-        self.is_hidden_by(view, uid, Title::Quality)
-            || self.is_hidden_by(view, uid, Title::Safety)
-            || self.is_hidden_by(view, uid, Title::Worklist)
-            || self.is_hidden_by(view, uid, Title::Expired)
+        self.is_hidden_by(view, uid, NoteTitle::Quality)
+            || self.is_hidden_by(view, uid, NoteTitle::Safety)
+            || self.is_hidden_by(view, uid, NoteTitle::Worklist)
+            || self.is_hidden_by(view, uid, NoteTitle::Expired)
     }
 
     /// Whether a UID is covered in a view, by one look-up for each title.

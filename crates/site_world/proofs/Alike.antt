@@ -24,7 +24,8 @@ use Rattle.site_world.specs.declared.step.Step.TheVariants.{Look, Get}
 use Rattle.site_world.specs.declared.step.Seen.{Seen}
 use Rattle.site_world.specs.declared.step.Seen.TheVariants.{Rows, Sent}
 use Rattle.site_world.specs.Steps.{site_at, site_of, title_of, on_site, told_at, Happens}
-use Rattle.site_world.specs.Runs.{Run, taken_at, taken_before, IsLook, LooksAreRows, GetsAreSendings, Outcome, IsNew, AnswerAlike}
+use Rattle.site_world.specs.Runs.{Run, taken_at, taken_before, IsLook, LooksAreRows, GetsAreSendings, Outcome, IsNew}
+use Rattle.site_world.specs.Runs.{AnswerAlike}
 use Rattle.site_world.specs.Runs.{SitesAreAlike, LooksAreAlike, GetsAreAlike, Headline}
 use Rattle.site_world.specs.Headline.{SiteOf, SameTakenSameMaps, SameTakenSameAnswers, TimeIsFree, TakenAreApart}
 use Rattle.site_world.proofs.Taken.{run_took}
@@ -221,7 +222,8 @@ module _ (old new : List Map) (steps : List Step) (answers : List (Result Seen W
       )
 
   -- Two that ask the same, where the same was taken before, are answered alike.
-  answers_alike : (i j : ℕ) (step other : Step) (seen : Map → Seen) (answer second : Seen) → Asks step seen → Asks other seen
+  answers_alike : (i j : ℕ) (step other : Step) (seen : Map → Seen) (answer second : Seen) → Asks step seen
+      → Asks other seen
       → slice_get steps i ≡ Some step → slice_get answers i ≡ Some (Ok answer)
       → slice_get steps j ≡ Some other → slice_get answers j ≡ Some (Ok second)
       → SameMembers (taken_before i (site_of step) steps answers) (taken_before j (site_of other) steps answers)

@@ -16,7 +16,8 @@ use Rattle.site_world.specs.declared.step.Step.{Step}
 use Rattle.site_world.specs.declared.step.Step.TheVariants.{Take, Correct, Look, Get}
 use Rattle.site_world.specs.declared.step.Seen.{Seen}
 use Rattle.site_world.specs.Steps.{Told, is_refused_memory, on_site, site_at, brought, bring, holding_also, IsTold}
-use Rattle.site_world.specs.Steps.{Happens, told_of_taking, told_of_correcting, told_of_looking, told_of_getting, taken_by, made_at}
+use Rattle.site_world.specs.Steps.{Happens, told_of_taking, told_of_correcting, told_of_looking, told_of_getting}
+use Rattle.site_world.specs.Steps.{taken_by, made_at}
 use Rattle.site_world.specs.Runs.{Run}
 
 set_again : {X : Type 0} (xs : List X) (k : ℕ) (x : X) → slice_get xs k ≡ Some x → slice_set xs k x ≡ xs

@@ -70,7 +70,8 @@ LooksAreRows old steps answers =
     → rows ≡ rows_of view (title_of view) query (ops_of (holding m (taken_before i n steps answers)))
 
 -- Step i is a get at site n, and was answered these.
-abbrev pub IsGet : List Step → List (Result Seen WorldFault) → ℕ → ℕ → View → Selection → Accepts → List Sending → Type 0
+abbrev pub IsGet : List Step → List (Result Seen WorldFault) → ℕ → ℕ → View → Selection → Accepts → List Sending
+    → Type 0
 IsGet steps answers i n view selection accepts sendings =
     (slice_get steps i ≡ Some (Get n view selection accepts)) × (slice_get answers i ≡ Some (Ok (Sent sendings)))
 

@@ -16,7 +16,8 @@ use Rattle.archive_retrieve.specs.Selection.{selection_of}
 use Rattle.site_state.specs.Site.{Map, ops_of}
 use Rattle.site_script.specs.declared.command.Command.{Command}
 use Rattle.site_script.specs.declared.command.Command.TheVariants.{Skip, Bad, Site, Image, Note}
-use Rattle.site_script.specs.declared.command.Command.TheVariants.{Correct as correct_line, Find, Get as get_line, Same, Flagged}
+use Rattle.site_script.specs.declared.command.Command.TheVariants.{Correct as correct_line, Find, Get as get_line, Same}
+use Rattle.site_script.specs.declared.command.Command.TheVariants.{Flagged}
 use Rattle.site_world.specs.declared.step.Step.TheVariants.{Take, Correct, Look, Get}
 use Rattle.site_world.specs.declared.script.Move.{Move}
 use Rattle.site_world.specs.declared.script.Move.TheVariants.{Says, Names, Does}

@@ -13,7 +13,7 @@ use Rattle.std.specs.declared.cmp.Ordering.{Ordering}
 use Rattle.std.specs.declared.cmp.Ordering.TheVariants.{Less, Equal, Greater}
 use Rattle.std.specs.BTreeMap.{is_at}
 use Rattle.rejection_note.specs.declared.note.Note.{Note}
-use Rattle.rejection_note.specs.declared.title.Title.{Title}
+use Rattle.rejection_note.specs.declared.title.NoteTitle.{NoteTitle}
 use Rattle.operation.specs.declared.op.Op.{Op}
 use Rattle.operation.specs.declared.op.Op.TheVariants.{Content as a_content, Correction as a_correction}
 use Rattle.operation.specs.declared.target.Target.{Target}
@@ -114,7 +114,7 @@ spread true false r = refl
 spread false true r = refl
 spread false false r = refl
 
-has_namings : (uid : Text) (title own : Title) (uids : List Text) → IsTrue (is_short uid)
+has_namings : (uid : Text) (title own : NoteTitle) (uids : List Text) → IsTrue (is_short uid)
     → has naming_cmp (map (λ u. (u, code_of own)) (filter is_short uids)) (uid, code_of title) ≡ (code_of own == code_of title && list_any (λ u. same u uid) uids)
 has_namings uid title own [] short = none (code_of own == code_of title)
   where
@@ -132,11 +132,11 @@ has_namings uid title own (u ∷ uids) short = by (is_short u) refl (has_namings
         later
         ∙ ap (λ b. code_of own == code_of title && (b || list_any (λ x. same x uid) uids)) (sym (not_longer uid u short e))
 
-has_titles : (uid : Text) (title : Title) (note : Option Note) → IsTrue (is_short uid) → has naming_cmp (titles_of note) (uid, code_of title) ≡ names_under title uid note
+has_titles : (uid : Text) (title : NoteTitle) (note : Option Note) → IsTrue (is_short uid) → has naming_cmp (titles_of note) (uid, code_of title) ≡ names_under title uid note
 has_titles uid title None short = refl
 has_titles uid title (Some note) short = has-union naming_total naming_exact (uid, code_of title) (namings note) [] ∙ has_namings uid title note.title note.covers short
 
-has_title : (ops : List Op) (uid : Text) (title : Title) → IsTrue (is_short uid) → has naming_cmp (value ops).1.0 (uid, code_of title) ≡ is_titled ops uid title
+has_title : (ops : List Op) (uid : Text) (title : NoteTitle) → IsTrue (is_short uid) → has naming_cmp (value ops).1.0 (uid, code_of title) ≡ is_titled ops uid title
 has_title [] uid title short = refl
 has_title (a_content c ∷ ops) uid title short =
     has-union naming_total naming_exact (uid, code_of title) (value ops).1.0 (titles_of c.note)

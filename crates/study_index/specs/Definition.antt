@@ -1,7 +1,7 @@
 -- What an index says of a set of operations, which is the list of its operations ascending by digest: the definition, without joins.
 use Rattle.std.specs.Prelude.{◌≡◌, ℕ, List, IsTrue, ⊤}
 use Rattle.std.specs.Option.{option_map}
-use Rattle.rejection_note.specs.declared.title.Title.{Title}
+use Rattle.rejection_note.specs.declared.title.NoteTitle.{NoteTitle}
 use Rattle.operation.specs.declared.op.Op.{Op}
 use Rattle.operation.specs.declared.op.Op.TheVariants.{Content as a_content, Correction as a_correction}
 use Rattle.operation.specs.Corrections.{is_correction}
@@ -20,7 +20,7 @@ use Rattle.study_index.specs.Index.{IndexValue, index_joined, index_of, nothing,
 pub record IsIndexOf (ops : List Op) (index : IndexValue) : Type 0 where
   pub picks : (uid : List ℕ) → pick_at uid index.1.1.1 ≡ option_map pick_of (pick uid ops)
   pub copies : (uid digest : List ℕ) → has copy_cmp index.0 (uid, digest) ≡ has text_cmp (copies uid ops) digest
-  pub titles : (uid : List ℕ) (title : Title) → IsTrue (is_short uid) → has naming_cmp index.1.0 (uid, code_of title) ≡ is_titled ops uid title
+  pub titles : (uid : List ℕ) (title : NoteTitle) → IsTrue (is_short uid) → has naming_cmp index.1.0 (uid, code_of title) ≡ is_titled ops uid title
   pub fixes : (target : Target) (tag : ℕ) → fix_at (fix_key target tag) index.1.1.0 ≡ option_map fix_of (fix target tag ops)
 
 -- the index of a list of operations: those of its operations, joined

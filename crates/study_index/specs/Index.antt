@@ -7,7 +7,7 @@ use Rattle.std.specs.declared.cmp.Ordering.{Ordering}
 use Rattle.std.specs.BTreeMap.{is_at}
 use Rattle.std.specs.List.Sorted.{IsStrictlySortedBy}
 use Rattle.rejection_note.specs.declared.note.Note.{Note}
-use Rattle.rejection_note.specs.declared.title.Title.{Title}
+use Rattle.rejection_note.specs.declared.title.NoteTitle.{NoteTitle}
 use Rattle.operation.specs.declared.op.Op.{Op}
 use Rattle.operation.specs.declared.op.Op.TheVariants.{Content as a_content, Correction as a_correction}
 use Rattle.operation.specs.declared.target.Target.{Target}
@@ -83,7 +83,7 @@ abbrev pub is_short : Text → Bool
 is_short text = nat_le (length text) 64
 
 -- UIDs that are named under a title
-abbrev pub named : Title → List (List ℕ) → List (Text × ℕ)
+abbrev pub named : NoteTitle → List (List ℕ) → List (Text × ℕ)
 named title uids = map (λ uid. (uid, code_of title)) (filter is_short uids)
 
 -- what a note names, under its title

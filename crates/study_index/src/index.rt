@@ -24,7 +24,7 @@ use archive_model::{patient, series, study, title_code};
 use join_laws::{Copies, Greatest, GrowSet, Join, MapOf, Summary, Undoes};
 use octets::Octets;
 use operation::{Content, Correction, Digest, Op, Target, digest};
-use rejection_note::{Note, Title};
+use rejection_note::{Note, NoteTitle};
 use std::alloc::{AllocError, Global};
 use std::collections::BTreeSet;
 use std::marker::Model;
@@ -51,7 +51,7 @@ impl Model for Index {
 }
 
 // Takes in a UID that a note names, unless it has more than 64 bytes.
-fn add_title(titles: &mut GrowSet<Naming>, title: Title, uid: &Octets) -> Result<(), AllocError>
+fn add_title(titles: &mut GrowSet<Naming>, title: NoteTitle, uid: &Octets) -> Result<(), AllocError>
     ensures { OnOk result (titles.new ≡
         union_of naming_cmp titles.old (named title (uid.now ∷ []))) }
 {
@@ -266,7 +266,7 @@ impl Index {
     }
 
     /// Whether a note of a title names a UID.
-    pub fn covered_by(&self, uid: &ShortText, title: Title) -> bool
+    pub fn covered_by(&self, uid: &ShortText, title: NoteTitle) -> bool
         ensures { result ≡ has naming_cmp self.now.1.0 (uid.now, code_of title) }
     {
         let naming = Naming {

@@ -3,12 +3,14 @@ use Rattle.std.proofs.Common.{◌≡◌, cond, Option, refl}
 use Rattle.ul_state.specs.declared.table.State.{State}
 use Rattle.ul_state.specs.declared.table.State.TheVariants.{Sta1, Sta2, Sta6, Sta13}
 use Rattle.ul_state.specs.declared.table.Kind.{Kind}
-use Rattle.ul_state.specs.declared.table.Kind.TheVariants.{AcceptableRq, OtherRq, PData, ReleaseRq, Abort, OtherPdu, UnknownPdu, FaultyPdu, StreamEnd, LocalAbort}
+use Rattle.ul_state.specs.declared.table.Kind.TheVariants.{AcceptableRq, OtherRq, PData, ReleaseRq, Abort, OtherPdu}
+use Rattle.ul_state.specs.declared.table.Kind.TheVariants.{UnknownPdu, FaultyPdu, StreamEnd, LocalAbort}
 use Rattle.ul_state.specs.Table.{action_of, next_of, opens, IsLeft}
 use Rattle.ul_state.specs.Acceptor.{settled_on}
 
 abbrev SettlesWhereItOpens : {S : Type 0} → State → Kind → Option S → Option S → Type 0
-SettlesWhereItOpens state kind new old = settled_on (action_of state kind) new old ≡ cond (opens state (next_of state kind)) new old
+SettlesWhereItOpens state kind new old = settled_on (action_of state kind) new old ≡ cond
+    (opens state (next_of state kind)) new old
 
 awaiting : {S : Type 0} (kind : Kind) (new old : Option S) → SettlesWhereItOpens Sta2 kind new old
 awaiting AcceptableRq new old = refl
@@ -46,7 +48,8 @@ leaving FaultyPdu new old = refl
 leaving StreamEnd new old = refl
 leaving LocalAbort new old = refl
 
-pub settles_where_it_opens : {S : Type 0} (state : State) (kind : Kind) (new old : Option S) → settled_on (action_of state kind) new old ≡ cond (opens state (next_of state kind)) new old
+pub settles_where_it_opens : {S : Type 0} (state : State) (kind : Kind) (new old : Option S)
+    → settled_on (action_of state kind) new old ≡ cond (opens state (next_of state kind)) new old
 settles_where_it_opens Sta1 kind new old = refl
 settles_where_it_opens Sta2 kind new old = awaiting kind new old
 settles_where_it_opens Sta6 kind new old = established kind new old

@@ -3,7 +3,8 @@ use Rattle.std.proofs.Common.{◌≡◌, ◌≢◌, ◌≤◌, List, [], ◌∷�
 use Rattle.ul_state.specs.Table.{action_of, state_after, acceptances_in, answers_in}
 use Rattle.ul_state.specs.declared.table.State.TheVariants.{Sta1, Sta2, Sta6, Sta13}
 use Rattle.ul_state.specs.declared.table.Kind.{Kind}
-use Rattle.ul_state.specs.declared.table.Kind.TheVariants.{AcceptableRq, OtherRq, PData, ReleaseRq, Abort, OtherPdu, UnknownPdu, FaultyPdu, StreamEnd, LocalAbort}
+use Rattle.ul_state.specs.declared.table.Kind.TheVariants.{AcceptableRq, OtherRq, PData, ReleaseRq, Abort, OtherPdu}
+use Rattle.ul_state.specs.declared.table.Kind.TheVariants.{UnknownPdu, FaultyPdu, StreamEnd, LocalAbort}
 use Rattle.ul_state.specs.declared.table.Does.TheVariants.{HandOn, SendAccept}
 
 -- ---- nothing is handed on once goodbye was said
@@ -159,7 +160,8 @@ at_most_one_answer (FaultyPdu ∷ kinds) = omega (arith, closing_answers kinds)
 at_most_one_answer (StreamEnd ∷ kinds) = omega (arith, idle_answers kinds)
 at_most_one_answer (LocalAbort ∷ kinds) = omega (arith, at_most_one_answer kinds)
 
-pub handed_on_behind_one : (kinds : List Kind) (kind : Kind) → action_of (state_after Sta2 kinds) kind ≡ HandOn → acceptances_in Sta2 kinds ≡ 1
+pub handed_on_behind_one : (kinds : List Kind) (kind : Kind) → action_of (state_after Sta2 kinds) kind ≡ HandOn
+    → acceptances_in Sta2 kinds ≡ 1
 handed_on_behind_one [] AcceptableRq e = absurd cc
 handed_on_behind_one [] OtherRq e = absurd cc
 handed_on_behind_one [] PData e = absurd cc

@@ -1,5 +1,6 @@
 -- A title without the spaces at its end.
-use Rattle.std.proofs.Common.{◌≡◌, ℕ, suc, ◌-◌, ◌≤◌, ◌<◌, true, false, List, [], ◌∷◌, ◌++◌, length, get_or, take, drop, drop-cons, length-drop, refl, sym, ap, ◌∙◌, arith}
+use Rattle.std.proofs.Common.{◌≡◌, ℕ, suc, ◌-◌, ◌≤◌, ◌<◌, true, false, List, [], ◌∷◌, ◌++◌, length, get_or, take, drop}
+use Rattle.std.proofs.Common.{drop-cons, length-drop, refl, sym, ap, ◌∙◌, arith}
 use Rattle.std.proofs.lemmas.List.{take-append-drop, nil_from_length}
 use Rattle.ul_state.specs.Titles.{is_space, before, without_end}
 
@@ -34,16 +35,22 @@ last_is : (text : List ℕ) → 1 ≤ length text → take (length text - 1) tex
 last_is text some =
     let n = length text - 1 in
     let one : drop n text ≡ get_or text n 0 ∷ drop (suc n) text = drop-cons text n 0 (omega (arith, some)) in
-    let none : drop (suc n) text ≡ [] = nil_from_length (drop (suc n) text) (omega (arith, length-drop (suc n) text, some)) in
-    ap (λ (t : List ℕ). take n text ++ get_or text n 0 ∷ t) (sym none) ∙ ap (λ (t : List ℕ). take n text ++ t) (sym one) ∙ take-append-drop n text
+    let none : drop (suc n) text ≡ [] = nil_from_length (drop (suc n) text)
+    (omega (arith, length-drop (suc n) text, some)) in
+    ap (λ (t : List ℕ). take n text ++ get_or text n 0 ∷ t) (sym none) ∙ ap (λ (t : List ℕ). take n text ++ t) (sym one)
+    ∙ take-append-drop n text
 
-pub without_end-last_pad : (text : List ℕ) → 1 ≤ length text → is_space (get_or text (length text - 1) 0) ≡ true → without_end (take (length text - 1) text) ≡ without_end text
+pub without_end-last_pad : (text : List ℕ) → 1 ≤ length text → is_space (get_or text (length text - 1) 0) ≡ true
+    → without_end (take (length text - 1) text) ≡ without_end text
 without_end-last_pad text some pad =
-    sym (without_end-pad (take (length text - 1) text) (get_or text (length text - 1) 0) pad) ∙ ap without_end (last_is text some)
+    sym (without_end-pad (take (length text - 1) text) (get_or text (length text - 1) 0) pad)
+    ∙ ap without_end (last_is text some)
 
-pub without_end-last_kept : (text : List ℕ) → 1 ≤ length text → is_space (get_or text (length text - 1) 0) ≡ false → without_end text ≡ text
+pub without_end-last_kept : (text : List ℕ) → 1 ≤ length text → is_space (get_or text (length text - 1) 0) ≡ false
+    → without_end text ≡ text
 without_end-last_kept text some kept =
-    ap without_end (sym (last_is text some)) ∙ without_end-kept (take (length text - 1) text) (get_or text (length text - 1) 0) kept ∙ last_is text some
+    ap without_end (sym (last_is text some)) ∙ without_end-kept (take (length text - 1) text)
+    (get_or text (length text - 1) 0) kept ∙ last_is text some
 
 pub without_end-empty : (text : List ℕ) → length text < 1 → text ≡ without_end text
 without_end-empty text none =

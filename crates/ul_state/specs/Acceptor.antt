@@ -113,7 +113,12 @@ CanBeWritten actions.Close = ⊤
 -- ---- what an acceptance settles
 
 abbrev pub settled_with : {V : Type 0} → Request → Result V Reject → Option (Settled V)
-settled_with request (Ok value) = Some (record { title = without_spaces request.opening.called; contexts = contexts_for request; value = value })
+settled_with request (Ok value) = Some (record {
+  title = without_spaces request.opening.called;
+  contexts = contexts_for
+      request;
+  value = value;
+})
 settled_with request (Err reject) = None
 
 abbrev pub settled_for : {V : Type 0} → List (Title V) → Event → Option (Settled V)

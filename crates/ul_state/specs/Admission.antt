@@ -1,5 +1,6 @@
 -- Which requests are refused, and why (PS3.8, 9.3.4).
-use Rattle.std.specs.Prelude.{ℕ, ◌%◌, Bool, not, List, ◌==◌, ◌&&◌, nat_lt, Option, Some, None, Result, Ok, Err, if◌then◌else◌}
+use Rattle.std.specs.Prelude.{ℕ, ◌%◌, Bool, not, List, ◌==◌, ◌&&◌, nat_lt, Option, Some, None, Result, Ok, Err}
+use Rattle.std.specs.Prelude.{if◌then◌else◌}
 use Rattle.pdu.specs.declared.request.Request.{Request}
 use Rattle.pdu.specs.declared.reject.Reject.{Reject}
 use Rattle.dictionary.specs.declared.uids.TheConstants.{APPLICATION_CONTEXT_NAME}

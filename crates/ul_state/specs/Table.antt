@@ -3,9 +3,11 @@ use Rattle.std.specs.Prelude.{ℕ, ◌+◌, Bool, true, false, List, [], ◌∷�
 use Rattle.ul_state.specs.declared.table.State.{State}
 use Rattle.ul_state.specs.declared.table.State.TheVariants.{Sta1, Sta2, Sta6, Sta13}
 use Rattle.ul_state.specs.declared.table.Kind.{Kind}
-use Rattle.ul_state.specs.declared.table.Kind.TheVariants.{AcceptableRq, OtherRq, PData, ReleaseRq, Abort, OtherPdu, UnknownPdu, FaultyPdu, StreamEnd, LocalAbort}
+use Rattle.ul_state.specs.declared.table.Kind.TheVariants.{AcceptableRq, OtherRq, PData, ReleaseRq, Abort, OtherPdu}
+use Rattle.ul_state.specs.declared.table.Kind.TheVariants.{UnknownPdu, FaultyPdu, StreamEnd, LocalAbort}
 use Rattle.ul_state.specs.declared.table.Does.{Does}
-use Rattle.ul_state.specs.declared.table.Does.TheVariants.{Nothing, SendAccept, SendReject, SendReleaseRp, AbortAsUser, AbortAsProvider, HandOn, Close}
+use Rattle.ul_state.specs.declared.table.Does.TheVariants.{Nothing, SendAccept, SendReject, SendReleaseRp, AbortAsUser}
+use Rattle.ul_state.specs.declared.table.Does.TheVariants.{AbortAsProvider, HandOn, Close}
 
 -- what the machine does
 abbrev pub action_of : State → Kind → Does

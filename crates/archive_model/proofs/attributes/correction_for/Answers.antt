@@ -10,4 +10,5 @@ pub returns : goal.returns
 returns c =
     let none = drop_all c.loop-op.op-index c.args.ops.now c.loop-op-test.false in
     let all = rw none at c.loop-op.invariant in
-    all ∙ latest_is_greatest (filter (corrects c.args.content.now c.args.tag) (corrections (map (λ o. o.now) c.args.ops.now)))
+    all ∙ latest_is_greatest (filter (corrects c.args.content.now c.args.tag)
+    (corrections (map (λ o. o.now) c.args.ops.now)))

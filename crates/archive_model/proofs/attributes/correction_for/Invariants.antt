@@ -7,5 +7,6 @@ use Rattle.archive_model.proofs.attributes.correction_for.Given as goal
 
 abbrev pub invariant-loop-op : goal.invariant-loop-op
 invariant-loop-op l =
-    latest_from (option_copied l.held) (filter (corrects l.content l.tag) (corrections (map (λ o. o.now) (drop l.op-index l.ops))))
+    latest_from (option_copied l.held) (filter (corrects l.content l.tag)
+    (corrections (map (λ o. o.now) (drop l.op-index l.ops))))
     ≡ latest_from None (filter (corrects l.content l.tag) (corrections (map (λ o. o.now) l.ops)))

@@ -11,6 +11,8 @@ pub unreachable-requires : goal.unreachable-requires
 unreachable-requires c =
     let content = c.args.content.now in
     let f = c.in-Err.fault in
-    let of_syntax = subst (λ (s : Syntax). Told is_memory f (HasFault s c.as_slice.result.now)) c.syntax.ensures c.in-Err.ensures.fault in
-    let of_body = subst (λ (text : List ℕ). Told is_memory f (HasFault content.syntax text)) (c.as_slice.ensures ∙ c.body.ensures.value) of_syntax in
+    let of_syntax = subst (λ (s : Syntax). Told is_memory f (HasFault s c.as_slice.result.now)) c.syntax.ensures
+    c.in-Err.ensures.fault in
+    let of_body = subst (λ (text : List ℕ). Told is_memory f (HasFault content.syntax text)) (c.as_slice.ensures
+    ∙ c.body.ensures.value) of_syntax in
     content_has_no_fault content f c.body.ensures.content c.in_default.not-Memory of_body

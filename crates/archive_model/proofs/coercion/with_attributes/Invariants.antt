@@ -5,5 +5,6 @@ use Rattle.archive_model.proofs.coercion.with_attributes.Given as goal
 abbrev pub invariant-loop-tag : goal.invariant-loop-tag
 invariant-loop-tag l = record {
   syntax : l.corrected.syntax ≡ l.content.syntax;
-  elements : with_attributes (map (λ o. o.now) l.ops) l.content (drop l.tag-index l.tags) l.corrected.elements ≡ with_attributes (map (λ o. o.now) l.ops) l.content l.tags l.initial.corrected.elements;
+  elements : with_attributes (map (λ o. o.now) l.ops) l.content (drop l.tag-index l.tags)
+      l.corrected.elements ≡ with_attributes (map (λ o. o.now) l.ops) l.content l.tags l.initial.corrected.elements;
 }

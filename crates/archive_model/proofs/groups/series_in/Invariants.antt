@@ -4,4 +4,6 @@ use Rattle.archive_model.specs.Groups.{in_study}
 use Rattle.archive_model.proofs.groups.series_in.Given as goal
 
 abbrev pub invariant-loop-content : goal.invariant-loop-content
-invariant-loop-content l = map (λ u. u.now) l.uids.items ++ map series_of (in_study l.study (map (λ c. c.now) (drop l.content-index l.shown))) ≡ map series_of (in_study l.study (map (λ c. c.now) l.shown))
+invariant-loop-content l = map (λ u. u.now) l.uids.items ++ map series_of
+    (in_study l.study (map (λ c. c.now) (drop l.content-index l.shown))) ≡ map series_of
+    (in_study l.study (map (λ c. c.now) l.shown))

@@ -17,10 +17,14 @@ decreases-converted_items l = 3 * count_rows (rows_of (map (λ item. item.items)
 
 abbrev pub invariant-put_converted-loop-element : goal.invariant-put_converted-loop-element
 invariant-put_converted-loop-element l =
-    (l.out.items ++ converted l.syntax (drop l.element-index l.elements) ≡ l.initial.out.items ++ converted l.syntax l.elements)
+    (l.out.items ++ converted l.syntax (drop l.element-index l.elements) ≡ l.initial.out.items ++ converted l.syntax
+    l.elements)
     × (count_trees (trees_of (drop l.element-index l.elements)) ≤ count_trees (trees_of l.elements))
 
 abbrev pub invariant-converted_items-loop-item : goal.invariant-converted_items-loop-item
 invariant-converted_items-loop-item l =
-    (map (λ item. item.items) l.out.items ++ list_rows (converted_rows l.syntax (rows_of (drop l.item-index (map (λ item. item.items) l.items)))) ≡ list_rows (converted_rows l.syntax (rows_of (map (λ item. item.items) l.items))))
-    × (count_rows (rows_of (drop l.item-index (map (λ item. item.items) l.items))) ≤ count_rows (rows_of (map (λ item. item.items) l.items)))
+    (map (λ item. item.items) l.out.items ++ list_rows
+    (converted_rows l.syntax (rows_of (drop l.item-index (map (λ item. item.items) l.items)))) ≡ list_rows
+    (converted_rows l.syntax (rows_of (map (λ item. item.items) l.items))))
+    × (count_rows (rows_of (drop l.item-index (map (λ item. item.items) l.items))) ≤ count_rows
+    (rows_of (map (λ item. item.items) l.items)))

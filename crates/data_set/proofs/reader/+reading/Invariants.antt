@@ -19,14 +19,16 @@ decreases-read_item l = 5 * l.depth
 
 abbrev pub invariant-read_elements-loop-after : goal.invariant-read_elements-loop-after
 invariant-read_elements-loop-after l =
-    Takes (IsElement l.depth l.syntax) after_tag l.closing None l.text l.elements.items l.previous l.left × (length l.left ≤ length l.text)
+    Takes (IsElement l.depth l.syntax) after_tag l.closing None l.text l.elements.items l.previous l.left
+    × (length l.left ≤ length l.text)
 
 abbrev pub decreases-read_elements-loop-after : goal.decreases-read_elements-loop-after
 decreases-read_elements-loop-after l = length l.left
 
 abbrev pub invariant-read_items-loop-after : goal.invariant-read_items-loop-after
 invariant-read_items-loop-after l =
-    ((last : Option ℕ) × Takes (IsItem l.depth l.syntax) no_order l.closing None l.text (map (λ w. w.items) l.items.items) last l.left) × (length l.left ≤ length l.text)
+    ((last : Option ℕ) × Takes (IsItem l.depth l.syntax) no_order l.closing None
+    l.text (map (λ w. w.items) l.items.items) last l.left) × (length l.left ≤ length l.text)
 
 abbrev pub decreases-read_items-loop-after : goal.decreases-read_items-loop-after
 decreases-read_items-loop-after l = length l.left

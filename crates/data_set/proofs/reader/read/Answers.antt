@@ -15,7 +15,8 @@ returns-in_err-elements-clause-only c =
 pub returns-in_err-elements-clause-fault : goal.returns-in_err-elements-clause-fault
 returns-in_err-elements-clause-fault c =
     let p = err_from_is_err_and c.from_residual.result c.from_residual.ensures.1 in
-    rw (p.1, p.2) (whole_fault c.args.syntax c.args.text.now c.in_err-elements.field-0.0 c.in_err-elements.ensures.exact)
+    rw (p.1, p.2) (whole_fault c.args.syntax c.args.text.now c.in_err-elements.field-0.0
+    c.in_err-elements.ensures.exact)
 
 -- A text has one fault, and this is it.
 pub returns-in_err-elements-clause-faulty : goal.returns-in_err-elements-clause-faulty
@@ -26,19 +27,26 @@ returns-in_err-elements-clause-faulty c =
 
 -- The elements were read, so they are those of a set.
 pub of-requires : goal.of-requires
-of-requires c = spelled_set c.args.syntax c.args.text.now c.in_ok-elements.elements.items (whole c.args.syntax c.args.text.now c.in_ok-elements.elements.items c.in_ok-elements.field-0-1.now c.in_ok-elements.ensures.exact)
+of-requires c = spelled_set c.args.syntax c.args.text.now c.in_ok-elements.elements.items
+    (whole c.args.syntax c.args.text.now c.in_ok-elements.elements.items c.in_ok-elements.field-0-1.now
+    c.in_ok-elements.ensures.exact)
 
 -- The elements fill the whole text.
 pub returns-clause-found : goal.returns-clause-found
 returns-clause-found c =
-    rw c.of.ensures.elements (whole c.args.syntax c.args.text.now c.in_ok-elements.elements.items c.in_ok-elements.field-0-1.now c.in_ok-elements.ensures.exact)
+    rw c.of.ensures.elements (whole c.args.syntax c.args.text.now c.in_ok-elements.elements.items
+    c.in_ok-elements.field-0-1.now c.in_ok-elements.ensures.exact)
 
 -- A text spells one list of elements, and this is it.
 pub returns-clause-only : goal.returns-clause-only
 returns-clause-only c = λ ts spells.
-    rw c.of.ensures.elements (ap Ok (spelled_once c.args.syntax c.args.text.now ts c.in_ok-elements.elements.items spells (whole c.args.syntax c.args.text.now c.in_ok-elements.elements.items c.in_ok-elements.field-0-1.now c.in_ok-elements.ensures.exact)))
+    rw c.of.ensures.elements (ap Ok (spelled_once c.args.syntax c.args.text.now ts c.in_ok-elements.elements.items
+    spells (whole c.args.syntax c.args.text.now c.in_ok-elements.elements.items c.in_ok-elements.field-0-1.now
+    c.in_ok-elements.ensures.exact)))
 
 -- A text that spells elements has no fault.
 pub returns-clause-faulty : goal.returns-clause-faulty
 returns-clause-faulty c = λ f has.
-    absurd (fault_or_spelled c.args.syntax c.args.text.now c.in_ok-elements.elements.items f (whole c.args.syntax c.args.text.now c.in_ok-elements.elements.items c.in_ok-elements.field-0-1.now c.in_ok-elements.ensures.exact) has)
+    absurd (fault_or_spelled c.args.syntax c.args.text.now c.in_ok-elements.elements.items
+    f (whole c.args.syntax c.args.text.now c.in_ok-elements.elements.items c.in_ok-elements.field-0-1.now
+    c.in_ok-elements.ensures.exact) has)

@@ -3,4 +3,5 @@ use Rattle.data_set.specs.Converted.{converted, above}
 use Rattle.data_set.proofs.replaced.put_above.Given as goal
 
 abbrev pub invariant-loop-element : goal.invariant-loop-element
-invariant-loop-element l = l.out.items ++ converted l.syntax (above l.tag (drop l.element-index l.elements)) ≡ l.initial.out.items ++ converted l.syntax (above l.tag l.elements)
+invariant-loop-element l = l.out.items ++ converted l.syntax (above l.tag (drop l.element-index l.elements))
+    ≡ l.initial.out.items ++ converted l.syntax (above l.tag l.elements)

@@ -3,4 +3,5 @@ use Rattle.data_set.specs.Converted.{converted, below}
 use Rattle.data_set.proofs.replaced.put_below.Given as goal
 
 abbrev pub invariant-loop-element : goal.invariant-loop-element
-invariant-loop-element l = l.out.items ++ converted l.syntax (below l.tag (drop l.element-index l.elements)) ≡ l.initial.out.items ++ converted l.syntax (below l.tag l.elements)
+invariant-loop-element l = l.out.items ++ converted l.syntax (below l.tag (drop l.element-index l.elements))
+    ≡ l.initial.out.items ++ converted l.syntax (below l.tag l.elements)

@@ -15,12 +15,15 @@ decreases-put_elements l = 2 * count_trees (trees_of l.elements.now) + 1
 
 abbrev pub invariant-put_elements-loop-element : goal.invariant-put_elements-loop-element
 invariant-put_elements-loop-element l =
-    (l.out.items ++ text_trees (trees_of (drop l.element-index l.elements)) ≡ l.initial.out.items ++ text_trees (trees_of l.elements))
+    (l.out.items ++ text_trees (trees_of (drop l.element-index l.elements)) ≡ l.initial.out.items ++ text_trees
+    (trees_of l.elements))
     × FitsTrees (trees_of (drop l.element-index l.elements))
     × (count_trees (trees_of (drop l.element-index l.elements)) ≤ count_trees (trees_of l.elements))
 
 abbrev pub invariant-put_items-loop-item : goal.invariant-put_items-loop-item
 invariant-put_items-loop-item l =
-    (l.out.items ++ text_rows (rows_of (drop l.item-index (map (λ item. item.items) l.items))) ≡ l.initial.out.items ++ text_rows (rows_of (map (λ item. item.items) l.items)))
+    (l.out.items ++ text_rows (rows_of (drop l.item-index (map (λ item. item.items) l.items))) ≡ l.initial.out.items
+    ++ text_rows (rows_of (map (λ item. item.items) l.items)))
     × FitsRows (rows_of (drop l.item-index (map (λ item. item.items) l.items)))
-    × (count_rows (rows_of (drop l.item-index (map (λ item. item.items) l.items))) ≤ count_rows (rows_of (map (λ item. item.items) l.items)))
+    × (count_rows (rows_of (drop l.item-index (map (λ item. item.items) l.items))) ≤ count_rows
+    (rows_of (map (λ item. item.items) l.items)))

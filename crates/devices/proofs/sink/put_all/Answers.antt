@@ -11,9 +11,11 @@ loop-done-preserved g c =
     let done = c.loop-done.done in
     let n = c.in_ok-done.field-0 in
     let told = c.in_ok-done.ensures in
-    let whole : take (length bytes - done) (drop done bytes) ≡ drop done bytes = take_all (length bytes - done) (drop done bytes) (omega (arith, length-drop done bytes)) in
+    let whole : take (length bytes - done) (drop done bytes) ≡ drop done bytes = take_all (length bytes - done)
+    (drop done bytes) (omega (arith, length-drop done bytes)) in
     record {
       within = omega (arith, told.bound, length-take (length bytes - done) (drop done bytes), length-drop done bytes);
-      so_far = rw (take-add done n bytes) (further _ (g.W.Sink.contents c.loop-done.sink) _ (take done bytes) (take n (drop done bytes)) c.loop-done.invariant.so_far (rw whole at told.bytes));
+      so_far = rw (take-add done n bytes) (further _ (g.W.Sink.contents c.loop-done.sink) _ (take done bytes)
+          (take n (drop done bytes)) c.loop-done.invariant.so_far (rw whole at told.bytes));
       none_failed = told.counted ∙ c.loop-done.invariant.none_failed;
     }

@@ -7,7 +7,8 @@ use Rattle.dimse.proofs.fragment.put_text.Given as goal
 abbrev pub invariant-loop-rest : goal.invariant-loop-rest
 invariant-loop-rest l =
     (more : List Pdu) × (l.pdus.items ≡ l.fn.pdus.items ++ more)
-    × ((tail : List Pdu) → Sends l.size l.context l.command l.rest tail → Sends l.size l.context l.command l.fn.text (more ++ tail))
+    × ((tail : List Pdu) → Sends l.size l.context l.command l.rest tail → Sends l.size l.context l.command l.fn.text
+    (more ++ tail))
 
 abbrev pub decreases-loop-rest : goal.decreases-loop-rest
 decreases-loop-rest l = length l.rest

@@ -8,7 +8,8 @@ use Rattle.key_matching.proofs.value_match.members_of.Goals as goal
 pub returns-in-None : goal.returns-in-None
 returns-in-None c =
     c.in_ok-add_member-in-None.ensures
-    ∙ ap (λ (ps : List (List ℕ)). c.loop-members.members.items ++ map trimmed ps) (sym (parts_none c.loop-members.rest.now (sym c.in-None.ensures.place)))
+    ∙ ap (λ (ps : List (List ℕ)). c.loop-members.members.items ++ map trimmed ps)
+    (sym (parts_none c.loop-members.rest.now (sym c.in-None.ensures.place)))
     ∙ c.loop-members.invariant
 
 -- The member at the front goes to the others.
@@ -21,5 +22,6 @@ loop-members-preserved c =
     ∙ append_assoc held (trimmed c.front.result.now ∷ []) (map trimmed (parts left))
     ∙ ap (λ (t : List ℕ). held ++ (trimmed t ∷ map trimmed (parts left))) c.front.ensures
     ∙ ap (λ (r : List ℕ). held ++ (trimmed (take c.in-Some.at rest) ∷ map trimmed (parts r))) c.after-rest.ensures
-    ∙ ap (λ (ps : List (List ℕ)). held ++ map trimmed ps) (sym (parts_some rest c.in-Some.at (sym c.in-Some.ensures.place)))
+    ∙ ap (λ (ps : List (List ℕ)). held ++ map trimmed ps)
+    (sym (parts_some rest c.in-Some.at (sym c.in-Some.ensures.place)))
     ∙ c.loop-members.invariant

@@ -3,7 +3,8 @@ use Rattle.key_matching.specs.WildCard.{star, is_wild_match}
 use Rattle.key_matching.proofs.wild_card.is_match_behind_star.Given as goal
 
 abbrev pub invariant-loop-value : goal.invariant-loop-value
-invariant-loop-value l = is_wild_match l.folds (star ∷ l.key) l.value ≡ is_wild_match l.fn.folds (star ∷ l.fn.key) l.fn.value
+invariant-loop-value l = is_wild_match l.folds (star ∷ l.key) l.value ≡ is_wild_match l.fn.folds (star ∷ l.fn.key)
+    l.fn.value
 
 abbrev pub decreases-loop-value : goal.decreases-loop-value
 decreases-loop-value l = length l.key + length l.value

@@ -5,7 +5,8 @@ use Rattle.octets.proofs.padding.trimmed.Given as goal
 
 -- What was dropped so far is spaces.
 abbrev pub invariant-loop-start : goal.invariant-loop-start
-invariant-loop-start l = (l.start ≤ length l.kept) × (l.start + prefix_len is_space (drop l.start l.kept) ≡ prefix_len is_space l.kept)
+invariant-loop-start l = (l.start ≤ length l.kept) × (l.start + prefix_len is_space (drop l.start l.kept) ≡ prefix_len
+    is_space l.kept)
 
 abbrev pub decreases-loop-start : goal.decreases-loop-start
 decreases-loop-start l = length l.kept - l.start

@@ -5,7 +5,8 @@ use Rattle.octets.proofs.padding.without_padding.Given as goal
 
 -- What was dropped so far is padding.
 abbrev pub invariant-loop-end : goal.invariant-loop-end
-invariant-loop-end l = (l.end ≤ length l.bytes) × (l.end + suffix_len is_padding l.bytes ≡ length l.bytes + suffix_len is_padding (take l.end l.bytes))
+invariant-loop-end l = (l.end ≤ length l.bytes) × (l.end + suffix_len is_padding l.bytes ≡ length l.bytes + suffix_len
+    is_padding (take l.end l.bytes))
 
 abbrev pub decreases-loop-end : goal.decreases-loop-end
 decreases-loop-end l = l.end

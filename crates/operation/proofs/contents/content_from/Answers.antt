@@ -15,8 +15,15 @@ returns-then-not-has_all_uids c =
     let short : IsShort draft = omega (arith, c.len.ensures.value) in
     let uids : has_uids draft.class draft.instance c.in_ok-set.set.elements ≡ false =
     sym (rw c.elements-elements.ensures.elements at c.if-not-has_all_uids.ensures)
-    in
-    (short, (c.in_ok-set.set.elements, rw c.as_slice.ensures at c.in_ok-set.ensures.found, without_uids draft c.in_ok-set.set.elements uids))
+    in (
+      short,
+      (
+        c.in_ok-set.set.elements,
+        rw c.as_slice.ensures at c.in_ok-set.ensures.found,
+        without_uids draft
+            c.in_ok-set.set.elements uids,
+      ),
+    )
 
 -- The UIDs are there, and it names another class or instance: Mismatch offends.
 pub returns-then-not-is_named_so : goal.returns-then-not-is_named_so
@@ -28,8 +35,15 @@ returns-then-not-is_named_so c =
     in
     let names : names_itself draft.class draft.instance c.in_ok-set.set.elements ≡ false =
     sym (rw c.elements-elements.ensures.elements at c.if-not-is_named_so.ensures)
-    in
-    (short, (c.in_ok-set.set.elements, rw c.as_slice.ensures at c.in_ok-set.ensures.found, of_other_names draft c.in_ok-set.set.elements uids names))
+    in (
+      short,
+      (
+        c.in_ok-set.set.elements,
+        rw c.as_slice.ensures at c.in_ok-set.ensures.found,
+        of_other_names draft
+            c.in_ok-set.set.elements uids names,
+      ),
+    )
 
 -- All tests before the note's were passed, so the fault of the note offends.
 pub returns-in_err-note : goal.returns-in_err-note
@@ -44,7 +58,9 @@ returns-in_err-note c =
     sym (rw c.elements-elements.ensures.elements at c.if-not-is_named_so.ensures)
     in
     let p = err_from_is_err_and c.from_residual-in_err-note.result c.from_residual-in_err-note.ensures.1 in
-    rw (p.1, p.2) (of_a_note draft elements c.in_err-note.field-0.0 short (rw c.as_slice.ensures at c.in_ok-set.ensures.found) (of_its_names draft elements uids names) (rw c.as_slice-2.ensures at c.in_err-note.ensures))
+    rw (p.1, p.2) (of_a_note draft elements c.in_err-note.field-0.0
+    short (rw c.as_slice.ensures at c.in_ok-set.ensures.found) (of_its_names draft elements uids names)
+    (rw c.as_slice-2.ensures at c.in_err-note.ensures))
 
 -- Every test was passed, so the parts are those of a content.
 pub invariant_of-result : goal.invariant_of-result
@@ -62,9 +78,18 @@ invariant_of-result c =
     rw (c.as_slice-2.ensures) at c.in_ok-note.ensures
     in
     let content : ContentParts =
-    record { class = draft.class; instance = draft.instance; syntax = draft.syntax; body = draft.body; values = c.of-values.result; note = c.in_ok-note.note }
+    record {
+      class = draft.class;
+      instance = draft.instance;
+      syntax = draft.syntax;
+      body = draft.body;
+      values =
+          c.of-values.result;
+      note = c.in_ok-note.note;
+    }
     in
-    made content elements short (rw c.as_slice.ensures at c.in_ok-set.ensures.found) uids names said (c.of-values.ensures ∙ rw c.elements-elements.ensures.elements at c.in_ok-key_values.ensures)
+    made content elements short (rw c.as_slice.ensures at c.in_ok-set.ensures.found) uids names
+    said (c.of-values.ensures ∙ rw c.elements-elements.ensures.elements at c.in_ok-key_values.ensures)
 
 -- Every test was passed, so the outcome is this content.
 pub returns : goal.returns
@@ -82,6 +107,17 @@ returns c =
     rw (c.as_slice-2.ensures) at c.in_ok-note.ensures
     in
     let content : ContentParts =
-    record { class = draft.class; instance = draft.instance; syntax = draft.syntax; body = draft.body; values = c.of-values.result; note = c.in_ok-note.note }
-    in
-    (refl, made content elements short (rw c.as_slice.ensures at c.in_ok-set.ensures.found) uids names said (c.of-values.ensures ∙ rw c.elements-elements.ensures.elements at c.in_ok-key_values.ensures))
+    record {
+      class = draft.class;
+      instance = draft.instance;
+      syntax = draft.syntax;
+      body = draft.body;
+      values =
+          c.of-values.result;
+      note = c.in_ok-note.note;
+    }
+    in (
+      refl,
+      made content elements short (rw c.as_slice.ensures at c.in_ok-set.ensures.found) uids names
+          said (c.of-values.ensures ∙ rw c.elements-elements.ensures.elements at c.in_ok-key_values.ensures),
+    )

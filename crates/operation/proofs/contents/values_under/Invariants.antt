@@ -5,4 +5,5 @@ use Rattle.operation.proofs.contents.values_under.Given as goal
 
 abbrev pub invariant-loop-tag : goal.invariant-loop-tag
 invariant-loop-tag l =
-    l.values.items ++ filter_map (λ tag. tagged tag l.elements) (drop l.tag-index l.tags) ≡ filter_map (λ tag. tagged tag l.elements) l.tags
+    l.values.items ++ filter_map (λ tag. tagged tag l.elements) (drop l.tag-index l.tags) ≡ filter_map
+    (λ tag. tagged tag l.elements) l.tags

@@ -9,9 +9,22 @@ use Rattle.operation.proofs.decoding.correction_from.Goals as goal
 pub returns-clause-spelled : goal.returns-clause-spelled
 unfolding parts_at
 returns-clause-spelled c =
-    let made : CorrectionParts = record { target = c.in_ok-target.target; tag = c.in_ok-tag.tag; value = c.in_ok-value.value.now; stamp = c.in_ok-stamp.stamp } in
-    let handed : CorrectionParts = record { target = c.in_ok-target.target; tag = c.in_ok-tag.tag; value = c.in_ok-from_slice.field-0; stamp = c.in_ok-stamp.stamp } in
+    let made : CorrectionParts = record {
+      target = c.in_ok-target.target;
+      tag = c.in_ok-tag.tag;
+      value =
+          c.in_ok-value.value.now;
+      stamp = c.in_ok-stamp.stamp;
+    } in
+    let handed : CorrectionParts = record {
+      target = c.in_ok-target.target;
+      tag = c.in_ok-tag.tag;
+      value =
+          c.in_ok-from_slice.field-0;
+      stamp = c.in_ok-stamp.stamp;
+    } in
     let read : parts_at c.args.text.now ≡ Ok made = search rules in
     let same : made ≡ handed = cc (c.in_ok-from_slice.ensures) in
     let spelled = parts_takes c.args.text.now made (λ i. omega (arith, c.type_inv.text i)) read in
-    checked_spelled handed c.args.text.now c.correction_of.result (subst (λ (k : CorrectionParts). c.args.text.now ≡ correction_text k) same spelled.0) c.correction_of.ensures
+    checked_spelled handed c.args.text.now c.correction_of.result
+    (subst (λ (k : CorrectionParts). c.args.text.now ≡ correction_text k) same spelled.0) c.correction_of.ensures

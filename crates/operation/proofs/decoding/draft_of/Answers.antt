@@ -7,7 +7,13 @@ use Rattle.operation.proofs.decoding.draft_of.Goals as goal
 
 -- the draft that was read, and that is answered
 made : (c : goal.After-advance) → Draft
-made c = record { class = c.in_ok-class.class; instance = c.in_ok-instance.instance; syntax = c.in_ok-front.front.syntax; body = c.advance.new.self }
+made c = record {
+  class = c.in_ok-class.class;
+  instance = c.in_ok-instance.instance;
+  syntax =
+      c.in_ok-front.front.syntax;
+  body = c.advance.new.self;
+}
 
 spelled : (c : goal.After-advance) → c.args.text ≡ draft_text (drafted_front c.in_ok-front.front)
 spelled c = rw c.as_slice.ensures at c.in_ok-front.ensures.spelled
@@ -17,7 +23,8 @@ unfolding made
 same c =
     let front = drafted_front c.in_ok-front.front in
     let behind : drop (c.len.result - length front.body) c.args.text ≡ front.body =
-    ap (λ (n : ℕ). drop (n - length front.body) c.args.text) c.len.ensures.value ∙ body_behind front c.args.text (spelled c)
+    ap (λ (n : ℕ). drop (n - length front.body) c.args.text) c.len.ensures.value ∙ body_behind front c.args.text
+    (spelled c)
     in
     let class : front.class ≡ c.in_ok-class.class = sym c.in_ok-class.ensures in
     let instance : front.instance ≡ c.in_ok-instance.instance = sym c.in_ok-instance.ensures in

@@ -8,6 +8,12 @@ use Rattle.operation.proofs.decoding.front_of.Goals as goal
 pub returns-clause-spelled : goal.returns-clause-spelled
 unfolding draft_at
 returns-clause-spelled c =
-    let made : Draft = record { class = c.in_ok-class.class.now; instance = c.in_ok-instance.instance.now; syntax = c.in_ok-syntax.syntax; body = c.in_ok-body.body.now } in
+    let made : Draft = record {
+      class = c.in_ok-class.class.now;
+      instance = c.in_ok-instance.instance.now;
+      syntax =
+          c.in_ok-syntax.syntax;
+      body = c.in_ok-body.body.now;
+    } in
     let read : draft_at c.args.text.now ≡ Ok made = search rules in
     draft_takes c.args.text.now made (λ i. omega (arith, c.type_inv.text i)) read

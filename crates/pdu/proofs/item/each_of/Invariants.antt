@@ -5,4 +5,6 @@ use Rattle.pdu.proofs.Pieces.{with_front}
 use Rattle.pdu.proofs.item.each_of.Given as goal
 
 abbrev pub invariant-loop-item : goal.invariant-loop-item
-invariant-loop-item g l = with_front l.found (each_at g.C.Content.content_at (contents_of l.kind (drop l.item-index l.items))) ≡ each_at g.C.Content.content_at (contents_of l.kind l.items)
+invariant-loop-item g l = with_front l.found
+    (each_at g.C.Content.content_at (contents_of l.kind (drop l.item-index l.items))) ≡ each_at g.C.Content.content_at
+    (contents_of l.kind l.items)

@@ -5,4 +5,5 @@ use Rattle.pdu.specs.Grammar.{contents_of}
 use Rattle.pdu.proofs.item.sole_content.Given as goal
 
 abbrev pub invariant-loop-item : goal.invariant-loop-item
-invariant-loop-item l = option_to_list (option_copied l.found) ++ contents_of l.kind (drop l.item-index l.items) ≡ contents_of l.kind l.items
+invariant-loop-item l = option_to_list (option_copied l.found) ++ contents_of l.kind (drop l.item-index l.items)
+    ≡ contents_of l.kind l.items

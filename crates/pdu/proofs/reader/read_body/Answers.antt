@@ -14,4 +14,11 @@ read c =
 
 -- Each clause is one part of what reading comes to.
 pub returns : goal.returns
-returns c = let r = read c in record { done = r.done; only = r.only; lawful = r.lawful; bad_item = r.bad_item; bad_item_told = r.bad_item_told; fault = r.fault }
+returns c = let r = read c in record {
+  done = r.done;
+  only = r.only;
+  lawful = r.lawful;
+  bad_item = r.bad_item;
+  bad_item_told = r.bad_item_told;
+  fault = r.fault;
+}

@@ -5,4 +5,5 @@ use Rattle.pdu.proofs.writer.write_pdu.Goals as goal
 
 -- The text that is written spells the PDU.
 pub returns-clause-spelled : goal.returns-clause-spelled
-returns-clause-spelled c = subst (Spells c.args.pdu.now) (sym c.in_ok-text.ensures) (spells_again c.args.pdu.now c.requires)
+returns-clause-spelled c = subst (Spells c.args.pdu.now) (sym c.in_ok-text.ensures)
+    (spells_again c.args.pdu.now c.requires)

@@ -4,4 +4,5 @@ use Rattle.ul_state.specs.Answer.{accepted}
 use Rattle.ul_state.proofs.answer.contexts_of.Given as goal
 
 abbrev pub invariant-loop-context : goal.invariant-loop-context
-invariant-loop-context l = l.list ++ filter_map (accepted l.roles) (drop l.context-index l.contexts) ≡ filter_map (accepted l.roles) l.contexts
+invariant-loop-context l = l.list ++ filter_map (accepted l.roles) (drop l.context-index l.contexts) ≡ filter_map
+    (accepted l.roles) l.contexts

@@ -4,4 +4,5 @@ use Rattle.ul_state.specs.Answer.{is_storage}
 use Rattle.ul_state.proofs.answer.returned_roles.Given as goal
 
 abbrev pub invariant-loop-role : goal.invariant-loop-role
-invariant-loop-role l = l.list ++ filter (λ r. is_storage r.class) (drop l.role-index l.roles) ≡ filter (λ r. is_storage r.class) l.roles
+invariant-loop-role l = l.list ++ filter (λ r. is_storage r.class) (drop l.role-index l.roles) ≡ filter
+    (λ r. is_storage r.class) l.roles

@@ -6,9 +6,19 @@ use Rattle.dimse.proofs.command.Command.response.Goals as goal
 -- The response has the UIDs of its request.
 pub returns-clause-lawful : goal.returns-clause-lawful
 unfolding response_of
-returns-clause-lawful c = λ asked is. rw (c.in_ok-copied.ensures, c.response_field.ensures, c.in_ok-instance_told.ensures, c.code.ensures) (answer_lawful c.args.self.now (status_code c.args.status) asked is)
+returns-clause-lawful c = λ asked is. rw (
+  c.in_ok-copied.ensures,
+  c.response_field.ensures,
+  c.in_ok-instance_told.ensures,
+  c.code.ensures,
+) (answer_lawful c.args.self.now (status_code c.args.status) asked is)
 
 -- Its field is that of a response, and its ID that of the request.
 pub returns-clause-answers : goal.returns-clause-answers
 unfolding response_of
-returns-clause-answers c = λ asked. rw (c.in_ok-copied.ensures, c.response_field.ensures, c.in_ok-instance_told.ensures, c.code.ensures) (answers_it c.args.self.now (status_code c.args.status) asked)
+returns-clause-answers c = λ asked. rw (
+  c.in_ok-copied.ensures,
+  c.response_field.ensures,
+  c.in_ok-instance_told.ensures,
+  c.code.ensures,
+) (answers_it c.args.self.now (status_code c.args.status) asked)

@@ -1,8 +1,8 @@
 //! Bytes from outside, read and written.
 
-use pdu::*;
 use bytes::Bytes;
 use octets::ListOf;
+use pdu::*;
 use std::alloc::{AllocError, Global};
 use std::process::Abort;
 use std::test::Fail;
