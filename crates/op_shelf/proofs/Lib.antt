@@ -1,5 +1,6 @@
 mod Back
 mod Changes
+mod Keeps
 mod Made
 mod Ops
 mod Puts

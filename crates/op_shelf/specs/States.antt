@@ -15,7 +15,8 @@ use Rattle.op_shelf.specs.Fault.{fault_of}
 use Rattle.op_shelf.specs.Table.{IsShelf, no_schema}
 use Rattle.op_shelf.specs.Texts.{create_text, held_text, insert_text}
 use Rattle.sqlite.specs.Held.{Held, state}
-use Rattle.op_shelf.specs.Entries.{entries, Adds}
+use Rattle.operation.specs.declared.op.Op.{Op}
+use Rattle.op_shelf.specs.Entries.{entries, Adds, Holds}
 
 -- the tree of the first table
 abbrev pub first_tree : List Table → ℕ
@@ -123,3 +124,13 @@ StandsFor s t = (IsReady s × (t.now ≡ s.now) × (t.committed ≡ s.committed)
 -- the database refused to make the table, for another cause than memory, or is that of no shelf
 abbrev pub IsNotOpened : State → State → Type 0
 IsNotOpened s t = IsNotDone create_text [] s t ⊎ ((¬ IsReady s) × (¬ IsBare s))
+
+-- the database is open, and so far the disk has returned what was written
+pub record IsUp (s : State) : Type 0 where
+  pub clean : HasCleanDisk s
+  pub is_open : IsTrue s.is_open
+
+-- the table has the operation, and so has what any crash leaves of it
+pub record Lasts (s : State) (op : Op) : Type 0 where
+  pub held : Holds (rows_of s) op
+  pub left : (trees : Trees) → s.may_leave trees → Holds (rows_left s trees) op

@@ -1,22 +1,65 @@
 //! Where a server keeps operations.
 
+ghost use Rattle.std.specs.Prelude.{◌≡◌, Ok, OnOk, OnErr};
+ghost use Rattle.operation.specs.declared.op.Op.{Op as Operation};
+ghost use Rattle.sqlite.specs.Held.{state};
+ghost use Rattle.op_shelf.specs.Entries.{Holds};
+ghost use Rattle.op_shelf.specs.Keep.{AreSame, Gains, Finds};
+ghost use Rattle.op_shelf.specs.States.{rows_of, IsUp, Lasts};
+
 use crate::fault::ShelfFault;
 use crate::kept::Kept;
 use crate::shelf::Shelf;
 use operation::{Digested, Op};
 use sqlite::Alter;
 
-/// What keeps operations. A server takes any, so that a test can give it one that refuses. What is
-/// kept, and that a crash does not lose it, is said by the clauses of `Shelf::put`.
+/// What keeps operations. A server takes any, so that a test can give it one that refuses.
 pub trait Keep {
+    // What is told of the operations is told while this holds.
+    ghost is_up: { Self → Type 0 };
+
+    // The operations that are kept.
+    ghost holds: { Self → Operation → Type 0 };
+
+    // The operation is kept, and every crash leaves it.
+    ghost lasts: { Self → Operation → Type 0 };
+
     /// Keeps an operation.
-    fn put(&mut self, op: &Op) -> Result<Kept, ShelfFault>;
+    fn put(&mut self, op: &Op) -> Result<Kept, ShelfFault>
+        // New adds exactly that operation, Known finds it there, and a refusal changes nothing.
+        ensures new { is_up self.new → result ≡ Ok Kept.New
+            → Gains (holds self.old) (holds self.new) op.now }
+        ensures known { is_up self.new → result ≡ Ok Kept.Known
+            → Finds (holds self.old) (holds self.new) op.now }
+        ensures refused { is_up self.new → OnErr result (AreSame (holds self.old) (holds self.new)) }
+
+        // A crash leaves it after Ok, and always what it left before.
+        ensures durable { is_up self.new → OnOk result (lasts self.new op.now) }
+        ensures kept { is_up self.new → (other : Operation) → lasts self.old other
+            → lasts self.new other };
 
     /// Keeps an operation under the digest that it has.
-    fn put_digested(&mut self, op: &Digested) -> Result<Kept, ShelfFault>;
+    fn put_digested(&mut self, op: &Digested) -> Result<Kept, ShelfFault>
+        // New adds exactly that operation, Known finds it there, and a refusal changes nothing.
+        ensures new { is_up self.new → result ≡ Ok Kept.New
+            → Gains (holds self.old) (holds self.new) op.now }
+        ensures known { is_up self.new → result ≡ Ok Kept.Known
+            → Finds (holds self.old) (holds self.new) op.now }
+        ensures refused { is_up self.new → OnErr result (AreSame (holds self.old) (holds self.new)) }
+
+        // A crash leaves it after Ok, and always what it left before.
+        ensures durable { is_up self.new → OnOk result (lasts self.new op.now) }
+        ensures kept { is_up self.new → (other : Operation) → lasts self.old other
+            → lasts self.new other };
 }
 
 impl<S: Alter> Keep for Shelf<S> {
+    ghost is_up = { λ s. IsUp (state S.Store s) };
+
+    ghost holds = { λ s op. Holds (rows_of (state S.Store s)) op };
+
+    ghost lasts = { λ s op. Lasts (state S.Store s) op };
+
     fn put(&mut self, op: &Op) -> Result<Kept, ShelfFault> {
         Shelf::put(self, op)
     }

@@ -1,0 +1,108 @@
+-- What a put makes of the operations that a shelf keeps.
+use Rattle.std.proofs.Common.{◌≡◌, ◌⊎◌, ◌↔◌, ◌<◌, inl, inr, zero, suc, ℕ, List, [], ◌∷◌, Bool, true, false, cond, filter, length, Contains, Ok, Err, Result, OnOk, OnErr, IsTrue, IsPermutation, refl, sym, ap, subst, ◌∙◌, arith}
+use Rattle.std.specs.Ordering.{is_eq}
+use Rattle.std.proofs.lemmas.List.Sorted.{IsPermutation-sym, Contains-permutation}
+use Rattle.sqlite.specs.Order.{Row, column, value_cmp}
+use Rattle.sqlite.specs.declared.types.Value.TheVariants.{Text, Blob}
+use Rattle.sqlite.specs.Tree.{Trees}
+use Rattle.sqlite.specs.Effect.{Database}
+use Rattle.sqlite.specs.State.{State, HasCleanDisk, Survives}
+use Rattle.std.specs.Cmp.{tied_itself}
+use Rattle.sqlite_value.proofs.OrderLemmas.{value_cmp_total}
+use Rattle.operation.specs.declared.op.Op.{Op}
+use Rattle.operation.specs.Spelling.{spelling}
+use Rattle.op_shelf.specs.declared.kept.Kept.{Kept}
+use Rattle.op_shelf.specs.declared.kept.Kept.TheVariants.{New, Known}
+use Rattle.op_shelf.specs.declared.fault.ShelfFault.{ShelfFault}
+use Rattle.op_shelf.specs.Entries.{entries, entry_of, digest_text, Adds, Holds}
+use Rattle.op_shelf.specs.Keep.{AreSame, Gains, Finds}
+use Rattle.op_shelf.specs.States.{rows_of, rows_left, tree_in, under, IsPut, IsKnown, KeepsAll, IsUp, Lasts}
+use Rattle.op_shelf.proofs.Ops.{same_entry}
+
+-- what passes a test is among what it lets through
+lets_through : {X : Type 0} (p : X → Bool) (xs : List X) (x : X) → p x ≡ true → Contains xs x → 0 < length (filter p xs)
+lets_through p [] x passes found = absurd (omega (arith, found.1))
+lets_through p (y ∷ ys) x passes (zero, low, at) = step (p y) (ap p at ∙ passes)
+  where
+    step : (b : Bool) → b ≡ true → 0 < length (cond b (y ∷ filter p ys) (filter p ys))
+    step true e = omega arith
+    step false e = absurd cc
+lets_through p (y ∷ ys) x passes (suc k, low, at) = step (p y) (lets_through p ys x passes (k, omega (arith, low), at))
+  where
+    step : (b : Bool) → 0 < length (filter p ys) → 0 < length (cond b (y ∷ filter p ys) (filter p ys))
+    step true e = omega arith
+    step false e = e
+
+-- an entry that is there is among those under its digest
+is_under : (rows : List Row) (op : Op) → under (digest_text op) rows ≡ [] → ¬ Holds rows op
+is_under rows op none held =
+    let test = λ (e : Row). is_eq (value_cmp (column e 0) (Text (digest_text op))) in
+    let some = lets_through test (entries rows) (entry_of op) (ap is_eq (tied_itself value_cmp_total (Text (digest_text op)))) held in
+    absurd (omega (arith, some, ap length none))
+
+-- operations of one entry are spelled alike
+alike : (a b : Op) → entry_of a ≡ entry_of b → spelling a ≡ spelling b
+alike a b same = let both : Blob (spelling a) ≡ Blob (spelling b) = ap (λ e. column e 2) same in cc
+
+first_or_later : {X : Type 0} (x : X) (xs : List X) (y : X) → Contains (x ∷ xs) y → (x ≡ y) ⊎ Contains xs y
+first_or_later x xs y (zero, low, at) = inl at
+first_or_later x xs y (suc k, low, at) = inr (k, omega (arith, low), at)
+
+one_more : (old new : List Row) (op : Op) → Adds old new (entry_of op) → (other : Op) → Holds new other ↔ (Holds old other ⊎ (spelling other ≡ spelling op))
+one_more old new op adds other = (
+  λ held. elim (first_or_later (entry_of op) (entries old) (entry_of other) (Contains-permutation (entries new) (entry_of op ∷ entries old) (entry_of other) (IsPermutation-sym (entry_of op ∷ entries old) (entries new) adds) held)) [
+    | inl it ↦ inr (alike other op (sym it))
+    | inr later ↦ inl later
+  ],
+  elim [
+    | inl was ↦ Contains-permutation (entry_of op ∷ entries old) (entries new) (entry_of other) adds (suc was.0, omega (arith, was.1), was.2)
+    | inr is ↦ Contains-permutation (entry_of op ∷ entries old) (entries new) (entry_of other) adds (0, omega arith, sym (same_entry other op is))
+  ],
+)
+
+module _ (s t : State) (op : Op) where
+  pub gains : IsPut s t (digest_text op) (entry_of op) → Gains (Holds (rows_of s)) (Holds (rows_of t)) op
+  gains it = record { absent = is_under (rows_of s) op it.absent; only = one_more (rows_of s) (rows_of t) op it.added.rows }
+
+  pub same_of : t.now ≡ s.now → AreSame (Holds (rows_of s)) (Holds (rows_of t))
+  same_of is other = (
+    λ held. subst (λ (d : Database). Holds (d.trees (tree_in d.schema)) other) (sym is) held,
+    λ held. subst (λ (d : Database). Holds (d.trees (tree_in d.schema)) other) is held,
+  )
+
+  pub finds_known : IsKnown s t (digest_text op) (entry_of op) → Finds (Holds (rows_of s)) (Holds (rows_of t)) op
+  finds_known it = record { there = it.held; same = same_of it.same.0.now_is }
+
+  -- what a put leaves of the schema, and of each operation that was there
+  record Stays : Type 0 where
+    pub schema : t.now.schema ≡ s.now.schema
+    pub held : (other : Op) → Holds (rows_of s) other → Holds (rows_of t) other
+
+  stays_same : t.now ≡ s.now → Stays
+  stays_same is = record { schema = ap (λ (d : Database). d.schema) is; held = λ other. (same_of is other).0 }
+
+  stays : (r : Result Kept ShelfFault) → IsUp t → (r ≡ Ok New → IsPut s t (digest_text op) (entry_of op)) → (r ≡ Ok Known → IsKnown s t (digest_text op) (entry_of op)) → OnErr r (KeepsAll s t) → Stays
+  stays (Ok New) up put known refused =
+      let it = put refl in
+      record { schema = it.added.schema; held = λ other was. ((gains it).only other).1 (inl was) }
+  stays (Ok Known) up put known refused = stays_same (known refl).same.0.now_is
+  stays (Err e) up put known refused = stays_same (refused up.is_open).1
+
+  -- what every crash left it leaves afterwards
+  pub lasts_on : (r : Result Kept ShelfFault) → IsUp t → (r ≡ Ok New → IsPut s t (digest_text op) (entry_of op)) → (r ≡ Ok Known → IsKnown s t (digest_text op) (entry_of op)) → OnErr r (KeepsAll s t)
+      → Survives s t (λ trees. Adds (rows_of s) (rows_left s trees) (entry_of op)) → (other : Op) → Lasts s other → Lasts t other
+  lasts_on r up put known refused crash other was =
+      let it = stays r up put known refused in
+      record {
+        held = it.held other was.held;
+        left = λ trees may. subst (λ n. Holds (trees n) other) (sym (ap tree_in it.schema)) (elim (crash.crash up.clean trees may) [
+          | inl before ↦ was.left trees before
+          | inr after ↦ ((one_more (rows_of s) (rows_left s trees) op after) other).1 (inl was.held)
+        ]);
+      }
+
+  pub lasts_put : (r : Result Kept ShelfFault) → (r ≡ Ok New → IsPut s t (digest_text op) (entry_of op)) → (r ≡ Ok Known → IsKnown s t (digest_text op) (entry_of op))
+      → OnOk r ((trees : Trees) → t.may_leave trees → Holds (rows_left t trees) op) → OnOk r (Lasts t op)
+  lasts_put (Ok New) put known left = record { held = ((gains (put refl)).only op).1 (inr refl); left = left }
+  lasts_put (Ok Known) put known left = record { held = ((finds_known (known refl)).same op).0 (known refl).held; left = left }
+  lasts_put (Err e) put known left = tt
