@@ -2,7 +2,6 @@ pub mod Joined
 pub mod RowSets
 pub mod AscendingLaws
 pub mod GroupingLaws
-pub mod CoveredLaws
-pub mod ShowingLaws
+pub mod GroupMaps
 pub mod RowLaws
 pub mod CandidateLaws

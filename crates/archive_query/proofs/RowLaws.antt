@@ -1,6 +1,6 @@
 -- The rows of a set need of it what is shown, and its corrections.
 use Rattle.std.proofs.Common.{◌≡◌, ℕ, Bool, true, false, ◌&&◌, ◌||◌, cond, List, [], ◌∷◌, map, length, Option, Some, None, refl, sym, ap, ◌∙◌}
-use Rattle.std.specs.Prelude.{◌==◌, if◌then◌else◌, is_some}
+use Rattle.std.specs.Prelude.{◌==◌, if◌then◌else◌}
 use Rattle.std.specs.List.{filter, filter_map, cons_option, list_all, join_with_byte}
 use Rattle.std.specs.Option.{option_map}
 use Rattle.std.specs.Fmt.{decimal}
@@ -12,24 +12,14 @@ use Rattle.operation.specs.declared.op.Op.{Op}
 use Rattle.operation.specs.Parts.{ContentParts, CorrectionParts, value_at, own_value}
 use Rattle.archive_model.specs.Texts.{ascending}
 use Rattle.archive_model.specs.Contents.{series_of}
-use Rattle.archive_model.specs.Attributes.{correction_in, corrections, corrects, greatest, corrected, attribute}
+use Rattle.archive_model.specs.Attributes.{corrections, corrects, greatest, corrected, attribute}
 use Rattle.archive_query.specs.declared.asked.Asked.{Asked}
 use Rattle.archive_query.specs.declared.query.Query.{Query}
 use Rattle.archive_query.specs.Key.{word_of}
 use Rattle.key_matching.specs.Matches.{matches}
 use Rattle.archive_query.specs.Column.{columns}
 use Rattle.archive_query.specs.Cell.{cell}
-use Rattle.archive_query.specs.CorrectionsOnly.{is_correction}
 use Rattle.archive_query.specs.Rows.{is_key_match, is_match, modalities_of, is_unique_key, is_asked, asked_value, value_in_row, cell_in_row, row, row_of, row_at, rows_among, uids_at, contents_at}
-
--- the corrections of a set are those of its corrections alone
-pub corrections_alone : (ops : List Op) → corrections (filter is_correction ops) ≡ corrections ops
-corrections_alone [] = refl
-corrections_alone (o ∷ ops) = by_kind (correction_in o) refl (corrections_alone ops)
-  where
-    by_kind : (k : Option CorrectionParts) → correction_in o ≡ k → corrections (filter is_correction ops) ≡ corrections ops → corrections (cond (is_some k) (o ∷ filter is_correction ops) (filter is_correction ops)) ≡ cons_option k (corrections ops)
-    by_kind None e rest = rest
-    by_kind (Some k) e rest = ap (λ (x : Option CorrectionParts). cons_option x (corrections (filter is_correction ops))) e ∙ ap (λ (ks : List CorrectionParts). k ∷ ks) rest
 
 list_all_each : {X : Type 0} (p q : X → Bool) → ((x : X) → p x ≡ q x) → (xs : List X) → list_all p xs ≡ list_all q xs
 list_all_each p q e [] = refl

@@ -5,8 +5,5 @@ pub mod Column
 pub mod Cell
 pub mod Rows
 pub mod Grouping
-pub mod CoveredUids
-pub mod Showing
-pub mod CorrectionsOnly
 pub mod Laws
 pub mod Candidates

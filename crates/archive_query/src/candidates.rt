@@ -58,8 +58,9 @@ fn study_key(query: &Query) -> Option<&Asked>
         .find(|asked| is_study_key(asked))
 }
 
-/// Puts in what is of some studies.
-fn put_studies(
+/// Puts the SOP Instance UIDs of what is of some studies into a set. What was put in before memory
+/// was refused stays.
+pub fn put_studies(
     index: &Index,
     studies: &[Octets],
     uids: &mut BTreeSet<ShortText>,
@@ -131,7 +132,7 @@ pub(crate) fn candidates(
 }
 
 /// What a view shows of some SOP Instance UIDs.
-pub(crate) fn shown_of<'a>(
+pub fn shown_of<'a>(
     alloc: Global,
     site: &'a Site,
     view: View,

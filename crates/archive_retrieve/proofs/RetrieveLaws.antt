@@ -2,6 +2,7 @@
 use Rattle.std.proofs.Common.{◌≡◌, inl, inr, ℕ, Bool, true, false, List, [], ◌∷◌, Option, Some, None, cond, map, refl, sym, ap, subst, ◌∙◌, Less}
 use Rattle.std.specs.List.{filter, AllByRecursion}
 use Rattle.std.specs.List.Sorted.{IsStrictlySortedBy}
+use Rattle.std.proofs.lemmas.Bool.{false≢true}
 use Rattle.octets.specs.Texts.{text_cmp}
 use Rattle.std.specs.Prelude.{not, MatchBool}
 use Rattle.std.specs.Cmp.Lexicographic.{nat_list_cmp_total}
@@ -17,24 +18,27 @@ use Rattle.data_set.proofs.Sets.{spelled_once}
 use Rattle.data_set.proofs.Reading.{spelled_in}
 use Rattle.data_set.proofs.ValueLaws.{converted_value}
 use Rattle.operation.specs.declared.op.Op.{Op}
+use Rattle.operation.specs.declared.op.Op.TheVariants.{Content as a_content}
 use Rattle.operation.specs.Parts.{ContentParts}
 use Rattle.archive_model.specs.Members.{Has}
-use Rattle.archive_model.specs.Contents.{pick}
+use Rattle.archive_model.specs.Contents.{content_in, pick}
 use Rattle.archive_model.specs.Covered.{is_covered}
 use Rattle.archive_model.specs.Shown.{shown}
 use Rattle.archive_model.specs.Coercion.{is_coerced, coerced, AreCoerced}
-use Rattle.archive_model.proofs.MemberLaws.{has_filter, filter_has}
-use Rattle.archive_model.proofs.ModelLaws.{shown_are_picks, shown_ascend}
+use Rattle.archive_model.proofs.MemberLaws.{has_filter, filter_has, has_filter_map}
+use Rattle.archive_model.proofs.ModelLaws.{shown_are_picks, shown_ascend, covered_is_named}
 use Rattle.archive_model.proofs.CoercionLaws.{coerced_has_attributes, coerced_keeps_others, own_is_not_coerced}
 use Rattle.site_state.specs.Site.{Map, ops_of}
+use Rattle.site_state.specs.Laws.{after_taking}
+use Rattle.site_state.proofs.Same.{taken_has}
 use Rattle.archive_retrieve.specs.declared.accepts.Accepted.{Accepted}
 use Rattle.archive_retrieve.specs.declared.accepts.Form.{Form}
 use Rattle.archive_retrieve.specs.declared.accepts.Form.TheVariants.{Own, Converted}
 use Rattle.archive_retrieve.specs.declared.sending.Sending.{Sending}
 use Rattle.archive_retrieve.specs.Accepts.{form_for, syntax_of}
 use Rattle.archive_retrieve.specs.Selection.{is_selected, selected}
-use Rattle.archive_retrieve.specs.Sending.{in_form, is_sent_as_stored, IsWritten, IsBody, IsSending, AreSendings, Gets, text_for, body_for, sending_for, sendings_of}
-use Rattle.archive_retrieve.specs.Laws.{SameSitesSendAlike, WhatIsSentIsComputed, NothingHiddenIsSent, WhatIsShownIsSent, WhatIsSentAscends, WhatNeedsNothingIsSentAsItCame, SentHasAttributes, SentKeepsOthers}
+use Rattle.archive_retrieve.specs.Sending.{in_form, is_sent_as_stored, IsWritten, IsBody, IsSending, AreSendings, Gets, body_for, sending_for, sendings_of}
+use Rattle.archive_retrieve.specs.Laws.{SameSitesSendAlike, WhatIsSentIsComputed, NothingHiddenIsSent, WhatIsRejectedIsNotSent, WhatIsShownIsSent, WhatIsSentAscends, WhatNeedsNothingIsSentAsItCame, SentHasAttributes, SentKeepsOthers}
 
 -- ---- one answer
 
@@ -144,6 +148,14 @@ nothing_hidden view selection accepts ops sendings sending gets has =
       no_hiding_note = is.2;
       selected = in_selection.1;
     }
+
+-- What was taken is held, so a note that was taken covers what it names.
+pub rejected_not_sent : WhatIsRejectedIsNotSent
+rejected_not_sent view selection accepts taken note says sendings sending one has is hiding names gets sent =
+    let held = ops_of (after_taking taken) in
+    let among = has_filter_map content_in held (a_content note) note (taken_has taken (a_content note) one has) refl in
+    let covered = (covered_is_named view held sending.instance).1 (note, says, among, is, hiding, names) in
+    false≢true (sym (nothing_hidden view selection accepts held sendings sending gets sent).uncovered ∙ covered)
 
 pub all_shown : WhatIsShownIsSent
 unfolding Gets

@@ -1,5 +1,5 @@
 -- What is sent, said of the set.
-use Rattle.std.specs.Prelude.{◌≡◌, ◌⊎◌, ℕ, List, Some, None, true, false, map}
+use Rattle.std.specs.Prelude.{◌≡◌, ◌⊎◌, ℕ, List, Some, None, IsTrue, true, false, map}
 use Rattle.std.specs.List.Sorted.{IsStrictlySortedBy}
 use Rattle.octets.specs.Texts.{text_cmp}
 use Rattle.data_set.specs.Tree.{Tree}
@@ -8,16 +8,20 @@ use Rattle.data_set.specs.Texts.{Spells}
 use Rattle.octets.specs.Padding.{trimmed}
 use Rattle.data_set.specs.Values.{value_in}
 use Rattle.data_set.specs.Corrections.{corrected_tags, correction_vr_of}
+use Rattle.rejection_note.specs.declared.note.Note.{Note}
 use Rattle.operation.specs.declared.op.Op.{Op}
+use Rattle.operation.specs.declared.op.Op.TheVariants.{Content as a_content}
 use Rattle.operation.specs.Parts.{ContentParts, own_value}
 use Rattle.archive_model.specs.declared.view.View.{View}
 use Rattle.archive_model.specs.Members.{Has}
+use Rattle.archive_model.specs.View.{hides}
 use Rattle.archive_model.specs.Contents.{pick}
 use Rattle.archive_model.specs.Covered.{is_covered, is_hiding}
 use Rattle.archive_model.specs.Shown.{shown}
 use Rattle.archive_model.specs.Attributes.{attribute}
 use Rattle.archive_model.specs.Coercion.{is_changed, AreStored}
 use Rattle.site_state.specs.Site.{Map, ops_of, held_at}
+use Rattle.site_state.specs.Laws.{Apart, after_taking}
 use Rattle.archive_retrieve.specs.declared.accepts.Accepted.{Accepted}
 use Rattle.archive_retrieve.specs.declared.accepts.Accepts.{Accepts}
 use Rattle.archive_retrieve.specs.declared.accepts.Form.{Form}
@@ -54,6 +58,13 @@ abbrev pub NothingHiddenIsSent : Type 0
 NothingHiddenIsSent =
     (view : View) (selection : Selection) (accepts : Accepts) (ops : List Op) (sendings : List Sending) (sending : Sending)
     → Gets view selection accepts ops sendings → Has sendings sending → IsShownPick view selection ops sending
+
+-- what a note names whose title hides is not sent, whenever the note was taken
+abbrev pub WhatIsRejectedIsNotSent : Type 0
+WhatIsRejectedIsNotSent =
+    (view : View) (selection : Selection) (accepts : Accepts) (taken : List Op) (note : ContentParts) (says : Note) (sendings : List Sending) (sending : Sending)
+    → Apart taken → Has taken (a_content note) → note.note ≡ Some says → IsTrue (hides view says.title) → Has says.covers sending.instance
+    → Gets view selection accepts (ops_of (after_taking taken)) sendings → Has sendings sending → ⊥
 
 -- and of each content that is shown and selected something is sent
 abbrev pub WhatIsShownIsSent : Type 0

@@ -1,8 +1,11 @@
 -- The selection that the elements of an identifier say (PS3.4, C.4.3.1.3), and what is in it.
 use Rattle.std.specs.Prelude.{ℕ, List, Bool, not, ◌&&◌, ◌||◌, map, Option, Some, None, Result, Ok, Err, if◌then◌else◌}
 use Rattle.std.specs.List.{filter}
+use Rattle.std.specs.List.Sorted.{IsSorted}
+use Rattle.std.specs.Borrow.{Bor}
 use Rattle.octets.specs.Gives.{◌>>=◌}
 use Rattle.octets.specs.Padding.{trimmed}
+use Rattle.octets.specs.Texts.{text_cmp}
 use Rattle.dictionary.specs.declared.elements.TheConstants.{QUERY_RETRIEVE_LEVEL, SERIES_INSTANCE_UID, SOP_INSTANCE_UID, STUDY_INSTANCE_UID}
 use Rattle.data_set.specs.Tree.{Tree}
 use Rattle.data_set.specs.Values.{value_in}
@@ -61,3 +64,7 @@ is_selected s c = is_among_these s.uids s c
 -- those of some contents that are
 abbrev pub selected : Selection → List ContentParts → List ContentParts
 selected s cs = filter (is_selected s) cs
+
+-- texts that references lead to ascend
+abbrev pub Rises : List (Bor (List ℕ)) → Type 0
+Rises uids = IsSorted (λ a b. text_cmp a.now b.now) uids

@@ -1,6 +1,6 @@
 //! What is sent, as contracts of functions that do nothing.
 
-ghost use Rattle.archive_retrieve.specs.Laws.{SameSitesSendAlike, WhatIsSentIsComputed, NothingHiddenIsSent, WhatIsShownIsSent, WhatIsSentAscends, WhatNeedsNothingIsSentAsItCame, SentHasAttributes, SentKeepsOthers};
+ghost use Rattle.archive_retrieve.specs.Laws.{SameSitesSendAlike, WhatIsSentIsComputed, NothingHiddenIsSent, WhatIsRejectedIsNotSent, WhatIsShownIsSent, WhatIsSentAscends, WhatNeedsNothingIsSentAsItCame, SentHasAttributes, SentKeepsOthers};
 
 /// Two sites that hold the same operations send the same, in whatever order they took them.
 pub fn same_sites_send_alike()
@@ -18,6 +18,12 @@ pub fn what_is_sent_is_shown()
     ensures hidden { NothingHiddenIsSent }
     ensures shown { WhatIsShownIsSent }
     ensures ascends { WhatIsSentAscends }
+{}
+
+/// What a note names whose title hides in a view is not sent there, whether the note was taken
+/// before what it names or after.
+pub fn what_is_rejected_is_not_sent()
+    ensures { WhatIsRejectedIsNotSent }
 {}
 
 /// A data set whose attributes are its own goes out as it came where its syntax is accepted.

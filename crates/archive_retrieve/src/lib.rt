@@ -5,6 +5,8 @@
 #![tactic(auto)]
 
 mod accepts;
+mod candidates;
+mod coercion;
 mod getting;
 mod laws;
 mod selected;
@@ -16,8 +18,9 @@ mod tests;
 pub use accepts::{Accepted, Accepts};
 pub use getting::get;
 pub use laws::{
-    same_sites_send_alike, what_is_sent_is_computed, what_is_sent_is_shown,
-    what_is_sent_reads_again_corrected, what_needs_nothing_is_sent_as_it_came,
+    same_sites_send_alike, what_is_rejected_is_not_sent, what_is_sent_is_computed,
+    what_is_sent_is_shown, what_is_sent_reads_again_corrected,
+    what_needs_nothing_is_sent_as_it_came,
 };
 pub use selection::Selection;
 pub use sending::Sending;

@@ -2,12 +2,11 @@
 
 ghost use Rattle.std.specs.Prelude.{◌≡◌, List, ℕ, map, filter, IfOk};
 ghost use Rattle.archive_model.specs.Covered.{is_among};
-ghost use Rattle.archive_query.specs.CoveredUids.{Rises};
-ghost use Rattle.archive_retrieve.specs.Selection.{is_within as is_within_in, is_among_these as is_among_these_in, selected as selected_in};
+ghost use Rattle.archive_retrieve.specs.Selection.{Rises, is_within as is_within_in, is_among_these as is_among_these_in, selected as selected_in};
 
 use crate::selection::Selection;
 use archive_model::{series, study};
-use archive_query::{is_one_of, uid_at};
+use archive_query::uid_at;
 use octets::Octets;
 use operation::Content;
 use std::alloc::{AllocError, Global};
@@ -18,6 +17,14 @@ fn is_within(selection: &Selection, content: &Content) -> bool
 {
     (!selection.level.names_study() || study(content) == selection.study.as_slice())
         && (!selection.level.names_series() || series(content) == selection.series.as_slice())
+}
+
+/// Whether a UID is one of these, which ascend.
+fn is_one_of(uids: &[&[u8]], uid: &[u8]) -> bool
+    requires { Rises uids.now }
+    ensures { result ≡ is_among (map (λ u. u.now) uids.now) uid.now }
+{
+    uids.binary_search(&uid).is_ok()
 }
 
 /// The same, and its UID at the level is one of these, which ascend.

@@ -1,15 +1,17 @@
 //! What is sent of a content (PS3.4, section C.4.3.2.2).
 
-ghost use Rattle.std.specs.Prelude.{◌≡◌, IfOk, map};
+ghost use Rattle.std.specs.Prelude.{◌≡◌, IfOk};
+ghost use Rattle.site_state.specs.Site.{ops_of};
 ghost use Rattle.archive_retrieve.specs.Accepts.{syntax_of as syntax_in_of};
 ghost use Rattle.archive_retrieve.specs.Sending.{is_sent_as_stored as is_sent_as_stored_in, IsSetFor, IsWritten, IsText, IsBody, IsSending};
 
 use crate::accepts::{Accepts, Form};
-use archive_model::{coerced, is_coerced};
+use crate::coercion::{coerced, is_coerced};
 use bytes::Bytes;
 use data_set::{DataSet, Syntax, write};
 use octets::Octets;
-use operation::{Content, Op};
+use operation::Content;
+use site_state::Site;
 use std::alloc::{AllocError, Global};
 
 /// An instance that is to be sent.
@@ -22,20 +24,20 @@ pub struct Sending {
 }
 
 /// Whether the data set of a content is sent as it came.
-fn is_sent_as_stored(ops: &[&Op], content: &Content, form: Form) -> bool
-    ensures { result ≡ is_sent_as_stored_in (map (λ o. o.now) ops.now) content.now form }
+fn is_sent_as_stored(site: &Site, content: &Content, form: Form) -> bool
+    ensures { result ≡ is_sent_as_stored_in (ops_of site.now) content.now form }
 {
     match form {
-        Form::Own => !is_coerced(ops, content),
+        Form::Own => !is_coerced(site, content),
         Form::Converted => false,
     }
 }
 
 /// The data set of a content, corrected, in this form.
-fn set_in(alloc: Global, ops: &[&Op], content: &Content, form: Form) -> Result<DataSet, AllocError>
-    ensures { IfOk result (λ d. IsSetFor (map (λ o. o.now) ops.now) content.now form d) }
+fn set_in(alloc: Global, site: &Site, content: &Content, form: Form) -> Result<DataSet, AllocError>
+    ensures { IfOk result (λ d. IsSetFor (ops_of site.now) content.now form d) }
 {
-    let set = coerced(alloc, ops, content)?;
+    let set = coerced(alloc, site, content)?;
     match form {
         Form::Own => Ok(set),
         Form::Converted => {
@@ -46,23 +48,23 @@ fn set_in(alloc: Global, ops: &[&Op], content: &Content, form: Form) -> Result<D
 }
 
 /// The same, written.
-fn written(alloc: Global, ops: &[&Op], content: &Content, form: Form) -> Result<Bytes, AllocError>
-    ensures { IfOk result (λ text. IsWritten (map (λ o. o.now) ops.now) content.now form text) }
+fn written(alloc: Global, site: &Site, content: &Content, form: Form) -> Result<Bytes, AllocError>
+    ensures { IfOk result (λ text. IsWritten (ops_of site.now) content.now form text) }
 {
-    let set = set_in(alloc, ops, content, form)?;
+    let set = set_in(alloc, site, content, form)?;
     let written = write(alloc, &set)?;
     let text = Bytes::from_vec(written)?;
     Ok(text)
 }
 
 /// The bytes of a content that are sent: the stored ones, shared, where nothing has to be changed.
-fn text_in(alloc: Global, ops: &[&Op], content: &Content, form: Form) -> Result<Bytes, AllocError>
-    ensures { IfOk result (λ text. IsText (map (λ o. o.now) ops.now) content.now form text) }
+fn text_in(alloc: Global, site: &Site, content: &Content, form: Form) -> Result<Bytes, AllocError>
+    ensures { IfOk result (λ text. IsText (ops_of site.now) content.now form text) }
 {
-    if is_sent_as_stored(ops, content, form) {
+    if is_sent_as_stored(site, content, form) {
         return Ok(content.body().clone()?);
     }
-    let text = written(alloc, ops, content, form)?;
+    let text = written(alloc, site, content, form)?;
     Ok(text)
 }
 
@@ -78,33 +80,33 @@ fn syntax_of(form: Form, own: Syntax) -> Syntax
 /// The data set of a content with its transfer syntax, in the form in which it is sent.
 fn body_in(
     alloc: Global,
-    ops: &[&Op],
+    site: &Site,
     content: &Content,
     form: Option<Form>,
 ) -> Result<Option<(Syntax, Bytes)>, AllocError>
-    ensures { IfOk result (λ body. IsBody (map (λ o. o.now) ops.now) content.now form body) }
+    ensures { IfOk result (λ body. IsBody (ops_of site.now) content.now form body) }
 {
     match form {
         None => Ok(None),
         Some(form) => {
-            let text = text_in(alloc, ops, content, form)?;
+            let text = text_in(alloc, site, content, form)?;
             Ok(Some((syntax_of(form, content.syntax()), text)))
         }
     }
 }
 
-/// What is sent of a content, over a set of operations with these corrections.
+/// What a site sends of a content.
 pub fn sending_of(
     alloc: Global,
-    ops: &[&Op],
+    site: &Site,
     accepts: &Accepts,
     content: &Content,
 ) -> Result<Sending, AllocError>
     ensures { IfOk result (λ sending.
-        IsSending (map (λ o. o.now) ops.now) accepts.now.list content.now sending) }
+        IsSending (ops_of site.now) accepts.now.list content.now sending) }
 {
     let form = accepts.form_for(content.class(), content.syntax());
-    let body = body_in(alloc, ops, content, form)?;
+    let body = body_in(alloc, site, content, form)?;
     Ok(Sending {
         class: Octets::from_slice(alloc, content.class())?,
         instance: Octets::from_slice(alloc, content.instance())?,

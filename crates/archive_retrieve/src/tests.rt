@@ -5,3 +5,4 @@ mod conversions;
 mod made;
 mod many;
 mod selections;
+mod views;

@@ -1,7 +1,7 @@
 //! Values that corrections give, in each attribute and in both syntaxes.
 
 use crate::tests::made::{
-    IMAGE, Part, accepts, content, correction, first_body, put, sent, spelled,
+    IMAGE, Part, accepts, content, correction, first_body, put, sent, series_correction, spelled,
 };
 use data_set::Syntax;
 use std::alloc::Global;
@@ -88,5 +88,29 @@ fn a_correction_to_the_value_that_is_stored_changes_no_byte(rt: HostRuntime) -> 
         Some((Syntax::Implicit, wanted.as_slice())),
         "as stored"
     );
+    Ok(())
+}
+
+#[test]
+fn a_corrected_series_description_is_sent(rt: HostRuntime) -> Result<(), Fail> {
+    let alloc = rt.alloc();
+    for syntax in [Syntax::Implicit, Syntax::Explicit] {
+        let mut stored = Vec::new(alloc);
+        put(&mut stored, syntax, (0x0008_103e, *b"LO", b"ABDOMEN "))?;
+        let mut new = Vec::new(alloc);
+        put(&mut new, syntax, (0x0008_103e, *b"LO", b"HEAD"))?;
+        let body = spelled(alloc, syntax, &IMAGE, 0x0008_103e, &stored)?;
+        let wanted = spelled(alloc, syntax, &IMAGE, 0x0008_103e, &new)?;
+        let ops = vec![in alloc;
+            content(alloc, b"1.2.1.1.1", syntax, body)?,
+            series_correction(alloc, 0x0008_103e, b"HEAD")?,
+        ]?;
+        let sendings = sent(alloc, ops, &accepts(alloc, true, true)?)?;
+        assert_eq!(rt;
+            first_body(&sendings),
+            Some((syntax, wanted.as_slice())),
+            "HEAD"
+        );
+    }
     Ok(())
 }

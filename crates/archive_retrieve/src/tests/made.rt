@@ -2,6 +2,7 @@
 
 use crate::{Accepted, Accepts, Selection, Sending, get};
 use archive_model::View;
+use archive_query::Level;
 use bytes::Bytes;
 use data_set::{Syntax, read};
 use octets::{ListOf, Octets};
@@ -16,9 +17,12 @@ pub const CT: &[u8] = b"1.2.840.10008.5.1.4.1.1.2";
 /// A tag, a value representation, and a value of even length.
 pub type Part<'a> = (u32, [u8; 2], &'a [u8]);
 
+/// The SOP class of the images.
+const CLASS: Part<'static> = (0x0008_0016, *b"UI", b"1.2.840.10008.5.1.4.1.1.2\0");
+
 /// The elements that every image of the tests has.
 pub const IMAGE: [Part<'static>; 6] = [
-    (0x0008_0016, *b"UI", b"1.2.840.10008.5.1.4.1.1.2\0"),
+    CLASS,
     (0x0008_0018, *b"UI", b"1.2.1.1.1\0"),
     (0x0008_0060, *b"CS", b"CT"),
     (0x0020_000d, *b"UI", b"1.2.1\0"),
@@ -131,6 +135,35 @@ pub fn correction(alloc: Global, tag: u32, value: &[u8], counter: u64) -> Result
     Ok(Op::Correction(correction_of(target, tag, value, Stamp { counter, site: 1 })?))
 }
 
+/// A correction of series 1.2.1.1, by site 1.
+pub fn series_correction(alloc: Global, tag: u32, value: &[u8]) -> Result<Op, Fail> {
+    let target = Target::Series(Octets::from_slice(alloc, b"1.2.1.1")?);
+    let value = Octets::from_slice(alloc, value)?;
+    Ok(Op::Correction(correction_of(
+        target,
+        tag,
+        value,
+        Stamp {
+            counter: 1,
+            site: 1,
+        },
+    )?))
+}
+
+/// An image of a study and of series 1.2.1.1, which has nothing but its UIDs.
+pub fn image_of(alloc: Global, study: &[u8], instance: &[u8]) -> Result<Op, Fail> {
+    let mut body = Vec::new(alloc);
+    put(&mut body, Syntax::Implicit, CLASS)?;
+    put(&mut body, Syntax::Implicit, (0x0008_0018, *b"UI", instance))?;
+    put(&mut body, Syntax::Implicit, (0x0020_000d, *b"UI", study))?;
+    put(
+        &mut body,
+        Syntax::Implicit,
+        (0x0020_000e, *b"UI", b"1.2.1.1\0"),
+    )?;
+    content(alloc, instance, Syntax::Implicit, body)
+}
+
 /// A site that took these operations.
 pub fn site_of(alloc: Global, ops: Vec<Op>) -> Result<Site, Fail> {
     let mut site = Site::new(alloc);
@@ -150,14 +183,24 @@ pub fn selection(alloc: Global, parts: &[Part]) -> Result<Result<Selection, u8>,
     }
 }
 
+/// The studies, series or instances of these UIDs, of study 1.2.1 and series 1.2.1.1 where these are
+/// above the level.
+pub fn selecting(alloc: Global, level: Level, uids: &[&[u8]]) -> Result<Selection, Fail> {
+    let mut named = Vec::new(alloc);
+    for uid in uids {
+        named.push(Octets::from_slice(alloc, uid)?)?;
+    }
+    Ok(Selection {
+        level,
+        study: Octets::from_slice(alloc, b"1.2.1")?,
+        series: Octets::from_slice(alloc, b"1.2.1.1")?,
+        uids: ListOf::of(named),
+    })
+}
+
 /// Study 1.2.1.
 pub fn study(alloc: Global) -> Result<Selection, Fail> {
-    Ok(Selection {
-        level: archive_query::Level::Study,
-        study: Octets::of(Vec::new(alloc)),
-        series: Octets::of(Vec::new(alloc)),
-        uids: ListOf::of(vec![in alloc; Octets::from_slice(alloc, b"1.2.1")?]?),
-    })
+    selecting(alloc, Level::Study, &[b"1.2.1"])
 }
 
 /// What is accepted of CT Image Storage.

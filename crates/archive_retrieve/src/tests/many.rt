@@ -1,10 +1,11 @@
 //! What small sites send, beside the plain definitions.
 
-use crate::tests::made::{Part, accepts, content, correction, note, put, site_of, study};
-use crate::{Sending, get};
-use archive_model::{View, attribute, in_study, shown};
-use data_set::{Syntax, read};
-use operation::Op;
+use crate::tests::made::{CT, Part, accepts, content, correction, note, put, selecting, site_of};
+use crate::{Selection, Sending, get};
+use archive_model::{View, coerced, is_coerced, series, shown, study};
+use archive_query::Level;
+use data_set::{Syntax, write};
+use operation::{Content, Op};
 use rand_core::utils::NextWord;
 use rand_pcg::Pcg32;
 use site_state::Site;
@@ -60,39 +61,100 @@ fn some_site(alloc: Global, seed: u64) -> Result<Site, Fail> {
     site_of(alloc, ops)
 }
 
-/// The instance and the name that are sent.
-fn named(alloc: Global, sending: &Sending) -> Result<Vec<u8>, Fail> {
-    let mut text = Vec::from_slice(alloc, sending.instance.as_slice())?;
-    if let Some((syntax, body)) = &sending.body {
-        let set = read(alloc, *syntax, body.as_slice())?;
-        text.extend_from_slice(set.value(0x0010_0010).unwrap_or(b"-"))?;
+/// Whether a content is in a selection below study 1.2.1 and series 1.2.1.1.
+fn is_wanted(selection: &Selection, content: &Content) -> bool {
+    let here = study(content) == b"1.2.1".as_slice();
+    let uid = match selection.level {
+        Level::Study => study(content),
+        Level::Series => series(content),
+        Level::Image => content.instance(),
+    };
+    (here || selection.level == Level::Study)
+        && selection
+            .uids
+            .as_slice()
+            .iter()
+            .any(|named| named.as_slice() == uid)
+}
+
+/// The data set of a content, by the plain definitions: that of a note is not accepted.
+fn plain_body(alloc: Global, ops: &[&Op], content: &Content) -> Result<Vec<u8>, Fail> {
+    if content.class() != CT {
+        return Ok(Vec::new(alloc));
+    }
+    if !is_coerced(ops, content) {
+        return Ok(Vec::from_slice(alloc, content.body().as_slice())?);
+    }
+    Ok(write(alloc, &coerced(alloc, ops, content)?)?)
+}
+
+/// What is sent by the plain definitions: instances and data sets, one behind the other.
+fn plain(alloc: Global, ops: &[&Op], view: View, selection: &Selection) -> Result<Vec<u8>, Fail> {
+    let mut text = Vec::new(alloc);
+    for content in &shown(alloc, view, ops)? {
+        if is_wanted(selection, content) {
+            text.extend_from_slice(content.instance())?;
+            text.extend_from_slice(&plain_body(alloc, ops, content)?)?;
+        }
     }
     Ok(text)
 }
 
-#[test]
-fn many_sites_send_as_the_plain_definitions(rt: HostRuntime) -> Result<(), Fail> {
-    let alloc = rt.alloc();
-    let accepts = accepts(alloc, true, false)?;
-    let study = study(alloc)?;
-    for seed in 0..50u64 {
+fn told(alloc: Global, sendings: &[Sending]) -> Result<Vec<u8>, Fail> {
+    let mut text = Vec::new(alloc);
+    for sending in sendings {
+        text.extend_from_slice(sending.instance.as_slice())?;
+        if let Some((_syntax, body)) = &sending.body {
+            text.extend_from_slice(body.as_slice())?;
+        }
+    }
+    Ok(text)
+}
+
+/// Whether sites of so many seeds send of a selection what the plain definitions say.
+fn agree(alloc: Global, seeds: u64, level: Level, uids: &[&[u8]]) -> Result<bool, Fail> {
+    let accepts = accepts(alloc, true, true)?;
+    let selection = selecting(alloc, level, uids)?;
+    for seed in 0..seeds {
         let site = some_site(alloc, seed)?;
         let ops = site.operations(alloc)?;
-        for view in [View::Archive, View::Quality] {
-            let shown = shown(alloc, view, &ops)?;
-            let plain = in_study(alloc, &shown, b"1.2.1")?;
-            let sendings = get(alloc, &site, view, &study, &accepts)?;
-            assert_eq!(rt; sendings.len(), plain.len(), "site {seed}");
-            for (sending, content) in sendings.iter().zip(&plain) {
-                let mut wanted = Vec::from_slice(alloc, content.instance())?;
-                wanted.extend_from_slice(attribute(&ops, content, 0x0010_0010))?;
-                assert_eq!(rt;
-                    named(alloc, sending)?.as_slice(),
-                    wanted.as_slice(),
-                    "site {seed}"
-                );
+        for view in [View::Archive, View::Quality, View::Audit] {
+            let sendings = get(alloc, &site, view, &selection, &accepts)?;
+            if told(alloc, &sendings)? != plain(alloc, &ops, view, &selection)? {
+                return Ok(false);
             }
         }
     }
+    Ok(true)
+}
+
+#[test]
+fn sites_send_studies_as_the_plain_definitions(rt: HostRuntime) -> Result<(), Fail> {
+    let uids: [&[u8]; 3] = [b"1.2.22", b"1.2.9", b"1.2.1"];
+    assert!(rt;
+        agree(rt.alloc(), 40, Level::Study, &uids)?,
+        "three studies"
+    );
+    assert!(rt;
+        agree(rt.alloc(), 40, Level::Study, &uids[2..])?,
+        "one study"
+    );
+    Ok(())
+}
+
+#[test]
+fn sites_send_series_as_the_plain_definitions(rt: HostRuntime) -> Result<(), Fail> {
+    let uids: [&[u8]; 2] = [b"1.2.1.1", b"1.2.1.2"];
+    assert!(rt; agree(rt.alloc(), 40, Level::Series, &uids)?, "two series");
+    Ok(())
+}
+
+#[test]
+fn sites_send_instances_as_the_plain_definitions(rt: HostRuntime) -> Result<(), Fail> {
+    let uids: [&[u8]; 3] = [b"1.4.22", b"1.4.3", b"1.4.1"];
+    assert!(rt;
+        agree(rt.alloc(), 40, Level::Image, &uids)?,
+        "three instances"
+    );
     Ok(())
 }

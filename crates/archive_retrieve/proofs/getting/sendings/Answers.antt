@@ -1,8 +1,8 @@
 use Rattle.std.proofs.Common.{◌≡◌, ◌+◌, List, [], ◌∷◌, ◌++◌, map, take, ap, sym, subst, ◌∙◌, Bor}
 use Rattle.std.proofs.lemmas.List.{take_more, map-append}
-use Rattle.operation.specs.declared.op.Op.{Op}
 use Rattle.operation.specs.declared.content.Content.{Content}
 use Rattle.operation.specs.Parts.{ContentParts}
+use Rattle.site_state.specs.Site.{ops_of}
 use Rattle.archive_retrieve.specs.declared.sending.Sending.{Sending}
 use Rattle.archive_retrieve.specs.Sending.{AreSendings}
 use Rattle.archive_retrieve.proofs.SendingLaws.{sendings_snoc}
@@ -14,7 +14,7 @@ loop-content-preserved c =
     let i = c.loop-content.content-index in
     let refs = c.args.contents.now in
     let at = c.content-item.result in
-    let ops = map (λ (o : Bor Op). o.now) c.args.ops.now in
+    let ops = ops_of c.args.site.now in
     let accepted = c.args.accepts.now.list in
     let content_of = λ (x : Bor Content). x.now in
     let before = map content_of (take i refs) in

@@ -2,7 +2,7 @@ use Rattle.std.proofs.Common.{List, ℕ, ap, sym, ◌∙◌}
 use Rattle.std.proofs.lemmas.List.Sorted.{list_any-IsPermutation}
 use Rattle.archive_model.specs.Texts.{same}
 use Rattle.archive_model.specs.Covered.{is_among}
-use Rattle.archive_query.proofs.CoveredLaws.{any-map}
+use Rattle.archive_retrieve.proofs.AmongLaws.{any-map}
 use Rattle.archive_retrieve.proofs.selected.ascending.Goals as goal
 
 -- Sorting keeps the members.

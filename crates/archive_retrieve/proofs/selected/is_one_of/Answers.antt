@@ -1,6 +1,7 @@
 use Rattle.std.proofs.Common.{◌∙◌}
-use Rattle.archive_query.proofs.CoveredLaws.{found_any, any-map}
-use Rattle.archive_query.proofs.covered.is_one_of.Goals as goal
+use Rattle.archive_retrieve.proofs.AmongLaws.{found_any, any-map}
+use Rattle.archive_retrieve.proofs.selected.is_one_of.Goals as goal
 
+-- A bisection of what ascends finds what is there.
 pub returns : goal.returns
 returns c = c.is_ok.ensures.value ∙ found_any c.args.uids.now c.args.uid.now c.binary_search.result c.requires c.binary_search.ensures.bound c.binary_search.ensures.position ∙ any-map c.args.uids.now c.args.uid.now

@@ -1,5 +1,5 @@
--- What is covered, looked up by bisection.
-use Rattle.std.proofs.Common.{◌≡◌, ℕ, zero, suc, ◌<◌, ◌≤◌, Bool, true, false, ◌||◌, List, [], ◌∷◌, length, get_or, map, Result, Ok, Err, Bor, refl, sym, ap, ◌∙◌, Less, Equal, Greater, arith, inl, inr, ◌⊎◌}
+-- Whether a UID is among some, looked up by bisection.
+use Rattle.std.proofs.Common.{◌≡◌, ℕ, zero, suc, ◌<◌, ◌≤◌, Bool, true, false, ◌||◌, List, [], ◌∷◌, length, get_or, map, Result, Ok, Err, Bor, refl, sym, ap, ◌∙◌, arith, inl, inr, ◌⊎◌}
 use Rattle.std.specs.Prelude.{is_ok}
 use Rattle.std.specs.List.{list_any}
 use Rattle.std.specs.List.Sorted.{IsBinarySearchResult, IsSearchInRange}
@@ -9,7 +9,7 @@ use Rattle.std.proofs.lemmas.List.Sorted.{searchable_from_sorted}
 use Rattle.std.proofs.lemmas.Bool.{ltb-true, ltb-false}
 use Rattle.std.proofs.Common.{ltb}
 use Rattle.archive_model.specs.Texts.{same, text_cmp}
-use Rattle.archive_query.specs.CoveredUids.{Rises}
+use Rattle.archive_retrieve.specs.Selection.{Rises}
 
 any_at : {X : Type 0} (p : X → Bool) (xs : List X) (i : ℕ) → i < length xs → ((d : X) → p (get_or xs i d) ≡ true) → list_any p xs ≡ true
 any_at p [] i within holds = absurd (omega arith)

@@ -1,0 +1,123 @@
+-- The candidates of a selection are enough: nothing of it is lost.
+use Rattle.std.proofs.Common.{◌≡◌, ◌≢◌, Bool, true, false, List, take, Option, Some, refl, sym, ap, subst, ◌∙◌}
+use Rattle.std.specs.Prelude.{◌&&◌, ◌||◌, not, Result, Ok, Err, OnOk}
+use Rattle.std.proofs.lemmas.Bool.{false≢true}
+use Rattle.std.specs.List.{filter_map}
+use Rattle.std.specs.List.Sorted.{IsStrictlySortedBy}
+use Rattle.std.specs.Option.{option_map}
+use Rattle.std.specs.BTreeMap.{is_at}
+use Rattle.std.specs.Cmp.Lexicographic.{nat_list_cmp_total}
+use Rattle.octets.specs.Members.{Has}
+use Rattle.octets.specs.Texts.{same, text_cmp}
+use Rattle.join_laws.specs.GrowSet.{union_of}
+use Rattle.join_laws.specs.Proved.Sets.{has-union}
+use Rattle.operation.specs.declared.op.Op.{Op}
+use Rattle.operation.specs.Parts.{ContentParts}
+use Rattle.archive_model.specs.declared.view.View.{View}
+use Rattle.archive_model.specs.Contents.{pick, study_of}
+use Rattle.archive_model.specs.Covered.{is_among}
+use Rattle.archive_model.specs.Shown.{shown, shown_at}
+use Rattle.archive_model.proofs.MemberLaws.{any_has, has_any}
+use Rattle.archive_model.proofs.ModelLaws.{same_is, same_itself, pick_is_content}
+use Rattle.study_index.specs.Keys.{has}
+use Rattle.study_index.specs.Live.{Text, Pick, pick_at, is_of_study}
+use Rattle.study_index.specs.Index.{IndexValue, pick_of}
+use Rattle.study_index.specs.Definition.{IsIndexOf}
+use Rattle.study_index.specs.Proved.Picks.{text_exact}
+use Rattle.study_index.proofs.KeyLaws.{at_itself, same_key}
+use Rattle.archive_query.specs.declared.key.Level.{Level}
+use Rattle.archive_query.specs.declared.key.Level.TheVariants.{Study, Series, Image}
+use Rattle.archive_query.specs.Key.{has_study_above}
+use Rattle.archive_query.specs.Rows.{uid_at}
+use Rattle.archive_query.specs.Candidates.{is_of_some}
+use Rattle.archive_query.proofs.CandidateLaws.{enough, sorted_rises}
+use Rattle.archive_retrieve.specs.declared.selection.Selection.{Selection}
+use Rattle.archive_retrieve.specs.Selection.{is_within, is_selected, selected}
+use Rattle.archive_retrieve.specs.Candidates.{ReachesAll}
+
+-- ---- tests
+
+and_both : (a b : Bool) → (a && b) ≡ true → (a ≡ true) × (b ≡ true)
+and_both true b e = (refl, e)
+and_both false b e = absurd (false≢true e)
+
+or_second : (a b : Bool) → b ≡ true → (a || b) ≡ true
+or_second true b e = refl
+or_second false b e = e
+
+-- what follows from a fact, where a call was not refused
+pub on_ok : {X E P Q : Type 0} (r : Result X E) → (P → Q) → OnOk r P → OnOk r Q
+on_ok (Ok x) f p = f p
+on_ok (Err e) f p = p
+
+-- ---- what the index has of studies
+
+-- a content is of its study, of which an index knows 64 bytes
+of_cut : (study : Text) (c : ContentParts) → study_of c ≡ study → is_of_study (take 64 study) (Some (pick_of c)) ≡ true
+of_cut study c e = same_itself (take 64 (study_of c)) (take 64 study) (ap (take 64) e)
+
+of_some : (studies : List Text) (c : ContentParts) → is_among studies (study_of c) ≡ true → is_of_some studies (Some (pick_of c)) ≡ true
+of_some studies c h =
+    let at = any_has (λ u. same u (study_of c)) studies h in
+    has_any (λ study. is_of_study (take 64 study) (Some (pick_of c))) studies at.0 at.1 (of_cut at.0 c (sym (same_is at.0 (study_of c) at.2)))
+
+is_above : (level : Level) → level ≢ Study → has_study_above level ≡ true
+is_above Study below = absurd (below refl)
+is_above Series below = refl
+is_above Image below = refl
+
+-- below the level of studies, what is selected is of the study that is named
+of_named : (s : Selection) (c : ContentParts) → has_study_above s.level ≡ true → is_selected s c ≡ true → study_of c ≡ s.study
+of_named s c above is =
+    let within = (and_both (is_within s c) _ is).0 in
+    let study = (and_both (not (has_study_above s.level) || same (study_of c) s.study) _ within).0 in
+    same_is (study_of c) s.study (sym (ap (λ b. not b || same (study_of c) s.study) above) ∙ study)
+
+-- and its UID is one of those named
+is_one_named : (s : Selection) (c : ContentParts) (level : Level) → s.level ≡ level → is_selected s c ≡ true → is_among s.uids (uid_at level c) ≡ true
+is_one_named s c level e is = ap (λ l. is_among s.uids (uid_at l c)) (sym e) ∙ (and_both (is_within s c) _ is).1
+
+-- ---- what is put in reaches all
+
+pub reached_by_studies : (s : Selection) (picks : List (Text × Option Pick)) (old new : List Text) → s.level ≡ Study
+    → ((uid : Text) → has text_cmp new uid ≡ (has text_cmp old uid || is_of_some s.uids (pick_at uid picks)))
+    → ReachesAll s picks new
+reached_by_studies s picks old new level put = λ c picked is.
+    put c.instance
+    ∙ ap (λ p. has text_cmp old c.instance || is_of_some s.uids p) picked
+    ∙ or_second (has text_cmp old c.instance) _ (of_some s.uids c (is_one_named s c Study level is))
+
+pub reached_by_study : (s : Selection) (picks : List (Text × Option Pick)) (old new : List Text) → s.level ≢ Study
+    → ((uid : Text) → has text_cmp new uid ≡ (has text_cmp old uid || is_of_study (take 64 s.study) (pick_at uid picks)))
+    → ReachesAll s picks new
+reached_by_study s picks old new level put = λ c picked is.
+    put c.instance
+    ∙ ap (λ p. has text_cmp old c.instance || is_of_study (take 64 s.study) p) picked
+    ∙ or_second (has text_cmp old c.instance) _ (of_cut s.study c (of_named s c (is_above s.level level) is))
+
+pub reached_by_instances : (s : Selection) (picks : List (Text × Option Pick)) (old new : List Text) → s.level ≡ Image
+    → new ≡ union_of text_cmp old s.uids → ReachesAll s picks new
+reached_by_instances s picks old new level put = λ c picked is.
+    let at = any_has (λ u. same u c.instance) s.uids (is_one_named s c Image level is) in
+    let here = has_any (is_at (text_cmp c.instance)) s.uids at.0 at.1 (subst (λ u. is_at (text_cmp c.instance) u ≡ true) (sym (same_is at.0 c.instance at.2)) (at_itself nat_list_cmp_total c.instance)) in
+    ap (λ us. has text_cmp us c.instance) put
+    ∙ has-union nat_list_cmp_total text_exact c.instance s.uids old
+    ∙ or_second (has text_cmp old c.instance) _ here
+
+-- ---- what is shown of what is reached
+
+listed_one : (us : List Text) (u : Text) → has text_cmp us u ≡ true → Has us u
+listed_one us u h =
+    let at = any_has (is_at (text_cmp u)) us h in
+    subst (Has us) (sym (same_key text_exact u at.0 at.2)) at.1
+
+-- of what is reached that is selected which is selected of all that is shown
+pub selected_enough : (view : View) (s : Selection) (ops : List Op) (index : IndexValue) → IsIndexOf ops index → (us : List Text) → IsStrictlySortedBy text_cmp us → ReachesAll s index.1.1.1 us
+    → selected s (filter_map (shown_at view ops) us) ≡ selected s (shown view ops)
+selected_enough view s ops index is us up reaches = enough view ops (is_selected s) us (sorted_rises us up) here
+  where
+    here : (uid : Text) (c : ContentParts) → pick uid ops ≡ Some c → is_selected s c ≡ true → Has us uid
+    here uid c e k =
+        let instance = (pick_is_content uid ops c e).1 in
+        let picked = is.picks c.instance ∙ ap (option_map pick_of) (ap (λ u. pick u ops) instance ∙ e) in
+        subst (Has us) instance (listed_one us c.instance (reaches c picked k))
