@@ -1,5 +1,5 @@
 -- Deeds that were done, one after another.
-use Rattle.std.proofs.Common.{◌≡◌, ℕ, List, [], ◌∷◌, ◌++◌, Option, Some, None, refl, sym, ap, subst, ◌∙◌, append_assoc, append-nil}
+use Rattle.std.proofs.Common.{◌≡◌, ℕ, List, [], ◌∷◌, ◌++◌, length, map, Option, inl, inr, refl, sym, ap, subst, ◌∙◌, append_assoc, append-nil, arith}
 use Rattle.std.specs.List.{flat_map}
 use Rattle.std.specs.Io.KnownBytes.{Appends}
 use Rattle.std.proofs.lemmas.Grind.{flat_map-append}
@@ -14,8 +14,9 @@ use Rattle.association_session.specs.declared.reply.Reply.{Reply}
 use Rattle.association_session.specs.Projections.{IsFront, sent_in, moments_in, calls_in}
 use Rattle.association_run.specs.Port.{Replies, History}
 use Rattle.association_run.specs.Parts.{Passed, Sides, sides, bytes_in, Did, next_bytes, Begins}
+use Rattle.association_run.specs.Outbox.{Puts, PutsFront}
 use Rattle.association_run.specs.Steps.{Halts, BreaksOff}
-use Rattle.association_run.proofs.Fronts.{further, nothing_written, all_front, passed_none, passed_on}
+use Rattle.association_run.proofs.Fronts.{further, nothing_written, all_front, front_behind, front_of_front, front_split, passed_none, passed_on}
 
 -- ---- projections
 
@@ -47,6 +48,61 @@ bytes_on xs ys = ap (λ (t : List Pdu). flat_map text_of t) (sent_on xs ys) ∙ 
 bytes_behind : (xs ys : List Deed) (part : List ℕ) → (bytes_in xs ++ []) ++ (bytes_in ys ++ part) ≡ bytes_in (xs ++ ys) ++ part
 bytes_behind xs ys part =
     ap (λ (t : List ℕ). t ++ (bytes_in ys ++ part)) (append-nil (bytes_in xs)) ∙ sym (append_assoc (bytes_in xs) (bytes_in ys) part) ∙ ap (λ (t : List ℕ). t ++ part) (sym (bytes_on xs ys))
+
+pub none_left : (deeds : List Deed) → length deeds ≡ 0 → deeds ≡ []
+none_left [] none = refl
+none_left (d ∷ deeds) none = absurd (omega (arith, none))
+
+-- ---- PDUs that are sent
+
+no_calls : (pdus : List Pdu) → calls_in (map Send pdus) ≡ []
+no_calls [] = refl
+no_calls (p ∷ pdus) = no_calls pdus
+
+no_moments : (pdus : List Pdu) → moments_in (map Send pdus) ≡ []
+no_moments [] = refl
+no_moments (p ∷ pdus) = no_moments pdus
+
+all_sent : (pdus : List Pdu) → sent_in (map Send pdus) ≡ pdus
+all_sent [] = refl
+all_sent (p ∷ pdus) = ap (λ (t : List Pdu). p ∷ t) (all_sent pdus)
+
+sent_more : (pdus : List Pdu) (pdu : Pdu) (rest : List Deed) → map Send pdus ++ Send pdu ∷ rest ≡ map Send (pdus ++ pdu ∷ []) ++ rest
+sent_more [] pdu rest = refl
+sent_more (p ∷ pdus) pdu rest = ap (λ (t : List Deed). Send p ∷ t) (sent_more pdus pdu rest)
+
+sends_on : (xs ys : List Pdu) (rest : List Deed) → map Send (xs ++ ys) ++ rest ≡ map Send xs ++ (map Send ys ++ rest)
+sends_on [] ys rest = refl
+sends_on (p ∷ xs) ys rest = ap (λ (t : List Deed). Send p ∷ t) (sends_on xs ys rest)
+
+one_more : (pdus : List Pdu) (pdu : Pdu) → flat_map text_of (pdus ++ pdu ∷ []) ≡ flat_map text_of pdus ++ text_of pdu
+one_more pdus pdu = flat_map-append text_of pdus (pdu ∷ []) ∙ ap (λ (t : List ℕ). flat_map text_of pdus ++ t) (append-nil (text_of pdu))
+
+-- a front of the bytes of PDUs, and of some bytes of the next deed: whole PDUs, and a front of what comes next
+record SentFront (sent : List Pdu) (out : List ℕ) (rest : List Deed) : Type 0 where
+  pub done : List Pdu
+  pub left : List Pdu
+  pub part : List ℕ
+  pub parts : sent ≡ done ++ left
+  pub front : IsFront part (next_bytes (map Send left ++ rest))
+  pub is : out ≡ flat_map text_of done ++ part
+
+sent_front : (sent : List Pdu) (out text : List ℕ) (rest : List Deed) → IsFront text (next_bytes rest) → IsFront out (flat_map text_of sent ++ text) → SentFront sent out rest
+sent_front [] out text rest fits front = record { done = []; left = []; part = out; parts = refl; front = front_of_front out text (next_bytes rest) front fits; is = refl }
+sent_front (p ∷ pdus) out text rest fits front =
+    elim (front_split out (text_of p) (flat_map text_of pdus ++ text) (subst (λ (t : List ℕ). IsFront out t) (append_assoc (text_of p) (flat_map text_of pdus) text) front)) as (λ _. SentFront (p ∷ pdus) out rest) [
+      | inl f ↦ record { done = []; left = p ∷ pdus; part = out; parts = refl; front = f; is = refl }
+      | inr q ↦
+          let more = sent_front pdus q.0 text rest fits q.2 in
+          record {
+            done = p ∷ more.done;
+            left = more.left;
+            part = more.part;
+            parts = ap (λ (t : List Pdu). p ∷ t) more.parts;
+            front = more.front;
+            is = q.1 ∙ ap (λ (t : List ℕ). text_of p ++ t) more.is ∙ sym (append_assoc (text_of p) (flat_map text_of more.done) more.part);
+          }
+    ]
 
 -- ---- deeds, one after another
 
@@ -88,74 +144,159 @@ module _ {P : Type 0} (holds : P → Op → Type 0) (own : P → List (List ℕ)
   pub did_part : (port : P) (w0 w1 : Option (List ℕ)) (m : Option (List Moment)) (part : List ℕ) → Appends w0 w1 part → Did holds own (sides port w0 m) (sides port w1 m) [] part []
   did_part port w0 w1 m part p = record { history = refl; appended = p; passed = passed_none m }
 
+  -- ---- PDUs that are sent one after another
+
+  pub did_sends : (port : P) (w0 w1 : Option (List ℕ)) (m : Option (List Moment)) (pdus : List Pdu) (part : List ℕ) → Appends w0 w1 (flat_map text_of pdus ++ part)
+      → Did holds own (sides port w0 m) (sides port w1 m) (map Send pdus) part []
+  did_sends port w0 w1 m pdus part p = record {
+    history = subst (λ (t : List Call). History holds own port t [] port) (sym (no_calls pdus)) refl;
+    appended = subst (λ (t : List Pdu). Appends w0 w1 (flat_map text_of t ++ part)) (sym (all_sent pdus)) p;
+    passed = subst (λ (t : List Moment). Passed m m t) (sym (no_moments pdus)) (passed_none m);
+  }
+
   -- ---- deeds that are walked
 
   -- The first deeds were done, none of them a call, and the rest is left.
-  pub record Acting (old now : Sides P) (all rest : List Deed) : Type 0 where
+  pub record Acted (old now : Sides P) (all rest : List Deed) : Type 0 where
     pub done : List Deed
     pub parts : all ≡ done ++ rest
     pub halts : Halts rest
     pub did : Did holds own old now done [] []
 
-  pub acting_start : (a : Sides P) (all items : List Deed) → items ≡ all → Halts all → Acting a a all items
-  acting_start a all items is halts = record { done = []; parts = sym is; halts = subst (λ (t : List Deed). Halts t) (sym is) halts; did = did_none a }
+  -- The first deeds were done, none of them a call, and then these PDUs were sent, of whose bytes some are held; the rest is left.
+  pub record Acting (old now : Sides P) (held : List ℕ) (all rest : List Deed) : Type 0 where
+    pub done : List Deed
+    pub sent : List Pdu
+    pub written : Option (List ℕ)
+    pub out : List ℕ
+    pub parts : all ≡ done ++ (map Send sent ++ rest)
+    pub halts : Halts rest
+    pub did : Did holds own old (sides now.port written now.reached) done [] []
+    pub appended : Appends written now.written out
+    pub bytes : out ++ held ≡ flat_map text_of sent
+
+  pub acting_start : (port : P) (w : Option (List ℕ)) (m : Option (List Moment)) (held : List ℕ) (all items : List Deed) → held ≡ [] → items ≡ all → Halts all → Acting (sides port w m) (sides port w m) held all items
+  acting_start port w m held all items none is halts = record {
+    done = [];
+    sent = [];
+    written = w;
+    out = [];
+    parts = sym is;
+    halts = subst (λ (t : List Deed). Halts t) (sym is) halts;
+    did = did_none (sides port w m);
+    appended = nothing_written w;
+    bytes = none;
+  }
 
   -- what is left begins with this deed
-  acting_at : (a b : Sides P) (all items : List Deed) (d deed : Deed) (rest : List Deed) → items ≡ d ∷ rest → d ≡ deed → Acting a b all items → Acting a b all (deed ∷ rest)
-  acting_at a b all items d deed rest parts is so = subst (λ (t : List Deed). Acting a b all t) (parts ∙ ap (λ (k : Deed). k ∷ rest) is) so
+  acting_at : (a b : Sides P) (held : List ℕ) (all items : List Deed) (d deed : Deed) (rest : List Deed) → items ≡ d ∷ rest → d ≡ deed → Acting a b held all items → Acting a b held all (deed ∷ rest)
+  acting_at a b held all items d deed rest parts is so = subst (λ (t : List Deed). Acting a b held all t) (parts ∙ ap (λ (k : Deed). k ∷ rest) is) so
 
   next_parts : (done all : List Deed) (d : Deed) (rest : List Deed) → all ≡ done ++ d ∷ rest → all ≡ (done ++ d ∷ []) ++ rest
   next_parts done all d rest parts = parts ∙ sym (append_assoc done (d ∷ []) rest)
 
-  pub acting_send : (a : Sides P) (port : P) (w0 w1 : Option (List ℕ)) (m : Option (List Moment)) (all items : List Deed) (d : Deed) (pdu : Pdu) (rest : List Deed) → items ≡ d ∷ rest → d ≡ Send pdu
-      → Acting a (sides port w0 m) all items → Appends w0 w1 (text_of pdu) → Acting a (sides port w1 m) all rest
-  acting_send a port w0 w1 m all items d pdu rest parts is so p =
-      let at = acting_at a (sides port w0 m) all items d (Send pdu) rest parts is so in
+  -- A PDU more is sent.
+  pub acting_send : (a : Sides P) (port : P) (w0 w1 : Option (List ℕ)) (m : Option (List Moment)) (held left : List ℕ) (all items : List Deed) (d : Deed) (pdu : Pdu) (rest : List Deed) → items ≡ d ∷ rest → d ≡ Send pdu
+      → Acting a (sides port w0 m) held all items → Puts w0 held w1 left (text_of pdu) → Acting a (sides port w1 m) left all rest
+  acting_send a port w0 w1 m held left all items d pdu rest parts is so p =
+      let at = acting_at a (sides port w0 m) held all items d (Send pdu) rest parts is so in
       record {
-        done = at.done ++ Send pdu ∷ [];
-        parts = next_parts at.done all (Send pdu) rest at.parts;
+        done = at.done;
+        sent = at.sent ++ pdu ∷ [];
+        written = at.written;
+        out = at.out ++ p.0;
+        parts = at.parts ∙ ap (λ (t : List Deed). at.done ++ t) (sent_more at.sent pdu rest);
         halts = at.halts;
-        did = did_then a (sides port w0 m) (sides port w1 m) at.done (Send pdu ∷ []) [] [] [] at.did (did_send port w0 w1 m pdu p);
+        did = at.did;
+        appended = further at.written w0 w1 at.out p.0 at.appended p.1;
+        bytes = append_assoc at.out p.0 left ∙ ap (λ (t : List ℕ). at.out ++ t) p.2 ∙ sym (append_assoc at.out held (text_of pdu))
+            ∙ ap (λ (t : List ℕ). t ++ text_of pdu) at.bytes ∙ sym (one_more at.sent pdu);
       }
 
-  pub acting_reach : (a : Sides P) (port : P) (w : Option (List ℕ)) (m0 m1 : Option (List Moment)) (all items : List Deed) (d : Deed) (moment : Moment) (rest : List Deed) → items ≡ d ∷ rest → d ≡ Reach moment
-      → Acting a (sides port w m0) all items → Passed m0 m1 (moment ∷ []) → Acting a (sides port w m1) all rest
-  acting_reach a port w m0 m1 all items d moment rest parts is so p =
-      let at = acting_at a (sides port w m0) all items d (Reach moment) rest parts is so in
-      record {
+  -- What was held is written.
+  pub flushed : (a : Sides P) (port : P) (w0 w1 : Option (List ℕ)) (m : Option (List Moment)) (held : List ℕ) (all rest : List Deed) → Acting a (sides port w0 m) held all rest → Appends w0 w1 held
+      → Acted a (sides port w1 m) all rest
+  flushed a port w0 w1 m held all rest at p = record {
+    done = at.done ++ map Send at.sent;
+    parts = at.parts ∙ sym (append_assoc at.done (map Send at.sent) rest);
+    halts = at.halts;
+    did = did_then a (sides port at.written m) (sides port w1 m) at.done (map Send at.sent) [] [] [] at.did
+        (did_sends port at.written w1 m at.sent [] (subst (λ (t : List ℕ). Appends at.written w1 t) (at.bytes ∙ sym (append-nil (flat_map text_of at.sent))) (further at.written w0 w1 at.out held at.appended p)));
+  }
+
+  -- Nothing is held.
+  acting_on : (a : Sides P) (port : P) (w : Option (List ℕ)) (m : Option (List Moment)) (held : List ℕ) (all rest : List Deed) → held ≡ [] → Acted a (sides port w m) all rest → Acting a (sides port w m) held all rest
+  acting_on a port w m held all rest none at = record {
+    done = at.done;
+    sent = [];
+    written = w;
+    out = [];
+    parts = at.parts;
+    halts = at.halts;
+    did = at.did;
+    appended = nothing_written w;
+    bytes = none;
+  }
+
+  -- What was held is written, and the gate is reached.
+  pub acting_reach : (a : Sides P) (port : P) (w0 w1 : Option (List ℕ)) (m0 m1 : Option (List Moment)) (held left : List ℕ) (all items : List Deed) (d : Deed) (moment : Moment) (rest : List Deed) → items ≡ d ∷ rest → d ≡ Reach moment
+      → Acting a (sides port w0 m0) held all items → Appends w0 w1 held → left ≡ [] → Passed m0 m1 (moment ∷ []) → Acting a (sides port w1 m1) left all rest
+  acting_reach a port w0 w1 m0 m1 held left all items d moment rest parts is so p none q =
+      let at = flushed a port w0 w1 m0 held all (Reach moment ∷ rest) (acting_at a (sides port w0 m0) held all items d (Reach moment) rest parts is so) p in
+      acting_on a port w1 m1 left all rest none (record {
         done = at.done ++ Reach moment ∷ [];
         parts = next_parts at.done all (Reach moment) rest at.parts;
         halts = at.halts;
-        did = did_then a (sides port w m0) (sides port w m1) at.done (Reach moment ∷ []) [] [] [] at.did (did_reach port w m0 m1 moment p);
-      }
+        did = did_then a (sides port w1 m0) (sides port w1 m1) at.done (Reach moment ∷ []) [] [] [] at.did (did_reach port w1 m0 m1 moment q);
+      })
 
   -- the last deed
   ends_with : (done all : List Deed) (d : Deed) (rest : List Deed) → all ≡ done ++ d ∷ rest → rest ≡ [] → all ≡ done ++ d ∷ []
   ends_with done all d rest parts none = parts ∙ ap (λ (t : List Deed). done ++ d ∷ t) none
 
-  pub acted_ask : (a : Sides P) (p0 p1 : P) (w : Option (List ℕ)) (m : Option (List Moment)) (all items : List Deed) (d : Deed) (call : Call) (reply : Reply) (rest : List Deed) → items ≡ d ∷ rest → d ≡ Ask call
-      → Acting a (sides p0 w m) all items → Replies holds own p0 call reply p1 → Did holds own a (sides p1 w m) all [] (reply ∷ [])
-  acted_ask a p0 p1 w m all items d call reply rest parts is so p =
-      let at = acting_at a (sides p0 w m) all items d (Ask call) rest parts is so in
-      subst (λ (t : List Deed). Did holds own a (sides p1 w m) t [] (reply ∷ [])) (sym (ends_with at.done all (Ask call) rest at.parts at.halts))
-      (did_then a (sides p0 w m) (sides p1 w m) at.done (Ask call ∷ []) [] [] (reply ∷ []) at.did (did_ask p0 p1 w m call reply p))
+  pub acted_ask : (a : Sides P) (p0 p1 : P) (w0 w1 : Option (List ℕ)) (m : Option (List Moment)) (held : List ℕ) (all items : List Deed) (d : Deed) (call : Call) (reply : Reply) (rest : List Deed) → items ≡ d ∷ rest → d ≡ Ask call
+      → Acting a (sides p0 w0 m) held all items → Appends w0 w1 held → Replies holds own p0 call reply p1 → Did holds own a (sides p1 w1 m) all [] (reply ∷ [])
+  acted_ask a p0 p1 w0 w1 m held all items d call reply rest parts is so p q =
+      let at = flushed a p0 w0 w1 m held all (Ask call ∷ rest) (acting_at a (sides p0 w0 m) held all items d (Ask call) rest parts is so) p in
+      subst (λ (t : List Deed). Did holds own a (sides p1 w1 m) t [] (reply ∷ [])) (sym (ends_with at.done all (Ask call) rest at.parts at.halts))
+      (did_then a (sides p0 w1 m) (sides p1 w1 m) at.done (Ask call ∷ []) [] [] (reply ∷ []) at.did (did_ask p0 p1 w1 m call reply q))
 
-  pub acted_close : (a b : Sides P) (all items : List Deed) (d : Deed) (rest : List Deed) → items ≡ d ∷ rest → d ≡ Close → Acting a b all items → Did holds own a b all [] []
-  acted_close a b all items d rest parts is so =
-      let at = acting_at a b all items d Close rest parts is so in
-      subst (λ (t : List Deed). Did holds own a b t [] []) (sym (ends_with at.done all Close rest at.parts at.halts))
-      (did_then a b b at.done (Close ∷ []) [] [] [] at.did (did_close b))
+  pub acted_close : (a : Sides P) (port : P) (w0 w1 : Option (List ℕ)) (m : Option (List Moment)) (held : List ℕ) (all items : List Deed) (d : Deed) (rest : List Deed) → items ≡ d ∷ rest → d ≡ Close
+      → Acting a (sides port w0 m) held all items → Appends w0 w1 held → Did holds own a (sides port w1 m) all [] []
+  acted_close a port w0 w1 m held all items d rest parts is so p =
+      let at = flushed a port w0 w1 m held all (Close ∷ rest) (acting_at a (sides port w0 m) held all items d Close rest parts is so) p in
+      subst (λ (t : List Deed). Did holds own a (sides port w1 m) t [] []) (sym (ends_with at.done all Close rest at.parts at.halts))
+      (did_then a (sides port w1 m) (sides port w1 m) at.done (Close ∷ []) [] [] [] at.did (did_close (sides port w1 m)))
 
-  pub acting_broke : (a : Sides P) (port : P) (w0 w1 : Option (List ℕ)) (m : Option (List Moment)) (all items : List Deed) (d : Deed) (pdu : Pdu) (rest : List Deed) → items ≡ d ∷ rest → d ≡ Send pdu
-      → Acting a (sides port w0 m) all items → (part : List ℕ) × IsFront part (text_of pdu) × Appends w0 w1 part → BreaksOff holds own a (sides port w1 m) all
-  acting_broke a port w0 w1 m all items d pdu rest parts is so p =
-      let at = acting_at a (sides port w0 m) all items d (Send pdu) rest parts is so in (
-        at.done,
-        p.0,
-        (Send pdu ∷ rest, at.parts, p.1),
-        subst (λ (t : List Deed). Did holds own a (sides port w1 m) t p.0 []) (append-nil at.done)
-            (did_then a (sides port w0 m) (sides port w1 m) at.done [] p.0 [] [] at.did (did_part port w0 w1 m p.0 p.2)),
+  -- No deed is left.
+  pub acted_all : (a : Sides P) (port : P) (w0 w1 : Option (List ℕ)) (m : Option (List Moment)) (held : List ℕ) (all items : List Deed) → items ≡ [] → Acting a (sides port w0 m) held all items → Appends w0 w1 held → Did holds own a (sides port w1 m) all [] []
+  acted_all a port w0 w1 m held all items none so p =
+      let at = flushed a port w0 w1 m held all items so p in
+      subst (λ (t : List Deed). Did holds own a (sides port w1 m) t [] []) (sym (at.parts ∙ ap (λ (t : List Deed). at.done ++ t) none ∙ append-nil at.done)) at.did
+
+  -- A front of what was held, and of these bytes of the next deed, was written.
+  pub acting_broke : (a : Sides P) (port : P) (w0 w1 : Option (List ℕ)) (m : Option (List Moment)) (held : List ℕ) (all rest : List Deed) (text : List ℕ) → IsFront text (next_bytes rest)
+      → Acting a (sides port w0 m) held all rest → PutsFront w0 held w1 text → BreaksOff holds own a (sides port w1 m) all
+  acting_broke a port w0 w1 m held all rest text fits at p =
+      let total : at.out ++ (held ++ text) ≡ flat_map text_of at.sent ++ text = sym (append_assoc at.out held text) ∙ ap (λ (t : List ℕ). t ++ text) at.bytes in
+      let front = subst (λ (t : List ℕ). IsFront (at.out ++ p.0) t) total (front_behind at.out p.0 (held ++ text) p.2) in
+      let split = sent_front at.sent (at.out ++ p.0) text rest fits front in (
+        at.done ++ map Send split.done,
+        split.part,
+        (
+          map Send split.left ++ rest,
+          at.parts ∙ ap (λ (t : List Pdu). at.done ++ (map Send t ++ rest)) split.parts ∙ ap (λ (t : List Deed). at.done ++ t) (sends_on split.done split.left rest) ∙ sym (append_assoc at.done (map Send split.done) (map Send split.left ++ rest)),
+          split.front,
+        ),
+        did_then a (sides port at.written m) (sides port w1 m) at.done (map Send split.done) split.part [] [] at.did
+            (did_sends port at.written w1 m split.done split.part (subst (λ (t : List ℕ). Appends at.written w1 t) split.is (further at.written w0 w1 at.out p.0 at.appended p.1))),
       )
+
+  -- a PDU of which a front was put
+  pub acting_broke_at : (a : Sides P) (port : P) (w0 w1 : Option (List ℕ)) (m : Option (List Moment)) (held : List ℕ) (all items : List Deed) (d : Deed) (pdu : Pdu) (rest : List Deed) → items ≡ d ∷ rest → d ≡ Send pdu
+      → Acting a (sides port w0 m) held all items → PutsFront w0 held w1 (text_of pdu) → BreaksOff holds own a (sides port w1 m) all
+  acting_broke_at a port w0 w1 m held all items d pdu rest parts is so p =
+      acting_broke a port w0 w1 m held all (Send pdu ∷ rest) (text_of pdu) (all_front (text_of pdu)) (acting_at a (sides port w0 m) held all items d (Send pdu) rest parts is so) p
 
 -- ---- fronts of deeds
 

@@ -1,6 +1,7 @@
 pub mod DidLaws
 pub mod Fronts
 pub mod HandLaws
+pub mod OutboxLaws
 pub mod PieceLaws
 pub mod StepLaws
 pub mod TurnLaws

@@ -1,6 +1,6 @@
 -- What a session is told up to the end of a PDU, and what is done for it.
 use Rattle.std.proofs.Common.{◌≡◌, ◌≢◌, ℕ, ◌+◌, ◌<◌, Bool, true, false, ◌||◌, List, [], ◌∷◌, ◌++◌, length, Option, Some, None, Result, Ok, Err, inl, inr, ◌⊎◌, refl, sym, ap, subst, ◌∙◌, append_assoc, append-nil, arith}
-use Rattle.std.specs.Prelude.{IsSome, IsTrue, option_to_list}
+use Rattle.std.specs.Prelude.{IsSome, option_to_list}
 use Rattle.std.specs.List.{list_any}
 use Rattle.std.proofs.lemmas.List.Folds.{list_any-append}
 use Rattle.pdu.specs.declared.pdv.Pdv.{Pdv}
@@ -14,24 +14,23 @@ use Rattle.dimse.specs.declared.fault.DimseFault.{DimseFault}
 use Rattle.dimse.specs.declared.message.Message.{Message}
 use Rattle.dimse.specs.Assembly.{Assembly}
 use Rattle.dimse.specs.Messages.{Run, HadMemory}
-use Rattle.association_session.specs.declared.deed.Call.{Call}
 use Rattle.association_session.specs.declared.deed.Deed.{Deed}
 use Rattle.association_session.specs.declared.deed.Deed.TheVariants.{Send, Reach, Ask, Close}
 use Rattle.association_session.specs.declared.event.SessionEvent.{SessionEvent}
 use Rattle.association_session.specs.declared.event.SessionEvent.TheVariants as inputs
 use Rattle.association_session.specs.declared.reply.Reply.{Reply}
 use Rattle.association_session.specs.Order.{IsOrderly}
-use Rattle.association_session.specs.Projections.{IsFront, calls_in, state_after, state_by_pdu}
+use Rattle.association_session.specs.Projections.{calls_in, state_after, state_by_pdu}
 use Rattle.association_session.specs.Response.{Awaited}
 use Rattle.association_session.specs.Row.{Within, met}
-use Rattle.association_session.specs.Session.{AssociationState, SessionState, HearsValues, Turned, Takes, Owes, OwedFor, Stops, IsFewer, started, heard_in, is_left, in_turn, is_in_turn, is_abort, is_release, is_abort_event, reads_abort, aborted_by, met_in, replies_in}
+use Rattle.association_session.specs.Session.{AssociationState, SessionState, Turned, Takes, Owes, OwedFor, Stops, heard_in, is_left, in_turn, is_in_turn, is_abort, is_release, is_abort_event, reads_abort, met_in, replies_in}
 use Rattle.association_session.specs.Talks.{Heard, Met, Said, Leads, Talks, behind}
 use Rattle.association_session.proofs.HearLaws.{owed_idle}
 use Rattle.association_session.proofs.OrderLaws.{orderly}
-use Rattle.association_run.specs.Hearing.{Place, Says, Hears, HearsSome}
-use Rattle.association_run.specs.Parts.{Sides, Did, Begins}
+use Rattle.association_run.specs.Hearing.{Place, Says, HearsSome}
+use Rattle.association_run.specs.Parts.{Sides, Did}
 use Rattle.association_run.specs.Port.{History}
-use Rattle.association_run.specs.Steps.{Halts, BreaksOff, Pends, IsNext, DidTurn, BrokeDeeds, BrokeTurn, HeardWhole, HearsPart, HeardFront, place_of}
+use Rattle.association_run.specs.Steps.{Halts, Pends, IsNext, DidTurn, BrokeTurn, HeardWhole, HeardFront, place_of}
 use Rattle.association_run.proofs.Fronts.{all_front}
 use Rattle.association_run.proofs.DidLaws.{did_none, did_then, all_begun, begun_behind}
 

@@ -22,11 +22,10 @@ use Rattle.dimse.specs.declared.message.Message.{Message}
 use Rattle.dimse.specs.Assembly.{Assembly}
 use Rattle.dimse.specs.Messages.{Run}
 use Rattle.association_session.specs.declared.deed.Deed.{Deed}
-use Rattle.association_session.specs.declared.event.SessionEvent.TheVariants as inputs
 use Rattle.association_session.specs.declared.reply.Reply.{Reply}
 use Rattle.association_session.specs.Projections.{IsFront}
 use Rattle.association_session.specs.Row.{Within, opening, handed_on}
-use Rattle.association_session.specs.Session.{AssociationState, SessionState, Takes, Owes, start, is_left, heard_in, is_abort, is_release, is_abort_event}
+use Rattle.association_session.specs.Session.{AssociationState, SessionState, Takes, Owes, start, is_left, heard_in, is_abort, is_release}
 use Rattle.association_session.specs.Talks.{Heard, Leads, Talks}
 use Rattle.association_session.proofs.TalkLaws.{talks_front}
 use Rattle.association_run.specs.declared.piece.Piece.{Piece}
@@ -36,14 +35,14 @@ use Rattle.association_run.specs.declared.run.Intake.{Intake}
 use Rattle.association_run.specs.declared.run.TheConstants.{MOST_DROPPED}
 use Rattle.association_run.specs.Inbox.{EMPTY, InHand}
 use Rattle.association_run.specs.Pieces.{IsPiece, Precedes, Cuts, is_cut, is_whole, event_of, size_of_piece}
-use Rattle.association_run.specs.Hearing.{Place, Course, SETTING_OUT, Says, Hears, HearsFront, TakesPiece, TakesPieces, TakesSome, counts}
-use Rattle.association_run.specs.Parts.{Sides, Did, Begins}
+use Rattle.association_run.specs.Hearing.{Place, Course, SETTING_OUT, Says, Hears, HearsFront, TakesPiece, TakesPieces, counts}
+use Rattle.association_run.specs.Parts.{Sides, Begins}
 use Rattle.association_run.specs.Output.{Output, FrontOfOutput, IsOver, IsLeft, all_counted, end_in, is_over, is_abort_piece, was_aborted, was_released}
-use Rattle.association_run.specs.Steps.{place_of, HearsPart, HeardWhole, HeardFront}
+use Rattle.association_run.specs.Steps.{place_of, HearsPart, HeardFront}
 use Rattle.association_run.specs.Turns.{counted_in, NOTHING_READ, Adds, Drops, Reads, HearsPiece, TakesHand, TakingBroke, IsInHand, IsDropped, IsReady, Sofar}
 use Rattle.association_run.proofs.Fronts.{read_further, nothing_read, all_front, front_behind}
 use Rattle.association_run.proofs.DidLaws.{did_none, did_then, all_begun, begun_behind, begun_more}
-use Rattle.association_run.proofs.StepLaws.{takes_all, takes_then, or_assoc}
+use Rattle.association_run.proofs.StepLaws.{takes_all, takes_then}
 
 -- ---- pieces
 

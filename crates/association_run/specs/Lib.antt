@@ -1,6 +1,7 @@
 pub mod Fault
 pub mod Hearing
 pub mod Inbox
+pub mod Outbox
 pub mod Output
 pub mod Parts
 pub mod Pieces

@@ -1,5 +1,5 @@
 -- What is done on one event of a session, and on one PDU.
-use Rattle.std.specs.Prelude.{◌≡◌, ◌⊎◌, ℕ, Bool, false, ◌||◌, List, [], ◌∷◌, ◌++◌, Option, Some, None, IsTrue, option_to_list, ⊤}
+use Rattle.std.specs.Prelude.{◌≡◌, ◌⊎◌, ℕ, false, ◌||◌, List, [], ◌∷◌, Option, Some, None, IsTrue, option_to_list, ⊤}
 use Rattle.std.specs.List.{list_any}
 use Rattle.operation.specs.declared.op.Op.{Op}
 use Rattle.pdu.specs.declared.pdv.Pdv.{Pdv}

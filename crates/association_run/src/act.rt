@@ -1,58 +1,44 @@
 //! What a session asks, done in order.
 
-ghost use Rattle.std.specs.Prelude.{◌≡◌, ◌≢◌, ◌∷◌, [], ℕ, List, IfOk, OnErr, OnOk, All, IsTrue, None, option_to_list, false};
-ghost use Rattle.std.specs.Io.KnownBytes.{Appends};
+ghost use Rattle.std.specs.Prelude.{◌≡◌, ◌≢◌, [], IfOk, OnErr, OnOk, All, IsTrue, None, option_to_list, false};
 ghost use Rattle.pdu.specs.Spelling.{IsPdu, text_of};
 ghost use Rattle.ul_state.specs.declared.table.State.TheVariants.{Sta1};
 ghost use Rattle.association_session.specs.declared.event.SessionEvent.TheVariants.{Heard};
-ghost use Rattle.association_session.specs.Projections.{IsFront};
 ghost use Rattle.association_session.specs.Session.{IsSound, IsWritable, is_in_turn, is_left};
 ghost use Rattle.association_run.specs.Fault.{CountedWhere, tells_read, tells_write, tells_turns};
+ghost use Rattle.association_run.specs.Outbox.{Puts, PutsFront};
 ghost use Rattle.association_run.specs.Parts.{sides, Did};
 ghost use Rattle.association_run.specs.Port.{Replies};
 ghost use Rattle.association_run.specs.Steps.{Halts, BreaksOff, Pends, IsNext, DidTurn, BrokeTurn, HeardWhole, HeardFront};
 
 use crate::fault::RunFault;
 use crate::gate::Gate;
+use crate::outbox::Outbox;
 use crate::port::Port;
 use association_session::{Call, Deed, Reply, Session, SessionEvent};
-use devices::{Sink, put_all};
+use devices::Sink;
 use octets::ListOf;
-use pdu::{Pdu, write_pdu};
+use pdu::Pdu;
 use std::alloc::Global;
 use ul_state::{Event, Titles};
 
-/// Writes a PDU by one text.
-fn write<W: Sink>(alloc: Global, writer: &mut W, pdu: &Pdu) -> Result<(), RunFault>
-    requires { IsPdu pdu.now }
-    ensures ok { OnOk result (Appends (W.contents writer.old) (W.contents writer.new)
-        (text_of pdu.now)) }
-    ensures err { OnErr result ((part : List ℕ) × IsFront part (text_of pdu.now)
-        × Appends (W.contents writer.old) (W.contents writer.new) part) }
-    ensures read { tells_read result ≡ false }
-    ensures write { CountedWhere (tells_write result) (W.failures writer.old)
-        (W.failures writer.new) }
-    ensures going { tells_turns result ≡ false }
-{
-    let text = write_pdu(alloc, pdu)?;
-    if let Err(_failed) = put_all(writer, text.as_slice()) {
-        return Err(RunFault::Write);
-    }
-    Ok(())
-}
-
-fn send<W: Sink>(alloc: Global, writer: &mut W, pdu: Pdu) -> Result<(), RunFault>
+fn send<W: Sink>(
+    alloc: Global,
+    outbox: &mut Outbox,
+    writer: &mut W,
+    pdu: Pdu,
+) -> Result<(), RunFault>
     requires { IsPdu pdu }
-    ensures ok { OnOk result (Appends (W.contents writer.old) (W.contents writer.new)
-        (text_of pdu)) }
-    ensures err { OnErr result ((part : List ℕ) × IsFront part (text_of pdu)
-        × Appends (W.contents writer.old) (W.contents writer.new) part) }
+    ensures ok { OnOk result (Puts (W.contents writer.old) outbox.old (W.contents writer.new)
+        outbox.new (text_of pdu)) }
+    ensures err { OnErr result (PutsFront (W.contents writer.old) outbox.old
+        (W.contents writer.new) (text_of pdu)) }
     ensures read { tells_read result ≡ false }
     ensures write { CountedWhere (tells_write result) (W.failures writer.old)
         (W.failures writer.new) }
     ensures going { tells_turns result ≡ false }
 {
-    write(alloc, writer, &pdu)
+    outbox.put_pdu(alloc, writer, &pdu)
 }
 
 /// Makes a call.
@@ -64,10 +50,12 @@ fn ask<P: Port>(port: &mut P, call: Call) -> Reply
     }
 }
 
-/// Does deeds in their order, up to a call, whose reply is answered.
+/// Does deeds in their order, up to a call, whose reply is answered. PDUs that are sent one after
+/// another are written together; none is held back once the gate or the port is reached.
 fn act<W: Sink, P: Port, G: Gate>(
     alloc: Global,
     deeds: ListOf<Deed>,
+    outbox: &mut Outbox,
     writer: &mut W,
     port: &mut P,
     gate: &mut G,
@@ -86,14 +74,25 @@ fn act<W: Sink, P: Port, G: Gate>(
         (W.failures writer.new) }
     ensures going { tells_turns result ≡ false }
 {
+    outbox.clear();
     for deed in deeds.into_vec() {
         match deed {
-            Deed::Send(pdu) => send(alloc, writer, pdu)?,
-            Deed::Reach(moment) => gate.reach(moment),
-            Deed::Ask(call) => return Ok(Some(ask(port, call))),
-            Deed::Close => return Ok(None),
+            Deed::Send(pdu) => send(alloc, outbox, writer, pdu)?,
+            Deed::Reach(moment) => {
+                outbox.flush(writer)?;
+                gate.reach(moment);
+            }
+            Deed::Ask(call) => {
+                outbox.flush(writer)?;
+                return Ok(Some(ask(port, call)));
+            }
+            Deed::Close => {
+                outbox.flush(writer)?;
+                return Ok(None);
+            }
         }
     }
+    outbox.flush(writer)?;
     Ok(None)
 }
 
@@ -103,6 +102,7 @@ fn tell<V: Copy, W: Sink, P: Port, G: Gate>(
     session: &mut Session<V>,
     titles: &Titles<V>,
     event: SessionEvent,
+    outbox: &mut Outbox,
     writer: &mut W,
     port: &mut P,
     gate: &mut G,
@@ -122,7 +122,7 @@ fn tell<V: Copy, W: Sink, P: Port, G: Gate>(
     ensures going { tells_turns result ≡ false }
 {
     let deeds = session.on(titles, event)?;
-    act(alloc, deeds, writer, port, gate)
+    act(alloc, deeds, outbox, writer, port, gate)
 }
 
 /// What the session is told next: the reply of the port, and else that it goes on.
@@ -145,6 +145,7 @@ pub(crate) fn hear<V: Copy, W: Sink, P: Port, G: Gate>(
     session: &mut Session<V>,
     titles: &Titles<V>,
     event: Event,
+    outbox: &mut Outbox,
     writer: &mut W,
     port: &mut P,
     gate: &mut G,
@@ -172,12 +173,13 @@ pub(crate) fn hear<V: Copy, W: Sink, P: Port, G: Gate>(
         session,
         titles,
         SessionEvent::Heard(event),
+        outbox,
         writer,
         port,
         gate,
     )?;
     while let Some(input) = next(session, pending) {
-        pending = tell(alloc, session, titles, input, writer, port, gate)?;
+        pending = tell(alloc, session, titles, input, outbox, writer, port, gate)?;
     }
     Ok(())
 }

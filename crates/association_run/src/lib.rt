@@ -11,6 +11,7 @@ mod end;
 mod fault;
 mod gate;
 mod inbox;
+mod outbox;
 mod piece;
 mod port;
 mod run;

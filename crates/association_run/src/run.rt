@@ -16,6 +16,7 @@ use crate::end::End;
 use crate::fault::RunFault;
 use crate::gate::Gate;
 use crate::inbox::Inbox;
+use crate::outbox::Outbox;
 use crate::piece::Piece;
 use crate::port::Port;
 use association_session::Session;
@@ -160,6 +161,7 @@ fn take_piece<V: Copy, W: Sink, P: Port, G: Gate>(
     session: &mut Session<V>,
     titles: &Titles<V>,
     intake: &mut Intake,
+    outbox: &mut Outbox,
     writer: &mut W,
     port: &mut P,
     gate: &mut G,
@@ -186,7 +188,16 @@ fn take_piece<V: Copy, W: Sink, P: Port, G: Gate>(
     };
     intake.counted += counted(session.state(), size(&piece));
     intake.is_cut = is_whole(&piece);
-    hear(alloc, session, titles, event(piece), writer, port, gate)
+    hear(
+        alloc,
+        session,
+        titles,
+        event(piece),
+        outbox,
+        writer,
+        port,
+        gate,
+    )
 }
 
 /// How an association ends now.
@@ -219,6 +230,7 @@ fn take_turn<V: Copy, R: Source, W: Sink, P: Port, G: Gate>(
     titles: &Titles<V>,
     intake: &mut Intake,
     reader: &mut R,
+    outbox: &mut Outbox,
     writer: &mut W,
     port: &mut P,
     gate: &mut G,
@@ -240,7 +252,7 @@ fn take_turn<V: Copy, R: Source, W: Sink, P: Port, G: Gate>(
         let counted = intake.all_counted(session.state());
         return Ok(Some(end_now(session, counted)));
     }
-    take_piece(alloc, session, titles, intake, writer, port, gate)?;
+    take_piece(alloc, session, titles, intake, outbox, writer, port, gate)?;
     let counted = intake.all_counted(session.state());
     if is_over(session, counted) {
         return Ok(Some(end_now(session, counted)));
@@ -281,6 +293,7 @@ pub fn run_association<V: Copy, R: Source, W: Sink, P: Port, G: Gate>(
 {
     let mut session = Session::new(alloc);
     let mut intake = Intake::new(alloc);
+    let mut outbox = Outbox::new(alloc)?;
     for _ in 0..MOST_READS {
         match take_turn(
             alloc,
@@ -288,6 +301,7 @@ pub fn run_association<V: Copy, R: Source, W: Sink, P: Port, G: Gate>(
             titles,
             &mut intake,
             reader,
+            &mut outbox,
             writer,
             port,
             gate,

@@ -3,7 +3,7 @@ use Rattle.std.specs.Prelude.{◌≡◌, ◌≢◌, ◌<◌, ◌≤◌, ℕ, ◌
 use Rattle.std.specs.Prelude.{length, map, Option, Some, None, IfSome, if◌then◌else◌, ⊤}
 use Rattle.std.specs.List.{flat_map, list_all, AllByRecursion}
 use Rattle.std.specs.Int.{w16, w32, to_be_bytes}
-use Rattle.pdu.specs.declared.header.TheConstants.{LONGEST_BODY, LONGEST_ACCEPT}
+use Rattle.pdu.specs.declared.header.TheConstants.{LONGEST_BODY, LONGEST_ACCEPT, P_DATA}
 use Rattle.pdu.specs.declared.item.TheConstants.{APPLICATION_CONTEXT, PROPOSED_CONTEXT, ANSWERED_CONTEXT}
 use Rattle.pdu.specs.declared.item.TheConstants.{ABSTRACT_SYNTAX, TRANSFER_SYNTAX, USER_INFORMATION, MAXIMUM_LENGTH}
 use Rattle.pdu.specs.declared.item.TheConstants.{IMPLEMENTATION_CLASS, ROLE_SELECTION}
@@ -97,6 +97,10 @@ control_of true false = 1
 control_of false true = 2
 control_of true true = 3
 
+-- what stands before a fragment: the length, the context and the control header (PS3.8, 9.3.5.1 and E.2)
+abbrev pub pdv_head : Pdv → List ℕ
+pdv_head v = to_be_bytes w32 (2 + length v.fragment) ++ (v.context ∷ control_of v.command v.last ∷ [])
+
 abbrev pub pdv_text : Pdv → List ℕ
 pdv_text v = to_be_bytes w32 (2 + length v.fragment) ++ (v.context ∷ control_of v.command v.last ∷ v.fragment)
 
@@ -108,6 +112,10 @@ body_text (PData values) = flat_map pdv_text values
 body_text ReleaseRq = 0 ∷ 0 ∷ 0 ∷ 0 ∷ []
 body_text ReleaseRp = 0 ∷ 0 ∷ 0 ∷ 0 ∷ []
 body_text (Abort source reason) = 0 ∷ 0 ∷ source ∷ reason ∷ []
+
+-- what stands before the values of a P-DATA-TF (PS3.8, 9.3.5)
+abbrev pub data_head : List Pdv → List ℕ
+data_head values = P_DATA ∷ 0 ∷ to_be_bytes w32 (length (flat_map pdv_text values))
 
 -- the type, a byte 00, the length of four bytes, and the body
 unfoldable pub text_of : Pdu → List ℕ

@@ -29,4 +29,4 @@ pub use reject::Reject;
 pub use request::Request;
 pub use user::{Role, UserInformation};
 pub use value::{Pdu, Step};
-pub use writer::{is_read_again, write_pdu};
+pub use writer::{head_of_data, head_of_pdv, is_read_again, write_pdu};

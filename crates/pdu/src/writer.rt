@@ -6,7 +6,7 @@ ghost use Rattle.std.specs.Int.{w32, to_be_bytes};
 ghost use Rattle.pdu.specs.declared.header.TheConstants.{LONGEST_BODY, P_DATA};
 ghost use Rattle.pdu.specs.declared.value.Pdu.{Pdu};
 ghost use Rattle.pdu.specs.Grammar.{Spells};
-ghost use Rattle.pdu.specs.Spelling.{item_of, item_text, items_text, role_item, length_items, class_items, user_items, syntax_item, proposal_items, answer_items, proposal_item, answer_item, user_item, opening_text, request_items, accept_items, control_of, pdv_text, text_of, HasLength, FitsProposal, FitsAnswer, FitsRequest, FitsAccept, IsPdu};
+ghost use Rattle.pdu.specs.Spelling.{item_of, item_text, items_text, role_item, length_items, class_items, user_items, syntax_item, proposal_items, answer_items, proposal_item, answer_item, user_item, opening_text, request_items, accept_items, control_of, pdv_head, pdv_text, data_head, text_of, HasLength, FitsProposal, FitsAnswer, FitsRequest, FitsAccept, IsPdu};
 
 use crate::accept::Accept;
 use crate::context::{AnsweredContext, ProposedContext};
@@ -225,15 +225,29 @@ fn control(command: bool, last: bool) -> u8
     }
 }
 
+/// What stands before the fragment of a value.
+pub fn head_of_pdv(value: &Pdv) -> [u8; 6]
+    requires { length (pdv_text value.now) ≤ LONGEST_BODY }
+    ensures { result ≡ pdv_head value.now }
+{
+    let size = 2 + value.fragment.as_slice().len() as u32;
+    let [a, b, c, d] = size.to_be_bytes();
+    [
+        a,
+        b,
+        c,
+        d,
+        value.context,
+        control(value.command, value.last),
+    ]
+}
+
 fn put_pdv(out: &mut Vec<u8>, value: &Pdv) -> Result<(), AllocError>
     requires { length (pdv_text value.now) ≤ LONGEST_BODY }
     ensures { OnOk result (out.new.items ≡ out.old.items ++ pdv_text value.now) }
 {
-    let fragment = value.fragment.as_slice();
-    out.extend_from_slice(&(2 + fragment.len() as u32).to_be_bytes())?;
-    out.push(value.context)?;
-    out.push(control(value.command, value.last))?;
-    out.extend_from_slice(fragment)?;
+    out.extend_from_slice(&head_of_pdv(value))?;
+    out.extend_from_slice(value.fragment.as_slice())?;
     Ok(())
 }
 
@@ -257,6 +271,15 @@ fn length_of(values: &[Pdv]) -> u32
         size += 6 + value.fragment.len() as u32;
     }
     size
+}
+
+/// The header of a P-DATA-TF with these values.
+pub fn head_of_data(values: &[Pdv]) -> [u8; 6]
+    requires { length (flat_map pdv_text values.now) ≤ LONGEST_BODY }
+    ensures { result ≡ data_head values.now }
+{
+    let [a, b, c, d] = length_of(values).to_be_bytes();
+    [P_DATA, 0, a, b, c, d]
 }
 
 fn header(alloc: Global, code: u8, size: u32) -> Result<Vec<u8>, AllocError>

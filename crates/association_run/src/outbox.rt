@@ -1,0 +1,167 @@
+//! What is to be written, in one buffer for the whole association.
+
+ghost use Rattle.std.specs.Prelude.{◌≡◌, ◌≤◌, ℕ, List, [], length, OnOk, OnErr, false};
+ghost use Rattle.std.specs.List.{flat_map};
+ghost use Rattle.std.specs.Io.KnownBytes.{Appends};
+ghost use Rattle.pdu.specs.declared.header.TheConstants.{LONGEST_BODY};
+ghost use Rattle.pdu.specs.declared.value.Pdu.TheVariants.{PData};
+ghost use Rattle.pdu.specs.Spelling.{IsPdu, pdv_text, text_of};
+ghost use Rattle.association_run.specs.Fault.{CountedWhere, tells_read, tells_write, tells_turns};
+ghost use Rattle.association_run.specs.Outbox.{Puts, PutsFront};
+
+use crate::fault::RunFault;
+use devices::{Sink, put_all};
+use pdu::{Pdu, Pdv, head_of_data, head_of_pdv, write_pdu};
+use std::alloc::{AllocError, Global};
+use std::marker::Model;
+
+/// The most bytes that are held back: 64 KB.
+const ROOM: usize = 65_536;
+
+/// The bytes of PDUs that are still to be written. The PDUs that are sent together are written by
+/// as few writes as the room allows.
+#[derive(Drop)]
+pub(crate) struct Outbox {
+    bytes: Vec<u8>,
+}
+
+impl Model for Outbox {
+    ghost use Rattle.std.specs.Prelude.{List, ℕ, ◌≤◌, length};
+    ghost use Rattle.association_run.specs.declared.outbox.TheConstants.{ROOM};
+
+    ghost Value = { List ℕ };
+
+    ghost view = { λ o. o.bytes.items };
+
+    ghost invariant = { λ o. length o.bytes.items ≤ ROOM };
+}
+
+/// Writes the whole of some bytes.
+fn write<W: Sink>(writer: &mut W, bytes: &[u8]) -> Result<(), RunFault>
+    ensures ok { OnOk result (Appends (W.contents writer.old) (W.contents writer.new) bytes.now) }
+    ensures err { OnErr result (PutsFront (W.contents writer.old) [] (W.contents writer.new)
+        bytes.now) }
+    ensures read { tells_read result ≡ false }
+    ensures write { CountedWhere (tells_write result) (W.failures writer.old)
+        (W.failures writer.new) }
+    ensures going { tells_turns result ≡ false }
+{
+    match put_all(writer, bytes) {
+        Ok(()) => Ok(()),
+        Err(_failed) => Err(RunFault::Write),
+    }
+}
+
+impl Outbox {
+    /// Nothing is held. All the room is made here.
+    pub(crate) fn new(alloc: Global) -> Result<Outbox, AllocError> {
+        Ok(Outbox {
+            bytes: Vec::with_capacity(alloc, ROOM)?,
+        })
+    }
+
+    /// Drops what is held.
+    pub(crate) fn clear(&mut self)
+        ensures { self.new ≡ [] }
+    {
+        self.bytes.clear();
+    }
+
+    /// Writes what is held.
+    pub(crate) fn flush<W: Sink>(&mut self, writer: &mut W) -> Result<(), RunFault>
+        ensures ok { OnOk result (Appends (W.contents writer.old) (W.contents writer.new)
+            self.old) }
+        ensures empty { OnOk result (self.new ≡ []) }
+        ensures err { OnErr result (PutsFront (W.contents writer.old) self.old
+            (W.contents writer.new) []) }
+        ensures read { tells_read result ≡ false }
+        ensures write { CountedWhere (tells_write result) (W.failures writer.old)
+            (W.failures writer.new) }
+        ensures going { tells_turns result ≡ false }
+    {
+        write(writer, self.bytes.as_slice())?;
+        self.bytes.clear();
+        Ok(())
+    }
+
+    /// Holds some bytes behind the others. What has no room is written; bytes for which even the
+    /// empty buffer has none are written from the place where they are.
+    fn put<W: Sink>(&mut self, writer: &mut W, bytes: &[u8]) -> Result<(), RunFault>
+        ensures ok { OnOk result (Puts (W.contents writer.old) self.old (W.contents writer.new)
+            self.new bytes.now) }
+        ensures err { OnErr result (PutsFront (W.contents writer.old) self.old
+            (W.contents writer.new) bytes.now) }
+        ensures read { tells_read result ≡ false }
+        ensures write { CountedWhere (tells_write result) (W.failures writer.old)
+            (W.failures writer.new) }
+        ensures going { tells_turns result ≡ false }
+    {
+        if bytes.len() <= ROOM - self.bytes.len() {
+            self.bytes.extend_from_slice(bytes)?;
+            return Ok(());
+        }
+        self.flush(writer)?;
+        if bytes.len() <= ROOM {
+            self.bytes.extend_from_slice(bytes)?;
+            return Ok(());
+        }
+        write(writer, bytes)
+    }
+
+    fn put_pdv<W: Sink>(&mut self, writer: &mut W, value: &Pdv) -> Result<(), RunFault>
+        requires { length (pdv_text value.now) ≤ LONGEST_BODY }
+        ensures ok { OnOk result (Puts (W.contents writer.old) self.old (W.contents writer.new)
+            self.new (pdv_text value.now)) }
+        ensures err { OnErr result (PutsFront (W.contents writer.old) self.old
+            (W.contents writer.new) (pdv_text value.now)) }
+        ensures read { tells_read result ≡ false }
+        ensures write { CountedWhere (tells_write result) (W.failures writer.old)
+            (W.failures writer.new) }
+        ensures going { tells_turns result ≡ false }
+    {
+        self.put(writer, &head_of_pdv(value))?;
+        self.put(writer, value.fragment.as_slice())
+    }
+
+    fn put_data<W: Sink>(&mut self, writer: &mut W, values: &[Pdv]) -> Result<(), RunFault>
+        requires { length (flat_map pdv_text values.now) ≤ LONGEST_BODY }
+        ensures ok { OnOk result (Puts (W.contents writer.old) self.old (W.contents writer.new)
+            self.new (text_of (PData values.now))) }
+        ensures err { OnErr result (PutsFront (W.contents writer.old) self.old
+            (W.contents writer.new) (text_of (PData values.now))) }
+        ensures read { tells_read result ≡ false }
+        ensures write { CountedWhere (tells_write result) (W.failures writer.old)
+            (W.failures writer.new) }
+        ensures going { tells_turns result ≡ false }
+    {
+        self.put(writer, &head_of_data(values))?;
+        for value in values {
+            self.put_pdv(writer, value)?;
+        }
+        Ok(())
+    }
+
+    /// Holds a PDU behind what is held.
+    pub(crate) fn put_pdu<W: Sink>(
+        &mut self,
+        alloc: Global,
+        writer: &mut W,
+        pdu: &Pdu,
+    ) -> Result<(), RunFault>
+        requires { IsPdu pdu.now }
+        ensures ok { OnOk result (Puts (W.contents writer.old) self.old (W.contents writer.new)
+            self.new (text_of pdu.now)) }
+        ensures err { OnErr result (PutsFront (W.contents writer.old) self.old
+            (W.contents writer.new) (text_of pdu.now)) }
+        ensures read { tells_read result ≡ false }
+        ensures write { CountedWhere (tells_write result) (W.failures writer.old)
+            (W.failures writer.new) }
+        ensures going { tells_turns result ≡ false }
+    {
+        if let Pdu::PData(values) = pdu {
+            return self.put_data(writer, values.as_slice());
+        }
+        let text = write_pdu(alloc, pdu)?;
+        self.put(writer, text.as_slice())
+    }
+}
