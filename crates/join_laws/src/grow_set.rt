@@ -126,13 +126,15 @@ fn put_noted<'a, K: Exact>(
     Ok(())
 }
 
-// Puts in a copy of each key of the other set. Where memory is refused, the set stays as it was.
-fn join_sets<K: Exact>(
+// Puts in a copy of each key of the other set, and notes those that were absent. Where memory is
+// refused, the set stays as it was.
+fn join_sets<'a, K: Exact>(
     alloc: Global,
     into: &mut BTreeSet<K>,
-    other: &BTreeSet<K>,
-) -> Result<(), AllocError>
+    other: &'a BTreeSet<K>,
+) -> Result<Vec<&'a K>, AllocError>
     ensures ok { OnOk result (into.new.keys ≡ union_of K.cmp into.old.keys other.now.keys) }
+    ensures noted { IfOk result (λ added. taken_out K.cmp added.items into.new.keys ≡ into.old.keys) }
     ensures refused { OnErr result (into.new.keys ≡ into.old.keys) }
 {
     let mut added = Vec::with_capacity(alloc, other.len())?;
@@ -142,7 +144,26 @@ fn join_sets<K: Exact>(
             return Err(refused);
         }
     }
-    Ok(())
+    Ok(added)
+}
+
+impl<K: Exact> GrowSet<K> {
+    /// Takes in what the other holds, and answers the keys that were absent. Where memory is
+    /// refused, the set stays as it was.
+    pub fn join_noted<'a>(&mut self, other: &'a GrowSet<K>) -> Result<Vec<&'a K>, AllocError>
+        ensures ok { OnOk result (self.new ≡ union_of K.cmp self.old other.now) }
+        ensures noted { IfOk result (λ added. taken_out K.cmp added.items self.new ≡ self.old) }
+        ensures refused { OnErr result (self.new ≡ self.old) }
+    {
+        Ok(join_sets(self.alloc, &mut self.keys, &other.keys)?)
+    }
+
+    /// Takes out the keys that a join put in, the last one first. This takes no memory.
+    pub fn take_out(&mut self, added: Vec<&K>)
+        ensures { self.new ≡ taken_out K.cmp added.entry.items self.old }
+    {
+        take_out(&mut self.keys, added);
+    }
 }
 
 impl<K: Exact> Join for GrowSet<K> {
@@ -157,7 +178,8 @@ impl<K: Exact> Join for GrowSet<K> {
     }
 
     fn join_with(&mut self, other: &GrowSet<K>) -> Result<(), AllocError> {
-        join_sets(self.alloc, &mut self.keys, &other.keys)
+        let _ = self.join_noted(other)?;
+        Ok(())
     }
 }
 

@@ -199,14 +199,16 @@ fn put_noted<'a, K: Exact, J: Join + Copies>(
     }
 }
 
-// Takes in each entry of the other map. Where memory is refused, the map stays as it was.
-fn join_maps<K: Exact, J: Join + Copies>(
+// Takes in each entry of the other map, and notes what was there. Where memory is refused, the map
+// stays as it was.
+fn join_maps<'a, K: Exact, J: Join + Copies>(
     alloc: Global,
     into: &mut BTreeMap<K, J>,
-    other: &BTreeMap<K, J>,
-) -> Result<(), AllocError>
+    other: &'a BTreeMap<K, J>,
+) -> Result<Vec<(&'a K, Option<J>)>, AllocError>
     ensures ok { OnOk result (into.new.entries ≡
         map_joined K.cmp J.joined into.old.entries other.now.entries) }
+    ensures noted { IfOk result (λ notes. undone K.cmp notes.items into.new.entries ≡ into.old.entries) }
     ensures refused { OnErr result (into.new.entries ≡ into.old.entries) }
 {
     let mut notes = Vec::with_capacity(alloc, other.len())?;
@@ -216,7 +218,30 @@ fn join_maps<K: Exact, J: Join + Copies>(
             return Err(refused);
         }
     }
-    Ok(())
+    Ok(notes)
+}
+
+impl<K: Exact, J: Join + Copies> MapOf<K, J> {
+    /// Takes in each entry of the other map, and answers what was at each key of it. Where memory is
+    /// refused, the map stays as it was.
+    pub fn join_noted<'a>(
+        &mut self,
+        other: &'a MapOf<K, J>,
+    ) -> Result<Vec<(&'a K, Option<J>)>, AllocError>
+        ensures ok { OnOk result (self.new ≡ map_joined K.cmp J.joined self.old other.now) }
+        ensures noted { IfOk result (λ notes. undone K.cmp notes.items self.new ≡ self.old) }
+        ensures refused { OnErr result (self.new ≡ self.old) }
+    {
+        Ok(join_maps(self.alloc, &mut self.map, &other.map)?)
+    }
+
+    /// Writes back what was at the keys of a join, the last one first. This takes no memory.
+    pub fn take_back(&mut self, notes: Vec<(&K, Option<J>)>)
+        requires { AllHeld J.IsHeld (undone K.cmp notes.items self.now) }
+        ensures { self.new ≡ undone K.cmp notes.entry.items self.old }
+    {
+        take_back(&mut self.map, notes);
+    }
 }
 
 impl<K: Exact, J: Join + Copies> Join for MapOf<K, J> {
@@ -227,7 +252,7 @@ impl<K: Exact, J: Join + Copies> Join for MapOf<K, J> {
     ghost laws = { map_laws K.total K.exact J.laws };
 
     fn join_with(&mut self, other: &MapOf<K, J>) -> Result<(), AllocError> {
-        join_maps(self.alloc, &mut self.map, &other.map)?;
+        let _ = self.join_noted(other)?;
         Ok(())
     }
 

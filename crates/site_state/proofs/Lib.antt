@@ -1,6 +1,7 @@
 pub mod Ascending
 pub mod Counted
 pub mod Indexed
+pub mod Journals
 pub mod Lawful
 pub mod Lookups
 pub mod Maps

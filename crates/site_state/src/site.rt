@@ -7,6 +7,8 @@ ghost use Rattle.archive_model.specs.Shown.{shown_at};
 ghost use Rattle.archive_model.specs.Attributes.{attribute as attribute_in};
 ghost use Rattle.std.specs.Option.{option_copied};
 ghost use Rattle.std.specs.FinMap as finmap;
+ghost use Rattle.std.specs.List.Sorted.{IsStrictlySortedBy};
+ghost use Rattle.octets.specs.Texts.{text_cmp};
 ghost use Rattle.operation.specs.Spelling.{digest_of};
 ghost use Rattle.site_state.specs.Site.{IsSite, Map, digests_of, is_missing as is_missing_in, ops_of, held_at, with_op, IsClash, Takes, counter_of as counter_of_op, top_counter_of, counts_of};
 ghost use Rattle.study_index.specs.Definition.{IsIndexOf, IsLawful, AreLawful};
@@ -15,14 +17,14 @@ ghost use Rattle.site_state.specs.Hidden.{hides_under, is_hidden as is_hidden_in
 
 use crate::counts::Counts;
 use crate::fault::SiteFault;
-use crate::tree::{add_copies, do_clash, take_in};
+use crate::tree::{do_clash, merge_in, take_in};
 use archive_model::{View, content, hides, is_hiding};
 use join_laws::Join;
 use octets::Octets;
 use operation::{Content, Digest, Digested, Op, Taken};
 use rejection_note::NoteTitle;
 use std::alloc::{AllocError, Global};
-use std::collections::BTreeMap;
+use std::collections::{BTreeMap, BTreeSet};
 use std::marker::Model;
 use study_index::{Index, ShortText};
 
@@ -71,6 +73,18 @@ fn see_lawful(op: &Op)
             let _ = correction.stamp();
         }
     }
+}
+
+// The bytes of some UIDs, ascending.
+fn octets_of(alloc: Global, uids: &BTreeSet<ShortText>) -> Result<Vec<Octets>, AllocError>
+    ensures all { IfOk result (λ texts. texts.items ≡ uids.now.keys) }
+    ensures ordered { IfOk result (λ _. IsStrictlySortedBy text_cmp uids.now.keys) }
+{
+    let mut texts = Vec::new(alloc);
+    for uid in uids.iter() {
+        texts.push(Octets::from_slice(alloc, uid.as_slice())?)?;
+    }
+    Ok(texts)
 }
 
 impl Site {
@@ -164,11 +178,13 @@ impl Site {
         if do_clash(&self.operations, &other.operations) {
             return Err(SiteFault::Collision);
         }
-        let mut union = BTreeMap::new(self.alloc);
-        add_copies(self.alloc, &mut union, &self.operations)?;
-        add_copies(self.alloc, &mut union, &other.operations)?;
-        self.index.join_with(&other.index)?;
-        self.operations = union;
+        merge_in(
+            self.alloc,
+            &mut self.operations,
+            &mut self.index,
+            &other.operations,
+            &other.index,
+        )?;
         self.top = self.top.max(other.top);
         Ok(())
     }
@@ -328,12 +344,17 @@ impl Site {
         Ok(missing)
     }
 
-    /// The flagged SOP Instance UIDs, ascending.
+    /// The flagged SOP Instance UIDs, ascending, by one pass over the copies of the index.
     pub fn flagged(&self, alloc: Global) -> Result<Vec<Octets>, AllocError>
         ensures { IfOk result (λ uids. uids.items ≡ flagged_in (ops_of self.now)) }
     {
-        let ops = self.operations(alloc)?;
-        archive_model::flagged(alloc, &ops)
+        self.see_lawful();
+        let mut uids = BTreeSet::new(alloc);
+        let index = self.index();
+        index.held();
+        index.put_flagged(&mut uids)?;
+        let texts = octets_of(alloc, &uids)?;
+        Ok(texts)
     }
 
     /// The greatest counter of the corrections that are held, 0 where none is.
@@ -343,22 +364,16 @@ impl Site {
         self.top
     }
 
-    /// How many operations are held, and of which kind.
+    /// How many operations are held, and of which kind, by what is kept.
     pub fn counts(&self) -> Counts
         ensures { result ≡ counts_of (ops_of self.now) }
     {
-        let mut contents = 0;
-        let mut corrections = 0;
-        for op in self.operations.values() {
-            match op {
-                Op::Content(_) => contents += 1,
-                Op::Correction(_) => corrections += 1,
-            }
-        }
+        let operations = self.operations.len();
+        let contents = self.index.content_count();
         Counts {
-            operations: self.operations.len(),
+            operations,
             contents,
-            corrections,
+            corrections: operations - contents,
         }
     }
 }

@@ -1,12 +1,15 @@
 //! Trees of operations, each under a digest: what a site keeps.
 
-ghost use Rattle.std.specs.Prelude.{◌≡◌, [], ◌∷◌, List, ℕ, cond, None, Some, OnOk, OnErr, IfSome, MatchBool};
+ghost use Rattle.std.specs.Prelude.{◌≡◌, [], ◌∷◌, List, ℕ, cond, None, Some, OnOk, OnErr, IfOk, IfSome, MatchBool};
+ghost use Rattle.std.specs.FinMap as finmap;
 ghost use Rattle.std.specs.BTreeMap.{is_at};
 ghost use Rattle.operation.specs.Spelling.{digest_of};
 ghost use Rattle.study_index.specs.Index.{index_joined, index_of};
 ghost use Rattle.site_state.specs.Site.{digest_cmp, of_entries, entry_at, index_with, HasOther, HasNoOther};
 ghost use Rattle.site_state.specs.Union.{union, DoClash, Agree};
+ghost use Rattle.site_state.specs.Journal.{without};
 
+use join_laws::Join;
 use operation::{Digest, Op};
 use std::alloc::{AllocError, Global};
 use std::collections::BTreeMap;
@@ -36,34 +39,89 @@ pub fn do_clash(these: &BTreeMap<Digest, Op>, those: &BTreeMap<Digest, Op>) -> b
     false
 }
 
-/// Adds a copy of an operation, unless its digest is there.
-fn add_copy(
+// Takes the operation of a digest out.
+fn take_one_out(tree: &mut BTreeMap<Digest, Op>, digest: &Digest)
+    ensures { of_entries tree.new.entries
+        ≡ finmap.remove (of_entries tree.old.entries) digest.now }
+{
+    let _ = tree.remove(digest);
+}
+
+// Takes the operations of some digests out, the last one first. This takes no memory.
+fn take_out(tree: &mut BTreeMap<Digest, Op>, added: Vec<&Digest>)
+    ensures { of_entries tree.new.entries
+        ≡ without added.entry.items (of_entries tree.old.entries) }
+{
+    let mut left = added;
+    while let Some(digest) = left.pop() {
+        take_one_out(tree, digest);
+    }
+}
+
+// Adds a copy of an operation and notes its digest, unless that is there. Where memory is refused,
+// the notes still lead back.
+fn add_copy<'a>(
     alloc: Global,
     tree: &mut BTreeMap<Digest, Op>,
-    digest: &Digest,
+    added: &mut Vec<&'a Digest>,
+    digest: &'a Digest,
     op: &Op,
 ) -> Result<(), AllocError>
-    ensures { OnOk result (of_entries tree.new.entries
+    ensures ok { OnOk result (of_entries tree.new.entries
         ≡ union (of_entries tree.old.entries) (of_entries ((digest.now, op.now) ∷ []))) }
+    ensures noted { without added.new.items (of_entries tree.new.entries)
+        ≡ without added.old.items (of_entries tree.old.entries) }
 {
     if tree.contains_key(digest) {
         return Ok(());
     }
-    tree.insert(*digest, op.copy(alloc)?)?;
+    let copy = op.copy(alloc)?;
+    added.push(digest)?;
+    tree.insert(*digest, copy)?;
     Ok(())
 }
 
-/// Adds copies of those operations whose digest is not there. The bytes of data sets are shared.
-pub fn add_copies(
+/// Adds copies of those operations whose digest is not there, and answers these digests. The bytes of
+/// data sets are shared. A refusal leaves the tree as it was.
+fn add_copies<'a>(
     alloc: Global,
     tree: &mut BTreeMap<Digest, Op>,
-    source: &BTreeMap<Digest, Op>,
-) -> Result<(), AllocError>
-    ensures { OnOk result (of_entries tree.new.entries
+    source: &'a BTreeMap<Digest, Op>,
+) -> Result<Vec<&'a Digest>, AllocError>
+    ensures ok { OnOk result (of_entries tree.new.entries
         ≡ union (of_entries tree.old.entries) (of_entries source.now.entries)) }
+    ensures noted { IfOk result (λ added. without added.items (of_entries tree.new.entries)
+        ≡ of_entries tree.old.entries) }
+    ensures kept { OnErr result (of_entries tree.new.entries ≡ of_entries tree.old.entries) }
 {
+    let mut added = Vec::with_capacity(alloc, source.len())?;
     for (digest, op) in source.iter() {
-        add_copy(alloc, tree, digest, op)?;
+        if let Err(refused) = add_copy(alloc, tree, &mut added, digest, op) {
+            take_out(tree, added);
+            return Err(refused);
+        }
+    }
+    Ok(added)
+}
+
+/// Adds what another tree holds, and its index. A refusal leaves both as they were.
+pub fn merge_in(
+    alloc: Global,
+    tree: &mut BTreeMap<Digest, Op>,
+    index: &mut Index,
+    source: &BTreeMap<Digest, Op>,
+    other: &Index,
+) -> Result<(), AllocError>
+    ensures merged { OnOk result (of_entries tree.new.entries
+        ≡ union (of_entries tree.old.entries) (of_entries source.now.entries)) }
+    ensures indexed { OnOk result (index.new ≡ index_joined index.old other.now) }
+    ensures kept { OnErr result (of_entries tree.new.entries ≡ of_entries tree.old.entries) }
+    ensures index_kept { OnErr result (index.new ≡ index.old) }
+{
+    let taken = add_copies(alloc, tree, source)?;
+    if let Err(refused) = index.join_with(other) {
+        take_out(tree, taken);
+        return Err(refused);
     }
     Ok(())
 }

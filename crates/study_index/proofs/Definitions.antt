@@ -52,13 +52,13 @@ held ops = value_held index_laws index_summary_laws ops
 
 -- ---- tests
 
-then_eq : (a b : Ordering) → is_eq (ordering_then a b) ≡ (is_eq a && is_eq b)
+pub then_eq : (a b : Ordering) → is_eq (ordering_then a b) ≡ (is_eq a && is_eq b)
 then_eq Less b = refl
 then_eq Equal b = refl
 then_eq Greater b = refl
 
 -- texts that tie are those with the same bytes
-at_text : (t u : Text) → is_at (text_cmp t) u ≡ same u t
+pub at_text : (t u : Text) → is_at (text_cmp t) u ≡ same u t
 at_text t u = at_either nat_list_cmp_total t u ∙ sym (texts_ties u t)
 
 at_number : (m n : ℕ) → is_eq (nat_cmp m n) ≡ (m == n)
@@ -72,7 +72,7 @@ and_swapped false false = refl
 
 -- ---- copies
 
-at_copy : (uid digest instance other : Text) → is_at (copy_cmp (uid, digest)) (instance, other) ≡ (same instance uid && is_at (text_cmp digest) other)
+pub at_copy : (uid digest instance other : Text) → is_at (copy_cmp (uid, digest)) (instance, other) ≡ (same instance uid && is_at (text_cmp digest) other)
 at_copy uid digest instance other = then_eq (text_cmp uid instance) (text_cmp digest other) ∙ ap (λ b. b && is_eq (text_cmp digest other)) (at_text uid instance)
 
 one_copy : (b : Bool) (uid digest : Text) (op : Op) (ops : List Op) → is_content_of uid op ≡ b
@@ -80,7 +80,7 @@ one_copy : (b : Bool) (uid digest : Text) (op : Op) (ops : List Op) → is_conte
 one_copy true uid digest op ops e = refl
 one_copy false uid digest op ops e = refl
 
-has_copy : (ops : List Op) (uid digest : Text) → has copy_cmp (value ops).0 (uid, digest) ≡ has text_cmp (copies uid ops) digest
+pub has_copy : (ops : List Op) (uid digest : Text) → has copy_cmp (value ops).0 (uid, digest) ≡ has text_cmp (copies uid ops) digest
 has_copy [] uid digest = refl
 has_copy (a_content c ∷ ops) uid digest =
     has-union copy_total copy_exact (uid, digest) (value ops).0 ((c.instance, digest_of (a_content c)) ∷ [])

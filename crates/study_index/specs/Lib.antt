@@ -1,3 +1,4 @@
+pub mod Copies
 pub mod Definition
 pub mod Index
 pub mod Keys

@@ -9,11 +9,13 @@ ghost use Rattle.operation.specs.Parts.{key_of as key_in};
 ghost use Rattle.operation.specs.Spelling.{digest_of};
 ghost use Rattle.archive_model.specs.Index.{code_of};
 ghost use Rattle.join_laws.specs.GrowSet.{union_of};
+ghost use Rattle.study_index.specs.Copies.{is_doubled};
 ghost use Rattle.study_index.specs.Keys.{has};
 ghost use Rattle.study_index.specs.Live.{pick_at, HasStudy, HasSeries, HasInstance, IsNext, picks_joined, is_of_study};
-ghost use Rattle.study_index.specs.Index.{IsIndex, index_joined, index_of, nothing, titles_of, naming_cmp, copy_cmp, fix_key, fix_at, short_fix_at, latest_at, keys_of, named};
+ghost use Rattle.study_index.specs.Index.{IsIndex, index_joined, index_of, nothing, fixes_joined, titles_of, naming_cmp, copy_cmp, fix_key, fix_at, short_fix_at, latest_at, keys_of, named};
 ghost use Rattle.study_index.specs.Proved.Indexes.{index_laws, index_summary_laws};
 
+use crate::copies::put_doubled;
 use crate::entries::{ContentCopy, Naming};
 use crate::fixes::{Fix, FixKey, fix_in, fix_key_of, key_of, later};
 use crate::keys::Keys;
@@ -21,7 +23,7 @@ use crate::live_picks::LivePicks;
 use crate::pick::Pick;
 use crate::short_text::ShortText;
 use archive_model::{patient, series, study, title_code};
-use join_laws::{Copies, Greatest, GrowSet, Join, MapOf, Summary, Undoes};
+use join_laws::{Greatest, GrowSet, Join, MapOf, Summary, Undoes};
 use octets::Octets;
 use operation::{Content, Correction, Digest, Op, Target, digest};
 use rejection_note::{Note, NoteTitle};
@@ -75,21 +77,6 @@ fn titles_in(alloc: Global, note: &Note) -> Result<GrowSet<Naming>, AllocError>
     Ok(titles)
 }
 
-// The titles with those of one note more.
-fn with_note(
-    alloc: Global,
-    titles: &GrowSet<Naming>,
-    note: &Note,
-) -> Result<GrowSet<Naming>, AllocError>
-    ensures { IfOk result (λ both. both ≡ union_of naming_cmp titles.now
-        (titles_of (Some note.now))) }
-{
-    let more = titles_in(alloc, note)?;
-    let mut both = titles.copy()?;
-    both.join_with(&more)?;
-    Ok(both)
-}
-
 // The SOP Instance UID of a content, and its digest.
 fn copy_of(digest: Digest, content: &Content) -> ContentCopy
     ensures { result ≡ (content.now.instance, digest) }
@@ -138,6 +125,49 @@ fn add_content(
     Ok(())
 }
 
+// Takes in the corrections and the picks of another index. The live list, which cannot be taken
+// back, goes last.
+fn join_live(
+    fixes: &mut MapOf<FixKey, Greatest<Fix>>,
+    live: &mut LivePicks,
+    other: &Index,
+) -> Result<(), AllocError>
+    ensures fixes { OnOk result (fixes.new ≡ fixes_joined fixes.old other.now.1.1.0) }
+    ensures picks { OnOk result (live.new ≡ picks_joined live.old other.now.1.1.1) }
+    ensures fixes_kept { OnErr result (fixes.new ≡ fixes.old) }
+    ensures picks_kept { OnErr result (live.new ≡ live.old) }
+{
+    fixes.held();
+    let notes = fixes.join_noted(&other.fixes)?;
+    if let Err(refused) = live.join_with(&other.live) {
+        fixes.take_back(notes);
+        return Err(refused);
+    }
+    Ok(())
+}
+
+// Takes in what another index has beside its copies.
+fn join_others(
+    titles: &mut GrowSet<Naming>,
+    fixes: &mut MapOf<FixKey, Greatest<Fix>>,
+    live: &mut LivePicks,
+    other: &Index,
+) -> Result<(), AllocError>
+    ensures titles { OnOk result (titles.new ≡ union_of naming_cmp titles.old other.now.1.0) }
+    ensures fixes { OnOk result (fixes.new ≡ fixes_joined fixes.old other.now.1.1.0) }
+    ensures picks { OnOk result (live.new ≡ picks_joined live.old other.now.1.1.1) }
+    ensures titles_kept { OnErr result (titles.new ≡ titles.old) }
+    ensures fixes_kept { OnErr result (fixes.new ≡ fixes.old) }
+    ensures picks_kept { OnErr result (live.new ≡ live.old) }
+{
+    let added = titles.join_noted(&other.titles)?;
+    if let Err(refused) = join_live(fixes, live, other) {
+        titles.take_out(added);
+        return Err(refused);
+    }
+    Ok(())
+}
+
 impl Join for Index {
     ghost IsHeld = { IsIndex };
 
@@ -153,16 +183,16 @@ impl Join for Index {
     }
 
     fn join_with(&mut self, other: &Index) -> Result<(), AllocError> {
-        let mut copies = self.copies.copy()?;
-        copies.join_with(&other.copies)?;
-        let mut titles = self.titles.copy()?;
-        titles.join_with(&other.titles)?;
-        let mut fixes = self.fixes.copy()?;
-        fixes.join_with(&other.fixes)?;
-        self.live.join_with(&other.live)?;
-        self.copies = copies;
-        self.titles = titles;
-        self.fixes = fixes;
+        let added = self.copies.join_noted(&other.copies)?;
+        if let Err(refused) = join_others(
+            &mut self.titles,
+            &mut self.fixes,
+            &mut self.live,
+            other,
+        ) {
+            self.copies.take_out(added);
+            return Err(refused);
+        }
         Ok(())
     }
 }
@@ -207,7 +237,7 @@ impl Index {
         self.fixes.add(&(key, fix_in(correction)))
     }
 
-    // Takes in a content that is a note. The titles are joined aside.
+    // Takes in a content that is a note. Its titles are taken out again where the content is refused.
     fn add_note(&mut self, digest: Digest, content: &Content, note: &Note) -> Result<(), AllocError>
         requires digest { digest ≡ digest_of (a_content content.now) }
         requires note { content.now.note ≡ Some note.now }
@@ -215,9 +245,12 @@ impl Index {
             index_joined self.old (index_of (a_content content.now))) }
         ensures refused { OnErr result (self.new ≡ self.old) }
     {
-        let titles = with_note(self.alloc, &self.titles, note)?;
-        add_content(&mut self.copies, &mut self.live, digest, content)?;
-        self.titles = titles;
+        let named = titles_in(self.alloc, note)?;
+        let added = self.titles.join_noted(&named)?;
+        if let Err(refused) = add_content(&mut self.copies, &mut self.live, digest, content) {
+            self.titles.take_out(added);
+            return Err(refused);
+        }
         Ok(())
     }
 
@@ -314,6 +347,22 @@ impl Index {
         let of_patient = self.fix_under(2, patient(content), tag);
         let of_series = self.fix_under(3, series(content), tag);
         later(of_study, later(of_patient, of_series))
+    }
+
+    /// How many contents were taken in.
+    pub fn content_count(&self) -> usize
+        ensures { result ≡ length self.now.0 }
+    {
+        self.copies.get().len()
+    }
+
+    /// Puts the SOP Instance UIDs of two contents or more into a set, in one pass over the copies.
+    /// What was put in before memory was refused stays.
+    pub fn put_flagged(&self, uids: &mut BTreeSet<ShortText>) -> Result<(), AllocError>
+        ensures { OnOk result ((uid : List ℕ) → has text_cmp uids.new.keys uid
+            ≡ (has text_cmp uids.old.keys uid || is_doubled self.now.0 uid)) }
+    {
+        put_doubled(self.copies.get(), uids)
     }
 
     /// Puts the SOP Instance UIDs of the picks of a study into a set. What was put in before memory

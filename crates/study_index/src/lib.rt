@@ -5,6 +5,7 @@
 //! places is walked by study, series and instance, which takes no memory.
 #![tactic(auto)]
 
+mod copies;
 mod entries;
 mod fixes;
 mod index;

@@ -1,7 +1,7 @@
 use Rattle.std.proofs.lemmas.List.Elements.{All-same}
 use Rattle.join_laws.specs.MapOf.{map_joined}
 use Rattle.join_laws.specs.Proved.Maps.{All-map_joined}
-use Rattle.join_laws.proofs.map_of.MapOfJoin.join_with.Goals as goal
+use Rattle.join_laws.proofs.map_of.MapOf.join_noted.Goals as goal
 
 -- what both held is held, and so is what two held values come to
 pub invariant_of-self-2 : goal.invariant_of-self-2
