@@ -1,3 +1,4 @@
 pub mod Adding
 pub mod Fronts
 pub mod Histories
+pub mod Stamping

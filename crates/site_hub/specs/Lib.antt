@@ -1,5 +1,6 @@
 pub mod Fault
 pub mod History
 pub mod Hub
+pub mod Stamps
 pub mod Laws
 pub mod Rules

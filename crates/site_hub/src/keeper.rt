@@ -77,7 +77,7 @@ impl<H: HubName, T: Shows<H>, R: Wait + Drop> Keeper<H, T, R> {
 
     /// Whether an operation is held, or `Collision` where its digest is held with another.
     #[tactic(auto, using(crate::proofs::Histories::clash))]
-    fn check(&self, op: &Digested) -> Result<Taken, HubFault>
+    pub(crate) fn check(&self, op: &Digested) -> Result<Taken, HubFault>
         requires { self.now.published ≡ self.now.all }
         ensures { MatchResult result (WasHeld (set_of H.opening self.now.all) op.now)
             (λ e. (e ≡ HubFault.Collision) × IsClash (set_of H.opening self.now.all) op.now) }
@@ -181,6 +181,8 @@ impl<H: HubName, T: Shows<H>, R: Wait + Drop> Keeper<H, T, R> {
             IsClash (set_of H.opening self.old.all) op }
         ensures kept { IfErr result (λ e. (e ≡ HubFault.Pending)
             ⊎ (HasStayed self.old self.new × (pass.new ≡ pass.old))) }
+        ensures fault { IfErr result (λ e. (e ≡ HubFault.Busy) ⊎ (e ≡ HubFault.Collision)
+            ⊎ (e ≡ HubFault.Memory) ⊎ (e ≡ HubFault.Pending)) }
     {
         if !self.flush() {
             return Err(HubFault::Memory);

@@ -7,6 +7,7 @@
 #![tactic(auto)]
 
 mod book;
+mod correcting;
 mod entry;
 mod fault;
 mod keeper;
@@ -22,10 +23,10 @@ pub use book::{Front, HubName};
 pub use entry::{Entry, Logged};
 pub use fault::HubFault;
 pub use keeper::Keeper;
-pub use laws::running_sites_that_hold_the_same_answer_alike;
+pub use laws::{counters_of_corrections_rise, running_sites_that_hold_the_same_answer_alike};
 pub use opened::{Opened, open};
 pub use pair::Shows;
 pub use pass::Pass;
-pub use shared::store;
+pub use shared::{correct, store};
 pub use snapshot::{Item, Snapshot};
 pub use told::Told;

@@ -1,5 +1,6 @@
 //! The keeper behind a lock.
 ghost use Rattle.std.specs.Prelude.{◌≡◌, ◌⊎◌, ◌∷◌, ◌++◌, [], OnOk, IfOk, IfErr};
+ghost use Rattle.operation.specs.declared.op.Op.TheVariants.{Correction as a_correction};
 ghost use Rattle.operation.specs.Spelling.{digest_of};
 ghost use Rattle.site_hub.specs.History.{entry_of, EndsWith};
 ghost use mathlib.Core.List.{IsPrefix};
@@ -10,7 +11,8 @@ use crate::keeper::Keeper;
 use crate::pair::Shows;
 use crate::pass::Pass;
 use crate::told::Told;
-use operation::{Digested, Op};
+use octets::Octets;
+use operation::{Correction, Digested, Op, Target};
 use std::sync::{Mutex, Wait};
 
 /// Takes an operation for a pass, in any thread. It is hashed before the lock is taken.
@@ -31,4 +33,27 @@ pub fn store<H: HubName, T: Shows<H>, R: Wait + Drop>(
 {
     let op = Digested::of(op);
     keeper.lock(rt).take(pass, op)
+}
+
+/// Makes a correction for a pass, in any thread. Its counter is known under the lock alone, so it is
+/// hashed there.
+pub fn correct<H: HubName, T: Shows<H>, R: Wait + Drop>(
+    rt: &impl Wait,
+    keeper: &Mutex<Keeper<H, T, R>>,
+    pass: &mut Pass<H>,
+    target: Target,
+    tag: u32,
+    value: Octets,
+) -> Result<(Correction, Told<H>), HubFault>
+    ensures told { IfOk result (λ both. both.1.reached ≡ pass.new.seen) }
+    ensures seen { IfOk result (λ both.
+        EndsWith pass.new.seen (entry_of pass.old.number (a_correction both.0))) }
+    ensures mine { IfOk result (λ both. pass.new.mine
+        ≡ pass.old.mine ++ digest_of (a_correction both.0) ∷ []) }
+    ensures older { OnOk result (IsPrefix pass.old.seen pass.new.seen) }
+    ensures number { pass.new.number ≡ pass.old.number }
+    ensures pending { IfErr result (λ e. e ≡ HubFault.Pending → pass.new.seen ≡ pass.old.seen) }
+    ensures kept { IfErr result (λ e. (e ≡ HubFault.Pending) ⊎ (pass.new ≡ pass.old)) }
+{
+    keeper.lock(rt).correct(pass, target, tag, value)
 }

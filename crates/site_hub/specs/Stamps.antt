@@ -1,0 +1,36 @@
+-- The corrections that a hub makes.
+use Rattle.std.specs.Prelude.{ℕ, ◌+◌, ◌==◌, ◌≡◌, ◌<◌, List, Bool, Result, Ok, Err, if◌then◌else◌}
+use Rattle.operation.specs.declared.op.Op.TheVariants.{Correction as a_correction}
+use Rattle.operation.specs.declared.target.Target.{Target}
+use Rattle.operation.specs.Parts.{CorrectionParts}
+use Rattle.operation.specs.Corrections.{is_correction}
+use Rattle.archive_model.specs.Members.{Has}
+use Rattle.site_state.specs.Site.{Map, ops_of, top_counter_of}
+use Rattle.site_hub.specs.declared.fault.HubFault.{HubFault}
+use Rattle.site_hub.specs.declared.fault.HubFault.TheVariants.{StampsSpent, BadCorrection}
+
+-- the greatest counter that a stamp may have
+abbrev pub LAST_COUNTER : ℕ
+LAST_COUNTER = 18446744073709551615
+
+-- a correction of this counter, made at a site of this number
+abbrev pub made_with : ℕ → ℕ → Target → ℕ → List ℕ → CorrectionParts
+made_with counter number target tag value = record { target = target; tag = tag; value = value; stamp = record { counter = counter; site = number } }
+
+-- whether there is a correction of these parts at all, from counter 1 on
+abbrev pub may_be_made : ℕ → Target → ℕ → List ℕ → Bool
+may_be_made number target tag value = is_correction (made_with 1 number target tag value)
+
+-- the correction that comes next over a set, whose counter is one more than the greatest; or the first reason why there is none
+abbrev pub next_correction : ℕ → Map → Target → ℕ → List ℕ → Result CorrectionParts HubFault
+next_correction number m target tag value =
+    if may_be_made number target tag value then (
+    if top_counter_of (ops_of m) == LAST_COUNTER then Err StampsSpent
+    else Ok (made_with (top_counter_of (ops_of m) + 1) number target tag value))
+    else Err BadCorrection
+
+-- the correction that comes next has a greater counter than each that is held
+abbrev pub CountersRise : Type 0
+CountersRise =
+    (number : ℕ) (m : Map) (target : Target) (tag : ℕ) (value : List ℕ) (made held : CorrectionParts)
+    → next_correction number m target tag value ≡ Ok made → Has (ops_of m) (a_correction held) → held.stamp.counter < made.stamp.counter
