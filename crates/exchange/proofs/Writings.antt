@@ -1,6 +1,5 @@
 -- What is written is read again.
-use Rattle.std.proofs.Common.{◌≡◌, ℕ, ◌+◌, ◌≤◌, ◌<◌, ◌^◌, Bool, true, false, List, [], ◌∷◌, ◌++◌, length, take, drop, Option, None, Ok, refl, sym, ap, subst, ◌∙◌, append_assoc, arith}
-use Rattle.std.specs.Prelude.{nat_lt}
+use Rattle.std.proofs.Common.{◌≡◌, ℕ, ◌+◌, ◌≤◌, ◌<◌, true, false, List, ◌∷◌, ◌++◌, length, take, Option, None, Ok, refl, ap, ◌∙◌, arith}
 use Rattle.std.specs.Int.{w16, w32, w64, to_be_bytes}
 use Rattle.std.proofs.lemmas.Bool.{le-ltb}
 use Rattle.std.proofs.lemmas.List.{length-append}
@@ -20,8 +19,7 @@ use Rattle.exchange.specs.declared.frame.Frame.{Frame}
 use Rattle.exchange.specs.declared.frame.Frame.TheVariants.{Have, Want, Give, End, Buckets, Differ, Hello}
 use Rattle.exchange.specs.declared.header.TheConstants.{LONGEST_BODY}
 use Rattle.exchange.specs.Header.{HeaderParts, is_kind, header_fault, header_of, header_at, or_fault, head_text}
-use Rattle.exchange.specs.Spelling.{digests_text, counted_text, code_of, body_text, text_of, IsFrame}
-use Rattle.exchange.specs.Reading.{IsBodyOf}
+use Rattle.exchange.specs.Spelling.{code_of, body_text, text_of, IsFrame}
 use Rattle.exchange.specs.Writing.{is_too_long, IsWrittenAgain}
 use Rattle.exchange.proofs.Lists.{text_length}
 

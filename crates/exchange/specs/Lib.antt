@@ -3,3 +3,7 @@ pub mod Header
 pub mod Spelling
 pub mod Reading
 pub mod Writing
+pub mod Held
+pub mod Buckets
+pub mod Hashing
+pub mod Round

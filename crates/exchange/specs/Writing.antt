@@ -1,11 +1,11 @@
 -- What is written of a frame, and how it is read again.
-use Rattle.std.specs.Prelude.{◌≡◌, ℕ, List, length, take, drop, Bool, true, false, nat_lt, Ok}
+use Rattle.std.specs.Prelude.{◌≡◌, length, take, drop, Bool, false, nat_lt, Ok}
 use Rattle.exchange.specs.declared.frame.Frame.{Frame}
 use Rattle.exchange.specs.declared.frame.Frame.TheVariants.{Have, Want, Give, End, Buckets, Differ, Hello}
 use Rattle.exchange.specs.declared.reader.TheConstants.{MOST_DIGESTS, BUCKET_COUNT}
 use Rattle.exchange.specs.declared.writer.TheConstants.{MOST_PLACES}
 use Rattle.exchange.specs.Header.{HeaderParts, header_at}
-use Rattle.exchange.specs.Spelling.{text_of, body_text, code_of}
+use Rattle.exchange.specs.Spelling.{text_of}
 use Rattle.exchange.specs.Reading.{IsBodyOf}
 
 -- more digests, or more first bytes, than are written

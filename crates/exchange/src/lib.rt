@@ -1,20 +1,33 @@
-//! Frames, in which two sites tell each other what they hold, ask for what they lack and give it.
+//! Frames, in which two sites tell each other what they hold, ask for what they lack and give it, and
+//! one side's part in a round of them.
 //!
-//! Bytes come in and values go out: nothing here reads a socket. A frame is read in two steps, its
-//! header of five bytes and then its body, so that what is too long is refused before any of it is
-//! kept. What reads and what writes cite one spelling (docs/DECISIONS.md, "Frames").
+//! What a site must do for it is `Holder`. Bytes come in and values go out: nothing here reads a
+//! socket. A frame is read in two steps, its header of five bytes and then its body, so that what is
+//! too long is refused before any of it is kept. What reads and what writes cite one spelling
+//! (docs/DECISIONS.md, "Frames").
 #![tactic(auto)]
 
+mod buckets;
 mod fault;
 mod frame;
 mod header;
+mod holder;
 mod reader;
+mod round;
+#[cfg(test)]
+mod round_tests;
+mod site_holder;
 #[cfg(test)]
 mod tests;
+mod version;
 mod writer;
 
+pub use buckets::buckets_of_tree;
 pub use fault::{ExchangeFault, FrameFault, HolderFault};
 pub use frame::Frame;
 pub use header::{FrameHeader, HEADER_LENGTH, LONGEST_BODY, read_frame_header};
+pub use holder::Holder;
 pub use reader::{MOST_DIGESTS, a_text_spells_one_frame, read_frame_body};
+pub use round::Round;
+pub use version::Version;
 pub use writer::{FrameText, what_is_written_is_read_again, write_frame};

@@ -28,6 +28,8 @@ use std::collections::{BTreeMap, BTreeSet};
 use std::marker::Model;
 use study_index::{Index, ShortText};
 
+mod lending;
+
 /// The operations of a site, each under its digest, with their index and the greatest counter of its
 /// corrections.
 #[derive(Drop)]

@@ -1,4 +1,4 @@
-use Rattle.std.proofs.Common.{◌≡◌, ◌≤◌, ◌+◌, ◌*◌, ◌++◌, length, take}
+use Rattle.std.proofs.Common.{◌≡◌, ◌≤◌, ◌*◌, ◌++◌, length, take}
 use Rattle.exchange.specs.Spelling.{digests_text}
 use Rattle.exchange.proofs.writer.put_digests.Given as goal
 

@@ -1,0 +1,6 @@
+use Rattle.exchange.specs.Held.{spoken_of}
+use Rattle.exchange.proofs.Hashed.{IsFed}
+use Rattle.exchange.proofs.buckets.buckets_of_tree.Given as goal
+
+abbrev pub invariant-loop-digest : goal.invariant-loop-digest
+invariant-loop-digest l = IsFed l.hashers.items (spoken_of l.version l.digest-iterator) (spoken_of l.version l.initial.digest-iterator)

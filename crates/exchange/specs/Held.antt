@@ -1,0 +1,112 @@
+-- What a holder has, which of it a version speaks of, and how the holder's calls answer.
+use Rattle.std.specs.Prelude.{◌≡◌, ℕ, ◌==◌, Bool, true, false, not, List, filter, slice_index, Option, Some, None, Result, Ok, Err, OnOk, if◌then◌else◌}
+use Rattle.std.specs.List.{list_any, filter_map}
+use Rattle.std.specs.FinMap as finmap
+use Rattle.std.specs.Map.{keys_of}
+use Rattle.operation.specs.declared.op.Op.{Op}
+use Rattle.operation.specs.declared.op.Op.TheVariants.{Content as a_content, Correction as a_correction}
+use Rattle.operation.specs.declared.target.Target.{Target}
+use Rattle.operation.specs.declared.target.Target.TheVariants.{Study, Patient, Series}
+use Rattle.operation.specs.declared.taken.Taken.{Taken}
+use Rattle.operation.specs.declared.taken.Taken.TheVariants.{New, Known}
+use Rattle.operation.specs.Spelling.{digest_of}
+use Rattle.site_state.specs.Site.{Map, IsSite, held_at, with_op}
+use Rattle.exchange.specs.declared.version.Version.{Version}
+use Rattle.exchange.specs.declared.version.Version.TheVariants.{One, Two}
+use Rattle.exchange.specs.declared.fault.HolderFault.{HolderFault}
+
+-- ---- versions
+
+-- the version that is spoken with a peer of this number
+abbrev pub version_of : ℕ → Option Version
+version_of number = if number == 0 then None else (if number == 1 then Some One else Some Two)
+
+abbrev pub is_series : Target → Bool
+is_series (Study key) = false
+is_series (Patient key) = false
+is_series (Series key) = true
+
+-- a correction of a series
+abbrev pub is_of_series : Op → Bool
+is_of_series (a_content content) = false
+is_of_series (a_correction correction) = is_series correction.target
+
+-- whether a version speaks of an operation: version 1 knows no corrections of series
+abbrev pub is_spoken : Version → Op → Bool
+is_spoken One op = not (is_of_series op)
+is_spoken Two op = true
+
+-- ---- what is told of a set
+
+-- the digests of the operations that a version speaks of, in their order
+abbrev pub spoken_of : Version → List (List ℕ × Op) → List (List ℕ)
+spoken_of version entries = keys_of (filter (λ e. is_spoken version e.1) entries)
+
+-- what is offered of a set: the digests of its operations that a version speaks of, ascending
+abbrev pub offered : Version → Map → List (List ℕ)
+offered version m = spoken_of version (finmap.entries m)
+
+-- the first byte of a digest
+abbrev pub place_of : List ℕ → ℕ
+place_of digest = slice_index digest 0
+
+-- whether a digest begins with one of some first bytes
+abbrev pub is_in : List ℕ → List ℕ → Bool
+is_in places digest = list_any (λ place. place == place_of digest) places
+
+-- what is offered of a set in some places
+abbrev pub offered_in : Version → List ℕ → Map → List (List ℕ)
+offered_in version places m = filter (is_in places) (offered version m)
+
+-- whether a set has nothing under a digest
+abbrev pub is_lacking : Map → List ℕ → Bool
+is_lacking m digest = not (finmap.contains_key m digest)
+
+-- those of some digests that a set lacks, in the order given
+abbrev pub lacked : Map → List (List ℕ) → List (List ℕ)
+lacked m digests = filter (is_lacking m) digests
+
+-- an operation, if a version speaks of it
+abbrev pub if_spoken : Version → Option Op → Option Op
+if_spoken version None = None
+if_spoken version (Some op) = if is_spoken version op then Some op else None
+
+-- the operations under some digests that a set has and a version speaks of, in the order given
+abbrev pub given : Version → List (List ℕ) → Map → List Op
+given version digests m = filter_map (λ digest. if_spoken version (held_at m digest)) digests
+
+-- ---- how a holder changes
+
+-- what was held under a digest is held under it
+abbrev pub HasGrown : Map → Map → Type 0
+HasGrown before after = (digest : List ℕ) (op : Op) → held_at before digest ≡ Some op → held_at after digest ≡ Some op
+
+-- a set that a holder had in between: each operation lies under its own digest
+pub record WasHad (before had after : Map) : Type 0 where
+  pub since : HasGrown before had
+  pub until : HasGrown had after
+  pub own : IsSite had
+
+-- What a call answered it answered of one set that the holder had during the call; a holder that nobody else changes has
+-- not changed.
+pub record Looks {H : Type 0} (holds : H → Map) (alone : H → Type 0) (before after : H) (Answers : Map → Type 0) : Type 0 where
+  pub had : Map
+  pub was_had : WasHad (holds before) had (holds after)
+  pub answers : Answers had
+  pub stays : alone before → alone after × (holds after ≡ holds before)
+
+-- how a holder that nobody else changes takes an operation
+abbrev pub TakesAlone : Map → Op → Result Taken HolderFault → Map → Type 0
+TakesAlone before op (Ok New) after = (held_at before (digest_of op) ≡ None) × (after ≡ with_op before op)
+TakesAlone before op (Ok Known) after = (held_at before (digest_of op) ≡ Some op) × (after ≡ before)
+TakesAlone before op (Err fault) after = after ≡ before
+
+-- how a holder takes an operation
+pub record TakesIn {H : Type 0} (holds : H → Map) (alone : H → Type 0) (before : H) (op : Op) (answer : Result Taken HolderFault) (after : H) : Type 0 where
+  -- nothing that is held is lost
+  pub grown : HasGrown (holds before) (holds after)
+  -- what was taken, new or known, is held
+  pub held : OnOk answer (held_at (holds after) (digest_of op) ≡ Some op)
+  -- and was not held before where it is new
+  pub new : answer ≡ Ok New → held_at (holds before) (digest_of op) ≡ None
+  pub stays : alone before → alone after × TakesAlone (holds before) op answer (holds after)

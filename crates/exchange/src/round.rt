@@ -1,0 +1,221 @@
+//! One side's part in a round of an exchange.
+
+ghost use Rattle.std.specs.Prelude.{◌≡◌, ◌≢◌, ◌↔◌, [], List, ℕ, Some, None, Err, cond, true, false, IfOk, OnOk, OnErr, IfErr, IsErrOf, IsTrue};
+ghost use Rattle.std.specs.BTreeMap.{is_at};
+ghost use Rattle.std.specs.Map.{set_value};
+ghost use Rattle.operation.specs.Spelling.{digest_of};
+ghost use Rattle.site_state.specs.Site.{digest_cmp};
+ghost use Rattle.exchange.specs.Held.{offered, offered_in, lacked, given, is_spoken, Looks, TakesIn};
+ghost use Rattle.exchange.specs.Buckets.{bucket_list, unequal as unequal_in};
+ghost use Rattle.exchange.specs.Round.{asked_at, asked_in, is_among, with_given, refusal_of, IsFinished, TakesAsked};
+
+use crate::buckets::unequal;
+use crate::fault::{ExchangeFault, HolderFault};
+use crate::holder::Holder;
+use crate::version::Version;
+use octets::{ListOf, Octets};
+use operation::{Digest, Digested, Op, Taken};
+use std::alloc::{AllocError, Global};
+use std::collections::BTreeMap;
+use std::marker::Model;
+
+/// What this side asked for, and which of it was given. Contracts see each asked digest, with
+/// whether its operation was given.
+#[derive(Drop)]
+pub struct Round {
+    version: Version,
+    asked: BTreeMap<Digest, bool>,
+}
+
+impl Model for Round {
+    ghost use Rattle.exchange.specs.Round.{RoundState};
+
+    ghost Value = { RoundState };
+
+    ghost view = { λ r. record { version = r.version; asked = r.asked.entries } };
+}
+
+/// A second tree of the same.
+fn copied(asked: &BTreeMap<Digest, bool>) -> Result<BTreeMap<Digest, bool>, AllocError>
+    ensures { IfOk result (λ copy. copy.entries ≡ asked.now.entries) }
+{
+    asked.clone()
+}
+
+/// Asks for some digests, which were not given yet.
+fn ask(asked: &mut BTreeMap<Digest, bool>, digests: &[Digest]) -> Result<(), AllocError>
+    ensures { OnOk result ((digest : List ℕ) → asked_in digest asked.new.entries
+        ≡ cond (is_among digest digests.now) (Some false) (asked_in digest asked.old.entries)) }
+{
+    for digest in digests {
+        asked.insert(*digest, false)?;
+    }
+    Ok(())
+}
+
+/// The operation of a digest that was asked for was given.
+fn mark(asked: &mut BTreeMap<Digest, bool>, digest: &Digest)
+    ensures { asked.new.entries
+        ≡ set_value (is_at (digest_cmp digest.now)) asked.old.entries true }
+{
+    match asked.get_mut(digest) {
+        Some(given) => *given = true,
+        None => {}
+    }
+}
+
+impl Round {
+    /// A round in which nothing was asked for. It takes no memory.
+    pub fn new(alloc: Global, version: Version) -> Round
+        ensures { result ≡ record { version = version; asked = [] } }
+    {
+        Round {
+            version,
+            asked: BTreeMap::new(alloc),
+        }
+    }
+
+    /// What is spoken with the peer.
+    pub fn version(&self) -> Version
+        ensures { result ≡ self.now.version }
+    {
+        self.version
+    }
+
+    /// The HAVE of all digests.
+    pub fn offer<H: Holder>(
+        &self,
+        alloc: Global,
+        holder: &mut H,
+    ) -> Result<ListOf<Digest>, HolderFault>
+        ensures { Looks H.holds H.alone holder.old holder.new (λ m.
+            IfOk result (λ have. have ≡ offered self.now.version m)) }
+    {
+        holder.digests(alloc, self.version)
+    }
+
+    /// The BUCKETS of what is held.
+    pub fn buckets<H: Holder>(
+        &self,
+        alloc: Global,
+        holder: &mut H,
+    ) -> Result<ListOf<Digest>, HolderFault>
+        ensures { Looks H.holds H.alone holder.old holder.new (λ m.
+            IfOk result (λ buckets. buckets ≡ bucket_list (offered self.now.version m))) }
+    {
+        holder.buckets(alloc, self.version)
+    }
+
+    /// The DIFFER that answers a BUCKETS: the places in which what is held has other digests.
+    pub fn on_buckets<H: Holder>(
+        &self,
+        alloc: Global,
+        holder: &mut H,
+        buckets: &[Digest],
+    ) -> Result<Octets, HolderFault>
+        ensures { Looks H.holds H.alone holder.old holder.new (λ m. IfOk result (λ places.
+            places ≡ unequal_in (bucket_list (offered self.now.version m)) buckets.now)) }
+    {
+        let own = holder.buckets(alloc, self.version)?;
+        Ok(unequal(alloc, own.as_slice(), buckets)?)
+    }
+
+    /// The HAVE that answers a DIFFER: the digests in its places.
+    pub fn on_differ<H: Holder>(
+        &self,
+        alloc: Global,
+        holder: &mut H,
+        places: &[u8],
+    ) -> Result<ListOf<Digest>, HolderFault>
+        ensures { Looks H.holds H.alone holder.old holder.new (λ m.
+            IfOk result (λ have. have ≡ offered_in self.now.version places.now m)) }
+    {
+        holder.digests_in(alloc, self.version, places)
+    }
+
+    /// The WANT that answers a HAVE: what is not held of it, in its order. It is asked for then. A
+    /// refusal leaves the round as it was.
+    pub fn on_have<H: Holder>(
+        &mut self,
+        alloc: Global,
+        holder: &mut H,
+        have: &[Digest],
+    ) -> Result<ListOf<Digest>, HolderFault>
+        ensures want { Looks H.holds H.alone holder.old holder.new (λ m.
+            IfOk result (λ want. want ≡ lacked m have.now)) }
+        ensures asked { IfOk result (λ want. (digest : List ℕ) → asked_at digest self.new
+            ≡ cond (is_among digest want) (Some false) (asked_at digest self.old)) }
+        ensures version { self.new.version ≡ self.old.version }
+        ensures kept { OnErr result (self.new ≡ self.old) }
+    {
+        let want = holder.missing(alloc, have)?;
+        let mut asked = copied(&self.asked)?;
+        ask(&mut asked, want.as_slice())?;
+        self.asked = asked;
+        Ok(want)
+    }
+
+    /// The operations that are given for a WANT: those of it that are held, in its order.
+    pub fn on_want<H: Holder>(
+        &self,
+        alloc: Global,
+        holder: &mut H,
+        want: &[Digest],
+    ) -> Result<ListOf<Op>, HolderFault>
+        ensures { Looks H.holds H.alone holder.old holder.new (λ m.
+            IfOk result (λ ops. ops ≡ given self.now.version want.now m)) }
+    {
+        holder.ops(alloc, self.version, want)
+    }
+
+    /// The first reason for which an operation that was given is not taken.
+    fn refusal(&self, op: &Digested) -> Option<ExchangeFault>
+        ensures { result ≡ refusal_of self.now op.now }
+    {
+        if !self.version.speaks(op.op()) {
+            return Some(ExchangeFault::BadFrame);
+        }
+        if !self.asked.contains_key(op.digest()) {
+            return Some(ExchangeFault::Stranger);
+        }
+        None
+    }
+
+    /// Takes an operation that was asked for. Of a version that is not spoken it is `BadFrame`, and
+    /// else, where it was not asked for, `Stranger`: neither is taken.
+    pub fn on_give<H: Holder>(&mut self, holder: &mut H, op: Op) -> Result<Taken, ExchangeFault>
+        // What the holder takes, and what it doesn't.
+        ensures bad_frame { IsErrOf result ExchangeFault.BadFrame
+            ↔ (refusal_of self.old op ≡ Some ExchangeFault.BadFrame) }
+        ensures stranger { IsErrOf result ExchangeFault.Stranger
+            ↔ (refusal_of self.old op ≡ Some ExchangeFault.Stranger) }
+        ensures untaken { refusal_of self.old op ≢ None → holder.new ≡ holder.old }
+        ensures taken { refusal_of self.old op ≡ None → TakesAsked H.holds H.alone holder.old op result
+            holder.new }
+
+        // What the round knows then.
+        ensures given { OnOk result (self.new ≡ with_given (digest_of op) self.old) }
+        ensures kept { OnErr result (self.new ≡ self.old) }
+    {
+        let op = Digested::of(op);
+        if let Some(fault) = self.refusal(&op) {
+            return Err(fault);
+        }
+        let digest = *op.digest();
+        let taken = holder.take(op)?;
+        mark(&mut self.asked, &digest);
+        Ok(taken)
+    }
+
+    /// Whether every operation that was asked for was given.
+    pub fn finished(&self) -> bool
+        ensures { IsTrue result ↔ IsFinished self.now }
+    {
+        for (_, given) in self.asked.iter() {
+            if !*given {
+                return false;
+            }
+        }
+        true
+    }
+}

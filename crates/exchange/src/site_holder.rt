@@ -1,0 +1,146 @@
+//! A site as a holder.
+
+ghost use Rattle.std.specs.Prelude.{◌≡◌, ◌↔◌, IfOk, Err, filter, ⊤};
+ghost use Rattle.site_state.specs.Site.{IsClash, held_at};
+ghost use Rattle.exchange.specs.Held.{offered, offered_in, spoken_of, lacked, given, is_in as is_in_places, if_spoken, Looks, TakesIn};
+ghost use Rattle.exchange.specs.Buckets.{bucket_list};
+
+use crate::buckets::{buckets_of_tree, is_in};
+use crate::fault::HolderFault;
+use crate::holder::Holder;
+use crate::version::Version;
+use octets::ListOf;
+use operation::{Digest, Digested, Op, Taken};
+use site_state::{Site, SiteFault};
+use std::alloc::{AllocError, Global};
+use std::collections::BTreeMap;
+
+/// The digests of the operations of a tree that a version speaks of.
+fn digests_of_tree(
+    alloc: Global,
+    version: Version,
+    tree: &BTreeMap<Digest, Op>,
+) -> Result<ListOf<Digest>, AllocError>
+    ensures { IfOk result (λ digests. digests ≡ spoken_of version tree.now.entries) }
+{
+    let mut digests = Vec::with_capacity(alloc, tree.len())?;
+    for (digest, op) in tree.iter() {
+        if version.speaks(op) {
+            digests.push(*digest)?;
+        }
+    }
+    Ok(ListOf::of(digests))
+}
+
+/// Those of them that begin with one of these bytes.
+fn digests_of_tree_in(
+    alloc: Global,
+    version: Version,
+    places: &[u8],
+    tree: &BTreeMap<Digest, Op>,
+) -> Result<ListOf<Digest>, AllocError>
+    ensures { IfOk result (λ digests. digests
+        ≡ filter (is_in_places places.now) (spoken_of version tree.now.entries)) }
+{
+    let mut digests = Vec::new(alloc);
+    for (digest, op) in tree.iter() {
+        if version.speaks(op) && is_in(places, digest) {
+            digests.push(*digest)?;
+        }
+    }
+    Ok(ListOf::of(digests))
+}
+
+/// A second owner of the operation of a digest, if it is held and a version speaks of it.
+fn op_of(
+    alloc: Global,
+    version: Version,
+    site: &Site,
+    digest: &Digest,
+) -> Result<Option<Op>, AllocError>
+    ensures { IfOk result (λ op. op ≡ if_spoken version (held_at site.now digest.now)) }
+{
+    match site.op(digest) {
+        None => Ok(None),
+        Some(op) => {
+            if !version.speaks(op) {
+                return Ok(None);
+            }
+            Ok(Some(op.copy(alloc)?))
+        }
+    }
+}
+
+fn ops_of(
+    alloc: Global,
+    version: Version,
+    site: &Site,
+    digests: &[Digest],
+) -> Result<ListOf<Op>, AllocError>
+    ensures { IfOk result (λ ops. ops ≡ given version digests.now site.now) }
+{
+    let mut ops = Vec::new(alloc);
+    for digest in digests {
+        if let Some(op) = op_of(alloc, version, site, digest)? {
+            ops.push(op)?;
+        }
+    }
+    Ok(ListOf::of(ops))
+}
+
+/// Nobody else changes a site.
+impl Holder for Site {
+    ghost holds = { λ s. s };
+
+    ghost alone = { λ _. ⊤ };
+
+    fn digests(&mut self, alloc: Global, version: Version) -> Result<ListOf<Digest>, HolderFault> {
+        self.see_lawful();
+        Ok(digests_of_tree(alloc, version, self.tree())?)
+    }
+
+    fn digests_in(
+        &mut self,
+        alloc: Global,
+        version: Version,
+        places: &[u8],
+    ) -> Result<ListOf<Digest>, HolderFault> {
+        self.see_lawful();
+        Ok(digests_of_tree_in(alloc, version, places, self.tree())?)
+    }
+
+    fn buckets(&mut self, alloc: Global, version: Version) -> Result<ListOf<Digest>, HolderFault> {
+        self.see_lawful();
+        Ok(buckets_of_tree(alloc, version, self.tree())?)
+    }
+
+    fn missing(
+        &mut self,
+        alloc: Global,
+        digests: &[Digest],
+    ) -> Result<ListOf<Digest>, HolderFault> {
+        self.see_lawful();
+        Ok(ListOf::of(Site::missing(self, alloc, digests)?))
+    }
+
+    fn ops(
+        &mut self,
+        alloc: Global,
+        version: Version,
+        digests: &[Digest],
+    ) -> Result<ListOf<Op>, HolderFault> {
+        self.see_lawful();
+        Ok(ops_of(alloc, version, self, digests)?)
+    }
+
+    fn take(&mut self, op: Digested) -> Result<Taken, HolderFault>
+        ensures takes { TakesIn (λ s. s) (λ _. ⊤) self.old op result self.new }
+        ensures refused { (result ≡ Err HolderFault.Refused) ↔ IsClash self.old op }
+    {
+        match self.take_digested(op) {
+            Ok(taken) => Ok(taken),
+            Err(SiteFault::Collision) => Err(HolderFault::Refused),
+            Err(SiteFault::Memory) => Err(HolderFault::Memory),
+        }
+    }
+}
