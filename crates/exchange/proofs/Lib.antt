@@ -5,3 +5,5 @@ pub mod Writings
 pub mod Hashed
 pub mod Holdings
 pub mod Asked
+pub mod Rounds
+pub mod Bucketed

@@ -7,3 +7,4 @@ pub mod Held
 pub mod Buckets
 pub mod Hashing
 pub mod Round
+pub mod Laws

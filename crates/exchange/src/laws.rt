@@ -1,0 +1,20 @@
+//! What rounds come to: laws, said as contracts of functions with nothing to do.
+
+ghost use Rattle.exchange.specs.Laws.{RoundGivesAll, RoundByBucketsGivesAll, RoundsMakeEqual};
+
+/// After a round in which each operation that was given was taken, the one side holds all that the
+/// other held at its offer, of what the version speaks of: the sending of a HAVE of all digests.
+pub fn a_round_gives_all()
+    ensures { RoundGivesAll }
+{}
+
+/// So it does where BUCKETS was sent first, which then is the offer, if unequal digests of a place
+/// have unequal buckets.
+pub fn a_round_by_buckets_gives_all()
+    ensures { RoundByBucketsGivesAll }
+{}
+
+/// After a round each way, with nothing in between that changes either side, both hold the same.
+pub fn rounds_each_way_make_sites_equal()
+    ensures { RoundsMakeEqual }
+{}
