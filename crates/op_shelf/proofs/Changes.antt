@@ -42,11 +42,11 @@ cond_same : (b : Bool) (x : Value) → cond b x x ≡ x
 cond_same true x = refl
 cond_same false x = refl
 
-cast_null : cast Integer Null ≡ Null
+pub cast_null : cast Integer Null ≡ Null
 unfolding unary
 cast_null = cond_same _ Null
 
-cast_int : (n : ℤ) → cast Integer (Int n) ≡ Int n
+pub cast_int : (n : ℤ) → cast Integer (Int n) ≡ Int n
 unfolding unary
 cast_int n = cond_same _ (Int n)
 
@@ -54,7 +54,7 @@ swapped : (a b : Row) (rows : List Row) → IsPermutation (a ∷ b ∷ rows) (b 
 swapped a b rows = IsPermutation-append_left rows (a ∷ b ∷ []) (b ∷ a ∷ []) (IsPermutation-append_comm (a ∷ []) (b ∷ []))
 
 -- a row under a rowid that none has comes to the others
-put_adds : (new : Row) (rows : List Row) → is_taken rows new ≡ false → IsPermutation (new ∷ rows) (put_row new rows)
+pub put_adds : (new : Row) (rows : List Row) → is_taken rows new ≡ false → IsPermutation (new ∷ rows) (put_row new rows)
 put_adds new [] free = IsPermutation-refl (new ∷ [])
 put_adds new (r ∷ rows) free = step (value_cmp (rowid r) (rowid new)) free (put_adds new rows)
   where
@@ -63,12 +63,12 @@ put_adds new (r ∷ rows) free = step (value_cmp (rowid r) (rowid new)) free (pu
     step Equal e later = absurd cc
     step Greater e later = IsPermutation-refl (new ∷ r ∷ rows)
 
-fresh_free : (b : Bool) → (not b && true) ≡ true → b ≡ false
+pub fresh_free : (b : Bool) → (not b && true) ≡ true → b ≡ false
 fresh_free true e = absurd cc
 fresh_free false e = refl
 
 -- the row that the INSERT makes of an entry
-abbrev row_of : List Row → List ℕ → ℕ → List ℕ → Row
+abbrev pub row_of : List Row → List ℕ → ℕ → List ℕ → Row
 row_of rows digest kind body = Int (next_rowid rows) ∷ Text digest ∷ Int (pos kind) ∷ Blob body ∷ []
 
 -- what an INSERT leaves

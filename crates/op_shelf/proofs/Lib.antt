@@ -2,6 +2,8 @@ mod Back
 mod Changes
 mod Keeps
 mod Made
+mod Migrated
+mod Olders
 mod Ops
 mod Puts
 mod Queries

@@ -24,7 +24,7 @@ checks_in (Ok table) = table.checks
 checks_in (Err e) = []
 
 -- CHECK (kind IN (1, 2, 3))
-made_checks : List Term
+pub made_checks : List Term
 made_checks = checks_in (table_defined_by create_text)
 
 create_is : (command_of (understood no_schema create_text) ≡ CreateTable) × (statement_of create_text (understood no_schema create_text) ≡ create_text)
@@ -35,7 +35,7 @@ create_plain : IsPlain (understood no_schema create_text)
 unfolding understood everything
 create_plain = (refl, refl)
 
-table_is : table_defined_by create_text ≡ Ok (ops2 0 made_checks)
+pub table_is : table_defined_by create_text ≡ Ok (ops2 0 made_checks)
 unfolding understood everything made_checks checks_in
 table_is = refl
 

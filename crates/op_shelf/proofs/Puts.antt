@@ -9,7 +9,8 @@ use Rattle.sqlite.specs.Effect.{Database}
 use Rattle.sqlite.specs.State.{State, HasCleanDisk, IsUnchanged, Survives}
 use Rattle.sqlite.proofs.StateLemmas.{survives_then, survives_weaker}
 use Rattle.op_shelf.specs.Entries.{entries, Adds}
-use Rattle.op_shelf.specs.States.{rows_of, rows_left, tree_in, under, IsAdded, IsBare, IsReady, IsPut, IsKnown, KeepsAll, Spares}
+use Rattle.op_shelf.specs.States.{rows_of, rows_left, tree_in, under, IsAdded, IsBare, IsReady, IsPut, IsKnown, KeepsAll, Spares, MayBecome}
+use Rattle.op_shelf.specs.Migration.{IsOlder, IsMigration}
 use Rattle.op_shelf.specs.Table.{IsShelf}
 use Rattle.op_shelf.proofs.Ops.{first_is, kept_was}
 
@@ -20,6 +21,10 @@ spares_keeps s t ready (inr back) = λ up. (back.was_open up, (back.undone up).0
 pub bare_keeps : (s t : State) → IsBare s → Spares s t → KeepsAll s t
 bare_keeps s t bare (inl same) = λ up. (same.0.was_open, same.0.now_is)
 bare_keeps s t bare (inr back) = λ up. (back.was_open up, (back.undone up).0 ∙ sym (bare.settled (back.was_open up)))
+
+pub older_keeps : (s t : State) → IsOlder s → Spares s t → KeepsAll s t
+older_keeps s t older (inl same) = λ up. (same.0.was_open, same.0.now_is)
+older_keeps s t older (inr back) = λ up. (back.was_open up, (back.undone up).0 ∙ sym (older.settled (back.was_open up)))
 
 pub ready_then : (s t : State) → IsReady s → IsUnchanged s t → IsReady t
 ready_then s t ready same = record {
@@ -56,9 +61,12 @@ added_after s m t entry same it = record {
 pub survives_none : (s : State) (P : Trees → Type 0) → Survives s s P
 survives_none s P = record { clean = le_refl _; shield = λ up. up; counts = le_refl _; limit = refl; closes = λ _ up. inl up; crash = λ _ db may. inl may }
 
--- a fact that stands beforehand
-pub survives_with : (s t : State) (P : Type 0) (Q : Trees → Type 0) → P → Survives s t Q → Survives s t (λ trees. P × Q trees)
-survives_with s t P Q p h = survives_weaker s t Q (λ trees. P × Q trees) (λ _ db q. (p, q)) h
+-- what a crash may find of an open
+pub survives_bare : (s t : State) → IsBare s → Survives s t (λ trees. trees 0 ≡ []) → Survives s t (MayBecome s)
+survives_bare s t bare h = survives_weaker s t (λ trees. trees 0 ≡ []) (MayBecome s) (λ _ db empty. inl (bare, empty)) h
+
+pub survives_older : (s t : State) → IsOlder s → Survives s t (IsMigration s) → Survives s t (MayBecome s)
+survives_older s t older h = survives_weaker s t (IsMigration s) (MayBecome s) (λ _ db it. inr (older, it)) h
 
 -- what a crash finds after a look and an INSERT
 pub survives_put : (s m t : State) (entry : Row) → (HasCleanDisk m → IsUnchanged s m) → Survives s m (λ _. ⊥) → Survives m t (λ trees. Adds (rows_of m) (rows_left m trees) entry)

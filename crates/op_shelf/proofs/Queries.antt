@@ -65,12 +65,12 @@ matched p f g same (r ∷ rows) = step (f r) (g r) (same r) (matched p f g same 
     step false true e later = absurd cc
     step false false e later = later
 
-each : (rows : List Row) → flat_map (λ (r : Row). ([] ∷ r ∷ []) ∷ []) rows ≡ map (λ (r : Row). [] ∷ r ∷ []) rows
+pub each : (rows : List Row) → flat_map (λ (r : Row). ([] ∷ r ∷ []) ∷ []) rows ≡ map (λ (r : Row). [] ∷ r ∷ []) rows
 each [] = refl
 each (r ∷ rows) = ap (λ xs. ([] ∷ r ∷ []) ∷ xs) (each rows)
 
 -- what is shown of the matches
-outs : (f : Env → Output) (g : Row → Output) (p : Row) → ((r : Row) → f (p ∷ r ∷ []) ≡ g r) → (rows : List Row) → map f (map (λ (r : Row). p ∷ r ∷ []) rows) ≡ map g rows
+pub outs : (f : Env → Output) (g : Row → Output) (p : Row) → ((r : Row) → f (p ∷ r ∷ []) ≡ g r) → (rows : List Row) → map f (map (λ (r : Row). p ∷ r ∷ []) rows) ≡ map g rows
 outs f g p same [] = refl
 outs f g p same (r ∷ rows) = rw (same r) (ap (λ xs. g r ∷ xs) (outs f g p same rows))
 
@@ -88,14 +88,14 @@ sifted test (r ∷ rows) = step (test (entry_in r)) (sifted test rows)
     step false e = e
 
 -- the rows that an order gives are those that were kept
-permuted : (g : Row → Output) (picked rows : List Row) (kept ordered : List Output) → kept ≡ map g picked → IsPermutation kept ordered → rows ≡ map (λ (o : Output). o.1) ordered
+pub permuted : (g : Row → Output) (picked rows : List Row) (kept ordered : List Output) → kept ≡ map g picked → IsPermutation kept ordered → rows ≡ map (λ (o : Output). o.1) ordered
     → IsPermutation (map (λ r. (g r).1) picked) rows
 permuted g picked rows kept ordered is same shown =
     let firsts : map (λ (o : Output). o.1) kept ≡ map (λ r. (g r).1) picked = ap (map (λ (o : Output). o.1)) is ∙ seconds g picked in
     subst (λ (xs : List Row). IsPermutation (map (λ r. (g r).1) picked) xs) (sym shown)
     (subst (λ (xs : List Row). IsPermutation xs (map (λ (o : Output). o.1) ordered)) firsts (IsPermutation-map (λ (o : Output). o.1) kept ordered same))
 
-overlaid : (db : Trees) (tree : ℕ) → Serves tree → overlay db [] tree ≡ db tree
+pub overlaid : (db : Trees) (tree : ℕ) → Serves tree → overlay db [] tree ≡ db tree
 overlaid db tree (inl first) = rw first
 overlaid db tree (inr third) = rw third
 

@@ -1,6 +1,8 @@
 pub mod Entries
 pub mod Fault
 pub mod Keep
+pub mod Migration
+pub mod Older
 pub mod Opened
 pub mod States
 pub mod Table

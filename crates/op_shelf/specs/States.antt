@@ -12,8 +12,9 @@ use Rattle.sqlite.specs.State.{State, HasCleanDisk, IsUnchanged, IsRolledBack, F
 use Rattle.sqlite.specs.declared.error.Error.{Error}
 use Rattle.op_shelf.specs.declared.fault.ShelfFault.TheVariants.{Store}
 use Rattle.op_shelf.specs.Fault.{fault_of}
+use Rattle.op_shelf.specs.Migration.{IsOlder, IsMigrated, IsMigration, IsNotSwapped}
 use Rattle.op_shelf.specs.Table.{IsShelf, no_schema}
-use Rattle.op_shelf.specs.Texts.{create_text, held_text, insert_text}
+use Rattle.op_shelf.specs.Texts.{create_text, held_text, insert_text, older_text}
 use Rattle.sqlite.specs.Held.{Held, state}
 use Rattle.operation.specs.declared.op.Op.{Op}
 use Rattle.op_shelf.specs.Entries.{entries, Adds, Holds}
@@ -117,13 +118,9 @@ pub record IsMade (s t : State) : Type 0 where
   pub committed : t.committed ≡ t.now
   pub alone : t.in_transaction ≡ false
 
--- what a shelf holds of what was there: the same table, or one that was made in an empty database
+-- what a shelf holds of what was there: the same table, one that was made in an empty database, or that of a migration
 abbrev pub StandsFor : State → State → Type 0
-StandsFor s t = (IsReady s × (t.now ≡ s.now) × (t.committed ≡ s.committed)) ⊎ (IsBare s × IsMade s t)
-
--- the database refused to make the table, for another cause than memory, or is that of no shelf
-abbrev pub IsNotOpened : State → State → Type 0
-IsNotOpened s t = IsNotDone create_text [] s t ⊎ ((¬ IsReady s) × (¬ IsBare s))
+StandsFor s t = (IsReady s × (t.now ≡ s.now) × (t.committed ≡ s.committed)) ⊎ ((IsBare s × IsMade s t) ⊎ (IsOlder s × IsMigrated s t))
 
 -- the database is open, and so far the disk has returned what was written
 pub record IsUp (s : State) : Type 0 where
@@ -134,3 +131,16 @@ pub record IsUp (s : State) : Type 0 where
 pub record Lasts (s : State) (op : Op) : Type 0 where
   pub held : Holds (rows_of s) op
   pub left : (trees : Trees) → s.may_leave trees → Holds (rows_left s trees) op
+
+-- what a crash may find of an open: an empty table where none was, or the entries of the older table's rows
+abbrev pub MayBecome : State → Trees → Type 0
+MayBecome s trees = (IsBare s × (trees 0 ≡ [])) ⊎ (IsOlder s × IsMigration s trees)
+
+-- a migration was refused: the database did not show the older table, or refused what was to move it, for another cause than memory
+abbrev pub IsNotMigrated : {S : Type 0} → Ghosts S → Held S → Held S → Type 0
+IsNotMigrated {S} g old new = IsNotShown older_text [] (state g old) (state g new) ⊎ ((e : Error) × (fault_of e ≡ Store) × IsNotSwapped g new e)
+
+-- the database refused to make the table, or to move the older one, for another cause than memory, or is that of no shelf
+abbrev pub IsNotOpened : {S : Type 0} → Ghosts S → Held S → Held S → Type 0
+IsNotOpened {S} g old new =
+    IsNotDone create_text [] (state g old) (state g new) ⊎ (((¬ IsReady (state g old)) × (¬ IsBare (state g old)) × (¬ IsOlder (state g old))) ⊎ (IsOlder (state g old) × IsNotMigrated g old new))

@@ -15,3 +15,9 @@ held_text = codes "SELECT digest, kind, body FROM ops2 WHERE digest = ?1"
 
 abbrev pub kind_text : List ℕ
 kind_text = codes "SELECT kind FROM ops2 WHERE kind = ?1"
+
+abbrev pub older_text : List ℕ
+older_text = codes "SELECT digest, body FROM ops"
+
+abbrev pub drop_text : List ℕ
+drop_text = codes "DROP TABLE ops"

@@ -8,6 +8,7 @@
 mod fault;
 mod keep;
 mod kept;
+mod migration;
 mod open;
 mod rows;
 mod schema;

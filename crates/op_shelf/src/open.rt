@@ -1,36 +1,46 @@
 //! From a connection, or a path, to a shelf.
 
-ghost use Rattle.std.specs.Prelude.{◌≡◌, ◌≢◌, [], IfOk, IfErr, IsErrOf, OnOk, OnErr};
+ghost use Rattle.std.specs.Prelude.{IfOk, IsErrOf, OnOk, OnErr};
 ghost use Rattle.sqlite.specs.Files.{file_state};
 ghost use Rattle.sqlite.specs.Held.{state};
 ghost use Rattle.sqlite.specs.State.{HasCleanDisk, Survives};
 ghost use Rattle.sqlite.specs.WalFiles.{image_at};
 ghost use Rattle.op_shelf.specs.Opened.{IsFound};
-ghost use Rattle.op_shelf.specs.States.{IfClean, IsBare, StandsFor, KeepsAll, IsNotOpened};
+ghost use Rattle.op_shelf.specs.Migration.{IsOlder, HasBadPair};
+ghost use Rattle.op_shelf.specs.States.{IfClean, StandsFor, MayBecome, KeepsAll, IsNotOpened};
 
 use crate::fault::ShelfFault;
+use crate::migration::migrate;
 use crate::shelf::Shelf;
 use crate::statements::create;
-use crate::table::{is_blank, is_ready};
+use crate::table::{is_aged, is_blank, is_ready};
 use sqlite::{Alter, Connection, FileFrom, FileStore, Start};
 use std::alloc::Global;
 use std::rt::HostRuntime;
 
-/// Makes the table where the database is empty.
-#[tactic(auto, using(crate::proofs::Puts::survives_with, crate::proofs::Puts::survives_none, crate::proofs::Puts::bare_keeps))]
-pub(crate) fn make_ready<S: Alter>(database: &mut Connection<S>) -> Result<(), ShelfFault>
+/// Makes the table where the database is empty, and moves the older one.
+#[tactic(auto, using(crate::proofs::Puts::survives_bare, crate::proofs::Puts::survives_older, crate::proofs::Puts::survives_none, crate::proofs::Puts::bare_keeps))]
+pub(crate) fn make_ready<S: Alter>(
+    database: &mut Connection<S>,
+    alloc: Global,
+) -> Result<(), ShelfFault>
     ensures stands { IfClean S.Store database.old database.new (λ s t.
         OnOk result (StandsFor s t)) }
     ensures refused { IfClean S.Store database.old database.new (λ s t.
         OnErr result (KeepsAll s t)) }
     ensures store { IfClean S.Store database.old database.new (λ s t.
-        IsErrOf result ShelfFault.Store → IsNotOpened s t) }
-    ensures only { IfErr result (λ fault. fault ≢ ShelfFault.BadRow) }
-    ensures crash { Survives (state S.Store database.old) (state S.Store database.new) (λ trees.
-        IsBare (state S.Store database.old) × (trees 0 ≡ [])) }
+        IsErrOf result ShelfFault.Store → IsNotOpened S.Store database.old database.new) }
+    ensures bad_row { IfClean S.Store database.old database.new (λ s t.
+        IsErrOf result ShelfFault.BadRow → HasBadPair s) }
+    ensures only { IsErrOf result ShelfFault.BadRow → IsOlder (state S.Store database.old) }
+    ensures crash { Survives (state S.Store database.old) (state S.Store database.new)
+        (MayBecome (state S.Store database.old)) }
 {
     if is_ready(database) {
         return Ok(());
+    }
+    if is_aged(database) {
+        return migrate(database, alloc);
     }
     if !is_blank(database) {
         return Err(ShelfFault::Store);
@@ -40,19 +50,23 @@ pub(crate) fn make_ready<S: Alter>(database: &mut Connection<S>) -> Result<(), S
 }
 
 impl<S: Alter + Drop> Shelf<S> {
-    /// A shelf over an open connection. An empty database gets the table; one of another schema is
-    /// `Store`, and left as it was. On a refusal the connection is given up.
+    /// A shelf over an open connection. An empty database gets the table. Each row of the older
+    /// table is moved to it, in one transaction; one that is that of no operation is `BadRow`. A
+    /// database of another schema is `Store`. What is refused is left as it was, and the
+    /// connection is given up.
     pub fn adopt(alloc: Global, connection: Connection<S>) -> Result<Shelf<S>, ShelfFault>
         ensures stands { IfOk result (λ shelf. HasCleanDisk (state S.Store shelf)
             → StandsFor (state S.Store connection) (state S.Store shelf)) }
-        ensures only { IfErr result (λ fault. fault ≢ ShelfFault.BadRow) }
-        // A crash finds what was there, or an empty table in an empty database.
+        ensures bad_row { IsErrOf result ShelfFault.BadRow
+            → IsOlder (state S.Store connection) }
+        // A crash finds what was there, or an empty table in an empty database, or the same
+        // operations in the newer table.
         ensures crash { IfOk result (λ shelf.
-            Survives (state S.Store connection) (state S.Store shelf) (λ trees.
-            IsBare (state S.Store connection) × (trees 0 ≡ []))) }
+            Survives (state S.Store connection) (state S.Store shelf)
+            (MayBecome (state S.Store connection))) }
     {
         let mut database = connection;
-        make_ready(&mut database)?;
+        make_ready(&mut database, alloc)?;
         Ok(Shelf { database, alloc })
     }
 }

@@ -1,12 +1,13 @@
 //! Entries of the table, and the operations that they stand for.
 
-ghost use Rattle.std.specs.Prelude.{◌≡◌, ◌≢◌, ◌↔◌, ◌<◌, ◌⊎◌, [], true, false, pos, length, map, All, Any, IfOk, IfErr, IfSome, IsNone, IsTrue, IsErrOf, Ok, Err, List, ℕ};
+ghost use Rattle.std.specs.Prelude.{◌≡◌, ◌≢◌, ◌↔◌, ◌<◌, ◌⊎◌, [], true, false, pos, length, map, All, Any, IfOk, IfErr, OnOk, IfSome, IsNone, IsTrue, IsErrOf, Ok, Err, List, ℕ};
 ghost use Rattle.sqlite.specs.declared.types.Value.TheVariants.{Int, Text, Blob};
 ghost use Rattle.sqlite.specs.Order.{column};
 ghost use Rattle.operation.specs.Reading.{IsOp};
 ghost use Rattle.operation.specs.Spelling.{spelling};
 ghost use Rattle.operation.specs.declared.op.Op.{Op};
 ghost use Rattle.op_shelf.specs.Entries.{kind_in, entry_by, entry_of, IsEntry};
+ghost use Rattle.op_shelf.specs.Older.{IsPair};
 
 use crate::fault::ShelfFault;
 use bytes::Bytes;
@@ -119,6 +120,62 @@ fn op_of(alloc: Global, entry: &Row) -> Result<Op, ShelfFault>
         return Err(ShelfFault::BadRow);
     }
     Ok(op)
+}
+
+/// The text at a place of a row, if it is one.
+pub(crate) fn text_at(row: &Row, at: usize) -> Option<&[u8]>
+    requires { at < length row.now }
+    ensures found { IfSome result (λ text. column row.now at ≡ Text text.now) }
+    ensures none { IsNone result → (text : List ℕ) → column row.now at ≢ Text text }
+{
+    match row.get_ref(at) {
+        Ok(ValueRef::Text(text)) => Some(text),
+        _ => None,
+    }
+}
+
+/// The bytes at a place of a row, if they are a blob.
+pub(crate) fn blob_at(row: &Row, at: usize) -> Option<&[u8]>
+    requires { at < length row.now }
+    ensures found { IfSome result (λ bytes. column row.now at ≡ Blob bytes.now) }
+    ensures none { IsNone result → (bytes : List ℕ) → column row.now at ≢ Blob bytes }
+{
+    match row.get_ref(at) {
+        Ok(ValueRef::Blob(bytes)) => Some(bytes),
+        _ => None,
+    }
+}
+
+/// Whether a row of the older table is that of an operation: `BadRow` where it is not.
+fn is_pair(alloc: Global, pair: &Row) -> Result<(), ShelfFault>
+    ensures found { OnOk result (IsPair pair.now) }
+    ensures bad { IsErrOf result ShelfFault.BadRow → ¬ IsPair pair.now }
+    ensures only { IfErr result (λ e. e ≢ ShelfFault.Store) }
+{
+    if pair.column_count() != 2 {
+        return Err(ShelfFault::BadRow);
+    }
+    let Some(body) = blob_at(pair, 1) else {
+        return Err(ShelfFault::BadRow);
+    };
+    let op = decoded(alloc, body)?;
+    let text = digest(&op).text(alloc)?;
+    if !has_text(pair, 0, text.as_bytes()) {
+        return Err(ShelfFault::BadRow);
+    }
+    Ok(())
+}
+
+/// Whether all rows of the older table are those of operations: `BadRow` where one is not.
+pub(crate) fn are_pairs(alloc: Global, pairs: &[Row]) -> Result<(), ShelfFault>
+    ensures all { OnOk result (All IsPair pairs.now) }
+    ensures bad { IsErrOf result ShelfFault.BadRow → Any (λ p. ¬ IsPair p) pairs.now }
+    ensures only { IfErr result (λ e. e ≢ ShelfFault.Store) }
+{
+    for pair in pairs {
+        is_pair(alloc, pair)?;
+    }
+    Ok(())
 }
 
 /// The operations of entries, in their order.

@@ -4,6 +4,7 @@ ghost use Rattle.std.specs.Prelude.{◌≡◌, ◌↔◌, ◌⊎◌, ◌∷◌, 
 ghost use Rattle.sqlite.specs.Collation.TheVariants.{Binary};
 ghost use Rattle.sqlite.specs.declared.types.Value.TheVariants.{Null};
 ghost use Rattle.op_shelf.specs.Table.{digest_column, kind_column, body_column, ops2, index_of, AreTrees, AreParts, IsShelf, no_schema};
+ghost use Rattle.op_shelf.specs.Older.{ops, ops_index, older_schema, AreOlderParts};
 
 use sqlite_items::Items;
 use sqlite_schema::schema::{Column, Index, Kind, Schema, Stamps, Table};
@@ -148,4 +149,58 @@ pub(crate) fn is_bare(schema: &Schema) -> bool
     ensures { IsTrue result ↔ (schema.now ≡ no_schema) }
 {
     schema.tables.is_empty() && schema.indexes.is_empty() && schema.views.is_empty()
+}
+
+fn are_older_columns(columns: &[Column]) -> bool
+    ensures { IsTrue result ↔ (columns.now ≡ digest_column ∷ body_column ∷ []) }
+{
+    match columns {
+        [digest, body] => is_column(digest, b"digest", Kind::Text, false)
+            && is_column(body, b"body", Kind::Any, true),
+        _ => false,
+    }
+}
+
+fn is_older_table(table: &Table) -> bool
+    ensures { IsTrue result ↔ (table.now ≡ ops) }
+{
+    table.name.as_slice() == b"ops".as_slice()
+        && table.tree == 0
+        && are_older_columns(table.columns.as_slice())
+        && table.key.is_none()
+        && are_keys(table.primary.as_slice())
+        && are_uniques(table.uniques.as_slice())
+        && are_orders(table.orders.as_slice())
+        && table.checks.roots.is_empty()
+        && table.references.is_empty()
+        && table.computed.is_empty()
+        && has_no_stamps(&table.stamps)
+        && !table.is_counted
+}
+
+fn is_older_index(index: &Index) -> bool
+    ensures { IsTrue result ↔ (index.now ≡ ops_index) }
+{
+    index.name.as_slice() == b"sqlite_autoindex_ops_1".as_slice()
+        && index.tree == 1
+        && index.table == 0
+        && are_keys(index.columns.as_slice())
+        && is_plain(index.order)
+        && index.is_unique
+}
+
+fn are_older_parts(schema: &Schema, table: &Table, index: &Index) -> bool
+    ensures { IsTrue result ↔ AreOlderParts schema.now table.now index.now }
+{
+    schema.views.is_empty() && is_older_table(table) && is_older_index(index)
+}
+
+/// Whether a schema has the older table alone.
+pub(crate) fn is_older(schema: &Schema) -> bool
+    ensures { IsTrue result ↔ (schema.now ≡ older_schema) }
+{
+    match (schema.tables.as_slice(), schema.indexes.as_slice()) {
+        ([table], [index]) => are_older_parts(schema, table, index),
+        _ => false,
+    }
 }

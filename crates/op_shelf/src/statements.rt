@@ -8,9 +8,10 @@ ghost use Rattle.sqlite.specs.Listing.{understood};
 ghost use Rattle.sqlite.specs.State.{HasCleanDisk, IsUnchanged, Survives, Shown, FailsToQuery, Executes};
 ghost use Rattle.sqlite.specs.Values.{bound};
 ghost use Rattle.op_shelf.specs.Entries.{entries, Adds};
+ghost use Rattle.op_shelf.specs.Older.{older_schema, pairs};
 ghost use Rattle.op_shelf.specs.States.{rows_of, rows_left, IfClean, Spares, under, count_of, digest_cmp, IsAdded, IsBare, IsMade};
 ghost use Rattle.op_shelf.specs.Table.{IsShelf};
-ghost use Rattle.op_shelf.specs.Texts.{all_text, create_text, held_text, kind_text, insert_text};
+ghost use Rattle.op_shelf.specs.Texts.{all_text, create_text, held_text, kind_text, insert_text, older_text};
 
 use sqlite::types::ValueRef;
 use sqlite::{Alter, Connection, Error, Row, params};
@@ -28,6 +29,8 @@ fn select<S: Alter>(
     ensures refused { IfClean S.Store database.old database.new (λ s t. OnErr result (Spares s t)) }
     ensures cause { IfClean S.Store database.old database.new (λ s t.
         IfErr result (FailsToQuery text.now (bound values.now) s t)) }
+    ensures mode { (state S.Store database.old).in_transaction ≡ false
+        → (state S.Store database.new).in_transaction ≡ false }
     ensures crash { Survives (state S.Store database.old) (state S.Store database.new) (λ _. ⊥) }
 {
     database.query_all(text, values)
@@ -51,6 +54,22 @@ pub(crate) fn all_rows<S: Alter>(database: &mut Connection<S>) -> Result<Vec<Row
         "SELECT digest, kind, body FROM ops2 ORDER BY digest",
         &[],
     )
+}
+
+/// The rows of the older table, each a digest's text and bytes.
+pub(crate) fn older_rows<S: Alter>(database: &mut Connection<S>) -> Result<Vec<Row>, Error>
+    requires older { (state S.Store database.old).now.schema ≡ older_schema }
+    ensures rows { IfClean S.Store database.old database.new (λ s t.
+        IfOk result (λ rows. IsPermutation (pairs (s.now.trees 0)) rows.items)) }
+    ensures same { IfClean S.Store database.old database.new (λ s t. OnOk result (IsUnchanged s t)) }
+    ensures refused { IfClean S.Store database.old database.new (λ s t. OnErr result (Spares s t)) }
+    ensures cause { IfClean S.Store database.old database.new (λ s t.
+        IfErr result (FailsToQuery older_text [] s t)) }
+    ensures mode { (state S.Store database.old).in_transaction ≡ false
+        → (state S.Store database.new).in_transaction ≡ false }
+    ensures crash { Survives (state S.Store database.old) (state S.Store database.new) (λ _. ⊥) }
+{
+    select(database, "SELECT digest, body FROM ops", &[])
 }
 
 /// The entries under a digest.

@@ -6,6 +6,7 @@ ghost use Rattle.sqlite.specs.Held.{state};
 ghost use Rattle.sqlite.specs.State.{HasCleanDisk, IsUnchanged, Survives};
 ghost use Rattle.sqlite.specs.Tree.{Trees};
 ghost use Rattle.op_shelf.specs.Entries.{entries, entry_by, Adds};
+ghost use Rattle.op_shelf.specs.Migration.{IsOlder};
 ghost use Rattle.op_shelf.specs.States.{IfClean, IsReady, IsKnown, IsPut, HasOther, KeepsAll, Spares, IsNotShown, IsNotDone, IsNotKept, IsAdded, IsBare, under, rows_of, rows_left};
 ghost use Rattle.op_shelf.specs.Table.{IsShelf};
 ghost use Rattle.op_shelf.specs.Texts.{held_text, insert_text};
@@ -13,7 +14,7 @@ ghost use Rattle.op_shelf.specs.Texts.{held_text, insert_text};
 use crate::fault::ShelfFault;
 use crate::kept::Kept;
 use crate::rows::{find_in, kind_of};
-use crate::schema::{is_bare, is_shelf};
+use crate::schema::{is_bare, is_older, is_shelf};
 use crate::statements::{held_rows, insert};
 use sqlite::{Alter, Connection};
 
@@ -30,6 +31,13 @@ pub(crate) fn is_blank<S: Alter>(database: &Connection<S>) -> bool
     ensures { IsTrue result ↔ IsBare (state S.Store database.now) }
 {
     is_bare(database.schema()) && database.is_autocommit()
+}
+
+/// Whether the older table stands alone, and no transaction is open.
+pub(crate) fn is_aged<S: Alter>(database: &Connection<S>) -> bool
+    ensures { IsTrue result ↔ IsOlder (state S.Store database.now) }
+{
+    is_older(database.schema()) && database.is_autocommit()
 }
 
 /// Whether an entry is there.

@@ -177,7 +177,7 @@ fn three_puts<S: Alter + Drop>(
     alloc: Global,
     mut database: Connection<S>,
 ) -> Result<(usize, S), Fail> {
-    if make_ready(&mut database).is_err() {
+    if make_ready(&mut database, alloc).is_err() {
         return Ok((0, database.into_store()));
     }
     let mut shelf = Shelf { database, alloc };
