@@ -24,7 +24,8 @@ use Rattle.association_session.specs.declared.service.Service.TheVariants.{Ignor
 use Rattle.association_session.specs.Finals.{HasNoData, AreResponded, RequestFor, RequestIn, Requests, EndsInCall, HasResponses}
 use Rattle.association_session.specs.Response.{Awaited}
 use Rattle.association_session.specs.Row.{Within, row, met}
-use Rattle.association_session.specs.Service.{status_of_reply, Serves}
+use Rattle.association_session.specs.Service.{Serves}
+use Rattle.association_session.specs.Store.{status_of_reply}
 use Rattle.association_session.specs.Talks.{Heard, Met, Said, Goes, Tells, Follows, Does, InState, Answers, Talks, awaiting}
 
 -- ---- what stands before a response

@@ -31,7 +31,9 @@ use Rattle.association_session.specs.declared.service.Service.TheVariants.{Respo
 use Rattle.association_session.specs.Projections.{state_after}
 use Rattle.association_session.specs.Response.{Awaited}
 use Rattle.association_session.specs.Row.{Within, Link, row, met, agreed_by, limit_in, handed_on}
-use Rattle.association_session.specs.Service.{Serves, ServesOn, context_in, status_of_reply, status_for_reply}
+use Rattle.association_session.specs.Context.{context_in}
+use Rattle.association_session.specs.Service.{Serves, ServesOn}
+use Rattle.association_session.specs.Store.{status_of_reply, status_for_reply}
 use Rattle.association_session.specs.Session.{AssociationState, Linked, assembly_in, assembly_of, heard_in, Turned, Answered, Takes, Owes, OwedFor, Stops, entered, stage_by, IsTold, IsWritable}
 use Rattle.association_session.specs.Talks.{Heard, Met, Said, Tells, InState, Answers, Talks, Leads, awaiting}
 

@@ -29,7 +29,7 @@ use Rattle.association_session.specs.declared.service.Service.TheVariants.{Ignor
 use Rattle.association_session.specs.Order.{IsOrderly, IsReplied}
 use Rattle.association_session.specs.Response.{Awaited}
 use Rattle.association_session.specs.Row.{Within, Link, row, met, deeds_of, action_on}
-use Rattle.association_session.specs.Service.{status_of_reply}
+use Rattle.association_session.specs.Store.{status_of_reply}
 use Rattle.association_session.specs.Talks.{Heard, Met, Said, Goes, Tells, Follows, Does, InState, Answers, Talks, awaiting}
 
 -- ---- orderly deeds

@@ -27,7 +27,9 @@ use Rattle.association_session.specs.declared.service.Service.TheVariants.{Ignor
 use Rattle.association_session.specs.Projections.{IsFront}
 use Rattle.association_session.specs.Response.{Awaited, Responds}
 use Rattle.association_session.specs.Row.{Within, Link, row, met}
-use Rattle.association_session.specs.Service.{status_of_reply, status_of_fault, kind_of, context_in, Serves, ServesOn, ServesKind, ServesStore, ServesDraft, store_refusal, draft_for}
+use Rattle.association_session.specs.Context.{context_in}
+use Rattle.association_session.specs.Service.{kind_of, Serves, ServesOn, ServesKind}
+use Rattle.association_session.specs.Store.{status_of_reply, status_of_fault, ServesStore, ServesDraft, store_refusal, draft_for}
 use Rattle.association_session.specs.Talks.{Heard, Met, Said, Goes, Then, Tells, Follows, Does, InState, Answers, Talks, awaiting}
 
 -- ---- one response, one service

@@ -1,3 +1,5 @@
+pub mod Context
+pub mod Echo
 pub mod Finals
 pub mod Order
 pub mod Projections
@@ -6,4 +8,5 @@ pub mod Response
 pub mod Row
 pub mod Service
 pub mod Session
+pub mod Store
 pub mod Talks

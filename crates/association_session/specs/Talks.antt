@@ -1,7 +1,7 @@
 -- What an association does for what it hears, given what its port replies (PS3.7, 9; PS3.8, 9.2).
 --
 -- It hears PDUs, and behind each P-DATA-TF that is handed on the messages that it ends. What each message is answered is a table, a line a
--- service: `ServesKind` of Service.antt.
+-- service: `ServesKind` of Service.antt, over a table for each service.
 use Rattle.std.specs.Prelude.{◌≡◌, List, [], ◌∷◌, ◌++◌, map}
 use Rattle.pdu.specs.declared.value.Pdu.{Pdu}
 use Rattle.ul_state.specs.declared.event.Event.{Event}
@@ -21,7 +21,8 @@ use Rattle.association_session.specs.declared.service.Service.{Service}
 use Rattle.association_session.specs.declared.service.Service.TheVariants.{Ignored, Broken, Responded, Asked}
 use Rattle.association_session.specs.Response.{Awaited, Responds}
 use Rattle.association_session.specs.Row.{Link, Within, row, met}
-use Rattle.association_session.specs.Service.{Serves, status_of_reply}
+use Rattle.association_session.specs.Service.{Serves}
+use Rattle.association_session.specs.Store.{status_of_reply}
 
 -- a PDU or the local user's abort, or a whole message
 pub data Heard : Type 0 where

@@ -3,12 +3,15 @@
 //! A session has no reader, no writer and no port. `Session::on` is told what was read, or what the
 //! port replied, and answers what is done: PDUs are sent, the gate is reached, the port is asked,
 //! the connection is closed. What an association does for all that it hears is `Talks` of
-//! `specs/Talks.antt`, and what each message is answered is `specs/Service.antt`.
+//! `specs/Talks.antt`, and what each message is answered is a table a service: `specs/Echo.antt`,
+//! `specs/Store.antt`, and `specs/Service.antt` above them.
 #![tactic(auto)]
 
 mod association;
 mod awaited;
+mod context;
 mod deed;
+mod echo;
 mod event;
 mod laws;
 mod limit;
@@ -16,6 +19,7 @@ mod link;
 mod reply;
 mod service;
 mod session;
+mod store;
 #[cfg(test)]
 mod tests;
 

@@ -5,7 +5,8 @@ ghost use Rattle.std.specs.FinMap as finmap;
 ghost use Rattle.operation.specs.declared.op.Op.TheVariants.{Content as AContent};
 ghost use Rattle.operation.specs.Spelling.{digest_of};
 ghost use Rattle.site_state.specs.Site.{Takes, IsClash};
-ghost use Rattle.association_worker.specs.Port.{holds_op, fault_of_site};
+ghost use Rattle.association_run.specs.Port.{Stores};
+ghost use Rattle.association_worker.specs.Port.{PortParts, holds_op, fault_of_site};
 
 use association_run::Port;
 use association_session::PortFault;
@@ -107,7 +108,21 @@ impl Port for SitePort {
 
     ghost own = { λ p. p.own };
 
-    fn store(&mut self, content: Content) -> Result<Taken, PortFault> {
+    fn store(&mut self, content: Content) -> Result<Taken, PortFault>
+        ensures stores { Stores (λ (p : PortParts) op. holds_op p.site op)
+            (λ (p : PortParts). p.own) self.old content result self.new }
+
+        // It does what `take` does.
+        ensures takes { IfOk result (λ taken.
+            Takes self.old.site (AContent content) (Ok taken) self.new.site) }
+        ensures listed { OnOk result (self.new.own
+            ≡ self.old.own ++ digest_of (AContent content) ∷ []) }
+        ensures collision { result ≡ Err PortFault.Collision →
+            IsClash self.old.site (AContent content) }
+        ensures fault { IfErr result (λ fault.
+            (fault ≡ PortFault.Collision) ⊎ (fault ≡ PortFault.Memory)) }
+        ensures kept { OnErr result (self.new ≡ self.old) }
+    {
         self.take(content)
     }
 }
