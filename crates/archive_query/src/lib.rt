@@ -14,8 +14,6 @@ mod key;
 mod laws;
 mod query;
 mod rows;
-#[cfg(test)]
-mod tests;
 
 pub use answer::Answer;
 pub use asked::Asked;

@@ -12,8 +12,6 @@ mod laws;
 mod selected;
 mod selection;
 mod sending;
-#[cfg(test)]
-mod tests;
 
 pub use accepts::{Accepted, Accepts};
 pub use getting::get;

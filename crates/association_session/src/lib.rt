@@ -20,8 +20,6 @@ mod reply;
 mod service;
 mod session;
 mod store;
-#[cfg(test)]
-mod tests;
 
 pub use deed::{Call, Deed, Moment};
 pub use event::SessionEvent;

@@ -5,7 +5,5 @@
 #![tactic(auto)]
 
 mod site_port;
-#[cfg(test)]
-mod tests;
 
 pub use site_port::SitePort;

@@ -15,11 +15,7 @@ mod holder;
 mod laws;
 mod reader;
 mod round;
-#[cfg(test)]
-mod round_tests;
 mod site_holder;
-#[cfg(test)]
-mod tests;
 mod version;
 mod writer;
 

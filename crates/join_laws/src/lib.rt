@@ -30,6 +30,3 @@ pub use map_of::MapOf;
 pub use pair_of::PairOf;
 pub use summary::{Summary, fold_ops};
 pub use undoes::Undoes;
-
-#[cfg(test)]
-mod tests;

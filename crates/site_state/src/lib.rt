@@ -10,8 +10,6 @@ mod counts;
 mod fault;
 mod laws;
 mod site;
-#[cfg(test)]
-mod tests;
 mod tree;
 
 pub use counts::Counts;

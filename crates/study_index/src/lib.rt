@@ -14,8 +14,6 @@ mod live_picks;
 mod pick;
 mod place;
 mod short_text;
-#[cfg(test)]
-mod tests;
 mod tree;
 
 pub use fixes::Fix;

@@ -2,9 +2,9 @@
 
 ghost use Rattle.std.specs.Prelude.{[], None};
 
-use super::*;
 use association_run::{End, Gate, OpenGate, Port, RunFault, run_association};
 use association_session::{Moment, PortFault};
+use association_worker::*;
 use devices::{Store, Supply};
 use octets::{ListOf, Octets};
 use operation::{Content, Taken};

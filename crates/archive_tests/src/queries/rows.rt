@@ -1,6 +1,6 @@
 //! What sites answer: rows from outside, in Implicit VR Little Endian.
 
-use crate::tests::made::{
+use crate::queries::made::{
     IMAGE, Image, content, correction, found, found_among, has_lesser_digest, image_of, note,
     patient, put, query, series, site_of, study, take_id, take_images,
 };
@@ -399,7 +399,7 @@ fn a_value_that_is_too_long_is_answered_empty(rt: HostRuntime) -> Result<(), Fai
             vec![in alloc; content(alloc, class, b"1.2.1.1.1", bytes)?]?,
         )?;
         let asked = query(alloc, b"STUDY", &[(0x0010_0010, b"*A*a*A*a*")])??;
-        let rows = crate::find(alloc, &site, View::Archive, b"ARCHIVE", &asked)?;
+        let rows = archive_query::find(alloc, &site, View::Archive, b"ARCHIVE", &asked)?;
         assert_eq!(rt; rows.len(), 1, "it is matched whole");
         let name = rows[0].set().value(0x0010_0010).map(|value| value.len());
         assert_eq!(rt; name, Some(want), "of {size} bytes");

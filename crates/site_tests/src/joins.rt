@@ -1,7 +1,7 @@
 //! Tests of what no clause says, and of each type at a concrete key through its bound.
 ghost use Rattle.join_laws.specs.Proved.Exact.{exact_unsigned};
 
-use super::*;
+use join_laws::*;
 use std::alloc::{AllocError, Global};
 use std::process::Abort;
 use std::test::Fail;

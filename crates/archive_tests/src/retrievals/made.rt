@@ -1,8 +1,8 @@
 //! Operations, selections and accepted syntaxes as the tests write them.
 
-use crate::{Accepted, Accepts, Selection, Sending, get};
 use archive_model::View;
 use archive_query::Level;
+use archive_retrieve::{Accepted, Accepts, Selection, Sending, get};
 use bytes::Bytes;
 use data_set::{Syntax, read};
 use octets::{ListOf, Octets};

@@ -3,7 +3,7 @@
 ghost use Rattle.std.specs.Prelude.{IfOk};
 ghost use Rattle.association_session.specs.Session.{IsSound, IsWritable};
 
-use super::*;
+use association_session::*;
 use octets::{ListOf, Octets};
 use operation::Taken;
 use pdu::{Pdu, Step, read_pdu, write_pdu};

@@ -1,7 +1,7 @@
 //! Transfer syntaxes in which contents are sent.
 
-use crate::tests::made::{CT, IMAGE, accepts, content, first_body, sent, spelled};
-use crate::{Accepted, Accepts};
+use crate::retrievals::made::{CT, IMAGE, accepts, content, first_body, sent, spelled};
+use archive_retrieve::{Accepted, Accepts};
 use data_set::Syntax;
 use octets::{ListOf, Octets};
 use std::test::Fail;

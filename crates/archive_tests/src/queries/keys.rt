@@ -1,7 +1,7 @@
 //! Which identifiers are queries (PS3.4, section C.4.1.1).
 
-use crate::QueryFault;
-use crate::tests::made::query;
+use crate::queries::made::query;
+use archive_query::QueryFault;
 use std::test::Fail;
 
 #[test]

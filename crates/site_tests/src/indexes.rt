@@ -1,11 +1,11 @@
 //! Corrections of one stamp, in each order and one of them twice.
 
-use crate::Index;
 use join_laws::fold_ops;
 use octets::Octets;
 use operation::{Op, Stamp, Target, correction_of};
 use std::alloc::Global;
 use std::test::Fail;
+use study_index::Index;
 
 /// (0010,0010) Patient's Name
 const PATIENT_NAME: u32 = 0x0010_0010;

@@ -1,9 +1,11 @@
 //! What small sites send, beside the plain definitions.
 
-use crate::tests::made::{CT, Part, accepts, content, correction, note, put, selecting, site_of};
-use crate::{Selection, Sending, get};
+use crate::retrievals::made::{
+    CT, Part, accepts, content, correction, note, put, selecting, site_of,
+};
 use archive_model::{View, coerced, is_coerced, series, shown, study};
 use archive_query::Level;
+use archive_retrieve::{Selection, Sending, get};
 use data_set::{Syntax, write};
 use operation::{Content, Op};
 use rand_core::utils::NextWord;

@@ -1,7 +1,7 @@
 //! Frames from outside.
 
-use super::*;
 use bytes::Bytes;
+use exchange::*;
 use std::alloc::{AllocError, Global};
 use std::process::Abort;
 use std::test::Fail;

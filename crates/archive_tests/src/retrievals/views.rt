@@ -1,9 +1,9 @@
 //! Two studies, in each of which an instance is rejected, in two views.
 
-use crate::tests::made::{accepts, image_of, note, selecting, site_of};
-use crate::{Sending, get};
+use crate::retrievals::made::{accepts, image_of, note, selecting, site_of};
 use archive_model::View;
 use archive_query::Level;
+use archive_retrieve::{Sending, get};
 use operation::Op;
 use std::alloc::Global;
 use std::test::Fail;

@@ -1,7 +1,7 @@
 //! Rounds between two sites.
 
-use super::*;
 use bytes::Bytes;
+use exchange::*;
 use operation::{Digest, Op, Taken, decode, digest};
 use site_state::Site;
 use std::alloc::Global;

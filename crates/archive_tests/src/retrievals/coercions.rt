@@ -1,6 +1,6 @@
 //! Values that corrections give, in each attribute and in both syntaxes.
 
-use crate::tests::made::{
+use crate::retrievals::made::{
     IMAGE, Part, accepts, content, correction, first_body, put, sent, series_correction, spelled,
 };
 use data_set::Syntax;

@@ -1,6 +1,6 @@
 //! What identifiers select.
 
-use crate::tests::made::{Part, selection};
+use crate::retrievals::made::{Part, selection};
 use std::test::Fail;
 
 const LEVEL_OF_STUDIES: Part<'static> = (0x0008_0052, *b"CS", b"STUDY ");

@@ -1,7 +1,7 @@
 //! Operations, identifiers and answers as the tests write them.
 
-use crate::{Answer, Query, QueryFault, find};
 use archive_model::View;
+use archive_query::{Answer, Query, QueryFault, find};
 use bytes::Bytes;
 use data_set::{Syntax, read};
 use octets::Octets;

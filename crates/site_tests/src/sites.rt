@@ -1,11 +1,11 @@
 //! Sites that take images, notes and corrections, in whatever order.
 
-use crate::{Counts, Site, SiteFault, Taken};
 use archive_model::{View, instances_of_study, shown, studies};
 use bytes::Bytes;
 use data_set::Syntax;
 use octets::Octets;
 use operation::{Digest, Op, Stamp, Target, content_of, correction_of};
+use site_state::{Counts, Site, SiteFault, Taken};
 use std::alloc::{AllocError, Global};
 use std::test::Fail;
 

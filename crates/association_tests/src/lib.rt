@@ -1,0 +1,9 @@
+//! Tests of associations, as values and over readers and writers in memory.
+//!
+//! They stand in a crate of their own, so that no crate is proved once more with its tests.
+#![tactic(auto)]
+
+#[cfg(test)]
+mod associations;
+#[cfg(test)]
+mod sessions;
