@@ -1,5 +1,6 @@
 -- Texts that ascend, each once: whatever order they came in, they are the same.
-use Rattle.std.proofs.Common.{inl, inr, ◌≡◌, ℕ, Bool, true, false, cond, List, [], ◌∷◌, ◌++◌, refl, sym, ap, subst, ◌∙◌, Less, Equal, Greater}
+use Rattle.std.proofs.Common.{inl, inr, ◌≡◌, ℕ, Bool, true, false, cond, List, [], ◌∷◌, ◌++◌, refl, sym, ap, subst, ◌∙◌}
+use Rattle.std.proofs.Common.{Less, Equal, Greater}
 use Rattle.std.specs.Prelude.{map, ◌⊎◌}
 use Rattle.std.specs.List.{filter}
 use Rattle.std.specs.Ordering.{match_ordering, ordering_reverse, is_eq}
@@ -59,7 +60,8 @@ below_has t u (v ∷ us) below (inr has) = below_has t u us below.1 has
 abbrev Put : Ordering → Text → Text → List Text → List Text
 Put o t u us = match_ordering o (t ∷ u ∷ us) (u ∷ us) (u ∷ put t us)
 
-put_has_by : (o : Ordering) (t u : Text) (us : List Text) (x : Text) → text_cmp t u ≡ o → (Has (put t us) x → (x ≡ t) ⊎ Has us x) → Has (Put o t u us) x → (x ≡ t) ⊎ Has (u ∷ us) x
+put_has_by : (o : Ordering) (t u : Text) (us : List Text) (x : Text) → text_cmp t u ≡ o
+    → (Has (put t us) x → (x ≡ t) ⊎ Has us x) → Has (Put o t u us) x → (x ≡ t) ⊎ Has (u ∷ us) x
 put_has_by Less t u us x e more has = has
 put_has_by Equal t u us x e more has = inr has
 put_has_by Greater t u us x e more (inl is) = inr (inl is)
@@ -69,7 +71,8 @@ pub put_has : (t : Text) (us : List Text) (x : Text) → Has (put t us) x → (x
 put_has t [] x has = has
 put_has t (u ∷ us) x has = put_has_by (text_cmp t u) t u us x refl (put_has t us x) has
 
-has_put_by : (o : Ordering) (t u : Text) (us : List Text) (x : Text) → text_cmp t u ≡ o → ((x ≡ t) ⊎ Has us x → Has (put t us) x) → (x ≡ t) ⊎ Has (u ∷ us) x → Has (Put o t u us) x
+has_put_by : (o : Ordering) (t u : Text) (us : List Text) (x : Text) → text_cmp t u ≡ o
+    → ((x ≡ t) ⊎ Has us x → Has (put t us) x) → (x ≡ t) ⊎ Has (u ∷ us) x → Has (Put o t u us) x
 has_put_by Less t u us x e more has = has
 has_put_by Equal t u us x e more (inl is) = inl (is ∙ equal_is t u e)
 has_put_by Equal t u us x e more (inr has) = has
@@ -81,7 +84,8 @@ pub has_put : (t : Text) (us : List Text) (x : Text) → (x ≡ t) ⊎ Has us x 
 has_put t [] x has = has
 has_put t (u ∷ us) x has = has_put_by (text_cmp t u) t u us x refl (has_put t us x) has
 
-below_put_by : (o : Ordering) (s t u : Text) (us : List Text) → text_cmp s t ≡ Less → Below s (u ∷ us) → Below s (put t us) → Below s (Put o t u us)
+below_put_by : (o : Ordering) (s t u : Text) (us : List Text) → text_cmp s t ≡ Less → Below s (u ∷ us)
+    → Below s (put t us) → Below s (Put o t u us)
 below_put_by Less s t u us less below more = (less, below)
 below_put_by Equal s t u us less below more = below
 below_put_by Greater s t u us less below more = (below.0, more)
@@ -90,7 +94,8 @@ below_put : (s t : Text) (us : List Text) → text_cmp s t ≡ Less → Below s 
 below_put s t [] less below = (less, tt)
 below_put s t (u ∷ us) less below = below_put_by (text_cmp t u) s t u us less below (below_put s t us less below.1)
 
-put_rises_by : (o : Ordering) (t u : Text) (us : List Text) → text_cmp t u ≡ o → Rises (u ∷ us) → Rises (put t us) → Rises (Put o t u us)
+put_rises_by : (o : Ordering) (t u : Text) (us : List Text) → text_cmp t u ≡ o → Rises (u ∷ us) → Rises (put t us)
+    → Rises (Put o t u us)
 put_rises_by Less t u us e rises more = ((e, below_less t u us e rises.0), rises)
 put_rises_by Equal t u us e rises more = rises
 put_rises_by Greater t u us e rises more = (below_put u t us (turned t u e) rises.0, more)
@@ -107,7 +112,8 @@ ascending_rises (t ∷ ts) = put_rises t (ascending ts) (ascending_rises ts)
 
 pub ascending_has : (ts : List Text) (x : Text) → Has (ascending ts) x → Has ts x
 ascending_has [] x has = has
-ascending_has (t ∷ ts) x has = elim (put_has t (ascending ts) x has) [ inl is ↦ inl is | inr there ↦ inr (ascending_has ts x there) ]
+ascending_has (t ∷ ts) x has = elim (put_has t (ascending ts) x has)
+    [ inl is ↦ inl is | inr there ↦ inr (ascending_has ts x there) ]
 
 pub has_ascending : (ts : List Text) (x : Text) → Has ts x → Has (ascending ts) x
 has_ascending [] x has = has
@@ -122,7 +128,8 @@ Within us vs = (x : Text) → Has us x → Has vs x
 first_by : (u v : Text) (us vs : List Text) → Rises (u ∷ us) → Rises (v ∷ vs) → Has (v ∷ vs) u → Has (u ∷ us) v → u ≡ v
 first_by u v us vs a b (inl e) q = e
 first_by u v us vs a b (inr p) (inl e) = sym e
-first_by u v us vs a b (inr p) (inr q) = absurd (less_or_equal u (less_after u v u (below_has u v us a.0 q) (below_has v u vs b.0 p)))
+first_by u v us vs a b (inr p) (inr q) =
+    absurd (less_or_equal u (less_after u v u (below_has u v us a.0 q) (below_has v u vs b.0 p)))
 
 rest_within : (u : Text) (us vs : List Text) → Below u us → Within (u ∷ us) (u ∷ vs) → Within us vs
 rest_within u us vs below within x has =

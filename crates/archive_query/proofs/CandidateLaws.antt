@@ -1,5 +1,6 @@
 -- The candidates of a query are enough: no row is lost.
-use Rattle.std.proofs.Common.{◌≡◌, ℕ, Bool, true, false, cond, List, [], ◌∷◌, map, take, length, Option, Some, None, refl, sym, ap, subst, ◌∙◌, inl, inr, arith}
+use Rattle.std.proofs.Common.{◌≡◌, ℕ, Bool, true, false, cond, List, [], ◌∷◌, map, take, length, Option, Some, None}
+use Rattle.std.proofs.Common.{refl, sym, ap, subst, ◌∙◌, inl, inr, arith}
 use Rattle.std.specs.Prelude.{◌&&◌, ◌||◌, ◌==◌, not, is_some, if◌then◌else◌}
 use Rattle.std.proofs.lemmas.Bool.{eqb-true, false≢true}
 use Rattle.std.specs.List.{filter, filter_map, cons_option, find, list_any, list_all, AllByRecursion}
@@ -19,10 +20,12 @@ use Rattle.archive_model.specs.Contents.{pick, contents, instances, study_of, se
 use Rattle.archive_model.specs.Covered.{is_covered, is_hiding}
 use Rattle.archive_model.specs.Shown.{shown, shown_at, unless_hiding}
 use Rattle.archive_model.specs.Attributes.{attribute, corrected}
-use Rattle.archive_model.proofs.MemberLaws.{has_filter, filter_has, has_any, any_has, has_map, map_has, found_has, has_all}
+use Rattle.archive_model.proofs.MemberLaws.{has_filter, filter_has, has_any, any_has, has_map, map_has, found_has}
+use Rattle.archive_model.proofs.MemberLaws.{has_all}
 use Rattle.archive_model.proofs.ModelLaws.{same_is, same_itself as same_equal, pick_is_content}
 use Rattle.key_matching.specs.declared.matching.Matching.{Matching}
-use Rattle.key_matching.specs.declared.matching.Matching.TheVariants.{Dates, Times, WildCard, Name, Uids, Single, Answered}
+use Rattle.key_matching.specs.declared.matching.Matching.TheVariants.{Dates, Times, WildCard, Name, Uids, Single}
+use Rattle.key_matching.specs.declared.matching.Matching.TheVariants.{Answered}
 use Rattle.key_matching.specs.Matches.{is_universal, parts, matches, is_same_part}
 use Rattle.study_index.specs.Keys.{has}
 use Rattle.study_index.specs.Live.{pick_at, is_of_study}
@@ -37,9 +40,11 @@ use Rattle.archive_query.specs.declared.query.Query.{Query}
 use Rattle.archive_query.specs.declared.key.Level.{Level}
 use Rattle.archive_query.specs.declared.key.Level.TheVariants.{Study, Series, Image}
 use Rattle.archive_query.specs.Key.{has_study_above, has_series_above}
-use Rattle.archive_query.specs.Rows.{uid_at, is_named, named, uids_at, is_at as is_at_uid, contents_at, is_key_match, is_match, row, row_of, row_at, rows_among, rows_of}
+use Rattle.archive_query.specs.Rows.{uid_at, is_named, named, uids_at, is_at as is_at_uid, contents_at, is_key_match}
+use Rattle.archive_query.specs.Rows.{is_match, row, row_of, row_at, rows_among, rows_of}
 use Rattle.archive_query.specs.Candidates.{is_uids, is_study_key, is_listed, is_reached_by, is_reached}
-use Rattle.archive_query.proofs.AscendingLaws.{Text, Has, Below, Rises, one_rising, ascending_rises, ascending_has, has_ascending}
+use Rattle.archive_query.proofs.AscendingLaws.{Text, Has, Below, Rises, one_rising, ascending_rises, ascending_has}
+use Rattle.archive_query.proofs.AscendingLaws.{has_ascending}
 
 -- ---- members
 
@@ -86,11 +91,14 @@ sorted_rises [] up = tt
 sorted_rises (u ∷ us) up = (all_below u us up.0, sorted_rises us up.1)
 
 -- of texts that ascend, those that pass a test are told by what they are
-same_passing : (p : Text → Bool) (us vs : List Text) → Rises us → Rises vs → ((u : Text) → p u ≡ true → IsOne us u → IsOne vs u) → ((u : Text) → p u ≡ true → IsOne vs u → IsOne us u) → filter p us ≡ filter p vs
+same_passing : (p : Text → Bool) (us vs : List Text) → Rises us → Rises vs → ((u : Text) → p u ≡ true → IsOne us u
+    → IsOne vs u) → ((u : Text) → p u ≡ true → IsOne vs u → IsOne us u) → filter p us ≡ filter p vs
 same_passing p us vs up also there back =
     one_rising (filter p us) (filter p vs) (rises_filter p us up) (rises_filter p vs also)
-    (λ u h. let at = filter_has p us u (has_one (filter p us) u h) in one_has (filter p vs) u (has_filter p vs u (there u at.1 at.0) at.1))
-    (λ u h. let at = filter_has p vs u (has_one (filter p vs) u h) in one_has (filter p us) u (has_filter p us u (back u at.1 at.0) at.1))
+    (λ u h. let at = filter_has p us u (has_one (filter p us) u h) in
+    one_has (filter p vs) u (has_filter p vs u (there u at.1 at.0) at.1))
+    (λ u h. let at = filter_has p vs u (has_one (filter p vs) u h) in
+    one_has (filter p us) u (has_filter p us u (back u at.1 at.0) at.1))
 
 -- ---- what a function gives that passes
 
@@ -98,7 +106,8 @@ abbrev if_kept : {Y : Type 0} → (Y → Bool) → Option Y → Option Y
 if_kept keep None = None
 if_kept keep (Some y) = cond (keep y) (Some y) None
 
-filter_given : {X Y : Type 0} (keep : Y → Bool) (f : X → Option Y) (xs : List X) → filter keep (filter_map f xs) ≡ filter_map (λ x. if_kept keep (f x)) xs
+filter_given : {X Y : Type 0} (keep : Y → Bool) (f : X → Option Y) (xs : List X)
+    → filter keep (filter_map f xs) ≡ filter_map (λ x. if_kept keep (f x)) xs
 filter_given keep f [] = refl
 filter_given {X} {Y} keep f (x ∷ xs) = by (f x) (filter_given keep f xs)
   where
@@ -106,15 +115,19 @@ filter_given {X} {Y} keep f (x ∷ xs) = by (f x) (filter_given keep f xs)
     chosen true y ys zs e = ap (λ (ws : List Y). y ∷ ws) e
     chosen false y ys zs e = e
 
-    by : (r : Option Y) → filter keep (filter_map f xs) ≡ filter_map (λ z. if_kept keep (f z)) xs → filter keep (cons_option r (filter_map f xs)) ≡ cons_option (if_kept keep r) (filter_map (λ z. if_kept keep (f z)) xs)
+    by : (r : Option Y) → filter keep (filter_map f xs) ≡ filter_map (λ z. if_kept keep (f z)) xs
+        → filter keep (cons_option r (filter_map f xs)) ≡ cons_option (if_kept keep r)
+        (filter_map (λ z. if_kept keep (f z)) xs)
     by None e = e
     by (Some y) e = chosen (keep y) y (filter keep (filter_map f xs)) (filter_map (λ z. if_kept keep (f z)) xs) e
 
-given_passing : {X Y : Type 0} (g : X → Option Y) (p : X → Bool) → ((x : X) → p x ≡ false → g x ≡ None) → (xs : List X) → filter_map g (filter p xs) ≡ filter_map g xs
+given_passing : {X Y : Type 0} (g : X → Option Y) (p : X → Bool) → ((x : X) → p x ≡ false → g x ≡ None) → (xs : List X)
+    → filter_map g (filter p xs) ≡ filter_map g xs
 given_passing g p none [] = refl
 given_passing {X} {Y} g p none (x ∷ xs) = by (p x) refl (given_passing g p none xs)
   where
-    by : (b : Bool) → p x ≡ b → filter_map g (filter p xs) ≡ filter_map g xs → filter_map g (cond b (x ∷ filter p xs) (filter p xs)) ≡ cons_option (g x) (filter_map g xs)
+    by : (b : Bool) → p x ≡ b → filter_map g (filter p xs) ≡ filter_map g xs
+        → filter_map g (cond b (x ∷ filter p xs) (filter p xs)) ≡ cons_option (g x) (filter_map g xs)
     by true h e = ap (cons_option (g x)) e
     by false h e = e ∙ ap (λ (o : Option Y). cons_option o (filter_map g xs)) (sym (none x h))
 
@@ -124,15 +137,21 @@ not_some (Some y) e = absurd (false≢true (sym e))
 
 -- ---- what is shown of candidates
 
-picked_if : (view : View) (ops : List Op) (keep : ContentParts → Bool) (uid : Text) → is_some (if_kept keep (shown_at view ops uid)) ≡ true → (c : ContentParts) × (pick uid ops ≡ Some c) × (keep c ≡ true)
+picked_if : (view : View) (ops : List Op) (keep : ContentParts → Bool) (uid : Text)
+    → is_some (if_kept keep (shown_at view ops uid)) ≡ true → (c : ContentParts) × (pick uid ops ≡ Some c)
+    × (keep c ≡ true)
 picked_if view ops keep uid e = by (is_covered view ops uid) (pick uid ops) refl e
   where
-    chosen : (c : ContentParts) → pick uid ops ≡ Some c → (b h : Bool) → keep c ≡ b → is_some (if_kept keep (if h then None else Some c)) ≡ true → (x : ContentParts) × (pick uid ops ≡ Some x) × (keep x ≡ true)
+    chosen : (c : ContentParts) → pick uid ops ≡ Some c → (b h : Bool) → keep c ≡ b
+        → is_some (if_kept keep (if h then None else Some c)) ≡ true → (x : ContentParts) × (pick uid ops ≡ Some x)
+        × (keep x ≡ true)
     chosen c q b true k e = absurd (false≢true e)
     chosen c q true false k e = (c, q, k)
     chosen c q false false k e = absurd (false≢true (sym (ap (λ x. is_some (cond x (Some c) None)) k) ∙ e))
 
-    by : (covered : Bool) (r : Option ContentParts) → pick uid ops ≡ r → is_some (if_kept keep (if covered then None else unless_hiding view r)) ≡ true → (x : ContentParts) × (pick uid ops ≡ Some x) × (keep x ≡ true)
+    by : (covered : Bool) (r : Option ContentParts) → pick uid ops ≡ r
+        → is_some (if_kept keep (if covered then None else unless_hiding view r)) ≡ true → (x : ContentParts)
+        × (pick uid ops ≡ Some x) × (keep x ≡ true)
     by true r q e = absurd (false≢true e)
     by false None q e = absurd (false≢true e)
     by false (Some c) q e = chosen c q (keep c) (is_hiding view c.note) refl e
@@ -145,13 +164,16 @@ abbrev is_given : View → List Op → (ContentParts → Bool) → Text → Bool
 is_given view ops keep u = is_some (if_kept keep (shown_at view ops u))
 
 -- a set that has each instance whose pick is kept shows all that is shown and kept
-pub enough : (view : View) (ops : List Op) (keep : ContentParts → Bool) (us : List Text) → Rises us → ((uid : Text) (c : ContentParts) → pick uid ops ≡ Some c → keep c ≡ true → IsOne us uid)
+pub enough : (view : View) (ops : List Op) (keep : ContentParts → Bool) (us : List Text) → Rises us
+    → ((uid : Text) (c : ContentParts) → pick uid ops ≡ Some c → keep c ≡ true → IsOne us uid)
     → filter keep (filter_map (shown_at view ops) us) ≡ filter keep (shown view ops)
 enough view ops keep us up has_all_kept =
     filter_given keep (shown_at view ops) us
     ∙ sym (given_passing (given view ops keep) (is_given view ops keep) (λ u. not_some (given view ops keep u)) us)
-    ∙ ap (filter_map (given view ops keep)) (same_passing (is_given view ops keep) us (instances ops) up (ascending_rises (map (λ (c : ContentParts). c.instance) (contents ops))) there back)
-    ∙ given_passing (given view ops keep) (is_given view ops keep) (λ u. not_some (given view ops keep u)) (instances ops)
+    ∙ ap (filter_map (given view ops keep)) (same_passing (is_given view ops keep) us (instances ops)
+    up (ascending_rises (map (λ (c : ContentParts). c.instance) (contents ops))) there back)
+    ∙ given_passing (given view ops keep) (is_given view ops keep) (λ u. not_some (given view ops keep u))
+    (instances ops)
     ∙ sym (filter_given keep (shown_at view ops) (instances ops))
   where
     there : (u : Text) → is_given view ops keep u ≡ true → IsOne us u → IsOne (instances ops) u
@@ -159,7 +181,9 @@ enough view ops keep us up has_all_kept =
         let at = picked_if view ops keep u passed in
         let is = pick_is_content u ops at.0 at.1 in
         subst (IsOne (instances ops)) is.1
-        (has_one (instances ops) at.0.instance (has_ascending (map (λ (c : ContentParts). c.instance) (contents ops)) at.0.instance (one_has _ at.0.instance (has_map (λ (c : ContentParts). c.instance) (contents ops) at.0 is.0))))
+        (has_one (instances ops) at.0.instance (has_ascending (map (λ (c : ContentParts). c.instance) (contents ops))
+        at.0.instance (one_has _ at.0.instance (has_map (λ (c : ContentParts). c.instance) (contents ops) at.0
+        is.0))))
 
     back : (u : Text) → is_given view ops keep u ≡ true → IsOne (instances ops) u → IsOne us u
     back u passed h = let at = picked_if view ops keep u passed in has_all_kept u at.0 at.1 at.2
@@ -205,20 +229,24 @@ of_cut : (study : Text) (c : ContentParts) → study_of c ≡ study → is_of_st
 of_cut study c e = same_equal (take 64 (study_of c)) (take 64 study) (ap (take 64) e)
 
 -- a key that is not universal lists what it matches
-listed_by : (key : Text) (c : ContentParts) → is_universal key ≡ false → matches Uids key (study_of c) ≡ true → is_listed key (Some (pick_of c)) ≡ true
+listed_by : (key : Text) (c : ContentParts) → is_universal key ≡ false → matches Uids key (study_of c) ≡ true
+    → is_listed key (Some (pick_of c)) ≡ true
 listed_by key c some e =
     either_of (is_universal key || length (study_of c) == 0) (list_any (is_same_part (study_of c)) (parts key)) e
     (λ h. either_of (is_universal key) (length (study_of c) == 0) h
     (λ u. absurd (false≢true (sym some ∙ u)))
     (λ none. or_first _ _ (of_cut [] c (none_long (study_of c) none))))
     (λ h. or_second _ _ (let at = any_has (is_same_part (study_of c)) (parts key) h in
-    has_any (λ study. is_of_study (take 64 study) (Some (pick_of c))) (map trimmed (parts key)) (trimmed at.0) (has_map trimmed (parts key) at.0 at.1) (of_cut (trimmed at.0) c (sym (same_is (trimmed at.0) (study_of c) at.2)))))
+    has_any (λ study. is_of_study (take 64 study) (Some (pick_of c))) (map trimmed (parts key)) (trimmed at.0)
+    (has_map trimmed (parts key) at.0 at.1) (of_cut (trimmed at.0)
+    c (sym (same_is (trimmed at.0) (study_of c) at.2)))))
 
 module _ (ops : List Op) (index : IndexValue) (is : IsIndexOf ops index) where
   pick_there : (uid : Text) (c : ContentParts) → pick uid ops ≡ Some c → pick_at uid index.1.1.1 ≡ Some (pick_of c)
   pick_there uid c e = is.picks uid ∙ ap (option_map pick_of) e
 
-  reached_by : (r : Option Asked) (asked : List Asked) → find is_study_key asked ≡ r → (uid : Text) (c : ContentParts) → pick uid ops ≡ Some c → kept_by r c ≡ true → is_reached_by r index.1.1.1 uid ≡ true
+  reached_by : (r : Option Asked) (asked : List Asked) → find is_study_key asked ≡ r → (uid : Text) (c : ContentParts)
+      → pick uid ops ≡ Some c → kept_by r c ≡ true → is_reached_by r index.1.1.1 uid ≡ true
   reached_by None asked f uid c e k = pick_listed index.1.1.1 uid (pick_of c) (pick_there uid c e)
   reached_by (Some a) asked f uid c e k =
       let key = (found_has is_study_key asked a f).1 in
@@ -227,20 +255,24 @@ module _ (ops : List Op) (index : IndexValue) (is : IsIndexOf ops index) where
 
   above : (q : Query) (uid : Text) (c : ContentParts) (b : Bool) → pick uid ops ≡ Some c → has_study_above q.level ≡ b
       → (if b then is_named q c else kept_by (find is_study_key q.asked) c) ≡ true
-      → (if b then is_of_study (take 64 q.study) (pick_at uid index.1.1.1) else is_reached_by (find is_study_key q.asked) index.1.1.1 uid) ≡ true
+      → (if b then is_of_study (take 64 q.study) (pick_at uid index.1.1.1) else is_reached_by
+      (find is_study_key q.asked) index.1.1.1 uid) ≡ true
   above q uid c true e l k =
       let study = (and_both _ _ k).0 in
       let one_study : same (study_of c) q.study ≡ true = sym (ap (λ b. not b || same (study_of c) q.study) l) ∙ study in
-      ap (is_of_study (take 64 q.study)) (pick_there uid c e) ∙ of_cut q.study c (same_is (study_of c) q.study one_study)
+      ap (is_of_study (take 64 q.study)) (pick_there uid c e)
+      ∙ of_cut q.study c (same_is (study_of c) q.study one_study)
   above q uid c false e l k = reached_by (find is_study_key q.asked) q.asked refl uid c e k
 
   -- what is kept is reached
-  pub reached : (q : Query) (uid : Text) (c : ContentParts) → pick uid ops ≡ Some c → is_kept q c ≡ true → is_reached q index.1.1.1 uid ≡ true
+  pub reached : (q : Query) (uid : Text) (c : ContentParts) → pick uid ops ≡ Some c → is_kept q c ≡ true
+      → is_reached q index.1.1.1 uid ≡ true
   reached q uid c e k = above q uid c (has_study_above q.level) e refl k
 
 -- ---- rows without what no row is of
 
-filter_twice : {X : Type 0} (p r : X → Bool) (xs : List X) → ((x : X) → p x ≡ true → r x ≡ true) → filter p (filter r xs) ≡ filter p xs
+filter_twice : {X : Type 0} (p r : X → Bool) (xs : List X) → ((x : X) → p x ≡ true → r x ≡ true)
+    → filter p (filter r xs) ≡ filter p xs
 filter_twice p r [] within = refl
 filter_twice {X} p r (x ∷ xs) within = by (r x) refl (filter_twice p r xs within)
   where
@@ -248,13 +280,15 @@ filter_twice {X} p r (x ∷ xs) within = by (r x) refl (filter_twice p r xs with
     out true h k = absurd (false≢true (sym k ∙ within x h))
     out false h k = refl
 
-    by : (b : Bool) → r x ≡ b → filter p (filter r xs) ≡ filter p xs → filter p (cond b (x ∷ filter r xs) (filter r xs)) ≡ cond (p x) (x ∷ filter p xs) (filter p xs)
+    by : (b : Bool) → r x ≡ b → filter p (filter r xs) ≡ filter p xs → filter p (cond b (x ∷ filter r xs) (filter r xs))
+        ≡ cond (p x) (x ∷ filter p xs) (filter p xs)
     by true h e = ap (λ (ys : List X). cond (p x) (x ∷ ys) ys) e
     by false h e = e ∙ out (p x) refl h
 
 filter_all : {X : Type 0} (p : X → Bool) → ((x : X) → p x ≡ true) → (xs : List X) → filter p xs ≡ xs
 filter_all p all [] = refl
-filter_all {X} p all (x ∷ xs) = ap (λ b. cond b (x ∷ filter p xs) (filter p xs)) (all x) ∙ ap (λ (ys : List X). x ∷ ys) (filter_all p all xs)
+filter_all {X} p all (x ∷ xs) = ap (λ b. cond b (x ∷ filter p xs) (filter p xs)) (all x) ∙ ap (λ (ys : List X). x ∷ ys)
+    (filter_all p all xs)
 
 all_fails : {X : Type 0} (p : X → Bool) (xs : List X) (x : X) → IsOne xs x → p x ≡ false → list_all p xs ≡ false
 all_fails p xs x h e = by (list_all p xs) refl
@@ -267,27 +301,36 @@ not_if : {Y : Type 0} (b : Bool) (y : Y) → b ≡ false → (if b then Some y e
 not_if true y e = absurd (false≢true (sym e))
 not_if false y e = refl
 
-module _ (ops : List Op) (called : List ℕ) (q : Query) (k : Text → Bool) (fails : (c : ContentParts) → k (uid_at q.level c) ≡ false → is_match ops q c ≡ false) where
+module _ (ops : List Op) (called : List ℕ) (q : Query) (k : Text → Bool) (fails : (c : ContentParts)
+    → k (uid_at q.level c) ≡ false → is_match ops q c ≡ false) where
   no_row : (cs : List ContentParts) (uid : Text) → k uid ≡ false → row_at ops called q cs uid ≡ None
   no_row cs uid out = by (contents_at q.level uid cs) refl
     where
-      first_is : (c : ContentParts) (ds : List ContentParts) → contents_at q.level uid cs ≡ c ∷ ds → uid_at q.level c ≡ uid
-      first_is c ds e = same_is (uid_at q.level c) uid (filter_has (is_at_uid q.level uid) cs c (subst (λ (xs : List ContentParts). IsOne xs c) (sym e) (inl refl))).1
+      first_is : (c : ContentParts) (ds : List ContentParts) → contents_at q.level uid cs ≡ c ∷ ds
+          → uid_at q.level c ≡ uid
+      first_is c ds e = same_is (uid_at q.level c) uid (filter_has (is_at_uid q.level uid) cs
+          c (subst (λ (xs : List ContentParts). IsOne xs c) (sym e) (inl refl))).1
 
       by : (ds : List ContentParts) → contents_at q.level uid cs ≡ ds → row_of ops called q ds ≡ None
       by [] e = refl
       by (c ∷ ds) e = not_if (is_match ops q c) (row ops called q (c ∷ ds) c) (fails c (ap k (first_is c ds e) ∙ out))
 
-  same_row : (cs : List ContentParts) (uid : Text) → k uid ≡ true → row_at ops called q (filter (λ c. k (uid_at q.level c)) cs) uid ≡ row_at ops called q cs uid
-  same_row cs uid within = ap (row_of ops called q) (filter_twice (is_at_uid q.level uid) (λ c. k (uid_at q.level c)) cs (λ c e. ap k (same_is (uid_at q.level c) uid e) ∙ within))
+  same_row : (cs : List ContentParts) (uid : Text) → k uid ≡ true → row_at ops called
+      q (filter (λ c. k (uid_at q.level c)) cs) uid ≡ row_at ops called q cs uid
+  same_row cs uid within = ap (row_of ops called q) (filter_twice (is_at_uid q.level uid) (λ c. k (uid_at q.level c))
+      cs (λ c e. ap k (same_is (uid_at q.level c) uid e) ∙ within))
 
-  each_row : (cs : List ContentParts) (uids : List Text) → filter_map (row_at ops called q cs) (filter k uids) ≡ filter_map (row_at ops called q (filter (λ c. k (uid_at q.level c)) cs)) (filter k uids)
+  each_row : (cs : List ContentParts) (uids : List Text) → filter_map (row_at ops called q cs)
+      (filter k uids) ≡ filter_map (row_at ops called q (filter (λ c. k (uid_at q.level c)) cs)) (filter k uids)
   each_row cs [] = refl
   each_row cs (u ∷ us) = by (k u) refl (each_row cs us)
     where
-      by : (b : Bool) → k u ≡ b → filter_map (row_at ops called q cs) (filter k us) ≡ filter_map (row_at ops called q (filter (λ c. k (uid_at q.level c)) cs)) (filter k us)
-          → filter_map (row_at ops called q cs) (cond b (u ∷ filter k us) (filter k us)) ≡ filter_map (row_at ops called q (filter (λ c. k (uid_at q.level c)) cs)) (cond b (u ∷ filter k us) (filter k us))
-      by true h e = ap (λ (o : Option Set). cons_option o (filter_map (row_at ops called q cs) (filter k us))) (sym (same_row cs u h)) ∙ ap (cons_option (row_at ops called q (filter (λ c. k (uid_at q.level c)) cs) u)) e
+      by : (b : Bool) → k u ≡ b → filter_map (row_at ops called q cs) (filter k us) ≡ filter_map
+          (row_at ops called q (filter (λ c. k (uid_at q.level c)) cs)) (filter k us)
+          → filter_map (row_at ops called q cs) (cond b (u ∷ filter k us) (filter k us)) ≡ filter_map
+          (row_at ops called q (filter (λ c. k (uid_at q.level c)) cs)) (cond b (u ∷ filter k us) (filter k us))
+      by true h e = ap (λ (o : Option Set). cons_option o (filter_map (row_at ops called q cs) (filter k us)))
+          (sym (same_row cs u h)) ∙ ap (cons_option (row_at ops called q (filter (λ c. k (uid_at q.level c)) cs) u)) e
       by false h e = e
 
   abbrev all : List ContentParts → List Text
@@ -297,22 +340,32 @@ module _ (ops : List Op) (called : List ℕ) (q : Query) (k : Text → Bool) (fa
   kept_uids cs = map (uid_at q.level) (filter (λ c. k (uid_at q.level c)) cs)
 
   -- the UIDs of what is kept are those that are kept
-  uids_kept : (cs : List ContentParts) → filter k (uids_at q.level cs) ≡ uids_at q.level (filter (λ c. k (uid_at q.level c)) cs)
-  uids_kept cs = one_rising (filter k (ascending (all cs))) (ascending (kept_uids cs)) (rises_filter k (ascending (all cs)) (ascending_rises (all cs))) (ascending_rises (kept_uids cs)) there back
+  uids_kept : (cs : List ContentParts) → filter k (uids_at q.level cs) ≡ uids_at
+      q.level (filter (λ c. k (uid_at q.level c)) cs)
+  uids_kept cs = one_rising (filter k (ascending (all cs))) (ascending (kept_uids cs))
+      (rises_filter k (ascending (all cs)) (ascending_rises (all cs))) (ascending_rises (kept_uids cs)) there back
     where
       there : (u : Text) → Has (filter k (ascending (all cs))) u → Has (ascending (kept_uids cs)) u
       there u h =
           let at = filter_has k (ascending (all cs)) u (has_one (filter k (ascending (all cs))) u h) in
-          let from = map_has (uid_at q.level) cs u (has_one (all cs) u (ascending_has (all cs) u (one_has (ascending (all cs)) u at.0))) in
-          has_ascending (kept_uids cs) u (one_has (kept_uids cs) u (subst (IsOne (kept_uids cs)) (sym from.2) (has_map (uid_at q.level) (filter (λ c. k (uid_at q.level c)) cs) from.0 (has_filter (λ c. k (uid_at q.level c)) cs from.0 from.1 (ap k (sym from.2) ∙ at.1)))))
+          let from = map_has (uid_at q.level) cs u
+          (has_one (all cs) u (ascending_has (all cs) u (one_has (ascending (all cs)) u at.0))) in
+          has_ascending (kept_uids cs) u (one_has (kept_uids cs) u (subst (IsOne (kept_uids cs)) (sym from.2)
+          (has_map (uid_at q.level) (filter (λ c. k (uid_at q.level c)) cs)
+          from.0 (has_filter (λ c. k (uid_at q.level c)) cs from.0 from.1 (ap k (sym from.2) ∙ at.1)))))
 
       back : (u : Text) → Has (ascending (kept_uids cs)) u → Has (filter k (ascending (all cs))) u
       back u h =
-          let from = map_has (uid_at q.level) (filter (λ c. k (uid_at q.level c)) cs) u (has_one (kept_uids cs) u (ascending_has (kept_uids cs) u h)) in
+          let from = map_has (uid_at q.level) (filter (λ c. k (uid_at q.level c)) cs)
+          u (has_one (kept_uids cs) u (ascending_has (kept_uids cs) u h)) in
           let at = filter_has (λ c. k (uid_at q.level c)) cs from.0 from.1 in
-          one_has (filter k (ascending (all cs))) u (has_filter k (ascending (all cs)) u (has_one (ascending (all cs)) u (has_ascending (all cs) u (one_has (all cs) u (subst (IsOne (all cs)) (sym from.2) (has_map (uid_at q.level) cs from.0 at.0))))) (ap k from.2 ∙ at.1))
+          one_has (filter k (ascending (all cs))) u (has_filter k (ascending (all cs))
+          u (has_one (ascending (all cs)) u (has_ascending (all cs)
+          u (one_has (all cs) u (subst (IsOne (all cs)) (sym from.2) (has_map (uid_at q.level) cs from.0 at.0)))))
+          (ap k from.2 ∙ at.1))
 
-  rows_kept : (cs : List ContentParts) → rows_among ops called q cs ≡ rows_among ops called q (filter (λ c. k (uid_at q.level c)) cs)
+  rows_kept : (cs : List ContentParts) → rows_among ops called q cs ≡ rows_among ops called
+      q (filter (λ c. k (uid_at q.level c)) cs)
   rows_kept cs =
       sym (given_passing (row_at ops called q cs) k (no_row cs) (uids_at q.level cs))
       ∙ each_row cs (uids_at q.level cs)
@@ -336,7 +389,8 @@ at_study Image e = absurd (false≢true (sym e))
 
 module _ (ops : List Op) (lawful : AreLawful ops) (called : List ℕ) (q : Query) where
   -- a content whose study a key does not match has no row: no correction is for that attribute
-  unmatched : (a : Asked) → find is_study_key q.asked ≡ Some a → (c : ContentParts) → matches Uids a.key (study_of c) ≡ false → is_match ops q c ≡ false
+  unmatched : (a : Asked) → find is_study_key q.asked ≡ Some a → (c : ContentParts)
+      → matches Uids a.key (study_of c) ≡ false → is_match ops q c ≡ false
   unmatched a f c e =
       let found = found_has is_study_key q.asked a f in
       let parts_of = and_both _ _ found.1 in
@@ -348,36 +402,47 @@ module _ (ops : List Op) (lawful : AreLawful ops) (called : List ℕ) (q : Query
       ∙ ap (λ r. matches Uids a.key (corrected (study_of c) r)) (not_corrected ops lawful c STUDY_INSTANCE_UID refl)
       ∙ e)
 
-  by_level : (b : Bool) → has_study_above q.level ≡ b → (r : Option Asked) → find is_study_key q.asked ≡ r → (cs : List ContentParts)
-      → rows_among ops called q (named q cs) ≡ rows_among ops called q (named q (filter (λ c. if b then is_named q c else kept_by r c) cs))
+  by_level : (b : Bool) → has_study_above q.level ≡ b → (r : Option Asked) → find is_study_key q.asked ≡ r
+      → (cs : List ContentParts)
+      → rows_among ops called q (named q cs) ≡ rows_among ops called
+      q (named q (filter (λ c. if b then is_named q c else kept_by r c) cs))
   by_level true l r f cs = ap (rows_among ops called q) (sym (filter_twice (is_named q) (is_named q) cs (λ c e. e)))
-  by_level false l None f cs = ap (λ xs. rows_among ops called q (named q xs)) (sym (filter_all (λ c. true) (λ c. refl) cs))
+  by_level false l None f cs = ap (λ xs. rows_among ops called q (named q xs))
+      (sym (filter_all (λ c. true) (λ c. refl) cs))
   by_level false l (Some a) f cs =
       ap (rows_among ops called q) (filter_all (is_named q) all_named cs)
-      ∙ rows_kept ops called q (matches Uids a.key) (λ c e. unmatched a f c (ap (matches Uids a.key) (sym (study_is c)) ∙ e)) cs
-      ∙ ap (λ xs. rows_among ops called q xs) (filter_each cs ∙ sym (filter_all (is_named q) all_named (filter (λ c. matches Uids a.key (study_of c)) cs)))
+      ∙ rows_kept ops called q (matches Uids a.key) (λ c e. unmatched a f c (ap (matches Uids a.key) (sym (study_is c))
+      ∙ e)) cs
+      ∙ ap (λ xs. rows_among ops called q xs) (filter_each cs
+      ∙ sym (filter_all (is_named q) all_named (filter (λ c. matches Uids a.key (study_of c)) cs)))
     where
       level : q.level ≡ Study
       level = at_study q.level l
 
       all_named : (c : ContentParts) → is_named q c ≡ true
-      all_named c = ap (λ x. (not (has_study_above x) || same (study_of c) q.study) && (not (has_series_above x) || same (series_of c) q.series)) level
+      all_named c = ap (λ x. (not (has_study_above x) || same (study_of c) q.study) &&
+          (not (has_series_above x) || same (series_of c) q.series)) level
 
       study_is : (c : ContentParts) → uid_at q.level c ≡ study_of c
       study_is c = ap (λ x. uid_at x c) level
 
-      filter_each : (xs : List ContentParts) → filter (λ c. matches Uids a.key (uid_at q.level c)) xs ≡ filter (λ c. matches Uids a.key (study_of c)) xs
+      filter_each : (xs : List ContentParts) → filter (λ c. matches Uids a.key (uid_at q.level c)) xs ≡ filter
+          (λ c. matches Uids a.key (study_of c)) xs
       filter_each xs = ap (λ x. filter (λ c. matches Uids a.key (uid_at x c)) xs) level
 
   -- what is not kept has no row
-  pub rows_of_kept : (cs : List ContentParts) → rows_among ops called q (named q cs) ≡ rows_among ops called q (named q (filter (is_kept q) cs))
+  pub rows_of_kept : (cs : List ContentParts) → rows_among ops called q (named q cs) ≡ rows_among ops called
+      q (named q (filter (is_kept q) cs))
   rows_of_kept cs = by_level (has_study_above q.level) refl (find is_study_key q.asked) refl cs
 
 -- the rows of what is shown of the candidates are all rows
-pub rows_enough : (view : View) (called : List ℕ) (q : Query) (ops : List Op) (index : IndexValue) → IsIndexOf ops index → AreLawful ops → (us : List Text) → IsStrictlySortedBy text_cmp us
-    → ((uid : Text) → has text_cmp us uid ≡ is_reached q index.1.1.1 uid) → rows_among ops called q (named q (filter_map (shown_at view ops) us)) ≡ rows_of view called q ops
+pub rows_enough : (view : View) (called : List ℕ) (q : Query) (ops : List Op) (index : IndexValue) → IsIndexOf ops index
+    → AreLawful ops → (us : List Text) → IsStrictlySortedBy text_cmp us
+    → ((uid : Text) → has text_cmp us uid ≡ is_reached q index.1.1.1 uid) → rows_among ops called
+    q (named q (filter_map (shown_at view ops) us)) ≡ rows_of view called q ops
 unfolding rows_of
 rows_enough view called q ops index is lawful us up members =
     rows_of_kept ops lawful called q (filter_map (shown_at view ops) us)
-    ∙ ap (λ xs. rows_among ops called q (named q xs)) (enough view ops (is_kept q) us (sorted_rises us up) (λ uid c e k. listed_one us uid (members uid ∙ reached ops index is q uid c e k)))
+    ∙ ap (λ xs. rows_among ops called q (named q xs)) (enough view ops (is_kept q) us (sorted_rises us up)
+    (λ uid c e k. listed_one us uid (members uid ∙ reached ops index is q uid c e k)))
     ∙ sym (rows_of_kept ops lawful called q (shown view ops))

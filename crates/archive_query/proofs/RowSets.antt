@@ -1,5 +1,7 @@
 -- The elements of a row are those of a data set.
-use Rattle.std.proofs.Common.{◌≡◌, ◌<◌, ◌≤◌, ◌+◌, ◌^◌, ◌%◌, ℕ, List, [], ◌∷◌, ◌++◌, length, Bool, true, false, cond, not, ◌&&◌, ◌||◌, ◌==◌, nat_lt, nat_le, Option, Some, None, refl, sym, ap, ◌∙◌, arith, length-append}
+use Rattle.std.proofs.Common.{◌≡◌, ◌<◌, ◌≤◌, ◌+◌, ◌^◌, ◌%◌, ℕ, List, [], ◌∷◌, ◌++◌, length, Bool, true, false, cond}
+use Rattle.std.proofs.Common.{not, ◌&&◌, ◌||◌, ◌==◌, nat_lt, nat_le, Option, Some, None, refl, sym, ap, ◌∙◌, arith}
+use Rattle.std.proofs.Common.{length-append}
 use Rattle.std.specs.List.{filter_map, cons_option}
 use Rattle.std.specs.Option.{option_map}
 use Rattle.std.specs.Prelude.{codes}
@@ -22,11 +24,13 @@ use Rattle.archive_query.specs.Cell.{longest, fitting, cell}
 -- ---- columns in order, each of which holds a value
 
 abbrev is_vr : ℕ → List ℕ → Bool
-is_vr tag (a ∷ b ∷ []) = is_short a b && (not (has_bad_vr tag (Some (a ∷ b ∷ []))) && (not (is_name a b (codes "SQ")) && not (is_name a b (codes "UN"))))
+is_vr tag (a ∷ b ∷ []) = is_short a b && (not (has_bad_vr tag (Some (a ∷ b ∷ []))) &&
+    (not (is_name a b (codes "SQ")) && not (is_name a b (codes "UN"))))
 is_vr tag _ = false
 
 abbrev is_fine : ℕ → Bool
-is_fine tag = nat_lt tag 4294967296 && (not (is_item_tag tag) && (not (is_reserved_group tag) && is_vr tag (vr_in_table tag)))
+is_fine tag = nat_lt tag 4294967296 && (not (is_item_tag tag) && (not (is_reserved_group tag) && is_vr
+    tag (vr_in_table tag)))
 
 abbrev ascend : Option ℕ → List ℕ → Bool
 ascend previous [] = true
@@ -71,7 +75,9 @@ off false h = refl
 no_length : (size : ℕ) → size < 65536 → (size == 4294967295) ≡ false
 no_length size h = grind arith
 
-may_stand : (previous : Option ℕ) (tag : ℕ) (vr : List ℕ) (size : ℕ) → is_above previous tag ≡ true → nat_lt tag 4294967296 ≡ true → is_item_tag tag ≡ false → is_reserved_group tag ≡ false → is_vr tag vr ≡ true → size < 65536 → MayStand Explicit previous tag (Some vr) size None
+may_stand : (previous : Option ℕ) (tag : ℕ) (vr : List ℕ) (size : ℕ) → is_above previous tag ≡ true
+    → nat_lt tag 4294967296 ≡ true → is_item_tag tag ≡ false → is_reserved_group tag ≡ false → is_vr tag vr ≡ true
+    → size < 65536 → MayStand Explicit previous tag (Some vr) size None
 unfolding offence
 may_stand previous tag [] size above small item reserved named fits = cc
 may_stand previous tag (a ∷ []) size above small item reserved named fits = cc
@@ -79,7 +85,8 @@ may_stand previous tag (a ∷ b ∷ c ∷ d) size above small item reserved name
 may_stand previous tag (a ∷ b ∷ []) size above small item reserved named fits =
     let short : is_short a b ≡ true = left (is_short a b) _ named in
     let rest = right (is_short a b) _ named in
-    let bad : has_bad_vr tag (Some (a ∷ b ∷ [])) ≡ false = off _ (left (not (has_bad_vr tag (Some (a ∷ b ∷ [])))) _ rest) in
+    let bad : has_bad_vr tag (Some (a ∷ b ∷ [])) ≡ false = off _ (left (not (has_bad_vr tag (Some (a ∷ b ∷ [])))) _
+    rest) in
     let names = right (not (has_bad_vr tag (Some (a ∷ b ∷ [])))) _ rest in
     let sequence : is_name a b (codes "SQ") ≡ false = off _ (left (not (is_name a b (codes "SQ"))) _ names) in
     let unknown : is_name a b (codes "UN") ≡ false = off _ (right (not (is_name a b (codes "SQ"))) _ names) in
@@ -99,16 +106,20 @@ and_both : (a b : Bool) → a ≡ true → b ≡ true → (a && b) ≡ true
 and_both true b g h = h
 and_both false b g h = cc
 
-above_both : (previous : Option ℕ) (tag next : ℕ) → is_above previous tag ≡ true → is_above (Some tag) next ≡ true → is_above previous next ≡ true
+above_both : (previous : Option ℕ) (tag next : ℕ) → is_above previous tag ≡ true → is_above (Some tag) next ≡ true
+    → is_above previous next ≡ true
 above_both None tag next g h = refl
 above_both (Some p) tag next g h = lt-ltb p next (omega (arith, ltb-true p tag g, ltb-true tag next h))
 
-weaken : (previous : Option ℕ) (tag : ℕ) (xs : List ℕ) → is_above previous tag ≡ true → ascend (Some tag) xs ≡ true → ascend previous xs ≡ true
+weaken : (previous : Option ℕ) (tag : ℕ) (xs : List ℕ) → is_above previous tag ≡ true → ascend (Some tag) xs ≡ true
+    → ascend previous xs ≡ true
 weaken previous tag [] above up = refl
 weaken previous tag (y ∷ ys) above up =
-    and_both (is_above previous y) _ (above_both previous tag y above (left (is_above (Some tag) y) _ up)) (right (is_above (Some tag) y) _ up)
+    and_both (is_above previous y) _ (above_both previous tag y above (left (is_above (Some tag) y) _ up))
+    (right (is_above (Some tag) y) _ up)
 
-cell_is : (previous : Option ℕ) (x : ℕ) (value : List ℕ) → is_above previous x ≡ true → is_fine x ≡ true → IsTree (cell x value) deepest Explicit previous
+cell_is : (previous : Option ℕ) (x : ℕ) (value : List ℕ) → is_above previous x ≡ true → is_fine x ≡ true
+    → IsTree (cell x value) deepest Explicit previous
 unfolding cell
 cell_is previous x value above fine =
     let rest = right (nat_lt x 4294967296) _ fine in
@@ -120,12 +131,15 @@ cell_is previous x value above fine =
     (right (not (is_reserved_group x)) _ more)
     (padded_is_short (vr_in_table x) (fitting value) (fitting_is_short value))
 
-one_more : (o : Option (List ℕ)) (previous : Option ℕ) (x : ℕ) (ts : List Tree) → is_above previous x ≡ true → is_fine x ≡ true → AreTrees (trees_of ts) deepest Explicit previous → AreTrees (trees_of ts) deepest Explicit (Some x) → AreTrees (trees_of (cons_option (option_map (cell x) o) ts)) deepest Explicit previous
+one_more : (o : Option (List ℕ)) (previous : Option ℕ) (x : ℕ) (ts : List Tree) → is_above previous x ≡ true
+    → is_fine x ≡ true → AreTrees (trees_of ts) deepest Explicit previous → AreTrees (trees_of ts) deepest Explicit
+    (Some x) → AreTrees (trees_of (cons_option (option_map (cell x) o) ts)) deepest Explicit previous
 unfolding cell
 one_more None previous x ts above fine without behind = without
 one_more (Some value) previous x ts above fine without behind = (cell_is previous x value above fine, behind)
 
-cells_are : (f : ℕ → Option (List ℕ)) (previous : Option ℕ) (xs : List ℕ) → ascend previous xs ≡ true → AreTrees (trees_of (filter_map (λ x. option_map (cell x) (f x)) xs)) deepest Explicit previous
+cells_are : (f : ℕ → Option (List ℕ)) (previous : Option ℕ) (xs : List ℕ) → ascend previous xs ≡ true
+    → AreTrees (trees_of (filter_map (λ x. option_map (cell x) (f x)) xs)) deepest Explicit previous
 cells_are f previous [] up = tt
 cells_are f previous (x ∷ xs) up =
     let above = left (is_above previous x) _ up in
@@ -136,6 +150,7 @@ cells_are f previous (x ∷ xs) up =
     (cells_are f (Some x) xs later)
 
 -- The elements of a row are those of a data set.
-pub row_is_set : (f : ℕ → Option (List ℕ)) (level : Level) → IsSet Explicit (filter_map (λ x. option_map (cell x) (f x)) (columns level))
+pub row_is_set : (f : ℕ → Option (List ℕ)) (level : Level) → IsSet Explicit (filter_map (λ x. option_map (cell x) (f x))
+    (columns level))
 unfolding IsSet
 row_is_set f level = cells_are f None (columns level) (columns_ascend level)

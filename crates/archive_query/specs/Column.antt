@@ -1,6 +1,15 @@
 -- What a row may answer, in ascending tags (PS3.4, C.4.1.1.3).
 use Rattle.std.specs.Prelude.{ℕ, List, [], ◌∷◌}
-use Rattle.dictionary.specs.declared.elements.TheConstants.{ACCESSION_NUMBER, INSTANCE_NUMBER, MODALITIES_IN_STUDY, MODALITY, NUMBER_OF_SERIES_RELATED_INSTANCES, NUMBER_OF_STUDY_RELATED_INSTANCES, NUMBER_OF_STUDY_RELATED_SERIES, PATIENT_BIRTH_DATE, PATIENT_ID, PATIENT_NAME, PATIENT_SEX, QUERY_RETRIEVE_LEVEL, REFERRING_PHYSICIAN_NAME, RETRIEVE_AE_TITLE, SERIES_DESCRIPTION, SERIES_INSTANCE_UID, SERIES_NUMBER, SOP_CLASS_UID, SOP_INSTANCE_UID, SPECIFIC_CHARACTER_SET, STUDY_DATE, STUDY_DESCRIPTION, STUDY_ID, STUDY_INSTANCE_UID, STUDY_TIME}
+use Rattle.dictionary.specs.declared.elements.TheConstants.{ACCESSION_NUMBER, INSTANCE_NUMBER, MODALITIES_IN_STUDY}
+use Rattle.dictionary.specs.declared.elements.TheConstants.{MODALITY, NUMBER_OF_SERIES_RELATED_INSTANCES}
+use Rattle.dictionary.specs.declared.elements.TheConstants.{NUMBER_OF_STUDY_RELATED_INSTANCES}
+use Rattle.dictionary.specs.declared.elements.TheConstants.{NUMBER_OF_STUDY_RELATED_SERIES, PATIENT_BIRTH_DATE}
+use Rattle.dictionary.specs.declared.elements.TheConstants.{PATIENT_ID, PATIENT_NAME, PATIENT_SEX, QUERY_RETRIEVE_LEVEL}
+use Rattle.dictionary.specs.declared.elements.TheConstants.{REFERRING_PHYSICIAN_NAME, RETRIEVE_AE_TITLE}
+use Rattle.dictionary.specs.declared.elements.TheConstants.{SERIES_DESCRIPTION, SERIES_INSTANCE_UID, SERIES_NUMBER}
+use Rattle.dictionary.specs.declared.elements.TheConstants.{SOP_CLASS_UID, SOP_INSTANCE_UID, SPECIFIC_CHARACTER_SET}
+use Rattle.dictionary.specs.declared.elements.TheConstants.{STUDY_DATE, STUDY_DESCRIPTION, STUDY_ID, STUDY_INSTANCE_UID}
+use Rattle.dictionary.specs.declared.elements.TheConstants.{STUDY_TIME}
 use Rattle.archive_query.specs.declared.key.Level.{Level}
 use Rattle.archive_query.specs.declared.key.Level.TheVariants.{Study, Series, Image}
 

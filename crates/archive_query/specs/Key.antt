@@ -1,10 +1,19 @@
 -- The keys that are supported, and how each matches (PS3.4, C.6.2.1).
 use Rattle.std.specs.Prelude.{ℕ, List, [], ◌∷◌, Bool, true, false, Option, Some, None, ◌==◌, if◌then◌else◌, codes}
-use Rattle.dictionary.specs.declared.elements.TheConstants.{ACCESSION_NUMBER, INSTANCE_NUMBER, MODALITIES_IN_STUDY, MODALITY, NUMBER_OF_SERIES_RELATED_INSTANCES, NUMBER_OF_STUDY_RELATED_INSTANCES, NUMBER_OF_STUDY_RELATED_SERIES, PATIENT_BIRTH_DATE, PATIENT_ID, PATIENT_NAME, PATIENT_SEX, REFERRING_PHYSICIAN_NAME, SERIES_DESCRIPTION, SERIES_INSTANCE_UID, SERIES_NUMBER, SOP_CLASS_UID, SOP_INSTANCE_UID, STUDY_DATE, STUDY_DESCRIPTION, STUDY_ID, STUDY_INSTANCE_UID, STUDY_TIME}
+use Rattle.dictionary.specs.declared.elements.TheConstants.{ACCESSION_NUMBER, INSTANCE_NUMBER, MODALITIES_IN_STUDY}
+use Rattle.dictionary.specs.declared.elements.TheConstants.{MODALITY, NUMBER_OF_SERIES_RELATED_INSTANCES}
+use Rattle.dictionary.specs.declared.elements.TheConstants.{NUMBER_OF_STUDY_RELATED_INSTANCES}
+use Rattle.dictionary.specs.declared.elements.TheConstants.{NUMBER_OF_STUDY_RELATED_SERIES, PATIENT_BIRTH_DATE}
+use Rattle.dictionary.specs.declared.elements.TheConstants.{PATIENT_ID, PATIENT_NAME, PATIENT_SEX}
+use Rattle.dictionary.specs.declared.elements.TheConstants.{REFERRING_PHYSICIAN_NAME, SERIES_DESCRIPTION}
+use Rattle.dictionary.specs.declared.elements.TheConstants.{SERIES_INSTANCE_UID, SERIES_NUMBER, SOP_CLASS_UID}
+use Rattle.dictionary.specs.declared.elements.TheConstants.{SOP_INSTANCE_UID, STUDY_DATE, STUDY_DESCRIPTION, STUDY_ID}
+use Rattle.dictionary.specs.declared.elements.TheConstants.{STUDY_INSTANCE_UID, STUDY_TIME}
 use Rattle.archive_query.specs.declared.key.Level.{Level}
 use Rattle.archive_query.specs.declared.key.Level.TheVariants.{Study, Series, Image}
 use Rattle.key_matching.specs.declared.matching.Matching.{Matching}
-use Rattle.key_matching.specs.declared.matching.Matching.TheVariants.{Dates, Times, WildCard, Name, Uids, Single, Answered}
+use Rattle.key_matching.specs.declared.matching.Matching.TheVariants.{Dates, Times, WildCard, Name, Uids, Single}
+use Rattle.key_matching.specs.declared.matching.Matching.TheVariants.{Answered}
 
 -- the keys of a level: not those of the levels above
 abbrev pub keys : Level → List (ℕ × Matching)

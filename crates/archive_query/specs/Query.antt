@@ -1,9 +1,12 @@
 -- The query that the elements of an identifier say (PS3.4, C.4.1.1.3).
-use Rattle.std.specs.Prelude.{ℕ, ◌%◌, List, [], ◌∷◌, length, Bool, true, false, not, ◌&&◌, ◌||◌, ◌==◌, nat_eq, Option, Some, None, Result, Ok, Err, if◌then◌else◌}
+use Rattle.std.specs.Prelude.{ℕ, ◌%◌, List, [], ◌∷◌, length, Bool, true, false, not, ◌&&◌, ◌||◌, ◌==◌, nat_eq, Option}
+use Rattle.std.specs.Prelude.{Some, None, Result, Ok, Err, if◌then◌else◌}
 use Rattle.std.specs.List.{filter_map, list_any}
 use Rattle.std.specs.Cmp.Lexicographic.{pointwise}
 use Rattle.octets.specs.Gives.{◌>>=◌}
-use Rattle.dictionary.specs.declared.elements.TheConstants.{QUERY_RETRIEVE_LEVEL, RETRIEVE_AE_TITLE, SERIES_INSTANCE_UID, SPECIFIC_CHARACTER_SET, STUDY_INSTANCE_UID}
+use Rattle.dictionary.specs.declared.elements.TheConstants.{QUERY_RETRIEVE_LEVEL, RETRIEVE_AE_TITLE}
+use Rattle.dictionary.specs.declared.elements.TheConstants.{SERIES_INSTANCE_UID, SPECIFIC_CHARACTER_SET}
+use Rattle.dictionary.specs.declared.elements.TheConstants.{STUDY_INSTANCE_UID}
 use Rattle.data_set.specs.Tree.{Tree, tag_of}
 use Rattle.data_set.specs.Values.{value_of_tree, value_in}
 use Rattle.octets.specs.Uid.{is_uid_text}
@@ -12,7 +15,8 @@ use Rattle.archive_query.specs.declared.fault.QueryFault.TheVariants.{NoLevel, M
 use Rattle.archive_query.specs.declared.key.Level.{Level}
 use Rattle.archive_query.specs.declared.key.Level.TheVariants.{Study, Series, Image}
 use Rattle.key_matching.specs.declared.matching.Matching.{Matching}
-use Rattle.key_matching.specs.declared.matching.Matching.TheVariants.{Dates, Times, WildCard, Name, Uids, Single, Answered}
+use Rattle.key_matching.specs.declared.matching.Matching.TheVariants.{Dates, Times, WildCard, Name, Uids, Single}
+use Rattle.key_matching.specs.declared.matching.Matching.TheVariants.{Answered}
 use Rattle.archive_query.specs.declared.asked.Asked.{Asked}
 use Rattle.archive_query.specs.declared.query.Query.{Query}
 use Rattle.archive_query.specs.Key.{matching_of, has_study_above, has_series_above, word_of}

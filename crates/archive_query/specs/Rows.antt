@@ -1,10 +1,15 @@
 -- The rows of a C-FIND over a set of operations, which is the list of its operations ascending by
 -- digest (PS3.4, C.4.1).
-use Rattle.std.specs.Prelude.{ℕ, List, [], ◌∷◌, length, map, Bool, not, ◌&&◌, ◌||◌, ◌==◌, Option, Some, None, if◌then◌else◌}
+use Rattle.std.specs.Prelude.{ℕ, List, [], ◌∷◌, length, map, Bool, not, ◌&&◌, ◌||◌, ◌==◌, Option, Some, None}
+use Rattle.std.specs.Prelude.{if◌then◌else◌}
 use Rattle.std.specs.List.{filter, filter_map, list_all, list_any, join_with_byte}
 use Rattle.std.specs.Option.{option_map}
 use Rattle.std.specs.Fmt.{decimal}
-use Rattle.dictionary.specs.declared.elements.TheConstants.{MODALITIES_IN_STUDY, NUMBER_OF_SERIES_RELATED_INSTANCES, NUMBER_OF_STUDY_RELATED_INSTANCES, NUMBER_OF_STUDY_RELATED_SERIES, QUERY_RETRIEVE_LEVEL, RETRIEVE_AE_TITLE, SERIES_INSTANCE_UID, SOP_INSTANCE_UID, SPECIFIC_CHARACTER_SET, STUDY_INSTANCE_UID}
+use Rattle.dictionary.specs.declared.elements.TheConstants.{MODALITIES_IN_STUDY, NUMBER_OF_SERIES_RELATED_INSTANCES}
+use Rattle.dictionary.specs.declared.elements.TheConstants.{NUMBER_OF_STUDY_RELATED_INSTANCES}
+use Rattle.dictionary.specs.declared.elements.TheConstants.{NUMBER_OF_STUDY_RELATED_SERIES, QUERY_RETRIEVE_LEVEL}
+use Rattle.dictionary.specs.declared.elements.TheConstants.{RETRIEVE_AE_TITLE, SERIES_INSTANCE_UID, SOP_INSTANCE_UID}
+use Rattle.dictionary.specs.declared.elements.TheConstants.{SPECIFIC_CHARACTER_SET, STUDY_INSTANCE_UID}
 use Rattle.data_set.specs.Tree.{Tree}
 use Rattle.data_set.specs.Set.{Set}
 use Rattle.data_set.specs.declared.syntax.Syntax.TheVariants.{Explicit}
@@ -76,7 +81,8 @@ abbrev pub asked_value : List Op → List ContentParts → ContentParts → ℕ 
 asked_value ops cs c tag =
     if tag == MODALITIES_IN_STUDY then join_with_byte 0x5c (modalities_of cs)
     else if tag == NUMBER_OF_STUDY_RELATED_SERIES then decimal (length (ascending (map series_of cs)))
-    else if tag == NUMBER_OF_STUDY_RELATED_INSTANCES || tag == NUMBER_OF_SERIES_RELATED_INSTANCES then decimal (length cs)
+    else if tag == NUMBER_OF_STUDY_RELATED_INSTANCES || tag == NUMBER_OF_SERIES_RELATED_INSTANCES then decimal
+    (length cs)
     else attribute ops c tag
 
 -- (0020,000D) Study Instance UID, (0020,000E) Series Instance UID, (0008,0018) SOP Instance UID

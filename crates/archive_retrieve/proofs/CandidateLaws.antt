@@ -56,10 +56,12 @@ on_ok (Err e) f p = p
 of_cut : (study : Text) (c : ContentParts) → study_of c ≡ study → is_of_study (take 64 study) (Some (pick_of c)) ≡ true
 of_cut study c e = same_itself (take 64 (study_of c)) (take 64 study) (ap (take 64) e)
 
-of_some : (studies : List Text) (c : ContentParts) → is_among studies (study_of c) ≡ true → is_of_some studies (Some (pick_of c)) ≡ true
+of_some : (studies : List Text) (c : ContentParts) → is_among studies (study_of c) ≡ true
+    → is_of_some studies (Some (pick_of c)) ≡ true
 of_some studies c h =
     let at = any_has (λ u. same u (study_of c)) studies h in
-    has_any (λ study. is_of_study (take 64 study) (Some (pick_of c))) studies at.0 at.1 (of_cut at.0 c (sym (same_is at.0 (study_of c) at.2)))
+    has_any (λ study. is_of_study (take 64 study) (Some (pick_of c))) studies at.0
+    at.1 (of_cut at.0 c (sym (same_is at.0 (study_of c) at.2)))
 
 is_above : (level : Level) → level ≢ Study → has_study_above level ≡ true
 is_above Study below = absurd (below refl)
@@ -67,14 +69,16 @@ is_above Series below = refl
 is_above Image below = refl
 
 -- below the level of studies, what is selected is of the study that is named
-of_named : (s : Selection) (c : ContentParts) → has_study_above s.level ≡ true → is_selected s c ≡ true → study_of c ≡ s.study
+of_named : (s : Selection) (c : ContentParts) → has_study_above s.level ≡ true → is_selected s c ≡ true
+    → study_of c ≡ s.study
 of_named s c above is =
     let within = (and_both (is_within s c) _ is).0 in
     let study = (and_both (not (has_study_above s.level) || same (study_of c) s.study) _ within).0 in
     same_is (study_of c) s.study (sym (ap (λ b. not b || same (study_of c) s.study) above) ∙ study)
 
 -- and its UID is one of those named
-is_one_named : (s : Selection) (c : ContentParts) (level : Level) → s.level ≡ level → is_selected s c ≡ true → is_among s.uids (uid_at level c) ≡ true
+is_one_named : (s : Selection) (c : ContentParts) (level : Level) → s.level ≡ level → is_selected s c ≡ true
+    → is_among s.uids (uid_at level c) ≡ true
 is_one_named s c level e is = ap (λ l. is_among s.uids (uid_at l c)) (sym e) ∙ (and_both (is_within s c) _ is).1
 
 -- ---- what is put in reaches all
@@ -88,7 +92,8 @@ reached_by_studies s picks old new level put = λ c picked is.
     ∙ or_second (has text_cmp old c.instance) _ (of_some s.uids c (is_one_named s c Study level is))
 
 pub reached_by_study : (s : Selection) (picks : List (Text × Option Pick)) (old new : List Text) → s.level ≢ Study
-    → ((uid : Text) → has text_cmp new uid ≡ (has text_cmp old uid || is_of_study (take 64 s.study) (pick_at uid picks)))
+    → ((uid : Text) → has text_cmp new uid ≡ (has text_cmp old uid || is_of_study (take 64 s.study)
+    (pick_at uid picks)))
     → ReachesAll s picks new
 reached_by_study s picks old new level put = λ c picked is.
     put c.instance
@@ -99,7 +104,8 @@ pub reached_by_instances : (s : Selection) (picks : List (Text × Option Pick)) 
     → new ≡ union_of text_cmp old s.uids → ReachesAll s picks new
 reached_by_instances s picks old new level put = λ c picked is.
     let at = any_has (λ u. same u c.instance) s.uids (is_one_named s c Image level is) in
-    let here = has_any (is_at (text_cmp c.instance)) s.uids at.0 at.1 (subst (λ u. is_at (text_cmp c.instance) u ≡ true) (sym (same_is at.0 c.instance at.2)) (at_itself nat_list_cmp_total c.instance)) in
+    let here = has_any (is_at (text_cmp c.instance)) s.uids at.0 at.1 (subst (λ u. is_at (text_cmp c.instance) u ≡ true)
+    (sym (same_is at.0 c.instance at.2)) (at_itself nat_list_cmp_total c.instance)) in
     ap (λ us. has text_cmp us c.instance) put
     ∙ has-union nat_list_cmp_total text_exact c.instance s.uids old
     ∙ or_second (has text_cmp old c.instance) _ here
@@ -112,7 +118,8 @@ listed_one us u h =
     subst (Has us) (sym (same_key text_exact u at.0 at.2)) at.1
 
 -- of what is reached that is selected which is selected of all that is shown
-pub selected_enough : (view : View) (s : Selection) (ops : List Op) (index : IndexValue) → IsIndexOf ops index → (us : List Text) → IsStrictlySortedBy text_cmp us → ReachesAll s index.1.1.1 us
+pub selected_enough : (view : View) (s : Selection) (ops : List Op) (index : IndexValue) → IsIndexOf ops index
+    → (us : List Text) → IsStrictlySortedBy text_cmp us → ReachesAll s index.1.1.1 us
     → selected s (filter_map (shown_at view ops) us) ≡ selected s (shown view ops)
 selected_enough view s ops index is us up reaches = enough view ops (is_selected s) us (sorted_rises us up) here
   where

@@ -10,14 +10,18 @@ use Rattle.archive_model.proofs.ModelLaws.{same_itself}
 use Rattle.archive_retrieve.specs.Changes.{change}
 
 -- an attribute that has the content's own value
-pub unchanged : (ops : List Op) (c : ContentParts) (tag : ℕ) → attribute ops c tag ≡ own_value c tag → None ≡ change ops c tag
+pub unchanged : (ops : List Op) (c : ContentParts) (tag : ℕ) → attribute ops c tag ≡ own_value c tag → None ≡ change ops
+    c tag
 unchanged ops c tag e =
-    ap (λ b. if not b then Some (attribute ops c tag) else None) (sym (same_itself (attribute ops c tag) (own_value c tag) e))
+    ap (λ b. if not b then Some (attribute ops c tag) else None)
+    (sym (same_itself (attribute ops c tag) (own_value c tag) e))
 
 -- and one that has another
-pub changed : (ops : List Op) (c : ContentParts) (tag : ℕ) (value : List ℕ) → value ≡ attribute ops c tag → same value (own_value c tag) ≡ false → Some value ≡ change ops c tag
+pub changed : (ops : List Op) (c : ContentParts) (tag : ℕ) (value : List ℕ) → value ≡ attribute ops c tag
+    → same value (own_value c tag) ≡ false → Some value ≡ change ops c tag
 changed ops c tag value e other =
-    ap Some e ∙ ap (λ b. if not b then Some (attribute ops c tag) else None) (sym (ap (λ v. same v (own_value c tag)) (sym e) ∙ other))
+    ap Some e ∙ ap (λ b. if not b then Some (attribute ops c tag) else None)
+    (sym (ap (λ v. same v (own_value c tag)) (sym e) ∙ other))
 
 some_if : {X : Type 0} (b : Bool) (x : X) → is_some (if b then Some x else None) ≡ b
 some_if true x = refl

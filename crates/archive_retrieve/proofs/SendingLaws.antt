@@ -7,8 +7,10 @@ use Rattle.archive_retrieve.specs.declared.sending.Sending.{Sending}
 use Rattle.archive_retrieve.specs.Sending.{IsSending, AreSendings}
 
 -- one more is sent
-pub sendings_snoc : (ops : List Op) (accepted : List Accepted) (cs : List ContentParts) (ss : List Sending) (c : ContentParts) (s : Sending)
-    → AreSendings ops accepted cs ss → IsSending ops accepted c s → AreSendings ops accepted (cs ++ c ∷ []) (ss ++ s ∷ [])
+pub sendings_snoc : (ops : List Op) (accepted : List Accepted) (cs : List ContentParts) (ss : List Sending)
+    (c : ContentParts) (s : Sending)
+    → AreSendings ops accepted cs ss → IsSending ops accepted c s → AreSendings ops accepted (cs ++ c ∷ [])
+    (ss ++ s ∷ [])
 sendings_snoc ops accepted [] [] c s are is = (is, tt)
 sendings_snoc ops accepted [] (x ∷ ss) c s are is = absurd are
 sendings_snoc ops accepted (d ∷ cs) [] c s are is = absurd are

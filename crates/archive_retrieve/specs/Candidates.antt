@@ -10,4 +10,5 @@ use Rattle.archive_retrieve.specs.Selection.{is_selected}
 
 -- every content that is picked and is in a selection is of one of these UIDs
 abbrev pub ReachesAll : Selection → List (Text × Option Pick) → List (List ℕ) → Type 0
-ReachesAll s picks uids = (c : ContentParts) → pick_at c.instance picks ≡ Some (pick_of c) → is_selected s c ≡ true → has text_cmp uids c.instance ≡ true
+ReachesAll s picks uids = (c : ContentParts) → pick_at c.instance picks ≡ Some (pick_of c) → is_selected s c ≡ true
+    → has text_cmp uids c.instance ≡ true

@@ -56,20 +56,24 @@ pub record IsShownPick (view : View) (selection : Selection) (ops : List Op) (se
 
 abbrev pub NothingHiddenIsSent : Type 0
 NothingHiddenIsSent =
-    (view : View) (selection : Selection) (accepts : Accepts) (ops : List Op) (sendings : List Sending) (sending : Sending)
+    (view : View) (selection : Selection) (accepts : Accepts) (ops : List Op) (sendings : List Sending)
+    (sending : Sending)
     → Gets view selection accepts ops sendings → Has sendings sending → IsShownPick view selection ops sending
 
 -- what a note names whose title hides is not sent, whenever the note was taken
 abbrev pub WhatIsRejectedIsNotSent : Type 0
 WhatIsRejectedIsNotSent =
-    (view : View) (selection : Selection) (accepts : Accepts) (taken : List Op) (note : ContentParts) (says : Note) (sendings : List Sending) (sending : Sending)
-    → Apart taken → Has taken (a_content note) → note.note ≡ Some says → IsTrue (hides view says.title) → Has says.covers sending.instance
+    (view : View) (selection : Selection) (accepts : Accepts) (taken : List Op) (note : ContentParts) (says : Note)
+    (sendings : List Sending) (sending : Sending)
+    → Apart taken → Has taken (a_content note) → note.note ≡ Some says → IsTrue (hides view says.title)
+    → Has says.covers sending.instance
     → Gets view selection accepts (ops_of (after_taking taken)) sendings → Has sendings sending → ⊥
 
 -- and of each content that is shown and selected something is sent
 abbrev pub WhatIsShownIsSent : Type 0
 WhatIsShownIsSent =
-    (view : View) (selection : Selection) (accepts : Accepts) (ops : List Op) (sendings : List Sending) (c : ContentParts)
+    (view : View) (selection : Selection) (accepts : Accepts) (ops : List Op) (sendings : List Sending)
+    (c : ContentParts)
     → Gets view selection accepts ops sendings → Has (shown view ops) c → is_selected selection c ≡ true
     → (sending : Sending) × Has sendings sending × IsSending ops accepts.list c sending
 
@@ -79,7 +83,8 @@ WhatIsSentAscends =
     (view : View) (selection : Selection) (accepts : Accepts) (ops : List Op) (sendings : List Sending)
     → Gets view selection accepts ops sendings → IsStrictlySortedBy text_cmp (map (λ s. s.instance) sendings)
 
--- where every attribute that a correction may give a value has the content's own, and its syntax is accepted, a data set is sent as
+-- where every attribute that a correction may give a value has the content's own, and its syntax is accepted, a data
+-- set is sent as
 -- it came, byte for byte
 abbrev pub WhatNeedsNothingIsSentAsItCame : Type 0
 WhatNeedsNothingIsSentAsItCame =

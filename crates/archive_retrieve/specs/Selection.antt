@@ -6,7 +6,8 @@ use Rattle.std.specs.Borrow.{Bor}
 use Rattle.octets.specs.Gives.{◌>>=◌}
 use Rattle.octets.specs.Padding.{trimmed}
 use Rattle.octets.specs.Texts.{text_cmp}
-use Rattle.dictionary.specs.declared.elements.TheConstants.{QUERY_RETRIEVE_LEVEL, SERIES_INSTANCE_UID, SOP_INSTANCE_UID, STUDY_INSTANCE_UID}
+use Rattle.dictionary.specs.declared.elements.TheConstants.{QUERY_RETRIEVE_LEVEL, SERIES_INSTANCE_UID, SOP_INSTANCE_UID}
+use Rattle.dictionary.specs.declared.elements.TheConstants.{STUDY_INSTANCE_UID}
 use Rattle.data_set.specs.Tree.{Tree}
 use Rattle.data_set.specs.Values.{value_in}
 use Rattle.operation.specs.Parts.{ContentParts}
@@ -38,7 +39,8 @@ abbrev pub uids_in : Option (List ℕ) → Result (List (List ℕ)) QueryFault
 uids_in None = Err BadKey
 uids_in (Some key) = uids_from key
 
--- the selection, or the first fault: no level, then a unique key above the level that is not one UID, then no UID at the level
+-- the selection, or the first fault: no level, then a unique key above the level that is not one UID, then no UID at
+-- the level
 unfoldable pub selection_of : List Tree → Result Selection QueryFault
 selection_of elements = do
   level ← level_in (value_in QUERY_RETRIEVE_LEVEL elements)

@@ -1,5 +1,6 @@
 -- What a C-GET sends over a set of operations, which is the list of its operations ascending by digest (PS3.4, C.4.3).
-use Rattle.std.specs.Prelude.{◌≡◌, ℕ, List, [], ◌∷◌, Bool, false, not, Option, Some, None, MatchBool, map, if◌then◌else◌}
+use Rattle.std.specs.Prelude.{◌≡◌, ℕ, List, [], ◌∷◌, Bool, false, not, Option, Some, None, MatchBool, map}
+use Rattle.std.specs.Prelude.{if◌then◌else◌}
 use Rattle.data_set.specs.declared.syntax.Syntax.{Syntax}
 use Rattle.data_set.specs.declared.syntax.Syntax.TheVariants.{Implicit}
 use Rattle.data_set.specs.Tree.{Tree}

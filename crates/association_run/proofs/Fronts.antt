@@ -1,5 +1,6 @@
 -- Fronts of lists, and bytes that are written or read one after another.
-use Rattle.std.proofs.Common.{◌≡◌, ◌⊎◌, ℕ, List, [], ◌∷◌, ◌++◌, take, drop, inl, inr, Option, Some, None, refl, sym, ap, ◌∙◌, append_assoc, append-nil}
+use Rattle.std.proofs.Common.{◌≡◌, ◌⊎◌, ℕ, List, [], ◌∷◌, ◌++◌, take, drop, inl, inr, Option, Some, None, refl, sym, ap}
+use Rattle.std.proofs.Common.{◌∙◌, append_assoc, append-nil}
 use Rattle.std.specs.Io.KnownBytes.{Appends, Consumes, Keeps}
 use Rattle.std.proofs.lemmas.List.{take-append-drop}
 use Rattle.association_session.specs.Projections.{IsFront}
@@ -50,13 +51,15 @@ pub front_of_front : {A : Type 0} (xs ys zs : List A) → IsFront xs ys → IsFr
 front_of_front xs ys zs f g = (f.0 ++ g.0, g.1 ∙ ap (λ (t : List _). t ++ g.0) f.1 ∙ append_assoc xs f.0 g.0)
 
 -- A front of two lists is a front of the first, or the first and a front of the second.
-pub front_split : (xs ys zs : List ℕ) → IsFront xs (ys ++ zs) → IsFront xs ys ⊎ ((more : List ℕ) × (xs ≡ ys ++ more) × IsFront more zs)
+pub front_split : (xs ys zs : List ℕ) → IsFront xs (ys ++ zs) → IsFront xs ys ⊎ ((more : List ℕ) × (xs ≡ ys ++ more)
+    × IsFront more zs)
 front_split xs [] zs f = inr (xs, refl, f)
 front_split [] (y ∷ ys) zs f = inl (y ∷ ys, refl)
 front_split (x ∷ xs) (y ∷ ys) zs f =
     let same : x ≡ y = let e = f.1 in cc in
     let rest : ys ++ zs ≡ xs ++ f.0 = let e = f.1 in cc in
-    elim (front_split xs ys zs (f.0, rest)) as (λ _. IsFront (x ∷ xs) (y ∷ ys) ⊎ ((more : List ℕ) × (x ∷ xs ≡ (y ∷ ys) ++ more) × IsFront more zs)) [
+    elim (front_split xs ys zs (f.0, rest)) as (λ _. IsFront (x ∷ xs) (y ∷ ys)
+    ⊎ ((more : List ℕ) × (x ∷ xs ≡ (y ∷ ys) ++ more) × IsFront more zs)) [
       | inl g ↦ inl (g.0, ap (λ (t : List ℕ). y ∷ t) g.1 ∙ ap (λ (k : ℕ). k ∷ (xs ++ g.0)) (sym same))
       | inr g ↦ inr (g.0, ap (λ (t : List ℕ). x ∷ t) g.1 ∙ ap (λ (k : ℕ). k ∷ (ys ++ g.0)) same, g.2)
     ]

@@ -1,5 +1,6 @@
 -- What reading the bytes in hand tells of them.
-use Rattle.std.proofs.Common.{◌≡◌, ◌⊎◌, inl, inr, ℕ, ◌+◌, ◌≤◌, List, length, take, Option, Some, None, Result, Ok, Err, MatchResult, refl, sym, subst, ◌∙◌, arith}
+use Rattle.std.proofs.Common.{◌≡◌, ◌⊎◌, inl, inr, ℕ, ◌+◌, ◌≤◌, List, length, take, Option, Some, None, Result, Ok, Err}
+use Rattle.std.proofs.Common.{MatchResult, refl, sym, subst, ◌∙◌, arith}
 use Rattle.std.proofs.lemmas.List.{take_all}
 use Rattle.pdu.specs.declared.fault.PduFault.{PduFault}
 use Rattle.pdu.specs.declared.fault.PduFault.TheVariants.{UnknownType, BadLength, BadItem, TooLong, Memory}
@@ -42,13 +43,17 @@ size_is text (inr whole) bad = whole.1
 pub finds : (text : List ℕ) (step : Result Step PduFault) → Ends text
     → IfDone step (λ p n. (n ≤ length text) × Spells p (take n text)) → IfDone step (λ p n. IsPdu p)
     → (step ≡ Ok Need → IsUnfinished text)
-    → (IsErr step UnknownType → HasHeaderFault UnknownType text) → (IsErr step BadLength → HasHeaderFault BadLength text)
+    → (IsErr step UnknownType → HasHeaderFault UnknownType text)
+    → (IsErr step BadLength → HasHeaderFault BadLength text)
     → (IsErr step BadItem → HasBadBody text) → (IsErr step TooLong → HasHeaderFault TooLong text)
     → FindsAll text (piece_in step (length text))
 finds text (Ok Need) ends done lawful need u l i t = need refl
 finds text (Ok (Done p n)) ends done lawful need u l i t =
     let same = all_taken text p n ends done.0 done.1 in ((whole_is text p n same done.1, same), lawful)
-finds text (Err UnknownType) ends done lawful need u l i t = (((u refl, six_of text UnknownType ends (u refl)), refl), tt)
+finds text (Err UnknownType) ends done lawful need u l i t = (
+  ((u refl, six_of text UnknownType ends (u refl)), refl),
+  tt,
+)
 finds text (Err BadLength) ends done lawful need u l i t = (((l refl, six_of text BadLength ends (l refl)), refl), tt)
 finds text (Err BadItem) ends done lawful need u l i t = (((i refl, size_is text ends (i refl)), refl), tt)
 finds text (Err TooLong) ends done lawful need u l i t = (((t refl, six_of text TooLong ends (t refl)), refl), tt)

@@ -1,5 +1,7 @@
 -- What a turn adds to what was done so far.
-use Rattle.std.proofs.Common.{◌≡◌, ◌≢◌, ℕ, ◌+◌, ◌<◌, ◌≤◌, ◌==◌, Bool, true, false, ◌||◌, List, [], ◌∷◌, ◌++◌, length, drop, Option, None, Result, ◌⊎◌, inl, inr, refl, sym, ap, subst, ◌∙◌, append_assoc, append-nil, arith, length-append}
+use Rattle.std.proofs.Common.{◌≡◌, ◌≢◌, ℕ, ◌+◌, ◌<◌, ◌≤◌, ◌==◌, Bool, true, false, ◌||◌, List, [], ◌∷◌, ◌++◌, length}
+use Rattle.std.proofs.Common.{drop, Option, None, Result, ◌⊎◌, inl, inr, refl, sym, ap, subst, ◌∙◌, append_assoc}
+use Rattle.std.proofs.Common.{append-nil, arith, length-append}
 use Rattle.std.proofs.lemmas.Bool.{eqb-true, eqb-false}
 use Rattle.std.proofs.Math.Arith.{lt_of_le-ne}
 use Rattle.std.proofs.lemmas.List.{take_all, drop_all, take-append-le, drop-append-le}
@@ -25,7 +27,8 @@ use Rattle.association_session.specs.declared.deed.Deed.{Deed}
 use Rattle.association_session.specs.declared.reply.Reply.{Reply}
 use Rattle.association_session.specs.Projections.{IsFront}
 use Rattle.association_session.specs.Row.{Within, opening, handed_on}
-use Rattle.association_session.specs.Session.{AssociationState, SessionState, Takes, Owes, start, is_left, heard_in, is_abort, is_release}
+use Rattle.association_session.specs.Session.{AssociationState, SessionState, Takes, Owes, start, is_left, heard_in}
+use Rattle.association_session.specs.Session.{is_abort, is_release}
 use Rattle.association_session.specs.Talks.{Heard, Leads, Talks}
 use Rattle.association_session.proofs.TalkLaws.{talks_front}
 use Rattle.association_run.specs.declared.piece.Piece.{Piece}
@@ -35,18 +38,22 @@ use Rattle.association_run.specs.declared.run.Intake.{Intake}
 use Rattle.association_run.specs.declared.run.TheConstants.{MOST_DROPPED}
 use Rattle.association_run.specs.Inbox.{EMPTY, InHand}
 use Rattle.association_run.specs.Pieces.{IsPiece, Precedes, Cuts, is_cut, is_whole, event_of, size_of_piece}
-use Rattle.association_run.specs.Hearing.{Place, Course, SETTING_OUT, Says, Hears, HearsFront, TakesPiece, TakesPieces, counts}
+use Rattle.association_run.specs.Hearing.{Place, Course, SETTING_OUT, Says, Hears, HearsFront, TakesPiece, TakesPieces}
+use Rattle.association_run.specs.Hearing.{counts}
 use Rattle.association_run.specs.Parts.{Sides, Begins}
-use Rattle.association_run.specs.Output.{Output, FrontOfOutput, IsOver, IsLeft, all_counted, end_in, is_over, is_abort_piece, was_aborted, was_released}
+use Rattle.association_run.specs.Output.{Output, FrontOfOutput, IsOver, IsLeft, all_counted, end_in, is_over}
+use Rattle.association_run.specs.Output.{is_abort_piece, was_aborted, was_released}
 use Rattle.association_run.specs.Steps.{place_of, HearsPart, HeardFront}
-use Rattle.association_run.specs.Turns.{counted_in, NOTHING_READ, Adds, Drops, Reads, HearsPiece, TakesHand, TakingBroke, IsInHand, IsDropped, IsReady, Sofar}
+use Rattle.association_run.specs.Turns.{counted_in, NOTHING_READ, Adds, Drops, Reads, HearsPiece, TakesHand}
+use Rattle.association_run.specs.Turns.{TakingBroke, IsInHand, IsDropped, IsReady, Sofar}
 use Rattle.association_run.proofs.Fronts.{read_further, nothing_read, all_front, front_behind}
 use Rattle.association_run.proofs.DidLaws.{did_none, did_then, all_begun, begun_behind, begun_more}
 use Rattle.association_run.proofs.StepLaws.{takes_all, takes_then}
 
 -- ---- pieces
 
-precedes_more : (piece last : Piece) (pieces : List Piece) → is_cut (piece ∷ pieces) ≡ true → Precedes piece pieces → Precedes piece (pieces ++ last ∷ [])
+precedes_more : (piece last : Piece) (pieces : List Piece) → is_cut (piece ∷ pieces) ≡ true → Precedes piece pieces
+    → Precedes piece (pieces ++ last ∷ [])
 precedes_more (Whole p n) last pieces cut precedes = tt
 precedes_more (Faulty f n) last pieces cut precedes = absurd cc
 
@@ -63,29 +70,39 @@ long_of (Whole p n) text is = is.1
 long_of (Faulty f n) text is = is.1
 
 -- the whole rest is one piece more
-cuts_push : (text : List ℕ) (pieces : List Piece) (rest : List ℕ) (piece : Piece) → Cuts text pieces rest → is_cut pieces ≡ true → IsPiece piece rest → Cuts text (pieces ++ piece ∷ []) []
+cuts_push : (text : List ℕ) (pieces : List Piece) (rest : List ℕ) (piece : Piece) → Cuts text pieces rest
+    → is_cut pieces ≡ true → IsPiece piece rest → Cuts text (pieces ++ piece ∷ []) []
 cuts_push text [] rest piece cuts cut is =
     let same = ap (λ (t : List ℕ). length t) cuts in
     let long = long_of piece rest is in (
       omega (arith, same, long),
-      subst (λ (t : List ℕ). IsPiece piece t) (cuts ∙ sym (take_all (size_of_piece piece) text (omega (arith, same, long)))) is,
+      subst (λ (t : List ℕ). IsPiece piece t) (cuts
+          ∙ sym (take_all (size_of_piece piece) text (omega (arith, same, long)))) is,
       precedes_none piece,
       sym (drop_all (size_of_piece piece) text (omega (arith, same, long))),
     )
-cuts_push text (p ∷ pieces) rest piece cuts cut is =
-    (cuts.0, cuts.1, precedes_more p piece pieces cut cuts.2, cuts_push (drop (size_of_piece p) text) pieces rest piece cuts.3 (cut_behind p pieces cut) is)
+cuts_push text (p ∷ pieces) rest piece cuts cut is = (
+  cuts.0,
+  cuts.1,
+  precedes_more p piece pieces cut cuts.2,
+  cuts_push (drop (size_of_piece p) text) pieces rest piece
+      cuts.3 (cut_behind p pieces cut) is,
+)
 
 -- more bytes behind
-cuts_more : (text : List ℕ) (pieces : List Piece) (rest more : List ℕ) → Cuts text pieces rest → Cuts (text ++ more) pieces (rest ++ more)
+cuts_more : (text : List ℕ) (pieces : List Piece) (rest more : List ℕ) → Cuts text pieces rest → Cuts (text ++ more)
+    pieces (rest ++ more)
 cuts_more text [] rest more cuts = ap (λ (t : List ℕ). t ++ more) cuts
 cuts_more text (p ∷ pieces) rest more cuts = (
   omega (arith, cuts.0, length-append text more),
   subst (λ (t : List ℕ). IsPiece p t) (sym (take-append-le (size_of_piece p) text more cuts.0)) cuts.1,
   cuts.2,
-  subst (λ (t : List ℕ). Cuts t pieces (rest ++ more)) (sym (drop-append-le (size_of_piece p) text more cuts.0)) (cuts_more (drop (size_of_piece p) text) pieces rest more cuts.3),
+  subst (λ (t : List ℕ). Cuts t pieces (rest ++ more)) (sym (drop-append-le (size_of_piece p) text more cuts.0))
+      (cuts_more (drop (size_of_piece p) text) pieces rest more cuts.3),
 )
 
-is_cut-push : (pieces : List Piece) (piece : Piece) → is_cut pieces ≡ true → is_cut (pieces ++ piece ∷ []) ≡ is_whole piece
+is_cut-push : (pieces : List Piece) (piece : Piece) → is_cut pieces ≡ true → is_cut (pieces ++ piece ∷ []) ≡ is_whole
+    piece
 is_cut-push [] (Whole p n) cut = refl
 is_cut-push [] (Faulty f n) cut = refl
 is_cut-push (Whole p n ∷ pieces) piece cut = is_cut-push pieces piece cut
@@ -101,15 +118,30 @@ no_piece (Faulty faults.Memory n) is = is.0
 
 -- ---- what is heard of pieces
 
-takes_push : {V : Type 0} (titles : List (Title V)) (c : Course V) (pieces : List Piece) (heard : List Heard) (mid : Course V) (piece : Piece) (now : List Heard) (end : Course V) → TakesPieces titles c pieces heard mid → TakesPiece titles mid piece now end
+takes_push : {V : Type 0} (titles : List (Title V)) (c : Course V) (pieces : List Piece) (heard : List Heard)
+    (mid : Course V) (piece : Piece) (now : List Heard) (end : Course V) → TakesPieces titles c pieces heard mid
+    → TakesPiece titles mid piece now end
     → TakesPieces titles c (pieces ++ piece ∷ []) (heard ++ now) end
-takes_push {V = W} titles c [] heard mid piece now end p q =
-    (end, now, [], subst (λ (k : Course W). TakesPiece titles k piece now end) p.1 q, (refl, refl), ap (λ (t : List Heard). t ++ now) p.0 ∙ sym (append-nil now))
-takes_push titles c (first ∷ pieces) heard mid piece now end p q =
-    (p.0, p.1, p.2 ++ now, p.3, takes_push titles p.0 pieces p.2 mid piece now end p.4 q, ap (λ (t : List Heard). t ++ now) p.5 ∙ append_assoc p.1 p.2 now)
+takes_push {V = W} titles c [] heard mid piece now end p q = (
+  end,
+  now,
+  [],
+  subst (λ (k : Course W). TakesPiece titles k piece now end) p.1 q,
+  (refl, refl),
+  ap (λ (t : List Heard). t ++ now) p.0 ∙ sym (append-nil now),
+)
+takes_push titles c (first ∷ pieces) heard mid piece now end p q = (
+  p.0,
+  p.1,
+  p.2 ++ now,
+  p.3,
+  takes_push titles p.0 pieces p.2 mid piece now end p.4 q,
+  ap (λ (t : List Heard). t ++ now) p.5 ∙ append_assoc p.1 p.2 now,
+)
 
 -- A faulty PDU hands nothing on, and behind it the peer is to close.
-faulty_row : {V : Type 0} (titles : List (Title V)) (state : State) (f : PduFault) → state ≢ Sta1 → (handed_on titles state (Bad f) ≡ []) × (next_of state (kind_for titles (Bad f)) ≡ Sta13)
+faulty_row : {V : Type 0} (titles : List (Title V)) (state : State) (f : PduFault) → state ≢ Sta1
+    → (handed_on titles state (Bad f) ≡ []) × (next_of state (kind_for titles (Bad f)) ≡ Sta13)
 faulty_row titles Sta1 f connected = absurd (connected refl)
 faulty_row titles Sta2 faults.UnknownType connected = (refl, refl)
 faulty_row titles Sta2 faults.BadLength connected = (refl, refl)
@@ -127,7 +159,8 @@ faulty_row titles Sta13 faults.BadItem connected = (refl, refl)
 faulty_row titles Sta13 faults.TooLong connected = (refl, refl)
 faulty_row titles Sta13 faults.Memory connected = (refl, refl)
 
-no_answers : (a b : Assembly) (fed : List Pdv) (answers : List (Result (Option Message) DimseFault)) → fed ≡ [] → Run a fed answers b → answers ≡ []
+no_answers : (a b : Assembly) (fed : List Pdv) (answers : List (Result (Option Message) DimseFault)) → fed ≡ []
+    → Run a fed answers b → answers ≡ []
 no_answers a b [] [] none run = refl
 no_answers a b [] (r ∷ answers) none run = absurd run
 no_answers a b (p ∷ fed) answers none run = absurd cc
@@ -137,13 +170,15 @@ no_values [] left e = refl
 no_values (p ∷ fed) left e = absurd cc
 
 -- Where no value is handed on nothing is said.
-nothing_said : {V : Type 0} (titles : List (Title V)) (old : Place V) (values : List Pdv) (said : List Heard) (left : List Pdv) (new : Place V) → values ≡ [] → Says titles old values said left new → new.within ≡ old.within
+nothing_said : {V : Type 0} (titles : List (Title V)) (old : Place V) (values : List Pdv) (said : List Heard)
+    (left : List Pdv) (new : Place V) → values ≡ [] → Says titles old values said left new → new.within ≡ old.within
 nothing_said titles old values said left new none p =
     let fed : p.fed ≡ [] = no_values p.fed left (sym p.parts ∙ none) in
     let said_none : said ≡ [] = p.says ∙ ap heard_in (no_answers _ _ p.fed p.answers fed p.run) in
     subst (λ (t : List Heard). Leads titles old.within t new.within) said_none p.leads
 
-dropped_state : {V : Type 0} (titles : List (Title V)) (old : Place V) (f : PduFault) (heard : List Heard) (new : Place V) → old.within.state ≢ Sta1 → Hears titles old (Bad f) heard new → new.within.state ≡ Sta13
+dropped_state : {V : Type 0} (titles : List (Title V)) (old : Place V) (f : PduFault) (heard : List Heard)
+    (new : Place V) → old.within.state ≢ Sta1 → Hears titles old (Bad f) heard new → new.within.state ≡ Sta13
 dropped_state {V = W} titles old f heard new connected h =
     let row = faulty_row titles old.within.state f connected in
     ap (λ (w : Within W). w.state) (nothing_said titles _ _ h.1.said h.0 new row.0 h.1.values) ∙ row.1
@@ -161,16 +196,21 @@ or_none : (a : Bool) → (a || false) ≡ a
 or_none true = refl
 or_none false = refl
 
-aborted_push : (pieces : List Piece) (done : List Deed) (piece : Piece) (deeds : List Deed) (before after : Bool) → before ≡ was_aborted pieces done → after ≡ (before || (is_abort_piece piece || list_any is_abort deeds))
+aborted_push : (pieces : List Piece) (done : List Deed) (piece : Piece) (deeds : List Deed) (before after : Bool)
+    → before ≡ was_aborted pieces done → after ≡ (before || (is_abort_piece piece || list_any is_abort deeds))
     → after ≡ was_aborted (pieces ++ piece ∷ []) (done ++ deeds)
 aborted_push pieces done piece deeds before after so goes =
     goes ∙ ap (λ (b : Bool). b || (is_abort_piece piece || list_any is_abort deeds)) so
     ∙ or_four (list_any is_abort_piece pieces) (list_any is_abort done) (is_abort_piece piece) (list_any is_abort deeds)
-    ∙ ap (λ (b : Bool). (list_any is_abort_piece pieces || is_abort_piece piece) || b) (sym (list_any-append is_abort done deeds))
-    ∙ ap (λ (b : Bool). (list_any is_abort_piece pieces || b) || list_any is_abort (done ++ deeds)) (sym (or_none (is_abort_piece piece)))
-    ∙ ap (λ (b : Bool). b || list_any is_abort (done ++ deeds)) (sym (list_any-append is_abort_piece pieces (piece ∷ [])))
+    ∙ ap (λ (b : Bool). (list_any is_abort_piece pieces || is_abort_piece piece) || b)
+    (sym (list_any-append is_abort done deeds))
+    ∙ ap (λ (b : Bool). (list_any is_abort_piece pieces || b) || list_any is_abort (done ++ deeds))
+    (sym (or_none (is_abort_piece piece)))
+    ∙ ap (λ (b : Bool). b || list_any is_abort (done ++ deeds))
+    (sym (list_any-append is_abort_piece pieces (piece ∷ [])))
 
-released_push : (done deeds : List Deed) (before after : Bool) → before ≡ was_released done → after ≡ (before || list_any is_release deeds) → after ≡ was_released (done ++ deeds)
+released_push : (done deeds : List Deed) (before after : Bool) → before ≡ was_released done
+    → after ≡ (before || list_any is_release deeds) → after ≡ was_released (done ++ deeds)
 released_push done deeds before after so goes =
     goes ∙ ap (λ (b : Bool). b || list_any is_release deeds) so ∙ sym (list_any-append is_release done deeds)
 
@@ -184,27 +224,45 @@ counts_none Sta13 = refl
 
 counted_empty : (intake : Intake) (state : State) → intake.inbox.text ≡ [] → counted_in intake state ≡ intake.counted
 counted_empty intake state empty =
-    ap (λ (t : List ℕ). intake.counted + counts state (length t)) empty ∙ ap (λ (n : ℕ). intake.counted + n) (counts_none state) ∙ omega arith
+    ap (λ (t : List ℕ). intake.counted + counts state (length t)) empty ∙ ap (λ (n : ℕ). intake.counted + n)
+    (counts_none state) ∙ omega arith
 
-counted_is : (state : State) (counted : ℕ) (intake : Intake) (pieces : List Piece) (rest : List ℕ) → IsInHand intake pieces rest counted ⊎ IsDropped intake state pieces rest counted
+counted_is : (state : State) (counted : ℕ) (intake : Intake) (pieces : List Piece) (rest : List ℕ)
+    → IsInHand intake pieces rest counted ⊎ IsDropped intake state pieces rest counted
     → counted + counts state (length rest) ≡ counted_in intake state
-counted_is state counted intake pieces rest (inl hand) = ap (λ (n : ℕ). n + counts state (length rest)) hand.3 ∙ ap (λ (t : List ℕ). intake.counted + counts state (length t)) hand.2
+counted_is state counted intake pieces rest (inl hand) = ap (λ (n : ℕ). n + counts state (length rest)) hand.3
+    ∙ ap (λ (t : List ℕ). intake.counted + counts state (length t)) hand.2
 counted_is state counted intake pieces rest (inr dropped) =
-    ap (λ (k : State). counted + counts k (length rest)) dropped.4 ∙ sym dropped.2 ∙ sym (counted_empty intake state dropped.3)
+    ap (λ (k : State). counted + counts k (length rest)) dropped.4 ∙ sym dropped.2
+    ∙ sym (counted_empty intake state dropped.3)
 
-left_of : (intake : Intake) (state : State) (pieces : List Piece) (rest : List ℕ) (counted : ℕ) → IsUnfinished intake.inbox.text → IsInHand intake pieces rest counted ⊎ IsDropped intake state pieces rest counted → IsLeft pieces rest
-left_of intake state pieces rest counted unfinished (inl hand) = inl (subst (λ (t : List ℕ). IsUnfinished t) (sym hand.2) unfinished)
+left_of : (intake : Intake) (state : State) (pieces : List Piece) (rest : List ℕ) (counted : ℕ)
+    → IsUnfinished intake.inbox.text → IsInHand intake pieces rest counted ⊎ IsDropped intake state pieces rest counted
+    → IsLeft pieces rest
+left_of intake state pieces rest counted unfinished (inl hand) =
+    inl (subst (λ (t : List ℕ). IsUnfinished t) (sym hand.2) unfinished)
 left_of intake state pieces rest counted unfinished (inr dropped) = inr dropped.1
 
 -- what a read brings to the rest
-held_more : (before after : Intake) (state : State) (pieces : List Piece) (rest bytes : List ℕ) (counted : ℕ) → Adds before bytes after ⊎ Drops before bytes after
-    → IsInHand before pieces rest counted ⊎ IsDropped before state pieces rest counted → IsInHand after pieces (rest ++ bytes) counted ⊎ IsDropped after state pieces (rest ++ bytes) counted
+held_more : (before after : Intake) (state : State) (pieces : List Piece) (rest bytes : List ℕ) (counted : ℕ)
+    → Adds before bytes after ⊎ Drops before bytes after
+    → IsInHand before pieces rest counted ⊎ IsDropped before state pieces rest counted
+    → IsInHand after pieces (rest ++ bytes) counted ⊎ IsDropped after state pieces (rest ++ bytes) counted
 held_more before after state pieces rest bytes counted (inl adds) (inl hand) =
     inl (adds.1, hand.1, ap (λ (t : List ℕ). t ++ bytes) hand.2 ∙ sym adds.3, hand.3 ∙ sym adds.2)
-held_more before after state pieces rest bytes counted (inl adds) (inr dropped) = absurd (let e = sym adds.0 ∙ dropped.0 in cc)
-held_more before after state pieces rest bytes counted (inr drops) (inl hand) = absurd (let e = sym hand.0 ∙ drops.0 in cc)
+held_more before after state pieces rest bytes counted (inl adds) (inr dropped) = absurd (let e = sym adds.0
+    ∙ dropped.0 in cc)
+held_more before after state pieces rest bytes counted (inr drops) (inl hand) = absurd (let e = sym hand.0 ∙ drops.0 in
+    cc)
 held_more before after state pieces rest bytes counted (inr drops) (inr dropped) =
-    inr (drops.1, dropped.1, omega (arith, drops.2, dropped.2, length-append rest bytes), ap (λ (h : InHand). h.text) drops.3 ∙ dropped.3, dropped.4)
+    inr (
+      drops.1,
+      dropped.1,
+      omega (arith, drops.2, dropped.2, length-append rest bytes),
+      ap (λ (h : InHand). h.text)
+          drops.3 ∙ dropped.3,
+      dropped.4,
+    )
 
 not_over : (state : State) (counted : ℕ) → is_over state counted ≡ false → (state ≢ Sta1) × (counted ≢ MOST_DROPPED)
 not_over Sta1 counted e = absurd cc
@@ -217,7 +275,8 @@ module _ {P V : Type 0} (holds : P → Op → Type 0) (own : P → List (List �
   abbrev course_at : SessionState V → ℕ → Course V
   course_at s counted = record { place = place_of s.association; counted = counted }
 
-  pub nothing_yet : (r : Option (List ℕ)) (a : Sides P) (s : SessionState V) → s.association ≡ start → s.aborted ≡ false → s.released ≡ false → Sofar holds own titles r r a a s NOTHING_READ 0
+  pub nothing_yet : (r : Option (List ℕ)) (a : Sides P) (s : SessionState V) → s.association ≡ start → s.aborted ≡ false
+      → s.released ≡ false → Sofar holds own titles r r a a s NOTHING_READ 0
   nothing_yet r a s is aborted released = record {
     text = [];
     read = nothing_read r;
@@ -233,13 +292,16 @@ module _ {P V : Type 0} (holds : P → Op → Type 0) (own : P → List (List �
     takes = λ us rs rest owed. subst (λ (t : AssociationState V). Owes titles t us rs rest) is owed;
     did = did_none holds own a;
     held = inl (refl, refl, refl, refl);
-    within = subst (λ (k : AssociationState V). counted_in NOTHING_READ k.within.state ≤ MOST_DROPPED) (sym is) (omega arith);
+    within = subst (λ (k : AssociationState V). counted_in NOTHING_READ k.within.state ≤ MOST_DROPPED) (sym is)
+        (omega arith);
     aborted = aborted;
     released = released;
   }
 
-  pub after_read : (r0 r1 r2 : Option (List ℕ)) (old now : Sides P) (s : SessionState V) (before after : Intake) (n count : ℕ) → Sofar holds own titles r0 r1 old now s before n → Reads r1 r2 before count after
-      → counted_in after s.association.within.state ≤ MOST_DROPPED → Sofar holds own titles r0 r2 old now s after (n + count)
+  pub after_read : (r0 r1 r2 : Option (List ℕ)) (old now : Sides P) (s : SessionState V) (before after : Intake)
+      (n count : ℕ) → Sofar holds own titles r0 r1 old now s before n → Reads r1 r2 before count after
+      → counted_in after s.association.within.state ≤ MOST_DROPPED → Sofar holds own titles r0 r2 old now s
+      after (n + count)
   after_read r0 r1 r2 old now s before after n count so r within = record {
     text = so.text ++ r.bytes;
     read = read_further r0 r1 r2 so.text r.bytes so.read r.read;
@@ -261,21 +323,53 @@ module _ {P V : Type 0} (holds : P → Op → Type 0) (own : P → List (List �
   }
 
   -- what is held behind a piece
-  held_behind : (old new : Place V) (before after : Intake) (pieces : List Piece) (piece : Piece) (counted : ℕ) (heard : List Heard) → old.within.state ≢ Sta1 → Hears titles old (event_of piece) heard new
-      → is_cut pieces ≡ true → counted ≡ before.counted → after.counted ≡ before.counted + counts old.within.state (size_of_piece piece) → after.is_cut ≡ is_whole piece → after.inbox ≡ EMPTY
-      → IsInHand after (pieces ++ piece ∷ []) [] (counted + counts old.within.state (size_of_piece piece)) ⊎ IsDropped after new.within.state (pieces ++ piece ∷ []) [] (counted + counts old.within.state (size_of_piece piece))
+  held_behind : (old new : Place V) (before after : Intake) (pieces : List Piece) (piece : Piece) (counted : ℕ)
+      (heard : List Heard) → old.within.state ≢ Sta1 → Hears titles old (event_of piece) heard new
+      → is_cut pieces ≡ true → counted ≡ before.counted → after.counted ≡ before.counted + counts old.within.state
+      (size_of_piece piece) → after.is_cut ≡ is_whole piece → after.inbox ≡ EMPTY
+      → IsInHand after (pieces ++ piece ∷ []) [] (counted + counts old.within.state (size_of_piece piece))
+      ⊎ IsDropped after new.within.state (pieces ++ piece ∷ []) []
+      (counted + counts old.within.state (size_of_piece piece))
   held_behind old new before after pieces (Whole p n) counted heard connected h cut same more is empty =
-      inl (is, is_cut-push pieces (Whole p n) cut, ap (λ (k : InHand). k.text) (sym empty), ap (λ (k : ℕ). k + counts old.within.state n) same ∙ sym more)
+      inl (
+        is,
+        is_cut-push pieces (Whole p n) cut,
+        ap (λ (k : InHand). k.text) (sym empty),
+        ap (λ (k : ℕ). k + counts old.within.state n) same ∙ sym more,
+      )
   held_behind old new before after pieces (Faulty f n) counted heard connected h cut same more is empty =
-      inr (is, is_cut-push pieces (Faulty f n) cut, omega (arith, more, same), ap (λ (k : InHand). k.text) empty, dropped_state titles old f heard new connected h)
+      inr (
+        is,
+        is_cut-push pieces (Faulty f n) cut,
+        omega (arith, more, same),
+        ap (λ (k : InHand). k.text) empty,
+        dropped_state titles old f heard new connected h,
+      )
 
-  held_kept : (before after : Intake) (state : State) (pieces : List Piece) (rest : List ℕ) (counted : ℕ) → after.is_cut ≡ before.is_cut → after.counted ≡ before.counted → after.inbox.text ≡ before.inbox.text
-      → IsInHand before pieces rest counted ⊎ IsDropped before state pieces rest counted → IsInHand after pieces rest counted ⊎ IsDropped after state pieces rest counted
-  held_kept before after state pieces rest counted cut same text (inl hand) = inl (cut ∙ hand.0, hand.1, hand.2 ∙ sym text, hand.3 ∙ sym same)
-  held_kept before after state pieces rest counted cut same text (inr dropped) = inr (cut ∙ dropped.0, dropped.1, same ∙ dropped.2, text ∙ dropped.3, dropped.4)
+  held_kept : (before after : Intake) (state : State) (pieces : List Piece) (rest : List ℕ) (counted : ℕ)
+      → after.is_cut ≡ before.is_cut → after.counted ≡ before.counted → after.inbox.text ≡ before.inbox.text
+      → IsInHand before pieces rest counted ⊎ IsDropped before state pieces rest counted → IsInHand after pieces rest
+      counted ⊎ IsDropped after state pieces rest counted
+  held_kept before after state pieces rest counted cut same text (inl hand) = inl (
+    cut ∙ hand.0,
+    hand.1,
+    hand.2
+        ∙ sym text,
+    hand.3 ∙ sym same,
+  )
+  held_kept before after state pieces rest counted cut same text (inr dropped) = inr (
+    cut ∙ dropped.0,
+    dropped.1,
+    same
+        ∙ dropped.2,
+    text ∙ dropped.3,
+    dropped.4,
+  )
 
-  took_nothing : (r0 r1 : Option (List ℕ)) (old now then : Sides P) (s : SessionState V) (before : Intake) (t : SessionState V) (after : Intake) (n : ℕ) → Sofar holds own titles r0 r1 old now s before n
-      → then ≡ now → t ≡ s → after.is_cut ≡ before.is_cut → after.counted ≡ before.counted → after.inbox.text ≡ before.inbox.text → Sofar holds own titles r0 r1 old then t after n
+  took_nothing : (r0 r1 : Option (List ℕ)) (old now then : Sides P) (s : SessionState V) (before : Intake)
+      (t : SessionState V) (after : Intake) (n : ℕ) → Sofar holds own titles r0 r1 old now s before n
+      → then ≡ now → t ≡ s → after.is_cut ≡ before.is_cut → after.counted ≡ before.counted
+      → after.inbox.text ≡ before.inbox.text → Sofar holds own titles r0 r1 old then t after n
   took_nothing r0 r1 old now then s before t after n so sides_same same cut counted text =
       let kept : Sofar holds own titles r0 r1 old now s after n = record {
         text = so.text;
@@ -296,10 +390,13 @@ module _ {P V : Type 0} (holds : P → Op → Type 0) (own : P → List (List �
         aborted = so.aborted;
         released = so.released;
       } in
-      subst (λ (k : Sides P). Sofar holds own titles r0 r1 old k t after n) (sym sides_same) (subst (λ (k : SessionState V). Sofar holds own titles r0 r1 old now k after n) (sym same) kept)
+      subst (λ (k : Sides P). Sofar holds own titles r0 r1 old k t after n) (sym sides_same)
+      (subst (λ (k : SessionState V). Sofar holds own titles r0 r1 old now k after n) (sym same) kept)
 
-  took_piece : (r0 r1 : Option (List ℕ)) (old now then : Sides P) (s : SessionState V) (before : Intake) (t : SessionState V) (after : Intake) (n : ℕ) (so : Sofar holds own titles r0 r1 old now s before n)
-      → s.association.within.state ≢ Sta1 → HearsPiece holds own titles now then s before t after → IsInHand before so.pieces so.rest so.counted → Sofar holds own titles r0 r1 old then t after n
+  took_piece : (r0 r1 : Option (List ℕ)) (old now then : Sides P) (s : SessionState V) (before : Intake)
+      (t : SessionState V) (after : Intake) (n : ℕ) (so : Sofar holds own titles r0 r1 old now s before n)
+      → s.association.within.state ≢ Sta1 → HearsPiece holds own titles now then s before t after
+      → IsInHand before so.pieces so.rest so.counted → Sofar holds own titles r0 r1 old then t after n
   took_piece r0 r1 old now then s before t after n so connected h hand =
       let is : IsPiece h.piece so.rest = subst (λ (k : List ℕ). IsPiece h.piece k) (sym hand.2) h.is in
       let empty : after.inbox.text ≡ [] = ap (λ (k : InHand). k.text) h.empty in
@@ -317,36 +414,50 @@ module _ {P V : Type 0} (holds : P → Op → Type 0) (own : P → List (List �
         heard = so.heard ++ w.heard;
         replies = so.replies ++ w.replies;
         done = so.done ++ w.done;
-        hears = takes_push titles SETTING_OUT so.pieces so.heard (course_at s so.counted) h.piece w.heard (course_at t (so.counted + counts s.association.within.state (size_of_piece h.piece))) so.hears (connected, w.hears, refl);
-        takes = takes_then titles start s.association t.association so.heard w.heard so.replies w.replies so.done w.done so.takes w.takes;
+        hears = takes_push titles SETTING_OUT so.pieces so.heard (course_at s so.counted) h.piece
+            w.heard (course_at t (so.counted + counts s.association.within.state (size_of_piece h.piece))) so.hears
+            (connected, w.hears, refl);
+        takes = takes_then titles start s.association t.association so.heard w.heard so.replies w.replies so.done w.done
+            so.takes w.takes;
         did = did_then holds own old now then so.done w.done [] so.replies w.replies so.did w.did;
-        held = held_behind (place_of s.association) (place_of t.association) before after so.pieces h.piece so.counted w.heard connected w.hears hand.1 hand.3 h.counted h.cut h.empty;
+        held = held_behind (place_of s.association) (place_of t.association) before after so.pieces h.piece so.counted
+            w.heard connected w.hears hand.1 hand.3 h.counted h.cut h.empty;
         within = omega (arith, counted_empty after t.association.within.state empty, h.counted, counts_kept, so.within);
         aborted = aborted_push so.pieces so.done h.piece w.done s.aborted t.aborted so.aborted w.aborted;
         released = released_push so.done w.done s.released t.released so.released w.released;
       }
 
-  pub after_take : (r0 r1 : Option (List ℕ)) (old now then : Sides P) (s : SessionState V) (before : Intake) (t : SessionState V) (after : Intake) (n : ℕ) → Sofar holds own titles r0 r1 old now s before n → s.association.within.state ≢ Sta1
+  pub after_take : (r0 r1 : Option (List ℕ)) (old now then : Sides P) (s : SessionState V) (before : Intake)
+      (t : SessionState V) (after : Intake) (n : ℕ) → Sofar holds own titles r0 r1 old now s before n
+      → s.association.within.state ≢ Sta1
       → TakesHand holds own titles now then s before t after → Sofar holds own titles r0 r1 old then t after n
-  after_take r0 r1 old now then s before t after n so connected (inl none) = took_nothing r0 r1 old now then s before t after n so none.0 none.1 none.2 none.3 none.4
-  after_take r0 r1 old now then s before t after n so connected (inr h) = elim so.held as (λ _. Sofar holds own titles r0 r1 old then t after n) [
-    | inl hand ↦ took_piece r0 r1 old now then s before t after n so connected h hand
-    | inr dropped ↦ absurd (no_piece h.piece (subst (λ (k : List ℕ). IsPiece h.piece k) dropped.3 h.is))
-  ]
+  after_take r0 r1 old now then s before t after n so connected (inl none) = took_nothing r0 r1 old now then s before t
+      after n so none.0 none.1 none.2 none.3 none.4
+  after_take r0 r1 old now then s before t after n so connected (inr h) = elim so.held
+      as (λ _. Sofar holds own titles r0 r1 old then t after n) [
+        | inl hand ↦ took_piece r0 r1 old now then s before t after n so connected h hand
+        | inr dropped ↦ absurd (no_piece h.piece (subst (λ (k : List ℕ). IsPiece h.piece k) dropped.3 h.is))
+      ]
 
-  talk_of : (s : SessionState V) (heard : List Heard) (replies : List Reply) (done : List Deed) → Takes titles start heard replies done s.association → Talks titles opening heard replies done
+  talk_of : (s : SessionState V) (heard : List Heard) (replies : List Reply) (done : List Deed) → Takes titles start
+      heard replies done s.association → Talks titles opening heard replies done
   talk_of s heard replies done takes = takes_all titles start s.association heard replies done takes
 
   -- A front of one talk is a front of each that goes on from there.
-  whatever_comes : (heard : List Heard) (told replies : List Reply) (done : List Deed) (part : List ℕ) (all : List Deed) → IsFront told replies → Talks titles opening heard told all → Begins done part all
-      → (more : List Heard) (others : List Reply) (talked : List Deed) → Talks titles opening (heard ++ more) (replies ++ others) talked → Begins done part talked
+  whatever_comes : (heard : List Heard) (told replies : List Reply) (done : List Deed) (part : List ℕ) (all : List Deed)
+      → IsFront told replies → Talks titles opening heard told all → Begins done part all
+      → (more : List Heard) (others : List Reply) (talked : List Deed) → Talks titles opening (heard ++ more)
+      (replies ++ others) talked → Begins done part talked
   whatever_comes heard told replies done part all first talk front more others talked later =
       begun_more done part all talked front
       (talks_front titles opening heard more told (first.0 ++ others) all talked talk
-      (subst (λ (t : List Reply). Talks titles opening (heard ++ more) t talked) (ap (λ (t : List Reply). t ++ others) first.1 ∙ append_assoc told first.0 others) later))
+      (subst (λ (t : List Reply). Talks titles opening (heard ++ more) t talked) (ap (λ (t : List Reply). t ++ others)
+      first.1 ∙ append_assoc told first.0 others) later))
 
   -- what is done is a front of itself
-  pub stopped : (r0 r1 r2 : Option (List ℕ)) (old now : Sides P) (s : SessionState V) (intake : Intake) (n : ℕ) → Sofar holds own titles r0 r1 old now s intake n → Consumes r1 r2 [] → FrontOfOutput holds own titles r0 r2 old now
+  pub stopped : (r0 r1 r2 : Option (List ℕ)) (old now : Sides P) (s : SessionState V) (intake : Intake) (n : ℕ)
+      → Sofar holds own titles r0 r1 old now s intake n → Consumes r1 r2 [] → FrontOfOutput holds own titles r0 r2 old
+      now
   stopped r0 r1 r2 old now s intake n so none = record {
     text = so.text ++ [];
     read = read_further r0 r1 r2 so.text [] so.read none;
@@ -374,19 +485,27 @@ module _ {P V : Type 0} (holds : P → Op → Type 0) (own : P → List (List �
     all = so.done;
     talk = talk_of s so.heard so.replies so.done so.takes;
     front = all_begun so.done;
-    whatever = whatever_comes so.heard so.replies so.replies so.done [] so.done (all_front so.replies) (talk_of s so.heard so.replies so.done so.takes) (all_begun so.done);
+    whatever = whatever_comes so.heard so.replies so.replies so.done [] so.done (all_front so.replies)
+        (talk_of s so.heard so.replies so.done so.takes) (all_begun so.done);
   }
 
-  some_front : (s : SessionState V) (counted : ℕ) (piece : Piece) (heard : List Heard) → s.association.within.state ≢ Sta1 → HearsPart titles (place_of s.association) (event_of piece) heard → HearsFront titles (course_at s counted) piece heard
+  some_front : (s : SessionState V) (counted : ℕ) (piece : Piece) (heard : List Heard) → s.association.within.state ≢
+      Sta1 → HearsPart titles (place_of s.association) (event_of piece) heard → HearsFront titles (course_at s counted)
+      piece heard
   some_front s counted piece heard connected (inl none) = inl none
   some_front s counted piece heard connected (inr some) = inr (some.0, some.1, connected, some.2)
 
-  broke_piece : (r0 r1 : Option (List ℕ)) (old now then : Sides P) (s : SessionState V) (intake : Intake) (n : ℕ) (so : Sofar holds own titles r0 r1 old now s intake n) → s.association.within.state ≢ Sta1 → (piece : Piece) → IsPiece piece intake.inbox.text
-      → HeardFront holds own titles now then s.association (event_of piece) → IsInHand intake so.pieces so.rest so.counted → FrontOfOutput holds own titles r0 r1 old then
+  broke_piece : (r0 r1 : Option (List ℕ)) (old now then : Sides P) (s : SessionState V) (intake : Intake) (n : ℕ)
+      (so : Sofar holds own titles r0 r1 old now s intake n) → s.association.within.state ≢ Sta1 → (piece : Piece)
+      → IsPiece piece intake.inbox.text
+      → HeardFront holds own titles now then s.association (event_of piece) → IsInHand intake so.pieces so.rest
+      so.counted → FrontOfOutput holds own titles r0 r1 old then
   broke_piece r0 r1 old now then s intake n so connected piece is f hand =
       let here : IsPiece piece so.rest = subst (λ (k : List ℕ). IsPiece piece k) (sym hand.2) is in
-      let takes = takes_then titles start s.association f.to so.heard f.heard so.replies f.told so.done f.all so.takes f.takes in
-      let talk : Talks titles opening (so.heard ++ f.heard) (so.replies ++ f.told) (so.done ++ f.all) = takes_all titles start f.to (so.heard ++ f.heard) (so.replies ++ f.told) (so.done ++ f.all) takes in
+      let takes = takes_then titles start s.association f.to so.heard f.heard so.replies f.told so.done f.all so.takes
+      f.takes in
+      let talk : Talks titles opening (so.heard ++ f.heard) (so.replies ++ f.told) (so.done ++ f.all) = takes_all titles
+      start f.to (so.heard ++ f.heard) (so.replies ++ f.told) (so.done ++ f.all) takes in
       let first = front_behind so.replies f.told f.replies f.first in
       let front = begun_behind so.done f.done f.part f.all f.front in
       record {
@@ -416,33 +535,44 @@ module _ {P V : Type 0} (holds : P → Op → Type 0) (own : P → List (List �
         all = so.done ++ f.all;
         talk = talk;
         front = front;
-        whatever = whatever_comes (so.heard ++ f.heard) (so.replies ++ f.told) (so.replies ++ f.replies) (so.done ++ f.done) f.part (so.done ++ f.all) first talk front;
+        whatever = whatever_comes (so.heard ++ f.heard) (so.replies ++ f.told) (so.replies ++ f.replies)
+            (so.done ++ f.done) f.part (so.done ++ f.all) first talk front;
       }
 
-  pub broken : (r0 r1 : Option (List ℕ)) (old now then : Sides P) (s : SessionState V) (intake : Intake) (n : ℕ) → Sofar holds own titles r0 r1 old now s intake n → s.association.within.state ≢ Sta1
+  pub broken : (r0 r1 : Option (List ℕ)) (old now then : Sides P) (s : SessionState V) (intake : Intake) (n : ℕ)
+      → Sofar holds own titles r0 r1 old now s intake n → s.association.within.state ≢ Sta1
       → TakingBroke holds own titles now then s intake → FrontOfOutput holds own titles r0 r1 old then
-  broken r0 r1 old now then s intake n so connected (inl same) = subst (λ (k : Sides P). FrontOfOutput holds own titles r0 r1 old k) (sym same) (stopped r0 r1 r1 old now s intake n so (nothing_read r1))
-  broken r0 r1 old now then s intake n so connected (inr b) = elim so.held as (λ _. FrontOfOutput holds own titles r0 r1 old then) [
-    | inl hand ↦ broke_piece r0 r1 old now then s intake n so connected b.0 b.1 b.2 hand
-    | inr dropped ↦ absurd (no_piece b.0 (subst (λ (k : List ℕ). IsPiece b.0 k) dropped.3 b.1))
-  ]
+  broken r0 r1 old now then s intake n so connected (inl same) = subst (λ (k : Sides P). FrontOfOutput holds own titles
+      r0 r1 old k) (sym same) (stopped r0 r1 r1 old now s intake n so (nothing_read r1))
+  broken r0 r1 old now then s intake n so connected (inr b) = elim so.held as (λ _. FrontOfOutput holds own titles r0 r1
+      old then) [
+        | inl hand ↦ broke_piece r0 r1 old now then s intake n so connected b.0 b.1 b.2 hand
+        | inr dropped ↦ absurd (no_piece b.0 (subst (λ (k : List ℕ). IsPiece b.0 k) dropped.3 b.1))
+      ]
 
-  over_by : (c : Course V) (rest : List ℕ) (r : Option (List ℕ)) (counted : ℕ) → all_counted c rest ≡ counted → (c.place.within.state ≡ Sta1) ⊎ ((counted ≡ MOST_DROPPED) ⊎ IsAtEnd r) → IsOver c rest r
+  over_by : (c : Course V) (rest : List ℕ) (r : Option (List ℕ)) (counted : ℕ) → all_counted c rest ≡ counted
+      → (c.place.within.state ≡ Sta1) ⊎ ((counted ≡ MOST_DROPPED) ⊎ IsAtEnd r) → IsOver c rest r
   over_by c rest r counted all (inl closed) = inl closed
   over_by c rest r counted all (inr (inl full)) = inr (inl (all ∙ full))
   over_by c rest r counted all (inr (inr end)) = inr (inr end)
 
   -- Where the connection is closed nothing is in hand, so nothing is left.
-  none_left : (intake : Intake) (state : State) (pieces : List Piece) (rest : List ℕ) (counted : ℕ) → (state ≡ Sta1 → intake.inbox.text ≡ []) → IsInHand intake pieces rest counted ⊎ IsDropped intake state pieces rest counted → state ≡ Sta1 → rest ≡ []
+  none_left : (intake : Intake) (state : State) (pieces : List Piece) (rest : List ℕ) (counted : ℕ)
+      → (state ≡ Sta1 → intake.inbox.text ≡ []) → IsInHand intake pieces rest counted ⊎ IsDropped intake state pieces
+      rest counted → state ≡ Sta1 → rest ≡ []
   none_left intake state pieces rest counted empty (inl hand) closed = hand.2 ∙ empty closed
   none_left intake state pieces rest counted empty (inr dropped) closed = absurd (let e = sym closed ∙ dropped.4 in cc)
 
-  pub finished : (r0 r1 : Option (List ℕ)) (old now : Sides P) (s : SessionState V) (intake : Intake) (n : ℕ) (end : End) → Sofar holds own titles r0 r1 old now s intake n → IsUnfinished intake.inbox.text
-      → (s.association.within.state ≡ Sta1) ⊎ ((counted_in intake s.association.within.state ≡ MOST_DROPPED) ⊎ IsAtEnd r1) → (s.association.within.state ≡ Sta1 → intake.inbox.text ≡ [])
-      → end ≡ end_in (counted_in intake s.association.within.state) s.aborted s.released → Output holds own titles r0 r1 old now end
+  pub finished : (r0 r1 : Option (List ℕ)) (old now : Sides P) (s : SessionState V) (intake : Intake) (n : ℕ)
+      (end : End) → Sofar holds own titles r0 r1 old now s intake n → IsUnfinished intake.inbox.text
+      → (s.association.within.state ≡ Sta1) ⊎ ((counted_in intake s.association.within.state ≡ MOST_DROPPED)
+      ⊎ IsAtEnd r1) → (s.association.within.state ≡ Sta1 → intake.inbox.text ≡ [])
+      → end ≡ end_in (counted_in intake s.association.within.state) s.aborted s.released → Output holds own titles r0 r1
+      old now end
   finished r0 r1 old now s intake n end so unfinished over empty ends =
       let c = course_at s so.counted in
-      let all : all_counted c so.rest ≡ counted_in intake s.association.within.state = counted_is s.association.within.state so.counted intake so.pieces so.rest so.held in
+      let all : all_counted c so.rest ≡ counted_in intake s.association.within.state = counted_is
+      s.association.within.state so.counted intake so.pieces so.rest so.held in
       record {
         text = so.text;
         read = so.read;
@@ -460,11 +590,13 @@ module _ {P V : Type 0} (holds : P → Op → Type 0) (own : P → List (List �
         within = rw all so.within;
         over = over_by c so.rest r1 (counted_in intake s.association.within.state) all over;
         closed = none_left intake s.association.within.state so.pieces so.rest so.counted empty so.held;
-        ended = ends ∙ ap (λ (k : ℕ). end_in k s.aborted s.released) (sym all) ∙ ap (λ (b : Bool). end_in (all_counted c so.rest) b s.released) so.aborted
+        ended = ends ∙ ap (λ (k : ℕ). end_in k s.aborted s.released) (sym all)
+            ∙ ap (λ (b : Bool). end_in (all_counted c so.rest) b s.released) so.aborted
             ∙ ap (λ (b : Bool). end_in (all_counted c so.rest) (was_aborted so.pieces so.done) b) so.released;
       }
 
-  pub fewer_reads : (r0 r1 : Option (List ℕ)) (old now : Sides P) (s : SessionState V) (intake : Intake) (m n : ℕ) → Sofar holds own titles r0 r1 old now s intake n → m ≤ n → Sofar holds own titles r0 r1 old now s intake m
+  pub fewer_reads : (r0 r1 : Option (List ℕ)) (old now : Sides P) (s : SessionState V) (intake : Intake) (m n : ℕ)
+      → Sofar holds own titles r0 r1 old now s intake n → m ≤ n → Sofar holds own titles r0 r1 old now s intake m
   fewer_reads r0 r1 old now s intake m n so few = record {
     text = so.text;
     read = so.read;
@@ -485,51 +617,79 @@ module _ {P V : Type 0} (holds : P → Op → Type 0) (own : P → List (List �
     released = so.released;
   }
 
-  pub unfinished_after : (now then : Sides P) (s : SessionState V) (before : Intake) (t : SessionState V) (after : Intake) → TakesHand holds own titles now then s before t after → IsUnfinished after.inbox.text
+  pub unfinished_after : (now then : Sides P) (s : SessionState V) (before : Intake) (t : SessionState V)
+      (after : Intake) → TakesHand holds own titles now then s before t after → IsUnfinished after.inbox.text
   unfinished_after now then s before t after (inl none) = none.6
-  unfinished_after now then s before t after (inr h) = subst (λ (k : InHand). IsUnfinished k.text) (sym h.empty) (inl (omega arith))
+  unfinished_after now then s before t after (inr h) = subst (λ (k : InHand). IsUnfinished k.text) (sym h.empty)
+      (inl (omega arith))
 
   -- Behind the piece that closes the connection nothing is in hand.
-  pub empty_after : (now then : Sides P) (s : SessionState V) (before : Intake) (t : SessionState V) (after : Intake) → s.association.within.state ≢ Sta1 → TakesHand holds own titles now then s before t after
+  pub empty_after : (now then : Sides P) (s : SessionState V) (before : Intake) (t : SessionState V) (after : Intake)
+      → s.association.within.state ≢ Sta1 → TakesHand holds own titles now then s before t after
       → t.association.within.state ≡ Sta1 → after.inbox.text ≡ []
-  empty_after now then s before t after connected (inl none) closed = absurd (connected (sym (ap (λ (k : SessionState V). k.association.within.state) none.1) ∙ closed))
+  empty_after now then s before t after connected (inl none) closed =
+      absurd (connected (sym (ap (λ (k : SessionState V). k.association.within.state) none.1) ∙ closed))
   empty_after now then s before t after connected (inr h) closed = ap (λ (k : InHand). k.text) h.empty
 
-  ready_idle : (now then : Sides P) (s : SessionState V) (before : Intake) (t : SessionState V) (after : Intake) → s.association.awaited ≡ None → TakesHand holds own titles now then s before t after → t.association.awaited ≡ None
-  ready_idle now then s before t after idle (inl none) = ap (λ (k : SessionState V). k.association.awaited) none.1 ∙ idle
+  ready_idle : (now then : Sides P) (s : SessionState V) (before : Intake) (t : SessionState V) (after : Intake)
+      → s.association.awaited ≡ None → TakesHand holds own titles now then s before t after
+      → t.association.awaited ≡ None
+  ready_idle now then s before t after idle (inl none) = ap (λ (k : SessionState V). k.association.awaited) none.1
+      ∙ idle
   ready_idle now then s before t after idle (inr h) = h.heard.idle
 
-  ready_finished : (now then : Sides P) (s : SessionState V) (before : Intake) (t : SessionState V) (after : Intake) → is_left s.association.within.state s.association.queue ≡ false → TakesHand holds own titles now then s before t after
+  ready_finished : (now then : Sides P) (s : SessionState V) (before : Intake) (t : SessionState V) (after : Intake)
+      → is_left s.association.within.state s.association.queue ≡ false → TakesHand holds own titles now then s before t
+      after
       → is_left t.association.within.state t.association.queue ≡ false
-  ready_finished now then s before t after finished (inl none) = ap (λ (k : SessionState V). is_left k.association.within.state k.association.queue) none.1 ∙ finished
+  ready_finished now then s before t after finished (inl none) =
+      ap (λ (k : SessionState V). is_left k.association.within.state k.association.queue) none.1 ∙ finished
   ready_finished now then s before t after finished (inr h) = h.heard.finished
 
-  dropped_piece : (piece : Piece) (old new : Place V) (heard : List Heard) → old.within.state ≢ Sta1 → Hears titles old (event_of piece) heard new → is_whole piece ≡ false → new.within.state ≡ Sta13
+  dropped_piece : (piece : Piece) (old new : Place V) (heard : List Heard) → old.within.state ≢ Sta1
+      → Hears titles old (event_of piece) heard new → is_whole piece ≡ false → new.within.state ≡ Sta13
   dropped_piece (Whole p n) old new heard connected h faulty = absurd cc
   dropped_piece (Faulty f n) old new heard connected h faulty = dropped_state titles old f heard new connected h
 
-  dropping_after : (now then : Sides P) (s : SessionState V) (before : Intake) (t : SessionState V) (after : Intake) → s.association.within.state ≢ Sta1 → (before.is_cut ≡ false → s.association.within.state ≡ Sta13)
+  dropping_after : (now then : Sides P) (s : SessionState V) (before : Intake) (t : SessionState V) (after : Intake)
+      → s.association.within.state ≢ Sta1 → (before.is_cut ≡ false → s.association.within.state ≡ Sta13)
       → TakesHand holds own titles now then s before t after → after.is_cut ≡ false → t.association.within.state ≡ Sta13
-  dropping_after now then s before t after connected dropping (inl none) cut = ap (λ (k : SessionState V). k.association.within.state) none.1 ∙ dropping (sym none.2 ∙ cut)
+  dropping_after now then s before t after connected dropping (inl none) cut =
+      ap (λ (k : SessionState V). k.association.within.state) none.1 ∙ dropping (sym none.2 ∙ cut)
   dropping_after now then s before t after connected dropping (inr h) cut =
-      dropped_piece h.piece (place_of s.association) (place_of t.association) h.heard.heard connected h.heard.hears (sym h.cut ∙ cut)
+      dropped_piece h.piece (place_of s.association) (place_of t.association) h.heard.heard connected h.heard.hears
+      (sym h.cut ∙ cut)
 
-  short_after : (now then : Sides P) (s : SessionState V) (before : Intake) (t : SessionState V) (after : Intake) → TakesHand holds own titles now then s before t after → length after.inbox.text < after.inbox.wanted
+  short_after : (now then : Sides P) (s : SessionState V) (before : Intake) (t : SessionState V) (after : Intake)
+      → TakesHand holds own titles now then s before t after → length after.inbox.text < after.inbox.wanted
   short_after now then s before t after (inl none) = none.5
-  short_after now then s before t after (inr h) = subst (λ (k : InHand). length k.text < k.wanted) (sym h.empty) (omega arith)
+  short_after now then s before t after (inr h) = subst (λ (k : InHand). length k.text < k.wanted) (sym h.empty)
+      (omega arith)
 
-  within_after : (now then : Sides P) (s : SessionState V) (before : Intake) (t : SessionState V) (after : Intake) → counted_in before s.association.within.state ≤ MOST_DROPPED → TakesHand holds own titles now then s before t after
+  within_after : (now then : Sides P) (s : SessionState V) (before : Intake) (t : SessionState V) (after : Intake)
+      → counted_in before s.association.within.state ≤ MOST_DROPPED → TakesHand holds own titles now then s before t
+      after
       → counted_in after t.association.within.state ≤ MOST_DROPPED
   within_after now then s before t after within (inl none) =
-      subst (λ (k : SessionState V). counted_in after k.association.within.state ≤ MOST_DROPPED) (sym none.1) (rw (none.3, none.4) within)
+      subst (λ (k : SessionState V). counted_in after k.association.within.state ≤ MOST_DROPPED) (sym none.1)
+      (rw (none.3, none.4) within)
   within_after now then s before t after within (inr h) =
       let empty : after.inbox.text ≡ [] = ap (λ (k : InHand). k.text) h.empty in
       let size = long_of h.piece before.inbox.text h.is in
-      omega (arith, counted_empty after t.association.within.state empty, h.counted, ap (λ (k : ℕ). counts s.association.within.state k) size, within)
+      omega (
+        arith,
+        counted_empty after t.association.within.state empty,
+        h.counted,
+        ap (λ (k : ℕ). counts s.association.within.state k) size,
+        within,
+      )
 
   -- a turn that goes on
-  pub ready_after : (now then : Sides P) (s : SessionState V) (before : Intake) (t : SessionState V) (after : Intake) → s.association.awaited ≡ None → is_left s.association.within.state s.association.queue ≡ false
-      → s.association.within.state ≢ Sta1 → (before.is_cut ≡ false → s.association.within.state ≡ Sta13) → counted_in before s.association.within.state ≤ MOST_DROPPED → TakesHand holds own titles now then s before t after
+  pub ready_after : (now then : Sides P) (s : SessionState V) (before : Intake) (t : SessionState V) (after : Intake)
+      → s.association.awaited ≡ None → is_left s.association.within.state s.association.queue ≡ false
+      → s.association.within.state ≢ Sta1 → (before.is_cut ≡ false → s.association.within.state ≡ Sta13)
+      → counted_in before s.association.within.state ≤ MOST_DROPPED → TakesHand holds own titles now then s before t
+      after
       → is_over t.association.within.state (counted_in after t.association.within.state) ≡ false → IsReady t after
   ready_after now then s before t after idle finished connected dropping within takes over =
       let more = not_over t.association.within.state (counted_in after t.association.within.state) over in
@@ -544,7 +704,8 @@ module _ {P V : Type 0} (holds : P → Op → Type 0) (own : P → List (List �
       }
 
 -- A read that dropped bytes is one of a stream that is no longer cut.
-pub read_dropping : (r0 r1 : Option (List ℕ)) (state : State) (before after : Intake) (count : ℕ) → (before.is_cut ≡ false → state ≡ Sta13) → Reads r0 r1 before count after → after.is_cut ≡ false → state ≡ Sta13
+pub read_dropping : (r0 r1 : Option (List ℕ)) (state : State) (before after : Intake) (count : ℕ)
+    → (before.is_cut ≡ false → state ≡ Sta13) → Reads r0 r1 before count after → after.is_cut ≡ false → state ≡ Sta13
 read_dropping r0 r1 state before after count dropping r cut = elim r.brought as (λ _. state ≡ Sta13) [
   | inl adds ↦ absurd (let e = sym cut ∙ adds.1 in cc)
   | inr drops ↦ dropping drops.0
@@ -555,13 +716,18 @@ no_bytes [] none = refl
 no_bytes (b ∷ bytes) none = absurd (omega (arith, none))
 
 -- a read that brought nothing
-still_unfinished : (before after : Intake) (bytes : List ℕ) → bytes ≡ [] → Adds before bytes after ⊎ Drops before bytes after → IsUnfinished before.inbox.text → IsUnfinished after.inbox.text
+still_unfinished : (before after : Intake) (bytes : List ℕ) → bytes ≡ [] → Adds before bytes after ⊎ Drops before bytes
+    after → IsUnfinished before.inbox.text → IsUnfinished after.inbox.text
 still_unfinished before after bytes none (inl adds) unfinished =
-    subst (λ (t : List ℕ). IsUnfinished t) (sym (adds.3 ∙ ap (λ (t : List ℕ). before.inbox.text ++ t) none ∙ append-nil before.inbox.text)) unfinished
-still_unfinished before after bytes none (inr drops) unfinished = subst (λ (k : InHand). IsUnfinished k.text) (sym drops.3) unfinished
+    subst (λ (t : List ℕ). IsUnfinished t) (sym (adds.3 ∙ ap (λ (t : List ℕ). before.inbox.text ++ t) none
+    ∙ append-nil before.inbox.text)) unfinished
+still_unfinished before after bytes none (inr drops) unfinished = subst (λ (k : InHand). IsUnfinished k.text)
+    (sym drops.3) unfinished
 
-pub nothing_more : (r0 r1 : Option (List ℕ)) (before after : Intake) (count : ℕ) → Reads r0 r1 before count after → count ≡ 0 → IsUnfinished before.inbox.text → IsUnfinished after.inbox.text
-nothing_more r0 r1 before after count r none unfinished = still_unfinished before after r.bytes (no_bytes r.bytes (r.long ∙ none)) r.brought unfinished
+pub nothing_more : (r0 r1 : Option (List ℕ)) (before after : Intake) (count : ℕ) → Reads r0 r1 before count after
+    → count ≡ 0 → IsUnfinished before.inbox.text → IsUnfinished after.inbox.text
+nothing_more r0 r1 before after count r none unfinished = still_unfinished before after
+    r.bytes (no_bytes r.bytes (r.long ∙ none)) r.brought unfinished
 
 full_of : (counted : ℕ) → (counted == MOST_DROPPED) ≡ true → counted ≡ MOST_DROPPED
 full_of counted e = eqb-true counted MOST_DROPPED e
@@ -581,7 +747,8 @@ starts_ready {V = W} s is = record {
   idle = ap (λ (k : AssociationState W). k.awaited) is;
   finished = ap (λ (k : AssociationState W). is_left k.within.state k.queue) is;
   connected = λ e. let f = sym e ∙ ap (λ (k : AssociationState W). k.within.state) is in cc;
-  room = subst (λ (k : AssociationState W). counted_in NOTHING_READ k.within.state < MOST_DROPPED) (sym is) (omega arith);
+  room = subst (λ (k : AssociationState W). counted_in NOTHING_READ k.within.state < MOST_DROPPED) (sym is)
+      (omega arith);
   short = omega arith;
   unfinished = inl (omega arith);
   dropping = λ e. absurd cc;

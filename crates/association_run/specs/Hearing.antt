@@ -1,4 +1,5 @@
--- What an association hears of what it reads: PDUs, and the messages that the values of a P-DATA-TF end (PS3.8, E; PS3.7, 6.3).
+-- What an association hears of what it reads: PDUs, and the messages that the values of a P-DATA-TF end (PS3.8, E;
+-- PS3.7, 6.3).
 use Rattle.std.specs.Prelude.{◌≡◌, ◌≢◌, ◌⊎◌, ℕ, ◌+◌, List, [], ◌∷◌, ◌++◌, Option, Result}
 use Rattle.pdu.specs.declared.pdv.Pdv.{Pdv}
 use Rattle.ul_state.specs.declared.event.Event.{Event}
@@ -37,7 +38,8 @@ entered_at titles p event = record {
 -- ---- what values say
 
 -- The first of these values were put together, and say this; the others are left.
-pub record Says {V : Type 0} (titles : List (Title V)) (old : Place V) (values : List Pdv) (said : List Heard) (left : List Pdv) (new : Place V) : Type 0 where
+pub record Says {V : Type 0} (titles : List (Title V)) (old : Place V) (values : List Pdv) (said : List Heard)
+    (left : List Pdv) (new : Place V) : Type 0 where
   pub fed : List Pdv
   pub answers : List (Result (Option Message) DimseFault)
   pub parts : values ≡ fed ++ left
@@ -49,14 +51,16 @@ pub record Says {V : Type 0} (titles : List (Title V)) (old : Place V) (values :
 -- ---- what is heard of a PDU
 
 -- the PDU, and what the first of its values say where they are handed on
-pub record HearsSome {V : Type 0} (titles : List (Title V)) (old : Place V) (event : Event) (heard : List Heard) (left : List Pdv) (new : Place V) : Type 0 where
+pub record HearsSome {V : Type 0} (titles : List (Title V)) (old : Place V) (event : Event) (heard : List Heard)
+    (left : List Pdv) (new : Place V) : Type 0 where
   pub said : List Heard
   pub is : heard ≡ Met event ∷ said
   pub values : Says titles (entered_at titles old event) (handed_on titles old.within.state event) said left new
 
 -- While the association is established no value is left.
 abbrev pub Hears : {V : Type 0} → List (Title V) → Place V → Event → List Heard → Place V → Type 0
-Hears titles old event heard new = (left : List Pdv) × HearsSome titles old event heard left new × (new.within.state ≡ Sta6 → left ≡ [])
+Hears titles old event heard new = (left : List Pdv) × HearsSome titles old event heard left new
+    × (new.within.state ≡ Sta6 → left ≡ [])
 
 -- ---- what is heard of all that is read
 
@@ -85,14 +89,16 @@ TakesPiece titles c piece heard end =
 abbrev pub TakesPieces : {V : Type 0} → List (Title V) → Course V → List Piece → List Heard → Course V → Type 0
 TakesPieces titles c [] heard end = (heard ≡ []) × (end ≡ c)
 TakesPieces {V = W} titles c (piece ∷ pieces) heard end =
-    (mid : Course W) × (now rest : List Heard) × TakesPiece titles c piece now mid × TakesPieces titles mid pieces rest end × (heard ≡ now ++ rest)
+    (mid : Course W) × (now rest : List Heard) × TakesPiece titles c piece now mid × TakesPieces titles mid pieces rest
+    end × (heard ≡ now ++ rest)
 
 -- ---- a front of it
 
 -- Nothing was heard of a piece, or the PDU and what the first of its values say.
 abbrev pub HearsFront : {V : Type 0} → List (Title V) → Course V → Piece → List Heard → Type 0
 HearsFront {V = W} titles c piece some =
-    (some ≡ []) ⊎ ((left : List Pdv) × (new : Place W) × (c.place.within.state ≢ Sta1) × HearsSome titles c.place (event_of piece) some left new)
+    (some ≡ []) ⊎ ((left : List Pdv) × (new : Place W) × (c.place.within.state ≢ Sta1)
+    × HearsSome titles c.place (event_of piece) some left new)
 
 -- Of the pieces behind those that were heard whole, nothing was heard but a front of the first.
 abbrev pub TakesFront : {V : Type 0} → List (Title V) → Course V → List Piece → List Heard → Type 0

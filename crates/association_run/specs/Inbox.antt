@@ -40,7 +40,8 @@ pub record ReadsOn (r0 r1 : Option (List ℕ)) (old : InHand) (most count : ℕ)
   pub few : count ≤ most
   pub end : count ≡ 0 → IsAtEnd r1
 
--- A text that ends where a header ends, or where it says, is the front of a PDU or a piece. A PDU that was read can be written.
+-- A text that ends where a header ends, or where it says, is the front of a PDU or a piece. A PDU that was read can be
+-- written.
 abbrev pub Finds : List ℕ → Option Piece → Type 0
 Finds text None = IsUnfinished text
 Finds text (Some piece) = IsPiece piece text × HasLawfulPdu (event_of piece)

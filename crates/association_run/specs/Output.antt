@@ -1,5 +1,6 @@
 -- What a whole run does, for what it read and what the port replied.
-use Rattle.std.specs.Prelude.{◌≡◌, ◌≤◌, ◌⊎◌, ℕ, ◌+◌, Bool, true, false, ◌||◌, List, [], ◌++◌, Option, length, if◌then◌else◌, ◌==◌}
+use Rattle.std.specs.Prelude.{◌≡◌, ◌≤◌, ◌⊎◌, ℕ, ◌+◌, Bool, true, false, ◌||◌, List, [], ◌++◌, Option, length}
+use Rattle.std.specs.Prelude.{if◌then◌else◌, ◌==◌}
 use Rattle.std.specs.List.{list_any}
 use Rattle.std.specs.Io.KnownBytes.{Consumes, IsAtEnd}
 use Rattle.pdu.specs.Grammar.{IsUnfinished}
@@ -73,7 +74,8 @@ IsOver course rest remaining = (course.place.within.state ≡ Sta1) ⊎ (IsFull 
 -- ---- a whole run
 
 -- All the deeds for what was read and replied were done, in order, and no others, however the reads were cut.
-pub record Output {P V : Type 0} (holds : P → Op → Type 0) (own : P → List (List ℕ)) (titles : List (Title V)) (r0 r1 : Option (List ℕ)) (old new : Sides P) (end : End) : Type 0 where
+pub record Output {P V : Type 0} (holds : P → Op → Type 0) (own : P → List (List ℕ)) (titles : List (Title V))
+    (r0 r1 : Option (List ℕ)) (old new : Sides P) (end : End) : Type 0 where
   pub text : List ℕ
   pub read : Consumes r0 r1 text
   pub pieces : List Piece
@@ -94,7 +96,8 @@ pub record Output {P V : Type 0} (holds : P → Op → Type 0) (own : P → List
   pub ended : end ≡ end_in (all_counted course rest) (was_aborted pieces done) (was_released done)
 
 -- A front of it, after a fault.
-pub record FrontOfOutput {P V : Type 0} (holds : P → Op → Type 0) (own : P → List (List ℕ)) (titles : List (Title V)) (r0 r1 : Option (List ℕ)) (old new : Sides P) : Type 0 where
+pub record FrontOfOutput {P V : Type 0} (holds : P → Op → Type 0) (own : P → List (List ℕ)) (titles : List (Title V))
+    (r0 r1 : Option (List ℕ)) (old new : Sides P) : Type 0 where
   pub text : List ℕ
   pub read : Consumes r0 r1 text
   pub pieces : List Piece
@@ -114,7 +117,8 @@ pub record FrontOfOutput {P V : Type 0} (holds : P → Op → Type 0) (own : P �
   pub talk : Talks titles opening heard told all
   pub front : Begins done part all
   -- and of those for all that may be heard later, and for every reply of a call that was not made.
-  pub whatever : (more : List Heard) (others : List Reply) (talked : List Deed) → Talks titles opening (heard ++ more) (replies ++ others) talked → Begins done part talked
+  pub whatever : (more : List Heard) (others : List Reply) (talked : List Deed) → Talks titles opening (heard ++ more)
+      (replies ++ others) talked → Begins done part talked
 
 -- at least so many bytes were read
 abbrev pub ReadAtLeast : ℕ → Option (List ℕ) → Option (List ℕ) → Type 0

@@ -11,7 +11,8 @@ use Rattle.association_session.specs.declared.reply.Reply.{Reply}
 use Rattle.association_session.specs.Projections.{IsFront, sent_in, moments_in, calls_in}
 use Rattle.association_run.specs.Port.{History}
 
--- The gate was reached at these moments. A gate that keeps none says nothing, nor does one from the moment on that it could not keep.
+-- The gate was reached at these moments. A gate that keeps none says nothing, nor does one from the moment on that it
+-- could not keep.
 abbrev pub Passed : Option (List Moment) → Option (List Moment) → List Moment → Type 0
 Passed None None moments = ⊤
 Passed None (Some after) moments = ⊥
@@ -32,7 +33,8 @@ abbrev pub bytes_in : List Deed → List ℕ
 bytes_in deeds = flat_map text_of (sent_in deeds)
 
 -- Just these deeds were done, in order, and then these bytes were written; the port replied so to the calls.
-pub record Did {P : Type 0} (holds : P → Op → Type 0) (own : P → List (List ℕ)) (old new : Sides P) (done : List Deed) (cut : List ℕ) (replies : List Reply) : Type 0 where
+pub record Did {P : Type 0} (holds : P → Op → Type 0) (own : P → List (List ℕ)) (old new : Sides P) (done : List Deed)
+    (cut : List ℕ) (replies : List Reply) : Type 0 where
   pub history : History holds own old.port (calls_in done) replies new.port
   pub appended : Appends old.written new.written (bytes_in done ++ cut)
   pub passed : Passed old.reached new.reached (moments_in done)

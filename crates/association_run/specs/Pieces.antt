@@ -11,7 +11,8 @@ use Rattle.association_run.specs.declared.piece.Piece.TheVariants.{Whole, Faulty
 
 -- ---- one piece
 
--- A text tells of a fault, and no byte of it stands behind what tells: a header, or for a malformed body the whole PDU. Want of memory is no
+-- A text tells of a fault, and no byte of it stands behind what tells: a header, or for a malformed body the whole PDU.
+-- Want of memory is no
 -- fault of a text.
 abbrev pub TellsOf : PduFault → List ℕ → Type 0
 TellsOf UnknownType text = HasHeaderFault UnknownType text × (length text ≡ HEADER_LENGTH)

@@ -26,7 +26,8 @@ Leaves Collision before digest after = after ≡ before
 Leaves Shelf before digest after = after ≡ before
 
 -- how a store ends
-pub record Stores {P : Type 0} (holds : P → Op → Type 0) (own : P → List (List ℕ)) (before : P) (content : ContentParts) (reply : Result Taken PortFault) (after : P) : Type 0 where
+pub record Stores {P : Type 0} (holds : P → Op → Type 0) (own : P → List (List ℕ)) (before : P) (content : ContentParts)
+    (reply : Result Taken PortFault) (after : P) : Type 0 where
   -- no operation that is held is lost
   pub kept : (op : Op) → holds before op → holds after op
   -- a content that was taken, new or known, is held, and its digest stands at the end of the list once more
@@ -45,4 +46,5 @@ abbrev pub History : {P : Type 0} → (P → Op → Type 0) → (P → List (Lis
 History holds own before [] [] after = after ≡ before
 History holds own before [] (reply ∷ replies) after = ⊥
 History holds own before (call ∷ calls) [] after = ⊥
-History {P = P} holds own before (call ∷ calls) (reply ∷ replies) after = (mid : P) × Replies holds own before call reply mid × History holds own mid calls replies after
+History {P = P} holds own before (call ∷ calls) (reply ∷ replies) after = (mid : P) × Replies holds own before call
+    reply mid × History holds own mid calls replies after

@@ -12,7 +12,9 @@ use Rattle.association_session.specs.declared.event.SessionEvent.TheVariants as 
 use Rattle.association_session.specs.declared.reply.Reply.{Reply}
 use Rattle.association_session.specs.Projections.{IsFront}
 use Rattle.association_session.specs.Response.{Awaited}
-use Rattle.association_session.specs.Session.{AssociationState, SessionState, Turned, Takes, IsFewer, IsSound, is_in_turn, is_left, is_abort, is_release, is_abort_event, aborted_by, released_by, met_in, replies_in}
+use Rattle.association_session.specs.Session.{AssociationState, SessionState, Turned, Takes, IsFewer, IsSound}
+use Rattle.association_session.specs.Session.{is_in_turn, is_left, is_abort, is_release, is_abort_event, aborted_by}
+use Rattle.association_session.specs.Session.{released_by, met_in, replies_in}
 use Rattle.association_session.specs.Talks.{Heard}
 use Rattle.association_run.specs.Hearing.{Place, Hears, HearsSome}
 use Rattle.association_run.specs.Parts.{Sides, Did, Begins}
@@ -27,7 +29,8 @@ Halts (Reach moment ∷ ds) = Halts ds
 
 -- A front of these deeds was done, and then this front of the next one's bytes was written; no call was made.
 abbrev pub BreaksOff : {P : Type 0} → (P → Op → Type 0) → (P → List (List ℕ)) → Sides P → Sides P → List Deed → Type 0
-BreaksOff holds own old new deeds = (done : List Deed) × (part : List ℕ) × Begins done part deeds × Did holds own old new done part []
+BreaksOff holds own old new deeds = (done : List Deed) × (part : List ℕ) × Begins done part deeds
+    × Did holds own old new done part []
 
 -- ---- one event of a session
 
@@ -41,10 +44,13 @@ Pends (Some awaited) (Some reply) = ⊤
 -- what comes next: the reply that is to be told, and else what is left of a P-DATA-TF
 abbrev pub IsNext : {V : Type 0} → AssociationState V → Option Reply → Option SessionEvent → Type 0
 IsNext s pending None = (pending ≡ None) × (is_in_turn s inputs.GoesOn ≡ false)
-IsNext s pending (Some event) = IsTrue (is_in_turn s event) × IsSound event × (met_in event ≡ []) × (replies_in event ≡ option_to_list pending)
+IsNext s pending (Some event) = IsTrue (is_in_turn s event) × IsSound event × (met_in event ≡ [])
+    × (replies_in event ≡ option_to_list pending)
 
 -- The session was told, and its deeds were done.
-pub record DidTurn {P V : Type 0} (holds : P → Op → Type 0) (own : P → List (List ℕ)) (titles : List (Title V)) (old new : Sides P) (from : SessionState V) (event : SessionEvent) (pending : Option Reply) (to : SessionState V) : Type 0 where
+pub record DidTurn {P V : Type 0} (holds : P → Op → Type 0) (own : P → List (List ℕ)) (titles : List (Title V))
+    (old new : Sides P) (from : SessionState V) (event : SessionEvent) (pending : Option Reply) (to : SessionState V)
+    : Type 0 where
   pub deeds : List Deed
   pub turned : Turned titles from.association event deeds to.association
   pub fewer : IsFewer event from.association.queue to.association.queue
@@ -53,14 +59,16 @@ pub record DidTurn {P V : Type 0} (holds : P → Op → Type 0) (own : P → Lis
   pub did : Did holds own old new deeds [] (option_to_list pending)
 
 -- The session was told, and a front of its deeds was done.
-pub record BrokeDeeds {P V : Type 0} (holds : P → Op → Type 0) (own : P → List (List ℕ)) (titles : List (Title V)) (old new : Sides P) (from : SessionState V) (event : SessionEvent) : Type 0 where
+pub record BrokeDeeds {P V : Type 0} (holds : P → Op → Type 0) (own : P → List (List ℕ)) (titles : List (Title V))
+    (old new : Sides P) (from : SessionState V) (event : SessionEvent) : Type 0 where
   pub deeds : List Deed
   pub to : AssociationState V
   pub turned : Turned titles from.association event deeds to
   pub broke : BreaksOff holds own old new deeds
 
 -- It was not told, for want of memory, or a front of the deeds was done.
-abbrev pub BrokeTurn : {P V : Type 0} → (P → Op → Type 0) → (P → List (List ℕ)) → List (Title V) → Sides P → Sides P → SessionState V → SessionEvent → Type 0
+abbrev pub BrokeTurn : {P V : Type 0} → (P → Op → Type 0) → (P → List (List ℕ)) → List (Title V) → Sides P → Sides P
+    → SessionState V → SessionEvent → Type 0
 BrokeTurn holds own titles old new from event = (new ≡ old) ⊎ BrokeDeeds holds own titles old new from event
 
 -- ---- one PDU
@@ -69,7 +77,8 @@ abbrev pub place_of : {V : Type 0} → AssociationState V → Place V
 place_of s = record { within = s.within; stage = s.stage }
 
 -- A PDU was heard whole, and all the deeds for it were done.
-pub record HeardWhole {P V : Type 0} (holds : P → Op → Type 0) (own : P → List (List ℕ)) (titles : List (Title V)) (old new : Sides P) (from : SessionState V) (event : Event) (to : SessionState V) : Type 0 where
+pub record HeardWhole {P V : Type 0} (holds : P → Op → Type 0) (own : P → List (List ℕ)) (titles : List (Title V))
+    (old new : Sides P) (from : SessionState V) (event : Event) (to : SessionState V) : Type 0 where
   pub heard : List Heard
   pub replies : List Reply
   pub done : List Deed
@@ -83,10 +92,12 @@ pub record HeardWhole {P V : Type 0} (holds : P → Op → Type 0) (own : P → 
 
 -- Nothing was heard of a PDU, or itself and what the first of its values say.
 abbrev pub HearsPart : {V : Type 0} → List (Title V) → Place V → Event → List Heard → Type 0
-HearsPart {V = W} titles place event heard = (heard ≡ []) ⊎ ((left : List Pdv) × (new : Place W) × HearsSome titles place event heard left new)
+HearsPart {V = W} titles place event heard = (heard ≡ []) ⊎ ((left : List Pdv) × (new : Place W)
+    × HearsSome titles place event heard left new)
 
 -- A front of it was heard, and of the deeds for it a front was done; the last reply may not be told yet.
-pub record HeardFront {P V : Type 0} (holds : P → Op → Type 0) (own : P → List (List ℕ)) (titles : List (Title V)) (old new : Sides P) (from : AssociationState V) (event : Event) : Type 0 where
+pub record HeardFront {P V : Type 0} (holds : P → Op → Type 0) (own : P → List (List ℕ)) (titles : List (Title V))
+    (old new : Sides P) (from : AssociationState V) (event : Event) : Type 0 where
   pub heard : List Heard
   pub told : List Reply
   pub replies : List Reply

@@ -1,5 +1,6 @@
 -- What one turn of a run does: a read, and the piece that it may end.
-use Rattle.std.specs.Prelude.{◌≡◌, ◌≢◌, ◌<◌, ◌≤◌, ◌⊎◌, ℕ, ◌+◌, true, false, List, [], ◌++◌, length, Option, Some, None, Result, Ok, Err}
+use Rattle.std.specs.Prelude.{◌≡◌, ◌≢◌, ◌<◌, ◌≤◌, ◌⊎◌, ℕ, ◌+◌, true, false, List, [], ◌++◌, length, Option, Some, None}
+use Rattle.std.specs.Prelude.{Result, Ok, Err}
 use Rattle.std.specs.Io.KnownBytes.{Consumes, IsAtEnd}
 use Rattle.pdu.specs.Grammar.{IsUnfinished}
 use Rattle.operation.specs.declared.op.Op.{Op}
@@ -52,7 +53,8 @@ pub record Reads (r0 r1 : Option (List ℕ)) (old : Intake) (count : ℕ) (new :
 -- ---- the piece in hand
 
 -- A piece was heard, and nothing is in hand.
-pub record HearsPiece {P V : Type 0} (holds : P → Op → Type 0) (own : P → List (List ℕ)) (titles : List (Title V)) (old new : Sides P) (s : SessionState V) (before : Intake) (t : SessionState V) (after : Intake) : Type 0 where
+pub record HearsPiece {P V : Type 0} (holds : P → Op → Type 0) (own : P → List (List ℕ)) (titles : List (Title V))
+    (old new : Sides P) (s : SessionState V) (before : Intake) (t : SessionState V) (after : Intake) : Type 0 where
   pub piece : Piece
   pub is : IsPiece piece before.inbox.text
   pub heard : HeardWhole holds own titles old new s (event_of piece) t
@@ -61,22 +63,29 @@ pub record HearsPiece {P V : Type 0} (holds : P → Op → Type 0) (own : P → 
   pub empty : after.inbox ≡ EMPTY
 
 -- Nothing was heard, since no piece is whole. A header may have told how many bytes are wanted.
-abbrev pub HearsNothing : {P V : Type 0} → Sides P → Sides P → SessionState V → Intake → SessionState V → Intake → Type 0
+abbrev pub HearsNothing : {P V : Type 0} → Sides P → Sides P → SessionState V → Intake → SessionState V → Intake
+    → Type 0
 HearsNothing old new s before t after =
     (new ≡ old) × (t ≡ s) × (after.is_cut ≡ before.is_cut) × (after.counted ≡ before.counted)
-    × (after.inbox.text ≡ before.inbox.text) × (length after.inbox.text < after.inbox.wanted) × IsUnfinished after.inbox.text
+    × (after.inbox.text ≡ before.inbox.text) × (length after.inbox.text < after.inbox.wanted)
+    × IsUnfinished after.inbox.text
 
-abbrev pub TakesHand : {P V : Type 0} → (P → Op → Type 0) → (P → List (List ℕ)) → List (Title V) → Sides P → Sides P → SessionState V → Intake → SessionState V → Intake → Type 0
-TakesHand holds own titles old new s before t after = HearsNothing old new s before t after ⊎ HearsPiece holds own titles old new s before t after
+abbrev pub TakesHand : {P V : Type 0} → (P → Op → Type 0) → (P → List (List ℕ)) → List (Title V) → Sides P → Sides P
+    → SessionState V → Intake → SessionState V → Intake → Type 0
+TakesHand holds own titles old new s before t after = HearsNothing old new s before t after ⊎ HearsPiece holds own
+    titles old new s before t after
 
 -- Nothing was heard for want of memory, or of a piece a front was heard.
-abbrev pub TakingBroke : {P V : Type 0} → (P → Op → Type 0) → (P → List (List ℕ)) → List (Title V) → Sides P → Sides P → SessionState V → Intake → Type 0
+abbrev pub TakingBroke : {P V : Type 0} → (P → Op → Type 0) → (P → List (List ℕ)) → List (Title V) → Sides P → Sides P
+    → SessionState V → Intake → Type 0
 TakingBroke holds own titles old new s before =
-    (new ≡ old) ⊎ ((piece : Piece) × IsPiece piece before.inbox.text × HeardFront holds own titles old new s.association (event_of piece))
+    (new ≡ old) ⊎ ((piece : Piece) × IsPiece piece before.inbox.text × HeardFront holds own titles old new s.association
+    (event_of piece))
 
 -- ---- turns
 
--- a run that goes on: nothing is awaited or left, there is a connection, and a read is allowed that ends no piece that was read before
+-- a run that goes on: nothing is awaited or left, there is a connection, and a read is allowed that ends no piece that
+-- was read before
 pub record IsReady {V : Type 0} (s : SessionState V) (intake : Intake) : Type 0 where
   pub idle : s.association.awaited ≡ None
   pub finished : is_left s.association.within.state s.association.queue ≡ false
@@ -94,10 +103,12 @@ IsInHand intake pieces rest counted =
 -- the rest is no longer cut, and was dropped
 abbrev pub IsDropped : Intake → State → List Piece → List ℕ → ℕ → Type 0
 IsDropped intake state pieces rest counted =
-    (intake.is_cut ≡ false) × (is_cut pieces ≡ false) × (intake.counted ≡ counted + length rest) × (intake.inbox.text ≡ []) × (state ≡ Sta13)
+    (intake.is_cut ≡ false) × (is_cut pieces ≡ false) × (intake.counted ≡ counted + length rest)
+    × (intake.inbox.text ≡ []) × (state ≡ Sta13)
 
 -- all that was read, heard, and done so far, by n reads
-pub record Sofar {P V : Type 0} (holds : P → Op → Type 0) (own : P → List (List ℕ)) (titles : List (Title V)) (r0 r1 : Option (List ℕ)) (old now : Sides P) (s : SessionState V) (intake : Intake) (n : ℕ) : Type 0 where
+pub record Sofar {P V : Type 0} (holds : P → Op → Type 0) (own : P → List (List ℕ)) (titles : List (Title V))
+    (r0 r1 : Option (List ℕ)) (old now : Sides P) (s : SessionState V) (intake : Intake) (n : ℕ) : Type 0 where
   pub text : List ℕ
   pub read : Consumes r0 r1 text
   pub many : n ≤ length text
@@ -116,12 +127,16 @@ pub record Sofar {P V : Type 0} (holds : P → Op → Type 0) (own : P → List 
   pub aborted : s.aborted ≡ was_aborted pieces done
   pub released : s.released ≡ was_released done
 
-abbrev pub After : {P V : Type 0} → (P → Op → Type 0) → (P → List (List ℕ)) → List (Title V) → Option (List ℕ) → Option (List ℕ) → Sides P → Sides P → SessionState V → Intake → ℕ → Result (Option End) RunFault → Type 0
+abbrev pub After : {P V : Type 0} → (P → Op → Type 0) → (P → List (List ℕ)) → List (Title V) → Option (List ℕ)
+    → Option (List ℕ) → Sides P → Sides P → SessionState V → Intake → ℕ → Result (Option End) RunFault → Type 0
 After holds own titles r0 r1 old now s intake n (Ok None) = Sofar holds own titles r0 r1 old now s intake (n + 1)
 After holds own titles r0 r1 old now s intake n (Ok (Some end)) = Output holds own titles r0 r1 old now end
 After holds own titles r0 r1 old now s intake n (Err fault) = FrontOfOutput holds own titles r0 r1 old now
 
 -- whatever was done so far, the turn goes on with it, ends it, or breaks it off
-abbrev pub Turns : {P V : Type 0} → (P → Op → Type 0) → (P → List (List ℕ)) → List (Title V) → Option (List ℕ) → Option (List ℕ) → Sides P → Sides P → SessionState V → Intake → Result (Option End) RunFault → SessionState V → Intake → Type 0
+abbrev pub Turns : {P V : Type 0} → (P → Op → Type 0) → (P → List (List ℕ)) → List (Title V) → Option (List ℕ)
+    → Option (List ℕ) → Sides P → Sides P → SessionState V → Intake → Result (Option End) RunFault → SessionState V
+    → Intake → Type 0
 Turns {P = P} holds own titles r1 r2 now then s before result t after =
-    (r0 : Option (List ℕ)) (old : Sides P) (n : ℕ) → Sofar holds own titles r0 r1 old now s before n → After holds own titles r0 r2 old then t after n result
+    (r0 : Option (List ℕ)) (old : Sides P) (n : ℕ) → Sofar holds own titles r0 r1 old now s before n
+    → After holds own titles r0 r2 old then t after n result

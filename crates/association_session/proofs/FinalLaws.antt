@@ -1,5 +1,6 @@
 -- Each request has one response, in order.
-use Rattle.std.proofs.Common.{◌≡◌, List, [], ◌∷◌, ◌++◌, map, Result, Ok, Err, inl, inr, refl, sym, ap, subst, ◌∙◌, append_assoc}
+use Rattle.std.proofs.Common.{◌≡◌, List, [], ◌∷◌, ◌++◌, map, Result, Ok, Err, inl, inr, refl, sym, ap, subst, ◌∙◌}
+use Rattle.std.proofs.Common.{append_assoc}
 use Rattle.pdu.specs.declared.request.Request.{Request}
 use Rattle.pdu.specs.declared.reject.Reject.{Reject}
 use Rattle.pdu.specs.declared.value.Pdu.TheVariants as pdus
@@ -21,16 +22,19 @@ use Rattle.association_session.specs.declared.reply.Reply.{Reply}
 use Rattle.association_session.specs.declared.reply.Reply.TheVariants.{Stored}
 use Rattle.association_session.specs.declared.service.Service.{Service}
 use Rattle.association_session.specs.declared.service.Service.TheVariants.{Ignored, Broken, Responded, Asked}
-use Rattle.association_session.specs.Finals.{HasNoData, AreResponded, RequestFor, RequestIn, Requests, EndsInCall, HasResponses}
+use Rattle.association_session.specs.Finals.{HasNoData, AreResponded, RequestFor, RequestIn, Requests, EndsInCall}
+use Rattle.association_session.specs.Finals.{HasResponses}
 use Rattle.association_session.specs.Response.{Awaited}
 use Rattle.association_session.specs.Row.{Within, row, met}
 use Rattle.association_session.specs.Service.{Serves}
 use Rattle.association_session.specs.Store.{status_of_reply}
-use Rattle.association_session.specs.Talks.{Heard, Met, Said, Goes, Tells, Follows, Does, InState, Answers, Talks, awaiting}
+use Rattle.association_session.specs.Talks.{Heard, Met, Said, Goes, Tells, Follows, Does, InState, Answers, Talks}
+use Rattle.association_session.specs.Talks.{awaiting}
 
 -- ---- what stands before a response
 
-request_quiet : {V : Type 0} (s : State) (titles : List (Title V)) (request : Request) (r : Result V Reject) (rest : List Deed) → value_for titles request ≡ r
+request_quiet : {V : Type 0} (s : State) (titles : List (Title V)) (request : Request) (r : Result V Reject)
+    (rest : List Deed) → value_for titles request ≡ r
     → HasNoData rest → HasNoData (row titles s (events.Got (pdus.AssociateRq request)) ++ rest)
 request_quiet Sta1 titles request r rest e p = p
 request_quiet Sta2 titles request (Ok v) rest e p = rw e p
@@ -41,9 +45,11 @@ request_quiet Sta13 titles request (Ok v) rest e p = rw e p
 request_quiet Sta13 titles request (Err reject) rest e p = rw e p
 
 -- a row sends no P-DATA-TF
-row_quiet : {V : Type 0} (titles : List (Title V)) (s : State) (event : Event) (rest : List Deed) → HasNoData rest → HasNoData (row titles s event ++ rest)
+row_quiet : {V : Type 0} (titles : List (Title V)) (s : State) (event : Event) (rest : List Deed) → HasNoData rest
+    → HasNoData (row titles s event ++ rest)
 row_quiet titles Sta1 event rest p = p
-row_quiet titles Sta2 (events.Got (pdus.AssociateRq request)) rest p = request_quiet Sta2 titles request (value_for titles request) rest refl p
+row_quiet titles Sta2 (events.Got (pdus.AssociateRq request)) rest p = request_quiet Sta2 titles
+    request (value_for titles request) rest refl p
 row_quiet titles Sta2 (events.Got (pdus.AssociateAc accept)) rest p = p
 row_quiet titles Sta2 (events.Got (pdus.AssociateRj reject)) rest p = p
 row_quiet titles Sta2 (events.Got (pdus.PData values)) rest p = p
@@ -57,7 +63,8 @@ row_quiet titles Sta2 (events.Bad faults.TooLong) rest p = p
 row_quiet titles Sta2 (events.Bad faults.Memory) rest p = p
 row_quiet titles Sta2 events.Ended rest p = p
 row_quiet titles Sta2 events.LocalAbort rest p = p
-row_quiet titles Sta6 (events.Got (pdus.AssociateRq request)) rest p = request_quiet Sta6 titles request (value_for titles request) rest refl p
+row_quiet titles Sta6 (events.Got (pdus.AssociateRq request)) rest p = request_quiet Sta6 titles
+    request (value_for titles request) rest refl p
 row_quiet titles Sta6 (events.Got (pdus.AssociateAc accept)) rest p = p
 row_quiet titles Sta6 (events.Got (pdus.AssociateRj reject)) rest p = p
 row_quiet titles Sta6 (events.Got (pdus.PData values)) rest p = p
@@ -71,7 +78,8 @@ row_quiet titles Sta6 (events.Bad faults.TooLong) rest p = p
 row_quiet titles Sta6 (events.Bad faults.Memory) rest p = p
 row_quiet titles Sta6 events.Ended rest p = p
 row_quiet titles Sta6 events.LocalAbort rest p = p
-row_quiet titles Sta13 (events.Got (pdus.AssociateRq request)) rest p = request_quiet Sta13 titles request (value_for titles request) rest refl p
+row_quiet titles Sta13 (events.Got (pdus.AssociateRq request)) rest p = request_quiet Sta13 titles
+    request (value_for titles request) rest refl p
 row_quiet titles Sta13 (events.Got (pdus.AssociateAc accept)) rest p = p
 row_quiet titles Sta13 (events.Got (pdus.AssociateRj reject)) rest p = p
 row_quiet titles Sta13 (events.Got (pdus.PData values)) rest p = p
@@ -90,29 +98,58 @@ row_quiet titles Sta13 events.LocalAbort rest p = p
 abbrev IsQuiet : List Deed → Type 0
 IsQuiet now = (rest : List Deed) → HasNoData rest → HasNoData (now ++ rest)
 
-quiet_before : (now : List Deed) (requests : List Awaited) (ds : List Deed) → IsQuiet now → AreResponded requests ds → AreResponded requests (now ++ ds)
+quiet_before : (now : List Deed) (requests : List Awaited) (ds : List Deed) → IsQuiet now → AreResponded requests ds
+    → AreResponded requests (now ++ ds)
 quiet_before now [] ds quiet p = quiet ds p
-quiet_before now (a ∷ requests) ds quiet p =
-    (now ++ p.0, p.1, p.2, p.3, ap (λ (t : List Deed). now ++ t) p.4 ∙ sym (append_assoc now p.0 (map Send p.2 ++ p.1)), quiet p.0 p.5, p.6, p.7)
+quiet_before now (a ∷ requests) ds quiet p = (
+  now ++ p.0,
+  p.1,
+  p.2,
+  p.3,
+  ap (λ (t : List Deed). now ++ t) p.4 ∙ sym (append_assoc now p.0 (map Send p.2 ++ p.1)),
+  quiet p.0 p.5,
+  p.6,
+  p.7,
+)
 
 call_behind : (now ds : List Deed) → EndsInCall ds → EndsInCall (now ++ ds)
-call_behind now ds p = (now ++ p.0, p.1, ap (λ (t : List Deed). now ++ t) p.2 ∙ sym (append_assoc now p.0 (Ask p.1 ∷ [])))
+call_behind now ds p = (
+  now ++ p.0,
+  p.1,
+  ap (λ (t : List Deed). now ++ t) p.2
+      ∙ sym (append_assoc now p.0 (Ask p.1 ∷ [])),
+)
 
 -- ---- one request more
 
 -- what the talk behind a request has, with that request before it
 module _ {V : Type 0} (titles : List (Title V)) where
   -- a PDU, or a message that is no request: what leads from w to v
-  behind_quiet : (w v : Within V) (u : Heard) (us : List Heard) (now rest : List Deed) → IsQuiet now → ((vs : List Heard) (requests : List Awaited) → Requests titles v vs requests → Requests titles w (u ∷ vs) requests)
+  behind_quiet : (w v : Within V) (u : Heard) (us : List Heard) (now rest : List Deed) → IsQuiet now
+      → ((vs : List Heard) (requests : List Awaited) → Requests titles v vs requests → Requests titles w (u ∷ vs)
+      requests)
       → HasResponses titles v us rest → HasResponses titles w (u ∷ us) (now ++ rest)
   behind_quiet w v u us now rest quiet more (inl p) = inl (p.0, more us p.0 p.1, quiet_before now p.0 rest quiet p.2)
   behind_quiet w v u us now rest quiet more (inr p) =
-      inr (u ∷ p.0, p.1, p.2, p.3, ap (λ (t : List Heard). u ∷ t) p.4, more p.0 (p.2 ++ p.3 ∷ []) p.5, quiet_before now p.2 rest quiet p.6, call_behind now rest p.7)
+      inr (
+        u ∷ p.0,
+        p.1,
+        p.2,
+        p.3,
+        ap (λ (t : List Heard). u ∷ t) p.4,
+        more p.0 (p.2 ++ p.3 ∷ []) p.5,
+        quiet_before now
+            p.2 rest quiet p.6,
+        call_behind now rest p.7,
+      )
 
   -- a request that is responded
-  behind_told : (w : Within V) (u : Heard) (a : Awaited) (status : Status) (us : List Heard) (before : List Deed) (R : List Deed → Type 0) (ds : List Deed) → HasNoData before
-      → ((vs : List Heard) (requests : List Awaited) → Requests titles w vs requests → Requests titles w (u ∷ vs) (a ∷ requests))
-      → ((x : List Deed) → R x → HasResponses titles w us x) → Tells a status R ds → HasResponses titles w (u ∷ us) (before ++ ds)
+  behind_told : (w : Within V) (u : Heard) (a : Awaited) (status : Status) (us : List Heard) (before : List Deed)
+      (R : List Deed → Type 0) (ds : List Deed) → HasNoData before
+      → ((vs : List Heard) (requests : List Awaited) → Requests titles w vs requests → Requests titles w (u ∷ vs)
+      (a ∷ requests))
+      → ((x : List Deed) → R x → HasResponses titles w us x) → Tells a status R ds → HasResponses titles w (u ∷ us)
+      (before ++ ds)
   behind_told w u a status us before R ds quiet more goes p =
       let parts : before ++ ds ≡ before ++ (map Send p.0 ++ p.2.0) = ap (λ (t : List Deed). before ++ t) p.2.1 in
       elim (goes p.2.0 p.2.2) as (λ _. HasResponses titles w (u ∷ us) (before ++ ds)) [
@@ -125,26 +162,37 @@ module _ {V : Type 0} (titles : List (Title V)) where
           ap (λ (t : List Heard). u ∷ t) q.4,
           more q.0 (q.2 ++ q.3 ∷ []) q.5,
           (before, p.2.0, p.0, status, parts, quiet, p.1, q.6),
-          subst (λ (t : List Deed). EndsInCall t) (sym parts) (call_behind before (map Send p.0 ++ p.2.0) (call_behind (map Send p.0) p.2.0 q.7)),
+          subst (λ (t : List Deed). EndsInCall t) (sym parts) (call_behind before (map Send p.0 ++ p.2.0)
+              (call_behind (map Send p.0) p.2.0 q.7)),
         )
       ]
 
   -- the requests of a message that is served, and of those behind it
-  served_more : (w : Within V) (m : Message) (service : Service) (vs : List Heard) (requests : List Awaited) → w.state ≡ Sta6 → Serves w.link.contexts m service
-      → RequestFor service (awaiting w.link m) (Requests titles w vs) (Requests titles (met titles w events.LocalAbort) vs) requests → Requests titles w (Said m ∷ vs) requests
+  served_more : (w : Within V) (m : Message) (service : Service) (vs : List Heard) (requests : List Awaited)
+      → w.state ≡ Sta6 → Serves w.link.contexts m service
+      → RequestFor service (awaiting w.link m) (Requests titles w vs) (Requests titles (met titles w events.LocalAbort)
+      vs) requests → Requests titles w (Said m ∷ vs) requests
   served_more w m service vs requests opened serves q =
-      subst (λ (k : State). RequestIn k (λ bs. (x : Service) × Serves w.link.contexts m x × RequestFor x (awaiting w.link m) (Requests titles w vs) (Requests titles (met titles w events.LocalAbort) vs) bs) (Requests titles w vs) requests) (sym opened) (service, serves, q)
+      subst (λ (k : State). RequestIn k (λ bs. (x : Service) × Serves w.link.contexts m x
+      × RequestFor x (awaiting w.link m) (Requests titles w vs) (Requests titles (met titles w events.LocalAbort)
+      vs) bs) (Requests titles w vs) requests) (sym opened) (service, serves, q)
 
   dropped_more : (w : Within V) (m : Message) (s : State) (vs : List Heard) (requests : List Awaited) → w.state ≡ s
-      → RequestIn s (λ bs. (x : Service) × Serves w.link.contexts m x × RequestFor x (awaiting w.link m) (Requests titles w vs) (Requests titles (met titles w events.LocalAbort) vs) bs) (Requests titles w vs) requests → Requests titles w (Said m ∷ vs) requests
+      → RequestIn s (λ bs. (x : Service) × Serves w.link.contexts m x × RequestFor x (awaiting w.link m)
+      (Requests titles w vs) (Requests titles (met titles w events.LocalAbort) vs) bs) (Requests titles w vs) requests
+      → Requests titles w (Said m ∷ vs) requests
   dropped_more w m s vs requests is q =
-      subst (λ (k : State). RequestIn k (λ bs. (x : Service) × Serves w.link.contexts m x × RequestFor x (awaiting w.link m) (Requests titles w vs) (Requests titles (met titles w events.LocalAbort) vs) bs) (Requests titles w vs) requests) (sym is) q
+      subst (λ (k : State). RequestIn k (λ bs. (x : Service) × Serves w.link.contexts m x
+      × RequestFor x (awaiting w.link m) (Requests titles w vs) (Requests titles (met titles w events.LocalAbort)
+      vs) bs) (Requests titles w vs) requests) (sym is) q
 
   abbrev Has : Within V → List Heard → Goes → Type 0
   Has w us R = (rs : List Reply) (x : List Deed) → R rs x → HasResponses titles w us x
 
-  asked_has : (w : Within V) (m : Message) (content : ContentParts) (us : List Heard) (rs : List Reply) (rest : List Deed) → w.state ≡ Sta6 → Serves w.link.contexts m (Asked content) → Has w us (Talks titles w us)
-      → Follows (awaiting w.link m) (Talks titles w us) rs rest → HasResponses titles w (Said m ∷ us) (Reach InStore ∷ Ask (Store content) ∷ rest)
+  asked_has : (w : Within V) (m : Message) (content : ContentParts) (us : List Heard) (rs : List Reply)
+      (rest : List Deed) → w.state ≡ Sta6 → Serves w.link.contexts m (Asked content) → Has w us (Talks titles w us)
+      → Follows (awaiting w.link m) (Talks titles w us) rs rest → HasResponses titles w (Said m ∷ us)
+      (Reach InStore ∷ Ask (Store content) ∷ rest)
   asked_has w m content us [] rest opened serves goes p =
       inr (
         Said m ∷ [],
@@ -157,34 +205,52 @@ module _ {V : Type 0} (titles : List (Title V)) where
         (Reach InStore ∷ [], Store content, ap (λ (t : List Deed). Reach InStore ∷ Ask (Store content) ∷ t) p),
       )
   asked_has w m content us (Stored reply ∷ rs) rest opened serves goes p =
-      behind_told w (Said m) (awaiting w.link m) (status_of_reply reply) us (Reach InStore ∷ Ask (Store content) ∷ []) (Talks titles w us rs) rest tt
-      (λ vs requests q. served_more w m (Asked content) vs (awaiting w.link m ∷ requests) opened serves (requests, refl, q)) (goes rs) p
+      behind_told w (Said m) (awaiting w.link m) (status_of_reply reply) us (Reach InStore ∷ Ask (Store content) ∷ [])
+      (Talks titles w us rs) rest tt
+      (λ vs requests q. served_more w m (Asked content) vs (awaiting w.link m ∷ requests) opened
+      serves (requests, refl, q)) (goes rs) p
 
-  does_has : (w : Within V) (m : Message) (service : Service) (us : List Heard) (rs : List Reply) (ds : List Deed) → w.state ≡ Sta6 → Serves w.link.contexts m service → Has w us (Talks titles w us)
+  does_has : (w : Within V) (m : Message) (service : Service) (us : List Heard) (rs : List Reply) (ds : List Deed)
+      → w.state ≡ Sta6 → Serves w.link.contexts m service → Has w us (Talks titles w us)
       → Has (met titles w events.LocalAbort) us (Talks titles (met titles w events.LocalAbort) us)
-      → Does service (awaiting w.link m) (row titles w.state events.LocalAbort) (Talks titles w us) (Talks titles (met titles w events.LocalAbort) us) rs ds → HasResponses titles w (Said m ∷ us) ds
+      → Does service (awaiting w.link m) (row titles w.state events.LocalAbort) (Talks titles w us)
+      (Talks titles (met titles w events.LocalAbort) us) rs ds → HasResponses titles w (Said m ∷ us) ds
   does_has w m Ignored us rs ds opened serves goes gone p =
-      behind_quiet w w (Said m) us [] ds (λ rest q. q) (λ vs requests q. served_more w m Ignored vs requests opened serves q) (goes rs ds p)
+      behind_quiet w w (Said m) us [] ds (λ rest q. q) (λ vs requests q. served_more w m Ignored vs requests opened
+      serves q) (goes rs ds p)
   does_has w m Broken us rs ds opened serves goes gone p =
       subst (λ (t : List Deed). HasResponses titles w (Said m ∷ us) t) (sym p.1)
-      (behind_quiet w (met titles w events.LocalAbort) (Said m) us (row titles w.state events.LocalAbort) p.0 (row_quiet titles w.state events.LocalAbort)
+      (behind_quiet w (met titles w events.LocalAbort) (Said m) us (row titles w.state events.LocalAbort)
+      p.0 (row_quiet titles w.state events.LocalAbort)
       (λ vs requests q. served_more w m Broken vs requests opened serves q) (gone rs p.0 p.2))
   does_has w m (Responded status) us rs ds opened serves goes gone p =
       behind_told w (Said m) (awaiting w.link m) status us [] (Talks titles w us rs) ds tt
-      (λ vs requests q. served_more w m (Responded status) vs (awaiting w.link m ∷ requests) opened serves (requests, refl, q)) (goes rs) p
+      (λ vs requests q. served_more w m (Responded status) vs (awaiting w.link m ∷ requests) opened
+      serves (requests, refl, q)) (goes rs) p
   does_has w m (Asked content) us rs ds opened serves goes gone p =
-      subst (λ (t : List Deed). HasResponses titles w (Said m ∷ us) t) (sym p.1) (asked_has w m content us rs p.0 opened serves goes p.2)
+      subst (λ (t : List Deed). HasResponses titles w (Said m ∷ us) t) (sym p.1) (asked_has w m content us rs p.0 opened
+      serves goes p.2)
 
-  said_has : (w : Within V) (m : Message) (s : State) (us : List Heard) (rs : List Reply) (ds : List Deed) → w.state ≡ s → Has w us (Talks titles w us) → Has (met titles w events.LocalAbort) us (Talks titles (met titles w events.LocalAbort) us)
-      → InState s (Answers w.link m (row titles w.state events.LocalAbort) (Talks titles w us) (Talks titles (met titles w events.LocalAbort) us)) (Talks titles w us) rs ds → HasResponses titles w (Said m ∷ us) ds
-  said_has w m Sta1 us rs ds is goes gone p = behind_quiet w w (Said m) us [] ds (λ rest q. q) (λ vs requests q. dropped_more w m Sta1 vs requests is q) (goes rs ds p)
-  said_has w m Sta2 us rs ds is goes gone p = behind_quiet w w (Said m) us [] ds (λ rest q. q) (λ vs requests q. dropped_more w m Sta2 vs requests is q) (goes rs ds p)
+  said_has : (w : Within V) (m : Message) (s : State) (us : List Heard) (rs : List Reply) (ds : List Deed) → w.state ≡ s
+      → Has w us (Talks titles w us) → Has (met titles w events.LocalAbort)
+      us (Talks titles (met titles w events.LocalAbort) us)
+      → InState s (Answers w.link m (row titles w.state events.LocalAbort) (Talks titles w us)
+      (Talks titles (met titles w events.LocalAbort) us)) (Talks titles w us) rs ds → HasResponses titles
+      w (Said m ∷ us) ds
+  said_has w m Sta1 us rs ds is goes gone p = behind_quiet w w (Said m) us [] ds (λ rest q. q)
+      (λ vs requests q. dropped_more w m Sta1 vs requests is q) (goes rs ds p)
+  said_has w m Sta2 us rs ds is goes gone p = behind_quiet w w (Said m) us [] ds (λ rest q. q)
+      (λ vs requests q. dropped_more w m Sta2 vs requests is q) (goes rs ds p)
   said_has w m Sta6 us rs ds is goes gone p = does_has w m p.0 us rs ds is p.1 goes gone p.2
-  said_has w m Sta13 us rs ds is goes gone p = behind_quiet w w (Said m) us [] ds (λ rest q. q) (λ vs requests q. dropped_more w m Sta13 vs requests is q) (goes rs ds p)
+  said_has w m Sta13 us rs ds is goes gone p = behind_quiet w w (Said m) us [] ds (λ rest q. q)
+      (λ vs requests q. dropped_more w m Sta13 vs requests is q) (goes rs ds p)
 
-  pub responded : (us : List Heard) (w : Within V) (rs : List Reply) (ds : List Deed) → Talks titles w us rs ds → HasResponses titles w us ds
+  pub responded : (us : List Heard) (w : Within V) (rs : List Reply) (ds : List Deed) → Talks titles w us rs ds
+      → HasResponses titles w us ds
   responded [] w rs ds p = inl ([], refl, subst (λ (t : List Deed). HasNoData t) (sym p) tt)
   responded (Met event ∷ us) w rs ds p =
       subst (λ (t : List Deed). HasResponses titles w (Met event ∷ us) t) (sym p.1)
-      (behind_quiet w (met titles w event) (Met event) us (row titles w.state event) p.0 (row_quiet titles w.state event) (λ vs requests q. q) (responded us (met titles w event) rs p.0 p.2))
-  responded (Said m ∷ us) w rs ds p = said_has w m w.state us rs ds refl (responded us w) (responded us (met titles w events.LocalAbort)) p
+      (behind_quiet w (met titles w event) (Met event) us (row titles w.state event)
+      p.0 (row_quiet titles w.state event) (λ vs requests q. q) (responded us (met titles w event) rs p.0 p.2))
+  responded (Said m ∷ us) w rs ds p = said_has w m w.state us rs ds refl (responded us w)
+      (responded us (met titles w events.LocalAbort)) p

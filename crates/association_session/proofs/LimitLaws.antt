@@ -1,5 +1,6 @@
 -- A peer that takes less than one fragment is refused.
-use Rattle.std.proofs.Common.{◌≡◌, ℕ, Bool, true, false, not, cond, List, Option, Some, None, Result, Ok, Err, refl, arith}
+use Rattle.std.proofs.Common.{◌≡◌, ℕ, Bool, true, false, not, cond, List, Option, Some, None, Result, Ok, Err, refl}
+use Rattle.std.proofs.Common.{arith}
 use Rattle.std.specs.Prelude.{◌==◌, ◌&&◌, nat_lt, IsSome}
 use Rattle.pdu.specs.declared.request.Request.{Request}
 use Rattle.pdu.specs.declared.reject.Reject.{Reject}
@@ -15,7 +16,8 @@ use Rattle.association_session.specs.Response.{FitsLimit}
 use Rattle.association_session.specs.Row.{sending_limit, limit_in}
 
 -- a limit that is not too short
-fits_by : (n : ℕ) (zero large small : Bool) → (n == 0) ≡ zero → nat_lt 65536 n ≡ large → nat_lt n 8 ≡ small → (not zero && small) ≡ false
+fits_by : (n : ℕ) (zero large small : Bool) → (n == 0) ≡ zero → nat_lt 65536 n ≡ large → nat_lt n 8 ≡ small
+    → (not zero && small) ≡ false
     → FitsLimit (cond zero 16384 (cond large 65536 n))
 fits_by n true large small z l s short = (omega arith, omega arith)
 fits_by n false true small z l s short = (omega arith, omega arith)
@@ -26,32 +28,41 @@ fits : (n : ℕ) → is_too_short n ≡ false → FitsLimit (sending_limit n)
 unfolding sending_limit
 fits n short = fits_by n (n == 0) (nat_lt 65536 n) (nat_lt n 8) refl refl refl short
 
-by_title_fits : {V : Type 0} (request : Request) (value : Option V) (v : V) (short : Bool) → is_too_short request.user.maximum_length ≡ short → by_title request value ≡ Ok v → short ≡ false
+by_title_fits : {V : Type 0} (request : Request) (value : Option V) (v : V) (short : Bool)
+    → is_too_short request.user.maximum_length ≡ short → by_title request value ≡ Ok v → short ≡ false
 by_title_fits request None v short is e = absurd cc
 by_title_fits request (Some value) v true is e = absurd cc
 by_title_fits request (Some value) v false is e = refl
 
-admitted_by : {V : Type 0} (request : Request) (value : Option V) (v : V) (version context : Bool) → is_version_one request.opening.version ≡ version → is_known_context request.application_context ≡ context
-    → cond (not version) (Err (refused 2 2)) (cond (not context) (Err (refused 1 2)) (by_title request value)) ≡ Ok v → by_title request value ≡ Ok v
+admitted_by : {V : Type 0} (request : Request) (value : Option V) (v : V) (version context : Bool)
+    → is_version_one request.opening.version ≡ version → is_known_context request.application_context ≡ context
+    → cond (not version) (Err (refused 2 2)) (cond (not context) (Err (refused 1 2)) (by_title request value)) ≡ Ok v
+    → by_title request value ≡ Ok v
 admitted_by request value v true true e f is = is
 admitted_by request value v true false e f is = absurd cc
 admitted_by request value v false context e f is = absurd cc
 
 -- what is admitted takes a fragment
-pub admitted_fits : {V : Type 0} (titles : List (Title V)) (request : Request) (v : V) → value_for titles request ≡ Ok v → FitsLimit (sending_limit request.user.maximum_length)
+pub admitted_fits : {V : Type 0} (titles : List (Title V)) (request : Request) (v : V) → value_for titles request ≡ Ok v
+    → FitsLimit (sending_limit request.user.maximum_length)
 unfolding value_for
 admitted_fits titles request v is =
     let value = value_of titles (without_spaces request.opening.called) in
     fits request.user.maximum_length (by_title_fits request value v (is_too_short request.user.maximum_length) refl
-    (admitted_by request value v (is_version_one request.opening.version) (is_known_context request.application_context) refl refl is))
+    (admitted_by request value v (is_version_one request.opening.version) (is_known_context request.application_context)
+    refl refl is))
 
-settled_request : {V : Type 0} (titles : List (Title V)) (request : Request) (value : Result V Reject) → value_for titles request ≡ value → IsSome (settled_with request value) → FitsLimit (sending_limit request.user.maximum_length)
+settled_request : {V : Type 0} (titles : List (Title V)) (request : Request) (value : Result V Reject)
+    → value_for titles request ≡ value → IsSome (settled_with request value)
+    → FitsLimit (sending_limit request.user.maximum_length)
 settled_request titles request (Ok v) is some = admitted_fits titles request v is
 settled_request titles request (Err reject) is some = absurd cc
 
 -- what an event settles takes a fragment
-pub settled_fits : {V : Type 0} (titles : List (Title V)) (event : Event) → IsSome (settled_for titles event) → FitsLimit (limit_in event)
-settled_fits titles (events.Got (pdus.AssociateRq request)) some = settled_request titles request (value_for titles request) refl some
+pub settled_fits : {V : Type 0} (titles : List (Title V)) (event : Event) → IsSome (settled_for titles event)
+    → FitsLimit (limit_in event)
+settled_fits titles (events.Got (pdus.AssociateRq request)) some = settled_request titles
+    request (value_for titles request) refl some
 settled_fits titles (events.Got (pdus.AssociateAc accept)) some = absurd cc
 settled_fits titles (events.Got (pdus.AssociateRj reject)) some = absurd cc
 settled_fits titles (events.Got (pdus.PData values)) some = absurd cc

@@ -1,5 +1,6 @@
 -- Each request has a response, which can be written.
-use Rattle.std.proofs.Common.{◌≡◌, ℕ, zero, suc, ◌<◌, ◌≤◌, Bool, true, false, cond, Option, List, [], ◌∷◌, length, take, drop, None, refl, sym, subst, append-nil, arith, inl, inr, ◌⊎◌, length-drop}
+use Rattle.std.proofs.Common.{◌≡◌, ℕ, zero, suc, ◌<◌, ◌≤◌, Bool, true, false, cond, Option, List, [], ◌∷◌, length, take}
+use Rattle.std.proofs.Common.{drop, None, refl, sym, subst, append-nil, arith, inl, inr, ◌⊎◌, length-drop}
 use Rattle.std.specs.Prelude.{IfSome, ◌==◌}
 use Rattle.std.specs.List.{flat_map}
 use Rattle.std.proofs.lemmas.Bool.{cases_lt}
@@ -17,29 +18,47 @@ use Rattle.dimse.proofs.SoundLaws.{answer_lawful}
 use Rattle.association_session.specs.Response.{Awaited, CanBeResponded, response_to, IsResponse}
 
 -- a first fragment before others
-sends_before : (size context : ℕ) (command : Bool) (text : List ℕ) (pdus : List Pdu) → size < length text → Sends size context command (drop size text) pdus
+sends_before : (size context : ℕ) (command : Bool) (text : List ℕ) (pdus : List Pdu) → size < length text
+    → Sends size context command (drop size text) pdus
     → Sends size context command text (sent context command false (take size text) ∷ pdus)
 sends_before size context command text [] over sends = absurd sends
 sends_before size context command text (p ∷ pdus) over sends = (over, refl, sends)
 
 -- Each text goes in some PDUs.
-goes : (n size context : ℕ) (command : Bool) (text : List ℕ) → 0 < size → length text ≤ n → (size < length text) ⊎ (length text ≤ size) → (pdus : List Pdu) × Sends size context command text pdus
+goes : (n size context : ℕ) (command : Bool) (text : List ℕ) → 0 < size → length text ≤ n → (size < length text)
+    ⊎ (length text ≤ size) → (pdus : List Pdu) × Sends size context command text pdus
 goes n size context command text some bound (inr fits) = (sent context command true text ∷ [], (fits, refl))
 goes zero size context command text some bound (inl over) = absurd (omega (arith, bound, over, some))
 goes (suc n) size context command text some bound (inl over) =
-    let rest = goes n size context command (drop size text) some (omega (arith, length-drop size text, bound, over, some)) (cases_lt size (length (drop size text))) in
+    let rest = goes n size context command (drop size text)
+    some (omega (arith, length-drop size text, bound, over, some)) (cases_lt size (length (drop size text))) in
     (sent context command false (take size text) ∷ rest.0, sends_before size context command text rest.0 over rest.1)
 
 some_size : (max : ℕ) → 8 ≤ max → 0 < size_of max
 some_size max least = omega (arith, least)
 
-pub each_has_a_response : (awaited : Awaited) (status : Status) → 8 ≤ awaited.limit → (text : List ℕ) × IsResponse awaited status text
+pub each_has_a_response : (awaited : Awaited) (status : Status) → 8 ≤ awaited.limit → (text : List ℕ)
+    × IsResponse awaited status text
 each_has_a_response awaited status least =
     let command = command_text (response_of awaited.command (status_code status)) in
-    let pdus = goes (length command) (size_of awaited.limit) awaited.context true command (some_size awaited.limit least) (omega arith) (cases_lt (size_of awaited.limit) (length command)) in
-    (flat_map text_of pdus.0, (pdus.0, record { of_command = pdus.0; of_data = []; parts = sym (append-nil pdus.0); command = pdus.1; data_set = refl }, refl))
+    let pdus = goes (length command) (size_of awaited.limit) awaited.context true
+    command (some_size awaited.limit least) (omega arith) (cases_lt (size_of awaited.limit) (length command)) in (
+      flat_map text_of pdus.0,
+      (
+        pdus.0,
+        record {
+          of_command = pdus.0;
+          of_data = [];
+          parts = sym (append-nil pdus.0);
+          command = pdus.1;
+          data_set = refl;
+        },
+        refl,
+      ),
+    )
 
-told_room : (t : Bool) (uid : Option (List ℕ)) (n : ℕ) → IfSome uid (λ u. length u ≤ n) → IfSome (cond t uid None) (λ u. length u ≤ n)
+told_room : (t : Bool) (uid : Option (List ℕ)) (n : ℕ) → IfSome uid (λ u. length u ≤ n) → IfSome (cond t uid None)
+    (λ u. length u ≤ n)
 told_room true uid n short = short
 told_room false uid n short = tt
 
@@ -47,7 +66,8 @@ response_room : (command : Command) (status : ℕ) → HasRoom command → HasRo
 unfolding response_of
 response_room command status room = record {
   affected_class = room.affected_class;
-  affected_instance = told_room (command.field == 0x0001) command.affected_instance LONGEST_COMMAND room.affected_instance;
+  affected_instance = told_room (command.field == 0x0001) command.affected_instance LONGEST_COMMAND
+      room.affected_instance;
 }
 
 announces_none : (command : Command) (status : ℕ) → announces (response_of command status) ≡ false
@@ -55,7 +75,8 @@ unfolding response_of
 announces_none command status = refl
 
 -- the response can be written
-pub response_whole : (awaited : Awaited) (status : Status) (m : Message) → CanBeResponded awaited → m ≡ response_to awaited status → IsWhole m
+pub response_whole : (awaited : Awaited) (status : Status) (m : Message) → CanBeResponded awaited
+    → m ≡ response_to awaited status → IsWhole m
 response_whole awaited status m can is = subst (λ (t : Message). IsWhole t) (sym is) (record {
   lawful = answer_lawful awaited.command (status_code status) can.asked can.lawful;
   room = response_room awaited.command (status_code status) can.room;

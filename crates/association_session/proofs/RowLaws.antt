@@ -1,5 +1,6 @@
 -- Where a row's deeds lead, and what an event comes to.
-use Rattle.std.proofs.Common.{◌≡◌, true, List, [], ◌∷◌, ◌++◌, Option, Some, None, Result, Ok, Err, refl, sym, ap, subst, ◌∙◌, inl}
+use Rattle.std.proofs.Common.{◌≡◌, true, List, [], ◌∷◌, ◌++◌, Option, Some, None, Result, Ok, Err, refl, sym, ap, subst}
+use Rattle.std.proofs.Common.{◌∙◌, inl}
 use Rattle.pdu.specs.declared.request.Request.{Request}
 use Rattle.pdu.specs.declared.reject.Reject.{Reject}
 use Rattle.pdu.specs.declared.value.Pdu.TheVariants as pdus
@@ -19,14 +20,17 @@ use Rattle.association_session.specs.declared.event.SessionEvent.TheVariants.{He
 use Rattle.association_session.specs.Projections.{state_after}
 use Rattle.association_session.specs.Response.{Awaited}
 use Rattle.association_session.specs.Row.{row, deeds_of, values_of, action_on}
-use Rattle.association_session.specs.Session.{AssociationState, HearsValues, Turned, Takes, Owes, Stops, entered, is_left}
+use Rattle.association_session.specs.Session.{AssociationState, HearsValues, Turned, Takes, Owes, Stops, entered}
+use Rattle.association_session.specs.Session.{is_left}
 use Rattle.association_session.specs.Talks.{Met, Leads}
 use Rattle.association_session.proofs.HearLaws.{takes_row, idle_owed, owed_idle}
 
 -- ---- where a row leads
 
-request_state : {V : Type 0} (s : State) (titles : List (Title V)) (request : Request) (r : Result V Reject) → value_for titles request ≡ r
-    → state_after s (row titles s (events.Got (pdus.AssociateRq request))) ≡ next_of s (kind_for titles (events.Got (pdus.AssociateRq request)))
+request_state : {V : Type 0} (s : State) (titles : List (Title V)) (request : Request) (r : Result V Reject)
+    → value_for titles request ≡ r
+    → state_after s (row titles s (events.Got (pdus.AssociateRq request))) ≡ next_of
+    s (kind_for titles (events.Got (pdus.AssociateRq request)))
 request_state Sta1 titles request r e = refl
 request_state Sta2 titles request (Ok v) e = rw e refl
 request_state Sta2 titles request (Err reject) e = rw e (rw e refl)
@@ -36,9 +40,11 @@ request_state Sta13 titles request (Ok v) e = rw e refl
 request_state Sta13 titles request (Err reject) e = rw e refl
 
 -- The deeds of a row lead where the row does.
-pub row_state : {V : Type 0} (titles : List (Title V)) (s : State) (event : Event) → state_after s (row titles s event) ≡ next_of s (kind_for titles event)
+pub row_state : {V : Type 0} (titles : List (Title V)) (s : State) (event : Event)
+    → state_after s (row titles s event) ≡ next_of s (kind_for titles event)
 row_state titles Sta1 event = refl
-row_state titles Sta2 (events.Got (pdus.AssociateRq request)) = request_state Sta2 titles request (value_for titles request) refl
+row_state titles Sta2 (events.Got (pdus.AssociateRq request)) = request_state Sta2 titles
+    request (value_for titles request) refl
 row_state titles Sta2 (events.Got (pdus.AssociateAc accept)) = refl
 row_state titles Sta2 (events.Got (pdus.AssociateRj reject)) = refl
 row_state titles Sta2 (events.Got (pdus.PData values)) = refl
@@ -52,7 +58,8 @@ row_state titles Sta2 (events.Bad faults.TooLong) = refl
 row_state titles Sta2 (events.Bad faults.Memory) = refl
 row_state titles Sta2 events.Ended = refl
 row_state titles Sta2 events.LocalAbort = refl
-row_state titles Sta6 (events.Got (pdus.AssociateRq request)) = request_state Sta6 titles request (value_for titles request) refl
+row_state titles Sta6 (events.Got (pdus.AssociateRq request)) = request_state Sta6 titles
+    request (value_for titles request) refl
 row_state titles Sta6 (events.Got (pdus.AssociateAc accept)) = refl
 row_state titles Sta6 (events.Got (pdus.AssociateRj reject)) = refl
 row_state titles Sta6 (events.Got (pdus.PData values)) = refl
@@ -66,7 +73,8 @@ row_state titles Sta6 (events.Bad faults.TooLong) = refl
 row_state titles Sta6 (events.Bad faults.Memory) = refl
 row_state titles Sta6 events.Ended = refl
 row_state titles Sta6 events.LocalAbort = refl
-row_state titles Sta13 (events.Got (pdus.AssociateRq request)) = request_state Sta13 titles request (value_for titles request) refl
+row_state titles Sta13 (events.Got (pdus.AssociateRq request)) = request_state Sta13 titles
+    request (value_for titles request) refl
 row_state titles Sta13 (events.Got (pdus.AssociateAc accept)) = refl
 row_state titles Sta13 (events.Got (pdus.AssociateRj reject)) = refl
 row_state titles Sta13 (events.Got (pdus.PData values)) = refl
@@ -103,25 +111,43 @@ left_row (Some actions.Close) s e = absurd (nothing_left s e)
 -- ---- what an event comes to
 
 -- an event whose values are none, or are dropped
-pub met_only : {V : Type 0} (titles : List (Title V)) (now new : AssociationState V) (event : Event) (deeds : List Deed) → now.awaited ≡ None → new ≡ entered titles now event → deeds ≡ row titles now.within.state event
+pub met_only : {V : Type 0} (titles : List (Title V)) (now new : AssociationState V) (event : Event) (deeds : List Deed)
+    → now.awaited ≡ None → new ≡ entered titles now event → deeds ≡ row titles now.within.state event
     → Turned titles now (IsHeard event) deeds new
 met_only {V = W} titles now new event deeds idle is row_is = record {
   said = [];
   values = subst (λ (t : AssociationState W). HearsValues (entered titles now event) [] t) (sym is)
-      (record { fed = []; left = (entered titles now event).queue; answers = []; parts = refl; kept = inl refl; run = refl; memory = tt; says = refl });
+      (record {
+        fed = [];
+        left = (entered titles now event).queue;
+        answers = [];
+        parts = refl;
+        kept = inl refl;
+        run =
+            refl;
+        memory = tt;
+        says = refl;
+      });
   leads = ap (λ (t : AssociationState W). t.within) is;
-  takes = subst (λ (t : List Deed). Takes titles now (Met event ∷ []) [] t new) (sym row_is) (takes_row titles now new event idle is);
-  stops = subst (λ (t : List Deed). Stops t new.awaited) (sym row_is) (row_stops (action_on titles now.within.state event) new.awaited (ap (λ (t : AssociationState W). t.awaited) is ∙ idle));
-  state = ap (λ (t : AssociationState W). t.within.state) is ∙ sym (row_state titles now.within.state event) ∙ sym (ap (λ (t : List Deed). state_after now.within.state t) row_is);
+  takes = subst (λ (t : List Deed). Takes titles now (Met event ∷ []) [] t new) (sym row_is)
+      (takes_row titles now new event idle is);
+  stops = subst (λ (t : List Deed). Stops t new.awaited) (sym row_is)
+      (row_stops (action_on titles now.within.state event) new.awaited (ap (λ (t : AssociationState W). t.awaited) is
+      ∙ idle));
+  state = ap (λ (t : AssociationState W). t.within.state) is ∙ sym (row_state titles now.within.state event)
+      ∙ sym (ap (λ (t : List Deed). state_after now.within.state t) row_is);
   told = tt;
 }
 
 -- an event whose values are heard
-pub heard_on : {V : Type 0} (titles : List (Title V)) (now mid new : AssociationState V) (event : Event) (deeds : List Deed) → now.awaited ≡ None → mid ≡ entered titles now event
-    → is_left mid.within.state mid.queue ≡ true → Turned titles mid GoesOn deeds new → Turned titles now (IsHeard event) deeds new
+pub heard_on : {V : Type 0} (titles : List (Title V)) (now mid new : AssociationState V) (event : Event)
+    (deeds : List Deed) → now.awaited ≡ None → mid ≡ entered titles now event
+    → is_left mid.within.state mid.queue ≡ true → Turned titles mid GoesOn deeds new → Turned titles now (IsHeard event)
+    deeds new
 heard_on {V = W} titles now mid new event deeds idle is left turned =
     let none : row titles now.within.state event ≡ [] =
-    left_row (action_on titles now.within.state event) (entered titles now event).within.state (ap (λ (t : AssociationState W). is_left t.within.state t.queue) (sym is) ∙ left) in
+    left_row (action_on titles now.within.state event) (entered titles now event).within.state
+    (ap (λ (t : AssociationState W). is_left t.within.state t.queue) (sym is) ∙ left) in
     record {
       said = turned.said;
       values = subst (λ (t : AssociationState W). HearsValues t turned.said new) is turned.values;
@@ -131,10 +157,13 @@ heard_on {V = W} titles now mid new event deeds idle is left turned =
             deeds ++ rest,
             ap (λ (t : List Deed). t ++ (deeds ++ rest)) (sym none),
             owed_idle titles (entered titles now event) (turned.said ++ us) rs (deeds ++ rest) idle
-                (subst (λ (t : AssociationState W). Owes titles t (turned.said ++ us) rs (deeds ++ rest)) is (turned.takes us rs rest owed)),
+                (subst (λ (t : AssociationState W). Owes titles t (turned.said ++ us) rs (deeds ++ rest))
+                is (turned.takes us rs rest owed)),
           );
       stops = turned.stops;
       state = turned.state
-          ∙ ap (λ (s : State). state_after s deeds) (ap (λ (t : AssociationState W). t.within.state) is ∙ sym (row_state titles now.within.state event) ∙ ap (λ (t : List Deed). state_after now.within.state t) none);
+          ∙ ap (λ (s : State). state_after s deeds) (ap (λ (t : AssociationState W). t.within.state) is
+          ∙ sym (row_state titles now.within.state event) ∙ ap (λ (t : List Deed). state_after now.within.state t)
+          none);
       told = tt;
     }

@@ -1,5 +1,6 @@
 -- Two lists of deeds over one beginning agree.
-use Rattle.std.proofs.Common.{◌≡◌, ℕ, List, [], ◌∷◌, ◌++◌, map, sym, ap, subst, ◌∙◌, append_assoc, append-nil, Bool, length, length-append, ◌+◌, suc, arith, Option, Some, None, Result, Ok, Err, drop}
+use Rattle.std.proofs.Common.{◌≡◌, ℕ, List, [], ◌∷◌, ◌++◌, map, sym, ap, subst, ◌∙◌, append_assoc, append-nil, Bool}
+use Rattle.std.proofs.Common.{length, length-append, ◌+◌, suc, arith, Option, Some, None, Result, Ok, Err, drop}
 use Rattle.pdu.specs.declared.value.Pdu.{Pdu}
 use Rattle.pdu.specs.declared.context.Context.{Context}
 use Rattle.ul_state.specs.declared.event.Event.TheVariants.{LocalAbort}
@@ -29,13 +30,16 @@ use Rattle.association_session.specs.Response.{Awaited, Responds}
 use Rattle.association_session.specs.Row.{Within, Link, row, met}
 use Rattle.association_session.specs.Context.{context_in}
 use Rattle.association_session.specs.Service.{kind_of, Serves, ServesOn, ServesKind}
-use Rattle.association_session.specs.Store.{status_of_reply, status_of_fault, ServesStore, ServesDraft, store_refusal, draft_for}
-use Rattle.association_session.specs.Talks.{Heard, Met, Said, Goes, Then, Tells, Follows, Does, InState, Answers, Talks, awaiting}
+use Rattle.association_session.specs.Store.{status_of_reply, status_of_fault, ServesStore, ServesDraft, store_refusal}
+use Rattle.association_session.specs.Store.{draft_for}
+use Rattle.association_session.specs.Talks.{Heard, Met, Said, Goes, Then, Tells, Follows, Does, InState, Answers, Talks}
+use Rattle.association_session.specs.Talks.{awaiting}
 
 -- ---- one response, one service
 
 -- A text goes in one list of fragments.
-sends_once : (size context : ℕ) (command : Bool) (text : List ℕ) (a b : List Pdu) → Sends size context command text a → Sends size context command text b → a ≡ b
+sends_once : (size context : ℕ) (command : Bool) (text : List ℕ) (a b : List Pdu) → Sends size context command text a
+    → Sends size context command text b → a ≡ b
 sends_once size context command text [] b p q = absurd p
 sends_once size context command text (x ∷ []) [] p q = absurd q
 sends_once size context command text (x ∷ []) (y ∷ []) p q = ap (λ (t : Pdu). t ∷ []) (p.1 ∙ sym q.1)
@@ -48,7 +52,8 @@ sends_once size context command text (x ∷ w ∷ a) (y ∷ z ∷ b) p q =
     cc
 
 -- A request has one response with a status.
-pub response_once : (awaited : Awaited) (status : Status) (a b : List Pdu) → Responds awaited status a → Responds awaited status b → a ≡ b
+pub response_once : (awaited : Awaited) (status : Status) (a b : List Pdu) → Responds awaited status a
+    → Responds awaited status b → a ≡ b
 response_once awaited status a b p q =
     let first : p.of_command ≡ q.of_command = sends_once _ _ _ _ p.of_command q.of_command p.command q.command in
     let rest : p.of_data ≡ q.of_data = p.data_set ∙ sym q.data_set in
@@ -62,10 +67,12 @@ same_fault f g e = cc
 
 draft_once : (draft : Draft) (a b : Service) → ServesDraft draft a → ServesDraft draft b → a ≡ b
 draft_once draft (Asked c) (Asked d) p q = let e : Ok c ≡ Ok d = outcome_once draft (Ok c) (Ok d) p q in cc
-draft_once draft (Asked c) (Responded t) p q = let e : Ok c ≡ Err q.0 = outcome_once draft (Ok c) (Err q.0) p q.1 in absurd cc
+draft_once draft (Asked c) (Responded t) p q = let e : Ok c ≡ Err q.0 = outcome_once draft (Ok c) (Err q.0) p q.1 in
+    absurd cc
 draft_once draft (Asked c) Ignored p q = absurd q
 draft_once draft (Asked c) Broken p q = absurd q
-draft_once draft (Responded s) (Asked d) p q = let e : Err p.0 ≡ Ok d = outcome_once draft (Err p.0) (Ok d) p.1 q in absurd cc
+draft_once draft (Responded s) (Asked d) p q = let e : Err p.0 ≡ Ok d = outcome_once draft (Err p.0) (Ok d) p.1 q in
+    absurd cc
 draft_once draft (Responded s) (Responded t) p q =
     let f : p.0 ≡ q.0 = same_fault p.0 q.0 (outcome_once draft (Err p.0) (Err q.0) p.1 q.1) in
     ap (λ (x : Status). Responded x) (p.2 ∙ ap (λ (x : OpFault). status_of_fault x) f ∙ sym q.2)
@@ -74,25 +81,30 @@ draft_once draft (Responded s) Broken p q = absurd q
 draft_once draft Ignored b p q = absurd p
 draft_once draft Broken b p q = absurd p
 
-store_once : (context : Context) (command : Command) (body : Option (List ℕ)) (refusal : Option Status) (a b : Service) → ServesStore context command body refusal a → ServesStore context command body refusal b → a ≡ b
+store_once : (context : Context) (command : Command) (body : Option (List ℕ)) (refusal : Option Status) (a b : Service)
+    → ServesStore context command body refusal a → ServesStore context command body refusal b → a ≡ b
 store_once context command body (Some status) a b p q = p ∙ sym q
 store_once context command None None a b p q = p ∙ sym q
 store_once context command (Some body) None a b p q = draft_once (draft_for context command body) a b p q
 
-kind_once : (kind : Kind) (context : Context) (command : Command) (body : Option (List ℕ)) (a b : Service) → ServesKind kind context command body a → ServesKind kind context command body b → a ≡ b
+kind_once : (kind : Kind) (context : Context) (command : Command) (body : Option (List ℕ)) (a b : Service)
+    → ServesKind kind context command body a → ServesKind kind context command body b → a ≡ b
 kind_once kinds.Response context command body a b p q = p ∙ sym q
 kind_once kinds.Cancel context command body a b p q = p ∙ sym q
 kind_once kinds.Query context command body a b p q = p ∙ sym q
 kind_once kinds.Echo context command body a b p q = p ∙ sym q
-kind_once kinds.Store context command body a b p q = store_once context command body (store_refusal context command) a b p q
+kind_once kinds.Store context command body a b p q = store_once context command body (store_refusal context command) a b
+    p q
 kind_once kinds.Unknown context command body a b p q = p ∙ sym q
 
-serves_on_once : (context : Option Context) (command : Command) (body : Option (List ℕ)) (a b : Service) → ServesOn context command body a → ServesOn context command body b → a ≡ b
+serves_on_once : (context : Option Context) (command : Command) (body : Option (List ℕ)) (a b : Service)
+    → ServesOn context command body a → ServesOn context command body b → a ≡ b
 serves_on_once None command body a b p q = p ∙ sym q
 serves_on_once (Some context) command body a b p q = kind_once (kind_of command.field) context command body a b p q
 
 -- A message is answered in one way.
-pub serves_once : (contexts : List Context) (m : Message) (a b : Service) → Serves contexts m a → Serves contexts m b → a ≡ b
+pub serves_once : (contexts : List Context) (m : Message) (a b : Service) → Serves contexts m a → Serves contexts m b
+    → a ≡ b
 serves_once contexts m a b p q = serves_on_once (context_in contexts m.context) m.command m.body a b p q
 
 -- ---- fronts
@@ -100,50 +112,67 @@ serves_once contexts m a b p q = serves_on_once (context_in contexts m.context) 
 pub none_front : (a b : List Deed) → a ≡ [] → IsFront a b
 none_front a b p = (b, ap (λ (t : List Deed). t ++ b) (sym p))
 
-pub then_front : (now : List Deed) (R S : List Deed → Type 0) (a b : List Deed) → ((x y : List Deed) → R x → S y → IsFront x y) → Then now R a → Then now S b → IsFront a b
+pub then_front : (now : List Deed) (R S : List Deed → Type 0) (a b : List Deed)
+    → ((x y : List Deed) → R x → S y → IsFront x y) → Then now R a → Then now S b → IsFront a b
 then_front now R S a b goes p q =
-    let f = goes p.0 q.0 p.2 q.2 in
-    (f.0, q.1 ∙ ap (λ (t : List Deed). now ++ t) f.1 ∙ sym (append_assoc now p.0 f.0) ∙ ap (λ (t : List Deed). t ++ f.0) (sym p.1))
+    let f = goes p.0 q.0 p.2 q.2 in (
+      f.0,
+      q.1 ∙ ap (λ (t : List Deed). now ++ t) f.1 ∙ sym (append_assoc now p.0 f.0) ∙ ap (λ (t : List Deed). t ++ f.0)
+          (sym p.1),
+    )
 
-tells_front : (awaited : Awaited) (status : Status) (R S : List Deed → Type 0) (a b : List Deed) → ((x y : List Deed) → R x → S y → IsFront x y)
+tells_front : (awaited : Awaited) (status : Status) (R S : List Deed → Type 0) (a b : List Deed)
+    → ((x y : List Deed) → R x → S y → IsFront x y)
     → Tells awaited status R a → Tells awaited status S b → IsFront a b
 tells_front awaited status R S a b goes p q =
-    then_front (map Send p.0) R S a b goes p.2 (subst (λ (t : List Pdu). Then (map Send t) S b) (sym (response_once awaited status p.0 q.0 p.1 q.1)) q.2)
+    then_front (map Send p.0) R S a b goes p.2 (subst (λ (t : List Pdu). Then (map Send t) S b)
+    (sym (response_once awaited status p.0 q.0 p.1 q.1)) q.2)
 
 -- These go on as those do.
 abbrev pub GoOn : Goes → Goes → Type 0
 GoOn R S = (rs others : List Reply) (x y : List Deed) → R rs x → S (rs ++ others) y → IsFront x y
 
-follows_front : (awaited : Awaited) (R S : Goes) (rs others : List Reply) (a b : List Deed) → GoOn R S → Follows awaited R rs a → Follows awaited S (rs ++ others) b → IsFront a b
+follows_front : (awaited : Awaited) (R S : Goes) (rs others : List Reply) (a b : List Deed) → GoOn R S
+    → Follows awaited R rs a → Follows awaited S (rs ++ others) b → IsFront a b
 follows_front awaited R S [] others a b goes p q = none_front a b p
-follows_front awaited R S (Stored reply ∷ rs) others a b goes p q = tells_front awaited (status_of_reply reply) (R rs) (S (rs ++ others)) a b (goes rs others) p q
+follows_front awaited R S (Stored reply ∷ rs) others a b goes p q = tells_front awaited (status_of_reply reply) (R rs)
+    (S (rs ++ others)) a b (goes rs others) p q
 
-does_front : (service : Service) (awaited : Awaited) (abort : List Deed) (R S R' S' : Goes) (rs others : List Reply) (a b : List Deed) → GoOn R S → GoOn R' S'
+does_front : (service : Service) (awaited : Awaited) (abort : List Deed) (R S R' S' : Goes) (rs others : List Reply)
+    (a b : List Deed) → GoOn R S → GoOn R' S'
     → Does service awaited abort R R' rs a → Does service awaited abort S S' (rs ++ others) b → IsFront a b
 does_front Ignored awaited abort R S R' S' rs others a b goes gone p q = goes rs others a b p q
-does_front Broken awaited abort R S R' S' rs others a b goes gone p q = then_front abort (R' rs) (S' (rs ++ others)) a b (gone rs others) p q
-does_front (Responded status) awaited abort R S R' S' rs others a b goes gone p q = tells_front awaited status (R rs) (S (rs ++ others)) a b (goes rs others) p q
+does_front Broken awaited abort R S R' S' rs others a b goes gone p q = then_front abort (R' rs) (S' (rs ++ others)) a
+    b (gone rs others) p q
+does_front (Responded status) awaited abort R S R' S' rs others a b goes gone p q = tells_front awaited status (R rs)
+    (S (rs ++ others)) a b (goes rs others) p q
 does_front (Asked content) awaited abort R S R' S' rs others a b goes gone p q =
-    then_front (Reach InStore ∷ Ask (Store content) ∷ []) (Follows awaited R rs) (Follows awaited S (rs ++ others)) a b (λ x y. follows_front awaited R S rs others x y goes) p q
+    then_front (Reach InStore ∷ Ask (Store content) ∷ []) (Follows awaited R rs) (Follows awaited S (rs ++ others)) a
+    b (λ x y. follows_front awaited R S rs others x y goes) p q
 
-answers_front : (link : Link) (m : Message) (abort : List Deed) (R S R' S' : Goes) (rs others : List Reply) (a b : List Deed) → GoOn R S → GoOn R' S'
+answers_front : (link : Link) (m : Message) (abort : List Deed) (R S R' S' : Goes) (rs others : List Reply)
+    (a b : List Deed) → GoOn R S → GoOn R' S'
     → Answers link m abort R R' rs a → Answers link m abort S S' (rs ++ others) b → IsFront a b
 answers_front link m abort R S R' S' rs others a b goes gone p q =
     does_front p.0 (awaiting link m) abort R S R' S' rs others a b goes gone p.2
-    (subst (λ (s : Service). Does s (awaiting link m) abort S S' (rs ++ others) b) (sym (serves_once link.contexts m p.0 q.0 p.1 q.1)) q.2)
+    (subst (λ (s : Service). Does s (awaiting link m) abort S S' (rs ++ others) b)
+    (sym (serves_once link.contexts m p.0 q.0 p.1 q.1)) q.2)
 
-in_state_front : (state : State) (R S R' S' : Goes) → GoOn R S → GoOn R' S' → GoOn (InState state R R') (InState state S S')
+in_state_front : (state : State) (R S R' S' : Goes) → GoOn R S → GoOn R' S' → GoOn (InState state R R')
+    (InState state S S')
 in_state_front Sta1 R S R' S' served dropped = dropped
 in_state_front Sta2 R S R' S' served dropped = dropped
 in_state_front Sta6 R S R' S' served dropped = served
 in_state_front Sta13 R S R' S' served dropped = dropped
 
 -- Whatever is heard or replied later only adds deeds.
-pub talks_front : {V : Type 0} (titles : List (Title V)) (w : Within V) (us more : List Heard) (rs others : List Reply) (a b : List Deed)
+pub talks_front : {V : Type 0} (titles : List (Title V)) (w : Within V) (us more : List Heard) (rs others : List Reply)
+    (a b : List Deed)
     → Talks titles w us rs a → Talks titles w (us ++ more) (rs ++ others) b → IsFront a b
 talks_front titles w [] more rs others a b p q = none_front a b p
 talks_front titles w (Met event ∷ us) more rs others a b p q =
-    then_front (row titles w.state event) (Talks titles (met titles w event) us rs) (Talks titles (met titles w event) (us ++ more) (rs ++ others)) a b
+    then_front (row titles w.state event) (Talks titles (met titles w event) us rs)
+    (Talks titles (met titles w event) (us ++ more) (rs ++ others)) a b
     (talks_front titles (met titles w event) us more rs others) p q
 talks_front titles w (Said m ∷ us) more rs others a b p q =
     let gone = met titles w LocalAbort in
@@ -152,7 +181,8 @@ talks_front titles w (Said m ∷ us) more rs others a b p q =
     (Answers w.link m abort (Talks titles w us) (Talks titles gone us))
     (Answers w.link m abort (Talks titles w (us ++ more)) (Talks titles gone (us ++ more)))
     (Talks titles w us) (Talks titles w (us ++ more))
-    (λ rs' others' x y. answers_front w.link m abort (Talks titles w us) (Talks titles w (us ++ more)) (Talks titles gone us) (Talks titles gone (us ++ more)) rs' others' x y
+    (λ rs' others' x y. answers_front w.link m abort (Talks titles w us) (Talks titles w (us ++ more))
+    (Talks titles gone us) (Talks titles gone (us ++ more)) rs' others' x y
     (talks_front titles w us more) (talks_front titles gone us more))
     (talks_front titles w us more) rs others a b p q
 
@@ -166,13 +196,16 @@ none_longer a b (d ∷ f) g p q =
     let h : length a ≡ length b + length g = ap length q ∙ length-append b g in
     absurd (omega (arith, e, h))
 
-talks_later : {V : Type 0} (titles : List (Title V)) (w : Within V) (us : List Heard) (rs : List Reply) (a b : List Deed) → Talks titles w us rs a → Talks titles w us rs b → IsFront a b
+talks_later : {V : Type 0} (titles : List (Title V)) (w : Within V) (us : List Heard) (rs : List Reply)
+    (a b : List Deed) → Talks titles w us rs a → Talks titles w us rs b → IsFront a b
 talks_later titles w us rs a b p q =
     talks_front titles w us [] rs [] a b p
-    (subst (λ (t : List Heard). Talks titles w t (rs ++ []) b) (sym (append-nil us)) (subst (λ (t : List Reply). Talks titles w us t b) (sym (append-nil rs)) q))
+    (subst (λ (t : List Heard). Talks titles w t (rs ++ []) b) (sym (append-nil us))
+    (subst (λ (t : List Reply). Talks titles w us t b) (sym (append-nil rs)) q))
 
 -- What was heard and what was replied leave one list of deeds.
-pub talks_once : {V : Type 0} (titles : List (Title V)) (w : Within V) (us : List Heard) (rs : List Reply) (a b : List Deed) → Talks titles w us rs a → Talks titles w us rs b → a ≡ b
+pub talks_once : {V : Type 0} (titles : List (Title V)) (w : Within V) (us : List Heard) (rs : List Reply)
+    (a b : List Deed) → Talks titles w us rs a → Talks titles w us rs b → a ≡ b
 talks_once titles w us rs a b p q =
     let f = talks_later titles w us rs a b p q in
     let g = talks_later titles w us rs b a q p in

@@ -1,5 +1,6 @@
 -- What the acceptor answers, and what an acceptance agrees.
-use Rattle.std.proofs.Common.{◌≡◌, Bool, true, cond, List, [], ◌∷◌, Option, Some, None, ◌++◌, ◌<◌, length, arith, refl, sym, ap, subst, ◌∙◌}
+use Rattle.std.proofs.Common.{◌≡◌, Bool, true, cond, List, [], ◌∷◌, Option, Some, None, ◌++◌, ◌<◌, length, arith, refl}
+use Rattle.std.proofs.Common.{sym, ap, subst, ◌∙◌}
 use Rattle.std.specs.Prelude.{IsTrue, IsSome, IfSome, option_to_list, All}
 use Rattle.ul_state.specs.declared.table.State.{State}
 use Rattle.ul_state.specs.declared.acceptor.Settled.{Settled}
@@ -17,18 +18,22 @@ use Rattle.association_session.specs.Session.{AssociationState, Linked, stage_by
 use Rattle.association_session.proofs.LimitLaws.{settled_fits}
 
 -- What is agreed then takes a fragment.
-pub agreed_fits : {V : Type 0} (titles : List (Title V)) (state next : State) (event : Event) (old settled : Option (Settled V)) → next ≡ next_of state (kind_for titles event) → settled ≡ settled_by state titles event old
+pub agreed_fits : {V : Type 0} (titles : List (Title V)) (state next : State) (event : Event)
+    (old settled : Option (Settled V)) → next ≡ next_of state (kind_for titles event) → settled ≡ settled_by state
+    titles event old
     → IsTrue (opens state next) → IsSome settled → FitsLimit (limit_in event)
 agreed_fits {V = W} titles state next event old settled is settles opened some =
     let kind = kind_for titles event in
     let opens_so : opens state (next_of state kind) ≡ true = ap (opens state) (sym is) ∙ opened in
-    settled_fits titles event (subst (λ (o : Option (Settled W)). IsSome o) (settles ∙ settles_where_it_opens state kind (settled_for titles event) old ∙ ap (λ (b : Bool). cond b (settled_for titles event) old) opens_so) some)
+    settled_fits titles event (subst (λ (o : Option (Settled W)). IsSome o) (settles ∙ settles_where_it_opens state
+    kind (settled_for titles event) old ∙ ap (λ (b : Bool). cond b (settled_for titles event) old) opens_so) some)
 
 none_is_some : IsSome {T = Action} None → ⊥
 none_is_some some = absurd cc
 
 -- the only element of a list of one, or none
-pub popped : (rest : List Action) (last action : Option Action) → option_to_list action ≡ rest ++ option_to_list last → (0 < length (option_to_list action) → IsSome last) → last ≡ action
+pub popped : (rest : List Action) (last action : Option Action) → option_to_list action ≡ rest ++ option_to_list last
+    → (0 < length (option_to_list action) → IsSome last) → last ≡ action
 popped rest None None parts some = refl
 popped rest None (Some a) parts some = absurd (none_is_some (some (omega arith)))
 popped [] (Some x) None parts some = absurd cc
@@ -38,22 +43,50 @@ popped (y ∷ []) (Some x) (Some a) parts some = absurd cc
 popped (y ∷ z ∷ rest) (Some x) (Some a) parts some = absurd cc
 
 -- what can be written of the list
-pub popped_writable : (action last : Option Action) → last ≡ action → All CanBeWritten (option_to_list action) → IfSome last CanBeWritten
+pub popped_writable : (action last : Option Action) → last ≡ action → All CanBeWritten (option_to_list action)
+    → IfSome last CanBeWritten
 popped_writable None last is all = subst (λ (o : Option Action). IfSome o CanBeWritten) (sym is) tt
-popped_writable (Some a) last is all = subst (λ (o : Option Action). IfSome o CanBeWritten) (sym is) (all 0 a (omega arith))
+popped_writable (Some a) last is all = subst (λ (o : Option Action). IfSome o CanBeWritten) (sym is)
+    (all 0 a (omega arith))
 
 pub some_same : {A : Type 0} (a b : Option A) → a ≡ b → IsSome a → IsSome b
 some_same {A = B} a b same some = subst (λ (o : Option B). IsSome o) same some
 
 -- where an event leads, part by part
-pub entered_is : {V : Type 0} (titles : List (Title V)) (now : AssociationState V) (event : Event) (before : State) (agreed : Option (Settled V)) (old : Linked) (awaited : Option Awaited) (queue : List Pdv)
+pub entered_is : {V : Type 0} (titles : List (Title V)) (now : AssociationState V) (event : Event) (before : State)
+    (agreed : Option (Settled V)) (old : Linked) (awaited : Option Awaited) (queue : List Pdv)
     (state : State) (settled : Option (Settled V)) (l : Linked) (left : List Pdv)
-    → record { within = record { state = before; settled = agreed; link = old.link }; stage = old.stage; awaited = awaited; queue = queue } ≡ now
+    → record {
+      within = record { state = before; settled = agreed; link = old.link };
+      stage = old.stage;
+      awaited =
+          awaited;
+      queue = queue;
+    } ≡ now
     → state ≡ next_of before (kind_for titles event) → settled ≡ settled_by before titles event agreed
-    → l.link ≡ agreed_by (opens before state) (limit_in event) settled old.link → l.stage ≡ stage_by (opens before state) old.stage → left ≡ handed_on titles before event
-    → record { within = record { state = state; settled = settled; link = l.link }; stage = l.stage; awaited = awaited; queue = left } ≡ entered titles now event
+    → l.link ≡ agreed_by (opens before state) (limit_in event) settled old.link
+    → l.stage ≡ stage_by (opens before state) old.stage → left ≡ handed_on titles before event
+    → record {
+      within = record { state = state; settled = settled; link = l.link };
+      stage = l.stage;
+      awaited =
+          awaited;
+      queue = left;
+    } ≡ entered titles now event
 entered_is {V = W} titles now event before agreed old awaited queue state settled l left stood a b c d e =
-    let s : AssociationState W = record { within = record { state = before; settled = agreed; link = old.link }; stage = old.stage; awaited = awaited; queue = queue } in
-    let t : AssociationState W = record { within = record { state = state; settled = settled; link = l.link }; stage = l.stage; awaited = awaited; queue = left } in
+    let s : AssociationState W = record {
+      within = record { state = before; settled = agreed; link = old.link };
+      stage =
+          old.stage;
+      awaited = awaited;
+      queue = queue;
+    } in
+    let t : AssociationState W = record {
+      within = record { state = state; settled = settled; link = l.link };
+      stage =
+          l.stage;
+      awaited = awaited;
+      queue = left;
+    } in
     let here : t ≡ entered titles s event = cc in
     here ∙ ap (λ (k : AssociationState W). entered titles k event) stood

@@ -1,7 +1,8 @@
 -- Requests, and the responses that they have (PS3.7, 9.3).
 use Rattle.std.specs.Prelude.{◌≡◌, ◌⊎◌, List, [], ◌∷◌, ◌++◌, map, ⊤}
 use Rattle.pdu.specs.declared.value.Pdu.{Pdu}
-use Rattle.pdu.specs.declared.value.Pdu.TheVariants.{AssociateRq, AssociateAc, AssociateRj, PData, ReleaseRq, ReleaseRp, Abort}
+use Rattle.pdu.specs.declared.value.Pdu.TheVariants.{AssociateRq, AssociateAc, AssociateRj, PData, ReleaseRq, ReleaseRp}
+use Rattle.pdu.specs.declared.value.Pdu.TheVariants.{Abort}
 use Rattle.ul_state.specs.declared.event.Event.TheVariants.{LocalAbort}
 use Rattle.ul_state.specs.declared.table.State.{State}
 use Rattle.ul_state.specs.declared.table.State.TheVariants.{Sta1, Sta2, Sta6, Sta13}
@@ -36,7 +37,8 @@ abbrev pub AreResponded : List Awaited → List Deed → Type 0
 AreResponded [] ds = HasNoData ds
 AreResponded (a ∷ requests) ds =
     (before behind : List Deed) × (response : List Pdu) × (status : Status)
-    × (ds ≡ before ++ (map Send response ++ behind)) × HasNoData before × Responds a status response × AreResponded requests behind
+    × (ds ≡ before ++ (map Send response ++ behind)) × HasNoData before × Responds a status response
+    × AreResponded requests behind
 
 -- what is to be responded of a message that is served so, and then of what stands behind it
 abbrev pub RequestFor : Service → Awaited → (List Awaited → Type 0) → (List Awaited → Type 0) → List Awaited → Type 0
@@ -58,15 +60,18 @@ Requests titles w [] requests = requests ≡ []
 Requests titles w (Met event ∷ us) requests = Requests titles (met titles w event) us requests
 Requests titles w (Said m ∷ us) requests =
     RequestIn w.state
-    (λ bs. (service : Service) × Serves w.link.contexts m service × RequestFor service (awaiting w.link m) (Requests titles w us) (Requests titles (met titles w LocalAbort) us) bs)
+    (λ bs. (service : Service) × Serves w.link.contexts m service × RequestFor service (awaiting w.link m)
+    (Requests titles w us) (Requests titles (met titles w LocalAbort) us) bs)
     (Requests titles w us) requests
 
 -- A call is the last deed.
 abbrev pub EndsInCall : List Deed → Type 0
 EndsInCall ds = (front : List Deed) × (call : Call) × (ds ≡ front ++ Ask call ∷ [])
 
--- Each request that was heard has one response; or a call has no reply yet, and of what was heard up to its request each but that has one.
+-- Each request that was heard has one response; or a call has no reply yet, and of what was heard up to its request
+-- each but that has one.
 abbrev pub HasResponses : {V : Type 0} → List (Title V) → Within V → List Heard → List Deed → Type 0
 HasResponses titles w us ds =
     ((requests : List Awaited) × Requests titles w us requests × AreResponded requests ds)
-    ⊎ ((front more : List Heard) × (requests : List Awaited) × (a : Awaited) × (us ≡ front ++ more) × Requests titles w front (requests ++ a ∷ []) × AreResponded requests ds × EndsInCall ds)
+    ⊎ ((front more : List Heard) × (requests : List Awaited) × (a : Awaited) × (us ≡ front ++ more)
+    × Requests titles w front (requests ++ a ∷ []) × AreResponded requests ds × EndsInCall ds)

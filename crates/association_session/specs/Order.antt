@@ -1,6 +1,7 @@
 -- What holds of every list of deeds.
 use Rattle.std.specs.Prelude.{◌≡◌, List, [], ◌∷◌, ⊤}
-use Rattle.pdu.specs.declared.value.Pdu.TheVariants.{AssociateRq, AssociateAc, AssociateRj, PData, ReleaseRq, ReleaseRp, Abort}
+use Rattle.pdu.specs.declared.value.Pdu.TheVariants.{AssociateRq, AssociateAc, AssociateRj, PData, ReleaseRq, ReleaseRp}
+use Rattle.pdu.specs.declared.value.Pdu.TheVariants.{Abort}
 use Rattle.ul_state.specs.declared.table.State.{State}
 use Rattle.ul_state.specs.declared.table.State.TheVariants.{Sta1, Sta2, Sta6, Sta13}
 use Rattle.association_session.specs.declared.deed.Deed.{Deed}
@@ -8,7 +9,8 @@ use Rattle.association_session.specs.declared.deed.Deed.TheVariants.{Send, Reach
 use Rattle.association_session.specs.declared.reply.Reply.{Reply}
 use Rattle.association_session.specs.Projections.{state_after}
 
--- What may be done in a state (PS3.8, 9.2): anything while the association is established; before it no call of the port; once goodbye was
+-- What may be done in a state (PS3.8, 9.2): anything while the association is established; before it no call of the
+-- port; once goodbye was
 -- said an abort or a close; and nothing once the connection is closed.
 abbrev pub MayDo : State → Deed → Type 0
 MayDo Sta1 deed = ⊥

@@ -12,7 +12,8 @@ use Rattle.dimse.specs.Response.{response_of}
 use Rattle.dimse.specs.Status.{status_code}
 use Rattle.dimse.specs.Sending.{IsSending}
 
--- a request that awaits its response: its context, its command set, and the most bytes of a P-DATA-TF's body that are sent
+-- a request that awaits its response: its context, its command set, and the most bytes of a P-DATA-TF's body that are
+-- sent
 pub record Awaited : Type 0 where
   pub context : ℕ
   pub limit : ℕ

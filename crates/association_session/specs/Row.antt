@@ -22,7 +22,8 @@ pub record Link : Type 0 where
   pub contexts : List Context
   pub limit : ℕ
 
--- where an association is: the acceptor's state; the called title and what it stands for, and what was agreed, from the acceptance on
+-- where an association is: the acceptor's state; the called title and what it stands for, and what was agreed, from the
+-- acceptance on
 pub record Within (V : Type 0) : Type 0 where
   pub state : State
   pub settled : Option (Settled V)
@@ -86,5 +87,6 @@ abbrev pub met : {V : Type 0} → List (Title V) → Within V → Event → With
 met titles w event = record {
   state = next_of w.state (kind_for titles event);
   settled = settled_by w.state titles event w.settled;
-  link = agreed_by (opens w.state (next_of w.state (kind_for titles event))) (limit_in event) (settled_by w.state titles event w.settled) w.link;
+  link = agreed_by (opens w.state (next_of w.state (kind_for titles event))) (limit_in event)
+      (settled_by w.state titles event w.settled) w.link;
 }

@@ -34,7 +34,8 @@ ServesKind kinds.Response context command body service = service ≡ Broken
 ServesKind kinds.Cancel context command body service = service ≡ Ignored
 ServesKind kinds.Query context command body service = service ≡ Responded UnrecognizedOperation
 ServesKind kinds.Echo context command body service = service ≡ Responded (echo_status context command)
-ServesKind kinds.Store context command body service = ServesStore context command body (store_refusal context command) service
+ServesKind kinds.Store context command body service = ServesStore context command body (store_refusal context command)
+    service
 ServesKind kinds.Unknown context command body service = service ≡ Responded (unknown_status context command)
 
 -- Each message is on an accepted context; on another one it is no message.

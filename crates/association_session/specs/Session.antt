@@ -1,5 +1,6 @@
 -- What a session has done, and what it is still to do.
-use Rattle.std.specs.Prelude.{◌≡◌, ◌⊎◌, Bool, true, false, not, ◌||◌, List, [], ◌∷◌, ◌++◌, Option, Some, None, Result, Ok, Err, IsSome, map, length, ◌<◌, ⊤}
+use Rattle.std.specs.Prelude.{◌≡◌, ◌⊎◌, Bool, true, false, not, ◌||◌, List, [], ◌∷◌, ◌++◌, Option, Some, None, Result}
+use Rattle.std.specs.Prelude.{Ok, Err, IsSome, map, length, ◌<◌, ⊤}
 use Rattle.std.specs.List.{list_any}
 use Rattle.pdu.specs.declared.pdv.Pdv.{Pdv}
 use Rattle.pdu.specs.declared.value.Pdu.{Pdu}
@@ -38,7 +39,8 @@ pub record Linked : Type 0 where
   pub link : Link
   pub stage : Stage
 
--- what was agreed; what came since the last message; the request whose response awaits a reply of the port, where it was asked; and the
+-- what was agreed; what came since the last message; the request whose response awaits a reply of the port, where it
+-- was asked; and the
 -- values of the last P-DATA-TF that are not heard yet
 pub record AssociationState (V : Type 0) : Type 0 where
   pub within : Within V
@@ -83,9 +85,11 @@ abbrev pub Owes : {V : Type 0} → List (Title V) → AssociationState V → Lis
 Owes titles s us = OwedFor s.awaited (Talks titles s.within us)
 
 -- These deeds bring it from there to here: whatever is owed here, they and that are owed there.
-abbrev pub Takes : {V : Type 0} → List (Title V) → AssociationState V → List Heard → List Reply → List Deed → AssociationState V → Type 0
+abbrev pub Takes : {V : Type 0} → List (Title V) → AssociationState V → List Heard → List Reply → List Deed
+    → AssociationState V → Type 0
 Takes titles old heard replied deeds new =
-    (us : List Heard) (rs : List Reply) (rest : List Deed) → Owes titles new us rs rest → Owes titles old (heard ++ us) (replied ++ rs) (deeds ++ rest)
+    (us : List Heard) (rs : List Reply) (rest : List Deed) → Owes titles new us rs rest → Owes titles old (heard ++ us)
+    (replied ++ rs) (deeds ++ rest)
 
 -- A call is the last deed, and its reply is awaited. So is a close, and nothing is awaited.
 abbrev pub Stops : List Deed → Option Awaited → Type 0
@@ -112,15 +116,16 @@ abbrev pub assembly_of : {V : Type 0} → AssociationState V → Assembly
 assembly_of s = record { contexts = s.within.link.contexts; stage = s.stage }
 
 -- The first of the values were put together, and say this. The others are left, or are dropped where goodbye was said.
-pub record HearsValues {V : Type 0} (old : AssociationState V) (said : List Heard) (new : AssociationState V) : Type 0 where
-  pub fed : List Pdv
-  pub left : List Pdv
-  pub answers : List (Result (Option Message) DimseFault)
-  pub parts : old.queue ≡ fed ++ left
-  pub kept : (new.queue ≡ left) ⊎ IsLeft new.within.state
-  pub run : Run (assembly_of old) fed answers (assembly_of new)
-  pub memory : HadMemory answers
-  pub says : said ≡ heard_in answers
+pub record HearsValues {V : Type 0} (old : AssociationState V) (said : List Heard) (new : AssociationState V) : Type 0
+  where
+    pub fed : List Pdv
+    pub left : List Pdv
+    pub answers : List (Result (Option Message) DimseFault)
+    pub parts : old.queue ≡ fed ++ left
+    pub kept : (new.queue ≡ left) ⊎ IsLeft new.within.state
+    pub run : Run (assembly_of old) fed answers (assembly_of new)
+    pub memory : HadMemory answers
+    pub says : said ≡ heard_in answers
 
 -- ---- turns
 
@@ -180,7 +185,8 @@ IsToldBy (inputs.Heard event) awaited = ⊤
 IsToldBy inputs.GoesOn awaited = ⊤
 
 -- what it says, and the deeds for it, in order
-pub record Turned {V : Type 0} (titles : List (Title V)) (old : AssociationState V) (event : SessionEvent) (deeds : List Deed) (new : AssociationState V) : Type 0 where
+pub record Turned {V : Type 0} (titles : List (Title V)) (old : AssociationState V) (event : SessionEvent)
+    (deeds : List Deed) (new : AssociationState V) : Type 0 where
   pub said : List Heard
   pub values : HearsValues (started titles old event) said new
   pub leads : Leads titles (started titles old event).within said new.within
@@ -194,7 +200,8 @@ abbrev pub IsTold : Awaited → Status → List Deed → Type 0
 IsTold awaited status deeds = (response : List Pdu) × Responds awaited status response × (deeds ≡ map Send response)
 
 -- the deeds for a message, in order
-pub record Answered {V : Type 0} (titles : List (Title V)) (old : AssociationState V) (m : Message) (deeds : List Deed) (new : AssociationState V) : Type 0 where
+pub record Answered {V : Type 0} (titles : List (Title V)) (old : AssociationState V) (m : Message) (deeds : List Deed)
+    (new : AssociationState V) : Type 0 where
   pub leads : Leads titles old.within (Said m ∷ []) new.within
   pub takes : Takes titles old (Said m ∷ []) [] deeds new
   pub stops : Stops deeds new.awaited

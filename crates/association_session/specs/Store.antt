@@ -4,7 +4,8 @@ use Rattle.pdu.specs.declared.context.Context.{Context}
 use Rattle.ul_state.specs.Answer.{is_storage}
 use Rattle.dimse.specs.declared.command.Command.{Command}
 use Rattle.dimse.specs.declared.status.Status.{Status}
-use Rattle.dimse.specs.declared.status.Status.TheVariants.{Success, SopClassNotSupported, UnrecognizedOperation, OutOfResources, DataSetMismatch, CannotUnderstand}
+use Rattle.dimse.specs.declared.status.Status.TheVariants.{Success, SopClassNotSupported, UnrecognizedOperation}
+use Rattle.dimse.specs.declared.status.Status.TheVariants.{OutOfResources, DataSetMismatch, CannotUnderstand}
 use Rattle.operation.specs.declared.draft.Draft.{Draft}
 use Rattle.operation.specs.declared.fault.OpFault.{OpFault}
 use Rattle.operation.specs.declared.fault.OpFault.TheVariants.{Mismatch}
@@ -46,7 +47,8 @@ status_for_reply (Stored reply) = status_of_reply reply
 -- the content that a C-STORE brings, or its refusal
 abbrev pub ServesDraft : Draft → Service → Type 0
 ServesDraft draft (Asked content) = IsOutcome draft (Ok content)
-ServesDraft draft (Responded status) = (fault : OpFault) × IsOutcome draft (Err fault) × (status ≡ status_of_fault fault)
+ServesDraft draft (Responded status) = (fault : OpFault) × IsOutcome draft (Err fault)
+    × (status ≡ status_of_fault fault)
 ServesDraft draft Ignored = ⊥
 ServesDraft draft Broken = ⊥
 

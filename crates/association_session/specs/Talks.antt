@@ -1,6 +1,7 @@
 -- What an association does for what it hears, given what its port replies (PS3.7, 9; PS3.8, 9.2).
 --
--- It hears PDUs, and behind each P-DATA-TF that is handed on the messages that it ends. What each message is answered is a table, a line a
+-- It hears PDUs, and behind each P-DATA-TF that is handed on the messages that it ends. What each message is answered
+-- is a table, a line a
 -- service: `ServesKind` of Service.antt, over a table for each service.
 use Rattle.std.specs.Prelude.{◌≡◌, List, [], ◌∷◌, ◌++◌, map}
 use Rattle.pdu.specs.declared.value.Pdu.{Pdu}
@@ -41,7 +42,8 @@ Then now Rest deeds = (rest : List Deed) × (deeds ≡ now ++ rest) × Rest rest
 
 -- The request is responded with this status, and then it goes on.
 abbrev pub Tells : Awaited → Status → (List Deed → Type 0) → List Deed → Type 0
-Tells awaited status Rest deeds = (response : List Pdu) × Responds awaited status response × Then (map Send response) Rest deeds
+Tells awaited status Rest deeds = (response : List Pdu) × Responds awaited status response × Then (map Send response)
+    Rest deeds
 
 -- what is done on the port's reply; where none came yet, nothing is done
 abbrev pub Follows : Awaited → Goes → Goes
@@ -54,13 +56,15 @@ Follows awaited goes (Stored reply ∷ rs) deeds = Tells awaited (status_of_repl
 abbrev pub awaiting : Link → Message → Awaited
 awaiting link m = record { context = m.context; limit = link.limit; command = m.command }
 
--- By what it is answered: nothing; an abort of the local user, behind which it goes as `gone` says; a response; or the gate is reached, the
+-- By what it is answered: nothing; an abort of the local user, behind which it goes as `gone` says; a response; or the
+-- gate is reached, the
 -- port is asked, and its reply is told.
 abbrev pub Does : Service → Awaited → List Deed → Goes → Goes → Goes
 Does Ignored awaited abort goes gone rs deeds = goes rs deeds
 Does Broken awaited abort goes gone rs deeds = Then abort (gone rs) deeds
 Does (Responded status) awaited abort goes gone rs deeds = Tells awaited status (goes rs) deeds
-Does (Asked content) awaited abort goes gone rs deeds = Then (Reach InStore ∷ Ask (Store content) ∷ []) (Follows awaited goes rs) deeds
+Does (Asked content) awaited abort goes gone rs deeds = Then (Reach InStore ∷ Ask (Store content) ∷ [])
+    (Follows awaited goes rs) deeds
 
 -- While the association is established a message is served; at any other time it is dropped.
 abbrev pub InState : State → Goes → Goes → Goes
@@ -71,7 +75,8 @@ InState Sta13 served dropped = dropped
 
 -- What it is answered is its line in the table of answers.
 abbrev pub Answers : Link → Message → List Deed → Goes → Goes → Goes
-Answers link m abort goes gone rs deeds = (service : Service) × Serves link.contexts m service × Does service (awaiting link m) abort goes gone rs deeds
+Answers link m abort goes gone rs deeds = (service : Service) × Serves link.contexts m service
+    × Does service (awaiting link m) abort goes gone rs deeds
 
 -- ---- what is done for all that is heard
 
@@ -79,7 +84,8 @@ abbrev pub Talks : {V : Type 0} → List (Title V) → Within V → List Heard �
 -- no more was heard
 Talks titles w [] rs deeds = deeds ≡ []
 -- the acceptor's table
-Talks titles w (Met event ∷ us) rs deeds = Then (row titles w.state event) (Talks titles (met titles w event) us rs) deeds
+Talks titles w (Met event ∷ us) rs deeds = Then (row titles w.state event) (Talks titles (met titles w event) us rs)
+    deeds
 -- the table of answers
 Talks titles w (Said m ∷ us) rs deeds =
     InState w.state
@@ -99,4 +105,5 @@ behind titles w (Asked content) = w
 abbrev pub Leads : {V : Type 0} → List (Title V) → Within V → List Heard → Within V → Type 0
 Leads titles w [] end = end ≡ w
 Leads titles w (Met event ∷ us) end = Leads titles (met titles w event) us end
-Leads titles w (Said m ∷ us) end = (w.state ≡ Sta6) × (service : Service) × Serves w.link.contexts m service × Leads titles (behind titles w service) us end
+Leads titles w (Said m ∷ us) end = (w.state ≡ Sta6) × (service : Service) × Serves w.link.contexts m service
+    × Leads titles (behind titles w service) us end

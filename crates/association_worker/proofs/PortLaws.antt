@@ -1,5 +1,6 @@
 -- What a site in memory holds after a store.
-use Rattle.std.proofs.Common.{◌≡◌, ◌++◌, ◌∷◌, [], ℕ, List, Bool, true, false, cond, Some, None, Result, Ok, Err, IfOk, OnOk, OnErr, inl, refl, sym, ap, subst, ◌∙◌}
+use Rattle.std.proofs.Common.{◌≡◌, ◌++◌, ◌∷◌, [], ℕ, List, Bool, true, false, cond, Some, None, Result, Ok, Err, IfOk}
+use Rattle.std.proofs.Common.{OnOk, OnErr, inl, refl, sym, ap, subst, ◌∙◌}
 use Rattle.std.specs.Ordering.{is_eq}
 use Rattle.std.specs.Cmp.{tied_itself}
 use Rattle.std.specs.Cmp.Lexicographic.{nat_list_cmp_total}
@@ -18,18 +19,23 @@ use Rattle.association_session.specs.declared.reply.PortFault.TheVariants.{Memor
 use Rattle.association_run.specs.Port.{Leaves, Stores}
 use Rattle.association_worker.specs.Port.{PortParts, holds_op}
 
-other_at : (m : Map) (d q : List ℕ) (op o : Op) (b : Bool) → is_at (digest_cmp q) d ≡ b → get m d ≡ None → get m q ≡ Some o → cond b (Some op) (get m q) ≡ Some o
-other_at m d q op o true is none held = absurd (let same : Some o ≡ None = sym held ∙ ap (λ (x : List ℕ). get m x) (tied q d is) ∙ none in cc)
+other_at : (m : Map) (d q : List ℕ) (op o : Op) (b : Bool) → is_at (digest_cmp q) d ≡ b → get m d ≡ None
+    → get m q ≡ Some o → cond b (Some op) (get m q) ≡ Some o
+other_at m d q op o true is none held = absurd (let same : Some o ≡ None = sym held ∙ ap (λ (x : List ℕ). get m x)
+    (tied q d is) ∙ none in cc)
 other_at m d q op o false is none held = held
 
 -- one operation more, and those that were held
 held_still : (m : Map) (op o : Op) → held_at m (digest_of op) ≡ None → holds_op m o → holds_op (with_op m op) o
 held_still m op o none held =
-    get-insert nat_list_cmp_total m (digest_of op) op (digest_of o) ∙ other_at m (digest_of op) (digest_of o) op o _ refl none held
+    get-insert nat_list_cmp_total m (digest_of op) op (digest_of o) ∙ other_at m (digest_of op) (digest_of o) op o _
+    refl none held
 
 held_itself : (m : Map) (op : Op) → holds_op (with_op m op) op
 held_itself m op =
-    get-insert nat_list_cmp_total m (digest_of op) op (digest_of op) ∙ ap (λ (b : Bool). cond b (Some op) (held_at m (digest_of op))) (ap is_eq (tied_itself nat_list_cmp_total (digest_of op)))
+    get-insert nat_list_cmp_total m (digest_of op) op (digest_of op)
+    ∙ ap (λ (b : Bool). cond b (Some op) (held_at m (digest_of op)))
+    (ap is_eq (tied_itself nat_list_cmp_total (digest_of op)))
 
 pub keeps : (m n : Map) (op o : Op) (taken : Taken) → Takes m op (Ok taken) n → holds_op m o → holds_op n o
 keeps m n op o New takes held = rw takes.1 (held_still m op o takes.0 held)
@@ -39,7 +45,8 @@ pub holds_now : (m n : Map) (op : Op) (taken : Taken) → Takes m op (Ok taken) 
 holds_now m n op New takes = rw takes.1 (held_itself m op)
 holds_now m n op Known takes = rw takes.1 takes.0
 
-leaves : (fault : PortFault) (before after : List (List ℕ)) (digest : List ℕ) → after ≡ before → Leaves fault before digest after
+leaves : (fault : PortFault) (before after : List (List ℕ)) (digest : List ℕ) → after ≡ before → Leaves fault before
+    digest after
 leaves Memory before after digest same = inl same
 leaves Busy before after digest same = same
 leaves Collision before after digest same = same

@@ -26,4 +26,5 @@ abbrev pub holds_op : Map → Op → Type 0
 holds_op site op = held_at site (digest_of op) ≡ Some op
 
 abbrev pub port_code : Coded PortParts
-port_code = code_by (Map × List (List ℕ)) (coded× (finmap.code (coded_list coded_ℕ) op_code) (coded_list (coded_list coded_ℕ))) (λ p. (p.site, p.own)) (λ p. record { site = p.0; own = p.1 }) (λ _. refl)
+port_code = code_by (Map × List (List ℕ)) (coded× (finmap.code (coded_list coded_ℕ) op_code)
+    (coded_list (coded_list coded_ℕ))) (λ p. (p.site, p.own)) (λ p. record { site = p.0; own = p.1 }) (λ _. refl)

@@ -1,5 +1,6 @@
 -- What a round by buckets gives.
-use Rattle.std.proofs.Common.{inl, inr, ◌≡◌, ℕ, zero, suc, ◌+◌, ◌<◌, ◌≤◌, List, [], ◌∷◌, Bool, true, false, cond, Option, Some, None, get_or, refl, sym, ap, subst, ◌∙◌, arith, eqb}
+use Rattle.std.proofs.Common.{inl, inr, ◌≡◌, ℕ, zero, suc, ◌+◌, ◌<◌, ◌≤◌, List, [], ◌∷◌, Bool, true, false, cond}
+use Rattle.std.proofs.Common.{Option, Some, None, get_or, refl, sym, ap, subst, ◌∙◌, arith, eqb}
 use Rattle.std.proofs.lemmas.Bool.{false≢true}
 use Rattle.std.specs.Prelude.{◌==◌, ◌||◌, map, filter, not, slice_index}
 use Rattle.std.specs.List.{range_with_len, list_any}
@@ -41,14 +42,16 @@ range_has : (n a p : ℕ) → a ≤ p → p < a + n → Has (range_with_len a n)
 range_has zero a p low high = absurd (omega arith)
 range_has (suc n) a p low high = by (eqb p a) refl (range_has n (a + 1) p)
   where
-    by : (b : Bool) → eqb p a ≡ b → (a + 1 ≤ p → p < (a + 1) + n → Has (range_with_len (a + 1) n) p) → Has (range_with_len a (suc n)) p
+    by : (b : Bool) → eqb p a ≡ b → (a + 1 ≤ p → p < (a + 1) + n → Has (range_with_len (a + 1) n) p)
+        → Has (range_with_len a (suc n)) p
     by true e rest = inl (let is : p ≡ a = grind arith in is)
     by false e rest = let later : a + 1 ≤ p = grind arith in inr (rest later (omega arith))
 
 told_at : (f : ℕ → List ℕ) (n a p : ℕ) → p < n → get_or (map f (range_with_len a n)) p [] ≡ f (a + p)
 told_at f zero a p lt = absurd (omega arith)
 told_at f (suc n) a zero lt = let e : a ≡ a + 0 = omega arith in ap f e
-told_at f (suc n) a (suc p) lt = let e : (a + 1) + p ≡ a + suc p = omega arith in told_at f n (a + 1) p (omega arith) ∙ ap f e
+told_at f (suc n) a (suc p) lt = let e : (a + 1) + p ≡ a + suc p = omega arith in told_at f n (a + 1) p (omega arith)
+    ∙ ap f e
 
 bucket_at : (ds : List (List ℕ)) (p : ℕ) → p < BUCKET_COUNT → get_or (bucket_list ds) p [] ≡ bucket_of ds p
 unfolding bucket_list
@@ -59,25 +62,33 @@ bucket_at ds p lt = let e : 0 + p ≡ p = omega arith in told_at (bucket_of ds) 
 eqb_itself : (n : ℕ) → eqb n n ≡ true
 eqb_itself n = grind arith
 
-held_first : (d : List ℕ) (e : List ℕ × Op) (rest : Option Op) → d ≡ e.0 → cond (is_at (digest_cmp d) e.0) (Some e.1) rest ≡ Some e.1
-held_first d e rest at = ap (λ b. cond b (Some e.1) rest) (ap (λ k. is_at (digest_cmp d) k) (sym at) ∙ ap is_eq (tied_itself nat_list_cmp_total d))
+held_first : (d : List ℕ) (e : List ℕ × Op) (rest : Option Op) → d ≡ e.0 → cond (is_at (digest_cmp d) e.0) (Some e.1)
+    rest ≡ Some e.1
+held_first d e rest at = ap (λ b. cond b (Some e.1) rest) (ap (λ k. is_at (digest_cmp d) k) (sym at)
+    ∙ ap is_eq (tied_itself nat_list_cmp_total d))
 
 held_later : (b : Bool) (o : Op) (r : Option Op) → (p : Op) × (r ≡ Some p) → (p : Op) × (cond b (Some o) r ≡ Some p)
 held_later true o r found = (o, refl)
 held_later false o r found = found
 
-spoken_part : (version : Version) (d : List ℕ) (e : List ℕ × Op) (es ks : List (List ℕ × Op)) (b : Bool) → Has (keys_of (cond b (e ∷ ks) ks)) d → (Has (keys_of ks) d → (p : Op) × (held es d ≡ Some p)) → (p : Op) × (held (e ∷ es) d ≡ Some p)
+spoken_part : (version : Version) (d : List ℕ) (e : List ℕ × Op) (es ks : List (List ℕ × Op)) (b : Bool)
+    → Has (keys_of (cond b (e ∷ ks) ks)) d → (Has (keys_of ks) d → (p : Op) × (held es d ≡ Some p)) → (p : Op)
+    × (held (e ∷ es) d ≡ Some p)
 spoken_part version d e es ks true (inl at) rest = (e.1, held_first d e (held es d) at)
 spoken_part version d e es ks true (inr h) rest = held_later (is_at (digest_cmp d) e.0) e.1 (held es d) (rest h)
 spoken_part version d e es ks false h rest = held_later (is_at (digest_cmp d) e.0) e.1 (held es d) (rest h)
 
-spoken_held : (version : Version) (d : List ℕ) (es : List (List ℕ × Op)) → Has (spoken_of version es) d → (p : Op) × (held es d ≡ Some p)
+spoken_held : (version : Version) (d : List ℕ) (es : List (List ℕ × Op)) → Has (spoken_of version es) d → (p : Op)
+    × (held es d ≡ Some p)
 spoken_held version d [] h = absurd h
-spoken_held version d (e ∷ es) h = spoken_part version d e es (filter (λ x. is_spoken version x.1) es) (is_spoken version e.1) h (spoken_held version d es)
+spoken_held version d (e ∷ es) h = spoken_part version d e es (filter (λ x. is_spoken version x.1) es)
+    (is_spoken version e.1) h (spoken_held version d es)
 
 -- what is offered is held
-offered_held : (version : Version) (m : Map) (d : List ℕ) → Has (offered version m) d → (p : Op) × (held_at m d ≡ Some p)
-offered_held version m d h = let found = spoken_held version d (entries m) h in (found.0, sym (held_entries m d) ∙ found.1)
+offered_held : (version : Version) (m : Map) (d : List ℕ) → Has (offered version m) d → (p : Op)
+    × (held_at m d ≡ Some p)
+offered_held version m d h = let found = spoken_held version d (entries m) h in
+    (found.0, sym (held_entries m d) ∙ found.1)
 
 negated : (b : Bool) → not b ≡ false → b ≡ true
 negated true e = refl
@@ -85,7 +96,8 @@ negated false e = absurd cc
 
 pub round_by_buckets_gives_all : RoundByBucketsGivesAll
 unfolding unequal
-round_by_buckets_gives_all version offering showing giving comparing asking after own to_showing to_giving to_asking agree tell answered d op there spoken = by (is_unequal own_buckets their_buckets place) refl
+round_by_buckets_gives_all version offering showing giving comparing asking after own to_showing to_giving to_asking
+    agree tell answered d op there spoken = by (is_unequal own_buckets their_buckets place) refl
   where
     own_buckets : List (List ℕ)
     own_buckets = bucket_list (offered version comparing)
@@ -101,14 +113,21 @@ round_by_buckets_gives_all version offering showing giving comparing asking afte
 
     by : (b : Bool) → is_unequal own_buckets their_buckets place ≡ b → held_at after d ≡ Some op
     by true e =
-        let shown = has_filter (is_unequal own_buckets their_buckets) (range_with_len 0 BUCKET_COUNT) place (range_has BUCKET_COUNT 0 place (omega arith) (omega (arith, small))) e in
-        let offers = has_filter (is_in (filter (is_unequal own_buckets their_buckets) (range_with_len 0 BUCKET_COUNT))) (offered version showing) d (offered_has version showing d op (to_showing d op there) spoken) (has_any (λ q. q == place) _ place shown (eqb_itself place)) in
-        had_is_held version offering giving asking after own (λ x o h. to_giving x o (to_showing x o h)) agree _ answered d op there spoken offers (held_at asking d) refl
+        let shown = has_filter (is_unequal own_buckets their_buckets) (range_with_len 0 BUCKET_COUNT)
+        place (range_has BUCKET_COUNT 0 place (omega arith) (omega (arith, small))) e in
+        let offers = has_filter (is_in (filter (is_unequal own_buckets their_buckets) (range_with_len 0 BUCKET_COUNT)))
+        (offered version showing) d (offered_has version showing d op (to_showing d op there) spoken)
+        (has_any (λ q. q == place) _ place shown (eqb_itself place)) in
+        had_is_held version offering giving asking after own (λ x o h. to_giving x o (to_showing x o h)) agree _
+        answered d op there spoken offers (held_at asking d) refl
     by false e =
         let is_same = same_is _ _ (negated _ e) in
-        let equal = sym (bucket_at (offered version comparing) place small) ∙ is_same ∙ bucket_at (offered version offering) place small in
-        let offers = has_filter (λ x. place_of x == place) (offered version offering) d (offered_has version offering d op there spoken) (eqb_itself place) in
+        let equal = sym (bucket_at (offered version comparing) place small) ∙ is_same
+        ∙ bucket_at (offered version offering) place small in
+        let offers = has_filter (λ x. place_of x == place) (offered version offering)
+        d (offered_has version offering d op there spoken) (eqb_itself place) in
         let shared = subst (λ xs. Has xs d) (sym (tell place equal)) offers in
-        let found = offered_held version comparing d (filter_has (λ x. place_of x == place) (offered version comparing) d shared).0 in
+        let found = offered_held version comparing d (filter_has (λ x. place_of x == place) (offered version comparing)
+        d shared).0 in
         let kept = answered.grown d found.0 (to_asking d found.0 found.1) in
         kept ∙ ap Some (sym (agree d op found.0 there kept))

@@ -1,5 +1,6 @@
 -- What is spelled is read, and what is read is spelled so.
-use Rattle.std.proofs.Common.{◌≡◌, ℕ, zero, suc, ◌*◌, ◌<◌, ◌^◌, Bool, true, false, cond, eqb, List, [], ◌∷◌, ◌++◌, length, Option, Some, None, refl, sym, ap, subst, ◌∙◌, arith}
+use Rattle.std.proofs.Common.{◌≡◌, ℕ, zero, suc, ◌*◌, ◌<◌, ◌^◌, Bool, true, false, cond, eqb, List, [], ◌∷◌, ◌++◌}
+use Rattle.std.proofs.Common.{length, Option, Some, None, refl, sym, ap, subst, ◌∙◌, arith}
 use Rattle.std.specs.Option.{option_map}
 use Rattle.std.specs.Int.{w16, w32, from_be_bytes, to_be_bytes}
 use Rattle.std.specs.Ordering.{nat_cmp}
@@ -11,8 +12,10 @@ use Rattle.octets.specs.Texts.{text_cmp}
 use Rattle.octets.proofs.ByteLaws.{IsBytes-two, IsBytes-four}
 use Rattle.exchange.specs.declared.frame.Frame.{Frame}
 use Rattle.exchange.specs.declared.frame.Frame.TheVariants.{Have, Want, Give, End, Buckets, Differ, Hello}
-use Rattle.exchange.specs.Spelling.{digests_text, counted_text, code_of, body_text, ascends, AreDigests, IsCounted, IsFrame}
-use Rattle.exchange.specs.Reading.{cut, counts_too_many, is_long, counted_at, buckets_at, places_at, version_at, frame_at, IsBodyOf}
+use Rattle.exchange.specs.Spelling.{digests_text, counted_text, code_of, body_text, ascends, AreDigests, IsCounted}
+use Rattle.exchange.specs.Spelling.{IsFrame}
+use Rattle.exchange.specs.Reading.{cut, counts_too_many, is_long, counted_at, buckets_at, places_at, version_at}
+use Rattle.exchange.specs.Reading.{frame_at, IsBodyOf}
 use Rattle.exchange.proofs.Lists.{cut_again, text_length, cut_length, cut_whole, cut_text}
 
 eqb_refl : (n : ℕ) → eqb n n ≡ true
@@ -22,7 +25,8 @@ eqb_is : (n m : ℕ) → n ≡ m → eqb n m ≡ true
 eqb_is n m e = subst (λ (k : ℕ). eqb n k ≡ true) e (eqb_refl n)
 
 -- both tests were passed
-passed : {X : Type 0} (b c : Bool) (x y : X) → cond b (cond c (Some x) None) None ≡ Some y → (b ≡ true) × (c ≡ true) × (x ≡ y)
+passed : {X : Type 0} (b c : Bool) (x y : X) → cond b (cond c (Some x) None) None ≡ Some y → (b ≡ true) × (c ≡ true)
+    × (x ≡ y)
 passed true true x y e = (refl, refl, cc)
 passed true false x y e = absurd cc
 passed false c x y e = absurd cc
@@ -32,20 +36,28 @@ passes b c x p q = rw (p, q) refl
 
 -- ---- a count, and digests
 
-pub counted_takes : (body : List ℕ) (ds : List (List ℕ)) → IsBytes body → counts_too_many body ≡ false → counted_at body ≡ Some ds → (counted_text ds ≡ body) × IsCounted ds
+pub counted_takes : (body : List ℕ) (ds : List (List ℕ)) → IsBytes body → counts_too_many body ≡ false
+    → counted_at body ≡ Some ds → (counted_text ds ≡ body) × IsCounted ds
 unfolding counted_at
 counted_takes (a ∷ b ∷ c ∷ d ∷ rest) ds fits few e =
     let n = from_be_bytes w32 (a ∷ b ∷ c ∷ d ∷ []) in
     let p = passed (eqb (length rest) (32 * n)) (ascends text_cmp (cut n rest)) (cut n rest) ds e in
     let len : length rest ≡ 32 * n = eqb-true _ _ p.0 in
     let front : to_be_bytes w32 (length (cut n rest)) ≡ a ∷ b ∷ c ∷ d ∷ [] =
-    be_bytes_4 (a ∷ b ∷ c ∷ d ∷ []) _ refl (IsBytes-four a b c d (fits 0) (fits 1) (fits 2) (fits 3)) (cut_length n rest)
+    be_bytes_4 (a ∷ b ∷ c ∷ d ∷ []) _ refl (IsBytes-four a b c d (fits 0) (fits 1) (fits 2) (fits 3))
+    (cut_length n rest)
     in
     let whole : counted_text (cut n rest) ≡ a ∷ b ∷ c ∷ d ∷ rest =
-    ap (λ (t : List ℕ). t ++ digests_text (cut n rest)) front ∙ ap (λ (t : List ℕ). a ∷ b ∷ c ∷ d ∷ t) (cut_text n rest len)
+    ap (λ (t : List ℕ). t ++ digests_text (cut n rest)) front ∙ ap (λ (t : List ℕ). a ∷ b ∷ c ∷ d ∷ t)
+    (cut_text n rest len)
     in
     let lawful : IsCounted (cut n rest) =
-    record { short = omega (arith, cut_length n rest, ltb-false _ _ few); whole = cut_whole n rest len; ascending = p.1 }
+    record {
+      short = omega (arith, cut_length n rest, ltb-false _ _ few);
+      whole = cut_whole n rest len;
+      ascending =
+          p.1;
+    }
     in
     subst (λ (x : List (List ℕ)). (counted_text x ≡ a ∷ b ∷ c ∷ d ∷ rest) × IsCounted x) p.2 (whole, lawful)
 counted_takes _ ds fits few e = absurd cc
@@ -54,7 +66,8 @@ pub counted_again : (ds : List (List ℕ)) → IsCounted ds → counted_at (coun
 unfolding counted_at
 counted_again ds is =
     rw (from_be_bytes-to_be_bytes_4 (length ds) (omega (arith, is.short)), cut_again ds is.whole)
-    (passes (eqb (length (digests_text ds)) (32 * length ds)) (ascends text_cmp ds) ds (eqb_is _ _ (text_length ds is.whole)) is.ascending)
+    (passes (eqb (length (digests_text ds)) (32 * length ds)) (ascends text_cmp ds)
+    ds (eqb_is _ _ (text_length ds is.whole)) is.ascending)
 
 pub counted_few : (ds : List (List ℕ)) → IsCounted ds → counts_too_many (counted_text ds) ≡ false
 counted_few ds is = rw (from_be_bytes-to_be_bytes_4 (length ds) (omega (arith, is.short))) (le-ltb _ _ is.short)
@@ -65,12 +78,14 @@ one_passed : {X : Type 0} (b : Bool) (x y : X) → cond b (Some x) None ≡ Some
 one_passed true x y e = (refl, cc)
 one_passed false x y e = absurd cc
 
-buckets_takes : (body : List ℕ) (ds : List (List ℕ)) → buckets_at body ≡ Some ds → (digests_text ds ≡ body) × (length ds ≡ 256) × AreDigests ds
+buckets_takes : (body : List ℕ) (ds : List (List ℕ)) → buckets_at body ≡ Some ds → (digests_text ds ≡ body)
+    × (length ds ≡ 256) × AreDigests ds
 unfolding buckets_at
 buckets_takes body ds e =
     let p = one_passed (eqb (length body) (32 * 256)) (cut 256 body) ds e in
     let len : length body ≡ 32 * 256 = eqb-true _ _ p.0 in
-    subst (λ (x : List (List ℕ)). (digests_text x ≡ body) × (length x ≡ 256) × AreDigests x) p.1 (cut_text 256 body len, cut_length 256 body, cut_whole 256 body len)
+    subst (λ (x : List (List ℕ)). (digests_text x ≡ body) × (length x ≡ 256) × AreDigests x)
+    p.1 (cut_text 256 body len, cut_length 256 body, cut_whole 256 body len)
 
 one_passes : {X : Type 0} (b : Bool) (x : X) → b ≡ true → cond b (Some x) None ≡ Some x
 one_passes b x p = ap (λ (t : Bool). cond t (Some x) None) p
@@ -81,27 +96,34 @@ some_is {X} x y e = ap (λ (t : X). Some t) e
 buckets_again : (ds : List (List ℕ)) → length ds ≡ 256 → AreDigests ds → buckets_at (digests_text ds) ≡ Some ds
 unfolding buckets_at
 buckets_again ds len are =
-    one_passes (eqb (length (digests_text ds)) (32 * 256)) (cut 256 (digests_text ds)) (eqb_is _ _ (text_length ds are ∙ ap (λ (n : ℕ). 32 * n) len))
+    one_passes (eqb (length (digests_text ds)) (32 * 256)) (cut 256 (digests_text ds))
+    (eqb_is _ _ (text_length ds are ∙ ap (λ (n : ℕ). 32 * n) len))
     ∙ some_is _ _ (ap (λ (n : ℕ). cut n (digests_text ds)) (sym len) ∙ cut_again ds are)
 
-places_takes : (body ps : List ℕ) → IsBytes body → places_at body ≡ Some ps → (to_be_bytes w16 (length ps) ++ ps ≡ body) × (length ps < 2 ^ 16) × (ascends nat_cmp ps ≡ true)
+places_takes : (body ps : List ℕ) → IsBytes body → places_at body ≡ Some ps → (to_be_bytes w16 (length ps) ++ ps ≡ body)
+    × (length ps < 2 ^ 16) × (ascends nat_cmp ps ≡ true)
 unfolding places_at
 places_takes (a ∷ b ∷ rest) ps fits e =
     let n = from_be_bytes w16 (a ∷ b ∷ []) in
     let p = passed (eqb (length rest) n) (ascends nat_cmp rest) rest ps e in
     let len : length rest ≡ n = eqb-true _ _ p.0 in
-    let front : to_be_bytes w16 (length rest) ≡ a ∷ b ∷ [] = be_bytes_2 (a ∷ b ∷ []) _ refl (IsBytes-two a b (fits 0) (fits 1)) len in
-    subst (λ (x : List ℕ). (to_be_bytes w16 (length x) ++ x ≡ a ∷ b ∷ rest) × (length x < 2 ^ 16) × (ascends nat_cmp x ≡ true)) p.2
+    let front : to_be_bytes w16 (length rest) ≡ a ∷ b ∷ [] = be_bytes_2 (a ∷ b ∷ []) _
+    refl (IsBytes-two a b (fits 0) (fits 1)) len in
+    subst (λ (x : List ℕ). (to_be_bytes w16 (length x) ++ x ≡ a ∷ b ∷ rest) × (length x < 2 ^ 16)
+    × (ascends nat_cmp x ≡ true)) p.2
     (ap (λ (t : List ℕ). t ++ rest) front, omega (arith, len, fits 0, fits 1), p.1)
 places_takes [] ps fits e = absurd cc
 places_takes (a ∷ []) ps fits e = absurd cc
 
-places_again : (ps : List ℕ) → length ps < 2 ^ 16 → ascends nat_cmp ps ≡ true → places_at (to_be_bytes w16 (length ps) ++ ps) ≡ Some ps
+places_again : (ps : List ℕ) → length ps < 2 ^ 16 → ascends nat_cmp ps ≡ true
+    → places_at (to_be_bytes w16 (length ps) ++ ps) ≡ Some ps
 unfolding places_at
 places_again ps short up =
-    rw (from_be_bytes-to_be_bytes_2 (length ps) short) (passes (eqb (length ps) (length ps)) (ascends nat_cmp ps) ps (eqb_refl (length ps)) up)
+    rw (from_be_bytes-to_be_bytes_2 (length ps) short) (passes (eqb (length ps) (length ps)) (ascends nat_cmp ps)
+    ps (eqb_refl (length ps)) up)
 
-version_takes : (body : List ℕ) (v : ℕ) → IsBytes body → version_at body ≡ Some v → (to_be_bytes w16 v ≡ body) × (v < 2 ^ 16)
+version_takes : (body : List ℕ) (v : ℕ) → IsBytes body → version_at body ≡ Some v → (to_be_bytes w16 v ≡ body)
+    × (v < 2 ^ 16)
 version_takes (a ∷ b ∷ []) v fits e =
     let n = from_be_bytes w16 (a ∷ b ∷ []) in
     let same : n ≡ v = cc in
@@ -116,7 +138,8 @@ version_again v lt = some_is _ _ (from_be_bytes-to_be_bytes_2 v lt)
 
 -- ---- frames
 
-mapped : {X : Type 0} (g : X → Frame) (o : Option X) (f : Frame) → option_map g o ≡ Some f → (x : X) × (o ≡ Some x) × (g x ≡ f)
+mapped : {X : Type 0} (g : X → Frame) (o : Option X) (f : Frame) → option_map g o ≡ Some f → (x : X) × (o ≡ Some x)
+    × (g x ≡ f)
 mapped g (Some x) f e = (x, refl, cc)
 mapped g None f e = absurd cc
 
@@ -130,12 +153,20 @@ differs a b lt = grind (arith, nat_tests)
 frame_beyond : (kind : ℕ) (body : List ℕ) → 7 < kind → frame_at kind body ≡ None
 unfolding frame_at
 frame_beyond kind body lt =
-    rw (differs kind 1 (omega (arith, lt)), differs kind 2 (omega (arith, lt)), differs kind 4 (omega (arith, lt)), differs kind 5 (omega (arith, lt)), differs kind 6 (omega (arith, lt)), differs kind 7 lt) refl
+    rw (
+      differs kind 1 (omega (arith, lt)),
+      differs kind 2 (omega (arith, lt)),
+      differs kind 4 (omega (arith, lt)),
+      differs kind 5 (omega (arith, lt)),
+      differs kind 6 (omega (arith, lt)),
+      differs kind 7 lt,
+    ) refl
 
 no_frame : (o : Option Frame) (f : Frame) → o ≡ None → o ≡ Some f → ⊥
 no_frame o f p q = absurd cc
 
-pub frame_takes : (kind : ℕ) (body : List ℕ) (f : Frame) → IsBytes body → is_long kind body ≡ false → frame_at kind body ≡ Some f → IsBodyOf f kind body
+pub frame_takes : (kind : ℕ) (body : List ℕ) (f : Frame) → IsBytes body → is_long kind body ≡ false
+    → frame_at kind body ≡ Some f → IsBodyOf f kind body
 unfolding frame_at is_long
 frame_takes (suc zero) body f fits few e =
     let m = mapped (λ ds. Have ds) (counted_at body) f e in
@@ -164,7 +195,8 @@ frame_takes (suc (suc (suc (suc (suc (suc (suc zero))))))) body f fits few e =
 frame_takes zero body f fits few e = absurd cc
 frame_takes (suc (suc (suc zero))) body f fits few e = absurd cc
 frame_takes (suc (suc (suc (suc (suc (suc (suc (suc n)))))))) body f fits few e =
-    absurd (no_frame (frame_at (suc (suc (suc (suc (suc (suc (suc (suc n)))))))) body) f (frame_beyond (suc (suc (suc (suc (suc (suc (suc (suc n)))))))) body (omega arith)) e)
+    absurd (no_frame (frame_at (suc (suc (suc (suc (suc (suc (suc (suc n)))))))) body)
+    f (frame_beyond (suc (suc (suc (suc (suc (suc (suc (suc n)))))))) body (omega arith)) e)
 
 spelled_again : (f : Frame) → IsFrame f → (code_of f ≡ 3 → ⊥) → frame_at (code_of f) (body_text f) ≡ Some f
 unfolding frame_at
@@ -187,10 +219,13 @@ spelled_few (Differ ps) is = refl
 spelled_few (Hello v) is = refl
 
 -- what a frame's body is read as
-pub frame_again : (f : Frame) (kind : ℕ) (body : List ℕ) → IsBodyOf f kind body → (kind ≡ 3 → ⊥) → frame_at kind body ≡ Some f
+pub frame_again : (f : Frame) (kind : ℕ) (body : List ℕ) → IsBodyOf f kind body → (kind ≡ 3 → ⊥)
+    → frame_at kind body ≡ Some f
 frame_again f kind body is other =
-    ap (λ (k : ℕ). frame_at k body) (sym is.kind_is) ∙ ap (frame_at (code_of f)) (sym is.body_is) ∙ spelled_again f is.lawful (λ e. other (sym is.kind_is ∙ e))
+    ap (λ (k : ℕ). frame_at k body) (sym is.kind_is) ∙ ap (frame_at (code_of f)) (sym is.body_is)
+    ∙ spelled_again f is.lawful (λ e. other (sym is.kind_is ∙ e))
 
 pub frame_few : (f : Frame) (kind : ℕ) (body : List ℕ) → IsBodyOf f kind body → is_long kind body ≡ false
 frame_few f kind body is =
-    ap (λ (k : ℕ). is_long k body) (sym is.kind_is) ∙ ap (is_long (code_of f)) (sym is.body_is) ∙ spelled_few f is.lawful
+    ap (λ (k : ℕ). is_long k body) (sym is.kind_is) ∙ ap (is_long (code_of f)) (sym is.body_is)
+    ∙ spelled_few f is.lawful

@@ -1,11 +1,13 @@
 -- Digests in a text, and lists that ascend.
-use Rattle.std.proofs.Common.{◌≡◌, ℕ, zero, suc, ◌+◌, ◌-◌, ◌*◌, ◌<◌, ◌≤◌, Bool, true, false, List, [], ◌∷◌, ◌++◌, length, take, drop, get_or, refl, sym, ap, ◌∙◌, append_assoc, arith}
+use Rattle.std.proofs.Common.{◌≡◌, ℕ, zero, suc, ◌+◌, ◌-◌, ◌*◌, ◌<◌, ◌≤◌, Bool, true, false, List, [], ◌∷◌, ◌++◌}
+use Rattle.std.proofs.Common.{length, take, drop, get_or, refl, sym, ap, ◌∙◌, append_assoc, arith}
 use Rattle.std.specs.Prelude.{◌&&◌, ◌==◌, not}
 use Rattle.std.specs.Ordering.{match_ordering, ordering_index}
 use Rattle.std.specs.declared.cmp.Ordering.{Ordering}
 use Rattle.std.specs.declared.cmp.Ordering.TheVariants.{Less, Equal, Greater}
 use Rattle.std.proofs.lemmas.Grind.{flat_map-append}
-use Rattle.std.proofs.lemmas.List.{take_more, append-nil, take_at, drop_at, take-append-drop, length-append, length-take-le, length-drop, nil_from_length}
+use Rattle.std.proofs.lemmas.List.{take_more, append-nil, take_at, drop_at, take-append-drop, length-append}
+use Rattle.std.proofs.lemmas.List.{length-take-le, length-drop, nil_from_length}
 use Rattle.std.proofs.lemmas.List.Concat.{flat_map-cons}
 use Rattle.exchange.specs.Spelling.{digests_text, ascends, AreDigests}
 use Rattle.exchange.specs.Reading.{cut}
@@ -13,13 +15,16 @@ use Rattle.exchange.specs.Reading.{cut}
 -- ---- digests in a text
 
 pub goes_on : (front : List (List ℕ)) (count i : ℕ) (rest : List ℕ) (total : List (List ℕ)) → i < count
-    → front ++ cut (count - i) rest ≡ total → (front ++ take 32 rest ∷ []) ++ cut (count - (i + 1)) (drop 32 rest) ≡ total
+    → front ++ cut (count - i) rest ≡ total → (front ++ take 32 rest ∷ []) ++ cut (count - (i + 1))
+    (drop 32 rest) ≡ total
 unfolding cut
 goes_on front count i rest total lt so_far =
     let k : count - i ≡ suc (count - (i + 1)) = omega arith in
-    append_assoc front (take 32 rest ∷ []) (cut (count - (i + 1)) (drop 32 rest)) ∙ ap (λ (n : ℕ). front ++ cut n rest) (sym k) ∙ so_far
+    append_assoc front (take 32 rest ∷ []) (cut (count - (i + 1)) (drop 32 rest)) ∙ ap (λ (n : ℕ). front ++ cut n rest)
+    (sym k) ∙ so_far
 
-pub goes_end : (front : List (List ℕ)) (count i : ℕ) (rest : List ℕ) (total : List (List ℕ)) → count ≤ i → front ++ cut (count - i) rest ≡ total → front ≡ total
+pub goes_end : (front : List (List ℕ)) (count i : ℕ) (rest : List ℕ) (total : List (List ℕ)) → count ≤ i
+    → front ++ cut (count - i) rest ≡ total → front ≡ total
 unfolding cut
 goes_end front count i rest total le so_far =
     let k : count - i ≡ 0 = omega arith in
@@ -34,12 +39,19 @@ pub cut_again : (ds : List (List ℕ)) → AreDigests ds → cut (length ds) (di
 unfolding cut
 cut_again [] are = refl
 cut_again (d ∷ ds) are =
-    ap (cut (suc (length ds))) (flat_map-cons (λ x. x) d ds) ∙ cut_front (length ds) d (digests_text ds) are.0 ∙ ap (λ (t : List (List ℕ)). d ∷ t) (cut_again ds are.1)
+    ap (cut (suc (length ds))) (flat_map-cons (λ x. x) d ds) ∙ cut_front (length ds) d (digests_text ds) are.0
+    ∙ ap (λ (t : List (List ℕ)). d ∷ t) (cut_again ds are.1)
 
 pub text_length : (ds : List (List ℕ)) → AreDigests ds → length (digests_text ds) ≡ 32 * length ds
 text_length [] are = refl
 text_length (d ∷ ds) are =
-    ap length (flat_map-cons (λ x. x) d ds) ∙ omega (arith, length-append d (digests_text ds), are.0, text_length ds are.1)
+    ap length (flat_map-cons (λ x. x) d ds) ∙ omega (
+      arith,
+      length-append d (digests_text ds),
+      are.0,
+      text_length ds
+          are.1,
+    )
 
 pub cut_length : (n : ℕ) (text : List ℕ) → length (cut n text) ≡ n
 unfolding cut
@@ -57,25 +69,32 @@ pub cut_text : (n : ℕ) (text : List ℕ) → length text ≡ 32 * n → digest
 unfolding cut
 cut_text zero text len = sym (nil_from_length text (omega (arith, len)))
 cut_text (suc n) text len =
-    flat_map-cons (λ x. x) (take 32 text) (cut n (drop 32 text)) ∙ ap (λ (t : List ℕ). take 32 text ++ t) (cut_text n (drop 32 text) (omega (arith, len, length-drop 32 text))) ∙ take-append-drop 32 text
+    flat_map-cons (λ x. x) (take 32 text) (cut n (drop 32 text)) ∙ ap (λ (t : List ℕ). take 32 text ++ t)
+    (cut_text n (drop 32 text) (omega (arith, len, length-drop 32 text))) ∙ take-append-drop 32 text
 
 -- one digest more is written
-pub put_one : (ds : List (List ℕ)) (i : ℕ) (d front out out2 : List ℕ) → i < length ds → d ≡ get_or ds i d → length d ≡ 32
+pub put_one : (ds : List (List ℕ)) (i : ℕ) (d front out out2 : List ℕ) → i < length ds → d ≡ get_or ds i d
+    → length d ≡ 32
     → out ≡ front ++ digests_text (take i ds) → out2 ≡ out ++ d → length (digests_text (take i ds)) ≡ 32 * i
-    → (i + 1 ≤ length ds) × (out2 ≡ front ++ digests_text (take (i + 1) ds)) × (length (digests_text (take (i + 1) ds)) ≡ 32 * (i + 1))
+    → (i + 1 ≤ length ds) × (out2 ≡ front ++ digests_text (take (i + 1) ds))
+    × (length (digests_text (take (i + 1) ds)) ≡ 32 * (i + 1))
 put_one ds i d front out out2 lt at len so_far more long =
-    let grown : take (i + 1) ds ≡ take i ds ++ d ∷ [] = take_more ds i d lt ∙ ap (λ (x : List ℕ). take i ds ++ x ∷ []) (sym at) in
+    let grown : take (i + 1) ds ≡ take i ds ++ d ∷ [] = take_more ds i d lt ∙ ap (λ (x : List ℕ). take i ds ++ x ∷ [])
+    (sym at) in
     let text : digests_text (take (i + 1) ds) ≡ digests_text (take i ds) ++ d =
-    ap digests_text grown ∙ flat_map-append (λ x. x) (take i ds) (d ∷ []) ∙ ap (λ (t : List ℕ). digests_text (take i ds) ++ t) (flat_map-cons (λ x. x) d [] ∙ append-nil d)
+    ap digests_text grown ∙ flat_map-append (λ x. x) (take i ds) (d ∷ [])
+    ∙ ap (λ (t : List ℕ). digests_text (take i ds) ++ t) (flat_map-cons (λ x. x) d [] ∙ append-nil d)
     in (
       omega (arith, lt),
-      more ∙ ap (λ (t : List ℕ). t ++ d) so_far ∙ append_assoc front (digests_text (take i ds)) d ∙ ap (λ (t : List ℕ). front ++ t) (sym text),
+      more ∙ ap (λ (t : List ℕ). t ++ d) so_far ∙ append_assoc front (digests_text (take i ds)) d
+          ∙ ap (λ (t : List ℕ). front ++ t) (sym text),
       omega (arith, ap length text, length-append (digests_text (take i ds)) d, long, len),
     )
 
 -- ---- lists that ascend
 
-pub ascends_end : {X : Type 0} (cmp : X → X → Ordering) (xs : List X) (i : ℕ) → length xs ≤ suc i → ascends cmp (drop i xs) ≡ true
+pub ascends_end : {X : Type 0} (cmp : X → X → Ordering) (xs : List X) (i : ℕ) → length xs ≤ suc i
+    → ascends cmp (drop i xs) ≡ true
 ascends_end cmp [] zero short = refl
 ascends_end cmp [] (suc i) short = refl
 ascends_end cmp (x ∷ []) zero short = refl
@@ -86,7 +105,8 @@ pub ascends_on : {X : Type 0} (cmp : X → X → Ordering) (xs : List X) (i : �
     → cmp (get_or xs i d) (get_or xs (suc i) d) ≡ Less → ascends cmp (drop i xs) ≡ ascends cmp (drop (suc i) xs)
 ascends_on cmp [] i d lt e = absurd (omega (arith, lt))
 ascends_on cmp (x ∷ []) i d lt e = absurd (omega (arith, lt))
-ascends_on cmp (x ∷ y ∷ xs) zero d lt e = ap (λ (o : Ordering). match_ordering o true false false && ascends cmp (y ∷ xs)) e
+ascends_on cmp (x ∷ y ∷ xs) zero d lt e = ap (λ (o : Ordering). match_ordering o true false false && ascends
+    cmp (y ∷ xs)) e
 ascends_on cmp (x ∷ y ∷ xs) (suc i) d lt e = ascends_on cmp (y ∷ xs) i d (omega (arith, lt)) e
 
 -- the answer of a comparison that is not told apart from Less

@@ -1,5 +1,6 @@
 -- What is written is read again.
-use Rattle.std.proofs.Common.{◌≡◌, ℕ, ◌+◌, ◌≤◌, ◌<◌, true, false, List, ◌∷◌, ◌++◌, length, take, Option, None, Ok, refl, ap, ◌∙◌, arith}
+use Rattle.std.proofs.Common.{◌≡◌, ℕ, ◌+◌, ◌≤◌, ◌<◌, true, false, List, ◌∷◌, ◌++◌, length, take, Option, None, Ok, refl}
+use Rattle.std.proofs.Common.{ap, ◌∙◌, arith}
 use Rattle.std.specs.Int.{w16, w32, w64, to_be_bytes}
 use Rattle.std.proofs.lemmas.Bool.{le-ltb}
 use Rattle.std.proofs.lemmas.List.{length-append}
@@ -28,7 +29,15 @@ use Rattle.exchange.proofs.Lists.{text_length}
 content_length : (c : ContentParts) → IsContent c → length (content_text c) ≤ 67109000
 content_length c is =
     let behind : List ℕ = syntax_byte c.syntax ∷ (to_be_bytes w32 (length c.body) ++ c.body) in
-    omega (arith, length-append c.class (short_text c.instance ++ behind), length-append c.instance behind, class_short c is, instance_short c is, body_short c is)
+    omega (
+      arith,
+      length-append c.class (short_text c.instance ++ behind),
+      length-append c.instance behind,
+      class_short
+          c is,
+      instance_short c is,
+      body_short c is,
+    )
 
 target_length : (t : Target) (rest : List ℕ) → length (target_text t ++ rest) ≤ 3 + (length (key_of t) + length rest)
 target_length (Study key) rest = omega (arith, length-append key rest)
@@ -75,13 +84,16 @@ no_fault kind n is short = rw (is, le-ltb LONGEST_BODY n short) refl
 abbrev parts_of : Frame → HeaderParts
 parts_of f = record { kind = code_of f; length = length (body_text f) }
 
-header_again : (f : Frame) → length (body_text f) ≤ LONGEST_BODY → header_of (code_of f) (length (body_text f)) ≡ Ok (parts_of f)
-header_again f short = ap (λ (o : Option FrameFault). or_fault o (parts_of f)) (no_fault (code_of f) (length (body_text f)) (known f) short)
+header_again : (f : Frame) → length (body_text f) ≤ LONGEST_BODY → header_of (code_of f) (length (body_text f)) ≡ Ok
+    (parts_of f)
+header_again f short = ap (λ (o : Option FrameFault). or_fault o (parts_of f))
+    (no_fault (code_of f) (length (body_text f)) (known f) short)
 
 again : (f : Frame) → length (body_text f) ≤ LONGEST_BODY → header_at (take 5 (text_of f)) ≡ Ok (parts_of f)
 unfolding text_of
 again f short =
-    ap (λ (n : ℕ). header_of (code_of f) n) (from_be_bytes-to_be_bytes_4 (length (body_text f)) (omega (arith, short))) ∙ header_again f short
+    ap (λ (n : ℕ). header_of (code_of f) n) (from_be_bytes-to_be_bytes_4 (length (body_text f)) (omega (arith, short)))
+    ∙ header_again f short
 
 not_long : (f : Frame) → IsFrame f → is_too_long f ≡ false
 not_long (Have ds) is = le-ltb _ _ is.short
@@ -104,9 +116,11 @@ written_again f is = record {
 
 -- ---- a GIVE
 
-pub of_whole : (out before body text : List ℕ) → before ++ body ≡ text → out ≡ head_text 3 (length (before ++ body)) ++ (before ++ body) → out ≡ head_text 3 (length text) ++ text
+pub of_whole : (out before body text : List ℕ) → before ++ body ≡ text → out ≡ head_text 3 (length (before ++ body))
+    ++ (before ++ body) → out ≡ head_text 3 (length text) ++ text
 of_whole out before body text whole e = e ∙ ap (λ (t : List ℕ). head_text 3 (length t) ++ t) whole
 
-pub of_spelled : (out text : List ℕ) (op : Op) → text ≡ spelling op → out ≡ head_text 3 (length text) ++ text → out ≡ text_of (Give op)
+pub of_spelled : (out text : List ℕ) (op : Op) → text ≡ spelling op → out ≡ head_text 3 (length text) ++ text
+    → out ≡ text_of (Give op)
 unfolding text_of
 of_spelled out text op e is = is ∙ ap (λ (t : List ℕ). head_text 3 (length t) ++ t) e

@@ -8,4 +8,5 @@ use Rattle.exchange.specs.Buckets.{bucket_text}
 -- each of so many hashers has hashed those of some digests that begin with the byte of its place
 pub record AllHold (hashers : List Sha256) (digests : List (List ℕ)) : Type 0 where
   pub all : length hashers ≡ BUCKET_COUNT
-  pub each : (place : ℕ) (other : Sha256) → place < BUCKET_COUNT → Holds256 (get_or hashers place other) (bucket_text place digests)
+  pub each : (place : ℕ) (other : Sha256) → place < BUCKET_COUNT → Holds256 (get_or hashers place other)
+      (bucket_text place digests)

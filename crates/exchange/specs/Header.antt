@@ -1,5 +1,6 @@
 -- The header of a frame: its kind, and the length of its body in four bytes.
-use Rattle.std.specs.Prelude.{ℕ, List, [], ◌∷◌, slice_index, ◌==◌, ◌||◌, Bool, nat_lt, Option, Some, None, Result, Ok, Err, if◌then◌else◌}
+use Rattle.std.specs.Prelude.{ℕ, List, [], ◌∷◌, slice_index, ◌==◌, ◌||◌, Bool, nat_lt, Option, Some, None, Result, Ok}
+use Rattle.std.specs.Prelude.{Err, if◌then◌else◌}
 use Rattle.std.specs.Int.{w32, from_be_bytes, to_be_bytes}
 use Rattle.exchange.specs.declared.fault.FrameFault.{FrameFault}
 use Rattle.exchange.specs.declared.fault.FrameFault.TheVariants.{BadFrame, TooLong}
@@ -7,7 +8,8 @@ use Rattle.exchange.specs.declared.header.TheConstants.{LONGEST_BODY, HAVE, WANT
 
 -- 01 to 07
 abbrev pub is_kind : ℕ → Bool
-is_kind kind = kind == HAVE || kind == WANT || kind == GIVE || kind == END || kind == BUCKETS || kind == DIFFER || kind == HELLO
+is_kind kind = kind == HAVE || kind == WANT || kind == GIVE || kind == END || kind == BUCKETS || kind == DIFFER ||
+    kind == HELLO
 
 -- the fault that a kind and a length have, where they have one
 abbrev pub header_fault : ℕ → ℕ → Option FrameFault
@@ -30,7 +32,8 @@ header_of kind length = or_fault (header_fault kind length) (record { kind = kin
 -- what five bytes say
 abbrev pub header_at : List ℕ → Result HeaderParts FrameFault
 header_at bytes =
-    header_of (slice_index bytes 0) (from_be_bytes w32 (slice_index bytes 1 ∷ slice_index bytes 2 ∷ slice_index bytes 3 ∷ slice_index bytes 4 ∷ []))
+    header_of (slice_index bytes 0) (from_be_bytes w32 (slice_index bytes 1 ∷ slice_index bytes 2 ∷ slice_index bytes 3
+    ∷ slice_index bytes 4 ∷ []))
 
 -- the five bytes of a header
 abbrev pub header_text : HeaderParts → List ℕ

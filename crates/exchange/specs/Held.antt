@@ -1,5 +1,6 @@
 -- What a holder has, which of it a version speaks of, and how the holder's calls answer.
-use Rattle.std.specs.Prelude.{◌≡◌, ℕ, ◌==◌, Bool, true, false, not, List, filter, slice_index, Option, Some, None, Result, Ok, Err, OnOk, if◌then◌else◌}
+use Rattle.std.specs.Prelude.{◌≡◌, ℕ, ◌==◌, Bool, true, false, not, List, filter, slice_index, Option, Some, None}
+use Rattle.std.specs.Prelude.{Result, Ok, Err, OnOk, if◌then◌else◌}
 use Rattle.std.specs.List.{list_any, filter_map}
 use Rattle.std.specs.FinMap as finmap
 use Rattle.std.specs.Map.{keys_of}
@@ -87,9 +88,11 @@ pub record WasHad (before had after : Map) : Type 0 where
   pub until : HasGrown had after
   pub own : IsSite had
 
--- What a call answered it answered of one set that the holder had during the call; a holder that nobody else changes has
+-- What a call answered it answered of one set that the holder had during the call; a holder that nobody else changes
+-- has
 -- not changed.
-pub record Looks {H : Type 0} (holds : H → Map) (alone : H → Type 0) (before after : H) (Answers : Map → Type 0) : Type 0 where
+pub record Looks {H : Type 0} (holds : H → Map) (alone : H → Type 0) (before after : H) (Answers : Map → Type 0) : Type
+    0 where
   pub had : Map
   pub was_had : WasHad (holds before) had (holds after)
   pub answers : Answers had
@@ -102,7 +105,8 @@ TakesAlone before op (Ok Known) after = (held_at before (digest_of op) ≡ Some 
 TakesAlone before op (Err fault) after = after ≡ before
 
 -- how a holder takes an operation
-pub record TakesIn {H : Type 0} (holds : H → Map) (alone : H → Type 0) (before : H) (op : Op) (answer : Result Taken HolderFault) (after : H) : Type 0 where
+pub record TakesIn {H : Type 0} (holds : H → Map) (alone : H → Type 0) (before : H) (op : Op)
+    (answer : Result Taken HolderFault) (after : H) : Type 0 where
   -- nothing that is held is lost
   pub grown : HasGrown (holds before) (holds after)
   -- what was taken, new or known, is held

@@ -12,13 +12,15 @@ use Rattle.exchange.specs.Buckets.{bucket_of, bucket_list, unequal}
 
 -- what a version speaks of in a set is in another
 abbrev pub HasAllSpoken : Version → Map → Map → Type 0
-HasAllSpoken version m n = (digest : List ℕ) (op : Op) → held_at m digest ≡ Some op → is_spoken version op ≡ true → held_at n digest ≡ Some op
+HasAllSpoken version m n = (digest : List ℕ) (op : Op) → held_at m digest ≡ Some op → is_spoken version op ≡ true
+    → held_at n digest ≡ Some op
 
 -- each of some operations is in a set
 abbrev pub HoldsEach : Map → List Op → Type 0
 HoldsEach m ops = (op : Op) → Has ops op → held_at m (digest_of op) ≡ Some op
 
--- How a HAVE was answered: its receiver asked for what it lacked, the other side gave of that what it held then, and the
+-- How a HAVE was answered: its receiver asked for what it lacked, the other side gave of that what it held then, and
+-- the
 -- receiver took each operation that was given.
 pub record IsAnswered (version : Version) (have : List (List ℕ)) (asking giving after : Map) : Type 0 where
   pub grown : HasGrown asking after
@@ -27,12 +29,14 @@ pub record IsAnswered (version : Version) (have : List (List ℕ)) (asking givin
 -- After a round the one side holds all that the other held at its offer, if under one digest both hold one operation.
 abbrev pub RoundGivesAll : Type 0
 RoundGivesAll =
-    (version : Version) (offering giving asking after : Map) → IsSite offering → HasGrown offering giving → Agree offering after
+    (version : Version) (offering giving asking after : Map) → IsSite offering → HasGrown offering giving
+    → Agree offering after
     → IsAnswered version (offered version offering) asking giving after → HasAllSpoken version offering after
 
 -- a set holds what it held and some operations, and nothing else
 abbrev pub GainsOnly : Map → List Op → Map → Type 0
-GainsOnly before ops after = (digest : List ℕ) (op : Op) → held_at after digest ≡ Some op → (held_at before digest ≡ Some op) ⊎ Has ops op
+GainsOnly before ops after = (digest : List ℕ) (op : Op) → held_at after digest ≡ Some op
+    → (held_at before digest ≡ Some op) ⊎ Has ops op
 
 -- a round at version 2 from a site that nobody else changes, to one that takes only what was given
 pub record IsRound (from before after : Map) : Type 0 where
@@ -42,17 +46,21 @@ pub record IsRound (from before after : Map) : Type 0 where
 -- After a round each way both sides hold the same, if under one digest they hold one operation.
 abbrev pub RoundsMakeEqual : Type 0
 RoundsMakeEqual =
-    (a b a_after b_after : Map) → IsSite a → IsSite b_after → IsSite a_after → Agree a b_after → Agree b_after a_after → IsRound a b b_after → IsRound b_after a a_after → a_after ≡ b_after
+    (a b a_after b_after : Map) → IsSite a → IsSite b_after → IsSite a_after → Agree a b_after → Agree b_after a_after
+    → IsRound a b b_after → IsRound b_after a a_after → a_after ≡ b_after
 
 -- in each place unequal digests have unequal buckets
 abbrev pub BucketsTell : List (List ℕ) → List (List ℕ) → Type 0
-BucketsTell own theirs = (place : ℕ) → bucket_of own place ≡ bucket_of theirs place → filter (λ d. place_of d == place) own ≡ filter (λ d. place_of d == place) theirs
+BucketsTell own theirs = (place : ℕ) → bucket_of own place ≡ bucket_of theirs place → filter (λ d. place_of d == place)
+    own ≡ filter (λ d. place_of d == place) theirs
 
 -- So it does where BUCKETS were told first, and the HAVE is of the places in which they differ, if unequal digests have
 -- unequal buckets.
 abbrev pub RoundByBucketsGivesAll : Type 0
 RoundByBucketsGivesAll =
-    (version : Version) (offering showing giving comparing asking after : Map) → IsSite offering → HasGrown offering showing → HasGrown showing giving → HasGrown comparing asking → Agree offering after
+    (version : Version) (offering showing giving comparing asking after : Map) → IsSite offering
+    → HasGrown offering showing → HasGrown showing giving → HasGrown comparing asking → Agree offering after
     → BucketsTell (offered version comparing) (offered version offering)
-    → IsAnswered version (offered_in version (unequal (bucket_list (offered version comparing)) (bucket_list (offered version offering))) showing) asking giving after
+    → IsAnswered version (offered_in version (unequal (bucket_list (offered version comparing))
+    (bucket_list (offered version offering))) showing) asking giving after
     → HasAllSpoken version offering after

@@ -1,5 +1,6 @@
 -- How a body is read, and what it comes to.
-use Rattle.std.specs.Prelude.{◌≡◌, ℕ, zero, suc, ◌*◌, List, [], ◌∷◌, length, take, drop, Bool, true, false, ◌==◌, ◌||◌, ◌&&◌, nat_lt, Option, Some, None, Result, Ok, Err, if◌then◌else◌}
+use Rattle.std.specs.Prelude.{◌≡◌, ℕ, zero, suc, ◌*◌, List, [], ◌∷◌, length, take, drop, Bool, true, false, ◌==◌, ◌||◌}
+use Rattle.std.specs.Prelude.{◌&&◌, nat_lt, Option, Some, None, Result, Ok, Err, if◌then◌else◌}
 use Rattle.std.specs.Option.{option_map}
 use Rattle.std.specs.Int.{w16, w32, from_be_bytes}
 use Rattle.std.specs.Ordering.{nat_cmp}
@@ -33,7 +34,8 @@ is_long kind body = (kind == HAVE || kind == WANT) && counts_too_many body
 unfoldable pub counted_at : List ℕ → Option (List (List ℕ))
 counted_at (a ∷ b ∷ c ∷ d ∷ rest) =
     let count = from_be_bytes w32 (a ∷ b ∷ c ∷ d ∷ []) in
-    if length rest == DIGEST_LENGTH * count then (if ascends text_cmp (cut count rest) then Some (cut count rest) else None) else None
+    if length rest == DIGEST_LENGTH * count then (if ascends text_cmp (cut count rest) then Some (cut count rest)
+    else None) else None
 counted_at _ = None
 
 unfoldable pub buckets_at : List ℕ → Option (List (List ℕ))

@@ -1,5 +1,6 @@
 -- What one side of a round asked for, and which of it was given.
-use Rattle.std.specs.Prelude.{◌≡◌, ◌≢◌, ℕ, Bool, true, false, List, Option, Some, None, Result, Ok, Err, is_some, if◌then◌else◌}
+use Rattle.std.specs.Prelude.{◌≡◌, ◌≢◌, ℕ, Bool, true, false, List, Option, Some, None, Result, Ok, Err, is_some}
+use Rattle.std.specs.Prelude.{if◌then◌else◌}
 use Rattle.std.specs.List.{list_any}
 use Rattle.std.specs.Map.{lookup, set_value}
 use Rattle.std.specs.BTreeMap.{is_at}
@@ -43,14 +44,16 @@ IsFinished round = (digest : List ℕ) → asked_at digest round ≢ Some false
 -- why an operation that was given is not taken: it is of another version, or was not asked for
 abbrev pub refusal_of : RoundState → Op → Option ExchangeFault
 refusal_of round op =
-    if is_spoken round.version op then (if is_some (asked_at (digest_of op) round) then None else Some Stranger) else Some BadFrame
+    if is_spoken round.version op then (if is_some (asked_at (digest_of op) round) then None else Some Stranger)
+    else Some BadFrame
 
 -- a round in which the operation of a digest was given, if it was asked for
 abbrev pub with_given : List ℕ → RoundState → RoundState
 with_given digest round = record round { asked = set_value (is_at (digest_cmp digest)) round.asked true }
 
 -- how a round answers to an operation that the holder takes: as the holder did
-pub record TakesAsked {H : Type 0} (holds : H → Map) (alone : H → Type 0) (before : H) (op : Op) (answer : Result Taken ExchangeFault) (after : H) : Type 0 where
+pub record TakesAsked {H : Type 0} (holds : H → Map) (alone : H → Type 0) (before : H) (op : Op)
+    (answer : Result Taken ExchangeFault) (after : H) : Type 0 where
   pub reply : Result Taken HolderFault
   pub takes : TakesIn holds alone before op reply after
   pub answered : answer ≡ by_holder reply

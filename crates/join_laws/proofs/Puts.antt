@@ -16,23 +16,30 @@ use Rattle.join_laws.specs.Proved.Maps.{none_is_not_some, some_same}
 
 module _ {K J : Type 0} {R : K → K → Ordering} (o : IsTotalOrder R) (join : J → J → J) (k : K) (w : J) where
   -- an insertion where the key is absent
-  pub put_absent : (es : List (K × J)) → lookup (is_at (R k)) es ≡ None → insert_entry R es k w ≡ put_joined R join es k w
+  pub put_absent : (es : List (K × J)) → lookup (is_at (R k)) es ≡ None → insert_entry R es k w ≡ put_joined R join es k
+      w
   put_absent [] h = refl
   put_absent (e ∷ es) h = by (R k e.0) h (put_absent es)
     where
-      by : (r : Ordering) → cond (is_eq r) (Some e.1) (lookup (is_at (R k)) es) ≡ None → (lookup (is_at (R k)) es ≡ None → insert_entry R es k w ≡ put_joined R join es k w)
-          → match_ordering r ((k, w) ∷ e ∷ es) ((e.0, w) ∷ es) (e ∷ insert_entry R es k w) ≡ match_ordering r ((k, w) ∷ e ∷ es) ((e.0, join e.1 w) ∷ es) (e ∷ put_joined R join es k w)
+      by : (r : Ordering) → cond (is_eq r) (Some e.1) (lookup (is_at (R k)) es) ≡ None
+          → (lookup (is_at (R k)) es ≡ None → insert_entry R es k w ≡ put_joined R join es k w)
+          → match_ordering r ((k, w) ∷ e ∷ es) ((e.0, w) ∷ es) (e ∷ insert_entry R es k w) ≡ match_ordering
+          r ((k, w) ∷ e ∷ es) ((e.0, join e.1 w) ∷ es) (e ∷ put_joined R join es k w)
       by Less h later = refl
       by Equal h later = absurd (none_is_not_some e.1 h)
       by Greater h later = ap (λ es. e ∷ es) (later h)
 
   -- a write where the key is there
-  pub put_found : (es : List (K × J)) (v : J) → IsStrictlySortedBy R (keys_of es) → lookup (is_at (R k)) es ≡ Some v → set_value (is_at (R k)) es (join v w) ≡ put_joined R join es k w
+  pub put_found : (es : List (K × J)) (v : J) → IsStrictlySortedBy R (keys_of es) → lookup (is_at (R k)) es ≡ Some v
+      → set_value (is_at (R k)) es (join v w) ≡ put_joined R join es k w
   put_found [] v s h = absurd (none_is_not_some v (sym h))
   put_found (e ∷ es) v s h = by (R k e.0) refl h (put_found es v (sorted_tail R e.0 (keys_of es) s))
     where
-      by : (r : Ordering) → R k e.0 ≡ r → cond (is_eq r) (Some e.1) (lookup (is_at (R k)) es) ≡ Some v → (lookup (is_at (R k)) es ≡ Some v → set_value (is_at (R k)) es (join v w) ≡ put_joined R join es k w)
-          → cond (is_eq r) ((e.0, join v w) ∷ es) (e ∷ set_value (is_at (R k)) es (join v w)) ≡ match_ordering r ((k, w) ∷ e ∷ es) ((e.0, join e.1 w) ∷ es) (e ∷ put_joined R join es k w)
-      by Less l f later = absurd (none_is_not_some v (sym h ∙ lookup-none (is_at (R k)) (e ∷ es) (none_below_head o k e es s l)))
+      by : (r : Ordering) → R k e.0 ≡ r → cond (is_eq r) (Some e.1) (lookup (is_at (R k)) es) ≡ Some v
+          → (lookup (is_at (R k)) es ≡ Some v → set_value (is_at (R k)) es (join v w) ≡ put_joined R join es k w)
+          → cond (is_eq r) ((e.0, join v w) ∷ es) (e ∷ set_value (is_at (R k)) es (join v w)) ≡ match_ordering
+          r ((k, w) ∷ e ∷ es) ((e.0, join e.1 w) ∷ es) (e ∷ put_joined R join es k w)
+      by Less l f later = absurd (none_is_not_some v (sym h ∙ lookup-none (is_at (R k)) (e ∷ es)
+          (none_below_head o k e es s l)))
       by Equal l f later = ap (λ x. (e.0, join x w) ∷ es) (some_same v e.1 (sym f))
       by Greater l f later = ap (λ es. e ∷ es) (later f)

@@ -33,10 +33,11 @@ module _ {K : Type 0} {R : K → K → Ordering} (o : IsTotalOrder R) (exact : I
   contains-union xs ys = (there, back)
     where
       there : Contains (union_of R xs ys) key → Contains xs key ⊎ Contains ys key
-      there h = elim (one_or_other (has xs) (has ys) (sym (has-union o exact key ys xs) ∙ (contains (union_of R xs ys)).1 h)) [
-        | inl first ↦ inl ((contains xs).0 first)
-        | inr second ↦ inr ((contains ys).0 second)
-      ]
+      there h = elim (one_or_other (has xs) (has ys) (sym (has-union o exact key ys xs)
+          ∙ (contains (union_of R xs ys)).1 h)) [
+            | inl first ↦ inl ((contains xs).0 first)
+            | inr second ↦ inr ((contains ys).0 second)
+          ]
 
       back : Contains xs key ⊎ Contains ys key → Contains (union_of R xs ys) key
       back h = (contains (union_of R xs ys)).0 (has-union o exact key ys xs ∙ elim h as (λ _. (has xs || has ys) ≡ true) [

@@ -36,10 +36,11 @@ summary_of joined nothing of_one [] = nothing
 summary_of joined nothing of_one (op ∷ ops) = joined (of_one op) (summary_of joined nothing of_one ops)
 
 -- the laws of the values of lists, beside those of the join
-pub record SummaryLaws {V O : Type 0} (IsHeld : V → Type 0) (joined : V → V → V) (nothing : V) (of_one : O → V) : Type 0 where
-  pub nothing_held : IsHeld nothing
-  pub one_held : (op : O) → IsHeld (of_one op)
-  pub neutral : (a : V) → IsHeld a → joined nothing a ≡ a
+pub record SummaryLaws {V O : Type 0} (IsHeld : V → Type 0) (joined : V → V → V) (nothing : V) (of_one : O → V) : Type 0
+  where
+    pub nothing_held : IsHeld nothing
+    pub one_held : (op : O) → IsHeld (of_one op)
+    pub neutral : (a : V) → IsHeld a → joined nothing a ≡ a
 
 -- each has what the other has, in whatever order and however often
 abbrev pub HasSameMembers : {O : Type 0} → List O → List O → Type 0

@@ -16,7 +16,8 @@ IsMapOf {K} {J} cmp P es = IsStrictlySortedBy cmp (keys_of es) × All (λ (e : K
 -- the entries es, with the value w at the key k, joined to what is there
 abbrev pub put_joined : {K J : Type 0} → (K → K → Ordering) → (J → J → J) → List (K × J) → K → J → List (K × J)
 put_joined cmp join [] k w = (k, w) ∷ []
-put_joined cmp join (e ∷ es) k w = match_ordering (cmp k e.0) ((k, w) ∷ e ∷ es) ((e.0, join e.1 w) ∷ es) (e ∷ put_joined cmp join es k w)
+put_joined cmp join (e ∷ es) k w = match_ordering (cmp k e.0) ((k, w) ∷ e ∷ es) ((e.0, join e.1 w) ∷ es)
+    (e ∷ put_joined cmp join es k w)
 
 -- key by key: the entries of the second, put into the first
 abbrev pub map_joined : {K J : Type 0} → (K → K → Ordering) → (J → J → J) → List (K × J) → List (K × J) → List (K × J)

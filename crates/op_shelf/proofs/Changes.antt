@@ -1,8 +1,11 @@
 -- What the statements write.
-use Rattle.std.proofs.Common.{append-nil, ◌≡◌, ◌⊎◌, ◌||◌, ◌&&◌, inl, inr, ℕ, ℤ, ◌+◌, pos, List, [], ◌∷◌, map, Bool, true, false, not, cond, None, Ok, Err, Result, OnOk, IsTrue, IsPermutation, Ordering, Less, Equal, Greater, refl, sym, ap, subst, ◌∙◌}
+use Rattle.std.proofs.Common.{append-nil, ◌≡◌, ◌⊎◌, ◌||◌, ◌&&◌, inl, inr, ℕ, ℤ, ◌+◌, pos, List, [], ◌∷◌, map, Bool}
+use Rattle.std.proofs.Common.{true, false, not, cond, None, Ok, Err, Result, OnOk, IsTrue, IsPermutation, Ordering}
+use Rattle.std.proofs.Common.{Less, Equal, Greater, refl, sym, ap, subst, ◌∙◌}
 use Rattle.std.specs.List.{list_any}
 use Rattle.std.specs.Ordering.{is_eq, match_ordering}
-use Rattle.std.proofs.lemmas.List.Sorted.{IsPermutation-refl, IsPermutation-trans, IsPermutation-cons, IsPermutation-map, IsPermutation-append_comm, IsPermutation-append_left}
+use Rattle.std.proofs.lemmas.List.Sorted.{IsPermutation-refl, IsPermutation-trans, IsPermutation-cons}
+use Rattle.std.proofs.lemmas.List.Sorted.{IsPermutation-map, IsPermutation-append_comm, IsPermutation-append_left}
 use Rattle.sqlite.specs.declared.types.Value.{Value}
 use Rattle.sqlite.specs.declared.types.Value.TheVariants.{Null, Int, Text, Blob}
 use Rattle.sqlite.specs.Order.{Row, value_cmp}
@@ -51,15 +54,19 @@ unfolding unary
 cast_int n = cond_same _ (Int n)
 
 swapped : (a b : Row) (rows : List Row) → IsPermutation (a ∷ b ∷ rows) (b ∷ a ∷ rows)
-swapped a b rows = IsPermutation-append_left rows (a ∷ b ∷ []) (b ∷ a ∷ []) (IsPermutation-append_comm (a ∷ []) (b ∷ []))
+swapped a b rows = IsPermutation-append_left rows (a ∷ b ∷ []) (b ∷ a ∷ [])
+    (IsPermutation-append_comm (a ∷ []) (b ∷ []))
 
 -- a row under a rowid that none has comes to the others
 pub put_adds : (new : Row) (rows : List Row) → is_taken rows new ≡ false → IsPermutation (new ∷ rows) (put_row new rows)
 put_adds new [] free = IsPermutation-refl (new ∷ [])
 put_adds new (r ∷ rows) free = step (value_cmp (rowid r) (rowid new)) free (put_adds new rows)
   where
-    step : (o : Ordering) → (is_eq o || is_taken rows new) ≡ false → (is_taken rows new ≡ false → IsPermutation (new ∷ rows) (put_row new rows)) → IsPermutation (new ∷ r ∷ rows) (match_ordering o (r ∷ put_row new rows) (new ∷ rows) (new ∷ r ∷ rows))
-    step Less e later = IsPermutation-trans (new ∷ r ∷ rows) (r ∷ new ∷ rows) (r ∷ put_row new rows) (swapped new r rows) (IsPermutation-cons r (new ∷ rows) (put_row new rows) (later e))
+    step : (o : Ordering) → (is_eq o || is_taken rows new) ≡ false
+        → (is_taken rows new ≡ false → IsPermutation (new ∷ rows) (put_row new rows)) → IsPermutation (new ∷ r ∷ rows)
+        (match_ordering o (r ∷ put_row new rows) (new ∷ rows) (new ∷ r ∷ rows))
+    step Less e later = IsPermutation-trans (new ∷ r ∷ rows) (r ∷ new ∷ rows) (r ∷ put_row new rows)
+        (swapped new r rows) (IsPermutation-cons r (new ∷ rows) (put_row new rows) (later e))
     step Equal e later = absurd cc
     step Greater e later = IsPermutation-refl (new ∷ r ∷ rows)
 
@@ -72,50 +79,69 @@ abbrev pub row_of : List Row → List ℕ → ℕ → List ℕ → Row
 row_of rows digest kind body = Int (next_rowid rows) ∷ Text digest ∷ Int (pos kind) ∷ Blob body ∷ []
 
 -- what an INSERT leaves
-pub puts : (tree : ℕ) (checks : List Term) (old : State) (after : Database) (tally : Tally) (digest body : List ℕ) (kind : ℕ) → old.now.schema ≡ shelf_schema tree checks
-    → Does old.step_limit (mode_of old) (Text digest ∷ Int (pos kind) ∷ Blob body ∷ []) old.now (statement_of insert_text (understood (shelf_schema tree checks) insert_text)) None (Insert 0 (Values terms 4)) (Ok (tally, after))
-    → (after.schema ≡ shelf_schema tree checks) × Adds (old.now.trees tree) (after.trees tree) (Text digest ∷ Int (pos kind) ∷ Blob body ∷ [])
+pub puts : (tree : ℕ) (checks : List Term) (old : State) (after : Database) (tally : Tally) (digest body : List ℕ)
+    (kind : ℕ) → old.now.schema ≡ shelf_schema tree checks
+    → Does old.step_limit (mode_of old) (Text digest ∷ Int (pos kind) ∷ Blob body ∷ [])
+    old.now (statement_of insert_text (understood (shelf_schema tree checks) insert_text))
+    None (Insert 0 (Values terms 4)) (Ok (tally, after))
+    → (after.schema ≡ shelf_schema tree checks) × Adds (old.now.trees tree) (after.trees tree)
+    (Text digest ∷ Int (pos kind) ∷ Blob body ∷ [])
 puts tree checks old after tally digest body kind has h =
     let params = Text digest ∷ Int (pos kind) ∷ Blob body ∷ [] in
     let db = old.now.trees in
     let command = Insert 0 (Values terms 4) in
     let text = statement_of insert_text (understood (shelf_schema tree checks) insert_text) in
-    let done = went (subst (λ s. Does old.step_limit (mode_of old) params (record old.now { schema = s }) text None command (Ok (tally, after))) has h) in
+    let done = went (subst (λ s. Does old.step_limit (mode_of old) params (record old.now { schema = s }) text None
+    command (Ok (tally, after))) has h) in
     let now = ap (λ (p : Tally × Database). p.1) (same_value (went (went done.2).2).2) in
     let given = went done.1 in
     let written = went (went given.2).2 in
     let counted = went written.2 in
-    let trees : done.0.trees ≡ written.0 = ap (λ (it : Written). it.trees) (same_value counted.2) ∙ same_value counted.1 in
-    let applied = one_step (shelf_schema tree checks) _ db written.0 (edit_of db (ops2 tree checks) [] Chosen 0 given.0) refl written.1 in
+    let trees : done.0.trees ≡ written.0 = ap (λ (it : Written). it.trees) (same_value counted.2) ∙ same_value counted.1
+    in
+    let applied = one_step (shelf_schema tree checks) _ db written.0 (edit_of db (ops2 tree checks) [] Chosen 0 given.0)
+    refl written.1 in
     let new = row_of (db tree) digest kind body in
-    let edit : edited db (edit_of db (ops2 tree checks) [] Chosen 0 given.0) ≡ put_row new (db tree) = ap (λ all. edited db (edit_of db (ops2 tree checks) [] Chosen 0 all)) given.1.1 ∙ rw (cast_null, cast_int) refl in
-    let news : (edit_of db (ops2 tree checks) [] Chosen 0 given.0).news ≡ new ∷ [] = ap (λ all. (edit_of db (ops2 tree checks) [] Chosen 0 all).news) given.1.1 ∙ rw (cast_null, cast_int) refl in
+    let edit : edited db (edit_of db (ops2 tree checks) [] Chosen 0 given.0) ≡ put_row new (db tree) =
+    ap (λ all. edited db (edit_of db (ops2 tree checks) [] Chosen 0 all)) given.1.1 ∙ rw (cast_null, cast_int) refl
+    in
+    let news : (edit_of db (ops2 tree checks) [] Chosen 0 given.0).news ≡ new ∷ [] =
+    ap (λ all. (edit_of db (ops2 tree checks) [] Chosen 0 all).news) given.1.1 ∙ rw (cast_null, cast_int) refl in
     let free : is_taken (db tree) new ≡ false = fresh_free _ (rw news at applied.fresh) in
-    let rows : after.trees tree ≡ put_row new (db tree) = ap (λ (d : Database). d.trees tree) now ∙ ap (λ (t : Trees). t tree) trees ∙ applied.rows ∙ edit in
-    (ap (λ (d : Database). d.schema) now, subst (λ all. IsPermutation (params ∷ entries (db tree)) (entries all)) (sym rows) (IsPermutation-map entry_in (new ∷ db tree) (put_row new (db tree)) (put_adds new (db tree) free)))
+    let rows : after.trees tree ≡ put_row new (db tree) = ap (λ (d : Database). d.trees tree) now
+    ∙ ap (λ (t : Trees). t tree) trees ∙ applied.rows ∙ edit in (
+      ap (λ (d : Database). d.schema) now,
+      subst (λ all. IsPermutation (params ∷ entries (db tree)) (entries all))
+          (sym rows) (IsPermutation-map entry_in (new ∷ db tree) (put_row new (db tree)) (put_adds new (db tree) free)),
+    )
 
 -- the INSERT, alone, is a commit
-pub adds : (old new : State) (digest body : List ℕ) (kind : ℕ) (r : Result ℕ Error) → IsShelf old.now.schema → old.in_transaction ≡ false
-    → Executes insert_text (Text digest ∷ Int (pos kind) ∷ Blob body ∷ []) old new r → OnOk r (IsAdded old new (Text digest ∷ Int (pos kind) ∷ Blob body ∷ []))
+pub adds : (old new : State) (digest body : List ℕ) (kind : ℕ) (r : Result ℕ Error) → IsShelf old.now.schema
+    → old.in_transaction ≡ false
+    → Executes insert_text (Text digest ∷ Int (pos kind) ∷ Blob body ∷ []) old new r
+    → OnOk r (IsAdded old new (Text digest ∷ Int (pos kind) ∷ Blob body ∷ []))
 adds old new digest body kind (Err e) shelf alone h = tt
 adds old new digest body kind (Ok count) shelf alone h =
     let tree = shelf.0 in
     let checks = shelf.2 in
     let has = shelf.3 in
     let params = Text digest ∷ Int (pos kind) ∷ Blob body ∷ [] in
-    let w = runs_as insert_text params old new (shelf_schema tree checks) has (Insert 0 (Values terms 4)) (insert_is tree checks) (insert_plain tree checks) count h in
+    let w = runs_as insert_text params old new (shelf_schema tree checks) has (Insert 0 (Values terms 4))
+    (insert_is tree checks) (insert_plain tree checks) count h in
     let it = puts tree checks old new.now w.tally digest body kind has w.changed in
     record {
       was_open = w.shown.was_open;
       is_open = w.shown.is_open;
       schema = it.0 ∙ sym has;
-      rows = subst (λ n. Adds (old.now.trees n) (new.now.trees (tree_in new.now.schema)) params) (sym (ap tree_in has)) (subst (λ n. Adds (old.now.trees tree) (new.now.trees n) params) (sym (ap tree_in it.0)) it.1);
+      rows = subst (λ n. Adds (old.now.trees n) (new.now.trees (tree_in new.now.schema)) params) (sym (ap tree_in has))
+          (subst (λ n. Adds (old.now.trees tree) (new.now.trees n) params) (sym (ap tree_in it.0)) it.1);
       committed = rw alone at w.shown.committed_is;
       alone = w.shown.mode ∙ alone;
     }
 
 -- what a crash may find of it
-pub commits : (old : State) (digest body : List ℕ) (kind : ℕ) (db : Trees) → IsShelf old.now.schema → CommitsBy insert_text (Text digest ∷ Int (pos kind) ∷ Blob body ∷ []) old db
+pub commits : (old : State) (digest body : List ℕ) (kind : ℕ) (db : Trees) → IsShelf old.now.schema
+    → CommitsBy insert_text (Text digest ∷ Int (pos kind) ∷ Blob body ∷ []) old db
     → Adds (rows_of old) (rows_left old db) (Text digest ∷ Int (pos kind) ∷ Blob body ∷ [])
 unfolding CommitsBy
 commits old digest body kind db shelf h =
@@ -131,6 +157,7 @@ commits old digest body kind db shelf h =
       | inl ends ↦ absurd (elim ends.0 [ inl commit ↦ let e = commit in cc | inr release ↦ let e = release.2 in cc ])
       | inr writes ↦
           let it = puts tree checks old writes.2 writes.1 digest body kind has writes.3 in
-          let found : Adds (old.now.trees tree) (db tree) params = subst (λ all. Adds (old.now.trees tree) all params) (sym (ap (λ (t : Trees). t tree) writes.5)) it.1 in
+          let found : Adds (old.now.trees tree) (db tree) params = subst (λ all. Adds (old.now.trees tree) all params)
+          (sym (ap (λ (t : Trees). t tree) writes.5)) it.1 in
           subst (λ n. Adds (old.now.trees n) (db n) params) (sym (ap tree_in has)) found
     ]

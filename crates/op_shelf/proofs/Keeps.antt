@@ -1,5 +1,7 @@
 -- What a put makes of the operations that a shelf keeps.
-use Rattle.std.proofs.Common.{◌≡◌, ◌⊎◌, ◌↔◌, ◌<◌, inl, inr, zero, suc, ℕ, List, [], ◌∷◌, Bool, true, false, cond, filter, length, Contains, Ok, Err, Result, OnOk, OnErr, IsTrue, IsPermutation, refl, sym, ap, subst, ◌∙◌, arith}
+use Rattle.std.proofs.Common.{◌≡◌, ◌⊎◌, ◌↔◌, ◌<◌, inl, inr, zero, suc, ℕ, List, [], ◌∷◌, Bool, true, false, cond}
+use Rattle.std.proofs.Common.{filter, length, Contains, Ok, Err, Result, OnOk, OnErr, IsTrue, IsPermutation, refl, sym}
+use Rattle.std.proofs.Common.{ap, subst, ◌∙◌, arith}
 use Rattle.std.specs.Ordering.{is_eq}
 use Rattle.std.proofs.lemmas.List.Sorted.{IsPermutation-sym, Contains-permutation}
 use Rattle.sqlite.specs.Order.{Row, column, value_cmp}
@@ -37,7 +39,8 @@ lets_through p (y ∷ ys) x passes (suc k, low, at) = step (p y) (lets_through p
 is_under : (rows : List Row) (op : Op) → under (digest_text op) rows ≡ [] → ¬ Holds rows op
 is_under rows op none held =
     let test = λ (e : Row). is_eq (value_cmp (column e 0) (Text (digest_text op))) in
-    let some = lets_through test (entries rows) (entry_of op) (ap is_eq (tied_itself value_cmp_total (Text (digest_text op)))) held in
+    let some = lets_through test (entries rows) (entry_of op)
+    (ap is_eq (tied_itself value_cmp_total (Text (digest_text op)))) held in
     absurd (omega (arith, some, ap length none))
 
 -- operations of one entry are spelled alike
@@ -48,21 +51,30 @@ first_or_later : {X : Type 0} (x : X) (xs : List X) (y : X) → Contains (x ∷ 
 first_or_later x xs y (zero, low, at) = inl at
 first_or_later x xs y (suc k, low, at) = inr (k, omega (arith, low), at)
 
-one_more : (old new : List Row) (op : Op) → Adds old new (entry_of op) → (other : Op) → Holds new other ↔ (Holds old other ⊎ (spelling other ≡ spelling op))
+one_more : (old new : List Row) (op : Op) → Adds old new (entry_of op) → (other : Op) → Holds new other ↔
+    (Holds old other ⊎ (spelling other ≡ spelling op))
 one_more old new op adds other = (
-  λ held. elim (first_or_later (entry_of op) (entries old) (entry_of other) (Contains-permutation (entries new) (entry_of op ∷ entries old) (entry_of other) (IsPermutation-sym (entry_of op ∷ entries old) (entries new) adds) held)) [
-    | inl it ↦ inr (alike other op (sym it))
-    | inr later ↦ inl later
-  ],
+  λ held. elim (first_or_later (entry_of op) (entries old) (entry_of other)
+      (Contains-permutation (entries new) (entry_of op ∷ entries old) (entry_of other)
+      (IsPermutation-sym (entry_of op ∷ entries old) (entries new) adds) held)) [
+        | inl it ↦ inr (alike other op (sym it))
+        | inr later ↦ inl later
+      ],
   elim [
-    | inl was ↦ Contains-permutation (entry_of op ∷ entries old) (entries new) (entry_of other) adds (suc was.0, omega (arith, was.1), was.2)
-    | inr is ↦ Contains-permutation (entry_of op ∷ entries old) (entries new) (entry_of other) adds (0, omega arith, sym (same_entry other op is))
+    | inl was ↦ Contains-permutation (entry_of op ∷ entries old) (entries new) (entry_of other)
+        adds (suc was.0, omega (arith, was.1), was.2)
+    | inr is ↦ Contains-permutation (entry_of op ∷ entries old) (entries new) (entry_of other)
+        adds (0, omega arith, sym (same_entry other op is))
   ],
 )
 
 module _ (s t : State) (op : Op) where
   pub gains : IsPut s t (digest_text op) (entry_of op) → Gains (Holds (rows_of s)) (Holds (rows_of t)) op
-  gains it = record { absent = is_under (rows_of s) op it.absent; only = one_more (rows_of s) (rows_of t) op it.added.rows }
+  gains it = record {
+    absent = is_under (rows_of s) op it.absent;
+    only = one_more (rows_of s) (rows_of t) op
+        it.added.rows;
+  }
 
   pub same_of : t.now ≡ s.now → AreSame (Holds (rows_of s)) (Holds (rows_of t))
   same_of is other = (
@@ -81,7 +93,8 @@ module _ (s t : State) (op : Op) where
   stays_same : t.now ≡ s.now → Stays
   stays_same is = record { schema = ap (λ (d : Database). d.schema) is; held = λ other. (same_of is other).0 }
 
-  stays : (r : Result Kept ShelfFault) → IsUp t → (r ≡ Ok New → IsPut s t (digest_text op) (entry_of op)) → (r ≡ Ok Known → IsKnown s t (digest_text op) (entry_of op)) → OnErr r (KeepsAll s t) → Stays
+  stays : (r : Result Kept ShelfFault) → IsUp t → (r ≡ Ok New → IsPut s t (digest_text op) (entry_of op))
+      → (r ≡ Ok Known → IsKnown s t (digest_text op) (entry_of op)) → OnErr r (KeepsAll s t) → Stays
   stays (Ok New) up put known refused =
       let it = put refl in
       record { schema = it.added.schema; held = λ other was. ((gains it).only other).1 (inl was) }
@@ -89,20 +102,28 @@ module _ (s t : State) (op : Op) where
   stays (Err e) up put known refused = stays_same (refused up.is_open).1
 
   -- what every crash left it leaves afterwards
-  pub lasts_on : (r : Result Kept ShelfFault) → IsUp t → (r ≡ Ok New → IsPut s t (digest_text op) (entry_of op)) → (r ≡ Ok Known → IsKnown s t (digest_text op) (entry_of op)) → OnErr r (KeepsAll s t)
-      → Survives s t (λ trees. Adds (rows_of s) (rows_left s trees) (entry_of op)) → (other : Op) → Lasts s other → Lasts t other
+  pub lasts_on : (r : Result Kept ShelfFault) → IsUp t → (r ≡ Ok New → IsPut s t (digest_text op) (entry_of op))
+      → (r ≡ Ok Known → IsKnown s t (digest_text op) (entry_of op)) → OnErr r (KeepsAll s t)
+      → Survives s t (λ trees. Adds (rows_of s) (rows_left s trees) (entry_of op)) → (other : Op) → Lasts s other
+      → Lasts t other
   lasts_on r up put known refused crash other was =
       let it = stays r up put known refused in
       record {
         held = it.held other was.held;
-        left = λ trees may. subst (λ n. Holds (trees n) other) (sym (ap tree_in it.schema)) (elim (crash.crash up.clean trees may) [
-          | inl before ↦ was.left trees before
-          | inr after ↦ ((one_more (rows_of s) (rows_left s trees) op after) other).1 (inl was.held)
-        ]);
+        left = λ trees may. subst (λ n. Holds (trees n) other) (sym (ap tree_in it.schema))
+            (elim (crash.crash up.clean trees may) [
+              | inl before ↦ was.left trees before
+              | inr after ↦ ((one_more (rows_of s) (rows_left s trees) op after) other).1 (inl was.held)
+            ]);
       }
 
-  pub lasts_put : (r : Result Kept ShelfFault) → (r ≡ Ok New → IsPut s t (digest_text op) (entry_of op)) → (r ≡ Ok Known → IsKnown s t (digest_text op) (entry_of op))
+  pub lasts_put : (r : Result Kept ShelfFault) → (r ≡ Ok New → IsPut s t (digest_text op) (entry_of op))
+      → (r ≡ Ok Known → IsKnown s t (digest_text op) (entry_of op))
       → OnOk r ((trees : Trees) → t.may_leave trees → Holds (rows_left t trees) op) → OnOk r (Lasts t op)
   lasts_put (Ok New) put known left = record { held = ((gains (put refl)).only op).1 (inr refl); left = left }
-  lasts_put (Ok Known) put known left = record { held = ((finds_known (known refl)).same op).0 (known refl).held; left = left }
+  lasts_put (Ok Known) put known left = record {
+    held = ((finds_known (known refl)).same op).0 (known refl).held;
+    left =
+        left;
+  }
   lasts_put (Err e) put known left = tt

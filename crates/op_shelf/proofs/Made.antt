@@ -1,5 +1,6 @@
 -- What CREATE TABLE makes of an empty database.
-use Rattle.std.proofs.Common.{append-nil, ◌≡◌, ◌⊎◌, inl, inr, ℕ, List, [], codes, true, false, None, Ok, Err, Result, OnOk, IsTrue, refl, sym, ap, subst, ◌∙◌}
+use Rattle.std.proofs.Common.{append-nil, ◌≡◌, ◌⊎◌, inl, inr, ℕ, List, [], codes, true, false, None, Ok, Err, Result}
+use Rattle.std.proofs.Common.{OnOk, IsTrue, refl, sym, ap, subst, ◌∙◌}
 use Rattle.sqlite.specs.Schema.{Schema}
 use Rattle.sqlite.specs.Table.{Table}
 use Rattle.sqlite.specs.Command.TheVariants.{CreateTable}
@@ -27,7 +28,8 @@ checks_in (Err e) = []
 pub made_checks : List Term
 made_checks = checks_in (table_defined_by create_text)
 
-create_is : (command_of (understood no_schema create_text) ≡ CreateTable) × (statement_of create_text (understood no_schema create_text) ≡ create_text)
+create_is : (command_of (understood no_schema create_text) ≡ CreateTable)
+    × (statement_of create_text (understood no_schema create_text) ≡ create_text)
 unfolding understood everything
 create_is = (refl, refl)
 
@@ -40,7 +42,8 @@ unfolding understood everything made_checks checks_in
 table_is = refl
 
 -- what the statement leaves
-makes : (old : State) (after : Database) (tally : Tally) → old.now.schema ≡ no_schema → Does old.step_limit (mode_of old) [] old.now create_text None CreateTable (Ok (tally, after))
+makes : (old : State) (after : Database) (tally : Tally) → old.now.schema ≡ no_schema
+    → Does old.step_limit (mode_of old) [] old.now create_text None CreateTable (Ok (tally, after))
     → (after.schema ≡ shelf_schema 0 made_checks) × (after.trees 0 ≡ [])
 makes old after tally has h =
     let all = went h in
@@ -48,15 +51,22 @@ makes old after tally has h =
     let made = first.1 in
     let both : Ok made.table ≡ Ok (ops2 0 made_checks) = sym made.defined ∙ table_is in
     let same : made.table ≡ ops2 0 made_checks = cc in
-    let schema : first.0.schema ≡ shelf_schema 0 made_checks = made.is ∙ ap (λ s. created s made.table) has ∙ ap (created no_schema) same in
+    let schema : first.0.schema ≡ shelf_schema 0 made_checks = made.is ∙ ap (λ s. created s made.table) has ∙ ap
+    (created no_schema) same in
     let plain : lacks_sequence first.0.schema ≡ false = ap lacks_sequence schema in
-    let now : after ≡ first.0 = ap (λ (p : Tally × Database). p.1) (same_value all.2) ∙ same_value (rw plain at first.2) in
-    (ap (λ (d : Database). d.schema) now ∙ schema, ap (λ (d : Database). d.trees 0) now ∙ subst (λ s. first.0.trees (next_tree s) ≡ []) has made.empty)
+    let now : after ≡ first.0 = ap (λ (p : Tally × Database). p.1) (same_value all.2) ∙ same_value (rw plain at first.2)
+    in (
+      ap (λ (d : Database). d.schema) now ∙ schema,
+      ap (λ (d : Database). d.trees 0) now
+          ∙ subst (λ s. first.0.trees (next_tree s) ≡ []) has made.empty,
+    )
 
-pub creates : (old new : State) (r : Result ℕ Error) → old.now.schema ≡ no_schema → old.in_transaction ≡ false → Executes create_text [] old new r → OnOk r (IsMade old new)
+pub creates : (old new : State) (r : Result ℕ Error) → old.now.schema ≡ no_schema → old.in_transaction ≡ false
+    → Executes create_text [] old new r → OnOk r (IsMade old new)
 creates old new (Err e) has alone h = tt
 creates old new (Ok count) has alone h =
-    let w = subst (λ t. Writes old new None CreateTable t [] count) create_is.1 (runs_as create_text [] old new no_schema has CreateTable create_is.0 create_plain count h) in
+    let w = subst (λ t. Writes old new None CreateTable t [] count) create_is.1 (runs_as create_text [] old new
+    no_schema has CreateTable create_is.0 create_plain count h) in
     let it = makes old new.now w.tally has w.changed in
     record {
       was_open = w.shown.was_open;
@@ -79,7 +89,8 @@ commits_made old db has h =
     elim made [
       | inl ends ↦ absurd (elim ends.0 [ inl commit ↦ let e = commit in cc | inr release ↦ let e = release.2 in cc ])
       | inr writes ↦
-          let done = subst (λ t. Does old.step_limit (mode_of old) [] old.now t None CreateTable (Ok (writes.1, writes.2))) text writes.3 in
+          let done = subst (λ t. Does old.step_limit (mode_of old) [] old.now t None CreateTable
+          (Ok (writes.1, writes.2))) text writes.3 in
           let it = makes old writes.2 writes.1 has done in
           ap (λ (t : Trees). t 0) writes.5 ∙ it.1
     ]

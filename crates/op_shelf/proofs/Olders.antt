@@ -1,5 +1,6 @@
 -- The older table: its schema, and what it shows.
-use Rattle.std.proofs.Common.{◌≡◌, ◌↔◌, inl, ℕ, pos, negsuc, List, [], ◌∷◌, map, codes, true, false, None, length, IsPermutation, refl, sym, ap, ap₂, subst, ◌∙◌, arith}
+use Rattle.std.proofs.Common.{◌≡◌, ◌↔◌, inl, ℕ, pos, negsuc, List, [], ◌∷◌, map, codes, true, false, None, length}
+use Rattle.std.proofs.Common.{IsPermutation, refl, sym, ap, ap₂, subst, ◌∙◌, arith}
 use Rattle.std.proofs.lemmas.Fmt.{decimal_digit}
 use Rattle.sqlite.specs.declared.types.Value.TheVariants.{Null, Int, Text, Blob}
 use Rattle.sqlite.specs.Term.{lit, col}
@@ -28,7 +29,8 @@ written_out = rw (decimal_digit 1 (omega arith)) refl
 module _ (s : Schema) (t : Table) (i : Index) (tables : s.tables ≡ t ∷ []) (indexes : s.indexes ≡ i ∷ []) where
   pub older_of : AreOlderParts s t i → s ≡ older_schema
   older_of p =
-      let all : s ≡ record { tables = ops ∷ []; indexes = ops_index ∷ []; views = [] } = rw (tables ∙ ap (λ x. x ∷ []) p.table, indexes ∙ ap (λ x. x ∷ []) p.index, p.views) refl in
+      let all : s ≡ record { tables = ops ∷ []; indexes = ops_index ∷ []; views = [] } =
+      rw (tables ∙ ap (λ x. x ∷ []) p.table, indexes ∙ ap (λ x. x ∷ []) p.index, p.views) refl in
       all ∙ sym written_out
 
   pub parts_of_older : s ≡ older_schema → AreOlderParts s t i
@@ -51,7 +53,8 @@ older_query = record {
   offset = lit (Int (pos 0));
 }
 
-older_is : command_of (understood older_schema older_text) ≡ Select (record { lets = []; body = older_query }) (codes "digest" ∷ codes "body" ∷ [])
+older_is : command_of (understood older_schema older_text) ≡ Select (record { lets = []; body = older_query })
+    (codes "digest" ∷ codes "body" ∷ [])
 unfolding understood everything
 older_is = refl
 
@@ -67,14 +70,17 @@ pub plain_older : (s : Schema) → s ≡ older_schema → IsPlain (understood s 
 plain_older s older = subst (λ s. IsPlain (understood s older_text)) (sym older) older_plain
 
 -- what is shown are the pairs of the table
-pub lists_pairs : (old new : State) (rows : List Row) → old.now.schema ≡ older_schema → Shown older_text [] old new rows → IsPermutation (pairs (old.now.trees 0)) rows
+pub lists_pairs : (old new : State) (rows : List Row) → old.now.schema ≡ older_schema → Shown older_text [] old new rows
+    → IsPermutation (pairs (old.now.trees 0)) rows
 lists_pairs old new rows has h =
     let table = old.now.trees 0 in
     let got = reads_as older_text [] old new older_schema has _ older_is older_plain older_unlisted rows h in
     let a : IsAnswer older_query (overlay old.now.trees []) [] rows = got.answer Null in
     let shows : Row → Output = λ r. ([], pair_in r) in
-    let staged : a.staged ≡ map (λ (r : Row). [] ∷ r ∷ []) table = a.grouped ∙ rw (overlaid old.now.trees 0 (inl refl)) (each table) in
-    let kept : a.kept ≡ map shows table = a.distinct ∙ ap (map (output older_query)) staged ∙ outs (output older_query) shows [] (λ r. refl) table in
+    let staged : a.staged ≡ map (λ (r : Row). [] ∷ r ∷ []) table = a.grouped ∙ rw (overlaid old.now.trees 0 (inl refl))
+    (each table) in
+    let kept : a.kept ≡ map shows table = a.distinct ∙ ap (map (output older_query)) staged ∙ outs (output older_query)
+    shows [] (λ r. refl) table in
     permuted shows table rows a.kept a.ordered kept a.same (a.shown ∙ refl)
 
 -- operations that are spelled alike have one pair
@@ -82,7 +88,8 @@ pub same_pair : (a b : Op) → spelling a ≡ spelling b → pair_of a ≡ pair_
 same_pair a b same = ap₂ (λ (d s : List ℕ). Text d ∷ Blob s ∷ []) (digest_texts a b same) same
 
 -- the bytes of a pair are a spelling
-pub body_of_pair : (pair : Row) (op : Op) (body : List ℕ) → pair ≡ pair_of op → column pair 1 ≡ Blob body → body ≡ spelling op
+pub body_of_pair : (pair : Row) (op : Op) (body : List ℕ) → pair ≡ pair_of op → column pair 1 ≡ Blob body
+    → body ≡ spelling op
 body_of_pair pair op body is held = let both : Blob body ≡ Blob (spelling op) = sym held ∙ ap (λ p. column p 1) is in cc
 
 -- a pair is long enough

@@ -1,5 +1,7 @@
 -- Entries and operations.
-use Rattle.std.proofs.Common.{◌≡◌, ◌++◌, ◌∷◌, ◌<◌, ◌+◌, zero, suc, take, get_or, take-suc, cond, Bool, true, false, filter, length, map, All, Any, Contains, IsPermutation, refl, sym, subst, ◌∙◌, arith, ap, ap₂, List, [], ℕ}
+use Rattle.std.proofs.Common.{◌≡◌, ◌++◌, ◌∷◌, ◌<◌, ◌+◌, zero, suc, take, get_or, take-suc, cond, Bool, true, false}
+use Rattle.std.proofs.Common.{filter, length, map, All, Any, Contains, IsPermutation, refl, sym, subst, ◌∙◌, arith, ap}
+use Rattle.std.proofs.Common.{ap₂, List, [], ℕ}
 use Rattle.std.proofs.lemmas.List.Sorted.{IsPermutation-sym, Contains-permutation, All-permutation, length_permutation}
 use Rattle.std.proofs.lemmas.List.Elements.{All-push}
 use Rattle.sqlite.specs.Order.{Row, column}
@@ -20,18 +22,23 @@ pub same_entry : (a b : Op) → spelling a ≡ spelling b → entry_of a ≡ ent
 same_entry a b same = ap₂ entry_by (digest_texts a b same) same
 
 -- the body of an entry is a spelling
-pub body_of : (entry : Row) (op : Op) (body : List ℕ) → entry ≡ entry_of op → column entry 2 ≡ Blob body → body ≡ spelling op
+pub body_of : (entry : Row) (op : Op) (body : List ℕ) → entry ≡ entry_of op → column entry 2 ≡ Blob body
+    → body ≡ spelling op
 body_of entry op body is held = let both : Blob body ≡ Blob (spelling op) = sym held ∙ ap (λ e. column e 2) is in cc
 
 -- one more operation is that of one more entry
-pub entries_more : (ops : List Op) (op : Op) (seen : List Row) (entry : Row) → map entry_of ops ≡ seen → entry ≡ entry_of op → map entry_of (ops ++ op ∷ []) ≡ seen ++ entry ∷ []
-entries_more [] op seen entry all is = subst (λ (xs : List Row). entry_of op ∷ [] ≡ xs ++ entry ∷ []) all (ap (λ e. e ∷ []) (sym is))
-entries_more (x ∷ ops) op seen entry all is = subst (λ (xs : List Row). map entry_of ((x ∷ ops) ++ op ∷ []) ≡ xs ++ entry ∷ []) all (ap (λ xs. entry_of x ∷ xs) (entries_more ops op (map entry_of ops) entry refl is))
+pub entries_more : (ops : List Op) (op : Op) (seen : List Row) (entry : Row) → map entry_of ops ≡ seen
+    → entry ≡ entry_of op → map entry_of (ops ++ op ∷ []) ≡ seen ++ entry ∷ []
+entries_more [] op seen entry all is = subst (λ (xs : List Row). entry_of op ∷ [] ≡ xs ++ entry ∷ [])
+    all (ap (λ e. e ∷ []) (sym is))
+entries_more (x ∷ ops) op seen entry all is = subst (λ (xs : List Row). map entry_of ((x ∷ ops) ++ op ∷ []) ≡ xs
+    ++ entry ∷ []) all (ap (λ xs. entry_of x ∷ xs) (entries_more ops op (map entry_of ops) entry refl is))
 
 -- a bad one among rows is one among those that they are a permutation of
 pub any_in : {X : Type 0} (P : X → Type 0) (xs ys : List X) → IsPermutation xs ys → Any P ys → Any P xs
 any_in P xs ys same any =
-    let found : Contains xs any.1 = Contains-permutation ys xs any.1 (IsPermutation-sym xs ys same) (any.0, any.2, any.3) in
+    let found : Contains xs any.1 = Contains-permutation ys xs any.1 (IsPermutation-sym xs ys same)
+    (any.0, any.2, any.3) in
     (found.0, any.1, found.1, found.2, any.4)
 
 pub none_in : {X : Type 0} (xs ys : List X) → IsPermutation xs ys → ys ≡ [] → xs ≡ []
@@ -49,14 +56,17 @@ kept_was p (y ∷ ys) x h = step (p y) h (kept_was p ys x)
     later : Contains ys x → Contains (y ∷ ys) x
     later found = (suc found.0, omega (arith, found.1), found.2)
 
-    step : (b : Bool) → Contains (cond b (y ∷ filter p ys) (filter p ys)) x → (Contains (filter p ys) x → Contains ys x) → Contains (y ∷ ys) x
+    step : (b : Bool) → Contains (cond b (y ∷ filter p ys) (filter p ys)) x → (Contains (filter p ys) x → Contains ys x)
+        → Contains (y ∷ ys) x
     step true (zero, low, at) rest = (0, omega arith, at)
     step true (suc k, low, at) rest = later (rest (k, omega (arith, low), at))
     step false found rest = later (rest found)
 
 -- one more of those so far
-pub all_upto : {X : Type 0} (P : X → Type 0) (xs : List X) (i : ℕ) (x : X) → i < length xs → x ≡ get_or xs i x → P x → All P (take i xs) → All P (take (i + 1) xs)
+pub all_upto : {X : Type 0} (P : X → Type 0) (xs : List X) (i : ℕ) (x : X) → i < length xs → x ≡ get_or xs i x → P x
+    → All P (take i xs) → All P (take (i + 1) xs)
 all_upto P xs i x low at p all =
     let step : i + 1 ≡ suc i = omega arith in
-    let is : take (i + 1) xs ≡ take i xs ++ x ∷ [] = ap (λ n. take n xs) step ∙ take-suc xs i x low ∙ ap (λ y. take i xs ++ y ∷ []) (sym at) in
+    let is : take (i + 1) xs ≡ take i xs ++ x ∷ [] = ap (λ n. take n xs) step ∙ take-suc xs i x low
+    ∙ ap (λ y. take i xs ++ y ∷ []) (sym at) in
     subst (All P) (sym is) (All-push P (take i xs) x all p)

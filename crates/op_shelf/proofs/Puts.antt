@@ -1,5 +1,6 @@
 -- A look and then an INSERT.
-use Rattle.std.proofs.Common.{◌≡◌, ◌⊎◌, ◌<◌, inl, inr, ℕ, List, [], ◌∷◌, length, All, Contains, IsTrue, IsPermutation, refl, sym, ap, subst, ◌∙◌, le_refl, arith}
+use Rattle.std.proofs.Common.{◌≡◌, ◌⊎◌, ◌<◌, inl, inr, ℕ, List, [], ◌∷◌, length, All, Contains, IsTrue, IsPermutation}
+use Rattle.std.proofs.Common.{refl, sym, ap, subst, ◌∙◌, le_refl, arith}
 use Rattle.std.specs.Ordering.{is_eq}
 use Rattle.std.proofs.lemmas.List.Sorted.{IsPermutation-sym, Contains-permutation, All-permutation}
 use Rattle.sqlite.specs.Order.{Row, column, value_cmp}
@@ -9,14 +10,19 @@ use Rattle.sqlite.specs.Effect.{Database}
 use Rattle.sqlite.specs.State.{State, HasCleanDisk, IsUnchanged, Survives}
 use Rattle.sqlite.proofs.StateLemmas.{survives_then, survives_weaker}
 use Rattle.op_shelf.specs.Entries.{entries, Adds}
-use Rattle.op_shelf.specs.States.{rows_of, rows_left, tree_in, under, IsAdded, IsBare, IsReady, IsPut, IsKnown, KeepsAll, Spares, MayBecome}
+use Rattle.op_shelf.specs.States.{rows_of, rows_left, tree_in, under, IsAdded, IsBare, IsReady, IsPut, IsKnown}
+use Rattle.op_shelf.specs.States.{KeepsAll, Spares, MayBecome}
 use Rattle.op_shelf.specs.Migration.{IsOlder, IsMigration}
 use Rattle.op_shelf.specs.Table.{IsShelf}
 use Rattle.op_shelf.proofs.Ops.{first_is, kept_was}
 
 pub spares_keeps : (s t : State) → IsReady s → Spares s t → KeepsAll s t
 spares_keeps s t ready (inl same) = λ up. (same.0.was_open, same.0.now_is)
-spares_keeps s t ready (inr back) = λ up. (back.was_open up, (back.undone up).0 ∙ sym (ready.settled (back.was_open up)))
+spares_keeps s t ready (inr back) = λ up. (
+  back.was_open up,
+  (back.undone up).0
+      ∙ sym (ready.settled (back.was_open up)),
+)
 
 pub bare_keeps : (s t : State) → IsBare s → Spares s t → KeepsAll s t
 bare_keeps s t bare (inl same) = λ up. (same.0.was_open, same.0.now_is)
@@ -36,13 +42,15 @@ ready_then s t ready same = record {
 pub keeps_then : (s m t : State) → IsUnchanged s m → KeepsAll m t → KeepsAll s t
 keeps_then s m t same keeps = λ up. (same.0.was_open, (keeps up).1 ∙ same.0.now_is)
 
-pub known_from : (s t : State) (digest : List ℕ) (entry : Row) (rows : List Row) → IsPermutation (under digest (rows_of s)) rows → 0 < length rows → All (λ e. e ≡ entry) rows → IsUnchanged s t
+pub known_from : (s t : State) (digest : List ℕ) (entry : Row) (rows : List Row)
+    → IsPermutation (under digest (rows_of s)) rows → 0 < length rows → All (λ e. e ≡ entry) rows → IsUnchanged s t
     → IsKnown s t digest entry
 known_from s t digest entry rows found some all same =
     let back = IsPermutation-sym (under digest (rows_of s)) rows found in
     let test = λ (e : Row). is_eq (value_cmp (column e 0) (Text digest)) in
     record {
-      held = kept_was test (entries (rows_of s)) entry (Contains-permutation rows (under digest (rows_of s)) entry back (first_is entry rows some all));
+      held = kept_was test (entries (rows_of s)) entry (Contains-permutation rows (under digest (rows_of s)) entry
+          back (first_is entry rows some all));
       alone = All-permutation (λ e. e ≡ entry) rows (under digest (rows_of s)) back all;
       same = same;
     }
@@ -59,7 +67,15 @@ added_after s m t entry same it = record {
 
 -- no call was made
 pub survives_none : (s : State) (P : Trees → Type 0) → Survives s s P
-survives_none s P = record { clean = le_refl _; shield = λ up. up; counts = le_refl _; limit = refl; closes = λ _ up. inl up; crash = λ _ db may. inl may }
+survives_none s P = record {
+  clean = le_refl _;
+  shield = λ up. up;
+  counts = le_refl _;
+  limit = refl;
+  closes =
+      λ _ up. inl up;
+  crash = λ _ db may. inl may;
+}
 
 -- what a crash may find of an open
 pub survives_bare : (s t : State) → IsBare s → Survives s t (λ trees. trees 0 ≡ []) → Survives s t (MayBecome s)
@@ -69,25 +85,33 @@ pub survives_older : (s t : State) → IsOlder s → Survives s t (IsMigration s
 survives_older s t older h = survives_weaker s t (IsMigration s) (MayBecome s) (λ _ db it. inr (older, it)) h
 
 -- what a crash finds after a look and an INSERT
-pub survives_put : (s m t : State) (entry : Row) → (HasCleanDisk m → IsUnchanged s m) → Survives s m (λ _. ⊥) → Survives m t (λ trees. Adds (rows_of m) (rows_left m trees) entry)
+pub survives_put : (s m t : State) (entry : Row) → (HasCleanDisk m → IsUnchanged s m) → Survives s m (λ _. ⊥)
+    → Survives m t (λ trees. Adds (rows_of m) (rows_left m trees) entry)
     → Survives s t (λ trees. Adds (rows_of s) (rows_left s trees) entry)
 survives_put s m t entry same one two =
-    survives_then s m t (λ _. ⊥) (λ trees. Adds (rows_of m) (rows_left m trees) entry) (λ trees. Adds (rows_of s) (rows_left s trees) entry) (λ _ db none. absurd none)
+    survives_then s m t (λ _. ⊥) (λ trees. Adds (rows_of m) (rows_left m trees) entry)
+    (λ trees. Adds (rows_of s) (rows_left s trees) entry) (λ _ db none. absurd none)
     (λ clean db adds.
     let early : HasCleanDisk m = omega (arith, two.clean, clean) in
-    subst (λ (d : Database). Adds (d.trees (tree_in d.schema)) (db (tree_in d.schema)) entry) (same early).0.now_is adds) one two
+    subst (λ (d : Database). Adds (d.trees (tree_in d.schema)) (db (tree_in d.schema)) entry) (same early).0.now_is
+    adds) one two
 
 -- every crash leaves what was committed
-module _ (s t : State) (entry : Row) (settled : (db : Trees) → IsTrue t.is_open → t.may_leave db → db ≡ t.committed.trees) where
-  left_of : IsTrue t.is_open → t.committed ≡ t.now → Contains (entries (rows_of t)) entry → (trees : Trees) → t.may_leave trees → Contains (entries (rows_left t trees)) entry
+module _ (s t : State) (entry : Row) (settled : (db : Trees) → IsTrue t.is_open → t.may_leave db
+    → db ≡ t.committed.trees) where
+  left_of : IsTrue t.is_open → t.committed ≡ t.now → Contains (entries (rows_of t)) entry → (trees : Trees)
+      → t.may_leave trees → Contains (entries (rows_left t trees)) entry
   left_of up is held trees may =
       let same : trees ≡ t.now.trees = settled trees up may ∙ ap (λ (d : Database). d.trees) is in
       subst (λ (x : Trees). Contains (entries (rows_left t x)) entry) (sym same) held
 
-  pub lasts_known : (digest : List ℕ) → IsReady s → IsKnown s t digest entry → (trees : Trees) → t.may_leave trees → Contains (entries (rows_left t trees)) entry
+  pub lasts_known : (digest : List ℕ) → IsReady s → IsKnown s t digest entry → (trees : Trees) → t.may_leave trees
+      → Contains (entries (rows_left t trees)) entry
   lasts_known digest ready it =
       left_of it.same.0.is_open (it.same.0.committed_is ∙ sym (ready.settled it.same.0.was_open) ∙ sym it.same.0.now_is)
       (subst (λ (d : Database). Contains (entries (d.trees (tree_in d.schema))) entry) (sym it.same.0.now_is) it.held)
 
-  pub lasts_added : IsAdded s t entry → (trees : Trees) → t.may_leave trees → Contains (entries (rows_left t trees)) entry
-  lasts_added it = left_of it.is_open it.committed (Contains-permutation (entry ∷ entries (rows_of s)) (entries (rows_of t)) entry it.rows (0, omega arith, refl))
+  pub lasts_added : IsAdded s t entry → (trees : Trees) → t.may_leave trees → Contains (entries (rows_left t trees))
+      entry
+  lasts_added it = left_of it.is_open it.committed (Contains-permutation (entry ∷ entries (rows_of s))
+      (entries (rows_of t)) entry it.rows (0, omega arith, refl))

@@ -1,5 +1,7 @@
 -- What the queries show.
-use Rattle.std.proofs.Common.{flat_map, append-nil, ◌≡◌, ◌⊎◌, ◌++◌, ◌&&◌, inl, inr, ℕ, ◌+◌, ◌<◌, ◌-◌, pos, negsuc, List, [], ◌∷◌, map, filter, length, get_or, Bool, true, false, cond, Some, None, Ok, Err, Result, IsPermutation, IsSorted, All, refl, sym, ap, ap₂, subst, ◌∙◌, is_lt, arith}
+use Rattle.std.proofs.Common.{flat_map, append-nil, ◌≡◌, ◌⊎◌, ◌++◌, ◌&&◌, inl, inr, ℕ, ◌+◌, ◌<◌, ◌-◌, pos, negsuc, List}
+use Rattle.std.proofs.Common.{[], ◌∷◌, map, filter, length, get_or, Bool, true, false, cond, Some, None, Ok, Err}
+use Rattle.std.proofs.Common.{Result, IsPermutation, IsSorted, All, refl, sym, ap, ap₂, subst, ◌∙◌, is_lt, arith}
 use Rattle.std.proofs.lemmas.List.{get_or-map, length-map}
 use Rattle.std.specs.Ordering.{is_eq, on, ordering_then}
 use Rattle.std.proofs.lemmas.List.Sorted.{IsPermutation-map, IsPermutation-trans, length_permutation, All-permutation}
@@ -25,7 +27,8 @@ use Rattle.op_shelf.specs.Entries.{entries, entry_in}
 use Rattle.op_shelf.specs.States.{under, count_of, digest_cmp, rows_of, tree_in}
 use Rattle.op_shelf.specs.Table.{shelf_schema, IsShelf}
 use Rattle.op_shelf.specs.Texts.{all_text, held_text, kind_text}
-use Rattle.op_shelf.proofs.Texts.{IsQuery, Serves, all_is, all_query, held_is, held_query, kind_is, kind_query, entry_names}
+use Rattle.op_shelf.proofs.Texts.{IsQuery, Serves, all_is, all_query, held_is, held_query, kind_is, kind_query}
+use Rattle.op_shelf.proofs.Texts.{entry_names}
 
 truth_of : (b : Bool) → is_true (from_truth (Some b)) ≡ b
 truth_of true = refl
@@ -36,7 +39,8 @@ and_true true = refl
 and_true false = refl
 
 -- WHERE finds a text, and an integer, by the order of values
-text_is : (v : Value) (t : List ℕ) → (is_true (binary (Compare Eq Binary) v (Text t)) && true) ≡ is_eq (value_cmp v (Text t))
+text_is : (v : Value) (t : List ℕ) → (is_true (binary (Compare Eq Binary) v (Text t)) && true) ≡ is_eq
+    (value_cmp v (Text t))
 unfolding binary
 text_is Null t = sym (ap is_eq (value_cmp-Null (Text t)))
 text_is (Int n) t = and_true _ ∙ truth_of _
@@ -44,7 +48,8 @@ text_is (Real x) t = and_true _ ∙ truth_of _
 text_is (Text s) t = and_true _ ∙ truth_of _
 text_is (Blob b) t = and_true _ ∙ truth_of _
 
-kind_equal : (v : Value) (k : ℕ) → (is_true (binary (Compare Eq Binary) v (unary ToNumeric (Int (pos k)))) && true) ≡ is_eq (value_cmp v (Int (pos k)))
+kind_equal : (v : Value) (k : ℕ) → (is_true (binary (Compare Eq Binary) v (unary ToNumeric (Int (pos k)))) && true)
+    ≡ is_eq (value_cmp v (Int (pos k)))
 unfolding binary unary
 kind_equal Null k = sym (ap is_eq (value_cmp-Null (Int (pos k))))
 kind_equal (Int n) k = and_true _ ∙ truth_of _
@@ -58,8 +63,10 @@ matched : (p : Row) (f g : Row → Bool) → ((r : Row) → f r ≡ g r) → (ro
 matched p f g same [] = refl
 matched p f g same (r ∷ rows) = step (f r) (g r) (same r) (matched p f g same rows)
   where
-    step : (a b : Bool) → a ≡ b → flat_map (λ (r : Row). cond (f r) ((p ∷ r ∷ []) ∷ []) []) rows ≡ map (λ (r : Row). p ∷ r ∷ []) (filter g rows)
-        → cond a ((p ∷ r ∷ []) ∷ []) [] ++ flat_map (λ (r : Row). cond (f r) ((p ∷ r ∷ []) ∷ []) []) rows ≡ map (λ (r : Row). p ∷ r ∷ []) (cond b (r ∷ filter g rows) (filter g rows))
+    step : (a b : Bool) → a ≡ b → flat_map (λ (r : Row). cond (f r) ((p ∷ r ∷ []) ∷ []) []) rows ≡ map
+        (λ (r : Row). p ∷ r ∷ []) (filter g rows)
+        → cond a ((p ∷ r ∷ []) ∷ []) [] ++ flat_map (λ (r : Row). cond (f r) ((p ∷ r ∷ []) ∷ []) []) rows ≡ map
+        (λ (r : Row). p ∷ r ∷ []) (cond b (r ∷ filter g rows) (filter g rows))
     step true true e later = ap (λ xs. (p ∷ r ∷ []) ∷ xs) later
     step true false e later = absurd cc
     step false true e later = absurd cc
@@ -70,7 +77,8 @@ each [] = refl
 each (r ∷ rows) = ap (λ xs. ([] ∷ r ∷ []) ∷ xs) (each rows)
 
 -- what is shown of the matches
-pub outs : (f : Env → Output) (g : Row → Output) (p : Row) → ((r : Row) → f (p ∷ r ∷ []) ≡ g r) → (rows : List Row) → map f (map (λ (r : Row). p ∷ r ∷ []) rows) ≡ map g rows
+pub outs : (f : Env → Output) (g : Row → Output) (p : Row) → ((r : Row) → f (p ∷ r ∷ []) ≡ g r) → (rows : List Row)
+    → map f (map (λ (r : Row). p ∷ r ∷ []) rows) ≡ map g rows
 outs f g p same [] = refl
 outs f g p same (r ∷ rows) = rw (same r) (ap (λ xs. g r ∷ xs) (outs f g p same rows))
 
@@ -78,52 +86,66 @@ seconds : (g : Row → Output) (rows : List Row) → map (λ (o : Output). o.1) 
 seconds g [] = refl
 seconds g (r ∷ rows) = ap (λ xs. (g r).1 ∷ xs) (seconds g rows)
 
-sifted : (test : Row → Bool) (rows : List Row) → map entry_in (filter (λ r. test (entry_in r)) rows) ≡ filter test (entries rows)
+sifted : (test : Row → Bool) (rows : List Row) → map entry_in (filter (λ r. test (entry_in r)) rows) ≡ filter
+    test (entries rows)
 sifted test [] = refl
 sifted test (r ∷ rows) = step (test (entry_in r)) (sifted test rows)
   where
     step : (b : Bool) → map entry_in (filter (λ r. test (entry_in r)) rows) ≡ filter test (entries rows)
-        → map entry_in (cond b (r ∷ filter (λ r. test (entry_in r)) rows) (filter (λ r. test (entry_in r)) rows)) ≡ cond b (entry_in r ∷ filter test (entries rows)) (filter test (entries rows))
+        → map entry_in (cond b (r ∷ filter (λ r. test (entry_in r)) rows) (filter (λ r. test (entry_in r)) rows)) ≡ cond
+        b (entry_in r ∷ filter test (entries rows)) (filter test (entries rows))
     step true e = ap (λ xs. entry_in r ∷ xs) e
     step false e = e
 
 -- the rows that an order gives are those that were kept
-pub permuted : (g : Row → Output) (picked rows : List Row) (kept ordered : List Output) → kept ≡ map g picked → IsPermutation kept ordered → rows ≡ map (λ (o : Output). o.1) ordered
+pub permuted : (g : Row → Output) (picked rows : List Row) (kept ordered : List Output) → kept ≡ map g picked
+    → IsPermutation kept ordered → rows ≡ map (λ (o : Output). o.1) ordered
     → IsPermutation (map (λ r. (g r).1) picked) rows
 permuted g picked rows kept ordered is same shown =
-    let firsts : map (λ (o : Output). o.1) kept ≡ map (λ r. (g r).1) picked = ap (map (λ (o : Output). o.1)) is ∙ seconds g picked in
+    let firsts : map (λ (o : Output). o.1) kept ≡ map (λ r. (g r).1) picked = ap (map (λ (o : Output). o.1)) is
+    ∙ seconds g picked in
     subst (λ (xs : List Row). IsPermutation (map (λ r. (g r).1) picked) xs) (sym shown)
-    (subst (λ (xs : List Row). IsPermutation xs (map (λ (o : Output). o.1) ordered)) firsts (IsPermutation-map (λ (o : Output). o.1) kept ordered same))
+    (subst (λ (xs : List Row). IsPermutation xs (map (λ (o : Output). o.1) ordered))
+    firsts (IsPermutation-map (λ (o : Output). o.1) kept ordered same))
 
 pub overlaid : (db : Trees) (tree : ℕ) → Serves tree → overlay db [] tree ≡ db tree
 overlaid db tree (inl first) = rw first
 overlaid db tree (inr third) = rw third
 
 -- the order of what ORDER BY compares is that of what is shown
-as_shown : (tree : ℕ) (o p : Output) → column o.0 0 ≡ column o.1 0 → column p.0 0 ≡ column p.1 0 → output_cmp (all_query tree) o p ≡ digest_cmp o.1 p.1
+as_shown : (tree : ℕ) (o p : Output) → column o.0 0 ≡ column o.1 0 → column p.0 0 ≡ column p.1 0
+    → output_cmp (all_query tree) o p ≡ digest_cmp o.1 p.1
 as_shown tree o p a b = then-Equal _ ∙ ap₂ value_cmp a b
 
-sorted_rows : (tree : ℕ) (ordered : List Output) (rows : List Row) → All (λ (o : Output). column o.0 0 ≡ column o.1 0) ordered → IsSorted (output_cmp (all_query tree)) ordered
+sorted_rows : (tree : ℕ) (ordered : List Output) (rows : List Row) → All (λ (o : Output). column o.0 0 ≡ column o.1 0)
+    ordered → IsSorted (output_cmp (all_query tree)) ordered
     → rows ≡ map (λ (o : Output). o.1) ordered → IsSorted digest_cmp rows
 sorted_rows tree ordered rows same sorted is k d low high =
     let many : length rows ≡ length ordered = ap length is ∙ length-map ordered (λ (o : Output). o.1) in
     let o : Output = ([], d) in
     let next : k + 1 < length ordered = omega (arith, high, many) in
     let here : k < length ordered = omega (arith, high, many) in
-    let at_next : get_or rows (k + 1) d ≡ (get_or ordered (k + 1) o).1 = ap (λ xs. get_or xs (k + 1) d) is ∙ get_or-map (λ (o : Output). o.1) ordered (k + 1) o d next in
-    let at_here : get_or rows k d ≡ (get_or ordered k o).1 = ap (λ xs. get_or xs k d) is ∙ get_or-map (λ (o : Output). o.1) ordered k o d here in
-    ap is_lt (ap₂ digest_cmp at_next at_here ∙ sym (as_shown tree (get_or ordered (k + 1) o) (get_or ordered k o) (same (k + 1) o next) (same k o here))) ∙ sorted k o low next
+    let at_next : get_or rows (k + 1) d ≡ (get_or ordered (k + 1) o).1 = ap (λ xs. get_or xs (k + 1) d) is
+    ∙ get_or-map (λ (o : Output). o.1) ordered (k + 1) o d next in
+    let at_here : get_or rows k d ≡ (get_or ordered k o).1 = ap (λ xs. get_or xs k d) is
+    ∙ get_or-map (λ (o : Output). o.1) ordered k o d here in
+    ap is_lt (ap₂ digest_cmp at_next at_here ∙ sym (as_shown tree (get_or ordered (k + 1) o) (get_or ordered k o)
+    (same (k + 1) o next) (same k o here))) ∙ sorted k o low next
 
-pick_first : (g : Row → Output) → ((r : Row) → column (g r).0 0 ≡ column (g r).1 0) → (rows : List Row) → All (λ (o : Output). column o.0 0 ≡ column o.1 0) (map g rows)
+pick_first : (g : Row → Output) → ((r : Row) → column (g r).0 0 ≡ column (g r).1 0) → (rows : List Row)
+    → All (λ (o : Output). column o.0 0 ≡ column o.1 0) (map g rows)
 pick_first g same rows i d low =
     let within : i < length rows = omega (arith, low, length-map rows g) in
-    subst (λ (o : Output). column o.0 0 ≡ column o.1 0) (sym (get_or-map g rows i [] d within)) (same (get_or rows i []))
+    subst (λ (o : Output). column o.0 0 ≡ column o.1 0) (sym (get_or-map g rows i [] d within))
+    (same (get_or rows i []))
 
-module _ (tree : ℕ) (checks : List Term) (serves : Serves tree) (old new : State) (has : old.now.schema ≡ shelf_schema tree checks) (rows : List Row) where
+module _ (tree : ℕ) (checks : List Term) (serves : Serves tree) (old new : State) (has : old.now.schema ≡ shelf_schema
+    tree checks) (rows : List Row) where
   abbrev table : List Row
   table = old.now.trees tree
 
-  finds_in : (digest : List ℕ) → Shown held_text (Text digest ∷ []) old new rows → IsPermutation (under digest table) rows
+  finds_in : (digest : List ℕ) → Shown held_text (Text digest ∷ []) old new rows → IsPermutation (under digest table)
+      rows
   finds_in digest h =
       let q = held_is tree checks serves in
       let p : Row = Text digest ∷ [] in
@@ -132,9 +154,13 @@ module _ (tree : ℕ) (checks : List Term) (serves : Serves tree) (old new : Sta
       let test : Row → Bool = λ r. is_eq (value_cmp (column r 1) (Text digest)) in
       let shows : Row → Output = λ r. ([], entry_in r) in
       let picked : List Row = filter test table in
-      let staged : a.staged ≡ map (λ (r : Row). p ∷ r ∷ []) picked = a.grouped ∙ rw (overlaid old.now.trees tree serves) (matched p _ test (λ r. text_is (column r 1) digest) table) in
-      let kept : a.kept ≡ map shows picked = a.distinct ∙ ap (map (output (held_query tree))) staged ∙ outs (output (held_query tree)) shows p (λ r. refl) picked in
-      subst (λ (xs : List Row). IsPermutation xs rows) (sifted (λ entry. is_eq (value_cmp (column entry 0) (Text digest))) table) (permuted shows picked rows a.kept a.ordered kept a.same (a.shown ∙ refl))
+      let staged : a.staged ≡ map (λ (r : Row). p ∷ r ∷ []) picked = a.grouped ∙ rw (overlaid old.now.trees tree serves)
+      (matched p _ test (λ r. text_is (column r 1) digest) table) in
+      let kept : a.kept ≡ map shows picked = a.distinct ∙ ap (map (output (held_query tree))) staged
+      ∙ outs (output (held_query tree)) shows p (λ r. refl) picked in
+      subst (λ (xs : List Row). IsPermutation xs rows)
+      (sifted (λ entry. is_eq (value_cmp (column entry 0) (Text digest))) table)
+      (permuted shows picked rows a.kept a.ordered kept a.same (a.shown ∙ refl))
 
   counts_in : (kind : ℕ) → Shown kind_text (Int (pos kind) ∷ []) old new rows → length rows ≡ count_of kind table
   counts_in kind h =
@@ -145,10 +171,13 @@ module _ (tree : ℕ) (checks : List Term) (serves : Serves tree) (old new : Sta
       let test : Row → Bool = λ r. is_eq (value_cmp (column r 2) (Int (pos kind))) in
       let shows : Row → Output = λ r. ([], column r 2 ∷ []) in
       let picked : List Row = filter test table in
-      let staged : a.staged ≡ map (λ (r : Row). p ∷ r ∷ []) picked = a.grouped ∙ rw (overlaid old.now.trees tree serves) (matched p _ test (λ r. kind_equal (column r 2) kind) table) in
-      let kept : a.kept ≡ map shows picked = a.distinct ∙ ap (map (output (kind_query tree))) staged ∙ outs (output (kind_query tree)) shows p (λ r. refl) picked in
+      let staged : a.staged ≡ map (λ (r : Row). p ∷ r ∷ []) picked = a.grouped ∙ rw (overlaid old.now.trees tree serves)
+      (matched p _ test (λ r. kind_equal (column r 2) kind) table) in
+      let kept : a.kept ≡ map shows picked = a.distinct ∙ ap (map (output (kind_query tree))) staged
+      ∙ outs (output (kind_query tree)) shows p (λ r. refl) picked in
       let all = permuted shows picked rows a.kept a.ordered kept a.same (a.shown ∙ refl) in
-      length_permutation _ rows all ∙ length-map picked (λ r. (shows r).1) ∙ sym (length-map picked entry_in) ∙ ap length (sifted (λ entry. is_eq (value_cmp (column entry 1) (Int (pos kind)))) table)
+      length_permutation _ rows all ∙ length-map picked (λ r. (shows r).1) ∙ sym (length-map picked entry_in)
+      ∙ ap length (sifted (λ entry. is_eq (value_cmp (column entry 1) (Int (pos kind)))) table)
 
   lists_in : Shown all_text [] old new rows → IsPermutation (entries table) rows × IsSorted digest_cmp rows
   lists_in h =
@@ -156,10 +185,17 @@ module _ (tree : ℕ) (checks : List Term) (serves : Serves tree) (old new : Sta
       let got = reads_as all_text [] old new (shelf_schema tree checks) has _ q.is q.plain q.unlisted rows h in
       let a : IsAnswer (all_query tree) (overlay old.now.trees []) [] rows = got.answer Null in
       let shows : Row → Output = λ r. (column r 1 ∷ [], entry_in r) in
-      let staged : a.staged ≡ map (λ (r : Row). [] ∷ r ∷ []) table = a.grouped ∙ rw (overlaid old.now.trees tree serves) (each table) in
-      let kept : a.kept ≡ map shows table = a.distinct ∙ ap (map (output (all_query tree))) staged ∙ outs (output (all_query tree)) shows [] (λ r. refl) table in
-      let firsts = All-permutation (λ (o : Output). column o.0 0 ≡ column o.1 0) a.kept a.ordered a.same (subst (All (λ (o : Output). column o.0 0 ≡ column o.1 0)) (sym kept) (pick_first shows (λ r. refl) table)) in
-      (permuted shows table rows a.kept a.ordered kept a.same (a.shown ∙ refl), sorted_rows tree a.ordered rows firsts a.sorted (a.shown ∙ refl))
+      let staged : a.staged ≡ map (λ (r : Row). [] ∷ r ∷ []) table = a.grouped ∙ rw (overlaid old.now.trees tree serves)
+      (each table) in
+      let kept : a.kept ≡ map shows table = a.distinct ∙ ap (map (output (all_query tree))) staged
+      ∙ outs (output (all_query tree)) shows [] (λ r. refl) table in
+      let firsts = All-permutation (λ (o : Output). column o.0 0 ≡ column o.1 0) a.kept a.ordered
+      a.same (subst (All (λ (o : Output). column o.0 0 ≡ column o.1 0)) (sym kept)
+      (pick_first shows (λ r. refl) table)) in (
+        permuted shows table rows a.kept a.ordered kept a.same (a.shown ∙ refl),
+        sorted_rows tree a.ordered rows firsts
+            a.sorted (a.shown ∙ refl),
+      )
 
 -- the same of any schema of a shelf
 pub plain_all : (s : Schema) → IsShelf s → IsPlain (understood s all_text)
@@ -172,11 +208,16 @@ pub plain_kind : (s : Schema) → IsShelf s → IsPlain (understood s kind_text)
 plain_kind s shelf = subst (λ s. IsPlain (understood s kind_text)) (sym shelf.3) (kind_is shelf.0 shelf.2 shelf.1).plain
 
 module _ (old new : State) (shelf : IsShelf old.now.schema) (rows : List Row) where
-  pub finds : (digest : List ℕ) → Shown held_text (Text digest ∷ []) old new rows → IsPermutation (under digest (rows_of old)) rows
-  finds digest h = subst (λ n. IsPermutation (under digest (old.now.trees n)) rows) (sym (ap tree_in shelf.3)) (finds_in shelf.0 shelf.2 shelf.1 old new shelf.3 rows digest h)
+  pub finds : (digest : List ℕ) → Shown held_text (Text digest ∷ []) old new rows
+      → IsPermutation (under digest (rows_of old)) rows
+  finds digest h = subst (λ n. IsPermutation (under digest (old.now.trees n)) rows) (sym (ap tree_in shelf.3))
+      (finds_in shelf.0 shelf.2 shelf.1 old new shelf.3 rows digest h)
 
-  pub counts : (kind : ℕ) → Shown kind_text (Int (pos kind) ∷ []) old new rows → length rows ≡ count_of kind (rows_of old)
-  counts kind h = subst (λ n. length rows ≡ count_of kind (old.now.trees n)) (sym (ap tree_in shelf.3)) (counts_in shelf.0 shelf.2 shelf.1 old new shelf.3 rows kind h)
+  pub counts : (kind : ℕ) → Shown kind_text (Int (pos kind) ∷ []) old new rows → length rows ≡ count_of
+      kind (rows_of old)
+  counts kind h = subst (λ n. length rows ≡ count_of kind (old.now.trees n)) (sym (ap tree_in shelf.3))
+      (counts_in shelf.0 shelf.2 shelf.1 old new shelf.3 rows kind h)
 
   pub lists : Shown all_text [] old new rows → IsPermutation (entries (rows_of old)) rows × IsSorted digest_cmp rows
-  lists h = subst (λ n. IsPermutation (entries (old.now.trees n)) rows × IsSorted digest_cmp rows) (sym (ap tree_in shelf.3)) (lists_in shelf.0 shelf.2 shelf.1 old new shelf.3 rows h)
+  lists h = subst (λ n. IsPermutation (entries (old.now.trees n)) rows × IsSorted digest_cmp rows)
+      (sym (ap tree_in shelf.3)) (lists_in shelf.0 shelf.2 shelf.1 old new shelf.3 rows h)

@@ -1,5 +1,6 @@
 -- What the texts of the statements mean.
-use Rattle.std.proofs.Common.{◌≡◌, ◌⊎◌, inl, inr, ℕ, pos, negsuc, List, [], ◌∷◌, codes, true, false, None, Some, Ok, Err, Result, refl, sym, subst, ◌+◌}
+use Rattle.std.proofs.Common.{◌≡◌, ◌⊎◌, inl, inr, ℕ, pos, negsuc, List, [], ◌∷◌, codes, true, false, None, Some, Ok}
+use Rattle.std.proofs.Common.{Err, Result, refl, sym, subst, ◌+◌}
 use Rattle.sqlite.specs.declared.types.Value.TheVariants.{Null, Int}
 use Rattle.sqlite.specs.Term.{Term, lit, col, op1, op2}
 use Rattle.sqlite.specs.Query.{Query, inner, end}
@@ -20,7 +21,8 @@ use Rattle.op_shelf.specs.Texts.{create_text, insert_text, all_text, held_text, 
 abbrev pub terms : List Term
 terms = lit Null ∷ col 0 0 ∷ col 0 1 ∷ col 0 2 ∷ []
 
-pub insert_is : (tree : ℕ) (checks : List Term) → command_of (understood (shelf_schema tree checks) insert_text) ≡ Insert 0 (Values terms 4)
+pub insert_is : (tree : ℕ) (checks : List Term) → command_of (understood (shelf_schema tree checks) insert_text)
+    ≡ Insert 0 (Values terms 4)
 unfolding understood everything
 insert_is tree checks = refl
 
@@ -33,10 +35,11 @@ abbrev pub Serves : ℕ → Type 0
 Serves tree = (tree ≡ 0) ⊎ (tree ≡ 2)
 
 -- a text is this query, over any schema of a shelf
-pub record IsQuery (tree : ℕ) (checks : List Term) (text : List ℕ) (query : Query) (names : List (List ℕ)) : Type 0 where
-  pub is : command_of (understood (shelf_schema tree checks) text) ≡ Select (record { lets = []; body = query }) names
-  pub plain : IsPlain (understood (shelf_schema tree checks) text)
-  pub unlisted : reads_listing (shelf_schema tree checks) text ≡ false
+pub record IsQuery (tree : ℕ) (checks : List Term) (text : List ℕ) (query : Query) (names : List (List ℕ)) : Type 0
+  where
+    pub is : command_of (understood (shelf_schema tree checks) text) ≡ Select (record { lets = []; body = query }) names
+    pub plain : IsPlain (understood (shelf_schema tree checks) text)
+    pub unlisted : reads_listing (shelf_schema tree checks) text ≡ false
 
 abbrev pub entry_names : List (List ℕ)
 entry_names = codes "digest" ∷ codes "kind" ∷ codes "body" ∷ []
@@ -56,8 +59,10 @@ all_query tree = record {
 
 pub all_is : (tree : ℕ) (checks : List Term) → Serves tree → IsQuery tree checks all_text (all_query tree) entry_names
 unfolding understood everything
-all_is tree checks (inl first) = subst (λ n. IsQuery n checks all_text (all_query n) entry_names) (sym first) (record { is = refl; plain = (refl, refl); unlisted = refl })
-all_is tree checks (inr third) = subst (λ n. IsQuery n checks all_text (all_query n) entry_names) (sym third) (record { is = refl; plain = (refl, refl); unlisted = refl })
+all_is tree checks (inl first) = subst (λ n. IsQuery n checks all_text (all_query n) entry_names) (sym first)
+    (record { is = refl; plain = (refl, refl); unlisted = refl })
+all_is tree checks (inr third) = subst (λ n. IsQuery n checks all_text (all_query n) entry_names) (sym third)
+    (record { is = refl; plain = (refl, refl); unlisted = refl })
 
 abbrev pub held_query : ℕ → Query
 held_query tree = record {
@@ -72,10 +77,13 @@ held_query tree = record {
   offset = lit (Int (pos 0));
 }
 
-pub held_is : (tree : ℕ) (checks : List Term) → Serves tree → IsQuery tree checks held_text (held_query tree) entry_names
+pub held_is : (tree : ℕ) (checks : List Term) → Serves tree → IsQuery tree checks held_text (held_query tree)
+    entry_names
 unfolding understood everything
-held_is tree checks (inl first) = subst (λ n. IsQuery n checks held_text (held_query n) entry_names) (sym first) (record { is = refl; plain = (refl, refl); unlisted = refl })
-held_is tree checks (inr third) = subst (λ n. IsQuery n checks held_text (held_query n) entry_names) (sym third) (record { is = refl; plain = (refl, refl); unlisted = refl })
+held_is tree checks (inl first) = subst (λ n. IsQuery n checks held_text (held_query n) entry_names) (sym first)
+    (record { is = refl; plain = (refl, refl); unlisted = refl })
+held_is tree checks (inr third) = subst (λ n. IsQuery n checks held_text (held_query n) entry_names) (sym third)
+    (record { is = refl; plain = (refl, refl); unlisted = refl })
 
 abbrev pub kind_query : ℕ → Query
 kind_query tree = record {
@@ -90,7 +98,10 @@ kind_query tree = record {
   offset = lit (Int (pos 0));
 }
 
-pub kind_is : (tree : ℕ) (checks : List Term) → Serves tree → IsQuery tree checks kind_text (kind_query tree) (codes "kind" ∷ [])
+pub kind_is : (tree : ℕ) (checks : List Term) → Serves tree → IsQuery tree checks kind_text (kind_query tree)
+    (codes "kind" ∷ [])
 unfolding understood everything
-kind_is tree checks (inl first) = subst (λ n. IsQuery n checks kind_text (kind_query n) (codes "kind" ∷ [])) (sym first) (record { is = refl; plain = (refl, refl); unlisted = refl })
-kind_is tree checks (inr third) = subst (λ n. IsQuery n checks kind_text (kind_query n) (codes "kind" ∷ [])) (sym third) (record { is = refl; plain = (refl, refl); unlisted = refl })
+kind_is tree checks (inl first) = subst (λ n. IsQuery n checks kind_text (kind_query n) (codes "kind" ∷ [])) (sym first)
+    (record { is = refl; plain = (refl, refl); unlisted = refl })
+kind_is tree checks (inr third) = subst (λ n. IsQuery n checks kind_text (kind_query n) (codes "kind" ∷ [])) (sym third)
+    (record { is = refl; plain = (refl, refl); unlisted = refl })

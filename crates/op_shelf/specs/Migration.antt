@@ -76,11 +76,14 @@ HasBadPair s = (pair : Row) × Contains (pairs (s.now.trees 0)) pair × (¬ IsPa
 -- a statement of the migration was refused
 abbrev pub IsHalted : {S : Type 0} → Ghosts S → Held S → Error → Type 0
 IsHalted {S} g new e =
-    (mid : Held S) × (((state g mid).now.schema ≡ older_schema) × ExecutesInside 0 create_text [] (state g mid) (state g new) (Err e)
+    (mid : Held S) × (((state g mid).now.schema ≡ older_schema) × ExecutesInside 0 create_text [] (state g mid)
+    (state g new) (Err e)
     ⊎ ((checks : List Term) × ((state g mid).now.schema ≡ both_schema checks)
-    × (((entry : Row) × ExecutesInside 0 insert_text entry (state g mid) (state g new) (Err e)) ⊎ ExecutesInside 0 drop_text [] (state g mid) (state g new) (Err e))))
+    × (((entry : Row) × ExecutesInside 0 insert_text entry (state g mid) (state g new) (Err e))
+    ⊎ ExecutesInside 0 drop_text [] (state g mid) (state g new) (Err e))))
 
 -- one of them was refused, or the commit
 abbrev pub IsNotSwapped : {S : Type 0} → Ghosts S → Held S → Error → Type 0
 IsNotSwapped {S} g new e =
-    ((end : Held S) × IsHalted g end e) ⊎ ((mid : Held S) × (done : List Row) × IsMoved (state g mid) done × FailsToCommit (state g mid) (state g new) e)
+    ((end : Held S) × IsHalted g end e) ⊎ ((mid : Held S) × (done : List Row) × IsMoved (state g mid) done
+    × FailsToCommit (state g mid) (state g new) e)

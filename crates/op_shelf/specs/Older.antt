@@ -38,11 +38,23 @@ older_schema = record { tables = ops ∷ []; indexes = automatics ops 0 1 ops.un
 abbrev pub both_schema : List Term → Schema
 both_schema checks =
     let new = ops2 2 checks in
-    record { tables = ops ∷ new ∷ []; indexes = automatics ops 0 1 ops.uniques ++ automatics new 0 3 new.uniques; views = [] }
+    record {
+      tables = ops ∷ new ∷ [];
+      indexes = automatics ops 0 1 ops.uniques ++ automatics new 0 3 new.uniques;
+      views = [];
+    }
 
 -- the index that the database makes for the older table's digests, written out
 abbrev pub ops_index : Index
-ops_index = record { name = codes "sqlite_autoindex_ops_1"; tree = 1; table = 0; columns = 1 ∷ []; order = record { digits = 0 }; is_unique = true }
+ops_index = record {
+  name = codes "sqlite_autoindex_ops_1";
+  tree = 1;
+  table = 0;
+  columns = 1 ∷ [];
+  order =
+      record { digits = 0 };
+  is_unique = true;
+}
 
 -- the older table, its index, and nothing else
 pub record AreOlderParts (s : Schema) (t : Table) (i : Index) : Type 0 where

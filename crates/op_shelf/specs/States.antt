@@ -1,5 +1,6 @@
 -- What a connection shows of the table, and what a call leaves.
-use Rattle.std.specs.Prelude.{◌≡◌, ◌≢◌, ◌⊎◌, ◌∷◌, ℕ, false, All, Any, Contains, Err, List, [], map, filter, length, pos, IsTrue, IsPermutation, IsSorted}
+use Rattle.std.specs.Prelude.{◌≡◌, ◌≢◌, ◌⊎◌, ◌∷◌, ℕ, false, All, Any, Contains, Err, List, [], map, filter, length, pos}
+use Rattle.std.specs.Prelude.{IsTrue, IsPermutation, IsSorted}
 use Rattle.std.specs.declared.cmp.Ordering.{Ordering}
 use Rattle.std.specs.Ordering.{is_eq, on}
 use Rattle.sqlite.specs.Order.{Row, column, value_cmp}
@@ -101,7 +102,8 @@ IsNotDone text params s t = (e : Error) × (fault_of e ≡ Store) × Executes te
 abbrev pub IsNotKept : {S : Type 0} → Ghosts S → Held S → Held S → List ℕ → Row → Type 0
 IsNotKept {S} g old new digest entry =
     (¬ IsReady (state g old)) ⊎ (IsNotShown held_text (Text digest ∷ []) (state g old) (state g new)
-    ⊎ ((mid : Held S) × IsUnchanged (state g old) (state g mid) × IsNotDone insert_text entry (state g mid) (state g new)))
+    ⊎ ((mid : Held S) × IsUnchanged (state g old) (state g mid) × IsNotDone insert_text entry (state g mid)
+    (state g new)))
 
 -- no table is there, and no transaction is open
 pub record IsBare (s : State) : Type 0 where
@@ -120,7 +122,8 @@ pub record IsMade (s t : State) : Type 0 where
 
 -- what a shelf holds of what was there: the same table, one that was made in an empty database, or that of a migration
 abbrev pub StandsFor : State → State → Type 0
-StandsFor s t = (IsReady s × (t.now ≡ s.now) × (t.committed ≡ s.committed)) ⊎ ((IsBare s × IsMade s t) ⊎ (IsOlder s × IsMigrated s t))
+StandsFor s t = (IsReady s × (t.now ≡ s.now) × (t.committed ≡ s.committed))
+    ⊎ ((IsBare s × IsMade s t) ⊎ (IsOlder s × IsMigrated s t))
 
 -- the database is open, and so far the disk has returned what was written
 pub record IsUp (s : State) : Type 0 where
@@ -136,11 +139,16 @@ pub record Lasts (s : State) (op : Op) : Type 0 where
 abbrev pub MayBecome : State → Trees → Type 0
 MayBecome s trees = (IsBare s × (trees 0 ≡ [])) ⊎ (IsOlder s × IsMigration s trees)
 
--- a migration was refused: the database did not show the older table, or refused what was to move it, for another cause than memory
+-- a migration was refused: the database did not show the older table, or refused what was to move it, for another cause
+-- than memory
 abbrev pub IsNotMigrated : {S : Type 0} → Ghosts S → Held S → Held S → Type 0
-IsNotMigrated {S} g old new = IsNotShown older_text [] (state g old) (state g new) ⊎ ((e : Error) × (fault_of e ≡ Store) × IsNotSwapped g new e)
+IsNotMigrated {S} g old new = IsNotShown older_text [] (state g old) (state g new) ⊎ ((e : Error) × (fault_of e ≡ Store)
+    × IsNotSwapped g new e)
 
--- the database refused to make the table, or to move the older one, for another cause than memory, or is that of no shelf
+-- the database refused to make the table, or to move the older one, for another cause than memory, or is that of no
+-- shelf
 abbrev pub IsNotOpened : {S : Type 0} → Ghosts S → Held S → Held S → Type 0
 IsNotOpened {S} g old new =
-    IsNotDone create_text [] (state g old) (state g new) ⊎ (((¬ IsReady (state g old)) × (¬ IsBare (state g old)) × (¬ IsOlder (state g old))) ⊎ (IsOlder (state g old) × IsNotMigrated g old new))
+    IsNotDone create_text [] (state g old) (state g new)
+    ⊎ (((¬ IsReady (state g old)) × (¬ IsBare (state g old)) × (¬ IsOlder (state g old)))
+    ⊎ (IsOlder (state g old) × IsNotMigrated g old new))

@@ -11,13 +11,37 @@ use Rattle.sqlite_schema.specs.declared.schema.Column.{Column}
 use Rattle.sqlite_schema.specs.declared.schema.Index.{Index}
 
 abbrev pub digest_column : Column
-digest_column = record { name = codes "digest"; kind = Text; is_strict = false; not_null = false; default = Null; collation = Binary }
+digest_column = record {
+  name = codes "digest";
+  kind = Text;
+  is_strict = false;
+  not_null = false;
+  default =
+      Null;
+  collation = Binary;
+}
 
 abbrev pub kind_column : Column
-kind_column = record { name = codes "kind"; kind = Integer; is_strict = false; not_null = true; default = Null; collation = Binary }
+kind_column = record {
+  name = codes "kind";
+  kind = Integer;
+  is_strict = false;
+  not_null = true;
+  default =
+      Null;
+  collation = Binary;
+}
 
 abbrev pub body_column : Column
-body_column = record { name = codes "body"; kind = Any; is_strict = false; not_null = true; default = Null; collation = Binary }
+body_column = record {
+  name = codes "body";
+  kind = Any;
+  is_strict = false;
+  not_null = true;
+  default = Null;
+  collation =
+      Binary;
+}
 
 -- digest TEXT PRIMARY KEY, kind INTEGER NOT NULL, body BLOB NOT NULL
 abbrev pub ops2 : ℕ → List Term → Table
@@ -46,7 +70,15 @@ no_schema = record { tables = []; indexes = []; views = [] }
 
 -- the index that the database makes for the digests, in whichever tree
 abbrev pub index_of : Index → Index
-index_of index = record { name = codes "sqlite_autoindex_ops2_1"; tree = index.tree; table = index.table; columns = 1 ∷ []; order = record { digits = 0 }; is_unique = true }
+index_of index = record {
+  name = codes "sqlite_autoindex_ops2_1";
+  tree = index.tree;
+  table = index.table;
+  columns =
+      1 ∷ [];
+  order = record { digits = 0 };
+  is_unique = true;
+}
 
 -- the table's tree and that of its index
 abbrev pub AreTrees : ℕ → Index → Type 0

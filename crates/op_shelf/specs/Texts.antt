@@ -2,7 +2,9 @@
 use Rattle.std.specs.Prelude.{ℕ, List, codes}
 
 abbrev pub create_text : List ℕ
-create_text = codes "CREATE TABLE ops2 (digest TEXT PRIMARY KEY, kind INTEGER NOT NULL CHECK (kind IN (1, 2, 3)), body BLOB NOT NULL)"
+create_text =
+    codes
+    "CREATE TABLE ops2 (digest TEXT PRIMARY KEY, kind INTEGER NOT NULL CHECK (kind IN (1, 2, 3)), body BLOB NOT NULL)"
 
 abbrev pub insert_text : List ℕ
 insert_text = codes "INSERT INTO ops2 (digest, kind, body) VALUES (?1, ?2, ?3)"

@@ -1,7 +1,8 @@
 -- The faults of a hub.
 use Rattle.std.specs.Prelude.{ℕ, ◌⊎◌, ◌≡◌}
 use Rattle.site_hub.specs.declared.fault.HubFault.{HubFault}
-use Rattle.site_hub.specs.declared.fault.HubFault.TheVariants.{Busy, Collision, Memory, StampsSpent, Torn, Pending, BadCorrection}
+use Rattle.site_hub.specs.declared.fault.HubFault.TheVariants.{Busy, Collision, Memory, StampsSpent, Torn, Pending}
+use Rattle.site_hub.specs.declared.fault.HubFault.TheVariants.{BadCorrection}
 
 -- the public number of a fault
 abbrev pub number_of : HubFault → ℕ

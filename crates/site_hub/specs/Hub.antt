@@ -37,7 +37,10 @@ pub record Unnamed : Type 0 where
 
 -- by which proofs tell them apart
 abbrev pub unnamed_code : Coded Unnamed
-unnamed_code = code_by (Book × (ℕ × (Map × ℕ))) (coded× book_coded (coded× coded_ℕ (coded× (finmap.code (coded_list coded_ℕ) op_code) coded_ℕ))) (λ u. (u.book, (u.number, (u.opening, u.passes)))) (λ p. record { book = p.0; number = p.1.0; opening = p.1.1.0; passes = p.1.1.1 }) (λ _. refl)
+unnamed_code = code_by (Book × (ℕ × (Map × ℕ)))
+    (coded× book_coded (coded× coded_ℕ (coded× (finmap.code (coded_list coded_ℕ) op_code) coded_ℕ)))
+    (λ u. (u.book, (u.number, (u.opening, u.passes))))
+    (λ p. record { book = p.0; number = p.1.0; opening = p.1.1.0; passes = p.1.1.1 }) (λ _. refl)
 
 -- a pass that has seen and stored nothing
 abbrev pub new_seat : ℕ → Seat

@@ -15,13 +15,20 @@ LAST_COUNTER = 18446744073709551615
 
 -- a correction of this counter, made at a site of this number
 abbrev pub made_with : ℕ → ℕ → Target → ℕ → List ℕ → CorrectionParts
-made_with counter number target tag value = record { target = target; tag = tag; value = value; stamp = record { counter = counter; site = number } }
+made_with counter number target tag value = record {
+  target = target;
+  tag = tag;
+  value = value;
+  stamp =
+      record { counter = counter; site = number };
+}
 
 -- whether there is a correction of these parts at all, from counter 1 on
 abbrev pub may_be_made : ℕ → Target → ℕ → List ℕ → Bool
 may_be_made number target tag value = is_correction (made_with 1 number target tag value)
 
--- the correction that comes next over a set, whose counter is one more than the greatest; or the first reason why there is none
+-- the correction that comes next over a set, whose counter is one more than the greatest; or the first reason why there
+-- is none
 abbrev pub next_correction : ℕ → Map → Target → ℕ → List ℕ → Result CorrectionParts HubFault
 next_correction number m target tag value =
     if may_be_made number target tag value then (
@@ -33,4 +40,5 @@ next_correction number m target tag value =
 abbrev pub CountersRise : Type 0
 CountersRise =
     (number : ℕ) (m : Map) (target : Target) (tag : ℕ) (value : List ℕ) (made held : CorrectionParts)
-    → next_correction number m target tag value ≡ Ok made → Has (ops_of m) (a_correction held) → held.stamp.counter < made.stamp.counter
+    → next_correction number m target tag value ≡ Ok made → Has (ops_of m) (a_correction held) → held.stamp.counter <
+    made.stamp.counter

@@ -1,5 +1,7 @@
 -- What a line that is not too long asks for is made of data sets.
-use Rattle.std.proofs.Common.{◌≡◌, ℕ, ◌+◌, ◌-◌, ◌^◌, ◌<◌, ◌≤◌, List, [], ◌∷◌, ◌++◌, length, codes, Bool, true, false, cond, Option, Some, None, Result, Ok, Err, IfOk, refl, sym, ap, subst, ◌∙◌, arith, map, length-append, ◌==◌}
+use Rattle.std.proofs.Common.{◌≡◌, ℕ, ◌+◌, ◌-◌, ◌^◌, ◌<◌, ◌≤◌, List, [], ◌∷◌, ◌++◌, length, codes, Bool, true, false}
+use Rattle.std.proofs.Common.{cond, Option, Some, None, Result, Ok, Err, IfOk, refl, sym, ap, subst, ◌∙◌, arith, map}
+use Rattle.std.proofs.Common.{length-append, ◌==◌}
 use Rattle.std.specs.Prelude.{not, ◌||◌, ◌&&◌, nat_lt, nat_le}
 use Rattle.std.specs.Int.{w32, from_be_bytes}
 use Rattle.std.specs.Option.{option_map}
@@ -15,16 +17,23 @@ use Rattle.operation.specs.declared.target.Target.{Target}
 use Rattle.archive_model.specs.declared.view.View.{View}
 use Rattle.site_script.specs.declared.key.Key.{Key}
 use Rattle.site_script.specs.declared.verb.Verb.{Verb}
-use Rattle.site_script.specs.declared.verb.Verb.TheVariants.{Site as verb_site, Image as verb_image, Note as verb_note, Correct as verb_correct, Find as verb_find, Get as verb_get, Same as verb_same, Flagged as verb_flagged, Other as verb_other}
+use Rattle.site_script.specs.declared.verb.Verb.TheVariants.{Site as verb_site, Image as verb_image, Note as verb_note}
+use Rattle.site_script.specs.declared.verb.Verb.TheVariants.{Correct as verb_correct, Find as verb_find}
+use Rattle.site_script.specs.declared.verb.Verb.TheVariants.{Get as verb_get, Same as verb_same}
+use Rattle.site_script.specs.declared.verb.Verb.TheVariants.{Flagged as verb_flagged, Other as verb_other}
 use Rattle.site_script.specs.declared.command.Command.{Command}
 use Rattle.site_script.specs.declared.command.Command.TheVariants.{Skip, Bad, Site}
 use Rattle.site_script.specs.Words.{a_word, words_from, words_of, uid_in}
 use Rattle.site_script.specs.Names.{is as is_word, digit_of, byte_from, tag_from, tag_in, view_in, is_site_name}
-use Rattle.dictionary.specs.declared.elements.TheConstants.{QUERY_RETRIEVE_LEVEL, SERIES_INSTANCE_UID, SOP_INSTANCE_UID, STUDY_INSTANCE_UID}
+use Rattle.dictionary.specs.declared.elements.TheConstants.{QUERY_RETRIEVE_LEVEL, SERIES_INSTANCE_UID, SOP_INSTANCE_UID}
+use Rattle.dictionary.specs.declared.elements.TheConstants.{STUDY_INSTANCE_UID}
 use Rattle.site_script.specs.Keys.{is_askable, key_from, key_in, put_key, keys_from, keys_in, and_then}
 use Rattle.site_script.specs.Sets.{key_element, identifier}
-use Rattle.site_script.specs.Commands.{command_of, command_in, asked, site_in, image_in, note_in, correct_in, correct_for, target_in, find_in, find_for, get_in, get_for, same_in, flagged_in, verb_of}
-use Rattle.site_script.specs.Retrieves.{parted, joined, first_in, behind_first, key_at, study_keys, series_keys, image_keys, named_keys}
+use Rattle.site_script.specs.Commands.{command_of, command_in, asked, site_in, image_in, note_in, correct_in}
+use Rattle.site_script.specs.Commands.{correct_for, target_in, find_in, find_for, get_in, get_for, same_in, flagged_in}
+use Rattle.site_script.specs.Commands.{verb_of}
+use Rattle.site_script.specs.Retrieves.{parted, joined, first_in, behind_first, key_at, study_keys, series_keys}
+use Rattle.site_script.specs.Retrieves.{image_keys, named_keys}
 use Rattle.site_script.specs.Fitting.{IsShort, MakesSets}
 use Rattle.site_script.proofs.Lawful.{leaf_stands, image_lawful, note_lawful, AllShort, MOST}
 
@@ -38,14 +47,17 @@ word_short : (front : List ℕ) → length front ≤ 65536 → AllShort (a_word 
 word_short [] short = tt
 word_short (b ∷ front) short = (short, tt)
 
-by_space : (c : Bool) (front rest : List ℕ) (b : ℕ) → AllShort (a_word front) → AllShort (words_from [] rest) → AllShort (words_from (front ++ (b ∷ [])) rest) → AllShort (cond c (a_word front ++ words_from [] rest) (words_from (front ++ (b ∷ [])) rest))
+by_space : (c : Bool) (front rest : List ℕ) (b : ℕ) → AllShort (a_word front) → AllShort (words_from [] rest)
+    → AllShort (words_from (front ++ (b ∷ [])) rest)
+    → AllShort (cond c (a_word front ++ words_from [] rest) (words_from (front ++ (b ∷ [])) rest))
 by_space true front rest b w x y = append_short _ _ w x
 by_space false front rest b w x y = y
 
 words_short : (front rest : List ℕ) → length front + length rest ≤ 65536 → AllShort (words_from front rest)
 words_short front [] short = word_short front (omega (arith, short))
 words_short front (b ∷ rest) short =
-    by_space (b == 32) front rest b (word_short front (omega (arith, short))) (words_short [] rest (omega (arith, short)))
+    by_space (b == 32) front rest b (word_short front (omega (arith, short)))
+    (words_short [] rest (omega (arith, short)))
     (words_short (front ++ (b ∷ [])) rest (omega (arith, short, length-append front (b ∷ []))))
 
 uid_short : (word : List ℕ) → length word ≤ 65536 → length (uid_in word) ≤ 65536
@@ -68,7 +80,8 @@ weigh_word : (front : List ℕ) → weigh (a_word front) ≤ length front + 1
 weigh_word [] = omega arith
 weigh_word (b ∷ front) = omega arith
 
-weigh_by : (c : Bool) (front : List ℕ) (xs ys : List (List ℕ)) (most : ℕ) → length front + 1 + weigh xs ≤ most → weigh ys ≤ most
+weigh_by : (c : Bool) (front : List ℕ) (xs ys : List (List ℕ)) (most : ℕ) → length front + 1 + weigh xs ≤ most
+    → weigh ys ≤ most
     → weigh (cond c (a_word front ++ xs) ys) ≤ most
 weigh_by true front xs ys most one more = omega (arith, weigh_more (a_word front) xs, weigh_word front, one)
 weigh_by false front xs ys most one more = more
@@ -77,8 +90,14 @@ weigh_by false front xs ys most one more = more
 words_weigh : (front rest : List ℕ) → weigh (words_from front rest) ≤ length front + length rest + 1
 words_weigh front [] = omega (arith, weigh_word front)
 words_weigh front (b ∷ rest) =
-    weigh_by (b == 32) front (words_from [] rest) (words_from (front ++ b ∷ []) rest) (length front + length (b ∷ rest) + 1)
-    (omega (arith, words_weigh [] rest)) (omega (arith, words_weigh (front ++ b ∷ []) rest, length-append front (b ∷ [])))
+    weigh_by (b == 32) front (words_from [] rest) (words_from (front ++ b ∷ []) rest)
+    (length front + length (b ∷ rest) + 1)
+    (omega (arith, words_weigh [] rest)) (omega (
+      arith,
+      words_weigh (front ++ b ∷ []) rest,
+      length-append
+          front (b ∷ []),
+    ))
 
 uids_weigh : (words : List (List ℕ)) → weigh (map uid_in words) ≤ weigh words
 uids_weigh [] = omega arith
@@ -112,7 +131,8 @@ abbrev Small : Option ℕ → Type 0
 Small None = Unit {0}
 Small (Some d) = d < 16
 
-by_ranges : (p q r : Bool) (b : ℕ) → (p ≡ true → b ≤ 57) → (q ≡ true → b ≤ 70) → (r ≡ true → b ≤ 102) → Small (cond p (Some (b - 48)) (cond q (Some (b - 55)) (cond r (Some (b - 87)) None)))
+by_ranges : (p q r : Bool) (b : ℕ) → (p ≡ true → b ≤ 57) → (q ≡ true → b ≤ 70) → (r ≡ true → b ≤ 102)
+    → Small (cond p (Some (b - 48)) (cond q (Some (b - 55)) (cond r (Some (b - 87)) None)))
 by_ranges true q r b one two three = let h : b ≤ 57 = one refl in omega (arith, h)
 by_ranges false true r b one two three = let h : b ≤ 70 = two refl in omega (arith, h)
 by_ranges false false true b one two three = let h : b ≤ 102 = three refl in omega (arith, h)
@@ -123,7 +143,8 @@ below low high b e = leb-true b high (both (nat_le low b) (nat_le b high) e).1
 
 digit_small : (b : ℕ) → Small (digit_of b)
 unfolding digit_of
-digit_small b = by_ranges (nat_le 48 b && nat_le b 57) (nat_le 65 b && nat_le b 70) (nat_le 97 b && nat_le b 102) b (below 48 57 b) (below 65 70 b) (below 97 102 b)
+digit_small b = by_ranges (nat_le 48 b && nat_le b 57) (nat_le 65 b && nat_le b 70) (nat_le 97 b && nat_le b 102)
+    b (below 48 57 b) (below 65 70 b) (below 97 102 b)
 
 abbrev IsByte : Option ℕ → Type 0
 IsByte None = Unit {0}
@@ -150,7 +171,8 @@ tag_small (Some a) (Some b) (Some c) (Some d) p q r s = four a b c d p q r s
 
 eight_small : (a b c d e f g h : ℕ) → IsTag (tag_in (a ∷ b ∷ c ∷ d ∷ e ∷ f ∷ g ∷ h ∷ []))
 eight_small a b c d e f g h =
-    tag_small _ _ _ _ (byte_small _ _ (digit_small a) (digit_small b)) (byte_small _ _ (digit_small c) (digit_small d)) (byte_small _ _ (digit_small e) (digit_small f)) (byte_small _ _ (digit_small g) (digit_small h))
+    tag_small _ _ _ _ (byte_small _ _ (digit_small a) (digit_small b)) (byte_small _ _ (digit_small c) (digit_small d))
+    (byte_small _ _ (digit_small e) (digit_small f)) (byte_small _ _ (digit_small g) (digit_small h))
 
 -- ---- keys
 
@@ -172,13 +194,15 @@ by_tests false true r i e = absurd cc
 by_tests false false true i e = absurd cc
 by_tests false false false true e = absurd cc
 
-askable_fine : (tag : ℕ) (value : List ℕ) → tag < 2 ^ 32 → length value ≤ 65536 → is_askable tag ≡ true → Fine (record { tag = tag; value = value })
+askable_fine : (tag : ℕ) (value : List ℕ) → tag < 2 ^ 32 → length value ≤ 65536 → is_askable tag ≡ true
+    → Fine (record { tag = tag; value = value })
 unfolding is_askable
 askable_fine tag value fits short e =
     let tests = by_tests (tag == QUERY_RETRIEVE_LEVEL) (is_listed tag) (is_reserved_group tag) (is_item_tag tag) e in
     record { tag = fits; value = omega (arith, short); item = tests.2; reserved = tests.1; listed = tests.0 }
 
-by_askable : (b : Bool) (tag : ℕ) (value : List ℕ) → is_askable tag ≡ b → tag < 2 ^ 32 → length value ≤ 65536 → IsFine (cond b (Some (record { tag = tag; value = value })) None)
+by_askable : (b : Bool) (tag : ℕ) (value : List ℕ) → is_askable tag ≡ b → tag < 2 ^ 32 → length value ≤ 65536
+    → IsFine (cond b (Some (record { tag = tag; value = value })) None)
 by_askable true tag value e fits short = askable_fine tag value fits short e
 by_askable false tag value e fits short = tt
 
@@ -200,7 +224,8 @@ key_fine (a ∷ b ∷ c ∷ d ∷ e ∷ []) s = tt
 key_fine (a ∷ b ∷ c ∷ d ∷ e ∷ f ∷ []) s = tt
 key_fine (a ∷ b ∷ c ∷ d ∷ e ∷ f ∷ g ∷ []) s = tt
 key_fine (a ∷ b ∷ c ∷ d ∷ e ∷ f ∷ g ∷ h ∷ []) s = tt
-key_fine (a ∷ b ∷ c ∷ d ∷ e ∷ f ∷ g ∷ h ∷ sign ∷ value) s = by_sign (sign == 61) _ (from_fine value _ (eight_small a b c d e f g h) (omega (arith, s)))
+key_fine (a ∷ b ∷ c ∷ d ∷ e ∷ f ∷ g ∷ h ∷ sign ∷ value) s = by_sign (sign == 61)
+    _ (from_fine value _ (eight_small a b c d e f g h) (omega (arith, s)))
 
 -- keys that ascend behind a tag
 abbrev pub AreKeys : Option ℕ → List Key → Type 0
@@ -211,12 +236,16 @@ abbrev Kept : Option ℕ → Option (List Key) → Type 0
 Kept p None = Unit {0}
 Kept p (Some keys) = AreKeys p keys
 
-kept_behind : (p : Option ℕ) (k : Key) (r : Option (List Key)) → is_above p k.tag ≡ true → Fine k → Kept (Some k.tag) r → Kept p (option_map (λ more. k ∷ more) r)
+kept_behind : (p : Option ℕ) (k : Key) (r : Option (List Key)) → is_above p k.tag ≡ true → Fine k → Kept (Some k.tag) r
+    → Kept p (option_map (λ more. k ∷ more) r)
 kept_behind p k None a f kept = tt
 kept_behind p k (Some keys) a f kept = (a, f, kept)
 
-by_place : (same less : Bool) (p : Option ℕ) (key k : Key) (keys : List Key) (r : Option (List Key)) → (key.tag == k.tag) ≡ same → nat_lt key.tag k.tag ≡ less → is_above p key.tag ≡ true → Fine key → AreKeys p (k ∷ keys)
-    → (is_above (Some k.tag) key.tag ≡ true → Kept (Some k.tag) r) → Kept p (cond same None (cond less (Some (key ∷ k ∷ keys)) (option_map (λ more. k ∷ more) r)))
+by_place : (same less : Bool) (p : Option ℕ) (key k : Key) (keys : List Key) (r : Option (List Key))
+    → (key.tag == k.tag) ≡ same → nat_lt key.tag k.tag ≡ less → is_above p key.tag ≡ true → Fine key
+    → AreKeys p (k ∷ keys)
+    → (is_above (Some k.tag) key.tag ≡ true → Kept (Some k.tag) r)
+    → Kept p (cond same None (cond less (Some (key ∷ k ∷ keys)) (option_map (λ more. k ∷ more) r)))
 by_place true less p key k keys r s l above fine are later = tt
 by_place false true p key k keys r s l above fine are later = (above, fine, (l, are.1, are.2))
 by_place false false p key k keys r s l above fine are later =
@@ -226,49 +255,82 @@ by_place false false p key k keys r s l above fine are later =
     greater : (key.tag ≡ k.tag → ⊥) → k.tag ≤ key.tag → k.tag < key.tag
     greater other h = omega (arith, other, h)
 
-put_keeps : (p : Option ℕ) (key : Key) (keys : List Key) → is_above p key.tag ≡ true → Fine key → AreKeys p keys → Kept p (put_key key keys)
+put_keeps : (p : Option ℕ) (key : Key) (keys : List Key) → is_above p key.tag ≡ true → Fine key → AreKeys p keys
+    → Kept p (put_key key keys)
 put_keeps p key [] above fine are = (above, fine, tt)
 put_keeps p key (k ∷ keys) above fine are =
-    by_place (key.tag == k.tag) (nat_lt key.tag k.tag) p key k keys (put_key key keys) refl refl above fine are (λ later. put_keeps (Some k.tag) key keys later fine are.2)
+    by_place (key.tag == k.tag) (nat_lt key.tag k.tag) p key k keys (put_key key keys) refl refl above fine
+    are (λ later. put_keeps (Some k.tag) key keys later fine are.2)
 
-put_word : (keys : List Key) (k : Option Key) → IsFine k → AreKeys None keys → Kept None (and_then (λ key. put_key key keys) k)
+put_word : (keys : List Key) (k : Option Key) → IsFine k → AreKeys None keys
+    → Kept None (and_then (λ key. put_key key keys) k)
 put_word keys None fine are = tt
 put_word keys (Some key) fine are = put_keeps None key keys refl fine are
 
-then_keep : (r : Option (List Key)) (f : List Key → Option (List Key)) → Kept None r → ((keys : List Key) → AreKeys None keys → Kept None (f keys)) → Kept None (and_then f r)
+then_keep : (r : Option (List Key)) (f : List Key → Option (List Key)) → Kept None r
+    → ((keys : List Key) → AreKeys None keys → Kept None (f keys)) → Kept None (and_then f r)
 then_keep None f kept keeps = tt
 then_keep (Some keys) f kept keeps = keeps keys kept
 
-keys_keep : (keys : List Key) (words : List (List ℕ)) → AreKeys None keys → AllShort words → Kept None (keys_from keys words)
+keys_keep : (keys : List Key) (words : List (List ℕ)) → AreKeys None keys → AllShort words
+    → Kept None (keys_from keys words)
 keys_keep keys [] are short = are
 keys_keep keys (w ∷ words) are (s, more) =
-    then_keep (and_then (λ key. put_key key keys) (key_in w)) (λ later. keys_from later words) (put_word keys (key_in w) (key_fine w s) are) (λ later kept. keys_keep later words kept more)
+    then_keep (and_then (λ key. put_key key keys) (key_in w)) (λ later. keys_from later words)
+    (put_word keys (key_in w) (key_fine w s) are) (λ later kept. keys_keep later words kept more)
 
-keys_stand : (n : ℕ) (p : Option ℕ) (keys : List Key) → AreKeys p keys → AreTrees (trees_of (map key_element keys)) n Implicit p
+keys_stand : (n : ℕ) (p : Option ℕ) (keys : List Key) → AreKeys p keys → AreTrees (trees_of (map key_element keys)) n
+    Implicit p
 keys_stand n p [] are = tt
-keys_stand n p (k ∷ keys) (a, fine, rest) =
-    (leaf_stands p k.tag k.value fine.tag (omega (arith, fine.value)) fine.item a fine.reserved fine.listed, keys_stand n (Some k.tag) keys rest)
+keys_stand n p (k ∷ keys) (a, fine, rest) = (
+  leaf_stands p k.tag k.value fine.tag (omega (arith, fine.value)) fine.item a fine.reserved fine.listed,
+  keys_stand
+      n (Some k.tag) keys rest,
+)
 
 keys_lawful : (keys : List Key) → AreKeys None keys → IsSet Implicit (identifier keys)
 unfolding IsSet identifier
 keys_lawful keys are = keys_stand 16 None keys are
 
-level_fine : (level : List ℕ) → length level ≤ 65536 → AreKeys None (record { tag = QUERY_RETRIEVE_LEVEL; value = level } ∷ [])
-level_fine level short = (refl, record { tag = omega arith; value = omega (arith, short); item = refl; reserved = refl; listed = refl }, tt)
+level_fine : (level : List ℕ) → length level ≤ 65536
+    → AreKeys None (record { tag = QUERY_RETRIEVE_LEVEL; value = level } ∷ [])
+level_fine level short = (
+  refl,
+  record {
+    tag = omega arith;
+    value = omega (arith, short);
+    item = refl;
+    reserved =
+        refl;
+    listed = refl;
+  },
+  tt,
+)
 
 -- ---- commands
 
-find_lawful : (site : List ℕ) (view : Option View) (keys : Option (List Key)) → Kept None keys → MakesSets (find_for site view keys)
+find_lawful : (site : List ℕ) (view : Option View) (keys : Option (List Key)) → Kept None keys
+    → MakesSets (find_for site view keys)
 find_lawful site None keys kept = tt
 find_lawful site (Some view) None kept = tt
 find_lawful site (Some view) (Some keys) kept = keys_lawful keys kept
 
 -- a key of a level or of UIDs
-named_fine : (tag : ℕ) (value : List ℕ) → tag < 2 ^ 32 → length value ≤ 65600 → is_item_tag tag ≡ false → is_reserved_group tag ≡ false → is_listed tag ≡ false → Fine (key_at tag value)
-named_fine tag value fits short item reserved listed = record { tag = fits; value = short; item = item; reserved = reserved; listed = listed }
+named_fine : (tag : ℕ) (value : List ℕ) → tag < 2 ^ 32 → length value ≤ 65600 → is_item_tag tag ≡ false
+    → is_reserved_group tag ≡ false → is_listed tag ≡ false → Fine (key_at tag value)
+named_fine tag value fits short item reserved listed = record {
+  tag = fits;
+  value = short;
+  item = item;
+  reserved =
+      reserved;
+  listed = listed;
+}
 
-by_level : (is_series is_image : Bool) (level : List ℕ) (uids : List (List ℕ)) → length level ≤ 65600 → weigh uids ≤ 65600
-    → AreKeys None (cond is_series (series_keys level uids) (cond is_image (image_keys level uids) (study_keys level uids)))
+by_level : (is_series is_image : Bool) (level : List ℕ) (uids : List (List ℕ)) → length level ≤ 65600
+    → weigh uids ≤ 65600
+    → AreKeys None (cond is_series (series_keys level uids) (cond is_image (image_keys level uids)
+    (study_keys level uids)))
 by_level true is_image level uids short few = (
   refl,
   named_fine QUERY_RETRIEVE_LEVEL level (omega arith) short refl refl refl,
@@ -277,7 +339,8 @@ by_level true is_image level uids short few = (
     named_fine STUDY_INSTANCE_UID (first_in uids) (omega arith) (omega (arith, few, first_weighs uids)) refl refl refl,
     (
       refl,
-      named_fine SERIES_INSTANCE_UID (joined (behind_first uids)) (omega arith) (omega (arith, few, behind_weighs uids, joined_weighs (behind_first uids))) refl refl refl,
+      named_fine SERIES_INSTANCE_UID (joined (behind_first uids)) (omega arith)
+          (omega (arith, few, behind_weighs uids, joined_weighs (behind_first uids))) refl refl refl,
       tt,
     ),
   ),
@@ -285,30 +348,46 @@ by_level true is_image level uids short few = (
 by_level false true level uids short few =
     let below = behind_first uids in (
       refl,
-      named_fine SOP_INSTANCE_UID (joined (behind_first below)) (omega arith) (omega (arith, few, behind_weighs uids, behind_weighs below, joined_weighs (behind_first below))) refl refl refl,
+      named_fine SOP_INSTANCE_UID (joined (behind_first below)) (omega arith)
+          (omega (arith, few, behind_weighs uids, behind_weighs below, joined_weighs (behind_first below))) refl refl
+          refl,
       (
         refl,
         named_fine QUERY_RETRIEVE_LEVEL level (omega arith) short refl refl refl,
         (
           refl,
-          named_fine STUDY_INSTANCE_UID (first_in uids) (omega arith) (omega (arith, few, first_weighs uids)) refl refl refl,
-          (refl, named_fine SERIES_INSTANCE_UID (first_in below) (omega arith) (omega (arith, few, behind_weighs uids, first_weighs below)) refl refl refl, tt),
+          named_fine STUDY_INSTANCE_UID (first_in uids) (omega arith) (omega (arith, few, first_weighs uids)) refl refl
+              refl,
+          (
+            refl,
+            named_fine SERIES_INSTANCE_UID (first_in below) (omega arith)
+                (omega (arith, few, behind_weighs uids, first_weighs below)) refl refl refl,
+            tt,
+          ),
         ),
       ),
     )
 by_level false false level uids short few = (
   refl,
   named_fine QUERY_RETRIEVE_LEVEL level (omega arith) short refl refl refl,
-  (refl, named_fine STUDY_INSTANCE_UID (joined uids) (omega arith) (omega (arith, few, joined_weighs uids)) refl refl refl, tt),
+  (
+    refl,
+    named_fine STUDY_INSTANCE_UID (joined uids) (omega arith) (omega (arith, few, joined_weighs uids)) refl refl
+        refl,
+    tt,
+  ),
 )
 
-get_lawful : (site : List ℕ) (view : Option View) (level : List ℕ) (uids : List (List ℕ)) → length level ≤ 65600 → weigh uids ≤ 65600 → MakesSets (get_for site view level uids)
+get_lawful : (site : List ℕ) (view : Option View) (level : List ℕ) (uids : List (List ℕ)) → length level ≤ 65600
+    → weigh uids ≤ 65600 → MakesSets (get_for site view level uids)
 unfolding named_keys
 get_lawful site None level uids short few = tt
 get_lawful site (Some view) level uids short few =
-    keys_lawful (named_keys level uids) (by_level (is_word (trimmed level) (codes "SERIES")) (is_word (trimmed level) (codes "IMAGE")) level uids short few)
+    keys_lawful (named_keys level uids) (by_level (is_word (trimmed level) (codes "SERIES"))
+    (is_word (trimmed level) (codes "IMAGE")) level uids short few)
 
-correct_lawful : (site : List ℕ) (target : Option Target) (tag : Option ℕ) (value : List ℕ) → MakesSets (correct_for site target tag value)
+correct_lawful : (site : List ℕ) (target : Option Target) (tag : Option ℕ) (value : List ℕ)
+    → MakesSets (correct_for site target tag value)
 correct_lawful site None tag value = tt
 correct_lawful site (Some target) None value = tt
 correct_lawful site (Some target) (Some tag) value = tt
@@ -330,7 +409,13 @@ image_words (a ∷ b ∷ c ∷ []) s = tt
 image_words (a ∷ b ∷ c ∷ d ∷ []) s = tt
 image_words (a ∷ b ∷ c ∷ d ∷ e ∷ []) s = tt
 image_words (a ∷ b ∷ c ∷ d ∷ e ∷ f ∷ []) s =
-    image_lawful _ (record { study = uid_short b s.1.0; series = uid_short c s.1.1.0; instance = uid_short d s.1.1.1.0; patient = s.1.1.1.1.0; name = s.1.1.1.1.1.0 })
+    image_lawful _ (record {
+      study = uid_short b s.1.0;
+      series = uid_short c s.1.1.0;
+      instance = uid_short d s.1.1.1.0;
+      patient = s.1.1.1.1.0;
+      name = s.1.1.1.1.1.0;
+    })
 image_words (a ∷ b ∷ c ∷ d ∷ e ∷ f ∷ g ∷ words) s = tt
 
 note_words : (words : List (List ℕ)) → AllShort words → MakesSets (note_in words)
@@ -340,7 +425,13 @@ note_words (a ∷ b ∷ []) s = tt
 note_words (a ∷ b ∷ c ∷ []) s = tt
 note_words (a ∷ b ∷ c ∷ d ∷ []) s = tt
 note_words (a ∷ b ∷ c ∷ d ∷ e ∷ words) s =
-    note_lawful _ (record { title = s.1.0; study = uid_short c s.1.1.0; note = uid_short d s.1.1.1.0; covers = uids_short (e ∷ words) s.1.1.1.1 })
+    note_lawful _ (record {
+      title = s.1.0;
+      study = uid_short c s.1.1.0;
+      note = uid_short d s.1.1.1.0;
+      covers =
+          uids_short (e ∷ words) s.1.1.1.1;
+    })
 
 correct_words : (words : List (List ℕ)) → MakesSets (correct_in words)
 correct_words [] = tt
@@ -355,7 +446,8 @@ find_words : (words : List (List ℕ)) → AllShort words → MakesSets (find_in
 find_words [] s = tt
 find_words (a ∷ []) s = tt
 find_words (a ∷ b ∷ []) s = tt
-find_words (a ∷ b ∷ c ∷ words) s = find_lawful a (view_in b) (keys_in c words) (keys_keep _ words (level_fine c s.1.1.0) s.1.1.1)
+find_words (a ∷ b ∷ c ∷ words) s = find_lawful a (view_in b) (keys_in c words) (keys_keep _ words (level_fine c s.1.1.0)
+    s.1.1.1)
 
 get_words : (words : List (List ℕ)) → weigh words ≤ 65537 → MakesSets (get_in words)
 get_words [] few = tt
@@ -363,7 +455,8 @@ get_words (a ∷ []) few = tt
 get_words (a ∷ b ∷ []) few = tt
 get_words (a ∷ b ∷ c ∷ []) few = tt
 get_words (a ∷ b ∷ c ∷ d ∷ words) few =
-    get_lawful a (view_in b) c (map uid_in (d ∷ words)) (omega (arith, few)) (omega (arith, few, uids_weigh (d ∷ words)))
+    get_lawful a (view_in b) c (map uid_in (d ∷ words)) (omega (arith, few))
+    (omega (arith, few, uids_weigh (d ∷ words)))
 
 same_words : (words : List (List ℕ)) → MakesSets (same_in words)
 same_words [] = tt
@@ -376,7 +469,8 @@ flagged_words [] = tt
 flagged_words (a ∷ []) = tt
 flagged_words (a ∷ b ∷ words) = tt
 
-asked_lawful : (verb : Verb) (words : List (List ℕ)) → AllShort words → weigh words ≤ 65537 → MakesSets (asked verb words)
+asked_lawful : (verb : Verb) (words : List (List ℕ)) → AllShort words → weigh words ≤ 65537
+    → MakesSets (asked verb words)
 asked_lawful verb_site words s few = site_lawful words
 asked_lawful verb_image words s few = image_words words s
 asked_lawful verb_note words s few = note_words words s
@@ -393,9 +487,11 @@ words_lawful (word ∷ words) s few = asked_lawful (verb_of word) words s.1 (ome
 
 line_lawful : (line : List ℕ) → IsShort line → MakesSets (command_in (words_of line))
 line_lawful line short =
-    words_lawful (words_of line) (words_short [] line (omega (arith, short))) (omega (arith, short, words_weigh [] line))
+    words_lawful (words_of line) (words_short [] line (omega (arith, short)))
+    (omega (arith, short, words_weigh [] line))
 
-by_comment : (b : Bool) (line : List ℕ) → MakesSets (command_in (words_of line)) → MakesSets (cond b Skip (command_in (words_of line)))
+by_comment : (b : Bool) (line : List ℕ) → MakesSets (command_in (words_of line))
+    → MakesSets (cond b Skip (command_in (words_of line)))
 by_comment true line lawful = tt
 by_comment false line lawful = lawful
 
@@ -404,6 +500,8 @@ command_lawful [] short = tt
 command_lawful (b ∷ line) short = by_comment (b == 35) (b ∷ line) (line_lawful (b ∷ line) short)
 
 -- what is read of the words of a line that is not too long
-pub read_lawful : {E : Type 0} (line : List ℕ) (words slice : List (List ℕ)) (r : Result Command E) → slice ≡ words → words ≡ words_of line → IfOk r (λ command. command ≡ command_in slice) → IsShort line → IfOk r MakesSets
-read_lawful line words slice (Ok command) whole are is short = subst MakesSets (sym (is ∙ ap command_in (whole ∙ are))) (line_lawful line short)
+pub read_lawful : {E : Type 0} (line : List ℕ) (words slice : List (List ℕ)) (r : Result Command E) → slice ≡ words
+    → words ≡ words_of line → IfOk r (λ command. command ≡ command_in slice) → IsShort line → IfOk r MakesSets
+read_lawful line words slice (Ok command) whole are is short = subst MakesSets (sym (is ∙ ap command_in (whole ∙ are)))
+    (line_lawful line short)
 read_lawful line words slice (Err fault) whole are is short = tt

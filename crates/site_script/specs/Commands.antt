@@ -5,10 +5,14 @@ use Rattle.operation.specs.declared.target.Target.TheVariants.{Study, Patient, S
 use Rattle.archive_model.specs.declared.view.View.{View}
 use Rattle.site_script.specs.declared.key.Key.{Key}
 use Rattle.site_script.specs.declared.verb.Verb.{Verb}
-use Rattle.site_script.specs.declared.verb.Verb.TheVariants.{Site as verb_site, Image as verb_image, Note as verb_note, Correct as verb_correct, Find as verb_find, Get as verb_get, Same as verb_same, Flagged as verb_flagged, Other as verb_other}
+use Rattle.site_script.specs.declared.verb.Verb.TheVariants.{Site as verb_site, Image as verb_image, Note as verb_note}
+use Rattle.site_script.specs.declared.verb.Verb.TheVariants.{Correct as verb_correct, Find as verb_find}
+use Rattle.site_script.specs.declared.verb.Verb.TheVariants.{Get as verb_get, Same as verb_same}
+use Rattle.site_script.specs.declared.verb.Verb.TheVariants.{Flagged as verb_flagged, Other as verb_other}
 use Rattle.site_script.specs.declared.command.Command.{Command}
 use Rattle.site_script.specs.declared.command.ImageLine.{ImageLine}
-use Rattle.site_script.specs.declared.command.Command.TheVariants.{Skip, Bad, Site, Image, Note, Correct, Find, Get, Same, Flagged}
+use Rattle.site_script.specs.declared.command.Command.TheVariants.{Skip, Bad, Site, Image, Note, Correct, Find, Get}
+use Rattle.site_script.specs.declared.command.Command.TheVariants.{Same, Flagged}
 use Rattle.site_script.specs.Words.{words_of, uid_in}
 use Rattle.site_script.specs.Names.{is, is_site_name, tag_in, view_in}
 use Rattle.site_script.specs.Keys.{keys_in}
@@ -34,17 +38,33 @@ site_in _ = Bad
 
 abbrev pub image_parts : List ℕ → List ℕ → List ℕ → List ℕ → List ℕ → List ℕ → ImageLine
 image_parts site study series instance patient name =
-    record { site = site; study = uid_in study; series = uid_in series; instance = uid_in instance; patient = patient; name = name }
+    record {
+      site = site;
+      study = uid_in study;
+      series = uid_in series;
+      instance = uid_in instance;
+      patient =
+          patient;
+      name = name;
+    }
 
 -- image A STUDY SERIES INSTANCE PATIENTID NAME
 abbrev pub image_in : List (List ℕ) → Command
-image_in (site ∷ study ∷ series ∷ instance ∷ patient ∷ name ∷ []) = Image (image_parts site study series instance patient name)
+image_in (site ∷ study ∷ series ∷ instance ∷ patient ∷ name ∷ []) =
+    Image (image_parts site study series instance patient name)
 image_in _ = Bad
 
 -- note A TITLE STUDY NOTEUID UID..
 abbrev pub note_in : List (List ℕ) → Command
 note_in (site ∷ title ∷ study ∷ note ∷ uid ∷ uids) =
-    Note (record { site = site; title = title; study = uid_in study; note = uid_in note; covers = map uid_in (uid ∷ uids) })
+    Note (record {
+      site = site;
+      title = title;
+      study = uid_in study;
+      note = uid_in note;
+      covers =
+          map uid_in (uid ∷ uids);
+    })
 note_in _ = Bad
 
 -- a word for a kind of target, and its key
@@ -56,7 +76,8 @@ target_in kind key =
     else None
 
 abbrev pub correct_for : List ℕ → Option Target → Option ℕ → List ℕ → Command
-correct_for site (Some target) (Some tag) value = Correct (record { site = site; target = target; tag = tag; value = value })
+correct_for site (Some target) (Some tag) value =
+    Correct (record { site = site; target = target; tag = tag; value = value })
 correct_for site _ _ value = Bad
 
 -- correct A study KEY TAG VALUE, or patient, or series

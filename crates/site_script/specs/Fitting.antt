@@ -3,7 +3,8 @@ use Rattle.std.specs.Prelude.{ℕ, ◌≤◌, List, length}
 use Rattle.data_set.specs.declared.syntax.Syntax.TheVariants.{Implicit}
 use Rattle.data_set.specs.Written.{IsSet}
 use Rattle.site_script.specs.declared.command.Command.{Command}
-use Rattle.site_script.specs.declared.command.Command.TheVariants.{Skip, Bad, Site, Image, Note, Correct, Find, Get, Same, Flagged}
+use Rattle.site_script.specs.declared.command.Command.TheVariants.{Skip, Bad, Site, Image, Note, Correct, Find, Get}
+use Rattle.site_script.specs.declared.command.Command.TheVariants.{Same, Flagged}
 use Rattle.site_script.specs.Sets.{image_elements, note_elements, identifier}
 
 -- the most bytes of a line

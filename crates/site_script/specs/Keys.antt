@@ -1,5 +1,6 @@
 -- The keys of a query, as TAG=VALUE words give them.
-use Rattle.std.specs.Prelude.{◌≡◌, ℕ, true, false, List, [], ◌∷◌, Option, Some, None, Bool, not, nat_lt, ◌==◌, ◌||◌, if◌then◌else◌}
+use Rattle.std.specs.Prelude.{◌≡◌, ℕ, true, false, List, [], ◌∷◌, Option, Some, None, Bool, not, nat_lt, ◌==◌, ◌||◌}
+use Rattle.std.specs.Prelude.{if◌then◌else◌}
 use Rattle.std.specs.Option.{option_map}
 use Rattle.dictionary.specs.declared.elements.TheConstants.{QUERY_RETRIEVE_LEVEL}
 use Rattle.data_set.specs.Tags.{is_item_tag, is_reserved_group, is_listed}
@@ -20,7 +21,8 @@ key_from value None = None
 
 -- eight digits, an equals sign, and the value, which may be empty
 abbrev pub key_in : List ℕ → Option Key
-key_in (a ∷ b ∷ c ∷ d ∷ e ∷ f ∷ g ∷ h ∷ sign ∷ value) = if sign == 61 then key_from value (tag_in (a ∷ b ∷ c ∷ d ∷ e ∷ f ∷ g ∷ h ∷ [])) else None
+key_in (a ∷ b ∷ c ∷ d ∷ e ∷ f ∷ g ∷ h ∷ sign ∷ value) = if sign == 61 then key_from
+    value (tag_in (a ∷ b ∷ c ∷ d ∷ e ∷ f ∷ g ∷ h ∷ [])) else None
 key_in _ = None
 
 -- a key in its place among keys that ascend by tag; none where its tag is there
@@ -34,7 +36,8 @@ put_key key (k ∷ keys) =
 -- the keys of some words, with those of the words before them, ascending by tag; none where one of the words is no key
 abbrev pub keys_from : List Key → List (List ℕ) → Option (List Key)
 keys_from keys [] = Some keys
-keys_from keys (word ∷ words) = and_then (λ more. keys_from more words) (and_then (λ key. put_key key keys) (key_in word))
+keys_from keys (word ∷ words) = and_then (λ more. keys_from more words)
+    (and_then (λ key. put_key key keys) (key_in word))
 
 -- the keys of a query: its level, and those of some words
 abbrev pub keys_in : List ℕ → List (List ℕ) → Option (List Key)

@@ -1,5 +1,6 @@
 -- The words that name something: sites, tags, views and targets.
-use Rattle.std.specs.Prelude.{ℕ, ◌+◌, ◌-◌, ◌*◌, List, [], ◌∷◌, length, Option, Some, None, Bool, not, nat_le, nat_eq, ◌==◌, ◌&&◌, ◌||◌, if◌then◌else◌, codes}
+use Rattle.std.specs.Prelude.{ℕ, ◌+◌, ◌-◌, ◌*◌, List, [], ◌∷◌, length, Option, Some, None, Bool, not, nat_le, nat_eq}
+use Rattle.std.specs.Prelude.{◌==◌, ◌&&◌, ◌||◌, if◌then◌else◌, codes}
 use Rattle.std.specs.List.{list_all}
 use Rattle.std.specs.Int.{w32, from_be_bytes}
 use Rattle.std.specs.Cmp.Lexicographic.{pointwise}
@@ -37,7 +38,8 @@ tag_from _ _ _ _ = None
 -- the tag that eight hexadecimal digits spell, group first
 abbrev pub tag_in : List ℕ → Option ℕ
 tag_in (a ∷ b ∷ c ∷ d ∷ e ∷ f ∷ g ∷ h ∷ []) =
-    tag_from (byte_from (digit_of a) (digit_of b)) (byte_from (digit_of c) (digit_of d)) (byte_from (digit_of e) (digit_of f)) (byte_from (digit_of g) (digit_of h))
+    tag_from (byte_from (digit_of a) (digit_of b)) (byte_from (digit_of c) (digit_of d))
+    (byte_from (digit_of e) (digit_of f)) (byte_from (digit_of g) (digit_of h))
 tag_in _ = None
 
 -- a view, by the called title that asks for it

@@ -1,6 +1,14 @@
--- The data sets that the lines of a script make, in the implicit syntax (docs/DECISIONS.md, "The contents of a script").
-use Rattle.std.specs.Prelude.{ℕ, List, [], ◌∷◌, ◌++◌, length, Option, Some, None, Result, Ok, Err, nat_lt, map, codes, if◌then◌else◌}
-use Rattle.dictionary.specs.declared.elements.TheConstants.{CODE_VALUE, CODING_SCHEME_DESIGNATOR, CONCEPT_NAME_CODE_SEQUENCE, CURRENT_REQUESTED_PROCEDURE_EVIDENCE_SEQUENCE, MODALITY, PATIENT_ID, PATIENT_NAME, REFERENCED_SERIES_SEQUENCE, REFERENCED_SOP_INSTANCE_UID, REFERENCED_SOP_SEQUENCE, SERIES_INSTANCE_UID, SOP_CLASS_UID, SOP_INSTANCE_UID, STUDY_INSTANCE_UID}
+-- The data sets that the lines of a script make, in the implicit syntax (docs/DECISIONS.md, "The contents of a
+-- script").
+use Rattle.std.specs.Prelude.{ℕ, List, [], ◌∷◌, ◌++◌, length, Option, Some, None, Result, Ok, Err, nat_lt, map, codes}
+use Rattle.std.specs.Prelude.{if◌then◌else◌}
+use Rattle.dictionary.specs.declared.elements.TheConstants.{CODE_VALUE, CODING_SCHEME_DESIGNATOR}
+use Rattle.dictionary.specs.declared.elements.TheConstants.{CONCEPT_NAME_CODE_SEQUENCE}
+use Rattle.dictionary.specs.declared.elements.TheConstants.{CURRENT_REQUESTED_PROCEDURE_EVIDENCE_SEQUENCE, MODALITY}
+use Rattle.dictionary.specs.declared.elements.TheConstants.{PATIENT_ID, PATIENT_NAME, REFERENCED_SERIES_SEQUENCE}
+use Rattle.dictionary.specs.declared.elements.TheConstants.{REFERENCED_SOP_INSTANCE_UID, REFERENCED_SOP_SEQUENCE}
+use Rattle.dictionary.specs.declared.elements.TheConstants.{SERIES_INSTANCE_UID, SOP_CLASS_UID, SOP_INSTANCE_UID}
+use Rattle.dictionary.specs.declared.elements.TheConstants.{STUDY_INSTANCE_UID}
 use Rattle.dictionary.specs.Elements.{vr_in_table}
 use Rattle.dictionary.specs.declared.uids.TheConstants.{CT_IMAGE_STORAGE, KEY_OBJECT_SELECTION_DOCUMENT_STORAGE}
 use Rattle.dictionary.specs.declared.titles.TheConstants.{CODING_SCHEME_DCM}
@@ -44,7 +52,8 @@ study_elements study series = valued STUDY_INSTANCE_UID study ∷ valued SERIES_
 -- an image
 unfoldable pub image_elements : ImageLine → List Tree
 image_elements line =
-    sop_elements CT_IMAGE_STORAGE line.instance (codes "CT") ++ (patient_elements line.name line.patient ++ study_elements line.study line.series)
+    sop_elements CT_IMAGE_STORAGE line.instance (codes "CT") ++ (patient_elements line.name line.patient
+    ++ study_elements line.study line.series)
 
 -- the series of a note
 abbrev pub note_series : NoteLine → List ℕ
@@ -52,7 +61,8 @@ note_series line = line.note ++ codes ".0"
 
 -- (0040,A043) Concept Name Code Sequence: one item, with the code value and the coding scheme designator of the title
 abbrev pub title_sequence : List ℕ → Tree
-title_sequence title = sequence CONCEPT_NAME_CODE_SEQUENCE ((valued CODE_VALUE title ∷ valued CODING_SCHEME_DESIGNATOR CODING_SCHEME_DCM ∷ []) ∷ [])
+title_sequence title = sequence CONCEPT_NAME_CODE_SEQUENCE
+    ((valued CODE_VALUE title ∷ valued CODING_SCHEME_DESIGNATOR CODING_SCHEME_DCM ∷ []) ∷ [])
 
 -- an item that names an instance, by (0008,1155) Referenced SOP Instance UID
 abbrev pub named : List ℕ → List Tree
@@ -64,11 +74,13 @@ images_sequence uids = sequence REFERENCED_SOP_SEQUENCE (map named uids)
 
 -- (0008,1115) Referenced Series Sequence: one item
 abbrev pub series_sequence : List (List ℕ) → List ℕ → Tree
-series_sequence uids series = sequence REFERENCED_SERIES_SEQUENCE ((images_sequence uids ∷ valued SERIES_INSTANCE_UID series ∷ []) ∷ [])
+series_sequence uids series = sequence REFERENCED_SERIES_SEQUENCE
+    ((images_sequence uids ∷ valued SERIES_INSTANCE_UID series ∷ []) ∷ [])
 
 -- (0040,A375) Current Requested Procedure Evidence Sequence: one item
 abbrev pub evidence_sequence : List (List ℕ) → List ℕ → List ℕ → Tree
-evidence_sequence uids series study = sequence CURRENT_REQUESTED_PROCEDURE_EVIDENCE_SEQUENCE ((series_sequence uids series ∷ valued STUDY_INSTANCE_UID study ∷ []) ∷ [])
+evidence_sequence uids series study = sequence CURRENT_REQUESTED_PROCEDURE_EVIDENCE_SEQUENCE
+    ((series_sequence uids series ∷ valued STUDY_INSTANCE_UID study ∷ []) ∷ [])
 
 -- a note (PS3.3, C.17.6)
 unfoldable pub note_elements : NoteLine → List Tree
@@ -86,11 +98,20 @@ said (Err fault) = None
 abbrev pub unless : Option OpFault → Draft → List Tree → Result ContentParts OpFault
 unless (Some fault) draft elements = Err fault
 unless None draft elements =
-    Ok (record { class = draft.class; instance = draft.instance; syntax = draft.syntax; body = draft.body; values = values_in elements; note = said (note_in draft.class elements) })
+    Ok (record {
+      class = draft.class;
+      instance = draft.instance;
+      syntax = draft.syntax;
+      body = draft.body;
+      values =
+          values_in elements;
+      note = said (note_in draft.class elements);
+    })
 
 -- the content of a draft whose data set spells these elements, or the fault of the draft
 abbrev pub content_from : Draft → List Tree → Result ContentParts OpFault
-content_from draft elements = if nat_lt longest (length draft.body) then Err TooLong else unless (offence draft elements) draft elements
+content_from draft elements = if nat_lt longest (length draft.body) then Err TooLong else unless
+    (offence draft elements) draft elements
 
 abbrev pub made_of : List ℕ → List ℕ → List Tree → Result ContentParts OpFault
 made_of class instance elements = content_from (drafted class instance Implicit (text_of elements)) elements

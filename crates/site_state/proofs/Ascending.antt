@@ -34,7 +34,8 @@ keys_are (e ∷ es) sorted under =
 pub operations_ascend : OperationsAscend
 operations_ascend m site =
     let sorted = ascend (entries m) (entries_sorted m) in
-    let under = λ (d : List ℕ) (o : Op) (there : held (entries m) d ≡ Some o). own (held_at m d) d o (sym (held_entries m d) ∙ there) (site d) in
+    let under = λ (d : List ℕ) (o : Op) (there : held (entries m) d ≡ Some o). own (held_at m d) d
+    o (sym (held_entries m d) ∙ there) (site d) in
     subst (IsStrictlySortedBy digest_cmp) (keys_are (entries m) sorted under) sorted
 
 -- The pick stands first of the contents of its UID, and they ascend.
@@ -44,12 +45,14 @@ pick_has_least_digest m uid c site is =
     record {
       held = content_has (ops_of m) c picked.0;
       of_uid = picked.1;
-      least = λ d has of. pick_is_least uid (ops_of m) c d (operations_ascend m site) is (has_filter_map content_in (ops_of m) (a_content d) d has refl) of;
+      least = λ d has of. pick_is_least uid (ops_of m) c d (operations_ascend m site)
+          is (has_filter_map content_in (ops_of m) (a_content d) d has refl) of;
     }
 
 under_own : (ops : List Op) (d : List ℕ) (r : Option Op) → Told empty ops d r → IfSome r (λ o. d ≡ digest_of o)
 under_own ops d r (inl f) = subst (λ (s : Option Op). IfSome s (λ o. d ≡ digest_of o)) (sym f.3) (sym f.2)
-under_own ops d r (inr n) = subst (λ (s : Option Op). IfSome s (λ o. d ≡ digest_of o)) (sym (n.1 ∙ get-empty digest_cmp d)) tt
+under_own ops d r (inr n) = subst (λ (s : Option Op). IfSome s (λ o. d ≡ digest_of o))
+    (sym (n.1 ∙ get-empty digest_cmp d)) tt
 
 -- What lies under a digest was taken, and has it.
 pub taken_is_site : TakenIsSite

@@ -20,7 +20,9 @@ as_many : (es : List (List ℕ × Op)) → length es ≡ length (values_of es)
 as_many [] = refl
 as_many (e ∷ es) = ap suc (as_many es)
 
-module _ (m : Map) (es : List (List ℕ × Op)) (view : from_entries es ≡ m) (sorted : IsStrictlySortedBy digest_cmp (keys_of es)) (site : IsSite (of_entries es)) (index : IndexValue) (own : HasIndex (of_entries es) index) (n a : ℕ) (all : n ≡ length es) (copies : a ≡ length index.0) where
+module _ (m : Map) (es : List (List ℕ × Op)) (view : from_entries es ≡ m)
+    (sorted : IsStrictlySortedBy digest_cmp (keys_of es)) (site : IsSite (of_entries es)) (index : IndexValue)
+    (own : HasIndex (of_entries es) index) (n a : ℕ) (all : n ≡ length es) (copies : a ≡ length index.0) where
   all_are : n ≡ length (ops_of m)
   all_are = all ∙ as_many es ∙ ap length (tree_ops m es view sorted)
 

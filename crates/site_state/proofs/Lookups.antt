@@ -29,7 +29,8 @@ use Rattle.site_state.proofs.Indexed.{ops_held}
 pub held_under : (m : Map) → IsSite m → (o : Op) → Has (ops_of m) o → held_at m (digest_of o) ≡ Some o
 held_under m site o h =
     let there = ops_held m o h in
-    let own : there.0 ≡ digest_of o = subst (λ (r : Option Op). IfSome r (λ x. there.0 ≡ digest_of x)) there.1 (site there.0) in
+    let own : there.0 ≡ digest_of o = subst (λ (r : Option Op). IfSome r (λ x. there.0 ≡ digest_of x))
+    there.1 (site there.0) in
     ap (held_at m) (sym own) ∙ there.1
 
 -- ---- picks
@@ -43,15 +44,21 @@ module _ (m : Map) (index : IndexValue) (site : IsSite m) (is : IsIndexOf (ops_o
       by (Some c) p = absurd (let f : None ≡ Some (pick_of c) = e ∙ is.picks uid ∙ ap (option_map pick_of) p in cc)
 
   -- the digest of a pick is that of the content that is picked, which is held
-  pub found : (p : Pick) → Some p ≡ pick_at uid index.1.1.1 → (c : ContentParts) × (pick uid (ops_of m) ≡ Some c) × (held_at m p.0 ≡ Some (a_content c))
+  pub found : (p : Pick) → Some p ≡ pick_at uid index.1.1.1 → (c : ContentParts) × (pick uid (ops_of m) ≡ Some c)
+      × (held_at m p.0 ≡ Some (a_content c))
   found p e = by (pick uid (ops_of m)) refl
     where
-      by : (r : Option ContentParts) → pick uid (ops_of m) ≡ r → (c : ContentParts) × (pick uid (ops_of m) ≡ Some c) × (held_at m p.0 ≡ Some (a_content c))
+      by : (r : Option ContentParts) → pick uid (ops_of m) ≡ r → (c : ContentParts) × (pick uid (ops_of m) ≡ Some c)
+          × (held_at m p.0 ≡ Some (a_content c))
       by None q = absurd (let f : Some p ≡ None = e ∙ is.picks uid ∙ ap (option_map pick_of) q in cc)
       by (Some c) q =
           let f : Some p ≡ Some (pick_of c) = e ∙ is.picks uid ∙ ap (option_map pick_of) q in
-          let one : p ≡ pick_of c = cc in
-          (c, q, ap (λ (x : Pick). held_at m x.0) one ∙ held_under m site (a_content c) (content_has (ops_of m) c (pick_is_content uid (ops_of m) c q).0))
+          let one : p ≡ pick_of c = cc in (
+            c,
+            q,
+            ap (λ (x : Pick). held_at m x.0) one ∙ held_under m site (a_content c)
+                (content_has (ops_of m) c (pick_is_content uid (ops_of m) c q).0),
+          )
 
   pub is_picked : (p : Pick) → Some p ≡ pick_at uid index.1.1.1 → content_held (held_at m p.0) ≡ pick uid (ops_of m)
   is_picked p e = let there = found p e in ap content_held there.2 ∙ sym there.1
@@ -66,7 +73,8 @@ both_and : (a b : Bool) → a ≡ true → b ≡ true → (a && b) ≡ true
 both_and true b p q = q
 both_and false b p q = absurd (false≢true p)
 
-one_of_four : {P : Type 0} (a b c d : Bool) → (((a || b) || c) || d) ≡ true → (a ≡ true → P) → (b ≡ true → P) → (c ≡ true → P) → (d ≡ true → P) → P
+one_of_four : {P : Type 0} (a b c d : Bool) → (((a || b) || c) || d) ≡ true → (a ≡ true → P) → (b ≡ true → P)
+    → (c ≡ true → P) → (d ≡ true → P) → P
 one_of_four true b c d e f g h k = f refl
 one_of_four false true c d e f g h k = g refl
 one_of_four false false true d e f g h k = h refl
@@ -85,10 +93,13 @@ pub covered_is : (view : View) (ops : List Op) (uid : List ℕ) → is_hidden vi
 covered_is view ops uid = both_ways _ _ there back
   where
     under : (title : NoteTitle) → hides_under view ops uid title ≡ true → is_covered view ops uid ≡ true
-    under title e = let both = and_both (hides view title) (is_titled ops uid title) e in (covered_by_titles view ops uid).1 (title, both.1, both.0)
+    under title e = let both = and_both (hides view title) (is_titled ops uid title) e in
+        (covered_by_titles view ops uid).1 (title, both.1, both.0)
 
     there : is_hidden view ops uid ≡ true → is_covered view ops uid ≡ true
-    there e = one_of_four (hides_under view ops uid Quality) (hides_under view ops uid Safety) (hides_under view ops uid Worklist) (hides_under view ops uid Expired) e (under Quality) (under Safety) (under Worklist) (under Expired)
+    there e = one_of_four (hides_under view ops uid Quality) (hides_under view ops uid Safety)
+        (hides_under view ops uid Worklist) (hides_under view ops uid Expired) e (under Quality) (under Safety)
+        (under Worklist) (under Expired)
 
     named : (title : NoteTitle) → hides_under view ops uid title ≡ true → is_hidden view ops uid ≡ true
     named Quality e = first_true _ _ (first_true _ _ (first_true _ _ e))
@@ -97,11 +108,13 @@ covered_is view ops uid = both_ways _ _ there back
     named Expired e = second_true _ _ e
 
     back : is_covered view ops uid ≡ true → is_hidden view ops uid ≡ true
-    back e = let w = (covered_by_titles view ops uid).0 e in named w.0 (both_and (hides view w.0) (is_titled ops uid w.0) w.2 w.1)
+    back e = let w = (covered_by_titles view ops uid).0 e in
+        named w.0 (both_and (hides view w.0) (is_titled ops uid w.0) w.2 w.1)
 
 -- ---- attributes
 
-pub value_is : (own : List ℕ) (r : Option CorrectionParts) (f : Fix) → Some f ≡ option_map fix_of r → f.1.1 ≡ corrected own r
+pub value_is : (own : List ℕ) (r : Option CorrectionParts) (f : Fix) → Some f ≡ option_map fix_of r
+    → f.1.1 ≡ corrected own r
 value_is own None f e = absurd cc
 value_is own (Some k) f e = let one : f ≡ fix_of k = cc in ap (λ (x : Fix). x.1.1) one
 

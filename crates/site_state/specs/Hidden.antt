@@ -15,7 +15,8 @@ hides_under view ops uid title = hides view title && is_titled ops uid title
 
 -- whether notes of one of the four titles do
 abbrev pub is_hidden : View → List Op → List ℕ → Bool
-is_hidden view ops uid = hides_under view ops uid Quality || hides_under view ops uid Safety || hides_under view ops uid Worklist || hides_under view ops uid Expired
+is_hidden view ops uid = hides_under view ops uid Quality || hides_under view ops uid Safety || hides_under view ops uid
+    Worklist || hides_under view ops uid Expired
 
 -- the content in what is held under a digest
 abbrev pub content_held : Option Op → Option ContentParts

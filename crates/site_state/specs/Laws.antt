@@ -50,11 +50,13 @@ IsIdempotent = (m : Map) → union m m ≡ m
 
 -- what two sites took is the union of what each took
 abbrev pub UnionIsOfBoth : Type 0
-UnionIsOfBoth = (xs ys : List Op) → Apart (xs ++ ys) → union (after_taking xs) (after_taking ys) ≡ after_taking (xs ++ ys)
+UnionIsOfBoth = (xs ys : List Op) → Apart (xs ++ ys) → union (after_taking xs) (after_taking ys) ≡ after_taking
+    (xs ++ ys)
 
 -- ---- order and repeats are free
 
--- two sites took the same operations, in whatever order and with whatever repeats, and unequal ones have unequal digests
+-- two sites took the same operations, in whatever order and with whatever repeats, and unequal ones have unequal
+-- digests
 abbrev pub TookTheSame : List Op → List Op → Type 0
 TookTheSame xs ys = SameMembers xs ys × Apart xs
 
@@ -62,40 +64,50 @@ abbrev pub EqualMaps : Type 0
 EqualMaps = (xs ys : List Op) → TookTheSame xs ys → after_taking xs ≡ after_taking ys
 
 abbrev pub EqualContents : Type 0
-EqualContents = (xs ys : List Op) (uid : List ℕ) → TookTheSame xs ys → contents_of uid (ops_of (after_taking xs)) ≡ contents_of uid (ops_of (after_taking ys))
+EqualContents = (xs ys : List Op) (uid : List ℕ) → TookTheSame xs ys → contents_of uid (ops_of (after_taking xs))
+    ≡ contents_of uid (ops_of (after_taking ys))
 
 abbrev pub EqualPicks : Type 0
-EqualPicks = (xs ys : List Op) (uid : List ℕ) → TookTheSame xs ys → pick uid (ops_of (after_taking xs)) ≡ pick uid (ops_of (after_taking ys))
+EqualPicks = (xs ys : List Op) (uid : List ℕ) → TookTheSame xs ys → pick uid (ops_of (after_taking xs)) ≡ pick
+    uid (ops_of (after_taking ys))
 
 abbrev pub EqualCovers : Type 0
-EqualCovers = (xs ys : List Op) (view : View) (uid : List ℕ) → TookTheSame xs ys → is_covered view (ops_of (after_taking xs)) uid ≡ is_covered view (ops_of (after_taking ys)) uid
+EqualCovers = (xs ys : List Op) (view : View) (uid : List ℕ) → TookTheSame xs ys
+    → is_covered view (ops_of (after_taking xs)) uid ≡ is_covered view (ops_of (after_taking ys)) uid
 
 -- studies, series, representatives and counts are functions of what is shown
 abbrev pub EqualShown : Type 0
-EqualShown = (xs ys : List Op) (view : View) → TookTheSame xs ys → shown view (ops_of (after_taking xs)) ≡ shown view (ops_of (after_taking ys))
+EqualShown = (xs ys : List Op) (view : View) → TookTheSame xs ys → shown view (ops_of (after_taking xs)) ≡ shown
+    view (ops_of (after_taking ys))
 
 abbrev pub EqualFlagged : Type 0
-EqualFlagged = (xs ys : List Op) → TookTheSame xs ys → flagged (ops_of (after_taking xs)) ≡ flagged (ops_of (after_taking ys))
+EqualFlagged = (xs ys : List Op) → TookTheSame xs ys → flagged (ops_of (after_taking xs)) ≡ flagged
+    (ops_of (after_taking ys))
 
 abbrev pub EqualAttributes : Type 0
-EqualAttributes = (xs ys : List Op) (c : ContentParts) (tag : ℕ) → TookTheSame xs ys → attribute (ops_of (after_taking xs)) c tag ≡ attribute (ops_of (after_taking ys)) c tag
+EqualAttributes = (xs ys : List Op) (c : ContentParts) (tag : ℕ) → TookTheSame xs ys
+    → attribute (ops_of (after_taking xs)) c tag ≡ attribute (ops_of (after_taking ys)) c tag
 
 abbrev pub EqualCounts : Type 0
-EqualCounts = (xs ys : List Op) → TookTheSame xs ys → counts_of (ops_of (after_taking xs)) ≡ counts_of (ops_of (after_taking ys))
+EqualCounts = (xs ys : List Op) → TookTheSame xs ys → counts_of (ops_of (after_taking xs)) ≡ counts_of
+    (ops_of (after_taking ys))
 
 abbrev pub EqualTops : Type 0
-EqualTops = (xs ys : List Op) → TookTheSame xs ys → top_counter_of (ops_of (after_taking xs)) ≡ top_counter_of (ops_of (after_taking ys))
+EqualTops = (xs ys : List Op) → TookTheSame xs ys → top_counter_of (ops_of (after_taking xs)) ≡ top_counter_of
+    (ops_of (after_taking ys))
 
 -- ---- notes before images
 
 -- a note that was taken before its images hides them as one that was taken after
 abbrev pub NoteBeforeIsNoteAfter : Type 0
 NoteBeforeIsNoteAfter = (view : View) (note : ContentParts) (images : List Op) → Apart (a_content note ∷ images)
-    → shown view (ops_of (after_taking (a_content note ∷ images))) ≡ shown view (ops_of (after_taking (images ++ a_content note ∷ [])))
+    → shown view (ops_of (after_taking (a_content note ∷ images))) ≡ shown
+    view (ops_of (after_taking (images ++ a_content note ∷ [])))
 
 -- what a note names is not shown where its title hides, whenever the note was taken
 abbrev pub NamedIsNotShown : Type 0
-NamedIsNotShown = (view : View) (ops : List Op) (note : ContentParts) (says : Note) (image : ContentParts) → Apart ops → Has ops (a_content note) → note.note ≡ Some says → IsTrue (hides view says.title)
+NamedIsNotShown = (view : View) (ops : List Op) (note : ContentParts) (says : Note) (image : ContentParts) → Apart ops
+    → Has ops (a_content note) → note.note ≡ Some says → IsTrue (hides view says.title)
     → Has says.covers image.instance → Has (shown view (ops_of (after_taking ops))) image → ⊥
 
 -- ---- the order of the operations
@@ -117,4 +129,5 @@ pub record HasLeastDigest (m : Map) (uid : List ℕ) (c : ContentParts) : Type 0
 
 -- so the pick of a UID is the one of least digest
 abbrev pub PickHasLeastDigest : Type 0
-PickHasLeastDigest = (m : Map) (uid : List ℕ) (c : ContentParts) → IsSite m → pick uid (ops_of m) ≡ Some c → HasLeastDigest m uid c
+PickHasLeastDigest = (m : Map) (uid : List ℕ) (c : ContentParts) → IsSite m → pick uid (ops_of m) ≡ Some c
+    → HasLeastDigest m uid c

@@ -1,5 +1,6 @@
 -- A site: the finite map from digests to operations, each under its own.
-use Rattle.std.specs.Prelude.{◌≡◌, ◌≢◌, ℕ, max, Bool, not, List, [], ◌∷◌, Option, Some, None, IfSome, Ok, Err, Result, length}
+use Rattle.std.specs.Prelude.{◌≡◌, ◌≢◌, ℕ, max, Bool, not, List, [], ◌∷◌, Option, Some, None, IfSome, Ok, Err, Result}
+use Rattle.std.specs.Prelude.{length}
 use Rattle.std.specs.Ordering.{nat_cmp}
 use Rattle.std.specs.Cmp.Lexicographic.{slice_cmp}
 use Rattle.std.specs.FinMap as finmap
@@ -111,4 +112,9 @@ index_with index (Some o) = index_joined index (index_of o)
 
 -- how many operations a set has, and of which kind
 abbrev pub counts_of : List Op → Counts
-counts_of ops = record { operations = length ops; contents = length (contents ops); corrections = length (corrections ops) }
+counts_of ops = record {
+  operations = length ops;
+  contents = length (contents ops);
+  corrections =
+      length (corrections ops);
+}

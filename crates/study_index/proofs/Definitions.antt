@@ -1,5 +1,6 @@
 -- The joined values of a list of operations, ascending by digest, are what the definition says.
-use Rattle.std.proofs.Common.{arith, ◌≡◌, ℕ, List, [], ◌∷◌, Bool, true, false, cond, Option, Some, None, IsTrue, refl, sym, ap, ◌∙◌, subst, inl, inr, map}
+use Rattle.std.proofs.Common.{arith, ◌≡◌, ℕ, List, [], ◌∷◌, Bool, true, false, cond, Option, Some, None, IsTrue, refl}
+use Rattle.std.proofs.Common.{sym, ap, ◌∙◌, subst, inl, inr, map}
 use Rattle.std.specs.Prelude.{◌&&◌, ◌||◌, ◌==◌}
 use Rattle.std.proofs.lemmas.Bool.{false≢true}
 use Rattle.std.specs.Cmp.{unsigned_ties, tied_itself, alike_right}
@@ -24,7 +25,8 @@ use Rattle.octets.specs.Texts.{same, text_cmp}
 use Rattle.octets.specs.Members.{Has}
 use Rattle.archive_model.specs.Contents.{pick}
 use Rattle.archive_model.specs.Attributes.{corrections, correction_cmp, greatest}
-use Rattle.archive_model.specs.Index.{code_of, copies, is_content_of, names_under, is_titled, is_same_target, is_fix, fix}
+use Rattle.archive_model.specs.Index.{code_of, copies, is_content_of, names_under, is_titled, is_same_target, is_fix}
+use Rattle.archive_model.specs.Index.{fix}
 use Rattle.archive_model.specs.Laws.{Ascend}
 use Rattle.archive_model.proofs.Latest.{correction_total}
 use Rattle.archive_model.proofs.ModelLaws.{same_is, greatest_is_last, some_have_greatest, pick_is_content, content_has}
@@ -37,9 +39,12 @@ use Rattle.join_laws.specs.Proved.Maps.{lookup-map_joined}
 use Rattle.join_laws.proofs.Folds.{value_held}
 use Rattle.study_index.specs.Keys.{has}
 use Rattle.study_index.specs.Live.{Text, pick_cmp, flat, pick_at}
-use Rattle.study_index.specs.Index.{FixKey, Fix, IndexValue, copy_cmp, naming_cmp, fix_key_cmp, fix_cmp, fixes_joined, IsIndex, index_joined, nothing, is_short, namings, titles_of, pick_of, fix_key, fix_of, index_of, fix_at}
+use Rattle.study_index.specs.Index.{FixKey, Fix, IndexValue, copy_cmp, naming_cmp, fix_key_cmp, fix_cmp, fixes_joined}
+use Rattle.study_index.specs.Index.{IsIndex, index_joined, nothing, is_short, namings, titles_of, pick_of, fix_key}
+use Rattle.study_index.specs.Index.{fix_of, index_of, fix_at}
 use Rattle.study_index.specs.Definition.{IsIndexOf}
-use Rattle.study_index.specs.Proved.Indexes.{copy_total, copy_exact, naming_total, naming_exact, fix_key_total, fix_key_exact, fix_exact, index_laws, index_summary_laws}
+use Rattle.study_index.specs.Proved.Indexes.{copy_total, copy_exact, naming_total, naming_exact, fix_key_total}
+use Rattle.study_index.specs.Proved.Indexes.{fix_key_exact, fix_exact, index_laws, index_summary_laws}
 use Rattle.study_index.proofs.KeyLaws.{or_none, at_either}
 use Rattle.study_index.proofs.Trees.{pick_at-joined}
 
@@ -72,23 +77,31 @@ and_swapped false false = refl
 
 -- ---- copies
 
-pub at_copy : (uid digest instance other : Text) → is_at (copy_cmp (uid, digest)) (instance, other) ≡ (same instance uid && is_at (text_cmp digest) other)
-at_copy uid digest instance other = then_eq (text_cmp uid instance) (text_cmp digest other) ∙ ap (λ b. b && is_eq (text_cmp digest other)) (at_text uid instance)
+pub at_copy : (uid digest instance other : Text) → is_at (copy_cmp (uid, digest)) (instance, other) ≡ (same instance uid
+    && is_at (text_cmp digest) other)
+at_copy uid digest instance other = then_eq (text_cmp uid instance) (text_cmp digest other)
+    ∙ ap (λ b. b && is_eq (text_cmp digest other)) (at_text uid instance)
 
 one_copy : (b : Bool) (uid digest : Text) (op : Op) (ops : List Op) → is_content_of uid op ≡ b
-    → ((b && is_at (text_cmp digest) (digest_of op)) || has text_cmp (map digest_of (filter (is_content_of uid) ops)) digest) ≡ has text_cmp (map digest_of (cond b (op ∷ filter (is_content_of uid) ops) (filter (is_content_of uid) ops))) digest
+    → ((b && is_at (text_cmp digest) (digest_of op)) || has text_cmp (map digest_of (filter (is_content_of uid) ops))
+    digest) ≡ has text_cmp (map digest_of (cond b (op ∷ filter (is_content_of uid) ops)
+    (filter (is_content_of uid) ops))) digest
 one_copy true uid digest op ops e = refl
 one_copy false uid digest op ops e = refl
 
-pub has_copy : (ops : List Op) (uid digest : Text) → has copy_cmp (value ops).0 (uid, digest) ≡ has text_cmp (copies uid ops) digest
+pub has_copy : (ops : List Op) (uid digest : Text) → has copy_cmp (value ops).0 (uid, digest) ≡ has text_cmp
+    (copies uid ops) digest
 has_copy [] uid digest = refl
 has_copy (a_content c ∷ ops) uid digest =
     has-union copy_total copy_exact (uid, digest) (value ops).0 ((c.instance, digest_of (a_content c)) ∷ [])
-    ∙ ap (λ b. (b || false) || has copy_cmp (value ops).0 (uid, digest)) (at_copy uid digest c.instance (digest_of (a_content c)))
+    ∙ ap (λ b. (b || false) || has copy_cmp (value ops).0 (uid, digest))
+    (at_copy uid digest c.instance (digest_of (a_content c)))
     ∙ ap (λ b. b || has copy_cmp (value ops).0 (uid, digest)) (or_none _)
-    ∙ ap (λ b. (same c.instance uid && is_at (text_cmp digest) (digest_of (a_content c))) || b) (has_copy ops uid digest)
+    ∙ ap (λ b. (same c.instance uid && is_at (text_cmp digest) (digest_of (a_content c))) || b)
+    (has_copy ops uid digest)
     ∙ one_copy (same c.instance uid) uid digest (a_content c) ops refl
-has_copy (a_correction k ∷ ops) uid digest = has-union copy_total copy_exact (uid, digest) (value ops).0 [] ∙ has_copy ops uid digest
+has_copy (a_correction k ∷ ops) uid digest = has-union copy_total copy_exact (uid, digest) (value ops).0 []
+    ∙ has_copy ops uid digest
 
 -- ---- titles
 
@@ -115,7 +128,8 @@ spread false true r = refl
 spread false false r = refl
 
 has_namings : (uid : Text) (title own : NoteTitle) (uids : List Text) → IsTrue (is_short uid)
-    → has naming_cmp (map (λ u. (u, code_of own)) (filter is_short uids)) (uid, code_of title) ≡ (code_of own == code_of title && list_any (λ u. same u uid) uids)
+    → has naming_cmp (map (λ u. (u, code_of own)) (filter is_short uids)) (uid, code_of title) ≡ (code_of own == code_of
+    title && list_any (λ u. same u uid) uids)
 has_namings uid title own [] short = none (code_of own == code_of title)
   where
     none : (b : Bool) → false ≡ (b && false)
@@ -123,26 +137,35 @@ has_namings uid title own [] short = none (code_of own == code_of title)
     none false = refl
 has_namings uid title own (u ∷ uids) short = by (is_short u) refl (has_namings uid title own uids short)
   where
-    by : (b : Bool) → is_short u ≡ b → has naming_cmp (map (λ x. (x, code_of own)) (filter is_short uids)) (uid, code_of title) ≡ (code_of own == code_of title && list_any (λ x. same x uid) uids) → has naming_cmp (map (λ x. (x, code_of own)) (cond b (u ∷ filter is_short uids) (filter is_short uids))) (uid, code_of title) ≡ (code_of own == code_of title && (same u uid || list_any (λ x. same x uid) uids))
+    by : (b : Bool) → is_short u ≡ b → has naming_cmp (map (λ x. (x, code_of own)) (filter is_short uids))
+        (uid, code_of title) ≡ (code_of own == code_of title && list_any (λ x. same x uid) uids)
+        → has naming_cmp (map (λ x. (x, code_of own)) (cond b (u ∷ filter is_short uids) (filter is_short uids)))
+        (uid, code_of title) ≡ (code_of own == code_of title && (same u uid || list_any (λ x. same x uid) uids))
     by true e later =
-        ap (λ b. b || has naming_cmp (map (λ x. (x, code_of own)) (filter is_short uids)) (uid, code_of title)) (at_naming uid u (code_of title) (code_of own))
+        ap (λ b. b || has naming_cmp (map (λ x. (x, code_of own)) (filter is_short uids)) (uid, code_of title))
+        (at_naming uid u (code_of title) (code_of own))
         ∙ ap (λ b. (same u uid && (code_of own == code_of title)) || b) later
         ∙ spread (same u uid) (code_of own == code_of title) (list_any (λ x. same x uid) uids)
     by false e later =
         later
-        ∙ ap (λ b. code_of own == code_of title && (b || list_any (λ x. same x uid) uids)) (sym (not_longer uid u short e))
+        ∙ ap (λ b. code_of own == code_of title && (b || list_any (λ x. same x uid) uids))
+        (sym (not_longer uid u short e))
 
-has_titles : (uid : Text) (title : NoteTitle) (note : Option Note) → IsTrue (is_short uid) → has naming_cmp (titles_of note) (uid, code_of title) ≡ names_under title uid note
+has_titles : (uid : Text) (title : NoteTitle) (note : Option Note) → IsTrue (is_short uid)
+    → has naming_cmp (titles_of note) (uid, code_of title) ≡ names_under title uid note
 has_titles uid title None short = refl
-has_titles uid title (Some note) short = has-union naming_total naming_exact (uid, code_of title) (namings note) [] ∙ has_namings uid title note.title note.covers short
+has_titles uid title (Some note) short = has-union naming_total naming_exact (uid, code_of title) (namings note) []
+    ∙ has_namings uid title note.title note.covers short
 
-has_title : (ops : List Op) (uid : Text) (title : NoteTitle) → IsTrue (is_short uid) → has naming_cmp (value ops).1.0 (uid, code_of title) ≡ is_titled ops uid title
+has_title : (ops : List Op) (uid : Text) (title : NoteTitle) → IsTrue (is_short uid) → has naming_cmp (value ops).1.0
+    (uid, code_of title) ≡ is_titled ops uid title
 has_title [] uid title short = refl
 has_title (a_content c ∷ ops) uid title short =
     has-union naming_total naming_exact (uid, code_of title) (value ops).1.0 (titles_of c.note)
     ∙ ap (λ b. b || has naming_cmp (value ops).1.0 (uid, code_of title)) (has_titles uid title c.note short)
     ∙ ap (λ b. names_under title uid c.note || b) (has_title ops uid title short)
-has_title (a_correction k ∷ ops) uid title short = has-union naming_total naming_exact (uid, code_of title) (value ops).1.0 [] ∙ has_title ops uid title short
+has_title (a_correction k ∷ ops) uid title short = has-union naming_total naming_exact (uid, code_of title)
+    (value ops).1.0 [] ∙ has_title ops uid title short
 
 -- ---- corrections
 
@@ -150,32 +173,39 @@ some_fix : (a : Option Fix) → greatest_of fix_cmp a None ≡ a
 some_fix None = refl
 some_fix (Some x) = refl
 
-flat-joined : (a b : Option (Option Fix)) → flat (joined_options (greatest_of fix_cmp) a b) ≡ greatest_of fix_cmp (flat a) (flat b)
+flat-joined : (a b : Option (Option Fix)) → flat (joined_options (greatest_of fix_cmp) a b) ≡ greatest_of
+    fix_cmp (flat a) (flat b)
 flat-joined None b = refl
 flat-joined (Some x) None = sym (some_fix x)
 flat-joined (Some x) (Some y) = refl
 
-fix_at-joined : (fixes others : List (FixKey × Option Fix)) → IsStrictlySortedBy fix_key_cmp (keys_of fixes) → IsStrictlySortedBy fix_key_cmp (keys_of others) → (key : FixKey) → fix_at key (fixes_joined fixes others) ≡ greatest_of fix_cmp (fix_at key fixes) (fix_at key others)
+fix_at-joined : (fixes others : List (FixKey × Option Fix)) → IsStrictlySortedBy fix_key_cmp (keys_of fixes)
+    → IsStrictlySortedBy fix_key_cmp (keys_of others) → (key : FixKey)
+    → fix_at key (fixes_joined fixes others) ≡ greatest_of fix_cmp (fix_at key fixes) (fix_at key others)
 fix_at-joined fixes others s t key =
     ap flat (lookup-map_joined fix_key_total fix_key_exact (greatest_of fix_cmp) key others fixes s t)
     ∙ flat-joined (lookup (is_at (fix_key_cmp key)) fixes) (lookup (is_at (fix_key_cmp key)) others)
 
-at_key : (target : Target) (tag : ℕ) (k : CorrectionParts) → is_at (fix_key_cmp (fix_key target tag)) (fix_key k.target k.tag) ≡ is_fix target tag k
+at_key : (target : Target) (tag : ℕ) (k : CorrectionParts) → is_at (fix_key_cmp (fix_key target tag))
+    (fix_key k.target k.tag) ≡ is_fix target tag k
 at_key target tag k = by target k.target
   where
     swapped : (tag == k.tag) ≡ (k.tag == tag)
     swapped = grind (arith)
 
-    keyed : (mine yours : Text) → is_eq (ordering_then (text_cmp mine yours) (nat_cmp tag k.tag)) ≡ (k.tag == tag && same yours mine)
+    keyed : (mine yours : Text) → is_eq (ordering_then (text_cmp mine yours) (nat_cmp tag k.tag)) ≡ (k.tag == tag &&
+        same yours mine)
     keyed mine yours =
-        then_eq (text_cmp mine yours) (nat_cmp tag k.tag) ∙ ap (λ b. b && is_eq (nat_cmp tag k.tag)) (at_text mine yours)
+        then_eq (text_cmp mine yours) (nat_cmp tag k.tag) ∙ ap (λ b. b && is_eq (nat_cmp tag k.tag))
+        (at_text mine yours)
         ∙ ap (λ b. same yours mine && b) (at_number tag k.tag ∙ swapped) ∙ and_swapped (same yours mine) (k.tag == tag)
 
     apart : (b : Bool) → false ≡ (b && false)
     apart true = refl
     apart false = refl
 
-    by : (mine yours : Target) → is_at (fix_key_cmp (fix_key mine tag)) (fix_key yours k.tag) ≡ (k.tag == tag && is_same_target yours mine)
+    by : (mine yours : Target) → is_at (fix_key_cmp (fix_key mine tag)) (fix_key yours k.tag) ≡ (k.tag == tag &&
+        is_same_target yours mine)
     by (Study a) (Study b) = keyed a b
     by (Patient a) (Patient b) = keyed a b
     by (Series a) (Series b) = keyed a b
@@ -192,8 +222,10 @@ le_both Less p q = absurd (false≢true q)
 le_both Equal p q = refl
 le_both Greater p q = absurd (false≢true p)
 
-one_fix : (j k : CorrectionParts) → is_le (correction_cmp j k) ≡ true → is_le (correction_cmp k j) ≡ true → fix_of j ≡ fix_of k
-one_fix j k p q = fix_exact (fix_of j) (fix_of k) (le_both (correction_cmp j k) p (ap is_le (sym (correction_total.antisymm k j)) ∙ q))
+one_fix : (j k : CorrectionParts) → is_le (correction_cmp j k) ≡ true → is_le (correction_cmp k j) ≡ true
+    → fix_of j ≡ fix_of k
+one_fix j k p q = fix_exact (fix_of j) (fix_of k)
+    (le_both (correction_cmp j k) p (ap is_le (sym (correction_total.antisymm k j)) ∙ q))
 
 not_lt : (r : Ordering) → is_lt r ≡ false → is_le (ordering_reverse r) ≡ true
 not_lt Less e = absurd (false≢true (sym e))
@@ -208,10 +240,12 @@ is_lt_le Greater e = absurd (false≢true e)
 le_itself : (k : CorrectionParts) → is_le (correction_cmp k k) ≡ true
 le_itself k = ap is_le (tied_itself correction_total k)
 
-le_trans : (a b c : CorrectionParts) → is_le (correction_cmp a b) ≡ true → is_le (correction_cmp b c) ≡ true → is_le (correction_cmp a c) ≡ true
+le_trans : (a b c : CorrectionParts) → is_le (correction_cmp a b) ≡ true → is_le (correction_cmp b c) ≡ true
+    → is_le (correction_cmp a c) ≡ true
 le_trans a b c p q = by (correction_cmp a b) (correction_cmp b c) refl refl p q
   where
-    by : (r s : Ordering) → correction_cmp a b ≡ r → correction_cmp b c ≡ s → is_le r ≡ true → is_le s ≡ true → is_le (correction_cmp a c) ≡ true
+    by : (r s : Ordering) → correction_cmp a b ≡ r → correction_cmp b c ≡ s → is_le r ≡ true → is_le s ≡ true
+        → is_le (correction_cmp a c) ≡ true
     by Less Less l m p q = ap is_le (correction_total.trans a b c l m)
     by Less Equal l m p q = ap is_le (sym (alike_right correction_total b c a m) ∙ l)
     by Equal s l m p q = ap is_le (correction_total.congr a b c l ∙ m) ∙ q
@@ -219,7 +253,8 @@ le_trans a b c p q = by (correction_cmp a b) (correction_cmp b c) refl refl p q
     by Less Greater l m p q = absurd (false≢true q)
 
 -- a correction that is one of some, and that none of them comes after, is the greatest
-is_greatest : (ks : List CorrectionParts) (x : CorrectionParts) → Has ks x → ((other : CorrectionParts) → Has ks other → is_le (correction_cmp other x) ≡ true) → option_map fix_of (greatest ks) ≡ Some (fix_of x)
+is_greatest : (ks : List CorrectionParts) (x : CorrectionParts) → Has ks x → ((other : CorrectionParts) → Has ks other
+    → is_le (correction_cmp other x) ≡ true) → option_map fix_of (greatest ks) ≡ Some (fix_of x)
 is_greatest ks x has last = by (greatest ks) refl
   where
     none : ks ≡ [] → ⊥
@@ -231,21 +266,24 @@ is_greatest ks x has last = by (greatest ks) refl
         let found = greatest_is_last ks g e in
         ap (λ (f : Fix). Some f) (one_fix g x (last g found.0) (found.1 x has))
 
-pub greatest_more : (k : CorrectionParts) (ks : List CorrectionParts) → option_map fix_of (greatest (k ∷ ks)) ≡ greatest_of fix_cmp (Some (fix_of k)) (option_map fix_of (greatest ks))
+pub greatest_more : (k : CorrectionParts) (ks : List CorrectionParts)
+    → option_map fix_of (greatest (k ∷ ks)) ≡ greatest_of fix_cmp (Some (fix_of k)) (option_map fix_of (greatest ks))
 greatest_more k ks = by (greatest ks) refl
   where
     alone : (other : CorrectionParts) → ks ≡ [] → Has (k ∷ ks) other → is_le (correction_cmp other k) ≡ true
     alone other e (inl same_one) = ap (λ (x : CorrectionParts). is_le (correction_cmp x k)) same_one ∙ le_itself k
     alone other e (inr among) = absurd (subst (λ (xs : List CorrectionParts). Has xs other) e among)
 
-    by : (r : Option CorrectionParts) → greatest ks ≡ r → option_map fix_of (greatest (k ∷ ks)) ≡ greatest_of fix_cmp (Some (fix_of k)) (option_map fix_of r)
+    by : (r : Option CorrectionParts) → greatest ks ≡ r → option_map fix_of (greatest (k ∷ ks)) ≡ greatest_of
+        fix_cmp (Some (fix_of k)) (option_map fix_of r)
     by None e = is_greatest (k ∷ ks) k (inl refl) (λ other. alone other (some_have_greatest ks e))
     by (Some g) e = chosen (is_lt (correction_cmp g k)) refl
       where
         found : Has ks g × ((other : CorrectionParts) → Has ks other → is_le (correction_cmp other g) ≡ true)
         found = greatest_is_last ks g e
 
-        chosen : (b : Bool) → is_lt (correction_cmp g k) ≡ b → option_map fix_of (greatest (k ∷ ks)) ≡ Some (cond b (fix_of k) (fix_of g))
+        chosen : (b : Bool) → is_lt (correction_cmp g k) ≡ b → option_map fix_of (greatest (k ∷ ks)) ≡ Some
+            (cond b (fix_of k) (fix_of g))
         chosen true less = is_greatest (k ∷ ks) k (inl refl) below
           where
             below : (other : CorrectionParts) → Has (k ∷ ks) other → is_le (correction_cmp other k) ≡ true
@@ -260,11 +298,14 @@ greatest_more k ks = by (greatest ks) refl
             below other (inl same_one) = ap (λ (x : CorrectionParts). is_le (correction_cmp x g)) same_one ∙ up
             below other (inr among) = found.1 other among
 
-one_fix_more : (b : Bool) (k : CorrectionParts) (ks : List CorrectionParts) → greatest_of fix_cmp (flat (cond b (Some (Some (fix_of k))) None)) (option_map fix_of (greatest ks)) ≡ option_map fix_of (greatest (cond b (k ∷ ks) ks))
+one_fix_more : (b : Bool) (k : CorrectionParts) (ks : List CorrectionParts)
+    → greatest_of fix_cmp (flat (cond b (Some (Some (fix_of k))) None)) (option_map fix_of (greatest ks)) ≡ option_map
+    fix_of (greatest (cond b (k ∷ ks) ks))
 one_fix_more true k ks = sym (greatest_more k ks)
 one_fix_more false k ks = refl
 
-has_fix : (ops : List Op) (target : Target) (tag : ℕ) → fix_at (fix_key target tag) (value ops).1.1.0 ≡ option_map fix_of (fix target tag ops)
+has_fix : (ops : List Op) (target : Target) (tag : ℕ) → fix_at (fix_key target tag) (value ops).1.1.0 ≡ option_map
+    fix_of (fix target tag ops)
 has_fix [] target tag = refl
 has_fix (a_content c ∷ ops) target tag =
     fix_at-joined [] (value ops).1.1.0 index_laws_none (held ops).1.1.0.0 (fix_key target tag) ∙ has_fix ops target tag
@@ -272,49 +313,65 @@ has_fix (a_content c ∷ ops) target tag =
     index_laws_none : IsStrictlySortedBy fix_key_cmp (keys_of (index_of (a_content c)).1.1.0)
     index_laws_none = (index_summary_laws.one_held (a_content c)).1.1.0.0
 has_fix (a_correction k ∷ ops) target tag =
-    fix_at-joined (entry (fix_key k.target k.tag) (Some (fix_of k))) (value ops).1.1.0 (index_summary_laws.one_held (a_correction k)).1.1.0.0 (held ops).1.1.0.0 (fix_key target tag)
-    ∙ ap (λ b. greatest_of fix_cmp (flat (cond b (Some (Some (fix_of k))) None)) (fix_at (fix_key target tag) (value ops).1.1.0)) (at_key target tag k)
-    ∙ ap (greatest_of fix_cmp (flat (cond (is_fix target tag k) (Some (Some (fix_of k))) None))) (has_fix ops target tag)
+    fix_at-joined (entry (fix_key k.target k.tag) (Some (fix_of k))) (value ops).1.1.0
+    (index_summary_laws.one_held (a_correction k)).1.1.0.0 (held ops).1.1.0.0 (fix_key target tag)
+    ∙ ap (λ b. greatest_of fix_cmp (flat (cond b (Some (Some (fix_of k))) None))
+    (fix_at (fix_key target tag) (value ops).1.1.0)) (at_key target tag k)
+    ∙ ap (greatest_of fix_cmp (flat (cond (is_fix target tag k) (Some (Some (fix_of k))) None)))
+    (has_fix ops target tag)
     ∙ one_fix_more (is_fix target tag k) k (filter (is_fix target tag) (corrections ops))
 
 -- ---- picks
 
-all_has : (P : Text → Type 0) (ops : List Op) (o : Op) → AllByRecursion P (map digest_of ops) → Has ops o → P (digest_of o)
+all_has : (P : Text → Type 0) (ops : List Op) (o : Op) → AllByRecursion P (map digest_of ops) → Has ops o
+    → P (digest_of o)
 all_has P [] o all has = absurd has
 all_has P (p ∷ ops) o all (inl e) = subst (λ (x : Op). P (digest_of x)) (sym e) all.0
 all_has P (p ∷ ops) o all (inr has) = all_has P ops o all.1 has
 
 -- of a content that stands first, and the pick of those behind it, the first is the lesser
-first_is_least : (c : ContentParts) (ops : List Op) (uid : Text) → Ascend (a_content c ∷ ops) → least_of pick_cmp (Some (pick_of c)) (option_map pick_of (pick uid ops)) ≡ Some (pick_of c)
+first_is_least : (c : ContentParts) (ops : List Op) (uid : Text) → Ascend (a_content c ∷ ops)
+    → least_of pick_cmp (Some (pick_of c)) (option_map pick_of (pick uid ops)) ≡ Some (pick_of c)
 unfolding IsStrictlySortedBy
 first_is_least c ops uid up = by (pick uid ops) refl
   where
     turned : (r s : Ordering) → r ≡ Less → is_lt (ordering_then (ordering_reverse r) s) ≡ false
     turned r s e = ap (λ x. is_lt (ordering_then (ordering_reverse x) s)) e
 
-    by : (r : Option ContentParts) → pick uid ops ≡ r → least_of pick_cmp (Some (pick_of c)) (option_map pick_of r) ≡ Some (pick_of c)
+    by : (r : Option ContentParts) → pick uid ops ≡ r → least_of pick_cmp (Some (pick_of c))
+        (option_map pick_of r) ≡ Some (pick_of c)
     by None e = refl
     by (Some d) e =
-        let less : text_cmp (digest_of (a_content c)) (digest_of (a_content d)) ≡ Less = all_has (λ t. text_cmp (digest_of (a_content c)) t ≡ Less) ops (a_content d) up.0 (content_has ops d (pick_is_content uid ops d e).0) in
-        let rest = ordering_then (text_cmp (pick_of d).1.0 (pick_of c).1.0) (text_cmp (pick_of d).1.1 (pick_of c).1.1) in
+        let less : text_cmp (digest_of (a_content c)) (digest_of (a_content d)) ≡ Less =
+        all_has (λ t. text_cmp (digest_of (a_content c)) t ≡ Less) ops (a_content d)
+        up.0 (content_has ops d (pick_is_content uid ops d e).0) in
+        let rest = ordering_then (text_cmp (pick_of d).1.0 (pick_of c).1.0) (text_cmp (pick_of d).1.1 (pick_of c).1.1)
+        in
         let later : is_lt (pick_cmp (pick_of d) (pick_of c)) ≡ false =
-        ap (λ x. is_lt (ordering_then x rest)) (nat_list_cmp_total.antisymm (digest_of (a_content d)) (digest_of (a_content c))) ∙ turned (text_cmp (digest_of (a_content c)) (digest_of (a_content d))) rest less in
+        ap (λ x. is_lt (ordering_then x rest)) (nat_list_cmp_total.antisymm (digest_of (a_content d))
+        (digest_of (a_content c))) ∙ turned (text_cmp (digest_of (a_content c)) (digest_of (a_content d))) rest less
+        in
         ap (λ b. Some (cond b (pick_of d) (pick_of c))) later
 
-has_pick : (ops : List Op) → Ascend ops → (uid : Text) → pick_at uid (value ops).1.1.1 ≡ option_map pick_of (pick uid ops)
+has_pick : (ops : List Op) → Ascend ops → (uid : Text) → pick_at uid (value ops).1.1.1 ≡ option_map
+    pick_of (pick uid ops)
 unfolding IsStrictlySortedBy
 has_pick [] up uid = refl
 has_pick (a_content c ∷ ops) up uid =
-    pick_at-joined (entry c.instance (Some (pick_of c))) (value ops).1.1.1 (index_summary_laws.one_held (a_content c)).1.1.1.0 (held ops).1.1.1.0 uid
-    ∙ ap (λ b. least_of pick_cmp (flat (cond b (Some (Some (pick_of c))) None)) (pick_at uid (value ops).1.1.1)) (at_text uid c.instance)
+    pick_at-joined (entry c.instance (Some (pick_of c))) (value ops).1.1.1
+    (index_summary_laws.one_held (a_content c)).1.1.1.0 (held ops).1.1.1.0 uid
+    ∙ ap (λ b. least_of pick_cmp (flat (cond b (Some (Some (pick_of c))) None)) (pick_at uid (value ops).1.1.1))
+    (at_text uid c.instance)
     ∙ ap (least_of pick_cmp (flat (cond (same c.instance uid) (Some (Some (pick_of c))) None))) (has_pick ops up.1 uid)
     ∙ by (same c.instance uid)
   where
-    by : (b : Bool) → least_of pick_cmp (flat (cond b (Some (Some (pick_of c))) None)) (option_map pick_of (pick uid ops)) ≡ option_map pick_of (cond b (Some c) (pick uid ops))
+    by : (b : Bool) → least_of pick_cmp (flat (cond b (Some (Some (pick_of c))) None))
+        (option_map pick_of (pick uid ops)) ≡ option_map pick_of (cond b (Some c) (pick uid ops))
     by true = first_is_least c ops uid up
     by false = refl
 has_pick (a_correction k ∷ ops) up uid =
-    pick_at-joined [] (value ops).1.1.1 index_summary_laws.nothing_held.1.1.1.0 (held ops).1.1.1.0 uid ∙ has_pick ops up.1 uid
+    pick_at-joined [] (value ops).1.1.1 index_summary_laws.nothing_held.1.1.1.0 (held ops).1.1.1.0 uid
+    ∙ has_pick ops up.1 uid
 
 -- ---- the whole
 

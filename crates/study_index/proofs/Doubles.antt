@@ -1,5 +1,6 @@
 -- Copies of one SOP Instance UID stand side by side.
-use Rattle.std.specs.Prelude.{◌≡◌, Bool, true, false, cond, ◌&&◌, ◌||◌, nat_lt, List, [], ◌∷◌, length, Option, None, Some}
+use Rattle.std.specs.Prelude.{◌≡◌, Bool, true, false, cond, ◌&&◌, ◌||◌, nat_lt, List, [], ◌∷◌, length, Option, None}
+use Rattle.std.specs.Prelude.{Some}
 use Rattle.std.proofs.Common.{refl, sym, ap, ◌∙◌, arith}
 use mathlib.Core.Bool.{true≢false}
 use borrow.Author.Tests.{lt-ltb}
@@ -68,12 +69,15 @@ further uid c d below less = by (text_cmp c.0 d.0) refl less
     by Greater e l = absurd cc
 
 -- no copy of a UID stands past one of a greater UID
-none_past : (uid : Text) (c : Copy) (cs : List Copy) → text_cmp uid c.0 ≡ Less → AllByRecursion (λ d. copy_cmp c d ≡ Less) cs → filter (is_copy_of uid) cs ≡ []
+none_past : (uid : Text) (c : Copy) (cs : List Copy) → text_cmp uid c.0 ≡ Less
+    → AllByRecursion (λ d. copy_cmp c d ≡ Less) cs → filter (is_copy_of uid) cs ≡ []
 none_past uid c [] below all = refl
-none_past uid c (d ∷ cs) below all = ap (λ b. cond b (d ∷ filter (is_copy_of uid) cs) (filter (is_copy_of uid) cs)) (below_apart uid d.0 (further uid c d below all.0)) ∙ none_past uid c cs below all.1
+none_past uid c (d ∷ cs) below all = ap (λ b. cond b (d ∷ filter (is_copy_of uid) cs) (filter (is_copy_of uid) cs))
+    (below_apart uid d.0 (further uid c d below all.0)) ∙ none_past uid c cs below all.1
 
 -- behind a copy of the UID one more is enough, and behind another two are
-pub counted : (b : Copy) (cs : List Copy) (uid : Text) → IsStrictlySortedBy copy_cmp (b ∷ cs) → repeats (Some b) cs uid ≡ cond (same b.0 uid) (is_some_there (filter (is_copy_of uid) cs)) (are_two_there (filter (is_copy_of uid) cs))
+pub counted : (b : Copy) (cs : List Copy) (uid : Text) → IsStrictlySortedBy copy_cmp (b ∷ cs) → repeats (Some b) cs
+    uid ≡ cond (same b.0 uid) (is_some_there (filter (is_copy_of uid) cs)) (are_two_there (filter (is_copy_of uid) cs))
 unfolding IsStrictlySortedBy
 counted b [] uid up = nothing (same b.0 uid)
   where
@@ -85,18 +89,24 @@ counted b (c ∷ cs) uid up = by (same b.0 uid) (same c.0 uid) refl refl (counte
     rest : List Copy
     rest = filter (is_copy_of uid) cs
 
-    by : (t s : Bool) → same b.0 uid ≡ t → same c.0 uid ≡ s → repeats (Some c) cs uid ≡ cond s (is_some_there (filter (is_copy_of uid) cs)) (are_two_there (filter (is_copy_of uid) cs))
-        → ((same b.0 c.0 && s) || repeats (Some c) cs uid) ≡ cond t (is_some_there (cond s (c ∷ filter (is_copy_of uid) cs) (filter (is_copy_of uid) cs))) (are_two_there (cond s (c ∷ filter (is_copy_of uid) cs) (filter (is_copy_of uid) cs)))
-    by true true e f more = ap (λ x. (x && true) || repeats (Some c) cs uid) (same_itself b.0 c.0 (same_is b.0 uid e ∙ sym (same_is c.0 uid f)))
+    by : (t s : Bool) → same b.0 uid ≡ t → same c.0 uid ≡ s → repeats (Some c) cs uid ≡ cond
+        s (is_some_there (filter (is_copy_of uid) cs)) (are_two_there (filter (is_copy_of uid) cs))
+        → ((same b.0 c.0 && s) || repeats (Some c) cs uid) ≡ cond
+        t (is_some_there (cond s (c ∷ filter (is_copy_of uid) cs) (filter (is_copy_of uid) cs)))
+        (are_two_there (cond s (c ∷ filter (is_copy_of uid) cs) (filter (is_copy_of uid) cs)))
+    by true true e f more = ap (λ x. (x && true) || repeats (Some c) cs uid)
+        (same_itself b.0 c.0 (same_is b.0 uid e ∙ sym (same_is c.0 uid f)))
     by true false e f more =
         let is : b.0 ≡ uid = same_is b.0 uid e in
         let apart : same b.0 c.0 ≡ false = below_no (same b.0 c.0) refl in
         let past : text_cmp uid c.0 ≡ Less = ap (λ u. text_cmp u c.0) (sym is) ∙ uid_up b c up.0.0 apart in
         let none : filter (is_copy_of uid) cs ≡ [] = none_past uid c cs past up.1.0 in
-        ap (λ x. x || repeats (Some c) cs uid) (none_here (same b.0 c.0)) ∙ more ∙ ap are_two_there none ∙ sym (ap is_some_there none)
+        ap (λ x. x || repeats (Some c) cs uid) (none_here (same b.0 c.0)) ∙ more ∙ ap are_two_there none
+        ∙ sym (ap is_some_there none)
       where
         below_no : (x : Bool) → same b.0 c.0 ≡ x → x ≡ false
-        below_no true g = absurd (true≢false (sym (same_itself c.0 uid (sym (same_is b.0 c.0 g) ∙ same_is b.0 uid e)) ∙ f))
+        below_no true g = absurd (true≢false (sym (same_itself c.0 uid (sym (same_is b.0 c.0 g) ∙ same_is b.0 uid e))
+            ∙ f))
         below_no false g = refl
     by false true e f more = ap (λ x. (x && true) || repeats (Some c) cs uid) (apart (same b.0 c.0) refl) ∙ more
       where
@@ -105,11 +115,13 @@ counted b (c ∷ cs) uid up = by (same b.0 uid) (same c.0 uid) refl refl (counte
         apart false g = refl
     by false false e f more = ap (λ x. x || repeats (Some c) cs uid) (none_here (same b.0 c.0)) ∙ more
 
-pub all_counted : (cs : List Copy) (uid : Text) → IsStrictlySortedBy copy_cmp cs → repeats None cs uid ≡ is_doubled cs uid
+pub all_counted : (cs : List Copy) (uid : Text) → IsStrictlySortedBy copy_cmp cs → repeats None cs uid ≡ is_doubled cs
+    uid
 all_counted [] uid up = refl
 all_counted (c ∷ cs) uid up = counted c cs uid up ∙ by (same c.0 uid) ∙ are_two (filter (is_copy_of uid) (c ∷ cs))
   where
-    by : (s : Bool) → cond s (is_some_there (filter (is_copy_of uid) cs)) (are_two_there (filter (is_copy_of uid) cs)) ≡ are_two_there (cond s (c ∷ filter (is_copy_of uid) cs) (filter (is_copy_of uid) cs))
+    by : (s : Bool) → cond s (is_some_there (filter (is_copy_of uid) cs)) (are_two_there (filter (is_copy_of uid) cs))
+        ≡ are_two_there (cond s (c ∷ filter (is_copy_of uid) cs) (filter (is_copy_of uid) cs))
     by true = refl
     by false = refl
 
@@ -130,7 +142,9 @@ or_none true = refl
 or_none false = refl
 
 -- the UID of the copy was put in
-pub put_in : (before : Option Copy) (c : Copy) (old new : List Text) (uid : Text) → is_next_copy before c ≡ true → new ≡ insert_key text_cmp old c.0 → has text_cmp new uid ≡ (has text_cmp old uid || (is_next_copy before c && is_copy_of uid c))
+pub put_in : (before : Option Copy) (c : Copy) (old new : List Text) (uid : Text) → is_next_copy before c ≡ true
+    → new ≡ insert_key text_cmp old c.0 → has text_cmp new
+    uid ≡ (has text_cmp old uid || (is_next_copy before c && is_copy_of uid c))
 put_in before c old new uid next is =
     ap (λ us. has text_cmp us uid) is ∙ has-insert_key nat_list_cmp_total text_exact uid c.0 old
     ∙ or_swapped (is_at (text_cmp uid) c.0) (has text_cmp old uid)
@@ -138,9 +152,13 @@ put_in before c old new uid next is =
     ∙ ap (λ b. has text_cmp old uid || (b && is_copy_of uid c)) (sym next)
 
 -- it was not, and nothing changed
-pub left_out : (before : Option Copy) (c : Copy) (old : List Text) (uid : Text) → is_next_copy before c ≡ false → has text_cmp old uid ≡ (has text_cmp old uid || (is_next_copy before c && is_copy_of uid c))
-left_out before c old uid next = or_none (has text_cmp old uid) ∙ ap (λ b. has text_cmp old uid || (b && is_copy_of uid c)) (sym next)
+pub left_out : (before : Option Copy) (c : Copy) (old : List Text) (uid : Text) → is_next_copy before c ≡ false
+    → has text_cmp old uid ≡ (has text_cmp old uid || (is_next_copy before c && is_copy_of uid c))
+left_out before c old uid next = or_none (has text_cmp old uid)
+    ∙ ap (λ b. has text_cmp old uid || (b && is_copy_of uid c)) (sym next)
 
-pub seen : (before : Option Copy) (c : Copy) (cs : List Copy) (old new : List Text) (uid : Text) → has text_cmp new uid ≡ (has text_cmp old uid || (is_next_copy before c && is_copy_of uid c))
+pub seen : (before : Option Copy) (c : Copy) (cs : List Copy) (old new : List Text) (uid : Text)
+    → has text_cmp new uid ≡ (has text_cmp old uid || (is_next_copy before c && is_copy_of uid c))
     → (has text_cmp new uid || repeats (Some c) cs uid) ≡ (has text_cmp old uid || repeats before (c ∷ cs) uid)
-seen before c cs old new uid put = ap (λ b. b || repeats (Some c) cs uid) put ∙ or_assoc (has text_cmp old uid) (is_next_copy before c && is_copy_of uid c) (repeats (Some c) cs uid)
+seen before c cs old new uid put = ap (λ b. b || repeats (Some c) cs uid) put ∙ or_assoc (has text_cmp old uid)
+    (is_next_copy before c && is_copy_of uid c) (repeats (Some c) cs uid)

@@ -43,42 +43,51 @@ abbrev digests : Text → List Copy → List Text
 digests uid cs = map (λ c. c.1) (filter (is_copy_of uid) cs)
 
 -- copies of one UID ascend by digest
-above : (uid : Text) (c : Copy) (cs : List Copy) → c.0 ≡ uid → AllByRecursion (λ d. copy_cmp c d ≡ Less) cs → AllByRecursion (λ t. text_cmp c.1 t ≡ Less) (digests uid cs)
+above : (uid : Text) (c : Copy) (cs : List Copy) → c.0 ≡ uid → AllByRecursion (λ d. copy_cmp c d ≡ Less) cs
+    → AllByRecursion (λ t. text_cmp c.1 t ≡ Less) (digests uid cs)
 above uid c [] is all = tt
 above uid c (d ∷ cs) is all = by (same d.0 uid) refl (above uid c cs is all.1)
   where
-    by : (b : Bool) → same d.0 uid ≡ b → AllByRecursion (λ t. text_cmp c.1 t ≡ Less) (digests uid cs) → AllByRecursion (λ t. text_cmp c.1 t ≡ Less) (map (λ x. x.1) (cond b (d ∷ filter (is_copy_of uid) cs) (filter (is_copy_of uid) cs)))
+    by : (b : Bool) → same d.0 uid ≡ b → AllByRecursion (λ t. text_cmp c.1 t ≡ Less) (digests uid cs)
+        → AllByRecursion (λ t. text_cmp c.1 t ≡ Less)
+        (map (λ x. x.1) (cond b (d ∷ filter (is_copy_of uid) cs) (filter (is_copy_of uid) cs)))
     by true e later =
         let one : c.0 ≡ d.0 = is ∙ sym (same_is d.0 uid e) in
         let tie : text_cmp c.0 d.0 ≡ Equal = ap (text_cmp c.0) (sym one) ∙ tied_itself nat_list_cmp_total c.0 in
         (sym (ap (λ o. ordering_then o (text_cmp c.1 d.1)) tie) ∙ all.0, later)
     by false e later = later
 
-digests_ascend : (uid : Text) (cs : List Copy) → IsStrictlySortedBy copy_cmp cs → IsStrictlySortedBy text_cmp (digests uid cs)
+digests_ascend : (uid : Text) (cs : List Copy) → IsStrictlySortedBy copy_cmp cs → IsStrictlySortedBy text_cmp
+    (digests uid cs)
 unfolding IsStrictlySortedBy
 digests_ascend uid [] up = tt
 digests_ascend uid (c ∷ cs) up = by (same c.0 uid) refl (digests_ascend uid cs up.1)
   where
-    by : (b : Bool) → same c.0 uid ≡ b → IsStrictlySortedBy text_cmp (digests uid cs) → IsStrictlySortedBy text_cmp (map (λ x. x.1) (cond b (c ∷ filter (is_copy_of uid) cs) (filter (is_copy_of uid) cs)))
+    by : (b : Bool) → same c.0 uid ≡ b → IsStrictlySortedBy text_cmp (digests uid cs) → IsStrictlySortedBy text_cmp
+        (map (λ x. x.1) (cond b (c ∷ filter (is_copy_of uid) cs) (filter (is_copy_of uid) cs)))
     by true e later = (above uid c cs (same_is c.0 uid e) up.0, later)
     by false e later = later
 
 has_digest : (uid digest : Text) (cs : List Copy) → has text_cmp (digests uid cs) digest ≡ has copy_cmp cs (uid, digest)
 has_digest uid digest [] = refl
-has_digest uid digest (c ∷ cs) = by (same c.0 uid) (has_digest uid digest cs) ∙ ap (λ b. b || has copy_cmp cs (uid, digest)) (sym (at_copy uid digest c.0 c.1))
+has_digest uid digest (c ∷ cs) = by (same c.0 uid) (has_digest uid digest cs)
+    ∙ ap (λ b. b || has copy_cmp cs (uid, digest)) (sym (at_copy uid digest c.0 c.1))
   where
     by : (b : Bool) → has text_cmp (digests uid cs) digest ≡ has copy_cmp cs (uid, digest)
-        → has text_cmp (map (λ x. x.1) (cond b (c ∷ filter (is_copy_of uid) cs) (filter (is_copy_of uid) cs))) digest ≡ ((b && is_at (text_cmp digest) c.1) || has copy_cmp cs (uid, digest))
+        → has text_cmp (map (λ x. x.1) (cond b (c ∷ filter (is_copy_of uid) cs) (filter (is_copy_of uid) cs)))
+        digest ≡ ((b && is_at (text_cmp digest) c.1) || has copy_cmp cs (uid, digest))
     by true later = ap (λ b. is_at (text_cmp digest) c.1 || b) later
     by false later = later
 
 -- ---- the digests of the contents of a UID
 
-below_kept : (x : Text) (p : Op → Bool) (ops : List Op) → AllByRecursion (λ t. text_cmp x t ≡ Less) (map digest_of ops) → AllByRecursion (λ t. text_cmp x t ≡ Less) (map digest_of (filter p ops))
+below_kept : (x : Text) (p : Op → Bool) (ops : List Op) → AllByRecursion (λ t. text_cmp x t ≡ Less) (map digest_of ops)
+    → AllByRecursion (λ t. text_cmp x t ≡ Less) (map digest_of (filter p ops))
 below_kept x p [] all = tt
 below_kept x p (o ∷ ops) all = by (p o) (below_kept x p ops all.1)
   where
-    by : (b : Bool) → AllByRecursion (λ t. text_cmp x t ≡ Less) (map digest_of (filter p ops)) → AllByRecursion (λ t. text_cmp x t ≡ Less) (map digest_of (cond b (o ∷ filter p ops) (filter p ops)))
+    by : (b : Bool) → AllByRecursion (λ t. text_cmp x t ≡ Less) (map digest_of (filter p ops))
+        → AllByRecursion (λ t. text_cmp x t ≡ Less) (map digest_of (cond b (o ∷ filter p ops) (filter p ops)))
     by true later = (all.0, later)
     by false later = later
 
@@ -87,7 +96,8 @@ unfolding IsStrictlySortedBy
 kept_ascend p [] up = tt
 kept_ascend p (o ∷ ops) up = by (p o) (kept_ascend p ops up.1)
   where
-    by : (b : Bool) → IsStrictlySortedBy text_cmp (map digest_of (filter p ops)) → IsStrictlySortedBy text_cmp (map digest_of (cond b (o ∷ filter p ops) (filter p ops)))
+    by : (b : Bool) → IsStrictlySortedBy text_cmp (map digest_of (filter p ops)) → IsStrictlySortedBy text_cmp
+        (map digest_of (cond b (o ∷ filter p ops) (filter p ops)))
     by true later = (below_kept (digest_of o) p ops up.0, later)
     by false later = later
 
@@ -95,30 +105,39 @@ as_many : (uid : Text) (ops : List Op) → length (copies uid ops) ≡ length (c
 as_many uid [] = refl
 as_many uid (a_content c ∷ ops) = by (same c.instance uid) (as_many uid ops)
   where
-    by : (b : Bool) → length (copies uid ops) ≡ length (contents_of uid ops) → length (map digest_of (cond b (a_content c ∷ filter (is_content_of uid) ops) (filter (is_content_of uid) ops))) ≡ length (cond b (c ∷ filter (is_of_instance uid) (contents ops)) (filter (is_of_instance uid) (contents ops)))
+    by : (b : Bool) → length (copies uid ops) ≡ length (contents_of uid ops)
+        → length (map digest_of (cond b (a_content c ∷ filter (is_content_of uid) ops)
+        (filter (is_content_of uid) ops))) ≡ length (cond b (c ∷ filter (is_of_instance uid) (contents ops))
+        (filter (is_of_instance uid) (contents ops)))
     by true later = ap suc later
     by false later = later
 as_many uid (a_correction k ∷ ops) = as_many uid ops
 
-module _ (ops : List Op) (up : Ascend ops) (index : IndexValue) (is : IsIndexOf ops index) (sorted : IsStrictlySortedBy copy_cmp index.0) where
+module _ (ops : List Op) (up : Ascend ops) (index : IndexValue) (is : IsIndexOf ops index)
+    (sorted : IsStrictlySortedBy copy_cmp index.0) where
   -- two copies of a UID are two contents of it
   doubled : (uid : Text) → is_doubled index.0 uid ≡ is_flagged ops uid
   doubled uid =
       ap (nat_lt 1) (
       sym (length-map (filter (is_copy_of uid) index.0) (λ c. c.1))
-      ∙ ap length (same_keys nat_list_cmp_total text_exact (digests uid index.0) (copies uid ops) (digests_ascend uid index.0 sorted) (kept_ascend (is_content_of uid) ops up) (λ digest. has_digest uid digest index.0 ∙ is.copies uid digest))
+      ∙ ap length (same_keys nat_list_cmp_total text_exact (digests uid index.0) (copies uid ops)
+      (digests_ascend uid index.0 sorted) (kept_ascend (is_content_of uid) ops up)
+      (λ digest. has_digest uid digest index.0 ∙ is.copies uid digest))
       ∙ as_many uid ops)
 
   has_flagged : (uid : Text) → is_flagged ops uid ≡ has text_cmp (flagged ops) uid
   has_flagged uid = both_ways (is_flagged ops uid) (has text_cmp (flagged ops) uid) there back
     where
       there : is_flagged ops uid ≡ true → has text_cmp (flagged ops) uid ≡ true
-      there h = has_any (is_at (text_cmp uid)) (flagged ops) uid ((flagged_have_two ops uid).1 (ltb-true 1 (length (contents_of uid ops)) h)) (ap is_eq (tied_itself nat_list_cmp_total uid))
+      there h = has_any (is_at (text_cmp uid)) (flagged ops)
+          uid ((flagged_have_two ops uid).1 (ltb-true 1 (length (contents_of uid ops)) h))
+          (ap is_eq (tied_itself nat_list_cmp_total uid))
 
       back : has text_cmp (flagged ops) uid ≡ true → is_flagged ops uid ≡ true
       back h =
           let at = any_has (is_at (text_cmp uid)) (flagged ops) h in
-          ap (is_flagged ops) (text_exact uid at.0 (tie (text_cmp uid at.0) at.2)) ∙ (filter_has (is_flagged ops) (instances ops) at.0 at.1).1
+          ap (is_flagged ops) (text_exact uid at.0 (tie (text_cmp uid at.0) at.2))
+          ∙ (filter_has (is_flagged ops) (instances ops) at.0 at.1).1
         where
           tie : (o : Ordering) → is_eq o ≡ true → o ≡ Equal
           tie Less e = absurd (true≢false (sym e))
@@ -126,18 +145,24 @@ module _ (ops : List Op) (up : Ascend ops) (index : IndexValue) (is : IsIndexOf 
           tie Greater e = absurd (true≢false (sym e))
 
   -- UIDs that ascend and are those of two copies are the flagged ones
-  pub flagged_are : (uids : List Text) → IsStrictlySortedBy text_cmp uids → ((uid : Text) → has text_cmp uids uid ≡ is_doubled index.0 uid) → uids ≡ flagged ops
+  pub flagged_are : (uids : List Text) → IsStrictlySortedBy text_cmp uids
+      → ((uid : Text) → has text_cmp uids uid ≡ is_doubled index.0 uid) → uids ≡ flagged ops
   flagged_are uids rise two =
-      same_keys nat_list_cmp_total text_exact uids (flagged ops) rise (IsStrictlySortedBy-filter text_cmp (is_flagged ops) (instances ops) (ascending_sorted (map (λ c. c.instance) (contents ops)))) (λ uid.
+      same_keys nat_list_cmp_total text_exact uids (flagged ops)
+      rise (IsStrictlySortedBy-filter text_cmp (is_flagged ops) (instances ops)
+      (ascending_sorted (map (λ c. c.instance) (contents ops)))) (λ uid.
       two uid ∙ doubled uid ∙ has_flagged uid)
 
 -- ---- how many there are
 
-one_more : {K : Type 0} (R : K → K → Ordering) (k : K) (ks : List K) → list_any (is_at (R k)) ks ≡ false → length (insert_key R ks k) ≡ suc (length ks)
+one_more : {K : Type 0} (R : K → K → Ordering) (k : K) (ks : List K) → list_any (is_at (R k)) ks ≡ false
+    → length (insert_key R ks k) ≡ suc (length ks)
 one_more R k [] none = refl
 one_more R k (x ∷ xs) none = by (R k x) none (one_more R k xs)
   where
-    by : (o : Ordering) → (is_eq o || list_any (is_at (R k)) xs) ≡ false → (list_any (is_at (R k)) xs ≡ false → length (insert_key R xs k) ≡ suc (length xs)) → length (match_ordering o (k ∷ x ∷ xs) (x ∷ xs) (x ∷ insert_key R xs k)) ≡ suc (length (x ∷ xs))
+    by : (o : Ordering) → (is_eq o || list_any (is_at (R k)) xs) ≡ false → (list_any (is_at (R k)) xs ≡ false
+        → length (insert_key R xs k) ≡ suc (length xs))
+        → length (match_ordering o (k ∷ x ∷ xs) (x ∷ xs) (x ∷ insert_key R xs k)) ≡ suc (length (x ∷ xs))
     by Less n later = refl
     by Equal n later = absurd (true≢false n)
     by Greater n later = ap suc (later n)
@@ -154,9 +179,11 @@ contents_counted (a_content c ∷ ops) up =
     let digest = digest_of (a_content c) in
     let own : Copy = (c.instance, digest) in
     ap length ((set_laws copy_total copy_exact).commutative (only own) (index_value ops).0 (tt, tt) (held ops).0)
-    ∙ one_more copy_cmp own (index_value ops).0 (has_copy ops c.instance digest ∙ none_below digest (copies c.instance ops) (below_kept digest (is_content_of c.instance) ops up.0))
+    ∙ one_more copy_cmp own (index_value ops).0 (has_copy ops c.instance digest
+    ∙ none_below digest (copies c.instance ops) (below_kept digest (is_content_of c.instance) ops up.0))
     ∙ ap suc (contents_counted ops up.1)
-contents_counted (a_correction k ∷ ops) up = ap length ((set_laws copy_total copy_exact).commutative [] (index_value ops).0 tt (held ops).0) ∙ contents_counted ops up.1
+contents_counted (a_correction k ∷ ops) up = ap length ((set_laws copy_total copy_exact).commutative []
+    (index_value ops).0 tt (held ops).0) ∙ contents_counted ops up.1
 
 -- what is no content is a correction
 pub kinds_counted : (ops : List Op) → length (contents ops) + length (corrections ops) ≡ length ops

@@ -36,7 +36,8 @@ as_cond true b = refl
 as_cond false b = refl
 
 -- ---- what is put in and taken out again
-pub step_in : (old front at new both : Bool) → both ≡ (old || front) → new ≡ cond at true both → new ≡ (old || (front || at))
+pub step_in : (old front at new both : Bool) → both ≡ (old || front) → new ≡ cond at true both
+    → new ≡ (old || (front || at))
 step_in true front true new both h k = k
 step_in false true true new both h k = k
 step_in false false true new both h k = k
@@ -45,7 +46,8 @@ step_in true false false new both h k = k ∙ h
 step_in false true false new both h k = k ∙ h
 step_in false false false new both h k = k ∙ h
 
-pub step_out : (old front at new both : Bool) → both ≡ (old && not front) → new ≡ cond at false both → new ≡ (old && not (front || at))
+pub step_out : (old front at new both : Bool) → both ≡ (old && not front) → new ≡ cond at false both
+    → new ≡ (old && not (front || at))
 step_out true true true new both h k = k
 step_out true false true new both h k = k
 step_out false front true new both h k = k
@@ -53,7 +55,8 @@ step_out true true false new both h k = k ∙ h
 step_out true false false new both h k = k ∙ h
 step_out false front false new both h k = k ∙ h
 
-pub out_again : (old front all : Bool) → (front ≡ true → all ≡ true) → (old ≡ true → all ≡ false) → ((old || front) && not all) ≡ old
+pub out_again : (old front all : Bool) → (front ≡ true → all ≡ true) → (old ≡ true → all ≡ false)
+    → ((old || front) && not all) ≡ old
 out_again true front true h k = absurd (true≢false (k refl))
 out_again true front false h k = refl
 out_again false true true h k = refl
@@ -75,11 +78,13 @@ module _ {K : Type 0} (R : K → K → Ordering) where
   pub has-append : (xs ys : List K) (q : K) → has R (xs ++ ys) q ≡ (has R xs q || has R ys q)
   has-append xs ys q = list_any-append (is_at (R q)) xs ys
 
-  pub has-take_more : (xs : List K) (i : ℕ) (x q : K) → i < length xs → x ≡ get_or xs i x → has R (take (i + 1) xs) q ≡ (has R (take i xs) q || is_at (R q) x)
+  pub has-take_more : (xs : List K) (i : ℕ) (x q : K) → i < length xs → x ≡ get_or xs i x → has R (take (i + 1) xs)
+      q ≡ (has R (take i xs) q || is_at (R q) x)
   has-take_more xs i x q within read =
       ap (λ ys. has R ys q) (take_more xs i x within ∙ ap (λ y. take i xs ++ y ∷ []) (sym read))
       ∙ has-append (take i xs) (x ∷ []) q
       ∙ ap (λ b. has R (take i xs) q || b) (or_none (is_at (R q) x))
 
   pub has-take : (xs : List K) (i : ℕ) (q : K) → has R (take i xs) q ≡ true → has R xs q ≡ true
-  has-take xs i q h = ap (λ ys. has R ys q) (sym (take-append-drop i xs)) ∙ has-append (take i xs) (drop i xs) q ∙ or_true (has R (take i xs) q) (has R (drop i xs) q) h
+  has-take xs i q h = ap (λ ys. has R ys q) (sym (take-append-drop i xs)) ∙ has-append (take i xs) (drop i xs) q
+      ∙ or_true (has R (take i xs) q) (has R (drop i xs) q) h

@@ -16,7 +16,8 @@ use Rattle.octets.specs.Texts.{same, text_cmp}
 use Rattle.archive_model.proofs.MemberLaws.{any_has, has_any, filter_has, has_filter, map_has, has_map}
 use Rattle.archive_model.proofs.ModelLaws.{same_is, same_itself}
 use Rattle.study_index.specs.Keys.{has}
-use Rattle.study_index.specs.Live.{Text, Pick, Place, place_cmp, instance_of, flat, pick_at, tree_of, is_of_study, front_of, end_of, is_between}
+use Rattle.study_index.specs.Live.{Text, Pick, Place, place_cmp, instance_of, flat, pick_at, tree_of, is_of_study}
+use Rattle.study_index.specs.Live.{front_of, end_of, is_between}
 use Rattle.study_index.specs.Proved.Picks.{text_exact, place_exact, place_total}
 use Rattle.study_index.proofs.KeyLaws.{at_itself, same_key}
 use Rattle.study_index.proofs.Walks.{picked, listed, IsListed}
@@ -58,15 +59,19 @@ itself : (t : Text) → text_cmp t t ≡ Equal
 itself t = tied_itself nat_list_cmp_total t
 
 -- what lies between the front and the end of a study is of it
-of_between : (study : Text) (q : Place) → q ≡ (q.0, (0, (q.1.1.0, (0, q.1.1.1.1)))) → is_between (front_of study) (end_of study) q ≡ true → study ≡ q.0
+of_between : (study : Text) (q : Place) → q ≡ (q.0, (0, (q.1.1.0, (0, q.1.1.1.1)))) → is_between (front_of study)
+    (end_of study) q ≡ true → study ≡ q.0
 of_between study q is h =
     let both = and_both _ _ (sym (ap (is_between (front_of study) (end_of study)) is) ∙ h) in
-    text_exact study q.0 (neither (text_cmp study q.0) (le_first (text_cmp study q.0) _ both.0) (not_past (text_cmp study q.0) both.1))
+    text_exact study q.0 (neither (text_cmp study q.0) (le_first (text_cmp study q.0) _ both.0)
+    (not_past (text_cmp study q.0) both.1))
 
 -- and what is of it lies there
-between_of : (study series instance : Text) → is_between (front_of study) (end_of study) (study, (0, (series, (0, instance)))) ≡ true
+between_of : (study series instance : Text) → is_between (front_of study) (end_of study)
+    (study, (0, (series, (0, instance)))) ≡ true
 between_of study series instance =
-    ap (λ o. is_le (ordering_then o (ordering_then (text_cmp [] series) (text_cmp [] instance))) && not (is_le (ordering_then o Greater))) (itself study)
+    ap (λ o. is_le (ordering_then o (ordering_then (text_cmp [] series) (text_cmp [] instance))) &&
+    not (is_le (ordering_then o Greater))) (itself study)
     ∙ ap (λ b. b && true) (le_none series (text_cmp [] instance) (le_text instance))
   where
     le_text : (t : Text) → is_le (text_cmp [] t) ≡ true
@@ -79,38 +84,54 @@ front_before_end study = ap (λ o. is_gt (ordering_then o Less)) (itself study)
 
 module _ (picks : List (Text × Option Pick)) (s : IsStrictlySortedBy text_cmp (keys_of picks)) where
   -- the instances of the places of a study are those whose pick is of it
-  pub has_study : (study uid : Text) → has text_cmp (map instance_of (filter (is_between (front_of study) (end_of study)) (tree_of picks))) uid ≡ is_of_study study (pick_at uid picks)
+  pub has_study : (study uid : Text) → has text_cmp
+      (map instance_of (filter (is_between (front_of study) (end_of study)) (tree_of picks))) uid ≡ is_of_study
+      study (pick_at uid picks)
   has_study study uid = both_ways _ _ there back
     where
-      there : has text_cmp (map instance_of (filter (is_between (front_of study) (end_of study)) (tree_of picks))) uid ≡ true → is_of_study study (pick_at uid picks) ≡ true
+      there : has text_cmp (map instance_of (filter (is_between (front_of study) (end_of study)) (tree_of picks)))
+          uid ≡ true → is_of_study study (pick_at uid picks) ≡ true
       there h =
           let at = any_has (is_at (text_cmp uid)) _ h in
           let is : uid ≡ at.0 = same_key text_exact uid at.0 at.2 in
-          let of = map_has instance_of (filter (is_between (front_of study) (end_of study)) (tree_of picks)) at.0 at.1 in
+          let of = map_has instance_of (filter (is_between (front_of study) (end_of study)) (tree_of picks)) at.0 at.1
+          in
           let q = of.0 in
           let within = filter_has (is_between (front_of study) (end_of study)) (tree_of picks) q of.1 in
-          let l = picked picks s q (has_any (is_at (place_cmp q)) (tree_of picks) q within.0 (at_itself place_total q)) in
+          let l = picked picks s q (has_any (is_at (place_cmp q)) (tree_of picks) q within.0 (at_itself place_total q))
+          in
           ap (λ u. is_of_study study (pick_at u picks)) (is ∙ of.2)
           ∙ ap (is_of_study study) (IsListed.pick l)
           ∙ same_itself q.0 study (sym (of_between study q (IsListed.place l) within.1))
 
-      back : is_of_study study (pick_at uid picks) ≡ true → has text_cmp (map instance_of (filter (is_between (front_of study) (end_of study)) (tree_of picks))) uid ≡ true
+      back : is_of_study study (pick_at uid picks) ≡ true
+          → has text_cmp (map instance_of (filter (is_between (front_of study) (end_of study)) (tree_of picks)))
+          uid ≡ true
       back h = by (pick_at uid picks) refl h
         where
-          by : (r : Option Pick) → pick_at uid picks ≡ r → is_of_study study r ≡ true → has text_cmp (map instance_of (filter (is_between (front_of study) (end_of study)) (tree_of picks))) uid ≡ true
+          by : (r : Option Pick) → pick_at uid picks ≡ r → is_of_study study r ≡ true
+              → has text_cmp (map instance_of (filter (is_between (front_of study) (end_of study)) (tree_of picks)))
+              uid ≡ true
           by None e g = absurd (true≢false (sym g))
           by (Some p) e g =
               let of : p.1.0 ≡ study = same_is p.1.0 study g in
               let q : Place = (study, (0, (p.1.1, (0, uid)))) in
-              let at = any_has (is_at (place_cmp q)) (tree_of picks) (listed picks s p.0 study p.1.1 uid (e ∙ ap (λ (t : Text). Some (p.0, (t, p.1.1))) of)) in
-              let there : Has (tree_of picks) q = subst (Has (tree_of picks)) (sym (same_key place_exact q at.0 at.2)) at.1 in
-              has_any (is_at (text_cmp uid)) _ uid (has_map instance_of _ q (has_filter (is_between (front_of study) (end_of study)) (tree_of picks) q there (between_of study p.1.1 uid))) (at_itself nat_list_cmp_total uid)
+              let at = any_has (is_at (place_cmp q)) (tree_of picks)
+              (listed picks s p.0 study p.1.1 uid (e ∙ ap (λ (t : Text). Some (p.0, (t, p.1.1))) of)) in
+              let there : Has (tree_of picks) q = subst (Has (tree_of picks)) (sym (same_key place_exact q at.0 at.2))
+              at.1 in
+              has_any (is_at (text_cmp uid)) _ uid (has_map instance_of _
+              q (has_filter (is_between (front_of study) (end_of study)) (tree_of picks) q
+              there (between_of study p.1.1 uid))) (at_itself nat_list_cmp_total uid)
 
 -- an instance that has a pick is listed
-pub pick_listed : (picks : List (Text × Option Pick)) (uid : Text) (p : Pick) → pick_at uid picks ≡ Some p → has text_cmp (keys_of picks) uid ≡ true
+pub pick_listed : (picks : List (Text × Option Pick)) (uid : Text) (p : Pick) → pick_at uid picks ≡ Some p
+    → has text_cmp (keys_of picks) uid ≡ true
 pick_listed [] uid p e = absurd cc
 pick_listed (x ∷ picks) uid p e = by (is_at (text_cmp uid) x.0) (pick_listed picks uid p) e
   where
-    by : (b : Bool) → (flat (lookup (is_at (text_cmp uid)) picks) ≡ Some p → has text_cmp (keys_of picks) uid ≡ true) → flat (cond b (Some x.1) (lookup (is_at (text_cmp uid)) picks)) ≡ Some p → (b || has text_cmp (keys_of picks) uid) ≡ true
+    by : (b : Bool) → (flat (lookup (is_at (text_cmp uid)) picks) ≡ Some p → has text_cmp (keys_of picks) uid ≡ true)
+        → flat (cond b (Some x.1) (lookup (is_at (text_cmp uid)) picks)) ≡ Some p
+        → (b || has text_cmp (keys_of picks) uid) ≡ true
     by true more g = refl
     by false more g = more g

@@ -1,4 +1,5 @@
--- What an index says of a set of operations, which is the list of its operations ascending by digest: the definition, without joins.
+-- What an index says of a set of operations, which is the list of its operations ascending by digest: the definition,
+-- without joins.
 use Rattle.std.specs.Prelude.{◌≡◌, ℕ, List, IsTrue, ⊤}
 use Rattle.std.specs.Option.{option_map}
 use Rattle.rejection_note.specs.declared.title.NoteTitle.{NoteTitle}
@@ -13,15 +14,19 @@ use Rattle.octets.specs.Texts.{text_cmp}
 use Rattle.study_index.specs.Keys.{has}
 use Rattle.study_index.specs.Live.{pick_at}
 use Rattle.join_laws.specs.Laws.{summary_of}
-use Rattle.study_index.specs.Index.{IndexValue, index_joined, index_of, nothing, copy_cmp, naming_cmp, is_short, pick_of, fix_key, fix_of, fix_at}
+use Rattle.study_index.specs.Index.{IndexValue, index_joined, index_of, nothing, copy_cmp, naming_cmp, is_short}
+use Rattle.study_index.specs.Index.{pick_of, fix_key, fix_of, fix_at}
 
--- For each SOP Instance UID the digest and the keys of its pick, and the digests of its contents; for each UID the titles of the
+-- For each SOP Instance UID the digest and the keys of its pick, and the digests of its contents; for each UID the
+-- titles of the
 -- notes that name it; for each target and tag the greatest correction. The list of places is that of the picks.
 pub record IsIndexOf (ops : List Op) (index : IndexValue) : Type 0 where
   pub picks : (uid : List ℕ) → pick_at uid index.1.1.1 ≡ option_map pick_of (pick uid ops)
   pub copies : (uid digest : List ℕ) → has copy_cmp index.0 (uid, digest) ≡ has text_cmp (copies uid ops) digest
-  pub titles : (uid : List ℕ) (title : NoteTitle) → IsTrue (is_short uid) → has naming_cmp index.1.0 (uid, code_of title) ≡ is_titled ops uid title
-  pub fixes : (target : Target) (tag : ℕ) → fix_at (fix_key target tag) index.1.1.0 ≡ option_map fix_of (fix target tag ops)
+  pub titles : (uid : List ℕ) (title : NoteTitle) → IsTrue (is_short uid)
+      → has naming_cmp index.1.0 (uid, code_of title) ≡ is_titled ops uid title
+  pub fixes : (target : Target) (tag : ℕ) → fix_at (fix_key target tag) index.1.1.0 ≡ option_map
+      fix_of (fix target tag ops)
 
 -- the index of a list of operations: those of its operations, joined
 abbrev pub index_value : List Op → IndexValue

@@ -44,7 +44,8 @@ Fixes = List (FixKey × Option Fix)
 
 -- the copies, who is named under which titles, the greatest corrections, and the picks
 abbrev pub IndexValue : Type 0
-IndexValue = List (Text × Text) × (List (Text × ℕ) × (List ((ℕ × (Text × ℕ)) × Option (ℕ × (ℕ × Text))) × List (Text × Option (Text × (Text × Text)))))
+IndexValue = List (Text × Text) × (List (Text × ℕ) × (List ((ℕ × (Text × ℕ)) × Option (ℕ × (ℕ × Text)))
+    × List (Text × Option (Text × (Text × Text)))))
 
 -- ---- orders, part after part
 
@@ -68,10 +69,12 @@ fixes_joined = map_joined fix_key_cmp (greatest_of fix_cmp)
 abbrev pub IsIndex : IndexValue → Type 0
 IsIndex a =
     IsStrictlySortedBy copy_cmp a.0
-    × (IsStrictlySortedBy naming_cmp a.1.0 × (IsMapOf {K = FixKey} {J = Option Fix} fix_key_cmp (λ _. Unit {0}) a.1.1.0 × IsMapOf {K = Text} {J = Option Pick} text_cmp (λ _. Unit {0}) a.1.1.1))
+    × (IsStrictlySortedBy naming_cmp a.1.0 × (IsMapOf {K = FixKey} {J = Option Fix} fix_key_cmp (λ _. Unit {0}) a.1.1.0
+    × IsMapOf {K = Text} {J = Option Pick} text_cmp (λ _. Unit {0}) a.1.1.1))
 
 abbrev pub index_joined : IndexValue → IndexValue → IndexValue
-index_joined = pair_joined (union_of copy_cmp) (pair_joined (union_of naming_cmp) (pair_joined fixes_joined picks_joined))
+index_joined = pair_joined (union_of copy_cmp)
+    (pair_joined (union_of naming_cmp) (pair_joined fixes_joined picks_joined))
 
 abbrev pub nothing : IndexValue
 nothing = ([], ([], ([], [])))
@@ -115,7 +118,10 @@ abbrev pub fix_of : CorrectionParts → Fix
 fix_of k = (k.stamp.counter, (k.stamp.site, k.value))
 
 abbrev pub index_of : Op → IndexValue
-index_of (a_content c) = (only (c.instance, digest_of (a_content c)), (titles_of c.note, ([], entry c.instance (Some (pick_of c)))))
+index_of (a_content c) = (
+  only (c.instance, digest_of (a_content c)),
+  (titles_of c.note, ([], entry c.instance (Some (pick_of c)))),
+)
 index_of (a_correction k) = ([], ([], (entry (fix_key k.target k.tag) (Some (fix_of k)), [])))
 
 -- ---- what is read off an index
@@ -132,4 +138,5 @@ short_fix_at key fixes = if is_short key.1.0 then fix_at key fixes else None
 abbrev pub latest_at : ContentParts → ℕ → List (FixKey × Option Fix) → Option Fix
 latest_at c tag fixes =
     greatest_of fix_cmp (short_fix_at (fix_key (Study (study_of c)) tag) fixes)
-    (greatest_of fix_cmp (short_fix_at (fix_key (Patient (patient_of c)) tag) fixes) (short_fix_at (fix_key (Series (series_of c)) tag) fixes))
+    (greatest_of fix_cmp (short_fix_at (fix_key (Patient (patient_of c)) tag) fixes)
+    (short_fix_at (fix_key (Series (series_of c)) tag) fixes))

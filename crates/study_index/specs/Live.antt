@@ -1,5 +1,6 @@
 -- The picks of a set, and the list of their places.
-use Rattle.std.specs.Prelude.{◌≡◌, ℕ, ◌&&◌, Bool, true, false, cond, not, List, [], ◌∷◌, ◌++◌, fold, Option, None, Some, ⊤}
+use Rattle.std.specs.Prelude.{◌≡◌, ℕ, ◌&&◌, Bool, true, false, cond, not, List, [], ◌∷◌, ◌++◌, fold, Option, None, Some}
+use Rattle.std.specs.Prelude.{⊤}
 use Rattle.std.specs.Map.{lookup}
 use Rattle.std.specs.Ordering.{nat_cmp, ordering_then, is_gt}
 use Rattle.std.specs.declared.cmp.Ordering.{Ordering}
@@ -24,7 +25,8 @@ Pick = Text × (Text × Text)
 abbrev pub Picks : Type 0
 Picks = List (Text × Option Pick)
 
--- study, series and instance, with a number behind the study and behind the series: 0 where something stands, and 1 for the
+-- study, series and instance, with a number behind the study and behind the series: 0 where something stands, and 1 for
+-- the
 -- end of the study or of the series, behind all that stands in it
 abbrev pub Place : Type 0
 Place = Text × (ℕ × (Text × (ℕ × Text)))
@@ -38,7 +40,8 @@ abbrev pub place_cmp : Text × (ℕ × (Text × (ℕ × Text))) → Text × (ℕ
 place_cmp x y =
     ordering_then (text_cmp x.0 y.0)
     (ordering_then (nat_cmp x.1.0 y.1.0)
-    (ordering_then (text_cmp x.1.1.0 y.1.1.0) (ordering_then (nat_cmp x.1.1.1.0 y.1.1.1.0) (text_cmp x.1.1.1.1 y.1.1.1.1))))
+    (ordering_then (text_cmp x.1.1.0 y.1.1.0) (ordering_then (nat_cmp x.1.1.1.0 y.1.1.1.0)
+    (text_cmp x.1.1.1.1 y.1.1.1.1))))
 
 -- what is there, where an entry may be there and hold nothing
 abbrev pub flat : {V : Type 0} → Option (Option V) → Option V
@@ -79,7 +82,8 @@ is_moved (Some before) (Some after) = not (same before.1.0 after.1.0 && same bef
 
 -- what the list gains, and what it loses, where a pick comes in
 abbrev pub gained : Text → Option Pick → Option Pick → List Place
-gained instance before other = cond (is_moved before (least_of pick_cmp before other)) (place_at instance (least_of pick_cmp before other)) []
+gained instance before other = cond (is_moved before (least_of pick_cmp before other))
+    (place_at instance (least_of pick_cmp before other)) []
 
 abbrev pub lost : Text → Option Pick → Option Pick → List Place
 lost instance before other = cond (is_moved before (least_of pick_cmp before other)) (place_at instance before) []
@@ -93,10 +97,12 @@ losses picks others = fold (λ ps e. ps ++ lost e.0 (pick_at e.0 picks) e.1) [] 
 
 -- a pick is of the study, of the series of the study, of the instance in the series of the study
 abbrev pub HasStudy : List (Text × Option Pick) → List ℕ → Type 0
-HasStudy picks study = (instance : Text) × (digest : Text) × (series : Text) × (pick_at instance picks ≡ Some (digest, (study, series)))
+HasStudy picks study = (instance : Text) × (digest : Text) × (series : Text)
+    × (pick_at instance picks ≡ Some (digest, (study, series)))
 
 abbrev pub HasSeries : List (Text × Option Pick) → List ℕ → List ℕ → Type 0
-HasSeries picks study series = (instance : Text) × (digest : Text) × (pick_at instance picks ≡ Some (digest, (study, series)))
+HasSeries picks study series = (instance : Text) × (digest : Text)
+    × (pick_at instance picks ≡ Some (digest, (study, series)))
 
 abbrev pub HasInstance : List (Text × Option Pick) → List ℕ → List ℕ → List ℕ → Type 0
 HasInstance picks study series instance = (digest : Text) × (pick_at instance picks ≡ Some (digest, (study, series)))
@@ -109,7 +115,8 @@ IsPast (Some after) uid = text_cmp after uid ≡ Less
 -- the least of those past `after`, or none where there is none
 abbrev pub IsNext : (List ℕ → Type 0) → Option (List ℕ) → Option (List ℕ) → Type 0
 IsNext Has after None = (uid : List ℕ) → Has uid → IsPast after uid → ⊥
-IsNext Has after (Some next) = Has next × IsPast after next × ((uid : List ℕ) → Has uid → IsPast after uid → is_gt (text_cmp next uid) ≡ false)
+IsNext Has after (Some next) = Has next × IsPast after next × ((uid : List ℕ) → Has uid → IsPast after uid
+    → is_gt (text_cmp next uid) ≡ false)
 
 -- from where on a study, a series or an instance past `after` is looked for
 abbrev pub study_start : Option (List ℕ) → Bound Place
@@ -137,5 +144,6 @@ abbrev pub end_of : List ℕ → Place
 end_of study = (study, (1, ([], (0, []))))
 
 -- whether a place is from a front on and before an end
-abbrev pub is_between : Text × (ℕ × (Text × (ℕ × Text))) → Text × (ℕ × (Text × (ℕ × Text))) → Text × (ℕ × (Text × (ℕ × Text))) → Bool
+abbrev pub is_between : Text × (ℕ × (Text × (ℕ × Text))) → Text × (ℕ × (Text × (ℕ × Text))) → Text
+    × (ℕ × (Text × (ℕ × Text))) → Bool
 is_between front end place = range_contains place_cmp (Included front) (Excluded end) place

@@ -11,7 +11,8 @@ use Rattle.join_laws.specs.Laws.{IsExact}
 pub exact_unsigned : IsExact nat_cmp
 exact_unsigned = std.exact_unsigned
 
-pub exact_both : {A B : Type 0} (P : A → A → Ordering) (Q : B → B → Ordering) → IsExact P → IsExact Q → IsExact (λ (x y : A × B). ordering_then (P x.0 y.0) (Q x.1 y.1))
+pub exact_both : {A B : Type 0} (P : A → A → Ordering) (Q : B → B → Ordering) → IsExact P → IsExact Q
+    → IsExact (λ (x y : A × B). ordering_then (P x.0 y.0) (Q x.1 y.1))
 exact_both = std.exact_pairs
 
 first_equal : (a b : Ordering) → ordering_then a b ≡ Equal → a ≡ Equal

@@ -12,13 +12,15 @@ module _ {V : Type 0} {IsHeld : V → Type 0} {joined : V → V → V} (laws : J
   option_held (Some x) None g h = g
   option_held (Some x) (Some y) g h = laws.held x y g h
 
-  option_commutative : (a b : Option V) → IfSome a IsHeld → IfSome b IsHeld → joined_options joined a b ≡ joined_options joined b a
+  option_commutative : (a b : Option V) → IfSome a IsHeld → IfSome b IsHeld → joined_options joined a b ≡ joined_options
+      joined b a
   option_commutative None None g h = refl
   option_commutative None (Some y) g h = refl
   option_commutative (Some x) None g h = refl
   option_commutative (Some x) (Some y) g h = ap Some (laws.commutative x y g h)
 
-  option_associative : (a b c : Option V) → IfSome a IsHeld → IfSome b IsHeld → IfSome c IsHeld → joined_options joined (joined_options joined a b) c ≡ joined_options joined a (joined_options joined b c)
+  option_associative : (a b c : Option V) → IfSome a IsHeld → IfSome b IsHeld → IfSome c IsHeld
+      → joined_options joined (joined_options joined a b) c ≡ joined_options joined a (joined_options joined b c)
   option_associative None b c f g h = refl
   option_associative (Some x) None c f g h = refl
   option_associative (Some x) (Some y) None f g h = refl
@@ -29,14 +31,20 @@ module _ {V : Type 0} {IsHeld : V → Type 0} {joined : V → V → V} (laws : J
   option_idempotent (Some x) h = ap Some (laws.idempotent x h)
 
   pub option_laws : JoinLaws (λ o. IfSome o IsHeld) (joined_options joined)
-  option_laws = record { held = option_held; commutative = option_commutative; associative = option_associative; idempotent = option_idempotent }
+  option_laws = record {
+    held = option_held;
+    commutative = option_commutative;
+    associative = option_associative;
+    idempotent = option_idempotent;
+  }
 
 -- where every value is held
 any_option : {V : Type 0} (o : Option V) → IfSome o (λ _. Unit {0})
 any_option None = tt
 any_option (Some x) = tt
 
-pub any_option_laws : {V : Type 0} {joined : V → V → V} → JoinLaws (λ _. Unit {0}) joined → JoinLaws (λ _. Unit {0}) (joined_options joined)
+pub any_option_laws : {V : Type 0} {joined : V → V → V} → JoinLaws (λ _. Unit {0}) joined → JoinLaws (λ _. Unit {0})
+    (joined_options joined)
 any_option_laws {V} {joined} laws =
     let all = option_laws laws in
     record {

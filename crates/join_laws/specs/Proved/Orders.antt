@@ -42,11 +42,17 @@ module _ {T : Type 0} (before : T → T → Bool) (order : IsBefore before) wher
   pick_associative : (x y z : T) → pick before (pick before x y) z ≡ pick before x (pick before y z)
   pick_associative x y z = by (before y x) (before z y) refl refl
     where
-      by : (a b : Bool) → before y x ≡ a → before z y ≡ b → pick before (pick before x y) z ≡ pick before x (pick before y z)
-      by true true h k = ap (λ v. pick before v z) (pick_yes before x y h) ∙ pick_yes before y z k ∙ sym (ap (pick before x) (pick_yes before y z k) ∙ pick_yes before x z (order.chain z y x k h))
-      by true false h k = ap (λ v. pick before v z) (pick_yes before x y h) ∙ pick_no before y z k ∙ sym (ap (pick before x) (pick_no before y z k) ∙ pick_yes before x y h)
-      by false true h k = ap (λ v. pick before v z) (pick_no before x y h) ∙ sym (ap (pick before x) (pick_yes before y z k))
-      by false false h k = ap (λ v. pick before v z) (pick_no before x y h) ∙ pick_no before x z (order.chain_not z y x k h) ∙ sym (ap (pick before x) (pick_no before y z k) ∙ pick_no before x y h)
+      by : (a b : Bool) → before y x ≡ a → before z y ≡ b → pick before (pick before x y) z ≡ pick before
+          x (pick before y z)
+      by true true h k = ap (λ v. pick before v z) (pick_yes before x y h) ∙ pick_yes before y z k
+          ∙ sym (ap (pick before x) (pick_yes before y z k) ∙ pick_yes before x z (order.chain z y x k h))
+      by true false h k = ap (λ v. pick before v z) (pick_yes before x y h) ∙ pick_no before y z k
+          ∙ sym (ap (pick before x) (pick_no before y z k) ∙ pick_yes before x y h)
+      by false true h k = ap (λ v. pick before v z) (pick_no before x y h)
+          ∙ sym (ap (pick before x) (pick_yes before y z k))
+      by false false h k = ap (λ v. pick before v z) (pick_no before x y h)
+          ∙ pick_no before x z (order.chain_not z y x k h) ∙ sym (ap (pick before x) (pick_no before y z k)
+          ∙ pick_no before x y h)
 
   pick_idempotent : (x : T) → pick before x x ≡ x
   pick_idempotent x = by (before x x) refl

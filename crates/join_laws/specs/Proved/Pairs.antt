@@ -11,7 +11,8 @@ module _ {A B : Type 0} {P : A → Type 0} {Q : B → Type 0} {f : A → A → A
     idempotent = λ a h i. (l.idempotent a.0 h.0 i, m.idempotent a.1 h.1 i);
   }
 
-  pub pair_summary_laws : {O : Type 0} {x : A} {y : B} {u : O → A} {v : O → B} → SummaryLaws P f x u → SummaryLaws Q g y v → SummaryLaws (λ (a : A × B). P a.0 × Q a.1) (pair_joined f g) (x, y) (both u v)
+  pub pair_summary_laws : {O : Type 0} {x : A} {y : B} {u : O → A} {v : O → B} → SummaryLaws P f x u → SummaryLaws Q g y
+      v → SummaryLaws (λ (a : A × B). P a.0 × Q a.1) (pair_joined f g) (x, y) (both u v)
   pair_summary_laws l m = record {
     nothing_held = (l.nothing_held, m.nothing_held);
     one_held = λ op. (l.one_held op, m.one_held op);

@@ -18,7 +18,8 @@ use Rattle.join_laws.specs.Proved.Orders.{least_laws, least_summary_laws, greate
 use Rattle.join_laws.specs.Proved.Sets.{set_laws, set_summary_laws, sorted-union}
 use Rattle.join_laws.specs.Proved.Pairs.{pair_laws}
 use Rattle.study_index.specs.Live.{Text, pick_cmp}
-use Rattle.study_index.specs.Index.{FixKey, Fix, copy_cmp, naming_cmp, fix_key_cmp, fix_cmp, fixes_joined, IsIndex, index_joined, index_of, nothing, namings, titles_of, pick_of, fix_key, fix_of}
+use Rattle.study_index.specs.Index.{FixKey, Fix, copy_cmp, naming_cmp, fix_key_cmp, fix_cmp, fixes_joined, IsIndex}
+use Rattle.study_index.specs.Index.{index_joined, index_of, nothing, namings, titles_of, pick_of, fix_key, fix_of}
 use Rattle.study_index.specs.Proved.Picks.{text_exact, pick_exact, pick_total, picks_laws}
 
 pub copy_exact : IsExact copy_cmp
@@ -34,48 +35,73 @@ pub naming_total : IsTotalOrder naming_cmp
 naming_total = then_total (on_total (λ p. p.0) nat_list_cmp_total) (on_total (λ p. p.1) nat_cmp_total)
 
 pub fix_key_exact : IsExact fix_key_cmp
-fix_key_exact = exact_both nat_cmp (λ (x y : Text × ℕ). ordering_then (text_cmp x.0 y.0) (nat_cmp x.1 y.1)) exact_unsigned (exact_both text_cmp nat_cmp text_exact exact_unsigned)
+fix_key_exact = exact_both nat_cmp (λ (x y : Text × ℕ). ordering_then (text_cmp x.0 y.0) (nat_cmp x.1 y.1))
+    exact_unsigned (exact_both text_cmp nat_cmp text_exact exact_unsigned)
 
 pub fix_key_total : IsTotalOrder fix_key_cmp
-fix_key_total = then_total (on_total (λ p. p.0) nat_cmp_total) (then_total (on_total (λ p. p.1.0) nat_list_cmp_total) (on_total (λ p. p.1.1) nat_cmp_total))
+fix_key_total = then_total (on_total (λ p. p.0) nat_cmp_total) (then_total (on_total (λ p. p.1.0) nat_list_cmp_total)
+    (on_total (λ p. p.1.1) nat_cmp_total))
 
 pub fix_exact : IsExact fix_cmp
-fix_exact = exact_both nat_cmp (λ (x y : ℕ × Text). ordering_then (nat_cmp x.0 y.0) (text_cmp x.1 y.1)) exact_unsigned (exact_both nat_cmp text_cmp exact_unsigned text_exact)
+fix_exact = exact_both nat_cmp (λ (x y : ℕ × Text). ordering_then (nat_cmp x.0 y.0) (text_cmp x.1 y.1)) exact_unsigned
+    (exact_both nat_cmp text_cmp exact_unsigned text_exact)
 
 pub fix_total : IsTotalOrder fix_cmp
-fix_total = then_total (on_total (λ p. p.0) nat_cmp_total) (then_total (on_total (λ p. p.1.0) nat_cmp_total) (on_total (λ p. p.1.1) nat_list_cmp_total))
+fix_total = then_total (on_total (λ p. p.0) nat_cmp_total) (then_total (on_total (λ p. p.1.0) nat_cmp_total)
+    (on_total (λ p. p.1.1) nat_list_cmp_total))
 
 pub fixes_laws : JoinLaws (IsMapOf {K = FixKey} {J = Option Fix} fix_key_cmp (λ _. Unit {0})) fixes_joined
 fixes_laws = map_laws fix_key_total fix_key_exact (greatest_laws fix_cmp fix_total fix_exact)
 
 pub index_laws : JoinLaws IsIndex index_joined
-index_laws = pair_laws (set_laws copy_total copy_exact) (pair_laws (set_laws naming_total naming_exact) (pair_laws fixes_laws picks_laws))
+index_laws = pair_laws (set_laws copy_total copy_exact) (pair_laws (set_laws naming_total naming_exact)
+    (pair_laws fixes_laws picks_laws))
 
 titles_held : (note : Option Note) → IsStrictlySortedBy naming_cmp (titles_of note)
 titles_held None = (set_summary_laws naming_total naming_exact).nothing_held
-titles_held (Some note) = sorted-union naming_total (namings note) [] (set_summary_laws naming_total naming_exact).nothing_held
+titles_held (Some note) = sorted-union naming_total (namings note) []
+    (set_summary_laws naming_total naming_exact).nothing_held
 
 pub index_summary_laws : SummaryLaws IsIndex index_joined nothing index_of
 index_summary_laws =
     let copies = set_summary_laws copy_total copy_exact in
     let titles = set_summary_laws naming_total naming_exact in
-    let fixes = map_summary_laws fix_key_total fix_key_exact (greatest_laws fix_cmp fix_total fix_exact) (greatest_summary_laws fix_cmp fix_total fix_exact) in
-    let picks = map_summary_laws nat_list_cmp_total text_exact (least_laws pick_cmp pick_total pick_exact) (least_summary_laws pick_cmp pick_total pick_exact) in
+    let fixes = map_summary_laws fix_key_total fix_key_exact (greatest_laws fix_cmp fix_total fix_exact)
+    (greatest_summary_laws fix_cmp fix_total fix_exact) in
+    let picks = map_summary_laws nat_list_cmp_total text_exact (least_laws pick_cmp pick_total pick_exact)
+    (least_summary_laws pick_cmp pick_total pick_exact) in
     record {
       nothing_held = (copies.nothing_held, (titles.nothing_held, (fixes.nothing_held, picks.nothing_held)));
       one_held = λ op. held op;
-      neutral = λ a h i. (copies.neutral a.0 h.0 i, (titles.neutral a.1.0 h.1.0 i, (fixes.neutral a.1.1.0 h.1.1.0 i, picks.neutral a.1.1.1 h.1.1.1 i)));
+      neutral = λ a h i. (
+        copies.neutral a.0 h.0 i,
+        (titles.neutral a.1.0 h.1.0 i, (fixes.neutral a.1.1.0 h.1.1.0 i, picks.neutral a.1.1.1 h.1.1.1 i)),
+      );
     }
   where
     held : (op : Op) → IsIndex (index_of op)
     held (a_content c) =
         let copies = set_summary_laws copy_total copy_exact in
-        let fixes = map_summary_laws fix_key_total fix_key_exact (greatest_laws fix_cmp fix_total fix_exact) (greatest_summary_laws fix_cmp fix_total fix_exact) in
-        let picks = map_summary_laws nat_list_cmp_total text_exact (least_laws pick_cmp pick_total pick_exact) (least_summary_laws pick_cmp pick_total pick_exact) in
-        (copies.one_held (c.instance, digest_of (a_content c)), (titles_held c.note, (fixes.nothing_held, picks.one_held (c.instance, pick_of c))))
+        let fixes = map_summary_laws fix_key_total fix_key_exact (greatest_laws fix_cmp fix_total fix_exact)
+        (greatest_summary_laws fix_cmp fix_total fix_exact) in
+        let picks = map_summary_laws nat_list_cmp_total text_exact (least_laws pick_cmp pick_total pick_exact)
+        (least_summary_laws pick_cmp pick_total pick_exact) in (
+          copies.one_held (c.instance, digest_of (a_content c)),
+          (titles_held c.note, (fixes.nothing_held, picks.one_held (c.instance, pick_of c))),
+        )
     held (a_correction k) =
         let copies = set_summary_laws copy_total copy_exact in
         let titles = set_summary_laws naming_total naming_exact in
-        let fixes = map_summary_laws fix_key_total fix_key_exact (greatest_laws fix_cmp fix_total fix_exact) (greatest_summary_laws fix_cmp fix_total fix_exact) in
-        let picks = map_summary_laws nat_list_cmp_total text_exact (least_laws pick_cmp pick_total pick_exact) (least_summary_laws pick_cmp pick_total pick_exact) in
-        (copies.nothing_held, (titles.nothing_held, (fixes.one_held (fix_key k.target k.tag, fix_of k), picks.nothing_held)))
+        let fixes = map_summary_laws fix_key_total fix_key_exact (greatest_laws fix_cmp fix_total fix_exact)
+        (greatest_summary_laws fix_cmp fix_total fix_exact) in
+        let picks = map_summary_laws nat_list_cmp_total text_exact (least_laws pick_cmp pick_total pick_exact)
+        (least_summary_laws pick_cmp pick_total pick_exact) in (
+          copies.nothing_held,
+          (
+            titles.nothing_held,
+            (
+              fixes.one_held (fix_key k.target k.tag, fix_of k),
+              picks.nothing_held,
+            ),
+          ),
+        )

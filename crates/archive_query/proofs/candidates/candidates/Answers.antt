@@ -10,4 +10,5 @@ use Rattle.archive_query.proofs.candidates.candidates.Goals as goal
 pub returns : goal.returns
 returns c = λ uid.
     c.in_ok-put_reached.ensures uid
-    ∙ ap (λ (ks : List Text). has text_cmp ks uid || is_reached c.args.query.now c.args.index.now.1.1.1 uid) c.new-uids.ensures.empty
+    ∙ ap (λ (ks : List Text). has text_cmp ks uid || is_reached c.args.query.now c.args.index.now.1.1.1 uid)
+    c.new-uids.ensures.empty

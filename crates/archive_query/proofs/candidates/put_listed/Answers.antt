@@ -14,6 +14,8 @@ returns c = λ uid.
     let pick = pick_at uid c.args.index.now.1.1.1 in
     c.in_ok-put_studies.ensures uid
     ∙ ap (λ b. b || is_of_some c.deref.result.now pick) (c.in_ok-put_study.ensures uid)
-    ∙ ap (λ (t : Text). (has text_cmp old uid || is_of_study t pick) || is_of_some c.deref.result.now pick) c.empty.ensures
-    ∙ ap (λ (ts : List Text). (has text_cmp old uid || is_of_study [] pick) || is_of_some ts pick) (c.deref.ensures.value ∙ c.in_ok-studies.ensures)
+    ∙ ap (λ (t : Text). (has text_cmp old uid || is_of_study t pick) || is_of_some c.deref.result.now pick)
+    c.empty.ensures
+    ∙ ap (λ (ts : List Text). (has text_cmp old uid || is_of_study [] pick) || is_of_some ts pick)
+    (c.deref.ensures.value ∙ c.in_ok-studies.ensures)
     ∙ or_assoc (has text_cmp old uid) (is_of_study [] pick) (is_of_some _ pick)

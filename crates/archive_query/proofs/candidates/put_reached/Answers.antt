@@ -15,8 +15,10 @@ returns-then-names_study c = λ uid.
     let q = c.args.query.now in
     let picks = c.args.index.now.1.1.1 in
     c.in_ok-put_study.ensures uid
-    ∙ ap (λ (t : Text). has text_cmp old uid || is_of_study t (pick_at uid picks)) (c.cut.ensures ∙ ap (take 64) c.as_slice.ensures)
-    ∙ ap (λ b. has text_cmp old uid || (if b then is_of_study (take 64 q.study) (pick_at uid picks) else is_reached_by (find is_study_key q.asked) picks uid)) (sym (sym c.names_study.ensures ∙ c.if-names_study.true))
+    ∙ ap (λ (t : Text). has text_cmp old uid || is_of_study t (pick_at uid picks))
+    (c.cut.ensures ∙ ap (take 64) c.as_slice.ensures)
+    ∙ ap (λ b. has text_cmp old uid || (if b then is_of_study (take 64 q.study) (pick_at uid picks) else is_reached_by
+    (find is_study_key q.asked) picks uid)) (sym (sym c.names_study.ensures ∙ c.if-names_study.true))
 
 -- No key lists studies.
 pub returns-in_ok-put_all-in-None : goal.returns-in_ok-put_all-in-None
@@ -26,7 +28,8 @@ returns-in_ok-put_all-in-None c = λ uid.
     let picks = c.args.index.now.1.1.1 in
     c.in_ok-put_all-in-None.ensures uid
     ∙ ap (λ (r : Option Asked). has text_cmp old uid || is_reached_by r picks uid) c.in-None.ensures
-    ∙ ap (λ b. has text_cmp old uid || (if b then is_of_study (take 64 q.study) (pick_at uid picks) else is_reached_by (find is_study_key q.asked) picks uid)) (sym (sym c.names_study.ensures ∙ c.if-names_study.false))
+    ∙ ap (λ b. has text_cmp old uid || (if b then is_of_study (take 64 q.study) (pick_at uid picks) else is_reached_by
+    (find is_study_key q.asked) picks uid)) (sym (sym c.names_study.ensures ∙ c.if-names_study.false))
 
 -- A key lists studies.
 pub returns-in_ok-put_listed-in-Some : goal.returns-in_ok-put_listed-in-Some
@@ -37,4 +40,5 @@ returns-in_ok-put_listed-in-Some c = λ uid.
     c.in_ok-put_listed-in-Some.ensures uid
     ∙ ap (λ (t : Text). has text_cmp old uid || is_listed t (pick_at uid picks)) c.as_slice-in-Some.ensures
     ∙ ap (λ (r : Option Asked). has text_cmp old uid || is_reached_by r picks uid) c.in-Some.ensures
-    ∙ ap (λ b. has text_cmp old uid || (if b then is_of_study (take 64 q.study) (pick_at uid picks) else is_reached_by (find is_study_key q.asked) picks uid)) (sym (sym c.names_study.ensures ∙ c.if-names_study.false))
+    ∙ ap (λ b. has text_cmp old uid || (if b then is_of_study (take 64 q.study) (pick_at uid picks) else is_reached_by
+    (find is_study_key q.asked) picks uid)) (sym (sym c.names_study.ensures ∙ c.if-names_study.false))

@@ -19,9 +19,13 @@ loop-study-preserved c =
     let picks = c.args.index.now.1.1.1 in (
       omega arith,
       λ uid. c.in_ok-put_study.ensures uid
-          ∙ ap (λ (t : Text). has text_cmp mid uid || is_of_study t (pick_at uid picks)) (c.cut.ensures ∙ ap (take 64) c.as_slice.ensures)
+          ∙ ap (λ (t : Text). has text_cmp mid uid || is_of_study t (pick_at uid picks))
+          (c.cut.ensures ∙ ap (take 64) c.as_slice.ensures)
           ∙ ap (λ b. b || is_of_study (take 64 x) (pick_at uid picks)) (c.loop-study.invariant.1 uid)
-          ∙ or_assoc (has text_cmp old uid) (list_any (λ study. is_of_study (take 64 study) (pick_at uid picks)) (take i studies)) (is_of_study (take 64 x) (pick_at uid picks))
-          ∙ ap (λ b. has text_cmp old uid || b) (sym (list_any_more (λ study. is_of_study (take 64 study) (pick_at uid picks)) studies i x c.loop-study-test.true
-          ∙ ap (λ (t : Text). list_any (λ study. is_of_study (take 64 study) (pick_at uid picks)) (take i studies) || is_of_study (take 64 t) (pick_at uid picks)) (sym c.study-item.is))),
+          ∙ or_assoc (has text_cmp old uid) (list_any (λ study. is_of_study (take 64 study) (pick_at uid picks))
+          (take i studies)) (is_of_study (take 64 x) (pick_at uid picks))
+          ∙ ap (λ b. has text_cmp old uid || b) (sym
+          (list_any_more (λ study. is_of_study (take 64 study) (pick_at uid picks)) studies i x c.loop-study-test.true
+          ∙ ap (λ (t : Text). list_any (λ study. is_of_study (take 64 study) (pick_at uid picks)) (take i studies) ||
+          is_of_study (take 64 t) (pick_at uid picks)) (sym c.study-item.is))),
     )

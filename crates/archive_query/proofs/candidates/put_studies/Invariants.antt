@@ -9,4 +9,5 @@ use Rattle.archive_query.proofs.candidates.put_studies.Given as goal
 -- what is of the studies so far is in
 abbrev pub invariant-loop-study : goal.invariant-loop-study
 invariant-loop-study l = (l.study-index ≤ length l.studies)
-    × ((uid : List ℕ) → has text_cmp l.uids.keys uid ≡ (has text_cmp l.initial.uids.keys uid || is_of_some (take l.study-index l.studies) (pick_at uid l.index.1.1.1)))
+    × ((uid : List ℕ) → has text_cmp l.uids.keys uid ≡ (has text_cmp l.initial.uids.keys uid || is_of_some
+    (take l.study-index l.studies) (pick_at uid l.index.1.1.1)))

@@ -9,5 +9,6 @@ use Rattle.archive_query.proofs.candidates.shown_of.Goals as goal
 pub returns-clause-found : goal.returns-clause-found
 returns-clause-found c =
     let shown = shown_at c.args.view (ops_of c.args.site.now) in
-    sym (append-nil _) ∙ ap (λ us. map (λ x. x.now) c.loop-uid.found.items ++ filter_map shown us) (sym c.in-None.ensures.steps.0) ∙ c.loop-uid.invariant
+    sym (append-nil _) ∙ ap (λ us. map (λ x. x.now) c.loop-uid.found.items ++ filter_map shown us)
+    (sym c.in-None.ensures.steps.0) ∙ c.loop-uid.invariant
     ∙ ap (filter_map shown) (c.into_iter-uid-iterator.ensures.into_iter_gives ∙ c.iter-uid-items.ensures.rest)

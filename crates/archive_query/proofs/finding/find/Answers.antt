@@ -18,4 +18,5 @@ returns c =
     c.in_ok-named.ensures
     ∙ ap (λ (xs : List (Bor Content)). named q (map content_of xs)) c.deref.ensures.value
     ∙ ap (named q) c.in_ok-shown.ensures.found)
-    ∙ rows_enough c.args.view called q ops c.index.result.now c.index.ensures c.see_lawful.ensures.lawful c.in_ok-uids.uids.keys c.in_ok-shown.ensures.ordered c.in_ok-uids.ensures
+    ∙ rows_enough c.args.view called q ops c.index.result.now c.index.ensures c.see_lawful.ensures.lawful
+    c.in_ok-uids.uids.keys c.in_ok-shown.ensures.ordered c.in_ok-uids.ensures

@@ -7,4 +7,8 @@ use Rattle.archive_query.proofs.grouping.first_run.Goals as goal
 pub returns : goal.returns
 returns c =
     let key = λ (x : Bor Content). uid_at c.args.level x.now in
-    record { run = run_from_step key c.run_length-length.result c.args.sorted.now c.run_length-length.ensures.within (group_step key c.uid_at-uid.result.now c.index-sorted-0.result c.args.sorted.now c.run_length-length.result c.requires.some c.index-sorted-0.is c.uid_at-uid.ensures c.run_length-length.ensures.counted c.requires.ascends) }
+    record {
+      run = run_from_step key c.run_length-length.result c.args.sorted.now c.run_length-length.ensures.within
+          (group_step key c.uid_at-uid.result.now c.index-sorted-0.result c.args.sorted.now c.run_length-length.result
+          c.requires.some c.index-sorted-0.is c.uid_at-uid.ensures c.run_length-length.ensures.counted c.requires.ascends);
+    }

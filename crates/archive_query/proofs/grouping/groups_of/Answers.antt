@@ -1,4 +1,5 @@
-use Rattle.std.proofs.Common.{◌≡◌, ◌++◌, ◌∷◌, [], ◌+◌, List, Bor, arith, rules, map, ap, ◌∙◌, subst, length, drop, length-drop}
+use Rattle.std.proofs.Common.{◌≡◌, ◌++◌, ◌∷◌, [], ◌+◌, List, Bor, arith, rules, map, ap, ◌∙◌, subst, length, drop}
+use Rattle.std.proofs.Common.{length-drop}
 use Rattle.std.proofs.lemmas.List.{map-append, drop-drop}
 use Rattle.operation.specs.declared.content.Content.{Content}
 use Rattle.archive_query.specs.Grouping.{groups_by, Ascends, IsRun}
@@ -12,11 +13,15 @@ loop-start-preserved c =
     let all = c.args.sorted.now in
     let at = c.loop-start.start in
     let run = c.first_run-run.result.now in
-    let is : IsRun key run (drop at all) = rest_run key at run all c.loop-start.invariant.within c.first_run-run.ensures.run in
+    let is : IsRun key run (drop at all) = rest_run key at run all c.loop-start.invariant.within
+    c.first_run-run.ensures.run in
     record {
       within = omega (arith, is.within, length-drop at all, c.loop-start.invariant.within);
       up = subst (λ (ys : List (Bor Content)). Ascends key ys) (drop-drop (length run) at all) is.up;
       so_far =
-          ap (λ (gs : List (List (Bor Content))). gs ++ groups_by key (drop (at + length run) all)) (ap (map (λ g. g.now)) c.in_ok-push.ensures.items ∙ map-append (λ g. g.now) c.loop-start.groups.items (c.first_run-run.result ∷ []))
-          ∙ next_group key (map (λ g. g.now) c.loop-start.groups.items) (groups_by key all) at run all c.loop-start.invariant.so_far is;
+          ap (λ (gs : List (List (Bor Content))). gs ++ groups_by key (drop (at + length run) all))
+          (ap (map (λ g. g.now)) c.in_ok-push.ensures.items ∙ map-append (λ g. g.now) c.loop-start.groups.items
+          (c.first_run-run.result ∷ []))
+          ∙ next_group key (map (λ g. g.now) c.loop-start.groups.items) (groups_by key all) at run all
+          c.loop-start.invariant.so_far is;
     }

@@ -7,7 +7,8 @@ abbrev pub invariant-loop-start : goal.invariant-loop-start
 invariant-loop-start l = record {
   within : l.start ≤ length l.sorted;
   up : Ascends (λ c. uid_at l.level c.now) (drop l.start l.sorted);
-  so_far : map (λ g. g.now) l.groups.items ++ groups_by (λ c. uid_at l.level c.now) (drop l.start l.sorted) ≡ groups_by (λ c. uid_at l.level c.now) l.sorted;
+  so_far : map (λ g. g.now) l.groups.items ++ groups_by (λ c. uid_at l.level c.now) (drop l.start l.sorted) ≡ groups_by
+      (λ c. uid_at l.level c.now) l.sorted;
 }
 
 abbrev pub decreases-loop-start : goal.decreases-loop-start

@@ -7,5 +7,6 @@ use Rattle.archive_query.proofs.grouping.run_length.Given as goal
 abbrev pub invariant-loop-content : goal.invariant-loop-content
 invariant-loop-content l = record {
   few : l.count ≡ l.content-index;
-  so_far : l.count + leading (λ c. same (uid_at l.level c.now) l.uid) (drop l.content-index l.contents) ≡ leading (λ c. same (uid_at l.level c.now) l.uid) l.contents;
+  so_far : l.count + leading (λ c. same (uid_at l.level c.now) l.uid) (drop l.content-index l.contents) ≡ leading
+      (λ c. same (uid_at l.level c.now) l.uid) l.contents;
 }

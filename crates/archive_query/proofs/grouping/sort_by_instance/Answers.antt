@@ -9,9 +9,11 @@ use Rattle.archive_query.proofs.grouping.sort_by_instance.Goals as goal
 pub returns-clause-ascends : goal.returns-clause-ascends
 returns-clause-ascends c =
     let key = λ (x : Bor Content). uid_at Image x.now in
-    sorted_ascends key c.sort_by.new.self.items (c.in_ok-sort_by.ensures.sorted (key_lt key) (key_lt_order key) (answers_always _ _ _ (λ f a r g called. search rules)))
+    sorted_ascends key c.sort_by.new.self.items (c.in_ok-sort_by.ensures.sorted (key_lt key) (key_lt_order key)
+    (answers_always _ _ _ (λ f a r g called. search rules)))
 
 pub returns-clause-groups : goal.returns-clause-groups
 returns-clause-groups c =
     let key = λ (x : Bor Content). uid_at Image x.now in
-    sorted_groups key c.args.contents.now.items c.sort_by.new.self.items (c.in_ok-sort_by.ensures.stable (key_lt key) (key_lt_order key) (answers_always _ _ _ (λ f a r g called. search rules)))
+    sorted_groups key c.args.contents.now.items c.sort_by.new.self.items (c.in_ok-sort_by.ensures.stable (key_lt key)
+    (key_lt_order key) (answers_always _ _ _ (λ f a r g called. search rules)))

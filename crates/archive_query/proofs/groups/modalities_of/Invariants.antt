@@ -6,5 +6,6 @@ use Rattle.archive_query.proofs.groups.modalities_of.Given as goal
 
 abbrev pub invariant-loop-content : goal.invariant-loop-content
 invariant-loop-content l =
-    map (λ u. u.now) l.found.items ++ filter (λ (m : List ℕ). not (length m == 0)) (map modality_of (map (λ c. c.now) (drop l.content-index l.contents)))
+    map (λ u. u.now) l.found.items ++ filter (λ (m : List ℕ). not (length m == 0))
+    (map modality_of (map (λ c. c.now) (drop l.content-index l.contents)))
     ≡ filter (λ (m : List ℕ). not (length m == 0)) (map modality_of (map (λ c. c.now) l.contents))

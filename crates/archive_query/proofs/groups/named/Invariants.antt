@@ -3,4 +3,5 @@ use Rattle.archive_query.specs.Rows.{named}
 use Rattle.archive_query.proofs.groups.named.Given as goal
 
 abbrev pub invariant-loop-content : goal.invariant-loop-content
-invariant-loop-content l = map (λ c. c.now) l.found.items ++ named l.query (map (λ c. c.now) (drop l.content-index l.shown)) ≡ named l.query (map (λ c. c.now) l.shown)
+invariant-loop-content l = map (λ c. c.now) l.found.items ++ named
+    l.query (map (λ c. c.now) (drop l.content-index l.shown)) ≡ named l.query (map (λ c. c.now) l.shown)

@@ -7,4 +7,5 @@ use Rattle.archive_query.proofs.laws.same_sites_answer_alike.Goals as goal
 
 pub returns : goal.returns
 returns c view called query one other same =
-    ap (λ site. rows_of view called query (ops_of site)) (same_map nat_list_cmp_total (slice_cmp-IsAntisymmetric nat_cmp-IsAntisymmetric) one other same)
+    ap (λ site. rows_of view called query (ops_of site))
+    (same_map nat_list_cmp_total (slice_cmp-IsAntisymmetric nat_cmp-IsAntisymmetric) one other same)

@@ -7,5 +7,6 @@ use Rattle.archive_query.proofs.rows.cells.Given as goal
 
 abbrev pub invariant-loop-tag : goal.invariant-loop-tag
 invariant-loop-tag l =
-    l.cells.items ++ filter_map (cell_in_row (ops_of l.site) l.called l.query (map (λ c. c.now) l.contents) l.first) (drop l.tag-index l.tag-items)
+    l.cells.items ++ filter_map (cell_in_row (ops_of l.site) l.called l.query (map (λ c. c.now) l.contents) l.first)
+    (drop l.tag-index l.tag-items)
     ≡ filter_map (cell_in_row (ops_of l.site) l.called l.query (map (λ c. c.now) l.contents) l.first) l.tag-items

@@ -9,4 +9,5 @@ use Rattle.archive_query.proofs.rows.row.Goals as goal
 pub of-requires : goal.of-requires
 of-requires c =
     subst (IsSet Explicit) (sym c.in_ok-cells.ensures)
-    (row_is_set (λ tag. value_in_row (ops_of c.args.site.now) c.args.called.now c.args.query.now (map (λ x. x.now) c.args.contents.now) c.args.first.now tag) c.args.query.now.level)
+    (row_is_set (λ tag. value_in_row (ops_of c.args.site.now) c.args.called.now c.args.query.now
+    (map (λ x. x.now) c.args.contents.now) c.args.first.now tag) c.args.query.now.level)

@@ -17,9 +17,12 @@ returns c =
     let one = row_of ops c.args.called.now q in
     let key = λ (x : Bor Content). uid_at q.level x.now in
     c.in_ok-rows.ensures
-    ∙ ap (λ (gs : List (Bor (List (Bor Content)))). filter_map one (map (λ g. map now g.now) gs)) c.deref-2.ensures.value
+    ∙ ap (λ (gs : List (Bor (List (Bor Content)))). filter_map one (map (λ g. map now g.now) gs))
+    c.deref-2.ensures.value
     ∙ ap (filter_map one) (
     sym (map-map (λ (g : Bor (List (Bor Content))). g.now) (map now) c.in_ok-groups.groups.items)
-    ∙ ap (map (map now)) (c.in_ok-groups.ensures ∙ ap (groups_by key) c.deref.ensures.value ∙ c.in_ok-sorted.ensures.groups)
+    ∙ ap (map (map now)) (c.in_ok-groups.ensures ∙ ap (groups_by key) c.deref.ensures.value
+    ∙ c.in_ok-sorted.ensures.groups)
     ∙ groups-map (uid_at q.level) now c.args.contents.now)
-    ∙ filter_map-map (λ k. under (uid_at q.level) k cs) one (row_at ops c.args.called.now q cs) (λ uid. refl) (uids_at q.level cs)
+    ∙ filter_map-map (λ k. under (uid_at q.level) k cs) one (row_at ops c.args.called.now q cs) (λ uid. refl)
+    (uids_at q.level cs)

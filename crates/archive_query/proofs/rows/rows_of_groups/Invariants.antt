@@ -6,5 +6,6 @@ use Rattle.archive_query.proofs.rows.rows_of_groups.Given as goal
 
 abbrev pub invariant-loop-group : goal.invariant-loop-group
 invariant-loop-group l =
-    l.rows.items ++ filter_map (row_of (ops_of l.site) l.called l.query) (map (λ g. map (λ c. c.now) g.now) (drop l.group-index l.groups))
+    l.rows.items ++ filter_map (row_of (ops_of l.site) l.called l.query)
+    (map (λ g. map (λ c. c.now) g.now) (drop l.group-index l.groups))
     ≡ filter_map (row_of (ops_of l.site) l.called l.query) (map (λ g. map (λ c. c.now) g.now) l.groups)

@@ -6,4 +6,5 @@ use Rattle.archive_retrieve.proofs.candidates.put_instances.Given as goal
 -- with those that are left, all are in
 abbrev pub invariant-loop-instance : goal.invariant-loop-instance
 invariant-loop-instance l =
-    union_of text_cmp l.uids.keys (drop l.instance-index l.instances) ≡ union_of text_cmp l.initial.uids.keys l.instances
+    union_of text_cmp l.uids.keys (drop l.instance-index l.instances) ≡ union_of text_cmp l.initial.uids.keys
+    l.instances

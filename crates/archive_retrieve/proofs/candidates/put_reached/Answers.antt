@@ -13,8 +13,10 @@ pub returns-in-Study : goal.returns-in-Study
 returns-in-Study c =
     let old = c.args.uids.now.keys in
     let picks = c.args.index.now.1.1.1 in
-    on_ok c.put_studies.result (λ put. reached_by_studies c.args.selection.now picks old c.put_studies.new.uids.keys c.in-Study.is (λ uid.
-    put uid ∙ ap (λ (ts : List Text). has text_cmp old uid || is_of_some ts (pick_at uid picks)) c.as_slice-named.ensures))
+    on_ok c.put_studies.result (λ put. reached_by_studies c.args.selection.now picks old c.put_studies.new.uids.keys
+    c.in-Study.is (λ uid.
+    put uid ∙ ap (λ (ts : List Text). has text_cmp old uid || is_of_some ts (pick_at uid picks))
+    c.as_slice-named.ensures))
     c.put_studies.ensures
 
 -- At IMAGE, it is one of the instances that are named.

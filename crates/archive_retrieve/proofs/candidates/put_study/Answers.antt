@@ -11,6 +11,8 @@ pub returns : goal.returns
 returns c =
     let old = c.args.uids.now.keys in
     let picks = c.args.index.now.1.1.1 in
-    on_ok c.put_study.result (λ put. reached_by_study c.args.selection.now picks old c.put_study.new.uids.keys c.requires (λ uid.
-    put uid ∙ ap (λ (t : Text). has text_cmp old uid || is_of_study t (pick_at uid picks)) (c.cut.ensures ∙ ap (take 64) c.as_slice.ensures)))
+    on_ok c.put_study.result (λ put. reached_by_study c.args.selection.now picks old c.put_study.new.uids.keys
+    c.requires (λ uid.
+    put uid ∙ ap (λ (t : Text). has text_cmp old uid || is_of_study t (pick_at uid picks))
+    (c.cut.ensures ∙ ap (take 64) c.as_slice.ensures)))
     c.put_study.ensures

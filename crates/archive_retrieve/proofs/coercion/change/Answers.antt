@@ -16,7 +16,8 @@ returns-in-None-clause-value c =
     let ops = ops_of c.args.site.now in
     let content = c.args.content.now in
     unchanged ops content c.args.tag (sym (own_is (own_value content c.args.tag) (correction_for ops content c.args.tag)
-    (c.in-None.ensures ∙ latest_is ops c.index.result.now c.index.ensures c.see_lawful.ensures.lawful content c.args.tag)))
+    (c.in-None.ensures ∙ latest_is ops c.index.result.now c.index.ensures c.see_lawful.ensures.lawful content
+    c.args.tag)))
 
 -- The correction that is found gives the content's own value.
 pub returns-then-eq-clause-value : goal.returns-then-eq-clause-value
@@ -26,9 +27,12 @@ returns-then-eq-clause-value c =
     let value =
     c.as_slice-value.ensures.value
     ∙ ap (λ (f : Fix). f.1.1) c.fix.view_is
-    ∙ value_is (own_value content c.args.tag) (correction_for ops content c.args.tag) c.in-Some.fix.now (c.in-Some.ensures ∙ latest_is ops c.index.result.now c.index.ensures c.see_lawful.ensures.lawful content c.args.tag)
+    ∙ value_is (own_value content c.args.tag) (correction_for ops content c.args.tag) c.in-Some.fix.now
+    (c.in-Some.ensures ∙ latest_is ops c.index.result.now c.index.ensures c.see_lawful.ensures.lawful content
+    c.args.tag)
     in
-    unchanged ops content c.args.tag (sym value ∙ same_is c.as_slice-value.result.now c.own_value.result.now (sym c.eq.ensures ∙ c.if-eq.true) ∙ c.own_value.ensures)
+    unchanged ops content c.args.tag (sym value ∙ same_is c.as_slice-value.result.now c.own_value.result.now
+    (sym c.eq.ensures ∙ c.if-eq.true) ∙ c.own_value.ensures)
 
 -- Or it gives another.
 pub returns-else-eq-clause-value : goal.returns-else-eq-clause-value
@@ -38,7 +42,9 @@ returns-else-eq-clause-value c =
     let value =
     c.as_slice-value.ensures.value
     ∙ ap (λ (f : Fix). f.1.1) c.fix.view_is
-    ∙ value_is (own_value content c.args.tag) (correction_for ops content c.args.tag) c.in-Some.fix.now (c.in-Some.ensures ∙ latest_is ops c.index.result.now c.index.ensures c.see_lawful.ensures.lawful content c.args.tag)
+    ∙ value_is (own_value content c.args.tag) (correction_for ops content c.args.tag) c.in-Some.fix.now
+    (c.in-Some.ensures ∙ latest_is ops c.index.result.now c.index.ensures c.see_lawful.ensures.lawful content
+    c.args.tag)
     in
     changed ops content c.args.tag c.as_slice-value.result.now value
     (ap (same c.as_slice-value.result.now) (sym c.own_value.ensures) ∙ sym c.eq.ensures ∙ c.if-eq.false)

@@ -7,5 +7,10 @@ use Rattle.archive_retrieve.proofs.coercion.coerced.Goals as goal
 pub returns-clause-elements : goal.returns-clause-elements
 unfolding coerced
 returns-clause-elements c =
-    let ops = ops_of c.args.site.now in
-    (c.in_ok-set.set.elements, c.in_ok-set.ensures.elements, c.in_ok-corrected.ensures.elements ∙ ap (λ (tags : List ℕ). with_attributes ops c.args.content.now tags c.in_ok-set.set.elements) c.corrected_tags.ensures)
+    let ops = ops_of c.args.site.now in (
+      c.in_ok-set.set.elements,
+      c.in_ok-set.ensures.elements,
+      c.in_ok-corrected.ensures.elements
+          ∙ ap (λ (tags : List ℕ). with_attributes ops c.args.content.now tags c.in_ok-set.set.elements)
+          c.corrected_tags.ensures,
+    )

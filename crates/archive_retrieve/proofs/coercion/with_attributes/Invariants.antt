@@ -7,5 +7,6 @@ use Rattle.archive_retrieve.proofs.coercion.with_attributes.Given as goal
 abbrev pub invariant-loop-tag : goal.invariant-loop-tag
 invariant-loop-tag l = record {
   syntax : l.corrected.syntax ≡ l.content.syntax;
-  elements : with_attributes (ops_of l.site) l.content (drop l.tag-index l.tags) l.corrected.elements ≡ with_attributes (ops_of l.site) l.content l.tags l.initial.corrected.elements;
+  elements : with_attributes (ops_of l.site) l.content (drop l.tag-index l.tags) l.corrected.elements ≡ with_attributes
+      (ops_of l.site) l.content l.tags l.initial.corrected.elements;
 }

@@ -22,11 +22,14 @@ returns-clause-gets c =
     ∙ c.in_ok-selected.ensures
     ∙ ap (λ (xs : List (Bor Content)). selected s (map content_of xs)) c.deref.ensures.value
     ∙ ap (selected s) c.in_ok-shown.ensures.found
-    ∙ selected_enough view s ops c.index.result.now c.index.ensures c.in_ok-uids.uids.keys c.in_ok-shown.ensures.ordered c.in_ok-uids.ensures
+    ∙ selected_enough view s ops c.index.result.now c.index.ensures c.in_ok-uids.uids.keys c.in_ok-shown.ensures.ordered
+    c.in_ok-uids.ensures
     in
-    subst (λ (cs : List ContentParts). AreSendings ops c.args.accepts.now.list cs c.in_ok-found.found.items) these c.in_ok-found.ensures
+    subst (λ (cs : List ContentParts). AreSendings ops c.args.accepts.now.list cs c.in_ok-found.found.items) these
+    c.in_ok-found.ensures
 
 -- And it is what the definition computes.
 pub returns-clause-computed : goal.returns-clause-computed
 returns-clause-computed c =
-    sent_computed c.args.view c.args.selection.now c.args.accepts.now (ops_of c.args.site.now) c.in_ok-found.found.items (returns-clause-gets c)
+    sent_computed c.args.view c.args.selection.now c.args.accepts.now (ops_of c.args.site.now) c.in_ok-found.found.items
+    (returns-clause-gets c)

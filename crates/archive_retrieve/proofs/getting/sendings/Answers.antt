@@ -20,8 +20,12 @@ loop-content-preserved c =
     let before = map content_of (take i refs) in
     let found = c.loop-content.found.items in
     let sending = c.in_ok-sending_of.field-0 in
-    let more : take (i + 1) refs ≡ take i refs ++ (at ∷ []) = take_more refs i at c.loop-content-test.true ∙ ap (λ (x : Bor Content). take i refs ++ (x ∷ [])) (sym c.content-item.is) in
-    let these : map content_of (take (i + 1) refs) ≡ before ++ (at.now ∷ []) = ap (map content_of) more ∙ map-append content_of (take i refs) (at ∷ []) in
-    let sent = sendings_snoc ops accepted before found at.now sending c.loop-content.invariant c.in_ok-sending_of.ensures in
-    subst (λ (ss : List Sending). AreSendings ops accepted (map content_of (take (i + 1) refs)) ss) (sym {A = List Sending} c.in_ok-push.ensures.items)
+    let more : take (i + 1) refs ≡ take i refs ++ (at ∷ []) = take_more refs i at c.loop-content-test.true
+    ∙ ap (λ (x : Bor Content). take i refs ++ (x ∷ [])) (sym c.content-item.is) in
+    let these : map content_of (take (i + 1) refs) ≡ before ++ (at.now ∷ []) = ap (map content_of) more
+    ∙ map-append content_of (take i refs) (at ∷ []) in
+    let sent = sendings_snoc ops accepted before found at.now sending c.loop-content.invariant
+    c.in_ok-sending_of.ensures in
+    subst (λ (ss : List Sending). AreSendings ops accepted (map content_of (take (i + 1) refs)) ss)
+    (sym {A = List Sending} c.in_ok-push.ensures.items)
     (subst (λ (cs : List ContentParts). AreSendings ops accepted cs (found ++ (sending ∷ []))) (sym these) sent)

@@ -5,4 +5,5 @@ use Rattle.archive_retrieve.proofs.getting.sendings.Given as goal
 
 -- of the contents so far it is sent what is sent
 abbrev pub invariant-loop-content : goal.invariant-loop-content
-invariant-loop-content l = AreSendings (ops_of l.site) l.accepts.list (map (λ c. c.now) (take l.content-index l.contents)) l.found.items
+invariant-loop-content l = AreSendings (ops_of l.site) l.accepts.list
+    (map (λ c. c.now) (take l.content-index l.contents)) l.found.items

@@ -9,6 +9,7 @@ use Rattle.archive_retrieve.proofs.selected.ascending.Goals as goal
 pub returns-clause-members : goal.returns-clause-members
 returns-clause-members c = λ uid.
     sym (any-map c.sort.new.self.items uid)
-    ∙ sym (list_any-IsPermutation (λ u. same u.now uid) c.in_ok-found.found.items c.sort.new.self.items c.in_ok-sort.ensures.permutation)
+    ∙ sym (list_any-IsPermutation (λ u. same u.now uid) c.in_ok-found.found.items c.sort.new.self.items
+    c.in_ok-sort.ensures.permutation)
     ∙ any-map c.in_ok-found.found.items uid
     ∙ ap (λ (uids : List (List ℕ)). is_among uids uid) c.in_ok-found.ensures

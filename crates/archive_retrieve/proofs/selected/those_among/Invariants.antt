@@ -5,5 +5,6 @@ use Rattle.archive_retrieve.proofs.selected.those_among.Given as goal
 
 abbrev pub invariant-loop-content : goal.invariant-loop-content
 invariant-loop-content l =
-    map (λ c. c.now) l.found.items ++ filter (is_among_these (map (λ u. u.now) l.uids) l.selection) (map (λ c. c.now) (drop l.content-index l.contents))
+    map (λ c. c.now) l.found.items ++ filter (is_among_these (map (λ u. u.now) l.uids) l.selection)
+    (map (λ c. c.now) (drop l.content-index l.contents))
     ≡ filter (is_among_these (map (λ u. u.now) l.uids) l.selection) (map (λ c. c.now) l.contents)

@@ -7,12 +7,15 @@ use Rattle.association_run.proofs.act.hear.Goals as goal
 pub returns-in_err-pending-clause-err : goal.returns-in_err-pending-clause-err
 returns-in_err-pending-clause-err g c =
     let e = err_from_is_err_and c.from_residual.result c.from_residual.ensures.1 in
-    rw e.1 (fails_first g.P.Port.holds g.P.Port.own c.args.titles.now.list _ _ c.args.session.now c.args.event c.in_err-pending.ensures.err)
+    rw e.1 (fails_first g.P.Port.holds g.P.Port.own c.args.titles.now.list _ _ c.args.session.now c.args.event
+    c.in_err-pending.ensures.err)
 
 -- The event's own deeds are done.
 pub loop-input-init : goal.loop-input-init
 loop-input-init g c = record {
-  hearing = begun g.P.Port.holds g.P.Port.own c.args.titles.now.list _ _ c.args.session.now c.args.event c.in_ok-pending.pending c.tell.new.session c.requires.idle c.requires.finished c.requires.connected c.in_ok-pending.ensures.ok;
+  hearing = begun g.P.Port.holds g.P.Port.own c.args.titles.now.list _ _ c.args.session.now c.args.event
+      c.in_ok-pending.pending c.tell.new.session c.requires.idle c.requires.finished c.requires.connected
+      c.in_ok-pending.ensures.ok;
   write = c.in_ok-pending.ensures.write;
 }
 
@@ -21,20 +24,26 @@ pub returns-in_err-pending-2-clause-err : goal.returns-in_err-pending-2-clause-e
 returns-in_err-pending-2-clause-err g c =
     let e = err_from_is_err_and c.from_residual-in_err-pending-2.result c.from_residual-in_err-pending-2.ensures.1 in
     let next = rw c.in-Some.is at c.next.ensures in
-    rw e.1 (fails_on g.P.Port.holds g.P.Port.own c.args.titles.now.list _ _ _ c.args.session.now c.args.event c.loop-input.pending c.loop-input.session c.in-Some.input c.loop-input.invariant.hearing next c.in_err-pending-2.ensures.err)
+    rw e.1 (fails_on g.P.Port.holds g.P.Port.own c.args.titles.now.list _ _ _ c.args.session.now c.args.event
+    c.loop-input.pending c.loop-input.session c.in-Some.input c.loop-input.invariant.hearing next
+    c.in_err-pending-2.ensures.err)
 
 -- A reply was told, or values were heard on.
 pub loop-input-smaller : goal.loop-input-smaller
 loop-input-smaller g c =
     let next = rw c.in-Some.is at c.next.ensures in
-    falls g.P.Port.holds g.P.Port.own c.args.titles.now.list _ _ _ c.args.session.now c.args.event c.loop-input.pending c.loop-input.session c.in-Some.input c.in_ok-pending-2.pending c.tell-in-Some.new.session c.loop-input.invariant.hearing next c.in_ok-pending-2.ensures.ok
+    falls g.P.Port.holds g.P.Port.own c.args.titles.now.list _ _ _ c.args.session.now c.args.event c.loop-input.pending
+    c.loop-input.session c.in-Some.input c.in_ok-pending-2.pending c.tell-in-Some.new.session
+    c.loop-input.invariant.hearing next c.in_ok-pending-2.ensures.ok
 
 -- The deeds for what came next are done.
 pub loop-input-preserved : goal.loop-input-preserved
 loop-input-preserved g c =
     let next = rw c.in-Some.is at c.next.ensures in
     record {
-      hearing = goes_on g.P.Port.holds g.P.Port.own c.args.titles.now.list _ _ _ c.args.session.now c.args.event c.loop-input.pending c.loop-input.session c.in-Some.input c.in_ok-pending-2.pending c.tell-in-Some.new.session c.loop-input.invariant.hearing next c.in_ok-pending-2.ensures.ok;
+      hearing = goes_on g.P.Port.holds g.P.Port.own c.args.titles.now.list _ _ _ c.args.session.now c.args.event
+          c.loop-input.pending c.loop-input.session c.in-Some.input c.in_ok-pending-2.pending c.tell-in-Some.new.session
+          c.loop-input.invariant.hearing next c.in_ok-pending-2.ensures.ok;
       write = c.in_ok-pending-2.ensures.write ∙ c.loop-input.invariant.write;
     }
 
@@ -42,4 +51,5 @@ loop-input-preserved g c =
 pub returns-clause-ok : goal.returns-clause-ok
 returns-clause-ok g c =
     let next = rw c.in_default.is at c.next.ensures in
-    ended g.P.Port.holds g.P.Port.own c.args.titles.now.list _ _ c.args.session.now c.args.event c.loop-input.pending c.loop-input.session c.loop-input.invariant.hearing next
+    ended g.P.Port.holds g.P.Port.own c.args.titles.now.list _ _ c.args.session.now c.args.event c.loop-input.pending
+    c.loop-input.session c.loop-input.invariant.hearing next

@@ -6,7 +6,9 @@ use Rattle.association_run.proofs.act.hear.Given as goal
 -- what was heard and done so far
 abbrev pub invariant-loop-input : goal.invariant-loop-input
 invariant-loop-input g l = record {
-  hearing : Hearing g.P.Port.holds g.P.Port.own l.titles.list (sides l.fn.port (g.W.Sink.contents l.fn.writer) (g.G.Gate.reached l.fn.gate)) (sides l.port (g.W.Sink.contents l.writer) (g.G.Gate.reached l.gate)) l.fn.session l.fn.event l.pending l.session;
+  hearing : Hearing g.P.Port.holds g.P.Port.own l.titles.list (sides l.fn.port (g.W.Sink.contents l.fn.writer)
+      (g.G.Gate.reached l.fn.gate)) (sides l.port (g.W.Sink.contents l.writer) (g.G.Gate.reached l.gate)) l.fn.session
+      l.fn.event l.pending l.session;
   write : g.W.Sink.failures l.writer ≡ g.W.Sink.failures l.fn.writer;
 }
 

@@ -6,4 +6,5 @@ pub returns : goal.returns
 returns c =
     let text = c.args.header.now in
     let e = c.read_pdu.ensures in
-    rw c.piece_of.ensures (finds text c.read_pdu.result (inl c.requires) e.done e.lawful e.need.0 e.unknown_type.0 e.bad_length.0 e.bad_item e.too_long.0)
+    rw c.piece_of.ensures (finds text c.read_pdu.result (inl c.requires) e.done e.lawful e.need.0 e.unknown_type.0
+    e.bad_length.0 e.bad_item e.too_long.0)

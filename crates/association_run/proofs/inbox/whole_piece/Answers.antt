@@ -8,4 +8,5 @@ returns c =
     let is : c.in_ok-bytes.bytes ≡ text = c.in_ok-bytes.ensures.ok in
     let e = rw is at c.read_shared.ensures in
     let size : c.len-size.result ≡ length text = c.len-size.ensures ∙ c.args.bytes.ok.0 in
-    rw (c.piece_of.ensures, size) (finds text c.read_shared.result (inr (c.requires.lawful, c.requires.whole)) e.done e.lawful e.need.0 e.unknown_type.0 e.bad_length.0 e.bad_item e.too_long.0)
+    rw (c.piece_of.ensures, size) (finds text c.read_shared.result (inr (c.requires.lawful, c.requires.whole)) e.done
+    e.lawful e.need.0 e.unknown_type.0 e.bad_length.0 e.bad_item e.too_long.0)

@@ -10,7 +10,10 @@ use Rattle.association_run.proofs.run.run_association.Goals as goal
 pub loop-init : goal.loop-init
 loop-init g c = record {
   ready = rw c.new-intake.ensures (starts_ready c.new-session.result c.new-session.ensures.association);
-  so_far = rw c.new-intake.ensures (nothing_yet g.P.Port.holds g.P.Port.own c.args.titles.now.list (g.R.Source.remaining c.args.reader.now) (sides c.args.port.now (g.W.Sink.contents c.args.writer.now) (g.G.Gate.reached c.args.gate.now)) c.new-session.result c.new-session.ensures.association c.new-session.ensures.aborted c.new-session.ensures.released);
+  so_far = rw c.new-intake.ensures (nothing_yet g.P.Port.holds g.P.Port.own c.args.titles.now.list
+      (g.R.Source.remaining c.args.reader.now) (sides c.args.port.now (g.W.Sink.contents c.args.writer.now)
+      (g.G.Gate.reached c.args.gate.now)) c.new-session.result c.new-session.ensures.association
+      c.new-session.ensures.aborted c.new-session.ensures.released);
   read = refl;
   write = refl;
 }
@@ -19,13 +22,19 @@ loop-init g c = record {
 pub returns-in_err-outbox-clause-err : goal.returns-in_err-outbox-clause-err
 returns-in_err-outbox-clause-err g c =
     let e = err_from_is_err_and c.from_residual.result c.from_residual.ensures.1 in
-    let start = nothing_yet g.P.Port.holds g.P.Port.own c.args.titles.now.list (g.R.Source.remaining c.args.reader.now) (sides c.args.port.now (g.W.Sink.contents c.args.writer.now) (g.G.Gate.reached c.args.gate.now)) c.new-session.result c.new-session.ensures.association c.new-session.ensures.aborted c.new-session.ensures.released in
-    rw e.1 (stopped g.P.Port.holds g.P.Port.own c.args.titles.now.list _ _ _ _ _ c.new-session.result NOTHING_READ _ start (nothing_read _))
+    let start = nothing_yet g.P.Port.holds g.P.Port.own c.args.titles.now.list (g.R.Source.remaining c.args.reader.now)
+    (sides c.args.port.now (g.W.Sink.contents c.args.writer.now) (g.G.Gate.reached c.args.gate.now))
+    c.new-session.result c.new-session.ensures.association c.new-session.ensures.aborted
+    c.new-session.ensures.released in
+    rw e.1 (stopped g.P.Port.holds g.P.Port.own c.args.titles.now.list _ _ _ _ _ c.new-session.result NOTHING_READ _
+    start (nothing_read _))
 
 -- The turn ended the run.
 pub returns-in-Ok-Some-clause-ok : goal.returns-in-Ok-Some-clause-ok
 returns-in-Ok-Some-clause-ok g c =
-    let h = c.in-Ok-Some.ensures.turns (g.R.Source.remaining c.args.reader.now) (sides c.args.port.now (g.W.Sink.contents c.args.writer.now) (g.G.Gate.reached c.args.gate.now)) c.loop.counter c.loop.invariant.so_far in
+    let h = c.in-Ok-Some.ensures.turns (g.R.Source.remaining c.args.reader.now)
+    (sides c.args.port.now (g.W.Sink.contents c.args.writer.now) (g.G.Gate.reached c.args.gate.now)) c.loop.counter
+    c.loop.invariant.so_far in
     rw c.in-Ok-Some.field-0-is at h
 
 -- The turn broke it off.
@@ -34,4 +43,5 @@ returns-in-Err-clause-err g c = c.in-Err.ensures.turns _ _ _ c.loop.invariant.so
 
 -- Too many reads.
 pub returns-clause-err : goal.returns-clause-err
-returns-clause-err g c = stopped g.P.Port.holds g.P.Port.own c.args.titles.now.list _ _ _ _ _ c.loop.session c.loop.intake _ c.loop.invariant.so_far (nothing_read _)
+returns-clause-err g c = stopped g.P.Port.holds g.P.Port.own c.args.titles.now.list _ _ _ _ _ c.loop.session
+    c.loop.intake _ c.loop.invariant.so_far (nothing_read _)

@@ -8,7 +8,8 @@ use Rattle.association_session.proofs.association.ask.Goals as goal
 
 action_is : goal.returns-clause-action
 action_is g c =
-    let list : c.into_vec.result.items ≡ option_to_list (action_on c.args.titles.now.list c.args.acceptor.now.state c.args.event) = c.into_vec.ensures ∙ c.in_ok-actions.ensures.done in
+    let list : c.into_vec.result.items ≡ option_to_list (action_on c.args.titles.now.list c.args.acceptor.now.state
+    c.args.event) = c.into_vec.ensures ∙ c.in_ok-actions.ensures.done in
     popped c.pop.new.self.items c.pop.result (action_on c.args.titles.now.list c.args.acceptor.now.state c.args.event)
     (sym list ∙ c.pop.ensures.items)
     (λ some. c.pop.ensures.variant.1 (omega (arith, some, c.into_vec.result.ok.0, ap length list)))
@@ -18,5 +19,7 @@ returns-clause-action g c = action_is g c
 
 pub returns-clause-lawful : goal.returns-clause-lawful
 returns-clause-lawful g c = λ lawful.
-    popped_writable (action_on c.args.titles.now.list c.args.acceptor.now.state c.args.event) c.pop.result (action_is g c)
-    (subst (λ (l : List Action). All CanBeWritten l) c.in_ok-actions.ensures.done (c.in_ok-actions.ensures.lawful lawful))
+    popped_writable (action_on c.args.titles.now.list c.args.acceptor.now.state c.args.event) c.pop.result
+    (action_is g c)
+    (subst (λ (l : List Action). All CanBeWritten l) c.in_ok-actions.ensures.done (c.in_ok-actions.ensures.lawful
+    lawful))

@@ -34,7 +34,8 @@ put_items-loop-item-preserved t c =
     let left = rows_left c.args.items.now c.loop-item.item-index _ c.item-item.result c.loop-item-test.true
     c.item-item.is c.loop-item.invariant.1 c.loop-item.invariant.2 in (
       rows_put c.args.items.now c.loop-item.item-index c.item-item.result c.loop-item.out.items c.put_tag.new.out.items
-          c.extend_from_slice.new.self.items c.put_elements.new.out.items c.put_end.new.out.items _ c.loop-item-test.true
+          c.extend_from_slice.new.self.items c.put_elements.new.out.items c.put_end.new.out.items _
+          c.loop-item-test.true
           c.item-item.is c.loop-item.invariant.0 c.in_ok-put_tag.ensures (c.in_ok-extend_from_slice.ensures.items
           ∙ ap (λ (x : List ℕ). c.put_tag.new.out.items ++ x) c.to_le_bytes.ensures)
           (rw c.as_slice.ensures.value at c.in_ok-put_elements.ensures) c.in_ok-put_end.ensures,

@@ -3,4 +3,5 @@ use Rattle.exchange.proofs.Hashed.{IsFed}
 use Rattle.exchange.proofs.buckets.buckets_of_tree.Given as goal
 
 abbrev pub invariant-loop-digest : goal.invariant-loop-digest
-invariant-loop-digest l = IsFed l.hashers.items (spoken_of l.version l.digest-iterator) (spoken_of l.version l.initial.digest-iterator)
+invariant-loop-digest l = IsFed l.hashers.items (spoken_of l.version l.digest-iterator)
+    (spoken_of l.version l.initial.digest-iterator)

@@ -8,7 +8,8 @@ use Rattle.exchange.proofs.buckets.finish.Goals as goal
 -- No bucket was told.
 pub loop-hasher-init : goal.loop-hasher-init
 loop-hasher-init c = record {
-  long = c.into_iter-hasher-iterator.ensures.into_iter_gives.1 ∙ c.args.hashers.ok.0 ∙ ap length (sym c.into_iter-hasher-iterator.ensures.into_iter_gives.0);
+  long = c.into_iter-hasher-iterator.ensures.into_iter_gives.1 ∙ c.args.hashers.ok.0
+      ∙ ap length (sym c.into_iter-hasher-iterator.ensures.into_iter_gives.0);
   told = λ digests all. rw c.in_ok-buckets.ensures.items (all, refl);
 }
 
@@ -19,7 +20,9 @@ loop-hasher-preserved c = record {
   told = λ digests all.
       rw c.in_ok-push.ensures.items
       (next_told digests c.loop-hasher.buckets.items c.in-Some.hasher _ _ c.of.result
-      (subst (λ left. Telling digests c.loop-hasher.buckets.items left (length c.into_iter-hasher-iterator.result.rest.items)) c.in-Some.ensures.steps.0 (c.loop-hasher.invariant.told digests all))
+      (subst (λ left. Telling digests c.loop-hasher.buckets.items
+      left (length c.into_iter-hasher-iterator.result.rest.items)) c.in-Some.ensures.steps.0
+      (c.loop-hasher.invariant.told digests all))
       (λ m holds. c.of.ensures ∙ c.finalize.ensures m holds));
 }
 

@@ -13,5 +13,6 @@ loop-preserved c = rw c.in_ok-push.ensures.items (record {
 pub returns : goal.returns
 returns c = record {
   all = omega (arith, c.loop.invariant.long, c.loop-test.false, c.loop.auto.counter-end);
-  each = λ place other lt. new_at _ c.loop.invariant.fresh place other (omega (arith, lt, c.loop.invariant.long, c.loop-test.false));
+  each = λ place other lt. new_at _ c.loop.invariant.fresh place
+      other (omega (arith, lt, c.loop.invariant.long, c.loop-test.false));
 }

@@ -13,7 +13,8 @@ loop-place-preserved-then-not-is_unequal c =
     let at = c.loop-place.place in
     let test = is_unequal c.args.own.now c.args.theirs.now in
     c.loop-place.invariant
-    ∙ sym (kept_next test at ∙ ap (λ b. filter test (range_with_len 0 at) ++ cond b (at ∷ []) []) (sym c.is_unequal.ensures ∙ c.if-not-is_unequal.true) ∙ append-nil _)
+    ∙ sym (kept_next test at ∙ ap (λ b. filter test (range_with_len 0 at) ++ cond b (at ∷ []) [])
+    (sym c.is_unequal.ensures ∙ c.if-not-is_unequal.true) ∙ append-nil _)
 
 -- The place is one more.
 pub loop-place-preserved : goal.loop-place-preserved
@@ -22,11 +23,13 @@ loop-place-preserved c =
     let test = is_unequal c.args.own.now c.args.theirs.now in
     c.in_ok-push.ensures.items
     ∙ ap (λ ps. ps ++ at ∷ []) c.loop-place.invariant
-    ∙ sym (kept_next test at ∙ ap (λ b. filter test (range_with_len 0 at) ++ cond b (at ∷ []) []) (sym c.is_unequal.ensures ∙ c.if-not-is_unequal.false))
+    ∙ sym (kept_next test at ∙ ap (λ b. filter test (range_with_len 0 at) ++ cond b (at ∷ []) [])
+    (sym c.is_unequal.ensures ∙ c.if-not-is_unequal.false))
 
 -- All places were seen.
 pub returns : goal.returns
 unfolding unequal
 returns c =
     let end : c.loop-place.place ≡ BUCKET_COUNT = omega (arith, c.loop-place-test.false, c.loop-place.auto.place-end) in
-    c.of.ensures ∙ c.loop-place.invariant ∙ ap (λ n. filter (is_unequal c.args.own.now c.args.theirs.now) (range_with_len 0 n)) end
+    c.of.ensures ∙ c.loop-place.invariant ∙ ap (λ n. filter (is_unequal c.args.own.now c.args.theirs.now)
+    (range_with_len 0 n)) end

@@ -12,7 +12,8 @@ loop-at-preserved c =
     let before : ℕ = c.loop-at.at - 1 in
     let next : suc before ≡ c.loop-at.at = omega (arith, c.loop-at.auto.at) in
     let less : nat_cmp (get_or bytes before 0) (get_or bytes (suc before) 0) ≡ Less =
-    subst (λ (n : ℕ). nat_cmp (get_or bytes before 0) (get_or bytes n 0) ≡ Less) (sym next) (sym c.cmp.ensures ∙ less_is c.cmp.result c.if-ne.ensures)
+    subst (λ (n : ℕ). nat_cmp (get_or bytes before 0) (get_or bytes n 0) ≡ Less) (sym next) (sym c.cmp.ensures
+    ∙ less_is c.cmp.result c.if-ne.ensures)
     in
     let on = ascends_on nat_cmp bytes before 0 (omega (arith, next, c.loop-at-test.true)) less in
     let now : c.loop-at.at + 1 - 1 ≡ suc before = omega (arith, next) in
@@ -20,4 +21,5 @@ loop-at-preserved c =
 
 -- No more than one byte is left.
 pub returns : goal.returns
-returns c = sym (sym c.loop-at.invariant ∙ ascends_end nat_cmp c.args.bytes.now (c.loop-at.at - 1) (omega (arith, c.loop-at-test.false, c.loop-at.auto.at)))
+returns c = sym (sym c.loop-at.invariant ∙ ascends_end nat_cmp c.args.bytes.now (c.loop-at.at - 1)
+    (omega (arith, c.loop-at-test.false, c.loop-at.auto.at)))

@@ -5,7 +5,8 @@ use Rattle.exchange.specs.Reading.{IsOutcome}
 use Rattle.exchange.proofs.Outcomes.{only_outcome, found_text, body_is}
 use Rattle.exchange.proofs.reader.read_frame_body.Goals as goal
 
-told : (c : goal.After-body_of) → Tells is_memory (λ f. f) c.body_of.result (IsOutcome c.args.header.now.kind c.args.body)
+told : (c : goal.After-body_of) → Tells is_memory (λ f. f) c.body_of.result (IsOutcome c.args.header.now.kind
+    c.args.body)
 told c = rw c.kind.ensures at c.body_of.ensures
 
 -- What came of the body is told of the text.
@@ -14,7 +15,8 @@ returns-clause-found c = found_text c.args.header.now c.args.body c.body_of.resu
 
 -- A frame that the text spells is the outcome of its body.
 pub returns-clause-only : goal.returns-clause-only
-returns-clause-only c = λ f is e. only_outcome c.args.header.now.kind c.args.body c.body_of.result (Ok f) (told c) (body_is c.args.header.now c.args.body f is e)
+returns-clause-only c = λ f is e. only_outcome c.args.header.now.kind c.args.body c.body_of.result (Ok f) (told c)
+    (body_is c.args.header.now c.args.body f is e)
 
 -- A fault is an outcome, and there is one.
 pub returns-clause-faulty : goal.returns-clause-faulty

@@ -4,4 +4,5 @@ use Rattle.exchange.proofs.round.ask.Given as goal
 
 abbrev pub invariant-loop-digest : goal.invariant-loop-digest
 invariant-loop-digest l =
-    (other : List ℕ) → asked_in other l.asked.entries ≡ cond (is_among other (take l.digest-index l.digests)) (Some false) (asked_in other l.fn.asked.entries)
+    (other : List ℕ) → asked_in other l.asked.entries ≡ cond (is_among other (take l.digest-index l.digests))
+    (Some false) (asked_in other l.fn.asked.entries)

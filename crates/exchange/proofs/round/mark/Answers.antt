@@ -8,4 +8,5 @@ use Rattle.exchange.proofs.round.mark.Goals as goal
 pub returns-in-None : goal.returns-in-None
 returns-in-None c =
     ap (λ map. map.entries) c.get_mut.follows.holds-at-none
-    ∙ sym (set_nothing (is_at (digest_cmp c.args.digest.now)) true c.args.asked.now.entries (sym c.in-None.ensures.value))
+    ∙ sym (set_nothing (is_at (digest_cmp c.args.digest.now)) true c.args.asked.now.entries
+    (sym c.in-None.ensures.value))

@@ -3,4 +3,5 @@ use Rattle.exchange.specs.Held.{spoken_of}
 use Rattle.exchange.proofs.site_holder.digests_of_tree.Given as goal
 
 abbrev pub invariant-loop-digest : goal.invariant-loop-digest
-invariant-loop-digest l = l.digests.items ++ spoken_of l.version l.digest-iterator ≡ spoken_of l.version l.initial.digest-iterator
+invariant-loop-digest l = l.digests.items ++ spoken_of l.version l.digest-iterator ≡ spoken_of l.version
+    l.initial.digest-iterator

@@ -5,4 +5,5 @@ use Rattle.exchange.proofs.site_holder.digests_of_tree_in.Given as goal
 
 abbrev pub invariant-loop-digest : goal.invariant-loop-digest
 invariant-loop-digest l =
-    l.digests.items ++ filter (is_in l.places) (spoken_of l.version l.digest-iterator) ≡ filter (is_in l.places) (spoken_of l.version l.initial.digest-iterator)
+    l.digests.items ++ filter (is_in l.places) (spoken_of l.version l.digest-iterator) ≡ filter (is_in l.places)
+    (spoken_of l.version l.initial.digest-iterator)

@@ -4,4 +4,9 @@ use Rattle.exchange.proofs.writer.give_correction.Goals as goal
 
 -- A spelling is short.
 pub with_header-requires : goal.with_header-requires
-with_header-requires c = omega (arith, c.len.ensures, short_spelling c.args.op.now c.in_ok-spelled.spelled.items c.in_ok-spelled.ensures.spelled c.in_ok-spelled.ensures.lawful)
+with_header-requires c = omega (
+  arith,
+  c.len.ensures,
+  short_spelling c.args.op.now c.in_ok-spelled.spelled.items
+      c.in_ok-spelled.ensures.spelled c.in_ok-spelled.ensures.lawful,
+)

@@ -6,6 +6,8 @@ use Rattle.exchange.proofs.writer.put_digests.Goals as goal
 pub loop-digest-preserved : goal.loop-digest-preserved
 loop-digest-preserved c =
     let d = c.digest-item.result in
-    put_one c.args.digests.now c.loop-digest.digest-index d c.args.out.now.items c.loop-digest.out.items c.put_digest.new.out.items c.loop-digest-test.true c.digest-item.is
+    put_one c.args.digests.now c.loop-digest.digest-index d c.args.out.now.items c.loop-digest.out.items
+    c.put_digest.new.out.items c.loop-digest-test.true c.digest-item.is
     (ap length (sym c.as_bytes.ensures) ∙ c.put_digest.ensures.long) c.loop-digest.invariant.1
-    (c.in_ok-put_digest.ensures.text ∙ ap (λ (t : List ℕ). c.loop-digest.out.items ++ t) c.as_bytes.ensures) c.loop-digest.invariant.2
+    (c.in_ok-put_digest.ensures.text ∙ ap (λ (t : List ℕ). c.loop-digest.out.items ++ t) c.as_bytes.ensures)
+    c.loop-digest.invariant.2

@@ -15,7 +15,8 @@ returns-in_err-absent-clause-noted g c =
     let copied = c.in_ok-copy.ensures in
     let absent = ap (λ key. list_any (is_at (g.K.Ord.cmp key)) keys) (sym copied) ∙ c.in_err-absent.ensures.absent in
     let back = ap (remove_key test) c.in_err-absent.ensures.err ∙ remove_key_absent test keys absent in
-    taken_out-noted g.K.Ord.cmp c.args.added.now.items c.push.new.self.items c.args.key keys c.insert.new.self.keys c.in_ok-push.ensures.items back
+    taken_out-noted g.K.Ord.cmp c.args.added.now.items c.push.new.self.items c.args.key keys c.insert.new.self.keys
+    c.in_ok-push.ensures.items back
 
 -- the key was noted and put in
 pub returns-else-not-absent-clause-noted : goal.returns-else-not-absent-clause-noted
@@ -28,4 +29,5 @@ returns-else-not-absent-clause-noted g c =
     let absent = ap (λ k. list_any (is_at (g.K.Ord.cmp k)) keys) (sym copied) ∙ lacked in
     let put = c.in_ok-absent.ensures.keys ∙ ap (insert_key g.K.Ord.cmp keys) copied in
     let back = ap (remove_key test) put ∙ remove-insert_key g.met.K.Ord.total key keys absent in
-    taken_out-noted g.K.Ord.cmp c.args.added.now.items c.push.new.self.items c.args.key keys c.insert.new.self.keys c.in_ok-push.ensures.items back
+    taken_out-noted g.K.Ord.cmp c.args.added.now.items c.push.new.self.items c.args.key keys c.insert.new.self.keys
+    c.in_ok-push.ensures.items back

@@ -17,7 +17,8 @@ returns-in_ok-add-in-Some-clause-ok g c =
     let one = g.J.Summary.of_one c.args.op.now in
     (c.get_mut.follows.holds c.add.new.self).0
     ∙ ap (set_value test before) c.in_ok-add-in-Some.ensures.ok
-    ∙ put_found g.met.K.Ord.total g.J.Join.joined c.args.key.now one before c.in-Some.there.now c.get_mut.ensures.ordered (sym c.in-Some.ensures.value)
+    ∙ put_found g.met.K.Ord.total g.J.Join.joined c.args.key.now one before c.in-Some.there.now
+    c.get_mut.ensures.ordered (sym c.in-Some.ensures.value)
 
 -- the value refused the operation, and kept what was there
 pub returns-in_err-add-in-Some-clause-refused : goal.returns-in_err-add-in-Some-clause-refused
@@ -34,9 +35,11 @@ returns-in_ok-insert-in-None-clause-ok g c =
     let before = c.args.into.now.entries in
     let one = g.J.Summary.of_one c.args.op.now in
     let laws = g.met.J.Summary.summary_laws in
-    let value = c.in_ok-add-in-None.ensures.ok ∙ ap (λ v. g.J.Join.joined v one) c.empty-value.ensures ∙ laws.neutral one (laws.one_held c.args.op.now) in
+    let value = c.in_ok-add-in-None.ensures.ok ∙ ap (λ v. g.J.Join.joined v one) c.empty-value.ensures
+    ∙ laws.neutral one (laws.one_held c.args.op.now) in
     c.in_ok-insert-in-None.ensures.entries
-    ∙ ap (λ map. insert_entry g.K.Ord.cmp map.entries c.in_ok-copy-in-None.field-0 c.add-in-None.new.self) c.get_mut.follows.holds-at-none
+    ∙ ap (λ map. insert_entry g.K.Ord.cmp map.entries c.in_ok-copy-in-None.field-0 c.add-in-None.new.self)
+    c.get_mut.follows.holds-at-none
     ∙ ap (λ key. insert_entry g.K.Ord.cmp before key c.add-in-None.new.self) c.in_ok-copy-in-None.ensures
     ∙ ap (insert_entry g.K.Ord.cmp before c.args.key.now) value
     ∙ put_absent g.met.K.Ord.total g.J.Join.joined c.args.key.now one before (sym c.in-None.ensures.value)

@@ -13,7 +13,8 @@ returns-in-None-clause-back g c = λ before held takes eq.
     let absent = subst (IsUndoAt g.J.Undoes.TakesBack c.args.op.now (lookup test before)) c.in-None.is takes in
     c.remove.ensures.entries
     ∙ ap (remove_entry test) eq
-    ∙ remove-put_joined g.met.K.Ord.total g.J.Join.joined c.args.key.now (g.J.Summary.of_one c.args.op.now) before absent
+    ∙ remove-put_joined g.met.K.Ord.total g.J.Join.joined c.args.key.now (g.J.Summary.of_one c.args.op.now) before
+    absent
 
 -- what is left were entries before
 pub returns-in-None-clause-held : goal.returns-in-None-clause-held
@@ -21,4 +22,5 @@ returns-in-None-clause-held g c = λ all.
     let Held : g.row.K.Denot × g.row.J.Denot → Type 0 = λ e. g.J.Join.IsHeld e.1 in
     let test = is_at (g.K.Ord.cmp c.args.key.now) in
     let entries = c.args.map.now.entries in
-    All-same Held c.remove.new.self.entries (remove_entry test entries) c.remove.ensures.entries (All-remove_entry test Held entries all)
+    All-same Held c.remove.new.self.entries (remove_entry test entries) c.remove.ensures.entries
+    (All-remove_entry test Held entries all)

@@ -10,4 +10,6 @@ abbrev pub invariant-loop-pair : goal.invariant-loop-pair
 invariant-loop-pair g l =
     let old = state g.S.Store l.fn.part.conn.now in
     let now = state g.S.Store l.part.conn.now in
-    (l.part.conn.ghost_name ≡ l.fn.part.conn.ghost_name) × (HasCleanDisk now → IsMoving now (map moved (take l.pair-index l.pairs)) × KeepsCommit old now) × Survives old now (λ _. ⊥)
+    (l.part.conn.ghost_name ≡ l.fn.part.conn.ghost_name)
+    × (HasCleanDisk now → IsMoving now (map moved (take l.pair-index l.pairs)) × KeepsCommit old now)
+    × Survives old now (λ _. ⊥)

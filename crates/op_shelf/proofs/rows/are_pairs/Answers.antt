@@ -5,7 +5,8 @@ use Rattle.op_shelf.proofs.rows.are_pairs.Goals as goal
 
 -- This row is that of an operation too.
 pub loop-pair-preserved : goal.loop-pair-preserved
-loop-pair-preserved c = all_upto IsPair c.args.pairs.now c.loop-pair.pair-index c.pair-item.result c.loop-pair-test.true c.pair-item.is c.in_ok-is_pair.ensures.found c.loop-pair.invariant
+loop-pair-preserved c = all_upto IsPair c.args.pairs.now c.loop-pair.pair-index c.pair-item.result c.loop-pair-test.true
+    c.pair-item.is c.in_ok-is_pair.ensures.found c.loop-pair.invariant
 
 -- At the end all rows were looked at.
 pub returns-clause-all : goal.returns-clause-all

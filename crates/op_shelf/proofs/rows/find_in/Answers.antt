@@ -8,7 +8,8 @@ pub loop-row-preserved : goal.loop-row-preserved
 loop-row-preserved c =
     let entry = entry_by c.args.digest.now c.args.body.now in
     let is : c.row-item.result ≡ entry = search rules in
-    all_upto (λ e. e ≡ entry) c.args.rows.now c.loop-row.row-index c.row-item.result c.loop-row-test.true c.row-item.is is c.loop-row.invariant
+    all_upto (λ e. e ≡ entry) c.args.rows.now c.loop-row.row-index c.row-item.result c.loop-row-test.true c.row-item.is
+    is c.loop-row.invariant
 
 -- At the end all rows were looked at.
 pub returns-clause-alone : goal.returns-clause-alone

@@ -8,8 +8,10 @@ returns-in-len1-len1 c =
     let s = c.args.schema.now in
     let one : length c.as_slice.result.now ≡ 1 = search (arith, rules) in
     let other : length c.as_slice-2.result.now ≡ 1 = search (arith, rules) in
-    let tables : s.tables ≡ c.table-item.result ∷ [] = sym c.as_slice.ensures ∙ single c.as_slice.result.now c.table-item.result one c.table-item.is in
-    let indexes : s.indexes ≡ c.index-item.result ∷ [] = sym c.as_slice-2.ensures ∙ single c.as_slice-2.result.now c.index-item.result other c.index-item.is in (
+    let tables : s.tables ≡ c.table-item.result ∷ [] = sym c.as_slice.ensures ∙ single c.as_slice.result.now
+    c.table-item.result one c.table-item.is in
+    let indexes : s.indexes ≡ c.index-item.result ∷ [] = sym c.as_slice-2.ensures ∙ single c.as_slice-2.result.now
+    c.index-item.result other c.index-item.is in (
       λ told. made_of s c.table-item.result c.index-item.result tables indexes (c.are_parts.ensures.0 told),
       λ shelf. c.are_parts.ensures.1 (parts_of s c.table-item.result c.index-item.result tables indexes shelf),
     )

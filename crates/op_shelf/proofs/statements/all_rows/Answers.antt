@@ -10,9 +10,11 @@ select-requires g c = record { plain = plain_all (state g.S.Store c.args.databas
 -- What is shown are the entries of the table.
 pub returns-clause-rows : goal.returns-clause-rows
 returns-clause-rows g c clean =
-    IfOk-weaker c.select.result _ _ (λ rows h. (lists (state g.S.Store c.args.database.now) (state g.S.Store c.select.new.database) c.requires.shelf rows.items h).0) (c.select.ensures.shown clean)
+    IfOk-weaker c.select.result _ _ (λ rows h. (lists (state g.S.Store c.args.database.now)
+    (state g.S.Store c.select.new.database) c.requires.shelf rows.items h).0) (c.select.ensures.shown clean)
 
 -- They come in the order of their digests' texts.
 pub returns-clause-ascending : goal.returns-clause-ascending
 returns-clause-ascending g c clean =
-    IfOk-weaker c.select.result _ _ (λ rows h. (lists (state g.S.Store c.args.database.now) (state g.S.Store c.select.new.database) c.requires.shelf rows.items h).1) (c.select.ensures.shown clean)
+    IfOk-weaker c.select.result _ _ (λ rows h. (lists (state g.S.Store c.args.database.now)
+    (state g.S.Store c.select.new.database) c.requires.shelf rows.items h).1) (c.select.ensures.shown clean)

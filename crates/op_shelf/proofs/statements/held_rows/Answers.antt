@@ -10,7 +10,8 @@ select-requires g c = record { plain = plain_held (state g.S.Store c.args.databa
 -- What is shown are the entries under the digest.
 pub returns-clause-rows : goal.returns-clause-rows
 returns-clause-rows g c clean =
-    IfOk-weaker c.select.result _ _ (λ rows h. finds (state g.S.Store c.args.database.now) (state g.S.Store c.select.new.database) c.requires.shelf rows.items c.args.digest.now h)
+    IfOk-weaker c.select.result _ _ (λ rows h. finds (state g.S.Store c.args.database.now)
+    (state g.S.Store c.select.new.database) c.requires.shelf rows.items c.args.digest.now h)
     (rw c.params-to_sql.ensures at (c.select.ensures.shown clean))
 
 -- The text has the digest as its parameter.

@@ -10,7 +10,8 @@ select-requires g c = record { plain = plain_kind (state g.S.Store c.args.databa
 -- A row is shown for each entry of the kind.
 pub returns-clause-count : goal.returns-clause-count
 returns-clause-count g c clean =
-    IfOk-weaker c.select.result _ _ (λ rows h. counts (state g.S.Store c.args.database.now) (state g.S.Store c.select.new.database) c.requires.shelf rows.items c.args.kind h)
+    IfOk-weaker c.select.result _ _ (λ rows h. counts (state g.S.Store c.args.database.now)
+    (state g.S.Store c.select.new.database) c.requires.shelf rows.items c.args.kind h)
     (rw (c.params-to_sql.ensures, c.from.ensures) at (c.select.ensures.shown clean))
 
 -- The text has the kind as its parameter.

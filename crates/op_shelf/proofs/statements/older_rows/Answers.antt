@@ -10,4 +10,5 @@ select-requires g c = record { plain = plain_older (state g.S.Store c.args.datab
 -- What is shown are the pairs of the table.
 pub returns-clause-rows : goal.returns-clause-rows
 returns-clause-rows g c clean =
-    IfOk-weaker c.select.result _ _ (λ rows h. lists_pairs (state g.S.Store c.args.database.now) (state g.S.Store c.select.new.database) rows.items c.requires.older h) (c.select.ensures.shown clean)
+    IfOk-weaker c.select.result _ _ (λ rows h. lists_pairs (state g.S.Store c.args.database.now)
+    (state g.S.Store c.select.new.database) rows.items c.requires.older h) (c.select.ensures.shown clean)

@@ -9,21 +9,28 @@ use Rattle.op_shelf.proofs.table.find.Goals as goal
 -- No row is shown where none is there.
 pub returns-clause-absent : goal.returns-clause-absent
 returns-clause-absent g c clean none =
-    let rows : c.in_ok-held.held.items ≡ [] = subst (λ r. r ≡ []) c.deref.ensures.value (c.find_in.ensures.absent none) in
-    none_in (under c.args.digest.now (rows_of (state g.S.Store c.args.database.now))) c.in_ok-held.held.items (c.in_ok-held.ensures.rows clean) rows
+    let rows : c.in_ok-held.held.items ≡ [] = subst (λ r. r ≡ []) c.deref.ensures.value (c.find_in.ensures.absent none)
+    in
+    none_in (under c.args.digest.now (rows_of (state g.S.Store c.args.database.now))) c.in_ok-held.held.items
+    (c.in_ok-held.ensures.rows clean) rows
 
 -- All rows that are shown are the entry.
 pub returns-clause-known : goal.returns-clause-known
 returns-clause-known g c clean there =
-    let some : 0 < length c.in_ok-held.held.items = subst (λ r. 0 < length r) c.deref.ensures.value (c.find_in.ensures.found there) in
+    let some : 0 < length c.in_ok-held.held.items = subst (λ r. 0 < length r) c.deref.ensures.value
+    (c.find_in.ensures.found there) in
     let all : All (λ e. e ≡ entry_by c.args.digest.now c.args.body.now) c.in_ok-held.held.items =
-    subst₂ (λ d r. All (λ e. e ≡ entry_by d c.args.body.now) r) c.as_bytes.ensures.value c.deref.ensures.value (c.find_in.ensures.alone there) in
-    known_from (state g.S.Store c.args.database.now) (state g.S.Store c.held_rows.new.database) c.args.digest.now (entry_by c.args.digest.now c.args.body.now)
+    subst₂ (λ d r. All (λ e. e ≡ entry_by d c.args.body.now) r) c.as_bytes.ensures.value c.deref.ensures.value
+    (c.find_in.ensures.alone there) in
+    known_from (state g.S.Store c.args.database.now) (state g.S.Store c.held_rows.new.database) c.args.digest.now
+    (entry_by c.args.digest.now c.args.body.now)
     c.in_ok-held.held.items (c.in_ok-held.ensures.rows clean) some all (c.in_ok-held.ensures.same clean)
 
 -- Another row that is shown is in the table.
 pub returns-clause-other : goal.returns-clause-other
 returns-clause-other g c clean bad =
-    any_in (λ e. e ≢ entry_by c.args.digest.now c.args.body.now) (under c.args.digest.now (rows_of (state g.S.Store c.args.database.now))) c.in_ok-held.held.items
+    any_in (λ e. e ≢ entry_by c.args.digest.now c.args.body.now)
+    (under c.args.digest.now (rows_of (state g.S.Store c.args.database.now))) c.in_ok-held.held.items
     (c.in_ok-held.ensures.rows clean)
-    (subst₂ (λ d r. Any (λ e. e ≢ entry_by d c.args.body.now) r) c.as_bytes.ensures.value c.deref.ensures.value (c.find_in.ensures.other bad))
+    (subst₂ (λ d r. Any (λ e. e ≢ entry_by d c.args.body.now) r) c.as_bytes.ensures.value c.deref.ensures.value
+    (c.find_in.ensures.other bad))

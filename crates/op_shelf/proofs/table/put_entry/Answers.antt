@@ -12,11 +12,13 @@ pub returns-in_err-add-clause-store : goal.returns-in_err-add-clause-store
 returns-in_err-add-clause-store g c clean bad =
     let early : HasCleanDisk (state g.S.Store c.find.new.database) = omega (arith, c.add.ensures.crash.clean, clean) in
     let entry = entry_by c.args.digest.now c.args.body.now in
-    let refused : IsNotDone insert_text entry (state g.S.Store c.find.new.database) (state g.S.Store c.add.new.database) = search (c.in_err-add.ensures.store clean, bad, rules) in
+    let refused : IsNotDone insert_text entry (state g.S.Store c.find.new.database) (state g.S.Store c.add.new.database)
+    = search (c.in_err-add.ensures.store clean, bad, rules) in
     inr (inr (c.find.new.database, c.in_ok-find.ensures.same early, refused))
 
 -- What was added is committed, and every crash leaves it.
 pub returns-clause-durable : goal.returns-clause-durable
 returns-clause-durable g c clean =
-    lasts_added (state g.S.Store c.find.new.database) (state g.S.Store c.add.new.database) (entry_by c.args.digest.now c.args.body.now)
+    lasts_added (state g.S.Store c.find.new.database) (state g.S.Store c.add.new.database)
+    (entry_by c.args.digest.now c.args.body.now)
     (λ db up may. g.met.S.Store.settled c.add.new.database.store db up may) (c.in_ok-add.ensures.added clean)

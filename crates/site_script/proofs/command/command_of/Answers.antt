@@ -3,4 +3,5 @@ use Rattle.site_script.proofs.command.command_of.Goals as goal
 
 pub returns-in_ok-words-in-len1-up-clause-lawful : goal.returns-in_ok-words-in-len1-up-clause-lawful
 returns-in_ok-words-in-len1-up-clause-lawful c short =
-    read_lawful c.args.line.now c.in_ok-words-in-len1-up.words.items c.as_slice.result.now c.command_in.result c.as_slice.ensures.value c.in_ok-words-in-len1-up.ensures c.command_in.ensures short
+    read_lawful c.args.line.now c.in_ok-words-in-len1-up.words.items c.as_slice.result.now c.command_in.result
+    c.as_slice.ensures.value c.in_ok-words-in-len1-up.ensures c.command_in.ensures short

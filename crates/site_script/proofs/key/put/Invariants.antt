@@ -6,5 +6,6 @@ use Rattle.site_script.proofs.key.put.Given as goal
 abbrev pub invariant-loop-i : goal.invariant-loop-i
 invariant-loop-i l = record {
   same : l.keys.items ≡ l.fn.keys.items;
-  so_far : put_key l.key l.keys.items ≡ option_map (λ more. take l.i l.keys.items ++ more) (put_key l.key (drop l.i l.keys.items));
+  so_far : put_key l.key l.keys.items ≡ option_map (λ more. take l.i l.keys.items ++ more)
+      (put_key l.key (drop l.i l.keys.items));
 }

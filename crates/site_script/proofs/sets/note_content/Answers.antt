@@ -9,5 +9,7 @@ use Rattle.site_script.proofs.sets.note_content.Goals as goal
 pub returns : goal.returns
 unfolding note_made
 returns c =
-    subst (λ es. Gives is_memory (λ x. x) c.content_from.result (made_of KEY_OBJECT_SELECTION_DOCUMENT_STORAGE c.args.line.now.note es)) c.in_ok-elements.ensures
-    (subst (λ k. Gives is_memory (λ x. x) c.content_from.result (made_of KEY_OBJECT_SELECTION_DOCUMENT_STORAGE k c.in_ok-elements.elements.items)) c.as_slice.ensures c.content_from.ensures)
+    subst (λ es. Gives is_memory (λ x. x) c.content_from.result (made_of KEY_OBJECT_SELECTION_DOCUMENT_STORAGE
+    c.args.line.now.note es)) c.in_ok-elements.ensures
+    (subst (λ k. Gives is_memory (λ x. x) c.content_from.result (made_of KEY_OBJECT_SELECTION_DOCUMENT_STORAGE k
+    c.in_ok-elements.elements.items)) c.as_slice.ensures c.content_from.ensures)

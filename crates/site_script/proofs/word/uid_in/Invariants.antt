@@ -3,7 +3,8 @@ use Rattle.std.specs.List.{suffix_len}
 use Rattle.site_script.proofs.word.uid_in.Given as goal
 
 abbrev pub invariant-loop-end : goal.invariant-loop-end
-invariant-loop-end l = (l.end ≤ length l.bytes) × (l.end + suffix_len (λ b. b == 0) l.bytes ≡ length l.bytes + suffix_len (λ b. b == 0) (take l.end l.bytes))
+invariant-loop-end l = (l.end ≤ length l.bytes) × (l.end + suffix_len (λ b. b == 0) l.bytes ≡ length l.bytes +
+    suffix_len (λ b. b == 0) (take l.end l.bytes))
 
 abbrev pub decreases-loop-end : goal.decreases-loop-end
 decreases-loop-end l = l.end

@@ -1,4 +1,5 @@
-use Rattle.site_state.proofs.Same.{equal_maps, equal_contents, equal_picks, equal_covers, equal_shown, equal_flagged, equal_attributes, equal_counts, equal_tops}
+use Rattle.site_state.proofs.Same.{equal_maps, equal_contents, equal_picks, equal_covers, equal_shown, equal_flagged}
+use Rattle.site_state.proofs.Same.{equal_attributes, equal_counts, equal_tops}
 use Rattle.site_state.proofs.laws.order_and_repeats_are_free.Goals as goal
 
 pub returns-clause-maps : goal.returns-clause-maps

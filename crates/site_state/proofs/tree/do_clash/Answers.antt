@@ -9,7 +9,9 @@ use Rattle.site_state.proofs.tree.do_clash.Goals as goal
 
 pub loop-digest-init : goal.loop-digest-init
 loop-digest-init c = record {
-  sorted = subst (λ (es : List (List ℕ × Op)). IsStrictlySortedBy digest_cmp (keys_of es)) (sym (c.into_iter-digest-iterator.ensures.into_iter_gives ∙ c.iter-digest-items.ensures.rest)) c.iter-digest-items.ensures.ordered;
+  sorted = subst (λ (es : List (List ℕ × Op)). IsStrictlySortedBy digest_cmp (keys_of es))
+      (sym (c.into_iter-digest-iterator.ensures.into_iter_gives ∙ c.iter-digest-items.ensures.rest))
+      c.iter-digest-items.ensures.ordered;
   of_all = λ d o here. here;
   agree = λ agree. agree;
 }
@@ -19,9 +21,12 @@ loop-digest-preserved c =
     let before = c.loop-digest.invariant in
     let parts = c.in-Some.ensures.steps in
     record {
-      sorted = rest_sorted c.loop-digest.digest-iterator c.next.new.self c.in-Some.digest.now c.in-Some.op.now parts before.sorted;
-      of_all = λ d o here. before.of_all d o (rest_held c.loop-digest.digest-iterator c.next.new.self c.in-Some.digest.now c.in-Some.op.now parts before.sorted d o here);
-      agree = λ agree. before.agree (agree_more c.args.these.now.entries c.loop-digest.digest-iterator c.next.new.self c.in-Some.digest.now c.in-Some.op.now parts c.if-has_other.ensures agree);
+      sorted = rest_sorted c.loop-digest.digest-iterator c.next.new.self c.in-Some.digest.now c.in-Some.op.now parts
+          before.sorted;
+      of_all = λ d o here. before.of_all d o (rest_held c.loop-digest.digest-iterator c.next.new.self
+          c.in-Some.digest.now c.in-Some.op.now parts before.sorted d o here);
+      agree = λ agree. before.agree (agree_more c.args.these.now.entries c.loop-digest.digest-iterator c.next.new.self
+          c.in-Some.digest.now c.in-Some.op.now parts c.if-has_other.ensures agree);
     }
 
 pub returns-then-has_other : goal.returns-then-has_other
@@ -34,7 +39,8 @@ returns-then-has_other c =
       other.0,
       c.in-Some.op.now,
       other.1,
-      get_held c.args.those.now.entries d ∙ ap (λ es. held es d) (sym all) ∙ c.loop-digest.invariant.of_all d c.in-Some.op.now first,
+      get_held c.args.those.now.entries d ∙ ap (λ es. held es d) (sym all) ∙ c.loop-digest.invariant.of_all d
+          c.in-Some.op.now first,
       other.2,
     )
 
@@ -42,4 +48,5 @@ pub returns : goal.returns
 returns c =
     let all = c.into_iter-digest-iterator.ensures.into_iter_gives ∙ c.iter-digest-items.ensures.rest in
     let es = c.args.these.now.entries in
-    agreed es c.args.those.now.entries (subst (AgreeOver es) all (c.loop-digest.invariant.agree (agree_none es c.loop-digest.digest-iterator c.in-None.ensures.steps.0)))
+    agreed es c.args.those.now.entries (subst (AgreeOver es)
+    all (c.loop-digest.invariant.agree (agree_none es c.loop-digest.digest-iterator c.in-None.ensures.steps.0)))

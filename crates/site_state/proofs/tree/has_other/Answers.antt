@@ -7,9 +7,11 @@ use Rattle.site_state.proofs.tree.has_other.Goals as goal
 pub returns-in-None : goal.returns-in-None
 returns-in-None c =
     none_held (of_entries c.args.tree.now.entries) c.args.digest.now c.args.op.now
-    (found_at (of_entries c.args.tree.now.entries) c.args.tree.now.entries c.args.digest.now None refl c.in-None.ensures.value)
+    (found_at (of_entries c.args.tree.now.entries) c.args.tree.now.entries c.args.digest.now None refl
+    c.in-None.ensures.value)
 
 pub returns-in-Some : goal.returns-in-Some
 returns-in-Some c =
     other_or_not (of_entries c.args.tree.now.entries) c.args.digest.now c.args.op.now c.in-Some.held.now c.equals.result
-    (found_at (of_entries c.args.tree.now.entries) c.args.tree.now.entries c.args.digest.now (Some c.in-Some.held.now) refl c.in-Some.ensures.value) c.equals.ensures
+    (found_at (of_entries c.args.tree.now.entries) c.args.tree.now.entries c.args.digest.now (Some c.in-Some.held.now)
+    refl c.in-Some.ensures.value) c.equals.ensures

@@ -5,7 +5,8 @@ use Rattle.site_state.proofs.tree.take_out.Given as goal
 
 -- what is left to take out leads to where all of it leads
 abbrev pub invariant-loop-digest : goal.invariant-loop-digest
-invariant-loop-digest l = without l.left.items (of_entries l.tree.entries) ≡ without l.initial.left.items (of_entries l.initial.tree.entries)
+invariant-loop-digest l = without l.left.items (of_entries l.tree.entries) ≡ without l.initial.left.items
+    (of_entries l.initial.tree.entries)
 
 abbrev pub decreases-loop-digest : goal.decreases-loop-digest
 decreases-loop-digest l = vec_len l.left

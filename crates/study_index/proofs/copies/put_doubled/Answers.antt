@@ -23,5 +23,6 @@ returns c = λ uid.
     or_none (has text_cmp c.loop-copy.uids.keys uid)
     ∙ ap (λ cs. has text_cmp c.loop-copy.uids.keys uid || repeats before cs uid) (sym c.in-None.ensures.steps.0)
     ∙ c.loop-copy.invariant uid
-    ∙ ap (λ cs. has text_cmp c.args.uids.now.keys uid || repeats None cs uid) (c.into_iter-copy-iterator.ensures.into_iter_gives ∙ c.iter-copy-items.ensures.rest)
+    ∙ ap (λ cs. has text_cmp c.args.uids.now.keys uid || repeats None cs uid)
+    (c.into_iter-copy-iterator.ensures.into_iter_gives ∙ c.iter-copy-items.ensures.rest)
     ∙ ap (λ b. has text_cmp c.args.uids.now.keys uid || b) (all_counted keys uid c.iter-copy-items.ensures.ordered)

@@ -9,7 +9,8 @@ use Rattle.study_index.proofs.index.add_content.Goals as goal
 
 -- The copy was taken in last, and is taken back.
 pub returns-in-Err-clause-copies_kept : goal.returns-in-Err-clause-copies_kept
-returns-in-Err-clause-copies_kept c = c.undo.ensures c.args.copies.now c.held.ensures c.in_ok-undo.ensures.undo c.in_ok-undo.ensures.ok
+returns-in-Err-clause-copies_kept c = c.undo.ensures c.args.copies.now c.held.ensures c.in_ok-undo.ensures.undo
+    c.in_ok-undo.ensures.ok
 
 -- The copy is that of the content.
 pub returns-clause-copies : goal.returns-clause-copies
@@ -21,5 +22,7 @@ returns-clause-copies c =
 pub returns-clause-picks : goal.returns-clause-picks
 returns-clause-picks c =
     c.in_default.ensures.ok
-    ∙ ap (λ i. put_joined text_cmp (least_of pick_cmp) c.args.live.now i (Some c.pick_in.result)) (c.duplicate.ensures ∙ ap (λ (x : List ℕ × List ℕ). x.0) (c.copy.view_is ∙ c.copy_of-copy.ensures))
-    ∙ ap (λ p. put_joined text_cmp (least_of pick_cmp) c.args.live.now c.args.content.now.instance (Some p)) (c.pick_in.ensures ∙ ap (λ d. (d, keys_of c.args.content.now)) c.requires)
+    ∙ ap (λ i. put_joined text_cmp (least_of pick_cmp) c.args.live.now i (Some c.pick_in.result)) (c.duplicate.ensures
+    ∙ ap (λ (x : List ℕ × List ℕ). x.0) (c.copy.view_is ∙ c.copy_of-copy.ensures))
+    ∙ ap (λ p. put_joined text_cmp (least_of pick_cmp) c.args.live.now c.args.content.now.instance (Some p))
+    (c.pick_in.ensures ∙ ap (λ d. (d, keys_of c.args.content.now)) c.requires)

@@ -5,4 +5,5 @@ use Rattle.study_index.proofs.index.titles_in.Given as goal
 
 -- with what is left to be named, all is named
 abbrev pub invariant-loop-uid : goal.invariant-loop-uid
-invariant-loop-uid l = union_of naming_cmp l.titles (named l.note.title (drop l.uid-index l.uid-items)) ≡ union_of naming_cmp [] (named l.note.title l.uid-items)
+invariant-loop-uid l = union_of naming_cmp l.titles (named l.note.title (drop l.uid-index l.uid-items)) ≡ union_of
+    naming_cmp [] (named l.note.title l.uid-items)

@@ -21,7 +21,8 @@ loop-place-preserved c =
       c.put.ensures.ordered,
       λ q. step_in (has R old q) (has R (take i fresh) q) (is_at (R q) x) (has R new q) (has R mid q)
           (c.loop-place.invariant.2 q)
-          (ap (λ ks. has R ks q) c.in_default.ensures.ok ∙ has-insert_key place_total place_exact q x mid ∙ as_cond (is_at (R q) x) (has R mid q))
+          (ap (λ ks. has R ks q) c.in_default.ensures.ok ∙ has-insert_key place_total place_exact q x mid
+          ∙ as_cond (is_at (R q) x) (has R mid q))
           ∙ ap (λ b. has R old q || b) (sym (has-take_more R fresh i x q c.loop-place-test.true c.place-item.is)),
     )
 
@@ -32,7 +33,8 @@ returns-in-Err-clause-refused c =
     let fresh = c.args.fresh.now in
     let i = c.loop-place.place-index in
     let old = c.args.tree.now.keys in
-    same_keys place_total place_exact c.take_all.new.tree.keys old c.take_all.ensures.ordered c.len.ensures.ordered (λ q.
+    same_keys place_total place_exact c.take_all.new.tree.keys old c.take_all.ensures.ordered c.len.ensures.ordered
+    (λ q.
     c.take_all.ensures.left q
     ∙ ap (λ ks. has R ks q && not (has R fresh q)) c.in-Err.ensures.refused
     ∙ ap (λ b. b && not (has R fresh q)) (c.loop-place.invariant.2 q)

@@ -8,4 +8,5 @@ use Rattle.study_index.proofs.tree.put_all.Given as goal
 -- the places so far are in
 abbrev pub invariant-loop-place : goal.invariant-loop-place
 invariant-loop-place l = (l.place-index ≤ length l.fresh) × IsStrictlySortedBy place_cmp l.tree.keys
-    × ((q : Place) → has place_cmp l.tree.keys q ≡ (has place_cmp l.initial.tree.keys q || has place_cmp (take l.place-index l.fresh) q))
+    × ((q : Place) → has place_cmp l.tree.keys q ≡ (has place_cmp l.initial.tree.keys q || has place_cmp
+    (take l.place-index l.fresh) q))

@@ -10,5 +10,6 @@ use Rattle.study_index.proofs.tree.put_between.Goals as goal
 -- All places of the range came.
 pub returns : goal.returns
 returns c =
-    let all : map deref c.loop-place.yielded ≡ filter (is_between c.args.front c.args.end) c.args.tree.now.keys = search (rules, iter_end) in
+    let all : map deref c.loop-place.yielded ≡ filter (is_between c.args.front c.args.end) c.args.tree.now.keys =
+    search (rules, iter_end) in
     c.loop-place.invariant ∙ ap (λ ps. union_of text_cmp c.args.uids.now.keys (map instance_of ps)) all

@@ -8,4 +8,5 @@ use Rattle.study_index.proofs.tree.take_all.Given as goal
 -- the places so far are out
 abbrev pub invariant-loop-place : goal.invariant-loop-place
 invariant-loop-place l = (l.place-index ≤ length l.gone) × IsStrictlySortedBy place_cmp l.tree.keys
-    × ((q : Place) → has place_cmp l.tree.keys q ≡ (has place_cmp l.initial.tree.keys q && not (has place_cmp (take l.place-index l.gone) q)))
+    × ((q : Place) → has place_cmp l.tree.keys q ≡ (has place_cmp l.initial.tree.keys q &&
+    not (has place_cmp (take l.place-index l.gone) q)))

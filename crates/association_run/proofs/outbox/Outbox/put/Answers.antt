@@ -11,8 +11,10 @@ returns-in_err-flush-clause-err g c =
 
 -- All that was held was written, and the bytes behind it.
 pub returns-clause-ok : goal.returns-clause-ok
-returns-clause-ok g c = on_ok_map c.write.result _ _ (λ p. written_puts _ _ _ c.args.self.now c.flush.new.self c.args.bytes.now c.in_ok-flush.ensures.empty c.in_ok-flush.ensures.ok p) c.write.ensures.ok
+returns-clause-ok g c = on_ok_map c.write.result _ _ (λ p. written_puts _ _ _ c.args.self.now c.flush.new.self
+    c.args.bytes.now c.in_ok-flush.ensures.empty c.in_ok-flush.ensures.ok p) c.write.ensures.ok
 
 -- All that was held was written, and a front of the bytes behind it.
 pub returns-clause-err : goal.returns-clause-err
-returns-clause-err g c = on_err_map c.write.result _ _ (λ p. puts_broke _ _ _ c.args.self.now [] [] c.args.bytes.now (flushed_puts _ _ c.args.self.now [] refl c.in_ok-flush.ensures.ok) p) c.write.ensures.err
+returns-clause-err g c = on_err_map c.write.result _ _ (λ p. puts_broke _ _ _ c.args.self.now [] [] c.args.bytes.now
+    (flushed_puts _ _ c.args.self.now [] refl c.in_ok-flush.ensures.ok) p) c.write.ensures.err

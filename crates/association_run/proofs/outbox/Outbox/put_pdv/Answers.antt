@@ -15,11 +15,13 @@ pub returns-clause-ok : goal.returns-clause-ok
 returns-clause-ok g c =
     let head = rw c.head_of_pdv.ensures at c.in_ok-put.ensures.ok in
     let fragment = rw c.as_slice.ensures at c.put-2.ensures.ok in
-    on_ok_map c.put-2.result _ _ (λ p. puts_then _ _ _ c.args.self.now c.put.new.self c.put-2.new.self (pdv_head c.args.value.now) c.args.value.now.fragment head p) fragment
+    on_ok_map c.put-2.result _ _ (λ p. puts_then _ _ _ c.args.self.now c.put.new.self c.put-2.new.self
+    (pdv_head c.args.value.now) c.args.value.now.fragment head p) fragment
 
 -- Of the fragment a front was put.
 pub returns-clause-err : goal.returns-clause-err
 returns-clause-err g c =
     let head = rw c.head_of_pdv.ensures at c.in_ok-put.ensures.ok in
     let fragment = rw c.as_slice.ensures at c.put-2.ensures.err in
-    on_err_map c.put-2.result _ _ (λ p. puts_broke _ _ _ c.args.self.now c.put.new.self (pdv_head c.args.value.now) c.args.value.now.fragment head p) fragment
+    on_err_map c.put-2.result _ _ (λ p. puts_broke _ _ _ c.args.self.now c.put.new.self (pdv_head c.args.value.now)
+    c.args.value.now.fragment head p) fragment

@@ -6,7 +6,8 @@ use Rattle.association_session.proofs.association.Association.answer.Goals as go
 pub returns-in-Responded-clause-answered : goal.returns-in-Responded-clause-answered
 returns-in-Responded-clause-answered g c =
     ok_map c.respond.result _ _
-    (λ deeds told. answered_told c.args.titles.now.list c.args.self.now _ c.args.message c.in-Responded.status c.in_ok-service.service c.contexts-contexts.result.now c.limit-limit.result deeds
+    (λ deeds told. answered_told c.args.titles.now.list c.args.self.now _ c.args.message c.in-Responded.status
+    c.in_ok-service.service c.contexts-contexts.result.now c.limit-limit.result deeds
     c.requires.established c.requires.idle refl
     (c.contexts-contexts.ensures ∙ at_contexts _ _ c.self.view_is)
     (c.limit-limit.ensures.limit ∙ at_limit _ _ c.self.view_is)

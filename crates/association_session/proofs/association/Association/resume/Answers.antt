@@ -8,5 +8,6 @@ returns-clause-turned g c = λ titles.
     ok_map c.respond.result _ _
     (λ deeds told. resumed titles c.args.self.now _ c.in-Some.awaited _ c.args.reply c.status_for.result deeds
     (sym (at_awaited _ _ c.self.view_is) ∙ sym c.take.ensures.value ∙ c.in-Some.is)
-    (at_place _ _ c.self.view_is) (at_stage _ _ c.self.view_is) c.take.ensures.after (at_queue _ _ c.self.view_is) (cc (c.awaited.view_is)) c.status_for.ensures told)
+    (at_place _ _ c.self.view_is) (at_stage _ _ c.self.view_is) c.take.ensures.after (at_queue _ _ c.self.view_is)
+    (cc (c.awaited.view_is)) c.status_for.ensures told)
     c.respond.ensures.told

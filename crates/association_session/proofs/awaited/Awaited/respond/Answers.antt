@@ -5,4 +5,5 @@ use Rattle.association_session.proofs.awaited.Awaited.respond.Goals as goal
 
 pub fragments-requires-clause-whole : goal.fragments-requires-clause-whole
 fragments-requires-clause-whole c =
-    response_whole c.args.self.now c.args.status c.in_ok-message.message (subst (λ (a : Awaited). CanBeResponded a) c.self.view_is c.self.invariant) c.in_ok-message.ensures
+    response_whole c.args.self.now c.args.status c.in_ok-message.message (subst (λ (a : Awaited). CanBeResponded a)
+    c.self.view_is c.self.invariant) c.in_ok-message.ensures

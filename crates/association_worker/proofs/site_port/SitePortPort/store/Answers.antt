@@ -3,4 +3,5 @@ use Rattle.association_worker.proofs.site_port.SitePortPort.store.Goals as goal
 
 -- What the site takes is what a port may take.
 pub returns-clause-stores : goal.returns-clause-stores
-returns-clause-stores c = stores_as c.args.self.now c.take.new.self c.args.content c.take.result c.take.ensures.takes c.take.ensures.listed c.take.ensures.kept
+returns-clause-stores c = stores_as c.args.self.now c.take.new.self c.args.content c.take.result c.take.ensures.takes
+    c.take.ensures.listed c.take.ensures.kept

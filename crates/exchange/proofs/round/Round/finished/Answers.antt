@@ -11,15 +11,18 @@ pub returns-then-not-given : goal.returns-then-not-given
 returns-then-not-given c =
     let entries = c.self.inside.asked.entries in
     let whole = c.into_iter-given-iterator.ensures.into_iter_gives ∙ c.iter-given-items.ensures.rest in
-    let left = ap (list_all (λ e. e.1)) c.in-Some.ensures.steps ∙ ap (λ b. b && list_all (λ e. e.1) c.next.new.self) c.if-not-given.true in
+    let left = ap (list_all (λ e. e.1)) c.in-Some.ensures.steps ∙ ap (λ b. b && list_all (λ e. e.1) c.next.new.self)
+    c.if-not-given.true in
     let fails = ap (list_all (λ e. e.1)) (sym whole) ∙ sym c.loop-given.invariant ∙ left in (
       λ e. absurd (false≢true e),
-      λ finished. absurd (false≢true (sym fails ∙ all_given entries entries c.iter-given-items.ensures.found (subst IsFinished (sym c.self.view_is) finished))),
+      λ finished. absurd (false≢true (sym fails ∙ all_given entries entries c.iter-given-items.ensures.found
+          (subst IsFinished (sym c.self.view_is) finished))),
     )
 
 -- Each was given.
 pub returns : goal.returns
 returns c =
     let whole = c.into_iter-given-iterator.ensures.into_iter_gives ∙ c.iter-given-items.ensures.rest in
-    let all = ap (list_all (λ e. e.1)) (sym whole) ∙ sym c.loop-given.invariant ∙ ap (list_all (λ e. e.1)) c.in-None.ensures.steps.0 in
+    let all = ap (list_all (λ e. e.1)) (sym whole) ∙ sym c.loop-given.invariant ∙ ap (list_all (λ e. e.1))
+    c.in-None.ensures.steps.0 in
     (λ _. subst IsFinished c.self.view_is (none_left c.self.inside.asked.entries all), λ _. refl)

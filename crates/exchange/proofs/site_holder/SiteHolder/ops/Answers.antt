@@ -4,7 +4,8 @@ use Rattle.exchange.proofs.site_holder.SiteHolder.ops.Goals as goal
 
 -- A refusal says nothing of the set.
 pub returns-in_err-ops_of : goal.returns-in_err-ops_of
-returns-in_err-ops_of c = let p = err_from_is_err_and c.from_residual.result c.from_residual.ensures.1 in of_site _ c.see_lawful.ensures.own (rw p.1 tt)
+returns-in_err-ops_of c = let p = err_from_is_err_and c.from_residual.result c.from_residual.ensures.1 in
+    of_site _ c.see_lawful.ensures.own (rw p.1 tt)
 
 -- What the site answers is what is asked of a holder.
 pub returns : goal.returns

@@ -15,4 +15,5 @@ returns-then-undo g c = λ before held absent was.
 -- the key was there, and stays
 pub returns-else-undo : goal.returns-else-undo
 returns-else-undo g c = λ before held absent was.
-    was ∙ insert_key_present g.met.K.Ord.total c.args.key.now g.met.K.Exact.exact before held (not_false _ (sym c.if-undo.false ∙ absent))
+    was ∙ insert_key_present g.met.K.Ord.total c.args.key.now g.met.K.Exact.exact before
+    held (not_false _ (sym c.if-undo.false ∙ absent))

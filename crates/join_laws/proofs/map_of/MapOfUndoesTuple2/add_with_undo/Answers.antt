@@ -12,5 +12,7 @@ invariant_of-self-2 g c =
     let one = g.J.Summary.of_one c.args.op.now.1 in
     let laws = g.met.J.Join.laws in
     let more = g.met.J.Summary.summary_laws in
-    let held = All-put_joined g.K.Ord.cmp g.J.Join.joined g.J.Join.IsHeld laws.held key one (more.one_held c.args.op.now.1) ours c.self.invariant in
-    All-same Held c.add_undoable.new.into.entries (put_joined g.K.Ord.cmp g.J.Join.joined ours key one) c.in_ok-add_undoable.ensures.ok held
+    let held = All-put_joined g.K.Ord.cmp g.J.Join.joined g.J.Join.IsHeld laws.held key
+    one (more.one_held c.args.op.now.1) ours c.self.invariant in
+    All-same Held c.add_undoable.new.into.entries (put_joined g.K.Ord.cmp g.J.Join.joined ours key one)
+    c.in_ok-add_undoable.ensures.ok held

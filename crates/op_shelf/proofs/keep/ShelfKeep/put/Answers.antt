@@ -4,10 +4,12 @@ use Rattle.op_shelf.proofs.keep.ShelfKeep.put.Goals as goal
 
 -- The entry that was put is that of one operation more.
 pub returns-clause-new : goal.returns-clause-new
-returns-clause-new g c up new = gains (state g.S.Store c.args.self.now) (state g.S.Store c.put.new.self) c.args.op.now (c.put.ensures.new up.clean new)
+returns-clause-new g c up new = gains (state g.S.Store c.args.self.now) (state g.S.Store c.put.new.self) c.args.op.now
+    (c.put.ensures.new up.clean new)
 
 -- A crash leaves what it left before, or that and the entry.
 pub returns-clause-kept : goal.returns-clause-kept
 returns-clause-kept g c up other was =
-    lasts_on (state g.S.Store c.args.self.now) (state g.S.Store c.put.new.self) c.args.op.now c.put.result up (c.put.ensures.new up.clean) (c.put.ensures.known up.clean) (c.put.ensures.refused up.clean)
+    lasts_on (state g.S.Store c.args.self.now) (state g.S.Store c.put.new.self) c.args.op.now c.put.result
+    up (c.put.ensures.new up.clean) (c.put.ensures.known up.clean) (c.put.ensures.refused up.clean)
     c.put.ensures.crash other was

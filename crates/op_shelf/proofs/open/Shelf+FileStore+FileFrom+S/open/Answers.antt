@@ -11,6 +11,12 @@ returns-in-Ok g c =
     record {
       found = ok_both c.adopt.result _ _ _ (λ shelf stands crash clean.
           let early : HasCleanDisk (file_state was) = omega (arith, crash.clean, clean) in
-          record { was = was; opened = c.in-Ok.ensures.opened early; found = c.in-Ok.ensures.found early; stands = stands clean })
+          record {
+            was = was;
+            opened = c.in-Ok.ensures.opened early;
+            found = c.in-Ok.ensures.found early;
+            stands =
+                stands clean;
+          })
           c.adopt.ensures.stands c.adopt.ensures.crash;
     }

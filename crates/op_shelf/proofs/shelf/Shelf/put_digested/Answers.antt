@@ -10,5 +10,7 @@ returns-clause-store g c clean bad =
     let same : c.self.inside.database ≡ c.args.self.now = search rules in
     let name : c.as_str.result.now ≡ digest_text c.args.op.now = search rules in
     let body : c.deref.result.now ≡ spelling c.args.op.now = search rules in
-    subst (λ h. IsNotKept g.S.Store h c.put_entry.new.database (digest_text c.args.op.now) (entry_by (digest_text c.args.op.now) (spelling c.args.op.now))) same
-    (subst₂ (λ d b. IsNotKept g.S.Store c.self.inside.database c.put_entry.new.database d (entry_by d b)) name body (c.put_entry.ensures.store clean bad))
+    subst (λ h. IsNotKept g.S.Store h c.put_entry.new.database (digest_text c.args.op.now)
+    (entry_by (digest_text c.args.op.now) (spelling c.args.op.now))) same
+    (subst₂ (λ d b. IsNotKept g.S.Store c.self.inside.database c.put_entry.new.database d (entry_by d b)) name
+    body (c.put_entry.ensures.store clean bad))

@@ -9,6 +9,9 @@ use Rattle.site_hub.proofs.book.Front.begins.Goals as goal
 pub returns-clause-goes_on : goal.returns-clause-goes_on
 returns-clause-goes_on g c is_le =
     let both = c.learn.new.self.log in
-    let this : IsPrefix c.self.inside.seen.log both = subst (λ (l : List Entry). IsPrefix l both) (ap (λ s. s.log) c.again-both.ensures) c.learn.ensures.2 in
-    let less : length c.self.inside.seen.log ≤ length c.other.inside.seen.log = omega (arith, c.self.invariant.0, c.other.invariant.0, leb-true _ _ is_le) in
-    rw (← c.self.view_is, ← c.other.view_is) (prefix_shorter c.self.inside.seen.log c.other.inside.seen.log both this c.learn.ensures.3 less)
+    let this : IsPrefix c.self.inside.seen.log both = subst (λ (l : List Entry). IsPrefix l both)
+    (ap (λ s. s.log) c.again-both.ensures) c.learn.ensures.2 in
+    let less : length c.self.inside.seen.log ≤ length c.other.inside.seen.log =
+    omega (arith, c.self.invariant.0, c.other.invariant.0, leb-true _ _ is_le) in
+    rw (← c.self.view_is, ← c.other.view_is) (prefix_shorter c.self.inside.seen.log c.other.inside.seen.log both this
+    c.learn.ensures.3 less)

@@ -9,7 +9,8 @@ use Rattle.site_hub.proofs.keeper.Keeper.next_correction.Goals as goal
 -- No correction of these parts may be made, with whatever counter.
 pub returns-in_default : goal.returns-in_default
 returns-in_default g c =
-    next_bad g.H.HubName.number c.self.inside.number c.saturating_add.result (set_of g.H.HubName.opening c.args.self.now.published) c.args.target c.args.tag c.args.value
+    next_bad g.H.HubName.number c.self.inside.number c.saturating_add.result
+    (set_of g.H.HubName.opening c.args.self.now.published) c.args.target c.args.tag c.args.value
     c.self.invariant.2 (omega (arith, c.saturating_add.ensures)) c.in_default.field-0 c.in_default.ensures
 
 -- The greatest counter is the last one.
@@ -28,7 +29,8 @@ returns g c =
     let m = set_of g.H.HubName.opening c.args.self.now.published in
     let top : c.top_counter-top.result ≡ top_counter_of (ops_of m) = search rules in
     let more : (c.top_counter-top.result == LAST_COUNTER) ≡ false = search rules in
-    let next : c.saturating_add.result ≡ c.top_counter-top.result + 1 = omega (arith, c.saturating_add.ensures, c.if-top.false) in
+    let next : c.saturating_add.result ≡ c.top_counter-top.result + 1 =
+    omega (arith, c.saturating_add.ensures, c.if-top.false) in
     next_made g.H.HubName.number c.self.inside.number c.saturating_add.result m c.args.target c.args.tag c.args.value
     c.self.invariant.2 (omega (arith, c.saturating_add.ensures)) c.in-Ok.made c.in-Ok.ensures
     (next ∙ ap (λ t. t + 1) top) (ap (λ t. t == LAST_COUNTER) (sym top) ∙ more)

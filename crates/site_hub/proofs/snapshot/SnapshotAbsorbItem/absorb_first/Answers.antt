@@ -6,4 +6,7 @@ use Rattle.site_hub.proofs.snapshot.SnapshotAbsorbItem.absorb_first.Goals as goa
 pub invariant_of-self-2 : goal.invariant_of-self-2
 invariant_of-self-2 g c =
     let item = c.item.inside in
-    rw (c.again-front.ensures) (absorbed _ _ _ c.self.inside.front item.front c.item.invariant.0 item.entry c.in_ok-take_copy.ensures.ok c.self.invariant (c.begins.ensures.goes_on (search rules)) (omega (arith, c.len.ensures.length, c.len-else-not-begins.ensures.length, c.if-len-ne1.false)) c.item.invariant.1)
+    rw (c.again-front.ensures) (absorbed _ _ _ c.self.inside.front item.front c.item.invariant.0 item.entry
+    c.in_ok-take_copy.ensures.ok c.self.invariant (c.begins.ensures.goes_on (search rules))
+    (omega (arith, c.len.ensures.length, c.len-else-not-begins.ensures.length, c.if-len-ne1.false))
+    c.item.invariant.1)

@@ -14,7 +14,9 @@ returns-in-Some c =
     let content = c.args.content.now in
     c.as_slice.ensures.value
     ∙ ap (λ (f : Fix). f.1.1) c.fix.view_is
-    ∙ value_is (own_value content c.args.tag) (correction_for ops content c.args.tag) c.in-Some.fix.now (c.in-Some.ensures ∙ latest_is ops c.index.result.now c.index.ensures c.see_lawful.ensures.lawful content c.args.tag)
+    ∙ value_is (own_value content c.args.tag) (correction_for ops content c.args.tag) c.in-Some.fix.now
+    (c.in-Some.ensures ∙ latest_is ops c.index.result.now c.index.ensures c.see_lawful.ensures.lawful content
+    c.args.tag)
 
 -- Where none is found, none counts.
 pub returns-in-None : goal.returns-in-None
@@ -22,4 +24,5 @@ returns-in-None c =
     let ops = ops_of c.args.self.now in
     let content = c.args.content.now in
     c.own_value.ensures
-    ∙ own_is (own_value content c.args.tag) (correction_for ops content c.args.tag) (c.in-None.ensures ∙ latest_is ops c.index.result.now c.index.ensures c.see_lawful.ensures.lawful content c.args.tag)
+    ∙ own_is (own_value content c.args.tag) (correction_for ops content c.args.tag) (c.in-None.ensures
+    ∙ latest_is ops c.index.result.now c.index.ensures c.see_lawful.ensures.lawful content c.args.tag)

@@ -10,4 +10,5 @@ pub returns : goal.returns
 returns c =
     let es = c.self.inside.operations.entries in
     subst (λ m. IsIndexOf (ops_of m) c.self.inside.index) c.self.view_is
-    (subst (IsIndexOf (ops_of (of_entries es))) (sym c.self.invariant.2) (is_index (ops_of (of_entries es)) (ops_ascend (of_entries es) c.self.invariant.0)))
+    (subst (IsIndexOf (ops_of (of_entries es))) (sym c.self.invariant.2)
+    (is_index (ops_of (of_entries es)) (ops_ascend (of_entries es) c.self.invariant.0)))

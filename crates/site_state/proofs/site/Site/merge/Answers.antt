@@ -23,8 +23,12 @@ invariant_of-self-2 c =
     let fs = c.other.inside.operations.entries in
     let both = c.in_ok-merge_in.ensures.merged in (
       subst IsSite (sym both) (union_is_site (of_entries es) (of_entries fs) c.self.invariant.0 c.other.invariant.0),
-      top_merged (of_entries es) (of_entries fs) (of_entries c.merge_in.new.tree.entries) c.self.inside.top c.other.inside.top c.max-self-inside.result both c.if-do_clash.ensures c.self.invariant.1 c.other.invariant.1 c.max-self-inside.ensures,
-      index_merged (of_entries es) (of_entries fs) (of_entries c.merge_in.new.tree.entries) c.self.inside.index c.other.inside.index c.merge_in.new.index both c.if-do_clash.ensures c.self.invariant.2 c.other.invariant.2 c.in_ok-merge_in.ensures.indexed,
+      top_merged (of_entries es) (of_entries fs) (of_entries c.merge_in.new.tree.entries) c.self.inside.top
+          c.other.inside.top c.max-self-inside.result both c.if-do_clash.ensures c.self.invariant.1 c.other.invariant.1
+          c.max-self-inside.ensures,
+      index_merged (of_entries es) (of_entries fs) (of_entries c.merge_in.new.tree.entries) c.self.inside.index
+          c.other.inside.index c.merge_in.new.index both c.if-do_clash.ensures c.self.invariant.2 c.other.invariant.2
+          c.in_ok-merge_in.ensures.indexed,
       subst HasLawful (sym both) (union_lawful (of_entries es) (of_entries fs) c.self.invariant.3 c.other.invariant.3),
     )
 
@@ -32,4 +36,5 @@ invariant_of-self-2 c =
 pub returns-clause-merged : goal.returns-clause-merged
 returns-clause-merged c =
     let fs = c.other.inside.operations.entries in
-    c.in_ok-merge_in.ensures.merged ∙ ap (λ m. union m (of_entries fs)) c.self.view_is ∙ ap (union c.args.self.now) c.other.view_is
+    c.in_ok-merge_in.ensures.merged ∙ ap (λ m. union m (of_entries fs)) c.self.view_is ∙ ap (union c.args.self.now)
+    c.other.view_is

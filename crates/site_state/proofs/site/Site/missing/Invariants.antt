@@ -4,4 +4,5 @@ use Rattle.site_state.specs.Site.{is_missing}
 use Rattle.site_state.proofs.site.Site.missing.Given as goal
 
 abbrev pub invariant-loop-digest : goal.invariant-loop-digest
-invariant-loop-digest l = l.missing.items ++ filter (is_missing l.fn.self) (drop l.digest-index l.digests) ≡ filter (is_missing l.fn.self) l.digests
+invariant-loop-digest l = l.missing.items ++ filter (is_missing l.fn.self) (drop l.digest-index l.digests) ≡ filter
+    (is_missing l.fn.self) l.digests

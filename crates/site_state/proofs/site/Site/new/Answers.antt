@@ -5,4 +5,11 @@ use Rattle.site_state.proofs.Lawful.{none_lawful}
 use Rattle.site_state.proofs.site.Site.new.Goals as goal
 
 pub invariant_of-result : goal.invariant_of-result
-invariant_of-result c = (none_is_site c.new.result.entries c.new.ensures.empty, top_none c.new.result.entries c.new.ensures.empty, index_none c.new.result.entries _ c.new.ensures.empty c.new-2.ensures, none_lawful c.new.result.entries c.new.ensures.empty)
+invariant_of-result c = (
+  none_is_site c.new.result.entries c.new.ensures.empty,
+  top_none c.new.result.entries
+      c.new.ensures.empty,
+  index_none c.new.result.entries _ c.new.ensures.empty c.new-2.ensures,
+  none_lawful
+      c.new.result.entries c.new.ensures.empty,
+)

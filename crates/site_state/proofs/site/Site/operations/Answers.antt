@@ -5,5 +5,6 @@ use Rattle.site_state.proofs.site.Site.operations.Goals as goal
 
 pub returns : goal.returns
 returns c =
-    sym (append-nil _) ∙ ap (λ xs. map (λ o. o.now) c.loop-op.ops.items ++ xs) (sym c.in-None.ensures.steps.0) ∙ c.loop-op.invariant ∙ c.into_iter-op-iterator.ensures.into_iter_gives ∙ c.values-op-items.ensures.rest
+    sym (append-nil _) ∙ ap (λ xs. map (λ o. o.now) c.loop-op.ops.items ++ xs) (sym c.in-None.ensures.steps.0)
+    ∙ c.loop-op.invariant ∙ c.into_iter-op-iterator.ensures.into_iter_gives ∙ c.values-op-items.ensures.rest
     ∙ tree_ops c.args.self.now c.self.inside.operations.entries c.self.view_is c.values-op-items.ensures.ordered

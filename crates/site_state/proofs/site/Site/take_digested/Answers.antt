@@ -9,17 +9,20 @@ returns-clause-new c =
 -- Known is the second case of taking, and no other.
 pub returns-clause-known : goal.returns-clause-known
 returns-clause-known c =
-    iff_known c.args.self.now _ c.args.op c.take_under.result (rw c.into_parts-digest.ensures.op at c.take_under.ensures)
+    iff_known c.args.self.now _ c.args.op c.take_under.result (rw c.into_parts-digest.ensures.op at
+    c.take_under.ensures)
 
 -- Collision is the third case, and no other.
 pub returns-clause-collision : goal.returns-clause-collision
 returns-clause-collision c =
-    iff_clash c.args.self.now _ c.args.op c.take_under.result (rw c.into_parts-digest.ensures.op at c.take_under.ensures)
+    iff_clash c.args.self.now _ c.args.op c.take_under.result (rw c.into_parts-digest.ensures.op at
+    c.take_under.ensures)
 
 -- Memory is asked for only where the digest was not held.
 pub returns-clause-memory : goal.returns-clause-memory
 returns-clause-memory c =
-    if_memory c.args.self.now _ c.args.op c.take_under.result (rw c.into_parts-digest.ensures.op at c.take_under.ensures)
+    if_memory c.args.self.now _ c.args.op c.take_under.result (rw c.into_parts-digest.ensures.op at
+    c.take_under.ensures)
 
 -- What is new is added.
 pub returns-clause-added : goal.returns-clause-added
@@ -34,4 +37,5 @@ returns-clause-same c =
 -- Nor does what is refused.
 pub returns-clause-kept : goal.returns-clause-kept
 returns-clause-kept c =
-    if_refused c.args.self.now _ c.args.op c.take_under.result (rw c.into_parts-digest.ensures.op at c.take_under.ensures)
+    if_refused c.args.self.now _ c.args.op c.take_under.result (rw c.into_parts-digest.ensures.op at
+    c.take_under.ensures)

@@ -13,9 +13,13 @@ invariant_of-self-2 c =
     let es = c.self.inside.operations.entries in
     let fs = c.take_in.new.tree.entries in (
       one_more_is_site es fs c.args.digest c.args.op c.in_ok-take_in.ensures.held c.requires c.self.invariant.0,
-      top_taken es fs c.args.digest c.args.op c.self.inside.top c.counter_of-counter.result c.max-self-inside.result c.in_ok-take_in.ensures.held c.requires c.in_default.ensures.value c.self.invariant.1 c.counter_of-counter.ensures c.max-self-inside.ensures,
-      index_taken es fs c.args.digest c.args.op c.self.inside.index c.take_in.new.index c.in_ok-take_in.ensures.held c.requires c.in_default.ensures.value c.self.invariant.2 c.in_ok-take_in.ensures.indexed,
-      one_more_lawful es fs c.args.digest c.args.op c.in_ok-take_in.ensures.held c.see_lawful.ensures c.self.invariant.3,
+      top_taken es fs c.args.digest c.args.op c.self.inside.top c.counter_of-counter.result c.max-self-inside.result
+          c.in_ok-take_in.ensures.held c.requires c.in_default.ensures.value c.self.invariant.1
+          c.counter_of-counter.ensures c.max-self-inside.ensures,
+      index_taken es fs c.args.digest c.args.op c.self.inside.index c.take_in.new.index c.in_ok-take_in.ensures.held
+          c.requires c.in_default.ensures.value c.self.invariant.2 c.in_ok-take_in.ensures.indexed,
+      one_more_lawful es fs c.args.digest c.args.op c.in_ok-take_in.ensures.held c.see_lawful.ensures
+          c.self.invariant.3,
     )
 
 -- A refusal left the tree and the index as they were.
@@ -33,7 +37,9 @@ take_in-requires-clause-absent c = sym c.in_default.ensures.value
 
 pub returns-then-equals : goal.returns-then-equals
 returns-then-equals c = (
-  ap (held_at c.args.self.now) (sym c.requires) ∙ found_at c.args.self.now c.self.inside.operations.entries c.args.digest (Some c.in-Some.held.now) c.self.view_is c.in-Some.ensures.value ∙ ap Some (c.equals.ensures.0 c.if-equals.true),
+  ap (held_at c.args.self.now) (sym c.requires) ∙ found_at c.args.self.now c.self.inside.operations.entries
+      c.args.digest (Some c.in-Some.held.now) c.self.view_is c.in-Some.ensures.value
+      ∙ ap Some (c.equals.ensures.0 c.if-equals.true),
   refl,
 )
 
@@ -41,7 +47,8 @@ pub returns-in-Some : goal.returns-in-Some
 returns-in-Some c = (
   (
     c.in-Some.held.now,
-    ap (held_at c.args.self.now) (sym c.requires) ∙ found_at c.args.self.now c.self.inside.operations.entries c.args.digest (Some c.in-Some.held.now) c.self.view_is c.in-Some.ensures.value,
+    ap (held_at c.args.self.now) (sym c.requires) ∙ found_at c.args.self.now c.self.inside.operations.entries
+        c.args.digest (Some c.in-Some.held.now) c.self.view_is c.in-Some.ensures.value,
     λ q. let t = c.equals.ensures.1 q in let f = c.if-equals.false in cc,
   ),
   refl,
@@ -50,12 +57,16 @@ returns-in-Some c = (
 pub returns-in_err-take_in : goal.returns-in_err-take_in
 returns-in_err-take_in c =
     no_room c.args.self.now _ c.args.op c.from_residual.result c.from_residual.ensures.1
-    (ap (held_at c.args.self.now) (sym c.requires) ∙ found_at c.args.self.now c.self.inside.operations.entries c.args.digest _ c.self.view_is c.in_default.ensures.value)
+    (ap (held_at c.args.self.now) (sym c.requires) ∙ found_at c.args.self.now c.self.inside.operations.entries
+    c.args.digest _ c.self.view_is c.in_default.ensures.value)
     (c.in_err-take_in.ensures.kept ∙ c.self.view_is)
 
 pub returns : goal.returns
 returns c = (
-  ap (held_at c.args.self.now) (sym c.requires) ∙ found_at c.args.self.now c.self.inside.operations.entries c.args.digest _ c.self.view_is c.in_default.ensures.value,
-  one_more c.self.inside.operations.entries c.take_in.new.tree.entries c.args.digest c.args.op c.in_ok-take_in.ensures.held
-      ∙ ap (λ m. map.insert m c.args.digest c.args.op) c.self.view_is ∙ ap (λ d. map.insert c.args.self.now d c.args.op) c.requires,
+  ap (held_at c.args.self.now) (sym c.requires) ∙ found_at c.args.self.now c.self.inside.operations.entries
+      c.args.digest _ c.self.view_is c.in_default.ensures.value,
+  one_more c.self.inside.operations.entries c.take_in.new.tree.entries c.args.digest c.args.op
+      c.in_ok-take_in.ensures.held
+      ∙ ap (λ m. map.insert m c.args.digest c.args.op) c.self.view_is ∙ ap (λ d. map.insert c.args.self.now d c.args.op)
+      c.requires,
 )

@@ -5,4 +5,5 @@ use Rattle.site_state.proofs.site.Site.tree.Goals as goal
 
 -- The entries of the tree ascend, so they are those of the map that they make.
 pub returns : goal.returns
-returns c = sym (sorted_entries c.self.inside.operations.entries c.len.ensures.ordered) ∙ ap finmap.entries c.self.view_is
+returns c = sym (sorted_entries c.self.inside.operations.entries c.len.ensures.ordered) ∙ ap finmap.entries
+    c.self.view_is

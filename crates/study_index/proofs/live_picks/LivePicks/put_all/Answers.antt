@@ -12,5 +12,6 @@ use Rattle.study_index.proofs.live_picks.LivePicks.put_all.Goals as goal
 pub returns : goal.returns
 returns c = λ uid.
     let old = c.args.uids.now.keys in
-    ap (λ ks. has text_cmp ks uid) (c.in_ok-put_keys.ensures ∙ ap (λ es. union_of text_cmp old (keys_of es)) (c.get.ensures ∙ c.self.view_is))
+    ap (λ ks. has text_cmp ks uid) (c.in_ok-put_keys.ensures ∙ ap (λ es. union_of text_cmp old (keys_of es))
+    (c.get.ensures ∙ c.self.view_is))
     ∙ has-union nat_list_cmp_total text_exact uid (keys_of c.args.self.now) old
