@@ -4,6 +4,8 @@
 #![tactic(auto)]
 
 #[cfg(test)]
+mod matching;
+#[cfg(test)]
 mod queries;
 #[cfg(test)]
 mod retrievals;

@@ -5,8 +5,6 @@
 
 mod matching;
 mod range;
-#[cfg(test)]
-mod tests;
 mod value_match;
 mod wild_card;
 

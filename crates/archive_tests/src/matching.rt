@@ -1,6 +1,6 @@
 //! Which values keys match, and which forms keys have (PS3.4, section C.2.2.2).
 
-use crate::{Matching, is_of_form, is_universal, matches};
+use key_matching::{Matching, is_of_form, is_universal, matches};
 use std::test::Fail;
 
 #[test]
