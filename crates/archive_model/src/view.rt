@@ -2,8 +2,9 @@
 
 ghost use Rattle.std.specs.Prelude.{◌≡◌};
 ghost use Rattle.archive_model.specs.View.{hides as hides_in};
+ghost use Rattle.archive_model.specs.Covered.{is_hiding as is_hiding_in};
 
-use rejection_note::NoteTitle;
+use rejection_note::{Note, NoteTitle};
 
 /// What an archive shows depends on the called AE title of who asks.
 #[derive(Clone, Copy, Debug, PartialEq, Eq)]
@@ -29,5 +30,15 @@ pub fn hides(view: View, title: NoteTitle) -> bool
         (View::Quality, NoteTitle::Expired) => true,
 
         (View::Audit, _) => false,
+    }
+}
+
+/// Whether a content is itself a note whose title hides.
+pub fn is_hiding(view: View, note: &Option<Note>) -> bool
+    ensures { result ≡ is_hiding_in view note.now }
+{
+    match note {
+        None => false,
+        Some(note) => hides(view, note.title),
     }
 }

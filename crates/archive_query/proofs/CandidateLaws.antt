@@ -35,13 +35,13 @@ use Rattle.study_index.specs.Proved.Picks.{text_exact}
 use Rattle.study_index.proofs.KeyLaws.{same_key}
 use Rattle.study_index.proofs.Studies.{pick_listed}
 use Rattle.study_index.proofs.Corrected.{not_corrected}
-use Rattle.archive_query.specs.declared.asked.Asked.{Asked}
-use Rattle.archive_query.specs.declared.query.Query.{Query}
-use Rattle.archive_query.specs.declared.key.Level.{Level}
-use Rattle.archive_query.specs.declared.key.Level.TheVariants.{Study, Series, Image}
-use Rattle.archive_query.specs.Key.{has_study_above, has_series_above}
-use Rattle.archive_query.specs.Rows.{uid_at, is_named, named, uids_at, is_at as is_at_uid, contents_at, is_key_match}
-use Rattle.archive_query.specs.Rows.{is_match, row, row_of, row_at, rows_among, rows_of}
+use Rattle.query_model.specs.declared.asked.Asked.{Asked}
+use Rattle.query_model.specs.declared.query.Query.{Query}
+use Rattle.query_model.specs.declared.key.Level.{Level}
+use Rattle.query_model.specs.declared.key.Level.TheVariants.{Study, Series, Image}
+use Rattle.query_model.specs.Key.{has_study_above, has_series_above}
+use Rattle.query_model.specs.Rows.{uid_at, is_named, named, uids_at, is_at as is_at_uid, contents_at, is_key_match}
+use Rattle.query_model.specs.Rows.{is_match, row, row_of, row_at, rows_among, rows_of}
 use Rattle.archive_query.specs.Candidates.{is_uids, is_study_key, is_listed, is_reached_by, is_reached}
 use Rattle.archive_query.proofs.AscendingLaws.{Text, Has, Below, Rises, one_rising, ascending_rises, ascending_has}
 use Rattle.archive_query.proofs.AscendingLaws.{has_ascending}

@@ -17,14 +17,14 @@ use Rattle.operation.specs.Parts.{ContentParts, CorrectionParts, value_at, own_v
 use Rattle.archive_model.specs.Texts.{ascending}
 use Rattle.archive_model.specs.Contents.{series_of}
 use Rattle.archive_model.specs.Attributes.{corrections, corrects, greatest, corrected, attribute}
-use Rattle.archive_query.specs.declared.asked.Asked.{Asked}
-use Rattle.archive_query.specs.declared.query.Query.{Query}
-use Rattle.archive_query.specs.Key.{word_of}
+use Rattle.query_model.specs.declared.asked.Asked.{Asked}
+use Rattle.query_model.specs.declared.query.Query.{Query}
+use Rattle.query_model.specs.Key.{word_of}
 use Rattle.key_matching.specs.Matches.{matches}
-use Rattle.archive_query.specs.Column.{columns}
-use Rattle.archive_query.specs.Cell.{cell}
-use Rattle.archive_query.specs.Rows.{is_key_match, is_match, modalities_of, is_unique_key, is_asked, asked_value}
-use Rattle.archive_query.specs.Rows.{value_in_row, cell_in_row, row, row_of, row_at, rows_among, uids_at, contents_at}
+use Rattle.query_model.specs.Column.{columns}
+use Rattle.query_model.specs.Cell.{cell}
+use Rattle.query_model.specs.Rows.{is_key_match, is_match, modalities_of, is_unique_key, is_asked, asked_value}
+use Rattle.query_model.specs.Rows.{value_in_row, cell_in_row, row, row_of, row_at, rows_among, uids_at, contents_at}
 
 list_all_each : {X : Type 0} (p q : X → Bool) → ((x : X) → p x ≡ q x) → (xs : List X) → list_all p xs ≡ list_all q xs
 list_all_each p q e [] = refl

@@ -12,9 +12,9 @@ use Rattle.key_matching.specs.declared.matching.Matching.TheVariants.{Answered}
 use Rattle.key_matching.specs.Matches.{is_universal, parts}
 use Rattle.study_index.specs.Keys.{has}
 use Rattle.study_index.specs.Live.{Text, Pick, pick_at, is_of_study}
-use Rattle.archive_query.specs.declared.asked.Asked.{Asked}
-use Rattle.archive_query.specs.declared.query.Query.{Query}
-use Rattle.archive_query.specs.Key.{has_study_above}
+use Rattle.query_model.specs.declared.asked.Asked.{Asked}
+use Rattle.query_model.specs.declared.query.Query.{Query}
+use Rattle.query_model.specs.Key.{has_study_above}
 
 abbrev pub is_uids : Matching → Bool
 is_uids Dates = false

@@ -1,9 +1,3 @@
-pub mod Key
-pub mod Fault
-pub mod Query
-pub mod Column
-pub mod Cell
-pub mod Rows
 pub mod Grouping
 pub mod Laws
 pub mod Candidates

@@ -12,13 +12,12 @@ ghost use Rattle.study_index.specs.Live.{pick_at};
 ghost use Rattle.site_state.specs.Site.{ops_of};
 ghost use Rattle.archive_query.specs.Candidates.{is_uids as is_uids_in, is_study_key as is_study_key_in, is_of_some, is_listed, is_reached};
 
-use crate::asked::Asked;
-use crate::query::Query;
 use archive_model::View;
 use dictionary::STUDY_INSTANCE_UID;
 use key_matching::{Matching, is_universal, members_of};
 use octets::Octets;
 use operation::Content;
+use query_model::{Asked, Query};
 use site_state::Site;
 use std::alloc::{AllocError, Global};
 use std::collections::BTreeSet;

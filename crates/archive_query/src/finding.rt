@@ -2,14 +2,13 @@
 
 ghost use Rattle.std.specs.Prelude.{◌≡◌, IfOk};
 ghost use Rattle.site_state.specs.Site.{ops_of};
-ghost use Rattle.archive_query.specs.Rows.{rows_of};
+ghost use Rattle.query_model.specs.Rows.{rows_of};
 
-use crate::answer::Answer;
 use crate::candidates::{candidates, shown_of};
 use crate::groups::named;
-use crate::query::Query;
 use crate::rows::rows_among;
 use archive_model::View;
+use query_model::{Answer, Query};
 use site_state::Site;
 use std::alloc::{AllocError, Global};
 

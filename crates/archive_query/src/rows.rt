@@ -6,17 +6,14 @@ ghost use Rattle.std.specs.Fmt.{decimal};
 ghost use Rattle.std.specs.List.{join_with_byte, filter_map};
 ghost use Rattle.operation.specs.Parts.{value_at};
 ghost use Rattle.site_state.specs.Site.{ops_of};
-ghost use Rattle.archive_query.specs.Column.{columns as columns_of};
-ghost use Rattle.archive_query.specs.Cell.{cell as cell_in};
-ghost use Rattle.archive_query.specs.Rows.{is_key_match as is_key_match_in, is_match as is_match_in, is_unique_key as is_unique_key_in, is_asked as is_asked_in, asked_value, value_in_row, cell_in_row as cell_in_row_of, row as row_in, row_of as row_of_in, rows_among as rows_among_in};
+ghost use Rattle.query_model.specs.Column.{columns as columns_of};
+ghost use Rattle.query_model.specs.Cell.{cell as cell_in};
+ghost use Rattle.query_model.specs.Rows.{is_key_match as is_key_match_in, is_match as is_match_in, is_unique_key as is_unique_key_in, is_asked as is_asked_in, asked_value, value_in_row, cell_in_row as cell_in_row_of, row as row_in, row_of as row_of_in, rows_among as rows_among_in};
 
-use crate::answer::Answer;
-use crate::asked::Asked;
 use crate::cell::cell;
 use crate::column::columns;
 use crate::grouping::{by_uid, groups_of};
 use crate::groups::{count_series, modalities_of};
-use crate::query::Query;
 use data_set::{DataSet, Element, Syntax};
 use dictionary::{
     MODALITIES_IN_STUDY, NUMBER_OF_SERIES_RELATED_INSTANCES, NUMBER_OF_STUDY_RELATED_INSTANCES,
@@ -26,6 +23,7 @@ use dictionary::{
 use key_matching::matches;
 use octets::Octets;
 use operation::Content;
+use query_model::{Answer, Asked, Query};
 use site_state::Site;
 use std::alloc::{AllocError, Global};
 

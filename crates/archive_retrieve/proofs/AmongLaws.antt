@@ -10,7 +10,7 @@ use Rattle.std.proofs.lemmas.List.Sorted.{searchable_from_sorted}
 use Rattle.std.proofs.lemmas.Bool.{ltb-true, ltb-false}
 use Rattle.std.proofs.Common.{ltb}
 use Rattle.archive_model.specs.Texts.{same, text_cmp}
-use Rattle.archive_retrieve.specs.Selection.{Rises}
+use Rattle.retrieve_model.specs.Selection.{Rises}
 
 any_at : {X : Type 0} (p : X → Bool) (xs : List X) (i : ℕ) → i < length xs → ((d : X) → p (get_or xs i d) ≡ true)
     → list_any p xs ≡ true

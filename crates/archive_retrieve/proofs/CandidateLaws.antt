@@ -25,14 +25,14 @@ use Rattle.study_index.specs.Index.{IndexValue, pick_of}
 use Rattle.study_index.specs.Definition.{IsIndexOf}
 use Rattle.study_index.specs.Proved.Picks.{text_exact}
 use Rattle.study_index.proofs.KeyLaws.{at_itself, same_key}
-use Rattle.archive_query.specs.declared.key.Level.{Level}
-use Rattle.archive_query.specs.declared.key.Level.TheVariants.{Study, Series, Image}
-use Rattle.archive_query.specs.Key.{has_study_above}
-use Rattle.archive_query.specs.Rows.{uid_at}
+use Rattle.query_model.specs.declared.key.Level.{Level}
+use Rattle.query_model.specs.declared.key.Level.TheVariants.{Study, Series, Image}
+use Rattle.query_model.specs.Key.{has_study_above}
+use Rattle.query_model.specs.Rows.{uid_at}
 use Rattle.archive_query.specs.Candidates.{is_of_some}
 use Rattle.archive_query.proofs.CandidateLaws.{enough, sorted_rises}
-use Rattle.archive_retrieve.specs.declared.selection.Selection.{Selection}
-use Rattle.archive_retrieve.specs.Selection.{is_within, is_selected, selected}
+use Rattle.retrieve_model.specs.declared.selection.Selection.{Selection}
+use Rattle.retrieve_model.specs.Selection.{is_within, is_selected, selected}
 use Rattle.archive_retrieve.specs.Candidates.{ReachesAll}
 
 -- ---- tests

@@ -32,14 +32,14 @@ use Rattle.archive_model.proofs.CoercionLaws.{coerced_has_attributes, coerced_ke
 use Rattle.site_state.specs.Site.{Map, ops_of}
 use Rattle.site_state.specs.Laws.{after_taking}
 use Rattle.site_state.proofs.Same.{taken_has}
-use Rattle.archive_retrieve.specs.declared.accepts.Accepted.{Accepted}
-use Rattle.archive_retrieve.specs.declared.accepts.Form.{Form}
-use Rattle.archive_retrieve.specs.declared.accepts.Form.TheVariants.{Own, Converted}
-use Rattle.archive_retrieve.specs.declared.sending.Sending.{Sending}
-use Rattle.archive_retrieve.specs.Accepts.{form_for, syntax_of}
-use Rattle.archive_retrieve.specs.Selection.{is_selected, selected}
-use Rattle.archive_retrieve.specs.Sending.{in_form, is_sent_as_stored, IsWritten, IsBody, IsSending, AreSendings, Gets}
-use Rattle.archive_retrieve.specs.Sending.{body_for, sending_for, sendings_of}
+use Rattle.retrieve_model.specs.declared.accepts.Accepted.{Accepted}
+use Rattle.retrieve_model.specs.declared.accepts.Form.{Form}
+use Rattle.retrieve_model.specs.declared.accepts.Form.TheVariants.{Own, Converted}
+use Rattle.retrieve_model.specs.declared.sending.Sending.{Sending}
+use Rattle.retrieve_model.specs.Accepts.{form_for, syntax_of}
+use Rattle.retrieve_model.specs.Selection.{is_selected, selected}
+use Rattle.retrieve_model.specs.Sending.{in_form, is_sent_as_stored, IsWritten, IsBody, IsSending, AreSendings, Gets}
+use Rattle.retrieve_model.specs.Sending.{body_for, sending_for, sendings_of}
 use Rattle.archive_retrieve.specs.Laws.{SameSitesSendAlike, WhatIsSentIsComputed, NothingHiddenIsSent}
 use Rattle.archive_retrieve.specs.Laws.{WhatIsRejectedIsNotSent, WhatIsShownIsSent, WhatIsSentAscends}
 use Rattle.archive_retrieve.specs.Laws.{WhatNeedsNothingIsSentAsItCame, SentHasAttributes, SentKeepsOthers}

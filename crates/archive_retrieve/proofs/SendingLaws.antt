@@ -2,9 +2,9 @@
 use Rattle.std.proofs.Common.{List, [], ◌∷◌, ◌++◌}
 use Rattle.operation.specs.declared.op.Op.{Op}
 use Rattle.operation.specs.Parts.{ContentParts}
-use Rattle.archive_retrieve.specs.declared.accepts.Accepted.{Accepted}
-use Rattle.archive_retrieve.specs.declared.sending.Sending.{Sending}
-use Rattle.archive_retrieve.specs.Sending.{IsSending, AreSendings}
+use Rattle.retrieve_model.specs.declared.accepts.Accepted.{Accepted}
+use Rattle.retrieve_model.specs.declared.sending.Sending.{Sending}
+use Rattle.retrieve_model.specs.Sending.{IsSending, AreSendings}
 
 -- one more is sent
 pub sendings_snoc : (ops : List Op) (accepted : List Accepted) (cs : List ContentParts) (ss : List Sending)

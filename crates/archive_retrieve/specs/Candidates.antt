@@ -5,8 +5,8 @@ use Rattle.operation.specs.Parts.{ContentParts}
 use Rattle.study_index.specs.Keys.{has}
 use Rattle.study_index.specs.Live.{Text, Pick, pick_at}
 use Rattle.study_index.specs.Index.{pick_of}
-use Rattle.archive_retrieve.specs.declared.selection.Selection.{Selection}
-use Rattle.archive_retrieve.specs.Selection.{is_selected}
+use Rattle.retrieve_model.specs.declared.selection.Selection.{Selection}
+use Rattle.retrieve_model.specs.Selection.{is_selected}
 
 -- every content that is picked and is in a selection is of one of these UIDs
 abbrev pub ReachesAll : Selection → List (Text × Option Pick) → List (List ℕ) → Type 0

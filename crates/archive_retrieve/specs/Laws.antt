@@ -22,15 +22,15 @@ use Rattle.archive_model.specs.Attributes.{attribute}
 use Rattle.archive_model.specs.Coercion.{is_changed, AreStored}
 use Rattle.site_state.specs.Site.{Map, ops_of, held_at}
 use Rattle.site_state.specs.Laws.{Apart, after_taking}
-use Rattle.archive_retrieve.specs.declared.accepts.Accepted.{Accepted}
-use Rattle.archive_retrieve.specs.declared.accepts.Accepts.{Accepts}
-use Rattle.archive_retrieve.specs.declared.accepts.Form.{Form}
-use Rattle.archive_retrieve.specs.declared.accepts.Form.TheVariants.{Own}
-use Rattle.archive_retrieve.specs.declared.selection.Selection.{Selection}
-use Rattle.archive_retrieve.specs.declared.sending.Sending.{Sending}
-use Rattle.archive_retrieve.specs.Accepts.{form_for, syntax_of}
-use Rattle.archive_retrieve.specs.Selection.{is_selected}
-use Rattle.archive_retrieve.specs.Sending.{IsWritten, IsSending, Gets, sendings_of}
+use Rattle.retrieve_model.specs.declared.accepts.Accepted.{Accepted}
+use Rattle.retrieve_model.specs.declared.accepts.Accepts.{Accepts}
+use Rattle.retrieve_model.specs.declared.accepts.Form.{Form}
+use Rattle.retrieve_model.specs.declared.accepts.Form.TheVariants.{Own}
+use Rattle.retrieve_model.specs.declared.selection.Selection.{Selection}
+use Rattle.retrieve_model.specs.declared.sending.Sending.{Sending}
+use Rattle.retrieve_model.specs.Accepts.{form_for, syntax_of}
+use Rattle.retrieve_model.specs.Selection.{is_selected}
+use Rattle.retrieve_model.specs.Sending.{IsWritten, IsSending, Gets, sendings_of}
 
 -- two sites that hold the same operation under each digest send the same, byte for byte
 abbrev pub SameSitesSendAlike : Type 0

@@ -6,9 +6,9 @@ ghost use Rattle.octets.specs.Texts.{text_cmp};
 ghost use Rattle.join_laws.specs.GrowSet.{union_of};
 ghost use Rattle.archive_retrieve.specs.Candidates.{ReachesAll};
 
-use crate::selection::Selection;
 use archive_query::{Level, put_studies};
 use octets::Octets;
+use retrieve_model::Selection;
 use std::alloc::{AllocError, Global};
 use std::collections::BTreeSet;
 use study_index::{Index, ShortText};

@@ -2,16 +2,15 @@
 
 ghost use Rattle.std.specs.Prelude.{◌≡◌, IfOk, map};
 ghost use Rattle.site_state.specs.Site.{ops_of};
-ghost use Rattle.archive_retrieve.specs.Sending.{AreSendings, Gets, sendings_of};
+ghost use Rattle.retrieve_model.specs.Sending.{AreSendings, Gets, sendings_of};
 
-use crate::accepts::Accepts;
 use crate::candidates::candidates;
 use crate::selected::selected;
-use crate::selection::Selection;
-use crate::sending::{Sending, sending_of};
+use crate::sending::sending_of;
 use archive_model::View;
 use archive_query::shown_of;
 use operation::Content;
+use retrieve_model::{Accepts, Selection, Sending};
 use site_state::Site;
 use std::alloc::{AllocError, Global};
 

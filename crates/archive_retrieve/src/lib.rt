@@ -1,24 +1,20 @@
-//! Answers to C-GET over a site's set of operations (PS3.4, section C.4.3).
+//! Answers to C-GET over a site (PS3.4, section C.4.3).
 //!
 //! What is sent is what a view shows of a selection, corrected, in a transfer syntax that is
 //! accepted. A data set that needs no change is the stored one, whose bytes are shared with the site.
 #![tactic(auto)]
 
-mod accepts;
 mod candidates;
 mod coercion;
 mod getting;
 mod laws;
 mod selected;
-mod selection;
 mod sending;
 
-pub use accepts::{Accepted, Accepts};
 pub use getting::get;
 pub use laws::{
     same_sites_send_alike, what_is_rejected_is_not_sent, what_is_sent_is_computed,
     what_is_sent_is_shown, what_is_sent_reads_again_corrected,
     what_needs_nothing_is_sent_as_it_came,
 };
-pub use selection::Selection;
-pub use sending::Sending;
+pub use retrieve_model::{Accepted, Accepts, Selection, Sending};

@@ -2,13 +2,13 @@
 
 ghost use Rattle.std.specs.Prelude.{◌≡◌, List, ℕ, map, filter, IfOk};
 ghost use Rattle.archive_model.specs.Covered.{is_among};
-ghost use Rattle.archive_retrieve.specs.Selection.{Rises, is_within as is_within_in, is_among_these as is_among_these_in, selected as selected_in};
+ghost use Rattle.retrieve_model.specs.Selection.{Rises, is_within as is_within_in, is_among_these as is_among_these_in, selected as selected_in};
 
-use crate::selection::Selection;
 use archive_model::{series, study};
 use archive_query::uid_at;
 use octets::Octets;
 use operation::Content;
+use retrieve_model::Selection;
 use std::alloc::{AllocError, Global};
 
 /// Whether a content is of the study and the series that a selection names above its level.

@@ -2,26 +2,16 @@
 
 ghost use Rattle.std.specs.Prelude.{◌≡◌, IfOk};
 ghost use Rattle.site_state.specs.Site.{ops_of};
-ghost use Rattle.archive_retrieve.specs.Accepts.{syntax_of as syntax_in_of};
-ghost use Rattle.archive_retrieve.specs.Sending.{is_sent_as_stored as is_sent_as_stored_in, IsSetFor, IsWritten, IsText, IsBody, IsSending};
+ghost use Rattle.retrieve_model.specs.Sending.{is_sent_as_stored as is_sent_as_stored_in, IsSetFor, IsWritten, IsText, IsBody, IsSending};
 
-use crate::accepts::{Accepts, Form};
 use crate::coercion::{coerced, is_coerced};
 use bytes::Bytes;
 use data_set::{DataSet, Syntax, write};
 use octets::Octets;
 use operation::Content;
+use retrieve_model::{Accepts, Form, Sending, syntax_of};
 use site_state::Site;
 use std::alloc::{AllocError, Global};
-
-/// An instance that is to be sent.
-#[derive(Debug, Drop)]
-pub struct Sending {
-    pub class: Octets,
-    pub instance: Octets,
-    /// The data set and its transfer syntax, or `None` where no accepted one serves.
-    pub body: Option<(Syntax, Bytes)>,
-}
 
 /// Whether the data set of a content is sent as it came.
 fn is_sent_as_stored(site: &Site, content: &Content, form: Form) -> bool
@@ -66,15 +56,6 @@ fn text_in(alloc: Global, site: &Site, content: &Content, form: Form) -> Result<
     }
     let text = written(alloc, site, content, form)?;
     Ok(text)
-}
-
-fn syntax_of(form: Form, own: Syntax) -> Syntax
-    ensures { result ≡ syntax_in_of form own }
-{
-    match form {
-        Form::Own => own,
-        Form::Converted => Syntax::Implicit,
-    }
 }
 
 /// The data set of a content with its transfer syntax, in the form in which it is sent.

@@ -1,6 +1,5 @@
 //! Tests of queries and rows.
 
-mod keys;
+mod levels;
 mod made;
 mod many;
-mod rows;

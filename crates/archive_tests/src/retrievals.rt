@@ -1,8 +1,4 @@
-//! What sites send: data sets from outside.
+//! What small sites send.
 
-mod coercions;
-mod conversions;
 mod made;
 mod many;
-mod selections;
-mod views;

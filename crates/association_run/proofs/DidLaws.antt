@@ -124,21 +124,21 @@ sent_front (p ∷ pdus) out text rest fits front =
 
 -- ---- deeds, one after another
 
-module _ {P : Type 0} (holds : P → Op → Type 0) (own : P → List (List ℕ)) where
+module _ {P : Type 0} (ops : P → List Op) (own : P → List (List ℕ)) where
   history_on : (a : P) (xs : List Call) (rs : List Reply) (b : P) (ys : List Call) (ss : List Reply) (c : P)
-      → History holds own a xs rs b → History holds own b ys ss c → History holds own a (xs ++ ys) (rs ++ ss) c
-  history_on a [] [] b ys ss c p q = subst (λ (k : P). History holds own k ys ss c) p q
+      → History ops own a xs rs b → History ops own b ys ss c → History ops own a (xs ++ ys) (rs ++ ss) c
+  history_on a [] [] b ys ss c p q = subst (λ (k : P). History ops own k ys ss c) p q
   history_on a [] (r ∷ rs) b ys ss c p q = absurd p
   history_on a (x ∷ xs) [] b ys ss c p q = absurd p
   history_on a (x ∷ xs) (r ∷ rs) b ys ss c p q = (p.0, p.1, history_on p.0 xs rs b ys ss c p.2 q)
 
-  pub did_none : (a : Sides P) → Did holds own a a [] [] []
+  pub did_none : (a : Sides P) → Did ops own a a [] [] []
   did_none a = record { history = refl; appended = nothing_written a.written; passed = passed_none a.reached }
 
-  pub did_then : (a b c : Sides P) (d1 d2 : List Deed) (part : List ℕ) (r1 r2 : List Reply) → Did holds own a b d1 [] r1
-      → Did holds own b c d2 part r2 → Did holds own a c (d1 ++ d2) part (r1 ++ r2)
+  pub did_then : (a b c : Sides P) (d1 d2 : List Deed) (part : List ℕ) (r1 r2 : List Reply) → Did ops own a b d1 [] r1
+      → Did ops own b c d2 part r2 → Did ops own a c (d1 ++ d2) part (r1 ++ r2)
   did_then a b c d1 d2 part r1 r2 p q = record {
-    history = subst (λ (t : List Call). History holds own a.port t (r1 ++ r2) c.port) (sym (calls_on d1 d2))
+    history = subst (λ (t : List Call). History ops own a.port t (r1 ++ r2) c.port) (sym (calls_on d1 d2))
         (history_on a.port (calls_in d1) r1 b.port (calls_in d2) r2 c.port p.history q.history);
     appended = subst (λ (t : List ℕ). Appends a.written c.written t) (bytes_behind d1 d2 part)
         (further a.written b.written c.written (bytes_in d1 ++ []) (bytes_in d2 ++ part) p.appended q.appended);
@@ -149,7 +149,7 @@ module _ {P : Type 0} (holds : P → Op → Type 0) (own : P → List (List ℕ)
   -- ---- one deed
 
   pub did_send : (port : P) (w0 w1 : Option (List ℕ)) (m : Option (List Moment)) (pdu : Pdu)
-      → Appends w0 w1 (text_of pdu) → Did holds own (sides port w0 m) (sides port w1 m) (Send pdu ∷ []) [] []
+      → Appends w0 w1 (text_of pdu) → Did ops own (sides port w0 m) (sides port w1 m) (Send pdu ∷ []) [] []
   did_send port w0 w1 m pdu p = record {
     history = refl;
     appended = subst (λ (t : List ℕ). Appends w0 w1 t) (sym (append-nil (text_of pdu ++ []) ∙ append-nil (text_of pdu)))
@@ -158,11 +158,11 @@ module _ {P : Type 0} (holds : P → Op → Type 0) (own : P → List (List ℕ)
   }
 
   pub did_reach : (port : P) (w : Option (List ℕ)) (m0 m1 : Option (List Moment)) (moment : Moment)
-      → Passed m0 m1 (moment ∷ []) → Did holds own (sides port w m0) (sides port w m1) (Reach moment ∷ []) [] []
+      → Passed m0 m1 (moment ∷ []) → Did ops own (sides port w m0) (sides port w m1) (Reach moment ∷ []) [] []
   did_reach port w m0 m1 moment p = record { history = refl; appended = nothing_written w; passed = p }
 
   pub did_ask : (p0 p1 : P) (w : Option (List ℕ)) (m : Option (List Moment)) (call : Call) (reply : Reply)
-      → Replies holds own p0 call reply p1 → Did holds own (sides p0 w m) (sides p1 w m) (Ask call ∷ []) [] (reply ∷ [])
+      → Replies ops own p0 call reply p1 → Did ops own (sides p0 w m) (sides p1 w m) (Ask call ∷ []) [] (reply ∷ [])
   did_ask p0 p1 w m call reply p = record {
     history = (p1, p, refl);
     appended = nothing_written w;
@@ -170,20 +170,20 @@ module _ {P : Type 0} (holds : P → Op → Type 0) (own : P → List (List ℕ)
         m;
   }
 
-  pub did_close : (a : Sides P) → Did holds own a a (Close ∷ []) [] []
+  pub did_close : (a : Sides P) → Did ops own a a (Close ∷ []) [] []
   did_close a = record { history = refl; appended = nothing_written a.written; passed = passed_none a.reached }
 
   pub did_part : (port : P) (w0 w1 : Option (List ℕ)) (m : Option (List Moment)) (part : List ℕ) → Appends w0 w1 part
-      → Did holds own (sides port w0 m) (sides port w1 m) [] part []
+      → Did ops own (sides port w0 m) (sides port w1 m) [] part []
   did_part port w0 w1 m part p = record { history = refl; appended = p; passed = passed_none m }
 
   -- ---- PDUs that are sent one after another
 
   pub did_sends : (port : P) (w0 w1 : Option (List ℕ)) (m : Option (List Moment)) (pdus : List Pdu) (part : List ℕ)
       → Appends w0 w1 (flat_map text_of pdus ++ part)
-      → Did holds own (sides port w0 m) (sides port w1 m) (map Send pdus) part []
+      → Did ops own (sides port w0 m) (sides port w1 m) (map Send pdus) part []
   did_sends port w0 w1 m pdus part p = record {
-    history = subst (λ (t : List Call). History holds own port t [] port) (sym (no_calls pdus)) refl;
+    history = subst (λ (t : List Call). History ops own port t [] port) (sym (no_calls pdus)) refl;
     appended = subst (λ (t : List Pdu). Appends w0 w1 (flat_map text_of t ++ part)) (sym (all_sent pdus)) p;
     passed = subst (λ (t : List Moment). Passed m m t) (sym (no_moments pdus)) (passed_none m);
   }
@@ -195,7 +195,7 @@ module _ {P : Type 0} (holds : P → Op → Type 0) (own : P → List (List ℕ)
     pub done : List Deed
     pub parts : all ≡ done ++ rest
     pub halts : Halts rest
-    pub did : Did holds own old now done [] []
+    pub did : Did ops own old now done [] []
 
   -- The first deeds were done, none of them a call, and then these PDUs were sent, of whose bytes some are held; the
   -- rest is left.
@@ -206,7 +206,7 @@ module _ {P : Type 0} (holds : P → Op → Type 0) (own : P → List (List ℕ)
     pub out : List ℕ
     pub parts : all ≡ done ++ (map Send sent ++ rest)
     pub halts : Halts rest
-    pub did : Did holds own old (sides now.port written now.reached) done [] []
+    pub did : Did ops own old (sides now.port written now.reached) done [] []
     pub appended : Appends written now.written out
     pub bytes : out ++ held ≡ flat_map text_of sent
 
@@ -309,23 +309,23 @@ module _ {P : Type 0} (holds : P → Op → Type 0) (own : P → List (List ℕ)
   pub acted_ask : (a : Sides P) (p0 p1 : P) (w0 w1 : Option (List ℕ)) (m : Option (List Moment)) (held : List ℕ)
       (all items : List Deed) (d : Deed) (call : Call) (reply : Reply) (rest : List Deed) → items ≡ d ∷ rest
       → d ≡ Ask call
-      → Acting a (sides p0 w0 m) held all items → Appends w0 w1 held → Replies holds own p0 call reply p1
-      → Did holds own a (sides p1 w1 m) all [] (reply ∷ [])
+      → Acting a (sides p0 w0 m) held all items → Appends w0 w1 held → Replies ops own p0 call reply p1
+      → Did ops own a (sides p1 w1 m) all [] (reply ∷ [])
   acted_ask a p0 p1 w0 w1 m held all items d call reply rest parts is so p q =
       let at = flushed a p0 w0 w1 m held all (Ask call ∷ rest) (acting_at a (sides p0 w0 m) held all items d (Ask call)
       rest parts is so) p in
-      subst (λ (t : List Deed). Did holds own a (sides p1 w1 m) t [] (reply ∷ []))
+      subst (λ (t : List Deed). Did ops own a (sides p1 w1 m) t [] (reply ∷ []))
       (sym (ends_with at.done all (Ask call) rest at.parts at.halts))
       (did_then a (sides p0 w1 m) (sides p1 w1 m) at.done (Ask call ∷ []) [] [] (reply ∷ [])
       at.did (did_ask p0 p1 w1 m call reply q))
 
   pub acted_close : (a : Sides P) (port : P) (w0 w1 : Option (List ℕ)) (m : Option (List Moment)) (held : List ℕ)
       (all items : List Deed) (d : Deed) (rest : List Deed) → items ≡ d ∷ rest → d ≡ Close
-      → Acting a (sides port w0 m) held all items → Appends w0 w1 held → Did holds own a (sides port w1 m) all [] []
+      → Acting a (sides port w0 m) held all items → Appends w0 w1 held → Did ops own a (sides port w1 m) all [] []
   acted_close a port w0 w1 m held all items d rest parts is so p =
       let at = flushed a port w0 w1 m held all (Close ∷ rest) (acting_at a (sides port w0 m) held all items d Close rest
       parts is so) p in
-      subst (λ (t : List Deed). Did holds own a (sides port w1 m) t [] [])
+      subst (λ (t : List Deed). Did ops own a (sides port w1 m) t [] [])
       (sym (ends_with at.done all Close rest at.parts at.halts))
       (did_then a (sides port w1 m) (sides port w1 m) at.done (Close ∷ []) [] [] []
       at.did (did_close (sides port w1 m)))
@@ -333,16 +333,16 @@ module _ {P : Type 0} (holds : P → Op → Type 0) (own : P → List (List ℕ)
   -- No deed is left.
   pub acted_all : (a : Sides P) (port : P) (w0 w1 : Option (List ℕ)) (m : Option (List Moment)) (held : List ℕ)
       (all items : List Deed) → items ≡ [] → Acting a (sides port w0 m) held all items → Appends w0 w1 held
-      → Did holds own a (sides port w1 m) all [] []
+      → Did ops own a (sides port w1 m) all [] []
   acted_all a port w0 w1 m held all items none so p =
       let at = flushed a port w0 w1 m held all items so p in
-      subst (λ (t : List Deed). Did holds own a (sides port w1 m) t [] [])
+      subst (λ (t : List Deed). Did ops own a (sides port w1 m) t [] [])
       (sym (at.parts ∙ ap (λ (t : List Deed). at.done ++ t) none ∙ append-nil at.done)) at.did
 
   -- A front of what was held, and of these bytes of the next deed, was written.
   pub acting_broke : (a : Sides P) (port : P) (w0 w1 : Option (List ℕ)) (m : Option (List Moment)) (held : List ℕ)
       (all rest : List Deed) (text : List ℕ) → IsFront text (next_bytes rest)
-      → Acting a (sides port w0 m) held all rest → PutsFront w0 held w1 text → BreaksOff holds own a (sides port w1 m)
+      → Acting a (sides port w0 m) held all rest → PutsFront w0 held w1 text → BreaksOff ops own a (sides port w1 m)
       all
   acting_broke a port w0 w1 m held all rest text fits at p =
       let total : at.out ++ (held ++ text) ≡ flat_map text_of at.sent ++ text = sym (append_assoc at.out held text)
@@ -367,7 +367,7 @@ module _ {P : Type 0} (holds : P → Op → Type 0) (own : P → List (List ℕ)
   -- a PDU of which a front was put
   pub acting_broke_at : (a : Sides P) (port : P) (w0 w1 : Option (List ℕ)) (m : Option (List Moment)) (held : List ℕ)
       (all items : List Deed) (d : Deed) (pdu : Pdu) (rest : List Deed) → items ≡ d ∷ rest → d ≡ Send pdu
-      → Acting a (sides port w0 m) held all items → PutsFront w0 held w1 (text_of pdu) → BreaksOff holds own
+      → Acting a (sides port w0 m) held all items → PutsFront w0 held w1 (text_of pdu) → BreaksOff ops own
       a (sides port w1 m) all
   acting_broke_at a port w0 w1 m held all items d pdu rest parts is so p =
       acting_broke a port w0 w1 m held all (Send pdu ∷ rest) (text_of pdu) (all_front (text_of pdu))

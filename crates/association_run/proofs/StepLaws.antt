@@ -21,81 +21,102 @@ use Rattle.association_session.specs.declared.deed.Deed.TheVariants.{Send, Reach
 use Rattle.association_session.specs.declared.event.SessionEvent.{SessionEvent}
 use Rattle.association_session.specs.declared.event.SessionEvent.TheVariants as inputs
 use Rattle.association_session.specs.declared.reply.Reply.{Reply}
-use Rattle.association_session.specs.Order.{IsOrderly}
-use Rattle.association_session.specs.Projections.{calls_in, state_after, state_by_pdu}
-use Rattle.association_session.specs.Response.{Awaited}
+use Rattle.association_session.specs.Projections.{calls_in}
+use Rattle.association_session.specs.declared.deed.Call.{Call}
+use Rattle.association_session.specs.declared.deed.Call.TheVariants.{Store, Find}
+use Rattle.association_session.specs.declared.due.Due.{Due}
+use Rattle.association_session.specs.declared.due.Due.TheVariants as dues
+use Rattle.association_session.specs.declared.reply.Reply.TheVariants.{Stored, Found}
+use Rattle.association_session.specs.Due.{IsQuiet, IsAnswered, Fits, left_of, tells_rows}
+use Rattle.association_session.specs.Session.{Awaits, IsToldBy, IsFewer, FewerFor}
+use Rattle.association_session.proofs.TellLaws.{rows_go}
+use Rattle.association_run.specs.Steps.{Hearing, GoesOnWith, BreaksWith}
 use Rattle.association_session.specs.Row.{Within, met}
 use Rattle.association_session.specs.Session.{AssociationState, SessionState, Turned, Takes, Owes, OwedFor, Stops}
 use Rattle.association_session.specs.Session.{heard_in, is_left, in_turn, is_in_turn, is_abort, is_release}
 use Rattle.association_session.specs.Session.{is_abort_event, reads_abort, met_in, replies_in}
 use Rattle.association_session.specs.Talks.{Heard, Met, Said, Leads, Talks, behind}
-use Rattle.association_session.proofs.HearLaws.{owed_idle}
-use Rattle.association_session.proofs.OrderLaws.{orderly}
+use Rattle.association_session.proofs.HearLaws.{none_answered, none_fits}
 use Rattle.association_run.specs.Hearing.{Place, Says, HearsSome}
 use Rattle.association_run.specs.Parts.{Sides, Did}
-use Rattle.association_run.specs.Port.{History}
+use Rattle.association_run.specs.Port.{Replies, History}
 use Rattle.association_run.specs.Steps.{Halts, Pends, IsNext, DidTurn, BrokeTurn, HeardWhole, HeardFront, place_of}
 use Rattle.association_run.proofs.Fronts.{all_front}
 use Rattle.association_run.proofs.DidLaws.{did_none, did_then, all_begun, begun_behind}
+use Rattle.archive_model.specs.declared.view.View.{View}
 
 -- ---- how deeds end
 
-pub halts_of : (ds : List Deed) (a : Option Awaited) → Stops ds a → Halts ds
+pub halts_of : (ds : List Deed) (a : Option Due) → Stops ds a → Halts ds
 halts_of [] a s = tt
 halts_of (Ask call ∷ ds) a s = s.0
 halts_of (Close ∷ ds) a s = s.0
 halts_of (Send pdu ∷ ds) a s = halts_of ds a s
 halts_of (Reach moment ∷ ds) a s = halts_of ds a s
 
-no_reply : {P : Type 0} (holds : P → Op → Type 0) (own : P → List (List ℕ)) (old new : P) (ds : List Deed) (r : Reply)
-    → ds ≡ [] → History holds own old (calls_in ds) (r ∷ []) new → ⊥
-no_reply holds own old new ds r none h = subst (λ (t : List Deed). History holds own old (calls_in t) (r ∷ []) new) none
+no_reply : {P : Type 0} (ops : P → List Op) (own : P → List (List ℕ)) (old new : P) (ds : List Deed) (r : Reply)
+    → ds ≡ [] → History ops own old (calls_in ds) (r ∷ []) new → ⊥
+no_reply ops own old new ds r none h = subst (λ (t : List Deed). History ops own old (calls_in t) (r ∷ []) new) none
     h
 
--- The reply of the call that ends them is that which is awaited.
-pends_of : {P : Type 0} (holds : P → Op → Type 0) (own : P → List (List ℕ)) (old new : P) (ds : List Deed)
-    (a : Option Awaited) (pending : Option Reply) → Stops ds a → History holds own old (calls_in ds)
-    (option_to_list pending) new → Pends a pending
-pends_of holds own old new [] None None s h = tt
-pends_of holds own old new [] None (Some r) s h = absurd h
-pends_of holds own old new [] (Some a) pending s h = absurd s
-pends_of holds own old new (Ask call ∷ ds) None pending s h = absurd (let e = s.1 in cc)
-pends_of holds own old new (Ask call ∷ ds) (Some a) None s h = absurd h
-pends_of holds own old new (Ask call ∷ ds) (Some a) (Some r) s h = tt
-pends_of holds own old new (Close ∷ ds) None None s h = tt
-pends_of holds own old new (Close ∷ ds) None (Some r) s h = absurd (no_reply holds own old new ds r s.0 h)
-pends_of holds own old new (Close ∷ ds) (Some a) pending s h = absurd (let e = s.1 in cc)
-pends_of holds own old new (Send pdu ∷ ds) a pending s h = pends_of holds own old new ds a pending s h
-pends_of holds own old new (Reach moment ∷ ds) a pending s h = pends_of holds own old new ds a pending s h
+asked_pends : {P : Type 0} (ops : P → List Op) (own : P → List (List ℕ)) (old new : P) (call : Call) (a : Option Due)
+    (r : Reply) → Awaits call a → Replies ops own old call r new → Pends a (Some r)
+asked_pends ops own old new (Store content) None r w p = absurd w
+asked_pends ops own old new (Store content) (Some (dues.Store a)) (Stored reply) w p = refl
+asked_pends ops own old new (Store content) (Some (dues.Store a)) (Found reply) w p = absurd p
+asked_pends ops own old new (Store content) (Some (dues.Find a kind)) r w p = absurd w
+asked_pends ops own old new (Store content) (Some (dues.Rows telling)) r w p = absurd w
+asked_pends ops own old new (Find finding) None r w p = absurd w
+asked_pends ops own old new (Find finding) (Some (dues.Store a)) r w p = absurd w
+asked_pends ops own old new (Find finding) (Some (dues.Find a kind)) (Found reply) w p = refl
+asked_pends ops own old new (Find finding) (Some (dues.Find a kind)) (Stored reply) w p = absurd p
+asked_pends ops own old new (Find finding) (Some (dues.Rows telling)) r w p = absurd w
 
--- A call is made only while the association is established.
-asked_open : (s : State) (ds : List Deed) (a : Awaited) → IsOrderly s ds → Stops ds (Some a) → state_after s ds ≡ Sta6
-asked_open s [] a o stops = absurd stops
-asked_open Sta1 (Ask call ∷ ds) a o stops = absurd o.0
-asked_open Sta2 (Ask call ∷ ds) a o stops = absurd o.0
-asked_open Sta13 (Ask call ∷ ds) a o stops = absurd o.0
-asked_open Sta6 (Ask call ∷ ds) a o stops = ap (λ (t : List Deed). state_after Sta6 t) stops.0
-asked_open s (Close ∷ ds) a o stops = absurd (let e = stops.1 in cc)
-asked_open s (Send pdu ∷ ds) a o stops = asked_open (state_by_pdu s pdu) ds a o.1 stops
-asked_open s (Reach moment ∷ ds) a o stops = asked_open s ds a o.1 stops
+-- The reply of the call that ends them is that which is awaited.
+pends_of : {P : Type 0} (ops : P → List Op) (own : P → List (List ℕ)) (old new : P) (ds : List Deed)
+    (a : Option Due) (pending : Option Reply) → Stops ds a → History ops own old (calls_in ds)
+    (option_to_list pending) new → Pends a pending
+pends_of ops own old new [] a None s h = s
+pends_of ops own old new [] a (Some r) s h = absurd h
+pends_of ops own old new (Ask call ∷ ds) a None s h = absurd h
+pends_of ops own old new (Ask call ∷ ds) a (Some r) s h = asked_pends ops own old h.0 call a r s.1 h.1
+pends_of ops own old new (Close ∷ ds) a None s h = none_answered a s.1
+pends_of ops own old new (Close ∷ ds) a (Some r) s h = absurd (no_reply ops own old new ds r s.0 h)
+pends_of ops own old new (Send pdu ∷ ds) a pending s h = pends_of ops own old new ds a pending s h
+pends_of ops own old new (Reach moment ∷ ds) a pending s h = pends_of ops own old new ds a pending s h
 
 -- ---- what is owed
 
-rests_for : {V : Type 0} (titles : List (Title V)) (w : Within V) (a : Option Awaited) → OwedFor a (Talks titles w [])
-    [] []
-rests_for titles w None = refl
-rests_for titles w (Some a) = refl
+-- the deeds that are owed where nothing more comes
+rests_for : (titles : List (Title View)) (w : Within) (a : Option Due) → Fits a
+    → (rest : List Deed) × OwedFor a (Talks titles w []) [] rest
+rests_for titles w None fits = ([], refl)
+rests_for titles w (Some (dues.Store a)) fits = ([], refl)
+rests_for titles w (Some (dues.Find a kind)) fits = ([], refl)
+rests_for titles w (Some (dues.Rows telling)) fits = rows_go telling.awaited telling.kind telling.rows telling.status
+    (Talks titles w [] []) fits refl
 
--- What was done so far is owed by what came so far.
-pub takes_all : {V : Type 0} (titles : List (Title V)) (a b : AssociationState V) (h : List Heard) (r : List Reply)
-    (d : List Deed) → Takes titles a h r d b → Owes titles a h r d
-takes_all titles a b h r d p =
+-- What was done so far begins what is owed by what came so far.
+pub takes_front : (titles : List (Title View)) (a b : AssociationState) (h : List Heard) (r : List Reply)
+    (d : List Deed) → Fits b.awaited → Takes titles a h r d b → (rest : List Deed) × Owes titles a h r (d ++ rest)
+takes_front titles a b h r d fits p =
+    let rests = rests_for titles b.within b.awaited fits in (
+      rests.0,
+      subst (λ (t : List Heard). Owes titles a t r (d ++ rests.0)) (append-nil h)
+          (subst (λ (t : List Reply). Owes titles a (h ++ []) t (d ++ rests.0)) (append-nil r)
+          (p [] [] rests.0 rests.1)),
+    )
+
+-- Where nothing is still to be told, what was done so far is owed by what came so far.
+pub takes_all : (titles : List (Title View)) (a b : AssociationState) (h : List Heard) (r : List Reply)
+    (d : List Deed) → b.awaited ≡ None → Takes titles a h r d b → Owes titles a h r d
+takes_all titles a b h r d idle p =
     subst (λ (t : List Heard). Owes titles a t r d) (append-nil h)
     (subst (λ (t : List Reply). Owes titles a (h ++ []) t d) (append-nil r)
     (subst (λ (t : List Deed). Owes titles a (h ++ []) (r ++ []) t) (append-nil d)
-    (p [] [] [] (rests_for titles b.within b.awaited))))
+    (p [] [] [] (subst (λ (o : Option Due). OwedFor o (Talks titles b.within []) [] []) (sym idle) refl))))
 
-pub takes_then : {V : Type 0} (titles : List (Title V)) (a b c : AssociationState V) (h1 h2 : List Heard)
+pub takes_then : (titles : List (Title View)) (a b c : AssociationState) (h1 h2 : List Heard)
     (r1 r2 : List Reply) (d1 d2 : List Deed)
     → Takes titles a h1 r1 d1 b → Takes titles b h2 r2 d2 c → Takes titles a (h1 ++ h2) (r1 ++ r2) (d1 ++ d2) c
 takes_then titles a b c h1 h2 r1 r2 d1 d2 p q = λ us rs rest owed.
@@ -106,27 +127,19 @@ takes_then titles a b c h1 h2 r1 r2 d1 d2 p q = λ us rs rest owed.
 
 -- ---- what is in turn
 
-idle_in_turn : (a : Option Awaited) (left : Bool) (input : SessionEvent) → in_turn a left input ≡ true
-    → replies_in input ≡ [] → a ≡ None
-idle_in_turn None left input turn none = refl
-idle_in_turn (Some a) left (inputs.Heard event) turn none = absurd cc
-idle_in_turn (Some a) left (inputs.Replied reply) turn none = absurd cc
-idle_in_turn (Some a) left inputs.GoesOn turn none = absurd cc
-
 -- A reply comes next where one is awaited.
-pub replied_turn : (a : Option Awaited) (left : Bool) (reply : Reply) → Pends a (Some reply)
+pub replied_turn : (a : Option Due) (left : Bool) (reply : Reply) → Pends a (Some reply)
     → in_turn a left (inputs.Replied reply) ≡ true
 replied_turn None left reply pends = absurd pends
-replied_turn (Some a) left reply pends = refl
+replied_turn (Some a) left reply pends = pends
 
-pub pends_none : (a : Option Awaited) → Pends a None → a ≡ None
-pends_none None pends = refl
-pends_none (Some a) pends = absurd pends
-
-none_pends : (a : Option Awaited) (pending : Option Reply) → a ≡ None → Pends a pending → pending ≡ None
-none_pends None None none pends = refl
-none_pends None (Some r) none pends = absurd pends
-none_pends (Some a) pending none pends = absurd cc
+-- Where no call was made, no reply is to be told.
+none_pends : (a : Option Due) (pending : Option Reply) → IsAnswered a → Pends a pending → pending ≡ None
+none_pends a None answered pends = refl
+none_pends None (Some r) answered pends = absurd pends
+none_pends (Some (dues.Store a)) (Some r) answered pends = absurd answered
+none_pends (Some (dues.Find a kind)) (Some r) answered pends = absurd answered
+none_pends (Some (dues.Rows telling)) (Some r) answered pends = absurd cc
 
 left_open : (s : State) (queue : List Pdv) → is_left s queue ≡ true → s ≡ Sta6
 left_open Sta1 queue e = absurd cc
@@ -139,43 +152,21 @@ open_left [] e = refl
 open_left (p ∷ queue) e = absurd cc
 
 -- What is told behind an event comes while the association is established.
-in_turn_open : (a : Option Awaited) (s : State) (queue : List Pdv) (input : SessionEvent) → (IsSome a → s ≡ Sta6)
+in_turn_open : (a : Option Due) (s : State) (queue : List Pdv) (input : SessionEvent) → (IsSome a → s ≡ Sta6)
     → in_turn a (is_left s queue) input ≡ true → met_in input ≡ [] → s ≡ Sta6
 in_turn_open a s queue (inputs.Heard event) asked turn none = absurd cc
 in_turn_open None s queue (inputs.Replied reply) asked turn none = absurd cc
 in_turn_open (Some a) s queue (inputs.Replied reply) asked turn none = asked refl
 in_turn_open None s queue inputs.GoesOn asked turn none = left_open s queue turn
-in_turn_open (Some a) s queue inputs.GoesOn asked turn none = absurd cc
+in_turn_open (Some a) s queue inputs.GoesOn asked turn none = asked refl
 
 not_left : (s : State) → s ≡ Sta6 → IsLeft s → ⊥
 not_left s opened left = subst (λ (t : State). IsLeft t) opened left
 
-none_some : (a : Option Awaited) → a ≡ None → IsSome a → ⊥
+none_some : (a : Option Due) → a ≡ None → IsSome a → ⊥
 none_some a none some = cc
 
-module _ {V : Type 0} (titles : List (Title V)) where
-  -- what an idle session is told
-  turn_open : (old new : AssociationState V) (event : SessionEvent) (deeds : List Deed) → Turned titles old event deeds
-      new → old.awaited ≡ None → (a : Option Awaited) → new.awaited ≡ a → IsSome a → new.within.state ≡ Sta6
-  turn_open old new event deeds t idle None is some = absurd cc
-  turn_open old new event deeds t idle (Some a) is some =
-      t.state
-      ∙ asked_open old.within.state deeds a
-      (orderly titles old.within (met_in event ++ t.said) (replies_in event)
-      deeds (owed_idle titles old (met_in event ++ t.said) (replies_in event) deeds
-      idle (takes_all titles old new (met_in event ++ t.said) (replies_in event) deeds t.takes)))
-      (subst (λ (o : Option Awaited). Stops deeds o) is t.stops)
-
-  -- While a reply is awaited the association is established.
-  asked_after : (old new : AssociationState V) (event : SessionEvent) (deeds : List Deed) → Turned titles old event
-      deeds new → is_in_turn old event ≡ true → IsSome new.awaited → new.within.state ≡ Sta6
-  asked_after old new (inputs.Heard event) deeds t turn some = turn_open old new (inputs.Heard event) deeds
-      t (idle_in_turn old.awaited (is_left old.within.state old.queue) (inputs.Heard event) turn refl) new.awaited refl
-      some
-  asked_after old new (inputs.Replied reply) deeds t turn some = absurd (none_some new.awaited t.told some)
-  asked_after old new inputs.GoesOn deeds t turn some = turn_open old new inputs.GoesOn deeds
-      t (idle_in_turn old.awaited (is_left old.within.state old.queue) inputs.GoesOn turn refl) new.awaited refl some
-
+module _ (titles : List (Title View)) where
   -- ---- what is heard, one after another
 
   run_then : (a : Assembly) (ps : List Pdv) (rs : List (Result (Option Message) DimseFault)) (b : Assembly)
@@ -196,13 +187,13 @@ module _ {V : Type 0} (titles : List (Title V)) where
   said_then (Ok (Some m) ∷ rs) ss = ap (λ (t : List Heard). Said m ∷ t) (said_then rs ss)
   said_then (Err f ∷ rs) ss = ap (λ (t : List Heard). heard_in (Err f ∷ []) ++ t) (said_then rs ss)
 
-  leads_then : (us vs : List Heard) (a b c : Within V) → Leads titles a us b → Leads titles b vs c
+  leads_then : (us vs : List Heard) (a b c : Within) → Leads titles a us b → Leads titles b vs c
       → Leads titles a (us ++ vs) c
-  leads_then [] vs a b c p q = subst (λ (w : Within V). Leads titles w vs c) p q
+  leads_then [] vs a b c p q = subst (λ (w : Within). Leads titles w vs c) p q
   leads_then (Met event ∷ us) vs a b c p q = leads_then us vs (met titles a event) b c p q
   leads_then (Said m ∷ us) vs a b c p q = (p.0, p.1, p.2, leads_then us vs (behind titles a p.1) b c p.3 q)
 
-  says_then : (old mid new : Place V) (values : List Pdv) (said more : List Heard) (left rest : List Pdv)
+  says_then : (old mid new : Place) (values : List Pdv) (said more : List Heard) (left rest : List Pdv)
       → Says titles old values said left mid → Says titles mid left more rest new
       → Says titles old values (said ++ more) rest new
   says_then old mid new values said more left rest p q = record {
@@ -217,7 +208,7 @@ module _ {V : Type 0} (titles : List (Title V)) where
   }
 
   -- what is told behind an event says, of the values that are left
-  says_on : (old new : AssociationState V) (input : SessionEvent) (deeds : List Deed) (left : List Pdv)
+  says_on : (old new : AssociationState) (input : SessionEvent) (deeds : List Deed) (left : List Pdv)
       (t : Turned titles old input deeds new) → met_in input ≡ [] → old.queue ≡ left → Says titles (place_of old) left
       t.said t.values.left (place_of new)
   says_on old new (inputs.Heard event) deeds left t none queue = absurd cc
@@ -240,7 +231,7 @@ module _ {V : Type 0} (titles : List (Title V)) where
     leads = t.leads;
   }
 
-  takes_on : (a b c : AssociationState V) (h said : List Heard) (told : List Reply) (done deeds : List Deed)
+  takes_on : (a b c : AssociationState) (h said : List Heard) (told : List Reply) (done deeds : List Deed)
       (input : SessionEvent) → met_in input ≡ [] → Takes titles a h told done b → Takes titles b (met_in input ++ said)
       (replies_in input) deeds c
       → Takes titles a (h ++ said) (told ++ replies_in input) (done ++ deeds) c
@@ -318,43 +309,36 @@ lighter old new pending behind same one none =
     let g : due behind ≡ 0 = ap due none in
     omega (arith, f, g, one)
 
-falls_by : {P V : Type 0} (holds : P → Op → Type 0) (own : P → List (List ℕ)) (titles : List (Title V))
-    (now then : Sides P) (s : SessionState V) (input : SessionEvent) (pending behind : Option Reply)
-    (t : SessionState V)
-    → IsNext s.association pending (Some input) → DidTurn holds own titles now then s input behind t
+-- Values that are heard on become fewer, where no row is left.
+fewer_left : (a : Option Due) (old new : AssociationState) (left : Bool) → IsQuiet a
+    → in_turn a left inputs.GoesOn ≡ true → FewerFor a old new → length new.queue < length old.queue
+fewer_left None old new left quiet turn fewer = fewer
+fewer_left (Some (dues.Store a)) old new left quiet turn fewer = absurd cc
+fewer_left (Some (dues.Find a kind)) old new left quiet turn fewer = absurd cc
+fewer_left (Some (dues.Rows telling)) old new left quiet turn fewer = absurd quiet
+
+falls_by : {P : Type 0} (ops : P → List Op) (own : P → List (List ℕ)) (titles : List (Title View))
+    (now then : Sides P) (s : SessionState) (input : SessionEvent) (pending behind : Option Reply)
+    (t : SessionState)
+    → IsQuiet s.association.awaited
+    → IsNext s.association pending (Some input) → DidTurn ops own titles now then s input behind t
     → Pends t.association.awaited behind → weight t.association.queue behind < weight s.association.queue pending
-falls_by holds own titles now then s (inputs.Heard event) pending behind t next turn pends = absurd (let e = next.2 in
-    cc)
-falls_by holds own titles now then s (inputs.Replied reply) pending behind t next turn pends =
+falls_by ops own titles now then s (inputs.Heard event) pending behind t quiet next turn pends =
+    absurd (let e = next.2 in cc)
+falls_by ops own titles now then s (inputs.Replied reply) pending behind t quiet next turn pends =
     lighter s.association.queue t.association.queue pending behind turn.fewer (due_of pending reply next.3)
     (none_pends t.association.awaited behind turn.turned.told pends)
-falls_by holds own titles now then s inputs.GoesOn pending behind t next turn pends =
-    let f : length t.association.queue < length s.association.queue = turn.fewer in
+falls_by ops own titles now then s inputs.GoesOn pending behind t quiet next turn pends =
+    let f : length t.association.queue < length s.association.queue = fewer_left s.association.awaited s.association
+    t.association (is_left s.association.within.state s.association.queue) quiet next.0 turn.fewer in
     let g = few behind in
     omega (arith, f, g)
 
 -- ---- with the port, the writer and the gate
 
--- So much of an event was heard, and was done.
-pub record Hearing {P V : Type 0} (holds : P → Op → Type 0) (own : P → List (List ℕ)) (titles : List (Title V))
-    (old now : Sides P) (from : SessionState V) (event : Event) (pending : Option Reply) (s : SessionState V) : Type 0
-  where
-    pub heard : List Heard
-    pub told : List Reply
-    pub done : List Deed
-    pub left : List Pdv
-    pub some : HearsSome titles (place_of from.association) event heard left (place_of s.association)
-    pub kept : (s.association.queue ≡ left) ⊎ IsLeft s.association.within.state
-    pub takes : Takes titles from.association heard told done s.association
-    pub did : Did holds own old now done [] (told ++ option_to_list pending)
-    pub pends : Pends s.association.awaited pending
-    pub asked : IsSome s.association.awaited → s.association.within.state ≡ Sta6
-    pub aborted : s.aborted ≡ (from.aborted || (is_abort_event (inputs.Heard event) || list_any is_abort done))
-    pub released : s.released ≡ (from.released || list_any is_release done)
-
-module _ {P V : Type 0} (holds : P → Op → Type 0) (own : P → List (List ℕ)) (titles : List (Title V)) where
+module _ {P : Type 0} (ops : P → List Op) (own : P → List (List ℕ)) (titles : List (Title View)) where
   -- what a turn on the event says
-  some_first : (from new : AssociationState V) (event : Event) (deeds : List Deed)
+  some_first : (from new : AssociationState) (event : Event) (deeds : List Deed)
       (t : Turned titles from (inputs.Heard event) deeds new) → HearsSome titles (place_of from)
       event (Met event ∷ t.said) t.values.left (place_of new)
   some_first from new event deeds t = record {
@@ -371,10 +355,10 @@ module _ {P V : Type 0} (holds : P → Op → Type 0) (own : P → List (List �
     };
   }
 
-  pub begun : (old now : Sides P) (from : SessionState V) (event : Event) (pending : Option Reply) (s : SessionState V)
+  pub begun : (old now : Sides P) (from : SessionState) (event : Event) (pending : Option Reply) (s : SessionState)
       → from.association.awaited ≡ None → is_left from.association.within.state from.association.queue ≡ false
       → from.association.within.state ≢ Sta1
-      → DidTurn holds own titles old now from (inputs.Heard event) pending s → Hearing holds own titles old now from
+      → DidTurn ops own titles old now from (inputs.Heard event) pending s → Hearing ops own titles old now from
       event pending s
   begun old now from event pending s idle finished connected t = record {
     heard = Met event ∷ t.turned.said;
@@ -385,16 +369,16 @@ module _ {P V : Type 0} (holds : P → Op → Type 0) (own : P → List (List �
     kept = t.turned.values.kept;
     takes = t.turned.takes;
     did = t.did;
-    pends = pends_of holds own old.port now.port t.deeds s.association.awaited pending t.turned.stops t.did.history;
-    asked = λ some. turn_open titles from.association s.association (inputs.Heard event) t.deeds t.turned idle
-        s.association.awaited refl some;
+    pends = pends_of ops own old.port now.port t.deeds s.association.awaited pending t.turned.stops t.did.history;
+    asked = t.turned.opened (λ some. absurd (none_some from.association.awaited idle some));
+    fits = t.turned.fits;
     aborted = t.aborted ∙ ap (λ (b : Bool). from.aborted || (b || list_any is_abort t.deeds))
         (reads_is from.association.within.state (inputs.Heard event) connected);
     released = t.released;
   }
 
-  queue_left : (old now : Sides P) (from : SessionState V) (event : Event) (pending : Option Reply) (s : SessionState V)
-      (input : SessionEvent) (h : Hearing holds own titles old now from event pending s)
+  queue_left : (old now : Sides P) (from : SessionState) (event : Event) (pending : Option Reply) (s : SessionState)
+      (input : SessionEvent) (h : Hearing ops own titles old now from event pending s)
       → IsNext s.association pending (Some input) → s.association.queue ≡ h.left
   queue_left old now from event pending s input h next = elim h.kept as (λ _. s.association.queue ≡ h.left) [
     | inl same ↦ same
@@ -402,9 +386,9 @@ module _ {P V : Type 0} (holds : P → Op → Type 0) (own : P → List (List �
         s.association.within.state s.association.queue input h.asked next.0 next.2) gone)
   ]
 
-  some_on : (old now : Sides P) (from : SessionState V) (event : Event) (pending : Option Reply) (s : SessionState V)
-      (input : SessionEvent) (h : Hearing holds own titles old now from event pending s) (deeds : List Deed)
-      (new : AssociationState V)
+  some_on : (old now : Sides P) (from : SessionState) (event : Event) (pending : Option Reply) (s : SessionState)
+      (input : SessionEvent) (h : Hearing ops own titles old now from event pending s) (deeds : List Deed)
+      (new : AssociationState)
       (t : Turned titles s.association input deeds new) → IsNext s.association pending (Some input)
       → HearsSome titles (place_of from.association) event (h.heard ++ t.said) t.values.left (place_of new)
   some_on old now from event pending s input h deeds new t next = record {
@@ -420,11 +404,11 @@ module _ {P V : Type 0} (holds : P → Op → Type 0) (own : P → List (List �
       pending → told ++ option_to_list pending ≡ told ++ replies_in input
   replied_so told pending input is = ap (λ (t : List Reply). told ++ t) (sym is)
 
-  pub goes_on : (old now then : Sides P) (from : SessionState V) (event : Event) (pending : Option Reply)
-      (s : SessionState V) (input : SessionEvent) (behind : Option Reply) (t : SessionState V) → Hearing holds own
+  pub goes_on : (old now then : Sides P) (from : SessionState) (event : Event) (pending : Option Reply)
+      (s : SessionState) (input : SessionEvent) (behind : Option Reply) (t : SessionState) → Hearing ops own
       titles old now from event pending s
-      → IsNext s.association pending (Some input) → DidTurn holds own titles now then s input behind t
-      → Hearing holds own titles old then from event behind t
+      → IsNext s.association pending (Some input) → DidTurn ops own titles now then s input behind t
+      → Hearing ops own titles old then from event behind t
   goes_on old now then from event pending s input behind t h next turn = record {
     heard = h.heard ++ turn.turned.said;
     told = h.told ++ replies_in input;
@@ -434,29 +418,37 @@ module _ {P V : Type 0} (holds : P → Op → Type 0) (own : P → List (List �
     kept = turn.turned.values.kept;
     takes = takes_on titles from.association s.association t.association h.heard turn.turned.said h.told h.done
         turn.deeds input next.2 h.takes turn.turned.takes;
-    did = subst (λ (k : List Reply). Did holds own old then (h.done ++ turn.deeds) [] (k ++ option_to_list behind))
+    did = subst (λ (k : List Reply). Did ops own old then (h.done ++ turn.deeds) [] (k ++ option_to_list behind))
         (replied_so h.told pending input next.3)
-        (did_then holds own old now then h.done turn.deeds [] (h.told ++ option_to_list pending) (option_to_list behind)
+        (did_then ops own old now then h.done turn.deeds [] (h.told ++ option_to_list pending) (option_to_list behind)
         h.did turn.did);
-    pends = pends_of holds own now.port then.port turn.deeds t.association.awaited behind turn.turned.stops
+    pends = pends_of ops own now.port then.port turn.deeds t.association.awaited behind turn.turned.stops
         turn.did.history;
-    asked = λ some. asked_after titles s.association t.association input turn.deeds turn.turned next.0 some;
+    asked = turn.turned.opened h.asked;
+    fits = turn.turned.fits;
     aborted = aborted_on from.aborted (is_abort_event (inputs.Heard event)) (reads_abort s.association.within.state
         input) s.aborted t.aborted h.done turn.deeds h.aborted (not_read s.association.within.state input next.2)
         turn.aborted;
     released = released_on from.released s.released t.released h.done turn.deeds h.released turn.released;
   }
 
-  pub falls : (old now then : Sides P) (from : SessionState V) (event : Event) (pending : Option Reply)
-      (s : SessionState V) (input : SessionEvent) (behind : Option Reply) (t : SessionState V) → Hearing holds own
+  pub falls : (old now then : Sides P) (from : SessionState) (event : Event) (pending : Option Reply)
+      (s : SessionState) (input : SessionEvent) (behind : Option Reply) (t : SessionState) → Hearing ops own
       titles old now from event pending s
-      → IsNext s.association pending (Some input) → DidTurn holds own titles now then s input behind t
+      → IsQuiet s.association.awaited
+      → IsNext s.association pending (Some input) → DidTurn ops own titles now then s input behind t
       → weight t.association.queue behind < weight s.association.queue pending
-  falls old now then from event pending s input behind t h next turn =
-      falls_by holds own titles now then s input pending behind t next turn (pends_of holds own now.port then.port
+  falls old now then from event pending s input behind t h quiet next turn =
+      falls_by ops own titles now then s input pending behind t quiet next turn (pends_of ops own now.port then.port
       turn.deeds t.association.awaited behind turn.turned.stops turn.did.history)
 
-  idle_left : (a : Option Awaited) (left : Bool) → a ≡ None → in_turn a left inputs.GoesOn ≡ false → left ≡ false
+  idle_of : (a : Option Due) (left : Bool) → IsAnswered a → in_turn a left inputs.GoesOn ≡ false → a ≡ None
+  idle_of None left answered e = refl
+  idle_of (Some (dues.Store a)) left answered e = absurd answered
+  idle_of (Some (dues.Find a kind)) left answered e = absurd answered
+  idle_of (Some (dues.Rows telling)) left answered e = absurd cc
+
+  idle_left : (a : Option Due) (left : Bool) → a ≡ None → in_turn a left inputs.GoesOn ≡ false → left ≡ false
   idle_left None left idle e = e
   idle_left (Some a) left idle e = absurd cc
 
@@ -466,11 +458,11 @@ module _ {P V : Type 0} (holds : P → Op → Type 0) (own : P → List (List �
       ∙ open_left queue (ap (λ (s : State). is_left s queue) (sym opened) ∙ finished)
   all_left state queue left finished (inr gone) opened = absurd (not_left state opened gone)
 
-  whole : (old now : Sides P) (from : SessionState V) (event : Event) (s : SessionState V) → Hearing holds own titles
-      old now from event None s → is_in_turn s.association inputs.GoesOn ≡ false → HeardWhole holds own titles old now
+  whole : (old now : Sides P) (from : SessionState) (event : Event) (s : SessionState) → Hearing ops own titles
+      old now from event None s → is_in_turn s.association inputs.GoesOn ≡ false → HeardWhole ops own titles old now
       from event s
   whole old now from event s h none =
-      let idle = pends_none s.association.awaited h.pends in
+      let idle = idle_of s.association.awaited (is_left s.association.within.state s.association.queue) h.pends none in
       let finished = idle_left s.association.awaited (is_left s.association.within.state s.association.queue) idle none
       in
       record {
@@ -479,44 +471,47 @@ module _ {P V : Type 0} (holds : P → Op → Type 0) (own : P → List (List �
         done = h.done;
         hears = (h.left, h.some, all_left s.association.within.state s.association.queue h.left finished h.kept);
         takes = h.takes;
-        did = subst (λ (k : List Reply). Did holds own old now h.done [] k) (append-nil h.told) h.did;
+        did = subst (λ (k : List Reply). Did ops own old now h.done [] k) (append-nil h.told) h.did;
         idle = idle;
         finished = finished;
         aborted = h.aborted;
         released = h.released;
       }
 
-  pub ended : (old now : Sides P) (from : SessionState V) (event : Event) (pending : Option Reply) (s : SessionState V)
-      → Hearing holds own titles old now from event pending s → IsNext s.association pending None → HeardWhole holds own
+  pub ended : (old now : Sides P) (from : SessionState) (event : Event) (pending : Option Reply) (s : SessionState)
+      → Hearing ops own titles old now from event pending s → IsNext s.association pending None → HeardWhole ops own
       titles old now from event s
   ended old now from event None s h next = whole old now from event s h next.1
   ended old now from event (Some reply) s h next = absurd (let e = next.0 in cc)
 
   -- ---- after a fault
 
-  pub fails_first : (old new : Sides P) (from : SessionState V) (event : Event) → BrokeTurn holds own titles old new
-      from (inputs.Heard event) → HeardFront holds own titles old new from.association event
-  fails_first old new from event (inl same) = record {
+  pub fails_first : (old new : Sides P) (from : SessionState) (event : Event) → from.association.awaited ≡ None
+      → BrokeTurn ops own titles old new
+      from (inputs.Heard event) → HeardFront ops own titles old new from.association event
+  fails_first old new from event idle (inl same) = record {
     heard = [];
     told = [];
     replies = [];
     first = all_front [];
     all = [];
     to = from.association;
+    fits = none_fits from.association.awaited idle;
     hears = inl refl;
     takes = λ us rs rest owed. owed;
     done = [];
     part = [];
     front = all_begun [];
-    did = subst (λ (k : Sides P). Did holds own old k [] [] []) (sym same) (did_none holds own old);
+    did = subst (λ (k : Sides P). Did ops own old k [] [] []) (sym same) (did_none ops own old);
   }
-  fails_first old new from event (inr b) = record {
+  fails_first old new from event idle (inr b) = record {
     heard = Met event ∷ b.turned.said;
     told = [];
     replies = [];
     first = all_front [];
     all = b.deeds;
     to = b.to;
+    fits = b.turned.fits;
     hears = inr (b.turned.values.left, place_of b.to, some_first from.association b.to event b.deeds b.turned);
     takes = b.turned.takes;
     done = b.broke.0;
@@ -525,9 +520,9 @@ module _ {P V : Type 0} (holds : P → Op → Type 0) (own : P → List (List �
     did = b.broke.3;
   }
 
-  pub fails_on : (old now then : Sides P) (from : SessionState V) (event : Event) (pending : Option Reply)
-      (s : SessionState V) (input : SessionEvent) → Hearing holds own titles old now from event pending s
-      → IsNext s.association pending (Some input) → BrokeTurn holds own titles now then s input → HeardFront holds own
+  pub fails_on : (old now then : Sides P) (from : SessionState) (event : Event) (pending : Option Reply)
+      (s : SessionState) (input : SessionEvent) → Hearing ops own titles old now from event pending s
+      → IsNext s.association pending (Some input) → BrokeTurn ops own titles now then s input → HeardFront ops own
       titles old then from.association event
   fails_on old now then from event pending s input h next (inl same) = record {
     heard = h.heard;
@@ -536,12 +531,13 @@ module _ {P V : Type 0} (holds : P → Op → Type 0) (own : P → List (List �
     first = (option_to_list pending, refl);
     all = h.done;
     to = s.association;
+    fits = h.fits;
     hears = inr (h.left, place_of s.association, h.some);
     takes = h.takes;
     done = h.done;
     part = [];
     front = all_begun h.done;
-    did = subst (λ (k : Sides P). Did holds own old k h.done [] (h.told ++ option_to_list pending)) (sym same) h.did;
+    did = subst (λ (k : Sides P). Did ops own old k h.done [] (h.told ++ option_to_list pending)) (sym same) h.did;
   }
   fails_on old now then from event pending s input h next (inr b) = record {
     heard = h.heard ++ b.turned.said;
@@ -550,6 +546,7 @@ module _ {P V : Type 0} (holds : P → Op → Type 0) (own : P → List (List �
     first = all_front (h.told ++ replies_in input);
     all = h.done ++ b.deeds;
     to = b.to;
+    fits = b.turned.fits;
     hears = inr (
       b.turned.values.left,
       place_of b.to,
@@ -561,8 +558,73 @@ module _ {P V : Type 0} (holds : P → Op → Type 0) (own : P → List (List �
     done = h.done ++ b.broke.0;
     part = b.broke.1;
     front = begun_behind h.done b.broke.0 b.broke.1 b.deeds b.broke.2;
-    did = subst (λ (k : List Reply). Did holds own old then (h.done ++ b.broke.0) b.broke.1 k)
+    did = subst (λ (k : List Reply). Did ops own old then (h.done ++ b.broke.0) b.broke.1 k)
         (append-nil (h.told ++ option_to_list pending) ∙ replied_so h.told pending input next.3)
-        (did_then holds own old now then h.done b.broke.0 b.broke.1 (h.told ++ option_to_list pending) [] h.did
+        (did_then ops own old now then h.done b.broke.0 b.broke.1 (h.told ++ option_to_list pending) [] h.did
         b.broke.3);
   }
+
+  -- ---- rows
+
+  telling_next : (s : AssociationState) (a : Option Due) (pending : Option Reply) → s.awaited ≡ a
+      → tells_rows a ≡ true → Pends a pending → IsNext s pending (Some inputs.GoesOn) × (pending ≡ None)
+  telling_next s None pending is e pends = absurd cc
+  telling_next s (Some (dues.Store a)) pending is e pends = absurd cc
+  telling_next s (Some (dues.Find a kind)) pending is e pends = absurd cc
+  telling_next s (Some (dues.Rows telling)) None is e pends = (
+    (
+      ap (λ (o : Option Due). in_turn o (is_left s.within.state s.queue) inputs.GoesOn) is,
+      tt,
+      refl,
+      refl,
+    ),
+    refl,
+  )
+  telling_next s (Some (dues.Rows telling)) (Some reply) is e pends = absurd cc
+
+  answered_on : (old new : Option Due) → tells_rows old ≡ true → IsToldBy inputs.GoesOn old new → IsAnswered new
+  answered_on None new e told = absurd cc
+  answered_on (Some due) new e told = told
+
+  -- Some rows more are told.
+  pub tells_on : (now mid then : Sides P) (s m : SessionState) (behind : Option Reply) (t : SessionState)
+      → GoesOnWith ops own titles now mid s m → tells_rows m.association.awaited ≡ true
+      → DidTurn ops own titles mid then m inputs.GoesOn behind t → GoesOnWith ops own titles now then s t
+  tells_on now mid then s m behind t so telling turn = λ old from event pending h.
+      let here = so old from event pending h in
+      let next = telling_next m.association m.association.awaited pending refl telling here.pends in
+      let on = goes_on old mid then from event pending m inputs.GoesOn behind t here next.0 turn in
+      let none = none_pends t.association.awaited behind (answered_on m.association.awaited t.association.awaited
+      telling
+      turn.turned.told) on.pends in
+      subst (λ (p : Option Reply). Hearing ops own titles old then from event p t) (none ∙ sym next.1) on
+
+  -- Of the deeds for some rows a front was done.
+  pub tells_broke : (now mid then : Sides P) (s m : SessionState)
+      → GoesOnWith ops own titles now mid s m → tells_rows m.association.awaited ≡ true
+      → BrokeTurn ops own titles mid then m inputs.GoesOn → BreaksWith ops own titles now then s
+  tells_broke now mid then s m so telling broke = λ old from event pending h.
+      let here = so old from event pending h in
+      let next = telling_next m.association m.association.awaited pending refl telling here.pends in
+      fails_on old mid then from event pending m inputs.GoesOn here next.0 broke
+
+fewer_rows : (a : Option Due) (old new : AssociationState) → tells_rows a ≡ true → FewerFor a old new
+    → (new.queue ≡ old.queue) × (left_of new.awaited < left_of old.awaited)
+fewer_rows None old new e fewer = absurd cc
+fewer_rows (Some due) old new e fewer = fewer
+
+-- Rows that are told on become fewer, and the values stay.
+pub rows_fewer : (old new : AssociationState) → tells_rows old.awaited ≡ true → IsFewer inputs.GoesOn old new
+    → (new.queue ≡ old.queue) × (left_of new.awaited < left_of old.awaited)
+rows_fewer old new e fewer = fewer_rows old.awaited old new e fewer
+
+-- Where no rows are told, none is left.
+pub quiet_of : (a : Option Due) → tells_rows a ≡ false → IsQuiet a
+quiet_of None e = tt
+quiet_of (Some (dues.Store a)) e = tt
+quiet_of (Some (dues.Find a kind)) e = tt
+quiet_of (Some (dues.Rows telling)) e = absurd cc
+
+pub told_in_turn : (a : Option Due) (left : Bool) → tells_rows a ≡ true → in_turn a left inputs.GoesOn ≡ true
+told_in_turn None left e = absurd cc
+told_in_turn (Some due) left e = e

@@ -48,7 +48,8 @@ use Rattle.association_run.specs.Turns.{counted_in, NOTHING_READ, Adds, Drops, R
 use Rattle.association_run.specs.Turns.{TakingBroke, IsInHand, IsDropped, IsReady, Sofar}
 use Rattle.association_run.proofs.Fronts.{read_further, nothing_read, all_front, front_behind}
 use Rattle.association_run.proofs.DidLaws.{did_none, did_then, all_begun, begun_behind, begun_more}
-use Rattle.association_run.proofs.StepLaws.{takes_all, takes_then}
+use Rattle.association_run.proofs.StepLaws.{takes_all, takes_front, takes_then}
+use Rattle.archive_model.specs.declared.view.View.{View}
 
 -- ---- pieces
 
@@ -118,15 +119,15 @@ no_piece (Faulty faults.Memory n) is = is.0
 
 -- ---- what is heard of pieces
 
-takes_push : {V : Type 0} (titles : List (Title V)) (c : Course V) (pieces : List Piece) (heard : List Heard)
-    (mid : Course V) (piece : Piece) (now : List Heard) (end : Course V) → TakesPieces titles c pieces heard mid
+takes_push : (titles : List (Title View)) (c : Course) (pieces : List Piece) (heard : List Heard)
+    (mid : Course) (piece : Piece) (now : List Heard) (end : Course) → TakesPieces titles c pieces heard mid
     → TakesPiece titles mid piece now end
     → TakesPieces titles c (pieces ++ piece ∷ []) (heard ++ now) end
-takes_push {V = W} titles c [] heard mid piece now end p q = (
+takes_push titles c [] heard mid piece now end p q = (
   end,
   now,
   [],
-  subst (λ (k : Course W). TakesPiece titles k piece now end) p.1 q,
+  subst (λ (k : Course). TakesPiece titles k piece now end) p.1 q,
   (refl, refl),
   ap (λ (t : List Heard). t ++ now) p.0 ∙ sym (append-nil now),
 )
@@ -140,7 +141,7 @@ takes_push titles c (first ∷ pieces) heard mid piece now end p q = (
 )
 
 -- A faulty PDU hands nothing on, and behind it the peer is to close.
-faulty_row : {V : Type 0} (titles : List (Title V)) (state : State) (f : PduFault) → state ≢ Sta1
+faulty_row : (titles : List (Title View)) (state : State) (f : PduFault) → state ≢ Sta1
     → (handed_on titles state (Bad f) ≡ []) × (next_of state (kind_for titles (Bad f)) ≡ Sta13)
 faulty_row titles Sta1 f connected = absurd (connected refl)
 faulty_row titles Sta2 faults.UnknownType connected = (refl, refl)
@@ -170,18 +171,18 @@ no_values [] left e = refl
 no_values (p ∷ fed) left e = absurd cc
 
 -- Where no value is handed on nothing is said.
-nothing_said : {V : Type 0} (titles : List (Title V)) (old : Place V) (values : List Pdv) (said : List Heard)
-    (left : List Pdv) (new : Place V) → values ≡ [] → Says titles old values said left new → new.within ≡ old.within
+nothing_said : (titles : List (Title View)) (old : Place) (values : List Pdv) (said : List Heard)
+    (left : List Pdv) (new : Place) → values ≡ [] → Says titles old values said left new → new.within ≡ old.within
 nothing_said titles old values said left new none p =
     let fed : p.fed ≡ [] = no_values p.fed left (sym p.parts ∙ none) in
     let said_none : said ≡ [] = p.says ∙ ap heard_in (no_answers _ _ p.fed p.answers fed p.run) in
     subst (λ (t : List Heard). Leads titles old.within t new.within) said_none p.leads
 
-dropped_state : {V : Type 0} (titles : List (Title V)) (old : Place V) (f : PduFault) (heard : List Heard)
-    (new : Place V) → old.within.state ≢ Sta1 → Hears titles old (Bad f) heard new → new.within.state ≡ Sta13
-dropped_state {V = W} titles old f heard new connected h =
+dropped_state : (titles : List (Title View)) (old : Place) (f : PduFault) (heard : List Heard)
+    (new : Place) → old.within.state ≢ Sta1 → Hears titles old (Bad f) heard new → new.within.state ≡ Sta13
+dropped_state titles old f heard new connected h =
     let row = faulty_row titles old.within.state f connected in
-    ap (λ (w : Within W). w.state) (nothing_said titles _ _ h.1.said h.0 new row.0 h.1.values) ∙ row.1
+    ap (λ (w : Within). w.state) (nothing_said titles _ _ h.1.said h.0 new row.0 h.1.values) ∙ row.1
 
 -- ---- how it ends
 
@@ -270,13 +271,13 @@ not_over Sta2 counted e = (λ f. absurd cc, eqb-false counted MOST_DROPPED e)
 not_over Sta6 counted e = (λ f. absurd cc, eqb-false counted MOST_DROPPED e)
 not_over Sta13 counted e = (λ f. absurd cc, eqb-false counted MOST_DROPPED e)
 
-module _ {P V : Type 0} (holds : P → Op → Type 0) (own : P → List (List ℕ)) (titles : List (Title V)) where
+module _ {P : Type 0} (ops : P → List Op) (own : P → List (List ℕ)) (titles : List (Title View)) where
   -- where it is, with the bytes that were counted
-  abbrev course_at : SessionState V → ℕ → Course V
+  abbrev course_at : SessionState → ℕ → Course
   course_at s counted = record { place = place_of s.association; counted = counted }
 
-  pub nothing_yet : (r : Option (List ℕ)) (a : Sides P) (s : SessionState V) → s.association ≡ start → s.aborted ≡ false
-      → s.released ≡ false → Sofar holds own titles r r a a s NOTHING_READ 0
+  pub nothing_yet : (r : Option (List ℕ)) (a : Sides P) (s : SessionState) → s.association ≡ start → s.aborted ≡ false
+      → s.released ≡ false → Sofar ops own titles r r a a s NOTHING_READ 0
   nothing_yet r a s is aborted released = record {
     text = [];
     read = nothing_read r;
@@ -288,19 +289,20 @@ module _ {P V : Type 0} (holds : P → Op → Type 0) (own : P → List (List �
     heard = [];
     replies = [];
     done = [];
-    hears = (refl, ap (λ (t : AssociationState V). record { place = place_of t; counted = 0 }) is);
-    takes = λ us rs rest owed. subst (λ (t : AssociationState V). Owes titles t us rs rest) is owed;
-    did = did_none holds own a;
+    hears = (refl, ap (λ (t : AssociationState). record { place = place_of t; counted = 0 }) is);
+    takes = λ us rs rest owed. subst (λ (t : AssociationState). Owes titles t us rs rest) is owed;
+    idle = ap (λ (t : AssociationState). t.awaited) is;
+    did = did_none ops own a;
     held = inl (refl, refl, refl, refl);
-    within = subst (λ (k : AssociationState V). counted_in NOTHING_READ k.within.state ≤ MOST_DROPPED) (sym is)
+    within = subst (λ (k : AssociationState). counted_in NOTHING_READ k.within.state ≤ MOST_DROPPED) (sym is)
         (omega arith);
     aborted = aborted;
     released = released;
   }
 
-  pub after_read : (r0 r1 r2 : Option (List ℕ)) (old now : Sides P) (s : SessionState V) (before after : Intake)
-      (n count : ℕ) → Sofar holds own titles r0 r1 old now s before n → Reads r1 r2 before count after
-      → counted_in after s.association.within.state ≤ MOST_DROPPED → Sofar holds own titles r0 r2 old now s
+  pub after_read : (r0 r1 r2 : Option (List ℕ)) (old now : Sides P) (s : SessionState) (before after : Intake)
+      (n count : ℕ) → Sofar ops own titles r0 r1 old now s before n → Reads r1 r2 before count after
+      → counted_in after s.association.within.state ≤ MOST_DROPPED → Sofar ops own titles r0 r2 old now s
       after (n + count)
   after_read r0 r1 r2 old now s before after n count so r within = record {
     text = so.text ++ r.bytes;
@@ -315,6 +317,7 @@ module _ {P V : Type 0} (holds : P → Op → Type 0) (own : P → List (List �
     done = so.done;
     hears = so.hears;
     takes = so.takes;
+    idle = so.idle;
     did = so.did;
     held = held_more before after s.association.within.state so.pieces so.rest r.bytes so.counted r.brought so.held;
     within = within;
@@ -323,7 +326,7 @@ module _ {P V : Type 0} (holds : P → Op → Type 0) (own : P → List (List �
   }
 
   -- what is held behind a piece
-  held_behind : (old new : Place V) (before after : Intake) (pieces : List Piece) (piece : Piece) (counted : ℕ)
+  held_behind : (old new : Place) (before after : Intake) (pieces : List Piece) (piece : Piece) (counted : ℕ)
       (heard : List Heard) → old.within.state ≢ Sta1 → Hears titles old (event_of piece) heard new
       → is_cut pieces ≡ true → counted ≡ before.counted → after.counted ≡ before.counted + counts old.within.state
       (size_of_piece piece) → after.is_cut ≡ is_whole piece → after.inbox ≡ EMPTY
@@ -366,12 +369,12 @@ module _ {P V : Type 0} (holds : P → Op → Type 0) (own : P → List (List �
     dropped.4,
   )
 
-  took_nothing : (r0 r1 : Option (List ℕ)) (old now then : Sides P) (s : SessionState V) (before : Intake)
-      (t : SessionState V) (after : Intake) (n : ℕ) → Sofar holds own titles r0 r1 old now s before n
+  took_nothing : (r0 r1 : Option (List ℕ)) (old now then : Sides P) (s : SessionState) (before : Intake)
+      (t : SessionState) (after : Intake) (n : ℕ) → Sofar ops own titles r0 r1 old now s before n
       → then ≡ now → t ≡ s → after.is_cut ≡ before.is_cut → after.counted ≡ before.counted
-      → after.inbox.text ≡ before.inbox.text → Sofar holds own titles r0 r1 old then t after n
+      → after.inbox.text ≡ before.inbox.text → Sofar ops own titles r0 r1 old then t after n
   took_nothing r0 r1 old now then s before t after n so sides_same same cut counted text =
-      let kept : Sofar holds own titles r0 r1 old now s after n = record {
+      let kept : Sofar ops own titles r0 r1 old now s after n = record {
         text = so.text;
         read = so.read;
         many = so.many;
@@ -384,19 +387,20 @@ module _ {P V : Type 0} (holds : P → Op → Type 0) (own : P → List (List �
         done = so.done;
         hears = so.hears;
         takes = so.takes;
+        idle = so.idle;
         did = so.did;
         held = held_kept before after s.association.within.state so.pieces so.rest so.counted cut counted text so.held;
         within = rw (counted, text) so.within;
         aborted = so.aborted;
         released = so.released;
       } in
-      subst (λ (k : Sides P). Sofar holds own titles r0 r1 old k t after n) (sym sides_same)
-      (subst (λ (k : SessionState V). Sofar holds own titles r0 r1 old now k after n) (sym same) kept)
+      subst (λ (k : Sides P). Sofar ops own titles r0 r1 old k t after n) (sym sides_same)
+      (subst (λ (k : SessionState). Sofar ops own titles r0 r1 old now k after n) (sym same) kept)
 
-  took_piece : (r0 r1 : Option (List ℕ)) (old now then : Sides P) (s : SessionState V) (before : Intake)
-      (t : SessionState V) (after : Intake) (n : ℕ) (so : Sofar holds own titles r0 r1 old now s before n)
-      → s.association.within.state ≢ Sta1 → HearsPiece holds own titles now then s before t after
-      → IsInHand before so.pieces so.rest so.counted → Sofar holds own titles r0 r1 old then t after n
+  took_piece : (r0 r1 : Option (List ℕ)) (old now then : Sides P) (s : SessionState) (before : Intake)
+      (t : SessionState) (after : Intake) (n : ℕ) (so : Sofar ops own titles r0 r1 old now s before n)
+      → s.association.within.state ≢ Sta1 → HearsPiece ops own titles now then s before t after
+      → IsInHand before so.pieces so.rest so.counted → Sofar ops own titles r0 r1 old then t after n
   took_piece r0 r1 old now then s before t after n so connected h hand =
       let is : IsPiece h.piece so.rest = subst (λ (k : List ℕ). IsPiece h.piece k) (sym hand.2) h.is in
       let empty : after.inbox.text ≡ [] = ap (λ (k : InHand). k.text) h.empty in
@@ -419,7 +423,8 @@ module _ {P V : Type 0} (holds : P → Op → Type 0) (own : P → List (List �
             (connected, w.hears, refl);
         takes = takes_then titles start s.association t.association so.heard w.heard so.replies w.replies so.done w.done
             so.takes w.takes;
-        did = did_then holds own old now then so.done w.done [] so.replies w.replies so.did w.did;
+        idle = w.idle;
+        did = did_then ops own old now then so.done w.done [] so.replies w.replies so.did w.did;
         held = held_behind (place_of s.association) (place_of t.association) before after so.pieces h.piece so.counted
             w.heard connected w.hears hand.1 hand.3 h.counted h.cut h.empty;
         within = omega (arith, counted_empty after t.association.within.state empty, h.counted, counts_kept, so.within);
@@ -427,21 +432,22 @@ module _ {P V : Type 0} (holds : P → Op → Type 0) (own : P → List (List �
         released = released_push so.done w.done s.released t.released so.released w.released;
       }
 
-  pub after_take : (r0 r1 : Option (List ℕ)) (old now then : Sides P) (s : SessionState V) (before : Intake)
-      (t : SessionState V) (after : Intake) (n : ℕ) → Sofar holds own titles r0 r1 old now s before n
+  pub after_take : (r0 r1 : Option (List ℕ)) (old now then : Sides P) (s : SessionState) (before : Intake)
+      (t : SessionState) (after : Intake) (n : ℕ) → Sofar ops own titles r0 r1 old now s before n
       → s.association.within.state ≢ Sta1
-      → TakesHand holds own titles now then s before t after → Sofar holds own titles r0 r1 old then t after n
+      → TakesHand ops own titles now then s before t after → Sofar ops own titles r0 r1 old then t after n
   after_take r0 r1 old now then s before t after n so connected (inl none) = took_nothing r0 r1 old now then s before t
       after n so none.0 none.1 none.2 none.3 none.4
   after_take r0 r1 old now then s before t after n so connected (inr h) = elim so.held
-      as (λ _. Sofar holds own titles r0 r1 old then t after n) [
+      as (λ _. Sofar ops own titles r0 r1 old then t after n) [
         | inl hand ↦ took_piece r0 r1 old now then s before t after n so connected h hand
         | inr dropped ↦ absurd (no_piece h.piece (subst (λ (k : List ℕ). IsPiece h.piece k) dropped.3 h.is))
       ]
 
-  talk_of : (s : SessionState V) (heard : List Heard) (replies : List Reply) (done : List Deed) → Takes titles start
-      heard replies done s.association → Talks titles opening heard replies done
-  talk_of s heard replies done takes = takes_all titles start s.association heard replies done takes
+  talk_of : (s : SessionState) (heard : List Heard) (replies : List Reply) (done : List Deed)
+      → s.association.awaited ≡ None → Takes titles start heard replies done s.association
+      → Talks titles opening heard replies done
+  talk_of s heard replies done idle takes = takes_all titles start s.association heard replies done idle takes
 
   -- A front of one talk is a front of each that goes on from there.
   whatever_comes : (heard : List Heard) (told replies : List Reply) (done : List Deed) (part : List ℕ) (all : List Deed)
@@ -455,8 +461,8 @@ module _ {P V : Type 0} (holds : P → Op → Type 0) (own : P → List (List �
       first.1 ∙ append_assoc told first.0 others) later))
 
   -- what is done is a front of itself
-  pub stopped : (r0 r1 r2 : Option (List ℕ)) (old now : Sides P) (s : SessionState V) (intake : Intake) (n : ℕ)
-      → Sofar holds own titles r0 r1 old now s intake n → Consumes r1 r2 [] → FrontOfOutput holds own titles r0 r2 old
+  pub stopped : (r0 r1 r2 : Option (List ℕ)) (old now : Sides P) (s : SessionState) (intake : Intake) (n : ℕ)
+      → Sofar ops own titles r0 r1 old now s intake n → Consumes r1 r2 [] → FrontOfOutput ops own titles r0 r2 old
       now
   stopped r0 r1 r2 old now s intake n so none = record {
     text = so.text ++ [];
@@ -483,31 +489,32 @@ module _ {P V : Type 0} (holds : P → Op → Type 0) (own : P → List (List �
     told = so.replies;
     first = all_front so.replies;
     all = so.done;
-    talk = talk_of s so.heard so.replies so.done so.takes;
+    talk = talk_of s so.heard so.replies so.done so.idle so.takes;
     front = all_begun so.done;
     whatever = whatever_comes so.heard so.replies so.replies so.done [] so.done (all_front so.replies)
-        (talk_of s so.heard so.replies so.done so.takes) (all_begun so.done);
+        (talk_of s so.heard so.replies so.done so.idle so.takes) (all_begun so.done);
   }
 
-  some_front : (s : SessionState V) (counted : ℕ) (piece : Piece) (heard : List Heard) → s.association.within.state ≢
+  some_front : (s : SessionState) (counted : ℕ) (piece : Piece) (heard : List Heard) → s.association.within.state ≢
       Sta1 → HearsPart titles (place_of s.association) (event_of piece) heard → HearsFront titles (course_at s counted)
       piece heard
   some_front s counted piece heard connected (inl none) = inl none
   some_front s counted piece heard connected (inr some) = inr (some.0, some.1, connected, some.2)
 
-  broke_piece : (r0 r1 : Option (List ℕ)) (old now then : Sides P) (s : SessionState V) (intake : Intake) (n : ℕ)
-      (so : Sofar holds own titles r0 r1 old now s intake n) → s.association.within.state ≢ Sta1 → (piece : Piece)
+  broke_piece : (r0 r1 : Option (List ℕ)) (old now then : Sides P) (s : SessionState) (intake : Intake) (n : ℕ)
+      (so : Sofar ops own titles r0 r1 old now s intake n) → s.association.within.state ≢ Sta1 → (piece : Piece)
       → IsPiece piece intake.inbox.text
-      → HeardFront holds own titles now then s.association (event_of piece) → IsInHand intake so.pieces so.rest
-      so.counted → FrontOfOutput holds own titles r0 r1 old then
+      → HeardFront ops own titles now then s.association (event_of piece) → IsInHand intake so.pieces so.rest
+      so.counted → FrontOfOutput ops own titles r0 r1 old then
   broke_piece r0 r1 old now then s intake n so connected piece is f hand =
       let here : IsPiece piece so.rest = subst (λ (k : List ℕ). IsPiece piece k) (sym hand.2) is in
       let takes = takes_then titles start s.association f.to so.heard f.heard so.replies f.told so.done f.all so.takes
       f.takes in
-      let talk : Talks titles opening (so.heard ++ f.heard) (so.replies ++ f.told) (so.done ++ f.all) = takes_all titles
-      start f.to (so.heard ++ f.heard) (so.replies ++ f.told) (so.done ++ f.all) takes in
+      let talk = takes_front titles start f.to (so.heard ++ f.heard) (so.replies ++ f.told) (so.done ++ f.all) f.fits
+      takes in
       let first = front_behind so.replies f.told f.replies f.first in
-      let front = begun_behind so.done f.done f.part f.all f.front in
+      let front = begun_more (so.done ++ f.done) f.part (so.done ++ f.all) ((so.done ++ f.all) ++ talk.0)
+      (begun_behind so.done f.done f.part f.all f.front) (talk.0, refl) in
       record {
         text = so.text;
         read = so.read;
@@ -529,28 +536,28 @@ module _ {P V : Type 0} (holds : P → Op → Type 0) (own : P → List (List �
         replies = so.replies ++ f.replies;
         done = so.done ++ f.done;
         part = f.part;
-        did = did_then holds own old now then so.done f.done f.part so.replies f.replies so.did f.did;
+        did = did_then ops own old now then so.done f.done f.part so.replies f.replies so.did f.did;
         told = so.replies ++ f.told;
         first = first;
-        all = so.done ++ f.all;
-        talk = talk;
+        all = (so.done ++ f.all) ++ talk.0;
+        talk = talk.1;
         front = front;
         whatever = whatever_comes (so.heard ++ f.heard) (so.replies ++ f.told) (so.replies ++ f.replies)
-            (so.done ++ f.done) f.part (so.done ++ f.all) first talk front;
+            (so.done ++ f.done) f.part ((so.done ++ f.all) ++ talk.0) first talk.1 front;
       }
 
-  pub broken : (r0 r1 : Option (List ℕ)) (old now then : Sides P) (s : SessionState V) (intake : Intake) (n : ℕ)
-      → Sofar holds own titles r0 r1 old now s intake n → s.association.within.state ≢ Sta1
-      → TakingBroke holds own titles now then s intake → FrontOfOutput holds own titles r0 r1 old then
-  broken r0 r1 old now then s intake n so connected (inl same) = subst (λ (k : Sides P). FrontOfOutput holds own titles
+  pub broken : (r0 r1 : Option (List ℕ)) (old now then : Sides P) (s : SessionState) (intake : Intake) (n : ℕ)
+      → Sofar ops own titles r0 r1 old now s intake n → s.association.within.state ≢ Sta1
+      → TakingBroke ops own titles now then s intake → FrontOfOutput ops own titles r0 r1 old then
+  broken r0 r1 old now then s intake n so connected (inl same) = subst (λ (k : Sides P). FrontOfOutput ops own titles
       r0 r1 old k) (sym same) (stopped r0 r1 r1 old now s intake n so (nothing_read r1))
-  broken r0 r1 old now then s intake n so connected (inr b) = elim so.held as (λ _. FrontOfOutput holds own titles r0 r1
+  broken r0 r1 old now then s intake n so connected (inr b) = elim so.held as (λ _. FrontOfOutput ops own titles r0 r1
       old then) [
         | inl hand ↦ broke_piece r0 r1 old now then s intake n so connected b.0 b.1 b.2 hand
         | inr dropped ↦ absurd (no_piece b.0 (subst (λ (k : List ℕ). IsPiece b.0 k) dropped.3 b.1))
       ]
 
-  over_by : (c : Course V) (rest : List ℕ) (r : Option (List ℕ)) (counted : ℕ) → all_counted c rest ≡ counted
+  over_by : (c : Course) (rest : List ℕ) (r : Option (List ℕ)) (counted : ℕ) → all_counted c rest ≡ counted
       → (c.place.within.state ≡ Sta1) ⊎ ((counted ≡ MOST_DROPPED) ⊎ IsAtEnd r) → IsOver c rest r
   over_by c rest r counted all (inl closed) = inl closed
   over_by c rest r counted all (inr (inl full)) = inr (inl (all ∙ full))
@@ -563,11 +570,11 @@ module _ {P V : Type 0} (holds : P → Op → Type 0) (own : P → List (List �
   none_left intake state pieces rest counted empty (inl hand) closed = hand.2 ∙ empty closed
   none_left intake state pieces rest counted empty (inr dropped) closed = absurd (let e = sym closed ∙ dropped.4 in cc)
 
-  pub finished : (r0 r1 : Option (List ℕ)) (old now : Sides P) (s : SessionState V) (intake : Intake) (n : ℕ)
-      (end : End) → Sofar holds own titles r0 r1 old now s intake n → IsUnfinished intake.inbox.text
+  pub finished : (r0 r1 : Option (List ℕ)) (old now : Sides P) (s : SessionState) (intake : Intake) (n : ℕ)
+      (end : End) → Sofar ops own titles r0 r1 old now s intake n → IsUnfinished intake.inbox.text
       → (s.association.within.state ≡ Sta1) ⊎ ((counted_in intake s.association.within.state ≡ MOST_DROPPED)
       ⊎ IsAtEnd r1) → (s.association.within.state ≡ Sta1 → intake.inbox.text ≡ [])
-      → end ≡ end_in (counted_in intake s.association.within.state) s.aborted s.released → Output holds own titles r0 r1
+      → end ≡ end_in (counted_in intake s.association.within.state) s.aborted s.released → Output ops own titles r0 r1
       old now end
   finished r0 r1 old now s intake n end so unfinished over empty ends =
       let c = course_at s so.counted in
@@ -585,7 +592,7 @@ module _ {P V : Type 0} (holds : P → Op → Type 0) (own : P → List (List �
         hears = so.hears;
         replies = so.replies;
         done = so.done;
-        talk = talk_of s so.heard so.replies so.done so.takes;
+        talk = talk_of s so.heard so.replies so.done so.idle so.takes;
         did = so.did;
         within = rw all so.within;
         over = over_by c so.rest r1 (counted_in intake s.association.within.state) all over;
@@ -595,8 +602,8 @@ module _ {P V : Type 0} (holds : P → Op → Type 0) (own : P → List (List �
             ∙ ap (λ (b : Bool). end_in (all_counted c so.rest) (was_aborted so.pieces so.done) b) so.released;
       }
 
-  pub fewer_reads : (r0 r1 : Option (List ℕ)) (old now : Sides P) (s : SessionState V) (intake : Intake) (m n : ℕ)
-      → Sofar holds own titles r0 r1 old now s intake n → m ≤ n → Sofar holds own titles r0 r1 old now s intake m
+  pub fewer_reads : (r0 r1 : Option (List ℕ)) (old now : Sides P) (s : SessionState) (intake : Intake) (m n : ℕ)
+      → Sofar ops own titles r0 r1 old now s intake n → m ≤ n → Sofar ops own titles r0 r1 old now s intake m
   fewer_reads r0 r1 old now s intake m n so few = record {
     text = so.text;
     read = so.read;
@@ -610,6 +617,7 @@ module _ {P V : Type 0} (holds : P → Op → Type 0) (own : P → List (List �
     done = so.done;
     hears = so.hears;
     takes = so.takes;
+    idle = so.idle;
     did = so.did;
     held = so.held;
     within = so.within;
@@ -617,61 +625,61 @@ module _ {P V : Type 0} (holds : P → Op → Type 0) (own : P → List (List �
     released = so.released;
   }
 
-  pub unfinished_after : (now then : Sides P) (s : SessionState V) (before : Intake) (t : SessionState V)
-      (after : Intake) → TakesHand holds own titles now then s before t after → IsUnfinished after.inbox.text
+  pub unfinished_after : (now then : Sides P) (s : SessionState) (before : Intake) (t : SessionState)
+      (after : Intake) → TakesHand ops own titles now then s before t after → IsUnfinished after.inbox.text
   unfinished_after now then s before t after (inl none) = none.6
   unfinished_after now then s before t after (inr h) = subst (λ (k : InHand). IsUnfinished k.text) (sym h.empty)
       (inl (omega arith))
 
   -- Behind the piece that closes the connection nothing is in hand.
-  pub empty_after : (now then : Sides P) (s : SessionState V) (before : Intake) (t : SessionState V) (after : Intake)
-      → s.association.within.state ≢ Sta1 → TakesHand holds own titles now then s before t after
+  pub empty_after : (now then : Sides P) (s : SessionState) (before : Intake) (t : SessionState) (after : Intake)
+      → s.association.within.state ≢ Sta1 → TakesHand ops own titles now then s before t after
       → t.association.within.state ≡ Sta1 → after.inbox.text ≡ []
   empty_after now then s before t after connected (inl none) closed =
-      absurd (connected (sym (ap (λ (k : SessionState V). k.association.within.state) none.1) ∙ closed))
+      absurd (connected (sym (ap (λ (k : SessionState). k.association.within.state) none.1) ∙ closed))
   empty_after now then s before t after connected (inr h) closed = ap (λ (k : InHand). k.text) h.empty
 
-  ready_idle : (now then : Sides P) (s : SessionState V) (before : Intake) (t : SessionState V) (after : Intake)
-      → s.association.awaited ≡ None → TakesHand holds own titles now then s before t after
+  ready_idle : (now then : Sides P) (s : SessionState) (before : Intake) (t : SessionState) (after : Intake)
+      → s.association.awaited ≡ None → TakesHand ops own titles now then s before t after
       → t.association.awaited ≡ None
-  ready_idle now then s before t after idle (inl none) = ap (λ (k : SessionState V). k.association.awaited) none.1
+  ready_idle now then s before t after idle (inl none) = ap (λ (k : SessionState). k.association.awaited) none.1
       ∙ idle
   ready_idle now then s before t after idle (inr h) = h.heard.idle
 
-  ready_finished : (now then : Sides P) (s : SessionState V) (before : Intake) (t : SessionState V) (after : Intake)
-      → is_left s.association.within.state s.association.queue ≡ false → TakesHand holds own titles now then s before t
+  ready_finished : (now then : Sides P) (s : SessionState) (before : Intake) (t : SessionState) (after : Intake)
+      → is_left s.association.within.state s.association.queue ≡ false → TakesHand ops own titles now then s before t
       after
       → is_left t.association.within.state t.association.queue ≡ false
   ready_finished now then s before t after finished (inl none) =
-      ap (λ (k : SessionState V). is_left k.association.within.state k.association.queue) none.1 ∙ finished
+      ap (λ (k : SessionState). is_left k.association.within.state k.association.queue) none.1 ∙ finished
   ready_finished now then s before t after finished (inr h) = h.heard.finished
 
-  dropped_piece : (piece : Piece) (old new : Place V) (heard : List Heard) → old.within.state ≢ Sta1
+  dropped_piece : (piece : Piece) (old new : Place) (heard : List Heard) → old.within.state ≢ Sta1
       → Hears titles old (event_of piece) heard new → is_whole piece ≡ false → new.within.state ≡ Sta13
   dropped_piece (Whole p n) old new heard connected h faulty = absurd cc
   dropped_piece (Faulty f n) old new heard connected h faulty = dropped_state titles old f heard new connected h
 
-  dropping_after : (now then : Sides P) (s : SessionState V) (before : Intake) (t : SessionState V) (after : Intake)
+  dropping_after : (now then : Sides P) (s : SessionState) (before : Intake) (t : SessionState) (after : Intake)
       → s.association.within.state ≢ Sta1 → (before.is_cut ≡ false → s.association.within.state ≡ Sta13)
-      → TakesHand holds own titles now then s before t after → after.is_cut ≡ false → t.association.within.state ≡ Sta13
+      → TakesHand ops own titles now then s before t after → after.is_cut ≡ false → t.association.within.state ≡ Sta13
   dropping_after now then s before t after connected dropping (inl none) cut =
-      ap (λ (k : SessionState V). k.association.within.state) none.1 ∙ dropping (sym none.2 ∙ cut)
+      ap (λ (k : SessionState). k.association.within.state) none.1 ∙ dropping (sym none.2 ∙ cut)
   dropping_after now then s before t after connected dropping (inr h) cut =
       dropped_piece h.piece (place_of s.association) (place_of t.association) h.heard.heard connected h.heard.hears
       (sym h.cut ∙ cut)
 
-  short_after : (now then : Sides P) (s : SessionState V) (before : Intake) (t : SessionState V) (after : Intake)
-      → TakesHand holds own titles now then s before t after → length after.inbox.text < after.inbox.wanted
+  short_after : (now then : Sides P) (s : SessionState) (before : Intake) (t : SessionState) (after : Intake)
+      → TakesHand ops own titles now then s before t after → length after.inbox.text < after.inbox.wanted
   short_after now then s before t after (inl none) = none.5
   short_after now then s before t after (inr h) = subst (λ (k : InHand). length k.text < k.wanted) (sym h.empty)
       (omega arith)
 
-  within_after : (now then : Sides P) (s : SessionState V) (before : Intake) (t : SessionState V) (after : Intake)
-      → counted_in before s.association.within.state ≤ MOST_DROPPED → TakesHand holds own titles now then s before t
+  within_after : (now then : Sides P) (s : SessionState) (before : Intake) (t : SessionState) (after : Intake)
+      → counted_in before s.association.within.state ≤ MOST_DROPPED → TakesHand ops own titles now then s before t
       after
       → counted_in after t.association.within.state ≤ MOST_DROPPED
   within_after now then s before t after within (inl none) =
-      subst (λ (k : SessionState V). counted_in after k.association.within.state ≤ MOST_DROPPED) (sym none.1)
+      subst (λ (k : SessionState). counted_in after k.association.within.state ≤ MOST_DROPPED) (sym none.1)
       (rw (none.3, none.4) within)
   within_after now then s before t after within (inr h) =
       let empty : after.inbox.text ≡ [] = ap (λ (k : InHand). k.text) h.empty in
@@ -685,10 +693,10 @@ module _ {P V : Type 0} (holds : P → Op → Type 0) (own : P → List (List �
       )
 
   -- a turn that goes on
-  pub ready_after : (now then : Sides P) (s : SessionState V) (before : Intake) (t : SessionState V) (after : Intake)
+  pub ready_after : (now then : Sides P) (s : SessionState) (before : Intake) (t : SessionState) (after : Intake)
       → s.association.awaited ≡ None → is_left s.association.within.state s.association.queue ≡ false
       → s.association.within.state ≢ Sta1 → (before.is_cut ≡ false → s.association.within.state ≡ Sta13)
-      → counted_in before s.association.within.state ≤ MOST_DROPPED → TakesHand holds own titles now then s before t
+      → counted_in before s.association.within.state ≤ MOST_DROPPED → TakesHand ops own titles now then s before t
       after
       → is_over t.association.within.state (counted_in after t.association.within.state) ≡ false → IsReady t after
   ready_after now then s before t after idle finished connected dropping within takes over =
@@ -742,12 +750,12 @@ pub or_at_end : {A B C : Type 0} → A ⊎ B → A ⊎ (B ⊎ C)
 or_at_end (inl a) = inl a
 or_at_end (inr b) = inr (inl b)
 
-pub starts_ready : {V : Type 0} (s : SessionState V) → s.association ≡ start → IsReady s NOTHING_READ
-starts_ready {V = W} s is = record {
-  idle = ap (λ (k : AssociationState W). k.awaited) is;
-  finished = ap (λ (k : AssociationState W). is_left k.within.state k.queue) is;
-  connected = λ e. let f = sym e ∙ ap (λ (k : AssociationState W). k.within.state) is in cc;
-  room = subst (λ (k : AssociationState W). counted_in NOTHING_READ k.within.state < MOST_DROPPED) (sym is)
+pub starts_ready : (s : SessionState) → s.association ≡ start → IsReady s NOTHING_READ
+starts_ready s is = record {
+  idle = ap (λ (k : AssociationState). k.awaited) is;
+  finished = ap (λ (k : AssociationState). is_left k.within.state k.queue) is;
+  connected = λ e. let f = sym e ∙ ap (λ (k : AssociationState). k.within.state) is in cc;
+  room = subst (λ (k : AssociationState). counted_in NOTHING_READ k.within.state < MOST_DROPPED) (sym is)
       (omega arith);
   short = omega arith;
   unfinished = inl (omega arith);

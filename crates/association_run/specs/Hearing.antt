@@ -19,17 +19,18 @@ use Rattle.association_session.specs.Session.{heard_in, stage_by}
 use Rattle.association_session.specs.Talks.{Heard, Met, Leads}
 use Rattle.association_run.specs.declared.piece.Piece.{Piece}
 use Rattle.association_run.specs.Pieces.{event_of, size_of_piece}
+use Rattle.archive_model.specs.declared.view.View.{View}
 
 -- where an association is, and what came since the last message
-pub record Place (V : Type 0) : Type 0 where
-  pub within : Within V
+pub record Place : Type 0 where
+  pub within : Within
   pub stage : Stage
 
-abbrev pub assembly_at : {V : Type 0} → Place V → Assembly
+abbrev pub assembly_at : Place → Assembly
 assembly_at p = record { contexts = p.within.link.contexts; stage = p.stage }
 
 -- The table's row leads there, and none of the values is heard yet.
-abbrev pub entered_at : {V : Type 0} → List (Title V) → Place V → Event → Place V
+abbrev pub entered_at : List (Title View) → Place → Event → Place
 entered_at titles p event = record {
   within = met titles p.within event;
   stage = stage_by (opens p.within.state (next_of p.within.state (kind_for titles event))) p.stage;
@@ -38,8 +39,8 @@ entered_at titles p event = record {
 -- ---- what values say
 
 -- The first of these values were put together, and say this; the others are left.
-pub record Says {V : Type 0} (titles : List (Title V)) (old : Place V) (values : List Pdv) (said : List Heard)
-    (left : List Pdv) (new : Place V) : Type 0 where
+pub record Says (titles : List (Title View)) (old : Place) (values : List Pdv) (said : List Heard)
+    (left : List Pdv) (new : Place) : Type 0 where
   pub fed : List Pdv
   pub answers : List (Result (Option Message) DimseFault)
   pub parts : values ≡ fed ++ left
@@ -51,25 +52,25 @@ pub record Says {V : Type 0} (titles : List (Title V)) (old : Place V) (values :
 -- ---- what is heard of a PDU
 
 -- the PDU, and what the first of its values say where they are handed on
-pub record HearsSome {V : Type 0} (titles : List (Title V)) (old : Place V) (event : Event) (heard : List Heard)
-    (left : List Pdv) (new : Place V) : Type 0 where
+pub record HearsSome (titles : List (Title View)) (old : Place) (event : Event) (heard : List Heard)
+    (left : List Pdv) (new : Place) : Type 0 where
   pub said : List Heard
   pub is : heard ≡ Met event ∷ said
   pub values : Says titles (entered_at titles old event) (handed_on titles old.within.state event) said left new
 
 -- While the association is established no value is left.
-abbrev pub Hears : {V : Type 0} → List (Title V) → Place V → Event → List Heard → Place V → Type 0
+abbrev pub Hears : List (Title View) → Place → Event → List Heard → Place → Type 0
 Hears titles old event heard new = (left : List Pdv) × HearsSome titles old event heard left new
     × (new.within.state ≡ Sta6 → left ≡ [])
 
 -- ---- what is heard of all that is read
 
 -- where an association is, and how many bytes were counted since the peer is to close
-pub record Course (V : Type 0) : Type 0 where
-  pub place : Place V
+pub record Course : Type 0 where
+  pub place : Place
   pub counted : ℕ
 
-abbrev pub SETTING_OUT : {V : Type 0} → Course V
+abbrev pub SETTING_OUT : Course
 SETTING_OUT = record { place = record { within = opening; stage = Between }; counted = 0 }
 
 -- Bytes that come once the peer is to close are counted.
@@ -80,39 +81,39 @@ counts Sta6 size = 0
 counts Sta13 size = size
 
 -- While there is a connection a piece is heard, and its bytes are counted by the state before it.
-abbrev pub TakesPiece : {V : Type 0} → List (Title V) → Course V → Piece → List Heard → Course V → Type 0
+abbrev pub TakesPiece : List (Title View) → Course → Piece → List Heard → Course → Type 0
 TakesPiece titles c piece heard end =
     (c.place.within.state ≢ Sta1) × Hears titles c.place (event_of piece) heard end.place
     × (end.counted ≡ c.counted + counts c.place.within.state (size_of_piece piece))
 
 -- pieces, one after another
-abbrev pub TakesPieces : {V : Type 0} → List (Title V) → Course V → List Piece → List Heard → Course V → Type 0
+abbrev pub TakesPieces : List (Title View) → Course → List Piece → List Heard → Course → Type 0
 TakesPieces titles c [] heard end = (heard ≡ []) × (end ≡ c)
-TakesPieces {V = W} titles c (piece ∷ pieces) heard end =
-    (mid : Course W) × (now rest : List Heard) × TakesPiece titles c piece now mid × TakesPieces titles mid pieces rest
+TakesPieces titles c (piece ∷ pieces) heard end =
+    (mid : Course) × (now rest : List Heard) × TakesPiece titles c piece now mid × TakesPieces titles mid pieces rest
     end × (heard ≡ now ++ rest)
 
 -- ---- a front of it
 
 -- Nothing was heard of a piece, or the PDU and what the first of its values say.
-abbrev pub HearsFront : {V : Type 0} → List (Title V) → Course V → Piece → List Heard → Type 0
-HearsFront {V = W} titles c piece some =
-    (some ≡ []) ⊎ ((left : List Pdv) × (new : Place W) × (c.place.within.state ≢ Sta1)
+abbrev pub HearsFront : List (Title View) → Course → Piece → List Heard → Type 0
+HearsFront titles c piece some =
+    (some ≡ []) ⊎ ((left : List Pdv) × (new : Place) × (c.place.within.state ≢ Sta1)
     × HearsSome titles c.place (event_of piece) some left new)
 
 -- Of the pieces behind those that were heard whole, nothing was heard but a front of the first.
-abbrev pub TakesFront : {V : Type 0} → List (Title V) → Course V → List Piece → List Heard → Type 0
+abbrev pub TakesFront : List (Title View) → Course → List Piece → List Heard → Type 0
 TakesFront titles c [] some = some ≡ []
 TakesFront titles c (piece ∷ pieces) some = HearsFront titles c piece some
 
 -- These were heard of the pieces, before a fault.
-pub record TakesSome {V : Type 0} (titles : List (Title V)) (pieces : List Piece) (heard : List Heard) : Type 0 where
+pub record TakesSome (titles : List (Title View)) (pieces : List Piece) (heard : List Heard) : Type 0 where
   pub whole : List Piece
   pub behind : List Piece
   pub parts : pieces ≡ whole ++ behind
   pub before : List Heard
   pub some : List Heard
-  pub course : Course V
+  pub course : Course
   pub takes : TakesPieces titles SETTING_OUT whole before course
   pub front : TakesFront titles course behind some
   pub is : heard ≡ before ++ some

@@ -22,15 +22,16 @@ use Rattle.association_run.specs.declared.run.TheConstants.{MOST_DROPPED}
 use Rattle.association_run.specs.Pieces.{Cuts, is_cut, event_of}
 use Rattle.association_run.specs.Hearing.{Course, SETTING_OUT, counts, TakesPieces, TakesSome}
 use Rattle.association_run.specs.Parts.{Sides, Did, Begins}
+use Rattle.archive_model.specs.declared.view.View.{View}
 
 -- ---- how it ends
 
 -- all the bytes that count, with those behind the last piece
-abbrev pub all_counted : {V : Type 0} → Course V → List ℕ → ℕ
+abbrev pub all_counted : Course → List ℕ → ℕ
 all_counted c rest = c.counted + counts c.place.within.state (length rest)
 
 -- All the bytes were read that are read once the peer is to close.
-abbrev pub IsFull : {V : Type 0} → Course V → List ℕ → Type 0
+abbrev pub IsFull : Course → List ℕ → Type 0
 IsFull c rest = all_counted c rest ≡ MOST_DROPPED
 
 -- whether the connection is closed, or all was read that is read
@@ -68,13 +69,13 @@ abbrev pub IsLeft : List Piece → List ℕ → Type 0
 IsLeft pieces rest = IsUnfinished rest ⊎ (is_cut pieces ≡ false)
 
 -- The connection was closed, all was read that is read once the peer is to close, or the stream came to its end.
-abbrev pub IsOver : {V : Type 0} → Course V → List ℕ → Option (List ℕ) → Type 0
+abbrev pub IsOver : Course → List ℕ → Option (List ℕ) → Type 0
 IsOver course rest remaining = (course.place.within.state ≡ Sta1) ⊎ (IsFull course rest ⊎ IsAtEnd remaining)
 
 -- ---- a whole run
 
 -- All the deeds for what was read and replied were done, in order, and no others, however the reads were cut.
-pub record Output {P V : Type 0} (holds : P → Op → Type 0) (own : P → List (List ℕ)) (titles : List (Title V))
+pub record Output {P : Type 0} (ops : P → List Op) (own : P → List (List ℕ)) (titles : List (Title View))
     (r0 r1 : Option (List ℕ)) (old new : Sides P) (end : End) : Type 0 where
   pub text : List ℕ
   pub read : Consumes r0 r1 text
@@ -83,12 +84,12 @@ pub record Output {P V : Type 0} (holds : P → Op → Type 0) (own : P → List
   pub cut : Cuts text pieces rest
   pub left : IsLeft pieces rest
   pub heard : List Heard
-  pub course : Course V
+  pub course : Course
   pub hears : TakesPieces titles SETTING_OUT pieces heard course
   pub replies : List Reply
   pub done : List Deed
   pub talk : Talks titles opening heard replies done
-  pub did : Did holds own old new done [] replies
+  pub did : Did ops own old new done [] replies
   pub within : all_counted course rest ≤ MOST_DROPPED
   pub over : IsOver course rest r1
   -- Once it is closed no byte is read.
@@ -96,7 +97,7 @@ pub record Output {P V : Type 0} (holds : P → Op → Type 0) (own : P → List
   pub ended : end ≡ end_in (all_counted course rest) (was_aborted pieces done) (was_released done)
 
 -- A front of it, after a fault.
-pub record FrontOfOutput {P V : Type 0} (holds : P → Op → Type 0) (own : P → List (List ℕ)) (titles : List (Title V))
+pub record FrontOfOutput {P : Type 0} (ops : P → List Op) (own : P → List (List ℕ)) (titles : List (Title View))
     (r0 r1 : Option (List ℕ)) (old new : Sides P) : Type 0 where
   pub text : List ℕ
   pub read : Consumes r0 r1 text
@@ -109,7 +110,7 @@ pub record FrontOfOutput {P V : Type 0} (holds : P → Op → Type 0) (own : P �
   pub replies : List Reply
   pub done : List Deed
   pub part : List ℕ
-  pub did : Did holds own old new done part replies
+  pub did : Did ops own old new done part replies
   -- They are a front of the deeds for what was heard and told, where the last reply may not be told yet,
   pub told : List Reply
   pub first : IsFront told replies

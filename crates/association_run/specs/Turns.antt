@@ -22,6 +22,7 @@ use Rattle.association_run.specs.Hearing.{SETTING_OUT, counts, TakesPieces}
 use Rattle.association_run.specs.Parts.{Sides, Did}
 use Rattle.association_run.specs.Steps.{place_of, HeardWhole, HeardFront}
 use Rattle.association_run.specs.Output.{Output, FrontOfOutput, was_aborted, was_released}
+use Rattle.archive_model.specs.declared.view.View.{View}
 
 -- ---- what was read and not yet heard
 
@@ -53,40 +54,40 @@ pub record Reads (r0 r1 : Option (List ℕ)) (old : Intake) (count : ℕ) (new :
 -- ---- the piece in hand
 
 -- A piece was heard, and nothing is in hand.
-pub record HearsPiece {P V : Type 0} (holds : P → Op → Type 0) (own : P → List (List ℕ)) (titles : List (Title V))
-    (old new : Sides P) (s : SessionState V) (before : Intake) (t : SessionState V) (after : Intake) : Type 0 where
+pub record HearsPiece {P : Type 0} (ops : P → List Op) (own : P → List (List ℕ)) (titles : List (Title View))
+    (old new : Sides P) (s : SessionState) (before : Intake) (t : SessionState) (after : Intake) : Type 0 where
   pub piece : Piece
   pub is : IsPiece piece before.inbox.text
-  pub heard : HeardWhole holds own titles old new s (event_of piece) t
+  pub heard : HeardWhole ops own titles old new s (event_of piece) t
   pub counted : after.counted ≡ before.counted + counts s.association.within.state (size_of_piece piece)
   pub cut : after.is_cut ≡ is_whole piece
   pub empty : after.inbox ≡ EMPTY
 
 -- Nothing was heard, since no piece is whole. A header may have told how many bytes are wanted.
-abbrev pub HearsNothing : {P V : Type 0} → Sides P → Sides P → SessionState V → Intake → SessionState V → Intake
+abbrev pub HearsNothing : {P : Type 0} → Sides P → Sides P → SessionState → Intake → SessionState → Intake
     → Type 0
 HearsNothing old new s before t after =
     (new ≡ old) × (t ≡ s) × (after.is_cut ≡ before.is_cut) × (after.counted ≡ before.counted)
     × (after.inbox.text ≡ before.inbox.text) × (length after.inbox.text < after.inbox.wanted)
     × IsUnfinished after.inbox.text
 
-abbrev pub TakesHand : {P V : Type 0} → (P → Op → Type 0) → (P → List (List ℕ)) → List (Title V) → Sides P → Sides P
-    → SessionState V → Intake → SessionState V → Intake → Type 0
-TakesHand holds own titles old new s before t after = HearsNothing old new s before t after ⊎ HearsPiece holds own
+abbrev pub TakesHand : {P : Type 0} → (P → List Op) → (P → List (List ℕ)) → List (Title View) → Sides P → Sides P
+    → SessionState → Intake → SessionState → Intake → Type 0
+TakesHand ops own titles old new s before t after = HearsNothing old new s before t after ⊎ HearsPiece ops own
     titles old new s before t after
 
 -- Nothing was heard for want of memory, or of a piece a front was heard.
-abbrev pub TakingBroke : {P V : Type 0} → (P → Op → Type 0) → (P → List (List ℕ)) → List (Title V) → Sides P → Sides P
-    → SessionState V → Intake → Type 0
-TakingBroke holds own titles old new s before =
-    (new ≡ old) ⊎ ((piece : Piece) × IsPiece piece before.inbox.text × HeardFront holds own titles old new s.association
+abbrev pub TakingBroke : {P : Type 0} → (P → List Op) → (P → List (List ℕ)) → List (Title View) → Sides P → Sides P
+    → SessionState → Intake → Type 0
+TakingBroke ops own titles old new s before =
+    (new ≡ old) ⊎ ((piece : Piece) × IsPiece piece before.inbox.text × HeardFront ops own titles old new s.association
     (event_of piece))
 
 -- ---- turns
 
 -- a run that goes on: nothing is awaited or left, there is a connection, and a read is allowed that ends no piece that
 -- was read before
-pub record IsReady {V : Type 0} (s : SessionState V) (intake : Intake) : Type 0 where
+pub record IsReady (s : SessionState) (intake : Intake) : Type 0 where
   pub idle : s.association.awaited ≡ None
   pub finished : is_left s.association.within.state s.association.queue ≡ false
   pub connected : s.association.within.state ≢ Sta1
@@ -107,8 +108,8 @@ IsDropped intake state pieces rest counted =
     × (intake.inbox.text ≡ []) × (state ≡ Sta13)
 
 -- all that was read, heard, and done so far, by n reads
-pub record Sofar {P V : Type 0} (holds : P → Op → Type 0) (own : P → List (List ℕ)) (titles : List (Title V))
-    (r0 r1 : Option (List ℕ)) (old now : Sides P) (s : SessionState V) (intake : Intake) (n : ℕ) : Type 0 where
+pub record Sofar {P : Type 0} (ops : P → List Op) (own : P → List (List ℕ)) (titles : List (Title View))
+    (r0 r1 : Option (List ℕ)) (old now : Sides P) (s : SessionState) (intake : Intake) (n : ℕ) : Type 0 where
   pub text : List ℕ
   pub read : Consumes r0 r1 text
   pub many : n ≤ length text
@@ -121,22 +122,23 @@ pub record Sofar {P V : Type 0} (holds : P → Op → Type 0) (own : P → List 
   pub done : List Deed
   pub hears : TakesPieces titles SETTING_OUT pieces heard (record { place = place_of s.association; counted = counted })
   pub takes : Takes titles start heard replies done s.association
-  pub did : Did holds own old now done [] replies
+  pub idle : s.association.awaited ≡ None
+  pub did : Did ops own old now done [] replies
   pub held : IsInHand intake pieces rest counted ⊎ IsDropped intake s.association.within.state pieces rest counted
   pub within : counted_in intake s.association.within.state ≤ MOST_DROPPED
   pub aborted : s.aborted ≡ was_aborted pieces done
   pub released : s.released ≡ was_released done
 
-abbrev pub After : {P V : Type 0} → (P → Op → Type 0) → (P → List (List ℕ)) → List (Title V) → Option (List ℕ)
-    → Option (List ℕ) → Sides P → Sides P → SessionState V → Intake → ℕ → Result (Option End) RunFault → Type 0
-After holds own titles r0 r1 old now s intake n (Ok None) = Sofar holds own titles r0 r1 old now s intake (n + 1)
-After holds own titles r0 r1 old now s intake n (Ok (Some end)) = Output holds own titles r0 r1 old now end
-After holds own titles r0 r1 old now s intake n (Err fault) = FrontOfOutput holds own titles r0 r1 old now
+abbrev pub After : {P : Type 0} → (P → List Op) → (P → List (List ℕ)) → List (Title View) → Option (List ℕ)
+    → Option (List ℕ) → Sides P → Sides P → SessionState → Intake → ℕ → Result (Option End) RunFault → Type 0
+After ops own titles r0 r1 old now s intake n (Ok None) = Sofar ops own titles r0 r1 old now s intake (n + 1)
+After ops own titles r0 r1 old now s intake n (Ok (Some end)) = Output ops own titles r0 r1 old now end
+After ops own titles r0 r1 old now s intake n (Err fault) = FrontOfOutput ops own titles r0 r1 old now
 
 -- whatever was done so far, the turn goes on with it, ends it, or breaks it off
-abbrev pub Turns : {P V : Type 0} → (P → Op → Type 0) → (P → List (List ℕ)) → List (Title V) → Option (List ℕ)
-    → Option (List ℕ) → Sides P → Sides P → SessionState V → Intake → Result (Option End) RunFault → SessionState V
+abbrev pub Turns : {P : Type 0} → (P → List Op) → (P → List (List ℕ)) → List (Title View) → Option (List ℕ)
+    → Option (List ℕ) → Sides P → Sides P → SessionState → Intake → Result (Option End) RunFault → SessionState
     → Intake → Type 0
-Turns {P = P} holds own titles r1 r2 now then s before result t after =
-    (r0 : Option (List ℕ)) (old : Sides P) (n : ℕ) → Sofar holds own titles r0 r1 old now s before n
-    → After holds own titles r0 r2 old then t after n result
+Turns {P = P} ops own titles r1 r2 now then s before result t after =
+    (r0 : Option (List ℕ)) (old : Sides P) (n : ℕ) → Sofar ops own titles r0 r1 old now s before n
+    → After ops own titles r0 r2 old then t after n result

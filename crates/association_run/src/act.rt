@@ -4,17 +4,19 @@ ghost use Rattle.std.specs.Prelude.{◌≡◌, ◌≢◌, [], IfOk, OnErr, OnOk,
 ghost use Rattle.pdu.specs.Spelling.{IsPdu, text_of};
 ghost use Rattle.ul_state.specs.declared.table.State.TheVariants.{Sta1};
 ghost use Rattle.association_session.specs.declared.event.SessionEvent.TheVariants.{Heard};
+ghost use Rattle.association_session.specs.Due.{IsQuiet};
 ghost use Rattle.association_session.specs.Session.{IsSound, IsWritable, is_in_turn, is_left};
 ghost use Rattle.association_run.specs.Fault.{CountedWhere, tells_read, tells_write, tells_turns};
 ghost use Rattle.association_run.specs.Outbox.{Puts, PutsFront};
 ghost use Rattle.association_run.specs.Parts.{sides, Did};
 ghost use Rattle.association_run.specs.Port.{Replies};
-ghost use Rattle.association_run.specs.Steps.{Halts, BreaksOff, Pends, IsNext, DidTurn, BrokeTurn, HeardWhole, HeardFront};
+ghost use Rattle.association_run.specs.Steps.{Halts, BreaksOff, Pends, IsNext, DidTurn, BrokeTurn, HeardWhole, HeardFront, GoesOnWith, BreaksWith};
 
 use crate::fault::RunFault;
 use crate::gate::Gate;
 use crate::outbox::Outbox;
 use crate::port::Port;
+use archive_model::View;
 use association_session::{Call, Deed, Reply, Session, SessionEvent};
 use devices::Sink;
 use octets::ListOf;
@@ -43,10 +45,15 @@ fn send<W: Sink>(
 
 /// Makes a call.
 fn ask<P: Port>(port: &mut P, call: Call) -> Reply
-    ensures { Replies P.holds P.own port.old call result port.new }
+    ensures { Replies P.ops P.own port.old call result port.new }
 {
     match call {
         Call::Store(content) => Reply::Stored(port.store(content)),
+        Call::Find(finding) => {
+            let called = finding.called.as_slice();
+            let rows = port.find(called, finding.view, &finding.query);
+            Reply::Found(rows)
+        }
     }
 }
 
@@ -62,11 +69,11 @@ fn act<W: Sink, P: Port, G: Gate>(
 ) -> Result<Option<Reply>, RunFault>
     requires writable { All IsWritable deeds }
     requires halts { Halts deeds }
-    ensures ok { IfOk result (λ pending. Did P.holds P.own
+    ensures ok { IfOk result (λ pending. Did P.ops P.own
         (sides port.old (W.contents writer.old) (G.reached gate.old))
         (sides port.new (W.contents writer.new) (G.reached gate.new)) deeds []
         (option_to_list pending)) }
-    ensures err { OnErr result (BreaksOff P.holds P.own
+    ensures err { OnErr result (BreaksOff P.ops P.own
         (sides port.old (W.contents writer.old) (G.reached gate.old))
         (sides port.new (W.contents writer.new) (G.reached gate.new)) deeds) }
     ensures read { tells_read result ≡ false }
@@ -97,10 +104,10 @@ fn act<W: Sink, P: Port, G: Gate>(
 }
 
 /// Tells the session, and does its deeds. The answer is the port's reply, where it was asked.
-fn tell<V: Copy, W: Sink, P: Port, G: Gate>(
+fn tell<W: Sink, P: Port, G: Gate>(
     alloc: Global,
-    session: &mut Session<V>,
-    titles: &Titles<V>,
+    session: &mut Session,
+    titles: &Titles<View>,
     event: SessionEvent,
     outbox: &mut Outbox,
     writer: &mut W,
@@ -109,11 +116,11 @@ fn tell<V: Copy, W: Sink, P: Port, G: Gate>(
 ) -> Result<Option<Reply>, RunFault>
     requires sound { IsSound event }
     requires turn { IsTrue (is_in_turn session.old.association event) }
-    ensures ok { IfOk result (λ pending. DidTurn P.holds P.own titles.now.list
+    ensures ok { IfOk result (λ pending. DidTurn P.ops P.own titles.now.list
         (sides port.old (W.contents writer.old) (G.reached gate.old))
         (sides port.new (W.contents writer.new) (G.reached gate.new)) session.old event pending
         session.new) }
-    ensures err { OnErr result (BrokeTurn P.holds P.own titles.now.list
+    ensures err { OnErr result (BrokeTurn P.ops P.own titles.now.list
         (sides port.old (W.contents writer.old) (G.reached gate.old))
         (sides port.new (W.contents writer.new) (G.reached gate.new)) session.old event) }
     ensures read { tells_read result ≡ false }
@@ -126,7 +133,7 @@ fn tell<V: Copy, W: Sink, P: Port, G: Gate>(
 }
 
 /// What the session is told next: the reply of the port, and else that it goes on.
-fn next<V: Copy>(session: &Session<V>, pending: Option<Reply>) -> Option<SessionEvent>
+fn next(session: &Session, pending: Option<Reply>) -> Option<SessionEvent>
     requires { Pends session.now.association.awaited pending }
     ensures { IsNext session.now.association pending result }
 {
@@ -139,11 +146,50 @@ fn next<V: Copy>(session: &Session<V>, pending: Option<Reply>) -> Option<Session
     None
 }
 
-/// Tells the session of a PDU, and does all the deeds for it.
-pub(crate) fn hear<V: Copy, W: Sink, P: Port, G: Gate>(
+/// Tells all the rows that are left, some at a time.
+fn tell_rows<W: Sink, P: Port, G: Gate>(
     alloc: Global,
-    session: &mut Session<V>,
-    titles: &Titles<V>,
+    session: &mut Session,
+    titles: &Titles<View>,
+    outbox: &mut Outbox,
+    writer: &mut W,
+    port: &mut P,
+    gate: &mut G,
+) -> Result<(), RunFault>
+    ensures ok { OnOk result (GoesOnWith P.ops P.own titles.now.list
+        (sides port.old (W.contents writer.old) (G.reached gate.old))
+        (sides port.new (W.contents writer.new) (G.reached gate.new)) session.old session.new) }
+    ensures err { OnErr result (BreaksWith P.ops P.own titles.now.list
+        (sides port.old (W.contents writer.old) (G.reached gate.old))
+        (sides port.new (W.contents writer.new) (G.reached gate.new)) session.old) }
+    ensures quiet { OnOk result (IsQuiet session.new.association.awaited) }
+    ensures left { OnOk result
+        (session.new.association.queue ≡ session.old.association.queue) }
+    ensures read { tells_read result ≡ false }
+    ensures write { CountedWhere (tells_write result) (W.failures writer.old)
+        (W.failures writer.new) }
+    ensures going { tells_turns result ≡ false }
+{
+    while session.is_telling() {
+        let _reply = tell(
+            alloc,
+            session,
+            titles,
+            SessionEvent::GoesOn,
+            outbox,
+            writer,
+            port,
+            gate,
+        )?;
+    }
+    Ok(())
+}
+
+/// Tells the session of a PDU, and does all the deeds for it.
+pub(crate) fn hear<W: Sink, P: Port, G: Gate>(
+    alloc: Global,
+    session: &mut Session,
+    titles: &Titles<View>,
     event: Event,
     outbox: &mut Outbox,
     writer: &mut W,
@@ -155,11 +201,11 @@ pub(crate) fn hear<V: Copy, W: Sink, P: Port, G: Gate>(
     requires finished { is_left session.old.association.within.state session.old.association.queue
         ≡ false }
     requires connected { session.old.association.within.state ≢ Sta1 }
-    ensures ok { OnOk result (HeardWhole P.holds P.own titles.now.list
+    ensures ok { OnOk result (HeardWhole P.ops P.own titles.now.list
         (sides port.old (W.contents writer.old) (G.reached gate.old))
         (sides port.new (W.contents writer.new) (G.reached gate.new)) session.old event
         session.new) }
-    ensures err { OnErr result (HeardFront P.holds P.own titles.now.list
+    ensures err { OnErr result (HeardFront P.ops P.own titles.now.list
         (sides port.old (W.contents writer.old) (G.reached gate.old))
         (sides port.new (W.contents writer.new) (G.reached gate.new)) session.old.association
         event) }
@@ -180,6 +226,7 @@ pub(crate) fn hear<V: Copy, W: Sink, P: Port, G: Gate>(
     )?;
     while let Some(input) = next(session, pending) {
         pending = tell(alloc, session, titles, input, outbox, writer, port, gate)?;
+        tell_rows(alloc, session, titles, outbox, writer, port, gate)?;
     }
     Ok(())
 }

@@ -2,21 +2,34 @@
 
 ghost use Rattle.std.specs.Prelude.{List, ℕ};
 ghost use Rattle.operation.specs.declared.op.Op.{Op};
-ghost use Rattle.association_run.specs.Port.{Stores};
+ghost use Rattle.association_run.specs.Port.{Stores, Finds};
 
+use archive_model::View;
 use association_session::PortFault;
+use octets::ListOf;
 use operation::{Content, Taken};
+use query_model::{Answer, Query};
 
-/// A site, as one association sees it.
+/// A site, as one association sees it. Others may store between two steps, and nothing that is held
+/// is lost.
 pub trait Port {
-    // The operations that it holds.
-    ghost holds: { Self → Op → Type 0 };
+    // The operations that it holds, ascending by digest.
+    ghost ops: { Self → List Op };
 
     // The digests of the contents that its own stores brought, in order.
     ghost own: { Self → List (List ℕ) };
 
-    /// Takes a content, in one step. Others may store between two steps, and nothing that is held
-    /// is lost.
+    /// Takes a content, in one step.
     fn store(&mut self, content: Content) -> Result<Taken, PortFault>
-        ensures { Stores holds own self.old content result self.new };
+        ensures { Stores ops own self.old content result self.new };
+
+    /// The rows that answer a query, in one look: over all that is held when it ends.
+    fn find(
+        &mut self,
+        called: &[u8],
+        view: View,
+        query: &Query,
+    ) -> Result<ListOf<Answer>, PortFault>
+        ensures { Finds ops own self.old
+            (record { called = called.now; view = view; query = query.now }) result self.new };
 }

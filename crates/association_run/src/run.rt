@@ -19,6 +19,7 @@ use crate::inbox::Inbox;
 use crate::outbox::Outbox;
 use crate::piece::Piece;
 use crate::port::Port;
+use archive_model::View;
 use association_session::Session;
 use devices::{Sink, Source};
 use std::alloc::Global;
@@ -156,10 +157,10 @@ fn event(piece: Piece) -> Event
 }
 
 /// Hears the piece in hand, once it is whole.
-fn take_piece<V: Copy, W: Sink, P: Port, G: Gate>(
+fn take_piece<W: Sink, P: Port, G: Gate>(
     alloc: Global,
-    session: &mut Session<V>,
-    titles: &Titles<V>,
+    session: &mut Session,
+    titles: &Titles<View>,
     intake: &mut Intake,
     outbox: &mut Outbox,
     writer: &mut W,
@@ -171,11 +172,11 @@ fn take_piece<V: Copy, W: Sink, P: Port, G: Gate>(
         ≡ false }
     requires connected { session.old.association.within.state ≢ Sta1 }
     requires within { counted_in intake.old session.old.association.within.state ≤ MOST_DROPPED }
-    ensures ok { OnOk result (TakesHand P.holds P.own titles.now.list
+    ensures ok { OnOk result (TakesHand P.ops P.own titles.now.list
         (sides port.old (W.contents writer.old) (G.reached gate.old))
         (sides port.new (W.contents writer.new) (G.reached gate.new)) session.old intake.old
         session.new intake.new) }
-    ensures err { OnErr result (TakingBroke P.holds P.own titles.now.list
+    ensures err { OnErr result (TakingBroke P.ops P.own titles.now.list
         (sides port.old (W.contents writer.old) (G.reached gate.old))
         (sides port.new (W.contents writer.new) (G.reached gate.new)) session.old intake.old) }
     ensures read { tells_read result ≡ false }
@@ -201,7 +202,7 @@ fn take_piece<V: Copy, W: Sink, P: Port, G: Gate>(
 }
 
 /// How an association ends now.
-fn end_now<V: Copy>(session: &Session<V>, counted: usize) -> End
+fn end_now(session: &Session, counted: usize) -> End
     ensures { result ≡ end_in counted session.now.aborted session.now.released }
 {
     if counted == MOST_DROPPED {
@@ -217,17 +218,17 @@ fn end_now<V: Copy>(session: &Session<V>, counted: usize) -> End
 }
 
 /// Whether the connection is closed, or all the bytes were read that are read.
-fn is_over<V: Copy>(session: &Session<V>, counted: usize) -> bool
+fn is_over(session: &Session, counted: usize) -> bool
     ensures { result ≡ is_over_in session.now.association.within.state counted }
 {
     session.state() == State::Sta1 || counted == MOST_DROPPED
 }
 
 /// One turn: a read, and the piece that it may end.
-fn take_turn<V: Copy, R: Source, W: Sink, P: Port, G: Gate>(
+fn take_turn<R: Source, W: Sink, P: Port, G: Gate>(
     alloc: Global,
-    session: &mut Session<V>,
-    titles: &Titles<V>,
+    session: &mut Session,
+    titles: &Titles<View>,
     intake: &mut Intake,
     reader: &mut R,
     outbox: &mut Outbox,
@@ -237,7 +238,7 @@ fn take_turn<V: Copy, R: Source, W: Sink, P: Port, G: Gate>(
 ) -> Result<Option<End>, RunFault>
     requires { IsReady session.old intake.old }
     ensures ready { IfOk result (λ end. end ≡ None → IsReady session.new intake.new) }
-    ensures turns { Turns P.holds P.own titles.now.list (R.remaining reader.old)
+    ensures turns { Turns P.ops P.own titles.now.list (R.remaining reader.old)
         (R.remaining reader.new) (sides port.old (W.contents writer.old) (G.reached gate.old))
         (sides port.new (W.contents writer.new) (G.reached gate.new)) session.old intake.old
         result session.new intake.new }
@@ -264,19 +265,19 @@ fn take_turn<V: Copy, R: Source, W: Sink, P: Port, G: Gate>(
 ///
 /// Nothing is read behind the PDU in hand. Once the peer is to close the connection, at most 65,536
 /// bytes more are read. `Turns` is told after 4,294,967,296 reads.
-pub fn run_association<V: Copy, R: Source, W: Sink, P: Port, G: Gate>(
+pub fn run_association<R: Source, W: Sink, P: Port, G: Gate>(
     alloc: Global,
     reader: &mut R,
     writer: &mut W,
     port: &mut P,
     gate: &mut G,
-    titles: &Titles<V>,
+    titles: &Titles<View>,
 ) -> Result<End, RunFault>
     // The deeds that are done, for what was read and replied.
-    ensures ok { IfOk result (Output P.holds P.own titles.now.list (R.remaining reader.old)
+    ensures ok { IfOk result (Output P.ops P.own titles.now.list (R.remaining reader.old)
         (R.remaining reader.new) (sides port.old (W.contents writer.old) (G.reached gate.old))
         (sides port.new (W.contents writer.new) (G.reached gate.new))) }
-    ensures err { OnErr result (FrontOfOutput P.holds P.own titles.now.list
+    ensures err { OnErr result (FrontOfOutput P.ops P.own titles.now.list
         (R.remaining reader.old) (R.remaining reader.new)
         (sides port.old (W.contents writer.old) (G.reached gate.old))
         (sides port.new (W.contents writer.new) (G.reached gate.new))) }

@@ -1,7 +1,7 @@
 -- What hearing values comes to.
-use Rattle.std.proofs.Common.{◌≡◌, ◌≢◌, ◌<◌, ℕ, Bool, List, [], ◌∷◌, ◌++◌, map, Option, Some, None, Result, Ok, Err}
-use Rattle.std.proofs.Common.{refl, sym, ap, subst, ◌∙◌, append_assoc, append-nil, inl, inr, length, drop}
-use Rattle.std.specs.Prelude.{IfOk, OnOk, All}
+use Rattle.std.proofs.Common.{◌≡◌, ◌≢◌, ◌<◌, ℕ, List, [], ◌∷◌, ◌++◌, map, Option, Some, None, Result, Ok, Err}
+use Rattle.std.proofs.Common.{refl, sym, ap, subst, ◌∙◌, append_assoc, append-nil, inl, inr, length}
+use Rattle.std.specs.Prelude.{IfOk, OnOk, All, IsSome}
 use Rattle.std.proofs.lemmas.List.Elements.{All-map}
 use Rattle.pdu.specs.Spelling.{IsPdu}
 use Rattle.pdu.specs.declared.context.Context.{Context}
@@ -17,28 +17,42 @@ use Rattle.ul_state.specs.Acceptor.{kind_for, settled_by}
 use Rattle.dimse.specs.declared.message.Message.{Message}
 use Rattle.dimse.specs.declared.assembler.Stage.{Stage}
 use Rattle.dimse.specs.declared.status.Status.{Status}
-use Rattle.dimse.specs.Sending.{Sends}
+use Rattle.data_set.specs.Set.{Set}
+use Rattle.operation.specs.declared.taken.Taken.{Taken}
+use Rattle.ul_state.specs.declared.acceptor.Settled.{Settled}
+use Rattle.association_session.specs.declared.deed.Call.{Call}
+use Rattle.association_session.specs.declared.due.Due.{Due}
+use Rattle.association_session.specs.declared.due.Due.TheVariants as dues
+use Rattle.association_session.specs.declared.due.RowKind.{RowKind}
+use Rattle.association_session.specs.declared.due.Telling.{Telling}
+use Rattle.association_session.specs.declared.event.SessionEvent.{SessionEvent}
+use Rattle.association_session.specs.declared.reply.PortFault.{PortFault}
+use Rattle.association_session.specs.Due.{IsQuiet, IsAnswered, Fits}
+use Rattle.association_session.specs.Find.{rows_in, status_of_found}
+use Rattle.association_session.proofs.DataLaws.{data_state, sending_data}
 use Rattle.dimse.specs.declared.fault.DimseFault.{DimseFault}
 use Rattle.dimse.specs.declared.fault.DimseFault.TheVariants.{Memory}
 use Rattle.dimse.specs.Assembly.{Assembly, Feeds}
 use Rattle.dimse.specs.Messages.{Run, HadMemory}
 use Rattle.association_session.specs.declared.deed.Deed.{Deed}
-use Rattle.association_session.specs.declared.deed.Deed.TheVariants.{Send}
-use Rattle.association_session.specs.declared.event.SessionEvent.TheVariants.{GoesOn, Replied}
+use Rattle.association_session.specs.declared.deed.Deed.TheVariants.{Send, Ask}
+use Rattle.association_session.specs.declared.event.SessionEvent.TheVariants.{GoesOn, Replied, Heard as IsHeard}
 use Rattle.association_session.specs.declared.reply.Reply.{Reply}
-use Rattle.association_session.specs.declared.reply.Reply.TheVariants.{Stored}
+use Rattle.association_session.specs.declared.reply.Reply.TheVariants.{Stored, Found}
 use Rattle.association_session.specs.declared.service.Service.{Service}
 use Rattle.association_session.specs.declared.service.Service.TheVariants.{Responded}
 use Rattle.association_session.specs.Projections.{state_after}
-use Rattle.association_session.specs.Response.{Awaited}
+use Rattle.association_session.specs.Response.{Awaited, FitsLimit}
 use Rattle.association_session.specs.Row.{Within, Link, row, met, agreed_by, limit_in, handed_on}
 use Rattle.association_session.specs.Context.{context_in}
 use Rattle.association_session.specs.Service.{Serves, ServesOn}
-use Rattle.association_session.specs.Store.{status_of_reply, status_for_reply}
+use Rattle.association_session.specs.Store.{status_of_reply}
 use Rattle.association_session.specs.Session.{AssociationState, Linked, assembly_in, assembly_of, heard_in, Turned}
 use Rattle.association_session.specs.Session.{Answered, Takes, Owes, OwedFor, Stops, entered, stage_by, IsTold}
-use Rattle.association_session.specs.Session.{IsWritable}
-use Rattle.association_session.specs.Talks.{Heard, Met, Said, Tells, InState, Answers, Talks, Leads, awaiting}
+use Rattle.association_session.specs.Session.{IsWritable, IsToldBy, HearsValues, started}
+use Rattle.association_session.specs.Talks.{Heard, Met, Said, Goes, Tells, FollowsFind, Does, InState, Answers, Talks}
+use Rattle.association_session.specs.Talks.{Leads, awaiting, behind}
+use Rattle.archive_model.specs.declared.view.View.{View}
 
 -- ---- one value more
 
@@ -65,7 +79,7 @@ heard_push (Err f ∷ rs) r = ap (λ (t : List Heard). Met LocalAbort ∷ t) (he
 -- ---- values so far
 
 -- The first values were put together and ended no message.
-pub record Fed {V : Type 0} (old now : AssociationState V) : Type 0 where
+pub record Fed (old now : AssociationState) : Type 0 where
   pub fed : List Pdv
   pub answers : List (Result (Option Message) DimseFault)
   pub parts : old.queue ≡ fed ++ now.queue
@@ -75,8 +89,8 @@ pub record Fed {V : Type 0} (old now : AssociationState V) : Type 0 where
   pub within : now.within ≡ old.within
   pub awaited : now.awaited ≡ old.awaited
 
-pub fed_start : {V : Type 0} (s now : AssociationState V) → now ≡ s → Fed s now
-fed_start {V = W} s now same = subst (λ (t : AssociationState W). Fed s t) (sym same)
+pub fed_start : (s now : AssociationState) → now ≡ s → Fed s now
+fed_start s now same = subst (λ (t : AssociationState). Fed s t) (sym same)
     (record {
       fed = [];
       answers = [];
@@ -98,7 +112,7 @@ link_same a b p q =
     first ∙ second
 
 -- what a value that was put to the others leaves
-abbrev pub fed_state : {V : Type 0} → AssociationState V → Linked → List Pdv → AssociationState V
+abbrev pub fed_state : AssociationState → Linked → List Pdv → AssociationState
 fed_state now l q = record {
   within = record { state = now.within.state; settled = now.within.settled; link = l.link };
   stage = l.stage;
@@ -106,19 +120,19 @@ fed_state now l q = record {
   queue = q;
 }
 
-same_within : {V : Type 0} (now : AssociationState V) (l : Linked) (q : List Pdv)
+same_within : (now : AssociationState) (l : Linked) (q : List Pdv)
     → l.link.contexts ≡ now.within.link.contexts → l.link.limit ≡ now.within.link.limit
     → (fed_state now l q).within ≡ now.within
-same_within {V = W} now l q contexts limit =
-    let again : Link → Within W = λ k. record { state = now.within.state; settled = now.within.settled; link = k } in
+same_within now l q contexts limit =
+    let again : Link → Within = λ k. record { state = now.within.state; settled = now.within.settled; link = k } in
     ap again (link_same l.link now.within.link contexts limit)
 
 -- a value that ends no message
-pub fed_on : {V : Type 0} (old now stood : AssociationState V) (v : Pdv) (q : List Pdv) (l : Linked) → now ≡ stood
+pub fed_on : (old now stood : AssociationState) (v : Pdv) (q : List Pdv) (l : Linked) → now ≡ stood
     → Fed old stood → now.queue ≡ v ∷ q → Feeds (assembly_of now) v (Ok None) (assembly_in l)
     → l.link.limit ≡ now.within.link.limit → Fed old (fed_state now l q)
-fed_on {V = W} old now stood v q l same held first feeds limit = let so : Fed old now =
-    subst (λ (t : AssociationState W). Fed old t) (sym same) held in record {
+fed_on old now stood v q l same held first feeds limit = let so : Fed old now =
+    subst (λ (t : AssociationState). Fed old t) (sym same) held in record {
       fed = so.fed ++ v ∷ [];
       answers = so.answers ++ Ok None ∷ [];
       parts = so.parts ∙ ap (λ (t : List Pdv). so.fed ++ t) first ∙ sym (append_assoc so.fed (v ∷ []) q);
@@ -131,57 +145,57 @@ fed_on {V = W} old now stood v q l same held first feeds limit = let so : Fed ol
 
 -- ---- what is owed
 
-pub owed_idle : {V : Type 0} (titles : List (Title V)) (s : AssociationState V) (us : List Heard) (rs : List Reply)
+pub owed_idle : (titles : List (Title View)) (s : AssociationState) (us : List Heard) (rs : List Reply)
     (deeds : List Deed) → s.awaited ≡ None → Owes titles s us rs deeds → Talks titles s.within us rs deeds
-owed_idle titles s us rs deeds idle owed = subst (λ (a : Option Awaited). OwedFor a (Talks titles s.within us) rs deeds)
+owed_idle titles s us rs deeds idle owed = subst (λ (a : Option Due). OwedFor a (Talks titles s.within us) rs deeds)
     idle owed
 
-pub idle_owed : {V : Type 0} (titles : List (Title V)) (s : AssociationState V) (us : List Heard) (rs : List Reply)
+pub idle_owed : (titles : List (Title View)) (s : AssociationState) (us : List Heard) (rs : List Reply)
     (deeds : List Deed) → s.awaited ≡ None → Talks titles s.within us rs deeds → Owes titles s us rs deeds
-idle_owed titles s us rs deeds idle talks = subst (λ (a : Option Awaited). OwedFor a (Talks titles s.within us) rs
+idle_owed titles s us rs deeds idle talks = subst (λ (a : Option Due). OwedFor a (Talks titles s.within us) rs
     deeds) (sym idle) talks
 
 -- What is owed depends on where the association is, and on what is awaited.
-takes_from : {V : Type 0} (titles : List (Title V)) (a b : AssociationState V) (heard : List Heard)
-    (replied : List Reply) (deeds : List Deed) (new : AssociationState V) → a.within ≡ b.within → a.awaited ≡ b.awaited
+takes_from : (titles : List (Title View)) (a b : AssociationState) (heard : List Heard)
+    (replied : List Reply) (deeds : List Deed) (new : AssociationState) → a.within ≡ b.within → a.awaited ≡ b.awaited
     → Takes titles a heard replied deeds new → Takes titles b heard replied deeds new
-takes_from {V = W} titles a b heard replied deeds new within awaited takes = λ us rs rest owed.
-    subst (λ (k : Option Awaited). OwedFor k (Talks titles b.within (heard ++ us)) (replied ++ rs) (deeds ++ rest))
+takes_from titles a b heard replied deeds new within awaited takes = λ us rs rest owed.
+    subst (λ (k : Option Due). OwedFor k (Talks titles b.within (heard ++ us)) (replied ++ rs) (deeds ++ rest))
     awaited
-    (subst (λ (w : Within W). OwedFor a.awaited (Talks titles w (heard ++ us)) (replied ++ rs) (deeds ++ rest))
+    (subst (λ (w : Within). OwedFor a.awaited (Talks titles w (heard ++ us)) (replied ++ rs) (deeds ++ rest))
     within (takes us rs rest owed))
 
 -- an event's row
-pub takes_row : {V : Type 0} (titles : List (Title V)) (s new : AssociationState V) (event : Event) → s.awaited ≡ None
+pub takes_row : (titles : List (Title View)) (s new : AssociationState) (event : Event) → s.awaited ≡ None
     → new ≡ entered titles s event → Takes titles s (Met event ∷ []) [] (row titles s.within.state event) new
-takes_row {V = W} titles s new event idle is = λ us rs rest owed.
+takes_row titles s new event idle is = λ us rs rest owed.
     idle_owed titles s (Met event ∷ us) rs (row titles s.within.state event ++ rest) idle (
       rest,
       refl,
       owed_idle titles (entered titles s event) us rs rest
-          idle (subst (λ (t : AssociationState W). Owes titles t us rs rest) is owed),
+          idle (subst (λ (t : AssociationState). Owes titles t us rs rest) is owed),
     )
 
 -- the local user's abort says goodbye, and changes nothing that was agreed
-gone_left : {V : Type 0} (titles : List (Title V)) (state : State) → state ≡ Sta6
+gone_left : (titles : List (Title View)) (state : State) → state ≡ Sta6
     → IsLeft (next_of state (kind_for titles LocalAbort))
 gone_left titles state opened = subst (λ (s : State). IsLeft (next_of s (kind_for titles LocalAbort))) (sym opened) tt
 
-gone_state : {V : Type 0} (titles : List (Title V)) (state : State) → state ≡ Sta6
+gone_state : (titles : List (Title View)) (state : State) → state ≡ Sta6
     → next_of state (kind_for titles LocalAbort) ≡ Sta13
 gone_state titles state opened = ap (λ (s : State). next_of s (kind_for titles LocalAbort)) opened
 
-gone_link : {V : Type 0} (titles : List (Title V)) (w : Within V) → w.state ≡ Sta6
+gone_link : (titles : List (Title View)) (w : Within) → w.state ≡ Sta6
     → (met titles w LocalAbort).link ≡ w.link
 gone_link titles w opened = ap (λ (s : State). agreed_by (opens s (next_of s (kind_for titles LocalAbort)))
     (limit_in LocalAbort) (settled_by s titles LocalAbort w.settled) w.link) opened
 
-gone_stage : {V : Type 0} (titles : List (Title V)) (state : State) (stage : Stage) → state ≡ Sta6
+gone_stage : (titles : List (Title View)) (state : State) (stage : Stage) → state ≡ Sta6
     → stage_by (opens state (next_of state (kind_for titles LocalAbort))) stage ≡ stage
 gone_stage titles state stage opened = ap (λ (s : State). stage_by (opens s (next_of s (kind_for titles LocalAbort)))
     stage) opened
 
-gone_assembly : {V : Type 0} (titles : List (Title V)) (s : AssociationState V) → s.within.state ≡ Sta6
+gone_assembly : (titles : List (Title View)) (s : AssociationState) → s.within.state ≡ Sta6
     → assembly_of (entered titles s LocalAbort) ≡ assembly_of s
 gone_assembly titles s opened =
     let e : (met titles s.within LocalAbort).link.contexts ≡ s.within.link.contexts = ap (λ (l : Link). l.contexts)
@@ -203,16 +217,52 @@ answer_of f = Err f
 err_once : (f g : DimseFault) → answer_of f ≡ answer_of g → f ≡ g
 err_once f g e = cc
 
+-- ---- what is still to be told
+
+pub none_due : (a : Option Due) → a ≡ None → IsSome a → ⊥
+none_due a none some = cc
+
+pub none_fits : (a : Option Due) → a ≡ None → Fits a
+none_fits a none = subst (λ (o : Option Due). Fits o) (sym none) tt
+
+pub none_quiet : (a : Option Due) → a ≡ None → IsQuiet a
+none_quiet a none = subst (λ (o : Option Due). IsQuiet o) (sym none) tt
+
+pub none_answered : (a : Option Due) → a ≡ None → IsAnswered a
+none_answered a none = subst (λ (o : Option Due). IsAnswered o) (sym none) tt
+
+told_from : (event : SessionEvent) (old : Option Due) → IsToldBy event old None
+told_from (Replied reply) old = tt
+told_from (IsHeard event) old = tt
+told_from GoesOn None = tt
+told_from GoesOn (Some due) = tt
+
+pub told_none : (event : SessionEvent) (old new : Option Due) → new ≡ None → IsToldBy event old new
+told_none event old new none = subst (λ (o : Option Due). IsToldBy event old o) (sym none) (told_from event old)
+
+pub quiet_fits : (a : Option Due) → IsQuiet a → Fits a
+quiet_fits None quiet = tt
+quiet_fits (Some (dues.Store awaited)) quiet = tt
+quiet_fits (Some (dues.Find awaited kind)) quiet = tt
+quiet_fits (Some (dues.Rows telling)) quiet = absurd quiet
+
+serves_at : (w : Within) (m : Message) (service : Service) (settled : Option (Settled View)) (contexts : List Context)
+    → settled ≡ w.settled → contexts ≡ w.link.contexts
+    → ServesOn settled (context_in contexts m.context) m.command m.body service → Serves w m service
+serves_at w m service settled contexts se cs serves =
+    subst (λ (t : Option (Settled View)). ServesOn t (context_in w.link.contexts m.context) m.command m.body service) se
+    (subst (λ (k : List Context). ServesOn settled (context_in k m.context) m.command m.body service) cs serves)
+
 -- ---- what values come to
 
 -- a value that ends a message
-pub took : {V : Type 0} (titles : List (Title V)) (old now stood : AssociationState V) (v : Pdv) (q : List Pdv)
-    (l : Linked) (m : Message) (deeds : List Deed) (new : AssociationState V)
+pub took : (titles : List (Title View)) (old now stood : AssociationState) (v : Pdv) (q : List Pdv)
+    (l : Linked) (m : Message) (deeds : List Deed) (new : AssociationState)
     → now ≡ stood → Fed old stood → now.queue ≡ v ∷ q → Feeds (assembly_of now) v (Ok (Some m)) (assembly_in l)
     → l.link.limit ≡ now.within.link.limit
-    → Answered titles (fed_state now l q) m deeds new → Turned titles old GoesOn deeds new
-took {V = W} titles old now stood v q l m deeds new same held first feeds limit answered = let so : Fed old now =
-    subst (λ (t : AssociationState W). Fed old t) (sym same) held in record {
+    → old.awaited ≡ None → Answered titles (fed_state now l q) m deeds new → Turned titles old GoesOn deeds new
+took titles old now stood v q l m deeds new same held first feeds limit idle answered = let so : Fed old now =
+    subst (λ (t : AssociationState). Fed old t) (sym same) held in record {
       said = Said m ∷ [];
       values = record {
         fed = so.fed ++ v ∷ [];
@@ -227,25 +277,29 @@ took {V = W} titles old now stood v q l m deeds new same held first feeds limit 
         memory = memory_push so.answers (Ok (Some m)) so.memory (λ e. absurd cc);
         says = sym (heard_push so.answers (Ok (Some m)) ∙ ap (λ (t : List Heard). t ++ Said m ∷ []) so.none);
       };
-      leads = subst (λ (w : Within W). Leads titles w (Said m ∷ []) new.within) (same_within now l q feeds.contexts limit
+      leads = subst (λ (w : Within). Leads titles w (Said m ∷ []) new.within) (same_within now l q feeds.contexts limit
           ∙ so.within) answered.leads;
-      takes = takes_from titles (fed_state now l q) old (Said m ∷ []) [] deeds new (same_within now l q feeds.contexts limit
+      takes = takes_from titles (fed_state now l q) old (Said m ∷ []) [] deeds new (same_within now l q
+          feeds.contexts limit
           ∙ so.within) so.awaited answered.takes;
       stops = answered.stops;
-      state = answered.state ∙ ap (λ (w : Within W). state_after w.state deeds) so.within;
-      told = tt;
+      state = answered.state ∙ ap (λ (w : Within). state_after w.state deeds) so.within;
+      told = subst (λ (a : Option Due). IsToldBy GoesOn a new.awaited) (sym idle) answered.told;
+      opened = λ before. answered.opened;
+      fits = quiet_fits new.awaited answered.told;
     }
 
 -- a value that is refused: the local user aborts
-pub broke : {V : Type 0} (titles : List (Title V)) (old now stood : AssociationState V) (v : Pdv) (q : List Pdv)
-    (l : Linked) (f : DimseFault) (deeds : List Deed) (new : AssociationState V)
+pub broke : (titles : List (Title View)) (old now stood : AssociationState) (v : Pdv) (q : List Pdv)
+    (l : Linked) (f : DimseFault) (deeds : List Deed) (new : AssociationState)
     → now ≡ stood → Fed old stood → now.queue ≡ v ∷ q → Feeds (assembly_of now) v (Err f) (assembly_in l) → f ≢ Memory
     → l.link.limit ≡ now.within.link.limit
     → now.within.state ≡ Sta6 → now.awaited ≡ None → deeds ≡ row titles Sta6 LocalAbort
     → new ≡ entered titles (fed_state now l q) LocalAbort → Turned titles old GoesOn deeds new
-broke {V = W} titles old now stood v q l f deeds new same held first feeds not_memory limit opened idle sent next =
-    let so : Fed old now = subst (λ (t : AssociationState W). Fed old t) (sym same) held in
+broke titles old now stood v q l f deeds new same held first feeds not_memory limit opened idle sent next =
+    let so : Fed old now = subst (λ (t : AssociationState). Fed old t) (sym same) held in
     let mid = fed_state now l q in
+    let none_here : new.awaited ≡ None = ap (λ (t : AssociationState). t.awaited) next ∙ idle in
     let row_here : deeds ≡ row titles mid.within.state LocalAbort = sent ∙ ap (λ (t : State). row titles t LocalAbort)
     (sym opened) in
     record {
@@ -255,29 +309,31 @@ broke {V = W} titles old now stood v q l f deeds new same held first feeds not_m
         left = q;
         answers = so.answers ++ Err f ∷ [];
         parts = so.parts ∙ ap (λ (t : List Pdv). so.fed ++ t) first ∙ sym (append_assoc so.fed (v ∷ []) q);
-        kept = inr (subst (λ (t : AssociationState W). IsLeft t.within.state) (sym next)
+        kept = inr (subst (λ (t : AssociationState). IsLeft t.within.state) (sym next)
             (gone_left titles now.within.state opened));
         run = run_push (assembly_of old) so.fed so.answers (assembly_of now) v (Err f) (assembly_of new) so.run
             (subst (λ (a : Assembly). Feeds (assembly_of now) v (Err f) a)
-            (sym (ap (λ (t : AssociationState W). assembly_of t) next ∙ gone_assembly titles mid opened)) feeds);
+            (sym (ap (λ (t : AssociationState). assembly_of t) next ∙ gone_assembly titles mid opened)) feeds);
         memory = memory_push so.answers (Err f) so.memory (λ e. not_memory (err_once f Memory e));
         says = sym (heard_push so.answers (Err f) ∙ ap (λ (t : List Heard). t ++ Met LocalAbort ∷ []) so.none);
       };
-      leads = ap (λ (t : AssociationState W). t.within) next ∙ ap (λ (w : Within W). met titles w LocalAbort)
+      leads = ap (λ (t : AssociationState). t.within) next ∙ ap (λ (w : Within). met titles w LocalAbort)
           (same_within now l q feeds.contexts limit ∙ so.within);
       takes = takes_from titles mid old (Met LocalAbort ∷ []) [] deeds new (same_within now l q feeds.contexts limit
           ∙ so.within) so.awaited
           (subst (λ (t : List Deed). Takes titles mid (Met LocalAbort ∷ []) [] t new) (sym row_here)
           (takes_row titles mid new LocalAbort idle next));
-      stops = subst (λ (t : List Deed). Stops t new.awaited) (sym sent) (subst (λ (a : Option Awaited). Stops [] a)
-          (sym (ap (λ (t : AssociationState W). t.awaited) next ∙ idle)) tt);
-      state = ap (λ (t : AssociationState W). t.within.state) next ∙ gone_state titles now.within.state opened
+      stops = subst (λ (t : List Deed). Stops t new.awaited) (sym sent) (subst (λ (a : Option Due). Stops [] a)
+          (sym (ap (λ (t : AssociationState). t.awaited) next ∙ idle)) tt);
+      state = ap (λ (t : AssociationState). t.within.state) next ∙ gone_state titles now.within.state opened
           ∙ sym (ap (λ (t : List Deed). state_after old.within.state t) sent);
-      told = tt;
+      told = told_none GoesOn old.awaited new.awaited none_here;
+      opened = λ before some. absurd (none_due new.awaited none_here some);
+      fits = none_fits new.awaited none_here;
     }
 
 -- no value is there any more
-pub all_heard : {V : Type 0} (titles : List (Title V)) (old now stood : AssociationState V) (q : List Pdv)
+pub all_heard : (titles : List (Title View)) (old now stood : AssociationState) (q : List Pdv)
     (deeds : List Deed) → now ≡ stood → Fed old stood → old.awaited ≡ None → now.queue ≡ q → deeds ≡ []
     → Turned titles old GoesOn deeds (record {
       within = now.within;
@@ -286,9 +342,9 @@ pub all_heard : {V : Type 0} (titles : List (Title V)) (old now stood : Associat
       queue =
           q;
     })
-all_heard {V = W} titles old now stood q deeds same held idle rest none =
-    let so : Fed old now = subst (λ (t : AssociationState W). Fed old t) (sym same) held in
-    let new : AssociationState W = record { within = now.within; stage = now.stage; awaited = now.awaited; queue = q }
+all_heard titles old now stood q deeds same held idle rest none =
+    let so : Fed old now = subst (λ (t : AssociationState). Fed old t) (sym same) held in
+    let new : AssociationState = record { within = now.within; stage = now.stage; awaited = now.awaited; queue = q }
     in
     record {
       said = [];
@@ -307,11 +363,13 @@ all_heard {V = W} titles old now stood q deeds same held idle rest none =
       leads = so.within;
       takes = takes_from titles new old [] [] deeds new so.within so.awaited
           (subst (λ (t : List Deed). Takes titles new [] [] t new) (sym none) (λ us rs more owed. owed));
-      stops = subst (λ (t : List Deed). Stops t now.awaited) (sym none) (subst (λ (a : Option Awaited). Stops [] a)
+      stops = subst (λ (t : List Deed). Stops t now.awaited) (sym none) (subst (λ (a : Option Due). Stops [] a)
           (sym (so.awaited ∙ idle)) tt);
-      state = ap (λ (w : Within W). w.state) so.within ∙ ap (λ (t : List Deed). state_after old.within.state t)
+      state = ap (λ (w : Within). w.state) so.within ∙ ap (λ (t : List Deed). state_after old.within.state t)
           (sym none);
-      told = tt;
+      told = told_none GoesOn old.awaited now.awaited (so.awaited ∙ idle);
+      opened = λ before some. absurd (none_due now.awaited (so.awaited ∙ idle) some);
+      fits = none_fits now.awaited (so.awaited ∙ idle);
     }
 
 pub both_map : {X E : Type 0} (r : Result X E) (P Q : X → Type 0) (N : Type 0) → ((x : X) → P x → N → Q x) → IfOk r P
@@ -324,23 +382,23 @@ on_ok_map (Ok x) A B to p = to p
 on_ok_map (Err e) A B to p = tt
 
 -- After an abort no value is left.
-pub broke_fewer : {V : Type 0} (titles : List (Title V)) (s : State) (after before : List Pdv) → s ≡ Sta6
+pub broke_fewer : (titles : List (Title View)) (s : State) (after before : List Pdv) → s ≡ Sta6
     → after ≡ handed_on titles s LocalAbort → 0 < length before → length after < length before
 broke_fewer titles s after before established left some =
     let none : after ≡ [] = left ∙ ap (λ (t : State). handed_on titles t LocalAbort) established in
     subst (λ (t : List Pdv). length t < length before) (sym none) some
 
-pub at_queue : {V : Type 0} (a b : AssociationState V) → a ≡ b → a.queue ≡ b.queue
-at_queue {V = W} a b same = ap (λ (t : AssociationState W). t.queue) same
+pub at_queue : (a b : AssociationState) → a ≡ b → a.queue ≡ b.queue
+at_queue a b same = ap (λ (t : AssociationState). t.queue) same
 
-pub at_stage : {V : Type 0} (a b : AssociationState V) → a ≡ b → a.stage ≡ b.stage
-at_stage {V = W} a b same = ap (λ (t : AssociationState W). t.stage) same
+pub at_stage : (a b : AssociationState) → a ≡ b → a.stage ≡ b.stage
+at_stage a b same = ap (λ (t : AssociationState). t.stage) same
 
-pub at_place : {V : Type 0} (a b : AssociationState V) → a ≡ b → a.within ≡ b.within
-at_place {V = W} a b same = ap (λ (t : AssociationState W). t.within) same
+pub at_place : (a b : AssociationState) → a ≡ b → a.within ≡ b.within
+at_place a b same = ap (λ (t : AssociationState). t.within) same
 
-pub at_within : {V : Type 0} (a b : Within V) → a ≡ b → a.state ≡ b.state
-at_within {V = W} a b same = ap (λ (w : Within W). w.state) same
+pub at_within : (a b : Within) → a ≡ b → a.state ≡ b.state
+at_within a b same = ap (λ (w : Within). w.state) same
 
 -- ---- responses
 
@@ -348,117 +406,199 @@ pub ok_map : {X E : Type 0} (r : Result X E) (P Q : X → Type 0) → ((x : X) �
 ok_map (Ok x) P Q to p = to x p
 ok_map (Err e) P Q to p = tt
 
-sends_state : (size context : ℕ) (command : Bool) (text : List ℕ) (pdus : List Pdu) (s : State) → Sends size context
-    command text pdus → state_after s (map Send pdus) ≡ s
-sends_state size context command text [] s p = absurd p
-sends_state size context command text (x ∷ []) s p = ap (λ (t : Pdu). state_after s (Send t ∷ [])) p.1
-sends_state size context command text (x ∷ y ∷ pdus) s p =
-    ap (λ (t : Pdu). state_after s (Send t ∷ map Send (y ∷ pdus))) p.1 ∙ sends_state size context
-    command (drop size text) (y ∷ pdus) s p.2
-
 -- A response leads nowhere else.
 told_state : (awaited : Awaited) (status : Status) (deeds : List Deed) (s : State) → IsTold awaited status deeds
     → state_after s deeds ≡ s
 told_state awaited status deeds s told =
-    ap (λ (t : List Deed). state_after s t) (told.2 ∙ ap (λ (t : List Pdu). map Send t)
-    (told.1.parts ∙ ap (λ (t : List Pdu). told.1.of_command ++ t) told.1.data_set ∙ append-nil told.1.of_command))
-    ∙ sends_state _ _ _ _ told.1.of_command s told.1.command
+    ap (λ (t : List Deed). state_after s t) told.2 ∙ data_state s told.0 (sending_data _ _ told.0 told.1)
 
 sends_stop : (pdus : List Pdu) → Stops (map Send pdus) None
 sends_stop [] = tt
 sends_stop (p ∷ pdus) = sends_stop pdus
 
-told_stops : (awaited : Awaited) (status : Status) (deeds : List Deed) (a : Option Awaited) → a ≡ None
+told_stops : (awaited : Awaited) (status : Status) (deeds : List Deed) (a : Option Due) → a ≡ None
     → IsTold awaited status deeds → Stops deeds a
 told_stops awaited status deeds a none told = subst (λ (t : List Deed). Stops t a) (sym told.2)
-    (subst (λ (o : Option Awaited). Stops (map Send told.0) o) (sym none) (sends_stop told.0))
+    (subst (λ (o : Option Due). Stops (map Send told.0) o) (sym none) (sends_stop told.0))
 
 tells : (awaited : Awaited) (status : Status) (deeds rest : List Deed) (R : List Deed → Type 0) → IsTold awaited status
     deeds → R rest → Tells awaited status R (deeds ++ rest)
 tells awaited status deeds rest R told goes = (told.0, told.1, (rest, ap (λ (t : List Deed). t ++ rest) told.2, goes))
 
 -- a message that is responded
-pub answered_told : {V : Type 0} (titles : List (Title V)) (now new : AssociationState V) (m : Message)
-    (status : Status) (service : Service) (contexts : List Context) (limit : ℕ) (deeds : List Deed)
-    → now.within.state ≡ Sta6 → now.awaited ≡ None → new ≡ now → contexts ≡ now.within.link.contexts
+pub answered_told : (titles : List (Title View)) (now new : AssociationState) (m : Message)
+    (status : Status) (service : Service) (settled : Option (Settled View)) (contexts : List Context) (limit : ℕ)
+    (deeds : List Deed)
+    → now.within.state ≡ Sta6 → now.awaited ≡ None → new ≡ now → settled ≡ now.within.settled
+    → contexts ≡ now.within.link.contexts
     → limit ≡ now.within.link.limit → service ≡ Responded status
-    → ServesOn (context_in contexts m.context) m.command m.body service
+    → ServesOn settled (context_in contexts m.context) m.command m.body service
     → IsTold (record { context = m.context; limit = limit; command = m.command }) status deeds → Answered titles now m
     deeds new
-answered_told {V = W} titles now new m status service contexts limit deeds opened idle same cs lim is serves told =
+answered_told titles now new m status service settled contexts limit deeds opened idle same se cs lim is serves told =
     let told_here : IsTold (awaiting now.within.link m) status deeds =
     subst (λ (n : ℕ). IsTold (record { context = m.context; limit = n; command = m.command }) status deeds) lim told
     in
-    let serves_here : Serves now.within.link.contexts m (Responded status) =
-    subst (λ (s : Service). Serves now.within.link.contexts m s) is (subst (λ (k : List Context). Serves k m service) cs
-    serves) in
+    let serves_here : Serves now.within m (Responded status) =
+    subst (λ (s : Service). Serves now.within m s) is (serves_at now.within m service settled contexts se cs serves) in
     record {
-      leads = (opened, Responded status, serves_here, ap (λ (t : AssociationState W). t.within) same);
+      leads = (opened, Responded status, serves_here, ap (λ (t : AssociationState). t.within) same);
       takes = λ us rs rest owed.
           idle_owed titles now (Said m ∷ us) rs (deeds ++ rest) idle
-          (subst (λ (s : State). InState s (Answers now.within.link m (row titles now.within.state LocalAbort)
+          (subst (λ (s : State). InState s (Answers now.within m (row titles now.within.state LocalAbort)
           (Talks titles now.within us) (Talks titles (met titles now.within LocalAbort) us))
           (Talks titles now.within us) rs (deeds ++ rest)) (sym opened) (
             Responded status,
             serves_here,
             tells (awaiting now.within.link m) status deeds rest (Talks titles now.within us rs) told_here
-                (owed_idle titles now us rs rest idle (subst (λ (t : AssociationState W). Owes titles t us rs rest) same
+                (owed_idle titles now us rs rest idle (subst (λ (t : AssociationState). Owes titles t us rs rest) same
                 owed)),
           ));
       stops = told_stops (awaiting now.within.link m) status deeds new.awaited
-          (ap (λ (t : AssociationState W). t.awaited) same ∙ idle) told_here;
-      state = ap (λ (t : AssociationState W). t.within.state) same
+          (ap (λ (t : AssociationState). t.awaited) same ∙ idle) told_here;
+      state = ap (λ (t : AssociationState). t.within.state) same
           ∙ sym (told_state (awaiting now.within.link m) status deeds now.within.state told_here);
-      link = ap (λ (t : AssociationState W). t.within.link) same;
-      stage = ap (λ (t : AssociationState W). t.stage) same;
-      kept = inl (ap (λ (t : AssociationState W). t.queue) same);
+      link = ap (λ (t : AssociationState). t.within.link) same;
+      stage = ap (λ (t : AssociationState). t.stage) same;
+      kept = inl (ap (λ (t : AssociationState). t.queue) same);
+      told = none_quiet new.awaited (ap (λ (t : AssociationState). t.awaited) same ∙ idle);
+      opened = λ some. ap (λ (t : AssociationState). t.within.state) same ∙ opened;
     }
 
--- a reply that is told
-pub resumed : {V : Type 0} (titles : List (Title V)) (now new : AssociationState V) (awaited shown : Awaited)
-    (reply : Reply) (status : Status) (deeds : List Deed)
-    → now.awaited ≡ Some awaited → new.within ≡ now.within → new.stage ≡ now.stage → new.awaited ≡ None
-    → new.queue ≡ now.queue → shown ≡ awaited → status ≡ status_for_reply reply
-    → IsTold shown status deeds → Turned titles now (Replied reply) deeds new
-resumed {V = W} titles now new awaited shown (Stored reply) status deeds has within stage none queue same is told =
+-- a message for which the port is asked
+pub answered_asked : (titles : List (Title View)) (now new : AssociationState) (m : Message) (service : Service)
+    (front : List Deed) (call : Call) (due : Due) (settled : Option (Settled View)) (contexts : List Context)
+    (deeds : List Deed)
+    → now.within.state ≡ Sta6 → now.awaited ≡ None
+    → new ≡ record { within = now.within; stage = now.stage; awaited = Some due; queue = now.queue }
+    → settled ≡ now.within.settled → contexts ≡ now.within.link.contexts
+    → ServesOn settled (context_in contexts m.context) m.command m.body service
+    → deeds ≡ front ++ Ask call ∷ [] → Stops (front ++ Ask call ∷ []) (Some due)
+    → ((s : State) → state_after s (front ++ Ask call ∷ []) ≡ s)
+    → behind titles now.within service ≡ now.within → IsQuiet (Some due)
+    → ((abort : List Deed) (goes gone : Goes) (rs : List Reply) (rest : List Deed) → OwedFor (Some due) goes rs rest
+    → Does service (awaiting now.within.link m) abort goes gone rs ((front ++ Ask call ∷ []) ++ rest))
+    → Answered titles now m deeds new
+answered_asked titles now new m service front call due settled contexts deeds opened idle same se cs serves is stops
+    stays leads quiet does =
+    let serves_here : Serves now.within m service = serves_at now.within m service settled contexts se cs serves in
+    record {
+      leads = (opened, service, serves_here, ap (λ (t : AssociationState). t.within) same ∙ sym leads);
+      takes = λ us rs rest owed.
+          idle_owed titles now (Said m ∷ us) rs (deeds ++ rest) idle
+          (subst (λ (s : State). InState s (Answers now.within m (row titles now.within.state LocalAbort)
+          (Talks titles now.within us) (Talks titles (met titles now.within LocalAbort) us))
+          (Talks titles now.within us) rs (deeds ++ rest)) (sym opened) (
+            service,
+            serves_here,
+            subst (λ (t : List Deed). Does service (awaiting now.within.link m) (row titles now.within.state LocalAbort)
+                (Talks titles now.within us) (Talks titles (met titles now.within LocalAbort) us) rs (t ++ rest))
+                (sym is) (does (row titles now.within.state LocalAbort) (Talks titles now.within us)
+                (Talks titles (met titles now.within LocalAbort) us) rs rest
+                (subst (λ (t : AssociationState). Owes titles t us rs rest) same owed)),
+          ));
+      stops = subst (λ (a : Option Due). Stops deeds a) (sym (ap (λ (t : AssociationState). t.awaited) same))
+          (subst (λ (t : List Deed). Stops t (Some due)) (sym is) stops);
+      state = ap (λ (t : AssociationState). t.within.state) same
+          ∙ sym (ap (λ (t : List Deed). state_after now.within.state t) is ∙ stays now.within.state);
+      link = ap (λ (t : AssociationState). t.within.link) same;
+      stage = ap (λ (t : AssociationState). t.stage) same;
+      kept = inl (ap (λ (t : AssociationState). t.queue) same);
+      told = subst (λ (a : Option Due). IsQuiet a) (sym (ap (λ (t : AssociationState). t.awaited) same)) quiet;
+      opened = λ some. ap (λ (t : AssociationState). t.within.state) same ∙ opened;
+    }
+
+-- a turn in which no value is heard
+pub still : (now new : AssociationState) → new.within ≡ now.within → new.stage ≡ now.stage → new.queue ≡ now.queue
+    → HearsValues (record { within = now.within; stage = now.stage; awaited = now.awaited; queue = now.queue }) [] new
+still now new within stage queue = record {
+  fed = [];
+  left = new.queue;
+  answers = [];
+  parts = sym queue;
+  kept = inl refl;
+  run = let e : new.within.link.contexts ≡ now.within.link.contexts = ap (λ (w : Within). w.link.contexts) within in cc;
+  memory = tt;
+  says = refl;
+}
+
+-- a reply to a store
+pub resumed : (titles : List (Title View)) (now new : AssociationState) (awaited shown : Awaited)
+    (reply : Result Taken PortFault) (status : Status) (deeds : List Deed)
+    → now.awaited ≡ Some (dues.Store awaited) → new.within ≡ now.within → new.stage ≡ now.stage → new.awaited ≡ None
+    → new.queue ≡ now.queue → shown ≡ awaited → status ≡ status_of_reply reply
+    → IsTold shown status deeds → Turned titles now (Replied (Stored reply)) deeds new
+resumed titles now new awaited shown reply status deeds has within stage none queue same is told =
     let told_here : IsTold awaited (status_of_reply reply) deeds =
     subst (λ (s : Status). IsTold awaited s deeds) is (subst (λ (a : Awaited). IsTold a status deeds) same told) in
     record {
       said = [];
-      values = record {
-        fed = [];
-        left = new.queue;
-        answers = [];
-        parts = sym queue;
-        kept = inl refl;
-        run = let e : new.within.link.contexts ≡ now.within.link.contexts = ap (λ (w : Within W). w.link.contexts)
-            within in cc;
-        memory = tt;
-        says = refl;
-      };
+      values = still (started titles now (Replied (Stored reply))) new within stage queue;
       leads = within;
       takes = λ us rs rest owed.
-          subst (λ (a : Option Awaited). OwedFor a (Talks titles now.within us) (Stored reply ∷ rs) (deeds ++ rest))
+          subst (λ (a : Option Due). OwedFor a (Talks titles now.within us) (Stored reply ∷ rs) (deeds ++ rest))
           (sym has)
           (tells awaited (status_of_reply reply) deeds rest (Talks titles now.within us rs) told_here
-          (subst (λ (w : Within W). Talks titles w us rs rest) within (owed_idle titles new us rs rest none owed)));
+          (subst (λ (w : Within). Talks titles w us rs rest) within (owed_idle titles new us rs rest none owed)));
       stops = told_stops awaited (status_of_reply reply) deeds new.awaited none told_here;
-      state = ap (λ (w : Within W). w.state) within
+      state = ap (λ (w : Within). w.state) within
           ∙ sym (told_state awaited (status_of_reply reply) deeds now.within.state told_here);
-      told = none;
+      told = none_answered new.awaited none;
+      opened = λ before some. absurd (none_due new.awaited none some);
+      fits = none_fits new.awaited none;
+    }
+
+-- a reply to a find: rows are left to be told
+pub found_rows : (titles : List (Title View)) (now new : AssociationState) (awaited : Awaited) (kind : RowKind)
+    (telling : Telling) (reply : Result (List Set) PortFault) (deeds : List Deed)
+    → now.awaited ≡ Some (dues.Find awaited kind) → new.within ≡ now.within → new.stage ≡ now.stage
+    → new.awaited ≡ Some (dues.Rows telling) → new.queue ≡ now.queue
+    → telling ≡ record {
+      awaited = awaited;
+      kind = kind;
+      rows = rows_in reply;
+      status = status_of_found reply;
+    } → FitsLimit awaited.limit → deeds ≡ []
+    → Turned titles now (Replied (Found reply)) deeds new
+found_rows titles now new awaited kind telling reply deeds has within stage due queue is fits none =
+    let rows : Due = dues.Rows (record {
+      awaited = awaited;
+      kind = kind;
+      rows = rows_in reply;
+      status = status_of_found reply;
+    }) in
+    let due_is : new.awaited ≡ Some rows = due ∙ ap (λ (t : Telling). Some (dues.Rows t)) is in
+    record {
+      said = [];
+      values = still (started titles now (Replied (Found reply))) new within stage queue;
+      leads = within;
+      takes = λ us rs rest owed.
+          subst (λ (a : Option Due). OwedFor a (Talks titles now.within us) (Found reply ∷ rs) (deeds ++ rest))
+          (sym has)
+          (subst (λ (t : List Deed). FollowsFind awaited kind (Talks titles now.within us) (Found reply ∷ rs)
+          (t ++ rest)) (sym none)
+          (subst (λ (a : Option Due). OwedFor a (Talks titles now.within us) rs rest) due_is
+          (subst (λ (w : Within). OwedFor new.awaited (Talks titles w us) rs rest) within owed)));
+      stops = subst (λ (t : List Deed). Stops t new.awaited) (sym none)
+          (subst (λ (a : Option Due). IsAnswered a) (sym due_is) tt);
+      state = ap (λ (w : Within). w.state) within ∙ ap (λ (t : List Deed). state_after now.within.state t) (sym none);
+      told = subst (λ (a : Option Due). IsAnswered a) (sym due_is) tt;
+      opened = λ before some. ap (λ (w : Within). w.state) within
+          ∙ before (subst (λ (a : Option Due). IsSome a) (sym has) refl);
+      fits = subst (λ (a : Option Due). Fits a) (sym due_is) fits;
     }
 
 pub all_is : (deeds : List Deed) (pdus : List Pdu) → deeds ≡ map Send pdus → All IsPdu pdus → All IsWritable deeds
 all_is deeds pdus is lawful = subst (λ (t : List Deed). All IsWritable t) (sym is) (All-map IsWritable Send pdus lawful)
 
-pub at_contexts : {V : Type 0} (a b : AssociationState V) → a ≡ b → a.within.link.contexts ≡ b.within.link.contexts
-at_contexts {V = W} a b same = ap (λ (t : AssociationState W). t.within.link.contexts) same
+pub at_contexts : (a b : AssociationState) → a ≡ b → a.within.link.contexts ≡ b.within.link.contexts
+at_contexts a b same = ap (λ (t : AssociationState). t.within.link.contexts) same
 
-pub at_limit : {V : Type 0} (a b : AssociationState V) → a ≡ b → a.within.link.limit ≡ b.within.link.limit
-at_limit {V = W} a b same = ap (λ (t : AssociationState W). t.within.link.limit) same
+pub at_limit : (a b : AssociationState) → a ≡ b → a.within.link.limit ≡ b.within.link.limit
+at_limit a b same = ap (λ (t : AssociationState). t.within.link.limit) same
 
-pub at_state : {V : Type 0} (a b : AssociationState V) → a ≡ b → a.within.state ≡ b.within.state
-at_state {V = W} a b same = ap (λ (t : AssociationState W). t.within.state) same
+pub at_state : (a b : AssociationState) → a ≡ b → a.within.state ≡ b.within.state
+at_state a b same = ap (λ (t : AssociationState). t.within.state) same
 
-pub at_awaited : {V : Type 0} (a b : AssociationState V) → a ≡ b → a.awaited ≡ b.awaited
-at_awaited {V = W} a b same = ap (λ (t : AssociationState W). t.awaited) same
+pub at_awaited : (a b : AssociationState) → a ≡ b → a.awaited ≡ b.awaited
+at_awaited a b same = ap (λ (t : AssociationState). t.awaited) same

@@ -1,8 +1,12 @@
+pub mod AnsweredLaws
+pub mod DataLaws
 pub mod FinalLaws
 pub mod HearLaws
 pub mod LimitLaws
 pub mod OrderLaws
 pub mod ResponseLaws
 pub mod RowLaws
+pub mod StatusLaws
 pub mod TalkLaws
+pub mod TellLaws
 pub mod TurnLaws

@@ -14,6 +14,7 @@ use Rattle.ul_state.specs.Titles.{value_of, without_spaces}
 use Rattle.ul_state.specs.Acceptor.{settled_with, settled_for}
 use Rattle.association_session.specs.Response.{FitsLimit}
 use Rattle.association_session.specs.Row.{sending_limit, limit_in}
+use Rattle.archive_model.specs.declared.view.View.{View}
 
 -- a limit that is not too short
 fits_by : (n : ℕ) (zero large small : Bool) → (n == 0) ≡ zero → nat_lt 65536 n ≡ large → nat_lt n 8 ≡ small
@@ -28,13 +29,13 @@ fits : (n : ℕ) → is_too_short n ≡ false → FitsLimit (sending_limit n)
 unfolding sending_limit
 fits n short = fits_by n (n == 0) (nat_lt 65536 n) (nat_lt n 8) refl refl refl short
 
-by_title_fits : {V : Type 0} (request : Request) (value : Option V) (v : V) (short : Bool)
+by_title_fits : (request : Request) (value : Option View) (v : View) (short : Bool)
     → is_too_short request.user.maximum_length ≡ short → by_title request value ≡ Ok v → short ≡ false
 by_title_fits request None v short is e = absurd cc
 by_title_fits request (Some value) v true is e = absurd cc
 by_title_fits request (Some value) v false is e = refl
 
-admitted_by : {V : Type 0} (request : Request) (value : Option V) (v : V) (version context : Bool)
+admitted_by : (request : Request) (value : Option View) (v : View) (version context : Bool)
     → is_version_one request.opening.version ≡ version → is_known_context request.application_context ≡ context
     → cond (not version) (Err (refused 2 2)) (cond (not context) (Err (refused 1 2)) (by_title request value)) ≡ Ok v
     → by_title request value ≡ Ok v
@@ -43,7 +44,7 @@ admitted_by request value v true false e f is = absurd cc
 admitted_by request value v false context e f is = absurd cc
 
 -- what is admitted takes a fragment
-pub admitted_fits : {V : Type 0} (titles : List (Title V)) (request : Request) (v : V) → value_for titles request ≡ Ok v
+pub admitted_fits : (titles : List (Title View)) (request : Request) (v : View) → value_for titles request ≡ Ok v
     → FitsLimit (sending_limit request.user.maximum_length)
 unfolding value_for
 admitted_fits titles request v is =
@@ -52,14 +53,14 @@ admitted_fits titles request v is =
     (admitted_by request value v (is_version_one request.opening.version) (is_known_context request.application_context)
     refl refl is))
 
-settled_request : {V : Type 0} (titles : List (Title V)) (request : Request) (value : Result V Reject)
+settled_request : (titles : List (Title View)) (request : Request) (value : Result View Reject)
     → value_for titles request ≡ value → IsSome (settled_with request value)
     → FitsLimit (sending_limit request.user.maximum_length)
 settled_request titles request (Ok v) is some = admitted_fits titles request v is
 settled_request titles request (Err reject) is some = absurd cc
 
 -- what an event settles takes a fragment
-pub settled_fits : {V : Type 0} (titles : List (Title V)) (event : Event) → IsSome (settled_for titles event)
+pub settled_fits : (titles : List (Title View)) (event : Event) → IsSome (settled_for titles event)
     → FitsLimit (limit_in event)
 settled_fits titles (events.Got (pdus.AssociateRq request)) some = settled_request titles
     request (value_for titles request) refl some

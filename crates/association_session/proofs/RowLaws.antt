@@ -18,16 +18,17 @@ use Rattle.ul_state.specs.Acceptor.{kind_for}
 use Rattle.association_session.specs.declared.deed.Deed.{Deed}
 use Rattle.association_session.specs.declared.event.SessionEvent.TheVariants.{Heard as IsHeard, GoesOn}
 use Rattle.association_session.specs.Projections.{state_after}
-use Rattle.association_session.specs.Response.{Awaited}
+use Rattle.association_session.specs.declared.due.Due.{Due}
 use Rattle.association_session.specs.Row.{row, deeds_of, values_of, action_on}
 use Rattle.association_session.specs.Session.{AssociationState, HearsValues, Turned, Takes, Owes, Stops, entered}
-use Rattle.association_session.specs.Session.{is_left}
+use Rattle.association_session.specs.Session.{is_left, IsToldBy}
 use Rattle.association_session.specs.Talks.{Met, Leads}
-use Rattle.association_session.proofs.HearLaws.{takes_row, idle_owed, owed_idle}
+use Rattle.association_session.proofs.HearLaws.{takes_row, idle_owed, owed_idle, none_due, none_fits, none_quiet}
+use Rattle.archive_model.specs.declared.view.View.{View}
 
 -- ---- where a row leads
 
-request_state : {V : Type 0} (s : State) (titles : List (Title V)) (request : Request) (r : Result V Reject)
+request_state : (s : State) (titles : List (Title View)) (request : Request) (r : Result View Reject)
     → value_for titles request ≡ r
     → state_after s (row titles s (events.Got (pdus.AssociateRq request))) ≡ next_of
     s (kind_for titles (events.Got (pdus.AssociateRq request)))
@@ -40,7 +41,7 @@ request_state Sta13 titles request (Ok v) e = rw e refl
 request_state Sta13 titles request (Err reject) e = rw e refl
 
 -- The deeds of a row lead where the row does.
-pub row_state : {V : Type 0} (titles : List (Title V)) (s : State) (event : Event)
+pub row_state : (titles : List (Title View)) (s : State) (event : Event)
     → state_after s (row titles s event) ≡ next_of s (kind_for titles event)
 row_state titles Sta1 event = refl
 row_state titles Sta2 (events.Got (pdus.AssociateRq request)) = request_state Sta2 titles
@@ -89,10 +90,10 @@ row_state titles Sta13 (events.Bad faults.Memory) = refl
 row_state titles Sta13 events.Ended = refl
 row_state titles Sta13 events.LocalAbort = refl
 
-row_stops : (action : Option Action) (a : Option Awaited) → a ≡ None → Stops (deeds_of action) a
-row_stops None a none = subst (λ (o : Option Awaited). Stops [] o) (sym none) tt
-row_stops (Some (actions.Send pdu)) a none = subst (λ (o : Option Awaited). Stops [] o) (sym none) tt
-row_stops (Some (actions.Hand values)) a none = subst (λ (o : Option Awaited). Stops [] o) (sym none) tt
+row_stops : (action : Option Action) (a : Option Due) → a ≡ None → Stops (deeds_of action) a
+row_stops None a none = subst (λ (o : Option Due). Stops [] o) (sym none) tt
+row_stops (Some (actions.Send pdu)) a none = subst (λ (o : Option Due). Stops [] o) (sym none) tt
+row_stops (Some (actions.Hand values)) a none = subst (λ (o : Option Due). Stops [] o) (sym none) tt
 row_stops (Some actions.Close) a none = (refl, none)
 
 nothing_left : (s : State) → is_left s [] ≡ true → ⊥
@@ -111,12 +112,12 @@ left_row (Some actions.Close) s e = absurd (nothing_left s e)
 -- ---- what an event comes to
 
 -- an event whose values are none, or are dropped
-pub met_only : {V : Type 0} (titles : List (Title V)) (now new : AssociationState V) (event : Event) (deeds : List Deed)
+pub met_only : (titles : List (Title View)) (now new : AssociationState) (event : Event) (deeds : List Deed)
     → now.awaited ≡ None → new ≡ entered titles now event → deeds ≡ row titles now.within.state event
     → Turned titles now (IsHeard event) deeds new
-met_only {V = W} titles now new event deeds idle is row_is = record {
+met_only titles now new event deeds idle is row_is = record {
   said = [];
-  values = subst (λ (t : AssociationState W). HearsValues (entered titles now event) [] t) (sym is)
+  values = subst (λ (t : AssociationState). HearsValues (entered titles now event) [] t) (sym is)
       (record {
         fed = [];
         left = (entered titles now event).queue;
@@ -128,42 +129,47 @@ met_only {V = W} titles now new event deeds idle is row_is = record {
         memory = tt;
         says = refl;
       });
-  leads = ap (λ (t : AssociationState W). t.within) is;
+  leads = ap (λ (t : AssociationState). t.within) is;
   takes = subst (λ (t : List Deed). Takes titles now (Met event ∷ []) [] t new) (sym row_is)
       (takes_row titles now new event idle is);
   stops = subst (λ (t : List Deed). Stops t new.awaited) (sym row_is)
-      (row_stops (action_on titles now.within.state event) new.awaited (ap (λ (t : AssociationState W). t.awaited) is
+      (row_stops (action_on titles now.within.state event) new.awaited (ap (λ (t : AssociationState). t.awaited) is
       ∙ idle));
-  state = ap (λ (t : AssociationState W). t.within.state) is ∙ sym (row_state titles now.within.state event)
+  state = ap (λ (t : AssociationState). t.within.state) is ∙ sym (row_state titles now.within.state event)
       ∙ sym (ap (λ (t : List Deed). state_after now.within.state t) row_is);
-  told = tt;
+  told = none_quiet new.awaited (ap (λ (t : AssociationState). t.awaited) is ∙ idle);
+  opened = λ before some. absurd (none_due new.awaited (ap (λ (t : AssociationState). t.awaited) is ∙ idle) some);
+  fits = none_fits new.awaited (ap (λ (t : AssociationState). t.awaited) is ∙ idle);
 }
 
 -- an event whose values are heard
-pub heard_on : {V : Type 0} (titles : List (Title V)) (now mid new : AssociationState V) (event : Event)
+pub heard_on : (titles : List (Title View)) (now mid new : AssociationState) (event : Event)
     (deeds : List Deed) → now.awaited ≡ None → mid ≡ entered titles now event
     → is_left mid.within.state mid.queue ≡ true → Turned titles mid GoesOn deeds new → Turned titles now (IsHeard event)
     deeds new
-heard_on {V = W} titles now mid new event deeds idle is left turned =
+heard_on titles now mid new event deeds idle is left turned =
     let none : row titles now.within.state event ≡ [] =
     left_row (action_on titles now.within.state event) (entered titles now event).within.state
-    (ap (λ (t : AssociationState W). is_left t.within.state t.queue) (sym is) ∙ left) in
+    (ap (λ (t : AssociationState). is_left t.within.state t.queue) (sym is) ∙ left) in
+    let mid_idle : mid.awaited ≡ None = ap (λ (t : AssociationState). t.awaited) is ∙ idle in
     record {
       said = turned.said;
-      values = subst (λ (t : AssociationState W). HearsValues t turned.said new) is turned.values;
-      leads = subst (λ (t : AssociationState W). Leads titles t.within turned.said new.within) is turned.leads;
+      values = subst (λ (t : AssociationState). HearsValues t turned.said new) is turned.values;
+      leads = subst (λ (t : AssociationState). Leads titles t.within turned.said new.within) is turned.leads;
       takes = λ us rs rest owed.
           idle_owed titles now (Met event ∷ (turned.said ++ us)) rs (deeds ++ rest) idle (
             deeds ++ rest,
             ap (λ (t : List Deed). t ++ (deeds ++ rest)) (sym none),
             owed_idle titles (entered titles now event) (turned.said ++ us) rs (deeds ++ rest) idle
-                (subst (λ (t : AssociationState W). Owes titles t (turned.said ++ us) rs (deeds ++ rest))
+                (subst (λ (t : AssociationState). Owes titles t (turned.said ++ us) rs (deeds ++ rest))
                 is (turned.takes us rs rest owed)),
           );
       stops = turned.stops;
       state = turned.state
-          ∙ ap (λ (s : State). state_after s deeds) (ap (λ (t : AssociationState W). t.within.state) is
+          ∙ ap (λ (s : State). state_after s deeds) (ap (λ (t : AssociationState). t.within.state) is
           ∙ sym (row_state titles now.within.state event) ∙ ap (λ (t : List Deed). state_after now.within.state t)
           none);
-      told = tt;
+      told = subst (λ (a : Option Due). IsToldBy GoesOn a new.awaited) mid_idle turned.told;
+      opened = λ before. turned.opened (λ some. absurd (none_due mid.awaited mid_idle some));
+      fits = turned.fits;
     }

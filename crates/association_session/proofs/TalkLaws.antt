@@ -1,6 +1,8 @@
 -- Two lists of deeds over one beginning agree.
 use Rattle.std.proofs.Common.{◌≡◌, ℕ, List, [], ◌∷◌, ◌++◌, map, sym, ap, subst, ◌∙◌, append_assoc, append-nil, Bool}
 use Rattle.std.proofs.Common.{length, length-append, ◌+◌, suc, arith, Option, Some, None, Result, Ok, Err, drop}
+use Rattle.std.proofs.Common.{false, inl, inr}
+use Rattle.std.specs.Prelude.{MatchOption}
 use Rattle.pdu.specs.declared.value.Pdu.{Pdu}
 use Rattle.pdu.specs.declared.context.Context.{Context}
 use Rattle.ul_state.specs.declared.event.Event.TheVariants.{LocalAbort}
@@ -10,30 +12,43 @@ use Rattle.ul_state.specs.declared.titles.Title.{Title}
 use Rattle.dimse.specs.declared.command.Command.{Command}
 use Rattle.dimse.specs.declared.message.Message.{Message}
 use Rattle.dimse.specs.declared.status.Status.{Status}
-use Rattle.dimse.specs.Sending.{Sends}
+use Rattle.dimse.specs.Sending.{Sends, IsSending, size_of}
 use Rattle.operation.specs.declared.draft.Draft.{Draft}
 use Rattle.operation.specs.declared.fault.OpFault.{OpFault}
 use Rattle.operation.specs.Parts.{ContentParts}
 use Rattle.operation.proofs.ContentLaws.{outcome_once}
-use Rattle.association_session.specs.declared.deed.Call.TheVariants.{Store}
+use Rattle.archive_model.specs.declared.view.View.{View}
+use Rattle.data_set.specs.Set.{Set}
+use Rattle.data_set.specs.Tree.{Tree}
+use Rattle.data_set.specs.declared.syntax.Syntax.{Syntax}
+use Rattle.data_set.proofs.Sets.{spelled_once, fault_or_spelled}
+use Rattle.query_model.specs.Query.{query_of}
+use Rattle.ul_state.specs.declared.acceptor.Settled.{Settled}
+use Rattle.association_session.specs.declared.deed.Call.TheVariants.{Store, Find}
 use Rattle.association_session.specs.declared.deed.Deed.{Deed}
 use Rattle.association_session.specs.declared.deed.Deed.TheVariants.{Send, Reach, Ask}
-use Rattle.association_session.specs.declared.deed.Moment.TheVariants.{InStore}
+use Rattle.association_session.specs.declared.deed.Moment.TheVariants.{InStore, FindAnswered}
+use Rattle.association_session.specs.declared.due.RowKind.{RowKind}
 use Rattle.association_session.specs.declared.reply.Reply.{Reply}
-use Rattle.association_session.specs.declared.reply.Reply.TheVariants.{Stored}
+use Rattle.association_session.specs.declared.reply.Reply.TheVariants.{Stored, Found}
 use Rattle.association_session.specs.declared.service.Kind.{Kind}
 use Rattle.association_session.specs.declared.service.Kind.TheVariants as kinds
 use Rattle.association_session.specs.declared.service.Service.{Service}
 use Rattle.association_session.specs.declared.service.Service.TheVariants.{Ignored, Broken, Responded, Asked}
+use Rattle.association_session.specs.declared.service.Service.TheVariants.{Queried}
+use Rattle.association_session.specs.Find.{queried_by, ServesIdentifier, ServesFind, find_refusal}
+use Rattle.association_session.specs.Find.{AreRows, rows_in, status_of_found}
 use Rattle.association_session.specs.Projections.{IsFront}
 use Rattle.association_session.specs.Response.{Awaited, Responds}
-use Rattle.association_session.specs.Row.{Within, Link, row, met}
-use Rattle.association_session.specs.Context.{context_in}
+use Rattle.association_session.specs.Row.{Within, row, met}
+use Rattle.association_session.specs.Context.{context_in, syntax_of}
 use Rattle.association_session.specs.Service.{kind_of, Serves, ServesOn, ServesKind}
 use Rattle.association_session.specs.Store.{status_of_reply, status_of_fault, ServesStore, ServesDraft, store_refusal}
 use Rattle.association_session.specs.Store.{draft_for}
-use Rattle.association_session.specs.Talks.{Heard, Met, Said, Goes, Then, Tells, Follows, Does, InState, Answers, Talks}
+use Rattle.association_session.specs.Talks.{Heard, Met, Said, Goes, Then, Tells, TellsRows, FollowsStore, FollowsFind}
+use Rattle.association_session.specs.Talks.{Does, InState, Answers, Talks}
 use Rattle.association_session.specs.Talks.{awaiting}
+use Rattle.archive_model.specs.declared.view.View.{View}
 
 -- ---- one response, one service
 
@@ -59,6 +74,29 @@ response_once awaited status a b p q =
     let rest : p.of_data ≡ q.of_data = p.data_set ∙ sym q.data_set in
     p.parts ∙ ap (λ (t : List Pdu). t ++ p.of_data) first ∙ ap (λ (t : List Pdu). q.of_command ++ t) rest ∙ sym q.parts
 
+body_once : (size context : ℕ) (body : Option (List ℕ)) (a b : List Pdu)
+    → MatchOption body (a ≡ []) (λ text. Sends size context false text a)
+    → MatchOption body (b ≡ []) (λ text. Sends size context false text b) → a ≡ b
+body_once size context None a b p q = p ∙ sym q
+body_once size context (Some text) a b p q = sends_once size context false text a b p q
+
+-- A message is sent in one list of PDUs.
+sending_once : (m : Message) (max : ℕ) (a b : List Pdu) → IsSending m max a → IsSending m max b → a ≡ b
+sending_once m max a b p q =
+    let first : p.of_command ≡ q.of_command = sends_once _ _ _ _ p.of_command q.of_command p.command q.command in
+    let rest : p.of_data ≡ q.of_data = body_once (size_of max) m.context m.body p.of_data q.of_data p.data_set
+    q.data_set
+    in
+    p.parts ∙ ap (λ (t : List Pdu). t ++ p.of_data) first ∙ ap (λ (t : List Pdu). q.of_command ++ t) rest ∙ sym q.parts
+
+rows_once : (awaited : Awaited) (kind : RowKind) (rows : List Set) (a b : List Pdu) → AreRows awaited kind rows a
+    → AreRows awaited kind rows b → a ≡ b
+rows_once awaited kind [] a b p q = p ∙ sym q
+rows_once awaited kind (row ∷ rows) a b p q =
+    let first : p.0 ≡ q.0 = sending_once _ _ p.0 q.0 p.2 q.2 in
+    let rest : p.1 ≡ q.1 = rows_once awaited kind rows p.1 q.1 p.3 q.3 in
+    p.4 ∙ ap (λ (t : List Pdu). t ++ p.1) first ∙ ap (λ (t : List Pdu). q.0 ++ t) rest ∙ sym q.4
+
 abbrev outcome_of : OpFault → Result ContentParts OpFault
 outcome_of fault = Err fault
 
@@ -71,6 +109,7 @@ draft_once draft (Asked c) (Responded t) p q = let e : Ok c ≡ Err q.0 = outcom
     absurd cc
 draft_once draft (Asked c) Ignored p q = absurd q
 draft_once draft (Asked c) Broken p q = absurd q
+draft_once draft (Asked c) (Queried f k) p q = absurd q
 draft_once draft (Responded s) (Asked d) p q = let e : Err p.0 ≡ Ok d = outcome_once draft (Err p.0) (Ok d) p.1 q in
     absurd cc
 draft_once draft (Responded s) (Responded t) p q =
@@ -78,8 +117,10 @@ draft_once draft (Responded s) (Responded t) p q =
     ap (λ (x : Status). Responded x) (p.2 ∙ ap (λ (x : OpFault). status_of_fault x) f ∙ sym q.2)
 draft_once draft (Responded s) Ignored p q = absurd q
 draft_once draft (Responded s) Broken p q = absurd q
+draft_once draft (Responded s) (Queried f k) p q = absurd q
 draft_once draft Ignored b p q = absurd p
 draft_once draft Broken b p q = absurd p
+draft_once draft (Queried f k) b p q = absurd p
 
 store_once : (context : Context) (command : Command) (body : Option (List ℕ)) (refusal : Option Status) (a b : Service)
     → ServesStore context command body refusal a → ServesStore context command body refusal b → a ≡ b
@@ -87,25 +128,46 @@ store_once context command body (Some status) a b p q = p ∙ sym q
 store_once context command None None a b p q = p ∙ sym q
 store_once context command (Some body) None a b p q = draft_once (draft_for context command body) a b p q
 
-kind_once : (kind : Kind) (context : Context) (command : Command) (body : Option (List ℕ)) (a b : Service)
-    → ServesKind kind context command body a → ServesKind kind context command body b → a ≡ b
-kind_once kinds.Response context command body a b p q = p ∙ sym q
-kind_once kinds.Cancel context command body a b p q = p ∙ sym q
-kind_once kinds.Query context command body a b p q = p ∙ sym q
-kind_once kinds.Echo context command body a b p q = p ∙ sym q
-kind_once kinds.Store context command body a b p q = store_once context command body (store_refusal context command) a b
-    p q
-kind_once kinds.Unknown context command body a b p q = p ∙ sym q
+identifier_once : (settled : Option (Settled View)) (syntax : Syntax) (text : List ℕ) (a b : Service)
+    → ServesIdentifier settled syntax text a → ServesIdentifier settled syntax text b → a ≡ b
+identifier_once settled syntax text a b (inl p) (inl q) =
+    p.2 ∙ ap (λ (ts : List Tree). queried_by settled syntax (query_of ts)) (spelled_once syntax text p.0 q.0 p.1 q.1)
+    ∙ sym q.2
+identifier_once settled syntax text a b (inl p) (inr q) = absurd (fault_or_spelled syntax text p.0 q.0 p.1 q.1)
+identifier_once settled syntax text a b (inr p) (inl q) = absurd (fault_or_spelled syntax text q.0 p.0 q.1 p.1)
+identifier_once settled syntax text a b (inr p) (inr q) = p.2 ∙ sym q.2
 
-serves_on_once : (context : Option Context) (command : Command) (body : Option (List ℕ)) (a b : Service)
-    → ServesOn context command body a → ServesOn context command body b → a ≡ b
-serves_on_once None command body a b p q = p ∙ sym q
-serves_on_once (Some context) command body a b p q = kind_once (kind_of command.field) context command body a b p q
+find_once : (settled : Option (Settled View)) (context : Context) (body : Option (List ℕ)) (refusal : Option Status)
+    (a b : Service) → ServesFind settled context body refusal a → ServesFind settled context body refusal b → a ≡ b
+find_once settled context body (Some status) a b p q = p ∙ sym q
+find_once settled context None None a b p q = p ∙ sym q
+find_once settled context (Some text) None a b p q = identifier_once settled (syntax_of context) text a b p q
+
+kind_once : (kind : Kind) (settled : Option (Settled View)) (context : Context) (command : Command) (body : Option
+    (List ℕ)) (a b : Service)
+    → ServesKind kind settled context command body a → ServesKind kind settled context command body b → a ≡ b
+kind_once kinds.Response settled context command body a b p q = p ∙ sym q
+kind_once kinds.Cancel settled context command body a b p q = p ∙ sym q
+kind_once kinds.Find settled context command body a b p q = find_once settled context body (find_refusal context
+    command)
+    a b p q
+kind_once kinds.Get settled context command body a b p q = p ∙ sym q
+kind_once kinds.Echo settled context command body a b p q = p ∙ sym q
+kind_once kinds.Store settled context command body a b p q = store_once context command body (store_refusal context
+    command) a b
+    p q
+kind_once kinds.Unknown settled context command body a b p q = p ∙ sym q
+
+serves_on_once : (settled : Option (Settled View)) (context : Option Context) (command : Command) (body : Option
+    (List ℕ)) (a b : Service)
+    → ServesOn settled context command body a → ServesOn settled context command body b → a ≡ b
+serves_on_once settled None command body a b p q = p ∙ sym q
+serves_on_once settled (Some context) command body a b p q = kind_once (kind_of command.field) settled context
+    command body a b p q
 
 -- A message is answered in one way.
-pub serves_once : (contexts : List Context) (m : Message) (a b : Service) → Serves contexts m a → Serves contexts m b
-    → a ≡ b
-serves_once contexts m a b p q = serves_on_once (context_in contexts m.context) m.command m.body a b p q
+pub serves_once : (w : Within) (m : Message) (a b : Service) → Serves w m a → Serves w m b → a ≡ b
+serves_once w m a b p q = serves_on_once w.settled (context_in w.link.contexts m.context) m.command m.body a b p q
 
 -- ---- fronts
 
@@ -132,11 +194,30 @@ tells_front awaited status R S a b goes p q =
 abbrev pub GoOn : Goes → Goes → Type 0
 GoOn R S = (rs others : List Reply) (x y : List Deed) → R rs x → S (rs ++ others) y → IsFront x y
 
-follows_front : (awaited : Awaited) (R S : Goes) (rs others : List Reply) (a b : List Deed) → GoOn R S
-    → Follows awaited R rs a → Follows awaited S (rs ++ others) b → IsFront a b
-follows_front awaited R S [] others a b goes p q = none_front a b p
-follows_front awaited R S (Stored reply ∷ rs) others a b goes p q = tells_front awaited (status_of_reply reply) (R rs)
+rows_front : (awaited : Awaited) (kind : RowKind) (rows : List Set) (status : Status) (R S : List Deed → Type 0)
+    (a b : List Deed) → ((x y : List Deed) → R x → S y → IsFront x y)
+    → TellsRows awaited kind rows status R a → TellsRows awaited kind rows status S b → IsFront a b
+rows_front awaited kind rows status R S a b goes p q =
+    let Ends : (List Deed → Type 0) → List Deed → Type 0 = λ T. Tells awaited status (Then (Reach FindAnswered ∷ []) T)
+    in
+    then_front (map Send p.0) (Ends R) (Ends S) a b
+    (λ x y. tells_front awaited status (Then (Reach FindAnswered ∷ []) R) (Then (Reach FindAnswered ∷ []) S) x y
+    (λ x' y'. then_front (Reach FindAnswered ∷ []) R S x' y' goes))
+    p.2 (subst (λ (t : List Pdu). Then (map Send t) (Ends S) b) (sym (rows_once awaited kind rows p.0 q.0 p.1 q.1)) q.2)
+
+store_front : (awaited : Awaited) (R S : Goes) (rs others : List Reply) (a b : List Deed) → GoOn R S
+    → FollowsStore awaited R rs a → FollowsStore awaited S (rs ++ others) b → IsFront a b
+store_front awaited R S [] others a b goes p q = none_front a b p
+store_front awaited R S (Stored reply ∷ rs) others a b goes p q = tells_front awaited (status_of_reply reply) (R rs)
     (S (rs ++ others)) a b (goes rs others) p q
+store_front awaited R S (Found reply ∷ rs) others a b goes p q = absurd p
+
+find_front : (awaited : Awaited) (kind : RowKind) (R S : Goes) (rs others : List Reply) (a b : List Deed) → GoOn R S
+    → FollowsFind awaited kind R rs a → FollowsFind awaited kind S (rs ++ others) b → IsFront a b
+find_front awaited kind R S [] others a b goes p q = none_front a b p
+find_front awaited kind R S (Found reply ∷ rs) others a b goes p q = rows_front awaited kind (rows_in reply)
+    (status_of_found reply) (R rs) (S (rs ++ others)) a b (goes rs others) p q
+find_front awaited kind R S (Stored reply ∷ rs) others a b goes p q = absurd p
 
 does_front : (service : Service) (awaited : Awaited) (abort : List Deed) (R S R' S' : Goes) (rs others : List Reply)
     (a b : List Deed) → GoOn R S → GoOn R' S'
@@ -147,16 +228,19 @@ does_front Broken awaited abort R S R' S' rs others a b goes gone p q = then_fro
 does_front (Responded status) awaited abort R S R' S' rs others a b goes gone p q = tells_front awaited status (R rs)
     (S (rs ++ others)) a b (goes rs others) p q
 does_front (Asked content) awaited abort R S R' S' rs others a b goes gone p q =
-    then_front (Reach InStore ∷ Ask (Store content) ∷ []) (Follows awaited R rs) (Follows awaited S (rs ++ others)) a
-    b (λ x y. follows_front awaited R S rs others x y goes) p q
+    then_front (Reach InStore ∷ Ask (Store content) ∷ []) (FollowsStore awaited R rs)
+    (FollowsStore awaited S (rs ++ others)) a b (λ x y. store_front awaited R S rs others x y goes) p q
+does_front (Queried finding kind) awaited abort R S R' S' rs others a b goes gone p q =
+    then_front (Ask (Find finding) ∷ []) (FollowsFind awaited kind R rs) (FollowsFind awaited kind S (rs ++ others)) a
+    b (λ x y. find_front awaited kind R S rs others x y goes) p q
 
-answers_front : (link : Link) (m : Message) (abort : List Deed) (R S R' S' : Goes) (rs others : List Reply)
+answers_front : (w : Within) (m : Message) (abort : List Deed) (R S R' S' : Goes) (rs others : List Reply)
     (a b : List Deed) → GoOn R S → GoOn R' S'
-    → Answers link m abort R R' rs a → Answers link m abort S S' (rs ++ others) b → IsFront a b
-answers_front link m abort R S R' S' rs others a b goes gone p q =
-    does_front p.0 (awaiting link m) abort R S R' S' rs others a b goes gone p.2
-    (subst (λ (s : Service). Does s (awaiting link m) abort S S' (rs ++ others) b)
-    (sym (serves_once link.contexts m p.0 q.0 p.1 q.1)) q.2)
+    → Answers w m abort R R' rs a → Answers w m abort S S' (rs ++ others) b → IsFront a b
+answers_front w m abort R S R' S' rs others a b goes gone p q =
+    does_front p.0 (awaiting w.link m) abort R S R' S' rs others a b goes gone p.2
+    (subst (λ (s : Service). Does s (awaiting w.link m) abort S S' (rs ++ others) b)
+    (sym (serves_once w m p.0 q.0 p.1 q.1)) q.2)
 
 in_state_front : (state : State) (R S R' S' : Goes) → GoOn R S → GoOn R' S' → GoOn (InState state R R')
     (InState state S S')
@@ -166,7 +250,7 @@ in_state_front Sta6 R S R' S' served dropped = served
 in_state_front Sta13 R S R' S' served dropped = dropped
 
 -- Whatever is heard or replied later only adds deeds.
-pub talks_front : {V : Type 0} (titles : List (Title V)) (w : Within V) (us more : List Heard) (rs others : List Reply)
+pub talks_front : (titles : List (Title View)) (w : Within) (us more : List Heard) (rs others : List Reply)
     (a b : List Deed)
     → Talks titles w us rs a → Talks titles w (us ++ more) (rs ++ others) b → IsFront a b
 talks_front titles w [] more rs others a b p q = none_front a b p
@@ -178,10 +262,10 @@ talks_front titles w (Said m ∷ us) more rs others a b p q =
     let gone = met titles w LocalAbort in
     let abort = row titles w.state LocalAbort in
     in_state_front w.state
-    (Answers w.link m abort (Talks titles w us) (Talks titles gone us))
-    (Answers w.link m abort (Talks titles w (us ++ more)) (Talks titles gone (us ++ more)))
+    (Answers w m abort (Talks titles w us) (Talks titles gone us))
+    (Answers w m abort (Talks titles w (us ++ more)) (Talks titles gone (us ++ more)))
     (Talks titles w us) (Talks titles w (us ++ more))
-    (λ rs' others' x y. answers_front w.link m abort (Talks titles w us) (Talks titles w (us ++ more))
+    (λ rs' others' x y. answers_front w m abort (Talks titles w us) (Talks titles w (us ++ more))
     (Talks titles gone us) (Talks titles gone (us ++ more)) rs' others' x y
     (talks_front titles w us more) (talks_front titles gone us more))
     (talks_front titles w us more) rs others a b p q
@@ -196,7 +280,7 @@ none_longer a b (d ∷ f) g p q =
     let h : length a ≡ length b + length g = ap length q ∙ length-append b g in
     absurd (omega (arith, e, h))
 
-talks_later : {V : Type 0} (titles : List (Title V)) (w : Within V) (us : List Heard) (rs : List Reply)
+talks_later : (titles : List (Title View)) (w : Within) (us : List Heard) (rs : List Reply)
     (a b : List Deed) → Talks titles w us rs a → Talks titles w us rs b → IsFront a b
 talks_later titles w us rs a b p q =
     talks_front titles w us [] rs [] a b p
@@ -204,7 +288,7 @@ talks_later titles w us rs a b p q =
     (subst (λ (t : List Reply). Talks titles w us t b) (sym (append-nil rs)) q))
 
 -- What was heard and what was replied leave one list of deeds.
-pub talks_once : {V : Type 0} (titles : List (Title V)) (w : Within V) (us : List Heard) (rs : List Reply)
+pub talks_once : (titles : List (Title View)) (w : Within) (us : List Heard) (rs : List Reply)
     (a b : List Deed) → Talks titles w us rs a → Talks titles w us rs b → a ≡ b
 talks_once titles w us rs a b p q =
     let f = talks_later titles w us rs a b p q in

@@ -12,20 +12,21 @@ use Rattle.ul_state.specs.Acceptor.{kind_for, settled_for, settled_by, CanBeWrit
 use Rattle.ul_state.proofs.Openings.{settles_where_it_opens}
 use Rattle.association_session.specs.Response.{FitsLimit}
 use Rattle.pdu.specs.declared.pdv.Pdv.{Pdv}
-use Rattle.association_session.specs.Response.{Awaited}
+use Rattle.association_session.specs.declared.due.Due.{Due}
 use Rattle.association_session.specs.Row.{limit_in, agreed_by, handed_on}
 use Rattle.association_session.specs.Session.{AssociationState, Linked, stage_by, entered}
 use Rattle.association_session.proofs.LimitLaws.{settled_fits}
+use Rattle.archive_model.specs.declared.view.View.{View}
 
 -- What is agreed then takes a fragment.
-pub agreed_fits : {V : Type 0} (titles : List (Title V)) (state next : State) (event : Event)
-    (old settled : Option (Settled V)) → next ≡ next_of state (kind_for titles event) → settled ≡ settled_by state
+pub agreed_fits : (titles : List (Title View)) (state next : State) (event : Event)
+    (old settled : Option (Settled View)) → next ≡ next_of state (kind_for titles event) → settled ≡ settled_by state
     titles event old
     → IsTrue (opens state next) → IsSome settled → FitsLimit (limit_in event)
-agreed_fits {V = W} titles state next event old settled is settles opened some =
+agreed_fits titles state next event old settled is settles opened some =
     let kind = kind_for titles event in
     let opens_so : opens state (next_of state kind) ≡ true = ap (opens state) (sym is) ∙ opened in
-    settled_fits titles event (subst (λ (o : Option (Settled W)). IsSome o) (settles ∙ settles_where_it_opens state
+    settled_fits titles event (subst (λ (o : Option (Settled View)). IsSome o) (settles ∙ settles_where_it_opens state
     kind (settled_for titles event) old ∙ ap (λ (b : Bool). cond b (settled_for titles event) old) opens_so) some)
 
 none_is_some : IsSome {T = Action} None → ⊥
@@ -53,9 +54,9 @@ pub some_same : {A : Type 0} (a b : Option A) → a ≡ b → IsSome a → IsSom
 some_same {A = B} a b same some = subst (λ (o : Option B). IsSome o) same some
 
 -- where an event leads, part by part
-pub entered_is : {V : Type 0} (titles : List (Title V)) (now : AssociationState V) (event : Event) (before : State)
-    (agreed : Option (Settled V)) (old : Linked) (awaited : Option Awaited) (queue : List Pdv)
-    (state : State) (settled : Option (Settled V)) (l : Linked) (left : List Pdv)
+pub entered_is : (titles : List (Title View)) (now : AssociationState) (event : Event) (before : State)
+    (agreed : Option (Settled View)) (old : Linked) (awaited : Option Due) (queue : List Pdv)
+    (state : State) (settled : Option (Settled View)) (l : Linked) (left : List Pdv)
     → record {
       within = record { state = before; settled = agreed; link = old.link };
       stage = old.stage;
@@ -73,15 +74,15 @@ pub entered_is : {V : Type 0} (titles : List (Title V)) (now : AssociationState 
           awaited;
       queue = left;
     } ≡ entered titles now event
-entered_is {V = W} titles now event before agreed old awaited queue state settled l left stood a b c d e =
-    let s : AssociationState W = record {
+entered_is titles now event before agreed old awaited queue state settled l left stood a b c d e =
+    let s : AssociationState = record {
       within = record { state = before; settled = agreed; link = old.link };
       stage =
           old.stage;
       awaited = awaited;
       queue = queue;
     } in
-    let t : AssociationState W = record {
+    let t : AssociationState = record {
       within = record { state = state; settled = settled; link = l.link };
       stage =
           l.stage;
@@ -89,4 +90,4 @@ entered_is {V = W} titles now event before agreed old awaited queue state settle
       queue = left;
     } in
     let here : t ≡ entered titles s event = cc in
-    here ∙ ap (λ (k : AssociationState W). entered titles k event) stood
+    here ∙ ap (λ (k : AssociationState). entered titles k event) stood

@@ -5,7 +5,7 @@ use Rattle.ul_state.specs.Titles.{is_text}
 use Rattle.dimse.specs.declared.command.Command.{Command}
 use Rattle.dimse.specs.declared.status.Status.{Status}
 use Rattle.dimse.specs.declared.status.Status.TheVariants.{Success, SopClassNotSupported, UnrecognizedOperation}
-use Rattle.association_session.specs.declared.echo.TheConstants.{VERIFICATION}
+use Rattle.dictionary.specs.declared.uids.TheConstants.{VERIFICATION}
 use Rattle.association_session.specs.Context.{is_other_class}
 
 abbrev pub is_verification : Context → Bool

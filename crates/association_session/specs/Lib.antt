@@ -1,6 +1,9 @@
+pub mod Answered
 pub mod Context
+pub mod Due
 pub mod Echo
 pub mod Finals
+pub mod Find
 pub mod Order
 pub mod Projections
 pub mod Reply

@@ -1,9 +1,10 @@
 -- How a request is responded (PS3.7, 9.3).
-use Rattle.std.specs.Prelude.{◌≡◌, ◌≤◌, ℕ, false, List, None}
+use Rattle.std.specs.Prelude.{◌≡◌, ◌≤◌, ℕ, false, List, Some, None}
 use Rattle.std.specs.List.{flat_map}
 use Rattle.pdu.specs.declared.value.Pdu.{Pdu}
 use Rattle.pdu.specs.Spelling.{text_of}
 use Rattle.dimse.specs.declared.command.Command.{Command}
+use Rattle.dimse.specs.declared.command.TheConstants.{DATA_SET_FOLLOWS}
 use Rattle.dimse.specs.declared.message.Message.{Message}
 use Rattle.dimse.specs.declared.status.Status.{Status}
 use Rattle.dimse.specs.Command.{IsCommand, HasRoom}
@@ -38,6 +39,35 @@ response_to awaited status =
 -- the PDUs of a response
 abbrev pub Responds : Awaited → Status → List Pdu → Type 0
 Responds awaited status pdus = IsSending (response_to awaited status) awaited.limit pdus
+
+-- the same command set, which announces a data set
+abbrev pub announcing : Command → Command
+announcing command = record {
+  affected_class = command.affected_class;
+  field = command.field;
+  message_id = command.message_id;
+  responded_to = command.responded_to;
+  priority = command.priority;
+  data_set_type = DATA_SET_FOLLOWS;
+  status = command.status;
+  affected_instance = command.affected_instance;
+  remaining = command.remaining;
+  completed = command.completed;
+  failed = command.failed;
+  warning = command.warning;
+}
+
+-- a response with a data set, on the request's context
+abbrev pub response_with : Awaited → Status → List ℕ → Message
+response_with awaited status text = record {
+  context = awaited.context;
+  command = announcing (response_of awaited.command (status_code status));
+  body = Some text;
+}
+
+-- its PDUs
+abbrev pub RespondsWith : Awaited → Status → List ℕ → List Pdu → Type 0
+RespondsWith awaited status text pdus = IsSending (response_with awaited status text) awaited.limit pdus
 
 -- the bytes of a response
 abbrev pub IsResponse : Awaited → Status → List ℕ → Type 0

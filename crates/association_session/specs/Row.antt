@@ -16,6 +16,7 @@ use Rattle.ul_state.specs.Acceptor.{kind_for, action_for, settled_by}
 use Rattle.association_session.specs.declared.deed.Deed.{Deed}
 use Rattle.association_session.specs.declared.deed.Deed.TheVariants.{Send, Close}
 use Rattle.association_session.specs.declared.limit.TheConstants.{MOST_SENT, SENT_WITHOUT_LIMIT}
+use Rattle.archive_model.specs.declared.view.View.{View}
 
 -- what both sides agreed: the accepted contexts, and the most bytes of a P-DATA-TF's body that are sent
 pub record Link : Type 0 where
@@ -24,9 +25,9 @@ pub record Link : Type 0 where
 
 -- where an association is: the acceptor's state; the called title and what it stands for, and what was agreed, from the
 -- acceptance on
-pub record Within (V : Type 0) : Type 0 where
+pub record Within : Type 0 where
   pub state : State
-  pub settled : Option (Settled V)
+  pub settled : Option (Settled View)
   pub link : Link
 
 -- nothing is agreed yet
@@ -34,12 +35,12 @@ abbrev pub NO_LINK : Link
 NO_LINK = record { contexts = []; limit = SENT_WITHOUT_LIMIT }
 
 -- a connection is open, and a request is awaited
-abbrev pub opening : {V : Type 0} → Within V
+abbrev pub opening : Within
 opening = record { state = Sta2; settled = None; link = NO_LINK }
 
 -- ---- the table's row for an event
 
-abbrev pub action_on : {V : Type 0} → List (Title V) → State → Event → Option Action
+abbrev pub action_on : List (Title View) → State → Event → Option Action
 action_on titles state event = action_for (action_of state (kind_for titles event)) (kind_for titles event) titles event
 
 -- Values that are handed on are heard, and nothing is done yet.
@@ -56,11 +57,11 @@ values_of (Some (actions.Hand values)) = values
 values_of None = []
 
 -- what is done on an event
-abbrev pub row : {V : Type 0} → List (Title V) → State → Event → List Deed
+abbrev pub row : List (Title View) → State → Event → List Deed
 row titles state event = deeds_of (action_on titles state event)
 
 -- the values that are handed on
-abbrev pub handed_on : {V : Type 0} → List (Title V) → State → Event → List Pdv
+abbrev pub handed_on : List (Title View) → State → Event → List Pdv
 handed_on titles state event = values_of (action_on titles state event)
 
 -- ---- what an acceptance agrees
@@ -77,13 +78,13 @@ limit_in (events.Got (pdus.AssociateRq request)) = sending_limit request.user.ma
 limit_in event = 0
 
 -- What is agreed where the association is established; else it stays.
-abbrev pub agreed_by : {V : Type 0} → Bool → ℕ → Option (Settled V) → Link → Link
+abbrev pub agreed_by : Bool → ℕ → Option (Settled View) → Link → Link
 agreed_by true limit (Some settled) link = record { contexts = settled.contexts; limit = limit }
 agreed_by true limit None link = link
 agreed_by false limit settled link = link
 
 -- where an event leads
-abbrev pub met : {V : Type 0} → List (Title V) → Within V → Event → Within V
+abbrev pub met : List (Title View) → Within → Event → Within
 met titles w event = record {
   state = next_of w.state (kind_for titles event);
   settled = settled_by w.state titles event w.settled;

@@ -15,6 +15,7 @@ use Rattle.ul_state.specs.declared.table.State.TheVariants.{Sta1, Sta2, Sta6, St
 use Rattle.ul_state.specs.declared.titles.Title.{Title}
 use Rattle.ul_state.specs.Table.{next_of, opens, IsLeft}
 use Rattle.ul_state.specs.Acceptor.{kind_for, HasLawfulPdu}
+use Rattle.data_set.specs.Set.{Set}
 use Rattle.dimse.specs.declared.assembler.Stage.{Stage}
 use Rattle.dimse.specs.declared.assembler.Stage.TheVariants.{Between}
 use Rattle.dimse.specs.declared.fault.DimseFault.{DimseFault}
@@ -22,15 +23,25 @@ use Rattle.dimse.specs.declared.message.Message.{Message}
 use Rattle.dimse.specs.declared.status.Status.{Status}
 use Rattle.dimse.specs.Assembly.{Assembly}
 use Rattle.dimse.specs.Messages.{Run, HadMemory}
+use Rattle.association_session.specs.declared.due.Due.{Due}
+use Rattle.association_session.specs.declared.due.Due.TheVariants as dues
+use Rattle.association_session.specs.declared.deed.Call.{Call}
+use Rattle.association_session.specs.declared.deed.Call.TheVariants.{Store, Find}
 use Rattle.association_session.specs.declared.deed.Deed.{Deed}
 use Rattle.association_session.specs.declared.deed.Deed.TheVariants.{Send, Reach, Ask, Close}
+use Rattle.association_session.specs.declared.deed.Moment.TheVariants.{FindAnswered}
+use Rattle.association_session.specs.declared.due.RowKind.{RowKind}
 use Rattle.association_session.specs.declared.event.SessionEvent.{SessionEvent}
 use Rattle.association_session.specs.declared.event.SessionEvent.TheVariants as inputs
 use Rattle.association_session.specs.declared.reply.Reply.{Reply}
+use Rattle.association_session.specs.Due.{takes_reply, is_telling, IsQuiet, IsAnswered, left_of, Fits}
+use Rattle.association_session.specs.Find.{AreRows}
 use Rattle.association_session.specs.Projections.{state_after}
 use Rattle.association_session.specs.Response.{Awaited, Responds}
 use Rattle.association_session.specs.Row.{Link, Within, met, handed_on, opening, NO_LINK}
-use Rattle.association_session.specs.Talks.{Heard, Met, Said, Goes, Follows, Talks, Leads}
+use Rattle.association_session.specs.Talks.{Heard, Met, Said, Goes, FollowsStore, FollowsFind, TellsRows, Talks}
+use Rattle.association_session.specs.Talks.{Leads}
+use Rattle.archive_model.specs.declared.view.View.{View}
 
 -- ---- where a session is
 
@@ -39,26 +50,25 @@ pub record Linked : Type 0 where
   pub link : Link
   pub stage : Stage
 
--- what was agreed; what came since the last message; the request whose response awaits a reply of the port, where it
--- was asked; and the
--- values of the last P-DATA-TF that are not heard yet
-pub record AssociationState (V : Type 0) : Type 0 where
-  pub within : Within V
+-- what was agreed; what came since the last message; what is still to be told of the request that was served last; and
+-- the values of the last P-DATA-TF that are not heard yet
+pub record AssociationState : Type 0 where
+  pub within : Within
   pub stage : Stage
-  pub awaited : Option Awaited
+  pub awaited : Option Due
   pub queue : List Pdv
 
 -- whether an A-ABORT was sent or read, and whether an A-RELEASE-RP was sent
-pub record SessionState (V : Type 0) : Type 0 where
-  pub association : AssociationState V
+pub record SessionState : Type 0 where
+  pub association : AssociationState
   pub aborted : Bool
   pub released : Bool
 
-abbrev pub start : {V : Type 0} → AssociationState V
+abbrev pub start : AssociationState
 start = record { within = opening; stage = Between; awaited = None; queue = [] }
 
 -- no connection any more
-abbrev pub closed : {V : Type 0} → AssociationState V
+abbrev pub closed : AssociationState
 closed = record {
   within = record { state = Sta1; settled = None; link = NO_LINK };
   stage = Between;
@@ -66,36 +76,49 @@ closed = record {
   queue = [];
 }
 
-abbrev pub state_of : {V : Type 0} → Option (Acceptor V) → State
+abbrev pub state_of : Option (Acceptor View) → State
 state_of None = Sta1
 state_of (Some acceptor) = acceptor.state
 
-abbrev pub settled_of : {V : Type 0} → Option (Acceptor V) → Option (Settled V)
+abbrev pub settled_of : Option (Acceptor View) → Option (Settled View)
 settled_of None = None
 settled_of (Some acceptor) = acceptor.settled
 
 -- ---- what is still to be done
 
-abbrev pub OwedFor : Option Awaited → Goes → Goes
+abbrev pub OwedFor : Option Due → Goes → Goes
 OwedFor None goes = goes
-OwedFor (Some awaited) goes = Follows awaited goes
+OwedFor (Some (dues.Store awaited)) goes = FollowsStore awaited goes
+OwedFor (Some (dues.Find awaited kind)) goes = FollowsFind awaited kind goes
+OwedFor (Some (dues.Rows telling)) goes =
+    λ rs deeds. TellsRows telling.awaited telling.kind telling.rows telling.status (goes rs) deeds
 
 -- what is still to be done for what is heard and replied from here on
-abbrev pub Owes : {V : Type 0} → List (Title V) → AssociationState V → List Heard → Goes
+abbrev pub Owes : List (Title View) → AssociationState → List Heard → Goes
 Owes titles s us = OwedFor s.awaited (Talks titles s.within us)
 
 -- These deeds bring it from there to here: whatever is owed here, they and that are owed there.
-abbrev pub Takes : {V : Type 0} → List (Title V) → AssociationState V → List Heard → List Reply → List Deed
-    → AssociationState V → Type 0
+abbrev pub Takes : List (Title View) → AssociationState → List Heard → List Reply → List Deed
+    → AssociationState → Type 0
 Takes titles old heard replied deeds new =
     (us : List Heard) (rs : List Reply) (rest : List Deed) → Owes titles new us rs rest → Owes titles old (heard ++ us)
     (replied ++ rs) (deeds ++ rest)
 
+-- A reply to this call is awaited.
+abbrev pub Awaits : Call → Option Due → Type 0
+Awaits (Store content) (Some (dues.Store awaited)) = ⊤
+Awaits (Store content) (Some (dues.Find awaited kind)) = ⊥
+Awaits (Store content) (Some (dues.Rows telling)) = ⊥
+Awaits (Store content) None = ⊥
+Awaits (Find finding) (Some (dues.Find awaited kind)) = ⊤
+Awaits (Find finding) (Some (dues.Store awaited)) = ⊥
+Awaits (Find finding) (Some (dues.Rows telling)) = ⊥
+Awaits (Find finding) None = ⊥
+
 -- A call is the last deed, and its reply is awaited. So is a close, and nothing is awaited.
-abbrev pub Stops : List Deed → Option Awaited → Type 0
-Stops [] (Some awaited) = ⊥
-Stops [] None = ⊤
-Stops (Ask call ∷ ds) awaited = (ds ≡ []) × IsSome awaited
+abbrev pub Stops : List Deed → Option Due → Type 0
+Stops [] awaited = IsAnswered awaited
+Stops (Ask call ∷ ds) awaited = (ds ≡ []) × Awaits call awaited
 Stops (Close ∷ ds) awaited = (ds ≡ []) × (awaited ≡ None)
 Stops (Send pdu ∷ ds) awaited = Stops ds awaited
 Stops (Reach moment ∷ ds) awaited = Stops ds awaited
@@ -112,11 +135,11 @@ heard_in (Err fault ∷ rs) = Met events.LocalAbort ∷ heard_in rs
 abbrev pub assembly_in : Linked → Assembly
 assembly_in l = record { contexts = l.link.contexts; stage = l.stage }
 
-abbrev pub assembly_of : {V : Type 0} → AssociationState V → Assembly
+abbrev pub assembly_of : AssociationState → Assembly
 assembly_of s = record { contexts = s.within.link.contexts; stage = s.stage }
 
 -- The first of the values were put together, and say this. The others are left, or are dropped where goodbye was said.
-pub record HearsValues {V : Type 0} (old : AssociationState V) (said : List Heard) (new : AssociationState V) : Type 0
+pub record HearsValues (old : AssociationState) (said : List Heard) (new : AssociationState) : Type 0
   where
     pub fed : List Pdv
     pub left : List Pdv
@@ -135,7 +158,7 @@ stage_by true stage = Between
 stage_by false stage = stage
 
 -- what an event brings, before its values are heard
-abbrev pub entered : {V : Type 0} → List (Title V) → AssociationState V → Event → AssociationState V
+abbrev pub entered : List (Title View) → AssociationState → Event → AssociationState
 entered titles s event = record {
   within = met titles s.within event;
   stage = stage_by (opens s.within.state (next_of s.within.state (kind_for titles event))) s.stage;
@@ -143,7 +166,7 @@ entered titles s event = record {
   queue = handed_on titles s.within.state event;
 }
 
-abbrev pub started : {V : Type 0} → List (Title V) → AssociationState V → SessionEvent → AssociationState V
+abbrev pub started : List (Title View) → AssociationState → SessionEvent → AssociationState
 started titles s (inputs.Heard event) = entered titles s event
 started titles s (inputs.Replied reply) = record { within = s.within; stage = s.stage; awaited = None; queue = s.queue }
 started titles s inputs.GoesOn = s
@@ -166,42 +189,63 @@ is_left Sta1 queue = false
 is_left Sta2 queue = false
 is_left Sta13 queue = false
 
--- A reply comes where it is awaited; else the values that are left are heard; else an event.
-abbrev pub in_turn : Option Awaited → Bool → SessionEvent → Bool
-in_turn (Some awaited) left (inputs.Replied reply) = true
-in_turn (Some awaited) left (inputs.Heard event) = false
-in_turn (Some awaited) left inputs.GoesOn = false
+-- A reply comes where it is awaited, and rows that are left are told; else the values that are left are heard; else an
+-- event.
+abbrev pub in_turn : Option Due → Bool → SessionEvent → Bool
+in_turn (Some due) left (inputs.Replied reply) = takes_reply due reply
+in_turn (Some due) left (inputs.Heard event) = false
+in_turn (Some due) left inputs.GoesOn = is_telling due
 in_turn None left (inputs.Replied reply) = false
 in_turn None left (inputs.Heard event) = not left
 in_turn None left inputs.GoesOn = left
 
-abbrev pub is_in_turn : {V : Type 0} → AssociationState V → SessionEvent → Bool
+abbrev pub is_in_turn : AssociationState → SessionEvent → Bool
 is_in_turn s event = in_turn s.awaited (is_left s.within.state s.queue) event
 
--- A reply is told at once, and nothing is awaited behind it.
-abbrev pub IsToldBy : SessionEvent → Option Awaited → Type 0
-IsToldBy (inputs.Replied reply) awaited = awaited ≡ None
-IsToldBy (inputs.Heard event) awaited = ⊤
-IsToldBy inputs.GoesOn awaited = ⊤
+-- Behind a reply, and behind rows, no call is made; behind an event and values no row is left to be told.
+abbrev pub IsToldBy : SessionEvent → Option Due → Option Due → Type 0
+IsToldBy (inputs.Replied reply) old new = IsAnswered new
+IsToldBy (inputs.Heard event) old new = IsQuiet new
+IsToldBy inputs.GoesOn None new = IsQuiet new
+IsToldBy inputs.GoesOn (Some due) new = IsAnswered new
+
+-- Something is still to be told only while the association is established.
+abbrev pub IsOpenFor : AssociationState → Type 0
+IsOpenFor s = IsSome s.awaited → s.within.state ≡ Sta6
 
 -- what it says, and the deeds for it, in order
-pub record Turned {V : Type 0} (titles : List (Title V)) (old : AssociationState V) (event : SessionEvent)
-    (deeds : List Deed) (new : AssociationState V) : Type 0 where
+pub record Turned (titles : List (Title View)) (old : AssociationState) (event : SessionEvent)
+    (deeds : List Deed) (new : AssociationState) : Type 0 where
   pub said : List Heard
   pub values : HearsValues (started titles old event) said new
   pub leads : Leads titles (started titles old event).within said new.within
   pub takes : Takes titles old (met_in event ++ said) (replies_in event) deeds new
   pub stops : Stops deeds new.awaited
   pub state : new.within.state ≡ state_after old.within.state deeds
-  pub told : IsToldBy event new.awaited
+  pub told : IsToldBy event old.awaited new.awaited
+  pub opened : IsOpenFor old → IsOpenFor new
+  pub fits : Fits new.awaited
+
+-- Of some rows these are left, and the others were told, by deeds behind those before.
+pub record TellsSome (awaited : Awaited) (kind : RowKind) (rows left : List Set) (old new : List Deed) : Type 0 where
+  pub told : List Set
+  pub responses : List Pdu
+  pub parts : rows ≡ told ++ left
+  pub are : AreRows awaited kind told responses
+  pub deeds : new ≡ old ++ map Send responses
+
+-- the deeds that end rows: the last response, and the gate is reached
+abbrev pub IsEnd : Awaited → Status → List Deed → List Deed → Type 0
+IsEnd awaited status old new = (response : List Pdu) × Responds awaited status response
+    × (new ≡ old ++ (map Send response ++ Reach FindAnswered ∷ []))
 
 -- the deeds that respond to a request
 abbrev pub IsTold : Awaited → Status → List Deed → Type 0
 IsTold awaited status deeds = (response : List Pdu) × Responds awaited status response × (deeds ≡ map Send response)
 
 -- the deeds for a message, in order
-pub record Answered {V : Type 0} (titles : List (Title V)) (old : AssociationState V) (m : Message) (deeds : List Deed)
-    (new : AssociationState V) : Type 0 where
+pub record Answered (titles : List (Title View)) (old : AssociationState) (m : Message) (deeds : List Deed)
+    (new : AssociationState) : Type 0 where
   pub leads : Leads titles old.within (Said m ∷ []) new.within
   pub takes : Takes titles old (Said m ∷ []) [] deeds new
   pub stops : Stops deeds new.awaited
@@ -209,12 +253,18 @@ pub record Answered {V : Type 0} (titles : List (Title V)) (old : AssociationSta
   pub link : new.within.link ≡ old.within.link
   pub stage : new.stage ≡ old.stage
   pub kept : (new.queue ≡ old.queue) ⊎ IsLeft new.within.state
+  pub told : IsQuiet new.awaited
+  pub opened : IsOpenFor new
 
--- Values that are heard on become fewer, and a reply leaves them.
-abbrev pub IsFewer : SessionEvent → List Pdv → List Pdv → Type 0
+-- Rows that are told on become fewer, and else values that are heard on; a reply and rows leave the values.
+abbrev pub FewerFor : Option Due → AssociationState → AssociationState → Type 0
+FewerFor None old new = length new.queue < length old.queue
+FewerFor (Some due) old new = (new.queue ≡ old.queue) × (left_of new.awaited < left_of old.awaited)
+
+abbrev pub IsFewer : SessionEvent → AssociationState → AssociationState → Type 0
 IsFewer (inputs.Heard event) old new = ⊤
-IsFewer (inputs.Replied reply) old new = new ≡ old
-IsFewer inputs.GoesOn old new = length new < length old
+IsFewer (inputs.Replied reply) old new = new.queue ≡ old.queue
+IsFewer inputs.GoesOn old new = FewerFor old.awaited old new
 
 -- ---- how it ends
 
@@ -258,7 +308,7 @@ abbrev pub released_by : Bool → List Deed → Bool
 released_by before deeds = before || list_any is_release deeds
 
 -- It is over: nothing is awaited, and nothing is done any more.
-abbrev pub over : {V : Type 0} → SessionState V → SessionState V
+abbrev pub over : SessionState → SessionState
 over old = record { association = closed; aborted = old.aborted; released = old.released }
 
 -- ---- what can be written

@@ -13,10 +13,9 @@ use Rattle.operation.specs.Contents.{drafted, IsOutcome}
 use Rattle.operation.specs.declared.taken.Taken.{Taken}
 use Rattle.association_session.specs.declared.reply.PortFault.{PortFault}
 use Rattle.association_session.specs.declared.reply.PortFault.TheVariants.{Memory, Busy, Collision, Shelf}
-use Rattle.association_session.specs.declared.reply.Reply.{Reply}
-use Rattle.association_session.specs.declared.reply.Reply.TheVariants.{Stored}
 use Rattle.association_session.specs.declared.service.Service.{Service}
 use Rattle.association_session.specs.declared.service.Service.TheVariants.{Ignored, Broken, Responded, Asked}
+use Rattle.association_session.specs.declared.service.Service.TheVariants.{Queried}
 use Rattle.association_session.specs.Context.{is_other_class, syntax_of}
 
 -- the status of a C-STORE that is refused before its data set is read
@@ -39,9 +38,6 @@ status_of_reply (Err Busy) = OutOfResources
 status_of_reply (Err Collision) = CannotUnderstand
 status_of_reply (Err Shelf) = OutOfResources
 
-abbrev pub status_for_reply : Reply → Status
-status_for_reply (Stored reply) = status_of_reply reply
-
 -- ---- what it brings
 
 -- the content that a C-STORE brings, or its refusal
@@ -51,6 +47,7 @@ ServesDraft draft (Responded status) = (fault : OpFault) × IsOutcome draft (Err
     × (status ≡ status_of_fault fault)
 ServesDraft draft Ignored = ⊥
 ServesDraft draft Broken = ⊥
+ServesDraft draft (Queried finding kind) = ⊥
 
 abbrev pub uid_or_empty : Option (List ℕ) → List ℕ
 uid_or_empty None = []

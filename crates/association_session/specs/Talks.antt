@@ -12,18 +12,23 @@ use Rattle.ul_state.specs.declared.table.State.TheVariants.{Sta1, Sta2, Sta6, St
 use Rattle.ul_state.specs.declared.titles.Title.{Title}
 use Rattle.dimse.specs.declared.message.Message.{Message}
 use Rattle.dimse.specs.declared.status.Status.{Status}
-use Rattle.association_session.specs.declared.deed.Call.TheVariants.{Store}
+use Rattle.data_set.specs.Set.{Set}
+use Rattle.association_session.specs.declared.deed.Call.TheVariants.{Store, Find}
 use Rattle.association_session.specs.declared.deed.Deed.{Deed}
 use Rattle.association_session.specs.declared.deed.Deed.TheVariants.{Send, Reach, Ask}
-use Rattle.association_session.specs.declared.deed.Moment.TheVariants.{InStore}
+use Rattle.association_session.specs.declared.deed.Moment.TheVariants.{InStore, FindAnswered}
+use Rattle.association_session.specs.declared.due.RowKind.{RowKind}
 use Rattle.association_session.specs.declared.reply.Reply.{Reply}
-use Rattle.association_session.specs.declared.reply.Reply.TheVariants.{Stored}
+use Rattle.association_session.specs.declared.reply.Reply.TheVariants.{Stored, Found}
 use Rattle.association_session.specs.declared.service.Service.{Service}
 use Rattle.association_session.specs.declared.service.Service.TheVariants.{Ignored, Broken, Responded, Asked}
+use Rattle.association_session.specs.declared.service.Service.TheVariants.{Queried}
+use Rattle.association_session.specs.Find.{AreRows, rows_in, status_of_found}
 use Rattle.association_session.specs.Response.{Awaited, Responds}
 use Rattle.association_session.specs.Row.{Link, Within, row, met}
 use Rattle.association_session.specs.Service.{Serves}
 use Rattle.association_session.specs.Store.{status_of_reply}
+use Rattle.archive_model.specs.declared.view.View.{View}
 
 -- a PDU or the local user's abort, or a whole message
 pub data Heard : Type 0 where
@@ -45,10 +50,25 @@ abbrev pub Tells : Awaited → Status → (List Deed → Type 0) → List Deed �
 Tells awaited status Rest deeds = (response : List Pdu) × Responds awaited status response × Then (map Send response)
     Rest deeds
 
--- what is done on the port's reply; where none came yet, nothing is done
-abbrev pub Follows : Awaited → Goes → Goes
-Follows awaited goes [] deeds = deeds ≡ []
-Follows awaited goes (Stored reply ∷ rs) deeds = Tells awaited (status_of_reply reply) (goes rs) deeds
+-- The rows are responded, each in its turn, and then the request with this status; the gate is reached, and then it
+-- goes
+-- on.
+abbrev pub TellsRows : Awaited → RowKind → List Set → Status → (List Deed → Type 0) → List Deed → Type 0
+TellsRows awaited kind rows status Rest deeds = (responses : List Pdu) × AreRows awaited kind rows responses
+    × Then (map Send responses) (Tells awaited status (Then (Reach FindAnswered ∷ []) Rest)) deeds
+
+-- what is done on the port's reply to a store; where none came yet, nothing is done
+abbrev pub FollowsStore : Awaited → Goes → Goes
+FollowsStore awaited goes [] deeds = deeds ≡ []
+FollowsStore awaited goes (Stored reply ∷ rs) deeds = Tells awaited (status_of_reply reply) (goes rs) deeds
+FollowsStore awaited goes (Found reply ∷ rs) deeds = ⊥
+
+-- what is done on its reply to a find
+abbrev pub FollowsFind : Awaited → RowKind → Goes → Goes
+FollowsFind awaited kind goes [] deeds = deeds ≡ []
+FollowsFind awaited kind goes (Found reply ∷ rs) deeds = TellsRows awaited kind (rows_in reply) (status_of_found reply)
+    (goes rs) deeds
+FollowsFind awaited kind goes (Stored reply ∷ rs) deeds = ⊥
 
 -- ---- what is done for a message
 
@@ -57,14 +77,15 @@ abbrev pub awaiting : Link → Message → Awaited
 awaiting link m = record { context = m.context; limit = link.limit; command = m.command }
 
 -- By what it is answered: nothing; an abort of the local user, behind which it goes as `gone` says; a response; or the
--- gate is reached, the
--- port is asked, and its reply is told.
+-- port is asked, for a store behind the gate, and its reply is told.
 abbrev pub Does : Service → Awaited → List Deed → Goes → Goes → Goes
 Does Ignored awaited abort goes gone rs deeds = goes rs deeds
 Does Broken awaited abort goes gone rs deeds = Then abort (gone rs) deeds
 Does (Responded status) awaited abort goes gone rs deeds = Tells awaited status (goes rs) deeds
 Does (Asked content) awaited abort goes gone rs deeds = Then (Reach InStore ∷ Ask (Store content) ∷ [])
-    (Follows awaited goes rs) deeds
+    (FollowsStore awaited goes rs) deeds
+Does (Queried finding kind) awaited abort goes gone rs deeds = Then (Ask (Find finding) ∷ [])
+    (FollowsFind awaited kind goes rs) deeds
 
 -- While the association is established a message is served; at any other time it is dropped.
 abbrev pub InState : State → Goes → Goes → Goes
@@ -74,13 +95,13 @@ InState Sta2 served dropped = dropped
 InState Sta13 served dropped = dropped
 
 -- What it is answered is its line in the table of answers.
-abbrev pub Answers : Link → Message → List Deed → Goes → Goes → Goes
-Answers link m abort goes gone rs deeds = (service : Service) × Serves link.contexts m service
-    × Does service (awaiting link m) abort goes gone rs deeds
+abbrev pub Answers : Within → Message → List Deed → Goes → Goes → Goes
+Answers w m abort goes gone rs deeds = (service : Service) × Serves w m service
+    × Does service (awaiting w.link m) abort goes gone rs deeds
 
 -- ---- what is done for all that is heard
 
-abbrev pub Talks : {V : Type 0} → List (Title V) → Within V → List Heard → Goes
+abbrev pub Talks : List (Title View) → Within → List Heard → Goes
 -- no more was heard
 Talks titles w [] rs deeds = deeds ≡ []
 -- the acceptor's table
@@ -89,21 +110,22 @@ Talks titles w (Met event ∷ us) rs deeds = Then (row titles w.state event) (Ta
 -- the table of answers
 Talks titles w (Said m ∷ us) rs deeds =
     InState w.state
-    (Answers w.link m (row titles w.state LocalAbort) (Talks titles w us) (Talks titles (met titles w LocalAbort) us))
+    (Answers w m (row titles w.state LocalAbort) (Talks titles w us) (Talks titles (met titles w LocalAbort) us))
     (Talks titles w us) rs deeds
 
 -- ---- where what is heard leads
 
 -- what a message is answered leads on, or to goodbye
-abbrev pub behind : {V : Type 0} → List (Title V) → Within V → Service → Within V
+abbrev pub behind : List (Title View) → Within → Service → Within
 behind titles w Ignored = w
 behind titles w Broken = met titles w LocalAbort
 behind titles w (Responded status) = w
 behind titles w (Asked content) = w
+behind titles w (Queried finding kind) = w
 
 -- A message is heard only while the association is established.
-abbrev pub Leads : {V : Type 0} → List (Title V) → Within V → List Heard → Within V → Type 0
+abbrev pub Leads : List (Title View) → Within → List Heard → Within → Type 0
 Leads titles w [] end = end ≡ w
 Leads titles w (Met event ∷ us) end = Leads titles (met titles w event) us end
-Leads titles w (Said m ∷ us) end = (w.state ≡ Sta6) × (service : Service) × Serves w.link.contexts m service
+Leads titles w (Said m ∷ us) end = (w.state ≡ Sta6) × (service : Service) × Serves w m service
     × Leads titles (behind titles w service) us end

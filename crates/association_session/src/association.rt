@@ -1,6 +1,9 @@
 //! Where an association is, and what it does on one event, one message or one reply.
 
-ghost use Rattle.std.specs.Prelude.{◌≡◌, ◌<◌, ◌++◌, ◌∷◌, [], IfOk, OnOk, OnErr, IsTrue, IsSome, IfSome, None, Some, All, ◌≤◌, is_some, length, List, map};
+ghost use Rattle.std.specs.Prelude.{◌≡◌, ◌<◌, ◌++◌, ◌∷◌, [], IfOk, OnOk, OnErr, IsTrue, IsSome, IfSome, None, Some, All, ◌≤◌, ◌⊎◌, length, List, map, true};
+ghost use Rattle.std.specs.Option.{option_copied};
+ghost use Rattle.pdu.specs.declared.value.Pdu.{Pdu};
+ghost use Rattle.pdu.specs.Spelling.{IsPdu};
 ghost use Rattle.ul_state.specs.declared.table.State.TheVariants.{Sta6};
 ghost use Rattle.ul_state.specs.declared.event.Event.TheVariants.{LocalAbort};
 ghost use Rattle.ul_state.specs.Table.{next_of, opens};
@@ -12,50 +15,62 @@ ghost use Rattle.association_session.specs.declared.deed.Deed.TheVariants.{Send,
 ghost use Rattle.association_session.specs.declared.deed.Moment.TheVariants.{InStore};
 ghost use Rattle.association_session.specs.declared.event.SessionEvent.TheVariants.{Heard, Replied, GoesOn};
 ghost use Rattle.association_session.specs.Row.{action_on, agreed_by, limit_in, deeds_of, values_of, row};
-ghost use Rattle.association_session.specs.Session.{start, closed, is_left, is_in_turn, stage_by, IsTold, Answered, Turned, entered, IsWritable, IsSound, IsFewer};
+ghost use Rattle.association_session.specs.declared.reply.Reply.TheVariants.{Stored, Found};
+ghost use Rattle.association_session.specs.Due.{tells_rows};
+ghost use Rattle.association_session.specs.Find.{RespondsRow};
+ghost use Rattle.association_session.specs.Session.{start, closed, is_left, is_in_turn, stage_by, IsTold, Answered, Turned, entered, IsWritable, IsSound, IsFewer, TellsSome, IsEnd};
+ghost use Rattle.archive_model.specs.declared.view.View.{View};
 
 use crate::awaited::Awaited;
 use crate::deed::{Call, Deed, Moment};
+use crate::due::{Due, RowKind, Rows, Telling, is_telling, takes};
 use crate::event::SessionEvent;
+use crate::find::{found, row_text};
 use crate::limit::limit_of;
 use crate::link::Link;
-use crate::reply::Reply;
+use crate::reply::{PortFault, Reply};
 use crate::service::{Service, serve};
 use crate::store::status_for;
+use archive_model::View;
 use dimse::{Message, Status};
 use octets::ListOf;
-use operation::Content;
+use operation::{Content, Taken};
 use pdu::{Pdu, Pdv};
+use query_model::Answer;
 use std::alloc::{AllocError, Global};
 use std::collections::VecDeque;
 use std::marker::Model;
-use ul_state::{Acceptor, Action, Event, State, Titles};
+use ul_state::{Acceptor, Action, Event, Settled, State, Titles};
 
 /// An association without its reader, its writer and its port.
 #[derive(Drop)]
-pub(crate) struct Association<V> {
+pub(crate) struct Association {
     alloc: Global,
     /// `None` once memory was refused.
-    acceptor: Option<Acceptor<V>>,
+    acceptor: Option<Acceptor<View>>,
     link: Link,
-    /// The request whose response awaits a reply of the port.
-    awaited: Option<Awaited>,
+    /// What is still to be told of the request that was served last.
+    awaited: Option<Due>,
     /// The values of the last P-DATA-TF that are not heard yet.
     queue: VecDeque<Pdv>,
 }
 
-impl<V> Model for Association<V> {
+impl Model for Association {
     ghost use Rattle.association_session.specs.Session.{AssociationState, state_of, settled_of};
+    ghost use Rattle.association_session.specs.contracts.due.Due as due;
+    ghost use Rattle.std.specs.Coded.{codes};
 
-    ghost Value = { AssociationState V };
+    ghost Value = { AssociationState };
+
+    ghost coded = { Prim.hlevel (codes, due.the_row.coded) };
 
     ghost view = { λ a. record { within = record { state = state_of a.acceptor; settled = settled_of a.acceptor; link = a.link.link }; stage = a.link.stage; awaited = a.awaited; queue = a.queue.items } };
 }
 
 /// What an acceptor asks on an event.
-fn ask<V: Copy>(
-    acceptor: &mut Acceptor<V>,
-    titles: &Titles<V>,
+fn ask(
+    acceptor: &mut Acceptor<View>,
+    titles: &Titles<View>,
     event: Event,
 ) -> Result<Option<Action>, AllocError>
     ensures action { IfOk result (λ action.
@@ -78,11 +93,11 @@ fn is_opened(before: State, after: State) -> bool
 }
 
 /// The table's row, and what an acceptance agrees.
-fn turn<V: Copy>(
+fn turn(
     alloc: Global,
-    acceptor: &mut Acceptor<V>,
+    acceptor: &mut Acceptor<View>,
     link: &mut Link,
-    titles: &Titles<V>,
+    titles: &Titles<View>,
     event: Event,
 ) -> Result<Option<Action>, AllocError>
     ensures action { IfOk result (λ action.
@@ -113,14 +128,22 @@ fn one(alloc: Global, deed: Deed) -> Result<ListOf<Deed>, AllocError>
     Ok(deeds)
 }
 
+/// Puts the deeds that send these PDUs.
+fn put_sends(deeds: &mut ListOf<Deed>, pdus: ListOf<Pdu>) -> Result<(), AllocError>
+    ensures { OnOk result (deeds.new ≡ deeds.old ++ map Send pdus) }
+{
+    for pdu in pdus.into_vec() {
+        deeds.push(Deed::Send(pdu))?;
+    }
+    Ok(())
+}
+
 /// The deeds that send these PDUs.
 fn sends(alloc: Global, pdus: ListOf<Pdu>) -> Result<ListOf<Deed>, AllocError>
     ensures { IfOk result (λ deeds. deeds ≡ map Send pdus) }
 {
     let mut deeds = ListOf::new(alloc);
-    for pdu in pdus.into_vec() {
-        deeds.push(Deed::Send(pdu))?;
-    }
+    put_sends(&mut deeds, pdus)?;
     Ok(deeds)
 }
 
@@ -143,6 +166,69 @@ fn asks(alloc: Global, content: Content) -> Result<ListOf<Deed>, AllocError>
     Ok(deeds)
 }
 
+/// How many bytes of data sets are spelled in one turn, up to the end of a row: 32 KB.
+const TURN: usize = 32_768;
+
+/// Puts the deeds that respond with a row, and answers how many bytes its data set has.
+fn put_row(
+    alloc: Global,
+    deeds: &mut ListOf<Deed>,
+    awaited: &Awaited,
+    kind: RowKind,
+    row: &Answer,
+) -> Result<usize, AllocError>
+    ensures told { OnOk result ((response : List Pdu)
+        × RespondsRow awaited.now kind row.now response
+        × (deeds.new ≡ deeds.old ++ map Send response)) }
+    ensures writable { All IsWritable deeds.old → OnOk result (All IsWritable deeds.new) }
+{
+    let text = row_text(alloc, kind.syntax, row)?;
+    let size = text.len();
+    let pdus = awaited.respond_with(alloc, kind.status, text)?;
+    put_sends(deeds, pdus)?;
+    Ok(size)
+}
+
+/// Puts the deeds that respond with the next rows, until a turn's bytes were spelled or no row is
+/// left.
+fn put_rows(
+    alloc: Global,
+    deeds: &mut ListOf<Deed>,
+    awaited: &Awaited,
+    kind: RowKind,
+    rows: &mut Rows,
+) -> Result<(), AllocError>
+    ensures told { OnOk result (TellsSome awaited.now kind rows.old rows.new deeds.old
+        deeds.new) }
+    ensures fewer { OnOk result ((length rows.new ≡ 0) ⊎ (length rows.new < length rows.old)) }
+    ensures writable { All IsWritable deeds.old → OnOk result (All IsWritable deeds.new) }
+{
+    let mut spelled = 0;
+    while spelled < TURN {
+        let Some(row) = rows.next() else {
+            return Ok(());
+        };
+        let size = put_row(alloc, deeds, awaited, kind, &row)?;
+        spelled = 1.max(size).saturating_add(spelled);
+    }
+    Ok(())
+}
+
+/// Puts the deeds that end rows.
+fn put_end(
+    alloc: Global,
+    deeds: &mut ListOf<Deed>,
+    awaited: &Awaited,
+    status: Status,
+) -> Result<(), AllocError>
+    ensures ends { OnOk result (IsEnd awaited.now status deeds.old deeds.new) }
+    ensures writable { All IsWritable deeds.old → OnOk result (All IsWritable deeds.new) }
+{
+    put_sends(deeds, awaited.respond(alloc, status)?)?;
+    deeds.push(Deed::Reach(Moment::FindAnswered))?;
+    Ok(())
+}
+
 /// What a row's action does, and the values that it hands on.
 fn parted(alloc: Global, action: Option<Action>) -> Result<(ListOf<Deed>, ListOf<Pdv>), AllocError>
     ensures deeds { IfOk result (λ x. x.0 ≡ deeds_of action) }
@@ -157,8 +243,8 @@ fn parted(alloc: Global, action: Option<Action>) -> Result<(ListOf<Deed>, ListOf
     }
 }
 
-impl<V: Copy> Association<V> {
-    pub(crate) fn new(alloc: Global) -> Association<V>
+impl Association {
+    pub(crate) fn new(alloc: Global) -> Association
         ensures { result ≡ start }
     {
         Association {
@@ -171,7 +257,7 @@ impl<V: Copy> Association<V> {
     }
 
     /// An association that is over.
-    pub(crate) fn over(alloc: Global) -> Association<V>
+    pub(crate) fn over(alloc: Global) -> Association
         ensures { result ≡ closed }
     {
         Association {
@@ -192,11 +278,24 @@ impl<V: Copy> Association<V> {
         }
     }
 
-    /// Whether a reply of the port is awaited.
-    pub(crate) fn is_awaiting(&self) -> bool
-        ensures { result ≡ is_some self.now.awaited }
+    /// Whether rows are told.
+    pub(crate) fn is_telling(&self) -> bool
+        ensures { result ≡ tells_rows self.now.awaited }
     {
-        self.awaited.is_some()
+        match &self.awaited {
+            None => false,
+            Some(due) => is_telling(due),
+        }
+    }
+
+    /// What the acceptance settled.
+    fn settled(&self) -> Option<&Settled<View>>
+        ensures { option_copied result ≡ self.now.within.settled }
+    {
+        match &self.acceptor {
+            None => None,
+            Some(acceptor) => acceptor.accepted(),
+        }
     }
 
     /// Whether values are to be heard on.
@@ -207,7 +306,7 @@ impl<V: Copy> Association<V> {
     }
 
     /// Takes an event by the table's row. The values that are handed on are left to be heard.
-    fn meet(&mut self, titles: &Titles<V>, event: Event) -> Result<ListOf<Deed>, AllocError>
+    fn meet(&mut self, titles: &Titles<View>, event: Event) -> Result<ListOf<Deed>, AllocError>
         requires { self.old.awaited ≡ None }
         ensures row { IfOk result (λ deeds.
             deeds ≡ row titles.now.list self.old.within.state event) }
@@ -225,7 +324,7 @@ impl<V: Copy> Association<V> {
     }
 
     /// The local user aborts. What is left of a P-DATA-TF is dropped.
-    fn abort(&mut self, titles: &Titles<V>) -> Result<ListOf<Deed>, AllocError>
+    fn abort(&mut self, titles: &Titles<View>) -> Result<ListOf<Deed>, AllocError>
         requires established { self.old.within.state ≡ Sta6 }
         requires idle { self.old.awaited ≡ None }
         ensures sent { IfOk result (λ deeds. deeds ≡ row titles.now.list Sta6 LocalAbort) }
@@ -236,7 +335,11 @@ impl<V: Copy> Association<V> {
     }
 
     /// Answers a message.
-    fn answer(&mut self, titles: &Titles<V>, message: Message) -> Result<ListOf<Deed>, AllocError>
+    fn answer(
+        &mut self,
+        titles: &Titles<View>,
+        message: Message,
+    ) -> Result<ListOf<Deed>, AllocError>
         requires established { self.old.within.state ≡ Sta6 }
         requires idle { self.old.awaited ≡ None }
         requires whole { IsWhole message }
@@ -251,7 +354,14 @@ impl<V: Copy> Association<V> {
             body,
         } = message;
         let contexts = self.link.contexts();
-        let service = serve(self.alloc, contexts, context, &command, body)?;
+        let service = serve(
+            self.alloc,
+            self.settled(),
+            contexts,
+            context,
+            &command,
+            body,
+        )?;
         let limit = self.link.limit();
         let awaited = Awaited {
             context,
@@ -264,14 +374,19 @@ impl<V: Copy> Association<V> {
             Service::Responded(status) => respond(self.alloc, &awaited, status),
             Service::Asked(content) => {
                 let deeds = asks(self.alloc, content)?;
-                self.awaited = Some(awaited);
+                self.awaited = Some(Due::Store(awaited));
+                Ok(deeds)
+            }
+            Service::Queried(finding, kind) => {
+                let deeds = one(self.alloc, Deed::Ask(Call::Find(finding)))?;
+                self.awaited = Some(Due::Find(awaited, kind));
                 Ok(deeds)
             }
         }
     }
 
     /// Hears the values that are left, up to the end of a message.
-    fn hear_values(&mut self, titles: &Titles<V>) -> Result<ListOf<Deed>, AllocError>
+    fn hear_values(&mut self, titles: &Titles<View>) -> Result<ListOf<Deed>, AllocError>
         requires established { self.old.within.state ≡ Sta6 }
         requires idle { self.old.awaited ≡ None }
         ensures turned { IfOk result (λ deeds.
@@ -292,7 +407,7 @@ impl<V: Copy> Association<V> {
     }
 
     /// Hears an event.
-    fn hear(&mut self, titles: &Titles<V>, event: Event) -> Result<ListOf<Deed>, AllocError>
+    fn hear(&mut self, titles: &Titles<View>, event: Event) -> Result<ListOf<Deed>, AllocError>
         requires { self.old.awaited ≡ None }
         ensures turned { IfOk result (λ deeds.
             Turned titles.now.list self.old (Heard event) deeds self.new) }
@@ -306,47 +421,135 @@ impl<V: Copy> Association<V> {
         Ok(deeds)
     }
 
-    /// Responds to the request that awaits this reply.
+    /// Takes the reply to a store, and responds.
+    fn take_stored(&mut self, reply: Result<Taken, PortFault>) -> Result<ListOf<Deed>, AllocError>
+        requires { IsTrue (is_in_turn self.old (Replied (Stored reply))) }
+        ensures turned { (titles : List (Title View)) → IfOk result (λ deeds.
+            Turned titles self.old (Replied (Stored reply)) deeds self.new) }
+        ensures left { OnOk result (self.new.queue ≡ self.old.queue) }
+        ensures writable { IfOk result (All IsWritable) }
+    {
+        let Some(Due::Store(awaited)) = self.awaited.take() else {
+            return Ok(ListOf::new(self.alloc));
+        };
+        respond(self.alloc, &awaited, status_for(reply))
+    }
+
+    /// Takes the reply to a find, whose rows are left to be told.
+    fn take_found(
+        &mut self,
+        reply: Result<ListOf<Answer>, PortFault>,
+    ) -> Result<ListOf<Deed>, AllocError>
+        requires { IsTrue (is_in_turn self.old (Replied (Found reply))) }
+        ensures turned { (titles : List (Title View)) → IfOk result (λ deeds.
+            Turned titles self.old (Replied (Found reply)) deeds self.new) }
+        ensures left { OnOk result (self.new.queue ≡ self.old.queue) }
+        ensures writable { IfOk result (All IsWritable) }
+    {
+        let Some(Due::Find(awaited, kind)) = self.awaited.take() else {
+            return Ok(ListOf::new(self.alloc));
+        };
+        awaited.see_room();
+        let (rows, status) = found(self.alloc, reply);
+        self.awaited = Some(Due::Rows(Telling {
+            awaited,
+            kind,
+            rows,
+            status,
+        }));
+        Ok(ListOf::new(self.alloc))
+    }
+
+    /// Takes the reply that is awaited.
     fn resume(&mut self, reply: Reply) -> Result<ListOf<Deed>, AllocError>
-        requires { IsSome self.old.awaited }
-        ensures turned { (titles : List (Title V)) → IfOk result (λ deeds.
+        requires { IsTrue (is_in_turn self.old (Replied reply)) }
+        ensures turned { (titles : List (Title View)) → IfOk result (λ deeds.
             Turned titles self.old (Replied reply) deeds self.new) }
         ensures left { OnOk result (self.new.queue ≡ self.old.queue) }
         ensures writable { IfOk result (All IsWritable) }
     {
-        let Some(awaited) = self.awaited.take() else {
-            return Ok(ListOf::new(self.alloc));
+        match reply {
+            Reply::Stored(reply) => self.take_stored(reply),
+            Reply::Found(reply) => self.take_found(reply),
+        }
+    }
+
+    /// Tells the next of the rows that are left, and behind the last one ends them.
+    fn tell_rows(&mut self) -> Result<ListOf<Deed>, AllocError>
+        requires { tells_rows self.old.awaited ≡ true }
+        ensures turned { (titles : List (Title View)) → IfOk result (λ deeds.
+            Turned titles self.old GoesOn deeds self.new) }
+        ensures fewer { OnOk result (IsFewer GoesOn self.old self.new) }
+        ensures writable { IfOk result (All IsWritable) }
+    {
+        let mut deeds = ListOf::new(self.alloc);
+        let Some(Due::Rows(telling)) = self.awaited.take() else {
+            return Ok(deeds);
         };
-        respond(self.alloc, &awaited, status_for(reply))
+        let Telling {
+            awaited,
+            kind,
+            mut rows,
+            status,
+        } = telling;
+        put_rows(self.alloc, &mut deeds, &awaited, kind, &mut rows)?;
+        if rows.is_empty() {
+            put_end(self.alloc, &mut deeds, &awaited, status)?;
+            return Ok(deeds);
+        }
+        self.awaited = Some(Due::Rows(Telling {
+            awaited,
+            kind,
+            rows,
+            status,
+        }));
+        Ok(deeds)
+    }
+
+    /// Tells the rows that are left, or hears the values that are left.
+    fn go_on(&mut self, titles: &Titles<View>) -> Result<ListOf<Deed>, AllocError>
+        requires { IsTrue (is_in_turn self.old GoesOn) }
+        ensures turned { IfOk result (λ deeds.
+            Turned titles.now.list self.old GoesOn deeds self.new) }
+        ensures fewer { OnOk result (IsFewer GoesOn self.old self.new) }
+        ensures writable { IfOk result (All IsWritable) }
+    {
+        if self.is_telling() {
+            return self.tell_rows();
+        }
+        self.hear_values(titles)
     }
 
     /// Whether this comes in its turn.
     pub(crate) fn is_in_turn(&self, event: &SessionEvent) -> bool
         ensures { result ≡ is_in_turn self.now event.now }
     {
-        match event {
-            SessionEvent::Heard(_) => !self.is_awaiting() && !self.is_left(),
-            SessionEvent::Replied(_) => self.is_awaiting(),
-            SessionEvent::GoesOn => !self.is_awaiting() && self.is_left(),
+        match (&self.awaited, event) {
+            (None, SessionEvent::Heard(_)) => !self.is_left(),
+            (None, SessionEvent::Replied(_)) => false,
+            (None, SessionEvent::GoesOn) => self.is_left(),
+            (Some(_), SessionEvent::Heard(_)) => false,
+            (Some(due), SessionEvent::Replied(reply)) => takes(due, reply),
+            (Some(due), SessionEvent::GoesOn) => is_telling(due),
         }
     }
 
     /// What is done on what comes in its turn.
     pub(crate) fn on(
         &mut self,
-        titles: &Titles<V>,
+        titles: &Titles<View>,
         event: SessionEvent,
     ) -> Result<ListOf<Deed>, AllocError>
         requires { IsTrue (is_in_turn self.old event) }
         ensures turned { IfOk result (λ deeds.
             Turned titles.now.list self.old event deeds self.new) }
-        ensures fewer { OnOk result (IsFewer event self.old.queue self.new.queue) }
+        ensures fewer { OnOk result (IsFewer event self.old self.new) }
         ensures writable { IsSound event → IfOk result (All IsWritable) }
     {
         match event {
             SessionEvent::Heard(event) => self.hear(titles, event),
             SessionEvent::Replied(reply) => self.resume(reply),
-            SessionEvent::GoesOn => self.hear_values(titles),
+            SessionEvent::GoesOn => self.go_on(titles),
         }
     }
 }

@@ -2,9 +2,10 @@
 
 ghost use Rattle.std.specs.Prelude.{◌≡◌, IfOk, All};
 ghost use Rattle.pdu.specs.Spelling.{IsPdu};
-ghost use Rattle.association_session.specs.Response.{response_to, Responds};
+ghost use Rattle.association_session.specs.Response.{FitsLimit, response_to, response_with, Responds, RespondsWith};
 
-use dimse::{Command, Message, Status, fragments};
+use bytes::Bytes;
+use dimse::{Command, DATA_SET_FOLLOWS, Message, Status, fragments};
 use octets::ListOf;
 use pdu::Pdu;
 use std::alloc::{AllocError, Global};
@@ -29,6 +30,13 @@ impl Model for Awaited {
 }
 
 impl Awaited {
+    /// What is responded has room.
+    pub(crate) fn see_room(&self)
+        ensures { FitsLimit self.now.limit }
+    {
+        let _limit = &self.limit;
+    }
+
     /// The response with this status.
     fn response(&self, alloc: Global, status: Status) -> Result<Message, AllocError>
         ensures { IfOk result (λ message. message ≡ response_to self.now status) }
@@ -47,6 +55,38 @@ impl Awaited {
         ensures lawful { IfOk result (λ pdus. All IsPdu pdus) }
     {
         let message = self.response(alloc, status)?;
+        Ok(ListOf::of(fragments(alloc, &message, self.limit)?))
+    }
+
+    /// The response with this status and a data set.
+    fn response_with(
+        &self,
+        alloc: Global,
+        status: Status,
+        text: Bytes,
+    ) -> Result<Message, AllocError>
+        ensures { IfOk result (λ message. message ≡ response_with self.now status text) }
+    {
+        let mut command = self.command.response(alloc, status)?;
+        command.data_set_type = DATA_SET_FOLLOWS;
+        Ok(Message {
+            context: self.context,
+            command,
+            body: Some(text),
+        })
+    }
+
+    /// The PDUs of the response with this status and a data set.
+    pub(crate) fn respond_with(
+        &self,
+        alloc: Global,
+        status: Status,
+        text: Bytes,
+    ) -> Result<ListOf<Pdu>, AllocError>
+        ensures sent { IfOk result (λ pdus. RespondsWith self.now status text pdus) }
+        ensures lawful { IfOk result (λ pdus. All IsPdu pdus) }
+    {
+        let message = self.response_with(alloc, status, text)?;
         Ok(ListOf::of(fragments(alloc, &message, self.limit)?))
     }
 }

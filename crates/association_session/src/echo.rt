@@ -4,11 +4,9 @@ ghost use Rattle.std.specs.Prelude.{◌≡◌};
 ghost use Rattle.association_session.specs.Echo.{is_verification, echo_status};
 
 use crate::context::is_of_other_class;
+use dictionary::VERIFICATION;
 use dimse::{Command, Status};
 use pdu::Context;
-
-/// Verification (PS3.4, annex A).
-pub(crate) const VERIFICATION: [u8; 17] = *b"1.2.840.10008.1.1";
 
 fn is_for_verification(context: &Context) -> bool
     ensures { result ≡ is_verification context.now }

@@ -4,12 +4,13 @@ use crate::reply::Reply;
 use ul_state::Event;
 
 /// What reaches a session.
-#[derive(Debug, Drop)]
+#[derive(Drop)]
 pub enum SessionEvent {
-    /// An event of the acceptor, while nothing is awaited and no value is left.
+    /// An event of the acceptor, while nothing is awaited, and no row and no value is left.
     Heard(Event),
     /// What the port replied to the call that was asked last.
     Replied(Reply),
-    /// The values that are left of a P-DATA-TF are heard on, while nothing is awaited.
+    /// The rows that are left are told on, or the values that are left of a P-DATA-TF are heard on,
+    /// while no reply is awaited.
     GoesOn,
 }

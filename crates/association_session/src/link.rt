@@ -10,6 +10,7 @@ ghost use Rattle.association_session.specs.Row.{NO_LINK, agreed_by};
 ghost use Rattle.association_session.specs.Session.{stage_by, assembly_in};
 
 use crate::limit::SENT_WITHOUT_LIMIT;
+use archive_model::View;
 use dimse::{Assembler, DimseFault, Message};
 use octets::{ListOf, Octets};
 use pdu::{Context, Contexts, Pdv};
@@ -70,11 +71,11 @@ impl Link {
     }
 
     /// Where an association is established, this was agreed.
-    pub(crate) fn agree<V: Copy>(
+    pub(crate) fn agree(
         &mut self,
         alloc: Global,
         opened: bool,
-        settled: Option<&Settled<V>>,
+        settled: Option<&Settled<View>>,
         limit: u32,
     ) -> Result<(), AllocError>
         requires { IsTrue opened → IsSome (option_copied settled) → FitsLimit limit }

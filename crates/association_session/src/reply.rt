@@ -3,13 +3,15 @@
 ghost use Rattle.std.specs.Prelude.{◌≡◌};
 ghost use Rattle.association_session.specs.Reply.{number_of};
 
+use octets::ListOf;
 use operation::Taken;
+use query_model::Answer;
 use thiserror::Error;
 
-/// Why a port took no content.
+/// Why a port took no content, or found no rows.
 #[derive(Clone, Copy, Debug, PartialEq, Eq, Error)]
 pub enum PortFault {
-    /// Memory was refused: the content may have been taken or not.
+    /// Memory was refused: a content may have been taken or not.
     #[error("memory was refused")]
     Memory,
     /// Another caller has the site.
@@ -38,8 +40,10 @@ impl PortFault {
 }
 
 /// What a port replies, by the kind of the call.
-#[derive(Clone, Copy, Debug, PartialEq, Eq)]
+#[derive(Drop)]
 pub enum Reply {
     /// To a store.
     Stored(Result<Taken, PortFault>),
+    /// To a find: the rows.
+    Found(Result<ListOf<Answer>, PortFault>),
 }

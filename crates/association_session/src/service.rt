@@ -1,17 +1,23 @@
 //! Which service answers a message (PS3.7, sections 9.1 and 9.3).
 
 ghost use Rattle.std.specs.Prelude.{◌≡◌, IfOk};
+ghost use Rattle.std.specs.Option.{option_copied};
 ghost use Rattle.association_session.specs.Context.{context_in};
 ghost use Rattle.association_session.specs.Service.{kind_of, unknown_status, ServesOn, ServesKind};
 
 use crate::context::{context_with, is_of_other_class};
+use crate::deed::Finding;
+use crate::due::RowKind;
 use crate::echo::status_of_echo;
+use crate::find::serve_find;
 use crate::store::serve_store;
+use archive_model::View;
 use bytes::Bytes;
 use dimse::{Command, Status};
 use operation::Content;
 use pdu::Context;
 use std::alloc::{AllocError, Global};
+use ul_state::Settled;
 
 /// What a command field says of its message.
 #[derive(Clone, Copy)]
@@ -19,8 +25,8 @@ pub(crate) enum Kind {
     /// A response of any service.
     Response,
     Cancel,
-    /// A C-FIND or a C-GET.
-    Query,
+    Find,
+    Get,
     Echo,
     Store,
     /// A request of a service that is not known.
@@ -38,6 +44,8 @@ pub(crate) enum Service {
     Responded(Status),
     /// A response with the status of the port's reply, which is asked to store this.
     Asked(Content),
+    /// The rows of the port's reply, which is asked this, and then a response.
+    Queried(Finding, RowKind),
 }
 
 fn kind_for(field: u16) -> Kind
@@ -46,7 +54,8 @@ fn kind_for(field: u16) -> Kind
     match field {
         0x8000.. => Kind::Response,
         0x0FFF => Kind::Cancel,
-        0x0010 | 0x0020 => Kind::Query,
+        0x0020 => Kind::Find,
+        0x0010 => Kind::Get,
         0x0030 => Kind::Echo,
         0x0001 => Kind::Store,
         _ => Kind::Unknown,
@@ -66,17 +75,20 @@ fn status_of_unknown(context: &Context, command: &Command) -> Status
 /// What a message is answered on this context.
 fn serve_on(
     alloc: Global,
+    settled: Option<&Settled<View>>,
     context: &Context,
     command: &Command,
     body: Option<Bytes>,
 ) -> Result<Service, AllocError>
-    ensures { IfOk result (ServesKind (kind_of command.now.field) context.now command.now body) }
+    ensures { IfOk result (ServesKind (kind_of command.now.field) (option_copied settled.entry)
+        context.now command.now body) }
 {
     match kind_for(command.field) {
         Kind::Response => Ok(Service::Broken),
         Kind::Cancel => Ok(Service::Ignored),
-        // Until they are served (docs/DECISIONS.md, "What a message is answered").
-        Kind::Query => Ok(Service::Responded(Status::UnrecognizedOperation)),
+        Kind::Find => serve_find(alloc, settled, context, command, body),
+        // Until it is served (docs/DECISIONS.md, "What a message is answered").
+        Kind::Get => Ok(Service::Responded(Status::UnrecognizedOperation)),
         Kind::Echo => Ok(Service::Responded(status_of_echo(context, command))),
         Kind::Store => serve_store(alloc, context, command, body),
         Kind::Unknown => Ok(Service::Responded(status_of_unknown(context, command))),
@@ -86,15 +98,17 @@ fn serve_on(
 /// What a message on the context with this ID is answered.
 pub(crate) fn serve(
     alloc: Global,
+    settled: Option<&Settled<View>>,
     contexts: &[Context],
     id: u8,
     command: &Command,
     body: Option<Bytes>,
 ) -> Result<Service, AllocError>
-    ensures { IfOk result (ServesOn (context_in contexts.now id) command.now body) }
+    ensures { IfOk result (ServesOn (option_copied settled.entry) (context_in contexts.now id)
+        command.now body) }
 {
     match context_with(contexts, id) {
         None => Ok(Service::Broken),
-        Some(context) => serve_on(alloc, context, command, body),
+        Some(context) => serve_on(alloc, settled, context, command, body),
     }
 }

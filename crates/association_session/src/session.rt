@@ -3,11 +3,13 @@
 ghost use Rattle.std.specs.Prelude.{◌≡◌, [], IfOk, OnOk, OnErr, IsTrue, All, false};
 ghost use Rattle.std.specs.List.{list_any};
 ghost use Rattle.association_session.specs.declared.event.SessionEvent.TheVariants.{GoesOn};
+ghost use Rattle.association_session.specs.Due.{tells_rows};
 ghost use Rattle.association_session.specs.Session.{start, over, is_abort as is_abort_deed, is_release as is_release_deed, is_in_turn, Turned, IsFewer, IsWritable, IsSound, reads_abort, aborted_by, released_by};
 
 use crate::association::Association;
 use crate::deed::Deed;
 use crate::event::SessionEvent;
+use archive_model::View;
 use octets::ListOf;
 use pdu::Pdu;
 use std::alloc::{AllocError, Global};
@@ -16,20 +18,24 @@ use ul_state::{Event, State, Titles};
 
 /// An association without its reader, its writer and its port.
 ///
-/// It asks the port for one thing at a time, and takes the reply before anything else. `V` is what
-/// the called title stands for.
+/// It asks the port for one thing at a time, and takes the reply before anything else. Rows are
+/// told some at a time, and before anything else is heard.
 #[derive(Drop)]
-pub struct Session<V> {
+pub struct Session {
     alloc: Global,
-    association: Association<V>,
+    association: Association,
     aborted: bool,
     released: bool,
 }
 
-impl<V> Model for Session<V> {
+impl Model for Session {
     ghost use Rattle.association_session.specs.Session.{SessionState};
+    ghost use Rattle.association_session.specs.contracts.due.Due as due;
+    ghost use Rattle.std.specs.Coded.{codes};
 
-    ghost Value = { SessionState V };
+    ghost Value = { SessionState };
+
+    ghost coded = { Prim.hlevel (codes, due.the_row.coded) };
 
     ghost view = { λ s. record { association = s.association; aborted = s.aborted; released = s.released } };
 }
@@ -68,9 +74,9 @@ fn is_released_by(deeds: &[Deed]) -> bool
     deeds.iter().any(|deed| is_release(deed))
 }
 
-impl<V: Copy> Session<V> {
+impl Session {
     /// A session on an open connection, where a request is awaited. It takes no memory.
-    pub fn new(alloc: Global) -> Session<V>
+    pub fn new(alloc: Global) -> Session
         ensures association { result.association ≡ start }
         ensures aborted { result.aborted ≡ false }
         ensures released { result.released ≡ false }
@@ -90,11 +96,19 @@ impl<V: Copy> Session<V> {
         self.association.state()
     }
 
-    /// Whether what is left of a P-DATA-TF is to be heard on, by `SessionEvent::GoesOn`.
+    /// Whether rows are told on, or what is left of a P-DATA-TF is heard on, by
+    /// `SessionEvent::GoesOn`.
     pub fn goes_on(&self) -> bool
         ensures { result ≡ is_in_turn self.now.association GoesOn }
     {
-        !self.association.is_awaiting() && self.association.is_left()
+        self.association.is_in_turn(&SessionEvent::GoesOn)
+    }
+
+    /// Whether rows are told on.
+    pub fn is_telling(&self) -> bool
+        ensures { result ≡ tells_rows self.now.association.awaited }
+    {
+        self.association.is_telling()
     }
 
     /// Whether an A-ABORT was sent or read.
@@ -111,14 +125,15 @@ impl<V: Copy> Session<V> {
         self.released
     }
 
-    /// Takes an event of the acceptor, or the port's reply to the call that was asked last, or hears
-    /// on what is left of a P-DATA-TF: up to the end of one message.
+    /// Takes an event of the acceptor, or the port's reply to the call that was asked last, or
+    /// tells some of the rows that are left, or hears on what is left of a P-DATA-TF: up to the
+    /// end of one message.
     ///
     /// The deeds are for the caller to do in order. Where they end with a call, what comes next is
     /// its reply.
     pub fn on(
         &mut self,
-        titles: &Titles<V>,
+        titles: &Titles<View>,
         event: SessionEvent,
     ) -> Result<ListOf<Deed>, AllocError>
         // What is done: whatever is done from the new state on, these deeds and that are done from
@@ -126,7 +141,7 @@ impl<V: Copy> Session<V> {
         ensures turned { IsTrue (is_in_turn self.old.association event) → IfOk result (λ deeds.
             Turned titles.now.list self.old.association event deeds self.new.association) }
         ensures fewer { IsTrue (is_in_turn self.old.association event) → OnOk result
-            (IsFewer event self.old.association.queue self.new.association.queue) }
+            (IsFewer event self.old.association self.new.association) }
         ensures aborted { IsTrue (is_in_turn self.old.association event) → IfOk result (λ deeds.
             self.new.aborted
             ≡ aborted_by self.old.aborted self.old.association.within.state event deeds) }

@@ -1,15 +1,15 @@
 //! What a C-STORE is answered (PS3.7, section 9.1.1; PS3.4, annex B).
 
 ghost use Rattle.std.specs.Prelude.{◌≡◌, IfOk, None, Option, Some};
-ghost use Rattle.association_session.specs.Store.{store_refusal, status_for_reply, draft_for, uid_or_empty, ServesStore, ServesDraft};
+ghost use Rattle.association_session.specs.Store.{store_refusal, status_of_reply, draft_for, uid_or_empty, ServesStore, ServesDraft};
 
 use crate::context::{is_of_other_class, syntax};
-use crate::reply::{PortFault, Reply};
+use crate::reply::PortFault;
 use crate::service::Service;
 use bytes::Bytes;
 use dimse::{Command, Status};
 use octets::Octets;
-use operation::{Content, OpFault, content_of};
+use operation::{Content, OpFault, Taken, content_of};
 use pdu::Context;
 use std::alloc::{AllocError, Global};
 use ul_state::is_storage_class;
@@ -29,10 +29,9 @@ fn refusal_of_store(context: &Context, command: &Command) -> Option<Status>
 }
 
 /// The status of the port's reply.
-pub(crate) fn status_for(reply: Reply) -> Status
-    ensures { result ≡ status_for_reply reply }
+pub(crate) fn status_for(reply: Result<Taken, PortFault>) -> Status
+    ensures { result ≡ status_of_reply reply }
 {
-    let Reply::Stored(reply) = reply;
     match reply {
         Ok(_) => Status::Success,
         Err(PortFault::Memory) => Status::OutOfResources,

@@ -2,12 +2,14 @@
 
 ghost use Rattle.std.specs.Prelude.{[], None};
 
+use archive_model::View;
 use association_run::{End, Gate, OpenGate, Port, RunFault, run_association};
 use association_session::{Moment, PortFault};
 use association_worker::*;
 use devices::{Store, Supply};
 use octets::{ListOf, Octets};
 use operation::{Content, Taken};
+use query_model::{Answer, Query};
 use std::alloc::{AllocError, Global};
 use std::process::Abort;
 use std::test::Fail;
@@ -107,10 +109,13 @@ fn data(alloc: Global, control: u8, fragment: &[u8]) -> Result<Vec<u8>, AllocErr
     pdu(alloc, 4, &[&[a, b, c, d, 1, control], fragment])
 }
 
-fn titles(alloc: Global) -> Result<Titles<()>, AllocError> {
+fn titles(alloc: Global) -> Result<Titles<View>, AllocError> {
     let mut list = ListOf::new(alloc);
     let title = Octets::from_slice(alloc, b"ARCHIVE")?;
-    list.push(Title { title, value: () })?;
+    list.push(Title {
+        title,
+        value: View::Archive,
+    })?;
     Ok(Titles { list })
 }
 
@@ -135,7 +140,7 @@ struct Refuser {
 }
 
 impl Port for Refuser {
-    ghost holds = { λ _ _. ⊥ };
+    ghost ops = { λ _. [] };
 
     ghost own = { λ _. [] };
 
@@ -145,6 +150,18 @@ impl Port for Refuser {
             PortFault::Busy => Err(PortFault::Busy),
             PortFault::Collision => Err(PortFault::Collision),
             PortFault::Shelf => Err(PortFault::Shelf),
+        }
+    }
+
+    fn find(
+        &mut self,
+        _called: &[u8],
+        _view: View,
+        _query: &Query,
+    ) -> Result<ListOf<Answer>, PortFault> {
+        match self.fault {
+            PortFault::Busy => Err(PortFault::Busy),
+            _ => Err(PortFault::Memory),
         }
     }
 }

@@ -6,4 +6,6 @@
 #[cfg(test)]
 mod associations;
 #[cfg(test)]
+mod finds;
+#[cfg(test)]
 mod sessions;

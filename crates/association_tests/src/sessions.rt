@@ -3,6 +3,7 @@
 ghost use Rattle.std.specs.Prelude.{IfOk};
 ghost use Rattle.association_session.specs.Session.{IsSound, IsWritable};
 
+use archive_model::View;
 use association_session::*;
 use octets::{ListOf, Octets};
 use operation::Taken;
@@ -118,10 +119,13 @@ fn data(alloc: Global, values: &[Value<'_>]) -> Result<Vec<u8>, AllocError> {
     pdu(alloc, 4, &[body.as_slice()])
 }
 
-fn titles(alloc: Global) -> Result<Titles<()>, AllocError> {
+fn titles(alloc: Global) -> Result<Titles<View>, AllocError> {
     let mut list = ListOf::new(alloc);
     let title = Octets::from_slice(alloc, b"ARCHIVE")?;
-    list.push(Title { title, value: () })?;
+    list.push(Title {
+        title,
+        value: View::Archive,
+    })?;
     Ok(Titles { list })
 }
 
@@ -147,13 +151,14 @@ fn told_by(alloc: Global, deed: &Deed) -> Result<Vec<u8>, AllocError>
             alloc,
             &[b"store ", content.instance(), content.body().as_slice()],
         ),
+        Deed::Ask(Call::Find(finding)) => { joined(alloc, &[b"find ", finding.called.as_slice()]) }
     }
 }
 
 /// Puts the deeds of a call behind others.
 fn put_told(
     alloc: Global,
-    session: &mut Session<()>,
+    session: &mut Session,
     event: SessionEvent,
     out: &mut Vec<u8>,
 ) -> Result<(), Fail>
@@ -169,7 +174,7 @@ fn put_told(
 }
 
 /// The deeds for an event and for all that it leaves, in order.
-fn told(alloc: Global, session: &mut Session<()>, event: SessionEvent) -> Result<Vec<u8>, Fail>
+fn told(alloc: Global, session: &mut Session, event: SessionEvent) -> Result<Vec<u8>, Fail>
     requires { IsSound event }
 {
     let mut out = Vec::new(alloc);
@@ -183,24 +188,24 @@ fn told(alloc: Global, session: &mut Session<()>, event: SessionEvent) -> Result
 }
 
 /// What a session asks on the PDU of these bytes.
-fn heard(alloc: Global, session: &mut Session<()>, bytes: &[u8]) -> Result<Vec<u8>, Fail> {
+fn heard(alloc: Global, session: &mut Session, bytes: &[u8]) -> Result<Vec<u8>, Fail> {
     let event = event_of(alloc, bytes)?;
     told(alloc, session, event)
 }
 
 /// What a session asks on these values.
-fn said(alloc: Global, session: &mut Session<()>, values: &[Value<'_>]) -> Result<Vec<u8>, Fail> {
+fn said(alloc: Global, session: &mut Session, values: &[Value<'_>]) -> Result<Vec<u8>, Fail> {
     let data = data(alloc, values)?;
     heard(alloc, session, data.as_slice())
 }
 
 /// What a session asks on a reply of the port.
-fn replied(alloc: Global, session: &mut Session<()>, reply: Stored) -> Result<Vec<u8>, Fail> {
+fn replied(alloc: Global, session: &mut Session, reply: Stored) -> Result<Vec<u8>, Fail> {
     told(alloc, session, SessionEvent::Replied(Reply::Stored(reply)))
 }
 
 /// A session that took a request for these contexts.
-fn opened(alloc: Global, contexts: &[u8], user: &[u8]) -> Result<Session<()>, Fail> {
+fn opened(alloc: Global, contexts: &[u8], user: &[u8]) -> Result<Session, Fail> {
     let mut session = Session::new(alloc);
     let request = pdu(alloc, 1, &[OPENING, contexts, user])?;
     heard(alloc, &mut session, request.as_slice())?;
@@ -223,7 +228,7 @@ fn is(
 fn hears(
     rt: &impl Abort,
     alloc: Global,
-    session: &mut Session<()>,
+    session: &mut Session,
     bytes: &[u8],
     wanted: &[&[u8]],
     why: &str,
@@ -236,7 +241,7 @@ fn hears(
 fn answers(
     rt: &impl Abort,
     alloc: Global,
-    session: &mut Session<()>,
+    session: &mut Session,
     values: &[Value<'_>],
     wanted: &[&[u8]],
     why: &str,
@@ -249,7 +254,7 @@ fn answers(
 fn resumes(
     rt: &impl Abort,
     alloc: Global,
-    session: &mut Session<()>,
+    session: &mut Session,
     reply: Stored,
     wanted: &[&[u8]],
     why: &str,
@@ -324,7 +329,7 @@ fn a_store_comes_in_fragments(rt: HostRuntime) -> Result<(), Fail> {
 }
 
 /// A C-STORE with two fragments of its data set, none of them the last.
-fn fed(rt: &impl Abort, alloc: Global, session: &mut Session<()>) -> Result<(), Fail> {
+fn fed(rt: &impl Abort, alloc: Global, session: &mut Session) -> Result<(), Fail> {
     answers(
         rt,
         alloc,
@@ -427,8 +432,9 @@ fn status_of(alloc: Global, context: u8, class: &[u8], low: u8, high: u8) -> Res
 
 #[test]
 fn services_are_refused(rt: HostRuntime) -> Result<(), Fail> {
-    let rows: [(u8, &[u8], u8, u8, u16); 7] = [
-        (3, CT, 0x20, 0x00, 0x0211),
+    let rows: [(u8, &[u8], u8, u8, u16); 8] = [
+        (3, CT, 0x20, 0x00, 0x0122),
+        (3, ECHO_CLASS, 0x20, 0x00, 0x0211),
         (1, CT, 0x10, 0x00, 0x0211),
         (1, CT, 0x40, 0x01, 0x0211),
         (1, ECHO_CLASS, 0x40, 0x01, 0x0122),

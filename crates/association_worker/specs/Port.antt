@@ -1,13 +1,11 @@
 -- A site in memory as a port.
-use Rattle.std.specs.Prelude.{◌≡◌, ℕ, List, Some, refl}
+use Rattle.std.specs.Prelude.{ℕ, List, refl}
 use Rattle.std.specs.FinMap as finmap
 use Rattle.std.specs.Coded.{Coded, code_by, coded×, coded_ℕ, coded_list}
 use Rattle.operation.specs.OpCode.{op_code}
-use Rattle.operation.specs.declared.op.Op.{Op}
-use Rattle.operation.specs.Spelling.{digest_of}
 use Rattle.site_state.specs.declared.fault.SiteFault.{SiteFault}
 use Rattle.site_state.specs.declared.fault.SiteFault.TheVariants as site_faults
-use Rattle.site_state.specs.Site.{Map, held_at}
+use Rattle.site_state.specs.Site.{Map}
 use Rattle.association_session.specs.declared.reply.PortFault.{PortFault}
 use Rattle.association_session.specs.declared.reply.PortFault.TheVariants.{Memory, Collision}
 
@@ -20,10 +18,6 @@ pub record PortParts : Type 0 where
 abbrev pub fault_of_site : SiteFault → PortFault
 fault_of_site site_faults.Collision = Collision
 fault_of_site site_faults.Memory = Memory
-
--- An operation is held under its digest.
-abbrev pub holds_op : Map → Op → Type 0
-holds_op site op = held_at site (digest_of op) ≡ Some op
 
 abbrev pub port_code : Coded PortParts
 port_code = code_by (Map × List (List ℕ)) (coded× (finmap.code (coded_list coded_ℕ) op_code)

@@ -4,13 +4,18 @@ ghost use Rattle.std.specs.Prelude.{◌≡◌, ◌⊎◌, ◌++◌, ◌∷◌, [
 ghost use Rattle.std.specs.FinMap as finmap;
 ghost use Rattle.operation.specs.declared.op.Op.TheVariants.{Content as AContent};
 ghost use Rattle.operation.specs.Spelling.{digest_of};
-ghost use Rattle.site_state.specs.Site.{Takes, IsClash};
-ghost use Rattle.association_run.specs.Port.{Stores};
-ghost use Rattle.association_worker.specs.Port.{PortParts, holds_op, fault_of_site};
+ghost use Rattle.query_model.specs.Rows.{rows_of};
+ghost use Rattle.site_state.specs.Site.{Takes, IsClash, ops_of};
+ghost use Rattle.association_run.specs.Port.{Stores, Finds};
+ghost use Rattle.association_worker.specs.Port.{PortParts, fault_of_site};
 
+use archive_model::View;
+use archive_query::find;
 use association_run::Port;
 use association_session::PortFault;
+use octets::ListOf;
 use operation::{Content, Digest, Digested, Op, Taken};
+use query_model::{Answer, Query};
 use site_state::{Site, SiteFault};
 use std::alloc::Global;
 use std::marker::Model;
@@ -18,6 +23,7 @@ use std::marker::Model;
 /// A site in memory, which no one else changes, and the digests of its own stores.
 #[derive(Drop)]
 pub struct SitePort {
+    alloc: Global,
     site: Site,
     own: Vec<Digest>,
 }
@@ -59,6 +65,7 @@ impl SitePort {
         ensures { result ≡ record { site = finmap.empty; own = [] } }
     {
         SitePort {
+            alloc,
             site: Site::new(alloc),
             own: Vec::new(alloc),
         }
@@ -76,6 +83,23 @@ impl SitePort {
         ensures { result.now ≡ self.now.own }
     {
         self.own.as_slice()
+    }
+
+    /// The rows that the site answers to a query.
+    pub fn rows(
+        &self,
+        called: &[u8],
+        view: View,
+        query: &Query,
+    ) -> Result<ListOf<Answer>, PortFault>
+        ensures found { IfOk result (λ rows. rows ≡
+            rows_of view called.now query.now (ops_of self.now.site)) }
+        ensures fault { IfErr result (λ fault. fault ≡ PortFault.Memory) }
+    {
+        match find(self.alloc, &self.site, view, called, query) {
+            Ok(rows) => Ok(ListOf::of(rows)),
+            Err(_refused) => Err(PortFault::Memory),
+        }
     }
 
     /// Takes a content, as its site does. A refusal leaves everything as it was.
@@ -104,12 +128,12 @@ impl SitePort {
 }
 
 impl Port for SitePort {
-    ghost holds = { λ p op. holds_op p.site op };
+    ghost ops = { λ p. ops_of p.site };
 
     ghost own = { λ p. p.own };
 
     fn store(&mut self, content: Content) -> Result<Taken, PortFault>
-        ensures stores { Stores (λ (p : PortParts) op. holds_op p.site op)
+        ensures stores { Stores (λ (p : PortParts). ops_of p.site)
             (λ (p : PortParts). p.own) self.old content result self.new }
 
         // It does what `take` does.
@@ -124,5 +148,23 @@ impl Port for SitePort {
         ensures kept { OnErr result (self.new ≡ self.old) }
     {
         self.take(content)
+    }
+
+    fn find(
+        &mut self,
+        called: &[u8],
+        view: View,
+        query: &Query,
+    ) -> Result<ListOf<Answer>, PortFault>
+        ensures finds { Finds (λ (p : PortParts). ops_of p.site) (λ (p : PortParts). p.own) self.old
+            (record { called = called.now; view = view; query = query.now }) result self.new }
+
+        // It is the site's own `find`, and is never busy.
+        ensures found { IfOk result (λ rows. rows ≡
+            rows_of view called.now query.now (ops_of self.old.site)) }
+        ensures fault { IfErr result (λ fault. fault ≡ PortFault.Memory) }
+        ensures kept { self.new ≡ self.old }
+    {
+        self.rows(called, view, query)
     }
 }

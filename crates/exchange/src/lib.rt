@@ -27,5 +27,8 @@ pub use holder::Holder;
 pub use laws::{a_round_by_buckets_gives_all, a_round_gives_all, rounds_each_way_make_sites_equal};
 pub use reader::{MOST_DIGESTS, a_text_spells_one_frame, read_frame_body};
 pub use round::Round;
+pub use site_holder::{
+    buckets_of_site, differ_of_site, digests_of_site, digests_of_site_in, ops_of_site,
+};
 pub use version::Version;
 pub use writer::{FrameText, what_is_written_is_read_again, write_frame};

@@ -3,13 +3,13 @@
 ghost use Rattle.std.specs.Prelude.{◌≡◌, ◌↔◌, IfOk, Err, filter, ⊤};
 ghost use Rattle.site_state.specs.Site.{IsClash, held_at};
 ghost use Rattle.exchange.specs.Held.{offered, offered_in, spoken_of, lacked, given, is_in as is_in_places, if_spoken, Looks, TakesIn};
-ghost use Rattle.exchange.specs.Buckets.{bucket_list};
+ghost use Rattle.exchange.specs.Buckets.{bucket_list, unequal as unequal_in};
 
-use crate::buckets::{buckets_of_tree, is_in};
+use crate::buckets::{buckets_of_tree, is_in, unequal};
 use crate::fault::HolderFault;
 use crate::holder::Holder;
 use crate::version::Version;
-use octets::ListOf;
+use octets::{ListOf, Octets};
 use operation::{Digest, Digested, Op, Taken};
 use site_state::{Site, SiteFault};
 use std::alloc::{AllocError, Global};
@@ -51,6 +51,54 @@ fn digests_of_tree_in(
     Ok(ListOf::of(digests))
 }
 
+/// The digests of a site's operations that a version speaks of, ascending.
+pub fn digests_of_site(
+    alloc: Global,
+    version: Version,
+    site: &Site,
+) -> Result<ListOf<Digest>, AllocError>
+    ensures { IfOk result (λ digests. digests ≡ offered version site.now) }
+{
+    digests_of_tree(alloc, version, site.tree())
+}
+
+/// Those of them that begin with one of these bytes, ascending.
+pub fn digests_of_site_in(
+    alloc: Global,
+    version: Version,
+    places: &[u8],
+    site: &Site,
+) -> Result<ListOf<Digest>, AllocError>
+    ensures { IfOk result (λ digests. digests ≡ offered_in version places.now site.now) }
+{
+    digests_of_tree_in(alloc, version, places, site.tree())
+}
+
+/// The buckets of a site's operations that a version speaks of.
+pub fn buckets_of_site(
+    alloc: Global,
+    version: Version,
+    site: &Site,
+) -> Result<ListOf<Digest>, AllocError>
+    ensures { IfOk result (λ buckets. buckets ≡ bucket_list (offered version site.now)) }
+{
+    buckets_of_tree(alloc, version, site.tree())
+}
+
+/// The first bytes in which these are other buckets than a site's.
+pub fn differ_of_site(
+    alloc: Global,
+    version: Version,
+    site: &Site,
+    buckets: &[Digest],
+) -> Result<Octets, AllocError>
+    ensures { IfOk result (λ places. places
+        ≡ unequal_in (bucket_list (offered version site.now)) buckets.now) }
+{
+    let own = buckets_of_site(alloc, version, site)?;
+    unequal(alloc, own.as_slice(), buckets)
+}
+
 /// A second owner of the operation of a digest, if it is held and a version speaks of it.
 fn op_of(
     alloc: Global,
@@ -71,7 +119,9 @@ fn op_of(
     }
 }
 
-fn ops_of(
+/// The operations under some digests that a site has and that a version speaks of, in the order
+/// given. The bytes of data sets are shared.
+pub fn ops_of_site(
     alloc: Global,
     version: Version,
     site: &Site,
@@ -96,7 +146,7 @@ impl Holder for Site {
 
     fn digests(&mut self, alloc: Global, version: Version) -> Result<ListOf<Digest>, HolderFault> {
         self.see_lawful();
-        Ok(digests_of_tree(alloc, version, self.tree())?)
+        Ok(digests_of_site(alloc, version, self)?)
     }
 
     fn digests_in(
@@ -106,12 +156,12 @@ impl Holder for Site {
         places: &[u8],
     ) -> Result<ListOf<Digest>, HolderFault> {
         self.see_lawful();
-        Ok(digests_of_tree_in(alloc, version, places, self.tree())?)
+        Ok(digests_of_site_in(alloc, version, places, self)?)
     }
 
     fn buckets(&mut self, alloc: Global, version: Version) -> Result<ListOf<Digest>, HolderFault> {
         self.see_lawful();
-        Ok(buckets_of_tree(alloc, version, self.tree())?)
+        Ok(buckets_of_site(alloc, version, self)?)
     }
 
     fn missing(
@@ -130,7 +180,7 @@ impl Holder for Site {
         digests: &[Digest],
     ) -> Result<ListOf<Op>, HolderFault> {
         self.see_lawful();
-        Ok(ops_of(alloc, version, self, digests)?)
+        Ok(ops_of_site(alloc, version, self, digests)?)
     }
 
     fn take(&mut self, op: Digested) -> Result<Taken, HolderFault>

@@ -1,8 +1,7 @@
 -- What the statements of a migration write.
-use Rattle.std.proofs.Common.{◌≡◌, ◌⊎◌, ◌++◌, ◌+◌, ◌<◌, suc, take, take-suc, length, get_or, arith, inl, inr, ℕ, pos}
-use Rattle.std.proofs.Common.{List, [], ◌∷◌, map, true, false, None, Some, Ok, Err, Result, OnOk, IfErr, IsTrue, All}
+use Rattle.std.proofs.Common.{◌≡◌, ◌⊎◌, ◌++◌, ◌+◌, ◌<◌, suc, take, take-suc, length, get_or, arith, ℕ, pos}
+use Rattle.std.proofs.Common.{List, [], ◌∷◌, map, true, false, None, Some, Ok, Err, Result, OnOk, IfErr, All}
 use Rattle.std.proofs.Common.{IsPermutation, refl, sym, ap, subst, ◌∙◌}
-use Rattle.std.proofs.lemmas.Bool.{both_ways}
 use Rattle.std.proofs.lemmas.List.Sorted.{IsPermutation-refl, IsPermutation-trans, IsPermutation-cons}
 use Rattle.std.proofs.lemmas.List.Sorted.{IsPermutation-sym, IsPermutation-map, IsPermutation-append_comm}
 use Rattle.std.proofs.lemmas.List.Sorted.{All-permutation}
@@ -22,9 +21,8 @@ use Rattle.sqlite.specs.Term.{Term}
 use Rattle.sqlite.specs.Tree.{Trees, put_row}
 use Rattle.sqlite.specs.Effect.{Database}
 use Rattle.sqlite.specs.Listing.{understood}
-use Rattle.sqlite.specs.State.{State, mode_of, Writes, Shows, KeepsCommit, IsRolledBack, HasCleanDisk, Survives}
+use Rattle.sqlite.specs.State.{State, mode_of, Writes, Shows, KeepsCommit, HasCleanDisk, Survives}
 use Rattle.sqlite.specs.State.{IsUnchanged, ExecutesInside}
-use Rattle.sqlite.specs.Steps.{FailsToCommit}
 use Rattle.sqlite.specs.Store.{Ghosts}
 use Rattle.sqlite.specs.Held.{Held, state}
 use Rattle.sqlite.specs.declared.error.Error.{Error}
@@ -34,7 +32,6 @@ use Rattle.sqlite.proofs.StateLemmas.{survives_then}
 use Rattle.sqlite.proofs.Callers.{IsPlain, command_of, statement_of, runs_as, one_step}
 use Rattle.op_shelf.specs.Entries.{entries, entry_in, Adds}
 use Rattle.op_shelf.specs.Migration.{IsOlder, IsStarted, IsMoving, IsMoved, IsSwapped, IsSwap, IsMigrated, IsMigration}
-use Rattle.op_shelf.specs.States.{KeepsAll}
 use Rattle.op_shelf.specs.Older.{older_schema, both_schema, moved, pairs, IsPair}
 use Rattle.op_shelf.specs.Table.{ops2, shelf_schema}
 use Rattle.op_shelf.specs.Texts.{create_text, insert_text, drop_text}
@@ -199,13 +196,6 @@ pub halts : (sql : List ℕ) (params : Row) (old new : State) (r : Result ℕ Er
 halts sql params old new (Ok count) h = tt
 halts sql params old new (Err e) h = h
 
--- what ends a transaction without a commit leaves the database as it was
-pub undone_keeps : (s m t : State) → IsOlder s → KeepsCommit s m → IsRolledBack m t → KeepsAll s t
-undone_keeps s m t older keeps back up =
-    let mid = back.was_open up in
-    let was = keeps.was_open mid in
-    (was, (back.undone up).0 ∙ keeps.committed mid ∙ sym (older.settled was))
-
 pub swapped_by : (s m t : State) (done : List Row) → KeepsCommit s m → IsMoved m done → Shows m t m.now m.now false
     → IsSwapped s t done
 swapped_by s m t done keeps moved shown = record {
@@ -227,11 +217,6 @@ swap_of m done trees moved is = record {
   shelf = moved.shelf;
   rows = subst (λ (t : Trees). IsPermutation done (entries (t 2))) (sym is) moved.rows;
 }
-
--- a commit that is refused within the transaction is rolled back
-pub commit_undone : (m t : State) (e : Error) → IsTrue m.in_transaction → FailsToCommit m t e → IsRolledBack m t
-commit_undone m t e inside (inl fails) = fails.3
-commit_undone m t e inside (inr late) = absurd (both_ways m.in_transaction late.1 inside)
 
 pub all_done : (old new : State) (digest body : List ℕ) (kind : ℕ) (r : Result ℕ Error) → ExecutesInside 0 insert_text
     (Text digest ∷ Int (pos kind) ∷ Blob body ∷ []) old new r

@@ -9,11 +9,12 @@ use Rattle.sqlite.specs.Schema.{Schema}
 use Rattle.sqlite.specs.Table.{Table}
 use Rattle.sqlite.specs.Store.{Ghosts}
 use Rattle.sqlite.specs.Tree.{Trees}
-use Rattle.sqlite.specs.State.{State, HasCleanDisk, IsUnchanged, IsRolledBack, FailsToQuery, Executes}
+use Rattle.sqlite.specs.State.{State, HasCleanDisk, IsUnchanged, IsRolledBack, FailsToQuery, Executes, Survives}
 use Rattle.sqlite.specs.declared.error.Error.{Error}
-use Rattle.op_shelf.specs.declared.fault.ShelfFault.TheVariants.{Store}
+use Rattle.op_shelf.specs.declared.fault.ShelfFault.{ShelfFault}
+use Rattle.op_shelf.specs.declared.fault.ShelfFault.TheVariants.{Store, BadRow}
 use Rattle.op_shelf.specs.Fault.{fault_of}
-use Rattle.op_shelf.specs.Migration.{IsOlder, IsMigrated, IsMigration, IsNotSwapped}
+use Rattle.op_shelf.specs.Migration.{IsOlder, IsMigrated, IsMigration, IsNotSwapped, HasBadPair}
 use Rattle.op_shelf.specs.Table.{IsShelf, no_schema}
 use Rattle.op_shelf.specs.Texts.{create_text, held_text, insert_text, older_text}
 use Rattle.sqlite.specs.Held.{Held, state}
@@ -152,3 +153,10 @@ IsNotOpened {S} g old new =
     IsNotDone create_text [] (state g old) (state g new)
     ⊎ (((¬ IsReady (state g old)) × (¬ IsBare (state g old)) × (¬ IsOlder (state g old)))
     ⊎ (IsOlder (state g old) × IsNotMigrated g old new))
+
+-- A connection was given up, and what it showed at last is as it was; each fault, only where it is.
+pub record IsGivenUp {S : Type 0} (g : Ghosts S) (old last : Held S) (e : ShelfFault) : Type 0 where
+  pub kept : HasCleanDisk (state g last) → KeepsAll (state g old) (state g last)
+  pub bad_row : HasCleanDisk (state g last) → e ≡ BadRow → HasBadPair (state g old)
+  pub store : HasCleanDisk (state g last) → e ≡ Store → IsNotOpened g old last
+  pub crash : Survives (state g old) (state g last) (MayBecome (state g old))

@@ -15,10 +15,9 @@ mod schema;
 mod shelf;
 mod statements;
 mod table;
-#[cfg(test)]
-mod tests;
 
 pub use fault::ShelfFault;
 pub use keep::Keep;
 pub use kept::Kept;
+pub use open::make_ready;
 pub use shelf::Shelf;

@@ -1,13 +1,13 @@
 //! From a connection, or a path, to a shelf.
 
-ghost use Rattle.std.specs.Prelude.{IfOk, IsErrOf, OnOk, OnErr};
+ghost use Rattle.std.specs.Prelude.{IfOk, IfErr, IsErrOf, OnOk, OnErr};
 ghost use Rattle.sqlite.specs.Files.{file_state};
-ghost use Rattle.sqlite.specs.Held.{state};
+ghost use Rattle.sqlite.specs.Held.{Held, state};
 ghost use Rattle.sqlite.specs.State.{HasCleanDisk, Survives};
 ghost use Rattle.sqlite.specs.WalFiles.{image_at};
 ghost use Rattle.op_shelf.specs.Opened.{IsFound};
 ghost use Rattle.op_shelf.specs.Migration.{IsOlder, HasBadPair};
-ghost use Rattle.op_shelf.specs.States.{IfClean, StandsFor, MayBecome, KeepsAll, IsNotOpened};
+ghost use Rattle.op_shelf.specs.States.{IfClean, StandsFor, MayBecome, KeepsAll, IsNotOpened, IsGivenUp};
 
 use crate::fault::ShelfFault;
 use crate::migration::migrate;
@@ -18,12 +18,10 @@ use sqlite::{Alter, Connection, FileFrom, FileStore, Start};
 use std::alloc::Global;
 use std::rt::HostRuntime;
 
-/// Makes the table where the database is empty, and moves the older one.
+/// Makes a connection one that `Shelf::adopt` takes as it is: makes the table where the database is
+/// empty, and moves the older one. A caller that keeps the connection learns why it is refused.
 #[tactic(auto, using(crate::proofs::Puts::survives_bare, crate::proofs::Puts::survives_older, crate::proofs::Puts::survives_none, crate::proofs::Puts::bare_keeps))]
-pub(crate) fn make_ready<S: Alter>(
-    database: &mut Connection<S>,
-    alloc: Global,
-) -> Result<(), ShelfFault>
+pub fn make_ready<S: Alter>(database: &mut Connection<S>, alloc: Global) -> Result<(), ShelfFault>
     ensures stands { IfClean S.Store database.old database.new (λ s t.
         OnOk result (StandsFor s t)) }
     ensures refused { IfClean S.Store database.old database.new (λ s t.
@@ -53,12 +51,15 @@ impl<S: Alter + Drop> Shelf<S> {
     /// A shelf over an open connection. An empty database gets the table. Each row of the older
     /// table is moved to it, in one transaction; one that is that of no operation is `BadRow`. A
     /// database of another schema is `Store`. What is refused is left as it was, and the
-    /// connection is given up.
+    /// connection is given up; `make_ready` leaves it to its caller.
     pub fn adopt(alloc: Global, connection: Connection<S>) -> Result<Shelf<S>, ShelfFault>
         ensures stands { IfOk result (λ shelf. HasCleanDisk (state S.Store shelf)
             → StandsFor (state S.Store connection) (state S.Store shelf)) }
         ensures bad_row { IsErrOf result ShelfFault.BadRow
             → IsOlder (state S.Store connection) }
+        ensures given_up { IfErr result (λ e. (last : Held S)
+            × IsGivenUp S.Store connection last e) }
+
         // A crash finds what was there, or an empty table in an empty database, or the same
         // operations in the newer table.
         ensures crash { IfOk result (λ shelf.
@@ -66,8 +67,10 @@ impl<S: Alter + Drop> Shelf<S> {
             (MayBecome (state S.Store connection))) }
     {
         let mut database = connection;
-        make_ready(&mut database, alloc)?;
-        Ok(Shelf { database, alloc })
+        match make_ready(&mut database, alloc) {
+            Ok(()) => Ok(Shelf { database, alloc }),
+            Err(fault) => Err(fault),
+        }
     }
 }
 

@@ -1,12 +1,10 @@
-//! Tests of texts, data sets, rejection notes and operations: rows of bytes from outside.
+//! Tests of texts, data sets and operations.
 //!
 //! They stand in a crate of their own, so that no crate is proved once more with its tests.
 #![tactic(auto)]
 
 #[cfg(test)]
 mod data_sets;
-#[cfg(test)]
-mod notes;
 #[cfg(test)]
 mod operations;
 #[cfg(test)]

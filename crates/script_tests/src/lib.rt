@@ -4,11 +4,9 @@
 #![tactic(auto)]
 
 #[cfg(test)]
-mod gets;
-#[cfg(test)]
-mod lines;
-#[cfg(test)]
 mod readers_and_writers;
+#[cfg(test)]
+mod rounds;
 #[cfg(test)]
 mod scripts;
 #[cfg(test)]

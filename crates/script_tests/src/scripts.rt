@@ -37,31 +37,6 @@ pub fn answered(
     Ok((ended, writer))
 }
 
-/// A series' description is corrected, and its image is rejected.
-const AUDITED: &[u8] = b"site A\nimage A 1.2.1 1.2.1.1 1.2.1.1.1 P1 DOE^JANE\n\
-    correct A series 1.2.1.1 0008103e HEAD\n\
-    correct A study 1.2.1 0008103e HEAD\n\
-    note A 113037 1.2.1 1.2.9 1.2.1.1.1\n\
-    find A ARCHIVE SERIES 0020000d=1.2.1 0008103e=HE*\n\
-    find A AUDIT SERIES 0020000d=1.2.1 0008103e=HE*\n";
-
-#[test]
-fn an_audit_finds_a_rejected_image_by_its_corrected_series(rt: HostRuntime) -> Result<(), Fail> {
-    let (ended, writer) = answered(rt.alloc(), AUDITED, 100, None, 1000)?;
-    assert_eq!(rt; ended, Ok(7), "all lines");
-    assert_eq!(rt;
-        writer.as_slice(),
-        b"site A 1\nnew\nstamp 1 1\nfault world 6\nnew\nend 0\n\
-        answer 0800520006000000534552494553080054000600000041554449542008003e1004000000484541\
-        4420000d0006000000312e322e310020000e0008000000312e322e312e3100\n\
-        answer 0800520006000000534552494553080054000600000041554449542008003e1000000000\
-        20000d0006000000312e322e310020000e0008000000312e322e392e3000\nend 2\n"
-            .as_slice(),
-        "the image's series, and the note's, whose empty description matches"
-    );
-    Ok(())
-}
-
 #[test]
 fn the_cuts_of_the_reads_do_not_matter(rt: HostRuntime) -> Result<(), Fail> {
     for piece in [1, 7, 100_000].iter().copied() {
@@ -150,6 +125,40 @@ fn a_hundred_thousand_and_one_lines_are_counted(rt: HostRuntime) -> Result<(), F
     let (ended, writer) = answered(rt.alloc(), script.as_slice(), 4096, None, 100)?;
     assert_eq!(rt; ended, Ok(100_001), "a line, and 100,000 empty ones");
     assert_eq!(rt; writer.as_slice(), b"site A 1\n".as_slice(), "its answer");
+    Ok(())
+}
+
+/// A site that takes 6,000 images, each of a study and an instance of its own.
+fn six_thousand_images(alloc: Global) -> Result<Vec<u8>, Fail> {
+    const DIGITS: &[u8] = b"0123456789";
+    let mut script = Vec::from_slice(alloc, b"site A\n")?;
+    for thousand in &DIGITS[..6] {
+        for hundred in DIGITS {
+            for ten in DIGITS {
+                for one in DIGITS {
+                    let uid = [*thousand, *hundred, *ten, *one];
+                    script.extend_from_slice(b"image A 1.2.1")?;
+                    script.extend_from_slice(&uid)?;
+                    script.extend_from_slice(b" 1.3 1.4.1")?;
+                    script.extend_from_slice(&uid)?;
+                    script.extend_from_slice(b" P1 DOE\n")?;
+                }
+            }
+        }
+    }
+    Ok(script)
+}
+
+#[test]
+fn six_thousand_studies_are_found(rt: HostRuntime) -> Result<(), Fail> {
+    let mut script = six_thousand_images(rt.alloc())?;
+    script.extend_from_slice(b"find A ARCHIVE STUDY 00100020=P1")?;
+    let (ended, writer) = answered(rt.alloc(), script.as_slice(), 65_536, None, 4_000_000)?;
+    assert_eq!(rt; ended, Ok(6_002), "all lines");
+    assert!(rt;
+        writer.as_slice().ends_with(b"\nend 6000\n"),
+        "a row for each study"
+    );
     Ok(())
 }
 

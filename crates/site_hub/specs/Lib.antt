@@ -4,3 +4,4 @@ pub mod Hub
 pub mod Stamps
 pub mod Laws
 pub mod Rules
+pub mod Close

@@ -1,5 +1,6 @@
 //! Entries of the history.
 
+use octets::ListOf;
 use operation::{Digest, Digested};
 
 /// An operation that was taken for a pass, with its digest.
@@ -15,3 +16,6 @@ pub struct Logged {
     pub pass: u64,
     pub digest: Digest,
 }
+
+/// The pass and the digest of each entry, in the order of the history.
+pub type Log = ListOf<Logged>;

@@ -3,17 +3,19 @@ ghost use Rattle.std.specs.Prelude.{◌≡◌, ◌⊎◌, ◌∷◌, ◌++◌, [
 ghost use mathlib.Core.List.{IsPrefix};
 ghost use Rattle.operation.specs.Spelling.{digest_of};
 ghost use Rattle.site_state.specs.Site.{IsClash};
-ghost use Rattle.site_hub.specs.History.{set_of, entry_of};
+ghost use Rattle.site_hub.specs.History.{set_of, entry_of, logged_of};
 ghost use Rattle.site_hub.specs.Hub.{WasHeld, HasStayed};
 
 use crate::book::{Book, Front, HubName};
-use crate::entry::{Entry, Logged};
+use crate::entry::{Entry, Log, Logged};
 use crate::fault::HubFault;
 use crate::pair::{Pair, Shows};
 use crate::pass::Pass;
-use crate::snapshot::Item;
+use crate::snapshot::{Item, Snapshot};
 use crate::told::Told;
+use octets::ListOf;
 use operation::{Digested, Taken};
+use site_state::Site;
 use std::marker::Model;
 use std::sync::Wait;
 
@@ -189,5 +191,26 @@ impl<H: HubName, T: Shows<H>, R: Wait + Drop> Keeper<H, T, R> {
         }
         let taken = self.check(&op)?;
         self.add(pass, op, taken)
+    }
+}
+
+impl<H: HubName, R: Wait + Drop> Keeper<H, Snapshot<H>, R> {
+    /// The site that readers took, and the history, once no reader is left.
+    pub(crate) fn into_parts(self) -> (Site, Log)
+        ensures site { result.0 ≡ set_of H.opening self.published }
+        ensures log { result.1 ≡ logged_of self.all }
+    {
+        let Keeper {
+            book: _,
+            pair,
+            late: _,
+            front: _,
+            log,
+            number: _,
+            passes: _,
+        } = self;
+        let Pair { handle } = pair;
+        let shown = Box::into_inner(handle.take());
+        (shown.into_site(), ListOf::of(log))
     }
 }

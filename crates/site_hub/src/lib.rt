@@ -7,6 +7,7 @@
 #![tactic(auto)]
 
 mod book;
+mod closing;
 mod correcting;
 mod entry;
 mod fault;
@@ -20,7 +21,8 @@ mod snapshot;
 mod told;
 
 pub use book::{Front, HubName};
-pub use entry::{Entry, Logged};
+pub use closing::{CloseFault, close};
+pub use entry::{Entry, Log, Logged};
 pub use fault::HubFault;
 pub use keeper::Keeper;
 pub use laws::{counters_of_corrections_rise, running_sites_that_hold_the_same_answer_alike};

@@ -20,6 +20,8 @@ use Rattle.site_script.specs.declared.verb.Verb.{Verb}
 use Rattle.site_script.specs.declared.verb.Verb.TheVariants.{Site as verb_site, Image as verb_image, Note as verb_note}
 use Rattle.site_script.specs.declared.verb.Verb.TheVariants.{Correct as verb_correct, Find as verb_find}
 use Rattle.site_script.specs.declared.verb.Verb.TheVariants.{Get as verb_get, Same as verb_same}
+use Rattle.site_script.specs.declared.verb.Verb.TheVariants.{Offer as verb_offer, Buckets as verb_buckets}
+use Rattle.site_script.specs.declared.verb.Verb.TheVariants.{Deliver as verb_deliver, Old as verb_old}
 use Rattle.site_script.specs.declared.verb.Verb.TheVariants.{Flagged as verb_flagged, Other as verb_other}
 use Rattle.site_script.specs.declared.command.Command.{Command}
 use Rattle.site_script.specs.declared.command.Command.TheVariants.{Skip, Bad, Site}
@@ -31,6 +33,8 @@ use Rattle.site_script.specs.Keys.{is_askable, key_from, key_in, put_key, keys_f
 use Rattle.site_script.specs.Sets.{key_element, identifier}
 use Rattle.site_script.specs.Commands.{command_of, command_in, asked, site_in, image_in, note_in, correct_in}
 use Rattle.site_script.specs.Commands.{correct_for, target_in, find_in, find_for, get_in, get_for, same_in, flagged_in}
+use Rattle.site_script.specs.Commands.{offer_in, buckets_in, deliver_in, deliver_for, old_in}
+use Rattle.site_script.specs.Numbers.{number_in}
 use Rattle.site_script.specs.Commands.{verb_of}
 use Rattle.site_script.specs.Retrieves.{parted, joined, first_in, behind_first, key_at, study_keys, series_keys}
 use Rattle.site_script.specs.Retrieves.{image_keys, named_keys}
@@ -469,6 +473,32 @@ flagged_words [] = tt
 flagged_words (a ∷ []) = tt
 flagged_words (a ∷ b ∷ words) = tt
 
+offer_words : (words : List (List ℕ)) → MakesSets (offer_in words)
+offer_words [] = tt
+offer_words (a ∷ []) = tt
+offer_words (a ∷ b ∷ []) = tt
+offer_words (a ∷ b ∷ c ∷ words) = tt
+
+buckets_words : (words : List (List ℕ)) → MakesSets (buckets_in words)
+buckets_words [] = tt
+buckets_words (a ∷ []) = tt
+buckets_words (a ∷ b ∷ []) = tt
+buckets_words (a ∷ b ∷ c ∷ words) = tt
+
+deliver_lawful : (number : Option ℕ) → MakesSets (deliver_for number)
+deliver_lawful (Some number) = tt
+deliver_lawful None = tt
+
+deliver_words : (words : List (List ℕ)) → MakesSets (deliver_in words)
+deliver_words [] = tt
+deliver_words (a ∷ []) = deliver_lawful (number_in a)
+deliver_words (a ∷ b ∷ words) = tt
+
+old_words : (words : List (List ℕ)) → MakesSets (old_in words)
+old_words [] = tt
+old_words (a ∷ []) = tt
+old_words (a ∷ b ∷ words) = tt
+
 asked_lawful : (verb : Verb) (words : List (List ℕ)) → AllShort words → weigh words ≤ 65537
     → MakesSets (asked verb words)
 asked_lawful verb_site words s few = site_lawful words
@@ -477,6 +507,10 @@ asked_lawful verb_note words s few = note_words words s
 asked_lawful verb_correct words s few = correct_words words
 asked_lawful verb_find words s few = find_words words s
 asked_lawful verb_get words s few = get_words words few
+asked_lawful verb_offer words s few = offer_words words
+asked_lawful verb_buckets words s few = buckets_words words
+asked_lawful verb_deliver words s few = deliver_words words
+asked_lawful verb_old words s few = old_words words
 asked_lawful verb_same words s few = same_words words
 asked_lawful verb_flagged words s few = flagged_words words
 asked_lawful verb_other words s few = tt

@@ -8,13 +8,16 @@ use Rattle.site_script.specs.declared.verb.Verb.{Verb}
 use Rattle.site_script.specs.declared.verb.Verb.TheVariants.{Site as verb_site, Image as verb_image, Note as verb_note}
 use Rattle.site_script.specs.declared.verb.Verb.TheVariants.{Correct as verb_correct, Find as verb_find}
 use Rattle.site_script.specs.declared.verb.Verb.TheVariants.{Get as verb_get, Same as verb_same}
+use Rattle.site_script.specs.declared.verb.Verb.TheVariants.{Offer as verb_offer, Buckets as verb_buckets}
+use Rattle.site_script.specs.declared.verb.Verb.TheVariants.{Deliver as verb_deliver, Old as verb_old}
 use Rattle.site_script.specs.declared.verb.Verb.TheVariants.{Flagged as verb_flagged, Other as verb_other}
 use Rattle.site_script.specs.declared.command.Command.{Command}
 use Rattle.site_script.specs.declared.command.ImageLine.{ImageLine}
 use Rattle.site_script.specs.declared.command.Command.TheVariants.{Skip, Bad, Site, Image, Note, Correct, Find, Get}
-use Rattle.site_script.specs.declared.command.Command.TheVariants.{Same, Flagged}
+use Rattle.site_script.specs.declared.command.Command.TheVariants.{Offer, Buckets, Deliver, Old, Same, Flagged}
 use Rattle.site_script.specs.Words.{words_of, uid_in}
 use Rattle.site_script.specs.Names.{is, is_site_name, tag_in, view_in}
+use Rattle.site_script.specs.Numbers.{number_in}
 use Rattle.site_script.specs.Keys.{keys_in}
 use Rattle.site_script.specs.Retrieves.{named_keys}
 
@@ -27,6 +30,10 @@ verb_of word =
     else if is word (codes "correct") then verb_correct
     else if is word (codes "find") then verb_find
     else if is word (codes "get") then verb_get
+    else if is word (codes "offer") then verb_offer
+    else if is word (codes "buckets") then verb_buckets
+    else if is word (codes "deliver") then verb_deliver
+    else if is word (codes "old") then verb_old
     else if is word (codes "same") then verb_same
     else if is word (codes "flagged") then verb_flagged
     else verb_other
@@ -103,6 +110,30 @@ abbrev pub get_in : List (List ℕ) → Command
 get_in (site ∷ view ∷ level ∷ uid ∷ uids) = get_for site (view_in view) level (map uid_in (uid ∷ uids))
 get_in _ = Bad
 
+-- offer A B
+abbrev pub offer_in : List (List ℕ) → Command
+offer_in (from ∷ to ∷ []) = Offer from to
+offer_in _ = Bad
+
+-- buckets A B
+abbrev pub buckets_in : List (List ℕ) → Command
+buckets_in (from ∷ to ∷ []) = Buckets from to
+buckets_in _ = Bad
+
+abbrev pub deliver_for : Option ℕ → Command
+deliver_for (Some number) = Deliver number
+deliver_for None = Bad
+
+-- deliver N
+abbrev pub deliver_in : List (List ℕ) → Command
+deliver_in (word ∷ []) = deliver_for (number_in word)
+deliver_in _ = Bad
+
+-- old A
+abbrev pub old_in : List (List ℕ) → Command
+old_in (site ∷ []) = Old site
+old_in _ = Bad
+
 -- same A B
 abbrev pub same_in : List (List ℕ) → Command
 same_in (a ∷ b ∷ []) = Same a b
@@ -121,6 +152,10 @@ asked verb_note words = note_in words
 asked verb_correct words = correct_in words
 asked verb_find words = find_in words
 asked verb_get words = get_in words
+asked verb_offer words = offer_in words
+asked verb_buckets words = buckets_in words
+asked verb_deliver words = deliver_in words
+asked verb_old words = old_in words
 asked verb_same words = same_in words
 asked verb_flagged words = flagged_in words
 asked verb_other words = Bad

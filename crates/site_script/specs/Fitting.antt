@@ -4,7 +4,7 @@ use Rattle.data_set.specs.declared.syntax.Syntax.TheVariants.{Implicit}
 use Rattle.data_set.specs.Written.{IsSet}
 use Rattle.site_script.specs.declared.command.Command.{Command}
 use Rattle.site_script.specs.declared.command.Command.TheVariants.{Skip, Bad, Site, Image, Note, Correct, Find, Get}
-use Rattle.site_script.specs.declared.command.Command.TheVariants.{Same, Flagged}
+use Rattle.site_script.specs.declared.command.Command.TheVariants.{Offer, Buckets, Deliver, Old, Same, Flagged}
 use Rattle.site_script.specs.Sets.{image_elements, note_elements, identifier}
 
 -- the most bytes of a line
@@ -24,5 +24,9 @@ MakesSets (Note line) = IsSet Implicit (note_elements line)
 MakesSets (Correct line) = Unit {0}
 MakesSets (Find line) = IsSet Implicit (identifier line.keys)
 MakesSets (Get line) = IsSet Implicit (identifier line.keys)
+MakesSets (Offer from to) = Unit {0}
+MakesSets (Buckets from to) = Unit {0}
+MakesSets (Deliver number) = Unit {0}
+MakesSets (Old site) = Unit {0}
 MakesSets (Same a b) = Unit {0}
 MakesSets (Flagged site) = Unit {0}

@@ -1,6 +1,7 @@
 pub mod Words
 pub mod WordLaws
 pub mod Names
+pub mod Numbers
 pub mod Keys
 pub mod Retrieves
 pub mod Commands

@@ -2,10 +2,13 @@
 
 ghost use Rattle.std.specs.Prelude.{◌≡◌, IfOk};
 ghost use Rattle.site_script.specs.Fitting.{IsShort, MakesSets};
+ghost use Rattle.site_script.specs.Commands.{offer_in as offer_in_words, buckets_in as buckets_in_words};
+ghost use Rattle.site_script.specs.Commands.{deliver_in as deliver_in_words, old_in as old_in_words};
 ghost use Rattle.site_script.specs.Commands.{site_in as site_in_words, image_in as image_in_words, image_parts, note_in as note_in_words, correct_in as correct_in_words, find_in as find_in_words, get_in as get_in_words, same_in as same_in_words, flagged_in as flagged_in_words, asked as asked_by, command_in as command_in_words, command_of as command_of_line};
 
 use crate::key::{Key, keys_in};
 use crate::name::{is_site_name, target_in, view_in};
+use crate::number::number_in;
 use crate::retrieve::named_keys;
 use crate::tag::tag_in;
 use crate::verb::{Verb, verb_of};
@@ -76,6 +79,14 @@ pub enum Command {
     Correct(CorrectLine),
     Find(FindLine),
     Get(GetLine),
+    /// The first site offers all that it holds to the second.
+    Offer(Octets, Octets),
+    /// So it does by what is told of the digests of each first byte.
+    Buckets(Octets, Octets),
+    /// The message of a number comes to its site.
+    Deliver(u64),
+    /// A site knows no corrections of series.
+    Old(Octets),
     Same(Octets, Octets),
     Flagged(Octets),
 }
@@ -213,6 +224,45 @@ fn get_in(alloc: Global, words: &[Octets]) -> Result<Command, AllocError>
     }
 }
 
+fn offer_in(alloc: Global, words: &[Octets]) -> Result<Command, AllocError>
+    ensures { IfOk result (λ command. command ≡ offer_in_words words.now) }
+{
+    match words {
+        [from, to] => Ok(Command::Offer(from.copy(alloc)?, to.copy(alloc)?)),
+        _ => Ok(Command::Bad),
+    }
+}
+
+fn buckets_in(alloc: Global, words: &[Octets]) -> Result<Command, AllocError>
+    ensures { IfOk result (λ command. command ≡ buckets_in_words words.now) }
+{
+    match words {
+        [from, to] => Ok(Command::Buckets(from.copy(alloc)?, to.copy(alloc)?)),
+        _ => Ok(Command::Bad),
+    }
+}
+
+fn deliver_in(words: &[Octets]) -> Command
+    ensures { result ≡ deliver_in_words words.now }
+{
+    match words {
+        [word] => match number_in(word.as_slice()) {
+            Some(number) => Command::Deliver(number),
+            None => Command::Bad,
+        },
+        _ => Command::Bad,
+    }
+}
+
+fn old_in(alloc: Global, words: &[Octets]) -> Result<Command, AllocError>
+    ensures { IfOk result (λ command. command ≡ old_in_words words.now) }
+{
+    match words {
+        [site] => Ok(Command::Old(site.copy(alloc)?)),
+        _ => Ok(Command::Bad),
+    }
+}
+
 fn same_in(alloc: Global, words: &[Octets]) -> Result<Command, AllocError>
     ensures { IfOk result (λ command. command ≡ same_in_words words.now) }
 {
@@ -242,6 +292,10 @@ fn asked(alloc: Global, verb: Verb, words: &[Octets]) -> Result<Command, AllocEr
         Verb::Correct => correct_in(alloc, words),
         Verb::Find => find_in(alloc, words),
         Verb::Get => get_in(alloc, words),
+        Verb::Offer => offer_in(alloc, words),
+        Verb::Buckets => buckets_in(alloc, words),
+        Verb::Deliver => Ok(deliver_in(words)),
+        Verb::Old => old_in(alloc, words),
         Verb::Same => same_in(alloc, words),
         Verb::Flagged => flagged_in(alloc, words),
         Verb::Other => Ok(Command::Bad),

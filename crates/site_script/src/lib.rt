@@ -10,6 +10,7 @@ mod identifier;
 mod key;
 mod laws;
 mod name;
+mod number;
 mod retrieve;
 mod sets;
 mod tag;

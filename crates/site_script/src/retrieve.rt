@@ -2,8 +2,8 @@
 
 ghost use Rattle.std.specs.Prelude.{◌≡◌, ◌++◌, ◌∷◌, [], IfOk, OnOk};
 ghost use Rattle.octets.specs.Gives.{Gives};
-ghost use Rattle.archive_query.specs.Fault.{is_memory};
-ghost use Rattle.archive_retrieve.specs.Selection.{selection_of};
+ghost use Rattle.query_model.specs.Fault.{is_memory};
+ghost use Rattle.retrieve_model.specs.Selection.{selection_of};
 ghost use Rattle.data_set.specs.declared.syntax.Syntax.TheVariants.{Implicit};
 ghost use Rattle.data_set.specs.Written.{IsSet};
 ghost use Rattle.site_script.specs.Sets.{identifier as identifier_of};

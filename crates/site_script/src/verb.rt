@@ -12,6 +12,10 @@ pub enum Verb {
     Correct,
     Find,
     Get,
+    Offer,
+    Buckets,
+    Deliver,
+    Old,
     Same,
     Flagged,
     /// Any other word.
@@ -40,6 +44,18 @@ pub fn verb_of(word: &[u8]) -> Verb
     }
     if word == b"get".as_slice() {
         return Verb::Get;
+    }
+    if word == b"offer".as_slice() {
+        return Verb::Offer;
+    }
+    if word == b"buckets".as_slice() {
+        return Verb::Buckets;
+    }
+    if word == b"deliver".as_slice() {
+        return Verb::Deliver;
+    }
+    if word == b"old".as_slice() {
+        return Verb::Old;
     }
     if word == b"same".as_slice() {
         return Verb::Same;

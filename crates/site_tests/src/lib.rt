@@ -8,4 +8,6 @@ mod indexes;
 #[cfg(test)]
 mod joins;
 #[cfg(test)]
+mod refusals;
+#[cfg(test)]
 mod sites;

@@ -1,10 +1,11 @@
 //! Sites that take images, notes and corrections, in whatever order.
 
-use archive_model::{View, instances_of_study, shown, studies};
+use archive_model::View;
 use bytes::Bytes;
 use data_set::Syntax;
 use octets::Octets;
 use operation::{Digest, Op, Stamp, Target, content_of, correction_of};
+use plain_archive::{instances_of_study, shown, studies};
 use site_state::{Counts, Site, SiteFault, Taken};
 use std::alloc::{AllocError, Global};
 use std::test::Fail;
@@ -92,7 +93,7 @@ const THE_NOTE: &[u8] = b"\x06\x00\x00\x001.2.9\x00";
 
 /// What a site may be given.
 #[derive(Clone, Copy)]
-enum Given<'a> {
+pub enum Given<'a> {
     /// An image of a study and a patient's name.
     Image(&'a [u8], &'a [u8]),
     /// A note of a title and a UID that covers another.
@@ -117,7 +118,7 @@ fn renaming(alloc: Global, name: &[u8]) -> Result<Op, Fail> {
     Ok(Op::Correction(correction_of(target, 0x0010_0010, value, stamp)?))
 }
 
-fn op_of(alloc: Global, given: Given<'_>) -> Result<Op, Fail> {
+pub fn op_of(alloc: Global, given: Given<'_>) -> Result<Op, Fail> {
     match given {
         Given::Image(study, name) => {
             content(alloc, CT, b"1.2.1.1.1", image_set(alloc, study, name)?)
@@ -134,7 +135,7 @@ fn take(alloc: Global, site: &mut Site, given: Given<'_>) -> Result<Taken, Fail>
     Ok(site.take(op_of(alloc, given)?)?)
 }
 
-fn site_of(alloc: Global, all: &[Given<'_>]) -> Result<Site, Fail> {
+pub fn site_of(alloc: Global, all: &[Given<'_>]) -> Result<Site, Fail> {
     let mut site = Site::new(alloc);
     for given in all {
         take(alloc, &mut site, *given)?;
@@ -341,10 +342,10 @@ fn a_site_finds_an_operation_by_its_digest(rt: HostRuntime) -> Result<(), Fail> 
 /// Whether the corrected name of the patient of the image is this.
 fn has_name(alloc: Global, site: &Site, name: &[u8]) -> Result<bool, AllocError> {
     let ops = site.operations(alloc)?;
-    let Some(content) = archive_model::pick(&ops, b"1.2.1.1.1") else {
+    let Some(content) = plain_archive::pick(&ops, b"1.2.1.1.1") else {
         return Ok(false);
     };
-    Ok(archive_model::attribute(&ops, content, 0x0010_0010) == name)
+    Ok(plain_archive::attribute(&ops, content, 0x0010_0010) == name)
 }
 
 #[test]

@@ -9,12 +9,12 @@ use Rattle.data_set.specs.Set.{Set}
 use Rattle.operation.specs.declared.op.Op.{Op}
 use Rattle.archive_model.specs.Members.{Has, SameMembers}
 use Rattle.archive_model.specs.declared.view.View.{View}
-use Rattle.archive_query.specs.declared.query.Query.{Query}
-use Rattle.archive_query.specs.Rows.{rows_of}
-use Rattle.archive_retrieve.specs.declared.accepts.Accepts.{Accepts}
-use Rattle.archive_retrieve.specs.declared.selection.Selection.{Selection}
-use Rattle.archive_retrieve.specs.declared.sending.Sending.{Sending}
-use Rattle.archive_retrieve.specs.Sending.{sendings_of}
+use Rattle.query_model.specs.declared.query.Query.{Query}
+use Rattle.query_model.specs.Rows.{rows_of}
+use Rattle.retrieve_model.specs.declared.accepts.Accepts.{Accepts}
+use Rattle.retrieve_model.specs.declared.selection.Selection.{Selection}
+use Rattle.retrieve_model.specs.declared.sending.Sending.{Sending}
+use Rattle.retrieve_model.specs.Sending.{sendings_of}
 use Rattle.site_state.specs.Site.{Map, ops_of}
 use Rattle.site_state.specs.Laws.{holding}
 use Rattle.site_state.proofs.Same.{equal_maps}
@@ -23,12 +23,14 @@ use Rattle.site_world.specs.declared.step.Step.{Step}
 use Rattle.site_world.specs.declared.step.Step.TheVariants.{Look, Get}
 use Rattle.site_world.specs.declared.step.Seen.{Seen}
 use Rattle.site_world.specs.declared.step.Seen.TheVariants.{Rows, Sent}
-use Rattle.site_world.specs.Steps.{site_at, site_of, title_of, on_site, told_at, Happens}
-use Rattle.site_world.specs.Runs.{Run, taken_at, taken_before, IsLook, LooksAreRows, GetsAreSendings, Outcome, IsNew}
+use Rattle.site_world.specs.declared.message.Message.{Message}
+use Rattle.site_world.specs.Messages.{WorldState, new_world}
+use Rattle.site_world.specs.Steps.{site_at, site_of, title_of, on_site, told_at, absent, Happens}
+use Rattle.site_world.specs.Runs.{Run, taken_at, taken_before, LooksAreRows, GetsAreSendings, Outcome, IsNew}
 use Rattle.site_world.specs.Runs.{AnswerAlike}
 use Rattle.site_world.specs.Runs.{SitesAreAlike, LooksAreAlike, GetsAreAlike, Headline}
 use Rattle.site_world.specs.Headline.{SiteOf, SameTakenSameMaps, SameTakenSameAnswers, TimeIsFree, TakenAreApart}
-use Rattle.site_world.proofs.Taken.{run_took}
+use Rattle.site_world.proofs.Taken.{Front, front_itself, front_front, run_stays, step_stays, run_took}
 use Rattle.site_world.proofs.Fitting.{Fits, run_fits, fits_apart}
 
 -- ---- looks
@@ -36,53 +38,66 @@ use Rattle.site_world.proofs.Fitting.{Fits, run_fits, fits_apart}
 some_is : {X : Type 0} (x y : X) → Some x ≡ Some y → x ≡ y
 some_is x y e = cc
 
+-- where a run stands before a step, and the step
+pub record Stands (old new : WorldState) (steps : List Step) (answers : List (Result Seen WorldFault)) (i : ℕ)
+    (step : Step) (answer : Result Seen WorldFault) : Type 0 where
+  pub mid : WorldState
+  pub next : WorldState
+  pub run : Run old (take i steps) (take i answers) mid
+  pub happens : Happens mid step answer next
+  pub sent : Front mid.sent new.sent
+
 -- Before a step the world is where the run of the steps before it ends.
-before : (old new : List Map) (steps : List Step) (answers : List (Result Seen WorldFault)) (i : ℕ) (step : Step)
+before : (old new : WorldState) (steps : List Step) (answers : List (Result Seen WorldFault)) (i : ℕ) (step : Step)
     (answer : Result Seen WorldFault)
     → Run old steps answers new → slice_get steps i ≡ Some step → slice_get answers i ≡ Some answer
-    → (mid : List Map) × (next : List Map) × Run old (take i steps) (take i answers) mid × Happens mid step answer next
+    → Stands old new steps answers i step answer
 before old new [] answers i step answer run at told = absurd cc
 before old new (s ∷ steps) [] i step answer run at told = absurd run
-before old new (s ∷ steps) (a ∷ answers) zero step answer (mid, first, rest) at told = (
-  old,
-  mid,
-  refl,
-  subst (λ x. Happens old x answer mid) (some_is s step at) (subst
-      (λ x. Happens old s x mid) (some_is a answer told) first),
-)
+before old new (s ∷ steps) (a ∷ answers) zero step answer (mid, first, rest) at told = record {
+  mid = old;
+  next = mid;
+  run = refl;
+  happens = subst (λ x. Happens old x answer mid) (some_is s step at) (subst
+      (λ x. Happens old s x mid) (some_is a answer told) first);
+  sent = front_front old.sent mid.sent new.sent (step_stays old mid s a first) (run_stays mid new steps answers rest);
+}
 before old new (s ∷ steps) (a ∷ answers) (suc i) step answer (mid, first, rest) at told =
     let later = before mid new steps answers i step answer rest at told in
-    (later.0, later.1, (mid, first, later.2), later.3)
+    record {
+      mid = later.mid;
+      next = later.next;
+      run = (mid, first, later.run);
+      happens = later.happens;
+      sent = later.sent;
+    }
 
 ok_is : (x y : Seen) (r : Result Seen WorldFault) → Ok x ≡ r → r ≡ Ok y → x ≡ y
 ok_is x y r e f = let g = e ∙ f in cc
 
--- a step that asks a site and brings nothing there
-abbrev Asks : Step → (Map → Seen) → Type 0
-Asks step seen = (m : Map) → (told_at m step).0 ≡ Ok (seen m)
+-- a step that asks the site of a number, and brings nothing there
+pub record Asks (n : ℕ) (step : Step) (seen : Map → Seen) : Type 0 where
+  pub here : (sent : List Message) → site_of sent step ≡ n
+  pub said : (w : WorldState) (m : Map) → (told_at w m step).seen ≡ Ok (seen m)
 
 -- It is answered what the site says of what it holds.
-seen_here : (mid next : List Map) (step : Step) (seen : Map → Seen) (answer : Seen) (m : Map) → Asks step seen
-    → Happens mid step (Ok answer) next → site_at mid (site_of step) ≡ Some m → answer ≡ seen m
-seen_here mid next step seen answer m asks happens at =
-    ok_is answer (seen m) _ happens.0 (ap (λ r. (on_site r (λ x. told_at x step)).0) at ∙ asks m)
+seen_here : (mid next : WorldState) (n : ℕ) (step : Step) (seen : Map → Seen) (answer : Seen) (m : Map)
+    → Asks n step seen → Happens mid step (Ok answer) next → site_at mid.sites n ≡ Some m → answer ≡ seen m
+seen_here mid next n step seen answer m asks happens at =
+    ok_is answer (seen m) _ happens.0
+    (ap (λ r. (on_site (absent step) r (λ x. told_at mid x step)).seen) (ap (site_at mid.sites) (asks.here mid.sent)
+    ∙ at) ∙ asks.said mid m)
 
 -- And its site has what was taken there before.
-seen_before : (old new : List Map) (steps : List Step) (answers : List (Result Seen WorldFault)) (i : ℕ) (step : Step)
-    (seen : Map → Seen) (answer : Seen) (m : Map) → Run old steps answers new → Asks step seen
-    → slice_get steps i ≡ Some step → slice_get answers i ≡ Some (Ok answer) → site_at old (site_of step) ≡ Some m
-    → answer ≡ seen (holding m (taken_before i (site_of step) steps answers))
-seen_before old new steps answers i step seen answer m run asks is told at =
+seen_before : (old new : WorldState) (steps : List Step) (answers : List (Result Seen WorldFault)) (i n : ℕ)
+    (step : Step) (seen : Map → Seen) (answer : Seen) (m : Map) → Run old steps answers new → Asks n step seen
+    → slice_get steps i ≡ Some step → slice_get answers i ≡ Some (Ok answer) → site_at old.sites n ≡ Some m
+    → answer ≡ seen (holding m (taken_before new.sent i n steps answers))
+seen_before old new steps answers i n step seen answer m run asks is told at =
     let here = before old new steps answers i step (Ok answer) run is told in
-    seen_here here.0 here.1 step seen answer _ asks here.3
-    (run_took old here.0 (take i steps) (take i answers) here.2 (site_of step)
-    ∙ ap (option_map (λ x. holding x (taken_before i (site_of step) steps answers))) at)
-
-rows_are : (rows others : List Set) → Rows rows ≡ Rows others → rows ≡ others
-rows_are rows others e = cc
-
-sent_are : (sendings others : List Sending) → Sent sendings ≡ Sent others → sendings ≡ others
-sent_are sendings others e = cc
+    seen_here here.mid here.next n step seen answer _ asks here.happens
+    (run_took old here.mid (take i steps) (take i answers) new.sent here.run here.sent n
+    ∙ ap (option_map (λ x. holding x (taken_before new.sent i n steps answers))) at)
 
 abbrev rows_seen : View → Query → Map → Seen
 rows_seen view query m = Rows (rows_of view (title_of view) query (ops_of m))
@@ -90,24 +105,38 @@ rows_seen view query m = Rows (rows_of view (title_of view) query (ops_of m))
 abbrev sent_seen : View → Selection → Accepts → Map → Seen
 sent_seen view selection accepts m = Sent (sendings_of view selection accepts (ops_of m))
 
-pub looks_are_rows : (old new : List Map) (steps : List Step) (answers : List (Result Seen WorldFault)) →
-    Run old steps answers new → LooksAreRows old steps answers
-looks_are_rows old new steps answers run i n m view query rows look at =
-    rows_are rows _ (seen_before old new steps answers i (Look n view query) (rows_seen view query) (Rows rows) m run
-    (λ x. refl) look.0 look.1 at)
+asks_look : (n : ℕ) (view : View) (query : Query) → Asks n (Look n view query) (rows_seen view query)
+asks_look n view query = record { here = λ sent. refl; said = λ w m. refl }
 
-pub gets_are_sendings : (old new : List Map) (steps : List Step) (answers : List (Result Seen WorldFault)) →
-    Run old steps answers new → GetsAreSendings old steps answers
+asks_get : (n : ℕ) (view : View) (selection : Selection) (accepts : Accepts)
+    → Asks n (Get n view selection accepts) (sent_seen view selection accepts)
+asks_get n view selection accepts = record { here = λ sent. refl; said = λ w m. refl }
+
+rows_are : (rows others : List Set) → Rows rows ≡ Rows others → rows ≡ others
+rows_are rows others e = cc
+
+sent_are : (sendings others : List Sending) → Sent sendings ≡ Sent others → sendings ≡ others
+sent_are sendings others e = cc
+
+pub looks_are_rows : (old new : WorldState) (steps : List Step) (answers : List (Result Seen WorldFault)) →
+    Run old steps answers new → LooksAreRows old steps answers new
+looks_are_rows old new steps answers run i n m view query rows look at =
+    rows_are rows _ (seen_before old new steps answers i n (Look n view query) (rows_seen view query) (Rows rows) m run
+    (asks_look n view query) look.0 look.1 at)
+
+pub gets_are_sendings : (old new : WorldState) (steps : List Step) (answers : List (Result Seen WorldFault)) →
+    Run old steps answers new → GetsAreSendings old steps answers new
 gets_are_sendings old new steps answers run i n m view selection accepts sendings got at =
-    sent_are sendings _ (seen_before old new steps answers i (Get n view selection accepts) (sent_seen view selection
-    accepts) (Sent sendings) m run (λ x. refl) got.0 got.1 at)
+    sent_are sendings _ (seen_before old new steps answers i n (Get n view selection accepts) (sent_seen view selection
+    accepts) (Sent sendings) m run (asks_get n view selection accepts) got.0 got.1 at)
 
 -- What a run comes to.
-pub outcome : (old new : List Map) (steps : List Step) (answers : List (Result Seen WorldFault)) →
+pub outcome : (old new : WorldState) (steps : List Step) (answers : List (Result Seen WorldFault)) →
     Run old steps answers new → Outcome old steps answers new
 outcome old new steps answers run = record {
   answered = run;
-  taken = run_took old new steps answers run;
+  taken = run_took old new steps answers new.sent run (front_itself new.sent);
+  messages = run_stays old new steps answers run;
   looks = looks_are_rows old new steps answers run;
   gets = gets_are_sendings old new steps answers run;
 }
@@ -127,20 +156,20 @@ new_holds count (suc k) m e = of_copies count k m e
 abbrev Took : Map → List Op → Type 0
 Took a ops = (a ≡ holding empty ops) × Fits empty ops
 
-by_site : (old new : List Map) (steps : List Step) (answers : List (Result Seen WorldFault)) (n : ℕ) (a : Map) (r :
-    Option Map)
-    → ((m : Map) → site_at old n ≡ Some m → m ≡ empty) → site_at old n ≡ r → Run old steps answers new →
-    site_at new n ≡ Some a
-    → Took a (taken_at n steps answers)
-by_site old new steps answers n a None nothing was run at =
-    absurd (let e = sym at ∙ run_took old new steps answers run n
-    ∙ ap (option_map (λ m. holding m (taken_at n steps answers))) was in cc)
-by_site old new steps answers n a (Some m) nothing was run at =
-    let ops = taken_at n steps answers in
-    let e : Some a ≡ Some (holding m ops) = sym at ∙ run_took old new steps answers run n
+by_site : (old new : WorldState) (steps : List Step) (answers : List (Result Seen WorldFault)) (all : List Message)
+    (n : ℕ) (a : Map) (r : Option Map)
+    → ((m : Map) → site_at old.sites n ≡ Some m → m ≡ empty) → site_at old.sites n ≡ r → Run old steps answers new
+    → Front new.sent all → site_at new.sites n ≡ Some a
+    → Took a (taken_at all n steps answers)
+by_site old new steps answers all n a None nothing was run begins at =
+    absurd (let e = sym at ∙ run_took old new steps answers all run begins n
+    ∙ ap (option_map (λ m. holding m (taken_at all n steps answers))) was in cc)
+by_site old new steps answers all n a (Some m) nothing was run begins at =
+    let ops = taken_at all n steps answers in
+    let e : Some a ≡ Some (holding m ops) = sym at ∙ run_took old new steps answers all run begins n
     ∙ ap (option_map (λ x. holding x ops)) was in (
       some_is a (holding m ops) e ∙ ap (λ x. holding x ops) (nothing m was),
-      subst (λ x. Fits x ops) (nothing m was) (run_fits old new steps answers n m run was),
+      subst (λ x. Fits x ops) (nothing m was) (run_fits old new steps answers all n m run begins was),
     )
 
 -- Sites that took the same hold the same.
@@ -158,8 +187,9 @@ answer_alike a b e = record {
 pub site_took : (a : Map) (ops : List Op) → SiteOf a ops → Took a ops
 site_took a ops s =
     subst (Took a) s.taken
-    (by_site (replicate s.count empty) s.sites s.steps s.answers s.number a _ (new_holds s.count s.number) refl s.run
-    s.here)
+    (by_site (new_world (replicate s.count empty)) s.world s.steps s.answers s.world.sent s.number a _ (new_holds
+    s.count
+    s.number) refl s.run (front_itself s.world.sent) s.here)
 
 pub same_maps : SameTakenSameMaps
 same_maps a b xs ys p q same = same_took a b xs ys (site_took a xs p) (site_took b ys q) same
@@ -191,58 +221,59 @@ time_is_free a b o xs ys zs ws p q same =
 
 -- ---- one run of a new world
 
-module _ (old new : List Map) (steps : List Step) (answers : List (Result Seen WorldFault)) (fresh : IsNew old) (run :
-    Run old steps answers new) where
-  nothing : (n : ℕ) (m : Map) → site_at old n ≡ Some m → m ≡ empty
-  nothing n m at = new_holds (length old) n m (ap (λ w. site_at w n) (sym fresh) ∙ at)
+module _ (old new : WorldState) (steps : List Step) (answers : List (Result Seen WorldFault)) (fresh : IsNew old)
+    (run : Run old steps answers new) where
+  nothing : (n : ℕ) (m : Map) → site_at old.sites n ≡ Some m → m ≡ empty
+  nothing n m at = new_holds (length old.sites) n m (ap (λ (w : WorldState). site_at w.sites n) (sym fresh) ∙ at)
 
   sites_alike : SitesAreAlike steps answers new
   sites_alike m n a b at here same =
-      let p = by_site old new steps answers m a _ (nothing m) refl run at in
-      let q = by_site old new steps answers n b _ (nothing n) refl run here in
+      let p = by_site old new steps answers new.sent m a _ (nothing m) refl run (front_itself new.sent) at in
+      let q = by_site old new steps answers new.sent n b _ (nothing n) refl run (front_itself new.sent) here in
       let e = same_took a b _ _ p q same in
       (e, answer_alike a b e)
 
   -- a step that asks was answered over a site that holds what was taken there before
-  answer_at : (i : ℕ) (step : Step) (seen : Map → Seen) (answer : Seen) → Asks step seen
+  answer_at : (i n : ℕ) (step : Step) (seen : Map → Seen) (answer : Seen) → Asks n step seen
       → slice_get steps i ≡ Some step → slice_get answers i ≡ Some (Ok answer)
-      → (a : Map) × Took a (taken_before i (site_of step) steps answers) × (answer ≡ seen a)
-  answer_at i step seen answer asks is told =
+      → (a : Map) × Took a (taken_before new.sent i n steps answers) × (answer ≡ seen a)
+  answer_at i n step seen answer asks is told =
       let here = before old new steps answers i step (Ok answer) run is told in
-      by_held here (site_at here.0 (site_of step)) refl
+      by_held here (site_at here.mid.sites n) refl
     where
-      by_held : (here : (mid : List Map) × (next : List Map) × Run old (take i steps) (take i answers) mid
-          × Happens mid step (Ok answer) next) (r : Option Map) → site_at here.0 (site_of step) ≡ r
-          → (a : Map) × Took a (taken_before i (site_of step) steps answers) × (answer ≡ seen a)
-      by_held here None at = absurd (let e = here.3.0 ∙ ap (λ r. (on_site r (λ x. told_at x step)).0) at in cc)
+      by_held : (here : Stands old new steps answers i step (Ok answer)) (r : Option Map) → site_at here.mid.sites n ≡ r
+          → (a : Map) × Took a (taken_before new.sent i n steps answers) × (answer ≡ seen a)
+      by_held here None at =
+          absurd (let e = here.happens.0 ∙ ap (λ r. (on_site (absent step) r (λ x. told_at here.mid x step)).seen)
+          (ap (site_at here.mid.sites) (asks.here here.mid.sent) ∙ at) in cc)
       by_held here (Some a) at = (
         a,
-        by_site old here.0 (take i steps) (take i answers) (site_of step) a _ (nothing (site_of step)) refl here.2 at,
-        seen_here here.0 here.1 step seen answer a asks here.3 at,
+        by_site old here.mid (take i steps) (take i answers) new.sent n a _ (nothing n) refl here.run here.sent at,
+        seen_here here.mid here.next n step seen answer a asks here.happens at,
       )
 
   -- Two that ask the same, where the same was taken before, are answered alike.
-  answers_alike : (i j : ℕ) (step other : Step) (seen : Map → Seen) (answer second : Seen) → Asks step seen
-      → Asks other seen
+  answers_alike : (i j m n : ℕ) (step other : Step) (seen : Map → Seen) (answer second : Seen) → Asks m step seen
+      → Asks n other seen
       → slice_get steps i ≡ Some step → slice_get answers i ≡ Some (Ok answer)
       → slice_get steps j ≡ Some other → slice_get answers j ≡ Some (Ok second)
-      → SameMembers (taken_before i (site_of step) steps answers) (taken_before j (site_of other) steps answers)
+      → SameMembers (taken_before new.sent i m steps answers) (taken_before new.sent j n steps answers)
       → answer ≡ second
-  answers_alike i j step other seen answer second asks asks' is told is' told' same =
-      let p = answer_at i step seen answer asks is told in
-      let q = answer_at j other seen second asks' is' told' in
+  answers_alike i j m n step other seen answer second asks asks' is told is' told' same =
+      let p = answer_at i m step seen answer asks is told in
+      let q = answer_at j n other seen second asks' is' told' in
       p.2 ∙ ap seen (same_took p.0 q.0 _ _ p.1 q.1 same) ∙ sym q.2
 
-  looks_alike : LooksAreAlike steps answers
+  looks_alike : LooksAreAlike steps answers new
   looks_alike i j m n view query rows others one other same =
-      rows_are rows others (answers_alike i j (Look m view query) (Look n view query) (rows_seen view query) (Rows rows)
-      (Rows others) (λ x. refl) (λ x. refl) one.0 one.1 other.0 other.1 same)
+      rows_are rows others (answers_alike i j m n (Look m view query) (Look n view query) (rows_seen view query) (Rows
+      rows) (Rows others) (asks_look m view query) (asks_look n view query) one.0 one.1 other.0 other.1 same)
 
-  gets_alike : GetsAreAlike steps answers
+  gets_alike : GetsAreAlike steps answers new
   gets_alike i j m n view selection accepts sendings others one other same =
-      sent_are sendings others (answers_alike i j (Get m view selection accepts) (Get n view selection accepts)
-      (sent_seen view selection accepts) (Sent sendings) (Sent others) (λ x. refl) (λ x. refl) one.0 one.1 other.0
-      other.1 same)
+      sent_are sendings others (answers_alike i j m n (Get m view selection accepts) (Get n view selection accepts)
+      (sent_seen view selection accepts) (Sent sendings) (Sent others) (asks_get m view selection accepts) (asks_get n
+      view selection accepts) one.0 one.1 other.0 other.1 same)
 
   pub headline : Headline steps answers new
   headline = record { sites_alike = sites_alike; looks_alike = looks_alike; gets_alike = gets_alike }

@@ -5,6 +5,7 @@ pub mod Worlds
 pub mod Taken
 pub mod Fitting
 pub mod Told
+pub mod Rounds
 pub mod Alike
 pub mod Rejected
 pub mod Played

@@ -16,19 +16,28 @@ use Rattle.operation.specs.Spelling.{digest_of}
 use Rattle.site_script.specs.Commands.{command_of}
 use Rattle.site_script.specs.declared.command.Command.{Command}
 use Rattle.site_world.specs.declared.fault.WorldFault.{WorldFault}
-use Rattle.site_world.specs.declared.fault.WorldFault.TheVariants.{Site, BadCorrection, StampsSpent}
+use Rattle.site_world.specs.declared.fault.WorldFault.TheVariants.{Site, NoSite}
+use Rattle.site_world.specs.declared.fault.WorldFault.TheVariants.{BadCorrection, StampsSpent, OldSite}
 use Rattle.site_world.specs.declared.script.Move.{Move}
 use Rattle.site_world.specs.declared.script.Move.TheVariants.{Says, Names, Does}
 use Rattle.site_world.specs.declared.step.Step.{Step}
-use Rattle.site_world.specs.declared.step.Step.TheVariants.{Take, Correct, Look, Get}
+use Rattle.site_world.specs.declared.step.Step.TheVariants.{Take, Correct, Offer, Buckets, Deliver, Old, Look, Get}
 use Rattle.site_world.specs.Output.{without_cr, is_full, NOTHING, output_from}
 use Rattle.site_world.specs.Played.{Deed, deed_by, deed_of, deeds_from, end_from, text_of, steps_in, answers_in}
-use Rattle.site_world.specs.Played.{deeds_of, sites_of, ScriptsAreRuns}
+use Rattle.site_world.specs.Played.{deeds_of, world_of, ScriptsAreRuns}
 use Rattle.site_world.specs.Runs.{Run}
 use Rattle.site_world.specs.Same.{same_op}
 use Rattle.site_world.specs.Script.{move_of, said, moved, printed as printed_by, after}
 use Rattle.site_world.specs.State.{State}
-use Rattle.site_world.specs.Steps.{is_refused_memory, site_at, site_of, told_at, told_of_taking, told_of_stamping}
+use Rattle.site_world.specs.declared.step.Seen.TheVariants.{Offered, Aged}
+use Rattle.site_world.specs.declared.message.Message.{Message}
+use Rattle.site_world.specs.declared.message.Says.{Says as Saying}
+use Rattle.site_world.specs.declared.message.Says.TheVariants.{Have, Want, Give, Buckets as says_buckets, Differ}
+use Rattle.exchange.specs.declared.version.Version.{Version}
+use Rattle.exchange.specs.Held.{is_spoken}
+use Rattle.site_world.specs.Messages.{WorldState, message_at, version_at, version_between, has_begun, message, reaction}
+use Rattle.site_world.specs.Steps.{only, is_refused_memory, site_at, site_of, told_at, told_of_taking, told_of_stamping}
+use Rattle.site_world.specs.Steps.{told_of_sending, told_of_reaction, told_of_message, absent, taken_in}
 use Rattle.site_world.specs.Steps.{taken_by, answer_to, made_at, LAST_COUNTER, on_site, seen_by, after as after_step}
 use Rattle.site_world.specs.Steps.{Happens}
 use Rattle.site_world.proofs.Alike.{headline}
@@ -43,56 +52,110 @@ answer_is : (r : Option Op) (op : Op) → is_refused_memory (answer_to r op) ≡
 answer_is None op = refl
 answer_is (Some held) op = by_answer (Some held) op (same_op held op)
 
+by_spoken : (m : Map) (op : Op) (b : Bool) → is_refused_memory (cond b (taken_by m op) (Err OldSite)) ≡ false
+by_spoken m op true = answer_is (held_at m (digest_of op)) op
+by_spoken m op false = refl
+
+spoken_is : (version : Version) (m : Map) (op : Op) → is_refused_memory (taken_in version m op) ≡ false
+spoken_is version m op = by_spoken m op (is_spoken version op)
+
 by_taking : (op : Op) (r : Result Taken WorldFault) → is_refused_memory r ≡ false →
-    is_refused_memory (told_of_taking op r).0 ≡ false
+    is_refused_memory (told_of_taking op r).seen ≡ false
 by_taking op (Ok taken) e = refl
 by_taking op (Err fault) e = e
 
 by_stamping : (stamp : Stamp) (op : Op) (r : Result Taken WorldFault) → is_refused_memory r ≡ false →
-    is_refused_memory (told_of_stamping stamp op r).0 ≡ false
+    is_refused_memory (told_of_stamping stamp op r).seen ≡ false
 by_stamping stamp op (Ok taken) e = refl
 by_stamping stamp op (Err fault) e = e
 
-by_correcting : (m : Map) (stamp : Stamp) (op : Op) (is_bad is_spent : Bool)
-    → is_refused_memory (cond is_bad (Err BadCorrection, None) (cond is_spent (Err StampsSpent, None) (told_of_stamping
-    stamp op (taken_by m op)))).0 ≡ false
-by_correcting m stamp op true is_spent = refl
-by_correcting m stamp op false true = refl
-by_correcting m stamp op false false = by_stamping stamp op (taken_by m op) (answer_is (held_at m (digest_of op)) op)
+by_correcting : (version : Version) (m : Map) (stamp : Stamp) (op : Op) (is_bad is_spent : Bool)
+    → is_refused_memory (cond is_bad (only (Err BadCorrection)) (cond is_spent (only (Err StampsSpent))
+    (told_of_stamping
+    stamp op (taken_in version m op)))).seen ≡ false
+by_correcting version m stamp op true is_spent = refl
+by_correcting version m stamp op false true = refl
+by_correcting version m stamp op false false =
+    by_stamping stamp op (taken_in version m op) (spoken_is version m op)
 
-told_is : (m : Map) (step : Step) → is_refused_memory (told_at m step).0 ≡ false
-told_is m (Take n op) = by_taking op (taken_by m op) (answer_is (held_at m (digest_of op)) op)
-told_is m (Correct n target tag value) =
+by_saying : (w : WorldState) (m : Map) (from to : ℕ) (says : Saying)
+    → is_refused_memory (told_of_reaction w m from to (reaction (version_between w.aged from to) m says)).seen ≡ false
+by_saying w m from to (Have have) = refl
+by_saying w m from to (Want want) = refl
+by_saying w m from to (Give op) =
+    by_taking op (taken_in (version_at w.aged to) m op) (spoken_is (version_at w.aged to) m op)
+by_saying w m from to (says_buckets buckets) = refl
+by_saying w m from to (Differ places) = refl
+
+by_message : (w : WorldState) (m : Map) (r : Option Message)
+    → is_refused_memory (told_of_message w m r).seen ≡ false
+by_message w m None = refl
+by_message w m (Some one) = by_saying w m one.from one.to one.says
+
+by_opening : (w : WorldState) (from to : ℕ) (says : Saying) (r : Option Map)
+    → is_refused_memory (on_site NoSite r (λ _. told_of_sending Offered w.sent (message from to says))).seen ≡ false
+by_opening w from to says None = refl
+by_opening w from to says (Some m) = refl
+
+by_aging : (n : ℕ) (b : Bool)
+    → is_refused_memory (cond b (only (Err OldSite)) (record {
+      seen = Ok Aged;
+      brings = None;
+      sends = [];
+      ages = Some
+          n;
+    })).seen ≡ false
+by_aging n true = refl
+by_aging n false = refl
+
+told_is : (w : WorldState) (m : Map) (step : Step) → is_refused_memory (told_at w m step).seen ≡ false
+told_is w m (Take n op) = by_taking op (taken_in (version_at w.aged n) m op) (spoken_is (version_at w.aged n) m op)
+told_is w m (Correct n target tag value) =
     let made = made_at n m target tag value in
-    by_correcting m made.stamp (a_correction made) (not (is_correction made)) (top_counter_of (ops_of m) ==
-    LAST_COUNTER)
-told_is m (Look n view query) = refl
-told_is m (Get n view selection accepts) = refl
+    by_correcting (version_at w.aged n) m made.stamp (a_correction made) (not (is_correction made)) (top_counter_of
+    (ops_of m) == LAST_COUNTER)
+told_is w m (Offer from to) = by_opening w from to _ (site_at w.sites to)
+told_is w m (Buckets from to) = by_opening w from to _ (site_at w.sites to)
+told_is w m (Deliver number) = by_message w m (message_at w.sent number)
+told_is w m (Old n) = by_aging n (has_begun w.sent n m)
+told_is w m (Look n view query) = refl
+told_is w m (Get n view selection accepts) = refl
 
-at_site : (step : Step) (r : Option Map) → is_refused_memory (on_site r (λ m. told_at m step)).0 ≡ false
-at_site step None = refl
-at_site step (Some m) = told_is m step
+absent_is : (step : Step) → is_refused_memory (only (Err (absent step))).seen ≡ false
+absent_is (Take n op) = refl
+absent_is (Correct n target tag value) = refl
+absent_is (Offer from to) = refl
+absent_is (Buckets from to) = refl
+absent_is (Deliver number) = refl
+absent_is (Old n) = refl
+absent_is (Look n view query) = refl
+absent_is (Get n view selection accepts) = refl
+
+at_site : (w : WorldState) (step : Step) (r : Option Map)
+    → is_refused_memory (on_site (absent step) r (λ m. told_at w m step)).seen ≡ false
+at_site w step None = absent_is step
+at_site w step (Some m) = told_is w m step
 
 -- A step that is answered by definition is a step of a run.
-step_happens : (sites : List Map) (step : Step) → Happens sites step (seen_by sites step) (after_step sites step)
-step_happens sites step =
-    subst (λ b. MatchBool b (after_step sites step ≡ sites) ((seen_by sites step ≡ seen_by sites step)
-    × (after_step sites step ≡ after_step sites step)))
-    (sym (at_site step (site_at sites (site_of step)))) (refl, refl)
+step_happens : (w : WorldState) (step : Step) → Happens w step (seen_by w step) (after_step w step)
+step_happens w step =
+    subst (λ b. MatchBool b (after_step w step ≡ w) ((seen_by w step ≡ seen_by w step)
+    × (after_step w step ≡ after_step w step)))
+    (sym (at_site w step (site_at w.sites (site_of w.sent step)))) (refl, refl)
 
 -- ---- a line
 
-by_move : (state : State) (move : Move) (deeds : List Deed) (new : List Map) →
-    Run (moved state move).sites (steps_in deeds) (answers_in deeds) new
-    → Run state.sites (steps_in (deed_by state move ∷ deeds)) (answers_in (deed_by state move ∷ deeds)) new
+by_move : (state : State) (move : Move) (deeds : List Deed) (new : WorldState) →
+    Run (moved state move).world (steps_in deeds) (answers_in deeds) new
+    → Run state.world (steps_in (deed_by state move ∷ deeds)) (answers_in (deed_by state move ∷ deeds)) new
 by_move state (Says text) deeds new run = run
 by_move state (Names name) deeds new run = run
-by_move state (Does step) deeds new run = (after_step state.sites step, step_happens state.sites step, run)
+by_move state (Does step) deeds new run = (after_step state.world step, step_happens state.world step, run)
 
 -- What a line does is a run before that of the lines behind it.
-line_run : (state : State) (command : Command) (deeds : List Deed) (new : List Map) →
-    Run (after state command).sites (steps_in deeds) (answers_in deeds) new
-    → Run state.sites (steps_in (deed_of state command ∷ deeds)) (answers_in (deed_of state command ∷ deeds)) new
+line_run : (state : State) (command : Command) (deeds : List Deed) (new : WorldState) →
+    Run (after state command).world (steps_in deeds) (answers_in deeds) new
+    → Run state.world (steps_in (deed_of state command ∷ deeds)) (answers_in (deed_of state command ∷ deeds)) new
 unfolding after
 line_run state command deeds new run = by_move state (move_of state command) deeds new run
 
@@ -108,26 +171,26 @@ line_text state command = text_by state (move_of state command)
 -- ---- an input
 
 by_byte : (is_end full : Bool) (state now later : State) (deed : Deed) (mine others : List Deed)
-    → Run state.sites (steps_in (deed ∷ mine)) (answers_in (deed ∷ mine)) now.sites →
-    Run state.sites (steps_in others) (answers_in others) later.sites
+    → Run state.world (steps_in (deed ∷ mine)) (answers_in (deed ∷ mine)) now.world →
+    Run state.world (steps_in others) (answers_in others) later.world
     → let deeds = cond is_end (deed ∷ mine) (cond full [] others) in
-    Run state.sites (steps_in deeds) (answers_in deeds) (cond is_end now (cond full state later)).sites
+    Run state.world (steps_in deeds) (answers_in deeds) (cond is_end now (cond full state later)).world
 by_byte true full state now later deed mine others one other = one
 by_byte false true state now later deed mine others one other = refl
 by_byte false false state now later deed mine others one other = other
 
 -- The lines of the rest of an input are a run.
 played_from : (state : State) (front rest : List ℕ)
-    → Run state.sites (steps_in (deeds_from state front rest)) (answers_in (deeds_from state front rest)) (end_from
-    state front rest).sites
-played_from state front [] = line_run state (command_of front) [] (after state (command_of front)).sites refl
+    → Run state.world (steps_in (deeds_from state front rest)) (answers_in (deeds_from state front rest)) (end_from
+    state front rest).world
+played_from state front [] = line_run state (command_of front) [] (after state (command_of front)).world refl
 played_from state front (b ∷ rest) =
     let command = command_of (without_cr front) in
     let next = after state command in
     by_byte (b == 10) (is_full front) state (end_from next [] rest) (end_from state (front ++ b ∷ []) rest) (deed_of
     state command)
     (deeds_from next [] rest) (deeds_from state (front ++ b ∷ []) rest)
-    (line_run state command (deeds_from next [] rest) (end_from next [] rest).sites (played_from next [] rest))
+    (line_run state command (deeds_from next [] rest) (end_from next [] rest).world (played_from next [] rest))
     (played_from state (front ++ b ∷ []) rest)
 
 text_byte : (is_end full : Bool) (said rest other : List ℕ) (deed : Deed) (mine others : List Deed)
@@ -157,7 +220,7 @@ scripts_are_runs input =
     let run = played_from NOTHING [] input in
     record {
       run = run;
-      headline = headline NOTHING.sites (sites_of input) (steps_in (deeds_of input)) (answers_in (deeds_of input)) refl
+      headline = headline NOTHING.world (world_of input) (steps_in (deeds_of input)) (answers_in (deeds_of input)) refl
           run;
       printed_all = text_from NOTHING [] input;
     }

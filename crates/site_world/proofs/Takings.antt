@@ -9,7 +9,7 @@ use Rattle.site_state.specs.declared.fault.SiteFault.{SiteFault}
 use Rattle.site_state.specs.declared.fault.SiteFault.TheVariants.{Collision, Memory as site_memory}
 use Rattle.site_world.specs.declared.fault.WorldFault.{WorldFault}
 use Rattle.site_world.specs.declared.fault.WorldFault.TheVariants.{Site}
-use Rattle.site_world.specs.Steps.{fault_of_site, answer_to, IsTaken}
+use Rattle.site_world.specs.Steps.{fault_of_site, answer_to, taken_by, IsTaken}
 use Rattle.site_world.proofs.Codes.{same_op-itself, same_op-other}
 use Rattle.site_world.proofs.Known.{known_again}
 
@@ -29,7 +29,8 @@ clash_answer : (r : Option Op) (op other : Op) → r ≡ Some other → other �
 clash_answer r op other e apart = ap (λ s. answer_to s op) e ∙ ap
     (λ b. cond b (Ok Known) (Err (Site Collision))) (same_op-other other op apart)
 
-pub taken_at : (m n : Map) (op : Op) (r : Result Taken SiteFault) → Takes m op r n → IsTaken m op (told_on r) n
+pub taken_at : (m n : Map) (op : Op) (r : Result Taken SiteFault) → Takes m op r n
+    → IsTaken m op (taken_by m op) (told_on r) n
 taken_at m n op (Ok New) takes = (sym (new_answer (held_at m (digest_of op)) op takes.0), takes.1)
 taken_at m n op (Ok Known) takes = (
   sym (known_answer (held_at m (digest_of op)) op takes.0),

@@ -16,8 +16,8 @@ use Rattle.site_world.specs.declared.progress.LineFault.TheVariants.{Turns as li
 use Rattle.site_world.specs.Output.{output_from, output_of, ended_from, ended_of, count_from, count_of, is_long_from}
 use Rattle.site_world.specs.Output.{has_long_line}
 use Rattle.site_world.specs.Simulation.{Place, START, Leads, StopsWithin, StopsAtLong, HasLong, HasTooManyLines}
-use Rattle.site_world.specs.Simulation.{MOST_LINES, MOST_READS, IsEndless, Owes, OwesFor, WroteFront, WroteWholeLines}
-use Rattle.site_world.specs.Simulation.{WroteUpToLong, WroteAll, BreaksOff, Turn, Ends, fault_of_line}
+use Rattle.site_world.specs.Simulation.{MOST_LINES, MOST_READS, Owes, OwesFor, WroteFront, WroteWholeLines}
+use Rattle.site_world.specs.Simulation.{WroteUpToLong, WroteAll, BreaksOff, Ends, fault_of_line}
 
 -- ---- some bytes, a part of them and the rest
 

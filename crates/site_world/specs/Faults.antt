@@ -4,7 +4,7 @@ use Rattle.site_state.specs.declared.fault.SiteFault.{SiteFault}
 use Rattle.site_state.specs.declared.fault.SiteFault.TheVariants.{Collision, Memory as site_memory}
 use Rattle.site_world.specs.declared.fault.WorldFault.{WorldFault}
 use Rattle.site_world.specs.declared.fault.WorldFault.TheVariants.{NoSite, NoMessage, Site, StampsSpent, Memory}
-use Rattle.site_world.specs.declared.fault.WorldFault.TheVariants.{BadCorrection}
+use Rattle.site_world.specs.declared.fault.WorldFault.TheVariants.{BadCorrection, OldSite}
 
 abbrev pub number_of_world_fault : WorldFault → ℕ
 number_of_world_fault NoSite = 1
@@ -13,6 +13,7 @@ number_of_world_fault (Site fault) = 3
 number_of_world_fault StampsSpent = 4
 number_of_world_fault Memory = 5
 number_of_world_fault BadCorrection = 6
+number_of_world_fault OldSite = 7
 
 abbrev pub number_of_site_fault : SiteFault → ℕ
 number_of_site_fault Collision = 1

@@ -8,6 +8,7 @@ use Rattle.site_state.specs.Laws.{Apart}
 use Rattle.site_world.specs.declared.fault.WorldFault.{WorldFault}
 use Rattle.site_world.specs.declared.step.Step.{Step}
 use Rattle.site_world.specs.declared.step.Seen.{Seen}
+use Rattle.site_world.specs.Messages.{WorldState, new_world}
 use Rattle.site_world.specs.Steps.{site_at}
 use Rattle.site_world.specs.Runs.{Run, taken_at, AnswerAlike}
 
@@ -16,11 +17,11 @@ pub record SiteOf (held : Map) (ops : List Op) : Type 0 where
   pub count : ℕ
   pub steps : List Step
   pub answers : List (Result Seen WorldFault)
-  pub sites : List Map
+  pub world : WorldState
   pub number : ℕ
-  pub run : Run (replicate count finmap.empty) steps answers sites
-  pub here : site_at sites number ≡ Some held
-  pub taken : taken_at number steps answers ≡ ops
+  pub run : Run (new_world (replicate count finmap.empty)) steps answers world
+  pub here : site_at world.sites number ≡ Some held
+  pub taken : taken_at world.sent number steps answers ≡ ops
 
 -- Sites of new worlds, of one run or of two, at which the same operations were taken hold equal maps.
 abbrev pub SameTakenSameMaps : Type 0

@@ -2,9 +2,11 @@ pub mod Faults
 pub mod Same
 pub mod State
 pub mod Laws
+pub mod Messages
 pub mod Steps
 pub mod Runs
 pub mod Headline
+pub mod Rounds
 pub mod Rejected
 pub mod Texts
 pub mod Script

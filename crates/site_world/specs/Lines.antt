@@ -1,7 +1,6 @@
 -- The lines of an input, and what they print.
-use Rattle.std.specs.Prelude.{◌≡◌, ◌≢◌, ℕ, List, [], ◌∷◌, ◌++◌, length, Bool, nat_lt, ◌==◌, if◌then◌else◌}
+use Rattle.std.specs.Prelude.{◌≡◌, ℕ, List, [], ◌∷◌, ◌++◌, length, Bool, nat_lt, ◌==◌, if◌then◌else◌}
 use Rattle.std.specs.List.{join_with_byte}
-use Rattle.archive_model.specs.Members.{Has}
 use Rattle.site_script.specs.Commands.{command_of}
 use Rattle.site_script.specs.Fitting.{LONGEST_LINE}
 use Rattle.site_world.specs.Output.{without_cr, NOTHING, output_of}

@@ -4,6 +4,7 @@ use Rattle.std.specs.Prelude.{not, nat_le, ◌==◌, ◌&&◌, if◌then◌else�
 use Rattle.std.specs.FinMap as finmap
 use Rattle.site_script.specs.Commands.{command_of}
 use Rattle.site_script.specs.Fitting.{LONGEST_LINE}
+use Rattle.site_world.specs.Messages.{new_world}
 use Rattle.site_world.specs.Script.{printed, after}
 use Rattle.site_world.specs.State.{State}
 
@@ -51,7 +52,7 @@ is_long_from front (b ∷ rest) = if b == 10 then is_long_from [] rest else if i
 
 -- 16 sites that hold nothing, of which none has a name
 abbrev pub NOTHING : State
-NOTHING = record { names = []; sites = replicate 16 finmap.empty }
+NOTHING = record { names = []; world = new_world (replicate 16 finmap.empty) }
 
 abbrev pub output_of : List ℕ → List ℕ
 output_of input = output_from NOTHING [] input

@@ -3,7 +3,7 @@ use Rattle.std.specs.Prelude.{◌≡◌, ℕ, ◌+◌, List, [], ◌∷◌, ◌+
 use Rattle.std.specs.List.{filter_map, flat_map}
 use Rattle.site_script.specs.Commands.{command_of}
 use Rattle.site_script.specs.declared.command.Command.{Command}
-use Rattle.site_state.specs.Site.{Map}
+use Rattle.site_world.specs.Messages.{WorldState}
 use Rattle.site_world.specs.declared.fault.WorldFault.{WorldFault}
 use Rattle.site_world.specs.declared.script.Move.{Move}
 use Rattle.site_world.specs.declared.script.Move.TheVariants.{Says, Names, Does}
@@ -24,7 +24,7 @@ pub data Deed : Type 0 where
 abbrev pub deed_by : State → Move → Deed
 deed_by state (Says text) = printed text
 deed_by state (Names name) = printed (site_line name (length state.names + 1))
-deed_by state (Does step) = stepped step (seen_by state.sites step)
+deed_by state (Does step) = stepped step (seen_by state.world step)
 
 abbrev pub deed_of : State → Command → Deed
 deed_of state command = deed_by state (move_of state command)
@@ -66,19 +66,19 @@ steps_in deeds = filter_map step_in deeds
 abbrev pub answers_in : List Deed → List (Result Seen WorldFault)
 answers_in deeds = filter_map answer_in deeds
 
--- the deeds of the lines of an input, and what its sites hold at the end
+-- the deeds of the lines of an input, and its world at the end
 abbrev pub deeds_of : List ℕ → List Deed
 deeds_of input = deeds_from NOTHING [] input
 
-abbrev pub sites_of : List ℕ → List Map
-sites_of input = (end_from NOTHING [] input).sites
+abbrev pub world_of : List ℕ → WorldState
+world_of input = (end_from NOTHING [] input).world
 
 -- The steps of a script's lines are a run of 16 new sites, for which the headline holds, and what is printed is what
 -- the
 -- lines did, in order.
 pub record IsPlayed (input : List ℕ) : Type 0 where
-  pub run : Run NOTHING.sites (steps_in (deeds_of input)) (answers_in (deeds_of input)) (sites_of input)
-  pub headline : Headline (steps_in (deeds_of input)) (answers_in (deeds_of input)) (sites_of input)
+  pub run : Run NOTHING.world (steps_in (deeds_of input)) (answers_in (deeds_of input)) (world_of input)
+  pub headline : Headline (steps_in (deeds_of input)) (answers_in (deeds_of input)) (world_of input)
   pub printed_all : output_of input ≡ flat_map text_of (deeds_of input)
 
 abbrev pub ScriptsAreRuns : Type 0

@@ -7,18 +7,19 @@ use Rattle.operation.specs.Fault.{number_of}
 use Rattle.operation.specs.Parts.{ContentParts}
 use Rattle.archive_model.specs.Contents.{flagged}
 use Rattle.archive_model.specs.declared.view.View.{View}
-use Rattle.archive_query.specs.declared.query.Query.{Query}
-use Rattle.archive_query.specs.declared.fault.QueryFault.{QueryFault}
-use Rattle.archive_query.specs.Fault.{number_of as number_of_query_fault}
-use Rattle.archive_query.specs.Query.{query_of}
-use Rattle.archive_retrieve.specs.declared.selection.Selection.{Selection}
-use Rattle.archive_retrieve.specs.Selection.{selection_of}
+use Rattle.query_model.specs.declared.query.Query.{Query}
+use Rattle.query_model.specs.declared.fault.QueryFault.{QueryFault}
+use Rattle.query_model.specs.Fault.{number_of as number_of_query_fault}
+use Rattle.query_model.specs.Query.{query_of}
+use Rattle.retrieve_model.specs.declared.selection.Selection.{Selection}
+use Rattle.retrieve_model.specs.Selection.{selection_of}
 use Rattle.site_state.specs.Site.{Map, ops_of}
 use Rattle.site_script.specs.declared.command.Command.{Command}
 use Rattle.site_script.specs.declared.command.Command.TheVariants.{Skip, Bad, Site, Image, Note}
 use Rattle.site_script.specs.declared.command.Command.TheVariants.{Correct as correct_line, Find, Get as get_line, Same}
-use Rattle.site_script.specs.declared.command.Command.TheVariants.{Flagged}
-use Rattle.site_world.specs.declared.step.Step.TheVariants.{Take, Correct, Look, Get}
+use Rattle.site_script.specs.declared.command.Command.TheVariants.{Offer as offer_line, Buckets as buckets_line}
+use Rattle.site_script.specs.declared.command.Command.TheVariants.{Deliver as deliver_line, Old as old_line, Flagged}
+use Rattle.site_world.specs.declared.step.Step.TheVariants.{Take, Correct, Offer, Buckets, Deliver, Old, Look, Get}
 use Rattle.site_world.specs.declared.script.Move.{Move}
 use Rattle.site_world.specs.declared.script.Move.TheVariants.{Says, Names, Does}
 use Rattle.site_script.specs.Names.{is}
@@ -87,20 +88,27 @@ move_of state (Find line) = at_site (number_named line.site state.names)
     (λ n. look_move n line.view (query_of (identifier line.keys)))
 move_of state (get_line line) = at_site (number_named line.site state.names)
     (λ n. get_move n line.view (selection_of (identifier line.keys)))
+move_of state (offer_line a b) =
+    at_site (number_named a state.names) (λ m. at_site (number_named b state.names) (λ n. Does (Offer m n)))
+move_of state (buckets_line a b) =
+    at_site (number_named a state.names) (λ m. at_site (number_named b state.names) (λ n. Does (Buckets m n)))
+move_of state (deliver_line number) = Does (Deliver number)
+move_of state (old_line site) = at_site (number_named site state.names) (λ n. Does (Old n))
 move_of state (Same a b) =
     at_site (number_named a state.names) (λ m. at_site (number_named b state.names)
-    (λ n. same_move (site_at state.sites m) (site_at state.sites n)))
-move_of state (Flagged site) = at_site (number_named site state.names) (λ n. flagged_move (site_at state.sites n))
+    (λ n. same_move (site_at state.world.sites m) (site_at state.world.sites n)))
+move_of state (Flagged site) =
+    at_site (number_named site state.names) (λ n. flagged_move (site_at state.world.sites n))
 
 abbrev pub said : State → Move → List ℕ
 said state (Says text) = text
 said state (Names name) = site_line name (length state.names + 1)
-said state (Does step) = seen_lines (seen_by state.sites step)
+said state (Does step) = seen_lines (seen_by state.world step)
 
 abbrev pub moved : State → Move → State
 moved state (Says text) = state
-moved state (Names name) = record { names = state.names ++ (name ∷ []); sites = state.sites }
-moved state (Does step) = record { names = state.names; sites = after_step state.sites step }
+moved state (Names name) = record { names = state.names ++ (name ∷ []); world = state.world }
+moved state (Does step) = record { names = state.names; world = after_step state.world step }
 
 -- what a line prints
 unfoldable pub printed : State → Command → List ℕ

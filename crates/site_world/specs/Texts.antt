@@ -12,12 +12,13 @@ use Rattle.data_set.specs.Written.{text_of}
 use Rattle.operation.specs.declared.stamp.Stamp.{Stamp}
 use Rattle.operation.specs.declared.taken.Taken.{Taken}
 use Rattle.operation.specs.declared.taken.Taken.TheVariants.{New, Known}
-use Rattle.archive_retrieve.specs.declared.sending.Sending.{Sending}
+use Rattle.retrieve_model.specs.declared.sending.Sending.{Sending}
 use Rattle.site_world.specs.declared.fault.WorldFault.{WorldFault}
 use Rattle.site_world.specs.declared.fault.WorldFault.TheVariants.{NoSite, NoMessage, Site, StampsSpent, Memory}
-use Rattle.site_world.specs.declared.fault.WorldFault.TheVariants.{BadCorrection}
+use Rattle.site_world.specs.declared.fault.WorldFault.TheVariants.{BadCorrection, OldSite}
 use Rattle.site_world.specs.declared.step.Seen.{Seen}
-use Rattle.site_world.specs.declared.step.Seen.TheVariants.{Took, Stamped, Rows, Sent}
+use Rattle.site_world.specs.declared.step.Seen.TheVariants.{Took, Stamped, Offered, Wanted, Gave, Differs, Has, Aged}
+use Rattle.site_world.specs.declared.step.Seen.TheVariants.{Rows, Sent}
 use Rattle.site_world.specs.Faults.{number_of_site_fault}
 
 -- a line, with its end
@@ -81,6 +82,22 @@ sending_lines sendings = flat_map sending_line sendings
 abbrev pub sent_lines : List Sending → List ℕ
 sent_lines sendings = sending_lines sendings ++ end_line (length sendings)
 
+-- a message that was sent, by a word and its number
+abbrev pub message_line : List ℕ → ℕ → List ℕ
+message_line word number = line (word ++ (32 ∷ decimal number))
+
+-- a number behind a space
+abbrev pub spaced : ℕ → List ℕ
+spaced number = 32 ∷ decimal number
+
+abbrev pub spaced_numbers : List ℕ → List ℕ
+spaced_numbers numbers = flat_map spaced numbers
+
+-- the messages that give what was wanted, if any
+abbrev pub gave_line : List ℕ → List ℕ
+gave_line [] = line (codes "give none")
+gave_line (number ∷ numbers) = line (codes "give" ++ spaced_numbers (number ∷ numbers))
+
 -- the refusal of a step
 abbrev pub world_fault_line : WorldFault → List ℕ
 world_fault_line (Site fault) = fault_line (codes "site") (number_of_site_fault fault)
@@ -89,11 +106,18 @@ world_fault_line NoMessage = fault_line (codes "world") 2
 world_fault_line StampsSpent = fault_line (codes "world") 4
 world_fault_line Memory = fault_line (codes "world") 5
 world_fault_line BadCorrection = fault_line (codes "world") 6
+world_fault_line OldSite = fault_line (codes "world") 7
 
 -- what is seen of a step
 abbrev pub seen_lines : Result Seen WorldFault → List ℕ
 seen_lines (Ok (Took taken)) = taken_line taken
 seen_lines (Ok (Stamped stamp)) = stamp_line stamp
+seen_lines (Ok (Offered number)) = message_line (codes "sent") number
+seen_lines (Ok (Wanted number)) = message_line (codes "want") number
+seen_lines (Ok (Gave numbers)) = gave_line numbers
+seen_lines (Ok (Differs number)) = message_line (codes "differ") number
+seen_lines (Ok (Has number)) = message_line (codes "have") number
+seen_lines (Ok Aged) = line (codes "old")
 seen_lines (Ok (Rows rows)) = rows_lines rows
 seen_lines (Ok (Sent sendings)) = sent_lines sendings
 seen_lines (Err fault) = world_fault_line fault

@@ -10,7 +10,7 @@ use thiserror::Error;
 /// Why a step was not done. It changed nothing.
 ///
 /// Where several hold, the first is told: `NoSite`, `NoMessage`, `BadCorrection`, `StampsSpent`,
-/// `Site`.
+/// `OldSite`, `Site`.
 #[derive(Clone, Copy, Debug, PartialEq, Eq, Error)]
 pub enum WorldFault {
     /// The world has no site of this number, or no more than 16 sites.
@@ -27,10 +27,14 @@ pub enum WorldFault {
     Memory,
     #[error("the correction is none that may be made")]
     BadCorrection,
+    /// The site knows no corrections of series; or it took something, or a message was sent from or
+    /// to it, so that it can't be made such a site.
+    #[error("the site is, or can't be made, one that knows no corrections of series")]
+    OldSite,
 }
 
 impl WorldFault {
-    /// The public number of the fault, from 1 to 6.
+    /// The public number of the fault, from 1 to 7.
     pub fn number(self) -> u8
         ensures { result ≡ number_of_world_fault self }
     {
@@ -41,6 +45,7 @@ impl WorldFault {
             WorldFault::StampsSpent => 4,
             WorldFault::Memory => 5,
             WorldFault::BadCorrection => 6,
+            WorldFault::OldSite => 7,
         }
     }
 }

@@ -5,6 +5,7 @@ ghost use Rattle.site_world.specs.Headline.{TakenAreApart};
 ghost use Rattle.site_world.specs.Laws.{SameOpIsEquality, SameSiteIsEquality};
 ghost use Rattle.site_world.specs.Lines.{LinesAreTheText, OutputIsOfLines};
 ghost use Rattle.site_world.specs.Played.{ScriptsAreRuns};
+ghost use Rattle.site_world.specs.Rounds.{RoundsGiveAll, RoundsByBucketsGiveAll};
 ghost use Rattle.site_world.specs.Rejected.{RejectedIsInNoRow, RejectedIsAsIfNeverStored};
 
 /// Sites at which the same operations were taken, in one run or in two, in whatever order and
@@ -24,6 +25,14 @@ pub fn order_is_free()
 pub fn what_is_rejected_is_in_no_row()
     ensures nowhere { RejectedIsInNoRow }
     ensures as_if_never_stored { RejectedIsAsIfNeverStored }
+{}
+
+/// After a finished round of a run, whatever else is done between its steps, the second site holds
+/// all that the first held at its offer, of what both speak of, if under one digest both hold one
+/// operation.
+pub fn a_finished_round_gives_all()
+    ensures offer { RoundsGiveAll }
+    ensures buckets { RoundsByBucketsGiveAll }
 {}
 
 /// The lines of a script are a run of 16 new sites: so the headline holds of what a script prints.

@@ -1,8 +1,12 @@
 //! Several sites and the steps between them, and the script that drives them.
+//!
+//! Sites tell each other what they hold by messages, which stay deliverable for ever; what each
+//! message leads to is `specs/Messages.antt`.
 #![tactic(auto)]
 
 mod fault;
 mod headline;
+mod message;
 mod print;
 mod progress;
 mod run;
@@ -12,7 +16,7 @@ mod world;
 
 pub use fault::WorldFault;
 pub use headline::{
-    a_script_is_a_run, lines_are_parted_by_their_ends, order_is_free,
+    a_finished_round_gives_all, a_script_is_a_run, lines_are_parted_by_their_ends, order_is_free,
     what_is_rejected_is_in_no_row, what_is_told_to_be_one_is_one,
 };
 pub use run::{SimFault, simulate};

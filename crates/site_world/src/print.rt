@@ -7,7 +7,8 @@ ghost use Rattle.site_world.specs.Texts.{line, fault_line, site_line, taken_line
 ghost use Rattle.site_world.specs.Texts.{end_line, uid_lines, flagged_lines, same_line};
 ghost use Rattle.site_world.specs.Texts.{world_fault_line, seen_lines, answer_line, answer_lines};
 ghost use Rattle.site_world.specs.Texts.{rows_lines, bytes_of as bytes_of_body, sending_line};
-ghost use Rattle.site_world.specs.Texts.{sending_lines, sent_lines};
+ghost use Rattle.site_world.specs.Texts.{sending_lines, sent_lines, message_line, spaced_numbers};
+ghost use Rattle.site_world.specs.Texts.{gave_line};
 
 use crate::fault::WorldFault;
 use crate::step::Seen;
@@ -148,6 +149,7 @@ fn put_world_fault(alloc: Global, out: &mut Vec<u8>, fault: WorldFault) -> Resul
         WorldFault::StampsSpent => put_fault(alloc, out, b"world", 4),
         WorldFault::Memory => put_fault(alloc, out, b"world", 5),
         WorldFault::BadCorrection => put_fault(alloc, out, b"world", 6),
+        WorldFault::OldSite => put_fault(alloc, out, b"world", 7),
     }
 }
 
@@ -217,6 +219,41 @@ fn put_sent(alloc: Global, out: &mut Vec<u8>, sendings: &[Sending]) -> Result<()
     put_end(alloc, out, sendings.len())
 }
 
+/// A message that was sent, by a word and its number.
+fn put_message(alloc: Global, out: &mut Vec<u8>, word: &[u8], number: u64) -> Result<(), AllocError>
+    ensures { OnOk result (out.new.items ≡ out.old.items ++ message_line word.now number) }
+{
+    out.extend_from_slice(word)?;
+    out.push(b' ')?;
+    put_number(alloc, out, number)?;
+    out.push(b'\n')?;
+    Ok(())
+}
+
+/// Numbers, each behind a space.
+fn put_numbers(alloc: Global, out: &mut Vec<u8>, numbers: &[u64]) -> Result<(), AllocError>
+    ensures { OnOk result (out.new.items ≡ out.old.items ++ spaced_numbers numbers.now) }
+{
+    for number in numbers {
+        out.push(b' ')?;
+        put_number(alloc, out, *number)?;
+    }
+    Ok(())
+}
+
+/// The messages that give what was wanted, if any.
+fn put_gave(alloc: Global, out: &mut Vec<u8>, numbers: &[u64]) -> Result<(), AllocError>
+    ensures { OnOk result (out.new.items ≡ out.old.items ++ gave_line numbers.now) }
+{
+    if numbers.is_empty() {
+        return put_line(out, b"give none");
+    }
+    out.extend_from_slice(b"give")?;
+    put_numbers(alloc, out, numbers)?;
+    out.push(b'\n')?;
+    Ok(())
+}
+
 /// What is seen of a step.
 pub fn put_seen(
     alloc: Global,
@@ -228,6 +265,12 @@ pub fn put_seen(
     match seen {
         Ok(Seen::Took(taken)) => put_taken(out, *taken),
         Ok(Seen::Stamped(stamp)) => put_stamp(alloc, out, *stamp),
+        Ok(Seen::Offered(number)) => put_message(alloc, out, b"sent", *number),
+        Ok(Seen::Wanted(number)) => put_message(alloc, out, b"want", *number),
+        Ok(Seen::Gave(numbers)) => put_gave(alloc, out, numbers.as_slice()),
+        Ok(Seen::Differs(number)) => put_message(alloc, out, b"differ", *number),
+        Ok(Seen::Has(number)) => put_message(alloc, out, b"have", *number),
+        Ok(Seen::Aged) => put_line(out, b"old"),
         Ok(Seen::Rows(rows)) => put_rows(alloc, out, rows.as_slice()),
         Ok(Seen::Sent(sendings)) => put_sent(alloc, out, sendings.as_slice()),
         Err(fault) => put_world_fault(alloc, out, *fault),

@@ -10,12 +10,12 @@ ghost use Rattle.operation.specs.declared.op.Op.TheVariants.{Content as a_conten
 ghost use Rattle.operation.specs.declared.fault.OpFault.{OpFault};
 ghost use Rattle.operation.specs.Fault.{is_memory as is_memory_fault};
 ghost use Rattle.operation.specs.Parts.{ContentParts};
-ghost use Rattle.archive_query.specs.declared.query.Query.{Query};
-ghost use Rattle.archive_query.specs.declared.fault.QueryFault.{QueryFault};
-ghost use Rattle.archive_query.specs.Fault.{is_memory as is_memory_query};
-ghost use Rattle.archive_query.specs.Query.{query_of};
-ghost use Rattle.archive_retrieve.specs.declared.selection.Selection.{Selection};
-ghost use Rattle.archive_retrieve.specs.Selection.{selection_of};
+ghost use Rattle.query_model.specs.declared.query.Query.{Query};
+ghost use Rattle.query_model.specs.declared.fault.QueryFault.{QueryFault};
+ghost use Rattle.query_model.specs.Fault.{is_memory as is_memory_query};
+ghost use Rattle.query_model.specs.Query.{query_of};
+ghost use Rattle.retrieve_model.specs.declared.selection.Selection.{Selection};
+ghost use Rattle.retrieve_model.specs.Selection.{selection_of};
 ghost use Rattle.site_script.specs.Commands.{command_of as command_of_line};
 ghost use Rattle.site_script.specs.Fitting.{IsShort, MakesSets};
 ghost use Rattle.site_world.specs.Output.{NOTHING};
@@ -73,7 +73,7 @@ impl Model for Script {
 
     ghost coded = { state_code };
 
-    ghost view = { λ s. record { names = s.names.items; sites = s.world } };
+    ghost view = { λ s. record { names = s.names.items; world = s.world } };
 }
 
 /// The number of the site that has a name.
@@ -283,6 +283,40 @@ impl Script {
         }
     }
 
+    fn offer(&self, a: &Octets, b: &Octets) -> Result<Move, AllocError>
+        ensures { IfOk result (λ did. did ≡ move_of_command self.now (Command.Offer a.now b.now)) }
+    {
+        let Some(from) = number_of(self.names.as_slice(), a) else {
+            return says_no_site(self.alloc);
+        };
+        let Some(to) = number_of(self.names.as_slice(), b) else {
+            return says_no_site(self.alloc);
+        };
+        Ok(Move::Does(Step::Offer(from, to)))
+    }
+
+    fn buckets(&self, a: &Octets, b: &Octets) -> Result<Move, AllocError>
+        ensures { IfOk result (λ did.
+            did ≡ move_of_command self.now (Command.Buckets a.now b.now)) }
+    {
+        let Some(from) = number_of(self.names.as_slice(), a) else {
+            return says_no_site(self.alloc);
+        };
+        let Some(to) = number_of(self.names.as_slice(), b) else {
+            return says_no_site(self.alloc);
+        };
+        Ok(Move::Does(Step::Buckets(from, to)))
+    }
+
+    fn old(&self, name: &Octets) -> Result<Move, AllocError>
+        ensures { IfOk result (λ did. did ≡ move_of_command self.now (Command.Old name.now)) }
+    {
+        match number_of(self.names.as_slice(), name) {
+            None => says_no_site(self.alloc),
+            Some(number) => Ok(Move::Does(Step::Old(number))),
+        }
+    }
+
     fn same(&self, a: &Octets, b: &Octets) -> Result<Move, AllocError>
         ensures { IfOk result (λ did. did ≡ move_of_command self.now (Command.Same a.now b.now)) }
     {
@@ -318,6 +352,10 @@ impl Script {
             Command::Correct(line) => self.correct(line),
             Command::Find(line) => self.find(&line),
             Command::Get(line) => self.get(&line),
+            Command::Offer(a, b) => self.offer(&a, &b),
+            Command::Buckets(a, b) => self.buckets(&a, &b),
+            Command::Deliver(number) => Ok(Move::Does(Step::Deliver(number))),
+            Command::Old(name) => self.old(&name),
             Command::Same(a, b) => self.same(&a, &b),
             Command::Flagged(name) => self.flagged(&name),
         }

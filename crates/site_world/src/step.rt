@@ -14,6 +14,14 @@ pub enum Step {
     Take(usize, Op),
     /// At the site a correction is made of the attribute of a target: its tag and its new value.
     Correct(usize, Target, u32, Octets),
+    /// The first site sends the second the digests of all that it holds.
+    Offer(usize, usize),
+    /// It sends what is told of them for each first byte instead.
+    Buckets(usize, usize),
+    /// The message of a number, from 1, comes to its site.
+    Deliver(u64),
+    /// The site is one that knows no corrections of series.
+    Old(usize),
     /// The site is asked in a view, whose name is the called title.
     Look(usize, View, Query),
     /// What the site sends of a selection in a view, where this is accepted.
@@ -26,6 +34,18 @@ pub enum Seen {
     Took(Taken),
     /// The stamp of the correction that was made.
     Stamped(Stamp),
+    /// The number of the message that offers.
+    Offered(u64),
+    /// That of the message that asks for what is lacked.
+    Wanted(u64),
+    /// Those of the messages that give what was asked for.
+    Gave(ListOf<u64>),
+    /// That of the message that says where buckets differ.
+    Differs(u64),
+    /// That of the message that has the digests of those places.
+    Has(u64),
+    /// The site is an old one.
+    Aged,
     /// The rows that answer a query.
     Rows(ListOf<Answer>),
     /// What is sent of a selection, by ascending SOP Instance UID.

@@ -1,7 +1,6 @@
 //! Operations, identifiers and answers as the tests write them.
 
-use archive_model::View;
-use archive_query::{Answer, Query, QueryFault, find};
+use archive_query::{Query, QueryFault};
 use bytes::Bytes;
 use data_set::{Syntax, read};
 use octets::Octets;
@@ -52,7 +51,7 @@ fn put_header(bytes: &mut Vec<u8>, tag: u32, size: u32) -> Result<(), Fail> {
 }
 
 /// An element in Implicit VR Little Endian, padded.
-pub fn put(bytes: &mut Vec<u8>, tag: u32, value: &[u8]) -> Result<(), Fail> {
+fn put(bytes: &mut Vec<u8>, tag: u32, value: &[u8]) -> Result<(), Fail> {
     let size = u32::try_from(value.len())?;
     put_header(bytes, tag, size.saturating_add(size % 2))?;
     bytes.extend_from_slice(value)?;
@@ -85,7 +84,7 @@ pub fn image_of(alloc: Global, image: &Image) -> Result<Op, Fail> {
 }
 
 /// A content of an Implicit VR Little Endian data set.
-pub fn content(alloc: Global, class: &[u8], instance: &[u8], bytes: Vec<u8>) -> Result<Op, Fail> {
+fn content(alloc: Global, class: &[u8], instance: &[u8], bytes: Vec<u8>) -> Result<Op, Fail> {
     let class = Octets::from_slice(alloc, class)?;
     let instance = Octets::from_slice(alloc, instance)?;
     let body = Bytes::from_vec(bytes)?;
@@ -154,40 +153,6 @@ pub fn site_of(alloc: Global, ops: Vec<Op>) -> Result<Site, Fail> {
     Ok(site)
 }
 
-/// A site takes these images, in order.
-pub fn take_images(alloc: Global, site: &mut Site, images: &[Image]) -> Result<(), Fail> {
-    for image in images {
-        site.take(image_of(alloc, image)?)?;
-    }
-    Ok(())
-}
-
-/// A site takes a correction of the patient's ID.
-pub fn take_id(
-    alloc: Global,
-    site: &mut Site,
-    target: Target,
-    value: &[u8],
-    counter: u64,
-) -> Result<(), Fail> {
-    site.take(correction(alloc, target, 0x0010_0020, value, counter)?)?;
-    Ok(())
-}
-
-/// What is found of studies where a site took these images.
-pub fn found_among(alloc: Global, images: &[Image], keys: &[(u32, &[u8])]) -> Result<String, Fail> {
-    let mut site = Site::new(alloc);
-    take_images(alloc, &mut site, images)?;
-    found(alloc, &site, View::Archive, b"STUDY", keys)
-}
-
-/// Whether the first of two images has the lesser digest.
-pub fn has_lesser_digest(alloc: Global, image: &Image, other: &Image) -> Result<bool, Fail> {
-    let image = image_of(alloc, image)?;
-    let other = image_of(alloc, other)?;
-    Ok(operation::digest(&image) < operation::digest(&other))
-}
-
 /// The query of an identifier with these keys, ascending.
 pub fn query(
     alloc: Global,
@@ -208,45 +173,4 @@ pub fn query(
     }
     let set = read(alloc, Syntax::Implicit, &bytes)?;
     Ok(Query::read(alloc, &set))
-}
-
-fn spelled(alloc: Global, answer: &Answer) -> Result<String, Fail> {
-    let mut bytes = Vec::new(alloc);
-    for element in answer.set().elements() {
-        if let Some(value) = element.stored() {
-            put(&mut bytes, element.tag(), value)?;
-        }
-    }
-    Ok(hex::encode(alloc, bytes.as_slice())?)
-}
-
-/// The rows in hexadecimal digits, each on a line, and how many there are; or the number of the fault.
-pub fn found(
-    alloc: Global,
-    site: &Site,
-    view: View,
-    level: &[u8],
-    keys: &[(u32, &[u8])],
-) -> Result<String, Fail> {
-    let query = match query(alloc, level, keys)? {
-        Ok(query) => query,
-        Err(fault) => {
-            let number = fault.number();
-            return Ok(format!(in alloc; "fault {number}")?);
-        }
-    };
-    let called: &[u8] = match view {
-        View::Archive => b"ARCHIVE",
-        View::Quality => b"QUALITY",
-        View::Audit => b"AUDIT",
-    };
-    let rows = find(alloc, site, view, called, &query)?;
-    let mut text = String::new(alloc);
-    for row in &rows {
-        text.push_str(spelled(alloc, row)?.as_str())?;
-        text.push_str("\n")?;
-    }
-    let count = rows.len();
-    text.push_str(format!(in alloc; "end {count}")?.as_str())?;
-    Ok(text)
 }

@@ -3,11 +3,12 @@
 use crate::queries::made::{
     IMAGE, Image, correction, image_of, note, patient, query, site_of, study,
 };
-use archive_model::{
-    View, attribute, instances_of_study, series_of_study, shown, studies, study_representative,
-};
+use archive_model::View;
 use key_matching::{Matching, matches};
 use operation::Op;
+use plain_archive::{
+    attribute, instances_of_study, series_of_study, shown, studies, study_representative,
+};
 use rand_core::utils::NextWord;
 use rand_pcg::Pcg32;
 use site_state::Site;
@@ -58,7 +59,8 @@ fn some_correction(alloc: Global, random: &mut Pcg32, counter: u64) -> Result<Op
     correction(alloc, target, 0x0010_0010, value, counter)
 }
 
-fn some_site(alloc: Global, seed: u64) -> Result<Site, Fail> {
+/// A site that took images, notes and corrections, as the seed says.
+pub fn some_site(alloc: Global, seed: u64) -> Result<Site, Fail> {
     let mut random = Pcg32::new(seed, 54);
     let mut ops = Vec::new(alloc);
     for counter in 1..15u64 {
@@ -75,7 +77,7 @@ fn some_site(alloc: Global, seed: u64) -> Result<Site, Fail> {
     site_of(alloc, ops)
 }
 
-fn add_row(rows: &mut Vec<u8>, values: &[&[u8]]) -> Result<(), Fail> {
+pub fn add_row(rows: &mut Vec<u8>, values: &[&[u8]]) -> Result<(), Fail> {
     for value in values {
         rows.extend_from_slice(value)?;
         rows.push(b' ')?;

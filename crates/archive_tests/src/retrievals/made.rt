@@ -1,10 +1,9 @@
 //! Operations, selections and accepted syntaxes as the tests write them.
 
-use archive_model::View;
 use archive_query::Level;
-use archive_retrieve::{Accepted, Accepts, Selection, Sending, get};
+use archive_retrieve::{Accepted, Accepts, Selection};
 use bytes::Bytes;
-use data_set::{Syntax, read};
+use data_set::Syntax;
 use octets::{ListOf, Octets};
 use operation::{Op, Stamp, Target, content_of, correction_of};
 use site_state::Site;
@@ -16,19 +15,6 @@ pub const CT: &[u8] = b"1.2.840.10008.5.1.4.1.1.2";
 
 /// A tag, a value representation, and a value of even length.
 pub type Part<'a> = (u32, [u8; 2], &'a [u8]);
-
-/// The SOP class of the images.
-const CLASS: Part<'static> = (0x0008_0016, *b"UI", b"1.2.840.10008.5.1.4.1.1.2\0");
-
-/// The elements that every image of the tests has.
-pub const IMAGE: [Part<'static>; 6] = [
-    CLASS,
-    (0x0008_0018, *b"UI", b"1.2.1.1.1\0"),
-    (0x0008_0060, *b"CS", b"CT"),
-    (0x0020_000d, *b"UI", b"1.2.1\0"),
-    (0x0020_000e, *b"UI", b"1.2.1.1\0"),
-    (0x7fe0_0010, *b"UN", b"\x01\x02"),
-];
 
 fn put_tag(bytes: &mut Vec<u8>, tag: u32) -> Result<(), Fail> {
     bytes.extend_from_slice(u16::try_from(tag / 65536)?.to_le_bytes().as_slice())?;
@@ -59,7 +45,7 @@ pub fn put(bytes: &mut Vec<u8>, syntax: Syntax, part: Part) -> Result<(), Fail> 
 }
 
 /// Some elements, and among them in its place a spelled one.
-pub fn spelled(
+fn spelled(
     alloc: Global,
     syntax: Syntax,
     parts: &[Part],
@@ -135,35 +121,6 @@ pub fn correction(alloc: Global, tag: u32, value: &[u8], counter: u64) -> Result
     Ok(Op::Correction(correction_of(target, tag, value, Stamp { counter, site: 1 })?))
 }
 
-/// A correction of series 1.2.1.1, by site 1.
-pub fn series_correction(alloc: Global, tag: u32, value: &[u8]) -> Result<Op, Fail> {
-    let target = Target::Series(Octets::from_slice(alloc, b"1.2.1.1")?);
-    let value = Octets::from_slice(alloc, value)?;
-    Ok(Op::Correction(correction_of(
-        target,
-        tag,
-        value,
-        Stamp {
-            counter: 1,
-            site: 1,
-        },
-    )?))
-}
-
-/// An image of a study and of series 1.2.1.1, which has nothing but its UIDs.
-pub fn image_of(alloc: Global, study: &[u8], instance: &[u8]) -> Result<Op, Fail> {
-    let mut body = Vec::new(alloc);
-    put(&mut body, Syntax::Implicit, CLASS)?;
-    put(&mut body, Syntax::Implicit, (0x0008_0018, *b"UI", instance))?;
-    put(&mut body, Syntax::Implicit, (0x0020_000d, *b"UI", study))?;
-    put(
-        &mut body,
-        Syntax::Implicit,
-        (0x0020_000e, *b"UI", b"1.2.1.1\0"),
-    )?;
-    content(alloc, instance, Syntax::Implicit, body)
-}
-
 /// A site that took these operations.
 pub fn site_of(alloc: Global, ops: Vec<Op>) -> Result<Site, Fail> {
     let mut site = Site::new(alloc);
@@ -171,16 +128,6 @@ pub fn site_of(alloc: Global, ops: Vec<Op>) -> Result<Site, Fail> {
         site.take(op)?;
     }
     Ok(site)
-}
-
-/// What the identifier of these elements selects, or the number of its fault.
-pub fn selection(alloc: Global, parts: &[Part]) -> Result<Result<Selection, u8>, Fail> {
-    let bytes = spelled(alloc, Syntax::Implicit, parts, 0, b"")?;
-    let set = read(alloc, Syntax::Implicit, &bytes)?;
-    match Selection::read(alloc, &set) {
-        Ok(selection) => Ok(Ok(selection)),
-        Err(fault) => Ok(Err(fault.number())),
-    }
 }
 
 /// The studies, series or instances of these UIDs, of study 1.2.1 and series 1.2.1.1 where these are
@@ -198,11 +145,6 @@ pub fn selecting(alloc: Global, level: Level, uids: &[&[u8]]) -> Result<Selectio
     })
 }
 
-/// Study 1.2.1.
-pub fn study(alloc: Global) -> Result<Selection, Fail> {
-    selecting(alloc, Level::Study, &[b"1.2.1"])
-}
-
 /// What is accepted of CT Image Storage.
 pub fn accepts(alloc: Global, implicit: bool, explicit: bool) -> Result<Accepts, Fail> {
     let class = Octets::from_slice(alloc, CT)?;
@@ -215,19 +157,4 @@ pub fn accepts(alloc: Global, implicit: bool, explicit: bool) -> Result<Accepts,
             },
         ]?),
     })
-}
-
-/// What is sent of study 1.2.1.
-pub fn sent(alloc: Global, ops: Vec<Op>, accepts: &Accepts) -> Result<Vec<Sending>, Fail> {
-    let site = site_of(alloc, ops)?;
-    Ok(get(alloc, &site, View::Archive, &study(alloc)?, accepts)?)
-}
-
-/// The syntax and the bytes of the first that is sent.
-pub fn first_body(sendings: &[Sending]) -> Option<(Syntax, &[u8])> {
-    let first = sendings.first()?;
-    match &first.body {
-        None => None,
-        Some((syntax, text)) => Some((*syntax, text.as_slice())),
-    }
 }

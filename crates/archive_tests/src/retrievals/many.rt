@@ -3,11 +3,12 @@
 use crate::retrievals::made::{
     CT, Part, accepts, content, correction, note, put, selecting, site_of,
 };
-use archive_model::{View, coerced, is_coerced, series, shown, study};
+use archive_model::{View, series, study};
 use archive_query::Level;
 use archive_retrieve::{Selection, Sending, get};
 use data_set::{Syntax, write};
 use operation::{Content, Op};
+use plain_archive::{coerced, is_coerced, shown};
 use rand_core::utils::NextWord;
 use rand_pcg::Pcg32;
 use site_state::Site;

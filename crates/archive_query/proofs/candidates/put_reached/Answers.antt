@@ -4,7 +4,7 @@ use Rattle.std.specs.List.{find}
 use Rattle.octets.specs.Texts.{text_cmp}
 use Rattle.study_index.specs.Keys.{has}
 use Rattle.study_index.specs.Live.{Text, pick_at, is_of_study}
-use Rattle.archive_query.specs.declared.asked.Asked.{Asked}
+use Rattle.query_model.specs.declared.asked.Asked.{Asked}
 use Rattle.archive_query.specs.Candidates.{is_study_key, is_listed, is_reached_by}
 use Rattle.archive_query.proofs.candidates.put_reached.Goals as goal
 

@@ -1,7 +1,7 @@
 use Rattle.std.proofs.Common.{List, map, ap, ◌∙◌, Bor}
 use Rattle.operation.specs.declared.content.Content.{Content}
 use Rattle.site_state.specs.Site.{ops_of}
-use Rattle.archive_query.specs.Rows.{named, rows_among}
+use Rattle.query_model.specs.Rows.{named, rows_among}
 use Rattle.archive_query.proofs.CandidateLaws.{rows_enough}
 use Rattle.archive_query.proofs.finding.find.Goals as goal
 

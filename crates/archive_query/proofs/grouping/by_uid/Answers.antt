@@ -1,7 +1,7 @@
 use Rattle.std.proofs.Common.{sym, subst}
 use Rattle.archive_query.specs.Grouping.{groups_by, Ascends}
-use Rattle.archive_query.specs.Rows.{uid_at}
-use Rattle.archive_query.specs.declared.key.Level.{Level}
+use Rattle.query_model.specs.Rows.{uid_at}
+use Rattle.query_model.specs.declared.key.Level.{Level}
 use Rattle.archive_query.proofs.grouping.by_uid.Goals as goal
 
 pub returns-in_ok-sort_by_study-in-Study-clause-ascends : goal.returns-in_ok-sort_by_study-in-Study-clause-ascends

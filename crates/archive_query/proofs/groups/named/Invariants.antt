@@ -1,5 +1,5 @@
 use Rattle.std.proofs.Common.{◌≡◌, ◌++◌, drop, map}
-use Rattle.archive_query.specs.Rows.{named}
+use Rattle.query_model.specs.Rows.{named}
 use Rattle.archive_query.proofs.groups.named.Given as goal
 
 abbrev pub invariant-loop-content : goal.invariant-loop-content

@@ -1,7 +1,7 @@
 use Rattle.std.proofs.Common.{◌≡◌, ◌++◌, drop, map}
 use Rattle.std.specs.List.{filter_map}
-use Rattle.archive_query.specs.Column.{columns}
-use Rattle.archive_query.specs.Rows.{cell_in_row}
+use Rattle.query_model.specs.Column.{columns}
+use Rattle.query_model.specs.Rows.{cell_in_row}
 use Rattle.site_state.specs.Site.{ops_of}
 use Rattle.archive_query.proofs.rows.cells.Given as goal
 

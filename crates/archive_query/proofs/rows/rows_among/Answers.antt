@@ -3,7 +3,7 @@ use Rattle.std.specs.List.{filter_map}
 use Rattle.operation.specs.Parts.{ContentParts}
 use Rattle.operation.specs.declared.content.Content.{Content}
 use Rattle.archive_query.specs.Grouping.{under, groups_by}
-use Rattle.archive_query.specs.Rows.{uid_at, row_of, row_at, uids_at}
+use Rattle.query_model.specs.Rows.{uid_at, row_of, row_at, uids_at}
 use Rattle.archive_query.proofs.GroupMaps.{map-map, groups-map, filter_map-map}
 use Rattle.site_state.specs.Site.{ops_of}
 use Rattle.archive_query.proofs.rows.rows_among.Goals as goal

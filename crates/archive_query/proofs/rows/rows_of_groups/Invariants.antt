@@ -1,6 +1,6 @@
 use Rattle.std.proofs.Common.{◌≡◌, ◌++◌, map, drop}
 use Rattle.std.specs.List.{filter_map}
-use Rattle.archive_query.specs.Rows.{row_of}
+use Rattle.query_model.specs.Rows.{row_of}
 use Rattle.site_state.specs.Site.{ops_of}
 use Rattle.archive_query.proofs.rows.rows_of_groups.Given as goal
 

@@ -3,8 +3,8 @@ use Rattle.operation.specs.declared.content.Content.{Content}
 use Rattle.operation.specs.Parts.{ContentParts}
 use Rattle.archive_model.specs.Shown.{shown}
 use Rattle.site_state.specs.Site.{ops_of}
-use Rattle.archive_retrieve.specs.Selection.{selected}
-use Rattle.archive_retrieve.specs.Sending.{AreSendings, Gets}
+use Rattle.retrieve_model.specs.Selection.{selected}
+use Rattle.retrieve_model.specs.Sending.{AreSendings, Gets}
 use Rattle.archive_retrieve.proofs.CandidateLaws.{selected_enough}
 use Rattle.archive_retrieve.proofs.RetrieveLaws.{sent_computed}
 use Rattle.archive_retrieve.proofs.getting.get.Goals as goal

@@ -3,8 +3,8 @@ use Rattle.std.proofs.lemmas.List.{take_more, map-append}
 use Rattle.operation.specs.declared.content.Content.{Content}
 use Rattle.operation.specs.Parts.{ContentParts}
 use Rattle.site_state.specs.Site.{ops_of}
-use Rattle.archive_retrieve.specs.declared.sending.Sending.{Sending}
-use Rattle.archive_retrieve.specs.Sending.{AreSendings}
+use Rattle.retrieve_model.specs.declared.sending.Sending.{Sending}
+use Rattle.retrieve_model.specs.Sending.{AreSendings}
 use Rattle.archive_retrieve.proofs.SendingLaws.{sendings_snoc}
 use Rattle.archive_retrieve.proofs.getting.sendings.Goals as goal
 

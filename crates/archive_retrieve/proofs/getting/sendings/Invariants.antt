@@ -1,6 +1,6 @@
 use Rattle.std.proofs.Common.{map, take}
 use Rattle.site_state.specs.Site.{ops_of}
-use Rattle.archive_retrieve.specs.Sending.{AreSendings}
+use Rattle.retrieve_model.specs.Sending.{AreSendings}
 use Rattle.archive_retrieve.proofs.getting.sendings.Given as goal
 
 -- of the contents so far it is sent what is sent

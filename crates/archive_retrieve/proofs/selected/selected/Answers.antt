@@ -2,8 +2,8 @@ use Rattle.std.proofs.Common.{List, ℕ, Bool, Bor, map, ap, ◌∙◌}
 use Rattle.std.specs.Prelude.{◌&&◌}
 use Rattle.operation.specs.declared.content.Content.{Content}
 use Rattle.archive_model.specs.Covered.{is_among}
-use Rattle.archive_query.specs.Rows.{uid_at}
-use Rattle.archive_retrieve.specs.Selection.{is_within, is_among_these, is_selected}
+use Rattle.query_model.specs.Rows.{uid_at}
+use Rattle.retrieve_model.specs.Selection.{is_within, is_among_these, is_selected}
 use Rattle.archive_retrieve.proofs.SelectedLaws.{filter_each}
 use Rattle.archive_retrieve.proofs.selected.selected.Goals as goal
 

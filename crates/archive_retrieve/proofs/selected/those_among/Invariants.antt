@@ -1,6 +1,6 @@
 use Rattle.std.proofs.Common.{◌≡◌, ◌++◌, map, drop}
 use Rattle.std.specs.List.{filter}
-use Rattle.archive_retrieve.specs.Selection.{is_among_these}
+use Rattle.retrieve_model.specs.Selection.{is_among_these}
 use Rattle.archive_retrieve.proofs.selected.those_among.Given as goal
 
 abbrev pub invariant-loop-content : goal.invariant-loop-content

@@ -12,7 +12,7 @@ pub loop-deed-init : goal.loop-deed-init
 loop-deed-init g c =
     let is = c.into_iter-deed-iterator.ensures.into_iter_gives.0 ∙ c.into_vec-deed-items.ensures in
     record {
-      did = acting_start g.P.Port.holds g.P.Port.own _ _ _ c.clear.new.self c.args.deeds _ c.clear.ensures is
+      did = acting_start g.P.Port.ops g.P.Port.own _ _ _ c.clear.new.self c.args.deeds _ c.clear.ensures is
           c.requires.halts;
       writable = All-same IsWritable c.into_iter-deed-iterator.result.rest.items c.args.deeds is c.requires.writable;
       write = refl;
@@ -23,14 +23,14 @@ loop-deed-init g c =
 pub returns-in_err-send-in-Send-clause-err : goal.returns-in_err-send-in-Send-clause-err
 returns-in_err-send-in-Send-clause-err g c =
     let e = err_from_is_err_and c.from_residual.result c.from_residual.ensures.1 in
-    rw e.1 (acting_broke_at g.P.Port.holds g.P.Port.own _ _ _ _ _ c.loop-deed.outbox c.args.deeds _ c.in-Some.deed
+    rw e.1 (acting_broke_at g.P.Port.ops g.P.Port.own _ _ _ _ _ c.loop-deed.outbox c.args.deeds _ c.in-Some.deed
     c.in-Send.pdu _ c.in-Some.ensures.steps.0 c.in-Send.is c.loop-deed.invariant.did
     c.in_err-send-in-Send.ensures.err)
 
 -- A PDU more is sent, and the others end as before.
 pub loop-deed-preserved-in-Continue-1 : goal.loop-deed-preserved-in-Continue-1
 loop-deed-preserved-in-Continue-1 g c = record {
-  did = acting_send g.P.Port.holds g.P.Port.own _ _ _ _ _ c.loop-deed.outbox c.send.new.outbox c.args.deeds _
+  did = acting_send g.P.Port.ops g.P.Port.own _ _ _ _ _ c.loop-deed.outbox c.send.new.outbox c.args.deeds _
       c.in-Some.deed c.in-Send.pdu _ c.in-Some.ensures.steps.0 c.in-Send.is c.loop-deed.invariant.did
       c.in_ok-send-in-Send.ensures.ok;
   writable = All-rest IsWritable c.in-Some.deed c.next.new.self.rest.items c.loop-deed.deed-iterator.rest.items
@@ -43,13 +43,13 @@ pub returns-in_err-flush-in-Reach-clause-err : goal.returns-in_err-flush-in-Reac
 returns-in_err-flush-in-Reach-clause-err g c =
     let e = err_from_is_err_and c.from_residual-in_err-flush-in-Reach.result
     c.from_residual-in_err-flush-in-Reach.ensures.1 in
-    rw e.1 (acting_broke g.P.Port.holds g.P.Port.own _ _ _ _ _ c.loop-deed.outbox c.args.deeds _ [] (no_front _)
+    rw e.1 (acting_broke g.P.Port.ops g.P.Port.own _ _ _ _ _ c.loop-deed.outbox c.args.deeds _ [] (no_front _)
     c.loop-deed.invariant.did c.in_err-flush-in-Reach.ensures.err)
 
 -- The gate is reached, and the others end as before.
 pub loop-deed-preserved : goal.loop-deed-preserved
 loop-deed-preserved g c = record {
-  did = acting_reach g.P.Port.holds g.P.Port.own _ _ _ _ _ _ c.loop-deed.outbox c.flush.new.self c.args.deeds _
+  did = acting_reach g.P.Port.ops g.P.Port.own _ _ _ _ _ _ c.loop-deed.outbox c.flush.new.self c.args.deeds _
       c.in-Some.deed c.in-Reach.moment _ c.in-Some.ensures.steps.0 c.in-Reach.is c.loop-deed.invariant.did
       c.in_ok-flush-in-Reach.ensures.ok c.in_ok-flush-in-Reach.ensures.empty c.reach.ensures;
   writable = All-rest IsWritable c.in-Some.deed c.next.new.self.rest.items c.loop-deed.deed-iterator.rest.items
@@ -62,13 +62,13 @@ pub returns-in_err-flush-in-Ask-clause-err : goal.returns-in_err-flush-in-Ask-cl
 returns-in_err-flush-in-Ask-clause-err g c =
     let e = err_from_is_err_and c.from_residual-in_err-flush-in-Ask.result c.from_residual-in_err-flush-in-Ask.ensures.1
     in
-    rw e.1 (acting_broke g.P.Port.holds g.P.Port.own _ _ _ _ _ c.loop-deed.outbox c.args.deeds _ [] (no_front _)
+    rw e.1 (acting_broke g.P.Port.ops g.P.Port.own _ _ _ _ _ c.loop-deed.outbox c.args.deeds _ [] (no_front _)
     c.loop-deed.invariant.did c.in_err-flush-in-Ask.ensures.err)
 
 -- The call was the last deed.
 pub returns-in-Ask-clause-ok : goal.returns-in-Ask-clause-ok
 returns-in-Ask-clause-ok g c =
-    acted_ask g.P.Port.holds g.P.Port.own _ _ _ _ _ _ c.loop-deed.outbox c.args.deeds _ c.in-Some.deed c.in-Ask.call
+    acted_ask g.P.Port.ops g.P.Port.own _ _ _ _ _ _ c.loop-deed.outbox c.args.deeds _ c.in-Some.deed c.in-Ask.call
     c.ask.result _ c.in-Some.ensures.steps.0 c.in-Ask.is c.loop-deed.invariant.did c.in_ok-flush-in-Ask.ensures.ok
     c.ask.ensures
 
@@ -77,25 +77,25 @@ pub returns-in_err-flush-in-Close-clause-err : goal.returns-in_err-flush-in-Clos
 returns-in_err-flush-in-Close-clause-err g c =
     let e = err_from_is_err_and c.from_residual-in_err-flush-in-Close.result
     c.from_residual-in_err-flush-in-Close.ensures.1 in
-    rw e.1 (acting_broke g.P.Port.holds g.P.Port.own _ _ _ _ _ c.loop-deed.outbox c.args.deeds _ [] (no_front _)
+    rw e.1 (acting_broke g.P.Port.ops g.P.Port.own _ _ _ _ _ c.loop-deed.outbox c.args.deeds _ [] (no_front _)
     c.loop-deed.invariant.did c.in_err-flush-in-Close.ensures.err)
 
 -- So was the close.
 pub returns-in-Close-clause-ok : goal.returns-in-Close-clause-ok
 returns-in-Close-clause-ok g c =
-    acted_close g.P.Port.holds g.P.Port.own _ _ _ _ _ c.loop-deed.outbox c.args.deeds _ c.in-Some.deed _
+    acted_close g.P.Port.ops g.P.Port.own _ _ _ _ _ c.loop-deed.outbox c.args.deeds _ c.in-Some.deed _
     c.in-Some.ensures.steps.0 c.in-Close.is c.loop-deed.invariant.did c.in_ok-flush-in-Close.ensures.ok
 
 -- Of what was held a front was written.
 pub returns-in_err-flush-clause-err : goal.returns-in_err-flush-clause-err
 returns-in_err-flush-clause-err g c =
     let e = err_from_is_err_and c.from_residual-in_err-flush.result c.from_residual-in_err-flush.ensures.1 in
-    rw e.1 (acting_broke g.P.Port.holds g.P.Port.own _ _ _ _ _ c.loop-deed.outbox c.args.deeds _ [] (no_front _)
+    rw e.1 (acting_broke g.P.Port.ops g.P.Port.own _ _ _ _ _ c.loop-deed.outbox c.args.deeds _ [] (no_front _)
     c.loop-deed.invariant.did c.in_err-flush.ensures.err)
 
 -- No deed is left, and no byte is held.
 pub returns-clause-ok : goal.returns-clause-ok
-returns-clause-ok g c = acted_all g.P.Port.holds g.P.Port.own _ _ _ _ _ c.loop-deed.outbox c.args.deeds
+returns-clause-ok g c = acted_all g.P.Port.ops g.P.Port.own _ _ _ _ _ c.loop-deed.outbox c.args.deeds
     _ (none_left c.loop-deed.deed-iterator.rest.items
     (omega (arith, c.in-None.ensures.steps.0, c.loop-deed.deed-iterator.rest.ok.0))) c.loop-deed.invariant.did
     c.in_ok-flush.ensures.ok

@@ -8,7 +8,7 @@ use Rattle.association_run.proofs.act.act.Given as goal
 -- The deeds so far are done but for the bytes that are held, none of them a call, and the others are left.
 abbrev pub invariant-loop-deed : goal.invariant-loop-deed
 invariant-loop-deed g l = record {
-  did : Acting g.P.Port.holds g.P.Port.own (sides l.fn.port (g.W.Sink.contents l.fn.writer)
+  did : Acting g.P.Port.ops g.P.Port.own (sides l.fn.port (g.W.Sink.contents l.fn.writer)
       (g.G.Gate.reached l.fn.gate)) (sides l.port (g.W.Sink.contents l.writer) (g.G.Gate.reached l.gate)) l.outbox
       l.fn.deeds l.deed-iterator.rest.items;
   writable : All IsWritable l.deed-iterator.rest.items;

@@ -1,21 +1,23 @@
-use Rattle.std.proofs.Common.{◌∙◌}
+use Rattle.std.proofs.Common.{◌∙◌, ◌<◌, List, sym, subst}
+use Rattle.pdu.specs.declared.pdv.Pdv.{Pdv}
 use Rattle.std.proofs.lemmas.Result.{err_from_is_err_and}
-use Rattle.association_run.proofs.StepLaws.{begun, goes_on, ended, fails_first, fails_on, falls}
+use Rattle.association_run.proofs.StepLaws.{begun, goes_on, ended, fails_first, fails_on, falls, weight}
 use Rattle.association_run.proofs.act.hear.Goals as goal
 
 -- Of the event's own deeds a front was done.
 pub returns-in_err-pending-clause-err : goal.returns-in_err-pending-clause-err
 returns-in_err-pending-clause-err g c =
     let e = err_from_is_err_and c.from_residual.result c.from_residual.ensures.1 in
-    rw e.1 (fails_first g.P.Port.holds g.P.Port.own c.args.titles.now.list _ _ c.args.session.now c.args.event
-    c.in_err-pending.ensures.err)
+    rw e.1 (fails_first g.P.Port.ops g.P.Port.own c.args.titles.now.list _ _ c.args.session.now c.args.event
+    c.requires.idle c.in_err-pending.ensures.err)
 
 -- The event's own deeds are done.
 pub loop-input-init : goal.loop-input-init
 loop-input-init g c = record {
-  hearing = begun g.P.Port.holds g.P.Port.own c.args.titles.now.list _ _ c.args.session.now c.args.event
+  hearing = begun g.P.Port.ops g.P.Port.own c.args.titles.now.list _ _ c.args.session.now c.args.event
       c.in_ok-pending.pending c.tell.new.session c.requires.idle c.requires.finished c.requires.connected
       c.in_ok-pending.ensures.ok;
+  quiet = c.in_ok-pending.ensures.ok.turned.told;
   write = c.in_ok-pending.ensures.write;
 }
 
@@ -24,32 +26,46 @@ pub returns-in_err-pending-2-clause-err : goal.returns-in_err-pending-2-clause-e
 returns-in_err-pending-2-clause-err g c =
     let e = err_from_is_err_and c.from_residual-in_err-pending-2.result c.from_residual-in_err-pending-2.ensures.1 in
     let next = rw c.in-Some.is at c.next.ensures in
-    rw e.1 (fails_on g.P.Port.holds g.P.Port.own c.args.titles.now.list _ _ _ c.args.session.now c.args.event
+    rw e.1 (fails_on g.P.Port.ops g.P.Port.own c.args.titles.now.list _ _ _ c.args.session.now c.args.event
     c.loop-input.pending c.loop-input.session c.in-Some.input c.loop-input.invariant.hearing next
     c.in_err-pending-2.ensures.err)
 
--- A reply was told, or values were heard on.
+-- Of the deeds for the rows a front was done.
+pub returns-in_err-tell_rows-clause-err : goal.returns-in_err-tell_rows-clause-err
+returns-in_err-tell_rows-clause-err g c =
+    let e = err_from_is_err_and c.from_residual-in_err-tell_rows.result c.from_residual-in_err-tell_rows.ensures.1 in
+    let next = rw c.in-Some.is at c.next.ensures in
+    rw e.1 (c.in_err-tell_rows.ensures.err _ c.args.session.now c.args.event c.in_ok-pending-2.pending
+    (goes_on g.P.Port.ops g.P.Port.own c.args.titles.now.list _ _ _ c.args.session.now c.args.event c.loop-input.pending
+    c.loop-input.session c.in-Some.input c.in_ok-pending-2.pending c.tell-in-Some.new.session
+    c.loop-input.invariant.hearing next c.in_ok-pending-2.ensures.ok))
+
+-- A reply was told, or values were heard on; the rows leave the values.
 pub loop-input-smaller : goal.loop-input-smaller
 loop-input-smaller g c =
     let next = rw c.in-Some.is at c.next.ensures in
-    falls g.P.Port.holds g.P.Port.own c.args.titles.now.list _ _ _ c.args.session.now c.args.event c.loop-input.pending
+    subst (λ (q : List Pdv). weight q c.in_ok-pending-2.pending < weight c.loop-input.session.association.queue
+    c.loop-input.pending) (sym c.in_ok-tell_rows.ensures.left)
+    (falls g.P.Port.ops g.P.Port.own c.args.titles.now.list _ _ _ c.args.session.now c.args.event c.loop-input.pending
     c.loop-input.session c.in-Some.input c.in_ok-pending-2.pending c.tell-in-Some.new.session
-    c.loop-input.invariant.hearing next c.in_ok-pending-2.ensures.ok
+    c.loop-input.invariant.hearing c.loop-input.invariant.quiet next c.in_ok-pending-2.ensures.ok)
 
--- The deeds for what came next are done.
+-- The deeds for what came next are done, and for its rows.
 pub loop-input-preserved : goal.loop-input-preserved
 loop-input-preserved g c =
     let next = rw c.in-Some.is at c.next.ensures in
     record {
-      hearing = goes_on g.P.Port.holds g.P.Port.own c.args.titles.now.list _ _ _ c.args.session.now c.args.event
-          c.loop-input.pending c.loop-input.session c.in-Some.input c.in_ok-pending-2.pending c.tell-in-Some.new.session
-          c.loop-input.invariant.hearing next c.in_ok-pending-2.ensures.ok;
-      write = c.in_ok-pending-2.ensures.write ∙ c.loop-input.invariant.write;
+      hearing = c.in_ok-tell_rows.ensures.ok _ c.args.session.now c.args.event c.in_ok-pending-2.pending
+          (goes_on g.P.Port.ops g.P.Port.own c.args.titles.now.list _ _ _ c.args.session.now c.args.event
+          c.loop-input.pending c.loop-input.session c.in-Some.input c.in_ok-pending-2.pending
+          c.tell-in-Some.new.session c.loop-input.invariant.hearing next c.in_ok-pending-2.ensures.ok);
+      quiet = c.in_ok-tell_rows.ensures.quiet;
+      write = c.in_ok-tell_rows.ensures.write ∙ c.in_ok-pending-2.ensures.write ∙ c.loop-input.invariant.write;
     }
 
 -- Nothing more comes of the event.
 pub returns-clause-ok : goal.returns-clause-ok
 returns-clause-ok g c =
     let next = rw c.in_default.is at c.next.ensures in
-    ended g.P.Port.holds g.P.Port.own c.args.titles.now.list _ _ c.args.session.now c.args.event c.loop-input.pending
+    ended g.P.Port.ops g.P.Port.own c.args.titles.now.list _ _ c.args.session.now c.args.event c.loop-input.pending
     c.loop-input.session c.loop-input.invariant.hearing next

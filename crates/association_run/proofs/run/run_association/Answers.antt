@@ -10,7 +10,7 @@ use Rattle.association_run.proofs.run.run_association.Goals as goal
 pub loop-init : goal.loop-init
 loop-init g c = record {
   ready = rw c.new-intake.ensures (starts_ready c.new-session.result c.new-session.ensures.association);
-  so_far = rw c.new-intake.ensures (nothing_yet g.P.Port.holds g.P.Port.own c.args.titles.now.list
+  so_far = rw c.new-intake.ensures (nothing_yet g.P.Port.ops g.P.Port.own c.args.titles.now.list
       (g.R.Source.remaining c.args.reader.now) (sides c.args.port.now (g.W.Sink.contents c.args.writer.now)
       (g.G.Gate.reached c.args.gate.now)) c.new-session.result c.new-session.ensures.association
       c.new-session.ensures.aborted c.new-session.ensures.released);
@@ -22,11 +22,11 @@ loop-init g c = record {
 pub returns-in_err-outbox-clause-err : goal.returns-in_err-outbox-clause-err
 returns-in_err-outbox-clause-err g c =
     let e = err_from_is_err_and c.from_residual.result c.from_residual.ensures.1 in
-    let start = nothing_yet g.P.Port.holds g.P.Port.own c.args.titles.now.list (g.R.Source.remaining c.args.reader.now)
+    let start = nothing_yet g.P.Port.ops g.P.Port.own c.args.titles.now.list (g.R.Source.remaining c.args.reader.now)
     (sides c.args.port.now (g.W.Sink.contents c.args.writer.now) (g.G.Gate.reached c.args.gate.now))
     c.new-session.result c.new-session.ensures.association c.new-session.ensures.aborted
     c.new-session.ensures.released in
-    rw e.1 (stopped g.P.Port.holds g.P.Port.own c.args.titles.now.list _ _ _ _ _ c.new-session.result NOTHING_READ _
+    rw e.1 (stopped g.P.Port.ops g.P.Port.own c.args.titles.now.list _ _ _ _ _ c.new-session.result NOTHING_READ _
     start (nothing_read _))
 
 -- The turn ended the run.
@@ -43,5 +43,5 @@ returns-in-Err-clause-err g c = c.in-Err.ensures.turns _ _ _ c.loop.invariant.so
 
 -- Too many reads.
 pub returns-clause-err : goal.returns-clause-err
-returns-clause-err g c = stopped g.P.Port.holds g.P.Port.own c.args.titles.now.list _ _ _ _ _ c.loop.session
+returns-clause-err g c = stopped g.P.Port.ops g.P.Port.own c.args.titles.now.list _ _ _ _ _ c.loop.session
     c.loop.intake _ c.loop.invariant.so_far (nothing_read _)

@@ -12,7 +12,7 @@ use Rattle.association_run.proofs.run.take_turn.Goals as goal
 pub returns-in_err-count-clause-turns : goal.returns-in_err-count-clause-turns
 returns-in_err-count-clause-turns g c r0 old n so =
     let e = err_from_is_err_and c.from_residual.result c.from_residual.ensures.1 in
-    rw e.1 (stopped g.P.Port.holds g.P.Port.own c.args.titles.now.list r0 _ _ old _ c.args.session.now c.args.intake.now
+    rw e.1 (stopped g.P.Port.ops g.P.Port.own c.args.titles.now.list r0 _ _ old _ c.args.session.now c.args.intake.now
     n so (kept_read _ _ c.in_err-count.ensures.kept))
 
 -- The stream came to its end.
@@ -20,9 +20,9 @@ pub returns-then-count-eq0-clause-turns : goal.returns-then-count-eq0-clause-tur
 returns-then-count-eq0-clause-turns g c r0 old n so =
     let r = c.in_ok-count.ensures.read in
     let within = rw c.state.ensures at c.in_ok-count.ensures.within in
-    let here = after_read g.P.Port.holds g.P.Port.own c.args.titles.now.list r0 _ _ old _ c.args.session.now
+    let here = after_read g.P.Port.ops g.P.Port.own c.args.titles.now.list r0 _ _ old _ c.args.session.now
     c.args.intake.now c.read.new.self n c.in_ok-count.count so r within in
-    finished g.P.Port.holds g.P.Port.own c.args.titles.now.list r0 _ old _ c.args.session.now c.read.new.self
+    finished g.P.Port.ops g.P.Port.own c.args.titles.now.list r0 _ old _ c.args.session.now c.read.new.self
     (n + c.in_ok-count.count) c.end_now.result here
     (nothing_more _ _ c.args.intake.now c.read.new.self c.in_ok-count.count r c.if-count-eq0.true c.requires.unfinished)
     (inr (inr (r.end c.if-count-eq0.true)))
@@ -35,30 +35,30 @@ pub returns-in_err-take_piece-clause-turns : goal.returns-in_err-take_piece-clau
 returns-in_err-take_piece-clause-turns g c r0 old n so =
     let e = err_from_is_err_and c.from_residual-in_err-take_piece.result c.from_residual-in_err-take_piece.ensures.1 in
     let within = rw c.state.ensures at c.in_ok-count.ensures.within in
-    let here = after_read g.P.Port.holds g.P.Port.own c.args.titles.now.list r0 _ _ old _ c.args.session.now
+    let here = after_read g.P.Port.ops g.P.Port.own c.args.titles.now.list r0 _ _ old _ c.args.session.now
     c.args.intake.now c.read.new.self n c.in_ok-count.count so c.in_ok-count.ensures.read within in
-    rw e.1 (broken g.P.Port.holds g.P.Port.own c.args.titles.now.list r0 _ old _ _ c.args.session.now c.read.new.self
+    rw e.1 (broken g.P.Port.ops g.P.Port.own c.args.titles.now.list r0 _ old _ _ c.args.session.now c.read.new.self
     (n + c.in_ok-count.count) here c.requires.connected c.in_err-take_piece.ensures.err)
 
 -- The piece ended it.
 pub returns-then-is_over-clause-turns : goal.returns-then-is_over-clause-turns
 returns-then-is_over-clause-turns g c r0 old n so =
     let within = rw c.state.ensures at c.in_ok-count.ensures.within in
-    let here = after_read g.P.Port.holds g.P.Port.own c.args.titles.now.list r0 _ _ old _ c.args.session.now
+    let here = after_read g.P.Port.ops g.P.Port.own c.args.titles.now.list r0 _ _ old _ c.args.session.now
     c.args.intake.now c.read.new.self n c.in_ok-count.count so c.in_ok-count.ensures.read within in
     let takes = c.in_ok-take_piece.ensures.ok in
-    let there = after_take g.P.Port.holds g.P.Port.own c.args.titles.now.list r0 _ old _ _ c.args.session.now
+    let there = after_take g.P.Port.ops g.P.Port.own c.args.titles.now.list r0 _ old _ _ c.args.session.now
     c.read.new.self c.take_piece.new.session c.take_piece.new.intake (n + c.in_ok-count.count) here
     c.requires.connected takes in
     let counted = c.all_counted-counted-2.ensures ∙ ap (λ k. counted_in c.take_piece.new.intake k) c.state-2.ensures in
     let over = over_of c.take_piece.new.session.association.within.state c.all_counted-counted-2.result
     (sym c.is_over.ensures ∙ c.if-is_over.true) in
-    finished g.P.Port.holds g.P.Port.own c.args.titles.now.list r0 _ old _ c.take_piece.new.session
+    finished g.P.Port.ops g.P.Port.own c.args.titles.now.list r0 _ old _ c.take_piece.new.session
     c.take_piece.new.intake (n + c.in_ok-count.count) c.end_now-then-is_over.result there
-    (unfinished_after g.P.Port.holds g.P.Port.own c.args.titles.now.list _ _ c.args.session.now c.read.new.self
+    (unfinished_after g.P.Port.ops g.P.Port.own c.args.titles.now.list _ _ c.args.session.now c.read.new.self
     c.take_piece.new.session c.take_piece.new.intake takes)
     (or_at_end (rw counted at over))
-    (empty_after g.P.Port.holds g.P.Port.own c.args.titles.now.list _ _ c.args.session.now c.read.new.self
+    (empty_after g.P.Port.ops g.P.Port.own c.args.titles.now.list _ _ c.args.session.now c.read.new.self
     c.take_piece.new.session c.take_piece.new.intake c.requires.connected takes)
     (c.end_now-then-is_over.ensures ∙ ap (λ k. end_in k c.take_piece.new.session.aborted
     c.take_piece.new.session.released) counted)
@@ -67,12 +67,12 @@ returns-then-is_over-clause-turns g c r0 old n so =
 pub returns-clause-turns : goal.returns-clause-turns
 returns-clause-turns g c r0 old n so =
     let within = rw c.state.ensures at c.in_ok-count.ensures.within in
-    let here = after_read g.P.Port.holds g.P.Port.own c.args.titles.now.list r0 _ _ old _ c.args.session.now
+    let here = after_read g.P.Port.ops g.P.Port.own c.args.titles.now.list r0 _ _ old _ c.args.session.now
     c.args.intake.now c.read.new.self n c.in_ok-count.count so c.in_ok-count.ensures.read within in
-    let there = after_take g.P.Port.holds g.P.Port.own c.args.titles.now.list r0 _ old _ _ c.args.session.now
+    let there = after_take g.P.Port.ops g.P.Port.own c.args.titles.now.list r0 _ old _ _ c.args.session.now
     c.read.new.self c.take_piece.new.session c.take_piece.new.intake (n + c.in_ok-count.count) here
     c.requires.connected c.in_ok-take_piece.ensures.ok in
-    fewer_reads g.P.Port.holds g.P.Port.own c.args.titles.now.list r0 _ old _ c.take_piece.new.session
+    fewer_reads g.P.Port.ops g.P.Port.own c.args.titles.now.list r0 _ old _ c.take_piece.new.session
     c.take_piece.new.intake (n + 1) (n + c.in_ok-count.count) there (omega (arith, c.if-count-eq0.false))
 
 -- The next turn may read.
@@ -81,7 +81,7 @@ returns-clause-ready g c = λ none.
     let within = rw c.state.ensures at c.in_ok-count.ensures.within in
     let counted = c.all_counted-counted-2.ensures ∙ ap (λ k. counted_in c.take_piece.new.intake k) c.state-2.ensures in
     let over = sym c.is_over.ensures ∙ c.if-is_over.false in
-    ready_after g.P.Port.holds g.P.Port.own c.args.titles.now.list _ _ c.args.session.now c.read.new.self
+    ready_after g.P.Port.ops g.P.Port.own c.args.titles.now.list _ _ c.args.session.now c.read.new.self
     c.take_piece.new.session c.take_piece.new.intake c.requires.idle c.requires.finished c.requires.connected
     (read_dropping _ _ c.args.session.now.association.within.state c.args.intake.now c.read.new.self c.in_ok-count.count
     c.requires.dropping c.in_ok-count.ensures.read)

@@ -7,7 +7,7 @@ use Rattle.association_session.proofs.TurnLaws.{popped, popped_writable}
 use Rattle.association_session.proofs.association.ask.Goals as goal
 
 action_is : goal.returns-clause-action
-action_is g c =
+action_is c =
     let list : c.into_vec.result.items ≡ option_to_list (action_on c.args.titles.now.list c.args.acceptor.now.state
     c.args.event) = c.into_vec.ensures ∙ c.in_ok-actions.ensures.done in
     popped c.pop.new.self.items c.pop.result (action_on c.args.titles.now.list c.args.acceptor.now.state c.args.event)
@@ -15,11 +15,11 @@ action_is g c =
     (λ some. c.pop.ensures.variant.1 (omega (arith, some, c.into_vec.result.ok.0, ap length list)))
 
 pub returns-clause-action : goal.returns-clause-action
-returns-clause-action g c = action_is g c
+returns-clause-action c = action_is c
 
 pub returns-clause-lawful : goal.returns-clause-lawful
-returns-clause-lawful g c = λ lawful.
+returns-clause-lawful c = λ lawful.
     popped_writable (action_on c.args.titles.now.list c.args.acceptor.now.state c.args.event) c.pop.result
-    (action_is g c)
+    (action_is c)
     (subst (λ (l : List Action). All CanBeWritten l) c.in_ok-actions.ensures.done (c.in_ok-actions.ensures.lawful
     lawful))

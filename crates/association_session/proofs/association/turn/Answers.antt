@@ -6,7 +6,7 @@ use Rattle.association_session.proofs.association.turn.Goals as goal
 
 -- What is admitted takes a fragment.
 pub agree-requires : goal.agree-requires
-agree-requires g c = λ opened some.
+agree-requires c = λ opened some.
     let is_opened : opens c.args.acceptor.now.state c.ask.new.acceptor.state ≡ true =
     cc (c.is_opened-opened.ensures, c.state-before.ensures, c.state.ensures, opened) in
     subst (λ (n : ℕ). FitsLimit n) (sym c.limit_of-limit.ensures)

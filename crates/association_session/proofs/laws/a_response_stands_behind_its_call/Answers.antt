@@ -3,4 +3,4 @@ use Rattle.association_session.proofs.laws.a_response_stands_behind_its_call.Goa
 
 -- The lemma says it.
 pub returns : goal.returns
-returns g c = replied
+returns c = replied

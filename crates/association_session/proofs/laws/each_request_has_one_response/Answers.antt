@@ -3,4 +3,4 @@ use Rattle.association_session.proofs.laws.each_request_has_one_response.Goals a
 
 -- The lemma says it.
 pub returns : goal.returns
-returns g c = λ titles w heard replies deeds talk. responded titles heard w replies deeds talk
+returns c = λ titles w heard replies deeds talk. responded titles heard w replies deeds talk

@@ -3,4 +3,4 @@ use Rattle.association_session.proofs.laws.more_is_only_added.Goals as goal
 
 -- The lemma says it.
 pub returns : goal.returns
-returns g c = talks_front
+returns c = talks_front

@@ -3,4 +3,4 @@ use Rattle.association_session.proofs.laws.nothing_is_asked_after_goodbye.Goals 
 
 -- The lemma says it.
 pub returns : goal.returns
-returns g c = orderly
+returns c = orderly

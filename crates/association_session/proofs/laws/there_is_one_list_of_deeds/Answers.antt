@@ -3,4 +3,4 @@ use Rattle.association_session.proofs.laws.there_is_one_list_of_deeds.Goals as g
 
 -- The lemma says it.
 pub returns : goal.returns
-returns g c = talks_once
+returns c = talks_once

@@ -28,6 +28,7 @@ returns-clause-kept g c clean =
     kept_then a d e (kept_then a b d c.make_beside.ensures.kept c.move_rows.ensures.crash c.move_rows.ensures.kept)
     c.drop_older.ensures.crash c.drop_older.ensures.kept clean
 
+-- So does a refused drop of the older table.
 pub returns-in_err-drop_older-clause-kept : goal.returns-in_err-drop_older-clause-kept
 returns-in_err-drop_older-clause-kept g c clean =
     let a = state g.S.Store c.args.part.now.conn.now in
@@ -37,6 +38,7 @@ returns-in_err-drop_older-clause-kept g c clean =
     kept_then a d e (kept_then a b d c.make_beside.ensures.kept c.move_rows.ensures.crash c.move_rows.ensures.kept)
     c.drop_older.ensures.crash c.drop_older.ensures.kept clean
 
+-- And so does a row that is refused.
 pub returns-in_err-move_rows-clause-kept : goal.returns-in_err-move_rows-clause-kept
 returns-in_err-move_rows-clause-kept g c clean =
     let a = state g.S.Store c.args.part.now.conn.now in
@@ -53,6 +55,7 @@ returns-clause-crash g c =
     let e = state g.S.Store c.drop_older.new.part.conn.now in
     crash_then a d e (crash_then a b d c.make_beside.ensures.crash c.move_rows.ensures.crash) c.drop_older.ensures.crash
 
+-- Nor does a refused drop of the older table.
 pub returns-in_err-drop_older-clause-crash : goal.returns-in_err-drop_older-clause-crash
 returns-in_err-drop_older-clause-crash g c =
     let a = state g.S.Store c.args.part.now.conn.now in
@@ -61,6 +64,7 @@ returns-in_err-drop_older-clause-crash g c =
     let e = state g.S.Store c.drop_older.new.part.conn.now in
     crash_then a d e (crash_then a b d c.make_beside.ensures.crash c.move_rows.ensures.crash) c.drop_older.ensures.crash
 
+-- Nor does a row that is refused.
 pub returns-in_err-move_rows-clause-crash : goal.returns-in_err-move_rows-clause-crash
 returns-in_err-move_rows-clause-crash g c =
     crash_then (state g.S.Store c.args.part.now.conn.now) (state g.S.Store c.make_beside.new.part.conn.now)

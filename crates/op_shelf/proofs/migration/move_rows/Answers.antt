@@ -53,6 +53,7 @@ returns-in_err-move_row-clause-kept g c clean =
     keeps_then (state g.S.Store c.args.part.now.conn.now) (state g.S.Store c.loop-pair.part.conn.now)
     (state g.S.Store c.move_row.new.part.conn.now) was.1 (c.move_row.ensures.kept clean)
 
+-- It commits nothing, as the rows before it.
 pub returns-in_err-move_row-clause-crash : goal.returns-in_err-move_row-clause-crash
 returns-in_err-move_row-clause-crash g c =
     survives_then (state g.S.Store c.args.part.now.conn.now) (state g.S.Store c.loop-pair.part.conn.now)

@@ -1,6 +1,6 @@
 use Rattle.std.proofs.Common.{ap, sym, subst, Err}
 use Rattle.site_world.specs.Simulation.{BreaksOff}
-use Rattle.site_world.proofs.Told.{all_ended, front_ended, broke_ended}
+use Rattle.site_world.proofs.Told.{front_ended, broke_ended}
 use Rattle.site_world.proofs.run.finish.Goals as goal
 
 -- Where the write failed a front is printed.

@@ -4,7 +4,7 @@ use Rattle.association_session.proofs.association.Association.hear.Goals as goal
 
 -- The values that are handed on are heard.
 pub returns-then-is_left-clause-turned : goal.returns-then-is_left-clause-turned
-returns-then-is_left-clause-turned g c =
+returns-then-is_left-clause-turned c =
     ok_map c.hear_values.result _ _
     (λ deeds turned. heard_on c.args.titles.now.list c.args.self.now c.meet.new.self c.hear_values.new.self c.args.event
     deeds c.requires c.in_ok-deeds.ensures.next
@@ -13,5 +13,5 @@ returns-then-is_left-clause-turned g c =
 
 -- The row is all that is done.
 pub returns-clause-turned : goal.returns-clause-turned
-returns-clause-turned g c = met_only c.args.titles.now.list c.args.self.now _ c.args.event c.in_ok-deeds.deeds
+returns-clause-turned c = met_only c.args.titles.now.list c.args.self.now _ c.args.event c.in_ok-deeds.deeds
     c.requires c.in_ok-deeds.ensures.next c.in_ok-deeds.ensures.row

@@ -11,11 +11,11 @@ use Rattle.association_session.proofs.association.Association.hear_values.Goals 
 
 -- No value was put together yet.
 pub loop-value-init : goal.loop-value-init
-loop-value-init g c = fed_start _ _ refl
+loop-value-init c = fed_start _ _ refl
 
 -- A value more ended no message.
 pub loop-value-preserved : goal.loop-value-preserved
-loop-value-preserved g c =
+loop-value-preserved c =
     fed_on c.args.self.now _ c.loop-value.self c.in-Some.value c.pop_front.new.self.items c.feed.new.self c.self.view_is
     c.loop-value.invariant
     (c.pop_front.ensures.items ∙ ap (λ (o : Option Pdv). option_to_list o ++ c.pop_front.new.self.items) c.in-Some.is)
@@ -26,7 +26,7 @@ loop-value-preserved g c =
 
 -- A value ended a message, which is answered.
 pub returns-in-Ok-Some-clause-turned : goal.returns-in-Ok-Some-clause-turned
-returns-in-Ok-Some-clause-turned g c =
+returns-in-Ok-Some-clause-turned c =
     ok_map c.answer.result _ _
     (λ deeds answered. took c.args.titles.now.list c.args.self.now _ c.loop-value.self c.in-Some.value
     c.pop_front.new.self.items c.feed.new.self c.in-Ok-Some.message deeds _ c.self.view_is c.loop-value.invariant
@@ -34,12 +34,12 @@ returns-in-Ok-Some-clause-turned g c =
     (subst (λ (r : Result (Option Message) DimseFault). Feeds (assembly_in c.self.inside.link) c.in-Some.value
     r (assembly_in c.feed.new.self))
     (c.in-Ok-Some.is ∙ ap (λ (m : Option Message). Ok m) c.in-Ok-Some.field-0-is) c.in_ok-answer.ensures.fed)
-    c.feed.ensures.limit answered)
+    c.feed.ensures.limit c.requires.idle answered)
     c.answer.ensures.answered
 
 -- A value is refused, and the local user aborts.
 pub returns-in-Err : goal.returns-in-Err
-returns-in-Err g c =
+returns-in-Err c =
     let established = at_state _ _ c.self.view_is ∙ at_within _ _ c.loop-value.invariant.within ∙ c.requires.established
     in
     let idle = at_awaited _ _ c.self.view_is ∙ c.loop-value.invariant.awaited ∙ c.requires.idle in
@@ -62,7 +62,7 @@ returns-in-Err g c =
 
 -- No value is there any more.
 pub returns-clause-turned : goal.returns-clause-turned
-returns-clause-turned g c =
+returns-clause-turned c =
     all_heard c.args.titles.now.list c.args.self.now _ c.loop-value.self c.pop_front.new.self.items c.new.result
     c.self.view_is c.loop-value.invariant c.requires.idle
     (c.pop_front.ensures.items ∙ ap (λ (o : Option Pdv). option_to_list o ++ c.pop_front.new.self.items)

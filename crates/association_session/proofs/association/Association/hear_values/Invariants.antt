@@ -4,7 +4,7 @@ use Rattle.association_session.proofs.association.Association.hear_values.Given 
 
 -- the values so far ended no message
 abbrev pub invariant-loop-value : goal.invariant-loop-value
-invariant-loop-value g l = Fed l.fn.self l.self
+invariant-loop-value l = Fed l.fn.self l.self
 
 abbrev pub decreases-loop-value : goal.decreases-loop-value
-decreases-loop-value g l = length l.self.queue
+decreases-loop-value l = length l.self.queue

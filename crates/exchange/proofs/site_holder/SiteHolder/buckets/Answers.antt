@@ -1,16 +1,12 @@
-use Rattle.std.proofs.Common.{ap, ◌∙◌}
-use Rattle.exchange.specs.Held.{spoken_of}
-use Rattle.exchange.specs.Buckets.{bucket_list}
 use Rattle.std.proofs.lemmas.Result.{err_from_is_err_and}
 use Rattle.exchange.proofs.Holdings.{of_site}
 use Rattle.exchange.proofs.site_holder.SiteHolder.buckets.Goals as goal
 
 -- A refusal says nothing of the set.
-pub returns-in_err-buckets_of_tree : goal.returns-in_err-buckets_of_tree
-returns-in_err-buckets_of_tree c = let p = err_from_is_err_and c.from_residual.result c.from_residual.ensures.1 in
+pub returns-in_err-buckets_of_site : goal.returns-in_err-buckets_of_site
+returns-in_err-buckets_of_site c = let p = err_from_is_err_and c.from_residual.result c.from_residual.ensures.1 in
     of_site _ c.see_lawful.ensures.own (rw p.1 tt)
 
--- The entries of the tree are those of the set.
+-- What the site answers is what is asked of a holder.
 pub returns : goal.returns
-returns c = of_site _ c.see_lawful.ensures.own (c.in_ok-buckets_of_tree.ensures
-    ∙ ap (λ es. bucket_list (spoken_of c.args.version es)) c.tree.ensures)
+returns c = of_site _ c.see_lawful.ensures.own c.in_ok-buckets_of_site.ensures

@@ -1,16 +1,12 @@
-use Rattle.std.proofs.Common.{ap, ◌∙◌}
-use Rattle.std.specs.Prelude.{filter}
-use Rattle.exchange.specs.Held.{spoken_of, is_in}
 use Rattle.std.proofs.lemmas.Result.{err_from_is_err_and}
 use Rattle.exchange.proofs.Holdings.{of_site}
 use Rattle.exchange.proofs.site_holder.SiteHolder.digests_in.Goals as goal
 
 -- A refusal says nothing of the set.
-pub returns-in_err-digests_of_tree_in : goal.returns-in_err-digests_of_tree_in
-returns-in_err-digests_of_tree_in c = let p = err_from_is_err_and c.from_residual.result c.from_residual.ensures.1 in
+pub returns-in_err-digests_of_site_in : goal.returns-in_err-digests_of_site_in
+returns-in_err-digests_of_site_in c = let p = err_from_is_err_and c.from_residual.result c.from_residual.ensures.1 in
     of_site _ c.see_lawful.ensures.own (rw p.1 tt)
 
--- The entries of the tree are those of the set.
+-- What the site answers is what is asked of a holder.
 pub returns : goal.returns
-returns c = of_site _ c.see_lawful.ensures.own (c.in_ok-digests_of_tree_in.ensures
-    ∙ ap (λ es. filter (is_in c.args.places.now) (spoken_of c.args.version es)) c.tree.ensures)
+returns c = of_site _ c.see_lawful.ensures.own c.in_ok-digests_of_site_in.ensures

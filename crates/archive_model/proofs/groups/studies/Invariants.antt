@@ -1,7 +1,0 @@
-use Rattle.std.proofs.Common.{◌≡◌, ◌++◌, drop, map}
-use Rattle.archive_model.specs.Contents.{study_of}
-use Rattle.archive_model.proofs.groups.studies.Given as goal
-
-abbrev pub invariant-loop-content : goal.invariant-loop-content
-invariant-loop-content l = map (λ u. u.now) l.uids.items ++ map study_of
-    (map (λ c. c.now) (drop l.content-index l.shown)) ≡ map study_of (map (λ c. c.now) l.shown)

@@ -1,7 +1,0 @@
-use Rattle.std.proofs.Common.{◌≡◌, ◌++◌, drop, map}
-use Rattle.archive_model.specs.Contents.{contents}
-use Rattle.archive_model.proofs.picks.contents.Given as goal
-
-abbrev pub invariant-loop-op : goal.invariant-loop-op
-invariant-loop-op l = map (λ c. c.now) l.found.items ++ contents (map (λ o. o.now) (drop l.op-index l.ops)) ≡ contents
-    (map (λ o. o.now) l.ops)

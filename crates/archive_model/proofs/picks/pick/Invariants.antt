@@ -1,7 +1,0 @@
-use Rattle.std.proofs.Common.{◌≡◌, drop, map}
-use Rattle.archive_model.specs.Contents.{pick as pick_of}
-use Rattle.archive_model.proofs.picks.pick.Given as goal
-
-abbrev pub invariant-loop-op : goal.invariant-loop-op
-invariant-loop-op l = pick_of l.instance (map (λ o. o.now) (drop l.op-index l.ops)) ≡ pick_of l.instance
-    (map (λ o. o.now) l.ops)

@@ -1,0 +1,75 @@
+use Rattle.std.proofs.Common.{◌∙◌, refl, sym}
+use Rattle.std.proofs.lemmas.Result.{err_from_is_err_and}
+use Rattle.association_session.specs.Session.{is_left}
+use Rattle.association_run.proofs.StepLaws.{tells_on, tells_broke, rows_fewer, quiet_of, told_in_turn}
+use Rattle.association_run.proofs.act.tell_rows.Goals as goal
+
+-- Rows are told in their turn.
+pub tell-requires-clause-turn : goal.tell-requires-clause-turn
+tell-requires-clause-turn g c =
+    told_in_turn c.loop-alloc.session.association.awaited (is_left c.loop-alloc.session.association.within.state
+    c.loop-alloc.session.association.queue) (sym c.is_telling.ensures ∙ c.loop-alloc-test.true)
+
+-- Nothing was told yet.
+pub loop-alloc-init : goal.loop-alloc-init
+loop-alloc-init g c = record { goes = λ old from event pending h. h; left = refl; write = refl }
+
+-- Of the deeds for some rows a front was done.
+pub returns-in_err-_reply-clause-err : goal.returns-in_err-_reply-clause-err
+returns-in_err-_reply-clause-err g c =
+    let e = err_from_is_err_and c.from_residual.result c.from_residual.ensures.1 in
+    rw e.1 (tells_broke g.P.Port.ops g.P.Port.own c.args.titles.now.list _ _ _ c.args.session.now c.loop-alloc.session
+    c.loop-alloc.invariant.goes (sym c.is_telling.ensures ∙ c.loop-alloc-test.true) c.in_err-_reply.ensures.err)
+
+-- Some rows more are told.
+pub loop-alloc-preserved : goal.loop-alloc-preserved
+loop-alloc-preserved g c =
+    let telling = sym c.is_telling.ensures ∙ c.loop-alloc-test.true in
+    record {
+      goes = tells_on g.P.Port.ops g.P.Port.own c.args.titles.now.list _ _ _ c.args.session.now c.loop-alloc.session
+          c.in_ok-_reply._reply c.tell.new.session c.loop-alloc.invariant.goes telling c.in_ok-_reply.ensures.ok;
+      left = (rows_fewer _ _ telling c.in_ok-_reply.ensures.ok.fewer).0 ∙ c.loop-alloc.invariant.left;
+      write = c.in_ok-_reply.ensures.write ∙ c.loop-alloc.invariant.write;
+    }
+
+-- The same, where a value of the reply is let go.
+pub loop-alloc-preserved-in_ok-_reply : goal.loop-alloc-preserved-in_ok-_reply
+loop-alloc-preserved-in_ok-_reply g c =
+    let telling = sym c.is_telling.ensures ∙ c.loop-alloc-test.true in
+    record {
+      goes = tells_on g.P.Port.ops g.P.Port.own c.args.titles.now.list _ _ _ c.args.session.now c.loop-alloc.session
+          c.in_ok-_reply._reply c.tell.new.session c.loop-alloc.invariant.goes telling c.in_ok-_reply.ensures.ok;
+      left = (rows_fewer _ _ telling c.in_ok-_reply.ensures.ok.fewer).0 ∙ c.loop-alloc.invariant.left;
+      write = c.in_ok-_reply.ensures.write ∙ c.loop-alloc.invariant.write;
+    }
+
+-- The same, where a reply is let go.
+pub loop-alloc-preserved-in_ok-_reply-2 : goal.loop-alloc-preserved-in_ok-_reply-2
+loop-alloc-preserved-in_ok-_reply-2 g c =
+    let telling = sym c.is_telling.ensures ∙ c.loop-alloc-test.true in
+    record {
+      goes = tells_on g.P.Port.ops g.P.Port.own c.args.titles.now.list _ _ _ c.args.session.now c.loop-alloc.session
+          c.in_ok-_reply._reply c.tell.new.session c.loop-alloc.invariant.goes telling c.in_ok-_reply.ensures.ok;
+      left = (rows_fewer _ _ telling c.in_ok-_reply.ensures.ok.fewer).0 ∙ c.loop-alloc.invariant.left;
+      write = c.in_ok-_reply.ensures.write ∙ c.loop-alloc.invariant.write;
+    }
+
+-- The same, where rows are let go.
+pub loop-alloc-preserved-in_ok-_reply-3 : goal.loop-alloc-preserved-in_ok-_reply-3
+loop-alloc-preserved-in_ok-_reply-3 g c =
+    let telling = sym c.is_telling.ensures ∙ c.loop-alloc-test.true in
+    record {
+      goes = tells_on g.P.Port.ops g.P.Port.own c.args.titles.now.list _ _ _ c.args.session.now c.loop-alloc.session
+          c.in_ok-_reply._reply c.tell.new.session c.loop-alloc.invariant.goes telling c.in_ok-_reply.ensures.ok;
+      left = (rows_fewer _ _ telling c.in_ok-_reply.ensures.ok.fewer).0 ∙ c.loop-alloc.invariant.left;
+      write = c.in_ok-_reply.ensures.write ∙ c.loop-alloc.invariant.write;
+    }
+
+-- The responses that are left become fewer.
+pub loop-alloc-smaller : goal.loop-alloc-smaller
+loop-alloc-smaller g c =
+    (rows_fewer _ _ (sym c.is_telling.ensures ∙ c.loop-alloc-test.true) c.in_ok-_reply.ensures.ok.fewer).1
+
+-- No row is left.
+pub returns-clause-quiet : goal.returns-clause-quiet
+returns-clause-quiet g c = quiet_of _ (sym c.is_telling.ensures ∙ c.loop-alloc-test.false)

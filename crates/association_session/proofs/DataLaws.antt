@@ -1,0 +1,89 @@
+-- What is sent as a message is P-DATA-TFs alone.
+use Rattle.std.proofs.Common.{◌≡◌, ℕ, Bool, false, List, [], ◌∷◌, ◌++◌, map, Option, Some, None, refl, sym, ap, subst}
+use Rattle.std.proofs.Common.{◌∙◌}
+use Rattle.std.proofs.Common.{drop, append-nil}
+use Rattle.std.specs.Prelude.{MatchOption, ⊤}
+use Rattle.data_set.specs.Set.{Set}
+use Rattle.pdu.specs.declared.value.Pdu.{Pdu}
+use Rattle.pdu.specs.declared.value.Pdu.TheVariants as pdus
+use Rattle.ul_state.specs.declared.table.State.{State}
+use Rattle.ul_state.specs.declared.table.State.TheVariants.{Sta6}
+use Rattle.dimse.specs.declared.message.Message.{Message}
+use Rattle.dimse.specs.Sending.{Sends, IsSending, size_of}
+use Rattle.association_session.specs.declared.deed.Deed.{Deed}
+use Rattle.association_session.specs.declared.deed.Deed.TheVariants.{Send}
+use Rattle.association_session.specs.declared.due.RowKind.{RowKind}
+use Rattle.association_session.specs.Find.{AreRows}
+use Rattle.association_session.specs.Order.{IsOrderly}
+use Rattle.association_session.specs.Projections.{state_after}
+use Rattle.association_session.specs.Response.{Awaited}
+
+-- Each is a P-DATA-TF.
+abbrev pub AreData : List Pdu → Type 0
+AreData [] = ⊤
+AreData (pdus.PData values ∷ ps) = AreData ps
+AreData (pdus.AssociateRq request ∷ ps) = ⊥
+AreData (pdus.AssociateAc accept ∷ ps) = ⊥
+AreData (pdus.AssociateRj reject ∷ ps) = ⊥
+AreData (pdus.ReleaseRq ∷ ps) = ⊥
+AreData (pdus.ReleaseRp ∷ ps) = ⊥
+AreData (pdus.Abort source reason ∷ ps) = ⊥
+
+data_append : (xs ys : List Pdu) → AreData xs → AreData ys → AreData (xs ++ ys)
+data_append [] ys p q = q
+data_append (pdus.PData values ∷ xs) ys p q = data_append xs ys p q
+data_append (pdus.AssociateRq request ∷ xs) ys p q = absurd p
+data_append (pdus.AssociateAc accept ∷ xs) ys p q = absurd p
+data_append (pdus.AssociateRj reject ∷ xs) ys p q = absurd p
+data_append (pdus.ReleaseRq ∷ xs) ys p q = absurd p
+data_append (pdus.ReleaseRp ∷ xs) ys p q = absurd p
+data_append (pdus.Abort source reason ∷ xs) ys p q = absurd p
+
+sends_data : (size context : ℕ) (command : Bool) (text : List ℕ) (ps : List Pdu) → Sends size context command text ps
+    → AreData ps
+sends_data size context command text [] p = absurd p
+sends_data size context command text (x ∷ []) p = subst (λ (t : Pdu). AreData (t ∷ [])) (sym p.1) tt
+sends_data size context command text (x ∷ y ∷ ps) p =
+    subst (λ (t : Pdu). AreData (t ∷ y ∷ ps)) (sym p.1) (sends_data size context command (drop size text) (y ∷ ps) p.2)
+
+body_data : (size context : ℕ) (body : Option (List ℕ)) (ps : List Pdu)
+    → MatchOption body (ps ≡ []) (λ text. Sends size context false text ps) → AreData ps
+body_data size context None ps p = subst (λ (t : List Pdu). AreData t) (sym p) tt
+body_data size context (Some text) ps p = sends_data size context false text ps p
+
+pub sending_data : (m : Message) (max : ℕ) (ps : List Pdu) → IsSending m max ps → AreData ps
+sending_data m max ps p = subst (λ (t : List Pdu). AreData t) (sym p.parts)
+    (data_append p.of_command p.of_data (sends_data _ _ _ _ p.of_command p.command)
+    (body_data (size_of max) m.context m.body p.of_data p.data_set))
+
+pub rows_data : (a : Awaited) (kind : RowKind) (rows : List Set) (ps : List Pdu) → AreRows a kind rows ps → AreData ps
+rows_data a kind [] ps p = subst (λ (t : List Pdu). AreData t) (sym p) tt
+rows_data a kind (row ∷ rows) ps p = subst (λ (t : List Pdu). AreData t) (sym p.4)
+    (data_append p.0 p.1 (sending_data _ _ p.0 p.2) (rows_data a kind rows p.1 p.3))
+
+-- P-DATA-TFs lead nowhere else.
+pub data_then : (s : State) (ps : List Pdu) (rest : List Deed) → AreData ps
+    → state_after s (map Send ps ++ rest) ≡ state_after s rest
+data_then s [] rest p = refl
+data_then s (pdus.PData values ∷ ps) rest p = data_then s ps rest p
+data_then s (pdus.AssociateRq request ∷ ps) rest p = absurd p
+data_then s (pdus.AssociateAc accept ∷ ps) rest p = absurd p
+data_then s (pdus.AssociateRj reject ∷ ps) rest p = absurd p
+data_then s (pdus.ReleaseRq ∷ ps) rest p = absurd p
+data_then s (pdus.ReleaseRp ∷ ps) rest p = absurd p
+data_then s (pdus.Abort source reason ∷ ps) rest p = absurd p
+
+pub data_state : (s : State) (ps : List Pdu) → AreData ps → state_after s (map Send ps) ≡ s
+data_state s ps p = ap (λ (t : List Deed). state_after s t) (sym (append-nil (map Send ps))) ∙ data_then s ps [] p
+
+-- They may be sent while the association is established.
+pub data_orderly : (ps : List Pdu) (rest : List Deed) → AreData ps → IsOrderly Sta6 rest
+    → IsOrderly Sta6 (map Send ps ++ rest)
+data_orderly [] rest p q = q
+data_orderly (pdus.PData values ∷ ps) rest p q = (tt, data_orderly ps rest p q)
+data_orderly (pdus.AssociateRq request ∷ ps) rest p q = absurd p
+data_orderly (pdus.AssociateAc accept ∷ ps) rest p q = absurd p
+data_orderly (pdus.AssociateRj reject ∷ ps) rest p q = absurd p
+data_orderly (pdus.ReleaseRq ∷ ps) rest p q = absurd p
+data_orderly (pdus.ReleaseRp ∷ ps) rest p q = absurd p
+data_orderly (pdus.Abort source reason ∷ ps) rest p q = absurd p

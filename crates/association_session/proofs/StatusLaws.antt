@@ -1,0 +1,243 @@
+-- Which statuses are pending, and which are final.
+use Rattle.std.proofs.Common.{◌≡◌, ℕ, Bool, true, false, cond, List, Option, Some, None, Result, Ok, Err, inl, inr}
+use Rattle.std.proofs.Common.{refl}
+use Rattle.std.proofs.Common.{sym, ap, ◌∙◌}
+use Rattle.std.specs.Prelude.{not}
+use Rattle.archive_model.specs.declared.view.View.{View}
+use Rattle.data_set.specs.Set.{Set}
+use Rattle.data_set.specs.declared.syntax.Syntax.{Syntax}
+use Rattle.pdu.specs.declared.context.Context.{Context}
+use Rattle.ul_state.specs.Answer.{is_storage}
+use Rattle.ul_state.specs.declared.acceptor.Settled.{Settled}
+use Rattle.dimse.specs.declared.command.Command.{Command}
+use Rattle.dimse.specs.declared.message.Message.{Message}
+use Rattle.dimse.specs.declared.status.Status.{Status}
+use Rattle.dimse.specs.declared.status.Status.TheVariants.{Success, SopClassNotSupported, UnrecognizedOperation}
+use Rattle.operation.specs.declared.fault.OpFault.{OpFault}
+use Rattle.operation.specs.declared.fault.OpFault.TheVariants as faults
+use Rattle.operation.specs.declared.taken.Taken.{Taken}
+use Rattle.query_model.specs.declared.fault.QueryFault.{QueryFault}
+use Rattle.query_model.specs.declared.query.Query.{Query}
+use Rattle.query_model.specs.Query.{query_of}
+use Rattle.association_session.specs.declared.deed.Finding.{Finding}
+use Rattle.association_session.specs.declared.due.RowKind.{RowKind}
+use Rattle.association_session.specs.declared.reply.PortFault.{PortFault}
+use Rattle.association_session.specs.declared.reply.PortFault.TheVariants.{Memory, Busy, Collision, Shelf}
+use Rattle.association_session.specs.declared.service.Kind.{Kind}
+use Rattle.association_session.specs.declared.service.Kind.TheVariants as kinds
+use Rattle.association_session.specs.declared.service.Service.{Service}
+use Rattle.association_session.specs.declared.service.Service.TheVariants.{Responded, Queried}
+use Rattle.association_session.specs.Context.{context_in, is_other_class, syntax_of}
+use Rattle.association_session.specs.Echo.{echo_status, is_verification}
+use Rattle.association_session.specs.Finals.{is_pending}
+use Rattle.association_session.specs.Find.{is_find, find_refusal, row_status, finding_of, queried_by, status_of_found}
+use Rattle.association_session.specs.Find.{ServesIdentifier, ServesFind}
+use Rattle.association_session.specs.Row.{Within}
+use Rattle.association_session.specs.Service.{kind_of, unknown_status, Serves, ServesOn, ServesKind}
+use Rattle.association_session.specs.Store.{store_refusal, status_of_fault, status_of_reply, ServesStore}
+
+abbrev IsFinal : Status → Type 0
+IsFinal status = is_pending status ≡ false
+
+abbrev told_by : Status → Service
+told_by status = Responded status
+
+same_status : (a b : Status) → told_by a ≡ told_by b → a ≡ b
+same_status a b e = cc
+
+-- a response with a status that is final
+final_as : (a b : Status) → told_by a ≡ told_by b → IsFinal b → IsFinal a
+final_as a b e final = ap is_pending (same_status a b e) ∙ final
+
+abbrev some_status : Status → Option Status
+some_status status = Some status
+
+same_some : (a b : Status) → some_status a ≡ some_status b → a ≡ b
+same_some a b e = cc
+
+refusal_by : (other wrong : Bool) (s : Status)
+    → cond other (Some SopClassNotSupported) (cond wrong (Some UnrecognizedOperation) None) ≡ Some s → IsFinal s
+refusal_by true wrong s e = ap is_pending (sym (same_some SopClassNotSupported s e))
+refusal_by false true s e = ap is_pending (sym (same_some UnrecognizedOperation s e))
+refusal_by false false s e = absurd cc
+
+find_refused : (context : Context) (command : Command) (s : Status) → find_refusal context command ≡ Some s → IsFinal s
+unfolding find_refusal
+find_refused context command s e = refusal_by (is_other_class context command.affected_class) (not (is_find context))
+    s e
+
+store_refused : (context : Context) (command : Command) (s : Status) → store_refusal context command ≡ Some s
+    → IsFinal s
+unfolding store_refusal
+store_refused context command s e = refusal_by (is_other_class context command.affected_class)
+    (not (is_storage context.abstract_syntax)) s e
+
+echo_by : (other is : Bool) → IsFinal (cond other SopClassNotSupported (cond is Success UnrecognizedOperation))
+echo_by true is = refl
+echo_by false true = refl
+echo_by false false = refl
+
+echo_final : (context : Context) (command : Command) → IsFinal (echo_status context command)
+unfolding echo_status
+echo_final context command = echo_by (is_other_class context command.affected_class) (is_verification context)
+
+unknown_by : (other : Bool) → IsFinal (cond other SopClassNotSupported UnrecognizedOperation)
+unknown_by true = refl
+unknown_by false = refl
+
+unknown_final : (context : Context) (command : Command) → IsFinal (unknown_status context command)
+unfolding unknown_status
+unknown_final context command = unknown_by (is_other_class context command.affected_class)
+
+fault_final : (fault : OpFault) → IsFinal (status_of_fault fault)
+fault_final faults.NoUid = refl
+fault_final faults.Mismatch = refl
+fault_final faults.BadSet = refl
+fault_final faults.BadNote = refl
+fault_final faults.TooLong = refl
+fault_final faults.BadCorrection = refl
+fault_final faults.UnknownKind = refl
+fault_final faults.Shape = refl
+fault_final faults.Memory = refl
+
+-- what a reply to a store is told by
+pub stored_final : (reply : Result Taken PortFault) → is_pending (status_of_reply reply) ≡ false
+stored_final (Ok taken) = refl
+stored_final (Err Memory) = refl
+stored_final (Err Busy) = refl
+stored_final (Err Collision) = refl
+stored_final (Err Shelf) = refl
+
+-- and what rows are ended by
+pub found_final : (reply : Result (List Set) PortFault) → is_pending (status_of_found reply) ≡ false
+found_final (Ok rows) = refl
+found_final (Err fault) = refl
+
+queried_final : (settled : Option (Settled View)) (syntax : Syntax) (r : Result Query QueryFault) (status : Status)
+    → told_by status ≡ queried_by settled syntax r → IsFinal status
+queried_final settled syntax (Ok query) status e = absurd cc
+queried_final settled syntax (Err fault) status e = final_as status _ e refl
+
+identifier_final : (settled : Option (Settled View)) (syntax : Syntax) (text : List ℕ) (status : Status)
+    → ServesIdentifier settled syntax text (Responded status) → IsFinal status
+identifier_final settled syntax text status (inl p) = queried_final settled syntax (query_of p.0) status p.2
+identifier_final settled syntax text status (inr p) = final_as status _ p.2 refl
+
+find_final : (settled : Option (Settled View)) (context : Context) (command : Command) (body : Option (List ℕ))
+    (refusal : Option Status) (status : Status) → find_refusal context command ≡ refusal
+    → ServesFind settled context body refusal (Responded status) → IsFinal status
+find_final settled context command body (Some s) status is p = final_as status s p (find_refused context command s is)
+find_final settled context command None None status is p = final_as status _ p refl
+find_final settled context command (Some text) None status is p = identifier_final settled (syntax_of context) text
+    status p
+
+store_final : (context : Context) (command : Command) (body : Option (List ℕ)) (refusal : Option Status)
+    (status : Status) → store_refusal context command ≡ refusal
+    → ServesStore context command body refusal (Responded status) → IsFinal status
+store_final context command body (Some s) status is p = final_as status s p (store_refused context command s is)
+store_final context command None None status is p = final_as status _ p refl
+store_final context command (Some text) None status is p = ap is_pending p.2 ∙ fault_final p.0
+
+kind_final : (kind : Kind) (settled : Option (Settled View)) (context : Context) (command : Command)
+    (body : Option (List ℕ)) (status : Status) → ServesKind kind settled context command body (Responded status)
+    → IsFinal status
+kind_final kinds.Response settled context command body status p = absurd cc
+kind_final kinds.Cancel settled context command body status p = absurd cc
+kind_final kinds.Find settled context command body status p = find_final settled context command
+    body (find_refusal context command) status refl p
+kind_final kinds.Get settled context command body status p = final_as status _ p refl
+kind_final kinds.Echo settled context command body status p = final_as status _ p (echo_final context command)
+kind_final kinds.Store settled context command body status p = store_final context command
+    body (store_refusal context command) status refl p
+kind_final kinds.Unknown settled context command body status p = final_as status _ p (unknown_final context command)
+
+on_final : (settled : Option (Settled View)) (context : Option Context) (command : Command) (body : Option (List ℕ))
+    (status : Status) → ServesOn settled context command body (Responded status) → IsFinal status
+on_final settled None command body status p = absurd cc
+on_final settled (Some context) command body status p = kind_final (kind_of command.field) settled context command body
+    status p
+
+-- what a message is responded at once is final
+pub served_final : (w : Within) (m : Message) (status : Status) → Serves w m (Responded status)
+    → is_pending status ≡ false
+served_final w m status p = on_final w.settled (context_in w.link.contexts m.context) m.command m.body status p
+
+-- ---- rows
+
+row_pending : (partial : Bool) → is_pending (row_status partial) ≡ true
+row_pending true = refl
+row_pending false = refl
+
+abbrev asks_by : Finding → RowKind → Service
+asks_by finding kind = Queried finding kind
+
+same_kind : (f g : Finding) (k l : RowKind) → asks_by f k ≡ asks_by g l → k ≡ l
+same_kind f g k l e = cc
+
+same_finding : (f g : Finding) (k l : RowKind) → asks_by f k ≡ asks_by g l → f ≡ g
+same_finding f g k l e = cc
+
+of_query : (settled : Option (Settled View)) (query : Query) → (finding_of settled query).query ≡ query
+of_query None query = refl
+of_query (Some settled) query = refl
+
+queried_kind : (settled : Option (Settled View)) (syntax : Syntax) (r : Result Query QueryFault) (finding : Finding)
+    (kind : RowKind) → asks_by finding kind ≡ queried_by settled syntax r
+    → kind.status ≡ row_status finding.query.partial
+queried_kind settled syntax (Ok query) finding kind e =
+    ap (λ (k : RowKind). k.status) (same_kind finding _ kind _ e)
+    ∙ ap (λ (q : Query). row_status q.partial)
+    (sym (ap (λ (f : Finding). f.query) (same_finding finding _ kind _ e) ∙ of_query settled query))
+queried_kind settled syntax (Err fault) finding kind e = absurd cc
+
+identifier_kind : (settled : Option (Settled View)) (syntax : Syntax) (text : List ℕ) (finding : Finding)
+    (kind : RowKind) → ServesIdentifier settled syntax text (Queried finding kind)
+    → kind.status ≡ row_status finding.query.partial
+identifier_kind settled syntax text finding kind (inl p) = queried_kind settled syntax (query_of p.0) finding kind
+    p.2
+identifier_kind settled syntax text finding kind (inr p) = absurd (let e = p.2 in cc)
+
+find_kind : (settled : Option (Settled View)) (context : Context) (body : Option (List ℕ)) (refusal : Option Status)
+    (finding : Finding) (kind : RowKind) → ServesFind settled context body refusal (Queried finding kind)
+    → kind.status ≡ row_status finding.query.partial
+find_kind settled context body (Some s) finding kind p = absurd cc
+find_kind settled context None None finding kind p = absurd cc
+find_kind settled context (Some text) None finding kind p = identifier_kind settled (syntax_of context) text
+    finding kind p
+
+store_none : (context : Context) (command : Command) (body : Option (List ℕ)) (refusal : Option Status)
+    (finding : Finding) (kind : RowKind) → ServesStore context command body refusal (Queried finding kind) → ⊥
+store_none context command body (Some s) finding kind p = cc
+store_none context command None None finding kind p = cc
+store_none context command (Some text) None finding kind p = p
+
+kind_kind : (of : Kind) (settled : Option (Settled View)) (context : Context) (command : Command)
+    (body : Option (List ℕ)) (finding : Finding) (kind : RowKind)
+    → ServesKind of settled context command body (Queried finding kind) → kind.status ≡ row_status finding.query.partial
+kind_kind kinds.Response settled context command body finding kind p = absurd cc
+kind_kind kinds.Cancel settled context command body finding kind p = absurd cc
+kind_kind kinds.Find settled context command body finding kind p = find_kind settled context
+    body (find_refusal context command) finding kind p
+kind_kind kinds.Get settled context command body finding kind p = absurd cc
+kind_kind kinds.Echo settled context command body finding kind p = absurd cc
+kind_kind kinds.Store settled context command body finding kind p = absurd (store_none context command
+    body (store_refusal context command) finding kind p)
+kind_kind kinds.Unknown settled context command body finding kind p = absurd cc
+
+on_kind : (settled : Option (Settled View)) (context : Option Context) (command : Command) (body : Option (List ℕ))
+    (finding : Finding) (kind : RowKind) → ServesOn settled context command body (Queried finding kind)
+    → kind.status ≡ row_status finding.query.partial
+on_kind settled None command body finding kind p = absurd cc
+on_kind settled (Some context) command body finding kind p = kind_kind (kind_of command.field) settled context
+    command body finding kind p
+
+-- The status of a query's rows says whether it is partial.
+pub served_kind : (w : Within) (m : Message) (finding : Finding) (kind : RowKind) → Serves w m (Queried finding kind)
+    → kind.status ≡ row_status finding.query.partial
+served_kind w m finding kind p = on_kind w.settled (context_in w.link.contexts m.context) m.command m.body finding
+    kind p
+
+-- The rows of a query are no final responses.
+pub served_pending : (w : Within) (m : Message) (finding : Finding) (kind : RowKind) → Serves w m (Queried finding kind)
+    → is_pending kind.status ≡ true
+served_pending w m finding kind p = ap is_pending (served_kind w m finding kind p) ∙ row_pending finding.query.partial

@@ -1,0 +1,106 @@
+//! What is still to be told of the request that was served last (PS3.7, section 9.3).
+
+ghost use Rattle.std.specs.Prelude.{◌≡◌, ◌++◌, [], length, ◌==◌, None, option_to_list};
+ghost use Rattle.association_session.specs.Due.{takes_reply, is_telling as is_telling_due};
+
+use crate::awaited::Awaited;
+use crate::reply::Reply;
+use data_set::Syntax;
+use dimse::Status;
+use octets::ListOf;
+use query_model::Answer;
+use std::collections::VecDeque;
+use std::marker::Model;
+
+/// How the rows of a query are responded: in this transfer syntax, and with this status.
+#[derive(Clone, Copy)]
+pub(crate) struct RowKind {
+    pub(crate) syntax: Syntax,
+    pub(crate) status: Status,
+}
+
+/// Rows that are not told yet.
+#[derive(Drop)]
+pub(crate) struct Rows {
+    left: VecDeque<Answer>,
+}
+
+impl Model for Rows {
+    ghost use Rattle.std.specs.Prelude.{List};
+    ghost use Rattle.std.specs.Coded.{coded_list};
+    ghost use Rattle.data_set.specs.Set.{Set, set_code};
+
+    ghost Value = { List Set };
+
+    ghost coded = { coded_list set_code };
+
+    ghost view = { λ r. r.left.items };
+}
+
+impl Rows {
+    pub(crate) fn of(rows: ListOf<Answer>) -> Rows
+        ensures { result ≡ rows }
+    {
+        Rows {
+            left: VecDeque::from_vec(rows.into_vec()),
+        }
+    }
+
+    pub(crate) fn is_empty(&self) -> bool
+        ensures { result ≡ (length self.now == 0) }
+    {
+        self.left.is_empty()
+    }
+
+    /// The next row.
+    pub(crate) fn next(&mut self) -> Option<Answer>
+        ensures parts { self.old ≡ option_to_list result ++ self.new }
+        ensures none { result ≡ None → length self.new ≡ 0 }
+    {
+        self.left.pop_front()
+    }
+}
+
+/// Rows that are told, and the status that ends them.
+#[derive(Drop)]
+pub(crate) struct Telling {
+    pub(crate) awaited: Awaited,
+    pub(crate) kind: RowKind,
+    pub(crate) rows: Rows,
+    pub(crate) status: Status,
+}
+
+/// What is still to be told of a request.
+#[derive(Drop)]
+pub(crate) enum Due {
+    /// The status of the port's reply to a store.
+    Store(Awaited),
+    /// The rows of the port's reply to a find.
+    Find(Awaited, RowKind),
+    /// Rows that are left, and what ends them.
+    Rows(Telling),
+}
+
+/// Whether the port's reply is awaited, and is one of this kind.
+pub(crate) fn takes(due: &Due, reply: &Reply) -> bool
+    ensures { result ≡ takes_reply due.now reply.now }
+{
+    match (due, reply) {
+        (Due::Store(_), Reply::Stored(_)) => true,
+        (Due::Store(_), Reply::Found(_)) => false,
+        (Due::Find(_, _), Reply::Found(_)) => true,
+        (Due::Find(_, _), Reply::Stored(_)) => false,
+        (Due::Rows(_), _) => false,
+    }
+}
+
+/// Whether rows are told, and no reply is awaited.
+pub(crate) fn is_telling(due: &Due) -> bool
+    ensures { result ≡ is_telling_due due.now }
+{
+    match due {
+        Due::Store(_) => false,
+        Due::Find(_, _) => false,
+        Due::Rows(_) => true,
+    }
+}

@@ -1,7 +1,0 @@
-use Rattle.std.proofs.Common.{◌≡◌, ◌++◌, drop}
-use Rattle.exchange.specs.Held.{given}
-use Rattle.exchange.proofs.site_holder.ops_of.Given as goal
-
-abbrev pub invariant-loop-digest : goal.invariant-loop-digest
-invariant-loop-digest l = l.ops.items ++ given l.version (drop l.digest-index l.digests) l.site ≡ given l.version
-    l.digests l.site

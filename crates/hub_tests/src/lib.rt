@@ -1,0 +1,9 @@
+//! Tests of running sites: what each pass finds, and in which order entries stand.
+//!
+//! They stand in a crate of their own, so that no crate is proved once more with its tests.
+#![tactic(auto)]
+
+#[cfg(test)]
+mod hubs;
+#[cfg(test)]
+mod made;

@@ -1,0 +1,123 @@
+//! Images, corrections and queries as the tests write them.
+
+use archive_model::View;
+use archive_query::{Answer, Level, Query};
+use archive_retrieve::{Accepted, Accepts, Selection};
+use bytes::Bytes;
+use data_set::{Syntax, read};
+use octets::{ListOf, Octets};
+use operation::{Op, Stamp, Target, content_of, correction_of};
+use site_hub::{HubName, Pass};
+use std::alloc::Global;
+use std::test::Fail;
+
+/// (0010,0010) Patient's Name
+pub const NAME: u32 = 0x0010_0010;
+
+/// CT Image Storage
+const CT: &[u8] = b"1.2.840.10008.5.1.4.1.1.2";
+
+/// An element in Implicit VR Little Endian, whose value a zero byte pads.
+fn put(bytes: &mut Vec<u8>, tag: [u8; 4], value: &[u8]) -> Result<(), Fail> {
+    let size = u32::try_from(value.len())?;
+    let padded = size.saturating_add(size % 2);
+    bytes.extend_from_slice(tag.as_slice())?;
+    bytes.extend_from_slice(padded.to_le_bytes().as_slice())?;
+    bytes.extend_from_slice(value)?;
+    if size % 2 == 1 {
+        bytes.push(0x00)?;
+    }
+    Ok(())
+}
+
+/// Image 1.2.1.1.k of study 1.2.1.
+pub fn image(alloc: Global, k: u64) -> Result<Op, Fail> {
+    let uid = format!(in alloc; "1.2.1.1.{k}")?;
+    let mut bytes = Vec::new(alloc);
+    put(&mut bytes, [0x08, 0x00, 0x16, 0x00], CT)?;
+    put(&mut bytes, [0x08, 0x00, 0x18, 0x00], uid.as_bytes())?;
+    put(&mut bytes, [0x08, 0x00, 0x60, 0x00], b"CT")?;
+    put(&mut bytes, [0x10, 0x00, 0x10, 0x00], b"DOE^JANE")?;
+    put(&mut bytes, [0x20, 0x00, 0x0d, 0x00], b"1.2.1")?;
+    put(&mut bytes, [0x20, 0x00, 0x0e, 0x00], b"1.2.1.1")?;
+    let class = Octets::from_slice(alloc, CT)?;
+    let instance = Octets::from_slice(alloc, uid.as_bytes())?;
+    let body = Bytes::from_vec(bytes)?;
+    Ok(Op::Content(content_of(alloc, class, instance, Syntax::Implicit, body)?))
+}
+
+/// Study 1.2.1
+pub fn study(alloc: Global) -> Result<Target, Fail> {
+    Ok(Target::Study(Octets::from_slice(alloc, b"1.2.1")?))
+}
+
+/// A name that a patient is given.
+pub fn name(alloc: Global) -> Result<Octets, Fail> {
+    Ok(Octets::from_slice(alloc, b"ROE^ANN")?)
+}
+
+/// A correction of the study's name by site 1, with this counter.
+pub fn correction(alloc: Global, counter: u64) -> Result<Op, Fail> {
+    let stamp = Stamp { counter, site: 1 };
+    Ok(Op::Correction(correction_of(study(alloc)?, NAME, name(alloc)?, stamp)?))
+}
+
+/// A query for studies that asks for (0020,1208), the number of instances.
+pub fn query(alloc: Global) -> Result<Query, Fail> {
+    let mut bytes = Vec::new(alloc);
+    put(&mut bytes, [0x08, 0x00, 0x52, 0x00], b"STUDY ")?;
+    put(&mut bytes, [0x20, 0x00, 0x08, 0x12], b"")?;
+    let set = read(alloc, Syntax::Implicit, &bytes)?;
+    Ok(Query::read(alloc, &set)?)
+}
+
+/// All of study 1.2.1, at the level of studies.
+pub fn selection(alloc: Global) -> Result<Selection, Fail> {
+    let uids = vec![in alloc; Octets::from_slice(alloc, b"1.2.1")?]?;
+    Ok(Selection {
+        level: Level::Study,
+        study: Octets::from_slice(alloc, b"1.2.1")?,
+        series: Octets::from_slice(alloc, b"1.2.1.1")?,
+        uids: ListOf::of(uids),
+    })
+}
+
+/// CT images in the implicit syntax alone.
+pub fn accepts(alloc: Global) -> Result<Accepts, Fail> {
+    let class = Octets::from_slice(alloc, CT)?;
+    let accepted = Accepted {
+        class,
+        implicit: true,
+        explicit: false,
+    };
+    Ok(Accepts {
+        list: ListOf::of(vec![in alloc; accepted]?),
+    })
+}
+
+/// The number that some digits write.
+fn number_of(digits: &[u8]) -> u64 {
+    let mut number = 0u64;
+    for digit in digits {
+        number = number
+            .saturating_mul(10)
+            .saturating_add(u64::from(digit.saturating_sub(b'0')));
+    }
+    number
+}
+
+/// How many instances the only row has, or 0 where there is no row or a second one.
+fn count_in(rows: &[Answer]) -> u64 {
+    match rows {
+        [row] => number_of(row.set().value(0x0020_1208).unwrap_or(b"")),
+        _ => 0,
+    }
+}
+
+/// How many instances a pass finds of the only study.
+pub fn found<H: HubName>(pass: &mut Pass<H>, query: &Query) -> Option<u64> {
+    match pass.find(View::Archive, b"ARCHIVE", query) {
+        Ok(rows) => Some(count_in(&rows)),
+        Err(_refused) => None,
+    }
+}

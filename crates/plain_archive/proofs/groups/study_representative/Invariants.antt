@@ -1,0 +1,7 @@
+use Rattle.std.proofs.Common.{◌≡◌, drop, map}
+use Rattle.archive_model.specs.Groups.{study_representative as representative}
+use Rattle.plain_archive.proofs.groups.study_representative.Given as goal
+
+abbrev pub invariant-loop-content : goal.invariant-loop-content
+invariant-loop-content l = representative l.study (map (λ c. c.now) (drop l.content-index l.shown)) ≡ representative
+    l.study (map (λ c. c.now) l.shown)

@@ -1,0 +1,9 @@
+use Rattle.std.proofs.Common.{◌≡◌, ◌++◌, drop, map}
+use Rattle.operation.specs.Parts.{ContentParts}
+use Rattle.archive_model.specs.Contents.{contents}
+use Rattle.plain_archive.proofs.picks.instances.Given as goal
+
+abbrev pub invariant-loop-op : goal.invariant-loop-op
+invariant-loop-op l = map (λ u. u.now) l.uids.items ++ map (λ (c : ContentParts). c.instance)
+    (contents (map (λ o. o.now) (drop l.op-index l.ops))) ≡ map (λ (c : ContentParts). c.instance)
+    (contents (map (λ o. o.now) l.ops))

@@ -1,0 +1,6 @@
+pub mod Key
+pub mod Fault
+pub mod Query
+pub mod Column
+pub mod Cell
+pub mod Rows

@@ -1,0 +1,130 @@
+//! Shelves in files, and files that are no shelf.
+
+use crate::made::{OLDER, counters, put, put_older, run};
+use op_shelf::{Shelf, ShelfFault};
+use sqlite::{Connection, FileFrom, FileStore, Wary};
+use std::fs;
+use std::fs::Permissions;
+use std::os::unix::fs::PermissionsExt;
+use std::rt::HostRuntime;
+use std::test::Fail;
+
+fn opened(rt: &HostRuntime, path: &str) -> Result<Shelf<FileStore<FileFrom<Wary>>>, ShelfFault> {
+    Shelf::open(rt, path, Wary)
+}
+
+/// A new folder, and the path of a file in it.
+fn place(rt: &HostRuntime, folder: &str) -> Result<String, Fail> {
+    let _ = fs::remove_dir_all(rt, folder);
+    fs::create_dir(rt, folder)?;
+    Ok(format!(in rt.alloc(); "{folder}/ops.db")?)
+}
+
+#[test]
+fn what_was_put_is_in_the_file(rt: HostRuntime) -> Result<(), Fail> {
+    let path = place(&rt, "shelf_of_three")?;
+    for counter in 1..4 {
+        let mut shelf = opened(&rt, path.as_str())?;
+        let _kept = put(&mut shelf, rt.alloc(), counter)?;
+        // Every other time the log is left beside the file.
+        if counter != 2 {
+            shelf.into_connection().close()?;
+        }
+    }
+    let mut shelf = opened(&rt, path.as_str())?;
+    let found = counters(&mut shelf, rt.alloc())?;
+    assert_eq!(rt; found.as_slice(), [1u64, 2, 3].as_slice());
+    fs::remove_dir_all(&rt, "shelf_of_three")?;
+    Ok(())
+}
+
+#[test]
+fn what_is_no_file_is_refused(rt: HostRuntime) -> Result<(), Fail> {
+    for path in ["/", "/no/such/place", ":memory:", ""] {
+        assert_eq!(rt; opened(&rt, path).err(), Some(ShelfFault::Store), "{path}");
+    }
+    Ok(())
+}
+
+/// What an open of a file with these bytes answers, and what it leaves of them.
+fn opened_over(rt: &HostRuntime, bytes: &[u8]) -> Result<(Option<ShelfFault>, Vec<u8>), Fail> {
+    let path = place(rt, "shelf_over_bytes")?;
+    fs::write(rt, path.as_str(), bytes)?;
+    let fault = opened(rt, path.as_str()).err();
+    let left = fs::read(rt, path.as_str())?;
+    fs::remove_dir_all(rt, "shelf_over_bytes")?;
+    Ok((fault, left))
+}
+
+#[test]
+fn a_file_that_is_no_database_is_left_as_it_was(rt: HostRuntime) -> Result<(), Fail> {
+    let store = Some(ShelfFault::Store);
+    for bytes in [
+        b"no database".as_slice(),
+        b"SQLite format 3\0".as_slice(),
+        [0; 4096].as_slice(),
+    ] {
+        let (fault, left) = opened_over(&rt, bytes)?;
+        assert_eq!(rt; fault, store);
+        assert_eq!(rt; left.as_slice(), bytes);
+    }
+    let (fault, _left) = opened_over(&rt, b"")?;
+    assert_eq!(rt; fault, None, "an empty file becomes a shelf");
+    Ok(())
+}
+
+/// What an open of a file answers whose database was made by a text, with a row of the older table
+/// if that is there, and whether it left the file as it was.
+fn opened_after(rt: &HostRuntime, text: &str) -> Result<(Option<ShelfFault>, bool), Fail> {
+    let path = place(rt, "shelf_over_tables")?;
+    let mut database = Connection::open(rt, path.as_str())?;
+    run(&mut database, text)?;
+    if text == OLDER {
+        put_older(&mut database, rt.alloc(), 1)?;
+        run(&mut database, "INSERT INTO ops VALUES ('00', x'02')")?;
+    }
+    database.close()?;
+    let before = fs::read(rt, path.as_str())?;
+    let fault = opened(rt, path.as_str()).err();
+    let after = fs::read(rt, path.as_str())?;
+    fs::remove_dir_all(rt, "shelf_over_tables")?;
+    Ok((fault, before.as_slice() == after.as_slice()))
+}
+
+#[test]
+fn a_database_of_another_schema_is_left_as_it_was(rt: HostRuntime) -> Result<(), Fail> {
+    let rows = [
+        ("CREATE TABLE other (a)", ShelfFault::Store),
+        ("CREATE TABLE ops2 (digest TEXT)", ShelfFault::Store),
+        (OLDER, ShelfFault::BadRow),
+    ];
+    for (text, fault) in rows {
+        assert_eq!(rt; opened_after(&rt, text)?, (Some(fault), true), "{text}");
+    }
+    Ok(())
+}
+
+/// Whether a file without rights can be read, as by a superuser, and what an open of it answers.
+fn without_rights(rt: &HostRuntime) -> Result<(bool, Option<ShelfFault>), Fail> {
+    let path = place(rt, "shelf_without_rights")?;
+    let mut shelf = opened(rt, path.as_str())?;
+    let _kept = put(&mut shelf, rt.alloc(), 1)?;
+    shelf.into_connection().close()?;
+    fs::set_permissions(rt, path.as_str(), Permissions::from_mode(0))?;
+    let is_read = fs::read(rt, path.as_str()).is_ok();
+    let fault = opened(rt, path.as_str()).err();
+    fs::remove_dir_all(rt, "shelf_without_rights")?;
+    Ok((is_read, fault))
+}
+
+#[test]
+fn a_file_without_rights_is_refused(rt: HostRuntime) -> Result<(), Fail> {
+    let (is_read, fault) = without_rights(&rt)?;
+    let refused = if is_read {
+        None
+    } else {
+        Some(ShelfFault::Store)
+    };
+    assert_eq!(rt; fault, refused);
+    Ok(())
+}

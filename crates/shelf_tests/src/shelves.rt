@@ -1,0 +1,74 @@
+//! Shelves in memory.
+
+use crate::made::{all, count, op, put, run};
+use op_shelf::{Keep, Kept, Shelf, ShelfFault};
+use operation::{Digested, digest};
+use sqlite::{Connection, MemStore};
+use std::alloc::Global;
+use std::test::Fail;
+
+fn in_memory(alloc: Global) -> Result<Shelf<MemStore>, Fail> {
+    let database = Connection::open_in_memory(alloc)?;
+    Ok(Shelf::adopt(alloc, database)?)
+}
+
+/// The same put, by what a server keeps operations with.
+fn keep<K: Keep>(shelf: &mut K, alloc: Global, counter: u64) -> Result<Kept, Fail> {
+    let digested = Digested::of(op(alloc, counter)?);
+    Ok(shelf.put_digested(&digested)?)
+}
+
+#[test]
+fn an_operation_is_new_once_and_then_known(rt: HostRuntime) -> Result<(), Fail> {
+    let mut shelf = in_memory(rt.alloc())?;
+    assert_eq!(rt; put(&mut shelf, rt.alloc(), 1)?, Kept::New);
+    assert_eq!(rt; put(&mut shelf, rt.alloc(), 1)?, Kept::Known);
+    assert_eq!(rt; keep(&mut shelf, rt.alloc(), 1)?, Kept::Known);
+    assert_eq!(rt; all(&mut shelf)?.len(), 1);
+    Ok(())
+}
+
+#[test]
+fn operations_come_by_ascending_digest(rt: HostRuntime) -> Result<(), Fail> {
+    let mut shelf = in_memory(rt.alloc())?;
+    for counter in 1..9 {
+        let _kept = put(&mut shelf, rt.alloc(), counter)?;
+    }
+    let ops = all(&mut shelf)?;
+    assert_eq!(rt; ops.len(), 8);
+    for at in 1..ops.len() {
+        assert!(rt; digest(&ops[at - 1]) < digest(&ops[at]), "at {at}");
+    }
+    assert_eq!(rt; count(&mut shelf, 1), Ok(0));
+    assert_eq!(rt; count(&mut shelf, 2), Ok(8));
+    assert_eq!(rt; count(&mut shelf, 3), Ok(0));
+    Ok(())
+}
+
+/// What `all` and a put of the same operation answer on a shelf of one operation in whose database
+/// a text has run.
+fn spoiled(alloc: Global, text: &str) -> Result<(Option<ShelfFault>, Option<ShelfFault>), Fail> {
+    let mut shelf = in_memory(alloc)?;
+    let _kept = put(&mut shelf, alloc, 1)?;
+    let mut database = shelf.into_connection();
+    run(&mut database, text)?;
+    let mut shelf = Shelf::adopt(alloc, database)?;
+    let op = op(alloc, 1)?;
+    Ok((all(&mut shelf).err(), shelf.put(&op).err()))
+}
+
+#[test]
+fn a_row_that_is_none_of_an_operation_is_told(rt: HostRuntime) -> Result<(), Fail> {
+    let bad = Some(ShelfFault::BadRow);
+    let rows = [
+        ("UPDATE ops2 SET kind = 1", bad),
+        ("UPDATE ops2 SET body = x'02'", bad),
+        ("UPDATE ops2 SET body = 'text'", bad),
+        ("UPDATE ops2 SET digest = upper(digest)", None),
+        ("UPDATE ops2 SET digest = '00'", None),
+    ];
+    for (text, put) in rows {
+        assert_eq!(rt; spoiled(rt.alloc(), text)?, (bad, put), "{text}");
+    }
+    Ok(())
+}

@@ -1,0 +1,23 @@
+//! Tells what a site holds, finds and sends: a row in, what is answered out.
+//!
+//! `Rows::told` has the kinds of rows. Blank lines and comments, which begin with #, are told as
+//! they are.
+#![tactic(auto)]
+
+mod finding;
+mod matching;
+mod rows;
+mod sending;
+mod words;
+
+use rows::Rows;
+use std::io;
+
+fn main(rt: HostRuntime) -> io::Result<()> {
+    let mut rows = Rows::new(rt.alloc());
+    for line in rt.lines(rt.alloc()) {
+        let text = rows.told(line?.as_str())?;
+        println!(rt; "{text}")?;
+    }
+    Ok(())
+}

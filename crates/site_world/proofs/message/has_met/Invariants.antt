@@ -1,0 +1,6 @@
+use Rattle.std.proofs.Common.{◌≡◌, drop}
+use Rattle.site_world.specs.Messages.{has_met}
+use Rattle.site_world.proofs.message.has_met.Given as goal
+
+abbrev pub invariant-loop-message : goal.invariant-loop-message
+invariant-loop-message l = has_met l.sent l.number ≡ has_met (drop l.message-index l.sent) l.number
