@@ -1,13 +1,13 @@
 -- What a refused call leaves, and what a call that shows rows leaves.
-use Rattle.std.proofs.Common.{◌≡◌, ◌⊎◌, inl, inr, ℕ, List, Ok, Err, None, Result, IfOk, IfErr, OnOk, OnErr, true, false}
-use Rattle.std.proofs.Common.{refl, subst}
+use Rattle.std.proofs.Common.{inl, inr, ℕ, List, Ok, Err, None, Result, IfOk, IfErr, OnOk, OnErr, false}
+use Rattle.std.proofs.Common.{subst, Option, Some, IfSome}
 use Rattle.std.proofs.lemmas.Bool.{cases_Bool}
 use Rattle.sqlite.specs.Order.{Row}
 use Rattle.sqlite.specs.declared.error.Error.{Error}
 use Rattle.sqlite.specs.Clock.{timed}
 use Rattle.sqlite.specs.Given.{IsPlain}
 use Rattle.sqlite.specs.Listing.{understood}
-use Rattle.sqlite.specs.State.{State, IsUnchanged, IsRolledBack, IsNotRun, FailsToQuery, FailsToShow, Shown, ShowsRows}
+use Rattle.sqlite.specs.State.{State, IsUnchanged, IsNotRun, FailsToQuery, FailsToShow, Shown, ShowsRows}
 use Rattle.sqlite.specs.State.{Executes, ExecutesIn, shows_rows}
 use Rattle.op_shelf.specs.States.{Spares}
 
@@ -61,3 +61,13 @@ pub ok_both : {A E : Type 0} (r : Result A E) (P Q R : A → Type 0) → ((a : A
     → IfOk r R
 ok_both (Ok a) P Q R f p q = f a p q
 ok_both (Err e) P Q R f p q = tt
+
+-- from what one clause says of a refusal
+pub err_one : {A E : Type 0} (r : Result A E) (P Q : E → Type 0) → ((e : E) → P e → Q e) → IfErr r P → IfErr r Q
+err_one (Ok a) P Q f p = tt
+err_one (Err e) P Q f p = f e p
+
+-- from what is said of what is there
+pub some_one : {A : Type 0} (o : Option A) (P Q : A → Type 0) → ((a : A) → P a → Q a) → IfSome o P → IfSome o Q
+some_one None P Q f p = tt
+some_one (Some a) P Q f p = f a p

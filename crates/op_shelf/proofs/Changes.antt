@@ -1,8 +1,7 @@
 -- What the statements write.
-use Rattle.std.proofs.Common.{append-nil, ◌≡◌, ◌⊎◌, ◌||◌, ◌&&◌, inl, inr, ℕ, ℤ, ◌+◌, pos, List, [], ◌∷◌, map, Bool}
-use Rattle.std.proofs.Common.{true, false, not, cond, None, Ok, Err, Result, OnOk, IsTrue, IsPermutation, Ordering}
+use Rattle.std.proofs.Common.{append-nil, ◌≡◌, ◌⊎◌, ◌||◌, ◌&&◌, inl, inr, ℕ, ℤ, pos, List, [], ◌∷◌, Bool}
+use Rattle.std.proofs.Common.{true, false, not, cond, None, Ok, Err, Result, OnOk, IsPermutation, Ordering}
 use Rattle.std.proofs.Common.{Less, Equal, Greater, refl, sym, ap, subst, ◌∙◌}
-use Rattle.std.specs.List.{list_any}
 use Rattle.std.specs.Ordering.{is_eq, match_ordering}
 use Rattle.std.proofs.lemmas.List.Sorted.{IsPermutation-refl, IsPermutation-trans, IsPermutation-cons}
 use Rattle.std.proofs.lemmas.List.Sorted.{IsPermutation-map, IsPermutation-append_comm, IsPermutation-append_left}
@@ -10,12 +9,10 @@ use Rattle.sqlite.specs.declared.types.Value.{Value}
 use Rattle.sqlite.specs.declared.types.Value.TheVariants.{Null, Int, Text, Blob}
 use Rattle.sqlite.specs.Order.{Row, value_cmp}
 use Rattle.sqlite.specs.Ops.{unary}
-use Rattle.sqlite.specs.Schema.{Schema}
-use Rattle.sqlite.specs.Table.{Table}
 use Rattle.sqlite.specs.Kind.TheVariants.{Integer}
 use Rattle.sqlite.specs.Source.TheVariants.{Values}
 use Rattle.sqlite.specs.Command.TheVariants.{Insert}
-use Rattle.sqlite.specs.Edit.{Edit, edit_of, edited, next_rowid, is_taken}
+use Rattle.sqlite.specs.Edit.{edit_of, edited, next_rowid, is_taken}
 use Rattle.sqlite.specs.Cast.{cast}
 use Rattle.sqlite.specs.Rowids.TheVariants.{Chosen}
 use Rattle.sqlite.specs.Does.{Tally, Does}

@@ -1,7 +1,6 @@
 -- What CREATE TABLE makes of an empty database.
-use Rattle.std.proofs.Common.{append-nil, ◌≡◌, ◌⊎◌, inl, inr, ℕ, List, [], codes, true, false, None, Ok, Err, Result}
-use Rattle.std.proofs.Common.{OnOk, IsTrue, refl, sym, ap, subst, ◌∙◌}
-use Rattle.sqlite.specs.Schema.{Schema}
+use Rattle.std.proofs.Common.{◌≡◌, inl, inr, ℕ, List, [], false, None, Ok, Err, Result}
+use Rattle.std.proofs.Common.{OnOk, refl, sym, ap, subst, ◌∙◌}
 use Rattle.sqlite.specs.Table.{Table}
 use Rattle.sqlite.specs.Command.TheVariants.{CreateTable}
 use Rattle.sqlite.specs.Compile.{table_defined_by}
@@ -15,8 +14,8 @@ use Rattle.sqlite.specs.Listing.{understood}
 use Rattle.sqlite.specs.Effect.{Database}
 use Rattle.sqlite.specs.State.{State, mode_of, text_of, Writes, Executes, CommitsBy}
 use Rattle.sqlite.proofs.Callers.{IsPlain, command_of, statement_of, runs_as}
-use Rattle.op_shelf.specs.States.{rows_of, tree_in, IsMade}
-use Rattle.op_shelf.specs.Table.{ops2, shelf_schema, no_schema, IsShelf}
+use Rattle.op_shelf.specs.States.{tree_in, IsMade}
+use Rattle.op_shelf.specs.Table.{ops2, shelf_schema, no_schema}
 use Rattle.op_shelf.specs.Texts.{create_text}
 use Rattle.op_shelf.proofs.Changes.{went, same_value}
 

@@ -1,18 +1,15 @@
 -- What the statements of a migration write.
-use Rattle.std.proofs.Common.{◌≡◌, ◌⊎◌, ◌++◌, ◌+◌, ◌<◌, suc, take, take-suc, length, get_or, arith, ℕ, pos}
-use Rattle.std.proofs.Common.{List, [], ◌∷◌, map, true, false, None, Some, Ok, Err, Result, OnOk, IfErr, All}
+use Rattle.std.proofs.Common.{◌≡◌, ◌++◌, ◌+◌, ◌<◌, suc, take, take-suc, length, get_or, arith, ℕ, pos}
+use Rattle.std.proofs.Common.{List, [], ◌∷◌, map, true, false, None, Ok, Err, Result, OnOk, IfErr, All}
 use Rattle.std.proofs.Common.{IsPermutation, refl, sym, ap, subst, ◌∙◌}
 use Rattle.std.proofs.lemmas.List.Sorted.{IsPermutation-refl, IsPermutation-trans, IsPermutation-cons}
 use Rattle.std.proofs.lemmas.List.Sorted.{IsPermutation-sym, IsPermutation-map, IsPermutation-append_comm}
 use Rattle.std.proofs.lemmas.List.Sorted.{All-permutation}
-use Rattle.sqlite.specs.declared.types.Value.TheVariants.{Null, Int, Text, Blob}
+use Rattle.sqlite.specs.declared.types.Value.TheVariants.{Int, Text, Blob}
 use Rattle.sqlite.specs.Order.{Row}
-use Rattle.sqlite.specs.Schema.{Schema}
-use Rattle.sqlite.specs.Table.{Table}
-use Rattle.sqlite.specs.Kind.TheVariants.{Integer}
 use Rattle.sqlite.specs.Source.TheVariants.{Values}
 use Rattle.sqlite.specs.Command.TheVariants.{Insert, CreateTable, DropTable}
-use Rattle.sqlite.specs.Change.{created, next_tree, without_table}
+use Rattle.sqlite.specs.Change.{created, next_tree}
 use Rattle.sqlite.specs.Edit.{edit_of, edited, is_taken}
 use Rattle.sqlite.specs.Rowids.TheVariants.{Chosen}
 use Rattle.sqlite.specs.Does.{Tally, Does, lacks_sequence}

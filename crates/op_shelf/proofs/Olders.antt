@@ -1,5 +1,5 @@
 -- The older table: its schema, and what it shows.
-use Rattle.std.proofs.Common.{◌≡◌, ◌↔◌, inl, ℕ, pos, negsuc, List, [], ◌∷◌, map, codes, true, false, None, length}
+use Rattle.std.proofs.Common.{◌≡◌, inl, ℕ, pos, negsuc, List, [], ◌∷◌, map, codes, false, None, length}
 use Rattle.std.proofs.Common.{IsPermutation, refl, sym, ap, ap₂, subst, ◌∙◌, arith}
 use Rattle.std.proofs.lemmas.Fmt.{decimal_digit}
 use Rattle.sqlite.specs.declared.types.Value.TheVariants.{Null, Int, Text, Blob}

@@ -2,7 +2,7 @@
 use Rattle.std.proofs.Common.{◌≡◌, ◌++◌, ◌∷◌, ◌<◌, ◌+◌, zero, suc, take, get_or, take-suc, cond, Bool, true, false}
 use Rattle.std.proofs.Common.{filter, length, map, All, Any, Contains, IsPermutation, refl, sym, subst, ◌∙◌, arith, ap}
 use Rattle.std.proofs.Common.{ap₂, List, [], ℕ}
-use Rattle.std.proofs.lemmas.List.Sorted.{IsPermutation-sym, Contains-permutation, All-permutation, length_permutation}
+use Rattle.std.proofs.lemmas.List.Sorted.{IsPermutation-sym, Contains-permutation, length_permutation}
 use Rattle.std.proofs.lemmas.List.Elements.{All-push}
 use Rattle.sqlite.specs.Order.{Row, column}
 use Rattle.sqlite.specs.declared.types.Value.TheVariants.{Blob}

@@ -1,5 +1,5 @@
 -- A look and then an INSERT.
-use Rattle.std.proofs.Common.{◌≡◌, ◌⊎◌, ◌<◌, inl, inr, ℕ, List, [], ◌∷◌, length, All, Contains, IsTrue, IsPermutation}
+use Rattle.std.proofs.Common.{◌≡◌, ◌<◌, inl, inr, ℕ, List, [], ◌∷◌, length, All, Contains, IsTrue, IsPermutation}
 use Rattle.std.proofs.Common.{refl, sym, ap, subst, ◌∙◌, le_refl, arith}
 use Rattle.std.specs.Ordering.{is_eq}
 use Rattle.std.proofs.lemmas.List.Sorted.{IsPermutation-sym, Contains-permutation, All-permutation}
@@ -10,7 +10,7 @@ use Rattle.sqlite.specs.Effect.{Database}
 use Rattle.sqlite.specs.State.{State, HasCleanDisk, IsUnchanged, Survives}
 use Rattle.sqlite.proofs.StateLemmas.{survives_then, survives_weaker}
 use Rattle.op_shelf.specs.Entries.{entries, Adds}
-use Rattle.op_shelf.specs.States.{rows_of, rows_left, tree_in, under, IsAdded, IsBare, IsReady, IsPut, IsKnown}
+use Rattle.op_shelf.specs.States.{rows_of, rows_left, tree_in, under, IsAdded, IsBare, IsReady, IsKnown}
 use Rattle.op_shelf.specs.States.{KeepsAll, Spares, MayBecome}
 use Rattle.op_shelf.specs.Migration.{IsOlder, IsMigration}
 use Rattle.op_shelf.specs.Table.{IsShelf}

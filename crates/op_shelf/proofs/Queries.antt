@@ -1,23 +1,22 @@
 -- What the queries show.
-use Rattle.std.proofs.Common.{flat_map, append-nil, ◌≡◌, ◌⊎◌, ◌++◌, ◌&&◌, inl, inr, ℕ, ◌+◌, ◌<◌, ◌-◌, pos, negsuc, List}
-use Rattle.std.proofs.Common.{[], ◌∷◌, map, filter, length, get_or, Bool, true, false, cond, Some, None, Ok, Err}
-use Rattle.std.proofs.Common.{Result, IsPermutation, IsSorted, All, refl, sym, ap, ap₂, subst, ◌∙◌, is_lt, arith}
+use Rattle.std.proofs.Common.{flat_map, ◌≡◌, ◌++◌, ◌&&◌, inl, inr, ℕ, ◌+◌, ◌<◌, pos, List}
+use Rattle.std.proofs.Common.{[], ◌∷◌, map, filter, length, get_or, Bool, true, false, cond, Some}
+use Rattle.std.proofs.Common.{IsPermutation, IsSorted, All, refl, sym, ap, ap₂, subst, ◌∙◌, is_lt, arith}
 use Rattle.std.proofs.lemmas.List.{get_or-map, length-map}
-use Rattle.std.specs.Ordering.{is_eq, on, ordering_then}
-use Rattle.std.proofs.lemmas.List.Sorted.{IsPermutation-map, IsPermutation-trans, length_permutation, All-permutation}
+use Rattle.std.specs.Ordering.{is_eq}
+use Rattle.std.proofs.lemmas.List.Sorted.{IsPermutation-map, length_permutation, All-permutation}
 use Rattle.sqlite.specs.declared.types.Value.{Value}
 use Rattle.sqlite.specs.declared.types.Value.TheVariants.{Null, Int, Real, Text, Blob}
 use Rattle.sqlite.specs.Order.{Row, column, value_cmp}
 use Rattle.sqlite_value.proofs.OrderLemmas.{value_cmp-Null, then-Equal}
-use Rattle.sqlite.specs.Term.{Term, Env, lit, col}
-use Rattle.sqlite.specs.Ops.{unary, binary, is_true, from_truth, is_null}
+use Rattle.sqlite.specs.Term.{Term, Env}
+use Rattle.sqlite.specs.Ops.{unary, binary, is_true, from_truth}
 use Rattle.sqlite_sql.specs.declared.ops.CompareOp.TheVariants.{Eq}
 use Rattle.sqlite_sql.specs.declared.ops.UnaryOp.TheVariants.{ToNumeric}
 use Rattle.sqlite_sql.specs.declared.ops.BinaryOp.TheVariants.{Compare}
 use Rattle.sqlite.specs.Collation.TheVariants.{Binary}
-use Rattle.sqlite.specs.Query.{Query, IsAnswer, output, output_cmp, Output}
+use Rattle.sqlite.specs.Query.{IsAnswer, output, output_cmp, Output}
 use Rattle.sqlite.specs.Program.{overlay}
-use Rattle.sqlite.specs.Command.TheVariants.{Select}
 use Rattle.sqlite.specs.Tree.{Trees}
 use Rattle.sqlite.specs.State.{State, Shown}
 use Rattle.sqlite.specs.Schema.{Schema}
@@ -27,8 +26,7 @@ use Rattle.op_shelf.specs.Entries.{entries, entry_in}
 use Rattle.op_shelf.specs.States.{under, count_of, digest_cmp, rows_of, tree_in}
 use Rattle.op_shelf.specs.Table.{shelf_schema, IsShelf}
 use Rattle.op_shelf.specs.Texts.{all_text, held_text, kind_text}
-use Rattle.op_shelf.proofs.Texts.{IsQuery, Serves, all_is, all_query, held_is, held_query, kind_is, kind_query}
-use Rattle.op_shelf.proofs.Texts.{entry_names}
+use Rattle.op_shelf.proofs.Texts.{Serves, all_is, all_query, held_is, held_query, kind_is, kind_query}
 
 truth_of : (b : Bool) → is_true (from_truth (Some b)) ≡ b
 truth_of true = refl

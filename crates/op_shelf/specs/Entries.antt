@@ -2,8 +2,7 @@
 use Rattle.std.specs.Prelude.{◌≡◌, pos, ℕ, List, [], ◌∷◌, map, Contains, IsPermutation}
 use Rattle.hex.specs.Hex.{encode_lower}
 use Rattle.sqlite.specs.declared.types.Value.TheVariants.{Int, Text, Blob}
-use Rattle.sqlite.specs.Order.{Row, column, value_cmp}
-use Rattle.std.specs.Ordering.{is_eq}
+use Rattle.sqlite.specs.Order.{Row, column}
 use Rattle.operation.specs.declared.op.Op.{Op}
 use Rattle.operation.specs.Spelling.{spelling, digest_of}
 use Rattle.operation.specs.Reading.{IsOp}

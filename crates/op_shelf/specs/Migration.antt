@@ -1,5 +1,5 @@
 -- A migration of the older table to the newer one, step by step.
-use Rattle.std.specs.Prelude.{◌≡◌, ◌⊎◌, ◌∷◌, ℕ, false, List, [], map, All, Contains, Err, IsTrue, IsPermutation}
+use Rattle.std.specs.Prelude.{◌≡◌, ◌⊎◌, false, List, [], map, All, Contains, Err, IsTrue, IsPermutation}
 use Rattle.sqlite.specs.Order.{Row}
 use Rattle.sqlite.specs.Store.{Ghosts}
 use Rattle.sqlite.specs.Term.{Term}

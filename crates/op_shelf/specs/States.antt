@@ -1,6 +1,6 @@
 -- What a connection shows of the table, and what a call leaves.
-use Rattle.std.specs.Prelude.{◌≡◌, ◌≢◌, ◌⊎◌, ◌∷◌, ℕ, false, All, Any, Contains, Err, List, [], map, filter, length, pos}
-use Rattle.std.specs.Prelude.{IsTrue, IsPermutation, IsSorted}
+use Rattle.std.specs.Prelude.{◌≡◌, ◌≢◌, ◌⊎◌, ◌∷◌, ℕ, false, All, Any, Contains, Err, List, [], filter, length, pos}
+use Rattle.std.specs.Prelude.{IsTrue}
 use Rattle.std.specs.declared.cmp.Ordering.{Ordering}
 use Rattle.std.specs.Ordering.{is_eq, on}
 use Rattle.sqlite.specs.Order.{Row, column, value_cmp}

@@ -5,7 +5,7 @@ ghost use Rattle.sqlite.specs.Files.{file_state};
 ghost use Rattle.sqlite.specs.Held.{Held, state};
 ghost use Rattle.sqlite.specs.State.{HasCleanDisk, Survives};
 ghost use Rattle.sqlite.specs.WalFiles.{image_at};
-ghost use Rattle.op_shelf.specs.Opened.{IsFound};
+ghost use Rattle.op_shelf.specs.Opened.{IsFound, IsRefused};
 ghost use Rattle.op_shelf.specs.Migration.{IsOlder, HasBadPair};
 ghost use Rattle.op_shelf.specs.States.{IfClean, StandsFor, MayBecome, KeepsAll, IsNotOpened, IsGivenUp};
 
@@ -84,6 +84,8 @@ impl<S: Start> Shelf<FileStore<FileFrom<S>>> {
     ) -> Result<Shelf<FileStore<FileFrom<S>>>, ShelfFault>
         ensures found { IfOk result (λ shelf. HasCleanDisk (file_state shelf)
             → IsFound (image_at S.Start) shelf) }
+        // Either no database was opened, or the one that was found is as it was.
+        ensures refused { IsRefused (image_at S.Start) result }
     {
         match Connection::open_from(rt, path, false, start) {
             Ok(connection) => Shelf::adopt(rt.alloc(), connection),

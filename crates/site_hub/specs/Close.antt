@@ -1,35 +1,18 @@
 -- When a hub may be closed.
-use Rattle.std.specs.Prelude.{ℕ, zero, suc, ◌==◌, List, [], ◌∷◌, Bool, true, false, ◌&&◌, if◌then◌else◌}
-use Rattle.std.specs.List.{list_any, list_all}
+use Rattle.std.specs.Prelude.{ℕ, zero, suc, ◌==◌, List, Bool, true, ◌&&◌, map}
+use Rattle.std.specs.List.{list_any, list_all, filter}
+use Rattle.std.specs.Cmp.Lexicographic.{pointwise}
 use Rattle.octets.specs.Texts.{same}
 use Rattle.site_hub.specs.declared.entry.Logged.{Logged}
 use Rattle.site_hub.specs.Hub.{Seat}
 
 -- the digests of a pass's entries in a log, in order
 abbrev pub own_in : ℕ → List Logged → List (List ℕ)
-own_in number [] = []
-own_in number (e ∷ log) = if e.pass == number then e.digest ∷ own_in number log else own_in number log
-
--- whether some digests begin with one
-abbrev pub begins : List (List ℕ) → List ℕ → Bool
-begins [] digest = false
-begins (first ∷ others) digest = same first digest
-
--- those behind the first
-abbrev pub behind : List (List ℕ) → List (List ℕ)
-behind [] = []
-behind (first ∷ others) = others
-
--- whether there are none
-abbrev pub is_none : List (List ℕ) → Bool
-is_none [] = true
-is_none (first ∷ others) = false
+own_in number log = map (λ (e : Logged). e.digest) (filter (λ (e : Logged). e.pass == number) log)
 
 -- whether some digests are those of a pass's entries in a log, in order
 abbrev pub is_own : ℕ → List (List ℕ) → List Logged → Bool
-is_own number mine [] = is_none mine
-is_own number mine (e ∷ log) =
-    if e.pass == number then begins mine e.digest && is_own number (behind mine) log else is_own number mine log
+is_own number mine log = pointwise same mine (own_in number log)
 
 -- whether a pass of a number is among some
 abbrev pub is_there : ℕ → List Seat → Bool

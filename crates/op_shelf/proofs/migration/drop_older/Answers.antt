@@ -1,4 +1,4 @@
-use Rattle.std.proofs.Common.{inl, inr, arith, [], false}
+use Rattle.std.proofs.Common.{inr, arith, [], false}
 use Rattle.std.proofs.lemmas.Result.{IfErr-weaker}
 use Rattle.sqlite.specs.Held.{state}
 use Rattle.sqlite.specs.State.{HasCleanDisk}

@@ -1,6 +1,5 @@
-use Rattle.std.proofs.Common.{inl, inr, arith, ◌∷◌, [], false}
+use Rattle.std.proofs.Common.{inl, inr, arith, false}
 use Rattle.std.proofs.lemmas.Result.{IfErr-weaker}
-use Rattle.sqlite.specs.declared.types.Value.TheVariants.{Int, Text, Blob}
 use Rattle.sqlite.specs.Held.{state}
 use Rattle.sqlite.specs.State.{HasCleanDisk}
 use Rattle.sqlite.proofs.InsideLemmas.{inside_keeps}

@@ -1,4 +1,4 @@
-use Rattle.std.proofs.Common.{◌≡◌, inl, inr, List, map, sym, subst, All, Any, arith, rules}
+use Rattle.std.proofs.Common.{map, sym, subst, All, Any, arith, rules}
 use Rattle.sqlite.specs.Held.{state}
 use Rattle.sqlite.specs.State.{HasCleanDisk}
 use Rattle.sqlite.proofs.StateLemmas.{survives_then}

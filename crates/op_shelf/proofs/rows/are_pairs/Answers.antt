@@ -1,4 +1,4 @@
-use Rattle.std.proofs.Common.{◌≤◌, take, length, take_all, All, subst, arith, rules}
+use Rattle.std.proofs.Common.{◌≤◌, length, take_all, All, subst, arith, rules}
 use Rattle.op_shelf.specs.Older.{IsPair}
 use Rattle.op_shelf.proofs.Ops.{all_upto}
 use Rattle.op_shelf.proofs.rows.are_pairs.Goals as goal

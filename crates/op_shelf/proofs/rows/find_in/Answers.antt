@@ -1,4 +1,4 @@
-use Rattle.std.proofs.Common.{◌≡◌, ◌≤◌, take, length, take_all, All, subst, arith, rules}
+use Rattle.std.proofs.Common.{◌≡◌, ◌≤◌, length, take_all, All, subst, arith, rules}
 use Rattle.op_shelf.specs.Entries.{entry_by}
 use Rattle.op_shelf.proofs.Ops.{all_upto}
 use Rattle.op_shelf.proofs.rows.find_in.Goals as goal

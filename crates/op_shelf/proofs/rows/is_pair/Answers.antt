@@ -1,4 +1,4 @@
-use Rattle.std.proofs.Common.{◌≡◌, List, ℕ, sym, ◌∙◌, rules}
+use Rattle.std.proofs.Common.{◌≡◌, sym, ◌∙◌, rules}
 use Rattle.operation.specs.Spelling.{spelling}
 use Rattle.op_shelf.specs.Older.{pair_of}
 use Rattle.op_shelf.proofs.Olders.{same_pair, body_of_pair}

@@ -1,6 +1,6 @@
-use Rattle.std.proofs.Common.{◌≡◌, List, ℕ, sym, ap, subst, ◌∙◌, rules}
+use Rattle.std.proofs.Common.{◌≡◌, sym, ◌∙◌, rules}
 use Rattle.operation.specs.Spelling.{spelling}
-use Rattle.op_shelf.specs.Entries.{entry_by, entry_of, digest_text}
+use Rattle.op_shelf.specs.Entries.{entry_of}
 use Rattle.op_shelf.proofs.Ops.{same_entry, body_of}
 use Rattle.op_shelf.proofs.rows.op_of.Goals as goal
 

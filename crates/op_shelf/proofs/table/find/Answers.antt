@@ -1,4 +1,4 @@
-use Rattle.std.proofs.Common.{◌≡◌, ◌≢◌, ◌<◌, List, [], All, Any, length, subst, subst₂, rules}
+use Rattle.std.proofs.Common.{◌≡◌, ◌≢◌, ◌<◌, [], All, Any, length, subst, subst₂}
 use Rattle.sqlite.specs.Held.{state}
 use Rattle.op_shelf.specs.Entries.{entry_by}
 use Rattle.op_shelf.specs.States.{rows_of, under}
