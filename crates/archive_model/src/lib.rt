@@ -4,6 +4,7 @@
 //! filter of that list: it knows no order of arrival. What holds of them is said in `laws.rt`.
 #![tactic(auto)]
 
+mod corrected;
 mod index;
 mod keys;
 mod laws;
@@ -12,6 +13,7 @@ mod reading;
 mod texts;
 mod view;
 
+pub use corrected::corrected_tags;
 pub use index::title_code;
 pub use keys::{modality, patient, series, study};
 pub use laws::{

@@ -1,40 +1,13 @@
 //! The data set of a content, with its corrections put in (PS3.4, section B.4.1).
 
 ghost use Rattle.std.specs.Prelude.{◌≡◌, IfOk, map};
-ghost use Rattle.data_set.specs.Corrections.{corrected_tags as corrected_tags_in};
 ghost use Rattle.archive_model.specs.Coercion.{is_changed as is_changed_in, is_coerced as is_coerced_in, with_attribute as with_attribute_in, with_attributes as with_attributes_in, AreCoerced};
 
 use crate::attributes::{attribute, correction_for};
-use archive_model::stored;
+use archive_model::{corrected_tags, stored};
 use data_set::{DataSet, correction_vr};
-use dictionary::{
-    ACCESSION_NUMBER, PATIENT_BIRTH_DATE, PATIENT_ID, PATIENT_NAME, PATIENT_SEX,
-    REFERRING_PHYSICIAN_NAME, SERIES_DESCRIPTION, STUDY_DATE, STUDY_DESCRIPTION, STUDY_ID,
-    STUDY_TIME,
-};
 use operation::{Content, Op};
 use std::alloc::{AllocError, Global};
-
-/// The attributes that a correction may give a value (docs/DECISIONS.md, "Corrections").
-const CORRECTED_TAGS: [u32; 11] = [
-    STUDY_DATE,
-    STUDY_TIME,
-    ACCESSION_NUMBER,
-    REFERRING_PHYSICIAN_NAME,
-    STUDY_DESCRIPTION,
-    SERIES_DESCRIPTION,
-    PATIENT_NAME,
-    PATIENT_ID,
-    PATIENT_BIRTH_DATE,
-    PATIENT_SEX,
-    STUDY_ID,
-];
-
-fn corrected_tags() -> &'static [u32]
-    ensures { result.now ≡ corrected_tags_in }
-{
-    &CORRECTED_TAGS
-}
 
 /// Whether an attribute of a content has another value than the content's own.
 fn is_changed(ops: &[&Op], content: &Content, tag: u32) -> bool
