@@ -5,5 +5,5 @@ use Rattle.operation.specs.Parts.{ContentParts}
 use Rattle.archive_model.specs.Attributes.{attribute}
 use Rattle.archive_model.specs.Coercion.{is_changed}
 
-abbrev pub change : List Op → ContentParts → ℕ → Option (List ℕ)
-change ops c tag = if is_changed ops c tag then Some (attribute ops c tag) else None
+abbrev pub changed_value : List Op → ContentParts → ℕ → Option (List ℕ)
+changed_value ops c tag = if is_changed ops c tag then Some (attribute ops c tag) else None

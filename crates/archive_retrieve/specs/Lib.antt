@@ -1,3 +1,4 @@
 pub mod Candidates
 pub mod Changes
+pub mod Made
 pub mod Laws

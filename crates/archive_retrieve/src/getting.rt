@@ -1,35 +1,15 @@
 //! C-GET over a site (PS3.4, section C.4.3).
 
-ghost use Rattle.std.specs.Prelude.{◌≡◌, IfOk, map};
+ghost use Rattle.std.specs.Prelude.{◌≡◌, IfOk};
 ghost use Rattle.site_state.specs.Site.{ops_of};
-ghost use Rattle.retrieve_model.specs.Sending.{AreSendings, Gets, sendings_of};
+ghost use Rattle.retrieve_model.specs.Sending.{Gets, sendings_of};
 
-use crate::candidates::candidates;
-use crate::selected::selected;
-use crate::sending::sending_of;
+use crate::preparing::prepare;
+use crate::sending::sendings;
 use archive_model::View;
-use archive_query::shown_of;
-use operation::Content;
 use retrieve_model::{Accepts, Selection, Sending};
 use site_state::Site;
 use std::alloc::{AllocError, Global};
-
-/// What is sent of some contents, in their order.
-fn sendings(
-    alloc: Global,
-    site: &Site,
-    accepts: &Accepts,
-    contents: &[&Content],
-) -> Result<Vec<Sending>, AllocError>
-    ensures { IfOk result (λ found. AreSendings (ops_of site.now) accepts.now.list
-        (map (λ c. c.now) contents.now) found.items) }
-{
-    let mut found = Vec::with_capacity(alloc, contents.len())?;
-    for content in contents {
-        found.push(sending_of(alloc, site, accepts, content)?)?;
-    }
-    Ok(found)
-}
 
 /// What a site sends of a selection in a view, by ascending SOP Instance UID.
 ///
@@ -48,10 +28,7 @@ pub fn get(
     ensures computed { IfOk result (λ found.
         found.items ≡ sendings_of view selection.now accepts.now (ops_of site.now)) }
 {
-    site.see_lawful();
-    let uids = candidates(alloc, site.index(), selection)?;
-    let shown = shown_of(alloc, site, view, &uids)?;
-    let selected = selected(alloc, selection, &shown)?;
-    let found = sendings(alloc, site, accepts, &selected)?;
+    let prepared = prepare(alloc, site, view, selection)?;
+    let found = sendings(alloc, accepts, &prepared)?;
     Ok(found)
 }

@@ -2,12 +2,14 @@
 //!
 //! What is sent is what a view shows of a selection, corrected, in a transfer syntax that is
 //! accepted. A data set that needs no change is the stored one, whose bytes are shared with the site.
+//! `prepare` finds what is to be sent and makes no data set; `get` makes them all at once.
 #![tactic(auto)]
 
 mod candidates;
-mod coercion;
+mod changes;
 mod getting;
 mod laws;
+mod preparing;
 mod selected;
 mod sending;
 
@@ -17,4 +19,5 @@ pub use laws::{
     what_is_sent_is_shown, what_is_sent_reads_again_corrected,
     what_needs_nothing_is_sent_as_it_came,
 };
-pub use retrieve_model::{Accepted, Accepts, Selection, Sending};
+pub use preparing::prepare;
+pub use retrieve_model::{Accepted, Accepts, Prepared, Selection, Sending};
