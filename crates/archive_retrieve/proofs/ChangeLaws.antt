@@ -7,10 +7,10 @@ use Rattle.octets.specs.Texts.{same}
 use Rattle.archive_model.specs.Attributes.{attribute}
 use Rattle.archive_model.specs.Coercion.{is_changed}
 use Rattle.archive_model.proofs.ModelLaws.{same_itself}
-use Rattle.archive_retrieve.specs.Changes.{change}
+use Rattle.archive_retrieve.specs.Changes.{changed_value}
 
 -- an attribute that has the content's own value
-pub unchanged : (ops : List Op) (c : ContentParts) (tag : ℕ) → attribute ops c tag ≡ own_value c tag → None ≡ change ops
+pub unchanged : (ops : List Op) (c : ContentParts) (tag : ℕ) → attribute ops c tag ≡ own_value c tag → None ≡ changed_value ops
     c tag
 unchanged ops c tag e =
     ap (λ b. if not b then Some (attribute ops c tag) else None)
@@ -18,15 +18,7 @@ unchanged ops c tag e =
 
 -- and one that has another
 pub changed : (ops : List Op) (c : ContentParts) (tag : ℕ) (value : List ℕ) → value ≡ attribute ops c tag
-    → same value (own_value c tag) ≡ false → Some value ≡ change ops c tag
+    → same value (own_value c tag) ≡ false → Some value ≡ changed_value ops c tag
 changed ops c tag value e other =
     ap Some e ∙ ap (λ b. if not b then Some (attribute ops c tag) else None)
     (sym (ap (λ v. same v (own_value c tag)) (sym e) ∙ other))
-
-some_if : {X : Type 0} (b : Bool) (x : X) → is_some (if b then Some x else None) ≡ b
-some_if true x = refl
-some_if false x = refl
-
--- there is a change exactly where an attribute is changed
-pub is_change : (ops : List Op) (c : ContentParts) (tag : ℕ) → is_some (change ops c tag) ≡ is_changed ops c tag
-is_change ops c tag = some_if (is_changed ops c tag) (attribute ops c tag)

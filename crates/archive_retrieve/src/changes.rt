@@ -1,6 +1,7 @@
 //! What corrections change of a content, which the index of a site looks up (PS3.4, section B.4.1).
 
 ghost use Rattle.std.specs.Prelude.{◌≡◌, ◌≤◌, length, IfOk, IfSome, IsTrue};
+ghost use Rattle.std.specs.List.{filter_map, list_all};
 ghost use Rattle.std.specs.Option.{option_copied};
 ghost use Rattle.operation.specs.Corrections.{is_corrected};
 ghost use Rattle.site_state.specs.Site.{ops_of};
@@ -49,6 +50,26 @@ fn change(
     }
 }
 
+/// Those of some attributes that a correction may give a value, in their order.
+fn changes_under(
+    alloc: Global,
+    site: &Site,
+    content: &Content,
+    tags: &[u32],
+) -> Result<Vec<Change>, AllocError>
+    requires { IsTrue (list_all is_corrected tags.now) }
+    ensures { IfOk result (λ changes. changes.items ≡
+        filter_map (change_for (ops_of site.now) content.now) tags.now) }
+{
+    let mut changes = Vec::new(alloc);
+    for tag in tags {
+        if let Some(change) = change(alloc, site, content, *tag)? {
+            changes.push(change)?;
+        }
+    }
+    Ok(changes)
+}
+
 /// What corrections change of a content, by ascending tag.
 pub fn changes(
     alloc: Global,
@@ -57,11 +78,6 @@ pub fn changes(
 ) -> Result<ListOf<Change>, AllocError>
     ensures { IfOk result (λ changes. changes ≡ changes_for (ops_of site.now) content.now) }
 {
-    let mut changes = Vec::new(alloc);
-    for tag in corrected_tags() {
-        if let Some(change) = change(alloc, site, content, *tag)? {
-            changes.push(change)?;
-        }
-    }
+    let changes = changes_under(alloc, site, content, corrected_tags())?;
     Ok(ListOf::of(changes))
 }

@@ -114,6 +114,7 @@ impl Prepared {
 
     /// The bytes of the data set in this form, with each change put in. Where nothing changes and
     /// it goes out in its own transfer syntax these are the stored bytes, shared and not copied.
+    #[tactic(auto, using(crate::proofs::PreparedLaws::stored_text, crate::proofs::PreparedLaws::written_text))]
     pub fn body(&self, alloc: Global, form: Form) -> Result<Bytes, AllocError>
         ensures exact { IfOk result (λ text. text ≡ text_in form self.now) }
         // What is written is read again.

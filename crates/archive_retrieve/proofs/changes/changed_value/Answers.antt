@@ -8,7 +8,7 @@ use Rattle.study_index.proofs.Corrected.{latest_is}
 use Rattle.site_state.specs.Site.{ops_of}
 use Rattle.site_state.proofs.Lookups.{value_is, own_is}
 use Rattle.archive_retrieve.proofs.ChangeLaws.{unchanged, changed}
-use Rattle.archive_retrieve.proofs.coercion.change.Goals as goal
+use Rattle.archive_retrieve.proofs.changes.changed_value.Goals as goal
 
 -- Where no correction is found, the attribute has the content's own value.
 pub returns-in-None-clause-value : goal.returns-in-None-clause-value
