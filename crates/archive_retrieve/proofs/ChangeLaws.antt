@@ -1,17 +1,16 @@
 -- What is looked up of an attribute is its change.
-use Rattle.std.proofs.Common.{◌≡◌, ℕ, Bool, true, false, List, Some, None, refl, sym, ap, ◌∙◌}
-use Rattle.std.specs.Prelude.{not, is_some, if◌then◌else◌}
+use Rattle.std.proofs.Common.{◌≡◌, ℕ, false, List, Some, None, sym, ap, ◌∙◌}
+use Rattle.std.specs.Prelude.{not, if◌then◌else◌}
 use Rattle.operation.specs.declared.op.Op.{Op}
 use Rattle.operation.specs.Parts.{ContentParts, own_value}
 use Rattle.octets.specs.Texts.{same}
 use Rattle.archive_model.specs.Attributes.{attribute}
-use Rattle.archive_model.specs.Coercion.{is_changed}
 use Rattle.archive_model.proofs.ModelLaws.{same_itself}
 use Rattle.archive_retrieve.specs.Changes.{changed_value}
 
 -- an attribute that has the content's own value
-pub unchanged : (ops : List Op) (c : ContentParts) (tag : ℕ) → attribute ops c tag ≡ own_value c tag → None ≡ changed_value ops
-    c tag
+pub unchanged : (ops : List Op) (c : ContentParts) (tag : ℕ) → attribute ops c tag ≡ own_value c tag
+    → None ≡ changed_value ops c tag
 unchanged ops c tag e =
     ap (λ b. if not b then Some (attribute ops c tag) else None)
     (sym (same_itself (attribute ops c tag) (own_value c tag) e))

@@ -1,5 +1,5 @@
 -- What is sent is made of what is prepared, one after another.
-use Rattle.std.proofs.Common.{◌≡◌, ℕ, Bool, true, false, List, [], ◌∷◌, ◌++◌, map, Option, Some, None, sym, subst}
+use Rattle.std.proofs.Common.{◌≡◌, ℕ, Bool, true, false, List, [], ◌∷◌, ◌++◌, map, Option, Some, None, subst}
 use Rattle.std.specs.Prelude.{MatchBool}
 use Rattle.data_set.specs.declared.syntax.Syntax.{Syntax}
 use Rattle.operation.specs.declared.op.Op.{Op}
@@ -9,7 +9,7 @@ use Rattle.retrieve_model.specs.declared.accepts.Form.{Form}
 use Rattle.retrieve_model.specs.declared.prepared.Prepared.{Prepared}
 use Rattle.retrieve_model.specs.declared.sending.Sending.{Sending}
 use Rattle.retrieve_model.specs.Accepts.{form_for}
-use Rattle.retrieve_model.specs.Sending.{is_sent_as_stored, IsWritten, IsText, IsBody, IsSending, AreSendings}
+use Rattle.retrieve_model.specs.Sending.{is_sent_as_stored, IsWritten, IsText, IsBody, AreSendings}
 use Rattle.retrieve_model.specs.Prepared.{with_changes, IsTextIn, IsMadeText}
 use Rattle.retrieve_model.specs.Preparing.{changes_for, prepared_for}
 use Rattle.retrieve_model.proofs.PreparedLaws.{changed_is_coerced, stored_alike}

@@ -15,8 +15,8 @@ use retrieve_model::Change;
 use site_state::Site;
 use std::alloc::{AllocError, Global};
 
-/// The value that corrections give an attribute of a content, where it is another than the content's
-/// own.
+/// The value that corrections give an attribute of a content, where it is another than the
+/// content's own.
 fn changed_value<'a>(site: &'a Site, content: &Content, tag: u32) -> Option<&'a [u8]>
     ensures value { option_copied result ≡ changed_value_in (ops_of site.now) content.now tag }
     ensures short { IfSome result (λ value. length value.now ≤ 64) }
@@ -71,11 +71,7 @@ fn changes_under(
 }
 
 /// What corrections change of a content, by ascending tag.
-pub fn changes(
-    alloc: Global,
-    site: &Site,
-    content: &Content,
-) -> Result<ListOf<Change>, AllocError>
+pub fn changes(alloc: Global, site: &Site, content: &Content) -> Result<ListOf<Change>, AllocError>
     ensures { IfOk result (λ changes. changes ≡ changes_for (ops_of site.now) content.now) }
 {
     let changes = changes_under(alloc, site, content, corrected_tags())?;

@@ -3,8 +3,8 @@
 ghost use Rattle.std.specs.Prelude.{◌≡◌, IfOk};
 ghost use Rattle.archive_retrieve.specs.Made.{IsMadeBody, IsMadeSending, AreMade};
 
-use data_set::Syntax;
 use bytes::Bytes;
+use data_set::Syntax;
 use octets::Octets;
 use retrieve_model::{Accepts, Form, Prepared, Sending, syntax_of};
 use std::alloc::{AllocError, Global};
@@ -27,11 +27,7 @@ fn body_in(
 }
 
 /// What is sent of a prepared instance.
-fn sending_of(
-    alloc: Global,
-    accepts: &Accepts,
-    prepared: &Prepared,
-) -> Result<Sending, AllocError>
+fn sending_of(alloc: Global, accepts: &Accepts, prepared: &Prepared) -> Result<Sending, AllocError>
     ensures { IfOk result (λ sending. IsMadeSending accepts.now.list prepared.now sending) }
 {
     let form = accepts.form_for(prepared.class(), prepared.syntax());

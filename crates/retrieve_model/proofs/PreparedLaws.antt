@@ -1,5 +1,5 @@
 -- What is made of what is prepared is what is sent.
-use Rattle.std.proofs.Common.{◌≡◌, ℕ, Bool, true, false, cond, List, [], ◌∷◌, length, map, Option, Some, None, refl, sym}
+use Rattle.std.proofs.Common.{◌≡◌, ℕ, Bool, true, false, List, [], ◌∷◌, length, map, Option, Some, None, refl, sym}
 use Rattle.std.proofs.Common.{ap, ◌∙◌, suc, ◌≢◌, ◌⊎◌, inl, inr, arith}
 use Rattle.std.proofs.Math.Dec.{eqb}
 use Rattle.std.proofs.lemmas.Bool.Decides.{eqb_tells}
@@ -15,7 +15,7 @@ use Rattle.operation.specs.declared.op.Op.{Op}
 use Rattle.operation.specs.Parts.{ContentParts}
 use Rattle.archive_model.specs.Shown.{shown}
 use Rattle.archive_model.specs.Attributes.{attribute}
-use Rattle.archive_model.specs.Coercion.{is_changed, is_coerced, put_attribute, with_attribute, with_attributes, coerced}
+use Rattle.archive_model.specs.Coercion.{is_changed, put_attribute, with_attributes, coerced}
 use Rattle.retrieve_model.specs.declared.accepts.Accepts.{Accepts}
 use Rattle.retrieve_model.specs.declared.accepts.Form.{Form}
 use Rattle.retrieve_model.specs.declared.accepts.Form.TheVariants.{Own, Converted}
@@ -24,8 +24,8 @@ use Rattle.retrieve_model.specs.declared.sending.Sending.{Sending}
 use Rattle.retrieve_model.specs.Accepts.{form_for, syntax_of}
 use Rattle.retrieve_model.specs.Change.{ChangeParts}
 use Rattle.retrieve_model.specs.Selection.{selected}
-use Rattle.retrieve_model.specs.Sending.{in_form, is_sent_as_stored, text_for, body_for, sending_for, sendings_of}
-use Rattle.retrieve_model.specs.Prepared.{with_change, with_changes, put_change, is_as_stored, text_in, made_body, made}
+use Rattle.retrieve_model.specs.Sending.{in_form, is_sent_as_stored, sending_for, sendings_of}
+use Rattle.retrieve_model.specs.Prepared.{with_change, with_changes, put_change, is_as_stored, text_in, made}
 use Rattle.retrieve_model.specs.Prepared.{elements_for, IsMadeText}
 use Rattle.retrieve_model.specs.Preparing.{change_for, changes_for, prepared_for, prepared_of}
 use Rattle.retrieve_model.specs.Laws.{WhatIsMadeIsCorrected, BodyIsMade, WhatIsSentIsMade}
@@ -136,8 +136,8 @@ body_is_made ops c (Some form) = ap (λ (text : List ℕ). Some (syntax_of form 
 
 sending_is_made : (accepts : Accepts) (ops : List Op) (c : ContentParts)
     → sending_for ops accepts.list c ≡ made accepts (prepared_for ops c)
-sending_is_made accepts ops c = ap (λ b. let s : Sending = record { class = c.class; instance = c.instance; body = b } in s)
-    (body_is_made ops c (form_for accepts.list c.class c.syntax))
+sending_is_made accepts ops c = ap (λ b. let s : Sending = record { class = c.class; instance = c.instance; body =
+    b } in s) (body_is_made ops c (form_for accepts.list c.class c.syntax))
 
 sendings_are_made : (accepts : Accepts) (ops : List Op) (cs : List ContentParts)
     → map (sending_for ops accepts.list) cs ≡ map (made accepts) (map (prepared_for ops) cs)

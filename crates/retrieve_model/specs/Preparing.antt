@@ -1,4 +1,4 @@
--- What a C-GET prepares over a set of operations, which is the list of its operations ascending by digest (PS3.4, C.4.3).
+-- What a C-GET prepares over a set, which is the list of its operations ascending by digest (PS3.4, C.4.3).
 use Rattle.std.specs.Prelude.{ℕ, List, Option, Some, None, if◌then◌else◌, map}
 use Rattle.std.specs.List.{filter_map}
 use Rattle.data_set.specs.Corrections.{corrected_tags}

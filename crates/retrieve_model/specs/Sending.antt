@@ -4,7 +4,6 @@ use Rattle.std.specs.Prelude.{if◌then◌else◌}
 use Rattle.data_set.specs.declared.syntax.Syntax.{Syntax}
 use Rattle.data_set.specs.declared.syntax.Syntax.TheVariants.{Implicit}
 use Rattle.data_set.specs.Tree.{Tree}
-use Rattle.data_set.specs.Set.{Set}
 use Rattle.data_set.specs.Texts.{Spells}
 use Rattle.data_set.specs.Written.{text_of}
 use Rattle.data_set.specs.Converted.{converted}
@@ -35,14 +34,7 @@ abbrev pub in_form : Form → List Tree → List Tree
 in_form Own ts = ts
 in_form Converted ts = converted Implicit ts
 
--- this is a content's data set, corrected, in the form in which it is sent
-pub record IsSetFor (ops : List Op) (c : ContentParts) (form : Form) (set : Set) : Type 0 where
-  pub coerced : List Tree
-  pub are_coerced : AreCoerced ops c coerced
-  pub elements : set.elements ≡ in_form form coerced
-  pub syntax : set.syntax ≡ syntax_of form c.syntax
-
--- this is such a data set written, which is read again
+-- this is a content's data set, corrected and in the form in which it is sent, written; it is read again
 pub record IsWritten (ops : List Op) (c : ContentParts) (form : Form) (text : List ℕ) : Type 0 where
   pub coerced : List Tree
   pub are_coerced : AreCoerced ops c coerced

@@ -17,7 +17,8 @@ loop-instance-preserved c =
     let sending = c.in_ok-sending_of.field-0 in
     let more : take (i + 1) these ≡ take i these ++ (at ∷ []) = take_more these i at c.loop-instance-test.true
     ∙ ap (λ (p : Prepared). take i these ++ (p ∷ [])) (sym c.instance-item.is) in
-    let made = made_snoc accepted (take i these) found at sending c.loop-instance.invariant c.in_ok-sending_of.ensures in
+    let made = made_snoc accepted (take i these) found at sending c.loop-instance.invariant c.in_ok-sending_of.ensures
+    in
     subst (λ (ss : List Sending). AreMade accepted (take (i + 1) these) ss) (sym {A = List Sending}
     c.in_ok-push.ensures.items)
     (subst (λ (ps : List Prepared). AreMade accepted ps (found ++ (sending ∷ []))) (sym more) made)

@@ -1,7 +1,7 @@
 use Rattle.retrieve_model.proofs.PreparedLaws.{made_is_corrected, body_is_made, sent_is_made}
 use Rattle.retrieve_model.proofs.laws.what_is_sent_is_made_of_what_is_prepared.Goals as goal
 
--- With the changes of a content put in, its elements are the corrected ones, and none is put in where it goes as stored.
+-- With its changes put in, a content's elements are the corrected ones, and it has none where it goes as stored.
 pub returns-clause-text : goal.returns-clause-text
 returns-clause-text c = made_is_corrected
 
