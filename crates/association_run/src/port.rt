@@ -2,6 +2,7 @@
 
 ghost use Rattle.std.specs.Prelude.{List, ℕ};
 ghost use Rattle.operation.specs.declared.op.Op.{Op};
+ghost use Rattle.operation.specs.declared.op.Op.TheVariants.{Content as a_content};
 ghost use Rattle.association_run.specs.Port.{Stores, Finds};
 
 use archive_model::View;
@@ -19,9 +20,10 @@ pub trait Port {
     // The digests of the contents that its own stores brought, in order.
     ghost own: { Self → List (List ℕ) };
 
-    /// Takes a content, in one step.
+    /// Takes a content, in one step, into what is held when its turn comes: others may have stored
+    /// before it. It is new where none of its digest is held then, and known where it is.
     fn store(&mut self, content: Content) -> Result<Taken, PortFault>
-        ensures { Stores ops own self.old content result self.new };
+        ensures { Stores ops own self.old (a_content content) result self.new };
 
     /// The rows that answer a query, in one look: over all that is held when it ends.
     fn find(

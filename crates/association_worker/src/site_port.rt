@@ -5,7 +5,7 @@ ghost use Rattle.std.specs.FinMap as finmap;
 ghost use Rattle.operation.specs.declared.op.Op.TheVariants.{Content as AContent};
 ghost use Rattle.operation.specs.Spelling.{digest_of};
 ghost use Rattle.query_model.specs.Rows.{rows_of};
-ghost use Rattle.site_state.specs.Site.{Takes, IsClash, ops_of};
+ghost use Rattle.site_state.specs.Site.{IsSite, Takes, IsClash, ops_of};
 ghost use Rattle.association_run.specs.Port.{Stores, Finds};
 ghost use Rattle.association_worker.specs.Port.{PortParts, fault_of_site};
 
@@ -114,7 +114,10 @@ impl SitePort {
         ensures fault { IfErr result (λ fault.
             (fault ≡ PortFault.Collision) ⊎ (fault ≡ PortFault.Memory)) }
         ensures kept { OnErr result (self.new ≡ self.old) }
+        // Each operation lies under its own digest.
+        ensures lawful { IsSite self.old.site }
     {
+        self.site.see_lawful();
         let op = Digested::of(Op::Content(content));
         put_digest(&mut self.own, &op)?;
         match self.site.take_digested(op) {
@@ -134,7 +137,7 @@ impl Port for SitePort {
 
     fn store(&mut self, content: Content) -> Result<Taken, PortFault>
         ensures stores { Stores (λ (p : PortParts). ops_of p.site)
-            (λ (p : PortParts). p.own) self.old content result self.new }
+            (λ (p : PortParts). p.own) self.old (AContent content) result self.new }
 
         // It does what `take` does.
         ensures takes { IfOk result (λ taken.
