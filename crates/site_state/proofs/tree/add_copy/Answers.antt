@@ -18,6 +18,7 @@ returns-in_err-insert-clause-noted c =
     (still_out c.args.tree.now.entries c.insert.new.self.entries c.args.digest.now (sym c.contains_key.ensures
     ∙ c.if-contains_key.false) c.in_err-insert.ensures.err)
 
+-- A copy of the operation stands under its digest, and the other operations are left.
 pub returns-clause-ok : goal.returns-clause-ok
 returns-clause-ok c =
     new_entry c.args.tree.now.entries c.insert.new.self.entries c.args.digest.now c.in_ok-copy.copy

@@ -7,6 +7,7 @@ use Rattle.site_state.proofs.Maps.{get_held, held}
 use Rattle.site_state.proofs.Unions.{AgreeOver, agree_more, agree_none, agreed, first_held, rest_held, rest_sorted}
 use Rattle.site_state.proofs.tree.do_clash.Goals as goal
 
+-- The entries of the second tree ascend by digest, and all of them are left.
 pub loop-digest-init : goal.loop-digest-init
 loop-digest-init c = record {
   sorted = subst (λ (es : List (List ℕ × Op)). IsStrictlySortedBy digest_cmp (keys_of es))
@@ -16,6 +17,7 @@ loop-digest-init c = record {
   agree = λ agree. agree;
 }
 
+-- The first entry is not held otherwise in the first tree, so all agree if those behind it do.
 pub loop-digest-preserved : goal.loop-digest-preserved
 loop-digest-preserved c =
     let before = c.loop-digest.invariant in
@@ -29,6 +31,7 @@ loop-digest-preserved c =
           c.in-Some.digest.now c.in-Some.op.now parts c.if-has_other.ensures agree);
     }
 
+-- Both trees hold this digest, with different operations.
 pub returns-then-has_other : goal.returns-then-has_other
 returns-then-has_other c =
     let other = c.if-has_other.ensures in
@@ -44,6 +47,7 @@ returns-then-has_other c =
       other.2,
     )
 
+-- No entry of the second tree is held otherwise in the first, so the trees agree.
 pub returns : goal.returns
 returns c =
     let all = c.into_iter-digest-iterator.ensures.into_iter_gives ∙ c.iter-digest-items.ensures.rest in

@@ -7,6 +7,7 @@ use Rattle.site_state.proofs.Maps.{held}
 use Rattle.site_state.proofs.Unions.{AgreeOver}
 use Rattle.site_state.proofs.tree.do_clash.Given as goal
 
+-- What is left ascends and is of the second tree; if it agrees with the first, all of the second does.
 abbrev pub invariant-loop-digest : goal.invariant-loop-digest
 invariant-loop-digest l = record {
   sorted : IsStrictlySortedBy digest_cmp (keys_of l.digest-iterator);

@@ -8,5 +8,6 @@ abbrev pub invariant-loop-digest : goal.invariant-loop-digest
 invariant-loop-digest l = without l.left.items (of_entries l.tree.entries) ≡ without l.initial.left.items
     (of_entries l.initial.tree.entries)
 
+-- With each turn one digest fewer is left to take out.
 abbrev pub decreases-loop-digest : goal.decreases-loop-digest
 decreases-loop-digest l = vec_len l.left

@@ -3,6 +3,7 @@ use Rattle.std.proofs.lemmas.List.{append-nil}
 use Rattle.site_state.proofs.Maps.{tree_digests}
 use Rattle.site_state.proofs.site.Site.digests.Goals as goal
 
+-- No digest is left, so all digests of the site came, ascending.
 pub returns : goal.returns
 returns c =
     sym (append-nil c.loop-digest.digests.items) ∙ ap (λ xs. c.loop-digest.digests.items ++ xs)

@@ -3,6 +3,7 @@ use Rattle.std.specs.FinMap as map
 use Rattle.site_state.proofs.Maps.{get_held, some_is}
 use Rattle.site_state.proofs.site.Site.has.Goals as goal
 
+-- The tree has the digest exactly where the site holds an operation under it.
 pub returns : goal.returns
 returns c =
     let same = get_held c.self.inside.operations.entries c.args.digest.now in

@@ -3,6 +3,7 @@ use Rattle.std.proofs.lemmas.List.{append-nil}
 use Rattle.site_state.proofs.Maps.{tree_ops}
 use Rattle.site_state.proofs.site.Site.operations.Goals as goal
 
+-- No operation is left, so all operations of the site came, ascending by digest.
 pub returns : goal.returns
 returns c =
     sym (append-nil _) ∙ ap (λ xs. map (λ o. o.now) c.loop-op.ops.items ++ xs) (sym c.in-None.ensures.steps.0)

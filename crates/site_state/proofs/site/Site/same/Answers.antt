@@ -4,12 +4,14 @@ use Rattle.site_state.proofs.Maps.{tree_ops}
 use Rattle.site_state.proofs.Unions.{heads_same, first_same, not_longer, same_ops, ended}
 use Rattle.site_state.proofs.site.Site.same.Goals as goal
 
+-- Two equal operations went, one of each site, so the rests are the same exactly where all are.
 pub loop-op-preserved : goal.loop-op-preserved
 loop-op-preserved c =
     heads_same c.in-Some.op.now c.in-Some-next.other_op.now c.next.new.self c.next-in-loop-op.new.self
     c.loop-op.op-iterator c.loop-op.others
     c.in-Some.ensures.steps c.in-Some-next.ensures.steps (c.equals.ensures.0 c.if-not-equals.false) c.loop-op.invariant
 
+-- The other site has fewer operations, so it does not hold the same.
 pub returns-in-None-next : goal.returns-in-None-next
 returns-in-None-next c =
     let these = c.into_iter-op-iterator.ensures.into_iter_gives ∙ c.values-op-items.ensures.rest
@@ -22,6 +24,7 @@ returns-in-None-next c =
           (c.loop-op.invariant.1 (these ∙ ap ops_of e ∙ sym those)),
     )
 
+-- Two operations at one place are unequal, so the sites do not hold the same.
 pub returns-then-not-equals : goal.returns-then-not-equals
 returns-then-not-equals c =
     let these = c.into_iter-op-iterator.ensures.into_iter_gives ∙ c.values-op-items.ensures.rest
@@ -35,6 +38,7 @@ returns-then-not-equals c =
           let t = c.equals.ensures.1 same in let u = c.if-not-equals.true in cc,
     )
 
+-- All of this site's operations were met, so both hold the same exactly where the other has none left.
 pub returns : goal.returns
 returns c =
     let these = c.into_iter-op-iterator.ensures.into_iter_gives ∙ c.values-op-items.ensures.rest in

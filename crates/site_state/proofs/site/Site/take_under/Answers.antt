@@ -8,6 +8,7 @@ use Rattle.site_state.proofs.Indexed.{index_taken, index_kept}
 use Rattle.site_state.proofs.Lawful.{one_more_lawful}
 use Rattle.site_state.proofs.site.Site.take_under.Goals as goal
 
+-- With the operation taken in, each lies under its own digest, and top and index are those of all.
 pub invariant_of-self-2 : goal.invariant_of-self-2
 invariant_of-self-2 c =
     let es = c.self.inside.operations.entries in
@@ -35,6 +36,7 @@ invariant_of-self c = (
 pub take_in-requires-clause-absent : goal.take_in-requires-clause-absent
 take_in-requires-clause-absent c = sym c.in_default.ensures.value
 
+-- The operation itself is held under its digest, and the site stays as it was.
 pub returns-then-equals : goal.returns-then-equals
 returns-then-equals c = (
   ap (held_at c.args.self.now) (sym c.requires) ∙ found_at c.args.self.now c.self.inside.operations.entries
@@ -43,6 +45,7 @@ returns-then-equals c = (
   refl,
 )
 
+-- Another operation is held under the digest, and the site stays as it was.
 pub returns-in-Some : goal.returns-in-Some
 returns-in-Some c = (
   (
@@ -54,6 +57,7 @@ returns-in-Some c = (
   refl,
 )
 
+-- Memory was refused: nothing is held under the digest, and the site stays as it was.
 pub returns-in_err-take_in : goal.returns-in_err-take_in
 returns-in_err-take_in c =
     no_room c.args.self.now _ c.args.op c.from_residual.result c.from_residual.ensures.1
@@ -61,6 +65,7 @@ returns-in_err-take_in c =
     c.args.digest _ c.self.view_is c.in_default.ensures.value)
     (c.in_err-take_in.ensures.kept ∙ c.self.view_is)
 
+-- Nothing was held under the digest, and the site holds what it held, with this operation.
 pub returns : goal.returns
 returns c = (
   ap (held_at c.args.self.now) (sym c.requires) ∙ found_at c.args.self.now c.self.inside.operations.entries
