@@ -4,6 +4,7 @@ use Rattle.query_model.specs.Rows.{uid_at}
 use Rattle.archive_query.proofs.GroupingLaws.{group_step, run_from_step}
 use Rattle.archive_query.proofs.grouping.first_run.Goals as goal
 
+-- The contents at the front with the first one's UID are all that have it, so they are the first group.
 pub returns : goal.returns
 returns c =
     let key = λ (x : Bor Content). uid_at c.args.level x.now in

@@ -7,6 +7,7 @@ use Rattle.query_model.specs.Rows.{uid_at}
 use Rattle.archive_query.proofs.GroupingLaws.{next_group, rest_run}
 use Rattle.archive_query.proofs.grouping.groups_of.Goals as goal
 
+-- The run is the first group of what was left, and what stands behind the run still ascends.
 pub loop-start-preserved : goal.loop-start-preserved
 loop-start-preserved c =
     let key = λ (x : Bor Content). uid_at c.args.level x.now in

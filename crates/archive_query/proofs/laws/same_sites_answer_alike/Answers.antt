@@ -5,6 +5,7 @@ use Rattle.site_state.specs.Site.{ops_of}
 use Rattle.query_model.specs.Rows.{rows_of}
 use Rattle.archive_query.proofs.laws.same_sites_answer_alike.Goals as goal
 
+-- Two sites that hold the same operation under each digest have the same rows.
 pub returns : goal.returns
 returns c view called query one other same =
     ap (λ site. rows_of view called query (ops_of site))

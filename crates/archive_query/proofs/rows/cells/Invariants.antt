@@ -5,6 +5,7 @@ use Rattle.query_model.specs.Rows.{cell_in_row}
 use Rattle.site_state.specs.Site.{ops_of}
 use Rattle.archive_query.proofs.rows.cells.Given as goal
 
+-- The elements so far, with those of the columns that are left, are the elements of the row.
 abbrev pub invariant-loop-tag : goal.invariant-loop-tag
 invariant-loop-tag l =
     l.cells.items ++ filter_map (cell_in_row (ops_of l.site) l.called l.query (map (λ c. c.now) l.contents) l.first)

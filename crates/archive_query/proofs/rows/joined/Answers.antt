@@ -2,6 +2,7 @@ use Rattle.std.proofs.Common.{◌∙◌, sym, ap, ◌++◌, ◌∷◌, cond, ◌
 use Rattle.archive_query.proofs.Joined.{join_more}
 use Rattle.archive_query.proofs.rows.joined.Goals as goal
 
+-- The next text stands behind the texts so far, behind a backslash where it is not the first.
 pub loop-i-preserved : goal.loop-i-preserved
 loop-i-preserved c =
     c.in_ok-add.ensures

@@ -6,6 +6,7 @@ use Rattle.archive_query.proofs.RowSets.{row_is_set}
 use Rattle.site_state.specs.Site.{ops_of}
 use Rattle.archive_query.proofs.rows.row.Goals as goal
 
+-- The elements of a row ascend by tag and fit Explicit VR Little Endian, so they are a data set.
 pub of-requires : goal.of-requires
 of-requires c =
     subst (IsSet Explicit) (sym c.in_ok-cells.ensures)

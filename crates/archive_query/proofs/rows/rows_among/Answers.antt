@@ -8,6 +8,7 @@ use Rattle.archive_query.proofs.GroupMaps.{map-map, groups-map, filter_map-map}
 use Rattle.site_state.specs.Site.{ops_of}
 use Rattle.archive_query.proofs.rows.rows_among.Goals as goal
 
+-- The groups of the sorted contents are those of the contents under each UID, and each matching group has its row.
 pub returns : goal.returns
 returns c =
     let now = λ (x : Bor Content). x.now in

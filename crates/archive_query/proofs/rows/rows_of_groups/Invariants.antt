@@ -4,6 +4,7 @@ use Rattle.query_model.specs.Rows.{row_of}
 use Rattle.site_state.specs.Site.{ops_of}
 use Rattle.archive_query.proofs.rows.rows_of_groups.Given as goal
 
+-- The rows so far, with those of the groups that are left, are the rows of all groups.
 abbrev pub invariant-loop-group : goal.invariant-loop-group
 invariant-loop-group l =
     l.rows.items ++ filter_map (row_of (ops_of l.site) l.called l.query)
