@@ -5,6 +5,7 @@ use Rattle.archive_model.specs.Attributes.{corrects, corrections}
 use Rattle.archive_model.proofs.Latest.{latest_from}
 use Rattle.plain_archive.proofs.attributes.correction_for.Given as goal
 
+-- The greatest so far, or a greater one among the operations left, is the greatest of all.
 abbrev pub invariant-loop-op : goal.invariant-loop-op
 invariant-loop-op l =
     latest_from (option_copied l.held) (filter (corrects l.content l.tag)
