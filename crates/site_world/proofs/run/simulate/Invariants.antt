@@ -2,6 +2,7 @@ use Rattle.std.proofs.Common.{◌≡◌}
 use Rattle.site_world.specs.Simulation.{Owes, TookBytes}
 use Rattle.site_world.proofs.run.simulate.Given as goal
 
+-- What the lines read so far print is written; each read took a byte or more, and no device failed.
 abbrev pub invariant-loop : goal.invariant-loop
 invariant-loop g l = record {
   owes : Owes (g.R.Source.remaining l.fn.reader) (g.W.Sink.contents l.fn.writer) (g.R.Source.remaining l.reader)

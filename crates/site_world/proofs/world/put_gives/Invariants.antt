@@ -4,6 +4,7 @@ use Rattle.std.specs.Vec.Iter.{into_iter_items, into_iter_len}
 use Rattle.site_world.specs.Messages.{gives, numbers_behind}
 use Rattle.site_world.proofs.world.put_gives.Given as goal
 
+-- There is room for what is left; messages and numbers so far, with those left, are those of all operations.
 abbrev pub invariant-loop-op : goal.invariant-loop-op
 invariant-loop-op l =
     let rest = into_iter_items l.op-iterator in
