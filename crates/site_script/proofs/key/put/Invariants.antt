@@ -3,6 +3,7 @@ use Rattle.std.specs.Option.{option_map}
 use Rattle.site_script.specs.Keys.{put_key}
 use Rattle.site_script.proofs.key.put.Given as goal
 
+-- Each key so far has a lesser tag, so the new one belongs among the keys left.
 abbrev pub invariant-loop-i : goal.invariant-loop-i
 invariant-loop-i l = record {
   same : l.keys.items ≡ l.fn.keys.items;

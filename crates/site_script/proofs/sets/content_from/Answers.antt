@@ -5,6 +5,7 @@ use Rattle.data_set.specs.Written.{text_of}
 use Rattle.site_script.proofs.Made.{content_given}
 use Rattle.site_script.proofs.sets.content_from.Goals as goal
 
+-- The text that is written spells the elements, so the content or the fault is the one that they make.
 pub returns : goal.returns
 returns c =
     let elements = c.args.elements.items in
