@@ -10,5 +10,6 @@ invariant-loop-rest l =
     × ((tail : List Pdu) → Sends l.size l.context l.command l.rest tail → Sends l.size l.context l.command l.fn.text
     (more ++ tail))
 
+-- With each fragment less of the text is left.
 abbrev pub decreases-loop-rest : goal.decreases-loop-rest
 decreases-loop-rest l = length l.rest
