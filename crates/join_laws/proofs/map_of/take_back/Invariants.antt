@@ -7,5 +7,6 @@ abbrev pub invariant-loop-note : goal.invariant-loop-note
 invariant-loop-note g l = undone g.K.Ord.cmp l.left.items l.map.entries ≡ undone g.K.Ord.cmp l.initial.left.items
     l.initial.map.entries
 
+-- With each turn one write fewer is left to take back.
 abbrev pub decreases-loop-note : goal.decreases-loop-note
 decreases-loop-note g l = vec_len l.left

@@ -8,5 +8,6 @@ abbrev pub invariant-loop-end : goal.invariant-loop-end
 invariant-loop-end l = (l.end ≤ length l.bytes) × (l.end + suffix_len is_padding l.bytes ≡ length l.bytes + suffix_len
     is_padding (take l.end l.bytes))
 
+-- With each turn one byte fewer is kept.
 abbrev pub decreases-loop-end : goal.decreases-loop-end
 decreases-loop-end l = l.end
