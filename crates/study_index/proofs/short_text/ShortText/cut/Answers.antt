@@ -9,6 +9,7 @@ cut_length text longer = length-take-le 64 text (omega (arith, longer))
 pub slice_bounds-whole-end : goal.slice_bounds-whole-end
 slice_bounds-whole-end c = sym (cut_length c.args.text.now c.if-text-gt-LONGEST.true)
 
+-- The first 64 bytes of a longer text are no more than 64.
 pub whole-requires : goal.whole-requires
 whole-requires c = let is = cut_length c.args.text.now c.if-text-gt-LONGEST.true in omega (arith, is)
 
