@@ -19,5 +19,6 @@ pub fn ascending(mut texts: Vec<Octets>) -> Vec<Octets>
 /// Texts are put in the order of their bytes, and each stays once.
 pub fn ascending_texts_are_the_same_in_order()
     ensures sorted { (texts : List (List ℕ)) → IsStrictlySortedBy text_cmp (ascending_of texts) }
-    ensures all { (texts : List (List ℕ)) (text : List ℕ) → Has (ascending_of texts) text ↔ Has texts text }
+    ensures all { (texts : List (List ℕ)) (text : List ℕ)
+        → Has (ascending_of texts) text ↔ Has texts text }
 {}

@@ -64,9 +64,23 @@ impl Model for Content {
 
     ghost coded = { content_code };
 
-    ghost view = { λ c. record { class = c.class; instance = c.instance; syntax = c.syntax; body = c.body; values = c.values; note = c.note } };
+    ghost view = { λ c. record {
+      class = c.class;
+      instance = c.instance;
+      syntax = c.syntax;
+      body = c.body;
+      values = c.values;
+      note = c.note;
+    } };
 
-    ghost invariant = { λ c. IsContent (record { class = c.class; instance = c.instance; syntax = c.syntax; body = c.body; values = c.values; note = c.note }) };
+    ghost invariant = { λ c. IsContent (record {
+      class = c.class;
+      instance = c.instance;
+      syntax = c.syntax;
+      body = c.body;
+      values = c.values;
+      note = c.note;
+    }) };
 }
 
 fn key_value<'a>(values: &'a [KeyValue], tag: u32) -> Option<&'a [u8]>

@@ -167,7 +167,8 @@ pub fn content_of(
     ensures parts { IfOk result (λ c. draft_of c ≡ drafted class instance syntax body) }
     ensures found { IfOk result IsContent }
     // A content of these parts is made, unless memory ran out.
-    ensures only { (c : ContentParts) → IsContent c → draft_of c ≡ drafted class instance syntax body
+    ensures only { (c : ContentParts) → IsContent c
+        → draft_of c ≡ drafted class instance syntax body
         → Gives is_memory (λ content. content) result (Ok c) }
 
     // Each fault, exactly where it is: TooLong, BadSet, NoUid, Mismatch, BadNote.

@@ -35,9 +35,19 @@ impl Model for Correction {
 
     ghost coded = { correction_code };
 
-    ghost view = { λ c. record { target = c.target; tag = c.tag; value = c.value; stamp = c.stamp } };
+    ghost view = { λ c. record {
+      target = c.target;
+      tag = c.tag;
+      value = c.value;
+      stamp = c.stamp;
+    } };
 
-    ghost invariant = { λ c. IsCorrection (record { target = c.target; tag = c.tag; value = c.value; stamp = c.stamp }) };
+    ghost invariant = { λ c. IsCorrection (record {
+      target = c.target;
+      tag = c.tag;
+      value = c.value;
+      stamp = c.stamp;
+    }) };
 }
 
 fn may_have_tag(target: &Target, tag: u32) -> bool
@@ -108,7 +118,8 @@ pub fn correction_of(
     value: Octets,
     stamp: Stamp,
 ) -> Result<Correction, OpFault>
-    ensures { result ≡ checked (record { target = target; tag = tag; value = value; stamp = stamp }) }
+    ensures { result
+        ≡ checked (record { target = target; tag = tag; value = value; stamp = stamp }) }
 {
     if !is_lawful(&target, tag, value.as_slice(), stamp) {
         return Err(OpFault::BadCorrection);

@@ -241,7 +241,8 @@ pub fn decode(alloc: Global, text: Bytes) -> Result<Op, OpFault>
     // What is decoded is spelled so, and whatever is spelled is decoded, unless memory ran out.
     ensures found { IfOk result (λ op. text ≡ spelling op) }
     ensures lawful { IfOk result IsOp }
-    ensures only { (op : Op) → IsOp op → text ≡ spelling op → Gives is_memory (λ op. op) result (Ok op) }
+    ensures only { (op : Op) → IsOp op → text ≡ spelling op
+        → Gives is_memory (λ op. op) result (Ok op) }
 
     // Each fault, exactly where it is: UnknownKind, Shape, and then the operation's own.
     ensures fault { IfErr result (λ e. Told is_memory e (HasFault text)) }

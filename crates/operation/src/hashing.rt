@@ -28,7 +28,8 @@ fn feed_byte(hasher: &mut Sha256, byte: u8)
 
 fn feed_short(hasher: &mut Sha256, bytes: &[u8])
     requires { length bytes.now ≤ 64 }
-    ensures { (m : List ℕ) → Holds256 hasher.old m → Holds256 hasher.new (m ++ short_text bytes.now) }
+    ensures { (m : List ℕ) → Holds256 hasher.old m
+        → Holds256 hasher.new (m ++ short_text bytes.now) }
 {
     feed_byte(hasher, bytes.len() as u8);
     feed(hasher, bytes);
@@ -55,7 +56,8 @@ fn content_digest(content: &Content) -> Digest
 /// The kind of a correction, and its target.
 fn feed_target(hasher: &mut Sha256, target: &Target)
     requires { length (key_of target.now) ≤ 64 }
-    ensures { (m : List ℕ) → Holds256 hasher.old m → Holds256 hasher.new (m ++ target_text target.now) }
+    ensures { (m : List ℕ) → Holds256 hasher.old m
+        → Holds256 hasher.new (m ++ target_text target.now) }
 {
     match target {
         Target::Study(key) => {

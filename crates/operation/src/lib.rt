@@ -1,4 +1,5 @@
-//! Operations, the atoms of a site: contents and corrections, the one spelling of each, and its digest.
+//! Operations, the atoms of a site: contents and corrections, the one spelling of each, and its
+//! digest.
 #![tactic(auto)]
 
 mod content;
