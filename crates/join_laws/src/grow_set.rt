@@ -134,7 +134,8 @@ fn join_sets<'a, K: Exact>(
     other: &'a BTreeSet<K>,
 ) -> Result<Vec<&'a K>, AllocError>
     ensures ok { OnOk result (into.new.keys ≡ union_of K.cmp into.old.keys other.now.keys) }
-    ensures noted { IfOk result (λ added. taken_out K.cmp added.items into.new.keys ≡ into.old.keys) }
+    ensures noted { IfOk result (λ added. taken_out K.cmp added.items into.new.keys
+        ≡ into.old.keys) }
     ensures refused { OnErr result (into.new.keys ≡ into.old.keys) }
 {
     let mut added = Vec::with_capacity(alloc, other.len())?;

@@ -208,7 +208,8 @@ fn join_maps<'a, K: Exact, J: Join + Copies>(
 ) -> Result<Vec<(&'a K, Option<J>)>, AllocError>
     ensures ok { OnOk result (into.new.entries ≡
         map_joined K.cmp J.joined into.old.entries other.now.entries) }
-    ensures noted { IfOk result (λ notes. undone K.cmp notes.items into.new.entries ≡ into.old.entries) }
+    ensures noted { IfOk result (λ notes. undone K.cmp notes.items into.new.entries
+        ≡ into.old.entries) }
     ensures refused { OnErr result (into.new.entries ≡ into.old.entries) }
 {
     let mut notes = Vec::with_capacity(alloc, other.len())?;
@@ -222,8 +223,8 @@ fn join_maps<'a, K: Exact, J: Join + Copies>(
 }
 
 impl<K: Exact, J: Join + Copies> MapOf<K, J> {
-    /// Takes in each entry of the other map, and answers what was at each key of it. Where memory is
-    /// refused, the map stays as it was.
+    /// Takes in each entry of the other map, and answers what was at each key of it. Where memory
+    /// is refused, the map stays as it was.
     pub fn join_noted<'a>(
         &mut self,
         other: &'a MapOf<K, J>,

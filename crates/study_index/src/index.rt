@@ -99,8 +99,8 @@ fn pick_in(digest: Digest, content: &Content) -> Pick
     }
 }
 
-// Takes in the copy and the pick of a content. What can be taken back goes first, and the live list,
-// which cannot, goes last.
+// Takes in the copy and the pick of a content. What can be taken back goes first, and the live
+// list, which cannot, goes last.
 fn add_content(
     copies: &mut GrowSet<ContentCopy>,
     live: &mut LivePicks,
@@ -237,7 +237,8 @@ impl Index {
         self.fixes.add(&(key, fix_in(correction)))
     }
 
-    // Takes in a content that is a note. Its titles are taken out again where the content is refused.
+    // Takes in a content that is a note. Its titles are taken out again where the content is
+    // refused.
     fn add_note(&mut self, digest: Digest, content: &Content, note: &Note) -> Result<(), AllocError>
         requires digest { digest ≡ digest_of (a_content content.now) }
         requires note { content.now.note ≡ Some note.now }
@@ -379,8 +380,8 @@ impl Index {
         self.live.put_study(study, uids)
     }
 
-    /// Puts the SOP Instance UIDs of all picks into a set. What was put in before memory was refused
-    /// stays.
+    /// Puts the SOP Instance UIDs of all picks into a set. What was put in before memory was
+    /// refused stays.
     pub fn put_all(&self, uids: &mut BTreeSet<ShortText>) -> Result<(), AllocError>
         ensures { OnOk result ((uid : List ℕ) → has text_cmp uids.new.keys uid
             ≡ (has text_cmp uids.old.keys uid || has text_cmp (uids_in self.now.1.1.1) uid)) }
@@ -390,7 +391,8 @@ impl Index {
 
     /// The least study of all picks past `after` as bytes, or the first where there is none.
     pub fn next_study(&self, after: Option<&ShortText>) -> Option<&ShortText>
-        ensures { IsNext (HasStudy self.now.1.1.1) (option_copied after.entry) (option_copied result) }
+        ensures { IsNext (HasStudy self.now.1.1.1) (option_copied after.entry)
+            (option_copied result) }
     {
         self.live.next_study(after)
     }
@@ -411,8 +413,8 @@ impl Index {
         series: &ShortText,
         after: Option<&ShortText>,
     ) -> Option<&ShortText>
-        ensures { IsNext (HasInstance self.now.1.1.1 study.now series.now) (option_copied after.entry)
-            (option_copied result) }
+        ensures { IsNext (HasInstance self.now.1.1.1 study.now series.now)
+            (option_copied after.entry) (option_copied result) }
     {
         self.live.next_instance(study, series, after)
     }

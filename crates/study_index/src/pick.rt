@@ -12,8 +12,8 @@ use std::alloc::AllocError;
 use std::cmp::Ordering;
 use std::marker::Model;
 
-/// The digest of a content, and the study and the series that it names. Picks are ordered by digest,
-/// and under one digest by study and series.
+/// The digest of a content, and the study and the series that it names. Picks are ordered by
+/// digest, and under one digest by study and series.
 #[derive(Drop)]
 pub struct Pick {
     pub digest: Digest,

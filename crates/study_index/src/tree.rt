@@ -17,8 +17,8 @@ use std::ops::Bound;
 
 /// Takes places out. This takes no memory.
 pub fn take_all(tree: &mut BTreeSet<Place>, gone: &[Place])
-    ensures left { (place : APlace) →
-        has place_cmp tree.new.keys place ≡ (has place_cmp tree.old.keys place && not (has place_cmp gone.now place)) }
+    ensures left { (place : APlace) → has place_cmp tree.new.keys place
+        ≡ (has place_cmp tree.old.keys place && not (has place_cmp gone.now place)) }
     ensures ordered { IsStrictlySortedBy place_cmp tree.new.keys }
 {
     let _ = tree.len();
@@ -41,8 +41,8 @@ fn put(tree: &mut BTreeSet<Place>, place: &Place) -> Result<(), AllocError>
 /// Puts in places that are not there. Where memory is refused, the tree stays as it was.
 pub fn put_all(tree: &mut BTreeSet<Place>, fresh: &[Place]) -> Result<(), AllocError>
     requires { AreApart place_cmp tree.now.keys fresh.now }
-    ensures ok { OnOk result ((place : APlace) →
-        has place_cmp tree.new.keys place ≡ (has place_cmp tree.old.keys place || has place_cmp fresh.now place)) }
+    ensures ok { OnOk result ((place : APlace) → has place_cmp tree.new.keys place
+        ≡ (has place_cmp tree.old.keys place || has place_cmp fresh.now place)) }
     ensures refused { OnErr result (tree.new.keys ≡ tree.old.keys) }
     ensures ordered { IsStrictlySortedBy place_cmp tree.new.keys }
 {
