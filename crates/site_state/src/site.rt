@@ -30,8 +30,8 @@ use study_index::{Index, ShortText};
 
 mod lending;
 
-/// The operations of a site, each under its digest, with their index and the greatest counter of its
-/// corrections.
+/// The operations of a site, each under its digest, with their index and the greatest counter of
+/// its corrections.
 #[derive(Drop)]
 pub struct Site {
     operations: BTreeMap<Digest, Op>,
@@ -52,7 +52,10 @@ impl Model for Site {
 
     ghost view = { λ s. finmap.from_entries s.operations.entries };
 
-    ghost invariant = { λ s. IsSite (finmap.from_entries s.operations.entries) × HasTop (finmap.from_entries s.operations.entries) s.top × HasIndex (finmap.from_entries s.operations.entries) s.index × HasLawful (finmap.from_entries s.operations.entries) };
+    ghost invariant = { λ s. IsSite (finmap.from_entries s.operations.entries)
+        × HasTop (finmap.from_entries s.operations.entries) s.top
+        × HasIndex (finmap.from_entries s.operations.entries) s.index
+        × HasLawful (finmap.from_entries s.operations.entries) };
 }
 
 /// The counter of a correction, and 0 of a content.
@@ -191,16 +194,16 @@ impl Site {
         Ok(())
     }
 
-    /// What queries look up in the operations: picks, copies, the titles under which UIDs are named,
-    /// the greatest corrections, and the walk by study, series and instance.
+    /// What queries look up in the operations: picks, copies, the titles under which UIDs are
+    /// named, the greatest corrections, and the walk by study, series and instance.
     pub fn index(&self) -> &Index
         ensures { IsIndexOf (ops_of self.now) result.now }
     {
         &self.index
     }
 
-    /// Each operation that is held lies under its digest, and has what every operation keeps true of
-    /// its parts. Nothing is done: these are facts for callers.
+    /// Each operation that is held lies under its digest, and has what every operation keeps true
+    /// of its parts. Nothing is done: these are facts for callers.
     pub fn see_lawful(&self)
         ensures own { IsSite self.now }
         ensures lawful { AreLawful (ops_of self.now) }

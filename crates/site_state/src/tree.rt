@@ -81,8 +81,8 @@ fn add_copy<'a>(
     Ok(())
 }
 
-/// Adds copies of those operations whose digest is not there, and answers these digests. The bytes of
-/// data sets are shared. A refusal leaves the tree as it was.
+/// Adds copies of those operations whose digest is not there, and answers these digests. The bytes
+/// of data sets are shared. A refusal leaves the tree as it was.
 fn add_copies<'a>(
     alloc: Global,
     tree: &mut BTreeMap<Digest, Op>,

@@ -53,7 +53,11 @@ impl Model for World {
 
     ghost coded = { world_code };
 
-    ghost view = { λ w. record { sites = w.sites.items; sent = w.sent.items; aged = w.aged.items } };
+    ghost view = { λ w. record {
+      sites = w.sites.items;
+      sent = w.sent.items;
+      aged = w.aged.items;
+    } };
 
     ghost invariant = { λ w. length w.sites.items ≤ 16 };
 }
