@@ -194,8 +194,8 @@ fn asked_keys(alloc: Global, level: Level, elements: &[Element]) -> Result<Vec<A
 
 impl Query {
     /// The query that an identifier says, or the first that holds of: the level (0008,0052) is none
-    /// of STUDY, SERIES and IMAGE; a unique key above the level is not exactly one UID; a key that is
-    /// not universal has no form that its matching has.
+    /// of STUDY, SERIES and IMAGE; a unique key above the level is not exactly one UID; a key that
+    /// is not universal has no form that its matching has.
     #[tactic(auto, unfolding(crate::specs::Query::query_of))]
     pub fn read(alloc: Global, set: &DataSet) -> Result<Query, QueryFault>
         ensures query { Gives is_memory (λ query. query) result (query_of set.now.elements) }

@@ -115,7 +115,8 @@ fn image_line(
     patient: &Octets,
     name: &Octets,
 ) -> Result<ImageLine, AllocError>
-    ensures { IfOk result (λ line. line ≡ image_parts site.now study.now series.now instance.now patient.now name.now) }
+    ensures { IfOk result (λ line. line
+        ≡ image_parts site.now study.now series.now instance.now patient.now name.now) }
 {
     Ok(ImageLine {
         site: site.copy(alloc)?,

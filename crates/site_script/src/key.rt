@@ -69,7 +69,8 @@ fn put(keys: &mut Vec<Key>, key: Key) -> Result<bool, AllocError>
 
 /// The key of the level, and no other.
 fn level_alone(alloc: Global, level: &Octets) -> Result<Vec<Key>, AllocError>
-    ensures { IfOk result (λ keys. keys.items ≡ record { tag = QUERY_RETRIEVE_LEVEL; value = level.now } ∷ []) }
+    ensures { IfOk result (λ keys. keys.items
+        ≡ record { tag = QUERY_RETRIEVE_LEVEL; value = level.now } ∷ []) }
 {
     let mut keys = Vec::new(alloc);
     keys.push(Key {
@@ -86,7 +87,8 @@ pub fn keys_in(
     level: &Octets,
     words: &[Octets],
 ) -> Result<Option<Vec<Key>>, AllocError>
-    ensures { IfOk result (λ keys. option_map (λ k. k.items) keys ≡ keys_in_words level.now words.now) }
+    ensures { IfOk result (λ keys. option_map (λ k. k.items) keys
+        ≡ keys_in_words level.now words.now) }
 {
     let mut keys = level_alone(alloc, level)?;
     for word in words {

@@ -39,7 +39,8 @@ fn put_sop(
     instance: &[u8],
     modality: &[u8],
 ) -> Result<(), AllocError>
-    ensures { OnOk result (out.new.items ≡ out.old.items ++ sop_elements class.now instance.now modality.now) }
+    ensures { OnOk result (out.new.items
+        ≡ out.old.items ++ sop_elements class.now instance.now modality.now) }
 {
     put(alloc, out, SOP_CLASS_UID, class)?;
     put(alloc, out, SOP_INSTANCE_UID, instance)?;
@@ -165,7 +166,8 @@ fn evidence_sequence(
     series: &[u8],
     study: &[u8],
 ) -> Result<Element, AllocError>
-    ensures { IfOk result (λ element. element ≡ evidence_sequence_of uids.now series.now study.now) }
+    ensures { IfOk result (λ element. element
+        ≡ evidence_sequence_of uids.now series.now study.now) }
 {
     let mut item = Vec::new(alloc);
     item.push(series_sequence(alloc, uids, series)?)?;
@@ -206,7 +208,8 @@ fn content_from(
     elements: Vec<Element>,
 ) -> Result<Content, OpFault>
     requires { IsSet Implicit elements.items }
-    ensures { Gives is_memory (λ content. content) result (made_of class.now instance.now elements.items) }
+    ensures { Gives is_memory (λ content. content) result
+        (made_of class.now instance.now elements.items) }
 {
     let set = DataSet::of(Syntax::Implicit, elements);
     let text = write(alloc, &set)?;
