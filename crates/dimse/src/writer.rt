@@ -18,7 +18,8 @@ use std::alloc::{AllocError, Global};
 
 /// Appends what stands before the value of an element.
 fn put_header(out: &mut Vec<u8>, tag: u32, size: u32) -> Result<(), AllocError>
-    ensures { OnOk result (out.new.items ≡ out.old.items ++ (tag_text tag ++ to_le_bytes w32 size)) }
+    ensures { OnOk result (out.new.items
+        ≡ out.old.items ++ (tag_text tag ++ to_le_bytes w32 size)) }
 {
     let group = (tag / 65536) as u16;
     let element = (tag % 65536) as u16;

@@ -306,7 +306,8 @@ fn with_body(alloc: Global, code: u8, body: &[u8]) -> Result<Vec<u8>, AllocError
 fn data(alloc: Global, values: &[Pdv]) -> Result<Vec<u8>, AllocError>
     requires { length (flat_map pdv_text values.now) ≤ LONGEST_BODY }
     ensures { IfOk result (λ v. v.items ≡ P_DATA ∷ 0
-        ∷ (to_be_bytes w32 (length (flat_map pdv_text values.now)) ++ flat_map pdv_text values.now)) }
+        ∷ (to_be_bytes w32 (length (flat_map pdv_text values.now))
+        ++ flat_map pdv_text values.now)) }
 {
     let mut out = header(alloc, P_DATA, length_of(values))?;
     put_pdvs(&mut out, values)?;

@@ -110,7 +110,8 @@ pub(crate) fn reason_of(kind: Kind) -> u8
 
 /// Once goodbye is said nothing is handed on, whatever comes.
 pub fn never_hands_on_after_goodbye()
-    ensures { (kinds : List Kind) (kind : Kind) → action_of (state_after Sta13 kinds) kind ≢ HandOn }
+    ensures { (kinds : List Kind) (kind : Kind)
+        → action_of (state_after Sta13 kinds) kind ≢ HandOn }
 {}
 
 /// Nothing is handed on before an acceptance was sent.
