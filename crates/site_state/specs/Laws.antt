@@ -55,8 +55,8 @@ UnionIsOfBoth = (xs ys : List Op) → Apart (xs ++ ys) → union (after_taking x
 
 -- ---- order and repeats are free
 
--- two sites took the same operations, in whatever order and with whatever repeats, and unequal ones have unequal
--- digests
+-- two sites took the same operations, in whatever order and with whatever repeats,
+-- and unequal ones have unequal digests
 abbrev pub TookTheSame : List Op → List Op → Type 0
 TookTheSame xs ys = SameMembers xs ys × Apart xs
 

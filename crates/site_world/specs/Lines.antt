@@ -19,8 +19,8 @@ lines_of input = lines_from [] input
 abbrev pub is_too_long : List ℕ → Bool
 is_too_long line = nat_lt LONGEST_LINE (length line)
 
--- What lines print, one after another. The last has no end, and each other loses the CR before it; one that is too
--- long ends all.
+-- What lines print, one after another. The last has no end, and each other loses the CR before it;
+-- one that is too long ends all.
 abbrev pub printed_of : State → List (List ℕ) → List ℕ
 printed_of state [] = []
 printed_of state (line ∷ []) = if is_too_long line then [] else printed state (command_of line)

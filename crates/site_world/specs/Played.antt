@@ -29,8 +29,8 @@ deed_by state (Does step) = stepped step (seen_by state.world step)
 abbrev pub deed_of : State → Command → Deed
 deed_of state command = deed_by state (move_of state command)
 
--- with this made and the front of a line in hand, the deeds of the lines of the rest of an input, up to one that is too
--- long
+-- with this made and the front of a line in hand, the deeds of the lines of the rest of an input,
+-- up to one that is too long
 abbrev pub deeds_from : State → List ℕ → List ℕ → List Deed
 deeds_from state front [] = deed_of state (command_of front) ∷ []
 deeds_from state front (b ∷ rest) =
@@ -73,9 +73,8 @@ deeds_of input = deeds_from NOTHING [] input
 abbrev pub world_of : List ℕ → WorldState
 world_of input = (end_from NOTHING [] input).world
 
--- The steps of a script's lines are a run of 16 new sites, for which the headline holds, and what is printed is what
--- the
--- lines did, in order.
+-- The steps of a script's lines are a run of 16 new sites, for which the headline holds,
+-- and what is printed is what the lines did, in order.
 pub record IsPlayed (input : List ℕ) : Type 0 where
   pub run : Run NOTHING.world (steps_in (deeds_of input)) (answers_in (deeds_of input)) (world_of input)
   pub headline : Headline (steps_in (deeds_of input)) (answers_in (deeds_of input)) (world_of input)

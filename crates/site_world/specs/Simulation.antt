@@ -99,9 +99,8 @@ MOST_READS = 4294967296
 abbrev pub IsEndless : Option (List ℕ) → Type 0
 IsEndless input = IfSome input (λ bytes. MOST_READS ≤ length bytes)
 
--- What is written where a script ends before its input: of a failed write a front, before a line that is too long all
--- of
--- the lines before it, and else whole lines; an input that does not end has as many bytes as there are reads.
+-- What is written where a script ends before its input: of a failed write a front, before a line that is too long
+-- all of the lines before it, and else whole lines; an input that does not end has as many bytes as there are reads.
 abbrev pub BreaksOff : Option (List ℕ) → Option (List ℕ) → SimFault → Option (List ℕ) → Type 0
 BreaksOff input before Read now = WroteWholeLines input before now
 BreaksOff input before Write now = WroteFront input before now
