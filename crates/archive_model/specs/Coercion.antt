@@ -57,8 +57,8 @@ CoercedHasAttributes =
     → is_group_length tag ≡ false → correction_vr_of tag ≡ Some vr → is_changed ops c tag ≡ true
     → value_in tag (coerced ops c ts) ≡ Some (trimmed (attribute ops c tag))
 
--- every other value is as it was: of an attribute that has the content's own value, and of one that no correction may
--- give a value
+-- every other value is as it was: of an attribute that has the content's own value,
+-- and of one that no correction may give a value
 abbrev pub CoercedKeepsOthers : Type 0
 CoercedKeepsOthers =
     (ops : List Op) (c : ContentParts) (ts : List Tree) (tag : ℕ)

@@ -1,7 +1,6 @@
 -- The value of an index over a set of operations, written from the set alone: for each SOP Instance UID the digest of
--- its pick and the
--- digests of its contents, for each UID the titles of the notes that name it, for each target and tag the greatest
--- correction.
+-- its pick and the digests of its contents, for each UID the titles of the notes that name it, for each target and tag
+-- the greatest correction.
 use Rattle.std.specs.Prelude.{◌≡◌, ◌↔◌, ℕ, List, Option, Some, None, Bool, false, ◌&&◌, ◌==◌, IsTrue, map}
 use Rattle.std.specs.List.{filter, list_any}
 use Rattle.std.specs.Option.{option_map}

@@ -1,5 +1,5 @@
--- What an index says of a set of operations, which is the list of its operations ascending by digest: the definition,
--- without joins.
+-- What an index says of a set of operations, which is the list of its operations ascending by digest:
+-- the definition, without joins.
 use Rattle.std.specs.Prelude.{◌≡◌, ℕ, List, IsTrue, ⊤}
 use Rattle.std.specs.Option.{option_map}
 use Rattle.rejection_note.specs.declared.title.NoteTitle.{NoteTitle}
@@ -17,9 +17,9 @@ use Rattle.join_laws.specs.Laws.{summary_of}
 use Rattle.study_index.specs.Index.{IndexValue, index_joined, index_of, nothing, copy_cmp, naming_cmp, is_short}
 use Rattle.study_index.specs.Index.{pick_of, fix_key, fix_of, fix_at}
 
--- For each SOP Instance UID the digest and the keys of its pick, and the digests of its contents; for each UID the
--- titles of the
--- notes that name it; for each target and tag the greatest correction. The list of places is that of the picks.
+-- For each SOP Instance UID the digest and the keys of its pick, and the digests of its contents;
+-- for each UID the titles of the notes that name it; for each target and tag the greatest correction.
+-- The list of places is that of the picks.
 pub record IsIndexOf (ops : List Op) (index : IndexValue) : Type 0 where
   pub picks : (uid : List ℕ) → pick_at uid index.1.1.1 ≡ option_map pick_of (pick uid ops)
   pub copies : (uid digest : List ℕ) → has copy_cmp index.0 (uid, digest) ≡ has text_cmp (copies uid ops) digest

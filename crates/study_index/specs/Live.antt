@@ -25,9 +25,8 @@ Pick = Text × (Text × Text)
 abbrev pub Picks : Type 0
 Picks = List (Text × Option Pick)
 
--- study, series and instance, with a number behind the study and behind the series: 0 where something stands, and 1 for
--- the
--- end of the study or of the series, behind all that stands in it
+-- study, series and instance, with a number behind the study and behind the series: 0 where something stands,
+-- and 1 for the end of the study or of the series, behind all that stands in it
 abbrev pub Place : Type 0
 Place = Text × (ℕ × (Text × (ℕ × Text)))
 
