@@ -23,8 +23,8 @@ sent context command last fragment = PData (record {
       fragment;
 } ∷ [])
 
--- A text goes in fragments of this size while more than that is left, and then in a last one. A text of length 0 is one
--- empty fragment.
+-- A text goes in fragments of this size while more than that is left, and then in a last one.
+-- A text of length 0 is one empty fragment.
 abbrev pub Sends : ℕ → ℕ → Bool → List ℕ → List Pdu → Type 0
 Sends size context command text [] = ⊥
 Sends size context command text (p ∷ []) = (length text ≤ size) × (p ≡ sent context command true text)

@@ -1,5 +1,5 @@
--- The data sets that the lines of a script make, in the implicit syntax (docs/DECISIONS.md, "The contents of a
--- script").
+-- The data sets that the lines of a script make, in the implicit syntax
+-- (docs/DECISIONS.md, "The contents of a script").
 use Rattle.std.specs.Prelude.{ℕ, List, [], ◌∷◌, ◌++◌, length, Option, Some, None, Result, Ok, Err, nat_lt, map, codes}
 use Rattle.std.specs.Prelude.{if◌then◌else◌}
 use Rattle.dictionary.specs.declared.elements.TheConstants.{CODE_VALUE, CODING_SCHEME_DESIGNATOR}
