@@ -110,8 +110,8 @@ not_nil (q ∷ ps) p e = cc
 
 -- ---- what is held after a fragment that is taken
 
--- The message that it ends, where it ends one, is that of the fragments, and the next begins behind it; else they go
--- on.
+-- The message that it ends, where it ends one, is that of the fragments, and the next begins behind it;
+-- else they go on.
 abbrev pub Keeps : List Context → List Pdv → Option Message → Stage → Type 0
 Keeps contexts pdvs None stage = Holds contexts stage pdvs
 Keeps contexts pdvs (Some m) stage = IsTaken contexts pdvs m × (stage ≡ Between)
