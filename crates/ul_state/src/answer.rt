@@ -31,8 +31,8 @@ pub(crate) const NO_ABSTRACT_SYNTAX: u8 = 3;
 /// None of the transfer syntaxes is supported.
 pub(crate) const NO_TRANSFER_SYNTAX: u8 = 4;
 
-/// Whether a class is Verification (PS3.4, annex A), or Study Root FIND or GET (PS3.4, section
-/// C.6).
+/// Whether a class is Verification (PS3.4, annex A), or Study Root FIND or GET (PS3.4,
+/// section C.6).
 #[tactic(auto, unfolding(crate::specs::Answer::is_verification_or_query))]
 fn is_of_verification_or_query(class: &[u8]) -> bool
     ensures { result ≡ is_verification_or_query class.now }

@@ -2,7 +2,7 @@ use Rattle.std.proofs.Common.{◌≡◌, ◌+◌, ◌∷◌, length}
 use Rattle.key_matching.specs.WildCard.{star, is_wild_match}
 use Rattle.key_matching.proofs.wild_card.is_match_behind_star.Given as goal
 
--- A `*` before what is left of the key matches what is left of the value exactly where the first did.
+-- A `*` with what is left of the key matches what is left of the value exactly where the whole does.
 abbrev pub invariant-loop-value : goal.invariant-loop-value
 invariant-loop-value l = is_wild_match l.folds (star ∷ l.key) l.value ≡ is_wild_match l.fn.folds (star ∷ l.fn.key)
     l.fn.value
