@@ -31,7 +31,8 @@ pub trait Keep {
             → Gains (holds self.old) (holds self.new) op.now }
         ensures known { is_up self.new → result ≡ Ok Kept.Known
             → Finds (holds self.old) (holds self.new) op.now }
-        ensures refused { is_up self.new → OnErr result (AreSame (holds self.old) (holds self.new)) }
+        ensures refused { is_up self.new
+            → OnErr result (AreSame (holds self.old) (holds self.new)) }
 
         // A crash leaves it after Ok, and always what it left before.
         ensures durable { is_up self.new → OnOk result (lasts self.new op.now) }
@@ -45,7 +46,8 @@ pub trait Keep {
             → Gains (holds self.old) (holds self.new) op.now }
         ensures known { is_up self.new → result ≡ Ok Kept.Known
             → Finds (holds self.old) (holds self.new) op.now }
-        ensures refused { is_up self.new → OnErr result (AreSame (holds self.old) (holds self.new)) }
+        ensures refused { is_up self.new
+            → OnErr result (AreSame (holds self.old) (holds self.new)) }
 
         // A crash leaves it after Ok, and always what it left before.
         ensures durable { is_up self.new → OnOk result (lasts self.new op.now) }

@@ -55,7 +55,8 @@ fn insert_within<'a, S: Alter>(
     requires moving { HasCleanDisk (state S.Store part.old.conn.now)
         → (done : List Values) × IsMoving (state S.Store part.old.conn.now) done }
     ensures same_reference { part.new.conn.ghost_name ≡ part.old.conn.ghost_name }
-    ensures added { HasCleanDisk (state S.Store part.new.conn.now) → OnOk result ((done : List Values)
+    ensures added { HasCleanDisk (state S.Store part.new.conn.now)
+        → OnOk result ((done : List Values)
         → IsMoving (state S.Store part.old.conn.now) done → IsMoving (state S.Store part.new.conn.now)
         ((Text digest.now ∷ Int (pos kind) ∷ Blob body.now ∷ []) ∷ done)) }
     ensures kept { HasCleanDisk (state S.Store part.new.conn.now)
@@ -81,7 +82,8 @@ fn move_row<S: Alter>(part: &mut Transaction<'_, S>, pair: &Row) -> Result<usize
         → (done : List Values) × IsMoving (state S.Store part.old.conn.now) done }
     requires pair { IsPair pair.now }
     ensures same_reference { part.new.conn.ghost_name ≡ part.old.conn.ghost_name }
-    ensures added { HasCleanDisk (state S.Store part.new.conn.now) → OnOk result ((done : List Values)
+    ensures added { HasCleanDisk (state S.Store part.new.conn.now)
+        → OnOk result ((done : List Values)
         → IsMoving (state S.Store part.old.conn.now) done
         → IsMoving (state S.Store part.new.conn.now) (moved pair.now ∷ done)) }
     ensures kept { HasCleanDisk (state S.Store part.new.conn.now)

@@ -25,7 +25,8 @@ fn select<S: Alter>(
     requires plain { IsPlain (understood (state S.Store database.old).now.schema text.now) }
     ensures shown { IfClean S.Store database.old database.new (λ s t.
         IfOk result (λ rows. Shown text.now (bound values.now) s t rows.items)) }
-    ensures same { IfClean S.Store database.old database.new (λ s t. OnOk result (IsUnchanged s t)) }
+    ensures same { IfClean S.Store database.old database.new (λ s t.
+        OnOk result (IsUnchanged s t)) }
     ensures refused { IfClean S.Store database.old database.new (λ s t. OnErr result (Spares s t)) }
     ensures cause { IfClean S.Store database.old database.new (λ s t.
         IfErr result (FailsToQuery text.now (bound values.now) s t)) }
@@ -43,7 +44,8 @@ pub(crate) fn all_rows<S: Alter>(database: &mut Connection<S>) -> Result<Vec<Row
         IfOk result (λ rows. IsPermutation (entries (rows_of s)) rows.items)) }
     ensures ascending { IfClean S.Store database.old database.new (λ s t.
         IfOk result (λ rows. IsSorted digest_cmp rows.items)) }
-    ensures same { IfClean S.Store database.old database.new (λ s t. OnOk result (IsUnchanged s t)) }
+    ensures same { IfClean S.Store database.old database.new (λ s t.
+        OnOk result (IsUnchanged s t)) }
     ensures refused { IfClean S.Store database.old database.new (λ s t. OnErr result (Spares s t)) }
     ensures cause { IfClean S.Store database.old database.new (λ s t.
         IfErr result (FailsToQuery all_text [] s t)) }
@@ -61,7 +63,8 @@ pub(crate) fn older_rows<S: Alter>(database: &mut Connection<S>) -> Result<Vec<R
     requires older { (state S.Store database.old).now.schema ≡ older_schema }
     ensures rows { IfClean S.Store database.old database.new (λ s t.
         IfOk result (λ rows. IsPermutation (pairs (s.now.trees 0)) rows.items)) }
-    ensures same { IfClean S.Store database.old database.new (λ s t. OnOk result (IsUnchanged s t)) }
+    ensures same { IfClean S.Store database.old database.new (λ s t.
+        OnOk result (IsUnchanged s t)) }
     ensures refused { IfClean S.Store database.old database.new (λ s t. OnErr result (Spares s t)) }
     ensures cause { IfClean S.Store database.old database.new (λ s t.
         IfErr result (FailsToQuery older_text [] s t)) }
@@ -80,7 +83,8 @@ pub(crate) fn held_rows<S: Alter>(
     requires shelf { IsShelf (state S.Store database.old).now.schema }
     ensures rows { IfClean S.Store database.old database.new (λ s t.
         IfOk result (λ rows. IsPermutation (under digest.now (rows_of s)) rows.items)) }
-    ensures same { IfClean S.Store database.old database.new (λ s t. OnOk result (IsUnchanged s t)) }
+    ensures same { IfClean S.Store database.old database.new (λ s t.
+        OnOk result (IsUnchanged s t)) }
     ensures refused { IfClean S.Store database.old database.new (λ s t. OnErr result (Spares s t)) }
     ensures cause { IfClean S.Store database.old database.new (λ s t.
         IfErr result (FailsToQuery held_text (Text digest.now ∷ []) s t)) }
@@ -98,7 +102,8 @@ pub(crate) fn kind_rows<S: Alter>(database: &mut Connection<S>, kind: u8) -> Res
     requires shelf { IsShelf (state S.Store database.old).now.schema }
     ensures count { IfClean S.Store database.old database.new (λ s t.
         IfOk result (λ rows. length rows.items ≡ count_of kind (rows_of s))) }
-    ensures same { IfClean S.Store database.old database.new (λ s t. OnOk result (IsUnchanged s t)) }
+    ensures same { IfClean S.Store database.old database.new (λ s t.
+        OnOk result (IsUnchanged s t)) }
     ensures refused { IfClean S.Store database.old database.new (λ s t. OnErr result (Spares s t)) }
     ensures cause { IfClean S.Store database.old database.new (λ s t.
         IfErr result (FailsToQuery kind_text (Int (pos kind) ∷ []) s t)) }

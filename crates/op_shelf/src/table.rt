@@ -51,11 +51,14 @@ fn find<S: Alter>(
         result ≡ Ok false → under digest.now (rows_of s) ≡ []) }
     ensures known { IfClean S.Store database.old database.new (λ s t.
         result ≡ Ok true → IsKnown s t digest.now (entry_by digest.now body.now)) }
-    ensures other { IfClean S.Store database.old database.new (λ s t. IsErrOf result ShelfFault.BadRow
+    ensures other { IfClean S.Store database.old database.new (λ s t.
+        IsErrOf result ShelfFault.BadRow
         → HasOther (rows_of s) digest.now (entry_by digest.now body.now)) }
-    ensures same { IfClean S.Store database.old database.new (λ s t. OnOk result (IsUnchanged s t)) }
+    ensures same { IfClean S.Store database.old database.new (λ s t.
+        OnOk result (IsUnchanged s t)) }
     ensures refused { IfClean S.Store database.old database.new (λ s t. OnErr result (Spares s t)) }
-    ensures store { IfClean S.Store database.old database.new (λ s t. IsErrOf result ShelfFault.Store
+    ensures store { IfClean S.Store database.old database.new (λ s t.
+        IsErrOf result ShelfFault.Store
         → IsNotShown held_text (Text digest.now ∷ []) s t) }
     ensures crash { Survives (state S.Store database.old) (state S.Store database.new) (λ _. ⊥) }
 {
@@ -72,7 +75,8 @@ fn add<S: Alter>(database: &mut Connection<S>, digest: &str, body: &[u8]) -> Res
     ensures added { IfClean S.Store database.old database.new (λ s t.
         OnOk result (IsAdded s t (entry_by digest.now body.now))) }
     ensures refused { IfClean S.Store database.old database.new (λ s t. OnErr result (Spares s t)) }
-    ensures store { IfClean S.Store database.old database.new (λ s t. IsErrOf result ShelfFault.Store
+    ensures store { IfClean S.Store database.old database.new (λ s t.
+        IsErrOf result ShelfFault.Store
         → IsNotDone insert_text (entry_by digest.now body.now) s t) }
     ensures only { IfErr result (λ e. e ≢ ShelfFault.BadRow) }
     ensures crash { Survives (state S.Store database.old) (state S.Store database.new) (λ trees.
@@ -94,13 +98,15 @@ pub(crate) fn put_entry<S: Alter>(
         → IsPut s t digest.now (entry_by digest.now body.now)) }
     ensures known { IfClean S.Store database.old database.new (λ s t. result ≡ Ok Kept.Known
         → IsKnown s t digest.now (entry_by digest.now body.now)) }
-    ensures refused { IfClean S.Store database.old database.new (λ s t. OnErr result (KeepsAll s t)) }
+    ensures refused { IfClean S.Store database.old database.new (λ s t.
+        OnErr result (KeepsAll s t)) }
 
     // Each fault, only where it is.
     ensures bad_row { IfClean S.Store database.old database.new (λ s t.
         IsErrOf result ShelfFault.BadRow
         → HasOther (rows_of s) digest.now (entry_by digest.now body.now)) }
-    ensures store { IfClean S.Store database.old database.new (λ s t. IsErrOf result ShelfFault.Store
+    ensures store { IfClean S.Store database.old database.new (λ s t.
+        IsErrOf result ShelfFault.Store
         → IsNotKept S.Store database.old database.new digest.now
         (entry_by digest.now body.now)) }
 
