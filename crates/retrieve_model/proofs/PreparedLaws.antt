@@ -136,8 +136,12 @@ body_is_made ops c (Some form) = ap (λ (text : List ℕ). Some (syntax_of form 
 
 sending_is_made : (accepts : Accepts) (ops : List Op) (c : ContentParts)
     → sending_for ops accepts.list c ≡ made accepts (prepared_for ops c)
-sending_is_made accepts ops c = ap (λ b. let s : Sending = record { class = c.class; instance = c.instance; body =
-    b } in s) (body_is_made ops c (form_for accepts.list c.class c.syntax))
+sending_is_made accepts ops c = ap (λ b. let s : Sending = record {
+  class = c.class;
+  instance = c.instance;
+  body =
+      b;
+} in s) (body_is_made ops c (form_for accepts.list c.class c.syntax))
 
 sendings_are_made : (accepts : Accepts) (ops : List Op) (cs : List ContentParts)
     → map (sending_for ops accepts.list) cs ≡ map (made accepts) (map (prepared_for ops) cs)

@@ -21,7 +21,7 @@ use std::alloc::{AllocError, Global};
 pub struct Prepared {
     /// The instance as it is stored.
     pub content: Content,
-    /// The attributes that have another value than the content's own, in ascending tags.
+    /// What corrections change of it. Changes are put in one after another.
     pub changes: ListOf<Change>,
 }
 
