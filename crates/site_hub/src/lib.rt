@@ -29,6 +29,6 @@ pub use laws::{counters_of_corrections_rise, running_sites_that_hold_the_same_an
 pub use opened::{Opened, open};
 pub use pair::Shows;
 pub use pass::Pass;
-pub use shared::{correct, store};
+pub use shared::{correct, store, store_digested};
 pub use snapshot::{Item, Snapshot};
 pub use told::Told;

@@ -6,7 +6,7 @@ ghost use Rattle.site_state.specs.Site.{ops_of, held_at, digests_of};
 ghost use Rattle.query_model.specs.Rows.{rows_of};
 ghost use Rattle.retrieve_model.specs.Sending.{Gets};
 ghost use Rattle.site_hub.specs.Fault.{IsLookFault};
-ghost use Rattle.site_hub.specs.History.{set_of, missing_from};
+ghost use Rattle.site_hub.specs.History.{set_of, missing_from, IsHistory};
 ghost use Rattle.site_hub.specs.Hub.{HasLooked};
 
 use crate::book::{Front, HubName};
@@ -45,6 +45,13 @@ impl<H: HubName> Model for Pass<H> {
 }
 
 impl<H: HubName> Pass<H> {
+    /// What every history keeps. Nothing is done: these are facts for callers.
+    pub fn see_history(&self)
+        ensures { IsHistory H.opening self.now.seen }
+    {
+        self.seen.see_history();
+    }
+
     /// From now on a look holds all that was told.
     pub fn learn(&mut self, told: Told<H>)
         ensures longer { (self.new.seen ≡ self.old.seen) ⊎ (self.new.seen ≡ told.reached) }
