@@ -1,0 +1,44 @@
+-- What a holder keeps where it refuses.
+use Rattle.std.proofs.Common.{◌≡◌, ◌≢◌, Option, Some, None, Result, Ok, Err, refl, sym, subst, ◌∙◌}
+use Rattle.operation.specs.declared.op.Op.{Op}
+use Rattle.operation.specs.declared.taken.Taken.{Taken}
+use Rattle.site_state.specs.Site.{Map}
+use Rattle.exchange.specs.declared.fault.ExchangeFault.{ExchangeFault}
+use Rattle.exchange.specs.declared.fault.HolderFault.{HolderFault}
+use Rattle.exchange.specs.Held.{Looks, TakesIn}
+use Rattle.exchange.specs.Round.{RoundState, refusal_of, by_holder, TakesAsked}
+use Rattle.exchange_run.specs.Course.{Idles}
+
+-- who only looks changes nothing
+pub idles_of : {H : Type 0} {holds : H → Map} {alone : H → Type 0} {before after : H} {P : Map → Type 0}
+    → Looks holds alone before after P → Idles holds alone before after
+idles_of look = record {
+  grown = λ digest op e. look.was_had.until digest op (look.was_had.since digest op e);
+  stays = look.stays;
+}
+
+pub idles_same : {H : Type 0} (holds : H → Map) (alone : H → Type 0) (before after : H) → after ≡ before
+    → Idles holds alone before after
+idles_same {H = H} holds alone before after is = subst (λ (h : H). Idles holds alone before h) (sym is)
+    (record { grown = λ digest op e. e; stays = λ here. (here, refl) })
+
+-- a refused take
+refused_take : {H : Type 0} (holds : H → Map) (alone : H → Type 0) (before after : H) (op : Op)
+    (reply : Result Taken HolderFault) (fault : ExchangeFault) → Err fault ≡ by_holder reply
+    → TakesIn holds alone before op reply after → Idles holds alone before after
+refused_take holds alone before after op (Ok taken) fault e takes = absurd cc
+refused_take holds alone before after op (Err cause) fault e takes = record {
+  grown = takes.grown;
+  stays = takes.stays;
+}
+
+-- What was given and not taken leaves what the holder has.
+pub untaken : {H : Type 0} (holds : H → Map) (alone : H → Type 0) (before after : H) (op : Op) (round : RoundState)
+    (fault : ExchangeFault) (r : Option ExchangeFault) → refusal_of round op ≡ r
+    → (refusal_of round op ≢ None → after ≡ before)
+    → (refusal_of round op ≡ None → TakesAsked holds alone before op (Err fault) after)
+    → Idles holds alone before after
+untaken holds alone before after op round fault None e other taken =
+    let t = taken e in refused_take holds alone before after op t.reply fault t.answered t.takes
+untaken holds alone before after op round fault (Some f) e other taken =
+    idles_same holds alone before after (other (λ none. let clash : Some f ≡ None = sym e ∙ none in absurd cc))

@@ -1,0 +1,4 @@
+pub mod Holders
+pub mod Readings
+pub mod Runs
+pub mod Writings

@@ -1,0 +1,5 @@
+pub mod Tasks
+pub mod Course
+pub mod Hearing
+pub mod Saying
+pub mod Run

@@ -1,0 +1,26 @@
+-- How frames are written to a device, and why they were not.
+use Rattle.std.specs.Prelude.{◌≡◌, ℕ, List, ◌++◌, Option, true, ⊤}
+use Rattle.std.specs.List.{list_any}
+use Rattle.std.specs.Io.KnownBytes.{Appends}
+use Rattle.exchange.specs.declared.fault.ExchangeFault.{ExchangeFault}
+use Rattle.exchange.specs.declared.fault.ExchangeFault.TheVariants.{BadFrame, TooLong, Stranger, Io, Memory, Turns, Refused}
+use Rattle.exchange.specs.declared.frame.Frame.{Frame}
+use Rattle.exchange.specs.Writing.{is_too_long}
+
+-- these come first in all
+abbrev pub IsFront : List ℕ → List ℕ → Type 0
+IsFront bytes all = (more : List ℕ) × (all ≡ bytes ++ more)
+
+-- A front of a text was written.
+abbrev pub WroteFront : Option (List ℕ) → Option (List ℕ) → List ℕ → Type 0
+WroteFront w0 w1 text = (out : List ℕ) × Appends w0 w1 out × IsFront out text
+
+-- Why frames were not written: the device failed, memory was refused, or one of them is longer than is written.
+abbrev pub WhyUnsaid : List Frame → ExchangeFault → Type 0
+WhyUnsaid frames BadFrame = ⊥
+WhyUnsaid frames TooLong = list_any is_too_long frames ≡ true
+WhyUnsaid frames Stranger = ⊥
+WhyUnsaid frames Io = ⊤
+WhyUnsaid frames Memory = ⊤
+WhyUnsaid frames Turns = ⊥
+WhyUnsaid frames Refused = ⊥

@@ -1,0 +1,16 @@
+//! An exchange with a peer, from its first frame to its last, over any reader, writer and holder.
+//!
+//! What a frame calls for is one table, `specs/Tasks.antt`, and what a side says then it says over a
+//! set that its holder has: `specs/Course.antt`. `Side` is that as a machine, to which frames come
+//! and which says frames. `run_exchange` reads and writes them.
+#![tactic(auto)]
+
+mod hearing;
+mod role;
+mod run;
+mod saying;
+mod side;
+mod task;
+
+pub use role::{Ended, Role};
+pub use run::run_exchange;

@@ -1,0 +1,24 @@
+//! The sides of an exchange, and how it ends.
+
+/// Which side of a connection takes part in an exchange.
+#[derive(Clone, Copy, Debug, PartialEq, Eq)]
+pub enum Role {
+    /// The side that connected. It says HELLO first, and is the first to offer.
+    Caller,
+    /// The side that was connected to. It answers a HELLO; with a peer that begins with BUCKETS it
+    /// speaks version 1.
+    Callee,
+    /// A caller that speaks version 1: it says no HELLO and hears none.
+    OldCaller,
+}
+
+/// How an exchange ended.
+#[derive(Clone, Copy, Debug, PartialEq, Eq)]
+pub struct Ended {
+    /// How many operations were given.
+    pub given: u64,
+    /// How many operations were taken that were new to the holder.
+    pub taken: u64,
+    /// Whether all the operations that this side asked for were given to it.
+    pub finished: bool,
+}
