@@ -53,7 +53,7 @@ told_at f (suc n) a zero lt = let e : a ≡ a + 0 = omega arith in ap f e
 told_at f (suc n) a (suc p) lt = let e : (a + 1) + p ≡ a + suc p = omega arith in told_at f n (a + 1) p (omega arith)
     ∙ ap f e
 
-bucket_at : (ds : List (List ℕ)) (p : ℕ) → p < BUCKET_COUNT → get_or (bucket_list ds) p [] ≡ bucket_of ds p
+pub bucket_at : (ds : List (List ℕ)) (p : ℕ) → p < BUCKET_COUNT → get_or (bucket_list ds) p [] ≡ bucket_of ds p
 unfolding bucket_list
 bucket_at ds p lt = let e : 0 + p ≡ p = omega arith in told_at (bucket_of ds) BUCKET_COUNT 0 p lt ∙ ap (bucket_of ds) e
 
@@ -85,7 +85,7 @@ spoken_held version d (e ∷ es) h = spoken_part version d e es (filter (λ x. i
     (is_spoken version e.1) h (spoken_held version d es)
 
 -- what is offered is held
-offered_held : (version : Version) (m : Map) (d : List ℕ) → Has (offered version m) d → (p : Op)
+pub offered_held : (version : Version) (m : Map) (d : List ℕ) → Has (offered version m) d → (p : Op)
     × (held_at m d ≡ Some p)
 offered_held version m d h = let found = spoken_held version d (entries m) h in
     (found.0, sym (held_entries m d) ∙ found.1)

@@ -36,6 +36,7 @@ use Rattle.exchange_run.specs.Saying.{WroteFront, WhyUnsaid}
 use Rattle.exchange_run.specs.Run.{Ends, ends, NoneFailed, CountsFailures, Exchanged, BrokeOff}
 use Rattle.exchange_run.specs.Run.{Sofar, Turned}
 use Rattle.exchange_run.proofs.Holders.{idles_same}
+use Rattle.exchange_run.proofs.Outcomes.{outcome_of}
 
 -- ---- texts
 
@@ -227,6 +228,7 @@ module _ {H : Type 0} (holds : H → Map) (alone : H → Type 0) (role : Role) (
     side = side;
     mid = h;
     talk = so.talk;
+    comes_to = outcome_of holds alone role from.holder so.heard so.told side h so.talk;
     idle = idles_same holds alone h h refl;
     rest = u.text;
     read = Consumes-trans from.left r0 r1 (texts so.heard) u.text so.read u.read;
@@ -252,6 +254,7 @@ module _ {H : Type 0} (holds : H → Map) (alone : H → Type 0) (role : Role) (
           side = side;
           mid = h;
           talk = so.talk;
+          comes_to = outcome_of holds alone role from.holder so.heard so.told side h so.talk;
           idle = idle;
           rest = text_of frame;
           read = Consumes-trans from.left r0 r1 (texts so.heard) (text_of frame) so.read heard.read;
@@ -310,6 +313,7 @@ module _ {H : Type 0} (holds : H → Map) (alone : H → Type 0) (role : Role) (
         side = u;
         mid = k;
         talk = talk_too;
+        comes_to = outcome_of holds alone role from.holder (so.heard ++ frame ∷ []) (so.told ++ more) u k talk_too;
         idle = idles_same holds alone k k refl;
         rest = [];
         read = subst (λ (t : List ℕ). Consumes from.left r1 t) (sym (append-nil (texts (so.heard ++ frame ∷ []))))
@@ -371,6 +375,7 @@ module _ {H : Type 0} (holds : H → Map) (alone : H → Type 0) (role : Role) (
     side = s;
     mid = k;
     talk = opening;
+    comes_to = outcome_of holds alone role h [] told s k opening;
     idle = idles_same holds alone k k refl;
     rest = [];
     read = Consumes-nil left;
@@ -400,19 +405,24 @@ pub ended : {H : Type 0} (holds : H → Map) (alone : H → Type 0) (role : Role
     (reads n : ℕ) (e : Ended) → Sofar holds alone role from to side reads n → side.awaited ≡ awaits.Nothing
     → e.given ≡ side.given → e.taken ≡ side.taken → (IsTrue e.finished ↔ IsFinished side.round)
     → Exchanged holds alone role from to e
-ended holds alone role from to side reads n e so over given taken finished = record {
-  heard = so.heard;
-  told = so.told;
-  side = side;
-  talk = so.talk;
-  over = over;
-  read = so.read;
-  wrote = so.wrote;
-  given = given;
-  taken = taken;
-  finished = finished;
-  failed = so.failed;
-}
+ended holds alone role from to side reads n e so over given taken finished =
+    let comes_to = outcome_of holds alone role from.holder so.heard so.told side to.holder so.talk in
+    record {
+      heard = so.heard;
+      told = so.told;
+      side = side;
+      talk = so.talk;
+      comes_to = comes_to;
+      over = over;
+      read = so.read;
+      wrote = so.wrote;
+      given = given;
+      taken = taken;
+      finished = (λ is. comes_to.finished.0 (finished.0 is), λ all. finished.1 (comes_to.finished.1 all));
+      have = λ is. comes_to.have (finished.0 is);
+      shown = λ is. comes_to.shown (finished.0 is);
+      failed = so.failed;
+    }
 
 -- It has no end.
 pub endless : {H : Type 0} (holds : H → Map) (alone : H → Type 0) (role : Role) (from to : Ends H) (side : Side)
@@ -424,6 +434,7 @@ endless holds alone role from to side reads n many so = inr (record {
   side = side;
   mid = to.holder;
   talk = so.talk;
+  comes_to = outcome_of holds alone role from.holder so.heard so.told side to.holder so.talk;
   idle = idles_same holds alone to.holder to.holder refl;
   rest = [];
   read = subst (λ (t : List ℕ). Consumes from.left to.left t) (sym (append-nil (texts so.heard))) so.read;

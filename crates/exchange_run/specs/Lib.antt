@@ -2,4 +2,5 @@ pub mod Tasks
 pub mod Course
 pub mod Hearing
 pub mod Saying
+pub mod Laws
 pub mod Run

@@ -7,7 +7,6 @@ use Rattle.exchange.specs.declared.fault.ExchangeFault.{ExchangeFault}
 use Rattle.exchange.specs.declared.fault.ExchangeFault.TheVariants.{BadFrame, TooLong, Stranger, Io, Memory, Turns, Refused}
 use Rattle.exchange.specs.declared.frame.Frame.{Frame}
 use Rattle.exchange.specs.Spelling.{text_of, IsFrame}
-use Rattle.exchange.specs.Round.{IsFinished}
 use Rattle.exchange_run.specs.declared.role.Role.{Role}
 use Rattle.exchange_run.specs.declared.role.Ended.{Ended}
 use Rattle.exchange_run.specs.declared.run.TheConstants.{MOST_READS}
@@ -16,6 +15,7 @@ use Rattle.exchange_run.specs.declared.task.Awaited.TheVariants as awaits
 use Rattle.exchange_run.specs.Tasks.{task_for}
 use Rattle.exchange_run.specs.Course.{Talks, Idles, IsOfHolder, Why}
 use Rattle.exchange_run.specs.Hearing.{texts, WhyUnheard}
+use Rattle.exchange_run.specs.Laws.{Outcome, IsGivenAll, HoldsWhatWasOffered, HoldsWhatWasShown}
 use Rattle.exchange_run.specs.Saying.{IsFront, WhyUnsaid}
 
 -- the holder, what the reader has left, what the writer holds, and how often each of the devices failed
@@ -60,12 +60,15 @@ pub record Exchanged {H : Type 0} (holds : H → Map) (alone : H → Type 0) (ro
   pub told : List Frame
   pub side : Side
   pub talk : Talks holds alone role from.holder heard told side to.holder
+  pub comes_to : Outcome holds alone from.holder heard told side to.holder
   pub over : side.awaited ≡ awaits.Nothing
   pub read : Consumes from.left to.left (texts heard)
   pub wrote : Appends from.written to.written (texts told)
   pub given : ended.given ≡ side.given
   pub taken : ended.taken ≡ side.taken
-  pub finished : IsTrue ended.finished ↔ IsFinished side.round
+  pub finished : IsTrue ended.finished ↔ IsGivenAll heard told
+  pub have : IsTrue ended.finished → HoldsWhatWasOffered (holds to.holder) heard
+  pub shown : IsTrue ended.finished → HoldsWhatWasShown side.round.version (holds to.holder) heard told
   pub failed : NoneFailed from to
 
 -- ---- an exchange that was broken off
@@ -86,6 +89,7 @@ pub record Broke {H : Type 0} (holds : H → Map) (alone : H → Type 0) (role :
   pub side : Side
   pub mid : H
   pub talk : Talks holds alone role from.holder heard told side mid
+  pub comes_to : Outcome holds alone from.holder heard told side mid
   pub idle : Idles holds alone mid to.holder
   pub rest : List ℕ
   pub read : Consumes from.left to.left (texts heard ++ rest)

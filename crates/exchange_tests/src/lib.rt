@@ -7,3 +7,5 @@
 mod frames;
 #[cfg(test)]
 mod rounds;
+#[cfg(test)]
+mod runs;
