@@ -1,0 +1,18 @@
+//! A server of one running site: associations over TCP, with a shelf (PS3.8, section 9.1).
+//!
+//! Each worker has a thread, a gate and a pass of the hub, and serves associations that it accepts
+//! on a listener that all share. The thread that calls keeps the shelf. A content that an
+//! association stores is put on the shelf, then taken by the hub, then answered.
+#![tactic(auto)]
+
+mod fault;
+mod keeping;
+mod message;
+mod port;
+mod serve;
+mod worker;
+
+pub use fault::ServeFault;
+pub use message::Shelved;
+pub use port::ServerPort;
+pub use serve::{Served, serve_on};
