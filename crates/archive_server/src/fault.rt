@@ -1,15 +1,39 @@
 //! Why something was not served.
 
+ghost use Rattle.std.specs.Prelude.{◌≡◌};
+ghost use Rattle.archive_server.specs.Fault.{number_of};
+
 use association_run::RunFault;
+
+/// What the network refused.
+#[derive(Clone, Copy, Debug, PartialEq, Eq)]
+pub enum NetFault {
+    /// To listen at an address.
+    Listen,
+    /// To accept an association.
+    Accept,
+    /// To connect to a peer.
+    Connect,
+}
+
+impl NetFault {
+    /// The public number of the fault.
+    pub fn number(self) -> u8
+        ensures { result ≡ number_of self }
+    {
+        match self {
+            NetFault::Listen => 1,
+            NetFault::Accept => 2,
+            NetFault::Connect => 3,
+        }
+    }
+}
 
 /// Why an association, or an accept, ended early.
 #[derive(Clone, Copy, Debug, PartialEq, Eq)]
 pub enum ServeFault {
     /// An association ended with this fault, or a worker's thread was refused: then of memory.
     Run(RunFault),
-    /// The network refused: 1 to listen, 2 to accept, 3 to connect.
-    Net(u8),
+    /// The network refused.
+    Net(NetFault),
 }
-
-/// The number of a failed accept in `ServeFault::Net`.
-pub(crate) const ACCEPT: u8 = 2;

@@ -12,7 +12,7 @@ mod port;
 mod serve;
 mod worker;
 
-pub use fault::ServeFault;
+pub use fault::{NetFault, ServeFault};
 pub use message::Shelved;
 pub use port::ServerPort;
 pub use serve::{Served, serve_on};

@@ -4,7 +4,7 @@ ghost use Rattle.std.specs.Prelude.{◌≡◌, ◌+◌, ◌-◌, ◌<◌, ◌^�
 ghost use Rattle.std.specs.Option.{option_or};
 ghost use Rattle.archive_server.specs.Serving.{IsOnward};
 
-use crate::fault::{ACCEPT, ServeFault};
+use crate::fault::{NetFault, ServeFault};
 use crate::message::Request;
 use crate::port::ServerPort;
 use archive_model::View;
@@ -121,10 +121,10 @@ fn with_none<H: HubName>(mut done: Done<H>) -> Done<H>
     ensures pass { result.pass ≡ done.pass }
     ensures accepted { result.accepted ≡ done.accepted }
     ensures failed { result.failed ≡ done.failed + 1 }
-    ensures fault { result.fault ≡ option_or done.fault (Some (ServeFault.Net ACCEPT)) }
+    ensures fault { result.fault ≡ option_or done.fault (Some (ServeFault.Net NetFault.Accept)) }
 {
     done.failed += 1;
-    done.fault = done.fault.or(Some(ServeFault::Net(ACCEPT)));
+    done.fault = done.fault.or(Some(ServeFault::Net(NetFault::Accept)));
     done
 }
 
