@@ -2,6 +2,7 @@
 ghost use Rattle.std.specs.Prelude.{◌≡◌};
 
 use crate::made::{NAME, accepts, correction, found, image, name, query, selection, study};
+use crate::ports::{associates, holds};
 use archive_model::View;
 use archive_query::Query;
 use operation::{Digested, Op, Taken};
@@ -26,6 +27,10 @@ enum Row {
     Corrects(u64),
     /// One pass stores within a second thread, while the other waits.
     Waits,
+    /// One association stores and looks, and the other pass looks.
+    Associates,
+    /// One association is held within its store, while another stores and finds.
+    Holds,
 }
 
 fn run<H: HubName + Send + Sync, R: Threads + Wait + Abort + Sync>(
@@ -54,6 +59,8 @@ fn run<H: HubName + Send + Sync, R: Threads + Wait + Abort + Sync>(
         Row::Finds(most) => finds(rt, alloc, &keeper, &mut one, &mut two, most),
         Row::Corrects(counter) => corrects(rt, alloc, &keeper, &mut one, counter),
         Row::Waits => waits(rt, alloc, &keeper, one, two),
+        Row::Associates => associates(rt, alloc, &keeper, one, &mut two),
+        Row::Holds => holds(rt, alloc, &keeper, one, two),
     }
 }
 
@@ -86,6 +93,20 @@ fn a_thread_stores_and_finds_while_another_waits(rt: HostRuntime) -> Result<(), 
     let alloc = rt.alloc();
     let opened = open(alloc, &rt, Site::new(alloc), 1, 2)?;
     run::<Brand, _>(&rt, alloc, opened, Row::Waits)
+}
+
+#[test]
+fn a_long_association_is_seen_by_another_pass(rt: HostRuntime) -> Result<(), Fail> {
+    let alloc = rt.alloc();
+    let opened = open(alloc, &rt, Site::new(alloc), 1, 2)?;
+    run::<Brand, _>(&rt, alloc, opened, Row::Associates)
+}
+
+#[test]
+fn an_association_stores_and_finds_while_another_is_held(rt: HostRuntime) -> Result<(), Fail> {
+    let alloc = rt.alloc();
+    let opened = open(alloc, &rt, Site::new(alloc), 1, 2)?;
+    run::<Brand, _>(&rt, alloc, opened, Row::Holds)
 }
 
 type Shared<'a, H, R> = Mutex<Keeper<H, Snapshot<H>, &'a R>>;
