@@ -9,13 +9,14 @@ use Rattle.archive_server.specs.declared.fault.ServeFault.{ServeFault}
 use Rattle.archive_server.specs.declared.fault.ServeFault.TheVariants.{Run as of_run, Net as of_net}
 use Rattle.archive_server.specs.Fault.{number_of as number_of_net}
 use Rattle.shelved_site.specs.declared.fault.ShelvedFault.{ShelvedFault}
-use Rattle.shelved_site.specs.declared.fault.ShelvedFault.TheVariants.{Shelf as of_shelf, Site as of_site, Hub as of_hub}
+use Rattle.shelved_site.specs.declared.fault.ShelvedFault.TheVariants.{Shelf as of_shelf, Site as of_site}
+use Rattle.shelved_site.specs.declared.fault.ShelvedFault.TheVariants.{Hub as of_hub}
 use Rattle.archive_app.specs.declared.ending.CommandFault.{CommandFault}
 use Rattle.archive_app.specs.declared.ending.CommandFault.TheVariants.{Simulate, Shelf, Site, Hub, Run, Net}
 
 -- the line of a fault: whose it is, and its public number there, which is below 10
 abbrev pub fault_line : List ℕ → ℕ → List ℕ
-fault_line whose number = codes "fault " ++ (whose ++ (32 ∷ 48 + number ∷ []))
+fault_line whose number = codes "fault " ++ (whose ++ (32 ∷ (48 + number) ∷ []))
 
 -- the line on standard error of a command that did not do what it was asked for
 abbrev pub line_of_fault : CommandFault → List ℕ

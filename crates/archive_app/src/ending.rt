@@ -198,7 +198,8 @@ fn line_of(fault: CommandFault) -> &'static str
     }
 }
 
-/// Status 0 and no line where a command did what it was asked for, else the line of its fault and 1.
+/// Status 0 and no line where a command did what it was asked for, else 1 and the line of its
+/// fault.
 pub fn ending_of(ended: Result<(), CommandFault>) -> Ending
     // The line on standard error.
     ensures silent { OnOk ended (result.line.now ≡ []) }

@@ -57,8 +57,8 @@ fn put_all_flagged(out: &mut Vec<u8>, uids: &[Octets]) -> Result<(), AllocError>
     Ok(())
 }
 
-/// The lines of a report: how many operations there are of each kind, each flagged UID, and how many
-/// of these there are.
+/// The lines of a report: how many operations there are of each kind, each flagged UID, and how
+/// many of these there are.
 pub fn lines_of(alloc: Global, report: &Report) -> Result<Vec<u8>, AllocError>
     ensures { IfOk result (λ text. text.items ≡ report_lines report.now) }
 {

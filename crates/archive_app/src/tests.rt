@@ -8,9 +8,12 @@ use operation::{Op, Stamp, Target, correction_of, digest, encode};
 use sqlite::{Alter, Connection, params};
 use std::alloc::Global;
 use std::fs;
+use std::io::Print;
+use std::net::{Net, TcpListener, TcpStream};
 use std::rt::HostRuntime;
 use std::sync::Wait;
 use std::test::Fail;
+use std::thread::Threads;
 
 /// The status with which a command line is refused, if it is.
 fn refused(alloc: Global, line: &str) -> Result<Option<u8>, Fail> {
@@ -27,6 +30,12 @@ fn command_lines_of_no_form_are_refused_with_2(rt: HostRuntime) -> Result<(), Fa
     for line in [
         "archive",
         "archive serve-all",
+        "archive serve a.db",
+        "archive serve a.db --listen 127.0.0.1 --workers 1 --each 1",
+        "archive serve a.db --listen localhost:1 --workers 1 --each 1",
+        "archive serve a.db --listen 127.0.0.1:1 --workers 0 --each 1",
+        "archive serve a.db --listen 127.0.0.1:1 --workers 33 --each 1",
+        "archive serve a.db --listen 127.0.0.1:1 --workers 1 --each 4294967296",
         "archive report",
         "archive report a.db b.db",
         "archive correct a.db study 1.2.1 00100010 ROE^ANN",
@@ -43,6 +52,7 @@ fn command_lines_of_no_form_are_refused_with_2(rt: HostRuntime) -> Result<(), Fa
         "archive simulate",
         "archive report a.db",
         "archive correct a.db --site 65535 series 1.2.1.1 0008103E HEAD",
+        "archive serve a.db --listen 127.0.0.1:1 --workers 32 --each 4294967295",
     ] {
         assert_eq!(rt; refused(alloc, line)?, None, "{line}");
     }
@@ -51,12 +61,16 @@ fn command_lines_of_no_form_are_refused_with_2(rt: HostRuntime) -> Result<(), Fa
 }
 
 /// What a command line that has a form prints, on standard output or as the line of its fault.
-fn said(rt: &HostRuntime, wait: &impl Wait, line: &str) -> Result<Vec<u8>, Fail> {
+fn said<R: Net<Listener = TcpListener, Stream = TcpStream> + Threads + Wait + Print + Sync>(
+    rt: &HostRuntime,
+    host: &R,
+    line: &str,
+) -> Result<Vec<u8>, Fail> {
     let words: Vec<&str> = line.split(' ').collect(rt.alloc())?;
     let Ok(asked) = read_words(rt.alloc(), words.as_slice()) else {
         return Err(Fail::from("the command line was refused"));
     };
-    match answer(rt, wait, asked) {
+    match answer(rt, host, asked)? {
         Ok(text) => Ok(text),
         Err(fault) => {
             let ending = ending_of(Err(fault));
@@ -66,15 +80,15 @@ fn said(rt: &HostRuntime, wait: &impl Wait, line: &str) -> Result<Vec<u8>, Fail>
 }
 
 /// What is said of a command whose first argument is a file.
-fn said_of(
+fn said_of<R: Net<Listener = TcpListener, Stream = TcpStream> + Threads + Wait + Print + Sync>(
     rt: &HostRuntime,
-    wait: &impl Wait,
+    host: &R,
     command: &str,
     file: &str,
     rest: &str,
 ) -> Result<Vec<u8>, Fail> {
     let line = format!(in rt.alloc(); "archive {command} {file}{rest}")?;
-    said(rt, wait, line.as_str())
+    said(rt, host, line.as_str())
 }
 
 /// A new folder, and the path of a file in it, which is not there.
