@@ -1,5 +1,6 @@
 -- What an exchange comes to, frame by frame.
-use Rattle.std.proofs.Common.{inl, inr, ◌≡◌, ◌<◌, ◌≤◌, ◌+◌, ℕ, zero, suc, eqb, arith, List, [], ◌∷◌, ◌++◌, Bool, true, false, cond, Option, Some, None}
+use Rattle.std.proofs.Common.{inl, inr, ◌≡◌, ◌<◌, ◌≤◌, ◌+◌, ℕ, zero, suc, eqb, arith, List, [], ◌∷◌, ◌++◌, Bool, true}
+use Rattle.std.proofs.Common.{false, cond, Option, Some, None}
 use Rattle.std.proofs.Common.{Result, Ok, Err, refl, sym, ap, subst, ◌∙◌, append_assoc, append-nil}
 use Rattle.std.specs.Prelude.{◌⊎◌, ◌==◌, OnOk, is_some, IsSome, not, if◌then◌else◌, ⊤}
 use Rattle.std.specs.List.{range_with_len}
@@ -101,8 +102,8 @@ abbrev pub Compared : Version → Map → List (List ℕ) → List ℕ → Type 
 Compared version after buckets places =
     (m : Map) × HasGrown m after × (places ≡ unequal (bucket_list (offered version m)) buckets)
 
-record Knows {H : Type 0} (holds : H → Map) (alone : H → Type 0) (start : H) (heard told : List Frame) (t : Side) (k : H)
-    : Type 0 where
+record Knows {H : Type 0} (holds : H → Map) (alone : H → Type 0) (start : H) (heard told : List Frame) (t : Side)
+    (k : H) : Type 0 where
   grown : HasGrown (holds start) (holds k)
   only : alone start → alone k × GainsOnlyGiven (holds start) heard told (holds k)
   asked : (d : List ℕ) → IsAsked d t.round → WasAsked told d
@@ -253,7 +254,8 @@ some_asked (Some b) e = (b, refl)
 module _ {H : Type 0} (holds : H → Map) (alone : H → Type 0) (start : H) (heard told : List Frame) (s : Side) (h : H)
     (know : Knows holds alone start heard told s h) (frame : Frame) (more : List Frame) (t : Side) (k : H) where
   knows_begin : (version : Version) → Fits s.role s.awaited (tasks.Begin version) frame
-      → Does holds alone (tasks.Begin version) s h more t k → Knows holds alone start (heard ++ frame ∷ []) (told ++ more) t k
+      → Does holds alone (tasks.Begin version) s h more t k
+      → Knows holds alone start (heard ++ frame ∷ []) (told ++ more) t k
   knows_begin version fit does =
       let was = know.fresh fit.2 in
       let still = fresh_still holds alone start heard told s h know frame more t k was
@@ -270,7 +272,8 @@ module _ {H : Type 0} (holds : H → Map) (alone : H → Type 0) (start : H) (he
       (λ l. still)
 
   knows_meet : (version : Version) → Fits s.role s.awaited (tasks.Meet version) frame
-      → Does holds alone (tasks.Meet version) s h more t k → Knows holds alone start (heard ++ frame ∷ []) (told ++ more) t k
+      → Does holds alone (tasks.Meet version) s h more t k
+      → Knows holds alone start (heard ++ frame ∷ []) (told ++ more) t k
   knows_meet version fit does =
       let was = know.fresh fit.2 in
       let still = fresh_still holds alone start heard told s h know frame more t k was
@@ -287,7 +290,8 @@ module _ {H : Type 0} (holds : H → Map) (alone : H → Type 0) (start : H) (he
       (λ l. still)
 
   knows_compare : (buckets : List (List ℕ)) → Fits s.role s.awaited (tasks.Compare buckets) frame
-      → Does holds alone (tasks.Compare buckets) s h more t k → Knows holds alone start (heard ++ frame ∷ []) (told ++ more) t k
+      → Does holds alone (tasks.Compare buckets) s h more t k
+      → Knows holds alone start (heard ++ frame ∷ []) (told ++ more) t k
   knows_compare buckets fit does =
       quiet holds alone start heard told s h know frame more t k
       (λ d. ap (λ (x : Side). asked_at d x.round) does.0)
@@ -320,7 +324,8 @@ module _ {H : Type 0} (holds : H → Map) (alone : H → Type 0) (start : H) (he
           )
 
   knows_offer : (places : List ℕ) → Fits s.role s.awaited (tasks.Offer places) frame
-      → Does holds alone (tasks.Offer places) s h more t k → Knows holds alone start (heard ++ frame ∷ []) (told ++ more) t k
+      → Does holds alone (tasks.Offer places) s h more t k
+      → Knows holds alone start (heard ++ frame ∷ []) (told ++ more) t k
   knows_offer places fit does =
       quiet holds alone start heard told s h know frame more t k
       (λ d. ap (λ (x : Side). asked_at d x.round) does.0)
@@ -338,7 +343,8 @@ module _ {H : Type 0} (holds : H → Map) (alone : H → Type 0) (start : H) (he
       (λ w q. let c : Want w ≡ Have _ = one_is _ (Want w) more does.1.answers q in absurd cc))
 
   knows_give : (want : List (List ℕ)) → Fits s.role s.awaited (tasks.Give want) frame
-      → Does holds alone (tasks.Give want) s h more t k → Knows holds alone start (heard ++ frame ∷ []) (told ++ more) t k
+      → Does holds alone (tasks.Give want) s h more t k
+      → Knows holds alone start (heard ++ frame ∷ []) (told ++ more) t k
   unfolding gift_or_end
   knows_give want fit does =
       quiet holds alone start heard told s h know frame more t k
@@ -385,7 +391,8 @@ module _ {H : Type 0} (holds : H → Map) (alone : H → Type 0) (start : H) (he
       (λ l. let c : false ≡ true = sym (ap (λ (x : Side). later x.role x.awaited) does.0) ∙ l in absurd cc)
 
   knows_ask : (x : List (List ℕ)) → Fits s.role s.awaited (tasks.Ask x) frame
-      → Does holds alone (tasks.Ask x) s h more t k → Knows holds alone start (heard ++ frame ∷ []) (told ++ more) t k
+      → Does holds alone (tasks.Ask x) s h more t k
+      → Knows holds alone start (heard ++ frame ∷ []) (told ++ more) t k
   knows_ask x fit a = record {
     grown = λ d op e. idle.grown d op (know.grown d op e);
     only = λ here. let was = know.only here in let stays = idle.stays was.0 in (
@@ -488,7 +495,8 @@ module _ {H : Type 0} (holds : H → Map) (alone : H → Type 0) (start : H) (he
           have_or d (subst (λ (l : List (List ℕ)). Has l d) is has) (held_at a.looks.had d) refl
 
   knows_take : (op : Op) → Fits s.role s.awaited (tasks.Take op) frame
-      → Does holds alone (tasks.Take op) s h more t k → Knows holds alone start (heard ++ frame ∷ []) (told ++ more) t k
+      → Does holds alone (tasks.Take op) s h more t k
+      → Knows holds alone start (heard ++ frame ∷ []) (told ++ more) t k
   knows_take op fit d = record {
     grown = λ x o e. takes.grown x o (know.grown x o e);
     only = λ here. let was = know.only here in let stays = takes.stays was.0 in (
@@ -506,7 +514,8 @@ module _ {H : Type 0} (holds : H → Map) (alone : H → Type 0) (start : H) (he
         ∙ fit.0 in absurd cc) p) q);
     shown = shown_still holds alone start heard told s h know frame more t k (ap (λ (y : Side). y.round.version) d.same)
         takes.grown (λ b e. let c : Give op ≡ Buckets b = sym fit.0 ∙ e in absurd cc);
-    fresh = λ l. let c : false ≡ true = sym fit.1 ∙ sym (ap (λ (y : Side). later y.role y.awaited) d.same) ∙ l in absurd cc;
+    fresh = λ l. let c : false ≡ true = sym fit.1 ∙ sym (ap (λ (y : Side). later y.role y.awaited) d.same) ∙ l in
+        absurd cc;
   }
     where
       own : List ℕ
@@ -523,7 +532,8 @@ module _ {H : Type 0} (holds : H → Map) (alone : H → Type 0) (start : H) (he
           by (Err f) e = absurd cc
 
       is_there : (b : Bool) × (asked_at own s.round ≡ Some b)
-      is_there = some_asked (asked_at own s.round) (asked_of (is_spoken s.round.version op) (is_some (asked_at own s.round))
+      is_there = some_asked (asked_at own s.round) (asked_of (is_spoken s.round.version op)
+          (is_some (asked_at own s.round))
           d.asked)
 
       after : (x : List ℕ) → asked_at x t.round ≡ cond (is_at (digest_cmp own) x) (Some true) (asked_at x s.round)
@@ -626,7 +636,8 @@ module _ {H : Type 0} (holds : H → Map) (alone : H → Type 0) (start : H) (he
 
 -- ---- all of it
 
-knows_all : {H : Type 0} (holds : H → Map) (alone : H → Type 0) (start : H) (before said : List Frame) (s : Side) (h : H)
+knows_all : {H : Type 0} (holds : H → Map) (alone : H → Type 0) (start : H) (before said : List Frame) (s : Side)
+    (h : H)
     → Knows holds alone start before said s h → (heard told : List Frame) (t : Side) (k : H)
     → DoesAll holds alone s h heard told t k → Knows holds alone start (before ++ heard) (said ++ told) t k
 knows_all {H = H} holds alone start before said s h know [] told t k d =
@@ -657,7 +668,8 @@ module _ {H : Type 0} (holds : H → Map) (alone : H → Type 0) (h k : H) (told
         λ d op e. inl (ap (λ (m : Map). held_at m d) (sym stays.1)
             ∙ e),
       );
-      asked = λ d p. absurd (let c : None ≡ Some p.0 = sym (ap (λ (es : List (List ℕ × Bool)). asked_in d es) none) ∙ p.1
+      asked = λ d p. absurd (let c : None ≡ Some p.0 = sym (ap (λ (es : List (List ℕ × Bool)). asked_in d es) none)
+          ∙ p.1
           in cc);
       awaited = λ d p. absurd (no_want p.0 p.1);
       given = λ d e. absurd (let c : None ≡ Some true = sym (ap (λ (es : List (List ℕ × Bool)). asked_in d es) none) ∙ e
@@ -709,7 +721,8 @@ negated false e = absurd cc
 eqb_itself : (n : ℕ) → eqb n n ≡ true
 eqb_itself n = grind arith
 
-module _ {H : Type 0} (holds : H → Map) (alone : H → Type 0) (before : H) (heard told : List Frame) (side : Side) (k : H)
+module _ {H : Type 0} (holds : H → Map) (alone : H → Type 0) (before : H) (heard told : List Frame) (side : Side)
+    (k : H)
     (know : Knows holds alone before heard told side k) where
   given_by : (d : List ℕ) (b : Bool) → asked_at d side.round ≡ Some b → IsFinished side.round → WasGiven heard d
   given_by d true e finished = know.given d e
@@ -751,7 +764,8 @@ module _ {H : Type 0} (holds : H → Map) (alone : H → Type 0) (before : H) (h
           let there = has_filter (is_unequal (bucket_list (offered side.round.version m)) (bucket_list theirs))
           (range_with_len 0 256) place (places_has 256 0 place (omega arith)
           (omega (arith, bytes d has))) e in
-          let in_places = has_any (λ q. q == place) was.0 place (subst (λ (l : List ℕ). Has l place) (sym was.2.2) there)
+          let in_places = has_any (λ q. q == place) was.0 place (subst (λ (l : List ℕ). Has l place) (sym was.2.2)
+          there)
           (eqb_itself place) in
           let offer = offers was.0 was.1 d has in_places in
           had_all finished offer.0 offer.1 d offer.2
@@ -774,7 +788,8 @@ module _ {H : Type 0} (holds : H → Map) (alone : H → Type 0) (before : H) (h
     shown = shown_all;
   }
 
-pub outcome_of : {H : Type 0} (holds : H → Map) (alone : H → Type 0) (role : Role) (before : H) (heard told : List Frame)
+pub outcome_of : {H : Type 0} (holds : H → Map) (alone : H → Type 0) (role : Role) (before : H)
+    (heard told : List Frame)
     (side : Side) (k : H) → Talks holds alone role before heard told side k
     → Outcome holds alone before heard told side k
 outcome_of holds alone role before heard told side k talk = outcome holds alone before heard told side k

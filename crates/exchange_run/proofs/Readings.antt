@@ -1,5 +1,6 @@
 -- A header and a body that are read one after the other.
-use Rattle.std.proofs.Common.{inl, inr, ◌≡◌, ◌≤◌, ◌<◌, ◌+◌, ℕ, List, [], ◌∷◌, ◌++◌, length, slice_index, Option, Some, None, Ok}
+use Rattle.std.proofs.Common.{inl, inr, ◌≡◌, ◌≤◌, ◌<◌, ◌+◌, ℕ, List, [], ◌∷◌, ◌++◌, length, slice_index, Option, Some}
+use Rattle.std.proofs.Common.{None, Ok}
 use Rattle.std.proofs.Common.{refl, sym, ap, subst, arith}
 use Rattle.std.specs.Int.{w32, from_be_bytes}
 use Rattle.std.specs.Io.KnownBytes.{Consumes}
@@ -7,7 +8,8 @@ use Rattle.std.proofs.KnownBytes.{Consumes-trans}
 use Rattle.std.proofs.lemmas.List.{length-append}
 use Rattle.octets.specs.Gives.{Told}
 use Rattle.exchange.specs.declared.fault.ExchangeFault.{ExchangeFault}
-use Rattle.exchange.specs.declared.fault.ExchangeFault.TheVariants.{BadFrame, TooLong, Stranger, Io, Memory, Turns, Refused}
+use Rattle.exchange.specs.declared.fault.ExchangeFault.TheVariants.{BadFrame, TooLong, Stranger, Io, Memory, Turns}
+use Rattle.exchange.specs.declared.fault.ExchangeFault.TheVariants.{Refused}
 use Rattle.exchange.specs.declared.fault.FrameFault.{FrameFault}
 use Rattle.exchange.specs.declared.fault.FrameFault.TheVariants as frames
 use Rattle.exchange.specs.Fault.{is_memory, of_frame}
@@ -66,7 +68,8 @@ or_none (Some f) p h e = absurd cc
 pub lawful_header : (bytes : List ℕ) (h : HeaderParts) → Ok h ≡ header_at bytes
     → header_fault h.kind h.length ≡ None
 lawful_header bytes h e =
-    let n = from_be_bytes w32 (slice_index bytes 1 ∷ slice_index bytes 2 ∷ slice_index bytes 3 ∷ slice_index bytes 4 ∷ [])
+    let n = from_be_bytes w32 (slice_index bytes 1 ∷ slice_index bytes 2 ∷ slice_index bytes 3 ∷ slice_index bytes 4
+    ∷ [])
     in
     let p = or_none (header_fault (slice_index bytes 0) n) (record { kind = slice_index bytes 0; length = n }) h e in
     subst (λ (x : HeaderParts). header_fault x.kind x.length ≡ None) (sym p.1) p.0

@@ -13,7 +13,8 @@ use Rattle.operation.specs.declared.taken.Taken.{Taken}
 use Rattle.operation.specs.declared.taken.Taken.TheVariants.{New, Known}
 use Rattle.site_state.specs.Site.{Map}
 use Rattle.exchange.specs.declared.fault.ExchangeFault.{ExchangeFault}
-use Rattle.exchange.specs.declared.fault.ExchangeFault.TheVariants.{BadFrame, TooLong, Stranger, Io, Memory, Turns, Refused}
+use Rattle.exchange.specs.declared.fault.ExchangeFault.TheVariants.{BadFrame, TooLong, Stranger, Io, Memory, Turns}
+use Rattle.exchange.specs.declared.fault.ExchangeFault.TheVariants.{Refused}
 use Rattle.exchange.specs.declared.fault.HolderFault.{HolderFault}
 use Rattle.exchange.specs.declared.fault.HolderFault.TheVariants as holders
 use Rattle.exchange.specs.declared.frame.Frame.{Frame}
@@ -299,7 +300,12 @@ module _ {H : Type 0} (holds : H → Map) (alone : H → Type 0) (role : Role) (
           ap (λ (t : List ℕ). length t) (texts_then so.heard frame),
           length-append (texts so.heard) (text_of frame),
         );
-        few = omega (arith, so.few, taken_after holds alone (task_for side.awaited frame side.role) side h more u k does);
+        few = omega (
+          arith,
+          so.few,
+          taken_after holds alone (task_for side.awaited frame side.role) side h more u k
+              does,
+        );
         failed = (same ∙ so.failed.0, fine ∙ so.failed.1);
       }
 

@@ -42,7 +42,13 @@ first_awaited_by OldCaller = awaits.Differ
 
 -- how a side begins: at version 1, until a HELLO is heard
 abbrev pub start_of : Role → Side
-start_of role = record { role = role; awaited = first_awaited_by role; round = new_round version_one; given = 0; taken = 0 }
+start_of role = record {
+  role = role;
+  awaited = first_awaited_by role;
+  round = new_round version_one;
+  given = 0;
+  taken = 0;
+}
 
 -- a side that settled a version
 abbrev pub settled : Version → Side → Side
@@ -141,7 +147,8 @@ Does holds alone tasks.Rest s before told t after =
 
 -- what a side says before it hears anything
 abbrev pub SetsOut : {H : Type 0} → (H → Map) → (H → Type 0) → Role → H → List Frame → Side → H → Type 0
-SetsOut holds alone Caller before told s after = (s ≡ start_of Caller) × (told ≡ Hello OWN_VERSION ∷ []) × (after ≡ before)
+SetsOut holds alone Caller before told s after =
+    (s ≡ start_of Caller) × (told ≡ Hello OWN_VERSION ∷ []) × (after ≡ before)
 SetsOut holds alone Callee before told s after = (s ≡ start_of Callee) × (told ≡ []) × (after ≡ before)
 SetsOut holds alone OldCaller before told s after = Shows holds alone (start_of OldCaller) before told s after
 

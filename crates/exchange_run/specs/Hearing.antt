@@ -1,11 +1,13 @@
 -- How a frame is read from a device, and why none was.
-use Rattle.std.specs.Prelude.{◌≡◌, ◌⊎◌, ◌<◌, ◌≤◌, ◌+◌, ℕ, List, ◌++◌, length, Option, None, Result, Ok, Err, Bool, true, false}
+use Rattle.std.specs.Prelude.{◌≡◌, ◌⊎◌, ◌<◌, ◌≤◌, ◌+◌, ℕ, List, ◌++◌, length, Option, None, Result, Ok, Err, Bool, true}
+use Rattle.std.specs.Prelude.{false}
 use Rattle.std.specs.Prelude.{MatchBool, ⊤}
 use Rattle.std.specs.List.{flat_map}
 use Rattle.std.specs.Io.KnownBytes.{Consumes, IsAtEnd}
 use Rattle.devices.specs.Failures.{Rose}
 use Rattle.exchange.specs.declared.fault.ExchangeFault.{ExchangeFault}
-use Rattle.exchange.specs.declared.fault.ExchangeFault.TheVariants.{BadFrame, TooLong, Stranger, Io, Memory, Turns, Refused}
+use Rattle.exchange.specs.declared.fault.ExchangeFault.TheVariants.{BadFrame, TooLong, Stranger, Io, Memory, Turns}
+use Rattle.exchange.specs.declared.fault.ExchangeFault.TheVariants.{Refused}
 use Rattle.exchange.specs.declared.fault.FrameFault.{FrameFault}
 use Rattle.exchange.specs.declared.fault.FrameFault.TheVariants as frames
 use Rattle.exchange.specs.declared.frame.Frame.{Frame}

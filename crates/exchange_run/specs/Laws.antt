@@ -51,7 +51,8 @@ OffersWhereTheyDiffer heard told digests =
 abbrev pub HoldsWhatWasShown : Version → Map → List Frame → List Frame → Type 0
 HoldsWhatWasShown version m heard told =
     (theirs : List (List ℕ)) → Has heard (Buckets (bucket_list theirs)) → BeginWithBytes theirs
-    → OffersWhereTheyDiffer heard told theirs → ((had : Map) → HasGrown had m → BucketsTell (offered version had) theirs)
+    → OffersWhereTheyDiffer heard told theirs
+    → ((had : Map) → HasGrown had m → BucketsTell (offered version had) theirs)
     → HoldsAll m theirs
 
 -- An operation that a holder has gained, which nobody else changes, was given, and was asked for.

@@ -4,7 +4,8 @@ use Rattle.std.specs.Io.KnownBytes.{Consumes, Appends}
 use Rattle.devices.specs.Failures.{Rose}
 use Rattle.site_state.specs.Site.{Map}
 use Rattle.exchange.specs.declared.fault.ExchangeFault.{ExchangeFault}
-use Rattle.exchange.specs.declared.fault.ExchangeFault.TheVariants.{BadFrame, TooLong, Stranger, Io, Memory, Turns, Refused}
+use Rattle.exchange.specs.declared.fault.ExchangeFault.TheVariants.{BadFrame, TooLong, Stranger, Io, Memory, Turns}
+use Rattle.exchange.specs.declared.fault.ExchangeFault.TheVariants.{Refused}
 use Rattle.exchange.specs.declared.frame.Frame.{Frame}
 use Rattle.exchange.specs.Spelling.{text_of, IsFrame}
 use Rattle.exchange_run.specs.declared.role.Role.{Role}
@@ -54,8 +55,8 @@ CountsFailures Refused from to = NoneFailed from to
 -- ---- an exchange that ended
 
 -- Just the frames of this role were read and written, each of those that were said over a set that the holder had.
-pub record Exchanged {H : Type 0} (holds : H → Map) (alone : H → Type 0) (role : Role) (from to : Ends H) (ended : Ended)
-    : Type 0 where
+pub record Exchanged {H : Type 0} (holds : H → Map) (alone : H → Type 0) (role : Role) (from to : Ends H)
+    (ended : Ended) : Type 0 where
   pub heard : List Frame
   pub told : List Frame
   pub side : Side

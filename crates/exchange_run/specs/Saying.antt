@@ -3,7 +3,8 @@ use Rattle.std.specs.Prelude.{◌≡◌, ℕ, List, ◌++◌, Option, true, ⊤}
 use Rattle.std.specs.List.{list_any}
 use Rattle.std.specs.Io.KnownBytes.{Appends}
 use Rattle.exchange.specs.declared.fault.ExchangeFault.{ExchangeFault}
-use Rattle.exchange.specs.declared.fault.ExchangeFault.TheVariants.{BadFrame, TooLong, Stranger, Io, Memory, Turns, Refused}
+use Rattle.exchange.specs.declared.fault.ExchangeFault.TheVariants.{BadFrame, TooLong, Stranger, Io, Memory, Turns}
+use Rattle.exchange.specs.declared.fault.ExchangeFault.TheVariants.{Refused}
 use Rattle.exchange.specs.declared.frame.Frame.{Frame}
 use Rattle.exchange.specs.Writing.{is_too_long}
 

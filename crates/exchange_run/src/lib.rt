@@ -1,8 +1,8 @@
 //! An exchange with a peer, from its first frame to its last, over any reader, writer and holder.
 //!
-//! What a frame calls for is one table, `specs/Tasks.antt`, and what a side says then it says over a
-//! set that its holder has: `specs/Course.antt`. `Side` is that as a machine, to which frames come
-//! and which says frames. `run_exchange` reads and writes them.
+//! What a frame calls for is one table, `specs/Tasks.antt`, and what a side says then it says over
+//! a set that its holder has: `specs/Course.antt`. `Side` is that as a machine, to which frames
+//! come and which says frames. `run_exchange` reads and writes them.
 #![tactic(auto)]
 
 mod hearing;

@@ -28,6 +28,7 @@ returns-in_err-say_give-clause-err g c =
     rw e.1 (gave_front _ _ _ c.args.ops _ c.next.new.self.rest.items c.in-Some.op c.in-Some.ensures.steps.0
     c.loop-op.invariant.gave c.in_err-say_give.ensures.err)
 
+-- A GIVE is never too long.
 pub returns-in_err-say_give-clause-why : goal.returns-in_err-say_give-clause-why
 returns-in_err-say_give-clause-why g c =
     let e = err_from_is_err_and c.from_residual.result c.from_residual.ensures.1 in
@@ -47,6 +48,7 @@ returns-clause-err g c = on_err_map c.say_frame.result _ _ (λ p. gave_last _ _ 
     (omega (arith, c.in-None.ensures.steps.0, c.loop-op.op-iterator.rest.ok.0))) c.loop-op.invariant.gave p)
     c.say_frame.ensures.err
 
+-- Nor is END.
 pub returns-clause-why : goal.returns-clause-why
 returns-clause-why g c = IfErr-weaker c.say_frame.result _ _ (λ e why. other_why End (gifts_of c.args.ops) e refl why)
     c.say_frame.ensures.why
