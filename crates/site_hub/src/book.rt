@@ -195,11 +195,12 @@ impl<H: HubName> Front<H> {
         let _ = &self.entries;
     }
 
-    /// With one entry more, which clashes with nothing that is held. There is none where the history
-    /// is longer.
+    /// With one entry more, which clashes with nothing that is held. There is none where the
+    /// history is longer.
     pub fn add(self, book: &Book<H>, entry: &Entry) -> Option<Front<H>>
         requires room { length self < 2 ^ 62 }
-        requires clashless { HasNoOther (set_of H.opening self) (digest_of entry.now.op) entry.now.op }
+        requires clashless { HasNoOther (set_of H.opening self) (digest_of entry.now.op)
+            entry.now.op }
         ensures { IfSome result (λ longer. longer ≡ self ++ entry.now ∷ []) }
     {
         let Front {
