@@ -1,6 +1,6 @@
 //! `archive serve`: serves the operations in a file to DICOM clients (PS3.8, section 9.1).
 
-ghost use Rattle.std.specs.Prelude.{◌≡◌, ◌≤◌};
+ghost use Rattle.std.specs.Prelude.{◌≡◌, ◌≤◌, vec_len};
 ghost use Rattle.archive_app.specs.Words.{HasWorkers};
 
 use crate::commands::Serving;
@@ -12,8 +12,8 @@ use association_run::OpenGate;
 use octets::{ListOf, Octets};
 use op_shelf::Shelf;
 use shelved_site::site_of;
-use site_hub::{HubFault, HubName, Opened, close, open};
-use sqlite::{Alter, Wary};
+use site_hub::{CloseFault, HubFault, HubName, Keeper, Opened, Pass, Snapshot, close, open};
+use sqlite::{Alter, FileFrom, FileStore, Wary};
 use std::alloc::{AllocError, Global};
 use std::io::Print;
 use std::marker::Brand;
@@ -51,17 +51,39 @@ fn first_of(fault: Option<ServeFault>, closed: Option<HubFault>) -> Result<(), C
     }
 }
 
+/// A shelf in a file, of which nothing is supposed.
+type FileShelf = Shelf<FileStore<FileFrom<Wary>>>;
+
 /// What was served: how many associations were accepted, and the first fault.
 struct Count {
     accepted: u64,
     ended: Result<(), CommandFault>,
 }
 
+/// Closes a hub. A keeper that is not closed is dropped by a lock, which holds it.
+fn close_hub<H: HubName, R: Wait>(
+    keeper: Keeper<H, Snapshot<H>, &R>,
+    passes: Vec<Pass<H>>,
+) -> Option<HubFault> {
+    match close(keeper, passes) {
+        Ok((_site, _log)) => None,
+        Err(back) => {
+            let CloseFault {
+                keeper,
+                passes: _,
+                fault,
+            } = back;
+            let _locked = Mutex::new(keeper);
+            Some(fault)
+        }
+    }
+}
+
 /// Serves in threads until each worker has accepted what it may, and closes the hub.
-fn serve_hub<H: HubName + Send + Sync, R: Threads + Wait + Sync, S: Alter + Send>(
+fn serve_hub<H: HubName + Send + Sync, R: Threads + Wait + Sync>(
     rt: &R,
     alloc: Global,
-    shelf: &mut Shelf<S>,
+    shelf: &mut FileShelf,
     opened: Opened<&R>,
     listener: &TcpListener,
     each: u64,
@@ -72,12 +94,16 @@ fn serve_hub<H: HubName + Send + Sync, R: Threads + Wait + Sync, S: Alter + Send
     requires passes { opened.passes ≡ H.passes }
 {
     let titles = titles(alloc)?;
-    let (keeper, passes) = opened.named::<H>()?;
+    let (keeper, passes) = match opened.named::<H>() {
+        Ok(hub) => hub,
+        Err(fault) => return Err(CommandFault::Hub(fault)),
+    };
+    // A keeper is dropped by the lock that holds it.
+    let keeper = Mutex::new(keeper);
     if passes.is_empty() {
         return Err(CommandFault::Hub(HubFault::Torn));
     }
     let gates = Vec::from_elem(alloc, OpenGate, passes.len())?;
-    let keeper = Mutex::new(keeper);
     let Served {
         accepted,
         passes,
@@ -85,10 +111,7 @@ fn serve_hub<H: HubName + Send + Sync, R: Threads + Wait + Sync, S: Alter + Send
     } = serve_on(
         rt, alloc, listener, &titles, gates, each, &keeper, passes, shelf,
     );
-    let closed = match close(keeper.into_inner(), passes) {
-        Ok((_site, _log)) => None,
-        Err(back) => Some(back.fault),
-    };
+    let closed = close_hub(keeper.into_inner(), passes);
     Ok(Count {
         accepted,
         ended: first_of(fault, closed),
@@ -140,7 +163,7 @@ pub fn serve<R: Net<Listener = TcpListener, Stream = TcpStream> + Threads + Wait
     };
     println!(rt; "listening {listen}")?;
     let each = each as u64;
-    match serve_hub::<Brand, R, _>(rt, host.alloc(), &mut shelf, opened, &listener, each) {
+    match serve_hub::<Brand, R>(rt, host.alloc(), &mut shelf, opened, &listener, each) {
         Ok(Count { accepted, ended }) => {
             println!(rt; "served {accepted}")?;
             Ok(ended)
