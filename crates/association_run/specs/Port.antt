@@ -3,18 +3,21 @@ use Rattle.std.specs.Prelude.{◌≡◌, ◌⊎◌, ℕ, List, [], ◌∷◌, �
 use Rattle.octets.specs.Members.{Has}
 use Rattle.data_set.specs.Set.{Set}
 use Rattle.query_model.specs.Rows.{rows_of}
+use Rattle.retrieve_model.specs.declared.prepared.Prepared.{Prepared}
+use Rattle.retrieve_model.specs.Preparing.{prepared_of}
 use Rattle.operation.specs.Parts.{ContentParts}
 use Rattle.operation.specs.declared.op.Op.{Op}
 use Rattle.operation.specs.declared.op.Op.TheVariants.{Content}
 use Rattle.operation.specs.Spelling.{digest_of}
 use Rattle.operation.specs.declared.taken.Taken.{Taken}
 use Rattle.association_session.specs.declared.deed.Call.{Call}
-use Rattle.association_session.specs.declared.deed.Call.TheVariants.{Store, Find}
+use Rattle.association_session.specs.declared.deed.Call.TheVariants.{Store, Find, Get}
 use Rattle.association_session.specs.declared.deed.Finding.{Finding}
+use Rattle.association_session.specs.declared.deed.Getting.{Getting}
 use Rattle.association_session.specs.declared.reply.PortFault.{PortFault}
 use Rattle.association_session.specs.declared.reply.PortFault.TheVariants.{Memory, Busy, Collision, Shelf}
 use Rattle.association_session.specs.declared.reply.Reply.{Reply}
-use Rattle.association_session.specs.declared.reply.Reply.TheVariants.{Stored, Found}
+use Rattle.association_session.specs.declared.reply.Reply.TheVariants.{Stored, Found, Gotten}
 
 -- ---- one call
 
@@ -42,7 +45,7 @@ pub record Stores {P : Type 0} (ops : P → List Op) (own : P → List (List ℕ
       (λ _. Has (ops after) (Content content) × HasGrown (own before) (digest_of (Content content)) (own after))
       (λ fault. Leaves fault (own before) (digest_of (Content content)) (own after))
 
--- a find's faults: want of memory, or another caller has the site
+-- the faults of a find and of a get: want of memory, or another caller has the site
 abbrev pub IsFindFault : PortFault → Type 0
 IsFindFault fault = (fault ≡ Memory) ⊎ (fault ≡ Busy)
 
@@ -55,12 +58,26 @@ pub record Finds {P : Type 0} (ops : P → List Op) (own : P → List (List ℕ)
   pub replied : MatchResult reply (λ rows. rows ≡ rows_of finding.view finding.called finding.query (ops after))
       IsFindFault
 
+-- how a get ends
+pub record Gets {P : Type 0} (ops : P → List Op) (own : P → List (List ℕ)) (before : P) (getting : Getting)
+    (reply : Result (List Prepared) PortFault) (after : P) : Type 0 where
+  pub kept : Keeps ops before after
+  pub own_kept : own after ≡ own before
+  -- what is to be sent over all that is held then, ascending by SOP Instance UID
+  pub replied : MatchResult reply (λ prepared. prepared ≡ prepared_of getting.view getting.selection (ops after))
+      IsFindFault
+
 -- how a call ends: its reply is of its kind
 abbrev pub Replies : {P : Type 0} → (P → List Op) → (P → List (List ℕ)) → P → Call → Reply → P → Type 0
 Replies ops own before (Store content) (Stored reply) after = Stores ops own before content reply after
 Replies ops own before (Store content) (Found reply) after = ⊥
+Replies ops own before (Store content) (Gotten reply) after = ⊥
 Replies ops own before (Find finding) (Found reply) after = Finds ops own before finding reply after
 Replies ops own before (Find finding) (Stored reply) after = ⊥
+Replies ops own before (Find finding) (Gotten reply) after = ⊥
+Replies ops own before (Get getting) (Gotten reply) after = Gets ops own before getting reply after
+Replies ops own before (Get getting) (Stored reply) after = ⊥
+Replies ops own before (Get getting) (Found reply) after = ⊥
 
 -- ---- calls, one after another
 

@@ -2,13 +2,14 @@
 
 ghost use Rattle.std.specs.Prelude.{List, ℕ};
 ghost use Rattle.operation.specs.declared.op.Op.{Op};
-ghost use Rattle.association_run.specs.Port.{Stores, Finds};
+ghost use Rattle.association_run.specs.Port.{Stores, Finds, Gets};
 
 use archive_model::View;
 use association_session::PortFault;
 use octets::ListOf;
 use operation::{Content, Taken};
 use query_model::{Answer, Query};
+use retrieve_model::{Prepared, Selection};
 
 /// A site, as one association sees it. Others may store between two steps, and nothing that is held
 /// is lost.
@@ -32,4 +33,14 @@ pub trait Port {
     ) -> Result<ListOf<Answer>, PortFault>
         ensures { Finds ops own self.old
             (record { called = called.now; view = view; query = query.now }) result self.new };
+
+    /// What is to be sent of a selection, by ascending SOP Instance UID, in one look: over all that
+    /// is held when it ends.
+    fn get(
+        &mut self,
+        view: View,
+        selection: &Selection,
+    ) -> Result<ListOf<Prepared>, PortFault>
+        ensures { Gets ops own self.old (record { view = view; selection = selection.now }) result
+            self.new };
 }

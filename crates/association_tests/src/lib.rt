@@ -8,4 +8,6 @@ mod associations;
 #[cfg(test)]
 mod finds;
 #[cfg(test)]
+mod gets;
+#[cfg(test)]
 mod sessions;

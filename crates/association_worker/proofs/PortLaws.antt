@@ -19,10 +19,13 @@ use Rattle.site_state.proofs.Same.{of_ops}
 use Rattle.octets.specs.Members.{Has}
 use Rattle.data_set.specs.Set.{Set}
 use Rattle.query_model.specs.Rows.{rows_of}
+use Rattle.retrieve_model.specs.declared.prepared.Prepared.{Prepared}
+use Rattle.retrieve_model.specs.Preparing.{prepared_of}
 use Rattle.association_session.specs.declared.deed.Finding.{Finding}
+use Rattle.association_session.specs.declared.deed.Getting.{Getting}
 use Rattle.association_session.specs.declared.reply.PortFault.{PortFault}
 use Rattle.association_session.specs.declared.reply.PortFault.TheVariants.{Memory, Busy, Collision, Shelf}
-use Rattle.association_run.specs.Port.{Leaves, Stores, Finds, IsFindFault}
+use Rattle.association_run.specs.Port.{Leaves, Stores, Finds, Gets, IsFindFault}
 use Rattle.association_worker.specs.Port.{PortParts}
 
 other_at : (m : Map) (d q : List ℕ) (op o : Op) (b : Bool) → is_at (digest_cmp q) d ≡ b → get m d ≡ None
@@ -93,6 +96,22 @@ finds_as old new finding (Ok rows) same found fault = record {
       same);
 }
 finds_as old new finding (Err fault) same found memory = record {
+  kept = λ o held. subst (λ (p : PortParts). Has (ops_of p.site) o) (sym same) held;
+  own_kept = ap (λ (p : PortParts). p.own) same;
+  replied = inl memory;
+}
+
+-- A look changes nothing, and what is to be sent is that over all that is held.
+pub gets_as : (old new : PortParts) (getting : Getting) (reply : Result (List Prepared) PortFault) → new ≡ old
+    → IfOk reply (λ prepared. prepared ≡ prepared_of getting.view getting.selection (ops_of old.site))
+    → IfErr reply (λ fault. fault ≡ Memory)
+    → Gets (λ (p : PortParts). ops_of p.site) (λ (p : PortParts). p.own) old getting reply new
+gets_as old new getting (Ok prepared) same found fault = record {
+  kept = λ o held. subst (λ (p : PortParts). Has (ops_of p.site) o) (sym same) held;
+  own_kept = ap (λ (p : PortParts). p.own) same;
+  replied = found ∙ ap (λ (p : PortParts). prepared_of getting.view getting.selection (ops_of p.site)) (sym same);
+}
+gets_as old new getting (Err fault) same found memory = record {
   kept = λ o held. subst (λ (p : PortParts). Has (ops_of p.site) o) (sym same) held;
   own_kept = ap (λ (p : PortParts). p.own) same;
   replied = inl memory;

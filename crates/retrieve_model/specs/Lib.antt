@@ -1,3 +1,4 @@
 pub mod Accepts
+pub mod Prepared
 pub mod Selection
 pub mod Sending

@@ -5,9 +5,11 @@
 #![tactic(auto)]
 
 mod accepts;
+mod prepared;
 mod selection;
 mod sending;
 
 pub use accepts::{Accepted, Accepts, Form, syntax_of};
+pub use prepared::Prepared;
 pub use selection::Selection;
 pub use sending::Sending;

@@ -8,7 +8,7 @@ returns-in-Responded-clause-answered c =
     ok_map c.respond.result _ _
     (λ deeds told. answered_told c.args.titles.now.list c.args.self.now _ c.args.message c.in-Responded.status
     c.in_ok-service.service _ c.contexts-contexts.result.now c.limit-limit.result deeds
-    c.requires.established c.requires.idle refl
+    c.requires.established c.requires.idle c.requires.none refl
     c.settled.ensures
     (c.contexts-contexts.ensures ∙ at_contexts _ _ c.self.view_is)
     (c.limit-limit.ensures.limit ∙ at_limit _ _ c.self.view_is)
