@@ -1,7 +1,7 @@
 -- A sub-operation's command set, and the responses of a C-GET, can be written.
 use Rattle.std.proofs.Common.{◌≡◌, ◌<◌, ◌≤◌, ◌-◌, ℕ, Bool, true, false, List, [], ◌∷◌, length, Option, Some, None, refl}
 use Rattle.std.proofs.Common.{sym, ap, subst, ◌∙◌, arith, slice_index_or, ◌&&◌}
-use Rattle.std.specs.Prelude.{is_some}
+use Rattle.std.specs.Prelude.{is_some, not, nat_le, ◌==◌}
 use Rattle.std.proofs.lemmas.Bool.Decides.{nat_tests}
 use Rattle.std.specs.List.{list_all, suffix_len}
 use Rattle.std.proofs.lemmas.List.Sums.{suffix_len_is}
@@ -64,9 +64,14 @@ bare_of u all =
     last in
     e ∙ omega arith
 
+uid_by : (empty long all : Bool) → (not empty && long && all) ≡ true → all ≡ true
+uid_by true long all e = absurd cc
+uid_by false true all e = e
+uid_by false false all e = absurd cc
+
 uid_bytes : (u : List ℕ) → is_uid_text u ≡ true → list_all is_uid_byte u ≡ true
 unfolding is_uid_text
-uid_bytes u e = right _ _ (right _ _ e)
+uid_bytes u e = uid_by (length u == 0) (nat_le (length u) 64) (list_all is_uid_byte u) e
 
 uid_is : (u : List ℕ) → is_uid_text u ≡ true → IsUid u
 uid_is u e = record { graphic = all_graphic u (uid_bytes u e); bare = bare_of u (uid_bytes u e) }

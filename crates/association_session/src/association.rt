@@ -414,7 +414,10 @@ impl Association {
         let Some(sub) = self.sub.take() else {
             return self.answer(titles, message);
         };
-        match sub.meaning(&message.command) {
+        let meaning = sub.meaning(&message.command);
+        sub.progress.awaited.see_room();
+        drop(message);
+        match meaning {
             Meaning::Cancelled => {
                 self.sub = Some(sub.cancel());
                 Ok(ListOf::new(self.alloc))
@@ -552,6 +555,7 @@ impl Association {
         let Some(Due::Sending(retrieval)) = self.awaited.take() else {
             return Ok(ListOf::new(self.alloc));
         };
+        retrieval.progress.awaited.see_room();
         match retrieval.begin(self.alloc, self.link.contexts())? {
             Begun::Ended(pdus) => {
                 self.sub = None;
