@@ -1,5 +1,5 @@
 -- What a turn adds to what was done so far.
-use Rattle.std.proofs.Common.{◌≡◌, ◌≢◌, ℕ, ◌+◌, ◌<◌, ◌≤◌, ◌==◌, Bool, true, false, ◌||◌, List, [], ◌∷◌, ◌++◌, length}
+use Rattle.std.proofs.Common.{◌≡◌, ◌≢◌, ℕ, suc, ◌+◌, ◌<◌, ◌≤◌, ◌==◌, Bool, true, false, ◌||◌, List, [], ◌∷◌, ◌++◌, length}
 use Rattle.std.proofs.Common.{drop, Option, None, Result, ◌⊎◌, inl, inr, refl, sym, ap, subst, ◌∙◌, append_assoc}
 use Rattle.std.proofs.Common.{append-nil, arith, length-append}
 use Rattle.std.proofs.lemmas.Bool.{eqb-true, eqb-false}
@@ -178,7 +178,7 @@ replied_all : {P : Type 0} (ops : P → List Op) (own : P → List (List ℕ)) (
 replied_all ops own a b [] [] h = refl
 replied_all ops own a b [] (r ∷ rs) h = absurd h
 replied_all ops own a b (c ∷ cs) [] h = absurd h
-replied_all ops own a b (c ∷ cs) (r ∷ rs) h = ap (λ (n : ℕ). n + 1) (replied_all ops own h.0 b cs rs h.2)
+replied_all ops own a b (c ∷ cs) (r ∷ rs) h = ap suc (replied_all ops own h.0 b cs rs h.2)
 
 -- Where no value is handed on nothing is said.
 nothing_said : (titles : List (Title View)) (old : Place) (values : List Pdv) (said : List Heard)

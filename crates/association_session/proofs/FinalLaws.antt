@@ -456,8 +456,12 @@ module _ (titles : List (Title View)) where
       → (requests : List Awaited) × Asks requests × Have None (now ++ rest) (a ∷ requests)
       → (requests : List Awaited) × ((behind : List Awaited) × (requests ≡ a ∷ behind) × Asks behind)
       × Have None ds requests
-  more ds now rest a Asks is q = (a ∷ q.0, (q.0, refl, q.1), subst (λ (t : List Deed). Have None t (a ∷ q.0)) (sym is)
-      q.2)
+  more ds now rest a Asks is q = (
+    a ∷ q.0,
+    (q.0, refl, q.1),
+    subst (λ (t : List Deed). Have None t (a ∷ q.0)) (sym is)
+        q.2,
+  )
 
   does_have : (w : Within) (m : Message) (service : Service) (Asks : RequestsBy)
       (Gone : List Reply → List Awaited → Type 0) (R : GoesBy) (R' : Goes) (rs : List Reply) (ds : List Deed)
@@ -467,9 +471,12 @@ module _ (titles : List (Title View)) where
       × Have None ds requests
   does_have w m Ignored Asks Gone R R' rs ds serves goes gone p = goes None tt rs ds p
   does_have w m Broken Asks Gone R R' rs ds serves goes gone p =
-      let q = gone rs p.0 p.2 in
-      (q.0, q.1, subst (λ (t : List Deed). Have None t q.0) (sym p.1) (have_before None (row titles w.state
-      events.LocalAbort) p.0 q.0 (row_quiet titles w.state events.LocalAbort p.0) q.2))
+      let q = gone rs p.0 p.2 in (
+        q.0,
+        q.1,
+        subst (λ (t : List Deed). Have None t q.0) (sym p.1) (have_before None (row titles w.state
+            events.LocalAbort) p.0 q.0 (row_quiet titles w.state events.LocalAbort p.0) q.2),
+      )
   does_have w m (Responded status) Asks Gone R R' rs ds serves goes gone p =
       more ds [] ds (awaiting w.link m) (Asks None rs) refl (tells_have (awaiting w.link m) status (Asks None rs)
       (R None rs) ds (served_final w m status serves) (goes None tt rs) p)
@@ -576,9 +583,12 @@ module _ (titles : List (Title View)) where
       → IsGetOf sub → Talks titles w sub us rs ds → HasResponses titles w sub us rs ds
   responded [] w sub rs ds is p = ([], refl, subst (λ (t : List Deed). Have sub t []) (sym p) (none_have sub is))
   responded (Met event ∷ us) w sub rs ds is p =
-      let q = responded us (met titles w event) sub rs p.0 is p.2 in
-      (q.0, q.1, subst (λ (t : List Deed). Have sub t q.0) (sym p.1) (have_before sub (row titles w.state event) p.0 q.0
-      (row_quiet titles w.state event p.0) q.2))
+      let q = responded us (met titles w event) sub rs p.0 is p.2 in (
+        q.0,
+        q.1,
+        subst (λ (t : List Deed). Have sub t q.0) (sym p.1) (have_before sub (row titles w.state event) p.0 q.0
+            (row_quiet titles w.state event p.0) q.2),
+      )
   responded (Said m ∷ us) w sub rs ds is p = said_have w.state sub w m us rs ds refl is
       (λ next get rs' x. responded us w next rs' x get)
       (λ rs' x. responded us (met titles w events.LocalAbort) None rs' x tt) p

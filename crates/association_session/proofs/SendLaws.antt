@@ -14,7 +14,19 @@ use Rattle.ul_state.specs.declared.table.State.TheVariants.{Sta6}
 use Rattle.ul_state.specs.declared.titles.Title.{Title}
 use Rattle.association_session.specs.declared.counts.Outcome.{Outcome}
 use Rattle.association_session.specs.declared.deed.Deed.{Deed}
-use Rattle.association_session.specs.declared.deed.Deed.TheVariants.{Send}
+use Rattle.association_session.specs.declared.deed.Call.TheVariants.{Store, Find}
+use Rattle.association_session.specs.declared.deed.Deed.TheVariants.{Send, Reach, Ask}
+use Rattle.association_session.specs.declared.deed.Finding.{Finding}
+use Rattle.association_session.specs.declared.deed.Moment.TheVariants.{InStore}
+use Rattle.association_session.specs.declared.due.RowKind.{RowKind}
+use Rattle.association_session.specs.declared.service.Service.{Service}
+use Rattle.association_session.specs.declared.service.Service.TheVariants.{Asked, Queried}
+use Rattle.association_session.specs.Context.{context_in}
+use Rattle.association_session.specs.Service.{ServesOn}
+use Rattle.operation.specs.Parts.{ContentParts}
+use Rattle.dimse.specs.declared.assembler.Stage.{Stage}
+use Rattle.pdu.specs.declared.pdv.Pdv.{Pdv}
+use Rattle.ul_state.specs.declared.acceptor.Settled.{Settled}
 use Rattle.association_session.specs.declared.due.Due.{Due}
 use Rattle.association_session.specs.declared.due.Due.TheVariants as dues
 use Rattle.association_session.specs.declared.event.SessionEvent.TheVariants.{GoesOn}
@@ -34,9 +46,10 @@ use Rattle.association_session.specs.Row.{Within, row}
 use Rattle.association_session.specs.Session.{AssociationState, Answered, Turned, OwedFor, OwedAt, Stops, IsToldBy}
 use Rattle.association_session.specs.Session.{IsFewer, FewerFor, entered}
 use Rattle.association_session.specs.SubOperation.{Retrieval, SubOperation}
-use Rattle.association_session.specs.Talks.{Goes, GoesBy, Then, Begins, GoesOnBy, Performs, Attends, Talks}
+use Rattle.association_session.specs.Talks.{Goes, GoesBy, Then, Begins, GoesOnBy, Performs, Attends, Talks, awaiting}
 use Rattle.association_session.proofs.DataLaws.{AreData, sending_data, if_left_data, responds_by_data, data_state}
 use Rattle.association_session.proofs.HearLaws.{still, owed_at, sends_halt, answered_broken, answered_sent}
+use Rattle.association_session.proofs.HearLaws.{answered_asked}
 use Rattle.association_session.proofs.ResponseLaws.{sending_goes}
 use Rattle.association_session.proofs.TellLaws.{sends_join}
 
@@ -300,3 +313,92 @@ attended_performed titles now new m sub outcome ps next deeds opened idle has me
     (λ abort gets gone rs rest owed. attends_as now.sub sub (Performed outcome) now.within m abort gets gone rs
     (map Send ps ++ rest) has means
     (ps, next, told, (rest, refl, goes_on_by next now.within.link.contexts gets rs rest owed)))
+
+-- ---- the state behind a turn, part by part
+
+pub state_is : (a now : AssociationState) (sub : Option SubOperation) (due : Option Due) → a.within ≡ now.within
+    → a.stage ≡ now.stage → a.queue ≡ now.queue → a.sub ≡ sub → a.awaited ≡ due
+    → a ≡ record { within = now.within; sub = sub; stage = now.stage; awaited = due; queue = now.queue }
+state_is a now sub due within stage queue same awaited =
+    ap (λ (w : Within). record { within = w; sub = a.sub; stage = a.stage; awaited = a.awaited; queue = a.queue }) within
+    ∙ ap (λ (k : Stage). record { within = now.within; sub = a.sub; stage = k; awaited = a.awaited; queue = a.queue })
+    stage
+    ∙ ap (λ (q : List Pdv). record {
+      within = now.within;
+      sub = a.sub;
+      stage = now.stage;
+      awaited = a.awaited;
+      queue = q;
+    }) queue
+    ∙ ap (λ (k : Option SubOperation). record {
+      within = now.within;
+      sub = k;
+      stage = now.stage;
+      awaited = a.awaited;
+      queue = now.queue;
+    }) same
+    ∙ ap (λ (o : Option Due). record {
+      within = now.within;
+      sub = sub;
+      stage = now.stage;
+      awaited = o;
+      queue = now.queue;
+    }) awaited
+
+-- ---- messages for which the port is asked
+
+-- a C-STORE whose content is asked
+pub answered_store : (titles : List (Title View)) (now new : AssociationState) (m : Message) (content : ContentParts)
+    (service : Service) (settled : Option (Settled View)) (contexts : List Context) (limit : ℕ) (deeds : List Deed)
+    → now.within.state ≡ Sta6 → now.awaited ≡ None → now.sub ≡ None
+    → new ≡ record {
+      within = now.within;
+      sub = now.sub;
+      stage = now.stage;
+      awaited = Some (dues.Store (record { context = m.context; limit = limit; command = m.command }));
+      queue = now.queue;
+    }
+    → settled ≡ now.within.settled → contexts ≡ now.within.link.contexts → limit ≡ now.within.link.limit
+    → service ≡ Asked content → ServesOn settled (context_in contexts m.context) m.command m.body service
+    → deeds ≡ Reach InStore ∷ Ask (Store content) ∷ [] → Answered titles now m deeds new
+answered_store titles now new m content service settled contexts limit deeds opened idle none is se cs lim of serves
+    asks =
+    answered_asked titles now new m (Asked content) (Reach InStore ∷ []) (Store content) (dues.Store (awaiting
+    now.within.link m)) settled contexts deeds opened idle none
+    (is ∙ ap (λ (n : ℕ). record {
+      within = now.within;
+      sub = now.sub;
+      stage = now.stage;
+      awaited = Some (dues.Store (record { context = m.context; limit = n; command = m.command }));
+      queue = now.queue;
+    }) lim) se cs
+    (subst (λ (s : Service). ServesOn settled (context_in contexts m.context) m.command m.body s) of serves) asks
+    (refl, tt) (λ s. refl) tt (λ abort gets gone rs rest owed. (rest, refl, owed))
+
+-- a C-FIND that is asked
+pub answered_find : (titles : List (Title View)) (now new : AssociationState) (m : Message) (finding : Finding)
+    (kind : RowKind) (service : Service) (settled : Option (Settled View)) (contexts : List Context) (limit : ℕ)
+    (deeds : List Deed) → now.within.state ≡ Sta6 → now.awaited ≡ None → now.sub ≡ None
+    → new ≡ record {
+      within = now.within;
+      sub = now.sub;
+      stage = now.stage;
+      awaited = Some (dues.Find (record { context = m.context; limit = limit; command = m.command }) kind);
+      queue = now.queue;
+    }
+    → settled ≡ now.within.settled → contexts ≡ now.within.link.contexts → limit ≡ now.within.link.limit
+    → service ≡ Queried finding kind → ServesOn settled (context_in contexts m.context) m.command m.body service
+    → deeds ≡ Ask (Find finding) ∷ [] → Answered titles now m deeds new
+answered_find titles now new m finding kind service settled contexts limit deeds opened idle none is se cs lim of serves
+    asks =
+    answered_asked titles now new m (Queried finding kind) [] (Find finding) (dues.Find (awaiting now.within.link m)
+    kind) settled contexts deeds opened idle none
+    (is ∙ ap (λ (n : ℕ). record {
+      within = now.within;
+      sub = now.sub;
+      stage = now.stage;
+      awaited = Some (dues.Find (record { context = m.context; limit = n; command = m.command }) kind);
+      queue = now.queue;
+    }) lim) se cs
+    (subst (λ (s : Service). ServesOn settled (context_in contexts m.context) m.command m.body s) of serves) asks
+    (refl, tt) (λ s. refl) tt (λ abort gets gone rs rest owed. (rest, refl, owed))
