@@ -3,6 +3,7 @@ use Rattle.std.specs.List.{filter}
 use Rattle.retrieve_model.specs.Selection.{is_among_these}
 use Rattle.archive_retrieve.proofs.selected.those_among.Given as goal
 
+-- The contents that were found, with those that are still to be found, are the selected ones.
 abbrev pub invariant-loop-content : goal.invariant-loop-content
 invariant-loop-content l =
     map (λ c. c.now) l.found.items ++ filter (is_among_these (map (λ u. u.now) l.uids) l.selection)

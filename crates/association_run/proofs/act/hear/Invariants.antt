@@ -15,5 +15,6 @@ invariant-loop-input g l = record {
   write : g.W.Sink.failures l.writer ≡ g.W.Sink.failures l.fn.writer;
 }
 
+-- Each turn leaves fewer values, or has taken the reply.
 abbrev pub decreases-loop-input : goal.decreases-loop-input
 decreases-loop-input g l = weight l.session.association.queue l.pending

@@ -14,5 +14,6 @@ invariant-loop-alloc g l = record {
   write : g.W.Sink.failures l.writer ≡ g.W.Sink.failures l.fn.writer;
 }
 
+-- Each turn leaves fewer responses.
 abbrev pub decreases-loop-alloc : goal.decreases-loop-alloc
 decreases-loop-alloc g l = left_of l.session.association.awaited

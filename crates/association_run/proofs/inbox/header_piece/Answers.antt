@@ -2,6 +2,7 @@ use Rattle.std.proofs.Common.{inl}
 use Rattle.association_run.proofs.PieceLaws.{finds}
 use Rattle.association_run.proofs.inbox.header_piece.Goals as goal
 
+-- What a header alone says is what the grammar says of it.
 pub returns : goal.returns
 returns c =
     let text = c.args.header.now in

@@ -2,6 +2,7 @@ use Rattle.std.proofs.Common.{◌≡◌, inr, ◌∙◌, length}
 use Rattle.association_run.proofs.PieceLaws.{finds}
 use Rattle.association_run.proofs.inbox.whole_piece.Goals as goal
 
+-- What a whole PDU says is what the grammar says of it.
 pub returns : goal.returns
 returns c =
     let text = c.args.bytes.items in

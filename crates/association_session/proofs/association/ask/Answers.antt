@@ -14,9 +14,11 @@ action_is c =
     (sym list ∙ c.pop.ensures.items)
     (λ some. c.pop.ensures.variant.1 (omega (arith, some, c.into_vec.result.ok.0, ap length list)))
 
+-- The one action of the table is handed on.
 pub returns-clause-action : goal.returns-clause-action
 returns-clause-action c = action_is c
 
+-- Where a lawful PDU came, what is sent can be written.
 pub returns-clause-lawful : goal.returns-clause-lawful
 returns-clause-lawful c = λ lawful.
     popped_writable (action_on c.args.titles.now.list c.args.acceptor.now.state c.args.event) c.pop.result

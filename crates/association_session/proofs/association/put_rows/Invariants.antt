@@ -11,5 +11,6 @@ invariant-loop-spelled l = record {
   writable : All IsWritable l.fn.deeds → All IsWritable l.deeds;
 }
 
+-- Each turn leaves fewer rows.
 abbrev pub decreases-loop-spelled : goal.decreases-loop-spelled
 decreases-loop-spelled l = length l.rows

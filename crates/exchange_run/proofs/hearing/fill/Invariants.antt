@@ -12,5 +12,6 @@ invariant-loop-filled g l = record {
   none_failed : g.R.Source.failures l.reader ≡ g.R.Source.failures l.fn.reader;
 }
 
+-- Each read leaves less of the buffer to be filled.
 abbrev pub decreases-loop-filled : goal.decreases-loop-filled
 decreases-loop-filled g l = length l.fn.buffer - l.filled

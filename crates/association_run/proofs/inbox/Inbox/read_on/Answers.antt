@@ -3,6 +3,7 @@ use Rattle.std.proofs.lemmas.List.{length-take}
 use Rattle.association_run.proofs.HandLaws.{grown, wants_still, resized, counted}
 use Rattle.association_run.proofs.inbox.Inbox.read_on.Goals as goal
 
+-- What was read stands behind what came before, and there is room for all that is wanted.
 pub invariant_of-self-2 : goal.invariant_of-self-2
 invariant_of-self-2 g c =
     let s = c.self.inside in
@@ -23,6 +24,7 @@ invariant_of-self-2 g c =
           c.self.invariant.2),
     )
 
+-- The bytes that the reader gave up are those behind what came before.
 pub returns-clause-read : goal.returns-clause-read
 returns-clause-read g c =
     let s = c.self.inside in

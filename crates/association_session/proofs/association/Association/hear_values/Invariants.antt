@@ -6,5 +6,6 @@ use Rattle.association_session.proofs.association.Association.hear_values.Given 
 abbrev pub invariant-loop-value : goal.invariant-loop-value
 invariant-loop-value l = Fed l.fn.self l.self
 
+-- Each turn leaves fewer values.
 abbrev pub decreases-loop-value : goal.decreases-loop-value
 decreases-loop-value l = length l.self.queue

@@ -3,6 +3,7 @@ use Rattle.association_session.specs.Response.{Awaited, CanBeResponded}
 use Rattle.association_session.proofs.ResponseLaws.{response_whole}
 use Rattle.association_session.proofs.awaited.Awaited.respond.Goals as goal
 
+-- A response is a whole message: it has no data set.
 pub fragments-requires-clause-whole : goal.fragments-requires-clause-whole
 fragments-requires-clause-whole c =
     response_whole c.args.self.now c.args.status c.in_ok-message.message (subst (λ (a : Awaited). CanBeResponded a)

@@ -9,6 +9,7 @@ pub returns-in_err-own : goal.returns-in_err-own
 returns-in_err-own g c = let p = err_from_is_err_and c.from_residual.result c.from_residual.ensures.1 in
     turned c.in_err-own.ensures (λ m e. rw p.1 tt)
 
+-- Where memory for the places is refused no place is told.
 pub returns-in_err-unequal : goal.returns-in_err-unequal
 returns-in_err-unequal g c = let p = err_from_is_err_and c.from_residual-in_err-unequal.result
     c.from_residual-in_err-unequal.ensures.1 in turned c.in_ok-own.ensures (λ m e. rw p.1 tt)
