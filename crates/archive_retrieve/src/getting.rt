@@ -13,9 +13,9 @@ use std::alloc::{AllocError, Global};
 
 /// What a site sends of a selection in a view, by ascending SOP Instance UID.
 ///
-/// Each data set is corrected. It goes out in its own transfer syntax where that is accepted for its
-/// class, else converted to the implicit one where it is explicit and that is accepted, else not at
-/// all. A data set that needs no change is the stored one, whose bytes are shared.
+/// Each data set is corrected. It goes out in its own transfer syntax where that is accepted for
+/// its class, else converted to the implicit one where it is explicit and that is accepted, else
+/// not at all. A data set that needs no change is the stored one, whose bytes are shared.
 pub fn get(
     alloc: Global,
     site: &Site,

@@ -1,8 +1,8 @@
 //! Answers to C-GET over a site (PS3.4, section C.4.3).
 //!
 //! What is sent is what a view shows of a selection, corrected, in a transfer syntax that is
-//! accepted. A data set that needs no change is the stored one, whose bytes are shared with the site.
-//! `prepare` finds what is to be sent and makes no data set; `get` makes them all at once.
+//! accepted. A data set that needs no change is the stored one, whose bytes are shared with the
+//! site. `prepare` finds what is to be sent and makes no data set; `get` makes them all at once.
 #![tactic(auto)]
 
 mod candidates;

@@ -37,7 +37,8 @@ impl Model for Inbox {
 
     ghost view = { λ i. record { text = take i.filled i.bytes.items; wanted = i.wanted } };
 
-    ghost invariant = { λ i. (i.filled ≤ length i.bytes.items) × (length i.bytes.items ≤ i.wanted) × Wants (record { text = take i.filled i.bytes.items; wanted = i.wanted }) };
+    ghost invariant = { λ i. (i.filled ≤ length i.bytes.items) × (length i.bytes.items ≤ i.wanted)
+        × Wants (record { text = take i.filled i.bytes.items; wanted = i.wanted }) };
 }
 
 /// Reads once to the place behind the first `filled` bytes, at most `most` bytes.

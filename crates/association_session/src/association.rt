@@ -64,7 +64,16 @@ impl Model for Association {
 
     ghost coded = { Prim.hlevel (codes, due.the_row.coded) };
 
-    ghost view = { λ a. record { within = record { state = state_of a.acceptor; settled = settled_of a.acceptor; link = a.link.link }; stage = a.link.stage; awaited = a.awaited; queue = a.queue.items } };
+    ghost view = { λ a. record {
+      within = record {
+        state = state_of a.acceptor;
+        settled = settled_of a.acceptor;
+        link = a.link.link;
+      };
+      stage = a.link.stage;
+      awaited = a.awaited;
+      queue = a.queue.items;
+    } };
 }
 
 /// What an acceptor asks on an event.

@@ -26,7 +26,11 @@ impl Model for Awaited {
 
     ghost view = { λ a. record { context = a.context; limit = a.limit; command = a.command } };
 
-    ghost invariant = { λ a. CanBeResponded (record { context = a.context; limit = a.limit; command = a.command }) };
+    ghost invariant = { λ a. CanBeResponded (record {
+      context = a.context;
+      limit = a.limit;
+      command = a.command;
+    }) };
 }
 
 impl Awaited {

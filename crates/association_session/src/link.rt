@@ -33,7 +33,10 @@ impl Model for Link {
 
     ghost Value = { Linked };
 
-    ghost view = { λ l. record { link = record { contexts = l.assembler.contexts; limit = l.limit }; stage = l.assembler.stage } };
+    ghost view = { λ l. record {
+      link = record { contexts = l.assembler.contexts; limit = l.limit };
+      stage = l.assembler.stage;
+    } };
 
     ghost invariant = { λ l. FitsLimit l.limit };
 }

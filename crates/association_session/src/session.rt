@@ -37,7 +37,11 @@ impl Model for Session {
 
     ghost coded = { Prim.hlevel (codes, due.the_row.coded) };
 
-    ghost view = { λ s. record { association = s.association; aborted = s.aborted; released = s.released } };
+    ghost view = { λ s. record {
+      association = s.association;
+      aborted = s.aborted;
+      released = s.released;
+    } };
 }
 
 fn is_abort(deed: &Deed) -> bool

@@ -1,9 +1,9 @@
-//! Frames, in which two sites tell each other what they hold, ask for what they lack and give it, and
-//! one side's part in a round of them.
+//! Frames, in which two sites tell each other what they hold, ask for what they lack and give it,
+//! and one side's part in a round of them.
 //!
 //! What a site must do for it is `Holder`. Bytes come in and values go out: nothing here reads a
-//! socket. A frame is read in two steps, its header of five bytes and then its body, so that what is
-//! too long is refused before any of it is kept. What reads and what writes cite one spelling
+//! socket. A frame is read in two steps, its header of five bytes and then its body, so that what
+//! is too long is refused before any of it is kept. What reads and what writes cite one spelling
 //! (docs/DECISIONS.md, "Frames").
 #![tactic(auto)]
 

@@ -190,8 +190,8 @@ impl Round {
         ensures stranger { IsErrOf result ExchangeFault.Stranger
             ↔ (refusal_of self.old op ≡ Some ExchangeFault.Stranger) }
         ensures untaken { refusal_of self.old op ≢ None → holder.new ≡ holder.old }
-        ensures taken { refusal_of self.old op ≡ None → TakesAsked H.holds H.alone holder.old op result
-            holder.new }
+        ensures taken { refusal_of self.old op ≡ None
+            → TakesAsked H.holds H.alone holder.old op result holder.new }
 
         // What the round knows then.
         ensures given { OnOk result (self.new ≡ with_given (digest_of op) self.old) }

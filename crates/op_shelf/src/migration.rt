@@ -57,7 +57,8 @@ fn insert_within<'a, S: Alter>(
     ensures same_reference { part.new.conn.ghost_name ≡ part.old.conn.ghost_name }
     ensures added { HasCleanDisk (state S.Store part.new.conn.now)
         → OnOk result ((done : List Values)
-        → IsMoving (state S.Store part.old.conn.now) done → IsMoving (state S.Store part.new.conn.now)
+        → IsMoving (state S.Store part.old.conn.now) done
+        → IsMoving (state S.Store part.new.conn.now)
         ((Text digest.now ∷ Int (pos kind) ∷ Blob body.now ∷ []) ∷ done)) }
     ensures kept { HasCleanDisk (state S.Store part.new.conn.now)
         → KeepsCommit (state S.Store part.old.conn.now) (state S.Store part.new.conn.now) }

@@ -106,11 +106,12 @@ impl<H: HubName, T: Shows<H>, R: Wait + Drop> Keeper<H, T, R> {
         Ok((kept, told))
     }
 
-    /// Makes a correction for a pass and publishes it, with all that was pending. Its counter is one
-    /// more than the greatest of all that are held, pending ones counted, and its site is the hub's.
+    /// Makes a correction for a pass and publishes it, with all that was pending. Its counter is
+    /// one more than the greatest of all that are held, pending ones counted, and its site is the
+    /// hub's.
     ///
-    /// A refusal leaves the history and the pass as they were, save `Pending`: then the correction has
-    /// its place in the history, and its counter is not used again.
+    /// A refusal leaves the history and the pass as they were, save `Pending`: then the correction
+    /// has its place in the history, and its counter is not used again.
     pub fn correct(
         &mut self,
         pass: &mut Pass<H>,
@@ -141,7 +142,8 @@ impl<H: HubName, T: Shows<H>, R: Wait + Drop> Keeper<H, T, R> {
             next_correction_in H.number (set_of H.opening self.old.all) target tag value
             ≡ Err HubFault.StampsSpent }
         ensures pending { IfErr result (λ e. e ≡ HubFault.Pending → (made : CorrectionParts)
-            × (next_correction_in H.number (set_of H.opening self.old.all) target tag value ≡ Ok made)
+            × (next_correction_in H.number (set_of H.opening self.old.all) target tag value
+            ≡ Ok made)
             × (self.new.all ≡ self.old.all ++ entry_of pass.old.number (a_correction made) ∷ [])
             × (pass.new.mine ≡ pass.old.mine ++ digest_of (a_correction made) ∷ [])
             × (pass.new.seen ≡ pass.old.seen)) }

@@ -8,7 +8,8 @@ use thiserror::Error;
 /// Why a call of a hub was refused.
 #[derive(Clone, Copy, Debug, PartialEq, Eq, Hash, Error)]
 pub enum HubFault {
-    /// No place for a reader was free, or what is published is not what may be looked at or added to.
+    /// No place for a reader was free, or what is published is not what may be looked at or added
+    /// to.
     #[error("a place or an entry was refused")]
     Busy,
     /// An equal digest is held with another operation.

@@ -157,8 +157,9 @@ impl<H: HubName, T: Shows<H>, R: Wait + Drop> Keeper<H, T, R> {
 
     /// Takes an operation for a pass, and publishes it with all that was pending.
     ///
-    /// It goes to the back of the history, also where it was held before. A refusal leaves the history
-    /// and the pass as they were, save `Pending`; what was pending before may have been published.
+    /// It goes to the back of the history, also where it was held before. A refusal leaves the
+    /// history and the pass as they were, save `Pending`; what was pending before may have been
+    /// published.
     pub fn take(&mut self, pass: &mut Pass<H>, op: Digested) -> Result<Told<H>, HubFault>
         // What was taken, and where it stands.
         ensures told { IfOk result (λ told. told.reached ≡ self.new.all) }

@@ -1,9 +1,9 @@
 //! A running site: one writer, and many readers that wait for nobody.
 //!
 //! A site is kept in two copies (`left_right`). The keeper adds operations at the back of one
-//! history and publishes; a pass looks at what is published, takes no lock, and never sees less than
-//! it has seen before. The history itself is in the proofs alone: what is published knows which
-//! beginning of it it stands for (docs/DECISIONS.md, "Where the history of a hub lives").
+//! history and publishes; a pass looks at what is published, takes no lock, and never sees less
+//! than it has seen before. The history itself is in the proofs alone: what is published knows
+//! which beginning of it it stands for (docs/DECISIONS.md, "Where the history of a hub lives").
 #![tactic(auto)]
 
 mod book;

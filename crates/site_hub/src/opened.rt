@@ -34,7 +34,12 @@ impl<R: Wait + Drop> Model for Opened<R> {
 
     ghost coded = { unnamed_code };
 
-    ghost view = { λ o. record { book = o.blank.seen.book; number = o.number; opening = o.first; passes = o.passes } };
+    ghost view = { λ o. record {
+      book = o.blank.seen.book;
+      number = o.number;
+      opening = o.first;
+      passes = o.passes;
+    } };
 
     ghost invariant = { λ o. (o.second ≡ o.first) × (1 ≤ o.passes) × (o.passes ≤ 64) };
 }

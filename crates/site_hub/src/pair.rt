@@ -52,7 +52,10 @@ impl<H: HubName, T: Shows<H>, R: Wait + Drop> Model for Pair<H, T, R> {
 
     ghost Value = { Two };
 
-    ghost view = { λ w. record { published = T.state (published w.handle); reached = last_of (T.state (published w.handle)) (pending w.handle) } };
+    ghost view = { λ w. record {
+      published = T.state (published w.handle);
+      reached = last_of (T.state (published w.handle)) (pending w.handle);
+    } };
 }
 
 impl<H: HubName, T: Shows<H>, R: Wait + Drop> Pair<H, T, R> {

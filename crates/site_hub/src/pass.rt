@@ -25,8 +25,8 @@ use std::marker::Model;
 /// A place from which a hub is looked at. It waits for nobody.
 ///
 /// Each look answers over a history that begins with all that the pass had seen, and which is seen
-/// from then on, also where memory was refused for the answer. A look is `Busy`, and changes nothing,
-/// where the copy that is published is older than that, or no copy can be entered.
+/// from then on, also where memory was refused for the answer. A look is `Busy`, and changes
+/// nothing, where the copy that is published is older than that, or no copy can be entered.
 #[derive(Drop)]
 pub struct Pass<H: HubName> {
     pub(crate) reader: ReadHandle<Snapshot<H>>,

@@ -35,8 +35,8 @@ pub fn store<H: HubName, T: Shows<H>, R: Wait + Drop>(
     keeper.lock(rt).take(pass, op)
 }
 
-/// Makes a correction for a pass, in any thread. Its counter is known under the lock alone, so it is
-/// hashed there.
+/// Makes a correction for a pass, in any thread. Its counter is known under the lock alone, so it
+/// is hashed there.
 pub fn correct<H: HubName, T: Shows<H>, R: Wait + Drop>(
     rt: &impl Wait,
     keeper: &Mutex<Keeper<H, T, R>>,

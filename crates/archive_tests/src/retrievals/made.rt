@@ -130,8 +130,8 @@ pub fn site_of(alloc: Global, ops: Vec<Op>) -> Result<Site, Fail> {
     Ok(site)
 }
 
-/// The studies, series or instances of these UIDs, of study 1.2.1 and series 1.2.1.1 where these are
-/// above the level.
+/// The studies, series or instances of these UIDs, of study 1.2.1 and series 1.2.1.1 where these
+/// are above the level.
 pub fn selecting(alloc: Global, level: Level, uids: &[&[u8]]) -> Result<Selection, Fail> {
     let mut named = Vec::new(alloc);
     for uid in uids {
