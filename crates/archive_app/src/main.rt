@@ -1,23 +1,26 @@
 //! The program `archive`.
 #![tactic(auto)]
 
-mod commands;
-mod ending;
-mod simulate;
-#[cfg(test)]
-mod tests;
-
 use anyhow::Result;
-use commands::{Asked, read_words};
-use ending::{Ending, ending_of_script, status_of_refusal};
-use simulate::answer_script;
-use std::alloc::Global;
-use std::env;
+use archive_commands::{Answered, answer, ending_of, status_of_refusal};
+use command_line::read_words;
+use std::io::{Print, Write};
+use std::net::{Net, TcpListener, TcpStream};
 use std::process::ExitCode;
-use std::rt::Runtime;
+use std::rt::HostRuntime;
+use std::sync::Wait;
+use std::thread::Threads;
+use std::{env, io};
 
-/// Prints the line of an ending, if it has one. It says the status.
-fn told(rt: &impl Runtime<A = Global>, ending: Ending) -> Result<u8> {
+/// Prints an answer, or the line of its fault. It says the status.
+fn told(rt: &HostRuntime, answered: Answered) -> Result<u8> {
+    let ending = match answered {
+        Ok(text) => {
+            io::writer(rt).write_all(text.as_slice())?;
+            ending_of(Ok(()))
+        }
+        Err(fault) => ending_of(Err(fault)),
+    };
     let line = ending.line;
     if !line.is_empty() {
         eprintln!(rt; "{line}")?;
@@ -25,11 +28,14 @@ fn told(rt: &impl Runtime<A = Global>, ending: Ending) -> Result<u8> {
     Ok(ending.status)
 }
 
-fn run(rt: &impl Runtime<A = Global>) -> Result<u8> {
+fn run<R: Net<Listener = TcpListener, Stream = TcpStream> + Threads + Wait + Print + Sync>(
+    rt: &HostRuntime,
+    host: &R,
+) -> Result<u8> {
     let words: Vec<String> = env::args(rt)?.collect(rt.alloc())?;
     let words: Vec<&str> = words.iter().map(|word| word.as_str()).collect(rt.alloc())?;
     match read_words(rt.alloc(), words.as_slice()) {
-        Ok(Asked::Simulate) => told(rt, ending_of_script(answer_script(rt))),
+        Ok(asked) => told(rt, answer(rt, host, asked)?),
         Err(error) => {
             error.print(rt)?;
             Ok(status_of_refusal(error.use_stderr()))
@@ -38,5 +44,5 @@ fn run(rt: &impl Runtime<A = Global>) -> Result<u8> {
 }
 
 fn main(rt: HostRuntime) -> Result<ExitCode> {
-    Ok(ExitCode::from(run(&rt)?))
+    Ok(ExitCode::from(run(&rt, &rt)?))
 }

@@ -23,19 +23,23 @@ use Rattle.association_session.specs.declared.event.SessionEvent.TheVariants as 
 use Rattle.association_session.specs.declared.reply.Reply.{Reply}
 use Rattle.association_session.specs.Projections.{calls_in}
 use Rattle.association_session.specs.declared.deed.Call.{Call}
-use Rattle.association_session.specs.declared.deed.Call.TheVariants.{Store, Find}
+use Rattle.association_session.specs.declared.deed.Call.TheVariants.{Store, Find, Get}
 use Rattle.association_session.specs.declared.due.Due.{Due}
 use Rattle.association_session.specs.declared.due.Due.TheVariants as dues
-use Rattle.association_session.specs.declared.reply.Reply.TheVariants.{Stored, Found}
+use Rattle.association_session.specs.declared.reply.Reply.TheVariants.{Stored, Found, Gotten}
 use Rattle.association_session.specs.Due.{IsQuiet, IsAnswered, Fits, left_of, tells_rows}
 use Rattle.association_session.specs.Session.{Awaits, IsToldBy, IsFewer, FewerFor}
 use Rattle.association_session.proofs.TellLaws.{rows_go}
+use Rattle.association_session.proofs.SendLaws.{begins_go}
 use Rattle.association_run.specs.Steps.{Hearing, GoesOnWith, BreaksWith}
 use Rattle.association_session.specs.Row.{Within, met}
-use Rattle.association_session.specs.Session.{AssociationState, SessionState, Turned, Takes, Owes, OwedFor, Stops}
+use Rattle.association_session.specs.Session.{AssociationState, SessionState, Turned, Takes, Owes, OwedAt, Stops}
 use Rattle.association_session.specs.Session.{heard_in, is_left, in_turn, is_in_turn, is_abort, is_release}
 use Rattle.association_session.specs.Session.{is_abort_event, reads_abort, met_in, replies_in}
-use Rattle.association_session.specs.Talks.{Heard, Met, Said, Leads, Talks, behind}
+use Rattle.association_session.specs.Talks.{Heard, Met, Said, Leads, Talks}
+use Rattle.association_session.specs.SubOperation.{SubOperation}
+use Rattle.ul_state.specs.declared.event.Event.TheVariants.{LocalAbort}
+use Rattle.association_session.specs.Projections.{state_after, state_by_pdu}
 use Rattle.association_session.proofs.HearLaws.{none_answered, none_fits}
 use Rattle.association_run.specs.Hearing.{Place, Says, HearsSome}
 use Rattle.association_run.specs.Parts.{Sides, Did}
@@ -64,13 +68,27 @@ asked_pends : {P : Type 0} (ops : P → List Op) (own : P → List (List ℕ)) (
 asked_pends ops own old new (Store content) None r w p = absurd w
 asked_pends ops own old new (Store content) (Some (dues.Store a)) (Stored reply) w p = refl
 asked_pends ops own old new (Store content) (Some (dues.Store a)) (Found reply) w p = absurd p
+asked_pends ops own old new (Store content) (Some (dues.Store a)) (Gotten reply) w p = absurd p
 asked_pends ops own old new (Store content) (Some (dues.Find a kind)) r w p = absurd w
 asked_pends ops own old new (Store content) (Some (dues.Rows telling)) r w p = absurd w
+asked_pends ops own old new (Store content) (Some (dues.Get a syntax)) r w p = absurd w
+asked_pends ops own old new (Store content) (Some (dues.Sending left)) r w p = absurd w
 asked_pends ops own old new (Find finding) None r w p = absurd w
 asked_pends ops own old new (Find finding) (Some (dues.Store a)) r w p = absurd w
 asked_pends ops own old new (Find finding) (Some (dues.Find a kind)) (Found reply) w p = refl
 asked_pends ops own old new (Find finding) (Some (dues.Find a kind)) (Stored reply) w p = absurd p
+asked_pends ops own old new (Find finding) (Some (dues.Find a kind)) (Gotten reply) w p = absurd p
 asked_pends ops own old new (Find finding) (Some (dues.Rows telling)) r w p = absurd w
+asked_pends ops own old new (Find finding) (Some (dues.Get a syntax)) r w p = absurd w
+asked_pends ops own old new (Find finding) (Some (dues.Sending left)) r w p = absurd w
+asked_pends ops own old new (Get getting) None r w p = absurd w
+asked_pends ops own old new (Get getting) (Some (dues.Store a)) r w p = absurd w
+asked_pends ops own old new (Get getting) (Some (dues.Find a kind)) r w p = absurd w
+asked_pends ops own old new (Get getting) (Some (dues.Rows telling)) r w p = absurd w
+asked_pends ops own old new (Get getting) (Some (dues.Get a syntax)) (Gotten reply) w p = refl
+asked_pends ops own old new (Get getting) (Some (dues.Get a syntax)) (Stored reply) w p = absurd p
+asked_pends ops own old new (Get getting) (Some (dues.Get a syntax)) (Found reply) w p = absurd p
+asked_pends ops own old new (Get getting) (Some (dues.Sending left)) r w p = absurd w
 
 -- The reply of the call that ends them is that which is awaited.
 pends_of : {P : Type 0} (ops : P → List Op) (own : P → List (List ℕ)) (old new : P) (ds : List Deed)
@@ -88,19 +106,22 @@ pends_of ops own old new (Reach moment ∷ ds) a pending s h = pends_of ops own 
 -- ---- what is owed
 
 -- the deeds that are owed where nothing more comes
-rests_for : (titles : List (Title View)) (w : Within) (a : Option Due) → Fits a
-    → (rest : List Deed) × OwedFor a (Talks titles w []) [] rest
-rests_for titles w None fits = ([], refl)
-rests_for titles w (Some (dues.Store a)) fits = ([], refl)
-rests_for titles w (Some (dues.Find a kind)) fits = ([], refl)
-rests_for titles w (Some (dues.Rows telling)) fits = rows_go telling.awaited telling.kind telling.rows telling.status
-    (Talks titles w [] []) fits refl
+rests_for : (titles : List (Title View)) (w : Within) (sub : Option SubOperation) (a : Option Due) → Fits a
+    → (rest : List Deed) × OwedAt titles w sub a [] [] rest
+rests_for titles w sub None fits = ([], refl)
+rests_for titles w sub (Some (dues.Store a)) fits = ([], refl)
+rests_for titles w sub (Some (dues.Find a kind)) fits = ([], refl)
+rests_for titles w sub (Some (dues.Rows telling)) fits = rows_go telling.awaited telling.kind telling.rows
+    telling.status (Talks titles w sub [] []) fits refl
+rests_for titles w sub (Some (dues.Get a syntax)) fits = ([], refl)
+rests_for titles w sub (Some (dues.Sending r)) fits = begins_go w.link.contexts r.progress r.left
+    (λ next. Talks titles w next [] []) fits (λ next. refl)
 
 -- What was done so far begins what is owed by what came so far.
 pub takes_front : (titles : List (Title View)) (a b : AssociationState) (h : List Heard) (r : List Reply)
     (d : List Deed) → Fits b.awaited → Takes titles a h r d b → (rest : List Deed) × Owes titles a h r (d ++ rest)
 takes_front titles a b h r d fits p =
-    let rests = rests_for titles b.within b.awaited fits in (
+    let rests = rests_for titles b.within b.sub b.awaited fits in (
       rests.0,
       subst (λ (t : List Heard). Owes titles a t r (d ++ rests.0)) (append-nil h)
           (subst (λ (t : List Reply). Owes titles a (h ++ []) t (d ++ rests.0)) (append-nil r)
@@ -114,7 +135,7 @@ takes_all titles a b h r d idle p =
     subst (λ (t : List Heard). Owes titles a t r d) (append-nil h)
     (subst (λ (t : List Reply). Owes titles a (h ++ []) t d) (append-nil r)
     (subst (λ (t : List Deed). Owes titles a (h ++ []) (r ++ []) t) (append-nil d)
-    (p [] [] [] (subst (λ (o : Option Due). OwedFor o (Talks titles b.within []) [] []) (sym idle) refl))))
+    (p [] [] [] (subst (λ (o : Option Due). OwedAt titles b.within b.sub o [] [] []) (sym idle) refl))))
 
 pub takes_then : (titles : List (Title View)) (a b c : AssociationState) (h1 h2 : List Heard)
     (r1 r2 : List Reply) (d1 d2 : List Deed)
@@ -140,6 +161,8 @@ none_pends None (Some r) answered pends = absurd pends
 none_pends (Some (dues.Store a)) (Some r) answered pends = absurd answered
 none_pends (Some (dues.Find a kind)) (Some r) answered pends = absurd answered
 none_pends (Some (dues.Rows telling)) (Some r) answered pends = absurd cc
+none_pends (Some (dues.Get a syntax)) (Some r) answered pends = absurd answered
+none_pends (Some (dues.Sending left)) (Some r) answered pends = absurd cc
 
 left_open : (s : State) (queue : List Pdv) → is_left s queue ≡ true → s ≡ Sta6
 left_open Sta1 queue e = absurd cc
@@ -191,7 +214,13 @@ module _ (titles : List (Title View)) where
       → Leads titles a (us ++ vs) c
   leads_then [] vs a b c p q = subst (λ (w : Within). Leads titles w vs c) p q
   leads_then (Met event ∷ us) vs a b c p q = leads_then us vs (met titles a event) b c p q
-  leads_then (Said m ∷ us) vs a b c p q = (p.0, p.1, p.2, leads_then us vs (behind titles a p.1) b c p.3 q)
+  leads_then (Said m ∷ us) vs a b c p q = (
+    p.0,
+    elim p.1 as (λ _. Leads titles a (us ++ vs) c ⊎ Leads titles (met titles a LocalAbort) (us ++ vs) c) [
+      | inl on ↦ inl (leads_then us vs a b c on q)
+      | inr over ↦ inr (leads_then us vs (met titles a LocalAbort) b c over q)
+    ],
+  )
 
   says_then : (old mid new : Place) (values : List Pdv) (said more : List Heard) (left rest : List Pdv)
       → Says titles old values said left mid → Says titles mid left more rest new
@@ -316,6 +345,8 @@ fewer_left None old new left quiet turn fewer = fewer
 fewer_left (Some (dues.Store a)) old new left quiet turn fewer = absurd cc
 fewer_left (Some (dues.Find a kind)) old new left quiet turn fewer = absurd cc
 fewer_left (Some (dues.Rows telling)) old new left quiet turn fewer = absurd quiet
+fewer_left (Some (dues.Get a syntax)) old new left quiet turn fewer = absurd cc
+fewer_left (Some (dues.Sending r)) old new left quiet turn fewer = absurd quiet
 
 falls_by : {P : Type 0} (ops : P → List Op) (own : P → List (List ℕ)) (titles : List (Title View))
     (now then : Sides P) (s : SessionState) (input : SessionEvent) (pending behind : Option Reply)
@@ -333,6 +364,15 @@ falls_by ops own titles now then s inputs.GoesOn pending behind t quiet next tur
     t.association (is_left s.association.within.state s.association.queue) quiet next.0 turn.fewer in
     let g = few behind in
     omega (arith, f, g)
+
+-- deeds, one after another
+pub state_then : (s : State) (done deeds : List Deed) → state_after s (done ++ deeds) ≡ state_after (state_after s done)
+    deeds
+state_then s [] deeds = refl
+state_then s (Send pdu ∷ done) deeds = state_then (state_by_pdu s pdu) done deeds
+state_then s (Reach moment ∷ done) deeds = state_then s done deeds
+state_then s (Ask call ∷ done) deeds = state_then s done deeds
+state_then s (Close ∷ done) deeds = state_then Sta1 done deeds
 
 -- ---- with the port, the writer and the gate
 
@@ -368,6 +408,7 @@ module _ {P : Type 0} (ops : P → List Op) (own : P → List (List ℕ)) (title
     some = some_first from.association s.association event t.deeds t.turned;
     kept = t.turned.values.kept;
     takes = t.turned.takes;
+    state = t.turned.state;
     did = t.did;
     pends = pends_of ops own old.port now.port t.deeds s.association.awaited pending t.turned.stops t.did.history;
     asked = t.turned.opened (λ some. absurd (none_some from.association.awaited idle some));
@@ -418,6 +459,8 @@ module _ {P : Type 0} (ops : P → List Op) (own : P → List (List ℕ)) (title
     kept = turn.turned.values.kept;
     takes = takes_on titles from.association s.association t.association h.heard turn.turned.said h.told h.done
         turn.deeds input next.2 h.takes turn.turned.takes;
+    state = turn.turned.state ∙ ap (λ (k : State). state_after k turn.deeds) h.state
+        ∙ sym (state_then from.association.within.state h.done turn.deeds);
     did = subst (λ (k : List Reply). Did ops own old then (h.done ++ turn.deeds) [] (k ++ option_to_list behind))
         (replied_so h.told pending input next.3)
         (did_then ops own old now then h.done turn.deeds [] (h.told ++ option_to_list pending) (option_to_list behind)
@@ -447,6 +490,8 @@ module _ {P : Type 0} (ops : P → List Op) (own : P → List (List ℕ)) (title
   idle_of (Some (dues.Store a)) left answered e = absurd answered
   idle_of (Some (dues.Find a kind)) left answered e = absurd answered
   idle_of (Some (dues.Rows telling)) left answered e = absurd cc
+  idle_of (Some (dues.Get a syntax)) left answered e = absurd answered
+  idle_of (Some (dues.Sending r)) left answered e = absurd cc
 
   idle_left : (a : Option Due) (left : Bool) → a ≡ None → in_turn a left inputs.GoesOn ≡ false → left ≡ false
   idle_left None left idle e = e
@@ -471,6 +516,7 @@ module _ {P : Type 0} (ops : P → List Op) (own : P → List (List ℕ)) (title
         done = h.done;
         hears = (h.left, h.some, all_left s.association.within.state s.association.queue h.left finished h.kept);
         takes = h.takes;
+        state = h.state;
         did = subst (λ (k : List Reply). Did ops own old now h.done [] k) (append-nil h.told) h.did;
         idle = idle;
         finished = finished;
@@ -581,6 +627,17 @@ module _ {P : Type 0} (ops : P → List Op) (own : P → List (List ℕ)) (title
     refl,
   )
   telling_next s (Some (dues.Rows telling)) (Some reply) is e pends = absurd cc
+  telling_next s (Some (dues.Get a syntax)) pending is e pends = absurd cc
+  telling_next s (Some (dues.Sending r)) None is e pends = (
+    (
+      ap (λ (o : Option Due). in_turn o (is_left s.within.state s.queue) inputs.GoesOn) is,
+      tt,
+      refl,
+      refl,
+    ),
+    refl,
+  )
+  telling_next s (Some (dues.Sending r)) (Some reply) is e pends = absurd cc
 
   answered_on : (old new : Option Due) → tells_rows old ≡ true → IsToldBy inputs.GoesOn old new → IsAnswered new
   answered_on None new e told = absurd cc
@@ -624,6 +681,8 @@ quiet_of None e = tt
 quiet_of (Some (dues.Store a)) e = tt
 quiet_of (Some (dues.Find a kind)) e = tt
 quiet_of (Some (dues.Rows telling)) e = absurd cc
+quiet_of (Some (dues.Get a syntax)) e = tt
+quiet_of (Some (dues.Sending r)) e = absurd cc
 
 pub told_in_turn : (a : Option Due) (left : Bool) → tells_rows a ≡ true → in_turn a left inputs.GoesOn ≡ true
 told_in_turn None left e = absurd cc

@@ -1,5 +1,6 @@
 -- What a turn adds to what was done so far.
-use Rattle.std.proofs.Common.{◌≡◌, ◌≢◌, ℕ, ◌+◌, ◌<◌, ◌≤◌, ◌==◌, Bool, true, false, ◌||◌, List, [], ◌∷◌, ◌++◌, length}
+use Rattle.std.proofs.Common.{◌≡◌, ◌≢◌, ℕ, suc, ◌+◌, ◌<◌, ◌≤◌, ◌==◌, Bool, true, false, ◌||◌, List, [], ◌∷◌, ◌++◌}
+use Rattle.std.proofs.Common.{length}
 use Rattle.std.proofs.Common.{drop, Option, None, Result, ◌⊎◌, inl, inr, refl, sym, ap, subst, ◌∙◌, append_assoc}
 use Rattle.std.proofs.Common.{append-nil, arith, length-append}
 use Rattle.std.proofs.lemmas.Bool.{eqb-true, eqb-false}
@@ -25,7 +26,8 @@ use Rattle.dimse.specs.Assembly.{Assembly}
 use Rattle.dimse.specs.Messages.{Run}
 use Rattle.association_session.specs.declared.deed.Deed.{Deed}
 use Rattle.association_session.specs.declared.reply.Reply.{Reply}
-use Rattle.association_session.specs.Projections.{IsFront}
+use Rattle.association_session.specs.declared.deed.Call.{Call}
+use Rattle.association_session.specs.Projections.{IsFront, calls_in, state_after}
 use Rattle.association_session.specs.Row.{Within, opening, handed_on}
 use Rattle.association_session.specs.Session.{AssociationState, SessionState, Takes, Owes, start, is_left, heard_in}
 use Rattle.association_session.specs.Session.{is_abort, is_release}
@@ -41,6 +43,7 @@ use Rattle.association_run.specs.Pieces.{IsPiece, Precedes, Cuts, is_cut, is_who
 use Rattle.association_run.specs.Hearing.{Place, Course, SETTING_OUT, Says, Hears, HearsFront, TakesPiece, TakesPieces}
 use Rattle.association_run.specs.Hearing.{counts}
 use Rattle.association_run.specs.Parts.{Sides, Begins}
+use Rattle.association_run.specs.Port.{History}
 use Rattle.association_run.specs.Output.{Output, FrontOfOutput, IsOver, IsLeft, all_counted, end_in, is_over}
 use Rattle.association_run.specs.Output.{is_abort_piece, was_aborted, was_released}
 use Rattle.association_run.specs.Steps.{place_of, HearsPart, HeardFront}
@@ -48,7 +51,7 @@ use Rattle.association_run.specs.Turns.{counted_in, NOTHING_READ, Adds, Drops, R
 use Rattle.association_run.specs.Turns.{TakingBroke, IsInHand, IsDropped, IsReady, Sofar}
 use Rattle.association_run.proofs.Fronts.{read_further, nothing_read, all_front, front_behind}
 use Rattle.association_run.proofs.DidLaws.{did_none, did_then, all_begun, begun_behind, begun_more}
-use Rattle.association_run.proofs.StepLaws.{takes_all, takes_front, takes_then}
+use Rattle.association_run.proofs.StepLaws.{takes_all, takes_front, takes_then, state_then}
 use Rattle.archive_model.specs.declared.view.View.{View}
 
 -- ---- pieces
@@ -170,6 +173,14 @@ no_values : (fed left : List Pdv) → fed ++ left ≡ [] → fed ≡ []
 no_values [] left e = refl
 no_values (p ∷ fed) left e = absurd cc
 
+-- Each call has its reply.
+replied_all : {P : Type 0} (ops : P → List Op) (own : P → List (List ℕ)) (a b : P) (calls : List Call)
+    (replies : List Reply) → History ops own a calls replies b → length calls ≡ length replies
+replied_all ops own a b [] [] h = refl
+replied_all ops own a b [] (r ∷ rs) h = absurd h
+replied_all ops own a b (c ∷ cs) [] h = absurd h
+replied_all ops own a b (c ∷ cs) (r ∷ rs) h = ap suc (replied_all ops own h.0 b cs rs h.2)
+
 -- Where no value is handed on nothing is said.
 nothing_said : (titles : List (Title View)) (old : Place) (values : List Pdv) (said : List Heard)
     (left : List Pdv) (new : Place) → values ≡ [] → Says titles old values said left new → new.within ≡ old.within
@@ -272,9 +283,15 @@ not_over Sta6 counted e = (λ f. absurd cc, eqb-false counted MOST_DROPPED e)
 not_over Sta13 counted e = (λ f. absurd cc, eqb-false counted MOST_DROPPED e)
 
 module _ {P : Type 0} (ops : P → List Op) (own : P → List (List ℕ)) (titles : List (Title View)) where
-  -- where it is, with the bytes that were counted
-  abbrev course_at : SessionState → ℕ → Course
-  course_at s counted = record { place = place_of s.association; counted = counted }
+  -- where it is, with the bytes that were counted, and what was heard, replied and done
+  abbrev course_at : SessionState → ℕ → List Heard → List Reply → List Deed → Course
+  course_at s counted heard replies done = record {
+    place = place_of s.association;
+    counted = counted;
+    heard = heard;
+    replies = replies;
+    done = done;
+  }
 
   pub nothing_yet : (r : Option (List ℕ)) (a : Sides P) (s : SessionState) → s.association ≡ start → s.aborted ≡ false
       → s.released ≡ false → Sofar ops own titles r r a a s NOTHING_READ 0
@@ -289,8 +306,12 @@ module _ {P : Type 0} (ops : P → List Op) (own : P → List (List ℕ)) (title
     heard = [];
     replies = [];
     done = [];
-    hears = (refl, ap (λ (t : AssociationState). record { place = place_of t; counted = 0 }) is);
+    hears = (
+      refl,
+      ap (λ (t : AssociationState). record { place = place_of t; counted = 0; heard = []; replies = []; done = [] }) is,
+    );
     takes = λ us rs rest owed. subst (λ (t : AssociationState). Owes titles t us rs rest) is owed;
+    state = ap (λ (t : AssociationState). t.within.state) is;
     idle = ap (λ (t : AssociationState). t.awaited) is;
     did = did_none ops own a;
     held = inl (refl, refl, refl, refl);
@@ -317,6 +338,7 @@ module _ {P : Type 0} (ops : P → List Op) (own : P → List (List ℕ)) (title
     done = so.done;
     hears = so.hears;
     takes = so.takes;
+    state = so.state;
     idle = so.idle;
     did = so.did;
     held = held_more before after s.association.within.state so.pieces so.rest r.bytes so.counted r.brought so.held;
@@ -387,6 +409,7 @@ module _ {P : Type 0} (ops : P → List Op) (own : P → List (List ℕ)) (title
         done = so.done;
         hears = so.hears;
         takes = so.takes;
+        state = so.state;
         idle = so.idle;
         did = so.did;
         held = held_kept before after s.association.within.state so.pieces so.rest so.counted cut counted text so.held;
@@ -396,6 +419,11 @@ module _ {P : Type 0} (ops : P → List Op) (own : P → List (List ℕ)) (title
       } in
       subst (λ (k : Sides P). Sofar ops own titles r0 r1 old k t after n) (sym sides_same)
       (subst (λ (k : SessionState). Sofar ops own titles r0 r1 old now k after n) (sym same) kept)
+
+  talk_of : (s : SessionState) (heard : List Heard) (replies : List Reply) (done : List Deed)
+      → s.association.awaited ≡ None → Takes titles start heard replies done s.association
+      → Talks titles opening None heard replies done
+  talk_of s heard replies done idle takes = takes_all titles start s.association heard replies done idle takes
 
   took_piece : (r0 r1 : Option (List ℕ)) (old now then : Sides P) (s : SessionState) (before : Intake)
       (t : SessionState) (after : Intake) (n : ℕ) (so : Sofar ops own titles r0 r1 old now s before n)
@@ -407,6 +435,10 @@ module _ {P : Type 0} (ops : P → List Op) (own : P → List (List ℕ)) (title
       let size = long_of h.piece before.inbox.text h.is in
       let counts_kept = ap (λ (k : ℕ). counts s.association.within.state k) size in
       let w = h.heard in
+      let takes = takes_then titles start s.association t.association so.heard w.heard so.replies w.replies so.done
+      w.done so.takes w.takes in
+      let did = did_then ops own old now then so.done w.done [] so.replies w.replies so.did w.did in
+      let state = w.state ∙ ap (λ (k : State). state_after k w.done) so.state ∙ sym (state_then Sta2 so.done w.done) in
       record {
         text = so.text;
         read = so.read;
@@ -418,13 +450,26 @@ module _ {P : Type 0} (ops : P → List Op) (own : P → List (List ℕ)) (title
         heard = so.heard ++ w.heard;
         replies = so.replies ++ w.replies;
         done = so.done ++ w.done;
-        hears = takes_push titles SETTING_OUT so.pieces so.heard (course_at s so.counted) h.piece
-            w.heard (course_at t (so.counted + counts s.association.within.state (size_of_piece h.piece))) so.hears
-            (connected, w.hears, refl);
-        takes = takes_then titles start s.association t.association so.heard w.heard so.replies w.replies so.done w.done
-            so.takes w.takes;
+        hears = takes_push titles SETTING_OUT so.pieces so.heard (course_at s so.counted so.heard so.replies so.done)
+            h.piece w.heard (course_at t (so.counted + counts s.association.within.state (size_of_piece h.piece))
+            (so.heard ++ w.heard) (so.replies ++ w.replies) (so.done ++ w.done)) so.hears (
+              connected,
+              w.hears,
+              refl,
+              record {
+                heard = refl;
+                more = (w.replies, refl);
+                talk = talk_of t (so.heard ++ w.heard) (so.replies ++ w.replies) (so.done ++ w.done) w.idle takes;
+                replied = replied_all ops own old.port then.port (calls_in (so.done ++ w.done))
+                    (so.replies ++ w.replies)
+                    did.history;
+                state = state;
+              },
+            );
+        takes = takes;
+        state = state;
         idle = w.idle;
-        did = did_then ops own old now then so.done w.done [] so.replies w.replies so.did w.did;
+        did = did;
         held = held_behind (place_of s.association) (place_of t.association) before after so.pieces h.piece so.counted
             w.heard connected w.hears hand.1 hand.3 h.counted h.cut h.empty;
         within = omega (arith, counted_empty after t.association.within.state empty, h.counted, counts_kept, so.within);
@@ -444,20 +489,16 @@ module _ {P : Type 0} (ops : P → List Op) (own : P → List (List ℕ)) (title
         | inr dropped ↦ absurd (no_piece h.piece (subst (λ (k : List ℕ). IsPiece h.piece k) dropped.3 h.is))
       ]
 
-  talk_of : (s : SessionState) (heard : List Heard) (replies : List Reply) (done : List Deed)
-      → s.association.awaited ≡ None → Takes titles start heard replies done s.association
-      → Talks titles opening heard replies done
-  talk_of s heard replies done idle takes = takes_all titles start s.association heard replies done idle takes
-
   -- A front of one talk is a front of each that goes on from there.
   whatever_comes : (heard : List Heard) (told replies : List Reply) (done : List Deed) (part : List ℕ) (all : List Deed)
-      → IsFront told replies → Talks titles opening heard told all → Begins done part all
-      → (more : List Heard) (others : List Reply) (talked : List Deed) → Talks titles opening (heard ++ more)
+      → IsFront told replies → Talks titles opening None heard told all → Begins done part all
+      → (more : List Heard) (others : List Reply) (talked : List Deed) → Talks titles opening None (heard ++ more)
       (replies ++ others) talked → Begins done part talked
   whatever_comes heard told replies done part all first talk front more others talked later =
       begun_more done part all talked front
-      (talks_front titles opening heard more told (first.0 ++ others) all talked talk
-      (subst (λ (t : List Reply). Talks titles opening (heard ++ more) t talked) (ap (λ (t : List Reply). t ++ others)
+      (talks_front titles opening None heard more told (first.0 ++ others) all talked talk
+      (subst (λ (t : List Reply). Talks titles opening None (heard ++ more) t talked)
+      (ap (λ (t : List Reply). t ++ others)
       first.1 ∙ append_assoc told first.0 others) later))
 
   -- what is done is a front of itself
@@ -477,9 +518,10 @@ module _ {P : Type 0} (ops : P → List Op) (own : P → List (List ℕ)) (title
       parts = sym (append-nil so.pieces);
       before = so.heard;
       some = [];
-      course = course_at s so.counted;
+      course = course_at s so.counted so.heard so.replies so.done;
       takes = so.hears;
       front = refl;
+      earlier = all_front so.replies;
       is = sym (append-nil so.heard);
     };
     replies = so.replies;
@@ -496,10 +538,10 @@ module _ {P : Type 0} (ops : P → List Op) (own : P → List (List ℕ)) (title
   }
 
   some_front : (s : SessionState) (counted : ℕ) (piece : Piece) (heard : List Heard) → s.association.within.state ≢
-      Sta1 → HearsPart titles (place_of s.association) (event_of piece) heard → HearsFront titles (course_at s counted)
-      piece heard
-  some_front s counted piece heard connected (inl none) = inl none
-  some_front s counted piece heard connected (inr some) = inr (some.0, some.1, connected, some.2)
+      Sta1 → HearsPart titles (place_of s.association) (event_of piece) heard → (h : List Heard)
+      (r : List Reply) (d : List Deed) → HearsFront titles (course_at s counted h r d) piece heard
+  some_front s counted piece heard connected (inl none) h r d = inl none
+  some_front s counted piece heard connected (inr some) h r d = inr (some.0, some.1, connected, some.2)
 
   broke_piece : (r0 r1 : Option (List ℕ)) (old now then : Sides P) (s : SessionState) (intake : Intake) (n : ℕ)
       (so : Sofar ops own titles r0 r1 old now s intake n) → s.association.within.state ≢ Sta1 → (piece : Piece)
@@ -528,9 +570,10 @@ module _ {P : Type 0} (ops : P → List Op) (own : P → List (List ℕ)) (title
           parts = refl;
           before = so.heard;
           some = f.heard;
-          course = course_at s so.counted;
+          course = course_at s so.counted so.heard so.replies so.done;
           takes = so.hears;
-          front = some_front s so.counted piece f.heard connected f.hears;
+          front = some_front s so.counted piece f.heard connected f.hears so.heard so.replies so.done;
+          earlier = (f.told, refl);
           is = refl;
         };
         replies = so.replies ++ f.replies;
@@ -577,7 +620,7 @@ module _ {P : Type 0} (ops : P → List Op) (own : P → List (List ℕ)) (title
       → end ≡ end_in (counted_in intake s.association.within.state) s.aborted s.released → Output ops own titles r0 r1
       old now end
   finished r0 r1 old now s intake n end so unfinished over empty ends =
-      let c = course_at s so.counted in
+      let c = course_at s so.counted so.heard so.replies so.done in
       let all : all_counted c so.rest ≡ counted_in intake s.association.within.state = counted_is
       s.association.within.state so.counted intake so.pieces so.rest so.held in
       record {
@@ -591,6 +634,7 @@ module _ {P : Type 0} (ops : P → List Op) (own : P → List (List ℕ)) (title
         course = c;
         hears = so.hears;
         replies = so.replies;
+        all_replied = refl;
         done = so.done;
         talk = talk_of s so.heard so.replies so.done so.idle so.takes;
         did = so.did;
@@ -617,6 +661,7 @@ module _ {P : Type 0} (ops : P → List Op) (own : P → List (List ℕ)) (title
     done = so.done;
     hears = so.hears;
     takes = so.takes;
+    state = so.state;
     idle = so.idle;
     did = so.did;
     held = so.held;

@@ -1,6 +1,6 @@
 -- What an association hears of what it reads: PDUs, and the messages that the values of a P-DATA-TF end (PS3.8, E;
 -- PS3.7, 6.3).
-use Rattle.std.specs.Prelude.{◌≡◌, ◌≢◌, ◌⊎◌, ℕ, ◌+◌, List, [], ◌∷◌, ◌++◌, Option, Result}
+use Rattle.std.specs.Prelude.{◌≡◌, ◌≢◌, ◌⊎◌, ℕ, ◌+◌, List, [], ◌∷◌, ◌++◌, length, Option, None, Result}
 use Rattle.pdu.specs.declared.pdv.Pdv.{Pdv}
 use Rattle.ul_state.specs.declared.event.Event.{Event}
 use Rattle.ul_state.specs.declared.table.State.{State}
@@ -14,9 +14,12 @@ use Rattle.dimse.specs.declared.fault.DimseFault.{DimseFault}
 use Rattle.dimse.specs.declared.message.Message.{Message}
 use Rattle.dimse.specs.Assembly.{Assembly}
 use Rattle.dimse.specs.Messages.{Run, HadMemory}
+use Rattle.association_session.specs.declared.deed.Deed.{Deed}
+use Rattle.association_session.specs.declared.reply.Reply.{Reply}
+use Rattle.association_session.specs.Projections.{IsFront, calls_in, state_after}
 use Rattle.association_session.specs.Row.{Within, opening, met, handed_on}
 use Rattle.association_session.specs.Session.{heard_in, stage_by}
-use Rattle.association_session.specs.Talks.{Heard, Met, Leads}
+use Rattle.association_session.specs.Talks.{Heard, Met, Leads, Talks}
 use Rattle.association_run.specs.declared.piece.Piece.{Piece}
 use Rattle.association_run.specs.Pieces.{event_of, size_of_piece}
 use Rattle.archive_model.specs.declared.view.View.{View}
@@ -65,13 +68,31 @@ Hears titles old event heard new = (left : List Pdv) × HearsSome titles old eve
 
 -- ---- what is heard of all that is read
 
--- where an association is, and how many bytes were counted since the peer is to close
+-- where an association is, and how many bytes were counted since the peer is to close; what was heard and replied so
+-- far, and what was done for it
 pub record Course : Type 0 where
   pub place : Place
   pub counted : ℕ
+  pub heard : List Heard
+  pub replies : List Reply
+  pub done : List Deed
 
 abbrev pub SETTING_OUT : Course
-SETTING_OUT = record { place = record { within = opening; stage = Between }; counted = 0 }
+SETTING_OUT = record {
+  place = record { within = opening; stage = Between };
+  counted = 0;
+  heard = [];
+  replies = [];
+  done = [];
+}
+
+-- Behind a piece the association is where the deeds lead for all that was heard up to it, each call with its reply.
+pub record LeadsOn (titles : List (Title View)) (c : Course) (now : List Heard) (end : Course) : Type 0 where
+  pub heard : end.heard ≡ c.heard ++ now
+  pub more : IsFront c.replies end.replies
+  pub talk : Talks titles opening None end.heard end.replies end.done
+  pub replied : length (calls_in end.done) ≡ length end.replies
+  pub state : end.place.within.state ≡ state_after Sta2 end.done
 
 -- Bytes that come once the peer is to close are counted.
 abbrev pub counts : State → ℕ → ℕ
@@ -84,7 +105,7 @@ counts Sta13 size = size
 abbrev pub TakesPiece : List (Title View) → Course → Piece → List Heard → Course → Type 0
 TakesPiece titles c piece heard end =
     (c.place.within.state ≢ Sta1) × Hears titles c.place (event_of piece) heard end.place
-    × (end.counted ≡ c.counted + counts c.place.within.state (size_of_piece piece))
+    × (end.counted ≡ c.counted + counts c.place.within.state (size_of_piece piece)) × LeadsOn titles c heard end
 
 -- pieces, one after another
 abbrev pub TakesPieces : List (Title View) → Course → List Piece → List Heard → Course → Type 0
@@ -107,7 +128,8 @@ TakesFront titles c [] some = some ≡ []
 TakesFront titles c (piece ∷ pieces) some = HearsFront titles c piece some
 
 -- These were heard of the pieces, before a fault.
-pub record TakesSome (titles : List (Title View)) (pieces : List Piece) (heard : List Heard) : Type 0 where
+pub record TakesSome (titles : List (Title View)) (pieces : List Piece) (heard : List Heard)
+    (told : List Reply) : Type 0 where
   pub whole : List Piece
   pub behind : List Piece
   pub parts : pieces ≡ whole ++ behind
@@ -116,4 +138,5 @@ pub record TakesSome (titles : List (Title View)) (pieces : List Piece) (heard :
   pub course : Course
   pub takes : TakesPieces titles SETTING_OUT whole before course
   pub front : TakesFront titles course behind some
+  pub earlier : IsFront course.replies told
   pub is : heard ≡ before ++ some

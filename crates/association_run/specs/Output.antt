@@ -1,5 +1,5 @@
 -- What a whole run does, for what it read and what the port replied.
-use Rattle.std.specs.Prelude.{◌≡◌, ◌≤◌, ◌⊎◌, ℕ, ◌+◌, Bool, true, false, ◌||◌, List, [], ◌++◌, Option, length}
+use Rattle.std.specs.Prelude.{◌≡◌, ◌≤◌, ◌⊎◌, ℕ, ◌+◌, Bool, true, false, ◌||◌, List, [], ◌++◌, Option, None, length}
 use Rattle.std.specs.Prelude.{if◌then◌else◌, ◌==◌}
 use Rattle.std.specs.List.{list_any}
 use Rattle.std.specs.Io.KnownBytes.{Consumes, IsAtEnd}
@@ -87,8 +87,9 @@ pub record Output {P : Type 0} (ops : P → List Op) (own : P → List (List ℕ
   pub course : Course
   pub hears : TakesPieces titles SETTING_OUT pieces heard course
   pub replies : List Reply
+  pub all_replied : course.replies ≡ replies
   pub done : List Deed
-  pub talk : Talks titles opening heard replies done
+  pub talk : Talks titles opening None heard replies done
   pub did : Did ops own old new done [] replies
   pub within : all_counted course rest ≤ MOST_DROPPED
   pub over : IsOver course rest r1
@@ -105,7 +106,6 @@ pub record FrontOfOutput {P : Type 0} (ops : P → List Op) (own : P → List (L
   pub rest : List ℕ
   pub cut : Cuts text pieces rest
   pub heard : List Heard
-  pub hears : TakesSome titles pieces heard
   -- These deeds were done, and of the PDU of the next one these bytes were written.
   pub replies : List Reply
   pub done : List Deed
@@ -114,12 +114,13 @@ pub record FrontOfOutput {P : Type 0} (ops : P → List Op) (own : P → List (L
   -- They are a front of the deeds for what was heard and told, where the last reply may not be told yet,
   pub told : List Reply
   pub first : IsFront told replies
+  pub hears : TakesSome titles pieces heard told
   pub all : List Deed
-  pub talk : Talks titles opening heard told all
+  pub talk : Talks titles opening None heard told all
   pub front : Begins done part all
   -- and of those for all that may be heard later, and for every reply of a call that was not made.
-  pub whatever : (more : List Heard) (others : List Reply) (talked : List Deed) → Talks titles opening (heard ++ more)
-      (replies ++ others) talked → Begins done part talked
+  pub whatever : (more : List Heard) (others : List Reply) (talked : List Deed) → Talks titles opening None
+      (heard ++ more) (replies ++ others) talked → Begins done part talked
 
 -- at least so many bytes were read
 abbrev pub ReadAtLeast : ℕ → Option (List ℕ) → Option (List ℕ) → Type 0

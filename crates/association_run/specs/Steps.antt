@@ -11,7 +11,7 @@ use Rattle.association_session.specs.declared.deed.Deed.TheVariants.{Send, Reach
 use Rattle.association_session.specs.declared.event.SessionEvent.{SessionEvent}
 use Rattle.association_session.specs.declared.event.SessionEvent.TheVariants as inputs
 use Rattle.association_session.specs.declared.reply.Reply.{Reply}
-use Rattle.association_session.specs.Projections.{IsFront}
+use Rattle.association_session.specs.Projections.{IsFront, state_after}
 use Rattle.association_session.specs.declared.due.Due.{Due}
 use Rattle.association_session.specs.Due.{takes_reply, IsAnswered, Fits}
 use Rattle.ul_state.specs.Table.{IsLeft}
@@ -88,6 +88,7 @@ pub record HeardWhole {P : Type 0} (ops : P → List Op) (own : P → List (List
   pub done : List Deed
   pub hears : Hears titles (place_of from.association) event heard (place_of to.association)
   pub takes : Takes titles from.association heard replies done to.association
+  pub state : to.association.within.state ≡ state_after from.association.within.state done
   pub did : Did ops own old new done [] replies
   pub idle : to.association.awaited ≡ None
   pub finished : is_left to.association.within.state to.association.queue ≡ false
@@ -129,6 +130,7 @@ pub record Hearing {P : Type 0} (ops : P → List Op) (own : P → List (List �
     pub some : HearsSome titles (place_of from.association) event heard left (place_of s.association)
     pub kept : (s.association.queue ≡ left) ⊎ IsLeft s.association.within.state
     pub takes : Takes titles from.association heard told done s.association
+    pub state : s.association.within.state ≡ state_after from.association.within.state done
     pub did : Did ops own old now done [] (told ++ option_to_list pending)
     pub pends : Pends s.association.awaited pending
     pub asked : IsOpenFor s.association

@@ -5,10 +5,11 @@ use Rattle.std.specs.Io.KnownBytes.{Consumes, IsAtEnd}
 use Rattle.pdu.specs.Grammar.{IsUnfinished}
 use Rattle.operation.specs.declared.op.Op.{Op}
 use Rattle.ul_state.specs.declared.table.State.{State}
-use Rattle.ul_state.specs.declared.table.State.TheVariants.{Sta1, Sta13}
+use Rattle.ul_state.specs.declared.table.State.TheVariants.{Sta1, Sta2, Sta13}
 use Rattle.ul_state.specs.declared.titles.Title.{Title}
 use Rattle.association_session.specs.declared.deed.Deed.{Deed}
 use Rattle.association_session.specs.declared.reply.Reply.{Reply}
+use Rattle.association_session.specs.Projections.{state_after}
 use Rattle.association_session.specs.Session.{SessionState, Takes, start, is_left}
 use Rattle.association_session.specs.Talks.{Heard}
 use Rattle.association_run.specs.declared.end.End.{End}
@@ -120,8 +121,15 @@ pub record Sofar {P : Type 0} (ops : P → List Op) (own : P → List (List ℕ)
   pub heard : List Heard
   pub replies : List Reply
   pub done : List Deed
-  pub hears : TakesPieces titles SETTING_OUT pieces heard (record { place = place_of s.association; counted = counted })
+  pub hears : TakesPieces titles SETTING_OUT pieces heard (record {
+    place = place_of s.association;
+    counted = counted;
+    heard = heard;
+    replies = replies;
+    done = done;
+  })
   pub takes : Takes titles start heard replies done s.association
+  pub state : s.association.within.state ≡ state_after Sta2 done
   pub idle : s.association.awaited ≡ None
   pub did : Did ops own old now done [] replies
   pub held : IsInHand intake pieces rest counted ⊎ IsDropped intake s.association.within.state pieces rest counted

@@ -54,6 +54,7 @@ fn ask<P: Port>(port: &mut P, call: Call) -> Reply
             let rows = port.find(called, finding.view, &finding.query);
             Reply::Found(rows)
         }
+        Call::Get(getting) => Reply::Gotten(port.get(getting.view, &getting.selection)),
     }
 }
 
@@ -146,7 +147,7 @@ fn next(session: &Session, pending: Option<Reply>) -> Option<SessionEvent>
     None
 }
 
-/// Tells all the rows that are left, some at a time.
+/// Tells all the rows that are left and begins the sub-operations that are left, some at a time.
 fn tell_rows<W: Sink, P: Port, G: Gate>(
     alloc: Global,
     session: &mut Session,
@@ -224,6 +225,7 @@ pub(crate) fn hear<W: Sink, P: Port, G: Gate>(
         port,
         gate,
     )?;
+    tell_rows(alloc, session, titles, outbox, writer, port, gate)?;
     while let Some(input) = next(session, pending) {
         pending = tell(alloc, session, titles, input, outbox, writer, port, gate)?;
         tell_rows(alloc, session, titles, outbox, writer, port, gate)?;

@@ -2,13 +2,15 @@
 
 ghost use Rattle.std.specs.Prelude.{List, ℕ};
 ghost use Rattle.operation.specs.declared.op.Op.{Op};
-ghost use Rattle.association_run.specs.Port.{Stores, Finds};
+ghost use Rattle.operation.specs.declared.op.Op.TheVariants.{Content as a_content};
+ghost use Rattle.association_run.specs.Port.{Stores, Finds, Gets};
 
 use archive_model::View;
 use association_session::PortFault;
 use octets::ListOf;
 use operation::{Content, Taken};
 use query_model::{Answer, Query};
+use retrieve_model::{Prepared, Selection};
 
 /// A site, as one association sees it. Others may store between two steps, and nothing that is held
 /// is lost.
@@ -19,9 +21,10 @@ pub trait Port {
     // The digests of the contents that its own stores brought, in order.
     ghost own: { Self → List (List ℕ) };
 
-    /// Takes a content, in one step.
+    /// Takes a content, in one step, into what is held when its turn comes: others may have stored
+    /// before it. It is new where none of its digest is held then, and known where it is.
     fn store(&mut self, content: Content) -> Result<Taken, PortFault>
-        ensures { Stores ops own self.old content result self.new };
+        ensures { Stores ops own self.old (a_content content) result self.new };
 
     /// The rows that answer a query, in one look: over all that is held when it ends.
     fn find(
@@ -32,4 +35,10 @@ pub trait Port {
     ) -> Result<ListOf<Answer>, PortFault>
         ensures { Finds ops own self.old
             (record { called = called.now; view = view; query = query.now }) result self.new };
+
+    /// What is to be sent of a selection, by ascending SOP Instance UID, in one look: over all that
+    /// is held when it ends.
+    fn get(&mut self, view: View, selection: &Selection) -> Result<ListOf<Prepared>, PortFault>
+        ensures { Gets ops own self.old (record { view = view; selection = selection.now }) result
+            self.new };
 }

@@ -11,24 +11,39 @@ use Rattle.ul_state.specs.declared.table.State.TheVariants.{Sta1, Sta2, Sta6, St
 use Rattle.ul_state.specs.declared.titles.Title.{Title}
 use Rattle.dimse.specs.declared.message.Message.{Message}
 use Rattle.dimse.specs.declared.status.Status.{Status}
-use Rattle.association_session.specs.declared.deed.Call.TheVariants.{Find}
+use Rattle.association_session.specs.declared.deed.Call.TheVariants.{Find, Get}
 use Rattle.association_session.specs.declared.deed.Deed.{Deed}
 use Rattle.association_session.specs.declared.deed.Deed.TheVariants.{Send, Reach, Ask}
 use Rattle.association_session.specs.declared.deed.Finding.{Finding}
 use Rattle.association_session.specs.declared.deed.Moment.TheVariants.{FindAnswered}
 use Rattle.association_session.specs.declared.due.RowKind.{RowKind}
 use Rattle.association_session.specs.declared.reply.Reply.{Reply}
-use Rattle.association_session.specs.declared.reply.Reply.TheVariants.{Stored, Found}
+use Rattle.association_session.specs.declared.reply.Reply.TheVariants.{Stored, Found, Gotten}
 use Rattle.association_session.specs.declared.service.Service.{Service}
 use Rattle.association_session.specs.declared.service.Service.TheVariants.{Ignored, Broken, Responded, Asked, Queried}
+use Rattle.association_session.specs.declared.service.Service.TheVariants.{Fetched}
 use Rattle.association_session.specs.Answered.{Answers as FindAnswers, AreAnswered}
 use Rattle.association_session.specs.Find.{row_status, rows_in, status_of_found}
 use Rattle.association_session.specs.Response.{Awaited}
+use Rattle.association_session.specs.Retrieval.{few_in, setting_out, begun, meaning_of}
+use Rattle.association_session.specs.SubOperation.{Retrieval, SubOperation}
+use Rattle.association_session.specs.Retrieval.{performed, cancelling}
+use Rattle.association_session.specs.declared.deed.Getting.{Getting}
+use Rattle.association_session.specs.declared.retrieval.Meaning.{Meaning}
+use Rattle.association_session.specs.declared.retrieval.Meaning.TheVariants.{Cancelled, Performed, Unawaited}
+use Rattle.association_session.specs.declared.retrieval.Progress.{Progress}
+use Rattle.data_set.specs.declared.syntax.Syntax.{Syntax}
+use Rattle.dimse.specs.declared.status.Status.TheVariants.{UnableToPerformSubOperations}
+use Rattle.pdu.specs.declared.context.Context.{Context}
+use Rattle.retrieve_model.specs.declared.prepared.Prepared.{Prepared}
 use Rattle.association_session.specs.Row.{Within, row, met, deeds_of, action_on}
 use Rattle.association_session.specs.Service.{Serves}
 use Rattle.association_session.specs.Store.{status_of_reply}
-use Rattle.association_session.specs.Talks.{Heard, Met, Said, Goes, Then, Tells, TellsRows, FollowsStore, FollowsFind}
-use Rattle.association_session.specs.Talks.{Does, InState, Answers, Talks, awaiting}
+use Rattle.association_session.specs.Talks.{Heard, Met, Said, Goes, GoesBy, Then, Tells, TellsRows, FollowsStore}
+use Rattle.association_session.specs.Talks.{FollowsFind}
+use Rattle.association_session.specs.Talks.{FollowsGet, BeginsFew, Begins, Does, InState, Answers, GoesOnBy, Performs}
+use Rattle.association_session.specs.Talks.{Attends}
+use Rattle.association_session.specs.Talks.{Talks, awaiting}
 use Rattle.association_session.proofs.StatusLaws.{served_kind}
 
 sends_answered : (ps : List Pdu) (rest : List Deed) → AreAnswered rest → AreAnswered (map Send ps ++ rest)
@@ -59,6 +74,7 @@ store_answered awaited R [] x goes p = none_answered x p
 store_answered awaited R (Stored reply ∷ rs) x goes p = tells_answered awaited (status_of_reply reply) (R rs) x
     (goes rs) p
 store_answered awaited R (Found reply ∷ rs) x goes p = absurd p
+store_answered awaited R (Gotten reply ∷ rs) x goes p = absurd p
 
 rows_answered : (awaited : Awaited) (kind : RowKind) (rows : List Set) (status : Status) (R : List Deed → Type 0)
     (a : List Deed) → ((x : List Deed) → R x → AreAnswered x) → TellsRows awaited kind rows status R a → AreAnswered a
@@ -96,36 +112,94 @@ find_answered finding awaited kind R (Found reply ∷ rs) x goes partial p = (
   rows_answered awaited kind (rows_in reply) (status_of_found reply) (R rs) x (goes rs) p,
 )
 find_answered finding awaited kind R (Stored reply ∷ rs) x goes partial p = absurd p
+find_answered finding awaited kind R (Gotten reply ∷ rs) x goes partial p = absurd p
 
-does_answered : (w : Within) (m : Message) (service : Service) (awaited : Awaited) (action : Option Action)
-    (R R' : Goes) (rs : List Reply) (a : List Deed) → Serves w m service → Goes_on R → Goes_on R'
-    → Does service awaited (deeds_of action) R R' rs a → AreAnswered a
-does_answered w m Ignored awaited action R R' rs a serves goes gone p = goes rs a p
-does_answered w m Broken awaited action R R' rs a serves goes gone p = subst (λ (t : List Deed). AreAnswered t)
-    (sym p.1) (row_answered action p.0 (gone rs p.0 p.2))
-does_answered w m (Responded status) awaited action R R' rs a serves goes gone p = tells_answered awaited status (R rs)
-    a (goes rs) p
-does_answered w m (Asked content) awaited action R R' rs a serves goes gone p =
-    subst (λ (t : List Deed). AreAnswered t) (sym p.1) (store_answered awaited R rs p.0 goes p.2)
-does_answered w m (Queried finding kind) awaited action R R' rs a serves goes gone p =
-    subst (λ (t : List Deed). AreAnswered t) (sym p.1) (find_answered finding awaited kind R rs p.0 goes
+-- what goes on has its answers, whichever sub-operation is awaited
+abbrev Goes_on_by : GoesBy → Type 0
+Goes_on_by R = (next : Option SubOperation) (rs : List Reply) (x : List Deed) → R next rs x → AreAnswered x
+
+begins_answered : (contexts : List Context) (g : Progress) (left : List Prepared)
+    (R : Option SubOperation → List Deed → Type 0) (a : List Deed)
+    → ((next : Option SubOperation) (x : List Deed) → R next x → AreAnswered x) → Begins contexts g left R a
+    → AreAnswered a
+begins_answered contexts g left R a goes p = subst (λ (t : List Deed). AreAnswered t) (sym p.2.1)
+    (sends_answered p.0 p.2.0 (goes (begun contexts g left) p.2.0 p.2.2))
+
+few_answered : (few : Option (List Prepared)) (contexts : List Context) (awaited : Awaited) (syntax : Syntax)
+    (R : Option SubOperation → List Deed → Type 0) (R' : List Deed → Type 0) (a : List Deed)
+    → ((next : Option SubOperation) (x : List Deed) → R next x → AreAnswered x)
+    → ((x : List Deed) → R' x → AreAnswered x) → BeginsFew contexts awaited syntax few R R' a → AreAnswered a
+few_answered None contexts awaited syntax R R' a goes refused p = tells_answered awaited UnableToPerformSubOperations R'
+    a refused p
+few_answered (Some prepared) contexts awaited syntax R R' a goes refused p = begins_answered contexts (setting_out
+    awaited syntax) prepared R a goes p
+
+get_answered : (contexts : List Context) (awaited : Awaited) (syntax : Syntax) (R : GoesBy) (rs : List Reply)
+    (x : List Deed) → Goes_on_by R → FollowsGet contexts awaited syntax R (R None) rs x → AreAnswered x
+get_answered contexts awaited syntax R [] x goes p = none_answered x p
+get_answered contexts awaited syntax R (Gotten reply ∷ rs) x goes p = few_answered (few_in reply) contexts awaited
+    syntax (λ next. R next rs) (R None rs) x (λ next. goes next rs) (goes None rs) p
+get_answered contexts awaited syntax R (Stored reply ∷ rs) x goes p = absurd p
+get_answered contexts awaited syntax R (Found reply ∷ rs) x goes p = absurd p
+
+does_answered : (w : Within) (m : Message) (service : Service) (contexts : List Context) (awaited : Awaited)
+    (action : Option Action) (R : GoesBy) (R' : Goes) (rs : List Reply) (a : List Deed) → Serves w m service
+    → Goes_on_by R → Goes_on R' → Does service contexts awaited (deeds_of action) R R' rs a → AreAnswered a
+does_answered w m Ignored contexts awaited action R R' rs a serves goes gone p = goes None rs a p
+does_answered w m Broken contexts awaited action R R' rs a serves goes gone p =
+    subst (λ (t : List Deed). AreAnswered t) (sym p.1) (row_answered action p.0 (gone rs p.0 p.2))
+does_answered w m (Responded status) contexts awaited action R R' rs a serves goes gone p = tells_answered awaited
+    status (R None rs) a (goes None rs) p
+does_answered w m (Asked content) contexts awaited action R R' rs a serves goes gone p =
+    subst (λ (t : List Deed). AreAnswered t) (sym p.1) (store_answered awaited (R None) rs p.0 (goes None) p.2)
+does_answered w m (Queried finding kind) contexts awaited action R R' rs a serves goes gone p =
+    subst (λ (t : List Deed). AreAnswered t) (sym p.1) (find_answered finding awaited kind (R None) rs p.0 (goes None)
     (served_kind w m finding kind serves) p.2)
+does_answered w m (Fetched getting syntax) contexts awaited action R R' rs a serves goes gone p =
+    subst (λ (t : List Deed). AreAnswered t) (sym p.1) (get_answered contexts awaited syntax R rs p.0 goes p.2)
 
-in_state_answered : (s : State) (w : Within) (m : Message) (action : Option Action) (R R' : Goes) (rs : List Reply)
-    (a : List Deed) → Goes_on R → Goes_on R' → InState s (Answers w m (deeds_of action) R R') R rs a → AreAnswered a
-in_state_answered Sta1 w m action R R' rs a goes gone p = goes rs a p
-in_state_answered Sta2 w m action R R' rs a goes gone p = goes rs a p
-in_state_answered Sta6 w m action R R' rs a goes gone p = does_answered w m p.0 (awaiting w.link m) action R R' rs a
-    p.1 goes gone p.2
-in_state_answered Sta13 w m action R R' rs a goes gone p = goes rs a p
+goes_on_answered : (next : Option Retrieval) (contexts : List Context) (R : GoesBy) (rs : List Reply) (a : List Deed)
+    → Goes_on_by R → GoesOnBy next contexts R rs a → AreAnswered a
+goes_on_answered None contexts R rs a goes p = goes None rs a p
+goes_on_answered (Some r) contexts R rs a goes p = begins_answered contexts r.progress r.left (λ next. R next rs) a
+    (λ next. goes next rs) p
 
-pub answered : (titles : List (Title View)) (w : Within) (us : List Heard) (rs : List Reply) (a : List Deed)
-    → Talks titles w us rs a → AreAnswered a
-answered titles w [] rs a p = none_answered a p
-answered titles w (Met event ∷ us) rs a p =
+performs_answered : (meaning : Meaning) (sub : SubOperation) (contexts : List Context) (action : Option Action)
+    (R : GoesBy) (R' : Goes) (rs : List Reply) (a : List Deed) → Goes_on_by R → Goes_on R'
+    → Performs meaning sub contexts (deeds_of action) R R' rs a → AreAnswered a
+performs_answered Cancelled sub contexts action R R' rs a goes gone p = goes (Some (cancelling sub)) rs a p
+performs_answered Unawaited sub contexts action R R' rs a goes gone p = subst (λ (t : List Deed). AreAnswered t)
+    (sym p.1) (row_answered action p.0 (gone rs p.0 p.2))
+performs_answered (Performed outcome) sub contexts action R R' rs a goes gone p =
+    subst (λ (t : List Deed). AreAnswered t) (sym p.3.1)
+    (sends_answered p.0 p.3.0 (goes_on_answered p.1 contexts R rs p.3.0 goes p.3.2))
+
+attends_answered : (sub : Option SubOperation) (w : Within) (m : Message) (action : Option Action) (R : GoesBy)
+    (R' : Goes) (rs : List Reply) (a : List Deed) → Goes_on_by R → Goes_on R'
+    → Attends sub w m (deeds_of action) R R' rs a → AreAnswered a
+attends_answered None w m action R R' rs a goes gone p = does_answered w m p.0 w.link.contexts (awaiting w.link m)
+    action R R' rs a p.1 goes gone p.2
+attends_answered (Some sub) w m action R R' rs a goes gone p = performs_answered (meaning_of sub.progress m.command) sub
+    w.link.contexts action R R' rs a goes gone p
+
+in_state_answered : (s : State) (sub : Option SubOperation) (w : Within) (m : Message) (action : Option Action)
+    (R : GoesBy) (R' D : Goes) (rs : List Reply) (a : List Deed) → Goes_on_by R → Goes_on R' → Goes_on D
+    → InState s (Attends sub w m (deeds_of action) R R') D rs a → AreAnswered a
+in_state_answered Sta1 sub w m action R R' D rs a goes gone dropped p = dropped rs a p
+in_state_answered Sta2 sub w m action R R' D rs a goes gone dropped p = dropped rs a p
+in_state_answered Sta6 sub w m action R R' D rs a goes gone dropped p = attends_answered sub w m action R R' rs a goes
+    gone p
+in_state_answered Sta13 sub w m action R R' D rs a goes gone dropped p = dropped rs a p
+
+pub answered : (titles : List (Title View)) (w : Within) (sub : Option SubOperation) (us : List Heard) (rs : List Reply)
+    (a : List Deed) → Talks titles w sub us rs a → AreAnswered a
+answered titles w sub [] rs a p = none_answered a p
+answered titles w sub (Met event ∷ us) rs a p =
     subst (λ (t : List Deed). AreAnswered t) (sym p.1) (row_answered (action_on titles w.state event)
-    p.0 (answered titles (met titles w event) us rs p.0 p.2))
-answered titles w (Said m ∷ us) rs a p =
-    in_state_answered w.state w m (action_on titles w.state events.LocalAbort) (Talks titles w us)
-    (Talks titles (met titles w events.LocalAbort) us) rs a
-    (λ rs' x. answered titles w us rs' x) (λ rs' x. answered titles (met titles w events.LocalAbort) us rs' x) p
+    p.0 (answered titles (met titles w event) sub us rs p.0 p.2))
+answered titles w sub (Said m ∷ us) rs a p =
+    in_state_answered w.state sub w m (action_on titles w.state events.LocalAbort) (λ next. Talks titles w next us)
+    (Talks titles (met titles w events.LocalAbort) None us) (Talks titles w sub us) rs a
+    (λ next rs' x. answered titles w next us rs' x)
+    (λ rs' x. answered titles (met titles w events.LocalAbort) None us rs' x)
+    (λ rs' x. answered titles w sub us rs' x) p

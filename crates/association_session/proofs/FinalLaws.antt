@@ -1,7 +1,7 @@
 -- Each request has one response, in order.
-use Rattle.std.proofs.Common.{◌≡◌, true, false, List, [], ◌∷◌, ◌++◌, map, Result, Ok, Err, inl, inr, refl, sym, ap}
-use Rattle.std.proofs.Common.{subst, ◌∙◌}
-use Rattle.std.proofs.Common.{append_assoc}
+use Rattle.std.proofs.Common.{◌≡◌, ◌⊎◌, ℕ, Bool, true, false, List, [], ◌∷◌, ◌++◌, map, length, Option, Some, None}
+use Rattle.std.proofs.Common.{Result, Ok, Err, inl, inr, refl, sym, ap, subst, ◌∙◌, append_assoc, append-nil}
+use Rattle.std.specs.Prelude.{IfSome}
 use Rattle.pdu.specs.declared.request.Request.{Request}
 use Rattle.pdu.specs.declared.reject.Reject.{Reject}
 use Rattle.pdu.specs.declared.value.Pdu.TheVariants as pdus
@@ -15,31 +15,58 @@ use Rattle.ul_state.specs.Decision.{value_for}
 use Rattle.dimse.specs.declared.message.Message.{Message}
 use Rattle.dimse.specs.declared.status.Status.{Status}
 use Rattle.operation.specs.Parts.{ContentParts}
-use Rattle.association_session.specs.declared.deed.Call.TheVariants.{Store, Find}
+use Rattle.association_session.specs.declared.deed.Call.TheVariants.{Store, Find, Get}
 use Rattle.association_session.specs.declared.deed.Deed.{Deed}
-use Rattle.association_session.specs.declared.deed.Deed.TheVariants.{Send, Reach, Ask}
+use Rattle.association_session.specs.declared.deed.Deed.TheVariants.{Send, Reach, Ask, Close}
 use Rattle.association_session.specs.declared.deed.Moment.TheVariants.{InStore, FindAnswered}
 use Rattle.association_session.specs.declared.deed.Finding.{Finding}
 use Rattle.association_session.specs.declared.due.RowKind.{RowKind}
 use Rattle.data_set.specs.Set.{Set}
-use Rattle.data_set.specs.declared.syntax.Syntax.TheVariants.{Implicit}
-use Rattle.dimse.specs.declared.status.Status.TheVariants.{Pending}
 use Rattle.pdu.specs.declared.value.Pdu.{Pdu}
 use Rattle.association_session.specs.declared.reply.Reply.{Reply}
-use Rattle.association_session.specs.declared.reply.Reply.TheVariants.{Stored, Found}
+use Rattle.association_session.specs.declared.reply.Reply.TheVariants.{Stored, Found, Gotten}
 use Rattle.association_session.specs.declared.service.Service.{Service}
 use Rattle.association_session.specs.declared.service.Service.TheVariants.{Ignored, Broken, Responded, Asked}
-use Rattle.association_session.specs.declared.service.Service.TheVariants.{Queried}
-use Rattle.association_session.specs.Find.{rows_in, status_of_found}
-use Rattle.association_session.specs.Finals.{HasNoData, AreResponded, RequestFor, RequestIn, Requests, EndsInCall}
-use Rattle.association_session.specs.Finals.{HasResponses, ArePending, is_pending}
-use Rattle.association_session.proofs.StatusLaws.{served_final, served_pending, stored_final, found_final}
-use Rattle.association_session.specs.Response.{Awaited, Responds}
+use Rattle.association_session.specs.declared.service.Service.TheVariants.{Queried, Fetched}
+use Rattle.association_session.specs.Find.{AreRows, row_text, rows_in, status_of_found}
+use Rattle.association_session.specs.Finals.{data_in, is_pending, RespondsTo, IsOnTheWay, SendsOnTheWay, SendsLast}
+use Rattle.association_session.specs.Finals.{AreResponded, RequestsBy, Replied, FewRequests, RepliedGet, RequestFor}
+use Rattle.association_session.specs.Finals.{next_of_get, RequestWithin, RequestOf, RequestIn, Requests, open_in}
+use Rattle.association_session.specs.Finals.{EndsInCall, IsOpen, HasResponses}
+use Rattle.association_session.specs.Get.{final_status, failed_set}
+use Rattle.association_session.specs.Order.{IsOrderly}
+use Rattle.association_session.specs.SubOperation.{Retrieval, SubOperation}
+use Rattle.association_session.specs.Retrieval.{few_in, setting_out, counting, RespondsIfLeft, RespondsBy}
+use Rattle.association_session.specs.Retrieval.{sub_operation}
+use Rattle.association_session.specs.Retrieval.{failing, sending, way_for, ByWay, Both, SendsOn, begun, begun_by}
+use Rattle.association_session.specs.Retrieval.{meaning_of, performed, cancelling}
+use Rattle.association_session.specs.declared.deed.Call.{Call}
+use Rattle.association_session.specs.declared.deed.Getting.{Getting}
+use Rattle.association_session.specs.declared.retrieval.Meaning.{Meaning}
+use Rattle.association_session.specs.declared.retrieval.Meaning.TheVariants.{Cancelled, Performed, Unawaited}
+use Rattle.association_session.specs.declared.retrieval.Progress.{Progress}
+use Rattle.association_session.specs.declared.way.Way.{Way}
+use Rattle.data_set.specs.declared.syntax.Syntax.{Syntax}
+use Rattle.dictionary.specs.declared.commands.TheConstants.{C_GET_RQ}
+use Rattle.dimse.specs.declared.status.Status.TheVariants.{Cancel, Pending, UnableToPerformSubOperations}
+use Rattle.dimse.specs.Response.{response_of}
+use Rattle.dimse.specs.Sending.{IsSending}
+use Rattle.pdu.specs.declared.context.Context.{Context}
+use Rattle.retrieve_model.specs.declared.prepared.Prepared.{Prepared}
+use Rattle.ul_state.specs.Acceptor.{kind_for}
+use Rattle.ul_state.specs.Table.{next_of}
+use Rattle.association_session.proofs.DataLaws.{AreData, sending_data, rows_data, sends_on_data, responds_by_data}
+use Rattle.association_session.proofs.OrderLaws.{orderly}
+use Rattle.association_session.proofs.StatusLaws.{served_final, served_pending, served_get, stored_final}
+use Rattle.association_session.proofs.StatusLaws.{found_final, counts_final}
+use Rattle.association_session.specs.Response.{Awaited, response_to, response_with}
 use Rattle.association_session.specs.Row.{Within, row, met}
 use Rattle.association_session.specs.Service.{Serves}
 use Rattle.association_session.specs.Store.{status_of_reply}
-use Rattle.association_session.specs.Talks.{Heard, Met, Said, Goes, Tells, TellsRows, FollowsStore, FollowsFind}
-use Rattle.association_session.specs.Talks.{Does, InState, Answers, Talks}
+use Rattle.association_session.specs.Talks.{Heard, Met, Said, Goes, GoesBy, Then, Tells, TellsRows, FollowsStore}
+use Rattle.association_session.specs.Talks.{FollowsFind}
+use Rattle.association_session.specs.Talks.{FollowsGet, BeginsFew, Begins, Does, InState, Attends, Performs, GoesOnBy}
+use Rattle.association_session.specs.Talks.{Talks}
 use Rattle.association_session.specs.Talks.{awaiting}
 use Rattle.archive_model.specs.declared.view.View.{View}
 
@@ -47,84 +74,188 @@ use Rattle.archive_model.specs.declared.view.View.{View}
 
 request_quiet : (s : State) (titles : List (Title View)) (request : Request) (r : Result View Reject)
     (rest : List Deed) → value_for titles request ≡ r
-    → HasNoData rest → HasNoData (row titles s (events.Got (pdus.AssociateRq request)) ++ rest)
-request_quiet Sta1 titles request r rest e p = p
-request_quiet Sta2 titles request (Ok v) rest e p = rw e p
-request_quiet Sta2 titles request (Err reject) rest e p = rw e (rw e p)
-request_quiet Sta6 titles request (Ok v) rest e p = rw e p
-request_quiet Sta6 titles request (Err reject) rest e p = rw e p
-request_quiet Sta13 titles request (Ok v) rest e p = rw e p
-request_quiet Sta13 titles request (Err reject) rest e p = rw e p
+    → data_in (row titles s (events.Got (pdus.AssociateRq request)) ++ rest) ≡ data_in rest
+request_quiet Sta1 titles request r rest e = refl
+request_quiet Sta2 titles request (Ok v) rest e = rw e refl
+request_quiet Sta2 titles request (Err reject) rest e = rw e (rw e refl)
+request_quiet Sta6 titles request (Ok v) rest e = rw e refl
+request_quiet Sta6 titles request (Err reject) rest e = rw e refl
+request_quiet Sta13 titles request (Ok v) rest e = rw e refl
+request_quiet Sta13 titles request (Err reject) rest e = rw e refl
 
 -- a row sends no P-DATA-TF
-row_quiet : (titles : List (Title View)) (s : State) (event : Event) (rest : List Deed) → HasNoData rest
-    → HasNoData (row titles s event ++ rest)
-row_quiet titles Sta1 event rest p = p
-row_quiet titles Sta2 (events.Got (pdus.AssociateRq request)) rest p = request_quiet Sta2 titles
-    request (value_for titles request) rest refl p
-row_quiet titles Sta2 (events.Got (pdus.AssociateAc accept)) rest p = p
-row_quiet titles Sta2 (events.Got (pdus.AssociateRj reject)) rest p = p
-row_quiet titles Sta2 (events.Got (pdus.PData values)) rest p = p
-row_quiet titles Sta2 (events.Got pdus.ReleaseRq) rest p = p
-row_quiet titles Sta2 (events.Got pdus.ReleaseRp) rest p = p
-row_quiet titles Sta2 (events.Got (pdus.Abort source reason)) rest p = p
-row_quiet titles Sta2 (events.Bad faults.UnknownType) rest p = p
-row_quiet titles Sta2 (events.Bad faults.BadLength) rest p = p
-row_quiet titles Sta2 (events.Bad faults.BadItem) rest p = p
-row_quiet titles Sta2 (events.Bad faults.TooLong) rest p = p
-row_quiet titles Sta2 (events.Bad faults.Memory) rest p = p
-row_quiet titles Sta2 events.Ended rest p = p
-row_quiet titles Sta2 events.LocalAbort rest p = p
-row_quiet titles Sta6 (events.Got (pdus.AssociateRq request)) rest p = request_quiet Sta6 titles
-    request (value_for titles request) rest refl p
-row_quiet titles Sta6 (events.Got (pdus.AssociateAc accept)) rest p = p
-row_quiet titles Sta6 (events.Got (pdus.AssociateRj reject)) rest p = p
-row_quiet titles Sta6 (events.Got (pdus.PData values)) rest p = p
-row_quiet titles Sta6 (events.Got pdus.ReleaseRq) rest p = p
-row_quiet titles Sta6 (events.Got pdus.ReleaseRp) rest p = p
-row_quiet titles Sta6 (events.Got (pdus.Abort source reason)) rest p = p
-row_quiet titles Sta6 (events.Bad faults.UnknownType) rest p = p
-row_quiet titles Sta6 (events.Bad faults.BadLength) rest p = p
-row_quiet titles Sta6 (events.Bad faults.BadItem) rest p = p
-row_quiet titles Sta6 (events.Bad faults.TooLong) rest p = p
-row_quiet titles Sta6 (events.Bad faults.Memory) rest p = p
-row_quiet titles Sta6 events.Ended rest p = p
-row_quiet titles Sta6 events.LocalAbort rest p = p
-row_quiet titles Sta13 (events.Got (pdus.AssociateRq request)) rest p = request_quiet Sta13 titles
-    request (value_for titles request) rest refl p
-row_quiet titles Sta13 (events.Got (pdus.AssociateAc accept)) rest p = p
-row_quiet titles Sta13 (events.Got (pdus.AssociateRj reject)) rest p = p
-row_quiet titles Sta13 (events.Got (pdus.PData values)) rest p = p
-row_quiet titles Sta13 (events.Got pdus.ReleaseRq) rest p = p
-row_quiet titles Sta13 (events.Got pdus.ReleaseRp) rest p = p
-row_quiet titles Sta13 (events.Got (pdus.Abort source reason)) rest p = p
-row_quiet titles Sta13 (events.Bad faults.UnknownType) rest p = p
-row_quiet titles Sta13 (events.Bad faults.BadLength) rest p = p
-row_quiet titles Sta13 (events.Bad faults.BadItem) rest p = p
-row_quiet titles Sta13 (events.Bad faults.TooLong) rest p = p
-row_quiet titles Sta13 (events.Bad faults.Memory) rest p = p
-row_quiet titles Sta13 events.Ended rest p = p
-row_quiet titles Sta13 events.LocalAbort rest p = p
+row_quiet : (titles : List (Title View)) (s : State) (event : Event) (rest : List Deed)
+    → data_in (row titles s event ++ rest) ≡ data_in rest
+row_quiet titles Sta1 event rest = refl
+row_quiet titles Sta2 (events.Got (pdus.AssociateRq request)) rest = request_quiet Sta2 titles
+    request (value_for titles request) rest refl
+row_quiet titles Sta2 (events.Got (pdus.AssociateAc accept)) rest = refl
+row_quiet titles Sta2 (events.Got (pdus.AssociateRj reject)) rest = refl
+row_quiet titles Sta2 (events.Got (pdus.PData values)) rest = refl
+row_quiet titles Sta2 (events.Got pdus.ReleaseRq) rest = refl
+row_quiet titles Sta2 (events.Got pdus.ReleaseRp) rest = refl
+row_quiet titles Sta2 (events.Got (pdus.Abort source reason)) rest = refl
+row_quiet titles Sta2 (events.Bad faults.UnknownType) rest = refl
+row_quiet titles Sta2 (events.Bad faults.BadLength) rest = refl
+row_quiet titles Sta2 (events.Bad faults.BadItem) rest = refl
+row_quiet titles Sta2 (events.Bad faults.TooLong) rest = refl
+row_quiet titles Sta2 (events.Bad faults.Memory) rest = refl
+row_quiet titles Sta2 events.Ended rest = refl
+row_quiet titles Sta2 events.LocalAbort rest = refl
+row_quiet titles Sta6 (events.Got (pdus.AssociateRq request)) rest = request_quiet Sta6 titles
+    request (value_for titles request) rest refl
+row_quiet titles Sta6 (events.Got (pdus.AssociateAc accept)) rest = refl
+row_quiet titles Sta6 (events.Got (pdus.AssociateRj reject)) rest = refl
+row_quiet titles Sta6 (events.Got (pdus.PData values)) rest = refl
+row_quiet titles Sta6 (events.Got pdus.ReleaseRq) rest = refl
+row_quiet titles Sta6 (events.Got pdus.ReleaseRp) rest = refl
+row_quiet titles Sta6 (events.Got (pdus.Abort source reason)) rest = refl
+row_quiet titles Sta6 (events.Bad faults.UnknownType) rest = refl
+row_quiet titles Sta6 (events.Bad faults.BadLength) rest = refl
+row_quiet titles Sta6 (events.Bad faults.BadItem) rest = refl
+row_quiet titles Sta6 (events.Bad faults.TooLong) rest = refl
+row_quiet titles Sta6 (events.Bad faults.Memory) rest = refl
+row_quiet titles Sta6 events.Ended rest = refl
+row_quiet titles Sta6 events.LocalAbort rest = refl
+row_quiet titles Sta13 (events.Got (pdus.AssociateRq request)) rest = request_quiet Sta13 titles
+    request (value_for titles request) rest refl
+row_quiet titles Sta13 (events.Got (pdus.AssociateAc accept)) rest = refl
+row_quiet titles Sta13 (events.Got (pdus.AssociateRj reject)) rest = refl
+row_quiet titles Sta13 (events.Got (pdus.PData values)) rest = refl
+row_quiet titles Sta13 (events.Got pdus.ReleaseRq) rest = refl
+row_quiet titles Sta13 (events.Got pdus.ReleaseRp) rest = refl
+row_quiet titles Sta13 (events.Got (pdus.Abort source reason)) rest = refl
+row_quiet titles Sta13 (events.Bad faults.UnknownType) rest = refl
+row_quiet titles Sta13 (events.Bad faults.BadLength) rest = refl
+row_quiet titles Sta13 (events.Bad faults.BadItem) rest = refl
+row_quiet titles Sta13 (events.Bad faults.TooLong) rest = refl
+row_quiet titles Sta13 (events.Bad faults.Memory) rest = refl
+row_quiet titles Sta13 events.Ended rest = refl
+row_quiet titles Sta13 events.LocalAbort rest = refl
 
--- deeds that send no P-DATA-TF, wherever they are put before others
-abbrev IsQuiet : List Deed → Type 0
-IsQuiet now = (rest : List Deed) → HasNoData rest → HasNoData (now ++ rest)
+-- what is sent as a message
+data_behind : (ps : List Pdu) (rest : List Deed) → AreData ps → data_in (map Send ps ++ rest) ≡ ps ++ data_in rest
+data_behind [] rest p = refl
+data_behind (pdus.PData values ∷ ps) rest p = ap (λ (t : List Pdu). pdus.PData values ∷ t) (data_behind ps rest p)
+data_behind (pdus.AssociateRq request ∷ ps) rest p = absurd p
+data_behind (pdus.AssociateAc accept ∷ ps) rest p = absurd p
+data_behind (pdus.AssociateRj reject ∷ ps) rest p = absurd p
+data_behind (pdus.ReleaseRq ∷ ps) rest p = absurd p
+data_behind (pdus.ReleaseRp ∷ ps) rest p = absurd p
+data_behind (pdus.Abort source reason ∷ ps) rest p = absurd p
 
-quiet_before : (now : List Deed) (requests : List Awaited) (ds : List Deed) → IsQuiet now → AreResponded requests ds
-    → AreResponded requests (now ++ ds)
-quiet_before now [] ds quiet p = quiet ds p
-quiet_before now (a ∷ requests) ds quiet p = (
-  now ++ p.0,
-  p.1,
-  p.2,
-  p.3,
-  p.4,
-  ap (λ (t : List Deed). now ++ t) p.5 ∙ sym (append_assoc now p.0 (map Send p.2 ++ (map Send p.3 ++ p.1))),
-  quiet p.0 p.6,
-  p.7,
-  p.8,
-  p.9,
-  p.10,
+-- ---- responses
+
+response_to_is : (a : Awaited) (status : Status) (b : Bool) → is_pending status ≡ b → RespondsTo a b (response_to a
+    status)
+unfolding response_of
+response_to_is a status b e = record { context = refl; id = refl; status = status; is = refl; kind = e }
+
+response_with_is : (a : Awaited) (status : Status) (text : List ℕ) (b : Bool) → is_pending status ≡ b
+    → RespondsTo a b (response_with a status text)
+unfolding response_of
+response_with_is a status text b e = record { context = refl; id = refl; status = status; is = refl; kind = e }
+
+counting_is : (g : Progress) (status : Status) (remaining : Option ℕ) (body : Option (List ℕ)) (b : Bool)
+    → is_pending status ≡ b → RespondsTo g.awaited b (counting g status remaining body)
+unfolding response_of
+counting_is g status remaining body b e = record { context = refl; id = refl; status = status; is = refl; kind = e }
+
+module _ (Open : Awaited → Type 0) where
+  -- one message more on the way
+  way_more : (a : Awaited) (m : Message) (requests : List Awaited) (first rest : List Pdu) → IsOnTheWay a m
+      → IsSending m a.limit first → AreResponded Open (a ∷ requests) rest
+      → AreResponded Open (a ∷ requests) (first ++ rest)
+  way_more a m requests first rest is sent p = (m ∷ p.0, (is, first, rest, sent, p.1, refl))
+
+  -- the last response
+  way_last : (a : Awaited) (m : Message) (requests : List Awaited) (first rest : List Pdu) → RespondsTo a false m
+      → IsSending m a.limit first → AreResponded Open requests rest → AreResponded Open (a ∷ requests) (first ++ rest)
+  way_last a m requests first rest is sent p = ([], inl (m, is, first, rest, sent, p, refl))
+
+  -- none any more
+  way_open : (a : Awaited) → Open a → AreResponded Open (a ∷ []) []
+  way_open a yet = ([], inr (refl, refl, yet))
+
+  rows_way : (a : Awaited) (kind : RowKind) (rows : List Set) (requests : List Awaited) (ps rest : List Pdu)
+      → is_pending kind.status ≡ true → AreRows a kind rows ps → AreResponded Open (a ∷ requests) rest
+      → AreResponded Open (a ∷ requests) (ps ++ rest)
+  rows_way a kind [] requests ps rest pending are p =
+      subst (λ (t : List Pdu). AreResponded Open (a ∷ requests) (t ++ rest)) (sym are) p
+  rows_way a kind (r ∷ rows) requests ps rest pending are p =
+      subst (λ (t : List Pdu). AreResponded Open (a ∷ requests) t)
+      (sym (append_assoc are.0 are.1 rest) ∙ ap (λ (t : List Pdu). t ++ rest) (sym are.4))
+      (way_more a (response_with a kind.status (row_text kind.syntax r)) requests are.0 (are.1 ++ rest)
+      (inl (response_with_is a kind.status (row_text kind.syntax r) true pending)) are.2
+      (rows_way a kind rows requests are.1 rest pending are.3 p))
+
+  left_way : (g : Progress) (left : List Prepared) (requests : List Awaited) (ps rest : List Pdu)
+      → RespondsIfLeft g left ps → AreResponded Open (g.awaited ∷ requests) rest
+      → AreResponded Open (g.awaited ∷ requests) (ps ++ rest)
+  left_way g [] requests ps rest none p =
+      subst (λ (t : List Pdu). AreResponded Open (g.awaited ∷ requests) (t ++ rest)) (sym none) p
+  left_way g (x ∷ left) requests ps rest sent p = way_more g.awaited (counting g Pending (Some (length (x ∷ left)))
+      None) requests ps rest (inl (counting_is g Pending (Some (length (x ∷ left))) None true refl)) sent p
+
+  begun_by_way : (way : Option Way) (contexts : List Context) (g : Progress) (x : Prepared) (left : List Prepared)
+      (requests : List Awaited) (ps rest : List Pdu)
+      → ((qs : List Pdu) → SendsOn contexts (failing g x) left qs
+      → AreResponded Open (open_in (begun contexts (failing g x) left) requests) rest
+      → AreResponded Open (g.awaited ∷ requests) (qs ++ rest))
+      → ByWay way (λ k. IsSending (sub_operation g k x) g.awaited.limit)
+      (Both (RespondsIfLeft (failing g x) left) (SendsOn contexts (failing g x) left)) ps
+      → AreResponded Open (open_in (begun_by way (sending g x left) (begun contexts (failing g x) left)) requests) rest
+      → AreResponded Open (g.awaited ∷ requests) (ps ++ rest)
+  begun_by_way None contexts g x left requests ps rest goes sent p =
+      subst (λ (t : List Pdu). AreResponded Open (g.awaited ∷ requests) t)
+      (sym (append_assoc sent.0 sent.1 rest) ∙ ap (λ (t : List Pdu). t ++ rest) (sym sent.4))
+      (left_way (failing g x) left requests sent.0 (sent.1 ++ rest) sent.2 (goes sent.1 sent.3 p))
+  begun_by_way (Some way) contexts g x left requests ps rest goes sent p = way_more g.awaited (sub_operation g way x)
+      requests ps rest (inr refl) sent p
+
+  -- Sub-operations are begun, and behind them stands what is responded then.
+  begun_way : (contexts : List Context) (g : Progress) (left : List Prepared) (requests : List Awaited)
+      (ps rest : List Pdu) → SendsOn contexts g left ps
+      → AreResponded Open (open_in (begun contexts g left) requests) rest
+      → AreResponded Open (g.awaited ∷ requests) (ps ++ rest)
+  begun_way contexts g [] requests ps rest sent p = way_last g.awaited (counting g (final_status g.counts) None
+      (failed_set g.syntax g.counts.failed)) requests ps rest (counting_is g (final_status g.counts) None (failed_set
+      g.syntax g.counts.failed) false (counts_final g.counts)) sent p
+  begun_way contexts g (x ∷ left) requests ps rest sent p = begun_by_way (way_for contexts x) contexts g x left
+      requests ps rest (λ qs. begun_way contexts (failing g x) left requests qs rest) sent p
+
+-- What is open stays so behind other deeds.
+last_map : (Open Wide : Awaited → Type 0) (a : Awaited) (requests : List Awaited) (rest : List Pdu)
+    → ((a : Awaited) → Open a → Wide a)
+    → ((qs : List Pdu) → AreResponded Open requests qs → AreResponded Wide requests qs)
+    → SendsLast a (AreResponded Open requests) rest ⊎ ((requests ≡ []) × (rest ≡ []) × Open a)
+    → SendsLast a (AreResponded Wide requests) rest ⊎ ((requests ≡ []) × (rest ≡ []) × Wide a)
+last_map Open Wide a requests rest to goes (inl q) = inl (q.0, q.1, q.2, q.3, q.4, goes q.3 q.5, q.6)
+last_map Open Wide a requests rest to goes (inr q) = inr (q.0, q.1, to a q.2)
+
+way_map : (Open Wide : Awaited → Type 0) (a : Awaited) (requests : List Awaited) (ms : List Message) (qs : List Pdu)
+    → ((a : Awaited) → Open a → Wide a)
+    → ((qs : List Pdu) → AreResponded Open requests qs → AreResponded Wide requests qs)
+    → SendsOnTheWay a ms (λ rest. SendsLast a (AreResponded Open requests) rest
+    ⊎ ((requests ≡ []) × (rest ≡ []) × Open a)) qs
+    → SendsOnTheWay a ms (λ rest. SendsLast a (AreResponded Wide requests) rest
+    ⊎ ((requests ≡ []) × (rest ≡ []) × Wide a)) qs
+way_map Open Wide a requests [] qs to goes q = last_map Open Wide a requests qs to goes q
+way_map Open Wide a requests (m ∷ ms) qs to goes q = (
+  q.0,
+  q.1,
+  q.2,
+  q.3,
+  way_map Open Wide a requests ms q.2 to goes q.4,
+  q.5,
+)
+
+responded_map : (Open Wide : Awaited → Type 0) (requests : List Awaited) (ps : List Pdu)
+    → ((a : Awaited) → Open a → Wide a) → AreResponded Open requests ps → AreResponded Wide requests ps
+responded_map Open Wide [] ps to p = p
+responded_map Open Wide (a ∷ requests) ps to p = (
+  p.0,
+  way_map Open Wide a requests p.0 ps to (λ qs. responded_map Open Wide requests qs to) p.1,
 )
 
 call_behind : (now ds : List Deed) → EndsInCall ds → EndsInCall (now ++ ds)
@@ -135,202 +266,335 @@ call_behind now ds p = (
       ∙ sym (append_assoc now p.0 (Ask p.1 ∷ [])),
 )
 
-no_rows : (a : Awaited) → ArePending a []
-no_rows a = (record { syntax = Implicit; status = Pending }, [], refl, refl)
+open_behind : (now ds : List Deed) (a : Awaited) → IsOpen ds a → IsOpen (now ++ ds) a
+open_behind now ds a (inl p) = inl (call_behind now ds p)
+open_behind now ds a (inr p) = inr p
 
--- ---- one request more
+-- ---- what a talk has
 
--- what the talk behind a request has, with that request before it
+-- It is a C-GET whose sub-operation is awaited.
+abbrev IsGetOf : Option SubOperation → Type 0
+IsGetOf sub = IfSome sub (λ s. s.progress.awaited.command.field ≡ C_GET_RQ)
+
+begun_by_get : (way : Option Way) (sub : SubOperation) (others : Option SubOperation)
+    → sub.progress.awaited.command.field ≡ C_GET_RQ → IsGetOf others → IsGetOf (begun_by way sub others)
+begun_by_get None sub others is more = more
+begun_by_get (Some way) sub others is more = is
+
+begun_get : (contexts : List Context) (g : Progress) (left : List Prepared) → g.awaited.command.field ≡ C_GET_RQ
+    → IsGetOf (begun contexts g left)
+begun_get contexts g [] is = tt
+begun_get contexts g (x ∷ left) is = begun_by_get (way_for contexts x) (sending g x left) (begun contexts (failing g x)
+    left) is (begun_get contexts (failing g x) left is)
+
+-- of these deeds each of these requests, behind that of the sub-operation that is awaited, has its responses
+abbrev Have : Option SubOperation → List Deed → List Awaited → Type 0
+Have sub ds requests = AreResponded (IsOpen ds) (open_in sub requests) (data_in ds)
+
+-- the same behind deeds that send no P-DATA-TF
+have_before : (sub : Option SubOperation) (now ds : List Deed) (requests : List Awaited)
+    → data_in (now ++ ds) ≡ data_in ds → Have sub ds requests → Have sub (now ++ ds) requests
+have_before sub now ds requests quiet p =
+    subst (λ (t : List Pdu). AreResponded (IsOpen (now ++ ds)) (open_in sub requests) t) (sym quiet)
+    (responded_map (IsOpen ds) (IsOpen (now ++ ds)) (open_in sub requests) (data_in ds) (open_behind now ds) p)
+
+-- what has its responses, for what is replied
+abbrev HaveAll : Option SubOperation → (List Reply → List Awaited → Type 0) → Goes → Type 0
+HaveAll sub Asks R = (rs : List Reply) (x : List Deed) → R rs x → (requests : List Awaited) × Asks rs requests
+    × Have sub x requests
+
+abbrev HaveBy : RequestsBy → GoesBy → Type 0
+HaveBy Asks R = (next : Option SubOperation) → IsGetOf next → HaveAll next (Asks next) (R next)
+
+-- messages of a C-GET behind which it goes on
+sent_have : (a : Awaited) (next : Option SubOperation) (pdus : List Pdu) (rest : List Deed) (requests : List Awaited)
+    → AreData pdus → Have next rest requests
+    → ((Open : Awaited → Type 0) → AreResponded Open (open_in next requests) (data_in rest)
+    → AreResponded Open (a ∷ requests) (pdus ++ data_in rest))
+    → AreResponded (IsOpen (map Send pdus ++ rest)) (a ∷ requests) (data_in (map Send pdus ++ rest))
+sent_have a next pdus rest requests are_data p goes =
+    subst (λ (t : List Pdu). AreResponded (IsOpen (map Send pdus ++ rest)) (a ∷ requests) t)
+    (sym (data_behind pdus rest are_data))
+    (goes (IsOpen (map Send pdus ++ rest)) (responded_map (IsOpen rest) (IsOpen (map Send pdus ++ rest))
+    (open_in next requests) (data_in rest) (open_behind (map Send pdus) rest) p))
+
+tells_have : (a : Awaited) (status : Status) (Asks : List Awaited → Type 0) (R : List Deed → Type 0) (ds : List Deed)
+    → is_pending status ≡ false
+    → ((x : List Deed) → R x → (requests : List Awaited) × Asks requests × Have None x requests) → Tells a status R ds
+    → (requests : List Awaited) × Asks requests × Have None ds (a ∷ requests)
+tells_have a status Asks R ds final goes p =
+    let q = goes p.2.0 p.2.2 in (
+      q.0,
+      q.1,
+      subst (λ (t : List Deed). Have None t (a ∷ q.0)) (sym p.2.1)
+          (sent_have a None p.0 p.2.0 q.0 (sending_data _ _ p.0 p.1) q.2
+          (λ Open x. way_last Open a (response_to a status) q.0 p.0 (data_in p.2.0)
+          (response_to_is a status false final)
+          p.1 x)),
+    )
+
+rows_have : (a : Awaited) (kind : RowKind) (rows : List Set) (status : Status) (Asks : List Awaited → Type 0)
+    (R : List Deed → Type 0) (ds : List Deed) → is_pending kind.status ≡ true → is_pending status ≡ false
+    → ((x : List Deed) → R x → (requests : List Awaited) × Asks requests × Have None x requests)
+    → TellsRows a kind rows status R ds → (requests : List Awaited) × Asks requests × Have None ds (a ∷ requests)
+rows_have a kind rows status Asks R ds pending final goes p =
+    let q = tells_have a status Asks (Then (Reach FindAnswered ∷ []) R) p.2.0 final
+    (λ x r. let s = goes r.0 r.2 in (
+      s.0,
+      s.1,
+      subst (λ (t : List Deed). Have None t s.0) (sym r.1)
+          (have_before None (Reach FindAnswered ∷ []) r.0 s.0 refl s.2),
+    )) p.2.2 in (
+      q.0,
+      q.1,
+      subst (λ (t : List Deed). Have None t (a ∷ q.0)) (sym p.2.1)
+          (subst (λ (t : List Pdu). AreResponded (IsOpen (map Send p.0 ++ p.2.0)) (a ∷ q.0) t)
+          (sym (data_behind p.0 p.2.0 (rows_data a kind rows p.0 p.1)))
+          (rows_way (IsOpen (map Send p.0 ++ p.2.0)) a kind rows q.0 p.0 (data_in p.2.0) pending p.1
+          (responded_map (IsOpen p.2.0) (IsOpen (map Send p.0 ++ p.2.0)) (a ∷ q.0) (data_in p.2.0)
+          (open_behind (map Send p.0) p.2.0) q.2))),
+    )
+
+begins_have : (contexts : List Context) (g : Progress) (left : List Prepared)
+    (Asks : Option SubOperation → List Awaited → Type 0) (R : Option SubOperation → List Deed → Type 0)
+    (ds : List Deed) → g.awaited.command.field ≡ C_GET_RQ
+    → ((next : Option SubOperation) → IsGetOf next → (x : List Deed) → R next x → (requests : List Awaited)
+    × Asks next requests × Have next x requests)
+    → Begins contexts g left R ds
+    → (requests : List Awaited) × Asks (begun contexts g left) requests × Have None ds (g.awaited ∷ requests)
+begins_have contexts g left Asks R ds is goes p =
+    let next = begun contexts g left in
+    let q = goes next (begun_get contexts g left is) p.2.0 p.2.2 in (
+      q.0,
+      q.1,
+      subst (λ (t : List Deed). Have None t (g.awaited ∷ q.0)) (sym p.2.1)
+          (sent_have g.awaited next p.0 p.2.0 q.0 (sends_on_data contexts g left p.0 p.1) q.2
+          (λ Open x. begun_way Open contexts g left q.0 p.0 (data_in p.2.0) p.1 x)),
+    )
+
+-- a request whose call has no reply yet
+unreplied : (a : Awaited) (now : List Deed) (call : Call) (rest : List Deed) → data_in (now ++ Ask call ∷ []) ≡ []
+    → rest ≡ [] → Have None ((now ++ Ask call ∷ []) ++ rest) (a ∷ [])
+unreplied a now call rest quiet none =
+    let whole : (now ++ Ask call ∷ []) ++ rest ≡ now ++ Ask call ∷ [] = ap (λ (t : List Deed). (now ++ Ask call ∷ [])
+    ++ t) none ∙ append-nil (now ++ Ask call ∷ []) in
+    subst (λ (t : List Deed). Have None t (a ∷ [])) (sym whole)
+    (subst (λ (t : List Pdu). AreResponded (IsOpen (now ++ Ask call ∷ [])) (a ∷ []) t) (sym quiet)
+    (way_open (IsOpen (now ++ Ask call ∷ [])) a (inl (now, call, refl))))
+
+asked_have : (a : Awaited) (content : ContentParts) (Asks : List Reply → List Awaited → Type 0) (R : Goes)
+    (rs : List Reply) (rest : List Deed) → HaveAll None Asks R → FollowsStore a R rs rest
+    → (requests : List Awaited) × Replied Asks rs requests
+    × Have None (Reach InStore ∷ Ask (Store content) ∷ rest) (a ∷ requests)
+asked_have a content Asks R [] rest goes p = ([], refl, unreplied a (Reach InStore ∷ []) (Store content) rest refl p)
+asked_have a content Asks R (Stored reply ∷ rs) rest goes p =
+    let q = tells_have a (status_of_reply reply) (Asks rs) (R rs) rest (stored_final reply) (goes rs) p in
+    (q.0, q.1, have_before None (Reach InStore ∷ Ask (Store content) ∷ []) rest (a ∷ q.0) refl q.2)
+asked_have a content Asks R (Found reply ∷ rs) rest goes p = absurd p
+asked_have a content Asks R (Gotten reply ∷ rs) rest goes p = absurd p
+
+queried_have : (a : Awaited) (finding : Finding) (kind : RowKind) (Asks : List Reply → List Awaited → Type 0)
+    (R : Goes) (rs : List Reply) (rest : List Deed) → is_pending kind.status ≡ true → HaveAll None Asks R
+    → FollowsFind a kind R rs rest
+    → (requests : List Awaited) × Replied Asks rs requests × Have None (Ask (Find finding) ∷ rest) (a ∷ requests)
+queried_have a finding kind Asks R [] rest pending goes p = ([], refl, unreplied a [] (Find finding) rest refl p)
+queried_have a finding kind Asks R (Found reply ∷ rs) rest pending goes p =
+    let q = rows_have a kind (rows_in reply) (status_of_found reply) (Asks rs) (R rs) rest pending (found_final reply)
+    (goes rs) p in
+    (q.0, q.1, have_before None (Ask (Find finding) ∷ []) rest (a ∷ q.0) refl q.2)
+queried_have a finding kind Asks R (Stored reply ∷ rs) rest pending goes p = absurd p
+queried_have a finding kind Asks R (Gotten reply ∷ rs) rest pending goes p = absurd p
+
+few_have : (few : Option (List Prepared)) (contexts : List Context) (a : Awaited) (syntax : Syntax)
+    (Asks : Option SubOperation → List Awaited → Type 0) (R : Option SubOperation → List Deed → Type 0)
+    (rest : List Deed) → a.command.field ≡ C_GET_RQ
+    → ((next : Option SubOperation) → IsGetOf next → (x : List Deed) → R next x → (requests : List Awaited)
+    × Asks next requests × Have next x requests)
+    → BeginsFew contexts a syntax few R (R None) rest
+    → (requests : List Awaited) × FewRequests few contexts a syntax Asks requests × Have None rest (a ∷ requests)
+few_have None contexts a syntax Asks R rest is goes p = tells_have a UnableToPerformSubOperations (Asks None) (R None)
+    rest refl (goes None tt) p
+few_have (Some prepared) contexts a syntax Asks R rest is goes p = begins_have contexts (setting_out a syntax) prepared
+    Asks R rest is goes p
+
+fetched_have : (contexts : List Context) (a : Awaited) (getting : Getting) (syntax : Syntax) (Asks : RequestsBy)
+    (R : GoesBy) (rs : List Reply) (rest : List Deed) → a.command.field ≡ C_GET_RQ → HaveBy Asks R
+    → FollowsGet contexts a syntax R (R None) rs rest
+    → (requests : List Awaited) × RepliedGet contexts a syntax Asks rs requests
+    × Have None (Ask (Get getting) ∷ rest) (a ∷ requests)
+fetched_have contexts a getting syntax Asks R [] rest is goes p = ([], refl, unreplied a [] (Get getting) rest refl p)
+fetched_have contexts a getting syntax Asks R (Gotten reply ∷ rs) rest is goes p =
+    let q = few_have (few_in reply) contexts a syntax (λ next. Asks next rs) (λ next. R next rs) rest is
+    (λ next get. goes next get rs) p in
+    (q.0, q.1, have_before None (Ask (Get getting) ∷ []) rest (a ∷ q.0) refl q.2)
+fetched_have contexts a getting syntax Asks R (Stored reply ∷ rs) rest is goes p = absurd p
+fetched_have contexts a getting syntax Asks R (Found reply ∷ rs) rest is goes p = absurd p
+
+closed_quiet : (ds : List Deed) → IsOrderly Sta1 ds → data_in ds ≡ []
+closed_quiet [] p = refl
+closed_quiet (d ∷ ds) p = absurd p.0
+
+-- Once goodbye was said no P-DATA-TF is sent.
+gone_quiet : (ds : List Deed) → IsOrderly Sta13 ds → data_in ds ≡ []
+gone_quiet [] p = refl
+gone_quiet (Send (pdus.PData values) ∷ ds) p = absurd p.0
+gone_quiet (Send (pdus.AssociateRq request) ∷ ds) p = absurd p.0
+gone_quiet (Send (pdus.AssociateAc accept) ∷ ds) p = absurd p.0
+gone_quiet (Send (pdus.AssociateRj reject) ∷ ds) p = absurd p.0
+gone_quiet (Send pdus.ReleaseRq ∷ ds) p = absurd p.0
+gone_quiet (Send pdus.ReleaseRp ∷ ds) p = absurd p.0
+gone_quiet (Send (pdus.Abort source reason) ∷ ds) p = gone_quiet ds p.1
+gone_quiet (Reach moment ∷ ds) p = absurd p.0
+gone_quiet (Ask call ∷ ds) p = absurd p.0
+gone_quiet (Close ∷ ds) p = closed_quiet ds p.1
+
 module _ (titles : List (Title View)) where
-  -- a PDU, or a message that is no request: what leads from w to v
-  behind_quiet : (w v : Within) (u : Heard) (us : List Heard) (now rest : List Deed) → IsQuiet now
-      → ((vs : List Heard) (requests : List Awaited) → Requests titles v vs requests → Requests titles w (u ∷ vs)
-      requests)
-      → HasResponses titles v us rest → HasResponses titles w (u ∷ us) (now ++ rest)
-  behind_quiet w v u us now rest quiet more (inl p) = inl (p.0, more us p.0 p.1, quiet_before now p.0 rest quiet p.2)
-  behind_quiet w v u us now rest quiet more (inr p) =
-      inr (
-        u ∷ p.0,
-        p.1,
-        p.2,
-        p.3,
-        ap (λ (t : List Heard). u ∷ t) p.4,
-        more p.0 (p.2 ++ p.3 ∷ []) p.5,
-        quiet_before now
-            p.2 rest quiet p.6,
-        call_behind now rest p.7,
-      )
+  -- behind the local user's abort
+  broken_quiet : (w : Within) (us : List Heard) (rs : List Reply) (x : List Deed) → w.state ≡ Sta6
+      → Talks titles (met titles w events.LocalAbort) None us rs x → data_in x ≡ []
+  broken_quiet w us rs x opened p =
+      gone_quiet x (subst (λ (s : State). IsOrderly s x) (ap (λ (s : State). next_of s (kind_for titles
+      events.LocalAbort)) opened) (orderly titles (met titles w events.LocalAbort) None us rs x p))
 
-  -- quiet deeds before what has its responses
-  has_before : (w : Within) (us : List Heard) (now rest : List Deed) → IsQuiet now → HasResponses titles w us rest
-      → HasResponses titles w us (now ++ rest)
-  has_before w us now rest quiet (inl p) = inl (p.0, p.1, quiet_before now p.0 rest quiet p.2)
-  has_before w us now rest quiet (inr p) =
-      inr (p.0, p.1, p.2, p.3, p.4, p.5, quiet_before now p.2 rest quiet p.6, call_behind now rest p.7)
+  -- one request more
+  more : (ds now rest : List Deed) (a : Awaited) (Asks : List Awaited → Type 0) → ds ≡ now ++ rest
+      → (requests : List Awaited) × Asks requests × Have None (now ++ rest) (a ∷ requests)
+      → (requests : List Awaited) × ((behind : List Awaited) × (requests ≡ a ∷ behind) × Asks behind)
+      × Have None ds requests
+  more ds now rest a Asks is q = (
+    a ∷ q.0,
+    (q.0, refl, q.1),
+    subst (λ (t : List Deed). Have None t (a ∷ q.0)) (sym is)
+        q.2,
+  )
 
-  -- a request that is responded, behind its rows
-  behind_told : (w : Within) (u : Heard) (a : Awaited) (status : Status) (us : List Heard) (before : List Deed)
-      (rows response : List Pdu) (rest ds : List Deed) → HasNoData before → ArePending a rows
-      → Responds a status response → is_pending status ≡ false
-      → ds ≡ before ++ (map Send rows ++ (map Send response ++ rest))
-      → ((vs : List Heard) (requests : List Awaited) → Requests titles w vs requests → Requests titles w (u ∷ vs)
-      (a ∷ requests))
-      → HasResponses titles w us rest → HasResponses titles w (u ∷ us) ds
-  behind_told w u a status us before rows response rest ds quiet pending responds final is more (inl q) =
-      inl (
-        a ∷ q.0,
-        more us q.0 q.1,
-        (before, rest, rows, response, status, is, quiet, pending, responds, final, q.2),
-      )
-  behind_told w u a status us before rows response rest ds quiet pending responds final is more (inr q) =
-      inr (
-        u ∷ q.0,
+  does_have : (w : Within) (m : Message) (service : Service) (Asks : RequestsBy)
+      (Gone : List Reply → List Awaited → Type 0) (R : GoesBy) (R' : Goes) (rs : List Reply) (ds : List Deed)
+      → Serves w m service → HaveBy Asks R → HaveAll None Gone R'
+      → Does service w.link.contexts (awaiting w.link m) (row titles w.state events.LocalAbort) R R' rs ds
+      → (requests : List Awaited) × RequestFor service w.link.contexts (awaiting w.link m) Asks Gone rs requests
+      × Have None ds requests
+  does_have w m Ignored Asks Gone R R' rs ds serves goes gone p = goes None tt rs ds p
+  does_have w m Broken Asks Gone R R' rs ds serves goes gone p =
+      let q = gone rs p.0 p.2 in (
+        q.0,
         q.1,
-        a ∷ q.2,
-        q.3,
-        ap (λ (t : List Heard). u ∷ t) q.4,
-        more q.0 (q.2 ++ q.3 ∷ []) q.5,
-        (before, rest, rows, response, status, is, quiet, pending, responds, final, q.6),
-        subst (λ (t : List Deed). EndsInCall t) (sym is)
-            (call_behind before (map Send rows ++ (map Send response ++ rest)) (call_behind (map Send rows)
-            (map Send response ++ rest) (call_behind (map Send response) rest q.7))),
+        subst (λ (t : List Deed). Have None t q.0) (sym p.1) (have_before None (row titles w.state
+            events.LocalAbort) p.0 q.0 (row_quiet titles w.state events.LocalAbort p.0) q.2),
+      )
+  does_have w m (Responded status) Asks Gone R R' rs ds serves goes gone p =
+      more ds [] ds (awaiting w.link m) (Asks None rs) refl (tells_have (awaiting w.link m) status (Asks None rs)
+      (R None rs) ds (served_final w m status serves) (goes None tt rs) p)
+  does_have w m (Asked content) Asks Gone R R' rs ds serves goes gone p =
+      more ds (Reach InStore ∷ Ask (Store content) ∷ []) p.0 (awaiting w.link m) (Replied (Asks None) rs) p.1
+      (asked_have (awaiting w.link m) content (Asks None) (R None) rs p.0 (goes None tt) p.2)
+  does_have w m (Queried finding kind) Asks Gone R R' rs ds serves goes gone p =
+      more ds (Ask (Find finding) ∷ []) p.0 (awaiting w.link m) (Replied (Asks None) rs) p.1
+      (queried_have (awaiting w.link m) finding kind (Asks None) (R None) rs p.0 (served_pending w m finding kind
+      serves) (goes None tt) p.2)
+  does_have w m (Fetched getting syntax) Asks Gone R R' rs ds serves goes gone p =
+      more ds (Ask (Get getting) ∷ []) p.0 (awaiting w.link m) (RepliedGet w.link.contexts (awaiting w.link m) syntax
+      Asks rs) p.1 (fetched_have w.link.contexts (awaiting w.link m) getting syntax Asks R rs p.0
+      (served_get w m getting
+      syntax serves) goes p.2)
+
+  by_have : (cancelled : Bool) (contexts : List Context) (g : Progress) (left : List Prepared) (pdus : List Pdu)
+      (next : Option Retrieval) (Asks : RequestsBy) (R : GoesBy) (rs : List Reply) (ds : List Deed)
+      → g.awaited.command.field ≡ C_GET_RQ → RespondsBy cancelled g left pdus next → HaveBy Asks R
+      → Then (map Send pdus) (GoesOnBy next contexts R rs) ds
+      → (requests : List Awaited) × Asks (next_of_get cancelled contexts g left) rs requests
+      × Have None ds (g.awaited ∷ requests)
+  by_have true contexts g left pdus next Asks R rs ds is told goes p =
+      let q = goes None tt rs p.0 (subst (λ (n : Option Retrieval). GoesOnBy n contexts R rs p.0) told.1 p.2) in (
+        q.0,
+        q.1,
+        subst (λ (t : List Deed). Have None t (g.awaited ∷ q.0)) (sym p.1)
+            (sent_have g.awaited None pdus p.0 q.0 (sending_data _ _ pdus told.0) q.2
+            (λ Open x. way_last Open g.awaited (counting g Cancel (Some (length left)) (failed_set g.syntax
+            g.counts.failed)) q.0 pdus (data_in p.0) (counting_is g Cancel (Some (length left)) (failed_set g.syntax
+            g.counts.failed) false refl) told.0 x)),
+      )
+  by_have false contexts g left pdus next Asks R rs ds is told goes p =
+      let q = begins_have contexts g left (λ n. Asks n rs) (λ n. R n rs) p.0 is (λ n get. goes n get rs)
+      (subst (λ (n : Option Retrieval). GoesOnBy n contexts R rs p.0) told.1 p.2) in (
+        q.0,
+        q.1,
+        subst (λ (t : List Deed). Have None t (g.awaited ∷ q.0)) (sym p.1)
+            (subst (λ (t : List Pdu). AreResponded (IsOpen (map Send pdus ++ p.0)) (g.awaited ∷ q.0) t)
+            (sym (data_behind pdus p.0 (responds_by_data false g left pdus next told)))
+            (left_way (IsOpen (map Send pdus ++ p.0)) g left q.0 pdus (data_in p.0) told.0
+            (responded_map (IsOpen p.0) (IsOpen (map Send pdus ++ p.0)) (g.awaited ∷ q.0) (data_in p.0)
+            (open_behind (map Send pdus) p.0) q.2))),
       )
 
-  told_has : (w : Within) (u : Heard) (a : Awaited) (status : Status) (us : List Heard) (before : List Deed)
-      (R : List Deed → Type 0) (ds : List Deed) → HasNoData before → is_pending status ≡ false
-      → ((vs : List Heard) (requests : List Awaited) → Requests titles w vs requests → Requests titles w (u ∷ vs)
-      (a ∷ requests))
-      → ((x : List Deed) → R x → HasResponses titles w us x) → Tells a status R ds → HasResponses titles w (u ∷ us)
-      (before ++ ds)
-  told_has w u a status us before R ds quiet final more goes p =
-      behind_told w u a status us before [] p.0 p.2.0 (before ++ ds) quiet (no_rows a) p.1 final
-      (ap (λ (t : List Deed). before ++ t) p.2.1) more (goes p.2.0 p.2.2)
-
-  rows_has : (w : Within) (u : Heard) (a : Awaited) (kind : RowKind) (rows : List Set) (status : Status)
-      (us : List Heard) (before : List Deed) (R : List Deed → Type 0) (ds : List Deed) → HasNoData before
-      → is_pending kind.status ≡ true → is_pending status ≡ false
-      → ((vs : List Heard) (requests : List Awaited) → Requests titles w vs requests → Requests titles w (u ∷ vs)
-      (a ∷ requests))
-      → ((x : List Deed) → R x → HasResponses titles w us x) → TellsRows a kind rows status R ds
-      → HasResponses titles w (u ∷ us) (before ++ ds)
-  rows_has w u a kind rows status us before R ds quiet pending final more goes p =
-      let end = p.2.2.2 in
-      behind_told w u a status us before p.0 p.2.2.0 end.0 (before ++ ds) quiet (kind, rows, p.1, pending) p.2.2.1 final
-      (ap (λ (t : List Deed). before ++ t) (p.2.1 ∙ ap (λ (t : List Deed). map Send p.0 ++ t) end.1)) more
-      (subst (λ (t : List Deed). HasResponses titles w us t) (sym end.2.1)
-      (has_before w us (Reach FindAnswered ∷ []) end.2.0 (λ rest q. q) (goes end.2.0 end.2.2)))
-
-  -- the requests of a message that is served, and of those behind it
-  served_more : (w : Within) (m : Message) (service : Service) (vs : List Heard) (requests : List Awaited)
-      → w.state ≡ Sta6 → Serves w m service
-      → RequestFor service (awaiting w.link m) (Requests titles w vs) (Requests titles (met titles w events.LocalAbort)
-      vs) requests → Requests titles w (Said m ∷ vs) requests
-  served_more w m service vs requests opened serves q =
-      subst (λ (k : State). RequestIn k (λ bs. (x : Service) × Serves w m x
-      × RequestFor x (awaiting w.link m) (Requests titles w vs) (Requests titles (met titles w events.LocalAbort)
-      vs) bs) (Requests titles w vs) requests) (sym opened) (service, serves, q)
-
-  dropped_more : (w : Within) (m : Message) (s : State) (vs : List Heard) (requests : List Awaited) → w.state ≡ s
-      → RequestIn s (λ bs. (x : Service) × Serves w m x × RequestFor x (awaiting w.link m)
-      (Requests titles w vs) (Requests titles (met titles w events.LocalAbort) vs) bs) (Requests titles w vs) requests
-      → Requests titles w (Said m ∷ vs) requests
-  dropped_more w m s vs requests is q =
-      subst (λ (k : State). RequestIn k (λ bs. (x : Service) × Serves w m x
-      × RequestFor x (awaiting w.link m) (Requests titles w vs) (Requests titles (met titles w events.LocalAbort)
-      vs) bs) (Requests titles w vs) requests) (sym is) q
-
-  abbrev Has : Within → List Heard → Goes → Type 0
-  Has w us R = (rs : List Reply) (x : List Deed) → R rs x → HasResponses titles w us x
-
-  asked_has : (w : Within) (m : Message) (content : ContentParts) (us : List Heard) (rs : List Reply)
-      (rest : List Deed) → w.state ≡ Sta6 → Serves w m (Asked content) → Has w us (Talks titles w us)
-      → FollowsStore (awaiting w.link m) (Talks titles w us) rs rest → HasResponses titles w (Said m ∷ us)
-      (Reach InStore ∷ Ask (Store content) ∷ rest)
-  asked_has w m content us [] rest opened serves goes p =
-      inr (
-        Said m ∷ [],
-        us,
+  performs_have : (w : Within) (meaning : Meaning) (sub : SubOperation) (Asks : RequestsBy)
+      (Gone : List Reply → List Awaited → Type 0) (R : GoesBy) (R' : Goes) (rs : List Reply) (ds : List Deed)
+      → IsGetOf (Some sub) → HaveBy Asks R → HaveAll None Gone R'
+      → ((rs : List Reply) (x : List Deed) → R' rs x → data_in x ≡ [])
+      → Performs meaning sub w.link.contexts (row titles w.state events.LocalAbort) R R' rs ds
+      → (requests : List Awaited) × RequestWithin meaning sub w.link.contexts Asks Gone rs requests
+      × Have (Some sub) ds requests
+  performs_have w Cancelled sub Asks Gone R R' rs ds is goes gone quiet p = goes (Some (cancelling sub)) is rs ds p
+  performs_have w Unawaited sub Asks Gone R R' rs ds is goes gone quiet p =
+      let no_data : data_in ds ≡ [] = ap data_in p.1 ∙ row_quiet titles w.state events.LocalAbort p.0
+      ∙ quiet rs p.0 p.2 in (
         [],
-        awaiting w.link m,
         refl,
-        served_more w m (Asked content) [] (awaiting w.link m ∷ []) opened serves ([], refl, refl),
-        subst (λ (t : List Deed). HasNoData (Reach InStore ∷ Ask (Store content) ∷ t)) (sym p) tt,
-        (Reach InStore ∷ [], Store content, ap (λ (t : List Deed). Reach InStore ∷ Ask (Store content) ∷ t) p),
+        subst (λ (t : List Pdu). AreResponded (IsOpen ds) (sub.progress.awaited ∷ []) t) (sym no_data)
+            (way_open (IsOpen ds) sub.progress.awaited (inr is)),
       )
-  asked_has w m content us (Stored reply ∷ rs) rest opened serves goes p =
-      told_has w (Said m) (awaiting w.link m) (status_of_reply reply) us (Reach InStore ∷ Ask (Store content) ∷ [])
-      (Talks titles w us rs) rest tt (stored_final reply)
-      (λ vs requests q. served_more w m (Asked content) vs (awaiting w.link m ∷ requests) opened
-      serves (requests, refl, q)) (goes rs) p
-  asked_has w m content us (Found reply ∷ rs) rest opened serves goes p = absurd p
+  performs_have w (Performed outcome) sub Asks Gone R R' rs ds is goes gone quiet p =
+      by_have sub.cancelled w.link.contexts (performed sub outcome) sub.left p.0 p.1 Asks R rs ds is p.2 goes p.3
 
-  queried_has : (w : Within) (m : Message) (finding : Finding) (kind : RowKind) (us : List Heard) (rs : List Reply)
-      (rest : List Deed) → w.state ≡ Sta6 → Serves w m (Queried finding kind) → Has w us (Talks titles w us)
-      → FollowsFind (awaiting w.link m) kind (Talks titles w us) rs rest → HasResponses titles w (Said m ∷ us)
-      (Ask (Find finding) ∷ rest)
-  queried_has w m finding kind us [] rest opened serves goes p =
-      inr (
-        Said m ∷ [],
-        us,
-        [],
-        awaiting w.link m,
-        refl,
-        served_more w m (Queried finding kind) [] (awaiting w.link m ∷ []) opened serves ([], refl, refl),
-        subst (λ (t : List Deed). HasNoData (Ask (Find finding) ∷ t)) (sym p) tt,
-        ([], Find finding, ap (λ (t : List Deed). Ask (Find finding) ∷ t) p),
+  attends_have : (sub : Option SubOperation) (w : Within) (m : Message) (us : List Heard) (rs : List Reply)
+      (ds : List Deed) → w.state ≡ Sta6 → IsGetOf sub
+      → HaveBy (λ next. Requests titles w next us) (λ next. Talks titles w next us)
+      → HaveAll None (Requests titles (met titles w events.LocalAbort) None us)
+      (Talks titles (met titles w events.LocalAbort) None us)
+      → Attends sub w m (row titles w.state events.LocalAbort) (λ next. Talks titles w next us)
+      (Talks titles (met titles w events.LocalAbort) None us) rs ds
+      → (requests : List Awaited) × RequestOf sub w m (λ next. Requests titles w next us)
+      (Requests titles (met titles w events.LocalAbort) None us) rs requests × Have sub ds requests
+  attends_have None w m us rs ds opened is goes gone p =
+      let q = does_have w m p.0 (λ next. Requests titles w next us) (Requests titles (met titles w events.LocalAbort)
+      None us) (λ next. Talks titles w next us) (Talks titles (met titles w events.LocalAbort) None us) rs ds p.1 goes
+      gone p.2 in
+      (q.0, (p.0, p.1, q.1), q.2)
+  attends_have (Some sub) w m us rs ds opened is goes gone p =
+      performs_have w (meaning_of sub.progress m.command) sub (λ next. Requests titles w next us)
+      (Requests titles (met titles w events.LocalAbort) None us) (λ next. Talks titles w next us)
+      (Talks titles (met titles w events.LocalAbort) None us) rs ds is goes gone
+      (λ rs' x. broken_quiet w us rs' x opened) p
+
+  said_have : (s : State) (sub : Option SubOperation) (w : Within) (m : Message) (us : List Heard) (rs : List Reply)
+      (ds : List Deed) → w.state ≡ s → IsGetOf sub
+      → HaveBy (λ next. Requests titles w next us) (λ next. Talks titles w next us)
+      → HaveAll None (Requests titles (met titles w events.LocalAbort) None us)
+      (Talks titles (met titles w events.LocalAbort) None us)
+      → InState s (Attends sub w m (row titles w.state events.LocalAbort) (λ next. Talks titles w next us)
+      (Talks titles (met titles w events.LocalAbort) None us)) (Talks titles w sub us) rs ds
+      → (requests : List Awaited) × RequestIn s (RequestOf sub w m (λ next. Requests titles w next us)
+      (Requests titles (met titles w events.LocalAbort) None us)) (Requests titles w sub us) rs requests
+      × Have sub ds requests
+  said_have Sta1 sub w m us rs ds opened is goes gone p = goes sub is rs ds p
+  said_have Sta2 sub w m us rs ds opened is goes gone p = goes sub is rs ds p
+  said_have Sta6 sub w m us rs ds opened is goes gone p = attends_have sub w m us rs ds opened is goes gone p
+  said_have Sta13 sub w m us rs ds opened is goes gone p = goes sub is rs ds p
+
+  none_have : (sub : Option SubOperation) → IsGetOf sub → Have sub [] []
+  none_have None is = refl
+  none_have (Some sub) is = way_open (IsOpen []) sub.progress.awaited (inr is)
+
+  pub responded : (us : List Heard) (w : Within) (sub : Option SubOperation) (rs : List Reply) (ds : List Deed)
+      → IsGetOf sub → Talks titles w sub us rs ds → HasResponses titles w sub us rs ds
+  responded [] w sub rs ds is p = ([], refl, subst (λ (t : List Deed). Have sub t []) (sym p) (none_have sub is))
+  responded (Met event ∷ us) w sub rs ds is p =
+      let q = responded us (met titles w event) sub rs p.0 is p.2 in (
+        q.0,
+        q.1,
+        subst (λ (t : List Deed). Have sub t q.0) (sym p.1) (have_before sub (row titles w.state event) p.0 q.0
+            (row_quiet titles w.state event p.0) q.2),
       )
-  queried_has w m finding kind us (Found reply ∷ rs) rest opened serves goes p =
-      rows_has w (Said m) (awaiting w.link m) kind (rows_in reply) (status_of_found reply)
-      us (Ask (Find finding) ∷ []) (Talks titles w us rs) rest tt (served_pending w m finding kind serves)
-      (found_final reply)
-      (λ vs requests q. served_more w m (Queried finding kind) vs (awaiting w.link m ∷ requests) opened
-      serves (requests, refl, q)) (goes rs) p
-  queried_has w m finding kind us (Stored reply ∷ rs) rest opened serves goes p = absurd p
-
-  does_has : (w : Within) (m : Message) (service : Service) (us : List Heard) (rs : List Reply) (ds : List Deed)
-      → w.state ≡ Sta6 → Serves w m service → Has w us (Talks titles w us)
-      → Has (met titles w events.LocalAbort) us (Talks titles (met titles w events.LocalAbort) us)
-      → Does service (awaiting w.link m) (row titles w.state events.LocalAbort) (Talks titles w us)
-      (Talks titles (met titles w events.LocalAbort) us) rs ds → HasResponses titles w (Said m ∷ us) ds
-  does_has w m Ignored us rs ds opened serves goes gone p =
-      behind_quiet w w (Said m) us [] ds (λ rest q. q) (λ vs requests q. served_more w m Ignored vs requests opened
-      serves q) (goes rs ds p)
-  does_has w m Broken us rs ds opened serves goes gone p =
-      subst (λ (t : List Deed). HasResponses titles w (Said m ∷ us) t) (sym p.1)
-      (behind_quiet w (met titles w events.LocalAbort) (Said m) us (row titles w.state events.LocalAbort)
-      p.0 (row_quiet titles w.state events.LocalAbort)
-      (λ vs requests q. served_more w m Broken vs requests opened serves q) (gone rs p.0 p.2))
-  does_has w m (Responded status) us rs ds opened serves goes gone p =
-      told_has w (Said m) (awaiting w.link m) status us [] (Talks titles w us rs) ds tt (served_final w m status serves)
-      (λ vs requests q. served_more w m (Responded status) vs (awaiting w.link m ∷ requests) opened
-      serves (requests, refl, q)) (goes rs) p
-  does_has w m (Asked content) us rs ds opened serves goes gone p =
-      subst (λ (t : List Deed). HasResponses titles w (Said m ∷ us) t) (sym p.1) (asked_has w m content us rs p.0 opened
-      serves goes p.2)
-  does_has w m (Queried finding kind) us rs ds opened serves goes gone p =
-      subst (λ (t : List Deed). HasResponses titles w (Said m ∷ us) t) (sym p.1) (queried_has w m finding kind us rs p.0
-      opened serves goes p.2)
-
-  said_has : (w : Within) (m : Message) (s : State) (us : List Heard) (rs : List Reply) (ds : List Deed) → w.state ≡ s
-      → Has w us (Talks titles w us) → Has (met titles w events.LocalAbort)
-      us (Talks titles (met titles w events.LocalAbort) us)
-      → InState s (Answers w m (row titles w.state events.LocalAbort) (Talks titles w us)
-      (Talks titles (met titles w events.LocalAbort) us)) (Talks titles w us) rs ds → HasResponses titles
-      w (Said m ∷ us) ds
-  said_has w m Sta1 us rs ds is goes gone p = behind_quiet w w (Said m) us [] ds (λ rest q. q)
-      (λ vs requests q. dropped_more w m Sta1 vs requests is q) (goes rs ds p)
-  said_has w m Sta2 us rs ds is goes gone p = behind_quiet w w (Said m) us [] ds (λ rest q. q)
-      (λ vs requests q. dropped_more w m Sta2 vs requests is q) (goes rs ds p)
-  said_has w m Sta6 us rs ds is goes gone p = does_has w m p.0 us rs ds is p.1 goes gone p.2
-  said_has w m Sta13 us rs ds is goes gone p = behind_quiet w w (Said m) us [] ds (λ rest q. q)
-      (λ vs requests q. dropped_more w m Sta13 vs requests is q) (goes rs ds p)
-
-  pub responded : (us : List Heard) (w : Within) (rs : List Reply) (ds : List Deed) → Talks titles w us rs ds
-      → HasResponses titles w us ds
-  responded [] w rs ds p = inl ([], refl, subst (λ (t : List Deed). HasNoData t) (sym p) tt)
-  responded (Met event ∷ us) w rs ds p =
-      subst (λ (t : List Deed). HasResponses titles w (Met event ∷ us) t) (sym p.1)
-      (behind_quiet w (met titles w event) (Met event) us (row titles w.state event)
-      p.0 (row_quiet titles w.state event) (λ vs requests q. q) (responded us (met titles w event) rs p.0 p.2))
-  responded (Said m ∷ us) w rs ds p = said_has w m w.state us rs ds refl (responded us w)
-      (responded us (met titles w events.LocalAbort)) p
+  responded (Said m ∷ us) w sub rs ds is p = said_have w.state sub w m us rs ds refl is
+      (λ next get rs' x. responded us w next rs' x get)
+      (λ rs' x. responded us (met titles w events.LocalAbort) None rs' x tt) p

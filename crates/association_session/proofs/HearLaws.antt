@@ -27,9 +27,9 @@ use Rattle.association_session.specs.declared.due.RowKind.{RowKind}
 use Rattle.association_session.specs.declared.due.Telling.{Telling}
 use Rattle.association_session.specs.declared.event.SessionEvent.{SessionEvent}
 use Rattle.association_session.specs.declared.reply.PortFault.{PortFault}
-use Rattle.association_session.specs.Due.{IsQuiet, IsAnswered, Fits}
+use Rattle.association_session.specs.Due.{IsAnswered, Fits}
 use Rattle.association_session.specs.Find.{rows_in, status_of_found}
-use Rattle.association_session.proofs.DataLaws.{data_state, sending_data}
+use Rattle.association_session.proofs.DataLaws.{AreData, data_state, sending_data}
 use Rattle.dimse.specs.declared.fault.DimseFault.{DimseFault}
 use Rattle.dimse.specs.declared.fault.DimseFault.TheVariants.{Memory}
 use Rattle.dimse.specs.Assembly.{Assembly, Feeds}
@@ -38,20 +38,25 @@ use Rattle.association_session.specs.declared.deed.Deed.{Deed}
 use Rattle.association_session.specs.declared.deed.Deed.TheVariants.{Send, Ask}
 use Rattle.association_session.specs.declared.event.SessionEvent.TheVariants.{GoesOn, Replied, Heard as IsHeard}
 use Rattle.association_session.specs.declared.reply.Reply.{Reply}
-use Rattle.association_session.specs.declared.reply.Reply.TheVariants.{Stored, Found}
+use Rattle.association_session.specs.declared.reply.Reply.TheVariants.{Stored, Found, Gotten}
 use Rattle.association_session.specs.declared.service.Service.{Service}
 use Rattle.association_session.specs.declared.service.Service.TheVariants.{Responded}
 use Rattle.association_session.specs.Projections.{state_after}
 use Rattle.association_session.specs.Response.{Awaited, FitsLimit}
+use Rattle.association_session.specs.Retrieval.{few_in, setting_out}
+use Rattle.association_session.specs.SubOperation.{Retrieval, SubOperation}
+use Rattle.retrieve_model.specs.declared.prepared.Prepared.{Prepared}
+use Rattle.data_set.specs.declared.syntax.Syntax.{Syntax}
+use Rattle.dimse.specs.declared.status.Status.TheVariants.{UnableToPerformSubOperations}
 use Rattle.association_session.specs.Row.{Within, Link, row, met, agreed_by, limit_in, handed_on}
 use Rattle.association_session.specs.Context.{context_in}
 use Rattle.association_session.specs.Service.{Serves, ServesOn}
 use Rattle.association_session.specs.Store.{status_of_reply}
 use Rattle.association_session.specs.Session.{AssociationState, Linked, assembly_in, assembly_of, heard_in, Turned}
-use Rattle.association_session.specs.Session.{Answered, Takes, Owes, OwedFor, Stops, entered, stage_by, IsTold}
+use Rattle.association_session.specs.Session.{Answered, Takes, Owes, OwedFor, OwedAt, Stops, entered, stage_by, IsTold}
 use Rattle.association_session.specs.Session.{IsWritable, IsToldBy, HearsValues, started}
-use Rattle.association_session.specs.Talks.{Heard, Met, Said, Goes, Tells, FollowsFind, Does, InState, Answers, Talks}
-use Rattle.association_session.specs.Talks.{Leads, awaiting, behind}
+use Rattle.association_session.specs.Talks.{Heard, Met, Said, Goes, GoesBy, Then, Tells, FollowsFind, FollowsGet}
+use Rattle.association_session.specs.Talks.{BeginsFew, Does, InState, Answers, Attends, Talks, Leads, awaiting}
 use Rattle.archive_model.specs.declared.view.View.{View}
 
 -- ---- one value more
@@ -87,6 +92,7 @@ pub record Fed (old now : AssociationState) : Type 0 where
   pub memory : HadMemory answers
   pub none : heard_in answers ≡ []
   pub within : now.within ≡ old.within
+  pub sub : now.sub ≡ old.sub
   pub awaited : now.awaited ≡ old.awaited
 
 pub fed_start : (s now : AssociationState) → now ≡ s → Fed s now
@@ -99,6 +105,7 @@ fed_start s now same = subst (λ (t : AssociationState). Fed s t) (sym same)
       memory = tt;
       none = refl;
       within = refl;
+      sub = refl;
       awaited =
           refl;
     })
@@ -115,6 +122,7 @@ link_same a b p q =
 abbrev pub fed_state : AssociationState → Linked → List Pdv → AssociationState
 fed_state now l q = record {
   within = record { state = now.within.state; settled = now.within.settled; link = l.link };
+  sub = now.sub;
   stage = l.stage;
   awaited = now.awaited;
   queue = q;
@@ -140,30 +148,38 @@ fed_on old now stood v q l same held first feeds limit = let so : Fed old now =
       memory = memory_push so.answers (Ok None) so.memory (λ e. absurd cc);
       none = heard_push so.answers (Ok None) ∙ append-nil (heard_in so.answers) ∙ so.none;
       within = same_within now l q feeds.contexts limit ∙ so.within;
+      sub = so.sub;
       awaited = so.awaited;
     }
 
 -- ---- what is owed
 
 pub owed_idle : (titles : List (Title View)) (s : AssociationState) (us : List Heard) (rs : List Reply)
-    (deeds : List Deed) → s.awaited ≡ None → Owes titles s us rs deeds → Talks titles s.within us rs deeds
-owed_idle titles s us rs deeds idle owed = subst (λ (a : Option Due). OwedFor a (Talks titles s.within us) rs deeds)
-    idle owed
+    (deeds : List Deed) → s.awaited ≡ None → Owes titles s us rs deeds → Talks titles s.within s.sub us rs deeds
+owed_idle titles s us rs deeds idle owed = subst (λ (a : Option Due). OwedAt titles s.within s.sub a us rs deeds) idle
+    owed
 
 pub idle_owed : (titles : List (Title View)) (s : AssociationState) (us : List Heard) (rs : List Reply)
-    (deeds : List Deed) → s.awaited ≡ None → Talks titles s.within us rs deeds → Owes titles s us rs deeds
-idle_owed titles s us rs deeds idle talks = subst (λ (a : Option Due). OwedFor a (Talks titles s.within us) rs
-    deeds) (sym idle) talks
+    (deeds : List Deed) → s.awaited ≡ None → Talks titles s.within s.sub us rs deeds → Owes titles s us rs deeds
+idle_owed titles s us rs deeds idle talks = subst (λ (a : Option Due). OwedAt titles s.within s.sub a us rs deeds)
+    (sym idle) talks
 
 -- What is owed depends on where the association is, and on what is awaited.
+pub owed_at : (titles : List (Title View)) (new : AssociationState) (w : Within) (sub : Option SubOperation)
+    (due : Option Due) (us : List Heard) (rs : List Reply) (rest : List Deed) → new.within ≡ w → new.sub ≡ sub
+    → new.awaited ≡ due → Owes titles new us rs rest → OwedAt titles w sub due us rs rest
+owed_at titles new w sub due us rs rest within same awaited owed =
+    subst (λ (k : Option Due). OwedAt titles w sub k us rs rest) awaited
+    (subst (λ (k : Option SubOperation). OwedAt titles w k new.awaited us rs rest) same
+    (subst (λ (k : Within). OwedAt titles k new.sub new.awaited us rs rest) within owed))
+
+-- What brings it from one state brings it from any other that is at the same place.
 takes_from : (titles : List (Title View)) (a b : AssociationState) (heard : List Heard)
-    (replied : List Reply) (deeds : List Deed) (new : AssociationState) → a.within ≡ b.within → a.awaited ≡ b.awaited
-    → Takes titles a heard replied deeds new → Takes titles b heard replied deeds new
-takes_from titles a b heard replied deeds new within awaited takes = λ us rs rest owed.
-    subst (λ (k : Option Due). OwedFor k (Talks titles b.within (heard ++ us)) (replied ++ rs) (deeds ++ rest))
-    awaited
-    (subst (λ (w : Within). OwedFor a.awaited (Talks titles w (heard ++ us)) (replied ++ rs) (deeds ++ rest))
-    within (takes us rs rest owed))
+    (replied : List Reply) (deeds : List Deed) (new : AssociationState) → a.within ≡ b.within → a.sub ≡ b.sub
+    → a.awaited ≡ b.awaited → Takes titles a heard replied deeds new → Takes titles b heard replied deeds new
+takes_from titles a b heard replied deeds new within same awaited takes = λ us rs rest owed.
+    owed_at titles a b.within b.sub b.awaited (heard ++ us) (replied ++ rs) (deeds ++ rest) within same awaited
+    (takes us rs rest owed)
 
 -- an event's row
 pub takes_row : (titles : List (Title View)) (s new : AssociationState) (event : Event) → s.awaited ≡ None
@@ -225,9 +241,6 @@ none_due a none some = cc
 pub none_fits : (a : Option Due) → a ≡ None → Fits a
 none_fits a none = subst (λ (o : Option Due). Fits o) (sym none) tt
 
-pub none_quiet : (a : Option Due) → a ≡ None → IsQuiet a
-none_quiet a none = subst (λ (o : Option Due). IsQuiet o) (sym none) tt
-
 pub none_answered : (a : Option Due) → a ≡ None → IsAnswered a
 none_answered a none = subst (λ (o : Option Due). IsAnswered o) (sym none) tt
 
@@ -239,12 +252,6 @@ told_from GoesOn (Some due) = tt
 
 pub told_none : (event : SessionEvent) (old new : Option Due) → new ≡ None → IsToldBy event old new
 told_none event old new none = subst (λ (o : Option Due). IsToldBy event old o) (sym none) (told_from event old)
-
-pub quiet_fits : (a : Option Due) → IsQuiet a → Fits a
-quiet_fits None quiet = tt
-quiet_fits (Some (dues.Store awaited)) quiet = tt
-quiet_fits (Some (dues.Find awaited kind)) quiet = tt
-quiet_fits (Some (dues.Rows telling)) quiet = absurd quiet
 
 serves_at : (w : Within) (m : Message) (service : Service) (settled : Option (Settled View)) (contexts : List Context)
     → settled ≡ w.settled → contexts ≡ w.link.contexts
@@ -281,12 +288,12 @@ took titles old now stood v q l m deeds new same held first feeds limit idle ans
           ∙ so.within) answered.leads;
       takes = takes_from titles (fed_state now l q) old (Said m ∷ []) [] deeds new (same_within now l q
           feeds.contexts limit
-          ∙ so.within) so.awaited answered.takes;
+          ∙ so.within) so.sub so.awaited answered.takes;
       stops = answered.stops;
       state = answered.state ∙ ap (λ (w : Within). state_after w.state deeds) so.within;
-      told = subst (λ (a : Option Due). IsToldBy GoesOn a new.awaited) (sym idle) answered.told;
+      told = subst (λ (a : Option Due). IsToldBy GoesOn a new.awaited) (sym idle) tt;
       opened = λ before. answered.opened;
-      fits = quiet_fits new.awaited answered.told;
+      fits = answered.fits;
     }
 
 -- a value that is refused: the local user aborts
@@ -320,7 +327,7 @@ broke titles old now stood v q l f deeds new same held first feeds not_memory li
       leads = ap (λ (t : AssociationState). t.within) next ∙ ap (λ (w : Within). met titles w LocalAbort)
           (same_within now l q feeds.contexts limit ∙ so.within);
       takes = takes_from titles mid old (Met LocalAbort ∷ []) [] deeds new (same_within now l q feeds.contexts limit
-          ∙ so.within) so.awaited
+          ∙ so.within) so.sub so.awaited
           (subst (λ (t : List Deed). Takes titles mid (Met LocalAbort ∷ []) [] t new) (sym row_here)
           (takes_row titles mid new LocalAbort idle next));
       stops = subst (λ (t : List Deed). Stops t new.awaited) (sym sent) (subst (λ (a : Option Due). Stops [] a)
@@ -337,6 +344,7 @@ pub all_heard : (titles : List (Title View)) (old now stood : AssociationState) 
     (deeds : List Deed) → now ≡ stood → Fed old stood → old.awaited ≡ None → now.queue ≡ q → deeds ≡ []
     → Turned titles old GoesOn deeds (record {
       within = now.within;
+      sub = now.sub;
       stage = now.stage;
       awaited = now.awaited;
       queue =
@@ -344,8 +352,13 @@ pub all_heard : (titles : List (Title View)) (old now stood : AssociationState) 
     })
 all_heard titles old now stood q deeds same held idle rest none =
     let so : Fed old now = subst (λ (t : AssociationState). Fed old t) (sym same) held in
-    let new : AssociationState = record { within = now.within; stage = now.stage; awaited = now.awaited; queue = q }
-    in
+    let new : AssociationState = record {
+      within = now.within;
+      sub = now.sub;
+      stage = now.stage;
+      awaited = now.awaited;
+      queue = q;
+    } in
     record {
       said = [];
       values = record {
@@ -361,7 +374,7 @@ all_heard titles old now stood q deeds same held idle rest none =
             sym so.none;
       };
       leads = so.within;
-      takes = takes_from titles new old [] [] deeds new so.within so.awaited
+      takes = takes_from titles new old [] [] deeds new so.within so.sub so.awaited
           (subst (λ (t : List Deed). Takes titles new [] [] t new) (sym none) (λ us rs more owed. owed));
       stops = subst (λ (t : List Deed). Stops t now.awaited) (sym none) (subst (λ (a : Option Due). Stops [] a)
           (sym (so.awaited ∙ idle)) tt);
@@ -412,6 +425,10 @@ told_state : (awaited : Awaited) (status : Status) (deeds : List Deed) (s : Stat
 told_state awaited status deeds s told =
     ap (λ (t : List Deed). state_after s t) told.2 ∙ data_state s told.0 (sending_data _ _ told.0 told.1)
 
+pub sends_halt : (ps : List Pdu) (a : Option Due) → IsAnswered a → Stops (map Send ps) a
+sends_halt [] a answered = answered
+sends_halt (p ∷ ps) a answered = sends_halt ps a answered
+
 sends_stop : (pdus : List Pdu) → Stops (map Send pdus) None
 sends_stop [] = tt
 sends_stop (p ∷ pdus) = sends_stop pdus
@@ -425,43 +442,52 @@ tells : (awaited : Awaited) (status : Status) (deeds rest : List Deed) (R : List
     deeds → R rest → Tells awaited status R (deeds ++ rest)
 tells awaited status deeds rest R told goes = (told.0, told.1, (rest, ap (λ (t : List Deed). t ++ rest) told.2, goes))
 
+-- A message that is answered, while the association is established and no sub-operation is awaited.
+said_so : (titles : List (Title View)) (w : Within) (sub : Option SubOperation) (m : Message) (us : List Heard)
+    (rs : List Reply) (deeds : List Deed) → w.state ≡ Sta6 → sub ≡ None
+    → Answers w m (row titles w.state LocalAbort) (λ next. Talks titles w next us)
+    (Talks titles (met titles w LocalAbort) None us) rs deeds → Talks titles w sub (Said m ∷ us) rs deeds
+said_so titles w sub m us rs deeds opened none answers =
+    subst (λ (k : Option SubOperation). Talks titles w k (Said m ∷ us) rs deeds) (sym none)
+    (subst (λ (s : State). InState s (Answers w m (row titles w.state LocalAbort) (λ next. Talks titles w next us)
+    (Talks titles (met titles w LocalAbort) None us)) (Talks titles w None us) rs deeds) (sym opened) answers)
+
 -- a message that is responded
 pub answered_told : (titles : List (Title View)) (now new : AssociationState) (m : Message)
     (status : Status) (service : Service) (settled : Option (Settled View)) (contexts : List Context) (limit : ℕ)
     (deeds : List Deed)
-    → now.within.state ≡ Sta6 → now.awaited ≡ None → new ≡ now → settled ≡ now.within.settled
+    → now.within.state ≡ Sta6 → now.awaited ≡ None → now.sub ≡ None → new ≡ now → settled ≡ now.within.settled
     → contexts ≡ now.within.link.contexts
     → limit ≡ now.within.link.limit → service ≡ Responded status
     → ServesOn settled (context_in contexts m.context) m.command m.body service
     → IsTold (record { context = m.context; limit = limit; command = m.command }) status deeds → Answered titles now m
     deeds new
-answered_told titles now new m status service settled contexts limit deeds opened idle same se cs lim is serves told =
+answered_told titles now new m status service settled contexts limit deeds opened idle none same se cs lim is serves
+    told =
     let told_here : IsTold (awaiting now.within.link m) status deeds =
     subst (λ (n : ℕ). IsTold (record { context = m.context; limit = n; command = m.command }) status deeds) lim told
     in
     let serves_here : Serves now.within m (Responded status) =
     subst (λ (s : Service). Serves now.within m s) is (serves_at now.within m service settled contexts se cs serves) in
+    let idle_new : new.awaited ≡ None = ap (λ (t : AssociationState). t.awaited) same ∙ idle in
     record {
-      leads = (opened, Responded status, serves_here, ap (λ (t : AssociationState). t.within) same);
+      leads = (opened, inl (ap (λ (t : AssociationState). t.within) same));
       takes = λ us rs rest owed.
           idle_owed titles now (Said m ∷ us) rs (deeds ++ rest) idle
-          (subst (λ (s : State). InState s (Answers now.within m (row titles now.within.state LocalAbort)
-          (Talks titles now.within us) (Talks titles (met titles now.within LocalAbort) us))
-          (Talks titles now.within us) rs (deeds ++ rest)) (sym opened) (
+          (said_so titles now.within now.sub m us rs (deeds ++ rest) opened none (
             Responded status,
             serves_here,
-            tells (awaiting now.within.link m) status deeds rest (Talks titles now.within us rs) told_here
-                (owed_idle titles now us rs rest idle (subst (λ (t : AssociationState). Owes titles t us rs rest) same
-                owed)),
+            tells (awaiting now.within.link m) status deeds rest (Talks titles now.within None us rs) told_here
+                (owed_at titles new now.within None None us rs rest (ap (λ (t : AssociationState). t.within) same)
+                (ap (λ (t : AssociationState). t.sub) same ∙ none) idle_new owed),
           ));
-      stops = told_stops (awaiting now.within.link m) status deeds new.awaited
-          (ap (λ (t : AssociationState). t.awaited) same ∙ idle) told_here;
+      stops = told_stops (awaiting now.within.link m) status deeds new.awaited idle_new told_here;
       state = ap (λ (t : AssociationState). t.within.state) same
           ∙ sym (told_state (awaiting now.within.link m) status deeds now.within.state told_here);
       link = ap (λ (t : AssociationState). t.within.link) same;
       stage = ap (λ (t : AssociationState). t.stage) same;
       kept = inl (ap (λ (t : AssociationState). t.queue) same);
-      told = none_quiet new.awaited (ap (λ (t : AssociationState). t.awaited) same ∙ idle);
+      fits = none_fits new.awaited idle_new;
       opened = λ some. ap (λ (t : AssociationState). t.within.state) same ∙ opened;
     }
 
@@ -469,33 +495,42 @@ answered_told titles now new m status service settled contexts limit deeds opene
 pub answered_asked : (titles : List (Title View)) (now new : AssociationState) (m : Message) (service : Service)
     (front : List Deed) (call : Call) (due : Due) (settled : Option (Settled View)) (contexts : List Context)
     (deeds : List Deed)
-    → now.within.state ≡ Sta6 → now.awaited ≡ None
-    → new ≡ record { within = now.within; stage = now.stage; awaited = Some due; queue = now.queue }
+    → now.within.state ≡ Sta6 → now.awaited ≡ None → now.sub ≡ None
+    → new ≡ record {
+      within = now.within;
+      sub = now.sub;
+      stage = now.stage;
+      awaited = Some due;
+      queue = now.queue;
+    }
     → settled ≡ now.within.settled → contexts ≡ now.within.link.contexts
     → ServesOn settled (context_in contexts m.context) m.command m.body service
     → deeds ≡ front ++ Ask call ∷ [] → Stops (front ++ Ask call ∷ []) (Some due)
-    → ((s : State) → state_after s (front ++ Ask call ∷ []) ≡ s)
-    → behind titles now.within service ≡ now.within → IsQuiet (Some due)
-    → ((abort : List Deed) (goes gone : Goes) (rs : List Reply) (rest : List Deed) → OwedFor (Some due) goes rs rest
-    → Does service (awaiting now.within.link m) abort goes gone rs ((front ++ Ask call ∷ []) ++ rest))
+    → ((s : State) → state_after s (front ++ Ask call ∷ []) ≡ s) → Fits (Some due)
+    → ((abort : List Deed) (gets : GoesBy) (gone : Goes) (rs : List Reply) (rest : List Deed)
+    → OwedFor now.within.link.contexts (Some due) gets (gets None) rs rest
+    → Does service now.within.link.contexts (awaiting now.within.link m) abort gets gone rs
+    ((front ++ Ask call ∷ []) ++ rest))
     → Answered titles now m deeds new
-answered_asked titles now new m service front call due settled contexts deeds opened idle same se cs serves is stops
-    stays leads quiet does =
+answered_asked titles now new m service front call due settled contexts deeds opened idle none same se cs serves is
+    stops stays fits does =
     let serves_here : Serves now.within m service = serves_at now.within m service settled contexts se cs serves in
+    let gets : List Heard → GoesBy = λ us next. Talks titles now.within next us in
+    let gone : List Heard → Goes = λ us. Talks titles (met titles now.within LocalAbort) None us in
+    let abort = row titles now.within.state LocalAbort in
     record {
-      leads = (opened, service, serves_here, ap (λ (t : AssociationState). t.within) same ∙ sym leads);
+      leads = (opened, inl (ap (λ (t : AssociationState). t.within) same));
       takes = λ us rs rest owed.
           idle_owed titles now (Said m ∷ us) rs (deeds ++ rest) idle
-          (subst (λ (s : State). InState s (Answers now.within m (row titles now.within.state LocalAbort)
-          (Talks titles now.within us) (Talks titles (met titles now.within LocalAbort) us))
-          (Talks titles now.within us) rs (deeds ++ rest)) (sym opened) (
+          (said_so titles now.within now.sub m us rs (deeds ++ rest) opened none (
             service,
             serves_here,
-            subst (λ (t : List Deed). Does service (awaiting now.within.link m) (row titles now.within.state LocalAbort)
-                (Talks titles now.within us) (Talks titles (met titles now.within LocalAbort) us) rs (t ++ rest))
-                (sym is) (does (row titles now.within.state LocalAbort) (Talks titles now.within us)
-                (Talks titles (met titles now.within LocalAbort) us) rs rest
-                (subst (λ (t : AssociationState). Owes titles t us rs rest) same owed)),
+            subst (λ (t : List Deed). Does service now.within.link.contexts (awaiting now.within.link m) abort
+                (gets us) (gone us) rs (t ++ rest)) (sym is)
+                (does abort (gets us) (gone us) rs rest
+                (owed_at titles new now.within None (Some due) us rs rest
+                (ap (λ (t : AssociationState). t.within) same) (ap (λ (t : AssociationState). t.sub) same ∙ none)
+                (ap (λ (t : AssociationState). t.awaited) same) owed)),
           ));
       stops = subst (λ (a : Option Due). Stops deeds a) (sym (ap (λ (t : AssociationState). t.awaited) same))
           (subst (λ (t : List Deed). Stops t (Some due)) (sym is) stops);
@@ -504,13 +539,108 @@ answered_asked titles now new m service front call due settled contexts deeds op
       link = ap (λ (t : AssociationState). t.within.link) same;
       stage = ap (λ (t : AssociationState). t.stage) same;
       kept = inl (ap (λ (t : AssociationState). t.queue) same);
-      told = subst (λ (a : Option Due). IsQuiet a) (sym (ap (λ (t : AssociationState). t.awaited) same)) quiet;
+      fits = subst (λ (a : Option Due). Fits a) (sym (ap (λ (t : AssociationState). t.awaited) same)) fits;
       opened = λ some. ap (λ (t : AssociationState). t.within.state) same ∙ opened;
+    }
+
+-- a message that is answered by an abort, or that stands within a C-GET which it breaks
+pub answered_broken : (titles : List (Title View)) (now mid new : AssociationState) (m : Message) (deeds : List Deed)
+    → now.within.state ≡ Sta6 → now.awaited ≡ None
+    → mid ≡ record {
+      within = now.within;
+      sub = None;
+      stage = now.stage;
+      awaited = now.awaited;
+      queue = now.queue;
+    }
+    → deeds ≡ row titles Sta6 LocalAbort → new ≡ entered titles mid LocalAbort
+    → ((abort : List Deed) (gets : GoesBy) (gone : Goes) (rs : List Reply) (rest : List Deed)
+    → Then abort (gone rs) rest → Attends now.sub now.within m abort gets gone rs rest)
+    → Answered titles now m deeds new
+answered_broken titles now mid new m deeds opened idle is sent next attends =
+    let within : new.within ≡ met titles now.within LocalAbort = ap (λ (t : AssociationState). t.within) next
+    ∙ ap (λ (t : AssociationState). met titles t.within LocalAbort) is in
+    let sub : new.sub ≡ None = ap (λ (t : AssociationState). t.sub) next ∙ ap (λ (t : AssociationState). t.sub) is in
+    let none : new.awaited ≡ None = ap (λ (t : AssociationState). t.awaited) next
+    ∙ ap (λ (t : AssociationState). t.awaited) is ∙ idle in
+    let row_here : deeds ≡ row titles now.within.state LocalAbort = sent ∙ ap (λ (t : State). row titles t LocalAbort)
+    (sym opened) in
+    let stage : new.stage ≡ stage_by (opens now.within.state (next_of now.within.state (kind_for titles LocalAbort)))
+    now.stage = ap (λ (t : AssociationState). t.stage) next
+    ∙ ap (λ (t : AssociationState). stage_by (opens t.within.state (next_of t.within.state (kind_for titles
+    LocalAbort))) t.stage) is in
+    record {
+      leads = (opened, inr within);
+      takes = λ us rs rest owed.
+          idle_owed titles now (Said m ∷ us) rs (deeds ++ rest) idle
+          (subst (λ (s : State). InState s (Attends now.sub now.within m (row titles now.within.state LocalAbort)
+          (λ next. Talks titles now.within next us) (Talks titles (met titles now.within LocalAbort) None us))
+          (Talks titles now.within now.sub us) rs (deeds ++ rest)) (sym opened)
+          (attends (row titles now.within.state LocalAbort) (λ next. Talks titles now.within next us)
+          (Talks titles (met titles now.within LocalAbort) None us) rs (deeds ++ rest) (
+            rest,
+            ap (λ (t : List Deed). t ++ rest) row_here,
+            owed_at titles new (met titles now.within LocalAbort) None None us rs rest within sub none owed,
+          )));
+      stops = subst (λ (t : List Deed). Stops t new.awaited) (sym sent) (subst (λ (a : Option Due). Stops [] a)
+          (sym none) tt);
+      state = ap (λ (w : Within). w.state) within ∙ gone_state titles now.within.state opened
+          ∙ sym (ap (λ (t : List Deed). state_after now.within.state t) sent);
+      link = ap (λ (w : Within). w.link) within ∙ gone_link titles now.within opened;
+      stage = stage ∙ gone_stage titles now.within.state now.stage opened;
+      kept = inr (subst (λ (w : Within). IsLeft w.state) (sym within) (gone_left titles now.within.state opened));
+      fits = none_fits new.awaited none;
+      opened = λ some. absurd (none_due new.awaited none some);
+    }
+
+-- what sends these PDUs within a C-GET, which goes on
+pub answered_sent : (titles : List (Title View)) (now new : AssociationState) (m : Message) (deeds : List Deed)
+    (pdus : List Pdu) (sub : Option SubOperation) (due : Option Due)
+    → now.within.state ≡ Sta6 → now.awaited ≡ None
+    → new ≡ record { within = now.within; sub = sub; stage = now.stage; awaited = due; queue = now.queue }
+    → deeds ≡ map Send pdus → AreData pdus → IsAnswered due → Fits due
+    → ((abort : List Deed) (gets : GoesBy) (gone : Goes) (rs : List Reply) (rest : List Deed)
+    → OwedFor now.within.link.contexts due gets (gets sub) rs rest
+    → Attends now.sub now.within m abort gets gone rs (map Send pdus ++ rest))
+    → Answered titles now m deeds new
+answered_sent titles now new m deeds pdus sub due opened idle is sent are_data answered fits attends =
+    let within : new.within ≡ now.within = ap (λ (t : AssociationState). t.within) is in
+    let awaited : new.awaited ≡ due = ap (λ (t : AssociationState). t.awaited) is in
+    record {
+      leads = (opened, inl within);
+      takes = λ us rs rest owed.
+          idle_owed titles now (Said m ∷ us) rs (deeds ++ rest) idle
+          (subst (λ (s : State). InState s (Attends now.sub now.within m (row titles now.within.state LocalAbort)
+          (λ next. Talks titles now.within next us) (Talks titles (met titles now.within LocalAbort) None us))
+          (Talks titles now.within now.sub us) rs (deeds ++ rest)) (sym opened)
+          (subst (λ (t : List Deed). Attends now.sub now.within m (row titles now.within.state LocalAbort)
+          (λ next. Talks titles now.within next us) (Talks titles (met titles now.within LocalAbort) None us) rs
+          (t ++ rest)) (sym sent)
+          (attends (row titles now.within.state LocalAbort) (λ next. Talks titles now.within next us)
+          (Talks titles (met titles now.within LocalAbort) None us) rs rest
+          (owed_at titles new now.within sub due us rs rest within (ap (λ (t : AssociationState). t.sub) is) awaited
+          owed))));
+      stops = subst (λ (t : List Deed). Stops t new.awaited) (sym sent)
+          (subst (λ (a : Option Due). Stops (map Send pdus) a) (sym awaited) (sends_halt pdus due answered));
+      state = ap (λ (w : Within). w.state) within
+          ∙ sym (ap (λ (t : List Deed). state_after now.within.state t) sent
+          ∙ data_state now.within.state pdus are_data);
+      link = ap (λ (w : Within). w.link) within;
+      stage = ap (λ (t : AssociationState). t.stage) is;
+      kept = inl (ap (λ (t : AssociationState). t.queue) is);
+      fits = subst (λ (a : Option Due). Fits a) (sym awaited) fits;
+      opened = λ some. ap (λ (w : Within). w.state) within ∙ opened;
     }
 
 -- a turn in which no value is heard
 pub still : (now new : AssociationState) → new.within ≡ now.within → new.stage ≡ now.stage → new.queue ≡ now.queue
-    → HearsValues (record { within = now.within; stage = now.stage; awaited = now.awaited; queue = now.queue }) [] new
+    → HearsValues (record {
+      within = now.within;
+      sub = now.sub;
+      stage = now.stage;
+      awaited = now.awaited;
+      queue = now.queue;
+    }) [] new
 still now new within stage queue = record {
   fed = [];
   left = new.queue;
@@ -525,10 +655,10 @@ still now new within stage queue = record {
 -- a reply to a store
 pub resumed : (titles : List (Title View)) (now new : AssociationState) (awaited shown : Awaited)
     (reply : Result Taken PortFault) (status : Status) (deeds : List Deed)
-    → now.awaited ≡ Some (dues.Store awaited) → new.within ≡ now.within → new.stage ≡ now.stage → new.awaited ≡ None
-    → new.queue ≡ now.queue → shown ≡ awaited → status ≡ status_of_reply reply
+    → now.awaited ≡ Some (dues.Store awaited) → new.within ≡ now.within → new.sub ≡ now.sub → new.stage ≡ now.stage
+    → new.awaited ≡ None → new.queue ≡ now.queue → shown ≡ awaited → status ≡ status_of_reply reply
     → IsTold shown status deeds → Turned titles now (Replied (Stored reply)) deeds new
-resumed titles now new awaited shown reply status deeds has within stage none queue same is told =
+resumed titles now new awaited shown reply status deeds has within sub stage none queue same is told =
     let told_here : IsTold awaited (status_of_reply reply) deeds =
     subst (λ (s : Status). IsTold awaited s deeds) is (subst (λ (a : Awaited). IsTold a status deeds) same told) in
     record {
@@ -536,10 +666,10 @@ resumed titles now new awaited shown reply status deeds has within stage none qu
       values = still (started titles now (Replied (Stored reply))) new within stage queue;
       leads = within;
       takes = λ us rs rest owed.
-          subst (λ (a : Option Due). OwedFor a (Talks titles now.within us) (Stored reply ∷ rs) (deeds ++ rest))
+          subst (λ (a : Option Due). OwedAt titles now.within now.sub a us (Stored reply ∷ rs) (deeds ++ rest))
           (sym has)
-          (tells awaited (status_of_reply reply) deeds rest (Talks titles now.within us rs) told_here
-          (subst (λ (w : Within). Talks titles w us rs rest) within (owed_idle titles new us rs rest none owed)));
+          (tells awaited (status_of_reply reply) deeds rest (Talks titles now.within now.sub us rs) told_here
+          (owed_at titles new now.within now.sub None us rs rest within sub none owed));
       stops = told_stops awaited (status_of_reply reply) deeds new.awaited none told_here;
       state = ap (λ (w : Within). w.state) within
           ∙ sym (told_state awaited (status_of_reply reply) deeds now.within.state told_here);
@@ -551,8 +681,8 @@ resumed titles now new awaited shown reply status deeds has within stage none qu
 -- a reply to a find: rows are left to be told
 pub found_rows : (titles : List (Title View)) (now new : AssociationState) (awaited : Awaited) (kind : RowKind)
     (telling : Telling) (reply : Result (List Set) PortFault) (deeds : List Deed)
-    → now.awaited ≡ Some (dues.Find awaited kind) → new.within ≡ now.within → new.stage ≡ now.stage
-    → new.awaited ≡ Some (dues.Rows telling) → new.queue ≡ now.queue
+    → now.awaited ≡ Some (dues.Find awaited kind) → new.within ≡ now.within → new.sub ≡ now.sub
+    → new.stage ≡ now.stage → new.awaited ≡ Some (dues.Rows telling) → new.queue ≡ now.queue
     → telling ≡ record {
       awaited = awaited;
       kind = kind;
@@ -560,7 +690,7 @@ pub found_rows : (titles : List (Title View)) (now new : AssociationState) (awai
       status = status_of_found reply;
     } → FitsLimit awaited.limit → deeds ≡ []
     → Turned titles now (Replied (Found reply)) deeds new
-found_rows titles now new awaited kind telling reply deeds has within stage due queue is fits none =
+found_rows titles now new awaited kind telling reply deeds has within sub stage due queue is fits none =
     let rows : Due = dues.Rows (record {
       awaited = awaited;
       kind = kind;
@@ -573,12 +703,11 @@ found_rows titles now new awaited kind telling reply deeds has within stage due 
       values = still (started titles now (Replied (Found reply))) new within stage queue;
       leads = within;
       takes = λ us rs rest owed.
-          subst (λ (a : Option Due). OwedFor a (Talks titles now.within us) (Found reply ∷ rs) (deeds ++ rest))
+          subst (λ (a : Option Due). OwedAt titles now.within now.sub a us (Found reply ∷ rs) (deeds ++ rest))
           (sym has)
-          (subst (λ (t : List Deed). FollowsFind awaited kind (Talks titles now.within us) (Found reply ∷ rs)
+          (subst (λ (t : List Deed). FollowsFind awaited kind (Talks titles now.within now.sub us) (Found reply ∷ rs)
           (t ++ rest)) (sym none)
-          (subst (λ (a : Option Due). OwedFor a (Talks titles now.within us) rs rest) due_is
-          (subst (λ (w : Within). OwedFor new.awaited (Talks titles w us) rs rest) within owed)));
+          (owed_at titles new now.within now.sub (Some rows) us rs rest within sub due_is owed));
       stops = subst (λ (t : List Deed). Stops t new.awaited) (sym none)
           (subst (λ (a : Option Due). IsAnswered a) (sym due_is) tt);
       state = ap (λ (w : Within). w.state) within ∙ ap (λ (t : List Deed). state_after now.within.state t) (sym none);
@@ -586,6 +715,68 @@ found_rows titles now new awaited kind telling reply deeds has within stage due 
       opened = λ before some. ap (λ (w : Within). w.state) within
           ∙ before (subst (λ (a : Option Due). IsSome a) (sym has) refl);
       fits = subst (λ (a : Option Due). Fits a) (sym due_is) fits;
+    }
+
+-- a reply to a get: its sub-operations are left to be begun
+pub gotten_left : (titles : List (Title View)) (now new : AssociationState) (awaited : Awaited) (syntax : Syntax)
+    (reply : Result (List Prepared) PortFault) (prepared : List Prepared) (retrieval : Retrieval) (deeds : List Deed)
+    → now.awaited ≡ Some (dues.Get awaited syntax) → new.within ≡ now.within → new.sub ≡ now.sub
+    → new.stage ≡ now.stage → new.awaited ≡ Some (dues.Sending retrieval) → new.queue ≡ now.queue
+    → few_in reply ≡ Some prepared → retrieval ≡ record { progress = setting_out awaited syntax; left = prepared }
+    → FitsLimit awaited.limit → deeds ≡ [] → Turned titles now (Replied (Gotten reply)) deeds new
+gotten_left titles now new awaited syntax reply prepared retrieval deeds has within sub stage due queue few is fits
+    none =
+    let left : Due = dues.Sending (record { progress = setting_out awaited syntax; left = prepared }) in
+    let due_is : new.awaited ≡ Some left = due ∙ ap (λ (t : Retrieval). Some (dues.Sending t)) is in
+    record {
+      said = [];
+      values = still (started titles now (Replied (Gotten reply))) new within stage queue;
+      leads = within;
+      takes = λ us rs rest owed.
+          subst (λ (a : Option Due). OwedAt titles now.within now.sub a us (Gotten reply ∷ rs) (deeds ++ rest))
+          (sym has)
+          (subst (λ (t : List Deed). FollowsGet now.within.link.contexts awaited syntax
+          (λ next. Talks titles now.within next us) (Talks titles now.within now.sub us) (Gotten reply ∷ rs)
+          (t ++ rest)) (sym none)
+          (subst (λ (o : Option (List Prepared)). BeginsFew now.within.link.contexts awaited syntax o
+          (λ next. Talks titles now.within next us rs) (Talks titles now.within now.sub us rs) rest) (sym few)
+          (owed_at titles new now.within now.sub (Some left) us rs rest within sub due_is owed)));
+      stops = subst (λ (t : List Deed). Stops t new.awaited) (sym none)
+          (subst (λ (a : Option Due). IsAnswered a) (sym due_is) tt);
+      state = ap (λ (w : Within). w.state) within ∙ ap (λ (t : List Deed). state_after now.within.state t) (sym none);
+      told = subst (λ (a : Option Due). IsAnswered a) (sym due_is) tt;
+      opened = λ before some. ap (λ (w : Within). w.state) within
+          ∙ before (subst (λ (a : Option Due). IsSome a) (sym has) refl);
+      fits = subst (λ (a : Option Due). Fits a) (sym due_is) fits;
+    }
+
+-- a reply to a get that is refused
+pub gotten_none : (titles : List (Title View)) (now new : AssociationState) (awaited shown : Awaited) (syntax : Syntax)
+    (reply : Result (List Prepared) PortFault) (deeds : List Deed)
+    → now.awaited ≡ Some (dues.Get awaited syntax) → new.within ≡ now.within → new.sub ≡ now.sub
+    → new.stage ≡ now.stage → new.awaited ≡ None → new.queue ≡ now.queue → shown ≡ awaited → few_in reply ≡ None
+    → IsTold shown UnableToPerformSubOperations deeds → Turned titles now (Replied (Gotten reply)) deeds new
+gotten_none titles now new awaited shown syntax reply deeds has within sub stage none queue same few told =
+    let told_here : IsTold awaited UnableToPerformSubOperations deeds =
+    subst (λ (a : Awaited). IsTold a UnableToPerformSubOperations deeds) same told in
+    record {
+      said = [];
+      values = still (started titles now (Replied (Gotten reply))) new within stage queue;
+      leads = within;
+      takes = λ us rs rest owed.
+          subst (λ (a : Option Due). OwedAt titles now.within now.sub a us (Gotten reply ∷ rs) (deeds ++ rest))
+          (sym has)
+          (subst (λ (o : Option (List Prepared)). BeginsFew now.within.link.contexts awaited syntax o
+          (λ next. Talks titles now.within next us rs) (Talks titles now.within now.sub us rs) (deeds ++ rest))
+          (sym few)
+          (tells awaited UnableToPerformSubOperations deeds rest (Talks titles now.within now.sub us rs) told_here
+          (owed_at titles new now.within now.sub None us rs rest within sub none owed)));
+      stops = told_stops awaited UnableToPerformSubOperations deeds new.awaited none told_here;
+      state = ap (λ (w : Within). w.state) within
+          ∙ sym (told_state awaited UnableToPerformSubOperations deeds now.within.state told_here);
+      told = none_answered new.awaited none;
+      opened = λ before some. absurd (none_due new.awaited none some);
+      fits = none_fits new.awaited none;
     }
 
 pub all_is : (deeds : List Deed) (pdus : List Pdu) → deeds ≡ map Send pdus → All IsPdu pdus → All IsWritable deeds
@@ -602,3 +793,6 @@ at_state a b same = ap (λ (t : AssociationState). t.within.state) same
 
 pub at_awaited : (a b : AssociationState) → a ≡ b → a.awaited ≡ b.awaited
 at_awaited a b same = ap (λ (t : AssociationState). t.awaited) same
+
+pub at_sub : (a b : AssociationState) → a ≡ b → a.sub ≡ b.sub
+at_sub a b same = ap (λ (t : AssociationState). t.sub) same

@@ -18,7 +18,7 @@ use Rattle.ul_state.specs.Table.{next_of}
 use Rattle.ul_state.specs.Acceptor.{kind_for}
 use Rattle.dimse.specs.declared.message.Message.{Message}
 use Rattle.dimse.specs.declared.status.Status.{Status}
-use Rattle.association_session.specs.declared.deed.Call.TheVariants.{Store, Find}
+use Rattle.association_session.specs.declared.deed.Call.TheVariants.{Store, Find, Get}
 use Rattle.association_session.specs.declared.deed.Deed.{Deed}
 use Rattle.association_session.specs.declared.deed.Deed.TheVariants.{Send, Reach, Ask}
 use Rattle.association_session.specs.declared.deed.Moment.TheVariants.{InStore, FindAnswered}
@@ -27,18 +27,31 @@ use Rattle.association_session.specs.declared.due.RowKind.{RowKind}
 use Rattle.data_set.specs.Set.{Set}
 use Rattle.operation.specs.Parts.{ContentParts}
 use Rattle.association_session.specs.declared.reply.Reply.{Reply}
-use Rattle.association_session.specs.declared.reply.Reply.TheVariants.{Stored, Found}
+use Rattle.association_session.specs.declared.reply.Reply.TheVariants.{Stored, Found, Gotten}
 use Rattle.association_session.specs.declared.service.Service.{Service}
 use Rattle.association_session.specs.declared.service.Service.TheVariants.{Ignored, Broken, Responded, Asked}
-use Rattle.association_session.specs.declared.service.Service.TheVariants.{Queried}
+use Rattle.association_session.specs.declared.service.Service.TheVariants.{Queried, Fetched}
 use Rattle.association_session.specs.Find.{rows_in, status_of_found}
-use Rattle.association_session.proofs.DataLaws.{data_orderly, sending_data, rows_data}
+use Rattle.association_session.proofs.DataLaws.{data_orderly, sending_data, rows_data, sends_on_data, responds_by_data}
 use Rattle.association_session.specs.Order.{IsOrderly, IsReplied}
 use Rattle.association_session.specs.Response.{Awaited}
+use Rattle.association_session.specs.Retrieval.{few_in, setting_out, begun, meaning_of}
+use Rattle.association_session.specs.SubOperation.{Retrieval, SubOperation}
+use Rattle.association_session.specs.Retrieval.{performed, cancelling}
+use Rattle.association_session.specs.declared.deed.Getting.{Getting}
+use Rattle.association_session.specs.declared.retrieval.Meaning.{Meaning}
+use Rattle.association_session.specs.declared.retrieval.Meaning.TheVariants.{Cancelled, Performed, Unawaited}
+use Rattle.association_session.specs.declared.retrieval.Progress.{Progress}
+use Rattle.data_set.specs.declared.syntax.Syntax.{Syntax}
+use Rattle.dimse.specs.declared.status.Status.TheVariants.{UnableToPerformSubOperations}
+use Rattle.pdu.specs.declared.context.Context.{Context}
+use Rattle.retrieve_model.specs.declared.prepared.Prepared.{Prepared}
 use Rattle.association_session.specs.Row.{Within, row, met, deeds_of, action_on}
 use Rattle.association_session.specs.Store.{status_of_reply}
-use Rattle.association_session.specs.Talks.{Heard, Met, Said, Goes, Then, Tells, TellsRows, FollowsStore, FollowsFind}
-use Rattle.association_session.specs.Talks.{Does, InState, Answers, Talks}
+use Rattle.association_session.specs.Talks.{Heard, Met, Said, Goes, GoesBy, Then, Tells, TellsRows, FollowsStore}
+use Rattle.association_session.specs.Talks.{FollowsFind}
+use Rattle.association_session.specs.Talks.{FollowsGet, BeginsFew, Begins, Does, InState, Answers, GoesOnBy, Performs}
+use Rattle.association_session.specs.Talks.{Attends, Talks}
 use Rattle.association_session.specs.Talks.{awaiting}
 use Rattle.archive_model.specs.declared.view.View.{View}
 
@@ -130,6 +143,7 @@ store_orderly awaited R [] a goes p = subst (λ (t : List Deed). IsOrderly Sta6 
 store_orderly awaited R (Stored reply ∷ rs) a goes p = tells_orderly awaited (status_of_reply reply) (R rs)
     a (goes rs) p
 store_orderly awaited R (Found reply ∷ rs) a goes p = absurd p
+store_orderly awaited R (Gotten reply ∷ rs) a goes p = absurd p
 
 find_orderly : (awaited : Awaited) (kind : RowKind) (R : Goes) (rs : List Reply) (a : List Deed)
     → ((rs : List Reply) (x : List Deed) → R rs x → IsOrderly Sta6 x) → FollowsFind awaited kind R rs a
@@ -138,41 +152,106 @@ find_orderly awaited kind R [] a goes p = subst (λ (t : List Deed). IsOrderly S
 find_orderly awaited kind R (Found reply ∷ rs) a goes p = rows_orderly awaited kind (rows_in reply)
     (status_of_found reply) (R rs) a (goes rs) p
 find_orderly awaited kind R (Stored reply ∷ rs) a goes p = absurd p
+find_orderly awaited kind R (Gotten reply ∷ rs) a goes p = absurd p
 
-does_orderly : (titles : List (Title View)) (service : Service) (awaited : Awaited) (R R' : Goes)
-    (rs : List Reply) (a : List Deed)
-    → ((rs : List Reply) (x : List Deed) → R rs x → IsOrderly Sta6 x) → ((rs : List Reply) (x : List Deed) → R' rs x
-    → IsOrderly Sta13 x)
-    → Does service awaited (row titles Sta6 events.LocalAbort) R R' rs a → IsOrderly Sta6 a
-does_orderly titles Ignored awaited R R' rs a goes gone p = goes rs a p
-does_orderly titles Broken awaited R R' rs a goes gone p = subst (λ (t : List Deed). IsOrderly Sta6 t) (sym p.1)
-    (tt, gone rs p.0 p.2)
-does_orderly titles (Responded status) awaited R R' rs a goes gone p = tells_orderly awaited status (R rs) a (goes rs) p
-does_orderly titles (Asked content) awaited R R' rs a goes gone p = subst (λ (t : List Deed). IsOrderly Sta6 t)
-    (sym p.1) (tt, (tt, store_orderly awaited R rs p.0 goes p.2))
-does_orderly titles (Queried finding kind) awaited R R' rs a goes gone p = subst (λ (t : List Deed). IsOrderly Sta6 t)
-    (sym p.1) (tt, find_orderly awaited kind R rs p.0 goes p.2)
+begins_orderly : (contexts : List Context) (g : Progress) (left : List Prepared)
+    (R : Option SubOperation → List Deed → Type 0) (a : List Deed)
+    → ((next : Option SubOperation) (x : List Deed) → R next x → IsOrderly Sta6 x) → Begins contexts g left R a
+    → IsOrderly Sta6 a
+begins_orderly contexts g left R a goes p =
+    subst (λ (t : List Deed). IsOrderly Sta6 t) (sym p.2.1)
+    (data_orderly p.0 p.2.0 (sends_on_data contexts g left p.0 p.1) (goes (begun contexts g left) p.2.0 p.2.2))
 
-in_state_orderly : (titles : List (Title View)) (s : State) (w : Within) (m : Message) (R R' : Goes)
-    (rs : List Reply) (a : List Deed)
-    → ((rs : List Reply) (x : List Deed) → R rs x → IsOrderly s x) → ((rs : List Reply) (x : List Deed) → R' rs x
-    → IsOrderly (next_of s (kind_for titles events.LocalAbort)) x)
-    → InState s (Answers w m (row titles s events.LocalAbort) R R') R rs a → IsOrderly s a
-in_state_orderly titles Sta1 w m R R' rs a goes gone p = goes rs a p
-in_state_orderly titles Sta2 w m R R' rs a goes gone p = goes rs a p
-in_state_orderly titles Sta6 w m R R' rs a goes gone p = does_orderly titles p.0 (awaiting w.link m) R R' rs a goes
-    gone p.2
-in_state_orderly titles Sta13 w m R R' rs a goes gone p = goes rs a p
+few_orderly : (few : Option (List Prepared)) (contexts : List Context) (awaited : Awaited) (syntax : Syntax)
+    (R : Option SubOperation → List Deed → Type 0) (R' : List Deed → Type 0) (a : List Deed)
+    → ((next : Option SubOperation) (x : List Deed) → R next x → IsOrderly Sta6 x)
+    → ((x : List Deed) → R' x → IsOrderly Sta6 x) → BeginsFew contexts awaited syntax few R R' a → IsOrderly Sta6 a
+few_orderly None contexts awaited syntax R R' a goes refused p = tells_orderly awaited UnableToPerformSubOperations R'
+    a refused p
+few_orderly (Some prepared) contexts awaited syntax R R' a goes refused p = begins_orderly contexts (setting_out
+    awaited syntax) prepared R a goes p
 
-pub orderly : (titles : List (Title View)) (w : Within) (us : List Heard) (rs : List Reply) (a : List Deed)
-    → Talks titles w us rs a → IsOrderly w.state a
-orderly titles w [] rs a p = subst (λ (t : List Deed). IsOrderly w.state t) (sym p) tt
-orderly titles w (Met event ∷ us) rs a p =
+get_orderly : (contexts : List Context) (awaited : Awaited) (syntax : Syntax) (R : GoesBy) (rs : List Reply)
+    (a : List Deed) → ((next : Option SubOperation) (rs : List Reply) (x : List Deed) → R next rs x → IsOrderly Sta6 x)
+    → FollowsGet contexts awaited syntax R (R None) rs a → IsOrderly Sta6 a
+get_orderly contexts awaited syntax R [] a goes p = subst (λ (t : List Deed). IsOrderly Sta6 t) (sym p) tt
+get_orderly contexts awaited syntax R (Gotten reply ∷ rs) a goes p = few_orderly (few_in reply) contexts awaited syntax
+    (λ next. R next rs) (R None rs) a (λ next. goes next rs) (goes None rs) p
+get_orderly contexts awaited syntax R (Stored reply ∷ rs) a goes p = absurd p
+get_orderly contexts awaited syntax R (Found reply ∷ rs) a goes p = absurd p
+
+-- what goes on is orderly, whichever sub-operation is awaited
+abbrev OrderlyBy : State → GoesBy → Type 0
+OrderlyBy s R = (next : Option SubOperation) (rs : List Reply) (x : List Deed) → R next rs x → IsOrderly s x
+
+abbrev OrderlyGone : State → Goes → Type 0
+OrderlyGone s R = (rs : List Reply) (x : List Deed) → R rs x → IsOrderly s x
+
+does_orderly : (titles : List (Title View)) (service : Service) (contexts : List Context) (awaited : Awaited)
+    (R : GoesBy) (R' : Goes) (rs : List Reply) (a : List Deed) → OrderlyBy Sta6 R → OrderlyGone Sta13 R'
+    → Does service contexts awaited (row titles Sta6 events.LocalAbort) R R' rs a → IsOrderly Sta6 a
+does_orderly titles Ignored contexts awaited R R' rs a goes gone p = goes None rs a p
+does_orderly titles Broken contexts awaited R R' rs a goes gone p = subst (λ (t : List Deed). IsOrderly Sta6 t)
+    (sym p.1) (tt, gone rs p.0 p.2)
+does_orderly titles (Responded status) contexts awaited R R' rs a goes gone p = tells_orderly awaited status (R None rs)
+    a (goes None rs) p
+does_orderly titles (Asked content) contexts awaited R R' rs a goes gone p = subst (λ (t : List Deed). IsOrderly Sta6 t)
+    (sym p.1) (tt, (tt, store_orderly awaited (R None) rs p.0 (goes None) p.2))
+does_orderly titles (Queried finding kind) contexts awaited R R' rs a goes gone p =
+    subst (λ (t : List Deed). IsOrderly Sta6 t) (sym p.1) (
+      tt,
+      find_orderly awaited kind (R None) rs p.0 (goes None)
+          p.2,
+    )
+does_orderly titles (Fetched getting syntax) contexts awaited R R' rs a goes gone p =
+    subst (λ (t : List Deed). IsOrderly Sta6 t) (sym p.1) (tt, get_orderly contexts awaited syntax R rs p.0 goes p.2)
+
+goes_on_orderly : (next : Option Retrieval) (contexts : List Context) (R : GoesBy) (rs : List Reply) (a : List Deed)
+    → OrderlyBy Sta6 R → GoesOnBy next contexts R rs a → IsOrderly Sta6 a
+goes_on_orderly None contexts R rs a goes p = goes None rs a p
+goes_on_orderly (Some r) contexts R rs a goes p = begins_orderly contexts r.progress r.left (λ next. R next rs) a
+    (λ next. goes next rs) p
+
+performs_orderly : (titles : List (Title View)) (meaning : Meaning) (sub : SubOperation) (contexts : List Context)
+    (R : GoesBy) (R' : Goes) (rs : List Reply) (a : List Deed) → OrderlyBy Sta6 R → OrderlyGone Sta13 R'
+    → Performs meaning sub contexts (row titles Sta6 events.LocalAbort) R R' rs a → IsOrderly Sta6 a
+performs_orderly titles Cancelled sub contexts R R' rs a goes gone p = goes (Some (cancelling sub)) rs a p
+performs_orderly titles Unawaited sub contexts R R' rs a goes gone p = subst (λ (t : List Deed). IsOrderly Sta6 t)
+    (sym p.1) (tt, gone rs p.0 p.2)
+performs_orderly titles (Performed outcome) sub contexts R R' rs a goes gone p =
+    subst (λ (t : List Deed). IsOrderly Sta6 t) (sym p.3.1)
+    (data_orderly p.0 p.3.0 (responds_by_data sub.cancelled (performed sub outcome) sub.left p.0 p.1 p.2)
+    (goes_on_orderly p.1 contexts R rs p.3.0 goes p.3.2))
+
+attends_orderly : (titles : List (Title View)) (sub : Option SubOperation) (w : Within) (m : Message) (R : GoesBy)
+    (R' : Goes) (rs : List Reply) (a : List Deed) → OrderlyBy Sta6 R → OrderlyGone Sta13 R'
+    → Attends sub w m (row titles Sta6 events.LocalAbort) R R' rs a → IsOrderly Sta6 a
+attends_orderly titles None w m R R' rs a goes gone p = does_orderly titles p.0 w.link.contexts (awaiting w.link m) R R'
+    rs a goes gone p.2
+attends_orderly titles (Some sub) w m R R' rs a goes gone p = performs_orderly titles (meaning_of sub.progress
+    m.command) sub w.link.contexts R R' rs a goes gone p
+
+in_state_orderly : (titles : List (Title View)) (s : State) (sub : Option SubOperation) (w : Within) (m : Message)
+    (R : GoesBy) (R' D : Goes) (rs : List Reply) (a : List Deed) → OrderlyBy s R
+    → OrderlyGone (next_of s (kind_for titles events.LocalAbort)) R' → OrderlyGone s D
+    → InState s (Attends sub w m (row titles s events.LocalAbort) R R') D rs a → IsOrderly s a
+in_state_orderly titles Sta1 sub w m R R' D rs a goes gone dropped p = dropped rs a p
+in_state_orderly titles Sta2 sub w m R R' D rs a goes gone dropped p = dropped rs a p
+in_state_orderly titles Sta6 sub w m R R' D rs a goes gone dropped p = attends_orderly titles sub w m R R' rs a goes
+    gone p
+in_state_orderly titles Sta13 sub w m R R' D rs a goes gone dropped p = dropped rs a p
+
+pub orderly : (titles : List (Title View)) (w : Within) (sub : Option SubOperation) (us : List Heard) (rs : List Reply)
+    (a : List Deed) → Talks titles w sub us rs a → IsOrderly w.state a
+orderly titles w sub [] rs a p = subst (λ (t : List Deed). IsOrderly w.state t) (sym p) tt
+orderly titles w sub (Met event ∷ us) rs a p =
     subst (λ (t : List Deed). IsOrderly w.state t) (sym p.1)
-    (row_orderly titles w.state event p.0 (orderly titles (met titles w event) us rs p.0 p.2))
-orderly titles w (Said m ∷ us) rs a p =
-    in_state_orderly titles w.state w m (Talks titles w us) (Talks titles (met titles w events.LocalAbort) us) rs a
-    (λ rs' x. orderly titles w us rs' x) (λ rs' x. orderly titles (met titles w events.LocalAbort) us rs' x) p
+    (row_orderly titles w.state event p.0 (orderly titles (met titles w event) sub us rs p.0 p.2))
+orderly titles w sub (Said m ∷ us) rs a p =
+    in_state_orderly titles w.state sub w m (λ next. Talks titles w next us)
+    (Talks titles (met titles w events.LocalAbort) None us) (Talks titles w sub us) rs a
+    (λ next rs' x. orderly titles w next us rs' x)
+    (λ rs' x. orderly titles (met titles w events.LocalAbort) None us rs' x) (λ rs' x. orderly titles w sub us rs' x) p
 
 -- ---- behind a call nothing is done before its reply
 
@@ -220,6 +299,7 @@ stores_replied awaited R [] x content goes p = p
 stores_replied awaited R (Stored reply ∷ rs) x content goes p = tells_replied awaited (status_of_reply reply) rs (R rs)
     x (goes rs) p
 stores_replied awaited R (Found reply ∷ rs) x content goes p = absurd p
+stores_replied awaited R (Gotten reply ∷ rs) x content goes p = absurd p
 
 finds_replied : (awaited : Awaited) (kind : RowKind) (R : Goes) (rs : List Reply) (x : List Deed) (finding : Finding)
     → ((rs : List Reply) (x : List Deed) → R rs x → IsReplied rs x) → FollowsFind awaited kind R rs x
@@ -228,38 +308,97 @@ finds_replied awaited kind R [] x finding goes p = p
 finds_replied awaited kind R (Found reply ∷ rs) x finding goes p = rows_replied awaited kind (rows_in reply)
     (status_of_found reply) rs (R rs) x (goes rs) p
 finds_replied awaited kind R (Stored reply ∷ rs) x finding goes p = absurd p
+finds_replied awaited kind R (Gotten reply ∷ rs) x finding goes p = absurd p
 
-does_replied : (service : Service) (awaited : Awaited) (action : Option Action) (R R' : Goes) (rs : List Reply)
-    (a : List Deed)
-    → ((rs : List Reply) (x : List Deed) → R rs x → IsReplied rs x) → ((rs : List Reply) (x : List Deed) → R' rs x
-    → IsReplied rs x) → Does service awaited (deeds_of action) R R' rs a → IsReplied rs a
-does_replied Ignored awaited action R R' rs a goes gone p = goes rs a p
-does_replied Broken awaited action R R' rs a goes gone p = subst (λ (t : List Deed). IsReplied rs t) (sym p.1)
+begins_replied : (contexts : List Context) (g : Progress) (left : List Prepared) (rs : List Reply)
+    (R : Option SubOperation → List Deed → Type 0) (a : List Deed)
+    → ((next : Option SubOperation) (x : List Deed) → R next x → IsReplied rs x) → Begins contexts g left R a
+    → IsReplied rs a
+begins_replied contexts g left rs R a goes p = subst (λ (t : List Deed). IsReplied rs t) (sym p.2.1)
+    (sends_replied rs p.0 p.2.0 (goes (begun contexts g left) p.2.0 p.2.2))
+
+few_replied : (few : Option (List Prepared)) (contexts : List Context) (awaited : Awaited) (syntax : Syntax)
+    (rs : List Reply) (R : Option SubOperation → List Deed → Type 0) (R' : List Deed → Type 0) (a : List Deed)
+    → ((next : Option SubOperation) (x : List Deed) → R next x → IsReplied rs x)
+    → ((x : List Deed) → R' x → IsReplied rs x) → BeginsFew contexts awaited syntax few R R' a → IsReplied rs a
+few_replied None contexts awaited syntax rs R R' a goes refused p = tells_replied awaited UnableToPerformSubOperations
+    rs R' a refused p
+few_replied (Some prepared) contexts awaited syntax rs R R' a goes refused p = begins_replied contexts (setting_out
+    awaited syntax) prepared rs R a goes p
+
+-- behind a call nothing is done before its reply, whichever sub-operation is awaited
+abbrev RepliedBy : GoesBy → Type 0
+RepliedBy R = (next : Option SubOperation) (rs : List Reply) (x : List Deed) → R next rs x → IsReplied rs x
+
+abbrev RepliedGone : Goes → Type 0
+RepliedGone R = (rs : List Reply) (x : List Deed) → R rs x → IsReplied rs x
+
+gets_replied : (contexts : List Context) (awaited : Awaited) (syntax : Syntax) (R : GoesBy) (rs : List Reply)
+    (x : List Deed) (getting : Getting) → RepliedBy R → FollowsGet contexts awaited syntax R (R None) rs x
+    → IsReplied rs (Ask (Get getting) ∷ x)
+gets_replied contexts awaited syntax R [] x getting goes p = p
+gets_replied contexts awaited syntax R (Gotten reply ∷ rs) x getting goes p = few_replied (few_in reply) contexts
+    awaited syntax rs (λ next. R next rs) (R None rs) x (λ next. goes next rs) (goes None rs) p
+gets_replied contexts awaited syntax R (Stored reply ∷ rs) x getting goes p = absurd p
+gets_replied contexts awaited syntax R (Found reply ∷ rs) x getting goes p = absurd p
+
+does_replied : (service : Service) (contexts : List Context) (awaited : Awaited) (action : Option Action) (R : GoesBy)
+    (R' : Goes) (rs : List Reply) (a : List Deed) → RepliedBy R → RepliedGone R'
+    → Does service contexts awaited (deeds_of action) R R' rs a → IsReplied rs a
+does_replied Ignored contexts awaited action R R' rs a goes gone p = goes None rs a p
+does_replied Broken contexts awaited action R R' rs a goes gone p = subst (λ (t : List Deed). IsReplied rs t) (sym p.1)
     (row_replied rs action p.0 (gone rs p.0 p.2))
-does_replied (Responded status) awaited action R R' rs a goes gone p = tells_replied awaited status rs (R rs)
-    a (goes rs) p
-does_replied (Asked content) awaited action R R' rs a goes gone p =
-    subst (λ (t : List Deed). IsReplied rs t) (sym p.1) (stores_replied awaited R rs p.0 content goes p.2)
-does_replied (Queried finding kind) awaited action R R' rs a goes gone p =
-    subst (λ (t : List Deed). IsReplied rs t) (sym p.1) (finds_replied awaited kind R rs p.0 finding goes p.2)
+does_replied (Responded status) contexts awaited action R R' rs a goes gone p = tells_replied awaited status rs
+    (R None rs) a (goes None rs) p
+does_replied (Asked content) contexts awaited action R R' rs a goes gone p =
+    subst (λ (t : List Deed). IsReplied rs t) (sym p.1) (stores_replied awaited (R None) rs p.0 content (goes None) p.2)
+does_replied (Queried finding kind) contexts awaited action R R' rs a goes gone p =
+    subst (λ (t : List Deed). IsReplied rs t) (sym p.1) (finds_replied awaited kind (R None) rs p.0 finding (goes None)
+    p.2)
+does_replied (Fetched getting syntax) contexts awaited action R R' rs a goes gone p =
+    subst (λ (t : List Deed). IsReplied rs t) (sym p.1) (gets_replied contexts awaited syntax R rs p.0 getting goes p.2)
 
-in_state_replied : (s : State) (w : Within) (m : Message) (action : Option Action) (R R' : Goes) (rs : List Reply)
-    (a : List Deed)
-    → ((rs : List Reply) (x : List Deed) → R rs x → IsReplied rs x) → ((rs : List Reply) (x : List Deed) → R' rs x
-    → IsReplied rs x) → InState s (Answers w m (deeds_of action) R R') R rs a → IsReplied rs a
-in_state_replied Sta1 w m action R R' rs a goes gone p = goes rs a p
-in_state_replied Sta2 w m action R R' rs a goes gone p = goes rs a p
-in_state_replied Sta6 w m action R R' rs a goes gone p = does_replied p.0 (awaiting w.link m) action R R' rs a goes
-    gone p.2
-in_state_replied Sta13 w m action R R' rs a goes gone p = goes rs a p
+goes_on_replied : (next : Option Retrieval) (contexts : List Context) (R : GoesBy) (rs : List Reply) (a : List Deed)
+    → RepliedBy R → GoesOnBy next contexts R rs a → IsReplied rs a
+goes_on_replied None contexts R rs a goes p = goes None rs a p
+goes_on_replied (Some r) contexts R rs a goes p = begins_replied contexts r.progress r.left rs (λ next. R next rs) a
+    (λ next. goes next rs) p
 
-pub replied : (titles : List (Title View)) (w : Within) (us : List Heard) (rs : List Reply) (a : List Deed)
-    → Talks titles w us rs a → IsReplied rs a
-replied titles w [] rs a p = none_replied rs a p
-replied titles w (Met event ∷ us) rs a p =
+performs_replied : (meaning : Meaning) (sub : SubOperation) (contexts : List Context) (action : Option Action)
+    (R : GoesBy) (R' : Goes) (rs : List Reply) (a : List Deed) → RepliedBy R → RepliedGone R'
+    → Performs meaning sub contexts (deeds_of action) R R' rs a → IsReplied rs a
+performs_replied Cancelled sub contexts action R R' rs a goes gone p = goes (Some (cancelling sub)) rs a p
+performs_replied Unawaited sub contexts action R R' rs a goes gone p = subst (λ (t : List Deed). IsReplied rs t)
+    (sym p.1) (row_replied rs action p.0 (gone rs p.0 p.2))
+performs_replied (Performed outcome) sub contexts action R R' rs a goes gone p =
+    subst (λ (t : List Deed). IsReplied rs t) (sym p.3.1)
+    (sends_replied rs p.0 p.3.0 (goes_on_replied p.1 contexts R rs p.3.0 goes p.3.2))
+
+attends_replied : (sub : Option SubOperation) (w : Within) (m : Message) (action : Option Action) (R : GoesBy)
+    (R' : Goes) (rs : List Reply) (a : List Deed) → RepliedBy R → RepliedGone R'
+    → Attends sub w m (deeds_of action) R R' rs a → IsReplied rs a
+attends_replied None w m action R R' rs a goes gone p = does_replied p.0 w.link.contexts (awaiting w.link m) action R R'
+    rs a goes gone p.2
+attends_replied (Some sub) w m action R R' rs a goes gone p = performs_replied (meaning_of sub.progress m.command) sub
+    w.link.contexts action R R' rs a goes gone p
+
+in_state_replied : (s : State) (sub : Option SubOperation) (w : Within) (m : Message) (action : Option Action)
+    (R : GoesBy) (R' D : Goes) (rs : List Reply) (a : List Deed) → RepliedBy R → RepliedGone R' → RepliedGone D
+    → InState s (Attends sub w m (deeds_of action) R R') D rs a → IsReplied rs a
+in_state_replied Sta1 sub w m action R R' D rs a goes gone dropped p = dropped rs a p
+in_state_replied Sta2 sub w m action R R' D rs a goes gone dropped p = dropped rs a p
+in_state_replied Sta6 sub w m action R R' D rs a goes gone dropped p = attends_replied sub w m action R R' rs a goes
+    gone p
+in_state_replied Sta13 sub w m action R R' D rs a goes gone dropped p = dropped rs a p
+
+pub replied : (titles : List (Title View)) (w : Within) (sub : Option SubOperation) (us : List Heard) (rs : List Reply)
+    (a : List Deed) → Talks titles w sub us rs a → IsReplied rs a
+replied titles w sub [] rs a p = none_replied rs a p
+replied titles w sub (Met event ∷ us) rs a p =
     subst (λ (t : List Deed). IsReplied rs t) (sym p.1) (row_replied rs (action_on titles w.state event)
-    p.0 (replied titles (met titles w event) us rs p.0 p.2))
-replied titles w (Said m ∷ us) rs a p =
-    in_state_replied w.state w m (action_on titles w.state events.LocalAbort) (Talks titles w us)
-    (Talks titles (met titles w events.LocalAbort) us) rs a
-    (λ rs' x. replied titles w us rs' x) (λ rs' x. replied titles (met titles w events.LocalAbort) us rs' x) p
+    p.0 (replied titles (met titles w event) sub us rs p.0 p.2))
+replied titles w sub (Said m ∷ us) rs a p =
+    in_state_replied w.state sub w m (action_on titles w.state events.LocalAbort) (λ next. Talks titles w next us)
+    (Talks titles (met titles w events.LocalAbort) None us) (Talks titles w sub us) rs a
+    (λ next rs' x. replied titles w next us rs' x)
+    (λ rs' x. replied titles (met titles w events.LocalAbort) None us rs' x) (λ rs' x. replied titles w sub us rs' x) p

@@ -82,7 +82,7 @@ told_room : (t : Bool) (uid : Option (List ℕ)) (n : ℕ) → IfSome uid (λ u.
 told_room true uid n short = short
 told_room false uid n short = tt
 
-response_room : (command : Command) (status : ℕ) → HasRoom command → HasRoom (response_of command status)
+pub response_room : (command : Command) (status : ℕ) → HasRoom command → HasRoom (response_of command status)
 unfolding response_of
 response_room command status room = record {
   affected_class = room.affected_class;

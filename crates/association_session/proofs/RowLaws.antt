@@ -23,7 +23,7 @@ use Rattle.association_session.specs.Row.{row, deeds_of, values_of, action_on}
 use Rattle.association_session.specs.Session.{AssociationState, HearsValues, Turned, Takes, Owes, Stops, entered}
 use Rattle.association_session.specs.Session.{is_left, IsToldBy}
 use Rattle.association_session.specs.Talks.{Met, Leads}
-use Rattle.association_session.proofs.HearLaws.{takes_row, idle_owed, owed_idle, none_due, none_fits, none_quiet}
+use Rattle.association_session.proofs.HearLaws.{takes_row, idle_owed, owed_idle, none_due, none_fits}
 use Rattle.archive_model.specs.declared.view.View.{View}
 
 -- ---- where a row leads
@@ -137,7 +137,7 @@ met_only titles now new event deeds idle is row_is = record {
       ∙ idle));
   state = ap (λ (t : AssociationState). t.within.state) is ∙ sym (row_state titles now.within.state event)
       ∙ sym (ap (λ (t : List Deed). state_after now.within.state t) row_is);
-  told = none_quiet new.awaited (ap (λ (t : AssociationState). t.awaited) is ∙ idle);
+  told = tt;
   opened = λ before some. absurd (none_due new.awaited (ap (λ (t : AssociationState). t.awaited) is ∙ idle) some);
   fits = none_fits new.awaited (ap (λ (t : AssociationState). t.awaited) is ∙ idle);
 }
@@ -169,7 +169,7 @@ heard_on titles now mid new event deeds idle is left turned =
           ∙ ap (λ (s : State). state_after s deeds) (ap (λ (t : AssociationState). t.within.state) is
           ∙ sym (row_state titles now.within.state event) ∙ ap (λ (t : List Deed). state_after now.within.state t)
           none);
-      told = subst (λ (a : Option Due). IsToldBy GoesOn a new.awaited) mid_idle turned.told;
+      told = tt;
       opened = λ before. turned.opened (λ some. absurd (none_due mid.awaited mid_idle some));
       fits = turned.fits;
     }

@@ -2,7 +2,15 @@
 use Rattle.std.proofs.Common.{◌≡◌, ℕ, Bool, true, false, cond, List, Option, Some, None, Result, Ok, Err, inl, inr}
 use Rattle.std.proofs.Common.{refl}
 use Rattle.std.proofs.Common.{sym, ap, ◌∙◌}
-use Rattle.std.specs.Prelude.{not}
+use Rattle.std.specs.Prelude.{not, length, ◌==◌, ◌&&◌, nat_le}
+use Rattle.std.proofs.lemmas.Bool.{eqb-true}
+use Rattle.dictionary.specs.declared.commands.TheConstants.{C_GET_RQ}
+use Rattle.dimse.specs.declared.status.Status.TheVariants.{UnableToPerformSubOperations, SubOperationsWithFailures}
+use Rattle.retrieve_model.specs.declared.selection.Selection.{Selection}
+use Rattle.retrieve_model.specs.Selection.{selection_of}
+use Rattle.association_session.specs.declared.counts.Counts.{Counts}
+use Rattle.association_session.specs.declared.deed.Getting.{Getting}
+use Rattle.association_session.specs.Get.{is_get, get_refusal, fetched_by, final_status, ServesSelection, ServesGet}
 use Rattle.archive_model.specs.declared.view.View.{View}
 use Rattle.data_set.specs.Set.{Set}
 use Rattle.data_set.specs.declared.syntax.Syntax.{Syntax}
@@ -26,7 +34,7 @@ use Rattle.association_session.specs.declared.reply.PortFault.TheVariants.{Memor
 use Rattle.association_session.specs.declared.service.Kind.{Kind}
 use Rattle.association_session.specs.declared.service.Kind.TheVariants as kinds
 use Rattle.association_session.specs.declared.service.Service.{Service}
-use Rattle.association_session.specs.declared.service.Service.TheVariants.{Responded, Queried}
+use Rattle.association_session.specs.declared.service.Service.TheVariants.{Responded, Queried, Fetched}
 use Rattle.association_session.specs.Context.{context_in, is_other_class, syntax_of}
 use Rattle.association_session.specs.Echo.{echo_status, is_verification}
 use Rattle.association_session.specs.Finals.{is_pending}
@@ -65,6 +73,10 @@ find_refused : (context : Context) (command : Command) (s : Status) → find_ref
 unfolding find_refusal
 find_refused context command s e = refusal_by (is_other_class context command.affected_class) (not (is_find context))
     s e
+
+get_refused : (context : Context) (command : Command) (s : Status) → get_refusal context command ≡ Some s → IsFinal s
+unfolding get_refusal
+get_refused context command s e = refusal_by (is_other_class context command.affected_class) (not (is_get context)) s e
 
 store_refused : (context : Context) (command : Command) (s : Status) → store_refusal context command ≡ Some s
     → IsFinal s
@@ -131,6 +143,24 @@ find_final settled context command None None status is p = final_as status _ p r
 find_final settled context command (Some text) None status is p = identifier_final settled (syntax_of context) text
     status p
 
+fetched_final : (settled : Option (Settled View)) (syntax : Syntax) (r : Result Selection QueryFault) (status : Status)
+    → told_by status ≡ fetched_by settled syntax r → IsFinal status
+fetched_final settled syntax (Ok selection) status e = absurd cc
+fetched_final settled syntax (Err fault) status e = final_as status _ e refl
+
+selection_final : (settled : Option (Settled View)) (syntax : Syntax) (text : List ℕ) (status : Status)
+    → ServesSelection settled syntax text (Responded status) → IsFinal status
+selection_final settled syntax text status (inl p) = fetched_final settled syntax (selection_of p.0) status p.2
+selection_final settled syntax text status (inr p) = final_as status _ p.2 refl
+
+get_final : (settled : Option (Settled View)) (context : Context) (command : Command) (body : Option (List ℕ))
+    (refusal : Option Status) (status : Status) → get_refusal context command ≡ refusal
+    → ServesGet settled context body refusal (Responded status) → IsFinal status
+get_final settled context command body (Some s) status is p = final_as status s p (get_refused context command s is)
+get_final settled context command None None status is p = final_as status _ p refl
+get_final settled context command (Some text) None status is p = selection_final settled (syntax_of context) text
+    status p
+
 store_final : (context : Context) (command : Command) (body : Option (List ℕ)) (refusal : Option Status)
     (status : Status) → store_refusal context command ≡ refusal
     → ServesStore context command body refusal (Responded status) → IsFinal status
@@ -145,7 +175,8 @@ kind_final kinds.Response settled context command body status p = absurd cc
 kind_final kinds.Cancel settled context command body status p = absurd cc
 kind_final kinds.Find settled context command body status p = find_final settled context command
     body (find_refusal context command) status refl p
-kind_final kinds.Get settled context command body status p = final_as status _ p refl
+kind_final kinds.Get settled context command body status p = get_final settled context command
+    body (get_refusal context command) status refl p
 kind_final kinds.Echo settled context command body status p = final_as status _ p (echo_final context command)
 kind_final kinds.Store settled context command body status p = store_final context command
     body (store_refusal context command) status refl p
@@ -211,6 +242,19 @@ store_none context command body (Some s) finding kind p = cc
 store_none context command None None finding kind p = cc
 store_none context command (Some text) None finding kind p = p
 
+fetched_none : (settled : Option (Settled View)) (syntax : Syntax) (r : Result Selection QueryFault) (finding : Finding)
+    (kind : RowKind) → asks_by finding kind ≡ fetched_by settled syntax r → ⊥
+fetched_none settled syntax (Ok selection) finding kind e = cc
+fetched_none settled syntax (Err fault) finding kind e = cc
+
+get_none : (settled : Option (Settled View)) (context : Context) (body : Option (List ℕ)) (refusal : Option Status)
+    (finding : Finding) (kind : RowKind) → ServesGet settled context body refusal (Queried finding kind) → ⊥
+get_none settled context body (Some s) finding kind p = cc
+get_none settled context None None finding kind p = cc
+get_none settled context (Some text) None finding kind (inl p) = fetched_none settled (syntax_of context)
+    (selection_of p.0) finding kind p.2
+get_none settled context (Some text) None finding kind (inr p) = let e = p.2 in cc
+
 kind_kind : (of : Kind) (settled : Option (Settled View)) (context : Context) (command : Command)
     (body : Option (List ℕ)) (finding : Finding) (kind : RowKind)
     → ServesKind of settled context command body (Queried finding kind) → kind.status ≡ row_status finding.query.partial
@@ -218,7 +262,8 @@ kind_kind kinds.Response settled context command body finding kind p = absurd cc
 kind_kind kinds.Cancel settled context command body finding kind p = absurd cc
 kind_kind kinds.Find settled context command body finding kind p = find_kind settled context
     body (find_refusal context command) finding kind p
-kind_kind kinds.Get settled context command body finding kind p = absurd cc
+kind_kind kinds.Get settled context command body finding kind p = absurd (get_none settled context
+    body (get_refusal context command) finding kind p)
 kind_kind kinds.Echo settled context command body finding kind p = absurd cc
 kind_kind kinds.Store settled context command body finding kind p = absurd (store_none context command
     body (store_refusal context command) finding kind p)
@@ -241,3 +286,77 @@ served_kind w m finding kind p = on_kind w.settled (context_in w.link.contexts m
 pub served_pending : (w : Within) (m : Message) (finding : Finding) (kind : RowKind) → Serves w m (Queried finding kind)
     → is_pending kind.status ≡ true
 served_pending w m finding kind p = ap is_pending (served_kind w m finding kind p) ∙ row_pending finding.query.partial
+
+-- ---- a C-GET
+
+abbrev fetches_by : Getting → Syntax → Service
+fetches_by getting syntax = Fetched getting syntax
+
+queried_no_get : (settled : Option (Settled View)) (syntax : Syntax) (r : Result Query QueryFault) (getting : Getting)
+    (of : Syntax) → fetches_by getting of ≡ queried_by settled syntax r → ⊥
+queried_no_get settled syntax (Ok query) getting of e = cc
+queried_no_get settled syntax (Err fault) getting of e = cc
+
+find_no_get : (settled : Option (Settled View)) (context : Context) (body : Option (List ℕ)) (refusal : Option Status)
+    (getting : Getting) (of : Syntax) → ServesFind settled context body refusal (Fetched getting of) → ⊥
+find_no_get settled context body (Some s) getting of p = cc
+find_no_get settled context None None getting of p = cc
+find_no_get settled context (Some text) None getting of (inl p) = queried_no_get settled (syntax_of context)
+    (query_of p.0) getting of p.2
+find_no_get settled context (Some text) None getting of (inr p) = let e = p.2 in cc
+
+store_no_get : (context : Context) (command : Command) (body : Option (List ℕ)) (refusal : Option Status)
+    (getting : Getting) (of : Syntax) → ServesStore context command body refusal (Fetched getting of) → ⊥
+store_no_get context command body (Some s) getting of p = cc
+store_no_get context command None None getting of p = cc
+store_no_get context command (Some text) None getting of p = p
+
+kind_is_get : (kind : Kind) (settled : Option (Settled View)) (context : Context) (command : Command)
+    (body : Option (List ℕ)) (getting : Getting) (of : Syntax)
+    → ServesKind kind settled context command body (Fetched getting of) → kind ≡ kinds.Get
+kind_is_get kinds.Response settled context command body getting of p = absurd cc
+kind_is_get kinds.Cancel settled context command body getting of p = absurd cc
+kind_is_get kinds.Find settled context command body getting of p = absurd (find_no_get settled context
+    body (find_refusal context command) getting of p)
+kind_is_get kinds.Get settled context command body getting of p = refl
+kind_is_get kinds.Echo settled context command body getting of p = absurd cc
+kind_is_get kinds.Store settled context command body getting of p = absurd (store_no_get context command
+    body (store_refusal context command) getting of p)
+kind_is_get kinds.Unknown settled context command body getting of p = absurd cc
+
+field_by : (response cancel find get echo store : Bool)
+    → cond response kinds.Response (cond cancel kinds.Cancel (cond find kinds.Find (cond get kinds.Get (cond echo
+    kinds.Echo (cond store kinds.Store kinds.Unknown))))) ≡ kinds.Get → get ≡ true
+field_by true cancel find get echo store e = absurd cc
+field_by false true find get echo store e = absurd cc
+field_by false false true get echo store e = absurd cc
+field_by false false false true echo store e = refl
+field_by false false false false true store e = absurd cc
+field_by false false false false false true e = absurd cc
+field_by false false false false false false e = absurd cc
+
+field_is : (field : ℕ) → kind_of field ≡ kinds.Get → field ≡ C_GET_RQ
+field_is field e = eqb-true field 16 (field_by (nat_le 0x8000 field) (field == 0x0FFF) (field == 0x0020)
+    (field == 0x0010) (field == 0x0030) (field == 0x0001) e)
+
+on_is_get : (settled : Option (Settled View)) (context : Option Context) (command : Command) (body : Option (List ℕ))
+    (getting : Getting) (of : Syntax) → ServesOn settled context command body (Fetched getting of)
+    → command.field ≡ C_GET_RQ
+on_is_get settled None command body getting of p = absurd cc
+on_is_get settled (Some context) command body getting of p = field_is command.field (kind_is_get (kind_of
+    command.field) settled context command body getting of p)
+
+-- What the port is asked to get is asked by a C-GET.
+pub served_get : (w : Within) (m : Message) (getting : Getting) (of : Syntax) → Serves w m (Fetched getting of)
+    → m.command.field ≡ C_GET_RQ
+served_get w m getting of p = on_is_get w.settled (context_in w.link.contexts m.context) m.command m.body getting of p
+
+end_by : (none some : Bool) → is_pending (cond none Success (cond some UnableToPerformSubOperations
+    SubOperationsWithFailures)) ≡ false
+end_by true some = refl
+end_by false true = refl
+end_by false false = refl
+
+-- what sub-operations are ended by
+pub counts_final : (k : Counts) → is_pending (final_status k) ≡ false
+counts_final k = end_by (length k.failed == 0 && k.warning == 0) (k.completed == 0 && k.warning == 0)

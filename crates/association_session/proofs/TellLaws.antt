@@ -23,12 +23,12 @@ use Rattle.association_session.specs.Find.{RespondsRow, AreRows, row_text}
 use Rattle.association_session.specs.Projections.{state_after}
 use Rattle.association_session.specs.Response.{Awaited, FitsLimit, response_to, response_with}
 use Rattle.association_session.specs.Row.{Within}
-use Rattle.association_session.specs.Session.{AssociationState, Turned, OwedFor, Stops, IsToldBy, TellsSome, IsEnd}
+use Rattle.association_session.specs.Session.{AssociationState, Turned, OwedAt, Stops, IsToldBy, TellsSome, IsEnd}
 use Rattle.association_session.specs.Session.{IsFewer, FewerFor, IsWritable}
 use Rattle.association_session.specs.Talks.{TellsRows, Talks}
 use Rattle.association_session.proofs.DataLaws.{data_then, data_state, rows_data, sending_data}
 use Rattle.association_session.proofs.ResponseLaws.{sending_goes}
-use Rattle.association_session.proofs.HearLaws.{still, none_due, none_fits, none_answered}
+use Rattle.association_session.proofs.HearLaws.{still, owed_at, none_due, none_fits, none_answered}
 
 -- ---- rows, one after another
 
@@ -51,7 +51,7 @@ one_row : (a : Awaited) (kind : RowKind) (row : Set) (ps : List Pdu) → Respond
     → AreRows a kind (row ∷ []) ps
 one_row a kind row ps p = (ps, [], p, refl, sym (append-nil ps))
 
-sends_join : (ps qs : List Pdu) → map Send (ps ++ qs) ≡ map Send ps ++ map Send qs
+pub sends_join : (ps qs : List Pdu) → map Send (ps ++ qs) ≡ map Send ps ++ map Send qs
 sends_join [] qs = refl
 sends_join (p ∷ ps) qs = ap (λ (t : List Deed). Send p ∷ t) (sends_join ps qs)
 
@@ -181,18 +181,18 @@ sends_stop_then (p ∷ ps) ds a stops = sends_stop_then ps ds a stops
 -- rows that are told, and others that are left
 pub told_some : (titles : List (Title View)) (now new : AssociationState) (a : Awaited) (kind : RowKind)
     (rows left : List Set) (status : Status) (deeds : List Deed)
-    → now.awaited ≡ Some (telling_of a kind rows status) → new.within ≡ now.within → new.stage ≡ now.stage
-    → new.awaited ≡ Some (telling_of a kind left status) → new.queue ≡ now.queue → FitsLimit a.limit
+    → now.awaited ≡ Some (telling_of a kind rows status) → new.within ≡ now.within → new.sub ≡ now.sub
+    → new.stage ≡ now.stage → new.awaited ≡ Some (telling_of a kind left status) → new.queue ≡ now.queue
+    → FitsLimit a.limit
     → TellsSome a kind rows left [] deeds → Turned titles now GoesOn deeds new
-told_some titles now new a kind rows left status deeds has within stage due queue fits some = record {
+told_some titles now new a kind rows left status deeds has within sub stage due queue fits some = record {
   said = [];
   values = still now new within stage queue;
   leads = within;
   takes = λ us rs rest owed.
-      subst (λ (o : Option Due). OwedFor o (Talks titles now.within us) rs (deeds ++ rest)) (sym has)
-      (tells_on a kind rows left status (Talks titles now.within us rs) deeds rest some
-      (subst (λ (o : Option Due). OwedFor o (Talks titles now.within us) rs rest) due
-      (subst (λ (w : Within). OwedFor new.awaited (Talks titles w us) rs rest) within owed)));
+      subst (λ (o : Option Due). OwedAt titles now.within now.sub o us rs (deeds ++ rest)) (sym has)
+      (tells_on a kind rows left status (Talks titles now.within now.sub us rs) deeds rest some
+      (owed_at titles new now.within now.sub (Some (telling_of a kind left status)) us rs rest within sub due owed));
   stops = subst (λ (t : List Deed). Stops t new.awaited) (sym some.deeds)
       (sends_stop some.responses new.awaited (subst (λ (o : Option Due). IsAnswered o) (sym due) tt));
   state = ap (λ (w : Within). w.state) within
@@ -208,10 +208,10 @@ told_some titles now new a kind rows left status deeds has within stage due queu
 -- rows that are told, and their end
 pub told_all : (titles : List (Title View)) (now new : AssociationState) (a : Awaited) (kind : RowKind)
     (rows left : List Set) (status : Status) (mid deeds : List Deed)
-    → now.awaited ≡ Some (telling_of a kind rows status) → new.within ≡ now.within → new.stage ≡ now.stage
-    → new.awaited ≡ None → new.queue ≡ now.queue → TellsSome a kind rows left [] mid → left ≡ []
+    → now.awaited ≡ Some (telling_of a kind rows status) → new.within ≡ now.within → new.sub ≡ now.sub
+    → new.stage ≡ now.stage → new.awaited ≡ None → new.queue ≡ now.queue → TellsSome a kind rows left [] mid → left ≡ []
     → IsEnd a status mid deeds → Turned titles now GoesOn deeds new
-told_all titles now new a kind rows left status mid deeds has within stage none queue some empty end =
+told_all titles now new a kind rows left status mid deeds has within sub stage none queue some empty end =
     let are = all_told a kind rows left [] mid some empty in
     let all : deeds ≡ map Send some.responses ++ (map Send end.0 ++ Reach FindAnswered ∷ []) =
     end.2 ∙ ap (λ (t : List Deed). t ++ (map Send end.0 ++ Reach FindAnswered ∷ [])) some.deeds in
@@ -220,10 +220,9 @@ told_all titles now new a kind rows left status mid deeds has within stage none 
       values = still now new within stage queue;
       leads = within;
       takes = λ us rs rest owed.
-          subst (λ (o : Option Due). OwedFor o (Talks titles now.within us) rs (deeds ++ rest)) (sym has)
-          (tells_end a kind rows left status (Talks titles now.within us rs) mid deeds rest some empty end
-          (subst (λ (o : Option Due). OwedFor o (Talks titles now.within us) rs rest) none
-          (subst (λ (w : Within). OwedFor new.awaited (Talks titles w us) rs rest) within owed)));
+          subst (λ (o : Option Due). OwedAt titles now.within now.sub o us rs (deeds ++ rest)) (sym has)
+          (tells_end a kind rows left status (Talks titles now.within now.sub us rs) mid deeds rest some empty end
+          (owed_at titles new now.within now.sub None us rs rest within sub none owed));
       stops = subst (λ (t : List Deed). Stops t new.awaited) (sym all)
           (sends_stop_then some.responses (map Send end.0 ++ Reach FindAnswered ∷ []) new.awaited
           (sends_stop_then end.0 (Reach FindAnswered ∷ []) new.awaited (none_answered new.awaited none)));

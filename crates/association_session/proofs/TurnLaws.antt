@@ -13,6 +13,7 @@ use Rattle.ul_state.proofs.Openings.{settles_where_it_opens}
 use Rattle.association_session.specs.Response.{FitsLimit}
 use Rattle.pdu.specs.declared.pdv.Pdv.{Pdv}
 use Rattle.association_session.specs.declared.due.Due.{Due}
+use Rattle.association_session.specs.SubOperation.{SubOperation}
 use Rattle.association_session.specs.Row.{limit_in, agreed_by, handed_on}
 use Rattle.association_session.specs.Session.{AssociationState, Linked, stage_by, entered}
 use Rattle.association_session.proofs.LimitLaws.{settled_fits}
@@ -55,10 +56,12 @@ some_same {A = B} a b same some = subst (λ (o : Option B). IsSome o) same some
 
 -- where an event leads, part by part
 pub entered_is : (titles : List (Title View)) (now : AssociationState) (event : Event) (before : State)
-    (agreed : Option (Settled View)) (old : Linked) (awaited : Option Due) (queue : List Pdv)
+    (agreed : Option (Settled View)) (old : Linked) (sub : Option SubOperation) (awaited : Option Due)
+    (queue : List Pdv)
     (state : State) (settled : Option (Settled View)) (l : Linked) (left : List Pdv)
     → record {
       within = record { state = before; settled = agreed; link = old.link };
+      sub = sub;
       stage = old.stage;
       awaited =
           awaited;
@@ -69,14 +72,16 @@ pub entered_is : (titles : List (Title View)) (now : AssociationState) (event : 
     → l.stage ≡ stage_by (opens before state) old.stage → left ≡ handed_on titles before event
     → record {
       within = record { state = state; settled = settled; link = l.link };
+      sub = sub;
       stage = l.stage;
       awaited =
           awaited;
       queue = left;
     } ≡ entered titles now event
-entered_is titles now event before agreed old awaited queue state settled l left stood a b c d e =
+entered_is titles now event before agreed old sub awaited queue state settled l left stood a b c d e =
     let s : AssociationState = record {
       within = record { state = before; settled = agreed; link = old.link };
+      sub = sub;
       stage =
           old.stage;
       awaited = awaited;
@@ -84,6 +89,7 @@ entered_is titles now event before agreed old awaited queue state settled l left
     } in
     let t : AssociationState = record {
       within = record { state = state; settled = settled; link = l.link };
+      sub = sub;
       stage =
           l.stage;
       awaited = awaited;

@@ -3,7 +3,7 @@ use Rattle.std.specs.Prelude.{◌≡◌, ◌⊎◌, List, [], ◌∷◌, ◌++�
 use Rattle.data_set.specs.Set.{Set}
 use Rattle.pdu.specs.declared.value.Pdu.{Pdu}
 use Rattle.dimse.specs.declared.status.Status.{Status}
-use Rattle.association_session.specs.declared.deed.Call.TheVariants.{Store, Find}
+use Rattle.association_session.specs.declared.deed.Call.TheVariants.{Store, Find, Get}
 use Rattle.association_session.specs.declared.deed.Deed.{Deed}
 use Rattle.association_session.specs.declared.deed.Deed.TheVariants.{Send, Reach, Ask, Close}
 use Rattle.association_session.specs.declared.deed.Finding.{Finding}
@@ -32,6 +32,7 @@ abbrev pub AreAnswered : List Deed → Type 0
 AreAnswered [] = ⊤
 AreAnswered (Ask (Find finding) ∷ ds) = ((ds ≡ []) ⊎ Answers finding ds) × AreAnswered ds
 AreAnswered (Ask (Store content) ∷ ds) = AreAnswered ds
+AreAnswered (Ask (Get getting) ∷ ds) = AreAnswered ds
 AreAnswered (Send pdu ∷ ds) = AreAnswered ds
 AreAnswered (Reach moment ∷ ds) = AreAnswered ds
 AreAnswered (Close ∷ ds) = AreAnswered ds

@@ -1,5 +1,5 @@
 -- Requests, and the responses that they have (PS3.7, 9.3).
-use Rattle.std.specs.Prelude.{◌≡◌, ◌⊎◌, Bool, true, false, List, [], ◌∷◌, ◌++◌, map, ⊤}
+use Rattle.std.specs.Prelude.{◌≡◌, ◌⊎◌, Bool, true, false, List, [], ◌∷◌, ◌++◌, Option, Some, None}
 use Rattle.pdu.specs.declared.value.Pdu.{Pdu}
 use Rattle.pdu.specs.declared.value.Pdu.TheVariants.{AssociateRq, AssociateAc, AssociateRj, PData, ReleaseRq, ReleaseRp}
 use Rattle.pdu.specs.declared.value.Pdu.TheVariants.{Abort}
@@ -7,7 +7,13 @@ use Rattle.ul_state.specs.declared.event.Event.TheVariants.{LocalAbort}
 use Rattle.ul_state.specs.declared.table.State.{State}
 use Rattle.ul_state.specs.declared.table.State.TheVariants.{Sta1, Sta2, Sta6, Sta13}
 use Rattle.ul_state.specs.declared.titles.Title.{Title}
-use Rattle.data_set.specs.Set.{Set}
+use Rattle.data_set.specs.declared.syntax.Syntax.{Syntax}
+use Rattle.dictionary.specs.declared.commands.TheConstants.{C_GET_RQ, C_STORE_RQ}
+use Rattle.dimse.specs.declared.message.Message.{Message}
+use Rattle.dimse.specs.Sending.{IsSending}
+use Rattle.dimse.specs.Status.{status_code}
+use Rattle.pdu.specs.declared.context.Context.{Context}
+use Rattle.retrieve_model.specs.declared.prepared.Prepared.{Prepared}
 use Rattle.dimse.specs.declared.status.Status.{Status}
 use Rattle.dimse.specs.declared.status.Status.TheVariants.{Success, SopClassNotSupported, UnrecognizedOperation}
 use Rattle.dimse.specs.declared.status.Status.TheVariants.{OutOfResources, UnableToPerformSubOperations}
@@ -15,31 +21,37 @@ use Rattle.dimse.specs.declared.status.Status.TheVariants.{DataSetMismatch, SubO
 use Rattle.dimse.specs.declared.status.Status.TheVariants.{Cancel, Pending, PendingWithoutOptionalKeys}
 use Rattle.association_session.specs.declared.deed.Call.{Call}
 use Rattle.association_session.specs.declared.deed.Deed.{Deed}
-use Rattle.association_session.specs.declared.due.RowKind.{RowKind}
+use Rattle.association_session.specs.declared.reply.Reply.{Reply}
+use Rattle.association_session.specs.declared.reply.Reply.TheVariants.{Stored, Found, Gotten}
+use Rattle.association_session.specs.declared.retrieval.Meaning.{Meaning}
+use Rattle.association_session.specs.declared.retrieval.Meaning.TheVariants.{Cancelled, Performed, Unawaited}
+use Rattle.association_session.specs.declared.retrieval.Progress.{Progress}
 use Rattle.association_session.specs.declared.deed.Deed.TheVariants.{Send, Reach, Ask, Close}
 use Rattle.association_session.specs.declared.service.Service.{Service}
 use Rattle.association_session.specs.declared.service.Service.TheVariants.{Ignored, Broken, Responded, Asked}
-use Rattle.association_session.specs.declared.service.Service.TheVariants.{Queried}
-use Rattle.association_session.specs.Find.{AreRows}
-use Rattle.association_session.specs.Response.{Awaited, Responds}
+use Rattle.association_session.specs.declared.service.Service.TheVariants.{Queried, Fetched}
+use Rattle.association_session.specs.Response.{Awaited}
+use Rattle.association_session.specs.SubOperation.{SubOperation}
+use Rattle.association_session.specs.Retrieval.{few_in, setting_out, begun, meaning_of, performed}
+use Rattle.association_session.specs.Retrieval.{cancelling}
 use Rattle.association_session.specs.Row.{Within, met}
 use Rattle.association_session.specs.Service.{Serves}
 use Rattle.association_session.specs.Talks.{Heard, Met, Said, awaiting}
 use Rattle.archive_model.specs.declared.view.View.{View}
 
--- No P-DATA-TF is sent.
-abbrev pub HasNoData : List Deed → Type 0
-HasNoData [] = ⊤
-HasNoData (Send (PData values) ∷ ds) = ⊥
-HasNoData (Send (AssociateRq request) ∷ ds) = HasNoData ds
-HasNoData (Send (AssociateAc accept) ∷ ds) = HasNoData ds
-HasNoData (Send (AssociateRj reject) ∷ ds) = HasNoData ds
-HasNoData (Send ReleaseRq ∷ ds) = HasNoData ds
-HasNoData (Send ReleaseRp ∷ ds) = HasNoData ds
-HasNoData (Send (Abort source reason) ∷ ds) = HasNoData ds
-HasNoData (Reach moment ∷ ds) = HasNoData ds
-HasNoData (Ask call ∷ ds) = HasNoData ds
-HasNoData (Close ∷ ds) = HasNoData ds
+-- the P-DATA-TFs that are sent
+abbrev pub data_in : List Deed → List Pdu
+data_in [] = []
+data_in (Send (PData values) ∷ ds) = PData values ∷ data_in ds
+data_in (Send (AssociateRq request) ∷ ds) = data_in ds
+data_in (Send (AssociateAc accept) ∷ ds) = data_in ds
+data_in (Send (AssociateRj reject) ∷ ds) = data_in ds
+data_in (Send ReleaseRq ∷ ds) = data_in ds
+data_in (Send ReleaseRp ∷ ds) = data_in ds
+data_in (Send (Abort source reason) ∷ ds) = data_in ds
+data_in (Reach moment ∷ ds) = data_in ds
+data_in (Ask call ∷ ds) = data_in ds
+data_in (Close ∷ ds) = data_in ds
 
 -- more responses follow one with this status (PS3.7, C.1)
 abbrev pub is_pending : Status → Bool
@@ -55,52 +67,127 @@ is_pending Cancel = false
 is_pending Pending = true
 is_pending PendingWithoutOptionalKeys = true
 
--- responses with rows, none of them the last
-abbrev pub ArePending : Awaited → List Pdu → Type 0
-ArePending a pdus = (kind : RowKind) × (rows : List Set) × AreRows a kind rows pdus × (is_pending kind.status ≡ true)
+-- a response to a request, on its context: a pending one, or the last
+pub record RespondsTo (a : Awaited) (pending : Bool) (m : Message) : Type 0 where
+  pub context : m.context ≡ a.context
+  pub id : m.command.responded_to ≡ a.command.message_id
+  pub status : Status
+  pub is : m.command.status ≡ Some (status_code status)
+  pub kind : is_pending status ≡ pending
 
--- Each of these requests has one final response, in order, behind those with its rows, and no other P-DATA-TF is sent.
-abbrev pub AreResponded : List Awaited → List Deed → Type 0
-AreResponded [] ds = HasNoData ds
-AreResponded (a ∷ requests) ds =
-    (before behind : List Deed) × (rows response : List Pdu) × (status : Status)
-    × (ds ≡ before ++ (map Send rows ++ (map Send response ++ behind))) × HasNoData before × ArePending a rows
-    × Responds a status response × (is_pending status ≡ false) × AreResponded requests behind
+-- a pending response to a request, or a C-STORE that it brings
+abbrev pub IsOnTheWay : Awaited → Message → Type 0
+IsOnTheWay a m = RespondsTo a true m ⊎ (m.command.field ≡ C_STORE_RQ)
+
+-- These messages are sent on the way to the last response, and then others behind them.
+abbrev pub SendsOnTheWay : Awaited → List Message → (List Pdu → Type 0) → List Pdu → Type 0
+SendsOnTheWay a [] Behind pdus = Behind pdus
+SendsOnTheWay a (m ∷ ms) Behind pdus = IsOnTheWay a m × (first rest : List Pdu) × IsSending m a.limit first
+    × SendsOnTheWay a ms Behind rest × (pdus ≡ first ++ rest)
+
+-- The last response is sent, and then others behind it.
+abbrev pub SendsLast : Awaited → (List Pdu → Type 0) → List Pdu → Type 0
+SendsLast a Behind pdus = (m : Message) × RespondsTo a false m × (first rest : List Pdu) × IsSending m a.limit first
+    × Behind rest × (pdus ≡ first ++ rest)
+
+-- Each of these requests has one last response, in order, behind what is on the way to it, and nothing else is sent; to
+-- the last of them it may be open.
+abbrev pub AreResponded : (Awaited → Type 0) → List Awaited → List Pdu → Type 0
+AreResponded Open [] pdus = pdus ≡ []
+AreResponded Open (a ∷ requests) pdus = (ms : List Message) × SendsOnTheWay a ms
+    (λ rest. SendsLast a (AreResponded Open requests) rest ⊎ ((requests ≡ []) × (rest ≡ []) × Open a)) pdus
+
+-- ---- the requests
+
+-- what is to be responded, by the sub-operation whose response is awaited
+abbrev pub RequestsBy : Type 1
+RequestsBy = Option SubOperation → List Reply → List Awaited → Type 0
+
+-- One request, and then those behind the reply of the port; where it did not reply yet, no more.
+abbrev pub Replied : (List Reply → List Awaited → Type 0) → List Reply → List Awaited → Type 0
+Replied Goes [] requests = requests ≡ []
+Replied Goes (r ∷ rs) requests = Goes rs requests
+
+abbrev pub FewRequests : Option (List Prepared) → List Context → Awaited → Syntax → (Option SubOperation → List Awaited
+    → Type 0) → List Awaited → Type 0
+FewRequests None contexts a syntax Goes requests = Goes None requests
+FewRequests (Some prepared) contexts a syntax Goes requests = Goes (begun contexts (setting_out a syntax) prepared)
+    requests
+
+abbrev pub RepliedGet : List Context → Awaited → Syntax → RequestsBy → List Reply → List Awaited → Type 0
+RepliedGet contexts a syntax Goes [] requests = requests ≡ []
+RepliedGet contexts a syntax Goes (Gotten reply ∷ rs) requests = FewRequests (few_in reply) contexts a syntax
+    (λ next. Goes next rs) requests
+RepliedGet contexts a syntax Goes (Stored reply ∷ rs) requests = ⊥
+RepliedGet contexts a syntax Goes (Found reply ∷ rs) requests = ⊥
 
 -- what is to be responded of a message that is served so, and then of what stands behind it
-abbrev pub RequestFor : Service → Awaited → (List Awaited → Type 0) → (List Awaited → Type 0) → List Awaited → Type 0
-RequestFor Ignored a Goes Gone requests = Goes requests
-RequestFor Broken a Goes Gone requests = Gone requests
-RequestFor (Responded status) a Goes Gone requests = (rest : List Awaited) × (requests ≡ a ∷ rest) × Goes rest
-RequestFor (Asked content) a Goes Gone requests = (rest : List Awaited) × (requests ≡ a ∷ rest) × Goes rest
-RequestFor (Queried finding kind) a Goes Gone requests = (rest : List Awaited) × (requests ≡ a ∷ rest) × Goes rest
+abbrev pub RequestFor : Service → List Context → Awaited → RequestsBy → (List Reply → List Awaited → Type 0)
+    → List Reply → List Awaited → Type 0
+RequestFor Ignored contexts a Goes Gone rs requests = Goes None rs requests
+RequestFor Broken contexts a Goes Gone rs requests = Gone rs requests
+RequestFor (Responded status) contexts a Goes Gone rs requests = (rest : List Awaited) × (requests ≡ a ∷ rest)
+    × Goes None rs rest
+RequestFor (Asked content) contexts a Goes Gone rs requests = (rest : List Awaited) × (requests ≡ a ∷ rest)
+    × Replied (Goes None) rs rest
+RequestFor (Queried finding kind) contexts a Goes Gone rs requests = (rest : List Awaited) × (requests ≡ a ∷ rest)
+    × Replied (Goes None) rs rest
+RequestFor (Fetched getting syntax) contexts a Goes Gone rs requests = (rest : List Awaited) × (requests ≡ a ∷ rest)
+    × RepliedGet contexts a syntax Goes rs rest
+
+-- what goes on of a C-GET that is cancelled or not
+abbrev pub next_of_get : Bool → List Context → Progress → List Prepared → Option SubOperation
+next_of_get true contexts g left = None
+next_of_get false contexts g left = begun contexts g left
+
+-- Within a C-GET there is no other request, and any other message ends the association.
+abbrev pub RequestWithin : Meaning → SubOperation → List Context → RequestsBy → (List Reply → List Awaited → Type 0)
+    → List Reply → List Awaited → Type 0
+RequestWithin Cancelled sub contexts Goes Gone rs requests = Goes (Some (cancelling sub)) rs requests
+RequestWithin Unawaited sub contexts Goes Gone rs requests = requests ≡ []
+RequestWithin (Performed outcome) sub contexts Goes Gone rs requests =
+    Goes (next_of_get sub.cancelled contexts (performed sub outcome) sub.left) rs requests
+
+abbrev pub RequestOf : Option SubOperation → Within → Message → RequestsBy → (List Reply → List Awaited → Type 0)
+    → List Reply → List Awaited → Type 0
+RequestOf None w m Goes Gone rs requests = (service : Service) × Serves w m service
+    × RequestFor service w.link.contexts (awaiting w.link m) Goes Gone rs requests
+RequestOf (Some sub) w m Goes Gone rs requests = RequestWithin (meaning_of sub.progress m.command) sub w.link.contexts
+    Goes Gone rs requests
 
 -- A message is served while the association is established, and dropped at any other time.
-abbrev pub RequestIn : State → (List Awaited → Type 0) → (List Awaited → Type 0) → List Awaited → Type 0
+abbrev pub RequestIn : State → (List Reply → List Awaited → Type 0) → (List Reply → List Awaited → Type 0)
+    → List Reply → List Awaited → Type 0
 RequestIn Sta6 Served Dropped = Served
 RequestIn Sta1 Served Dropped = Dropped
 RequestIn Sta2 Served Dropped = Dropped
 RequestIn Sta13 Served Dropped = Dropped
 
--- These are the requests that are to be responded among what is heard, in order.
-abbrev pub Requests : List (Title View) → Within → List Heard → List Awaited → Type 0
-Requests titles w [] requests = requests ≡ []
-Requests titles w (Met event ∷ us) requests = Requests titles (met titles w event) us requests
-Requests titles w (Said m ∷ us) requests =
+-- These are the requests that are to be responded among what is heard, in order, for these replies of the port.
+abbrev pub Requests : List (Title View) → Within → Option SubOperation → List Heard → List Reply → List Awaited → Type 0
+Requests titles w sub [] rs requests = requests ≡ []
+Requests titles w sub (Met event ∷ us) rs requests = Requests titles (met titles w event) sub us rs requests
+Requests titles w sub (Said m ∷ us) rs requests =
     RequestIn w.state
-    (λ bs. (service : Service) × Serves w m service × RequestFor service (awaiting w.link m)
-    (Requests titles w us) (Requests titles (met titles w LocalAbort) us) bs)
-    (Requests titles w us) requests
+    (RequestOf sub w m (λ next. Requests titles w next us) (Requests titles (met titles w LocalAbort) None us))
+    (Requests titles w sub us) rs requests
+
+-- the request of the C-GET whose sub-operation is awaited, and then these
+abbrev pub open_in : Option SubOperation → List Awaited → List Awaited
+open_in None requests = requests
+open_in (Some sub) requests = sub.progress.awaited ∷ requests
 
 -- A call is the last deed.
 abbrev pub EndsInCall : List Deed → Type 0
 EndsInCall ds = (front : List Deed) × (call : Call) × (ds ≡ front ++ Ask call ∷ [])
 
--- Each request that was heard has one final response; or a call has no reply yet, and of what was heard up to its
--- request
--- each but that has one.
-abbrev pub HasResponses : List (Title View) → Within → List Heard → List Deed → Type 0
-HasResponses titles w us ds =
-    ((requests : List Awaited) × Requests titles w us requests × AreResponded requests ds)
-    ⊎ ((front more : List Heard) × (requests : List Awaited) × (a : Awaited) × (us ≡ front ++ more)
-    × Requests titles w front (requests ++ a ∷ []) × AreResponded requests ds × EndsInCall ds)
+-- The last response may be open where its call has no reply yet; and to a C-GET, whose sub-operations go on, or whose
+-- association ended before.
+abbrev pub IsOpen : List Deed → Awaited → Type 0
+IsOpen ds a = EndsInCall ds ⊎ (a.command.field ≡ C_GET_RQ)
+
+-- Each request that was heard has one last response, unless it is open.
+abbrev pub HasResponses : List (Title View) → Within → Option SubOperation → List Heard → List Reply → List Deed
+    → Type 0
+HasResponses titles w sub us rs ds = (requests : List Awaited) × Requests titles w sub us rs requests
+    × AreResponded (IsOpen ds) (open_in sub requests) (data_in ds)

@@ -4,12 +4,16 @@ pub mod Due
 pub mod Echo
 pub mod Finals
 pub mod Find
+pub mod Get
 pub mod Order
 pub mod Projections
 pub mod Reply
 pub mod Response
+pub mod Retrieval
 pub mod Row
+pub mod Selected
 pub mod Service
 pub mod Session
 pub mod Store
+pub mod SubOperation
 pub mod Talks

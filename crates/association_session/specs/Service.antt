@@ -14,6 +14,7 @@ use Rattle.association_session.specs.declared.service.Service.TheVariants.{Ignor
 use Rattle.association_session.specs.Context.{context_in, is_other_class}
 use Rattle.association_session.specs.Echo.{echo_status}
 use Rattle.association_session.specs.Find.{find_refusal, ServesFind}
+use Rattle.association_session.specs.Get.{get_refusal, ServesGet}
 use Rattle.association_session.specs.Row.{Within}
 use Rattle.association_session.specs.Store.{store_refusal, ServesStore}
 
@@ -33,14 +34,14 @@ unfoldable pub unknown_status : Context → Command → Status
 unknown_status context command =
     if is_other_class context command.affected_class then SopClassNotSupported else UnrecognizedOperation
 
--- A C-GET is not served yet, whatever its context and its class.
 abbrev pub ServesKind
     : Kind → Option (Settled View) → Context → Command → Option (List ℕ) → Service → Type 0
 ServesKind kinds.Response settled context command body service = service ≡ Broken
 ServesKind kinds.Cancel settled context command body service = service ≡ Ignored
 ServesKind kinds.Find settled context command body service = ServesFind settled context
     body (find_refusal context command) service
-ServesKind kinds.Get settled context command body service = service ≡ Responded UnrecognizedOperation
+ServesKind kinds.Get settled context command body service = ServesGet settled context
+    body (get_refusal context command) service
 ServesKind kinds.Echo settled context command body service = service ≡ Responded (echo_status context command)
 ServesKind kinds.Store settled context command body service = ServesStore context command
     body (store_refusal context command) service

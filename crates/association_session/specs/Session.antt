@@ -2,6 +2,7 @@
 use Rattle.std.specs.Prelude.{◌≡◌, ◌⊎◌, Bool, true, false, not, ◌||◌, List, [], ◌∷◌, ◌++◌, Option, Some, None, Result}
 use Rattle.std.specs.Prelude.{Ok, Err, IsSome, map, length, ◌<◌, ⊤}
 use Rattle.std.specs.List.{list_any}
+use Rattle.pdu.specs.declared.context.Context.{Context}
 use Rattle.pdu.specs.declared.pdv.Pdv.{Pdv}
 use Rattle.pdu.specs.declared.value.Pdu.{Pdu}
 use Rattle.pdu.specs.declared.value.Pdu.TheVariants as pdus
@@ -26,7 +27,7 @@ use Rattle.dimse.specs.Messages.{Run, HadMemory}
 use Rattle.association_session.specs.declared.due.Due.{Due}
 use Rattle.association_session.specs.declared.due.Due.TheVariants as dues
 use Rattle.association_session.specs.declared.deed.Call.{Call}
-use Rattle.association_session.specs.declared.deed.Call.TheVariants.{Store, Find}
+use Rattle.association_session.specs.declared.deed.Call.TheVariants.{Store, Find, Get}
 use Rattle.association_session.specs.declared.deed.Deed.{Deed}
 use Rattle.association_session.specs.declared.deed.Deed.TheVariants.{Send, Reach, Ask, Close}
 use Rattle.association_session.specs.declared.deed.Moment.TheVariants.{FindAnswered}
@@ -34,13 +35,14 @@ use Rattle.association_session.specs.declared.due.RowKind.{RowKind}
 use Rattle.association_session.specs.declared.event.SessionEvent.{SessionEvent}
 use Rattle.association_session.specs.declared.event.SessionEvent.TheVariants as inputs
 use Rattle.association_session.specs.declared.reply.Reply.{Reply}
-use Rattle.association_session.specs.Due.{takes_reply, is_telling, IsQuiet, IsAnswered, left_of, Fits}
+use Rattle.association_session.specs.Due.{takes_reply, is_telling, IsAnswered, left_of, Fits}
 use Rattle.association_session.specs.Find.{AreRows}
 use Rattle.association_session.specs.Projections.{state_after}
 use Rattle.association_session.specs.Response.{Awaited, Responds}
+use Rattle.association_session.specs.SubOperation.{SubOperation}
 use Rattle.association_session.specs.Row.{Link, Within, met, handed_on, opening, NO_LINK}
-use Rattle.association_session.specs.Talks.{Heard, Met, Said, Goes, FollowsStore, FollowsFind, TellsRows, Talks}
-use Rattle.association_session.specs.Talks.{Leads}
+use Rattle.association_session.specs.Talks.{Heard, Met, Said, Goes, GoesBy, FollowsStore, FollowsFind, FollowsGet}
+use Rattle.association_session.specs.Talks.{TellsRows, Begins, Talks, Leads}
 use Rattle.archive_model.specs.declared.view.View.{View}
 
 -- ---- where a session is
@@ -50,10 +52,11 @@ pub record Linked : Type 0 where
   pub link : Link
   pub stage : Stage
 
--- what was agreed; what came since the last message; what is still to be told of the request that was served last; and
--- the values of the last P-DATA-TF that are not heard yet
+-- what was agreed; the sub-operation whose response is awaited; what came since the last message; what is still to be
+-- told of the request that was served last; and the values of the last P-DATA-TF that are not heard yet
 pub record AssociationState : Type 0 where
   pub within : Within
+  pub sub : Option SubOperation
   pub stage : Stage
   pub awaited : Option Due
   pub queue : List Pdv
@@ -65,12 +68,13 @@ pub record SessionState : Type 0 where
   pub released : Bool
 
 abbrev pub start : AssociationState
-start = record { within = opening; stage = Between; awaited = None; queue = [] }
+start = record { within = opening; sub = None; stage = Between; awaited = None; queue = [] }
 
 -- no connection any more
 abbrev pub closed : AssociationState
 closed = record {
   within = record { state = Sta1; settled = None; link = NO_LINK };
+  sub = None;
   stage = Between;
   awaited = None;
   queue = [];
@@ -86,16 +90,24 @@ settled_of (Some acceptor) = acceptor.settled
 
 -- ---- what is still to be done
 
-abbrev pub OwedFor : Option Due → Goes → Goes
-OwedFor None goes = goes
-OwedFor (Some (dues.Store awaited)) goes = FollowsStore awaited goes
-OwedFor (Some (dues.Find awaited kind)) goes = FollowsFind awaited kind goes
-OwedFor (Some (dues.Rows telling)) goes =
+abbrev pub OwedFor : List Context → Option Due → GoesBy → Goes → Goes
+OwedFor contexts None gets goes = goes
+OwedFor contexts (Some (dues.Store awaited)) gets goes = FollowsStore awaited goes
+OwedFor contexts (Some (dues.Find awaited kind)) gets goes = FollowsFind awaited kind goes
+OwedFor contexts (Some (dues.Rows telling)) gets goes =
     λ rs deeds. TellsRows telling.awaited telling.kind telling.rows telling.status (goes rs) deeds
+OwedFor contexts (Some (dues.Get awaited syntax)) gets goes = FollowsGet contexts awaited syntax gets goes
+OwedFor contexts (Some (dues.Sending r)) gets goes =
+    λ rs deeds. Begins contexts r.progress r.left (λ next. gets next rs) deeds
+
+-- the same, at a place, with a sub-operation whose response is awaited
+abbrev pub OwedAt : List (Title View) → Within → Option SubOperation → Option Due → List Heard → Goes
+OwedAt titles w sub due us =
+    OwedFor w.link.contexts due (λ next. Talks titles w next us) (Talks titles w sub us)
 
 -- what is still to be done for what is heard and replied from here on
 abbrev pub Owes : List (Title View) → AssociationState → List Heard → Goes
-Owes titles s us = OwedFor s.awaited (Talks titles s.within us)
+Owes titles s us = OwedAt titles s.within s.sub s.awaited us
 
 -- These deeds bring it from there to here: whatever is owed here, they and that are owed there.
 abbrev pub Takes : List (Title View) → AssociationState → List Heard → List Reply → List Deed
@@ -109,11 +121,21 @@ abbrev pub Awaits : Call → Option Due → Type 0
 Awaits (Store content) (Some (dues.Store awaited)) = ⊤
 Awaits (Store content) (Some (dues.Find awaited kind)) = ⊥
 Awaits (Store content) (Some (dues.Rows telling)) = ⊥
+Awaits (Store content) (Some (dues.Get awaited syntax)) = ⊥
+Awaits (Store content) (Some (dues.Sending r)) = ⊥
 Awaits (Store content) None = ⊥
 Awaits (Find finding) (Some (dues.Find awaited kind)) = ⊤
 Awaits (Find finding) (Some (dues.Store awaited)) = ⊥
 Awaits (Find finding) (Some (dues.Rows telling)) = ⊥
+Awaits (Find finding) (Some (dues.Get awaited syntax)) = ⊥
+Awaits (Find finding) (Some (dues.Sending r)) = ⊥
 Awaits (Find finding) None = ⊥
+Awaits (Get getting) (Some (dues.Get awaited syntax)) = ⊤
+Awaits (Get getting) (Some (dues.Store awaited)) = ⊥
+Awaits (Get getting) (Some (dues.Find awaited kind)) = ⊥
+Awaits (Get getting) (Some (dues.Rows telling)) = ⊥
+Awaits (Get getting) (Some (dues.Sending r)) = ⊥
+Awaits (Get getting) None = ⊥
 
 -- A call is the last deed, and its reply is awaited. So is a close, and nothing is awaited.
 abbrev pub Stops : List Deed → Option Due → Type 0
@@ -161,6 +183,7 @@ stage_by false stage = stage
 abbrev pub entered : List (Title View) → AssociationState → Event → AssociationState
 entered titles s event = record {
   within = met titles s.within event;
+  sub = s.sub;
   stage = stage_by (opens s.within.state (next_of s.within.state (kind_for titles event))) s.stage;
   awaited = s.awaited;
   queue = handed_on titles s.within.state event;
@@ -168,7 +191,13 @@ entered titles s event = record {
 
 abbrev pub started : List (Title View) → AssociationState → SessionEvent → AssociationState
 started titles s (inputs.Heard event) = entered titles s event
-started titles s (inputs.Replied reply) = record { within = s.within; stage = s.stage; awaited = None; queue = s.queue }
+started titles s (inputs.Replied reply) = record {
+  within = s.within;
+  sub = s.sub;
+  stage = s.stage;
+  awaited = None;
+  queue = s.queue;
+}
 started titles s inputs.GoesOn = s
 
 abbrev pub met_in : SessionEvent → List Heard
@@ -202,11 +231,11 @@ in_turn None left inputs.GoesOn = left
 abbrev pub is_in_turn : AssociationState → SessionEvent → Bool
 is_in_turn s event = in_turn s.awaited (is_left s.within.state s.queue) event
 
--- Behind a reply, and behind rows, no call is made; behind an event and values no row is left to be told.
+-- Behind a reply, and behind rows and sub-operations that are begun, no call is made.
 abbrev pub IsToldBy : SessionEvent → Option Due → Option Due → Type 0
 IsToldBy (inputs.Replied reply) old new = IsAnswered new
-IsToldBy (inputs.Heard event) old new = IsQuiet new
-IsToldBy inputs.GoesOn None new = IsQuiet new
+IsToldBy (inputs.Heard event) old new = ⊤
+IsToldBy inputs.GoesOn None new = ⊤
 IsToldBy inputs.GoesOn (Some due) new = IsAnswered new
 
 -- Something is still to be told only while the association is established.
@@ -253,7 +282,7 @@ pub record Answered (titles : List (Title View)) (old : AssociationState) (m : M
   pub link : new.within.link ≡ old.within.link
   pub stage : new.stage ≡ old.stage
   pub kept : (new.queue ≡ old.queue) ⊎ IsLeft new.within.state
-  pub told : IsQuiet new.awaited
+  pub fits : Fits new.awaited
   pub opened : IsOpenFor new
 
 -- Rows that are told on become fewer, and else values that are heard on; a reply and rows leave the values.

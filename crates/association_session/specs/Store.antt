@@ -15,7 +15,7 @@ use Rattle.association_session.specs.declared.reply.PortFault.{PortFault}
 use Rattle.association_session.specs.declared.reply.PortFault.TheVariants.{Memory, Busy, Collision, Shelf}
 use Rattle.association_session.specs.declared.service.Service.{Service}
 use Rattle.association_session.specs.declared.service.Service.TheVariants.{Ignored, Broken, Responded, Asked}
-use Rattle.association_session.specs.declared.service.Service.TheVariants.{Queried}
+use Rattle.association_session.specs.declared.service.Service.TheVariants.{Queried, Fetched}
 use Rattle.association_session.specs.Context.{is_other_class, syntax_of}
 
 -- the status of a C-STORE that is refused before its data set is read
@@ -48,6 +48,7 @@ ServesDraft draft (Responded status) = (fault : OpFault) × IsOutcome draft (Err
 ServesDraft draft Ignored = ⊥
 ServesDraft draft Broken = ⊥
 ServesDraft draft (Queried finding kind) = ⊥
+ServesDraft draft (Fetched getting syntax) = ⊥
 
 abbrev pub uid_or_empty : Option (List ℕ) → List ℕ
 uid_or_empty None = []

@@ -15,20 +15,21 @@ ghost use Rattle.association_session.specs.declared.deed.Deed.TheVariants.{Send,
 ghost use Rattle.association_session.specs.declared.deed.Moment.TheVariants.{InStore};
 ghost use Rattle.association_session.specs.declared.event.SessionEvent.TheVariants.{Heard, Replied, GoesOn};
 ghost use Rattle.association_session.specs.Row.{action_on, agreed_by, limit_in, deeds_of, values_of, row};
-ghost use Rattle.association_session.specs.declared.reply.Reply.TheVariants.{Stored, Found};
-ghost use Rattle.association_session.specs.Due.{tells_rows};
+ghost use Rattle.association_session.specs.declared.reply.Reply.TheVariants.{Stored, Found, Gotten};
+ghost use Rattle.association_session.specs.Due.{tells_rows, has_rows, is_sending};
 ghost use Rattle.association_session.specs.Find.{RespondsRow};
 ghost use Rattle.association_session.specs.Session.{start, closed, is_left, is_in_turn, stage_by, IsTold, Answered, Turned, entered, IsWritable, IsSound, IsFewer, TellsSome, IsEnd};
 ghost use Rattle.archive_model.specs.declared.view.View.{View};
 
 use crate::awaited::Awaited;
 use crate::deed::{Call, Deed, Moment};
-use crate::due::{Due, RowKind, Rows, Telling, is_telling, takes};
+use crate::due::{Due, RowKind, Rows, Telling, are_rows, are_sent, due_for, is_telling, takes};
 use crate::event::SessionEvent;
 use crate::find::{found, row_text};
 use crate::limit::limit_of;
 use crate::link::Link;
 use crate::reply::{PortFault, Reply};
+use crate::retrieval::{Begun, Meaning, Retrieval, SubOperation, few};
 use crate::service::{Service, serve};
 use crate::store::status_for;
 use archive_model::View;
@@ -37,6 +38,7 @@ use octets::ListOf;
 use operation::{Content, Taken};
 use pdu::{Pdu, Pdv};
 use query_model::Answer;
+use retrieve_model::Prepared;
 use std::alloc::{AllocError, Global};
 use std::collections::VecDeque;
 use std::marker::Model;
@@ -49,6 +51,8 @@ pub(crate) struct Association {
     /// `None` once memory was refused.
     acceptor: Option<Acceptor<View>>,
     link: Link,
+    /// The sub-operation whose response is awaited.
+    sub: Option<SubOperation>,
     /// What is still to be told of the request that was served last.
     awaited: Option<Due>,
     /// The values of the last P-DATA-TF that are not heard yet.
@@ -70,6 +74,7 @@ impl Model for Association {
         settled = settled_of a.acceptor;
         link = a.link.link;
       };
+      sub = a.sub;
       stage = a.link.stage;
       awaited = a.awaited;
       queue = a.queue.items;
@@ -260,6 +265,7 @@ impl Association {
             alloc,
             acceptor: Some(Acceptor::new(alloc)),
             link: Link::new(alloc),
+            sub: None,
             awaited: None,
             queue: VecDeque::new(alloc),
         }
@@ -273,6 +279,7 @@ impl Association {
             alloc,
             acceptor: None,
             link: Link::new(alloc),
+            sub: None,
             awaited: None,
             queue: VecDeque::new(alloc),
         }
@@ -287,7 +294,7 @@ impl Association {
         }
     }
 
-    /// Whether rows are told.
+    /// Whether rows are told, or sub-operations begun.
     pub(crate) fn is_telling(&self) -> bool
         ensures { result ≡ tells_rows self.now.awaited }
     {
@@ -343,7 +350,7 @@ impl Association {
         self.meet(titles, Event::LocalAbort)
     }
 
-    /// Answers a message.
+    /// Answers a message, while no sub-operation is awaited.
     fn answer(
         &mut self,
         titles: &Titles<View>,
@@ -351,6 +358,7 @@ impl Association {
     ) -> Result<ListOf<Deed>, AllocError>
         requires established { self.old.within.state ≡ Sta6 }
         requires idle { self.old.awaited ≡ None }
+        requires none { self.old.sub ≡ None }
         requires whole { IsWhole message }
         ensures answered { IfOk result (λ deeds.
             Answered titles.now.list self.old message deeds self.new) }
@@ -391,6 +399,45 @@ impl Association {
                 self.awaited = Some(Due::Find(awaited, kind));
                 Ok(deeds)
             }
+            Service::Fetched(getting, syntax) => {
+                let deeds = one(self.alloc, Deed::Ask(Call::Get(getting)))?;
+                self.awaited = Some(Due::Get(awaited, syntax));
+                Ok(deeds)
+            }
+        }
+    }
+
+    /// Takes a message: it is answered, or belongs to a C-GET whose sub-operation is awaited.
+    fn attend(
+        &mut self,
+        titles: &Titles<View>,
+        message: Message,
+    ) -> Result<ListOf<Deed>, AllocError>
+        requires established { self.old.within.state ≡ Sta6 }
+        requires idle { self.old.awaited ≡ None }
+        requires whole { IsWhole message }
+        ensures answered { IfOk result (λ deeds.
+            Answered titles.now.list self.old message deeds self.new) }
+        ensures fewer { OnOk result (length self.new.queue ≤ length self.old.queue) }
+        ensures writable { IfOk result (All IsWritable) }
+    {
+        let Some(sub) = self.sub.take() else {
+            return self.answer(titles, message);
+        };
+        let meaning = sub.meaning(&message.command);
+        sub.progress.awaited.see_room();
+        drop(message);
+        match meaning {
+            Meaning::Cancelled => {
+                self.sub = Some(sub.cancel());
+                Ok(ListOf::new(self.alloc))
+            }
+            Meaning::Unawaited => self.abort(titles),
+            Meaning::Performed(outcome) => {
+                let (pdus, next) = sub.perform(self.alloc, outcome)?;
+                self.awaited = due_for(next);
+                sends(self.alloc, pdus)
+            }
         }
     }
 
@@ -408,7 +455,7 @@ impl Association {
             let answer = self.link.feed(value)?;
             match answer {
                 Ok(None) => {}
-                Ok(Some(message)) => return self.answer(titles, message),
+                Ok(Some(message)) => return self.attend(titles, message),
                 Err(_fault) => return self.abort(titles),
             }
         }
@@ -469,6 +516,29 @@ impl Association {
         Ok(ListOf::new(self.alloc))
     }
 
+    /// Takes the reply to a get, whose sub-operations are left to be begun.
+    fn take_gotten(
+        &mut self,
+        reply: Result<ListOf<Prepared>, PortFault>,
+    ) -> Result<ListOf<Deed>, AllocError>
+        requires { IsTrue (is_in_turn self.old (Replied (Gotten reply))) }
+        ensures turned { (titles : List (Title View)) → IfOk result (λ deeds.
+            Turned titles self.old (Replied (Gotten reply)) deeds self.new) }
+        ensures left { OnOk result (self.new.queue ≡ self.old.queue) }
+        ensures writable { IfOk result (All IsWritable) }
+    {
+        let Some(Due::Get(awaited, syntax)) = self.awaited.take() else {
+            return Ok(ListOf::new(self.alloc));
+        };
+        awaited.see_room();
+        let Some(prepared) = few(reply) else {
+            return respond(self.alloc, &awaited, Status::UnableToPerformSubOperations);
+        };
+        let retrieval = Retrieval::of(self.alloc, awaited, syntax, prepared);
+        self.awaited = Some(Due::Sending(retrieval));
+        Ok(ListOf::new(self.alloc))
+    }
+
     /// Takes the reply that is awaited.
     fn resume(&mut self, reply: Reply) -> Result<ListOf<Deed>, AllocError>
         requires { IsTrue (is_in_turn self.old (Replied reply)) }
@@ -480,12 +550,41 @@ impl Association {
         match reply {
             Reply::Stored(reply) => self.take_stored(reply),
             Reply::Found(reply) => self.take_found(reply),
+            Reply::Gotten(reply) => self.take_gotten(reply),
+        }
+    }
+
+    /// Begins the next of the sub-operations that are left, and behind the last one ends them.
+    fn send_on(&mut self) -> Result<ListOf<Deed>, AllocError>
+        requires { is_sending self.old.awaited ≡ true }
+        ensures turned { (titles : List (Title View)) → IfOk result (λ deeds.
+            Turned titles self.old GoesOn deeds self.new) }
+        ensures fewer { OnOk result (IsFewer GoesOn self.old self.new) }
+        ensures writable { IfOk result (All IsWritable) }
+    {
+        let Some(Due::Sending(retrieval)) = self.awaited.take() else {
+            return Ok(ListOf::new(self.alloc));
+        };
+        retrieval.progress.awaited.see_room();
+        match retrieval.begin(self.alloc, self.link.contexts())? {
+            Begun::Ended(pdus) => {
+                self.sub = None;
+                sends(self.alloc, pdus)
+            }
+            Begun::Sent(pdus, sub) => {
+                self.sub = Some(sub);
+                sends(self.alloc, pdus)
+            }
+            Begun::Unsent(pdus, retrieval) => {
+                self.awaited = Some(Due::Sending(retrieval));
+                sends(self.alloc, pdus)
+            }
         }
     }
 
     /// Tells the next of the rows that are left, and behind the last one ends them.
     fn tell_rows(&mut self) -> Result<ListOf<Deed>, AllocError>
-        requires { tells_rows self.old.awaited ≡ true }
+        requires { has_rows self.old.awaited ≡ true }
         ensures turned { (titles : List (Title View)) → IfOk result (λ deeds.
             Turned titles self.old GoesOn deeds self.new) }
         ensures fewer { OnOk result (IsFewer GoesOn self.old self.new) }
@@ -515,7 +614,8 @@ impl Association {
         Ok(deeds)
     }
 
-    /// Tells the rows that are left, or hears the values that are left.
+    /// Tells the rows that are left, begins the sub-operations that are left, or hears the values
+    /// that are left.
     fn go_on(&mut self, titles: &Titles<View>) -> Result<ListOf<Deed>, AllocError>
         requires { IsTrue (is_in_turn self.old GoesOn) }
         ensures turned { IfOk result (λ deeds.
@@ -523,8 +623,11 @@ impl Association {
         ensures fewer { OnOk result (IsFewer GoesOn self.old self.new) }
         ensures writable { IfOk result (All IsWritable) }
     {
-        if self.is_telling() {
+        if are_rows(&self.awaited) {
             return self.tell_rows();
+        }
+        if are_sent(&self.awaited) {
+            return self.send_on();
         }
         self.hear_values(titles)
     }

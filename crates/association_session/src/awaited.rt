@@ -2,7 +2,7 @@
 
 ghost use Rattle.std.specs.Prelude.{◌≡◌, IfOk, All};
 ghost use Rattle.pdu.specs.Spelling.{IsPdu};
-ghost use Rattle.association_session.specs.Response.{FitsLimit, response_to, response_with, Responds, RespondsWith};
+ghost use Rattle.association_session.specs.Response.{FitsLimit, CanBeResponded, response_to, response_with, Responds, RespondsWith};
 
 use bytes::Bytes;
 use dimse::{Command, DATA_SET_FOLLOWS, Message, Status, fragments};
@@ -37,6 +37,13 @@ impl Awaited {
     /// What is responded has room.
     pub(crate) fn see_room(&self)
         ensures { FitsLimit self.now.limit }
+    {
+        let _limit = &self.limit;
+    }
+
+    /// It can be responded.
+    pub(crate) fn see_lawful(&self)
+        ensures { CanBeResponded self.now }
     {
         let _limit = &self.limit;
     }

@@ -5,6 +5,7 @@ use octets::Octets;
 use operation::Content;
 use pdu::Pdu;
 use query_model::Query;
+use retrieve_model::Selection;
 
 /// A moment at which a gate is reached, where a test may hold an association up.
 #[derive(Clone, Copy, Debug, PartialEq, Eq)]
@@ -25,11 +26,20 @@ pub struct Finding {
     pub query: Query,
 }
 
+/// What a C-GET asks.
+#[derive(Debug, Drop)]
+pub struct Getting {
+    /// What the title stands for that was called.
+    pub view: View,
+    pub selection: Selection,
+}
+
 /// What is asked of the port. Each call has its kind of reply, a variant of `Reply`.
 #[derive(Debug, Drop)]
 pub enum Call {
     Store(Content),
     Find(Finding),
+    Get(Getting),
 }
 
 /// One thing that is done.

@@ -1,6 +1,6 @@
 //! What holds of every association.
 
-ghost use Rattle.std.specs.Prelude.{◌≡◌, ◌≤◌, ◌++◌, List, ℕ};
+ghost use Rattle.std.specs.Prelude.{◌≡◌, ◌≤◌, ◌++◌, List, ℕ, Option, None};
 ghost use Rattle.ul_state.specs.declared.titles.Title.{Title};
 ghost use Rattle.dimse.specs.declared.status.Status.{Status};
 ghost use Rattle.association_session.specs.declared.deed.Deed.{Deed};
@@ -10,6 +10,8 @@ ghost use Rattle.association_session.specs.Finals.{HasResponses};
 ghost use Rattle.association_session.specs.Order.{IsOrderly, IsReplied};
 ghost use Rattle.association_session.specs.Projections.{IsFront};
 ghost use Rattle.association_session.specs.Response.{Awaited, IsResponse};
+ghost use Rattle.association_session.specs.Selected.{ResponsesAddUp, StartsWithAll, UnsentKeepsAll, SentKeepsAll, PerformedKeepsAll, CancelKeepsAll, CancelEnds};
+ghost use Rattle.association_session.specs.SubOperation.{SubOperation};
 ghost use Rattle.association_session.specs.Row.{Within};
 ghost use Rattle.association_session.specs.Talks.{Heard, Talks};
 ghost use Rattle.archive_model.specs.declared.view.View.{View};
@@ -22,47 +24,68 @@ pub fn each_request_has_a_response()
 
 /// What was heard and what was replied leave one list of deeds.
 pub fn there_is_one_list_of_deeds()
-    ensures { (titles : List (Title View)) (w : Within) (heard : List Heard)
-        (replies : List Reply) (a b : List Deed) →
-        Talks titles w heard replies a → Talks titles w heard replies b → a ≡ b }
+    ensures { (titles : List (Title View)) (w : Within) (sub : Option SubOperation)
+        (heard : List Heard) (replies : List Reply) (a b : List Deed) →
+        Talks titles w sub heard replies a → Talks titles w sub heard replies b → a ≡ b }
 {}
 
 /// Whatever is heard or replied later only adds deeds.
 pub fn more_is_only_added()
-    ensures { (titles : List (Title View)) (w : Within) (heard more : List Heard)
-        (replies others : List Reply) (a b : List Deed) → Talks titles w heard replies a →
-        Talks titles w (heard ++ more) (replies ++ others) b → IsFront a b }
+    ensures { (titles : List (Title View)) (w : Within) (sub : Option SubOperation)
+        (heard more : List Heard) (replies others : List Reply) (a b : List Deed) →
+        Talks titles w sub heard replies a →
+        Talks titles w sub (heard ++ more) (replies ++ others) b → IsFront a b }
 {}
 
 /// Nothing is asked of the port but while the association is established; once goodbye was said
 /// nothing is sent but an A-ABORT; and once the connection is closed nothing is done.
 pub fn nothing_is_asked_after_goodbye()
-    ensures { (titles : List (Title View)) (w : Within) (heard : List Heard)
-        (replies : List Reply) (deeds : List Deed) →
-        Talks titles w heard replies deeds → IsOrderly w.state deeds }
+    ensures { (titles : List (Title View)) (w : Within) (sub : Option SubOperation)
+        (heard : List Heard) (replies : List Reply) (deeds : List Deed) →
+        Talks titles w sub heard replies deeds → IsOrderly w.state deeds }
 {}
 
 /// Behind a call of the port nothing is done before its reply: so no response to a store is sent
 /// that was not asked and replied.
 pub fn a_response_stands_behind_its_call()
-    ensures { (titles : List (Title View)) (w : Within) (heard : List Heard)
-        (replies : List Reply) (deeds : List Deed) →
-        Talks titles w heard replies deeds → IsReplied replies deeds }
+    ensures { (titles : List (Title View)) (w : Within) (sub : Option SubOperation)
+        (heard : List Heard) (replies : List Reply) (deeds : List Deed) →
+        Talks titles w sub heard replies deeds → IsReplied replies deeds }
 {}
 
-/// Each request that was heard has one final response, in order, behind those with its rows, and no
-/// other P-DATA-TF is sent; where a call has no reply yet, each request but the one that awaits it.
+/// Each request that was heard has one last response, in order, behind its pending ones and the
+/// sub-operations that it brings, and no other P-DATA-TF is sent. Only the last of them may have
+/// none: where its call has no reply yet, and a C-GET whose sub-operations go on, or whose
+/// association ended before.
 pub fn each_request_has_one_response()
     ensures { (titles : List (Title View)) (w : Within) (heard : List Heard)
-        (replies : List Reply) (deeds : List Deed) →
-        Talks titles w heard replies deeds → HasResponses titles w heard deeds }
+        (replies : List Reply) (deeds : List Deed) → Talks titles w None heard replies deeds →
+        HasResponses titles w None heard replies deeds }
 {}
 
 /// Behind each call for a query stand its answers, and nothing between: a response for each row,
 /// each with FF01H where a key of the query is not supported and else with FF00H, one response
 /// behind them, and then the gate.
 pub fn no_row_of_a_partial_query_is_a_full_one()
-    ensures { (titles : List (Title View)) (w : Within) (heard : List Heard)
-        (replies : List Reply) (deeds : List Deed) →
-        Talks titles w heard replies deeds → AreAnswered deeds }
+    ensures { (titles : List (Title View)) (w : Within) (sub : Option SubOperation)
+        (heard : List Heard) (replies : List Reply) (deeds : List Deed) →
+        Talks titles w sub heard replies deeds → AreAnswered deeds }
+{}
+
+/// In each response to a C-GET that tells how many sub-operations remain, these and the completed,
+/// failed and warning ones are all that were selected: what the port replied, which stay as many
+/// whatever becomes of each.
+pub fn counts_of_a_get_add_up()
+    ensures responses { ResponsesAddUp }
+    ensures start { StartsWithAll }
+    ensures unsent { UnsentKeepsAll }
+    ensures sent { SentKeepsAll }
+    ensures performed { PerformedKeepsAll }
+    ensures cancel { CancelKeepsAll }
+{}
+
+/// Once the C-CANCEL of a C-GET was heard no sub-operation is begun: behind the response that is
+/// awaited stands the last response.
+pub fn a_cancelled_get_begins_no_more()
+    ensures { CancelEnds }
 {}

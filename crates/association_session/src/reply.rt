@@ -6,9 +6,10 @@ ghost use Rattle.association_session.specs.Reply.{number_of};
 use octets::ListOf;
 use operation::Taken;
 use query_model::Answer;
+use retrieve_model::Prepared;
 use thiserror::Error;
 
-/// Why a port took no content, or found no rows.
+/// Why a port took no content, or found no rows or instances.
 #[derive(Clone, Copy, Debug, PartialEq, Eq, Error)]
 pub enum PortFault {
     /// Memory was refused: a content may have been taken or not.
@@ -46,4 +47,6 @@ pub enum Reply {
     Stored(Result<Taken, PortFault>),
     /// To a find: the rows.
     Found(Result<ListOf<Answer>, PortFault>),
+    /// To a get: what is to be sent, by ascending SOP Instance UID.
+    Gotten(Result<ListOf<Prepared>, PortFault>),
 }

@@ -6,13 +6,15 @@ ghost use Rattle.association_session.specs.Context.{context_in};
 ghost use Rattle.association_session.specs.Service.{kind_of, unknown_status, ServesOn, ServesKind};
 
 use crate::context::{context_with, is_of_other_class};
-use crate::deed::Finding;
+use crate::deed::{Finding, Getting};
 use crate::due::RowKind;
 use crate::echo::status_of_echo;
 use crate::find::serve_find;
+use crate::get::serve_get;
 use crate::store::serve_store;
 use archive_model::View;
 use bytes::Bytes;
+use data_set::Syntax;
 use dimse::{Command, Status};
 use operation::Content;
 use pdu::Context;
@@ -46,6 +48,9 @@ pub(crate) enum Service {
     Asked(Content),
     /// The rows of the port's reply, which is asked this, and then a response.
     Queried(Finding, RowKind),
+    /// The sub-operations of what the port replies, which is asked this, and then a response; in
+    /// this transfer syntax.
+    Fetched(Getting, Syntax),
 }
 
 fn kind_for(field: u16) -> Kind
@@ -87,8 +92,7 @@ fn serve_on(
         Kind::Response => Ok(Service::Broken),
         Kind::Cancel => Ok(Service::Ignored),
         Kind::Find => serve_find(alloc, settled, context, command, body),
-        // Until it is served (docs/DECISIONS.md, "What a message is answered").
-        Kind::Get => Ok(Service::Responded(Status::UnrecognizedOperation)),
+        Kind::Get => serve_get(alloc, settled, context, command, body),
         Kind::Echo => Ok(Service::Responded(status_of_echo(context, command))),
         Kind::Store => serve_store(alloc, context, command, body),
         Kind::Unknown => Ok(Service::Responded(status_of_unknown(context, command))),

@@ -2,6 +2,7 @@
 
 ghost use Rattle.std.specs.Prelude.{[], None};
 
+use crate::titles::titles;
 use archive_model::View;
 use association_run::{End, Gate, OpenGate, Port, RunFault, run_association};
 use association_session::{Moment, PortFault};
@@ -10,113 +11,34 @@ use devices::{Store, Supply};
 use octets::{ListOf, Octets};
 use operation::{Content, Taken};
 use query_model::{Answer, Query};
+use retrieve_model::{Prepared, Selection};
+use sample_bytes::{
+    ACCEPTED, ECHO, ECHOED, IMAGE, NAMED_USER, OPENING, RELEASE, RELEASED, STORAGE, STORE,
+    STORED_PDU, VERIFICATION, data, joined, pdu,
+};
 use std::alloc::{AllocError, Global};
 use std::process::Abort;
 use std::test::Fail;
-use ul_state::{Title, Titles};
 
-const OPENING: &[u8] = b"\x00\x01\x00\x00ARCHIVE         SCU1            \
-    \0\0\0\0\0\0\0\0\0\0\0\0\0\0\0\0\0\0\0\0\0\0\0\0\0\0\0\0\0\0\0\0\
-    \x10\x00\x00\x151.2.840.10008.3.1.1.1";
-
-// The same for another called title.
+// The opening for another called title.
 const FOR_NOBODY: &[u8] = b"\x00\x01\x00\x00NOBODY          SCU1            \
     \0\0\0\0\0\0\0\0\0\0\0\0\0\0\0\0\0\0\0\0\0\0\0\0\0\0\0\0\0\0\0\0\
     \x10\x00\x00\x151.2.840.10008.3.1.1.1";
 
-// Verification on context 1, with the implicit syntax.
-const VERIFICATION: &[u8] = b"\x20\x00\x00\x2e\x01\x00\x00\x00\
-    \x30\x00\x00\x111.2.840.10008.1.1\
-    \x40\x00\x00\x111.2.840.10008.1.2";
-
-// CT Image Storage on context 1, with the implicit syntax.
-const STORAGE: &[u8] = b"\x20\x00\x00\x36\x01\x00\x00\x00\
-    \x30\x00\x00\x191.2.840.10008.5.1.4.1.1.2\
-    \x40\x00\x00\x111.2.840.10008.1.2";
-
-// The peer takes at most 16,384 bytes; at most 7; at most 8.
-const USER: &[u8] = b"\x50\x00\x00\x11\x51\x00\x00\x04\x00\x00\x40\x00\x52\x00\x00\x051.2.3";
-
+// The peer takes at most 7 bytes; at most 8.
 const SEVEN: &[u8] = b"\x50\x00\x00\x08\x51\x00\x00\x04\x00\x00\x00\x07";
 
 const EIGHT: &[u8] = b"\x50\x00\x00\x08\x51\x00\x00\x04\x00\x00\x00\x08";
 
-// What the acceptance says behind the opening.
-const ACCEPTED: &[u8] = b"\x21\x00\x00\x19\x01\x00\x00\x00\x40\x00\x00\x111.2.840.10008.1.2\
-    \x50\x00\x00\x17\x51\x00\x00\x04\x00\x01\x00\x00\x52\x00\x00\x0b2.25.113001";
-
-const RELEASE: &[u8] = b"\x05\x00\x00\x00\x00\x04\x00\x00\x00\x00";
-
-const RELEASED: &[u8] = b"\x06\x00\x00\x00\x00\x04\x00\x00\x00\x00";
-
 // A-ABORT of the provider for an unknown PDU.
 const UNKNOWN: &[u8] = b"\x07\x00\x00\x00\x00\x04\x00\x00\x02\x01";
-
-// A C-ECHO request, message ID 1, and the command set of its response.
-const ECHO: &[u8] = b"\x00\x00\x00\x00\x04\x00\x00\x00\x38\x00\x00\x00\
-    \x00\x00\x02\x00\x12\x00\x00\x001.2.840.10008.1.1\x00\
-    \x00\x00\x00\x01\x02\x00\x00\x00\x30\x00\x00\x00\x10\x01\x02\x00\x00\x00\x01\x00\
-    \x00\x00\x00\x08\x02\x00\x00\x00\x01\x01";
-
-const ECHOED: &[u8] = b"\x00\x00\x00\x00\x04\x00\x00\x00\x42\x00\x00\x00\
-    \x00\x00\x02\x00\x12\x00\x00\x001.2.840.10008.1.1\x00\
-    \x00\x00\x00\x01\x02\x00\x00\x00\x30\x80\x00\x00\x20\x01\x02\x00\x00\x00\x01\x00\
-    \x00\x00\x00\x08\x02\x00\x00\x00\x01\x01\x00\x00\x00\x09\x02\x00\x00\x00\x00\x00";
-
-// A C-STORE request of a CT image, message ID 2, its data set, and the response.
-const STORE: &[u8] = b"\x00\x00\x00\x00\x04\x00\x00\x00\x5c\x00\x00\x00\
-    \x00\x00\x02\x00\x1a\x00\x00\x001.2.840.10008.5.1.4.1.1.2\x00\
-    \x00\x00\x00\x01\x02\x00\x00\x00\x01\x00\x00\x00\x10\x01\x02\x00\x00\x00\x02\x00\
-    \x00\x00\x00\x07\x02\x00\x00\x00\x00\x00\x00\x00\x00\x08\x02\x00\x00\x00\x00\x00\
-    \x00\x00\x00\x10\x0a\x00\x00\x001.2.1.1.1\x00";
-
-const IMAGE: &[u8] = b"\x08\x00\x16\x00\x1a\x00\x00\x001.2.840.10008.5.1.4.1.1.2\x00\
-    \x08\x00\x18\x00\x0a\x00\x00\x001.2.1.1.1\x00\
-    \x08\x00\x60\x00\x02\x00\x00\x00CT\
-    \x10\x00\x10\x00\x08\x00\x00\x00DOE^JANE\
-    \x10\x00\x20\x00\x02\x00\x00\x00P1\
-    \x20\x00\x0d\x00\x06\x00\x00\x001.2.1\x00\
-    \x20\x00\x0e\x00\x08\x00\x00\x001.2.1.1\x00";
-
-const STORED: &[u8] = b"\x04\x00\x00\x00\x00\x6e\x00\x00\x00\x6a\x01\x03\
-    \x00\x00\x00\x00\x04\x00\x00\x00\x5c\x00\x00\x00\
-    \x00\x00\x02\x00\x1a\x00\x00\x001.2.840.10008.5.1.4.1.1.2\x00\
-    \x00\x00\x00\x01\x02\x00\x00\x00\x01\x80\x00\x00\x20\x01\x02\x00\x00\x00\x02\x00\
-    \x00\x00\x00\x08\x02\x00\x00\x00\x01\x01\x00\x00\x00\x09\x02\x00\x00\x00\x00\x00\
-    \x00\x00\x00\x10\x0a\x00\x00\x001.2.1.1.1\x00";
 
 // The reads give so many bytes at most.
 const CUTS: [usize; 3] = [1_000_000, 1, 7];
 
-fn joined(alloc: Global, parts: &[&[u8]]) -> Result<Vec<u8>, AllocError> {
-    let mut out = Vec::new(alloc);
-    for part in parts {
-        out.extend_from_slice(part)?;
-    }
-    Ok(out)
-}
-
-/// A PDU of this type with this body.
-fn pdu(alloc: Global, code: u8, body: &[&[u8]]) -> Result<Vec<u8>, AllocError> {
-    let body = joined(alloc, body)?;
-    let [_, _, _, _, a, b, c, d] = (body.len() as u64).to_be_bytes();
-    joined(alloc, &[&[code, 0, a, b, c, d], body.as_slice()])
-}
-
 /// A P-DATA-TF with one value on context 1.
-fn data(alloc: Global, control: u8, fragment: &[u8]) -> Result<Vec<u8>, AllocError> {
-    let [_, _, _, _, a, b, c, d] = (fragment.len() as u64).saturating_add(2).to_be_bytes();
-    pdu(alloc, 4, &[&[a, b, c, d, 1, control], fragment])
-}
-
-fn titles(alloc: Global) -> Result<Titles<View>, AllocError> {
-    let mut list = ListOf::new(alloc);
-    let title = Octets::from_slice(alloc, b"ARCHIVE")?;
-    list.push(Title {
-        title,
-        value: View::Archive,
-    })?;
-    Ok(Titles { list })
+fn value(alloc: Global, control: u8, fragment: &[u8]) -> Result<Vec<u8>, AllocError> {
+    data(alloc, 1, control, &[fragment])
 }
 
 /// A gate that counts.
@@ -133,7 +55,7 @@ impl Gate for Counter {
     }
 }
 
-/// A port that takes nothing.
+/// A port that holds nothing and takes nothing.
 #[derive(Drop)]
 struct Refuser {
     fault: PortFault,
@@ -148,8 +70,7 @@ impl Port for Refuser {
         match self.fault {
             PortFault::Memory => Err(PortFault::Memory),
             PortFault::Busy => Err(PortFault::Busy),
-            PortFault::Collision => Err(PortFault::Collision),
-            PortFault::Shelf => Err(PortFault::Shelf),
+            PortFault::Collision | PortFault::Shelf => Err(PortFault::Shelf),
         }
     }
 
@@ -159,6 +80,13 @@ impl Port for Refuser {
         _view: View,
         _query: &Query,
     ) -> Result<ListOf<Answer>, PortFault> {
+        match self.fault {
+            PortFault::Busy => Err(PortFault::Busy),
+            _ => Err(PortFault::Memory),
+        }
+    }
+
+    fn get(&mut self, _view: View, _selection: &Selection) -> Result<ListOf<Prepared>, PortFault> {
         match self.fault {
             PortFault::Busy => Err(PortFault::Busy),
             _ => Err(PortFault::Memory),
@@ -231,7 +159,7 @@ fn answers(
 
 /// A request for verification.
 fn request(alloc: Global) -> Result<Vec<u8>, AllocError> {
-    pdu(alloc, 1, &[OPENING, VERIFICATION, USER])
+    pdu(alloc, 1, &[OPENING, VERIFICATION, NAMED_USER])
 }
 
 /// Its acceptance.
@@ -242,14 +170,14 @@ fn acceptance(alloc: Global) -> Result<Vec<u8>, AllocError> {
 /// A request, a C-ECHO and a release: 260 bytes.
 fn echo_in(alloc: Global) -> Result<Vec<u8>, AllocError> {
     let request = request(alloc)?;
-    let echo = data(alloc, 3, ECHO)?;
+    let echo = value(alloc, 3, ECHO)?;
     joined(alloc, &[request.as_slice(), echo.as_slice(), RELEASE])
 }
 
 /// What answers them: 255 bytes.
 fn echo_out(alloc: Global) -> Result<Vec<u8>, AllocError> {
     let acceptance = acceptance(alloc)?;
-    let echo = data(alloc, 3, ECHOED)?;
+    let echo = value(alloc, 3, ECHOED)?;
     joined(alloc, &[acceptance.as_slice(), echo.as_slice(), RELEASED])
 }
 
@@ -270,7 +198,7 @@ fn an_echo_is_answered_and_released(rt: HostRuntime) -> Result<(), Fail> {
 
 #[test]
 fn an_unknown_called_title_is_rejected(rt: HostRuntime) -> Result<(), Fail> {
-    let input = pdu(rt.alloc(), 1, &[FOR_NOBODY, VERIFICATION, USER])?;
+    let input = pdu(rt.alloc(), 1, &[FOR_NOBODY, VERIFICATION, NAMED_USER])?;
     let wanted = b"\x03\x00\x00\x00\x00\x04\x00\x01\x01\x07";
     answers(&rt, rt.alloc(), input.as_slice(), wanted, End::Closed)
 }
@@ -294,7 +222,7 @@ fn between(text: &[u8], from: usize, to: usize) -> &[u8] {
 fn put_narrow(alloc: Global, out: &mut Vec<u8>) -> Result<(), AllocError> {
     for at in 0..39usize {
         let control = if at == 38 { 3 } else { 1 };
-        let pdu = data(alloc, control, between(ECHOED, 2 * at, 2 * at + 2))?;
+        let pdu = value(alloc, control, between(ECHOED, 2 * at, 2 * at + 2))?;
         out.extend_from_slice(pdu.as_slice())?;
     }
     Ok(())
@@ -309,7 +237,7 @@ fn narrow_out(alloc: Global) -> Result<Vec<u8>, AllocError> {
 
 fn narrow_in(alloc: Global) -> Result<Vec<u8>, AllocError> {
     let request = pdu(alloc, 1, &[OPENING, VERIFICATION, EIGHT])?;
-    let echo = data(alloc, 3, ECHO)?;
+    let echo = value(alloc, 3, ECHO)?;
     joined(alloc, &[request.as_slice(), echo.as_slice()])
 }
 
@@ -386,10 +314,10 @@ fn behind_a_malformed_body_nothing_is_cut(rt: HostRuntime) -> Result<(), Fail> {
 
 /// A C-STORE whose data set comes in three values.
 fn store_in(alloc: Global) -> Result<Vec<u8>, AllocError> {
-    let request = pdu(alloc, 1, &[OPENING, STORAGE, USER])?;
-    let store = data(alloc, 3, STORE)?;
-    let first = data(alloc, 0, &IMAGE[..50])?;
-    let second = data(alloc, 0, &IMAGE[50..])?;
+    let request = pdu(alloc, 1, &[OPENING, STORAGE, NAMED_USER])?;
+    let store = value(alloc, 3, STORE)?;
+    let first = value(alloc, 0, &IMAGE[..50])?;
+    let second = value(alloc, 0, &IMAGE[50..])?;
     let last = b"\x04\x00\x00\x00\x00\x06\x00\x00\x00\x02\x01\x02";
     joined(
         alloc,
@@ -405,9 +333,9 @@ fn store_in(alloc: Global) -> Result<Vec<u8>, AllocError> {
 
 /// The response to it, with this status.
 fn stored(alloc: Global, status: [u8; 2]) -> Result<Vec<u8>, AllocError> {
-    let mut out = Vec::from_slice(alloc, &STORED[..96])?;
+    let mut out = Vec::from_slice(alloc, &STORED_PDU[..96])?;
     out.extend_from_slice(&status)?;
-    out.extend_from_slice(&STORED[98..])?;
+    out.extend_from_slice(&STORED_PDU[98..])?;
     Ok(out)
 }
 
@@ -472,7 +400,6 @@ fn a_refusal_of_the_port_has_its_status(rt: HostRuntime) -> Result<(), Fail> {
     let rows = [
         (PortFault::Memory, [0x00, 0xA7]),
         (PortFault::Busy, [0x00, 0xA7]),
-        (PortFault::Collision, [0x00, 0xC0]),
         (PortFault::Shelf, [0x00, 0xA7]),
     ];
     for (fault, status) in rows {

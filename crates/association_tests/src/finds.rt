@@ -1,18 +1,14 @@
 //! Associations that query, over devices in memory.
 
-use archive_model::View;
+use crate::titles::titles;
 use association_run::{End, OpenGate, run_association};
 use association_worker::*;
 use devices::{Store, Supply};
-use octets::{ListOf, Octets};
+use octets::Octets;
+use sample_bytes::{IMAGE, OPENING, RELEASE, RELEASED, STORE, STORED, USER, joined, pdu};
 use std::alloc::{AllocError, Global};
 use std::process::Abort;
 use std::test::Fail;
-use ul_state::{Title, Titles};
-
-const OPENING: &[u8] = b"\x00\x01\x00\x00ARCHIVE         SCU1            \
-    \0\0\0\0\0\0\0\0\0\0\0\0\0\0\0\0\0\0\0\0\0\0\0\0\0\0\0\0\0\0\0\0\
-    \x10\x00\x00\x151.2.840.10008.3.1.1.1";
 
 // CT Image Storage on context 1 and Study Root FIND on context 3 with the implicit syntax, Study
 // Root FIND on context 5 with the explicit one, Study Root GET on context 7.
@@ -29,9 +25,6 @@ const CONTEXTS: &[u8] = b"\x20\x00\x00\x36\x01\x00\x00\x00\
     \x30\x00\x00\x1b1.2.840.10008.5.1.4.1.2.2.3\
     \x40\x00\x00\x111.2.840.10008.1.2";
 
-// The peer takes at most 16,384 bytes.
-const USER: &[u8] = b"\x50\x00\x00\x08\x51\x00\x00\x04\x00\x00\x40\x00";
-
 // The peer takes at most 8 bytes: fragments of 2.
 const NARROW: &[u8] = b"\x50\x00\x00\x08\x51\x00\x00\x04\x00\x00\x00\x08";
 
@@ -40,31 +33,6 @@ const ACCEPTED: &[u8] = b"\x21\x00\x00\x19\x01\x00\x00\x00\x40\x00\x00\x111.2.84
     \x21\x00\x00\x1b\x05\x00\x00\x00\x40\x00\x00\x131.2.840.10008.1.2.1\
     \x21\x00\x00\x19\x07\x00\x00\x00\x40\x00\x00\x111.2.840.10008.1.2\
     \x50\x00\x00\x17\x51\x00\x00\x04\x00\x01\x00\x00\x52\x00\x00\x0b2.25.113001";
-
-const RELEASE: &[u8] = b"\x05\x00\x00\x00\x00\x04\x00\x00\x00\x00";
-
-const RELEASED: &[u8] = b"\x06\x00\x00\x00\x00\x04\x00\x00\x00\x00";
-
-// A C-STORE request of a CT image, message ID 2, its data set, and the response.
-const STORE: &[u8] = b"\x00\x00\x00\x00\x04\x00\x00\x00\x5c\x00\x00\x00\
-    \x00\x00\x02\x00\x1a\x00\x00\x001.2.840.10008.5.1.4.1.1.2\x00\
-    \x00\x00\x00\x01\x02\x00\x00\x00\x01\x00\x00\x00\x10\x01\x02\x00\x00\x00\x02\x00\
-    \x00\x00\x00\x07\x02\x00\x00\x00\x00\x00\x00\x00\x00\x08\x02\x00\x00\x00\x00\x00\
-    \x00\x00\x00\x10\x0a\x00\x00\x001.2.1.1.1\x00";
-
-const IMAGE: &[u8] = b"\x08\x00\x16\x00\x1a\x00\x00\x001.2.840.10008.5.1.4.1.1.2\x00\
-    \x08\x00\x18\x00\x0a\x00\x00\x001.2.1.1.1\x00\
-    \x08\x00\x60\x00\x02\x00\x00\x00CT\
-    \x10\x00\x10\x00\x08\x00\x00\x00DOE^JANE\
-    \x10\x00\x20\x00\x02\x00\x00\x00P1\
-    \x20\x00\x0d\x00\x06\x00\x00\x001.2.1\x00\
-    \x20\x00\x0e\x00\x08\x00\x00\x001.2.1.1\x00";
-
-const STORED: &[u8] = b"\x00\x00\x00\x00\x04\x00\x00\x00\x5c\x00\x00\x00\
-    \x00\x00\x02\x00\x1a\x00\x00\x001.2.840.10008.5.1.4.1.1.2\x00\
-    \x00\x00\x00\x01\x02\x00\x00\x00\x01\x80\x00\x00\x20\x01\x02\x00\x00\x00\x02\x00\
-    \x00\x00\x00\x08\x02\x00\x00\x00\x01\x01\x00\x00\x00\x09\x02\x00\x00\x00\x00\x00\
-    \x00\x00\x00\x10\x0a\x00\x00\x001.2.1.1.1\x00";
 
 const FIND: &[u8] = b"1.2.840.10008.5.1.4.1.2.2.1\x00";
 
@@ -108,21 +76,6 @@ const NOBODY: &[u8] = b"\x08\x00\x52\x00\x06\x00\x00\x00STUDY \
 const AT_NO_LEVEL: &[u8] = b"\x08\x00\x52\x00\x04\x00\x00\x00ROOM";
 
 const CUT_SHORT: &[u8] = b"\x08\x00\x52\x00\x06\x00\x00\x00STUD";
-
-fn joined(alloc: Global, parts: &[&[u8]]) -> Result<Vec<u8>, AllocError> {
-    let mut out = Vec::new(alloc);
-    for part in parts {
-        out.extend_from_slice(part)?;
-    }
-    Ok(out)
-}
-
-/// A PDU of this type with this body.
-fn pdu(alloc: Global, code: u8, body: &[&[u8]]) -> Result<Vec<u8>, AllocError> {
-    let body = joined(alloc, body)?;
-    let [_, _, _, _, a, b, c, d] = (body.len() as u64).to_be_bytes();
-    joined(alloc, &[&[code, 0, a, b, c, d], body.as_slice()])
-}
 
 /// Puts a text in P-DATA-TFs of one value each, with fragments of this size.
 fn put_text(
@@ -226,16 +179,6 @@ fn put_response(
         put_text(alloc, out, asked.context, 0, row, size)?;
     }
     Ok(())
-}
-
-fn titles(alloc: Global) -> Result<Titles<View>, AllocError> {
-    let mut list = ListOf::new(alloc);
-    let title = Octets::from_slice(alloc, b"ARCHIVE")?;
-    list.push(Title {
-        title,
-        value: View::Archive,
-    })?;
-    Ok(Titles { list })
 }
 
 /// However the reads are cut, these bytes are answered by those.

@@ -8,4 +8,8 @@ mod associations;
 #[cfg(test)]
 mod finds;
 #[cfg(test)]
+mod gets;
+#[cfg(test)]
 mod sessions;
+#[cfg(test)]
+mod titles;

@@ -3,24 +3,18 @@
 ghost use Rattle.std.specs.Prelude.{IfOk};
 ghost use Rattle.association_session.specs.Session.{IsSound, IsWritable};
 
-use archive_model::View;
+use crate::titles::titles;
 use association_session::*;
-use octets::{ListOf, Octets};
 use operation::Taken;
 use pdu::{Pdu, Step, read_pdu, write_pdu};
+use sample_bytes::{
+    ACCEPTED, ECHO, IMAGE, NAMED_USER, OPENING, RELEASE, RELEASED, STORE, STORED_PDU, VERIFICATION,
+    joined, pdu,
+};
 use std::alloc::{AllocError, Global};
 use std::process::Abort;
 use std::test::Fail;
-use ul_state::{Event, State, Title, Titles};
-
-const OPENING: &[u8] = b"\x00\x01\x00\x00ARCHIVE         SCU1            \
-    \0\0\0\0\0\0\0\0\0\0\0\0\0\0\0\0\0\0\0\0\0\0\0\0\0\0\0\0\0\0\0\0\
-    \x10\x00\x00\x151.2.840.10008.3.1.1.1";
-
-// Verification on context 1, with the implicit syntax.
-const VERIFICATION: &[u8] = b"\x20\x00\x00\x2e\x01\x00\x00\x00\
-    \x30\x00\x00\x111.2.840.10008.1.1\
-    \x40\x00\x00\x111.2.840.10008.1.2";
+use ul_state::{Event, State};
 
 // CT Image Storage on context 1, with the implicit syntax; Verification on context 3.
 const STORAGE: &[u8] = b"\x20\x00\x00\x36\x01\x00\x00\x00\
@@ -30,28 +24,11 @@ const STORAGE: &[u8] = b"\x20\x00\x00\x36\x01\x00\x00\x00\
     \x30\x00\x00\x111.2.840.10008.1.1\
     \x40\x00\x00\x111.2.840.10008.1.2";
 
-// The peer takes at most 16,384 bytes.
-const USER: &[u8] = b"\x50\x00\x00\x11\x51\x00\x00\x04\x00\x00\x40\x00\x52\x00\x00\x051.2.3";
-
 // The peer takes at most 20 bytes.
 const NARROW: &[u8] = b"\x50\x00\x00\x08\x51\x00\x00\x04\x00\x00\x00\x14";
 
-// What the acceptance says behind the opening.
-const ACCEPTED: &[u8] = b"\x21\x00\x00\x19\x01\x00\x00\x00\x40\x00\x00\x111.2.840.10008.1.2\
-    \x50\x00\x00\x17\x51\x00\x00\x04\x00\x01\x00\x00\x52\x00\x00\x0b2.25.113001";
-
-const RELEASE: &[u8] = b"\x05\x00\x00\x00\x00\x04\x00\x00\x00\x00";
-
-const RELEASED: &[u8] = b"\x06\x00\x00\x00\x00\x04\x00\x00\x00\x00";
-
 // A-ABORT of the user.
 const ABORT: &[u8] = b"\x07\x00\x00\x00\x00\x04\x00\x00\x00\x00";
-
-// A C-ECHO request, message ID 1, and its response.
-const ECHO: &[u8] = b"\x00\x00\x00\x00\x04\x00\x00\x00\x38\x00\x00\x00\
-    \x00\x00\x02\x00\x12\x00\x00\x001.2.840.10008.1.1\x00\
-    \x00\x00\x00\x01\x02\x00\x00\x00\x30\x00\x00\x00\x10\x01\x02\x00\x00\x00\x01\x00\
-    \x00\x00\x00\x08\x02\x00\x00\x00\x01\x01";
 
 const ECHOED: &[u8] = b"\x04\x00\x00\x00\x00\x54\x00\x00\x00\x50\x01\x03\
     \x00\x00\x00\x00\x04\x00\x00\x00\x42\x00\x00\x00\
@@ -59,49 +36,12 @@ const ECHOED: &[u8] = b"\x04\x00\x00\x00\x00\x54\x00\x00\x00\x50\x01\x03\
     \x00\x00\x00\x01\x02\x00\x00\x00\x30\x80\x00\x00\x20\x01\x02\x00\x00\x00\x01\x00\
     \x00\x00\x00\x08\x02\x00\x00\x00\x01\x01\x00\x00\x00\x09\x02\x00\x00\x00\x00\x00";
 
-// A C-STORE request of a CT image, message ID 2, its data set, and its response.
-const STORE: &[u8] = b"\x00\x00\x00\x00\x04\x00\x00\x00\x5c\x00\x00\x00\
-    \x00\x00\x02\x00\x1a\x00\x00\x001.2.840.10008.5.1.4.1.1.2\x00\
-    \x00\x00\x00\x01\x02\x00\x00\x00\x01\x00\x00\x00\x10\x01\x02\x00\x00\x00\x02\x00\
-    \x00\x00\x00\x07\x02\x00\x00\x00\x00\x00\x00\x00\x00\x08\x02\x00\x00\x00\x00\x00\
-    \x00\x00\x00\x10\x0a\x00\x00\x001.2.1.1.1\x00";
-
-const IMAGE: &[u8] = b"\x08\x00\x16\x00\x1a\x00\x00\x001.2.840.10008.5.1.4.1.1.2\x00\
-    \x08\x00\x18\x00\x0a\x00\x00\x001.2.1.1.1\x00\
-    \x08\x00\x60\x00\x02\x00\x00\x00CT\
-    \x10\x00\x10\x00\x08\x00\x00\x00DOE^JANE\
-    \x10\x00\x20\x00\x02\x00\x00\x00P1\
-    \x20\x00\x0d\x00\x06\x00\x00\x001.2.1\x00\
-    \x20\x00\x0e\x00\x08\x00\x00\x001.2.1.1\x00";
-
-const STORED: &[u8] = b"\x04\x00\x00\x00\x00\x6e\x00\x00\x00\x6a\x01\x03\
-    \x00\x00\x00\x00\x04\x00\x00\x00\x5c\x00\x00\x00\
-    \x00\x00\x02\x00\x1a\x00\x00\x001.2.840.10008.5.1.4.1.1.2\x00\
-    \x00\x00\x00\x01\x02\x00\x00\x00\x01\x80\x00\x00\x20\x01\x02\x00\x00\x00\x02\x00\
-    \x00\x00\x00\x08\x02\x00\x00\x00\x01\x01\x00\x00\x00\x09\x02\x00\x00\x00\x00\x00\
-    \x00\x00\x00\x10\x0a\x00\x00\x001.2.1.1.1\x00";
-
 // What is asked for the image, before its bytes.
 const ASKED: &[u8] = b"gate store 1.2.1.1.1";
 
 const CT: &[u8] = b"1.2.840.10008.5.1.4.1.1.2\x00";
 
 const ECHO_CLASS: &[u8] = b"1.2.840.10008.1.1\x00";
-
-fn joined(alloc: Global, parts: &[&[u8]]) -> Result<Vec<u8>, AllocError> {
-    let mut out = Vec::new(alloc);
-    for part in parts {
-        out.extend_from_slice(part)?;
-    }
-    Ok(out)
-}
-
-/// A PDU of this type with this body.
-fn pdu(alloc: Global, code: u8, body: &[&[u8]]) -> Result<Vec<u8>, AllocError> {
-    let body = joined(alloc, body)?;
-    let [_, _, _, _, a, b, c, d] = (body.len() as u64).to_be_bytes();
-    joined(alloc, &[&[code, 0, a, b, c, d], body.as_slice()])
-}
 
 type Stored = Result<Taken, PortFault>;
 
@@ -117,16 +57,6 @@ fn data(alloc: Global, values: &[Value<'_>]) -> Result<Vec<u8>, AllocError> {
         body.extend_from_slice(fragment)?;
     }
     pdu(alloc, 4, &[body.as_slice()])
-}
-
-fn titles(alloc: Global) -> Result<Titles<View>, AllocError> {
-    let mut list = ListOf::new(alloc);
-    let title = Octets::from_slice(alloc, b"ARCHIVE")?;
-    list.push(Title {
-        title,
-        value: View::Archive,
-    })?;
-    Ok(Titles { list })
 }
 
 /// The event of these bytes.
@@ -152,6 +82,7 @@ fn told_by(alloc: Global, deed: &Deed) -> Result<Vec<u8>, AllocError>
             &[b"store ", content.instance(), content.body().as_slice()],
         ),
         Deed::Ask(Call::Find(finding)) => { joined(alloc, &[b"find ", finding.called.as_slice()]) }
+        Deed::Ask(Call::Get(_)) => joined(alloc, &[b"get "]),
     }
 }
 
@@ -267,7 +198,7 @@ fn resumes(
 fn an_association_is_accepted(rt: HostRuntime) -> Result<(), Fail> {
     let mut session = Session::new(rt.alloc());
     assert_eq!(rt; session.state(), State::Sta2, "a request is awaited");
-    let request = pdu(rt.alloc(), 1, &[OPENING, VERIFICATION, USER])?;
+    let request = pdu(rt.alloc(), 1, &[OPENING, VERIFICATION, NAMED_USER])?;
     let wanted: [&[u8]; 3] = [b"\x02\x00\x00\x00\x00\x95", OPENING, ACCEPTED];
     hears(
         &rt,
@@ -283,7 +214,7 @@ fn an_association_is_accepted(rt: HostRuntime) -> Result<(), Fail> {
 
 #[test]
 fn an_echo_is_answered(rt: HostRuntime) -> Result<(), Fail> {
-    let mut session = opened(rt.alloc(), VERIFICATION, USER)?;
+    let mut session = opened(rt.alloc(), VERIFICATION, NAMED_USER)?;
     answers(
         &rt,
         rt.alloc(),
@@ -306,7 +237,7 @@ fn an_echo_is_answered(rt: HostRuntime) -> Result<(), Fail> {
 
 #[test]
 fn a_store_comes_in_fragments(rt: HostRuntime) -> Result<(), Fail> {
-    let mut session = opened(rt.alloc(), STORAGE, USER)?;
+    let mut session = opened(rt.alloc(), STORAGE, NAMED_USER)?;
     fed(&rt, rt.alloc(), &mut session)?;
     let last = b"\x04\x00\x00\x00\x00\x06\x00\x00\x00\x02\x01\x02";
     hears(
@@ -322,7 +253,7 @@ fn a_store_comes_in_fragments(rt: HostRuntime) -> Result<(), Fail> {
         rt.alloc(),
         &mut session,
         Ok(Taken::New),
-        &[STORED],
+        &[STORED_PDU],
         "a success",
     )?;
     Ok(())
@@ -358,7 +289,7 @@ fn fed(rt: &impl Abort, alloc: Global, session: &mut Session) -> Result<(), Fail
 
 /// The status of a C-STORE that the port replied to so.
 fn status_replied(alloc: Global, reply: Stored) -> Result<u16, Fail> {
-    let mut session = opened(alloc, STORAGE, USER)?;
+    let mut session = opened(alloc, STORAGE, NAMED_USER)?;
     said(alloc, &mut session, &[(1, 3, STORE), (1, 2, IMAGE)])?;
     let text = replied(alloc, &mut session, reply)?;
     Ok(status_in(text.as_slice()))
@@ -424,7 +355,7 @@ const UNCLASSED: &[u8] =
 
 /// The status of a request of this class and this field on a context.
 fn status_of(alloc: Global, context: u8, class: &[u8], low: u8, high: u8) -> Result<u16, Fail> {
-    let mut session = opened(alloc, STORAGE, USER)?;
+    let mut session = opened(alloc, STORAGE, NAMED_USER)?;
     let command = command(alloc, class, low, high)?;
     let text = said(alloc, &mut session, &[(context, 3, command.as_slice())])?;
     Ok(status_in(text.as_slice()))
@@ -451,7 +382,7 @@ fn services_are_refused(rt: HostRuntime) -> Result<(), Fail> {
 
 #[test]
 fn a_request_without_a_class_is_answered_without_it(rt: HostRuntime) -> Result<(), Fail> {
-    let mut session = opened(rt.alloc(), STORAGE, USER)?;
+    let mut session = opened(rt.alloc(), STORAGE, NAMED_USER)?;
     let create = b"\x00\x00\x00\x01\x02\x00\x00\x00\x40\x01\
         \x00\x00\x10\x01\x02\x00\x00\x00\x07\x00\x00\x00\x00\x08\x02\x00\x00\x00\x01\x01";
     let wanted = b"\x04\x00\x00\x00\x00\x3a\x00\x00\x00\x36\x01\x03\
@@ -470,7 +401,7 @@ fn a_request_without_a_class_is_answered_without_it(rt: HostRuntime) -> Result<(
 
 /// The status of a C-STORE with this data set.
 fn status_stored(alloc: Global, command: &[&[u8]], body: &[&[u8]]) -> Result<u16, Fail> {
-    let mut session = opened(alloc, STORAGE, USER)?;
+    let mut session = opened(alloc, STORAGE, NAMED_USER)?;
     let command = joined(alloc, command)?;
     let body = joined(alloc, body)?;
     let values = [(1, 3, command.as_slice()), (1, 2, body.as_slice())];
@@ -497,9 +428,9 @@ fn a_store_needs_its_class_and_its_data_set(rt: HostRuntime) -> Result<(), Fail>
 }
 
 fn announces_nothing(rt: &impl Abort, alloc: Global) -> Result<(), Fail> {
-    let mut session = opened(alloc, STORAGE, USER)?;
+    let mut session = opened(alloc, STORAGE, NAMED_USER)?;
     let bare = joined(alloc, &[&STORE[..84], b"\x01\x01", &STORE[86..]])?;
-    let wanted: [&[u8]; 3] = [&STORED[..96], b"\x00\xC0", &STORED[98..]];
+    let wanted: [&[u8]; 3] = [&STORED_PDU[..96], b"\x00\xC0", &STORED_PDU[98..]];
     let values = [(1, 3, bare.as_slice())];
     answers(
         rt,
@@ -513,7 +444,7 @@ fn announces_nothing(rt: &impl Abort, alloc: Global) -> Result<(), Fail> {
 
 #[test]
 fn a_response_that_nobody_awaits_is_an_offence(rt: HostRuntime) -> Result<(), Fail> {
-    let mut session = opened(rt.alloc(), VERIFICATION, USER)?;
+    let mut session = opened(rt.alloc(), VERIFICATION, NAMED_USER)?;
     let values = [(1, 3, &ECHOED[12..]), (1, 3, ECHO)];
     answers(
         &rt,
@@ -530,7 +461,7 @@ fn a_response_that_nobody_awaits_is_an_offence(rt: HostRuntime) -> Result<(), Fa
 
 #[test]
 fn what_stands_before_an_offence_is_answered(rt: HostRuntime) -> Result<(), Fail> {
-    let mut session = opened(rt.alloc(), VERIFICATION, USER)?;
+    let mut session = opened(rt.alloc(), VERIFICATION, NAMED_USER)?;
     let values = [(1, 3, ECHO), (9, 3, ECHO)];
     answers(
         &rt,
@@ -544,7 +475,7 @@ fn what_stands_before_an_offence_is_answered(rt: HostRuntime) -> Result<(), Fail
 
 #[test]
 fn a_cancel_is_passed_over(rt: HostRuntime) -> Result<(), Fail> {
-    let mut session = opened(rt.alloc(), VERIFICATION, USER)?;
+    let mut session = opened(rt.alloc(), VERIFICATION, NAMED_USER)?;
     let cancel = b"\x00\x00\x00\x01\x02\x00\x00\x00\xFF\x0F\x00\x00\x20\x01\x02\x00\x00\x00\x01\x00\
         \x00\x00\x00\x08\x02\x00\x00\x00\x01\x01";
     answers(
@@ -567,7 +498,7 @@ fn a_cancel_is_passed_over(rt: HostRuntime) -> Result<(), Fail> {
 
 #[test]
 fn a_store_waits_for_the_reply_to_the_one_before(rt: HostRuntime) -> Result<(), Fail> {
-    let mut session = opened(rt.alloc(), STORAGE, USER)?;
+    let mut session = opened(rt.alloc(), STORAGE, NAMED_USER)?;
     let values = [(1, 3, STORE), (1, 2, IMAGE), (1, 3, STORE), (1, 2, IMAGE)];
     answers(
         &rt,
@@ -577,7 +508,7 @@ fn a_store_waits_for_the_reply_to_the_one_before(rt: HostRuntime) -> Result<(), 
         &[ASKED, IMAGE],
         "the first alone",
     )?;
-    let wanted: [&[u8]; 3] = [STORED, ASKED, IMAGE];
+    let wanted: [&[u8]; 3] = [STORED_PDU, ASKED, IMAGE];
     resumes(
         &rt,
         rt.alloc(),
@@ -586,7 +517,7 @@ fn a_store_waits_for_the_reply_to_the_one_before(rt: HostRuntime) -> Result<(), 
         &wanted,
         "and then the second",
     )?;
-    let wanted: [&[u8]; 3] = [&STORED[..96], b"\x00\xA7", &STORED[98..]];
+    let wanted: [&[u8]; 3] = [&STORED_PDU[..96], b"\x00\xA7", &STORED_PDU[98..]];
     resumes(
         &rt,
         rt.alloc(),
@@ -599,7 +530,7 @@ fn a_store_waits_for_the_reply_to_the_one_before(rt: HostRuntime) -> Result<(), 
 
 #[test]
 fn what_is_out_of_turn_is_passed_over(rt: HostRuntime) -> Result<(), Fail> {
-    let mut session = opened(rt.alloc(), STORAGE, USER)?;
+    let mut session = opened(rt.alloc(), STORAGE, NAMED_USER)?;
     resumes(
         &rt,
         rt.alloc(),
@@ -622,7 +553,7 @@ fn what_is_out_of_turn_is_passed_over(rt: HostRuntime) -> Result<(), Fail> {
         rt.alloc(),
         &mut session,
         Ok(Taken::Known),
-        &[STORED],
+        &[STORED_PDU],
         "the reply",
     )
 }
@@ -643,7 +574,7 @@ fn a_response_is_cut_to_the_limit_of_the_peer(rt: HostRuntime) -> Result<(), Fai
 
 #[test]
 fn an_abort_of_the_peer_closes(rt: HostRuntime) -> Result<(), Fail> {
-    let mut session = opened(rt.alloc(), VERIFICATION, USER)?;
+    let mut session = opened(rt.alloc(), VERIFICATION, NAMED_USER)?;
     hears(
         &rt,
         rt.alloc(),

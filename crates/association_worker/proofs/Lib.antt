@@ -1,1 +1,2 @@
+pub mod HubLaws
 pub mod PortLaws

@@ -1,28 +1,31 @@
--- What a site in memory holds after a store.
-use Rattle.std.proofs.Common.{◌≡◌, ◌++◌, ◌∷◌, [], ℕ, List, Bool, true, false, cond, Some, None, Result, Ok, Err, IfOk}
-use Rattle.std.proofs.Common.{OnOk, OnErr, IfErr, inl, refl, sym, ap, subst, ◌∙◌}
+-- What the site of a port holds after a store, and why one is refused.
+use Rattle.std.proofs.Common.{◌≡◌, ◌⊎◌, ◌++◌, ◌∷◌, [], ℕ, List, Bool, true, false, cond, Option, Some, None, Result, Ok}
+use Rattle.std.proofs.Common.{Err, IfOk, OnOk, OnErr, IfErr, inl, inr, refl, sym, ap, subst, ◌∙◌}
+use Rattle.std.specs.Prelude.{IfSome}
 use Rattle.std.specs.Ordering.{is_eq}
 use Rattle.std.specs.Cmp.{tied_itself}
 use Rattle.std.specs.Cmp.Lexicographic.{nat_list_cmp_total}
 use Rattle.std.specs.BTreeMap.{is_at}
 use Rattle.std.specs.FinMap.{get, get-insert}
-use Rattle.operation.specs.Parts.{ContentParts}
 use Rattle.operation.specs.declared.op.Op.{Op}
-use Rattle.operation.specs.declared.op.Op.TheVariants.{Content}
 use Rattle.operation.specs.Spelling.{digest_of}
 use Rattle.operation.specs.declared.taken.Taken.{Taken}
 use Rattle.operation.specs.declared.taken.Taken.TheVariants.{New, Known}
-use Rattle.site_state.specs.Site.{digest_cmp, Map, held_at, ops_of, with_op, Takes}
+use Rattle.site_state.specs.Site.{digest_cmp, Map, IsSite, held_at, ops_of, with_op, IsClash, Takes}
 use Rattle.site_state.proofs.Maps.{tied}
 use Rattle.site_state.proofs.Indexed.{ops_held}
 use Rattle.site_state.proofs.Same.{of_ops}
 use Rattle.octets.specs.Members.{Has}
 use Rattle.data_set.specs.Set.{Set}
 use Rattle.query_model.specs.Rows.{rows_of}
+use Rattle.retrieve_model.specs.declared.prepared.Prepared.{Prepared}
+use Rattle.retrieve_model.specs.Preparing.{prepared_of}
 use Rattle.association_session.specs.declared.deed.Finding.{Finding}
+use Rattle.association_session.specs.declared.deed.Getting.{Getting}
 use Rattle.association_session.specs.declared.reply.PortFault.{PortFault}
 use Rattle.association_session.specs.declared.reply.PortFault.TheVariants.{Memory, Busy, Collision, Shelf}
-use Rattle.association_run.specs.Port.{Leaves, Stores, Finds, IsFindFault}
+use Rattle.association_run.specs.Port.{AreHeld, HasNoneAt, HasOtherAt, HasAdded, TakesInto, IsTaken, IsClashed}
+use Rattle.association_run.specs.Port.{ComesOf, Leaves, Stores, Finds, Gets, IsFindFault}
 use Rattle.association_worker.specs.Port.{PortParts}
 
 other_at : (m : Map) (d q : List ℕ) (op o : Op) (b : Bool) → is_at (digest_cmp q) d ≡ b → get m d ≡ None
@@ -59,26 +62,100 @@ taken_at m n op Known takes = rw takes.1 takes.0
 pub holds_now : (m n : Map) (op : Op) (taken : Taken) → Takes m op (Ok taken) n → Has (ops_of n) op
 holds_now m n op taken takes = of_ops n (digest_of op) op (taken_at m n op taken takes)
 
-leaves : (fault : PortFault) (before after : List (List ℕ)) (digest : List ℕ) → after ≡ before → Leaves fault before
+-- ---- what is held, and what is new
+
+some_is : (x o : Op) → Some x ≡ Some o → x ≡ o
+some_is x o e = cc
+
+own_digest : (r : Option Op) (d : List ℕ) (o : Op) → r ≡ Some o → IfSome r (λ x. d ≡ digest_of x) → d ≡ digest_of o
+own_digest r d o e own = subst (λ (s : Option Op). IfSome s (λ x. d ≡ digest_of x)) e own
+
+-- what a site holds lies under its own digest
+at_own : (m : Map) (o : Op) → IsSite m → Has (ops_of m) o → held_at m (digest_of o) ≡ Some o
+at_own m o site has =
+    let there = ops_held m o has in
+    ap (held_at m) (sym (own_digest (held_at m there.0) there.0 o there.1 (site there.0))) ∙ there.1
+
+none_at : (m : Map) (op : Op) → IsSite m → held_at m (digest_of op) ≡ None → HasNoneAt (ops_of m) op
+none_at m op site none other has tied =
+    absurd (let same : Some other ≡ None = sym (at_own m other site has) ∙ ap (held_at m) tied ∙ none in cc)
+
+pub other_at_own : (m : Map) (op : Op) → IsSite m → IsClash m op → HasOtherAt (ops_of m) op
+other_at_own m op site clash = record {
+  other = clash.0;
+  there = of_ops m (digest_of op) clash.0 clash.1;
+  tied = sym (own_digest (held_at m (digest_of op)) (digest_of op) clash.0 clash.1 (site (digest_of op)));
+  differs = clash.2;
+}
+
+was_there : (m : Map) (op x : Op) (d : List ℕ) (b : Bool) → cond b (Some op) (get m d) ≡ Some x
+    → Has (ops_of m) x ⊎ (x ≡ op)
+was_there m op x d true e = inr (sym (some_is op x e))
+was_there m op x d false e = inl (of_ops m d x e)
+
+added : (m : Map) (op : Op) → held_at m (digest_of op) ≡ None → HasAdded (ops_of m) op (ops_of (with_op m op))
+added m op none = (
+  λ o has. keeps m (with_op m op) op o New (none, refl) has,
+  of_ops (with_op m op) (digest_of op) op (held_itself m op),
+  λ x has.
+      let there = ops_held (with_op m op) x has in
+      was_there m op x there.0 (is_at (digest_cmp there.0) (digest_of op))
+      (sym (get-insert nat_list_cmp_total m (digest_of op) op there.0) ∙ there.1),
+)
+
+takes_into : (m n : Map) (op : Op) (taken : Taken) → IsSite m → Takes m op (Ok taken) n
+    → TakesInto (ops_of m) op taken (ops_of n)
+takes_into m n op New site takes = (
+  none_at m op site takes.0,
+  subst (λ (x : Map). HasAdded (ops_of m) op (ops_of x)) (sym takes.1) (added m op takes.0),
+)
+takes_into m n op Known site takes = (of_ops m (digest_of op) op takes.0, ap ops_of takes.1)
+
+-- what a site takes at its turn is taken, with what others stored before
+pub taken_at_turn : (before m n : Map) (op : Op) (taken : Taken) → AreHeld (ops_of before) (ops_of m) → IsSite m
+    → Takes m op (Ok taken) n → IsTaken (ops_of before) op taken (ops_of n)
+taken_at_turn before m n op taken others site takes = record {
+  turn = ops_of m;
+  others = others;
+  takes = takes_into m n op taken site takes;
+}
+
+pub leaves : (fault : PortFault) (before after : List (List ℕ)) (digest : List ℕ) → after ≡ before → Leaves fault before
     digest after
 leaves Memory before after digest same = inl same
 leaves Busy before after digest same = same
 leaves Collision before after digest same = same
 leaves Shelf before after digest same = same
 
--- What a site in memory does is what a port may do.
-pub stores_as : (old new : PortParts) (content : ContentParts) (reply : Result Taken PortFault)
-    → IfOk reply (λ taken. Takes old.site (Content content) (Ok taken) new.site)
-    → OnOk reply (new.own ≡ old.own ++ digest_of (Content content) ∷ [])
-    → OnErr reply (new ≡ old)
-    → Stores (λ (p : PortParts). ops_of p.site) (λ (p : PortParts). p.own) old content reply new
-stores_as old new content (Ok taken) takes listed kept = record {
-  kept = λ o held. keeps old.site new.site (Content content) o taken takes held;
-  replied = (holds_now old.site new.site (Content content) taken takes, listed);
+-- ---- a site in memory as a port
+
+comes_of : (m : Map) (op : Op) (fault : PortFault) → IsSite m → (fault ≡ Collision → IsClash m op)
+    → ComesOf fault (ops_of m) op
+comes_of m op Memory site clash = tt
+comes_of m op Busy site clash = tt
+comes_of m op Collision site clash = record {
+  turn = ops_of m;
+  others = λ o held. held;
+  clash = other_at_own m op site (clash refl);
 }
-stores_as old new content (Err fault) takes listed kept = record {
+comes_of m op Shelf site clash = tt
+
+-- What a site in memory does is what a port may do.
+pub stores_as : (old new : PortParts) (op : Op) (reply : Result Taken PortFault) → IsSite old.site
+    → IfOk reply (λ taken. Takes old.site op (Ok taken) new.site)
+    → OnOk reply (new.own ≡ old.own ++ digest_of op ∷ [])
+    → (reply ≡ Err Collision → IsClash old.site op)
+    → OnErr reply (new ≡ old)
+    → Stores (λ (p : PortParts). ops_of p.site) (λ (p : PortParts). p.own) old op reply new
+stores_as old new op (Ok taken) site takes listed clash kept = record {
+  kept = λ o held. keeps old.site new.site op o taken takes held;
+  replied = (holds_now old.site new.site op taken takes, listed);
+  turn = taken_at_turn old.site old.site new.site op taken (λ o held. held) site takes;
+}
+stores_as old new op (Err fault) site takes listed clash kept = record {
   kept = λ o held. subst (λ (p : PortParts). Has (ops_of p.site) o) (sym kept) held;
-  replied = leaves fault old.own new.own (digest_of (Content content)) (ap (λ (p : PortParts). p.own) kept);
+  replied = leaves fault old.own new.own (digest_of op) (ap (λ (p : PortParts). p.own) kept);
+  turn = comes_of old.site op fault site (λ is. clash (ap (λ (f : PortFault). Err f) is));
 }
 
 -- A look changes nothing, and its rows are those over all that is held.
@@ -93,6 +170,22 @@ finds_as old new finding (Ok rows) same found fault = record {
       same);
 }
 finds_as old new finding (Err fault) same found memory = record {
+  kept = λ o held. subst (λ (p : PortParts). Has (ops_of p.site) o) (sym same) held;
+  own_kept = ap (λ (p : PortParts). p.own) same;
+  replied = inl memory;
+}
+
+-- A look changes nothing, and what is to be sent is that over all that is held.
+pub gets_as : (old new : PortParts) (getting : Getting) (reply : Result (List Prepared) PortFault) → new ≡ old
+    → IfOk reply (λ prepared. prepared ≡ prepared_of getting.view getting.selection (ops_of old.site))
+    → IfErr reply (λ fault. fault ≡ Memory)
+    → Gets (λ (p : PortParts). ops_of p.site) (λ (p : PortParts). p.own) old getting reply new
+gets_as old new getting (Ok prepared) same found fault = record {
+  kept = λ o held. subst (λ (p : PortParts). Has (ops_of p.site) o) (sym same) held;
+  own_kept = ap (λ (p : PortParts). p.own) same;
+  replied = found ∙ ap (λ (p : PortParts). prepared_of getting.view getting.selection (ops_of p.site)) (sym same);
+}
+gets_as old new getting (Err fault) same found memory = record {
   kept = λ o held. subst (λ (p : PortParts). Has (ops_of p.site) o) (sym same) held;
   own_kept = ap (λ (p : PortParts). p.own) same;
   replied = inl memory;

@@ -1,13 +1,17 @@
--- A site in memory as a port.
-use Rattle.std.specs.Prelude.{ℕ, List, refl}
+-- Sites as ports.
+use Rattle.std.specs.Prelude.{ℕ, List, Result, Ok, Err, refl}
 use Rattle.std.specs.FinMap as finmap
 use Rattle.std.specs.Coded.{Coded, code_by, coded×, coded_ℕ, coded_list}
 use Rattle.operation.specs.OpCode.{op_code}
+use Rattle.operation.specs.declared.taken.Taken.{Taken}
 use Rattle.site_state.specs.declared.fault.SiteFault.{SiteFault}
 use Rattle.site_state.specs.declared.fault.SiteFault.TheVariants as site_faults
 use Rattle.site_state.specs.Site.{Map}
+use Rattle.site_hub.specs.declared.fault.HubFault.{HubFault}
+use Rattle.site_hub.specs.declared.fault.HubFault.TheVariants as hub_faults
+use Rattle.site_hub.specs.Hub.{News}
 use Rattle.association_session.specs.declared.reply.PortFault.{PortFault}
-use Rattle.association_session.specs.declared.reply.PortFault.TheVariants.{Memory, Collision}
+use Rattle.association_session.specs.declared.reply.PortFault.TheVariants.{Memory, Busy, Collision}
 
 -- what a site holds, and the digests of the contents that were stored in it
 pub record PortParts : Type 0 where
@@ -18,6 +22,22 @@ pub record PortParts : Type 0 where
 abbrev pub fault_of_site : SiteFault → PortFault
 fault_of_site site_faults.Collision = Collision
 fault_of_site site_faults.Memory = Memory
+
+-- What a fault of a hub is to a port: what is not published yet could not be, for want of memory. A take and a look
+-- have no other fault.
+abbrev pub fault_of_hub : HubFault → PortFault
+fault_of_hub hub_faults.Busy = Busy
+fault_of_hub hub_faults.Collision = Collision
+fault_of_hub hub_faults.Memory = Memory
+fault_of_hub hub_faults.StampsSpent = Memory
+fault_of_hub hub_faults.Torn = Memory
+fault_of_hub hub_faults.Pending = Memory
+fault_of_hub hub_faults.BadCorrection = Memory
+
+-- what the answer to a take is to a port
+abbrev pub reply_to : Result News HubFault → Result Taken PortFault
+reply_to (Ok told) = Ok told.taken
+reply_to (Err fault) = Err (fault_of_hub fault)
 
 abbrev pub port_code : Coded PortParts
 port_code = code_by (Map × List (List ℕ)) (coded× (finmap.code (coded_list coded_ℕ) op_code)

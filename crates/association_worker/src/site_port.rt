@@ -5,17 +5,20 @@ ghost use Rattle.std.specs.FinMap as finmap;
 ghost use Rattle.operation.specs.declared.op.Op.TheVariants.{Content as AContent};
 ghost use Rattle.operation.specs.Spelling.{digest_of};
 ghost use Rattle.query_model.specs.Rows.{rows_of};
-ghost use Rattle.site_state.specs.Site.{Takes, IsClash, ops_of};
-ghost use Rattle.association_run.specs.Port.{Stores, Finds};
+ghost use Rattle.site_state.specs.Site.{IsSite, Takes, IsClash, ops_of};
+ghost use Rattle.retrieve_model.specs.Preparing.{prepared_of};
+ghost use Rattle.association_run.specs.Port.{Stores, Finds, Gets};
 ghost use Rattle.association_worker.specs.Port.{PortParts, fault_of_site};
 
 use archive_model::View;
 use archive_query::find;
+use archive_retrieve::prepare;
 use association_run::Port;
 use association_session::PortFault;
 use octets::ListOf;
 use operation::{Content, Digest, Digested, Op, Taken};
 use query_model::{Answer, Query};
+use retrieve_model::{Prepared, Selection};
 use site_state::{Site, SiteFault};
 use std::alloc::Global;
 use std::marker::Model;
@@ -102,6 +105,18 @@ impl SitePort {
         }
     }
 
+    /// What the site is to send of a selection.
+    pub fn prepared(&self, view: View, selection: &Selection) -> Result<ListOf<Prepared>, PortFault>
+        ensures prepared { IfOk result (λ prepared. prepared ≡
+            prepared_of view selection.now (ops_of self.now.site)) }
+        ensures fault { IfErr result (λ fault. fault ≡ PortFault.Memory) }
+    {
+        match prepare(self.alloc, &self.site, view, selection) {
+            Ok(prepared) => Ok(ListOf::of(prepared)),
+            Err(_refused) => Err(PortFault::Memory),
+        }
+    }
+
     /// Takes a content, as its site does. A refusal leaves everything as it was.
     pub fn take(&mut self, content: Content) -> Result<Taken, PortFault>
         ensures takes { IfOk result (λ taken.
@@ -114,7 +129,10 @@ impl SitePort {
         ensures fault { IfErr result (λ fault.
             (fault ≡ PortFault.Collision) ⊎ (fault ≡ PortFault.Memory)) }
         ensures kept { OnErr result (self.new ≡ self.old) }
+        // Each operation lies under its own digest.
+        ensures lawful { IsSite self.old.site }
     {
+        self.site.see_lawful();
         let op = Digested::of(Op::Content(content));
         put_digest(&mut self.own, &op)?;
         match self.site.take_digested(op) {
@@ -134,7 +152,7 @@ impl Port for SitePort {
 
     fn store(&mut self, content: Content) -> Result<Taken, PortFault>
         ensures stores { Stores (λ (p : PortParts). ops_of p.site)
-            (λ (p : PortParts). p.own) self.old content result self.new }
+            (λ (p : PortParts). p.own) self.old (AContent content) result self.new }
 
         // It does what `take` does.
         ensures takes { IfOk result (λ taken.
@@ -166,5 +184,18 @@ impl Port for SitePort {
         ensures kept { self.new ≡ self.old }
     {
         self.rows(called, view, query)
+    }
+
+    fn get(&mut self, view: View, selection: &Selection) -> Result<ListOf<Prepared>, PortFault>
+        ensures gets { Gets (λ (p : PortParts). ops_of p.site) (λ (p : PortParts). p.own) self.old
+            (record { view = view; selection = selection.now }) result self.new }
+
+        // It is the site's own `prepare`, and is never busy.
+        ensures prepared { IfOk result (λ prepared. prepared ≡
+            prepared_of view selection.now (ops_of self.old.site)) }
+        ensures fault { IfErr result (λ fault. fault ≡ PortFault.Memory) }
+        ensures kept { self.new ≡ self.old }
+    {
+        self.prepared(view, selection)
     }
 }

@@ -7,3 +7,5 @@ pub mod Holdings
 pub mod Asked
 pub mod Rounds
 pub mod Bucketed
+pub mod Said
+pub mod Places

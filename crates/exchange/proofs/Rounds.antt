@@ -98,7 +98,7 @@ added_was from before after own own_after round d op there = by (round.only d op
         inr (ap (held_at from) (own_digest after own_after d op there ∙ sym (own_digest from own made.0 op held_there))
         ∙ held_there)
 
-same_option : (r s : Option Op) → ((op : Op) → r ≡ Some op → s ≡ Some op) → ((op : Op) → s ≡ Some op → r ≡ Some op)
+pub same_option : (r s : Option Op) → ((op : Op) → r ≡ Some op → s ≡ Some op) → ((op : Op) → s ≡ Some op → r ≡ Some op)
     → r ≡ s
 same_option None None there back = refl
 same_option None (Some p) there back = back p refl

@@ -1,14 +1,17 @@
 -- What a round between two sites comes to.
-use Rattle.std.specs.Prelude.{◌≡◌, ◌⊎◌, ℕ, List, filter, Some, true, ◌==◌}
+use Rattle.std.specs.Prelude.{◌≡◌, ◌⊎◌, ◌≤◌, ℕ, List, filter, length, Some, true, ◌==◌}
 use Rattle.octets.specs.Members.{Has}
 use Rattle.operation.specs.declared.op.Op.{Op}
 use Rattle.operation.specs.Spelling.{digest_of}
 use Rattle.site_state.specs.Site.{Map, IsSite, held_at}
 use Rattle.site_state.specs.Union.{Agree}
+use Rattle.exchange.specs.declared.frame.Frame.TheVariants.{Have, Want, Buckets, Differ}
+use Rattle.exchange.specs.declared.reader.TheConstants.{MOST_DIGESTS}
 use Rattle.exchange.specs.declared.version.Version.{Version}
 use Rattle.exchange.specs.declared.version.Version.TheVariants.{Two}
 use Rattle.exchange.specs.Held.{is_spoken, place_of, offered, offered_in, lacked, given, HasGrown}
 use Rattle.exchange.specs.Buckets.{bucket_of, bucket_list, unequal}
+use Rattle.exchange.specs.Spelling.{IsFrame}
 
 -- what a version speaks of in a set is in another
 abbrev pub HasAllSpoken : Version → Map → Map → Type 0
@@ -64,3 +67,14 @@ RoundByBucketsGivesAll =
     → IsAnswered version (offered_in version (unequal (bucket_list (offered version comparing))
     (bucket_list (offered version offering))) showing) asking giving after
     → HasAllSpoken version offering after
+
+-- What a round says of a set is a frame: a HAVE, of all places or of some, where it has no more digests than are read;
+-- BUCKETS and DIFFER of any digests; and the WANT that answers a HAVE that is a frame.
+pub record RoundSaysFrames : Type 0 where
+  pub offer : (version : Version) (m : Map) → IsSite m → length (offered version m) ≤ MOST_DIGESTS
+      → IsFrame (Have (offered version m))
+  pub offer_in : (version : Version) (places : List ℕ) (m : Map) → IsSite m
+      → length (offered_in version places m) ≤ MOST_DIGESTS → IsFrame (Have (offered_in version places m))
+  pub buckets : (digests : List (List ℕ)) → IsFrame (Buckets (bucket_list digests))
+  pub differ : (own theirs : List (List ℕ)) → IsFrame (Differ (unequal own theirs))
+  pub want : (m : Map) (have : List (List ℕ)) → IsFrame (Have have) → IsFrame (Want (lacked m have))

@@ -6,5 +6,6 @@ pub mod Writing
 pub mod Held
 pub mod Buckets
 pub mod Hashing
+pub mod Places
 pub mod Round
 pub mod Laws

@@ -1,8 +1,9 @@
 //! What is told of the digests that begin with each byte, instead of the digests.
 
-ghost use Rattle.std.specs.Prelude.{◌≡◌, ◌++◌, ◌∷◌, ◌<◌, [], List, ℕ, IfOk, length, get_or};
+ghost use Rattle.std.specs.Prelude.{◌≡◌, ◌++◌, ◌∷◌, ◌<◌, ◌==◌, [], List, ℕ, IfOk, length, get_or};
 ghost use Rattle.std.specs.Map.{keys_of};
-ghost use Rattle.exchange.specs.Held.{place_of, is_in as is_in_places, spoken_of};
+ghost use Rattle.std.specs.List.{list_any};
+ghost use Rattle.exchange.specs.Held.{place_of, spoken_of};
 ghost use Rattle.exchange.specs.Buckets.{bucket_list, unequal as unequal_in, is_unequal as is_unequal_in};
 ghost use Rattle.exchange.specs.Hashing.{AllHold};
 
@@ -76,11 +77,10 @@ pub fn buckets_of_tree(
     finish(alloc, hashers)
 }
 
-/// Whether a digest begins with one of some bytes.
-pub(crate) fn is_in(places: &[u8], digest: &Digest) -> bool
-    ensures { result ≡ is_in_places places.now digest.now }
+/// Whether a first byte is one of some.
+pub(crate) fn has_place(places: &[u8], place: usize) -> bool
+    ensures { result ≡ list_any (λ p. p == place) places.now }
 {
-    let place = place_of_digest(digest);
     for other in places {
         if *other as usize == place {
             return true;

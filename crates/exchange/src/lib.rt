@@ -24,7 +24,10 @@ pub use fault::{ExchangeFault, FrameFault, HolderFault};
 pub use frame::Frame;
 pub use header::{FrameHeader, HEADER_LENGTH, LONGEST_BODY, read_frame_header};
 pub use holder::Holder;
-pub use laws::{a_round_by_buckets_gives_all, a_round_gives_all, rounds_each_way_make_sites_equal};
+pub use laws::{
+    a_give_is_a_frame, a_round_by_buckets_gives_all, a_round_gives_all,
+    rounds_each_way_make_sites_equal, what_a_round_says_is_a_frame,
+};
 pub use reader::{MOST_DIGESTS, a_text_spells_one_frame, read_frame_body};
 pub use round::Round;
 pub use site_holder::{

@@ -1,19 +1,22 @@
 //! A site as a holder.
 
-ghost use Rattle.std.specs.Prelude.{◌≡◌, ◌↔◌, IfOk, Err, filter, ⊤};
+ghost use Rattle.std.specs.Prelude.{◌≡◌, ◌↔◌, ◌++◌, ◌==◌, IfOk, OnOk, Err, filter, ⊤};
 ghost use Rattle.site_state.specs.Site.{IsClash, held_at};
-ghost use Rattle.exchange.specs.Held.{offered, offered_in, spoken_of, lacked, given, is_in as is_in_places, if_spoken, Looks, TakesIn};
+ghost use Rattle.exchange.specs.Held.{offered, offered_in, spoken_of, place_of, lacked, given, if_spoken, Looks, TakesIn};
 ghost use Rattle.exchange.specs.Buckets.{bucket_list, unequal as unequal_in};
+ghost use Rattle.exchange.specs.Places.{front_at, end_at};
 
-use crate::buckets::{buckets_of_tree, is_in, unequal};
+use crate::buckets::{buckets_of_tree, has_place, place_of_digest, unequal};
 use crate::fault::HolderFault;
 use crate::holder::Holder;
+use crate::reader::{BUCKET_COUNT, DIGEST_LENGTH};
 use crate::version::Version;
 use octets::{ListOf, Octets};
 use operation::{Digest, Digested, Op, Taken};
 use site_state::{Site, SiteFault};
 use std::alloc::{AllocError, Global};
 use std::collections::BTreeMap;
+use std::ops::Bound;
 
 /// The digests of the operations of a tree that a version speaks of.
 fn digests_of_tree(
@@ -32,23 +35,45 @@ fn digests_of_tree(
     Ok(ListOf::of(digests))
 }
 
-/// Those of them that begin with one of these bytes.
-fn digests_of_tree_in(
-    alloc: Global,
-    version: Version,
-    places: &[u8],
-    tree: &BTreeMap<Digest, Op>,
-) -> Result<ListOf<Digest>, AllocError>
-    ensures { IfOk result (λ digests. digests
-        ≡ filter (is_in_places places.now) (spoken_of version tree.now.entries)) }
+/// The least digest that begins with a byte.
+fn front_of(place: u8) -> Digest
+    ensures { result ≡ front_at place }
 {
-    let mut digests = Vec::new(alloc);
-    for (digest, op) in tree.iter() {
-        if version.speaks(op) && is_in(places, digest) {
+    let mut bytes = [0; DIGEST_LENGTH];
+    bytes[0] = place;
+    Digest::of(bytes)
+}
+
+/// Where the digests that begin with a byte end.
+fn end_of(place: u8) -> Bound<Digest>
+    ensures { result ≡ end_at place }
+{
+    if place == 255 {
+        return Bound::Unbounded;
+    }
+    Bound::Excluded(front_of(place + 1))
+}
+
+/// Puts those of a site's digests that begin with a byte behind others, as their range has them.
+fn put_in_place(
+    version: Version,
+    place: u8,
+    site: &Site,
+    digests: &mut Vec<Digest>,
+) -> Result<(), AllocError>
+    ensures { OnOk result (digests.new.items ≡ digests.old.items
+        ++ filter (λ d. place_of d == place) (offered version site.now)) }
+{
+    site.see_lawful();
+    for (digest, op) in site
+        .tree()
+        .range((Bound::Included(front_of(place)), end_of(place)))
+    {
+        if version.speaks(op) && place_of_digest(digest) == place as usize {
             digests.push(*digest)?;
         }
     }
-    Ok(ListOf::of(digests))
+    Ok(())
 }
 
 /// The digests of a site's operations that a version speaks of, ascending.
@@ -71,7 +96,15 @@ pub fn digests_of_site_in(
 ) -> Result<ListOf<Digest>, AllocError>
     ensures { IfOk result (λ digests. digests ≡ offered_in version places.now site.now) }
 {
-    digests_of_tree_in(alloc, version, places, site.tree())
+    site.see_lawful();
+    let mut digests = Vec::new(alloc);
+    for place in 0..BUCKET_COUNT {
+        if !has_place(places, place) {
+            continue;
+        }
+        put_in_place(version, place as u8, site, &mut digests)?;
+    }
+    Ok(ListOf::of(digests))
 }
 
 /// The buckets of a site's operations that a version speaks of.

@@ -4,3 +4,8 @@ pub mod Readings
 pub mod Runs
 pub mod Turns
 pub mod Writings
+pub mod Frames
+pub mod Goings
+pub mod Offers
+pub mod Once
+pub mod Joins

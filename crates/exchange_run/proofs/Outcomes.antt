@@ -43,16 +43,16 @@ use Rattle.exchange_run.proofs.Turns.{later, Fits, fits}
 
 -- ---- members
 
-has_left : {X : Type 0} (xs ys : List X) (x : X) → Has xs x → Has (xs ++ ys) x
+pub has_left : {X : Type 0} (xs ys : List X) (x : X) → Has xs x → Has (xs ++ ys) x
 has_left [] ys x h = absurd h
 has_left (y ∷ xs) ys x (inl e) = inl e
 has_left (y ∷ xs) ys x (inr h) = inr (has_left xs ys x h)
 
-has_right : {X : Type 0} (xs ys : List X) (x : X) → Has ys x → Has (xs ++ ys) x
+pub has_right : {X : Type 0} (xs ys : List X) (x : X) → Has ys x → Has (xs ++ ys) x
 has_right [] ys x h = h
 has_right (y ∷ xs) ys x h = inr (has_right xs ys x h)
 
-has_split : {X : Type 0} (xs ys : List X) (x : X) → Has (xs ++ ys) x → Has xs x ⊎ Has ys x
+pub has_split : {X : Type 0} (xs ys : List X) (x : X) → Has (xs ++ ys) x → Has xs x ⊎ Has ys x
 has_split [] ys x h = inr h
 has_split (y ∷ xs) ys x (inl e) = inl (inl e)
 has_split (y ∷ xs) ys x (inr h) = by (has_split xs ys x h)
@@ -62,7 +62,7 @@ has_split (y ∷ xs) ys x (inr h) = by (has_split xs ys x h)
     by (inr r) = inr r
 
 -- what stands among these and one more, which it is not, stands among these
-other_has : {X : Type 0} (xs : List X) (y x : X) → (x ≡ y → ⊥) → Has (xs ++ y ∷ []) x → Has xs x
+pub other_has : {X : Type 0} (xs : List X) (y x : X) → (x ≡ y → ⊥) → Has (xs ++ y ∷ []) x → Has xs x
 other_has xs y x apart h = by (has_split xs (y ∷ []) x h)
   where
     by : Has xs x ⊎ Has (y ∷ []) x → Has xs x
@@ -214,14 +214,14 @@ module _ {H : Type 0} (holds : H → Map) (alone : H → Type 0) (start : H) (he
   as_new was none d = ap (λ (es : List (List ℕ × Bool)). asked_in d es) none ∙ sym (none_or (asked_at d s.round)
       (λ b e. let p = know.asked d (b, e) in was.no_want p.0 p.1))
 
-one_is : {X : Type 0} (y x : X) (more : List X) → more ≡ y ∷ [] → Has more x → x ≡ y
+pub one_is : {X : Type 0} (y x : X) (more : List X) → more ≡ y ∷ [] → Has more x → x ≡ y
 one_is y x more e h = at (subst (λ (l : List _). Has l x) e h)
   where
     at : Has (y ∷ []) x → x ≡ y
     at (inl i) = i
     at (inr n) = absurd n
 
-none_has_one : {X : Type 0} (x : X) (more : List X) → more ≡ [] → Has more x → ⊥
+pub none_has_one : {X : Type 0} (x : X) (more : List X) → more ≡ [] → Has more x → ⊥
 none_has_one x more e h = subst (λ (l : List _). Has l x) e h
 
 -- ---- a task more

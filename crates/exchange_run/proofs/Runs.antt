@@ -33,11 +33,13 @@ use Rattle.exchange_run.specs.declared.task.Task.TheVariants as tasks
 use Rattle.exchange_run.specs.Tasks.{task_for}
 use Rattle.exchange_run.specs.Course.{news, Does, DoesAll, SetsOut, Talks, Idles, IsOfHolder, Why}
 use Rattle.exchange_run.specs.Hearing.{texts, is_io, Heard, Unheard, Fails}
-use Rattle.exchange_run.specs.Saying.{WroteFront, WhyUnsaid}
+use Rattle.exchange_run.specs.Saying.{WroteFront, WhyUnsaid, AreSayable}
 use Rattle.exchange_run.specs.Run.{Ends, ends, NoneFailed, CountsFailures, Exchanged, BrokeOff}
 use Rattle.exchange_run.specs.Run.{Sofar, Turned}
+use Rattle.exchange_run.proofs.Frames.{frames_more, told_frames, first_frames}
 use Rattle.exchange_run.proofs.Holders.{idles_same}
 use Rattle.exchange_run.proofs.Outcomes.{outcome_of}
+use Rattle.exchange_run.proofs.Turns.{fits}
 
 -- ---- texts
 
@@ -277,12 +279,16 @@ module _ {H : Type 0} (holds : H → Map) (alone : H → Type 0) (role : Role) (
       talk_too = talk_then holds alone role from.holder so.heard so.told side h frame more u k so.talk does
 
       -- It was answered, and the answer was written.
-      pub answered : (w1 : Option (List ℕ)) (wf1 : ℕ) → Appends w w1 (texts more) → wf1 ≡ wf
+      pub answered : (w1 : Option (List ℕ)) (wf1 : ℕ) → Appends w w1 (texts more) → AreSayable more → wf1 ≡ wf
           → Sofar holds alone role from (ends k r1 w1 rf1 wf1) u left (n + 1)
-      answered w1 wf1 wrote fine = record {
+      answered w1 wf1 wrote sayable fine = record {
         heard = so.heard ++ frame ∷ [];
         told = so.told ++ more;
         talk = talk_too;
+        heard_are = frames_more so.heard (frame ∷ []) so.heard_are (heard.lawful, tt);
+        told_are = frames_more so.told more so.told_are (told_frames holds alone
+            (task_for side.awaited frame side.role) side h frame more u k (fits side.awaited frame side.role)
+            heard.lawful does sayable);
         read = read_too;
         wrote = subst (λ (t : List ℕ). Appends from.written w1 t) (sym (texts_more so.told more))
             (Appends-trans from.written w w1 (texts so.told) (texts more) so.wrote wrote);
@@ -339,9 +345,9 @@ module _ {H : Type 0} (holds : H → Map) (alone : H → Type 0) (role : Role) (
 
       pub said_turned : (w1 : Option (List ℕ)) (wf1 : ℕ) (r : Result (Unit {0}) ExchangeFault)
           → OnOk r (Appends w w1 (texts more)) → OnErr r (WroteFront w w1 (texts more)) → IfErr r (WhyUnsaid more)
-          → Fails r wf wf1 → Turned holds alone role from (ends k r1 w1 rf1 wf1) u left n r
-      said_turned w1 wf1 (Ok x) ok err why failed = answered w1 wf1 ok failed
-      said_turned w1 wf1 (Err fault) ok err why failed = unsaid_breaks w1 wf1 fault err why failed
+          → OnOk r (AreSayable more) → Fails r wf wf1 → Turned holds alone role from (ends k r1 w1 rf1 wf1) u left n r
+      said_turned w1 wf1 (Ok x) ok err why sayable failed = answered w1 wf1 ok sayable failed
+      said_turned w1 wf1 (Err fault) ok err why sayable failed = unsaid_breaks w1 wf1 fault err why failed
 
 -- ---- the first words
 
@@ -364,6 +370,8 @@ module _ {H : Type 0} (holds : H → Map) (alone : H → Type 0) (role : Role) (
     heard = [];
     told = told;
     talk = opening;
+    heard_are = tt;
+    told_are = first_frames holds alone role h told s k out;
     read = Consumes-nil left;
     wrote = wrote;
     many = omega arith;
@@ -419,6 +427,8 @@ ended holds alone role from to side reads n e so over given taken finished =
       side = side;
       talk = so.talk;
       comes_to = comes_to;
+      heard_are = so.heard_are;
+      told_are = so.told_are;
       over = over;
       read = so.read;
       wrote = so.wrote;

@@ -1,5 +1,5 @@
 -- Texts that are written one after another.
-use Rattle.std.proofs.Common.{◌≡◌, ◌≤◌, ℕ, arith, length, List, [], ◌∷◌, ◌++◌, take, drop, true, false, Option, Result}
+use Rattle.std.proofs.Common.{◌≡◌, ◌≤◌, ℕ, arith, length, List, [], ◌∷◌, ◌++◌, take, drop, Bool, true, false, Option, Result}
 use Rattle.std.proofs.Common.{Ok, Err}
 use Rattle.std.proofs.Common.{refl, sym, ap, subst, ◌∙◌, append_assoc, append-nil}
 use Rattle.std.specs.Prelude.{OnOk, OnErr}
@@ -11,13 +11,14 @@ use Rattle.operation.specs.declared.op.Op.{Op}
 use Rattle.exchange.specs.declared.fault.ExchangeFault.{ExchangeFault}
 use Rattle.exchange.specs.declared.fault.ExchangeFault.TheVariants.{BadFrame, TooLong, Stranger, Io, Memory, Turns}
 use Rattle.exchange.specs.declared.fault.ExchangeFault.TheVariants.{Refused}
+use Rattle.exchange.specs.declared.fault.FrameFault.{FrameFault}
 use Rattle.exchange.specs.declared.frame.Frame.{Frame}
 use Rattle.exchange.specs.declared.frame.Frame.TheVariants.{Give, End}
 use Rattle.exchange.specs.Spelling.{text_of}
 use Rattle.exchange.specs.Writing.{is_too_long}
 use Rattle.exchange_run.specs.Course.{gifts_of}
 use Rattle.exchange_run.specs.Hearing.{texts}
-use Rattle.exchange_run.specs.Saying.{IsFront, WroteFront, WhyUnsaid}
+use Rattle.exchange_run.specs.Saying.{IsFront, WroteFront, WhyUnsaid, GivesLawful, IsSayable, AreSayable}
 
 pub on_ok_map : {X E : Type 0} (r : Result X E) (A B : Type 0) → (A → B) → OnOk r A → OnOk r B
 on_ok_map (Ok x) A B to p = to p
@@ -26,6 +27,14 @@ on_ok_map (Err e) A B to p = tt
 pub on_err_map : {X E : Type 0} (r : Result X E) (A B : Type 0) → (A → B) → OnErr r A → OnErr r B
 on_err_map (Ok x) A B to p = tt
 on_err_map (Err e) A B to p = to p
+
+pub on_ok_both : {X E : Type 0} (r : Result X E) (A B : Type 0) → OnOk r A → OnOk r B → OnOk r (A × B)
+on_ok_both (Ok x) A B p q = (p, q)
+on_ok_both (Err e) A B p q = tt
+
+pub on_ok_is : {X E : Type 0} (r : Result X E) (A : Type 0) → A → OnOk r A
+on_ok_is (Ok x) A p = p
+on_ok_is (Err e) A p = tt
 
 pub take_front : (n : ℕ) (text : List ℕ) → IsFront (take n text) text
 take_front n text = (drop n text, sym (take-append-drop n text))
@@ -84,6 +93,31 @@ gave_last w0 w1 w2 all rest is p q = subst (λ (t : List ℕ). WroteFront w0 w2 
     (ap (λ (t : List ℕ). p.0 ++ t) (sym (append-nil (text_of End)))
     ∙ ap (λ (ops : List Op). p.0 ++ texts (gifts_of ops)) (sym is) ∙ p.2)
     (wrote_then w0 w1 w2 p.0 (text_of End) p.1 q)
+
+-- ---- what is known of frames that were written
+
+not_true : (b : Bool) → (b ≡ true → ⊥) → b ≡ false
+not_true true never = absurd (never refl)
+not_true false never = refl
+
+pub sayable_is : {X : Type 0} (frame : Frame) (x : X) (fault : FrameFault)
+    → (is_too_long frame ≡ true → Ok x ≡ Err fault) → GivesLawful frame → IsSayable frame
+sayable_is frame x fault never lawful =
+    (not_true (is_too_long frame) (λ is. let clash : Ok x ≡ Err fault = never is in absurd cc), lawful)
+
+pub sayable_all : (all rest : List Op) → rest ≡ all → AreSayable (gifts_of rest) → AreSayable (gifts_of all)
+sayable_all all rest is p = subst (λ (ops : List Op). AreSayable (gifts_of ops)) is p
+
+pub sayable_one : (all rest left : List Op) (op : Op) → rest ≡ op ∷ left
+    → (AreSayable (gifts_of rest) → AreSayable (gifts_of all)) → IsSayable (Give op) → AreSayable (gifts_of left)
+    → AreSayable (gifts_of all)
+sayable_one all rest left op is was one p =
+    was (subst (λ (ops : List Op). AreSayable (gifts_of ops)) (sym is) (one, p))
+
+pub sayable_end : (all rest : List Op) → rest ≡ [] → (AreSayable (gifts_of rest) → AreSayable (gifts_of all))
+    → IsSayable End → AreSayable (gifts_of all)
+sayable_end all rest is was one =
+    was (subst (λ (ops : List Op). AreSayable (gifts_of ops)) (sym is) (one, tt))
 
 -- ---- why
 

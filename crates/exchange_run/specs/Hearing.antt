@@ -2,7 +2,7 @@
 use Rattle.std.specs.Prelude.{◌≡◌, ◌⊎◌, ◌<◌, ◌≤◌, ◌+◌, ℕ, List, ◌++◌, length, Option, None, Result, Ok, Err, Bool, true}
 use Rattle.std.specs.Prelude.{false}
 use Rattle.std.specs.Prelude.{MatchBool, ⊤}
-use Rattle.std.specs.List.{flat_map}
+use Rattle.std.specs.List.{flat_map, AllByRecursion}
 use Rattle.std.specs.Io.KnownBytes.{Consumes, IsAtEnd}
 use Rattle.devices.specs.Failures.{Rose}
 use Rattle.exchange.specs.declared.fault.ExchangeFault.{ExchangeFault}
@@ -37,6 +37,10 @@ Fails (Err fault) old new = MatchBool (is_io fault) (Rose old new) (new ≡ old)
 -- the bytes of frames, one behind the other
 abbrev pub texts : List Frame → List ℕ
 texts frames = flat_map text_of frames
+
+-- each is a frame that can be read, so their bytes spell no other frames
+abbrev pub AreFrames : List Frame → Type 0
+AreFrames frames = AllByRecursion IsFrame frames
 
 -- the front of a header, or a header and a front of the body that it tells of
 abbrev pub IsUnfinished : List ℕ → Type 0

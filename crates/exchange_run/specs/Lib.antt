@@ -4,3 +4,4 @@ pub mod Hearing
 pub mod Saying
 pub mod Laws
 pub mod Run
+pub mod Joined

@@ -15,7 +15,7 @@ use Rattle.exchange_run.specs.declared.side.Side.{Side}
 use Rattle.exchange_run.specs.declared.task.Awaited.TheVariants as awaits
 use Rattle.exchange_run.specs.Tasks.{task_for}
 use Rattle.exchange_run.specs.Course.{Talks, Idles, IsOfHolder, Why}
-use Rattle.exchange_run.specs.Hearing.{texts, WhyUnheard}
+use Rattle.exchange_run.specs.Hearing.{texts, AreFrames, WhyUnheard}
 use Rattle.exchange_run.specs.Laws.{Outcome, IsGivenAll, HoldsWhatWasOffered, HoldsWhatWasShown}
 use Rattle.exchange_run.specs.Saying.{IsFront, WhyUnsaid}
 
@@ -62,6 +62,8 @@ pub record Exchanged {H : Type 0} (holds : H → Map) (alone : H → Type 0) (ro
   pub side : Side
   pub talk : Talks holds alone role from.holder heard told side to.holder
   pub comes_to : Outcome holds alone from.holder heard told side to.holder
+  pub heard_are : AreFrames heard
+  pub told_are : AreFrames told
   pub over : side.awaited ≡ awaits.Nothing
   pub read : Consumes from.left to.left (texts heard)
   pub wrote : Appends from.written to.written (texts told)
@@ -121,6 +123,8 @@ pub record Sofar {H : Type 0} (holds : H → Map) (alone : H → Type 0) (role :
   pub heard : List Frame
   pub told : List Frame
   pub talk : Talks holds alone role from.holder heard told side now.holder
+  pub heard_are : AreFrames heard
+  pub told_are : AreFrames told
   pub read : Consumes from.left now.left (texts heard)
   pub wrote : Appends from.written now.written (texts told)
   pub many : MOST_READS ≤ reads + length (texts heard)

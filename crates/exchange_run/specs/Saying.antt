@@ -1,11 +1,13 @@
 -- How frames are written to a device, and why they were not.
-use Rattle.std.specs.Prelude.{◌≡◌, ℕ, List, ◌++◌, Option, true, ⊤}
-use Rattle.std.specs.List.{list_any}
+use Rattle.std.specs.Prelude.{◌≡◌, ℕ, List, ◌++◌, Option, true, false, ⊤}
+use Rattle.std.specs.List.{list_any, AllByRecursion}
 use Rattle.std.specs.Io.KnownBytes.{Appends}
 use Rattle.exchange.specs.declared.fault.ExchangeFault.{ExchangeFault}
 use Rattle.exchange.specs.declared.fault.ExchangeFault.TheVariants.{BadFrame, TooLong, Stranger, Io, Memory, Turns}
 use Rattle.exchange.specs.declared.fault.ExchangeFault.TheVariants.{Refused}
 use Rattle.exchange.specs.declared.frame.Frame.{Frame}
+use Rattle.exchange.specs.declared.frame.Frame.TheVariants.{Have, Want, Give, End, Buckets, Differ, Hello}
+use Rattle.exchange.specs.Spelling.{IsFrame}
 use Rattle.exchange.specs.Writing.{is_too_long}
 
 -- these come first in all
@@ -25,3 +27,20 @@ WhyUnsaid frames Io = ⊤
 WhyUnsaid frames Memory = ⊤
 WhyUnsaid frames Turns = ⊥
 WhyUnsaid frames Refused = ⊥
+
+-- The operation of a GIVE is one that can be read.
+abbrev pub GivesLawful : Frame → Type 0
+GivesLawful (Have digests) = ⊤
+GivesLawful (Want digests) = ⊤
+GivesLawful (Give op) = IsFrame (Give op)
+GivesLawful End = ⊤
+GivesLawful (Buckets digests) = ⊤
+GivesLawful (Differ places) = ⊤
+GivesLawful (Hello version) = ⊤
+
+-- what is known of a frame once it is written
+abbrev pub IsSayable : Frame → Type 0
+IsSayable frame = (is_too_long frame ≡ false) × GivesLawful frame
+
+abbrev pub AreSayable : List Frame → Type 0
+AreSayable frames = AllByRecursion IsSayable frames

@@ -6,11 +6,13 @@
 #![tactic(auto)]
 
 mod hearing;
+mod laws;
 mod role;
 mod run;
 mod saying;
 mod side;
 mod task;
 
+pub use laws::{an_exchange_gives_all, an_exchange_makes_holders_equal};
 pub use role::{Ended, Role};
 pub use run::run_exchange;

@@ -7,11 +7,11 @@ ghost use Rattle.exchange.specs.declared.frame.Frame.TheVariants.{Give};
 ghost use Rattle.exchange.specs.Spelling.{text_of};
 ghost use Rattle.exchange_run.specs.Course.{frames_of, gifts_of};
 ghost use Rattle.exchange_run.specs.Hearing.{Fails, texts};
-ghost use Rattle.exchange_run.specs.Saying.{WroteFront, WhyUnsaid};
+ghost use Rattle.exchange_run.specs.Saying.{WroteFront, WhyUnsaid, GivesLawful, IsSayable, AreSayable};
 
 use crate::side::Said;
 use devices::{Sink, put_all};
-use exchange::{ExchangeFault, Frame, write_frame};
+use exchange::{ExchangeFault, Frame, a_give_is_a_frame, write_frame};
 use octets::ListOf;
 use operation::Op;
 use std::alloc::Global;
@@ -43,6 +43,17 @@ fn put_both<W: Sink>(writer: &mut W, head: &[u8], rest: &[u8]) -> Result<(), Exc
     put(writer, rest)
 }
 
+/// The operation of a GIVE is lawful. Nothing is done: this is a fact for callers.
+fn see_lawful(frame: &Frame)
+    ensures { GivesLawful frame.now }
+{
+    match frame {
+        Frame::Give(op) => a_give_is_a_frame(op),
+        Frame::Have(_) | Frame::Want(_) | Frame::End => {}
+        Frame::Buckets(_) | Frame::Differ(_) | Frame::Hello(_) => {}
+    }
+}
+
 /// Writes a frame, by at most two writes where the device takes what it is given.
 fn say_frame<W: Sink>(alloc: Global, writer: &mut W, frame: &Frame) -> Result<(), ExchangeFault>
     ensures ok { OnOk result (Appends (W.contents writer.old) (W.contents writer.new)
@@ -50,8 +61,10 @@ fn say_frame<W: Sink>(alloc: Global, writer: &mut W, frame: &Frame) -> Result<()
     ensures err { OnErr result (WroteFront (W.contents writer.old) (W.contents writer.new)
         (text_of frame.now)) }
     ensures why { IfErr result (WhyUnsaid (frame.now ∷ [])) }
+    ensures sayable { OnOk result (IsSayable frame.now) }
     ensures failed { Fails result (W.failures writer.old) (W.failures writer.new) }
 {
+    see_lawful(frame);
     let text = write_frame(alloc, frame)?;
     let (head, rest) = text.parts();
     put_both(writer, head, rest)
@@ -64,6 +77,7 @@ fn say_give<W: Sink>(alloc: Global, writer: &mut W, op: Op) -> Result<(), Exchan
     ensures err { OnErr result (WroteFront (W.contents writer.old) (W.contents writer.new)
         (text_of (Give op))) }
     ensures why { IfErr result (WhyUnsaid (Give op ∷ [])) }
+    ensures sayable { OnOk result (IsSayable (Give op)) }
     ensures failed { Fails result (W.failures writer.old) (W.failures writer.new) }
 {
     let frame = Frame::Give(op);
@@ -77,6 +91,7 @@ fn say_gifts<W: Sink>(alloc: Global, writer: &mut W, ops: ListOf<Op>) -> Result<
     ensures err { OnErr result (WroteFront (W.contents writer.old) (W.contents writer.new)
         (texts (gifts_of ops))) }
     ensures why { IfErr result (WhyUnsaid (gifts_of ops)) }
+    ensures sayable { OnOk result (AreSayable (gifts_of ops)) }
     ensures failed { Fails result (W.failures writer.old) (W.failures writer.new) }
 {
     for op in ops.into_vec() {
@@ -92,6 +107,7 @@ pub(crate) fn say<W: Sink>(alloc: Global, writer: &mut W, said: Said) -> Result<
     ensures err { OnErr result (WroteFront (W.contents writer.old) (W.contents writer.new)
         (texts (frames_of said))) }
     ensures why { IfErr result (WhyUnsaid (frames_of said)) }
+    ensures sayable { OnOk result (AreSayable (frames_of said)) }
     ensures failed { Fails result (W.failures writer.old) (W.failures writer.new) }
 {
     match said {

@@ -7,3 +7,7 @@
 mod hubs;
 #[cfg(test)]
 mod made;
+#[cfg(test)]
+mod messages;
+#[cfg(test)]
+mod ports;

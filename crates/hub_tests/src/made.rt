@@ -15,10 +15,10 @@ use std::test::Fail;
 pub const NAME: u32 = 0x0010_0010;
 
 /// CT Image Storage
-const CT: &[u8] = b"1.2.840.10008.5.1.4.1.1.2";
+pub const CT: &[u8] = b"1.2.840.10008.5.1.4.1.1.2";
 
 /// An element in Implicit VR Little Endian, whose value a zero byte pads.
-fn put(bytes: &mut Vec<u8>, tag: [u8; 4], value: &[u8]) -> Result<(), Fail> {
+pub fn put(bytes: &mut Vec<u8>, tag: [u8; 4], value: &[u8]) -> Result<(), Fail> {
     let size = u32::try_from(value.len())?;
     let padded = size.saturating_add(size % 2);
     bytes.extend_from_slice(tag.as_slice())?;
@@ -30,16 +30,22 @@ fn put(bytes: &mut Vec<u8>, tag: [u8; 4], value: &[u8]) -> Result<(), Fail> {
     Ok(())
 }
 
-/// Image 1.2.1.1.k of study 1.2.1.
-pub fn image(alloc: Global, k: u64) -> Result<Op, Fail> {
-    let uid = format!(in alloc; "1.2.1.1.{k}")?;
+/// The data set of an image of study 1.2.1.
+pub fn image_set(alloc: Global, uid: &[u8]) -> Result<Vec<u8>, Fail> {
     let mut bytes = Vec::new(alloc);
     put(&mut bytes, [0x08, 0x00, 0x16, 0x00], CT)?;
-    put(&mut bytes, [0x08, 0x00, 0x18, 0x00], uid.as_bytes())?;
+    put(&mut bytes, [0x08, 0x00, 0x18, 0x00], uid)?;
     put(&mut bytes, [0x08, 0x00, 0x60, 0x00], b"CT")?;
     put(&mut bytes, [0x10, 0x00, 0x10, 0x00], b"DOE^JANE")?;
     put(&mut bytes, [0x20, 0x00, 0x0d, 0x00], b"1.2.1")?;
     put(&mut bytes, [0x20, 0x00, 0x0e, 0x00], b"1.2.1.1")?;
+    Ok(bytes)
+}
+
+/// Image 1.2.1.1.k of study 1.2.1.
+pub fn image(alloc: Global, k: u64) -> Result<Op, Fail> {
+    let uid = format!(in alloc; "1.2.1.1.{k}")?;
+    let bytes = image_set(alloc, uid.as_bytes())?;
     let class = Octets::from_slice(alloc, CT)?;
     let instance = Octets::from_slice(alloc, uid.as_bytes())?;
     let body = Bytes::from_vec(bytes)?;
@@ -62,11 +68,17 @@ pub fn correction(alloc: Global, counter: u64) -> Result<Op, Fail> {
     Ok(Op::Correction(correction_of(study(alloc)?, NAME, name(alloc)?, stamp)?))
 }
 
-/// A query for studies that asks for (0020,1208), the number of instances.
-pub fn query(alloc: Global) -> Result<Query, Fail> {
+/// The identifier of a query for studies that asks for (0020,1208), the number of instances.
+pub fn identifier(alloc: Global) -> Result<Vec<u8>, Fail> {
     let mut bytes = Vec::new(alloc);
     put(&mut bytes, [0x08, 0x00, 0x52, 0x00], b"STUDY ")?;
     put(&mut bytes, [0x20, 0x00, 0x08, 0x12], b"")?;
+    Ok(bytes)
+}
+
+/// That query.
+pub fn query(alloc: Global) -> Result<Query, Fail> {
+    let bytes = identifier(alloc)?;
     let set = read(alloc, Syntax::Implicit, &bytes)?;
     Ok(Query::read(alloc, &set)?)
 }

@@ -1,16 +1,24 @@
 -- Histories that grow by one entry.
-use Rattle.std.proofs.Common.{◌≡◌, ◌≢◌, ℕ, Some, List, [], ◌∷◌, ◌++◌, ◌+◌, length, Ok, refl, ap, sym, subst, ◌∙◌}
+use Rattle.std.proofs.Common.{◌≡◌, ◌≢◌, ℕ, Bool, true, false, cond, Option, Some, None, List, [], ◌∷◌, ◌++◌, ◌+◌}
+use Rattle.std.proofs.Common.{length, Ok, refl, ap, sym, subst, ◌∙◌}
+use Rattle.std.specs.Prelude.{IfSome}
+use Rattle.std.specs.Cmp.Lexicographic.{nat_list_cmp_total}
+use Rattle.std.specs.BTreeMap.{is_at}
+use Rattle.std.specs.FinMap.{get, get-insert}
 use Rattle.operation.specs.declared.op.Op.{Op}
 use Rattle.operation.specs.Spelling.{digest_of}
 use Rattle.operation.specs.declared.taken.Taken.{Taken}
-use Rattle.site_state.specs.Site.{Map, with_op, held_at, IsClash, Takes}
+use Rattle.operation.specs.declared.taken.Taken.TheVariants.{New, Known}
+use Rattle.site_state.specs.Site.{Map, IsSite, HasNoOther, digest_cmp, with_op, held_at, IsClash, Takes}
+use Rattle.site_state.proofs.Maps.{tied}
 use Rattle.site_state.proofs.Same.{taking_adds}
 use Rattle.site_hub.proofs.Fronts.{one_more}
 use mathlib.Core.List.{IsPrefix}
 use Rattle.site_state.specs.Laws.{holding}
 use Rattle.site_hub.specs.declared.entry.Entry.{Entry}
 use Rattle.site_hub.specs.declared.entry.Logged.{Logged}
-use Rattle.site_hub.specs.History.{set_of, logged_of}
+use Rattle.site_hub.specs.History.{set_of, logged_of, HasNoClash, IsHistory}
+use Rattle.site_hub.specs.Hub.{WasHeld}
 
 -- one entry more adds its operation
 pub set_of_more : (opening : Map) (log : List Entry) (e : Entry) → set_of opening (log ++ e ∷ []) ≡ with_op
@@ -41,3 +49,83 @@ absorbed opening m n old new before e adds is pre len ends =
 -- another operation under the digest of this one is a clash
 pub clash : (m : Map) (o other : Op) (d : List ℕ) → d ≡ digest_of o → held_at m d ≡ Some other → other ≢ o → IsClash m o
 clash m o other d own held differs = (other, subst (λ k. held_at m k ≡ Some other) own held, differs)
+
+-- ---- what every history keeps
+
+some_is : (x o : Op) → Some x ≡ Some o → x ≡ o
+some_is x o e = cc
+
+-- an operation that was taken clashes with nothing
+pub none_other : (m : Map) (o : Op) (taken : Taken) → WasHeld m o taken → HasNoOther m (digest_of o) o
+none_other m o New was x held = absurd (let e : None ≡ Some x = sym was ∙ held in cc)
+none_other m o Known was x held = some_is x o (sym held ∙ was)
+
+clashless_more : (m : Map) (log : List Entry) (e : Entry) → HasNoClash m log
+    → HasNoOther (set_of m log) (digest_of e.op) e.op
+    → HasNoClash m (log ++ e ∷ [])
+clashless_more m [] e free none = (none, tt)
+clashless_more m (f ∷ log) e free none = (free.0, clashless_more (with_op m f.op) log e free.1 none)
+
+-- one entry more
+pub history_more : (opening : Map) (log : List Entry) (e : Entry) → IsHistory opening log
+    → HasNoOther (set_of opening log) (digest_of e.op) e.op
+    → IsHistory opening (log ++ e ∷ [])
+history_more opening log e history none = record {
+  opened = history.opened;
+  clashless = clashless_more opening log e history.clashless none;
+}
+
+clashless_front : (m : Map) (log rest : List Entry) → HasNoClash m (log ++ rest) → HasNoClash m log
+clashless_front m [] rest free = tt
+clashless_front m (e ∷ log) rest free = (free.0, clashless_front (with_op m e.op) log rest free.1)
+
+-- a beginning of it
+pub history_front : (opening : Map) (xs ys : List Entry) → IsPrefix xs ys → IsHistory opening ys → IsHistory opening xs
+history_front opening xs ys pre history = record {
+  opened = history.opened;
+  clashless = clashless_front opening xs pre.0 (subst (HasNoClash opening) (sym pre.1) history.clashless);
+}
+
+-- what is held stays held
+abbrev pub StaysHeld : Map → Map → Type 0
+StaysHeld m n = (d : List ℕ) (o : Op) → held_at m d ≡ Some o → held_at n d ≡ Some o
+
+with_stays : (m : Map) (o : Op) → HasNoOther m (digest_of o) o → StaysHeld m (with_op m o)
+with_stays m o none d x held = get-insert nat_list_cmp_total m (digest_of o) o d
+    ∙ by (is_at (digest_cmp d) (digest_of o)) refl
+  where
+    by : (b : Bool) → is_at (digest_cmp d) (digest_of o) ≡ b → cond b (Some o) (get m d) ≡ Some x
+    by true is = ap Some (sym (none x (subst (λ k. held_at m k ≡ Some x) (tied d (digest_of o) is) held)))
+    by false is = held
+
+all_stay : (m : Map) (log : List Entry) → HasNoClash m log → StaysHeld m (set_of m log)
+all_stay m [] free d x held = held
+all_stay m (e ∷ log) free d x held = all_stay (with_op m e.op) log free.1 d
+    x (with_stays m e.op free.0 d x held)
+
+stays_on : (m : Map) (xs ys : List Entry) → HasNoClash m (xs ++ ys) → StaysHeld (set_of m xs) (set_of m (xs ++ ys))
+stays_on m [] ys free = all_stay m ys free
+stays_on m (x ∷ xs) ys free = stays_on (with_op m x.op) xs ys free.1
+
+-- what a beginning of a history holds is held after it
+pub stays : (opening : Map) (xs ys : List Entry) → IsHistory opening ys → IsPrefix xs ys
+    → StaysHeld (set_of opening xs) (set_of opening ys)
+stays opening xs ys history pre =
+    subst (λ (log : List Entry). StaysHeld (set_of opening xs) (set_of opening log)) pre.1
+    (stays_on opening xs pre.0 (subst (HasNoClash opening) (sym pre.1) history.clashless))
+
+with_is_site : (m : Map) (o : Op) → IsSite m → IsSite (with_op m o)
+with_is_site m o site d = subst (λ (r : Option Op). IfSome r (λ x. d ≡ digest_of x))
+    (sym (get-insert nat_list_cmp_total m (digest_of o) o d)) (by (is_at (digest_cmp d) (digest_of o)) refl)
+  where
+    by : (b : Bool) → is_at (digest_cmp d) (digest_of o) ≡ b → IfSome (cond b (Some o) (get m d)) (λ x. d ≡ digest_of x)
+    by true is = tied d (digest_of o) is
+    by false is = site d
+
+all_are_site : (m : Map) (log : List Entry) → IsSite m → IsSite (set_of m log)
+all_are_site m [] site = site
+all_are_site m (e ∷ log) site = all_are_site (with_op m e.op) log (with_is_site m e.op site)
+
+-- what is held after a history lies under its own digest
+pub history_is_site : (opening : Map) (log : List Entry) → IsHistory opening log → IsSite (set_of opening log)
+history_is_site opening log history = all_are_site opening log history.opened

@@ -1,4 +1,5 @@
 pub mod Adding
 pub mod Fronts
 pub mod Histories
+pub mod Laters
 pub mod Stamping

@@ -1,9 +1,9 @@
 -- The history of a hub: entries, each an operation that was taken for a pass.
-use Rattle.std.specs.Prelude.{ℕ, ◌≡◌, ◌<◌, ◌==◌, List, [], ◌∷◌, ◌++◌, length, map, filter}
+use Rattle.std.specs.Prelude.{ℕ, ◌≡◌, ◌<◌, ◌==◌, List, [], ◌∷◌, ◌++◌, length, map, filter, ⊤}
 use mathlib.Core.List.{IsPrefix}
 use Rattle.operation.specs.declared.op.Op.{Op}
 use Rattle.operation.specs.Spelling.{digest_of}
-use Rattle.site_state.specs.Site.{Map, is_missing}
+use Rattle.site_state.specs.Site.{Map, IsSite, HasNoOther, with_op, is_missing}
 use Rattle.site_state.specs.Laws.{holding}
 use Rattle.site_hub.specs.declared.entry.Entry.{Entry}
 use Rattle.site_hub.specs.declared.entry.Logged.{Logged}
@@ -15,6 +15,16 @@ ops_in log = map (λ (e : Entry). e.op) log
 -- what a site holds after a history: what it held at its opening, with the operations of each entry
 abbrev pub set_of : Map → List Entry → Map
 set_of opening log = holding opening (ops_in log)
+
+-- no entry clashes with what is held before it
+abbrev pub HasNoClash : Map → List Entry → Type 0
+HasNoClash held [] = ⊤
+HasNoClash held (e ∷ log) = HasNoOther held (digest_of e.op) e.op × HasNoClash (with_op held e.op) log
+
+-- what every history of a hub keeps: what is held lies under its own digest, and nothing that is held is lost
+pub record IsHistory (opening : Map) (log : List Entry) : Type 0 where
+  pub opened : IsSite opening
+  pub clashless : HasNoClash opening log
 
 -- the entry of an operation that is taken for a pass
 abbrev pub entry_of : ℕ → Op → Entry

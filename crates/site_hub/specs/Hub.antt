@@ -9,8 +9,9 @@ use Rattle.operation.specs.declared.op.Op.{Op}
 use Rattle.operation.specs.declared.taken.Taken.{Taken}
 use Rattle.operation.specs.declared.taken.Taken.TheVariants.{New, Known}
 use Rattle.operation.specs.Spelling.{digest_of}
-use Rattle.site_state.specs.Site.{Map, held_at}
+use Rattle.site_state.specs.Site.{Map, held_at, IsClash}
 use Rattle.site_hub.specs.declared.entry.Entry.{Entry}
+use Rattle.site_hub.specs.History.{set_of, entry_of, IsHistory}
 
 -- what is published, and the whole history with what is pending behind it
 pub record Desk : Type 0 where
@@ -55,6 +56,24 @@ new_seats (suc n) = new_seats n ++ new_seat (suc n) ∷ []
 abbrev pub WasHeld : Map → Op → Taken → Type 0
 WasHeld m op New = held_at m (digest_of op) ≡ None
 WasHeld m op Known = held_at m (digest_of op) ≡ Some op
+
+-- the history at a pass's turn: with what is pending, it begins with what the pass had seen
+pub record IsTurn (opening : Map) (before : Seat) (turn : List Entry) : Type 0 where
+  pub history : IsHistory opening turn
+  pub seen : IsPrefix before.seen turn
+
+-- An operation was taken for a pass: at its turn it was new where it was not held, and its entry comes next.
+pub record IsTaken (opening : Map) (before : Seat) (op : Op) (taken : Taken) (later : Seat) : Type 0 where
+  pub turn : List Entry
+  pub comes : IsTurn opening before turn
+  pub held : WasHeld (set_of opening turn) op taken
+  pub seen : later.seen ≡ turn ++ entry_of before.number op ∷ []
+
+-- An operation was not taken for a pass: at its turn another one of its digest was held.
+pub record IsClashed (opening : Map) (before : Seat) (op : Op) : Type 0 where
+  pub turn : List Entry
+  pub comes : IsTurn opening before turn
+  pub clash : IsClash (set_of opening turn) op
 
 -- a pass afterwards: the same one, which has seen no less and has all of its own
 pub record IsLater (before later : Seat) : Type 0 where

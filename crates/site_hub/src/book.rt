@@ -1,7 +1,9 @@
 //! The one history, in a book of `logbook`.
-ghost use Rattle.std.specs.Prelude.{◌≡◌, ◌<◌, ◌^◌, ◌++◌, ◌∷◌, ◌⊎◌, [], length, MatchBool, IsTrue, false};
+ghost use Rattle.std.specs.Prelude.{◌≡◌, ◌<◌, ◌^◌, ◌++◌, ◌∷◌, ◌⊎◌, [], length, IfSome, IsTrue, false};
 ghost use mathlib.Core.List.{IsPrefix};
-ghost use Rattle.site_hub.specs.History.{IsLonger};
+ghost use Rattle.operation.specs.Spelling.{digest_of};
+ghost use Rattle.site_state.specs.Site.{IsSite, HasNoOther};
+ghost use Rattle.site_hub.specs.History.{set_of, IsHistory};
 ghost use Rattle.site_hub.specs.Rules.{head_of};
 
 use crate::entry::Entry;
@@ -104,7 +106,8 @@ impl Blank {
 
     /// The book's word under a name, and the beginning that has no entry.
     pub fn named<H: HubName>(self) -> (Book<H>, Front<H>)
-        requires { self.seen.book ≡ H.book }
+        requires book { self.seen.book ≡ H.book }
+        requires opened { IsSite H.opening }
         ensures { result.1 ≡ [] }
     {
         let Blank { head, seen } = self;
@@ -141,12 +144,14 @@ pub struct Front<H: HubName> {
 impl<H: HubName> Model for Front<H> {
     ghost use Rattle.std.specs.Prelude.{◌≡◌, List, length};
     ghost use Rattle.site_hub.specs.declared.entry.Entry.{Entry};
+    ghost use Rattle.site_hub.specs.History.{IsHistory};
 
     ghost Value = { List Entry };
 
     ghost view = { λ f. f.seen.log };
 
-    ghost invariant = { λ f. (f.entries ≡ length f.seen.log) × (f.seen.book ≡ H.book) };
+    ghost invariant = { λ f. (f.entries ≡ length f.seen.log) × (f.seen.book ≡ H.book)
+        × IsHistory H.opening f.seen.log };
 }
 
 impl<H: HubName> Front<H> {
@@ -183,29 +188,45 @@ impl<H: HubName> Front<H> {
         }
     }
 
-    /// Adds an entry to all that was reached, and says whether it did. It did not where the history
-    /// is longer.
-    pub fn add(&mut self, book: &Book<H>, entry: &Entry) -> bool
-        requires room { length self.old < 2 ^ 62 }
-        ensures { MatchBool result (self.new ≡ self.old ++ entry.now ∷ [])
-            (IsLonger self.old self.new) }
+    /// What every history keeps. Nothing is done: these are facts for callers.
+    pub fn see_history(&self)
+        ensures { IsHistory H.opening self.now }
     {
-        let mut offer: Offer<Entry, u64, Law, Nothing> = self
-            .seen
-            .plain::<Nothing, Entry, Add>(entry);
-        let mut pen = self.seen.no_pen();
-        let entries = self.entries;
+        let _ = &self.entries;
+    }
+
+    /// With one entry more, which clashes with nothing that is held. There is none where the
+    /// history is longer.
+    pub fn add(self, book: &Book<H>, entry: &Entry) -> Option<Front<H>>
+        requires room { length self < 2 ^ 62 }
+        requires clashless { HasNoOther (set_of H.opening self) (digest_of entry.now.op)
+            entry.now.op }
+        ensures { IfSome result (λ longer. longer ≡ self ++ entry.now ∷ []) }
+    {
+        let Front {
+            entries,
+            mut seen,
+            of,
+        } = self;
+        let mut offer: Offer<Entry, u64, Law, Nothing> = seen.plain::<Nothing, Entry, Add>(entry);
+        let mut pen = seen.no_pen();
         let found = book
             .head
             .compare_exchange::<Add, Nothing>(
                 entries,
                 entries + 1,
-                &mut self.seen,
+                &mut seen,
                 &mut offer,
                 &mut pen,
             );
-        self.entries = if found == entries { entries + 1 } else { found };
-        found == entries
+        if found != entries {
+            return None;
+        }
+        Some(Front {
+            entries: entries + 1,
+            seen,
+            of,
+        })
     }
 
     /// Whether the other beginning goes on from this one.

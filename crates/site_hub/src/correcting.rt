@@ -5,7 +5,7 @@ ghost use Rattle.operation.specs.declared.op.Op.TheVariants.{Correction as a_cor
 ghost use Rattle.operation.specs.Parts.{CorrectionParts};
 ghost use Rattle.operation.specs.Spelling.{digest_of};
 ghost use Rattle.site_hub.specs.History.{set_of, entry_of};
-ghost use Rattle.site_hub.specs.Hub.{HasStayed};
+ghost use Rattle.site_hub.specs.Hub.{HasStayed, IsLater};
 ghost use Rattle.site_hub.specs.Stamps.{next_correction as next_correction_in};
 
 use crate::book::HubName;
@@ -88,6 +88,7 @@ impl<H: HubName, T: Shows<H>, R: Wait + Drop> Keeper<H, T, R> {
         ensures mine { OnOk result (pass.new.mine
             ≡ pass.old.mine ++ digest_of (a_correction made) ∷ []) }
         ensures number { pass.new.number ≡ pass.old.number }
+        ensures later { IsLater pass.old pass.new }
         ensures pending { IfErr result (λ e. e ≡ HubFault.Pending →
             (self.new.all ≡ self.old.all ++ entry_of pass.old.number (a_correction made) ∷ [])
             × (pass.new.mine ≡ pass.old.mine ++ digest_of (a_correction made) ∷ [])
@@ -101,7 +102,7 @@ impl<H: HubName, T: Shows<H>, R: Wait + Drop> Keeper<H, T, R> {
             return Err(HubFault::Memory);
         };
         let op = Digested::of(Op::Correction(made));
-        let taken = self.check(&op)?;
+        let taken = self.check(pass, &op)?;
         let told = self.add(pass, op, taken)?;
         Ok((kept, told))
     }
@@ -133,6 +134,7 @@ impl<H: HubName, T: Shows<H>, R: Wait + Drop> Keeper<H, T, R> {
         ensures mine { IfOk result (λ both. pass.new.mine
             ≡ pass.old.mine ++ digest_of (a_correction both.0) ∷ []) }
         ensures number { pass.new.number ≡ pass.old.number }
+        ensures later { IsLater pass.old pass.new }
 
         // Each fault. That a part is bad is told first.
         ensures bad_correction { (result ≡ Err HubFault.BadCorrection) ↔

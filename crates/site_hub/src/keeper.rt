@@ -1,10 +1,10 @@
 //! The one writer of a hub.
-ghost use Rattle.std.specs.Prelude.{◌≡◌, ◌⊎◌, ◌∷◌, ◌++◌, [], Ok, Err, IfOk, IfErr, OnOk, MatchResult, true, false};
+ghost use Rattle.std.specs.Prelude.{◌≡◌, ◌≢◌, ◌⊎◌, ◌∷◌, ◌++◌, [], Ok, Err, IfOk, IfErr, OnOk, MatchResult, true, false};
 ghost use mathlib.Core.List.{IsPrefix};
 ghost use Rattle.operation.specs.Spelling.{digest_of};
 ghost use Rattle.site_state.specs.Site.{IsClash};
 ghost use Rattle.site_hub.specs.History.{set_of, entry_of, logged_of};
-ghost use Rattle.site_hub.specs.Hub.{WasHeld, HasStayed};
+ghost use Rattle.site_hub.specs.Hub.{WasHeld, HasStayed, IsTurn, IsLater};
 
 use crate::book::{Book, Front, HubName};
 use crate::entry::{Entry, Log, Logged};
@@ -77,13 +77,20 @@ impl<H: HubName, T: Shows<H>, R: Wait + Drop> Keeper<H, T, R> {
         self.pair.publish()
     }
 
-    /// Whether an operation is held, or `Collision` where its digest is held with another.
+    /// Whether an operation is held at a pass's turn, or `Collision` where its digest is held with
+    /// another.
     #[tactic(auto, using(crate::proofs::Histories::clash))]
-    pub(crate) fn check(&self, op: &Digested) -> Result<Taken, HubFault>
+    pub(crate) fn check(&self, pass: &Pass<H>, op: &Digested) -> Result<Taken, HubFault>
         requires { self.now.published ≡ self.now.all }
-        ensures { MatchResult result (WasHeld (set_of H.opening self.now.all) op.now)
-            (λ e. (e ≡ HubFault.Collision) × IsClash (set_of H.opening self.now.all) op.now) }
+        ensures held { MatchResult result (WasHeld (set_of H.opening self.now.all) op.now)
+            (λ e. (e ≡ HubFault.Busy)
+            ⊎ ((e ≡ HubFault.Collision) × IsClash (set_of H.opening self.now.all) op.now)) }
+        ensures turn { result ≢ Err HubFault.Busy → IsTurn H.opening pass.now self.now.all }
     {
+        if !pass.seen.begins(&self.front) {
+            return Err(HubFault::Busy);
+        }
+        self.front.see_history();
         match self.pair.site().op(op.digest()) {
             None => Ok(Taken::New),
             Some(held) => {
@@ -102,7 +109,9 @@ impl<H: HubName, T: Shows<H>, R: Wait + Drop> Keeper<H, T, R> {
         op: Digested,
         taken: Taken,
     ) -> Result<Told<H>, HubFault>
-        requires { self.old.published ≡ self.old.all }
+        requires shown { self.old.published ≡ self.old.all }
+        requires turn { IsTurn H.opening pass.old self.old.all }
+        requires held { WasHeld (set_of H.opening self.old.all) op taken }
         ensures told { IfOk result (λ told.
             told ≡ record { reached = self.new.all; taken = taken }) }
         ensures history { OnOk result (self.new.all
@@ -112,6 +121,7 @@ impl<H: HubName, T: Shows<H>, R: Wait + Drop> Keeper<H, T, R> {
         ensures older { OnOk result (IsPrefix pass.old.seen pass.new.seen) }
         ensures mine { OnOk result (pass.new.mine ≡ pass.old.mine ++ digest_of op ∷ []) }
         ensures number { pass.new.number ≡ pass.old.number }
+        ensures later { IsLater pass.old pass.new }
 
         ensures pending { IfErr result (λ e. e ≡ HubFault.Pending →
             (self.new.all ≡ self.old.all ++ entry_of pass.old.number op ∷ [])
@@ -127,17 +137,16 @@ impl<H: HubName, T: Shows<H>, R: Wait + Drop> Keeper<H, T, R> {
         if pass.mine.reserve(1).is_err() || self.log.reserve(1).is_err() {
             return Err(HubFault::Memory);
         }
-        if self.front.len() > MOST || !pass.seen.begins(&self.front) {
+        if self.front.len() > MOST {
             return Err(HubFault::Busy);
         }
         let entry = Entry {
             pass: pass.number,
             op,
         };
-        let mut front = self.front.again();
-        if !front.add(&self.book, &entry) {
+        let Some(front) = self.front.again().add(&self.book, &entry) else {
             return Err(HubFault::Busy);
-        }
+        };
         pass.mine.push_reserved(digest);
         self.log.push_reserved(Logged {
             pass: entry.pass,
@@ -165,6 +174,7 @@ impl<H: HubName, T: Shows<H>, R: Wait + Drop> Keeper<H, T, R> {
         ensures told { IfOk result (λ told. told.reached ≡ self.new.all) }
         ensures taken { IfOk result (λ told.
             WasHeld (set_of H.opening self.old.all) op told.taken) }
+        ensures turn { OnOk result (IsTurn H.opening pass.old self.old.all) }
         ensures history { OnOk result (self.new.all
             ≡ self.old.all ++ entry_of pass.old.number op ∷ []) }
         ensures published { OnOk result (self.new.published ≡ self.new.all) }
@@ -174,6 +184,7 @@ impl<H: HubName, T: Shows<H>, R: Wait + Drop> Keeper<H, T, R> {
         ensures older { OnOk result (IsPrefix pass.old.seen pass.new.seen) }
         ensures mine { OnOk result (pass.new.mine ≡ pass.old.mine ++ digest_of op ∷ []) }
         ensures number { pass.new.number ≡ pass.old.number }
+        ensures later { IsLater pass.old pass.new }
 
         // Each fault.
         ensures pending { IfErr result (λ e. e ≡ HubFault.Pending →
@@ -181,7 +192,7 @@ impl<H: HubName, T: Shows<H>, R: Wait + Drop> Keeper<H, T, R> {
             × (pass.new.mine ≡ pass.old.mine ++ digest_of op ∷ [])
             × (pass.new.seen ≡ pass.old.seen)) }
         ensures collision { result ≡ Err HubFault.Collision →
-            IsClash (set_of H.opening self.old.all) op }
+            IsTurn H.opening pass.old self.old.all × IsClash (set_of H.opening self.old.all) op }
         ensures kept { IfErr result (λ e. (e ≡ HubFault.Pending)
             ⊎ (HasStayed self.old self.new × (pass.new ≡ pass.old))) }
         ensures fault { IfErr result (λ e. (e ≡ HubFault.Busy) ⊎ (e ≡ HubFault.Collision)
@@ -190,7 +201,7 @@ impl<H: HubName, T: Shows<H>, R: Wait + Drop> Keeper<H, T, R> {
         if !self.flush() {
             return Err(HubFault::Memory);
         }
-        let taken = self.check(&op)?;
+        let taken = self.check(pass, &op)?;
         self.add(pass, op, taken)
     }
 }

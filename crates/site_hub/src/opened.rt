@@ -136,6 +136,7 @@ impl<R: Wait + Drop> Opened<R> {
             alloc,
             rt,
         } = self;
+        first.see_lawful();
         let (book, front) = blank.named::<H>();
         let first = Snapshot::new(alloc, first, front.again());
         let second = Snapshot::new(alloc, second, front.again());

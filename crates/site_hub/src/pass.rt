@@ -4,9 +4,10 @@ ghost use Rattle.std.specs.Option.{option_copied};
 ghost use mathlib.Core.List.{IsPrefix};
 ghost use Rattle.site_state.specs.Site.{ops_of, held_at, digests_of};
 ghost use Rattle.query_model.specs.Rows.{rows_of};
+ghost use Rattle.retrieve_model.specs.Preparing.{prepared_of};
 ghost use Rattle.retrieve_model.specs.Sending.{Gets};
 ghost use Rattle.site_hub.specs.Fault.{IsLookFault};
-ghost use Rattle.site_hub.specs.History.{set_of, missing_from};
+ghost use Rattle.site_hub.specs.History.{set_of, missing_from, IsHistory};
 ghost use Rattle.site_hub.specs.Hub.{HasLooked};
 
 use crate::book::{Front, HubName};
@@ -15,7 +16,7 @@ use crate::snapshot::Snapshot;
 use crate::told::Told;
 use archive_model::View;
 use archive_query::{Answer, Query, find};
-use archive_retrieve::{Accepts, Selection, Sending, get};
+use archive_retrieve::{Accepts, Prepared, Selection, Sending, get, prepare};
 use left_right::ReadHandle;
 use operation::{Digest, Op};
 use site_state::Site;
@@ -45,6 +46,13 @@ impl<H: HubName> Model for Pass<H> {
 }
 
 impl<H: HubName> Pass<H> {
+    /// What every history keeps. Nothing is done: these are facts for callers.
+    pub fn see_history(&self)
+        ensures { IsHistory H.opening self.now.seen }
+    {
+        self.seen.see_history();
+    }
+
     /// From now on a look holds all that was told.
     pub fn learn(&mut self, told: Told<H>)
         ensures longer { (self.new.seen ≡ self.old.seen) ⊎ (self.new.seen ≡ told.reached) }
@@ -104,6 +112,31 @@ impl<H: HubName> Pass<H> {
             return Err(HubFault::Busy);
         }
         let found = get(self.alloc, guard.site(), view, selection, accepts);
+        drop(guard);
+        self.seen = front;
+        match found {
+            Ok(found) => Ok(found),
+            Err(_refused) => Err(HubFault::Memory),
+        }
+    }
+
+    /// What a C-GET is to send, before it is made (PS3.4, section C.4.3): it shares the bytes of
+    /// each data set with the site.
+    pub fn prepare(&mut self, view: View, selection: &Selection) -> Result<Vec<Prepared>, HubFault>
+        ensures prepared { IfOk result (λ found. found.items ≡ prepared_of view selection.now
+            (ops_of (set_of H.opening self.new.seen))) }
+        ensures looked { HasLooked self.old self.new }
+        ensures fault { IfErr result IsLookFault }
+        ensures busy { result ≡ Err HubFault.Busy → self.new ≡ self.old }
+    {
+        let Some(guard) = self.reader.enter() else {
+            return Err(HubFault::Busy);
+        };
+        let front = guard.front();
+        if !self.seen.begins(&front) {
+            return Err(HubFault::Busy);
+        }
+        let found = prepare(self.alloc, guard.site(), view, selection);
         drop(guard);
         self.seen = front;
         match found {

@@ -1,8 +1,9 @@
 //! The keeper behind a lock.
-ghost use Rattle.std.specs.Prelude.{◌≡◌, ◌⊎◌, ◌∷◌, ◌++◌, [], OnOk, IfOk, IfErr};
+ghost use Rattle.std.specs.Prelude.{◌≡◌, ◌⊎◌, ◌∷◌, ◌++◌, [], Err, OnOk, IfOk, IfErr};
 ghost use Rattle.operation.specs.declared.op.Op.TheVariants.{Correction as a_correction};
 ghost use Rattle.operation.specs.Spelling.{digest_of};
 ghost use Rattle.site_hub.specs.History.{entry_of, EndsWith};
+ghost use Rattle.site_hub.specs.Hub.{IsTaken, IsClashed, IsLater};
 ghost use mathlib.Core.List.{IsPrefix};
 
 use crate::book::HubName;
@@ -22,16 +23,54 @@ pub fn store<H: HubName, T: Shows<H>, R: Wait + Drop>(
     pass: &mut Pass<H>,
     op: Op,
 ) -> Result<Told<H>, HubFault>
+    // What was taken, and where it stands.
     ensures told { IfOk result (λ told. told.reached ≡ pass.new.seen) }
+    ensures taken { IfOk result (λ told. IsTaken H.opening pass.old op told.taken pass.new) }
+
+    // The pass.
     ensures seen { OnOk result (EndsWith pass.new.seen (entry_of pass.old.number op)) }
     ensures mine { OnOk result (pass.new.mine ≡ pass.old.mine ++ digest_of op ∷ []) }
     ensures older { OnOk result (IsPrefix pass.old.seen pass.new.seen) }
     ensures number { pass.new.number ≡ pass.old.number }
+    ensures later { IsLater pass.old pass.new }
+
+    // Each fault.
     ensures pending { IfErr result (λ e. e ≡ HubFault.Pending →
         (pass.new.mine ≡ pass.old.mine ++ digest_of op ∷ []) × (pass.new.seen ≡ pass.old.seen)) }
+    ensures collision { result ≡ Err HubFault.Collision → IsClashed H.opening pass.old op }
     ensures kept { IfErr result (λ e. (e ≡ HubFault.Pending) ⊎ (pass.new ≡ pass.old)) }
+    ensures fault { IfErr result (λ e. (e ≡ HubFault.Busy) ⊎ (e ≡ HubFault.Collision)
+        ⊎ (e ≡ HubFault.Memory) ⊎ (e ≡ HubFault.Pending)) }
 {
-    let op = Digested::of(op);
+    store_digested(rt, keeper, pass, Digested::of(op))
+}
+
+/// Takes an operation whose digest is known for a pass, in any thread. Nothing is hashed.
+pub fn store_digested<H: HubName, T: Shows<H>, R: Wait + Drop>(
+    rt: &impl Wait,
+    keeper: &Mutex<Keeper<H, T, R>>,
+    pass: &mut Pass<H>,
+    op: Digested,
+) -> Result<Told<H>, HubFault>
+    // What was taken, and where it stands.
+    ensures told { IfOk result (λ told. told.reached ≡ pass.new.seen) }
+    ensures taken { IfOk result (λ told. IsTaken H.opening pass.old op told.taken pass.new) }
+
+    // The pass.
+    ensures seen { OnOk result (EndsWith pass.new.seen (entry_of pass.old.number op)) }
+    ensures mine { OnOk result (pass.new.mine ≡ pass.old.mine ++ digest_of op ∷ []) }
+    ensures older { OnOk result (IsPrefix pass.old.seen pass.new.seen) }
+    ensures number { pass.new.number ≡ pass.old.number }
+    ensures later { IsLater pass.old pass.new }
+
+    // Each fault.
+    ensures pending { IfErr result (λ e. e ≡ HubFault.Pending →
+        (pass.new.mine ≡ pass.old.mine ++ digest_of op ∷ []) × (pass.new.seen ≡ pass.old.seen)) }
+    ensures collision { result ≡ Err HubFault.Collision → IsClashed H.opening pass.old op }
+    ensures kept { IfErr result (λ e. (e ≡ HubFault.Pending) ⊎ (pass.new ≡ pass.old)) }
+    ensures fault { IfErr result (λ e. (e ≡ HubFault.Busy) ⊎ (e ≡ HubFault.Collision)
+        ⊎ (e ≡ HubFault.Memory) ⊎ (e ≡ HubFault.Pending)) }
+{
     keeper.lock(rt).take(pass, op)
 }
 
@@ -52,6 +91,7 @@ pub fn correct<H: HubName, T: Shows<H>, R: Wait + Drop>(
         ≡ pass.old.mine ++ digest_of (a_correction both.0) ∷ []) }
     ensures older { OnOk result (IsPrefix pass.old.seen pass.new.seen) }
     ensures number { pass.new.number ≡ pass.old.number }
+    ensures later { IsLater pass.old pass.new }
     ensures pending { IfErr result (λ e. e ≡ HubFault.Pending → pass.new.seen ≡ pass.old.seen) }
     ensures kept { IfErr result (λ e. (e ≡ HubFault.Pending) ⊎ (pass.new ≡ pass.old)) }
 {

@@ -21,5 +21,7 @@ pub use command::{Command, CorrectLine, FindLine, GetLine, ImageLine, NoteLine, 
 pub use identifier::query_in;
 pub use key::Key;
 pub use laws::words_are_parted_by_spaces;
+pub use name::target_in;
 pub use retrieve::{script_accepts, selection_in};
 pub use sets::{image_content, note_content};
+pub use tag::tag_in;

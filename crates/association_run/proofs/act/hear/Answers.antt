@@ -11,14 +11,23 @@ returns-in_err-pending-clause-err g c =
     rw e.1 (fails_first g.P.Port.ops g.P.Port.own c.args.titles.now.list _ _ c.args.session.now c.args.event
     c.requires.idle c.in_err-pending.ensures.err)
 
+-- Of the deeds for the rows behind it a front was done.
+pub returns-in_err-tell_rows-clause-err : goal.returns-in_err-tell_rows-clause-err
+returns-in_err-tell_rows-clause-err g c =
+    let e = err_from_is_err_and c.from_residual-in_err-tell_rows.result c.from_residual-in_err-tell_rows.ensures.1 in
+    rw e.1 (c.in_err-tell_rows.ensures.err _ c.args.session.now c.args.event c.in_ok-pending.pending
+    (begun g.P.Port.ops g.P.Port.own c.args.titles.now.list _ _ c.args.session.now c.args.event c.in_ok-pending.pending
+    c.tell.new.session c.requires.idle c.requires.finished c.requires.connected c.in_ok-pending.ensures.ok))
+
 -- The event's own deeds are done.
 pub loop-input-init : goal.loop-input-init
 loop-input-init g c = record {
-  hearing = begun g.P.Port.ops g.P.Port.own c.args.titles.now.list _ _ c.args.session.now c.args.event
+  hearing = c.in_ok-tell_rows.ensures.ok _ c.args.session.now c.args.event c.in_ok-pending.pending
+      (begun g.P.Port.ops g.P.Port.own c.args.titles.now.list _ _ c.args.session.now c.args.event
       c.in_ok-pending.pending c.tell.new.session c.requires.idle c.requires.finished c.requires.connected
-      c.in_ok-pending.ensures.ok;
-  quiet = c.in_ok-pending.ensures.ok.turned.told;
-  write = c.in_ok-pending.ensures.write;
+      c.in_ok-pending.ensures.ok);
+  quiet = c.in_ok-tell_rows.ensures.quiet;
+  write = c.in_ok-tell_rows.ensures.write ∙ c.in_ok-pending.ensures.write;
 }
 
 -- Of the deeds for what came next a front was done.
@@ -31,11 +40,12 @@ returns-in_err-pending-2-clause-err g c =
     c.in_err-pending-2.ensures.err)
 
 -- Of the deeds for the rows a front was done.
-pub returns-in_err-tell_rows-clause-err : goal.returns-in_err-tell_rows-clause-err
-returns-in_err-tell_rows-clause-err g c =
-    let e = err_from_is_err_and c.from_residual-in_err-tell_rows.result c.from_residual-in_err-tell_rows.ensures.1 in
+pub returns-in_err-tell_rows-2-clause-err : goal.returns-in_err-tell_rows-2-clause-err
+returns-in_err-tell_rows-2-clause-err g c =
+    let e = err_from_is_err_and c.from_residual-in_err-tell_rows-2.result c.from_residual-in_err-tell_rows-2.ensures.1
+    in
     let next = rw c.in-Some.is at c.next.ensures in
-    rw e.1 (c.in_err-tell_rows.ensures.err _ c.args.session.now c.args.event c.in_ok-pending-2.pending
+    rw e.1 (c.in_err-tell_rows-2.ensures.err _ c.args.session.now c.args.event c.in_ok-pending-2.pending
     (goes_on g.P.Port.ops g.P.Port.own c.args.titles.now.list _ _ _ c.args.session.now c.args.event c.loop-input.pending
     c.loop-input.session c.in-Some.input c.in_ok-pending-2.pending c.tell-in-Some.new.session
     c.loop-input.invariant.hearing next c.in_ok-pending-2.ensures.ok))
@@ -45,7 +55,7 @@ pub loop-input-smaller : goal.loop-input-smaller
 loop-input-smaller g c =
     let next = rw c.in-Some.is at c.next.ensures in
     subst (λ (q : List Pdv). weight q c.in_ok-pending-2.pending < weight c.loop-input.session.association.queue
-    c.loop-input.pending) (sym c.in_ok-tell_rows.ensures.left)
+    c.loop-input.pending) (sym c.in_ok-tell_rows-2.ensures.left)
     (falls g.P.Port.ops g.P.Port.own c.args.titles.now.list _ _ _ c.args.session.now c.args.event c.loop-input.pending
     c.loop-input.session c.in-Some.input c.in_ok-pending-2.pending c.tell-in-Some.new.session
     c.loop-input.invariant.hearing c.loop-input.invariant.quiet next c.in_ok-pending-2.ensures.ok)
@@ -55,12 +65,12 @@ pub loop-input-preserved : goal.loop-input-preserved
 loop-input-preserved g c =
     let next = rw c.in-Some.is at c.next.ensures in
     record {
-      hearing = c.in_ok-tell_rows.ensures.ok _ c.args.session.now c.args.event c.in_ok-pending-2.pending
+      hearing = c.in_ok-tell_rows-2.ensures.ok _ c.args.session.now c.args.event c.in_ok-pending-2.pending
           (goes_on g.P.Port.ops g.P.Port.own c.args.titles.now.list _ _ _ c.args.session.now c.args.event
           c.loop-input.pending c.loop-input.session c.in-Some.input c.in_ok-pending-2.pending
           c.tell-in-Some.new.session c.loop-input.invariant.hearing next c.in_ok-pending-2.ensures.ok);
-      quiet = c.in_ok-tell_rows.ensures.quiet;
-      write = c.in_ok-tell_rows.ensures.write ∙ c.in_ok-pending-2.ensures.write ∙ c.loop-input.invariant.write;
+      quiet = c.in_ok-tell_rows-2.ensures.quiet;
+      write = c.in_ok-tell_rows-2.ensures.write ∙ c.in_ok-pending-2.ensures.write ∙ c.loop-input.invariant.write;
     }
 
 -- Nothing more comes of the event.

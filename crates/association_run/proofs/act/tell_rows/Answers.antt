@@ -65,6 +65,28 @@ loop-alloc-preserved-in_ok-_reply-3 g c =
       write = c.in_ok-_reply.ensures.write ∙ c.loop-alloc.invariant.write;
     }
 
+-- The same, where what is to be sent is let go.
+pub loop-alloc-preserved-in_ok-_reply-4 : goal.loop-alloc-preserved-in_ok-_reply-4
+loop-alloc-preserved-in_ok-_reply-4 g c =
+    let telling = sym c.is_telling.ensures ∙ c.loop-alloc-test.true in
+    record {
+      goes = tells_on g.P.Port.ops g.P.Port.own c.args.titles.now.list _ _ _ c.args.session.now c.loop-alloc.session
+          c.in_ok-_reply._reply c.tell.new.session c.loop-alloc.invariant.goes telling c.in_ok-_reply.ensures.ok;
+      left = (rows_fewer _ _ telling c.in_ok-_reply.ensures.ok.fewer).0 ∙ c.loop-alloc.invariant.left;
+      write = c.in_ok-_reply.ensures.write ∙ c.loop-alloc.invariant.write;
+    }
+
+-- The same, where a fault of a get is let go.
+pub loop-alloc-preserved-in_ok-_reply-5 : goal.loop-alloc-preserved-in_ok-_reply-5
+loop-alloc-preserved-in_ok-_reply-5 g c =
+    let telling = sym c.is_telling.ensures ∙ c.loop-alloc-test.true in
+    record {
+      goes = tells_on g.P.Port.ops g.P.Port.own c.args.titles.now.list _ _ _ c.args.session.now c.loop-alloc.session
+          c.in_ok-_reply._reply c.tell.new.session c.loop-alloc.invariant.goes telling c.in_ok-_reply.ensures.ok;
+      left = (rows_fewer _ _ telling c.in_ok-_reply.ensures.ok.fewer).0 ∙ c.loop-alloc.invariant.left;
+      write = c.in_ok-_reply.ensures.write ∙ c.loop-alloc.invariant.write;
+    }
+
 -- The responses that are left become fewer.
 pub loop-alloc-smaller : goal.loop-alloc-smaller
 loop-alloc-smaller g c =

@@ -26,5 +26,5 @@ pub returns : goal.returns
 returns g c = record {
   turn = λ role from n so. said_turned g.H.Holder.holds g.H.Holder.alone role from _ _ _ _ _ _ c.args.side.now _ n so _
       c.in_ok-frame.frame c.in_ok-frame.ensures.ok _ c.in_ok-frame.ensures.failed _ _ _ c.in_ok-said.ensures.did _ _
-      c.say.result c.say.ensures.ok c.say.ensures.err c.say.ensures.why c.say.ensures.failed;
+      c.say.result c.say.ensures.ok c.say.ensures.err c.say.ensures.why c.say.ensures.sayable c.say.ensures.failed;
 }

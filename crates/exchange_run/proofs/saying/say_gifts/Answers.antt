@@ -3,13 +3,15 @@ use Rattle.std.proofs.lemmas.Result.{err_from_is_err_and, IfErr-weaker}
 use Rattle.exchange.specs.declared.frame.Frame.TheVariants.{Give, End}
 use Rattle.exchange_run.specs.Course.{gifts_of}
 use Rattle.exchange_run.proofs.Writings.{gave_none, gave_one, gave_front, gave_all, gave_last, none_left, on_ok_map}
-use Rattle.exchange_run.proofs.Writings.{on_err_map, other_why}
+use Rattle.exchange_run.proofs.Writings.{on_err_map, other_why, sayable_all, sayable_one, sayable_end}
 use Rattle.exchange_run.proofs.saying.say_gifts.Goals as goal
 
 -- Nothing was written yet.
 pub loop-op-init : goal.loop-op-init
 loop-op-init g c = record {
   gave = gave_none _ c.args.ops _ (c.into_iter-op-iterator.ensures.into_iter_gives.0 ∙ c.into_vec-op-items.ensures);
+  sayable = sayable_all c.args.ops _ (c.into_iter-op-iterator.ensures.into_iter_gives.0
+      ∙ c.into_vec-op-items.ensures);
   write = refl;
 }
 
@@ -18,6 +20,8 @@ pub loop-op-preserved : goal.loop-op-preserved
 loop-op-preserved g c = record {
   gave = gave_one _ _ _ c.args.ops _ c.next.new.self.rest.items c.in-Some.op c.in-Some.ensures.steps.0
       c.loop-op.invariant.gave c.in_ok-say_give.ensures.ok;
+  sayable = sayable_one c.args.ops _ c.next.new.self.rest.items c.in-Some.op c.in-Some.ensures.steps.0
+      c.loop-op.invariant.sayable c.in_ok-say_give.ensures.sayable;
   write = c.in_ok-say_give.ensures.failed ∙ c.loop-op.invariant.write;
 }
 
@@ -52,3 +56,10 @@ returns-clause-err g c = on_err_map c.say_frame.result _ _ (λ p. gave_last _ _ 
 pub returns-clause-why : goal.returns-clause-why
 returns-clause-why g c = IfErr-weaker c.say_frame.result _ _ (λ e why. other_why End (gifts_of c.args.ops) e refl why)
     c.say_frame.ensures.why
+
+-- All that were written are sayable, and END is.
+pub returns-clause-sayable : goal.returns-clause-sayable
+returns-clause-sayable g c = on_ok_map c.say_frame.result _ _ (λ p. sayable_end c.args.ops
+    c.loop-op.op-iterator.rest.items (none_left c.loop-op.op-iterator.rest.items
+    (omega (arith, c.in-None.ensures.steps.0, c.loop-op.op-iterator.rest.ok.0))) c.loop-op.invariant.sayable p)
+    c.say_frame.ensures.sayable

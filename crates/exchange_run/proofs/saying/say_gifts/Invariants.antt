@@ -1,4 +1,6 @@
 use Rattle.std.proofs.Common.{◌≡◌}
+use Rattle.exchange_run.specs.Course.{gifts_of}
+use Rattle.exchange_run.specs.Saying.{AreSayable}
 use Rattle.exchange_run.proofs.Writings.{GaveSome}
 use Rattle.exchange_run.proofs.saying.say_gifts.Given as goal
 
@@ -6,5 +8,6 @@ use Rattle.exchange_run.proofs.saying.say_gifts.Given as goal
 abbrev pub invariant-loop-op : goal.invariant-loop-op
 invariant-loop-op g l = record {
   gave : GaveSome (g.W.Sink.contents l.fn.writer) (g.W.Sink.contents l.writer) l.fn.ops l.op-iterator.rest.items;
+  sayable : AreSayable (gifts_of l.op-iterator.rest.items) → AreSayable (gifts_of l.fn.ops);
   write : g.W.Sink.failures l.writer ≡ g.W.Sink.failures l.fn.writer;
 }

@@ -27,7 +27,7 @@ loop-value-preserved c =
 -- A value ended a message, which is answered.
 pub returns-in-Ok-Some-clause-turned : goal.returns-in-Ok-Some-clause-turned
 returns-in-Ok-Some-clause-turned c =
-    ok_map c.answer.result _ _
+    ok_map c.attend.result _ _
     (λ deeds answered. took c.args.titles.now.list c.args.self.now _ c.loop-value.self c.in-Some.value
     c.pop_front.new.self.items c.feed.new.self c.in-Ok-Some.message deeds _ c.self.view_is c.loop-value.invariant
     (c.pop_front.ensures.items ∙ ap (λ (o : Option Pdv). option_to_list o ++ c.pop_front.new.self.items) c.in-Some.is)
@@ -35,7 +35,7 @@ returns-in-Ok-Some-clause-turned c =
     r (assembly_in c.feed.new.self))
     (c.in-Ok-Some.is ∙ ap (λ (m : Option Message). Ok m) c.in-Ok-Some.field-0-is) c.in_ok-answer.ensures.fed)
     c.feed.ensures.limit c.requires.idle answered)
-    c.answer.ensures.answered
+    c.attend.ensures.answered
 
 -- A value is refused, and the local user aborts.
 pub returns-in-Err : goal.returns-in-Err

@@ -1,7 +1,8 @@
+use Rattle.operation.specs.declared.op.Op.TheVariants.{Content}
 use Rattle.association_worker.proofs.PortLaws.{stores_as}
 use Rattle.association_worker.proofs.site_port.SitePortPort.store.Goals as goal
 
 -- What the site takes is what a port may take.
 pub returns-clause-stores : goal.returns-clause-stores
-returns-clause-stores c = stores_as c.args.self.now c.take.new.self c.args.content c.take.result c.take.ensures.takes
-    c.take.ensures.listed c.take.ensures.kept
+returns-clause-stores c = stores_as c.args.self.now c.take.new.self (Content c.args.content) c.take.result
+    c.take.ensures.lawful c.take.ensures.takes c.take.ensures.listed c.take.ensures.collision c.take.ensures.kept

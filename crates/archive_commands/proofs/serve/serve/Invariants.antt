@@ -1,0 +1,10 @@
+use Rattle.archive_commands.proofs.serve.serve.Given as goal
+
+-- the hub that was just opened
+abbrev pub ghosts-serve_hub : goal.ghosts-serve_hub
+ghosts-serve_hub g a = record {
+  book = a.opened.book;
+  number = a.opened.number;
+  opening = a.opened.opening;
+  passes = a.opened.passes;
+}

@@ -1,0 +1,34 @@
+-- What commands print.
+use Rattle.std.specs.Prelude.{ℕ, List, [], ◌++◌, ◌∷◌, length, codes, Bool, true, false}
+use Rattle.std.specs.Fmt.{decimal}
+use Rattle.std.specs.List.{flat_map}
+use Rattle.site_world.specs.Texts.{line, end_line, message_line}
+use Rattle.exchange_run.specs.declared.role.Ended.{Ended}
+use Rattle.shelved_site.specs.declared.reporting.Report.{Report}
+
+-- a flagged SOP Instance UID
+abbrev pub flagged_line : List ℕ → List ℕ
+flagged_line uid = line (codes "flagged " ++ uid)
+
+-- how many operations there are of each kind
+abbrev pub count_lines : Report → List ℕ
+count_lines report =
+    message_line (codes "operations") report.counts.operations
+    ++ (message_line (codes "contents") report.counts.contents
+    ++ (message_line (codes "corrections") report.counts.corrections
+    ++ message_line (codes "series") report.series))
+
+-- the counts, the flagged UIDs, and how many these are
+abbrev pub report_lines : Report → List ℕ
+report_lines report = count_lines report ++ (flat_map flagged_line report.flagged ++ end_line (length report.flagged))
+
+-- whether all came that was asked for
+abbrev pub finished_line : Bool → List ℕ
+finished_line true = line (codes "finished yes")
+finished_line false = line (codes "finished no")
+
+-- what came of an exchange
+abbrev pub exchange_lines : Ended → List ℕ
+exchange_lines ended =
+    message_line (codes "given") ended.given
+    ++ (message_line (codes "taken") ended.taken ++ finished_line ended.finished)

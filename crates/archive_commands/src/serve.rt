@@ -1,0 +1,254 @@
+//! `archive serve`: serves the operations in a file to DICOM clients (PS3.8, section 9.1).
+
+ghost use Rattle.std.specs.Prelude.{◌≡◌, ◌≤◌, ◌<◌, vec_len};
+ghost use Rattle.archive_server.specs.Serving.{places_for};
+ghost use Rattle.command_words.specs.Words.{HasWorkers};
+
+use crate::ending::CommandFault;
+use crate::file::{FileShelf, open_shelf};
+use anyhow::Result as Printed;
+use archive_model::View;
+use archive_server::{Exchanging, NetFault, ServeFault, Served, serve_on};
+use association_run::OpenGate;
+use command_words::Serving;
+use octets::{ListOf, Octets};
+use op_shelf::Shelf;
+use shelved_site::site_of;
+use site_hub::{CloseFault, HubFault, HubName, Keeper, Opened, Pass, Snapshot, close, open};
+use sqlite::Alter;
+use std::alloc::{AllocError, Global};
+use std::io::Print;
+use std::marker::Brand;
+use std::net::{Net, TcpListener, TcpStream};
+use std::rt::HostRuntime;
+use std::sync::{Mutex, Wait};
+use std::thread::Threads;
+use ul_state::{Title, Titles};
+
+/// The number of the site of a server, which makes no correction.
+const SITE: u16 = 1;
+
+fn title(alloc: Global, text: &[u8], value: View) -> Result<Title<View>, AllocError> {
+    Ok(Title {
+        title: Octets::from_slice(alloc, text)?,
+        value,
+    })
+}
+
+/// The called titles, a view for each.
+fn titles(alloc: Global) -> Result<Titles<View>, AllocError> {
+    let mut list = ListOf::new(alloc);
+    list.push(title(alloc, b"ARCHIVE", View::Archive)?)?;
+    list.push(title(alloc, b"QUALITY", View::Quality)?)?;
+    list.push(title(alloc, b"AUDIT", View::Audit)?)?;
+    Ok(Titles { list })
+}
+
+/// The fault of an association, and else of the closing.
+fn first_of(fault: Option<ServeFault>, closed: Option<HubFault>) -> Result<(), CommandFault> {
+    match (fault, closed) {
+        (Some(fault), _) => Err(CommandFault::from(fault)),
+        (None, Some(fault)) => Err(CommandFault::from(fault)),
+        (None, None) => Ok(()),
+    }
+}
+
+/// What was served: how many associations were accepted, and the first fault.
+struct Count {
+    accepted: u64,
+    ended: Result<(), CommandFault>,
+}
+
+/// Where associations come in, and exchanges.
+#[derive(Drop)]
+struct Listening {
+    associations: TcpListener,
+    exchanges: Option<TcpListener>,
+}
+
+/// Closes a hub. A keeper that is not closed is dropped by a lock, which holds it.
+fn close_hub<H: HubName, R: Wait>(
+    keeper: Keeper<H, Snapshot<H>, &R>,
+    passes: Vec<Pass<H>>,
+) -> Option<HubFault> {
+    match close(keeper, passes) {
+        Ok((_site, _log)) => None,
+        Err(back) => {
+            let CloseFault {
+                keeper,
+                passes: _,
+                fault,
+            } = back;
+            let _locked = Mutex::new(keeper);
+            Some(fault)
+        }
+    }
+}
+
+/// Where exchanges come in, and how many are served.
+fn exchanging_of<'a>(listening: &'a Listening, serving: Serving<'_>) -> Option<Exchanging<'a>> {
+    match &listening.exchanges {
+        None => None,
+        Some(listener) => Some(Exchanging {
+            listener,
+            rounds: serving.rounds as u64,
+        }),
+    }
+}
+
+/// How many passes are left for workers, where one serves exchanges.
+fn workers_of(passes: usize, exchanges: bool) -> usize
+    ensures { 0 < result → passes ≡ places_for result exchanges }
+{
+    if exchanges {
+        passes.saturating_sub(1)
+    } else {
+        passes
+    }
+}
+
+/// Serves in threads until each worker has accepted what it may and each exchange was served, and
+/// closes the hub.
+fn serve_hub<H: HubName + Send + Sync, R: Threads + Wait + Sync>(
+    rt: &R,
+    alloc: Global,
+    shelf: &mut FileShelf,
+    opened: Opened<&R>,
+    listening: &Listening,
+    serving: Serving<'_>,
+) -> Result<Count, CommandFault>
+    requires book { opened.book ≡ H.book }
+    requires number { opened.number ≡ H.number }
+    requires opening { opened.opening ≡ H.opening }
+    requires passes { opened.passes ≡ H.passes }
+{
+    let titles = titles(alloc)?;
+    let listener = &listening.associations;
+    let exchange = exchanging_of(listening, serving);
+    let each = serving.each as u64;
+    let (keeper, passes) = match opened.named::<H>() {
+        Ok(hub) => hub,
+        Err(fault) => return Err(CommandFault::Hub(fault)),
+    };
+    // A keeper is dropped by the lock that holds it.
+    let keeper = Mutex::new(keeper);
+    let workers = workers_of(passes.len(), exchange.is_some());
+    if workers == 0 {
+        return Err(CommandFault::Hub(HubFault::Torn));
+    }
+    let gates = Vec::from_elem(alloc, OpenGate, workers)?;
+    let Served {
+        accepted,
+        passes,
+        fault,
+    } = serve_on(
+        rt, alloc, listener, exchange, &titles, gates, each, &keeper, passes, shelf,
+    );
+    let closed = close_hub(keeper.into_inner(), passes);
+    Ok(Count {
+        accepted,
+        ended: first_of(fault, closed),
+    })
+}
+
+/// The hub of a site whose operations stand on a shelf, with so many passes.
+fn hub_of<'r, S: Alter, R: Wait>(
+    rt: &'r R,
+    alloc: Global,
+    shelf: &mut Shelf<S>,
+    passes: usize,
+) -> Result<Opened<&'r R>, CommandFault>
+    requires passes { (1 ≤ passes) × (passes ≤ 64) }
+{
+    let site = site_of(alloc, shelf.all()?)?;
+    let opened = open(alloc, rt, site, SITE, passes)?;
+    Ok(opened)
+}
+
+/// The listener of exchanges, where some are to be served.
+fn listener_of<R: Net<Listener = TcpListener, Stream = TcpStream>>(
+    rt: &R,
+    exchange: &str,
+    rounds: u32,
+) -> Result<Option<TcpListener>, CommandFault> {
+    if rounds == 0 {
+        return Ok(None);
+    }
+    match TcpListener::bind(rt, exchange) {
+        Ok(listener) => Ok(Some(listener)),
+        Err(_refused) => Err(CommandFault::Net(NetFault::Listen)),
+    }
+}
+
+/// Listens, first for associations.
+fn listen_to<R: Net<Listener = TcpListener, Stream = TcpStream>>(
+    rt: &R,
+    serving: Serving<'_>,
+) -> Result<Listening, CommandFault> {
+    let Ok(associations) = TcpListener::bind(rt, serving.listen) else {
+        return Err(CommandFault::Net(NetFault::Listen));
+    };
+    Ok(Listening {
+        associations,
+        exchanges: listener_of(rt, serving.exchange, serving.rounds)?,
+    })
+}
+
+/// A pass for each worker, and one for exchanges where some are to be served.
+fn passes_for(serving: Serving<'_>) -> usize
+    requires workers { HasWorkers serving }
+    ensures { (1 ≤ result) × (result ≤ 64) }
+{
+    let workers = serving.workers as usize;
+    if serving.rounds == 0 {
+        workers
+    } else {
+        workers + 1
+    }
+}
+
+/// Prints where the program listens.
+fn say_where<R: Print>(rt: &R, serving: Serving<'_>) -> Printed<()> {
+    let listen = serving.listen;
+    println!(rt; "listening {listen}")?;
+    if serving.rounds != 0 {
+        let exchange = serving.exchange;
+        println!(rt; "exchanging {exchange}")?;
+    }
+    Ok(())
+}
+
+/// Serves the operations in a file, until each worker has accepted what it may and each exchange was
+/// served.
+///
+/// It prints where it listens once it does, and at the end how many associations were accepted.
+/// Refusals come in this order: the shelf, the site, the hub, the listeners; behind them the first
+/// fault of an association or an accept, and that of an exchange.
+pub fn serve<R: Net<Listener = TcpListener, Stream = TcpStream> + Threads + Wait + Print + Sync>(
+    host: &HostRuntime,
+    rt: &R,
+    serving: Serving<'_>,
+) -> Printed<Result<(), CommandFault>>
+    requires workers { HasWorkers serving }
+{
+    let mut shelf = match open_shelf(host, serving.file) {
+        Ok(shelf) => shelf,
+        Err(fault) => return Ok(Err(fault)),
+    };
+    let opened = match hub_of(rt, host.alloc(), &mut shelf, passes_for(serving)) {
+        Ok(opened) => opened,
+        Err(fault) => return Ok(Err(fault)),
+    };
+    let listening = match listen_to(rt, serving) {
+        Ok(listening) => listening,
+        Err(fault) => return Ok(Err(fault)),
+    };
+    say_where(rt, serving)?;
+    match serve_hub::<Brand, R>(rt, host.alloc(), &mut shelf, opened, &listening, serving) {
+        Ok(Count { accepted, ended }) => {
+            println!(rt; "served {accepted}")?;
+            Ok(ended)
+        }
+        Err(fault) => Ok(Err(fault)),
+    }
+}

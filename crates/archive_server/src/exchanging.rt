@@ -1,0 +1,158 @@
+//! The thread of exchanges: it accepts so many on a listener of its own, with the last pass.
+
+ghost use Rattle.std.specs.Prelude.{◌≡◌, ◌+◌, ◌-◌, ◌<◌, ◌^◌, ◌⊎◌, Some, IfSome, IsSome};
+ghost use Rattle.archive_server.specs.Serving.{IsOnward};
+
+use crate::fault::ServeFault;
+use crate::keeping::Asking;
+use crate::message::Request;
+use crate::worker::{Done, Hall, idle, with_none};
+use association_worker::AtEntry;
+use crossbeam_channel::Sender;
+use devices::Counted;
+use exchange::ExchangeFault;
+use exchange_run::{Role, run_exchange};
+use hub_exchange::HubHolder;
+use op_shelf::Keep;
+use site_hub::{HubName, Pass, Snapshot as Shown};
+use std::marker::Brand;
+use std::net::{TcpListener, TcpStream};
+use std::sync::Wait;
+use std::sync::atomic::Ordering;
+
+/// Where exchanges come in, and how many connections are served.
+#[derive(Clone, Copy)]
+pub struct Exchanging<'a> {
+    pub listener: &'a TcpListener,
+    pub rounds: u64,
+}
+
+/// The holder of an exchange of a server.
+type Held<'a, 'b, H, R, S, K, E> = HubHolder<'a, 'b, H, Shown<H>, R, S, K, Asking<'a, K, S>, E>;
+
+/// The exchange of a holder with the peer behind a stream.
+fn converse<E: AtEntry, H: HubName, R: Wait + Drop, S: Wait, K: Keep>(
+    hall: &Hall<'_, H, Shown<H>, R, S>,
+    stream: &TcpStream,
+    holder: &mut Held<'_, '_, H, R, S, K, E>,
+) -> Option<ServeFault> {
+    let mut reader = Counted::new(stream);
+    let mut writer = Counted::new(stream);
+    match run_exchange(
+        hall.alloc,
+        Role::Callee,
+        &mut reader,
+        &mut writer,
+        holder,
+    ) {
+        Ok(_ended) => None,
+        Err(fault) => Some(ServeFault::Exchange(fault)),
+    }
+}
+
+/// One exchange, for the pass that the caller named, which is taken out and put back.
+fn exchange<'x, E: AtEntry, H: HubName, R: Wait + Drop, S: Wait, K: Keep>(
+    hall: &'x Hall<'x, H, Shown<H>, R, S>,
+    to: &'x Sender<Request<K>>,
+    stream: &TcpStream,
+    place: &mut Option<Pass<H>>,
+) -> Option<ServeFault>
+    requires entry { place.old ≡ Some E.seat }
+    ensures onward { IfSome place.new (IsOnward K.is_up K.holds K.lasts E.seat) }
+    ensures there { IsSome place.new }
+{
+    let Some(pass) = place.take() else {
+        unreachable!()
+    };
+    let shelf = Asking::new(hall.rt, hall.alloc, to);
+    let mut holder = Held::<H, R, S, K, E>::new(hall.rt, hall.keeper, &shelf, pass);
+    let fault = converse(hall, stream, &mut holder);
+    *place = Some(holder.into_pass());
+    fault
+}
+
+/// One exchange. Its frames are sent at once, as they are written.
+fn serve_exchange<H: HubName, R: Wait + Drop, S: Wait, K: Keep>(
+    hall: &Hall<'_, H, Shown<H>, R, S>,
+    to: &Sender<Request<K>>,
+    stream: TcpStream,
+    pass: Pass<H>,
+) -> (Pass<H>, Option<ServeFault>)
+    ensures onward { IsOnward K.is_up K.holds K.lasts pass result.0 }
+{
+    // A stream that refuses this serves as well.
+    let _ = stream.set_nodelay(true);
+    let mut place = Some(pass);
+    let fault = exchange::<Brand, H, R, S, K>(hall, to, &stream, &mut place);
+    match place {
+        Some(pass) => (pass, fault),
+        None => unreachable!(),
+    }
+}
+
+/// What the thread has done, and one exchange more.
+fn with_exchange<H: HubName, R: Wait + Drop, S: Wait, K: Keep>(
+    hall: &Hall<'_, H, Shown<H>, R, S>,
+    to: &Sender<Request<K>>,
+    stream: TcpStream,
+    done: Done<H>,
+) -> Done<H>
+    requires room { done.accepted + done.failed < 2 ^ 64 - 1 }
+    ensures onward { IsOnward K.is_up K.holds K.lasts done.pass result.pass }
+    ensures accepted { result.accepted ≡ done.accepted + 1 }
+    ensures failed { result.failed ≡ done.failed }
+{
+    let Done {
+        pass,
+        accepted,
+        failed,
+        fault,
+    } = done;
+    let (pass, broken) = serve_exchange(hall, to, stream, pass);
+    Done {
+        pass,
+        accepted: accepted + 1,
+        failed,
+        fault: fault.or(broken),
+    }
+}
+
+/// Accepts once. An accept that fails is used up as well.
+fn next_exchange<H: HubName, R: Wait + Drop, S: Wait, K: Keep>(
+    hall: &Hall<'_, H, Shown<H>, R, S>,
+    listener: &TcpListener,
+    to: &Sender<Request<K>>,
+    done: Done<H>,
+) -> Done<H>
+    requires room { done.accepted + done.failed < 2 ^ 64 - 1 }
+    ensures onward { IsOnward K.is_up K.holds K.lasts done.pass result.pass }
+    ensures used { result.accepted + result.failed ≡ done.accepted + done.failed + 1 }
+{
+    match listener.accept() {
+        Ok((stream, _address)) => with_exchange(hall, to, stream, done),
+        Err(_error) => with_none(done),
+    }
+}
+
+/// Accepts so many times as there are rounds, unless the thread of this place was refused.
+pub(crate) fn exchange_all<H: HubName, R: Wait + Drop, S: Wait, K: Keep>(
+    place: u64,
+    hall: &Hall<'_, H, Shown<H>, R, S>,
+    listener: &TcpListener,
+    rounds: u64,
+    to: Sender<Request<K>>,
+    pass: Pass<H>,
+) -> Done<H>
+    ensures onward { IsOnward K.is_up K.holds K.lasts pass result.pass }
+    ensures used { (result.accepted + result.failed ≡ 0)
+        ⊎ (result.accepted + result.failed ≡ rounds) }
+{
+    if hall.refused.load(Ordering::SeqCst) == place {
+        return idle(pass, Some(ServeFault::Exchange(ExchangeFault::Memory)));
+    }
+    let mut done = idle(pass, None);
+    for _ in 0..rounds {
+        done = next_exchange(hall, listener, &to, done);
+    }
+    done
+}

@@ -1,0 +1,158 @@
+//! The port of an association of a server.
+
+ghost use Rattle.std.specs.Prelude.{◌≡◌};
+ghost use Rattle.operation.specs.declared.op.Op.TheVariants.{Content as a_content};
+ghost use Rattle.operation.specs.Spelling.{digest_of};
+ghost use Rattle.site_state.specs.Site.{ops_of};
+ghost use Rattle.site_hub.specs.History.{set_of};
+ghost use Rattle.site_hub.specs.Hub.{Seat, IsLater};
+ghost use Rattle.association_run.specs.Port.{Stores, Finds, Gets};
+ghost use Rattle.archive_server.specs.Serving.{IsOnward};
+ghost use Rattle.archive_server.specs.Fault.{port_fault_of};
+
+use crate::keeping::ask;
+use crate::message::{Request, Shelved};
+use archive_model::View;
+use association_run::Port;
+use association_session::PortFault;
+use association_worker::{AtEntry, HubPort};
+use crossbeam_channel::Sender;
+use octets::ListOf;
+use op_shelf::{Keep, ShelfFault};
+use operation::{Content, Digested, Op, Taken};
+use query_model::{Answer, Query};
+use retrieve_model::{Prepared, Selection};
+use site_hub::{HubName, Keeper, Pass, Shows};
+use std::alloc::Global;
+use std::marker::Model;
+use std::sync::{Mutex, Wait};
+
+/// A pass with the shared keeper, and the way to the shelf. The pass goes on from what it was when
+/// its association began, and what it stores since is on the shelf. Contracts see the pass.
+pub struct ServerPort<'a, H: HubName, T: Shows<H>, R: Wait + Drop, S: Wait, K: Keep, E: AtEntry> {
+    alloc: Global,
+    rt: &'a S,
+    to: &'a Sender<Request<K>>,
+    hub: HubPort<'a, H, T, R, S, E>,
+}
+
+impl<'a, H: HubName, T: Shows<H>, R: Wait + Drop, S: Wait, K: Keep, E: AtEntry> Model
+    for ServerPort<'a, H, T, R, S, K, E> {
+    ghost use Rattle.site_hub.specs.Hub.{Seat};
+    ghost use Rattle.archive_server.specs.Serving.{IsOnward};
+
+    ghost Value = { Seat };
+
+    ghost view = { λ p. p.hub };
+
+    ghost invariant = { λ p. IsOnward K.is_up K.holds K.lasts E.seat p.hub };
+}
+
+/// What a fault of the shelf is to an association.
+fn fault_of_shelf(fault: ShelfFault) -> PortFault
+    ensures { result ≡ port_fault_of fault }
+{
+    match fault {
+        ShelfFault::Memory => PortFault::Memory,
+        ShelfFault::Store | ShelfFault::BadRow => PortFault::Shelf,
+    }
+}
+
+/// Lets the hub take what the shelf keeps.
+fn publish<H: HubName, T: Shows<H>, R: Wait + Drop, S: Wait, K: Keep, E: AtEntry>(
+    hub: &mut HubPort<'_, H, T, R, S, E>,
+    op: Digested,
+    shelved: &Shelved<K>,
+) -> Result<Taken, PortFault>
+    requires { shelved.now.digest ≡ digest_of op }
+    ensures stores { Stores (λ (s : Seat). ops_of (set_of H.opening s.seen))
+        (λ (s : Seat). s.mine) hub.old op result hub.new }
+    ensures onward { IsOnward K.is_up K.holds K.lasts hub.old hub.new }
+{
+    hub.take(op)
+}
+
+impl<'a, H: HubName, T: Shows<H>, R: Wait + Drop, S: Wait, K: Keep, E: AtEntry> ServerPort<
+    'a,
+    H,
+    T,
+    R,
+    S,
+    K,
+    E,
+> {
+    /// The port of an association that begins with this pass.
+    pub(crate) fn new(
+        alloc: Global,
+        rt: &'a S,
+        keeper: &'a Mutex<Keeper<H, T, R>>,
+        to: &'a Sender<Request<K>>,
+        pass: Pass<H>,
+    ) -> ServerPort<'a, H, T, R, S, K, E>
+        requires entry { pass ≡ E.seat }
+        ensures { result ≡ pass }
+    {
+        ServerPort {
+            alloc,
+            rt,
+            to,
+            hub: HubPort::new(rt, keeper, pass),
+        }
+    }
+
+    /// Gives the pass back.
+    pub(crate) fn into_pass(self) -> Pass<H>
+        ensures same { result ≡ self.entry }
+        ensures onward { IsOnward K.is_up K.holds K.lasts E.seat result }
+    {
+        let ServerPort {
+            alloc: _,
+            rt: _,
+            to: _,
+            hub,
+        } = self;
+        hub.into_pass()
+    }
+}
+
+impl<'a, H: HubName, T: Shows<H>, R: Wait + Drop, S: Wait, K: Keep, E: AtEntry> Port
+    for ServerPort<'a, H, T, R, S, K, E> {
+    ghost ops = { λ p. ops_of (set_of H.opening p.seen) };
+
+    ghost own = { λ p. p.mine };
+
+    fn store(&mut self, content: Content) -> Result<Taken, PortFault>
+        ensures stores { Stores (λ (s : Seat). ops_of (set_of H.opening s.seen))
+            (λ (s : Seat). s.mine) self.old (a_content content) result self.new }
+        ensures later { IsLater self.old self.new }
+    {
+        let op = Digested::of(Op::Content(content));
+        match ask(self.rt, self.alloc, self.to, &op) {
+            Ok(shelved) => publish(&mut self.hub, op, &shelved),
+            Err(fault) => Err(fault_of_shelf(fault)),
+        }
+    }
+
+    fn find(
+        &mut self,
+        called: &[u8],
+        view: View,
+        query: &Query,
+    ) -> Result<ListOf<Answer>, PortFault>
+        ensures finds { Finds (λ (s : Seat). ops_of (set_of H.opening s.seen))
+            (λ (s : Seat). s.mine) self.old
+            (record { called = called.now; view = view; query = query.now }) result self.new }
+        ensures later { IsLater self.old self.new }
+    {
+        self.hub.rows(called, view, query)
+    }
+
+    fn get(&mut self, view: View, selection: &Selection) -> Result<ListOf<Prepared>, PortFault>
+        ensures gets { Gets (λ (s : Seat). ops_of (set_of H.opening s.seen))
+            (λ (s : Seat). s.mine) self.old
+            (record { view = view; selection = selection.now }) result self.new }
+        ensures later { IsLater self.old self.new }
+    {
+        self.hub.prepared(view, selection)
+    }
+}

@@ -1,0 +1,182 @@
+//! A worker: it accepts so many associations on the shared listener, with a pass of its own.
+
+ghost use Rattle.std.specs.Prelude.{◌≡◌, ◌+◌, ◌-◌, ◌<◌, ◌^◌, ◌⊎◌, Some};
+ghost use Rattle.std.specs.Option.{option_or};
+ghost use Rattle.archive_server.specs.Serving.{IsOnward};
+
+use crate::fault::{NetFault, ServeFault};
+use crate::message::Request;
+use crate::port::ServerPort;
+use archive_model::View;
+use association_run::{Gate, RunFault, run_association};
+use association_worker::AtEntry;
+use crossbeam_channel::Sender;
+use devices::Counted;
+use op_shelf::Keep;
+use site_hub::{HubName, Keeper, Pass, Shows};
+use std::alloc::Global;
+use std::marker::Brand;
+use std::net::{TcpListener, TcpStream};
+use std::sync::atomic::{AtomicU64, Ordering};
+use std::sync::{Mutex, Wait};
+use ul_state::Titles;
+
+/// What a worker comes back with.
+#[derive(Drop)]
+pub(crate) struct Done<H: HubName> {
+    pub pass: Pass<H>,
+    pub accepted: u64,
+    pub failed: u64,
+    pub fault: Option<ServeFault>,
+}
+
+/// What all workers share.
+#[derive(Drop)]
+pub(crate) struct Hall<'a, H: HubName, T: Shows<H>, R: Wait + Drop, S: Wait> {
+    pub rt: &'a S,
+    pub alloc: Global,
+    pub listener: &'a TcpListener,
+    pub titles: &'a Titles<View>,
+    pub each: u64,
+    pub keeper: &'a Mutex<Keeper<H, T, R>>,
+    /// The place of a worker whose thread was refused.
+    pub refused: AtomicU64,
+}
+
+/// One association, for the pass that the caller named.
+fn associate<E: AtEntry, H: HubName, T: Shows<H>, R: Wait + Drop, S: Wait, K: Keep, G: Gate>(
+    hall: &Hall<'_, H, T, R, S>,
+    to: &Sender<Request<K>>,
+    gate: &mut G,
+    stream: TcpStream,
+    pass: Pass<H>,
+) -> (Pass<H>, Option<ServeFault>)
+    requires entry { pass ≡ E.seat }
+    ensures onward { IsOnward K.is_up K.holds K.lasts E.seat result.0 }
+{
+    let mut port = ServerPort::<H, T, R, S, K, E>::new(hall.alloc, hall.rt, hall.keeper, to, pass);
+    let mut reader = Counted::new(&stream);
+    let mut writer = Counted::new(&stream);
+    let ended = run_association(
+        hall.alloc,
+        &mut reader,
+        &mut writer,
+        &mut port,
+        gate,
+        hall.titles,
+    );
+    let fault = match ended {
+        Ok(_end) => None,
+        Err(fault) => Some(ServeFault::Run(fault)),
+    };
+    (port.into_pass(), fault)
+}
+
+/// One association. Its responses are sent at once, as they are written.
+fn serve_one<H: HubName, T: Shows<H>, R: Wait + Drop, S: Wait, K: Keep, G: Gate>(
+    hall: &Hall<'_, H, T, R, S>,
+    to: &Sender<Request<K>>,
+    gate: &mut G,
+    stream: TcpStream,
+    pass: Pass<H>,
+) -> (Pass<H>, Option<ServeFault>)
+    ensures onward { IsOnward K.is_up K.holds K.lasts pass result.0 }
+{
+    // A stream that refuses this serves as well.
+    let _ = stream.set_nodelay(true);
+    associate::<Brand, H, T, R, S, K, G>(hall, to, gate, stream, pass)
+}
+
+/// What a worker has done, and one association more.
+fn with_one<H: HubName, T: Shows<H>, R: Wait + Drop, S: Wait, K: Keep, G: Gate>(
+    hall: &Hall<'_, H, T, R, S>,
+    to: &Sender<Request<K>>,
+    gate: &mut G,
+    stream: TcpStream,
+    done: Done<H>,
+) -> Done<H>
+    requires room { done.accepted + done.failed < 2 ^ 64 - 1 }
+    ensures onward { IsOnward K.is_up K.holds K.lasts done.pass result.pass }
+    ensures accepted { result.accepted ≡ done.accepted + 1 }
+    ensures failed { result.failed ≡ done.failed }
+{
+    let Done {
+        pass,
+        accepted,
+        failed,
+        fault,
+    } = done;
+    let (pass, broken) = serve_one(hall, to, gate, stream, pass);
+    Done {
+        pass,
+        accepted: accepted + 1,
+        failed,
+        fault: fault.or(broken),
+    }
+}
+
+/// What a worker has done, and one accept that failed.
+pub(crate) fn with_none<H: HubName>(mut done: Done<H>) -> Done<H>
+    requires room { done.accepted + done.failed < 2 ^ 64 - 1 }
+    ensures pass { result.pass ≡ done.pass }
+    ensures accepted { result.accepted ≡ done.accepted }
+    ensures failed { result.failed ≡ done.failed + 1 }
+    ensures fault { result.fault ≡ option_or done.fault (Some (ServeFault.Net NetFault.Accept)) }
+{
+    done.failed += 1;
+    done.fault = done.fault.or(Some(ServeFault::Net(NetFault::Accept)));
+    done
+}
+
+/// Accepts once. An accept that fails is used up as well.
+fn next<H: HubName, T: Shows<H>, R: Wait + Drop, S: Wait, K: Keep, G: Gate>(
+    hall: &Hall<'_, H, T, R, S>,
+    to: &Sender<Request<K>>,
+    gate: &mut G,
+    done: Done<H>,
+) -> Done<H>
+    requires room { done.accepted + done.failed < 2 ^ 64 - 1 }
+    ensures onward { IsOnward K.is_up K.holds K.lasts done.pass result.pass }
+    ensures used { result.accepted + result.failed ≡ done.accepted + done.failed + 1 }
+{
+    match hall.listener.accept() {
+        Ok((stream, _address)) => with_one(hall, to, gate, stream, done),
+        Err(_error) => with_none(done),
+    }
+}
+
+/// Accepts `each` times, unless the thread of this place was refused.
+pub(crate) fn work<H: HubName, T: Shows<H>, R: Wait + Drop, S: Wait, K: Keep, G: Gate + Drop>(
+    place: u64,
+    hall: &Hall<'_, H, T, R, S>,
+    to: Sender<Request<K>>,
+    mut gate: G,
+    pass: Pass<H>,
+) -> Done<H>
+    ensures onward { IsOnward K.is_up K.holds K.lasts pass result.pass }
+    ensures used { (result.accepted + result.failed ≡ 0)
+        ⊎ (result.accepted + result.failed ≡ hall.now.each) }
+{
+    if hall.refused.load(Ordering::SeqCst) == place {
+        return idle(pass, Some(ServeFault::Run(RunFault::Memory)));
+    }
+    let mut done = idle(pass, None);
+    for _ in 0..hall.each {
+        done = next(hall, &to, &mut gate, done);
+    }
+    done
+}
+
+/// What a worker that accepts nothing comes back with.
+pub(crate) fn idle<H: HubName>(pass: Pass<H>, fault: Option<ServeFault>) -> Done<H>
+    ensures pass { result.pass ≡ pass }
+    ensures none { (result.accepted ≡ 0) × (result.failed ≡ 0) }
+    ensures fault { result.fault ≡ fault }
+{
+    Done {
+        pass,
+        accepted: 0,
+        failed: 0,
+        fault,
+    }
+}

@@ -1,0 +1,409 @@
+-- Sub-operations that are begun, one in each turn, and what is heard within a C-GET.
+use Rattle.std.proofs.Common.{◌≡◌, ℕ, ◌<◌, ◌≤◌, zero, suc, Bool, true, false, List, [], ◌∷◌, ◌++◌, map, length}
+use Rattle.std.proofs.Common.{Option, Some}
+use Rattle.std.proofs.Common.{None, refl, sym, ap, subst, ◌∙◌, append_assoc, append-nil, arith}
+use Rattle.std.specs.Prelude.{IsSome}
+use Rattle.archive_model.specs.declared.view.View.{View}
+use Rattle.dimse.specs.declared.message.Message.{Message}
+use Rattle.dimse.specs.declared.status.Status.TheVariants.{Pending}
+use Rattle.dimse.specs.Sending.{IsSending}
+use Rattle.pdu.specs.declared.context.Context.{Context}
+use Rattle.pdu.specs.declared.value.Pdu.{Pdu}
+use Rattle.retrieve_model.specs.declared.prepared.Prepared.{Prepared}
+use Rattle.ul_state.specs.declared.event.Event.TheVariants.{LocalAbort}
+use Rattle.ul_state.specs.declared.table.State.TheVariants.{Sta6}
+use Rattle.ul_state.specs.declared.titles.Title.{Title}
+use Rattle.association_session.specs.declared.counts.Outcome.{Outcome}
+use Rattle.association_session.specs.declared.deed.Deed.{Deed}
+use Rattle.association_session.specs.declared.deed.Call.TheVariants.{Store, Find}
+use Rattle.association_session.specs.declared.deed.Deed.TheVariants.{Send, Reach, Ask}
+use Rattle.association_session.specs.declared.deed.Finding.{Finding}
+use Rattle.association_session.specs.declared.deed.Moment.TheVariants.{InStore}
+use Rattle.association_session.specs.declared.due.RowKind.{RowKind}
+use Rattle.association_session.specs.declared.service.Service.{Service}
+use Rattle.association_session.specs.declared.service.Service.TheVariants.{Asked, Queried}
+use Rattle.association_session.specs.Context.{context_in}
+use Rattle.association_session.specs.Service.{ServesOn}
+use Rattle.operation.specs.Parts.{ContentParts}
+use Rattle.dimse.specs.declared.assembler.Stage.{Stage}
+use Rattle.pdu.specs.declared.pdv.Pdv.{Pdv}
+use Rattle.ul_state.specs.declared.acceptor.Settled.{Settled}
+use Rattle.association_session.specs.declared.due.Due.{Due}
+use Rattle.association_session.specs.declared.due.Due.TheVariants as dues
+use Rattle.association_session.specs.declared.event.SessionEvent.TheVariants.{GoesOn}
+use Rattle.association_session.specs.declared.reply.Reply.{Reply}
+use Rattle.association_session.specs.declared.retrieval.Meaning.{Meaning}
+use Rattle.association_session.specs.declared.retrieval.Meaning.TheVariants.{Cancelled, Performed, Unawaited}
+use Rattle.association_session.specs.declared.retrieval.Progress.{Progress}
+use Rattle.association_session.specs.declared.way.Way.{Way}
+use Rattle.association_session.specs.Due.{IsAnswered, Fits, due_of, left_of}
+use Rattle.association_session.specs.Get.{final_status, failed_set}
+use Rattle.association_session.specs.Projections.{state_after}
+use Rattle.association_session.specs.Response.{FitsLimit}
+use Rattle.association_session.specs.Retrieval.{counting, sub_operation, failing, sending, way_for, ByWay, Both}
+use Rattle.association_session.specs.Retrieval.{SendsOn}
+use Rattle.association_session.specs.Retrieval.{RespondsIfLeft, RespondsEnd, RespondsBy, begun, begun_by, meaning_of}
+use Rattle.association_session.specs.Retrieval.{performed, cancelling}
+use Rattle.association_session.specs.Row.{Within, row}
+use Rattle.association_session.specs.Session.{AssociationState, Answered, Turned, OwedFor, OwedAt, Stops, IsToldBy}
+use Rattle.association_session.specs.Session.{IsFewer, FewerFor, entered}
+use Rattle.association_session.specs.SubOperation.{Retrieval, SubOperation}
+use Rattle.association_session.specs.Talks.{Goes, GoesBy, Then, Begins, GoesOnBy, Performs, Attends, Talks, awaiting}
+use Rattle.association_session.proofs.DataLaws.{AreData, sending_data, if_left_data, responds_by_data, data_state}
+use Rattle.association_session.proofs.HearLaws.{still, owed_at, sends_halt, answered_broken, answered_sent}
+use Rattle.association_session.proofs.HearLaws.{answered_asked}
+use Rattle.association_session.proofs.ResponseLaws.{sending_goes}
+use Rattle.association_session.proofs.TellLaws.{sends_join}
+
+-- ---- what is left can be sent
+
+if_left_goes : (g : Progress) (left : List Prepared) → 8 ≤ g.awaited.limit → (ps : List Pdu) × RespondsIfLeft g left ps
+if_left_goes g [] least = ([], refl)
+if_left_goes g (x ∷ left) least =
+    sending_goes (counting g Pending (Some (length (x ∷ left))) None) g.awaited.limit least
+
+by_way_goes : (way : Option Way) (F : Way → List Pdu → Type 0) (G : List Pdu → Type 0)
+    → ((k : Way) → (ps : List Pdu) × F k ps) → (ps : List Pdu) × G ps → (ps : List Pdu) × ByWay way F G ps
+by_way_goes None F G sent other = other
+by_way_goes (Some way) F G sent other = sent way
+
+sends_on_go : (contexts : List Context) (g : Progress) (left : List Prepared) → 8 ≤ g.awaited.limit → (ps : List Pdu)
+    × SendsOn contexts g left ps
+sends_on_go contexts g [] least = sending_goes (counting g (final_status g.counts) None (failed_set g.syntax
+    g.counts.failed)) g.awaited.limit least
+sends_on_go contexts g (x ∷ left) least =
+    let first = if_left_goes (failing g x) left least in
+    let rest = sends_on_go contexts (failing g x) left least in
+    by_way_goes (way_for contexts x) (λ way. IsSending (sub_operation g way x) g.awaited.limit)
+    (Both (RespondsIfLeft (failing g x) left) (SendsOn contexts (failing g x) left))
+    (λ way. sending_goes (sub_operation g way x) g.awaited.limit least)
+    (first.0 ++ rest.0, (first.0, rest.0, first.1, rest.1, refl))
+
+pub begins_go : (contexts : List Context) (g : Progress) (left : List Prepared)
+    (R : Option SubOperation → List Deed → Type 0) → FitsLimit g.awaited.limit
+    → ((next : Option SubOperation) → R next []) → (rest : List Deed) × Begins contexts g left R rest
+begins_go contexts g left R fits goes =
+    let p = sends_on_go contexts g left fits.0 in
+    (map Send p.0 ++ [], (p.0, p.1, ([], refl, goes (begun contexts g left))))
+
+-- ---- one step
+
+-- a sub-operation that is sent
+sent_begins : (way : Option Way) (k : Way) (contexts : List Context) (g : Progress) (x : Prepared)
+    (left : List Prepared)
+    (R : Option SubOperation → List Deed → Type 0) (ps : List Pdu) (rest : List Deed) → way ≡ Some k
+    → IsSending (sub_operation g k x) g.awaited.limit ps → R (Some (sending g x left)) rest
+    → (qs : List Pdu) × ByWay way (λ l. IsSending (sub_operation g l x) g.awaited.limit)
+    (Both (RespondsIfLeft (failing g x) left) (SendsOn contexts (failing g x) left)) qs
+    × Then (map Send qs) (R (begun_by way (sending g x left) (begun contexts (failing g x) left))) (map Send ps ++ rest)
+sent_begins None k contexts g x left R ps rest is sent goes = absurd cc
+sent_begins (Some l) k contexts g x left R ps rest is sent goes =
+    let same : k ≡ l = cc in
+    (ps, subst (λ (j : Way). IsSending (sub_operation g j x) g.awaited.limit ps) same sent, (rest, refl, goes))
+
+-- one that fails unsent
+unsent_begins : (way : Option Way) (contexts : List Context) (g : Progress) (x : Prepared) (left : List Prepared)
+    (R : Option SubOperation → List Deed → Type 0) (ps : List Pdu) (rest : List Deed) → way ≡ None
+    → RespondsIfLeft (failing g x) left ps → Begins contexts (failing g x) left R rest
+    → (qs : List Pdu) × ByWay way (λ l. IsSending (sub_operation g l x) g.awaited.limit)
+    (Both (RespondsIfLeft (failing g x) left) (SendsOn contexts (failing g x) left)) qs
+    × Then (map Send qs) (R (begun_by way (sending g x left) (begun contexts (failing g x) left))) (map Send ps ++ rest)
+unsent_begins None contexts g x left R ps rest is told p = (
+  ps ++ p.0,
+  (ps, p.0, told, p.1, refl),
+  (
+    p.2.0,
+    ap (λ (t : List Deed). map Send ps ++ t) p.2.1 ∙ sym (append_assoc (map Send ps) (map Send p.0) p.2.0)
+        ∙ ap (λ (t : List Deed). t ++ p.2.0) (sym (sends_join ps p.0)),
+    p.2.2,
+  ),
+)
+unsent_begins (Some way) contexts g x left R ps rest is told p = absurd cc
+
+-- ---- turns
+
+-- PDUs of a C-GET that are sent in a turn
+sends_turn : (titles : List (Title View)) (now new : AssociationState) (r : Retrieval) (ps : List Pdu)
+    (deeds : List Deed) (sub : Option SubOperation) (due : Option Due)
+    → now.awaited ≡ Some (dues.Sending r)
+    → new ≡ record { within = now.within; sub = sub; stage = now.stage; awaited = due; queue = now.queue }
+    → deeds ≡ map Send ps → AreData ps → IsAnswered due → Fits due
+    → ((R : GoesBy) (rs : List Reply) (rest : List Deed) → OwedFor now.within.link.contexts due R (R sub) rs rest
+    → Begins now.within.link.contexts r.progress r.left (λ next. R next rs) (map Send ps ++ rest))
+    → Turned titles now GoesOn deeds new
+sends_turn titles now new r ps deeds sub due has is sent are_data answered fits begins =
+    let within : new.within ≡ now.within = ap (λ (t : AssociationState). t.within) is in
+    let awaited : new.awaited ≡ due = ap (λ (t : AssociationState). t.awaited) is in
+    record {
+      said = [];
+      values = still now new within (ap (λ (t : AssociationState). t.stage) is) (ap (λ (t : AssociationState). t.queue)
+          is);
+      leads = within;
+      takes = λ us rs rest owed.
+          subst (λ (o : Option Due). OwedAt titles now.within now.sub o us rs (deeds ++ rest)) (sym has)
+          (subst (λ (t : List Deed). Begins now.within.link.contexts r.progress r.left
+          (λ next. Talks titles now.within next us rs) (t ++ rest)) (sym sent)
+          (begins (λ next. Talks titles now.within next us) rs rest
+          (owed_at titles new now.within sub due us rs rest within (ap (λ (t : AssociationState). t.sub) is) awaited
+          owed)));
+      stops = subst (λ (t : List Deed). Stops t new.awaited) (sym sent)
+          (subst (λ (a : Option Due). Stops (map Send ps) a) (sym awaited) (sends_halt ps due answered));
+      state = ap (λ (w : Within). w.state) within
+          ∙ sym (ap (λ (t : List Deed). state_after now.within.state t) sent ∙ data_state now.within.state ps are_data);
+      told = subst (λ (o : Option Due). IsToldBy GoesOn o new.awaited) (sym has)
+          (subst (λ (o : Option Due). IsAnswered o) (sym awaited) answered);
+      opened = λ before some. ap (λ (w : Within). w.state) within
+          ∙ before (subst (λ (o : Option Due). IsSome o) (sym has) refl);
+      fits = subst (λ (a : Option Due). Fits a) (sym awaited) fits;
+    }
+
+pub ended_turn : (titles : List (Title View)) (now new : AssociationState) (r : Retrieval) (ps : List Pdu)
+    (deeds : List Deed) → now.awaited ≡ Some (dues.Sending r)
+    → new ≡ record { within = now.within; sub = None; stage = now.stage; awaited = None; queue = now.queue }
+    → deeds ≡ map Send ps → r.left ≡ [] → RespondsEnd r.progress ps → Turned titles now GoesOn deeds new
+ended_turn titles now new r ps deeds has is sent none told =
+    sends_turn titles now new r ps deeds None None has is sent (sending_data _ _ ps told) tt tt
+    (λ R rs rest owed. subst (λ (t : List Prepared). Begins now.within.link.contexts r.progress t (λ next. R next rs)
+    (map Send ps ++ rest)) (sym none) (ps, told, (rest, refl, owed)))
+
+pub sent_turn : (titles : List (Title View)) (now new : AssociationState) (r : Retrieval) (contexts : List Context)
+    (x : Prepared) (left : List Prepared) (way : Way) (ps : List Pdu) (sub : SubOperation) (deeds : List Deed)
+    → now.awaited ≡ Some (dues.Sending r)
+    → new ≡ record { within = now.within; sub = Some sub; stage = now.stage; awaited = None; queue = now.queue }
+    → deeds ≡ map Send ps → contexts ≡ now.within.link.contexts → r.left ≡ x ∷ left → way_for contexts x ≡ Some way
+    → IsSending (sub_operation r.progress way x) r.progress.awaited.limit ps → sub ≡ sending r.progress x left
+    → Turned titles now GoesOn deeds new
+sent_turn titles now new r contexts x left way ps sub deeds has is sent same some there told sub_is =
+    let there_now : way_for now.within.link.contexts x ≡ Some way = ap (λ (cs : List Context). way_for cs x) (sym same)
+    ∙ there in
+    sends_turn titles now new r ps deeds (Some sub) None has is sent (sending_data _ _ ps told) tt tt
+    (λ R rs rest owed. subst (λ (t : List Prepared). Begins now.within.link.contexts r.progress t (λ next. R next rs)
+    (map Send ps ++ rest)) (sym some)
+    (sent_begins (way_for now.within.link.contexts x) way now.within.link.contexts r.progress x left
+    (λ next. R next rs) ps rest there_now told
+    (subst (λ (s : SubOperation). R (Some s) rs rest) sub_is owed)))
+
+pub unsent_turn : (titles : List (Title View)) (now new : AssociationState) (r : Retrieval) (contexts : List Context)
+    (x : Prepared) (left : List Prepared) (ps : List Pdu) (next : Retrieval) (deeds : List Deed)
+    → now.awaited ≡ Some (dues.Sending r)
+    → new ≡ record {
+      within = now.within;
+      sub = now.sub;
+      stage = now.stage;
+      awaited = Some (dues.Sending next);
+      queue = now.queue;
+    }
+    → deeds ≡ map Send ps → contexts ≡ now.within.link.contexts → r.left ≡ x ∷ left → way_for contexts x ≡ None
+    → RespondsIfLeft (failing r.progress x) left ps
+    → next ≡ record { progress = failing r.progress x; left = left } → FitsLimit r.progress.awaited.limit
+    → Turned titles now GoesOn deeds new
+unsent_turn titles now new r contexts x left ps next deeds has is sent same some there told next_is fits =
+    let there_now : way_for now.within.link.contexts x ≡ None = ap (λ (cs : List Context). way_for cs x) (sym same)
+    ∙ there in
+    sends_turn titles now new r ps deeds now.sub (Some (dues.Sending next)) has is sent
+    (if_left_data (failing r.progress x) left ps told) tt
+    (subst (λ (n : Retrieval). FitsLimit n.progress.awaited.limit) (sym next_is) fits)
+    (λ R rs rest owed. subst (λ (t : List Prepared). Begins now.within.link.contexts r.progress t (λ n. R n rs)
+    (map Send ps ++ rest)) (sym some)
+    (unsent_begins (way_for now.within.link.contexts x) now.within.link.contexts r.progress x left (λ n. R n rs) ps rest
+    there_now told
+    (subst (λ (n : Retrieval). Begins now.within.link.contexts n.progress n.left (λ k. R k rs) rest) next_is owed)))
+
+-- ---- what is left becomes fewer
+
+pub fewer_none : (now new : AssociationState) (r : Retrieval) → now.awaited ≡ Some (dues.Sending r) → new.awaited ≡ None
+    → new.queue ≡ now.queue → IsFewer GoesOn now new
+fewer_none now new r has none queue =
+    subst (λ (o : Option Due). FewerFor o now new) (sym has) (
+      queue,
+      subst (λ (o : Option Due). left_of new.awaited < left_of o) (sym has)
+          (subst (λ (o : Option Due). left_of o < suc (length r.left)) (sym none) (omega arith)),
+    )
+
+pub fewer_one : (now new : AssociationState) (r next : Retrieval) (x : Prepared) (left : List Prepared)
+    → now.awaited ≡ Some (dues.Sending r) → new.awaited ≡ Some (dues.Sending next) → new.queue ≡ now.queue
+    → r.left ≡ x ∷ left → next.left ≡ left → IsFewer GoesOn now new
+fewer_one now new r next x left has due queue some rest =
+    let one : length r.left ≡ suc (length left) = ap length some in
+    let other : length next.left ≡ length left = ap length rest in
+    subst (λ (o : Option Due). FewerFor o now new) (sym has) (
+      queue,
+      subst (λ (o : Option Due). left_of new.awaited < left_of o) (sym has)
+          (subst (λ (o : Option Due). left_of o < suc (length r.left)) (sym due) (omega (arith, one, other))),
+    )
+
+-- ---- what is heard within a C-GET
+
+attends_as : (held : Option SubOperation) (sub : SubOperation) (meaning : Meaning) (w : Within) (m : Message)
+    (abort : List Deed) (gets : GoesBy) (gone : Goes) (rs : List Reply) (deeds : List Deed) → held ≡ Some sub
+    → meaning_of sub.progress m.command ≡ meaning
+    → Performs meaning sub w.link.contexts abort gets gone rs deeds → Attends held w m abort gets gone rs deeds
+attends_as held sub meaning w m abort gets gone rs deeds is means p =
+    subst (λ (k : Option SubOperation). Attends k w m abort gets gone rs deeds) (sym is)
+    (subst (λ (k : Meaning). Performs k sub w.link.contexts abort gets gone rs deeds) (sym means) p)
+
+-- its C-CANCEL
+pub attended_cancel : (titles : List (Title View)) (now new : AssociationState) (m : Message) (sub : SubOperation)
+    (deeds : List Deed) → now.within.state ≡ Sta6 → now.awaited ≡ None → now.sub ≡ Some sub
+    → meaning_of sub.progress m.command ≡ Cancelled
+    → new ≡ record {
+      within = now.within;
+      sub = Some (cancelling sub);
+      stage = now.stage;
+      awaited = now.awaited;
+      queue = now.queue;
+    }
+    → deeds ≡ [] → Answered titles now m deeds new
+attended_cancel titles now new m sub deeds opened idle has means is none =
+    answered_sent titles now new m deeds [] (Some (cancelling sub)) None opened idle
+    (is ∙ ap (λ (o : Option Due). record {
+      within = now.within;
+      sub = Some (cancelling sub);
+      stage = now.stage;
+      awaited = o;
+      queue = now.queue;
+    }) idle) none tt tt tt
+    (λ abort gets gone rs rest owed. attends_as now.sub sub Cancelled now.within m abort gets gone rs rest has means
+    owed)
+
+-- a message that is not awaited
+pub attended_broken : (titles : List (Title View)) (now mid new : AssociationState) (m : Message) (sub : SubOperation)
+    (deeds : List Deed) → now.within.state ≡ Sta6 → now.awaited ≡ None → now.sub ≡ Some sub
+    → meaning_of sub.progress m.command ≡ Unawaited
+    → mid ≡ record {
+      within = now.within;
+      sub = None;
+      stage = now.stage;
+      awaited = now.awaited;
+      queue = now.queue;
+    }
+    → deeds ≡ row titles Sta6 LocalAbort → new ≡ entered titles mid LocalAbort → Answered titles now m deeds new
+attended_broken titles now mid new m sub deeds opened idle has means is sent next =
+    answered_broken titles now mid new m deeds opened idle is sent next
+    (λ abort gets gone rs rest p. attends_as now.sub sub Unawaited now.within m abort gets gone rs rest has means p)
+
+goes_on_by : (next : Option Retrieval) (contexts : List Context) (gets : GoesBy) (rs : List Reply) (rest : List Deed)
+    → OwedFor contexts (due_of next) gets (gets None) rs rest → GoesOnBy next contexts gets rs rest
+goes_on_by None contexts gets rs rest owed = owed
+goes_on_by (Some r) contexts gets rs rest owed = owed
+
+due_answered : (next : Option Retrieval) → IsAnswered (due_of next)
+due_answered None = tt
+due_answered (Some r) = tt
+
+due_fits : (cancelled : Bool) (g : Progress) (left : List Prepared) (ps : List Pdu) (next : Option Retrieval)
+    → RespondsBy cancelled g left ps next → FitsLimit g.awaited.limit → Fits (due_of next)
+due_fits true g left ps next p fits = subst (λ (n : Option Retrieval). Fits (due_of n)) (sym p.1) tt
+due_fits false g left ps next p fits = subst (λ (n : Option Retrieval). Fits (due_of n)) (sym p.1) fits
+
+-- the response that is awaited
+pub attended_performed : (titles : List (Title View)) (now new : AssociationState) (m : Message) (sub : SubOperation)
+    (outcome : Outcome) (ps : List Pdu) (next : Option Retrieval) (deeds : List Deed)
+    → now.within.state ≡ Sta6 → now.awaited ≡ None → now.sub ≡ Some sub
+    → meaning_of sub.progress m.command ≡ Performed outcome
+    → new ≡ record {
+      within = now.within;
+      sub = None;
+      stage = now.stage;
+      awaited = due_of next;
+      queue = now.queue;
+    }
+    → deeds ≡ map Send ps → RespondsBy sub.cancelled (performed sub outcome) sub.left ps next
+    → FitsLimit sub.progress.awaited.limit → Answered titles now m deeds new
+attended_performed titles now new m sub outcome ps next deeds opened idle has means is sent told fits =
+    answered_sent titles now new m deeds ps None (due_of next) opened idle is sent
+    (responds_by_data sub.cancelled (performed sub outcome) sub.left ps next told) (due_answered next)
+    (due_fits sub.cancelled (performed sub outcome) sub.left ps next told fits)
+    (λ abort gets gone rs rest owed. attends_as now.sub sub (Performed outcome) now.within m abort gets gone rs
+    (map Send ps ++ rest) has means
+    (ps, next, told, (rest, refl, goes_on_by next now.within.link.contexts gets rs rest owed)))
+
+-- ---- the state behind a turn, part by part
+
+pub state_is : (a now : AssociationState) (sub : Option SubOperation) (due : Option Due) → a.within ≡ now.within
+    → a.stage ≡ now.stage → a.queue ≡ now.queue → a.sub ≡ sub → a.awaited ≡ due
+    → a ≡ record { within = now.within; sub = sub; stage = now.stage; awaited = due; queue = now.queue }
+state_is a now sub due within stage queue same awaited =
+    ap (λ (w : Within). record { within = w; sub = a.sub; stage = a.stage; awaited = a.awaited; queue = a.queue })
+    within
+    ∙ ap (λ (k : Stage). record { within = now.within; sub = a.sub; stage = k; awaited = a.awaited; queue = a.queue })
+    stage
+    ∙ ap (λ (q : List Pdv). record {
+      within = now.within;
+      sub = a.sub;
+      stage = now.stage;
+      awaited = a.awaited;
+      queue = q;
+    }) queue
+    ∙ ap (λ (k : Option SubOperation). record {
+      within = now.within;
+      sub = k;
+      stage = now.stage;
+      awaited = a.awaited;
+      queue = now.queue;
+    }) same
+    ∙ ap (λ (o : Option Due). record {
+      within = now.within;
+      sub = sub;
+      stage = now.stage;
+      awaited = o;
+      queue = now.queue;
+    }) awaited
+
+-- ---- messages for which the port is asked
+
+-- a C-STORE whose content is asked
+pub answered_store : (titles : List (Title View)) (now new : AssociationState) (m : Message) (content : ContentParts)
+    (service : Service) (settled : Option (Settled View)) (contexts : List Context) (limit : ℕ) (deeds : List Deed)
+    → now.within.state ≡ Sta6 → now.awaited ≡ None → now.sub ≡ None
+    → new ≡ record {
+      within = now.within;
+      sub = now.sub;
+      stage = now.stage;
+      awaited = Some (dues.Store (record { context = m.context; limit = limit; command = m.command }));
+      queue = now.queue;
+    }
+    → settled ≡ now.within.settled → contexts ≡ now.within.link.contexts → limit ≡ now.within.link.limit
+    → service ≡ Asked content → ServesOn settled (context_in contexts m.context) m.command m.body service
+    → deeds ≡ Reach InStore ∷ Ask (Store content) ∷ [] → Answered titles now m deeds new
+answered_store titles now new m content service settled contexts limit deeds opened idle none is se cs lim of serves
+    asks =
+    answered_asked titles now new m (Asked content) (Reach InStore ∷ []) (Store content) (dues.Store (awaiting
+    now.within.link m)) settled contexts deeds opened idle none
+    (is ∙ ap (λ (n : ℕ). record {
+      within = now.within;
+      sub = now.sub;
+      stage = now.stage;
+      awaited = Some (dues.Store (record { context = m.context; limit = n; command = m.command }));
+      queue = now.queue;
+    }) lim) se cs
+    (subst (λ (s : Service). ServesOn settled (context_in contexts m.context) m.command m.body s) of serves) asks
+    (refl, tt) (λ s. refl) tt (λ abort gets gone rs rest owed. (rest, refl, owed))
+
+-- a C-FIND that is asked
+pub answered_find : (titles : List (Title View)) (now new : AssociationState) (m : Message) (finding : Finding)
+    (kind : RowKind) (service : Service) (settled : Option (Settled View)) (contexts : List Context) (limit : ℕ)
+    (deeds : List Deed) → now.within.state ≡ Sta6 → now.awaited ≡ None → now.sub ≡ None
+    → new ≡ record {
+      within = now.within;
+      sub = now.sub;
+      stage = now.stage;
+      awaited = Some (dues.Find (record { context = m.context; limit = limit; command = m.command }) kind);
+      queue = now.queue;
+    }
+    → settled ≡ now.within.settled → contexts ≡ now.within.link.contexts → limit ≡ now.within.link.limit
+    → service ≡ Queried finding kind → ServesOn settled (context_in contexts m.context) m.command m.body service
+    → deeds ≡ Ask (Find finding) ∷ [] → Answered titles now m deeds new
+answered_find titles now new m finding kind service settled contexts limit deeds opened idle none is se cs lim of serves
+    asks =
+    answered_asked titles now new m (Queried finding kind) [] (Find finding) (dues.Find (awaiting now.within.link m)
+    kind) settled contexts deeds opened idle none
+    (is ∙ ap (λ (n : ℕ). record {
+      within = now.within;
+      sub = now.sub;
+      stage = now.stage;
+      awaited = Some (dues.Find (record { context = m.context; limit = n; command = m.command }) kind);
+      queue = now.queue;
+    }) lim) se cs
+    (subst (λ (s : Service). ServesOn settled (context_in contexts m.context) m.command m.body s) of serves) asks
+    (refl, tt) (λ s. refl) tt (λ abort gets gone rs rest owed. (rest, refl, owed))

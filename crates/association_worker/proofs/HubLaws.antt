@@ -1,0 +1,160 @@
+-- What a pass of a running site is as a port.
+use Rattle.std.proofs.Common.{◌≡◌, ◌⊎◌, ◌++◌, ◌∷◌, [], ℕ, List, Result, Ok, Err, MatchResult, IfOk, IfErr, OnOk}
+use Rattle.std.proofs.Common.{inl, inr, refl, sym, ap, subst, ◌∙◌}
+use mathlib.Core.List.{IsPrefix}
+use Rattle.octets.specs.Members.{Has}
+use Rattle.data_set.specs.Set.{Set}
+use Rattle.operation.specs.declared.op.Op.{Op}
+use Rattle.operation.specs.Spelling.{digest_of}
+use Rattle.operation.specs.declared.taken.Taken.{Taken}
+use Rattle.operation.specs.declared.taken.Taken.TheVariants.{New, Known}
+use Rattle.query_model.specs.Rows.{rows_of}
+use Rattle.retrieve_model.specs.declared.prepared.Prepared.{Prepared}
+use Rattle.retrieve_model.specs.Preparing.{prepared_of}
+use Rattle.site_state.specs.Site.{Map, ops_of, with_op, Takes}
+use Rattle.site_state.proofs.Indexed.{ops_held}
+use Rattle.site_state.proofs.Same.{of_ops, taking_adds}
+use Rattle.site_hub.specs.declared.entry.Entry.{Entry}
+use Rattle.site_hub.specs.declared.fault.HubFault.{HubFault}
+use Rattle.site_hub.specs.declared.fault.HubFault.TheVariants as hub
+use Rattle.site_hub.specs.Fault.{IsLookFault}
+use Rattle.site_hub.specs.History.{set_of, entry_of, IsHistory}
+use Rattle.site_hub.specs.Hub.{Seat, News, WasHeld, IsTaken, IsClashed, IsLater, HasLooked}
+use Rattle.site_hub.proofs.Histories.{set_of_more, stays, history_is_site}
+use Rattle.association_session.specs.declared.deed.Finding.{Finding}
+use Rattle.association_session.specs.declared.deed.Getting.{Getting}
+use Rattle.association_session.specs.declared.reply.PortFault.{PortFault}
+use Rattle.association_run.specs.Port as port
+use Rattle.association_worker.specs.Port.{fault_of_hub, reply_to}
+use Rattle.association_worker.proofs.PortLaws.{leaves, holds_now, other_at_own, taken_at_turn}
+
+-- what a beginning of a history holds is held after it
+held_on : (opening : Map) (xs ys : List Entry) → IsHistory opening ys → IsPrefix xs ys
+    → port.AreHeld (ops_of (set_of opening xs)) (ops_of (set_of opening ys))
+held_on opening xs ys history pre op has =
+    let there = ops_held (set_of opening xs) op has in
+    of_ops (set_of opening ys) there.0 op (stays opening xs ys history pre there.0 op there.1)
+
+taken_so : (m : Map) (op : Op) (taken : Taken) → WasHeld m op taken → Takes m op (Ok taken) (with_op m op)
+taken_so m op New was = (was, refl)
+taken_so m op Known was = (was, sym (taking_adds m m op Known (was, refl)))
+
+-- the site at the turn takes the operation
+at_turn : (opening : Map) (before later : Seat) (op : Op) (taken : Taken)
+    → (t : IsTaken opening before op taken later)
+    → Takes (set_of opening t.turn) op (Ok taken) (set_of opening later.seen)
+at_turn opening before later op taken t =
+    let after = ap (set_of opening) t.seen ∙ set_of_more opening t.turn (entry_of before.number op) in
+    subst (λ (n : Map). Takes (set_of opening t.turn) op (Ok taken) n) (sym after)
+    (taken_so (set_of opening t.turn) op taken t.held)
+
+leaves_so : (before later : Seat) (op : Op) (fault : HubFault)
+    → (fault ≡ hub.Pending → (later.mine ≡ before.mine ++ digest_of op ∷ []) × (later.seen ≡ before.seen))
+    → (fault ≡ hub.Pending) ⊎ (later ≡ before)
+    → port.Leaves (fault_of_hub fault) before.mine (digest_of op) later.mine
+leaves_so before later op fault pending (inl is) =
+    subst (λ (f : HubFault). port.Leaves (fault_of_hub f) before.mine (digest_of op) later.mine) (sym is)
+    (inr (pending is).0)
+leaves_so before later op fault pending (inr same) =
+    leaves (fault_of_hub fault) before.mine later.mine (digest_of op) (ap (λ (s : Seat). s.mine) same)
+
+clashed : (opening : Map) (before : Seat) (op : Op) → IsClashed opening before op
+    → port.IsClashed (ops_of (set_of opening before.seen)) op
+clashed opening before op c = record {
+  turn = ops_of (set_of opening c.turn);
+  others = held_on opening before.seen c.turn c.comes.history c.comes.seen;
+  clash = other_at_own (set_of opening c.turn) op (history_is_site opening c.turn c.comes.history) c.clash;
+}
+
+comes_so : (opening : Map) (before : Seat) (op : Op) (fault : HubFault)
+    → (fault ≡ hub.Collision → IsClashed opening before op)
+    → port.ComesOf (fault_of_hub fault) (ops_of (set_of opening before.seen)) op
+comes_so opening before op hub.Busy clash = tt
+comes_so opening before op hub.Collision clash = clashed opening before op (clash refl)
+comes_so opening before op hub.Memory clash = tt
+comes_so opening before op hub.StampsSpent clash = tt
+comes_so opening before op hub.Torn clash = tt
+comes_so opening before op hub.Pending clash = tt
+comes_so opening before op hub.BadCorrection clash = tt
+
+-- What a keeper takes for a pass is stored at the port.
+pub pass_stores : (opening : Map) (before later : Seat) (op : Op) (told : Result News HubFault)
+    (reply : Result Taken PortFault) → reply ≡ reply_to told
+    → IsHistory opening later.seen → IsLater before later
+    → IfOk told (λ (t : News). IsTaken opening before op t.taken later)
+    → OnOk told (later.mine ≡ before.mine ++ digest_of op ∷ [])
+    → IfErr told (λ e. e ≡ hub.Pending
+    → (later.mine ≡ before.mine ++ digest_of op ∷ []) × (later.seen ≡ before.seen))
+    → (told ≡ Err hub.Collision → IsClashed opening before op)
+    → IfErr told (λ e. (e ≡ hub.Pending) ⊎ (later ≡ before))
+    → port.Stores (λ (s : Seat). ops_of (set_of opening s.seen)) (λ (s : Seat). s.mine) before op reply later
+pass_stores opening before later op (Ok told) reply is history onward taken mine pending clash kept =
+    subst (λ (r : Result Taken PortFault). port.Stores (λ (s : Seat). ops_of (set_of opening s.seen))
+    (λ (s : Seat). s.mine) before op r later) (sym is) (record {
+      kept = held_on opening before.seen later.seen history onward.seen;
+      replied = (
+        holds_now (set_of opening taken.turn) (set_of opening later.seen) op told.taken
+            (at_turn opening before later op told.taken taken),
+        mine,
+      );
+      turn = taken_at_turn (set_of opening before.seen) (set_of opening taken.turn) (set_of opening later.seen)
+          op told.taken (held_on opening before.seen taken.turn taken.comes.history taken.comes.seen)
+          (history_is_site opening taken.turn taken.comes.history) (at_turn opening before later op told.taken taken);
+    })
+pass_stores opening before later op (Err fault) reply is history onward taken mine pending clash kept =
+    subst (λ (r : Result Taken PortFault). port.Stores (λ (s : Seat). ops_of (set_of opening s.seen))
+    (λ (s : Seat). s.mine) before op r later) (sym is) (record {
+      kept = held_on opening before.seen later.seen history onward.seen;
+      replied = leaves_so before later op fault pending kept;
+      turn = comes_so opening before op fault (λ same. clash (ap (λ (f : HubFault). Err f) same));
+    })
+
+find_fault : (fault : HubFault) → IsLookFault fault → port.IsFindFault (fault_of_hub fault)
+find_fault fault (inl is) = inr (ap fault_of_hub is)
+find_fault fault (inr is) = inl (ap fault_of_hub is)
+
+-- What a pass looks at is found at the port.
+pub pass_finds : {X : Type 0} (items : X → List Set) (opening : Map) (before later : Seat) (finding : Finding)
+    (found : Result X HubFault) (reply : Result (List Set) PortFault)
+    → IfOk found (λ rows. reply ≡ Ok (items rows)) → IfErr found (λ fault. reply ≡ Err (fault_of_hub fault))
+    → IsHistory opening later.seen → HasLooked before later
+    → IfOk found (λ rows. items rows
+    ≡ rows_of finding.view finding.called finding.query (ops_of (set_of opening later.seen)))
+    → IfErr found IsLookFault
+    → port.Finds (λ (s : Seat). ops_of (set_of opening s.seen)) (λ (s : Seat). s.mine) before finding reply later
+pass_finds items opening before later finding (Ok rows) reply ok err history looked answers fault = record {
+  kept = held_on opening before.seen later.seen history looked.seen;
+  own_kept = looked.mine;
+  replied = subst (λ (r : Result (List Set) PortFault). MatchResult r (λ rows. rows ≡ rows_of finding.view
+      finding.called finding.query (ops_of (set_of opening later.seen))) port.IsFindFault) (sym ok) answers;
+}
+pass_finds items opening before later finding (Err fault) reply ok err history looked answers is = record {
+  kept = held_on opening before.seen later.seen history looked.seen;
+  own_kept = looked.mine;
+  replied = subst (λ (r : Result (List Set) PortFault). MatchResult r (λ rows. rows ≡ rows_of finding.view
+      finding.called finding.query (ops_of (set_of opening later.seen))) port.IsFindFault) (sym err)
+      (find_fault fault is);
+}
+
+-- What a pass is to send is what the port is to send.
+pub pass_gets : {X : Type 0} (items : X → List Prepared) (opening : Map) (before later : Seat) (getting : Getting)
+    (found : Result X HubFault) (reply : Result (List Prepared) PortFault)
+    → IfOk found (λ prepared. reply ≡ Ok (items prepared)) → IfErr found (λ fault. reply ≡ Err (fault_of_hub fault))
+    → IsHistory opening later.seen → HasLooked before later
+    → IfOk found (λ prepared. items prepared
+    ≡ prepared_of getting.view getting.selection (ops_of (set_of opening later.seen)))
+    → IfErr found IsLookFault
+    → port.Gets (λ (s : Seat). ops_of (set_of opening s.seen)) (λ (s : Seat). s.mine) before getting reply later
+pass_gets items opening before later getting (Ok prepared) reply ok err history looked answers fault = record {
+  kept = held_on opening before.seen later.seen history looked.seen;
+  own_kept = looked.mine;
+  replied = subst (λ (r : Result (List Prepared) PortFault). MatchResult r (λ prepared. prepared ≡ prepared_of
+      getting.view getting.selection (ops_of (set_of opening later.seen))) port.IsFindFault) (sym ok) answers;
+}
+pass_gets items opening before later getting (Err fault) reply ok err history looked answers is = record {
+  kept = held_on opening before.seen later.seen history looked.seen;
+  own_kept = looked.mine;
+  replied = subst (λ (r : Result (List Prepared) PortFault). MatchResult r (λ prepared. prepared ≡ prepared_of
+      getting.view getting.selection (ops_of (set_of opening later.seen))) port.IsFindFault) (sym err)
+      (find_fault fault is);
+}

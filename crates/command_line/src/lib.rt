@@ -1,0 +1,252 @@
+//! The words of a command line, and what they ask for.
+#![tactic(auto)]
+
+ghost use Rattle.std.specs.Prelude.{IfOk, IfSome};
+ghost use Rattle.command_words.specs.Words.{HasSite, HasWorkers, IsInRange};
+
+use clap::error::ErrorKind;
+use clap::{Arg, ArgMatches, Command, Error, value_parser};
+use command_words::{Asked, Correcting, Exchanging, Serving, change_in};
+use exchange_run::Role;
+use std::alloc::{AllocError, Global};
+use std::net::SocketAddrV4;
+
+const ABOUT: &str = "A DICOM archive of several sites";
+
+const SIMULATE: &str = "Answers the script on standard input, in which sites take images, \
+    corrections and rejection notes and exchange them
+
+Example: archive simulate < rejected.script";
+
+const REPORT: &str = "Counts the operations in FILE, and tells the SOP Instance UIDs of which it \
+    has two contents or more
+
+Example: archive report ops.db";
+
+const CORRECT: &str =
+    "Corrects an attribute of a study, a patient or a series in FILE, which is made \
+    where it is not there, and prints the correction's stamp once it is stored
+
+Example: archive correct ops.db --site 1 study 1.2.1 00100010 ROE^ANN";
+
+const SERVE: &str =
+    "Serves the operations in FILE, which is made where it is not there, to C-ECHO, \
+    C-STORE and C-FIND under the called titles ARCHIVE, QUALITY and AUDIT, and ends once each \
+    worker has accepted what it may. With --rounds it also serves so many exchanges, in which \
+    another site calls by `archive exchange`
+
+Example: archive serve ops.db --listen 127.0.0.1:11112 --workers 4 --each 1000 \
+    --exchange 127.0.0.1:11113 --rounds 10";
+
+const EXCHANGE: &str =
+    "Exchanges operations with the site that serves exchanges at ADDR: it is given what it lacks \
+    of those in FILE, and FILE, which is made where it is not there, takes what the site has. \
+    Prints how many were given, how many taken that were new, and whether all came that were asked \
+    for
+
+Example: archive exchange ops.db --peer 127.0.0.1:11113";
+
+const NO_ADDRESS: &str = "ADDR is an IPv4 address, a colon and a port";
+
+const NO_FORM: &str = "TARGET is study, patient or series, and TAG eight hexadecimal digits";
+
+const NO_COMMAND: &str = "a command has to be named";
+
+/// A word that has to be there.
+fn word<'a>(alloc: Global, name: &'a str, help: &'a str) -> Arg<'a> {
+    Arg::new(alloc, name).required(true).help(help)
+}
+
+fn report_command<'a>(alloc: Global) -> Result<Command<'a>, AllocError> {
+    let file = word(alloc, "FILE", "The file with the operations");
+    Command::new(alloc, "report").about(REPORT).arg(file)
+}
+
+fn correct_command<'a>(alloc: Global) -> Result<Command<'a>, AllocError> {
+    let site = word(alloc, "site", "The number of the site, from 1 to 65535")
+        .long("site")
+        .value_name("N")
+        .value_parser(value_parser!(u16).range(1..));
+    let key = "The Study Instance UID, Patient ID or Series Instance UID";
+    Command::new(alloc, "correct")
+        .about(CORRECT)
+        .arg(word(alloc, "FILE", "The file with the operations"))?
+        .arg(site)?
+        .arg(word(alloc, "TARGET", "study, patient or series"))?
+        .arg(word(alloc, "KEY", key))?
+        .arg(word(alloc, "TAG", "The attribute, in eight hexadecimal digits"))?
+        .arg(word(
+            alloc,
+            "VALUE",
+            "Its new value, behind -- where it begins with -",
+        ))
+}
+
+fn serve_command<'a>(alloc: Global) -> Result<Command<'a>, AllocError> {
+    let listen = word(alloc, "listen", "The IPv4 address and port to listen at")
+        .long("listen")
+        .value_name("ADDR");
+    let workers = word(
+        alloc,
+        "workers",
+        "How many associations are served at once, 1 to 32",
+    )
+    .long("workers")
+    .value_name("N")
+    .value_parser(value_parser!(u16).range(1..=32));
+    let each = word(alloc, "each", "How many associations each worker accepts")
+        .long("each")
+        .value_name("N")
+        .value_parser(value_parser!(u32));
+    let exchange = Arg::new(alloc, "exchange")
+        .long("exchange")
+        .value_name("ADDR")
+        .help("The IPv4 address and port to listen at for exchanges");
+    let rounds = Arg::new(alloc, "rounds")
+        .long("rounds")
+        .value_name("N")
+        .value_parser(value_parser!(u32))
+        .help("How many exchanges are served, none where it is left out");
+    Command::new(alloc, "serve")
+        .about(SERVE)
+        .arg(word(alloc, "FILE", "The file with the operations"))?
+        .arg(listen)?
+        .arg(workers)?
+        .arg(each)?
+        .arg(exchange)?
+        .arg(rounds)
+}
+
+fn exchange_command<'a>(alloc: Global) -> Result<Command<'a>, AllocError> {
+    let peer = word(alloc, "peer", "The IPv4 address and port of the other site")
+        .long("peer")
+        .value_name("ADDR");
+    let version = Arg::new(alloc, "peer-version")
+        .long("peer-version")
+        .value_name("N")
+        .value_parser(value_parser!(u16).range(1..=2))
+        .help("The version that the other site speaks: 1 for one that knows no HELLO, else 2");
+    Command::new(alloc, "exchange")
+        .about(EXCHANGE)
+        .arg(word(alloc, "FILE", "The file with the operations"))?
+        .arg(peer)?
+        .arg(version)
+}
+
+fn archive_command<'a>(alloc: Global) -> Result<Command<'a>, AllocError> {
+    Command::new(alloc, "archive")
+        .about(ABOUT)
+        .subcommand_required(true)
+        .subcommand(Command::new(alloc, "simulate").about(SIMULATE))?
+        .subcommand(report_command(alloc)?)?
+        .subcommand(correct_command(alloc)?)?
+        .subcommand(serve_command(alloc)?)?
+        .subcommand(exchange_command(alloc)?)
+}
+
+/// The word of a name, which is there where the name is that of a word that has to be.
+fn text<'a>(found: &ArgMatches<'a>, name: &str) -> &'a str {
+    found.get_str(name).unwrap_or("")
+}
+
+/// What the words behind `correct` ask for, if they have its form.
+fn read_correct<'a>(
+    alloc: Global,
+    found: &ArgMatches<'a>,
+) -> Result<Option<Correcting<'a>>, AllocError>
+    ensures { IfOk result (λ correcting. IfSome correcting HasSite) }
+{
+    let kind = text(found, "TARGET");
+    let key = text(found, "KEY");
+    let tag = text(found, "TAG");
+    let value = text(found, "VALUE");
+    let change = change_in(alloc, kind, key, tag, value)?;
+    match (found.get_one::<u16>("site"), change) {
+        (None | Some(0), _) | (_, None) => Ok(None),
+        (Some(site), Some(change)) => Ok(Some(Correcting {
+            file: text(found, "FILE"),
+            site,
+            change,
+        })),
+    }
+}
+
+/// Whether a word is an IPv4 address, a colon and a port.
+fn is_address(text: &str) -> bool {
+    text.parse::<SocketAddrV4>().is_ok()
+}
+
+/// How many exchanges are to be served: none without an address for them.
+fn rounds_in(found: &ArgMatches<'_>) -> u32 {
+    match (found.get_str("exchange"), found.get_one::<u32>("rounds")) {
+        (Some(_), Some(rounds)) => rounds,
+        _ => 0,
+    }
+}
+
+/// What the words behind `serve` ask for, if its addresses have their form.
+fn read_serve<'a>(found: &ArgMatches<'a>) -> Option<Serving<'a>>
+    ensures { IfSome result HasWorkers }
+{
+    let listen = text(found, "listen");
+    let exchange = found.get_str("exchange");
+    if !is_address(listen) || !exchange.is_none_or(is_address) {
+        return None;
+    }
+    match (
+        found.get_one::<u16>("workers"),
+        found.get_one::<u32>("each"),
+    ) {
+        (Some(workers), Some(each)) if 1 <= workers && workers <= 32 => Some(Serving {
+            file: text(found, "FILE"),
+            listen,
+            workers,
+            each,
+            exchange: text(found, "exchange"),
+            rounds: rounds_in(found),
+        }),
+        _ => None,
+    }
+}
+
+/// What the words behind `exchange` ask for, if its address has its form.
+fn read_exchange<'a>(found: &ArgMatches<'a>) -> Option<Exchanging<'a>> {
+    let peer = text(found, "peer");
+    if !is_address(peer) {
+        return None;
+    }
+    let role = match found.get_one::<u16>("peer-version") {
+        Some(1) => Role::OldCaller,
+        _ => Role::Caller,
+    };
+    Some(Exchanging {
+        file: text(found, "FILE"),
+        peer,
+        role,
+    })
+}
+
+/// What the words of a command line ask for, the program's name first.
+pub fn read_words<'a>(alloc: Global, words: &'a [&'a str]) -> Result<Asked<'a>, Error>
+    ensures ranges { IfOk result IsInRange }
+{
+    let mut command = archive_command(alloc)?;
+    let matches = command.try_get_matches_from_mut(words)?;
+    match matches.subcommand() {
+        Some(("report", found)) => Ok(Asked::Report(text(found, "FILE"))),
+        Some(("correct", found)) => match read_correct(alloc, found)? {
+            Some(correcting) => Ok(Asked::Correct(correcting)),
+            None => Err(command.error(ErrorKind::InvalidValue, NO_FORM)?),
+        },
+        Some(("serve", found)) => match read_serve(found) {
+            Some(serving) => Ok(Asked::Serve(serving)),
+            None => Err(command.error(ErrorKind::InvalidValue, NO_ADDRESS)?),
+        },
+        Some(("exchange", found)) => match read_exchange(found) {
+            Some(exchanging) => Ok(Asked::Exchange(exchanging)),
+            None => Err(command.error(ErrorKind::InvalidValue, NO_ADDRESS)?),
+        },
+        Some(("simulate", _found)) => Ok(Asked::Simulate),
+        _ => Err(command.error(ErrorKind::MissingSubcommand, NO_COMMAND)?),
+    }
+}

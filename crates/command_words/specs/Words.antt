@@ -1,0 +1,34 @@
+-- What the words of a command line ask for.
+use Rattle.std.specs.Prelude.{ℕ, ◌≤◌, List, Option, Some, None}
+use Rattle.operation.specs.declared.target.Target.{Target}
+use Rattle.site_script.specs.Commands.{target_in}
+use Rattle.site_script.specs.Names.{tag_in}
+use Rattle.command_words.specs.declared.Change.{Change}
+use Rattle.command_words.specs.declared.Correcting.{Correcting}
+use Rattle.command_words.specs.declared.Serving.{Serving}
+use Rattle.command_words.specs.declared.Asked.{Asked}
+use Rattle.command_words.specs.declared.Asked.TheVariants.{Simulate, Report, Correct, Serve, Exchange}
+
+abbrev pub change_for : Option Target → Option ℕ → List ℕ → Option Change
+change_for (Some target) (Some tag) value = Some (record { target = target; tag = tag; value = value })
+change_for _ _ value = None
+
+-- TARGET KEY TAG VALUE, as a script's line has them
+abbrev pub change_in : List ℕ → List ℕ → List ℕ → List ℕ → Option Change
+change_in kind key tag value = change_for (target_in kind key) (tag_in tag) value
+
+-- the site has a number from 1 on
+abbrev pub HasSite : Correcting → Type 0
+HasSite correcting = 1 ≤ correcting.site
+
+-- the workers of a server are 1 to 32
+abbrev pub HasWorkers : Serving → Type 0
+HasWorkers serving = (1 ≤ serving.workers) × (serving.workers ≤ 32)
+
+-- the numbers that a command names are in their ranges
+abbrev pub IsInRange : Asked → Type 0
+IsInRange Simulate = Unit {0}
+IsInRange (Report file) = Unit {0}
+IsInRange (Correct correcting) = HasSite correcting
+IsInRange (Serve serving) = HasWorkers serving
+IsInRange (Exchange exchanging) = Unit {0}

@@ -1,0 +1,90 @@
+//! What a command line asks for.
+#![tactic(auto)]
+
+ghost use Rattle.std.specs.Prelude.{◌≡◌, IfOk};
+ghost use Rattle.command_words.specs.Words.{change_in as change_in_words};
+
+use exchange_run::Role;
+use octets::Octets;
+use operation::Target;
+use site_script::{tag_in, target_in};
+use std::alloc::{AllocError, Global};
+
+/// The value that an attribute of a target is given.
+#[derive(Debug, Drop)]
+pub struct Change {
+    pub target: Target,
+    pub tag: u32,
+    pub value: Octets,
+}
+
+/// A change that is made at the site of a number, and the file with the site's shelf.
+#[derive(Debug, Drop)]
+pub struct Correcting<'a> {
+    pub file: &'a str,
+    pub site: u16,
+    pub change: Change,
+}
+
+/// The operations in a file, served at an address by so many workers, each of which accepts so many
+/// associations.
+#[derive(Clone, Copy, Debug)]
+pub struct Serving<'a> {
+    pub file: &'a str,
+    pub listen: &'a str,
+    pub workers: u16,
+    pub each: u32,
+    /// Where exchanges come in.
+    pub exchange: &'a str,
+    /// How many are served. Where none is, nothing is listened for them.
+    pub rounds: u32,
+}
+
+/// The operations in a file, and the address of the site that they are exchanged with.
+#[derive(Clone, Copy, Debug)]
+pub struct Exchanging<'a> {
+    pub file: &'a str,
+    pub peer: &'a str,
+    /// Which side of the exchange the command takes.
+    pub role: Role,
+}
+
+/// What a command line asks for.
+#[derive(Debug, Drop)]
+pub enum Asked<'a> {
+    /// Answers a script.
+    Simulate,
+    /// Reports on the shelf in a file.
+    Report(&'a str),
+    /// Makes a correction.
+    Correct(Correcting<'a>),
+    /// Serves.
+    Serve(Serving<'a>),
+    /// Exchanges operations with another site.
+    Exchange(Exchanging<'a>),
+}
+
+/// The change that four words ask for, or `None` where the first names no kind of target or the
+/// third is no tag.
+pub fn change_in(
+    alloc: Global,
+    kind: &str,
+    key: &str,
+    tag: &str,
+    value: &str,
+) -> Result<Option<Change>, AllocError>
+    ensures { IfOk result (λ change. change ≡ change_in_words kind.now key.now tag.now value.now) }
+{
+    let key = Octets::from_slice(alloc, key.as_bytes())?;
+    let Some(target) = target_in(alloc, kind.as_bytes(), &key)? else {
+        return Ok(None);
+    };
+    let Some(tag) = tag_in(tag.as_bytes()) else {
+        return Ok(None);
+    };
+    Ok(Some(Change {
+        target,
+        tag,
+        value: Octets::from_slice(alloc, value.as_bytes())?,
+    }))
+}

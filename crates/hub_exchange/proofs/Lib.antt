@@ -1,0 +1,2 @@
+pub mod OnwardLaws
+pub mod HolderLaws

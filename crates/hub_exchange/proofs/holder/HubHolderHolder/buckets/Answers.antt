@@ -1,0 +1,16 @@
+use Rattle.hub_exchange.proofs.OnwardLaws.{onward_seen}
+use Rattle.hub_exchange.proofs.holder.HubHolderHolder.buckets.Goals as goal
+
+-- A look makes nothing the pass's own.
+pub invariant_of-self : goal.invariant_of-self
+invariant_of-self g c = onward_seen g.K.Keep.is_up g.K.Keep.holds g.K.Keep.lasts _ _ _ c.self.invariant
+    c.look.ensures.looked
+
+-- What the pass answers the holder answers.
+pub returns : goal.returns
+returns g c = let look = c.look.ensures.looks in record {
+  had = look.had;
+  was_had = rw (← c.self.view_is) look.was_had;
+  answers = look.answers;
+  stays = λ none. elim none [ ];
+}

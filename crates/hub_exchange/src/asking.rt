@@ -1,0 +1,86 @@
+//! What an exchange asks of a site, in one look each.
+
+ghost use Rattle.std.specs.Prelude.{◌≡◌, IfOk};
+ghost use Rattle.exchange.specs.Held.{offered, offered_in, lacked, given};
+ghost use Rattle.exchange.specs.Buckets.{bucket_list};
+
+use exchange::{
+    Version, buckets_of_site, digests_of_site, digests_of_site_in, ops_of_site,
+};
+use octets::ListOf;
+use operation::{Digest, Op};
+use site_hub::Question;
+use site_state::Site;
+use std::alloc::{AllocError, Global};
+
+/// Asks for the digests of all operations that a version speaks of.
+#[derive(Clone, Copy)]
+pub(crate) struct All {
+    pub version: Version,
+}
+
+impl Question<ListOf<Digest>> for All {
+    ghost answers = { λ q m digests. digests ≡ offered q.version m };
+
+    fn answer(&self, alloc: Global, site: &Site) -> Result<ListOf<Digest>, AllocError> {
+        digests_of_site(alloc, self.version, site)
+    }
+}
+
+/// Asks for those of them that begin with one of these bytes.
+#[derive(Clone, Copy)]
+pub(crate) struct In<'a> {
+    pub version: Version,
+    pub places: &'a [u8],
+}
+
+impl<'a> Question<ListOf<Digest>> for In<'a> {
+    ghost answers = { λ q m digests. digests ≡ offered_in q.version q.places.now m };
+
+    fn answer(&self, alloc: Global, site: &Site) -> Result<ListOf<Digest>, AllocError> {
+        digests_of_site_in(alloc, self.version, self.places, site)
+    }
+}
+
+/// Asks for their buckets.
+#[derive(Clone, Copy)]
+pub(crate) struct Buckets {
+    pub version: Version,
+}
+
+impl Question<ListOf<Digest>> for Buckets {
+    ghost answers = { λ q m buckets. buckets ≡ bucket_list (offered q.version m) };
+
+    fn answer(&self, alloc: Global, site: &Site) -> Result<ListOf<Digest>, AllocError> {
+        buckets_of_site(alloc, self.version, site)
+    }
+}
+
+/// Asks which of some digests are not held.
+#[derive(Clone, Copy)]
+pub(crate) struct Missing<'a> {
+    pub digests: &'a [Digest],
+}
+
+impl<'a> Question<ListOf<Digest>> for Missing<'a> {
+    ghost answers = { λ q m missing. missing ≡ lacked m q.digests.now };
+
+    fn answer(&self, alloc: Global, site: &Site) -> Result<ListOf<Digest>, AllocError> {
+        Ok(ListOf::of(site.missing(alloc, self.digests)?))
+    }
+}
+
+/// Asks for the operations under some digests that a version speaks of.
+#[derive(Clone, Copy)]
+pub(crate) struct Wanted<'a> {
+    pub version: Version,
+    pub digests: &'a [Digest],
+}
+
+impl<'a> Question<ListOf<Op>> for Wanted<'a> {
+    ghost answers = { λ q m ops. ops ≡ given q.version q.digests.now m };
+
+    fn answer(&self, alloc: Global, site: &Site) -> Result<ListOf<Op>, AllocError> {
+        ops_of_site(alloc, self.version, site, self.digests)
+    }
+}

@@ -1,0 +1,197 @@
+//! A pass of a running site as a holder.
+
+ghost use Rattle.std.specs.Prelude.{◌≡◌, IfOk};
+ghost use Rattle.operation.specs.Spelling.{digest_of};
+ghost use Rattle.site_hub.specs.History.{set_of};
+ghost use Rattle.site_hub.specs.Hub.{Seat, HasLooked};
+ghost use Rattle.exchange.specs.Held.{Looks, TakesIn};
+ghost use Rattle.hub_exchange.specs.Fault.{refusal_of, reply_to};
+ghost use Rattle.hub_exchange.specs.Onward.{IsOnward};
+
+use crate::asking::{All, Buckets, In, Missing, Wanted};
+use association_worker::AtEntry;
+use exchange::{Holder, HolderFault, Version};
+use octets::ListOf;
+use op_shelf::Keep;
+use operation::{Digest, Digested, Op, Taken};
+use shelved_exchange::{Put, Shelved, refusal_of_shelf};
+use site_hub::{HubFault, HubName, Keeper, Pass, Question, Shows, Told, store_digested};
+use std::alloc::Global;
+use std::marker::{Model, PhantomData};
+use std::sync::{Mutex, Wait};
+
+/// A pass with the keeper that all passes share, and the way to the shelf. The pass goes on from
+/// what it was when its exchange began, and what it takes since is on the shelf. Contracts see the
+/// pass.
+pub struct HubHolder<
+    'a,
+    'b,
+    H: HubName,
+    T: Shows<H>,
+    R: Wait + Drop,
+    S: Wait,
+    K: Keep,
+    P,
+    E: AtEntry,
+> {
+    rt: &'a S,
+    keeper: &'a Mutex<Keeper<H, T, R>>,
+    shelf: &'b P,
+    pass: Pass<H>,
+    of: PhantomData<(K, E)>,
+}
+
+impl<'a, 'b, H: HubName, T: Shows<H>, R: Wait + Drop, S: Wait, K: Keep, P, E: AtEntry> Model
+    for HubHolder<'a, 'b, H, T, R, S, K, P, E> {
+    ghost use Rattle.site_hub.specs.Hub.{Seat};
+    ghost use Rattle.hub_exchange.specs.Onward.{IsOnward};
+
+    ghost Value = { Seat };
+
+    ghost view = { λ h. h.pass };
+
+    ghost invariant = { λ h. IsOnward K.is_up K.holds K.lasts E.seat h.pass };
+}
+
+/// What a fault of the hub is to a round.
+fn of_hub(fault: HubFault) -> HolderFault
+    ensures { result ≡ refusal_of fault }
+{
+    match fault {
+        HubFault::Memory | HubFault::Pending => HolderFault::Memory,
+        _ => HolderFault::Refused,
+    }
+}
+
+/// What the answer to a take is to a round.
+fn reply<H: HubName>(told: Result<Told<H>, HubFault>) -> Result<Taken, HolderFault>
+    ensures { result ≡ reply_to told }
+{
+    match told {
+        Ok(told) => Ok(told.taken()),
+        Err(fault) => Err(of_hub(fault)),
+    }
+}
+
+/// Lets the hub take what the shelf keeps, which publishes it.
+fn publish<H: HubName, T: Shows<H>, R: Wait + Drop, S: Wait, K: Keep>(
+    rt: &S,
+    keeper: &Mutex<Keeper<H, T, R>>,
+    pass: &mut Pass<H>,
+    op: Digested,
+    shelved: &Shelved<K>,
+) -> Result<Taken, HolderFault>
+    requires { shelved.now.digest ≡ digest_of op }
+    ensures takes { TakesIn (λ (s : Seat). set_of H.opening s.seen) (λ _. ⊥) pass.old op result
+        pass.new }
+    ensures onward { IsOnward K.is_up K.holds K.lasts pass.old pass.new }
+{
+    let _ = &shelved.digest;
+    let told = store_digested(rt, keeper, pass, op);
+    pass.see_history();
+    reply(told)
+}
+
+/// What a pass answers to a question, of the set that it then has seen.
+fn look<H: HubName, X: Drop, Q: Question<X>>(
+    pass: &mut Pass<H>,
+    question: &Q,
+) -> Result<X, HolderFault>
+    ensures looks { Looks (λ (s : Seat). set_of H.opening s.seen) (λ _. ⊥) pass.old pass.new
+        (λ m. IfOk result (Q.answers question.now m)) }
+    ensures looked { HasLooked pass.old pass.new }
+{
+    let answer = pass.look(question);
+    pass.see_history();
+    match answer {
+        Ok(answer) => Ok(answer),
+        Err(fault) => Err(of_hub(fault)),
+    }
+}
+
+impl<'a, 'b, H: HubName, T: Shows<H>, R: Wait + Drop, S: Wait, K: Keep, P, E: AtEntry>
+    HubHolder<'a, 'b, H, T, R, S, K, P, E> {
+    /// The holder of an exchange that begins with this pass.
+    pub fn new(
+        rt: &'a S,
+        keeper: &'a Mutex<Keeper<H, T, R>>,
+        shelf: &'b P,
+        pass: Pass<H>,
+    ) -> HubHolder<'a, 'b, H, T, R, S, K, P, E>
+        requires entry { pass ≡ E.seat }
+        ensures { result ≡ pass }
+    {
+        HubHolder {
+            rt,
+            keeper,
+            shelf,
+            pass,
+            of: PhantomData,
+        }
+    }
+
+    /// Gives the pass back.
+    pub fn into_pass(self) -> Pass<H>
+        ensures same { result ≡ self.entry }
+        ensures onward { IsOnward K.is_up K.holds K.lasts E.seat result }
+    {
+        let HubHolder {
+            rt: _,
+            keeper: _,
+            shelf: _,
+            pass,
+            of: _,
+        } = self;
+        pass
+    }
+}
+
+/// Others may store meanwhile, so nothing is said of a set that nobody else changes.
+impl<'a, 'b, H: HubName, T: Shows<H>, R: Wait + Drop, S: Wait, K: Keep, P: Put<K> + Copy, E: AtEntry> Holder
+    for HubHolder<'a, 'b, H, T, R, S, K, P, E> {
+    ghost holds = { λ s. set_of H.opening s.seen };
+
+    ghost alone = { λ _. ⊥ };
+
+    fn digests(&mut self, _alloc: Global, version: Version) -> Result<ListOf<Digest>, HolderFault> {
+        look(&mut self.pass, &All { version })
+    }
+
+    fn digests_in(
+        &mut self,
+        _alloc: Global,
+        version: Version,
+        places: &[u8],
+    ) -> Result<ListOf<Digest>, HolderFault> {
+        look(&mut self.pass, &In { version, places })
+    }
+
+    fn buckets(&mut self, _alloc: Global, version: Version) -> Result<ListOf<Digest>, HolderFault> {
+        look(&mut self.pass, &Buckets { version })
+    }
+
+    fn missing(
+        &mut self,
+        _alloc: Global,
+        digests: &[Digest],
+    ) -> Result<ListOf<Digest>, HolderFault> {
+        look(&mut self.pass, &Missing { digests })
+    }
+
+    fn ops(
+        &mut self,
+        _alloc: Global,
+        version: Version,
+        digests: &[Digest],
+    ) -> Result<ListOf<Op>, HolderFault> {
+        look(&mut self.pass, &Wanted { version, digests })
+    }
+
+    fn take(&mut self, op: Digested) -> Result<Taken, HolderFault> {
+        let mut shelf = *self.shelf;
+        match shelf.put(&op) {
+            Ok(shelved) => publish(self.rt, self.keeper, &mut self.pass, op, &shelved),
+            Err(fault) => Err(refusal_of_shelf(fault)),
+        }
+    }
+}

@@ -1,0 +1,10 @@
+use Rattle.hub_tests.proofs.hubs.an_association_stores_and_finds_while_another_is_held.Given as goal
+
+-- the hub that was just opened
+abbrev pub ghosts-run : goal.ghosts-run
+ghosts-run g a = record {
+  book = a.opened.book;
+  number = a.opened.number;
+  opening = a.opened.opening;
+  passes = a.opened.passes;
+}

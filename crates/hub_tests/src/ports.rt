@@ -1,0 +1,210 @@
+//! Associations over passes of a running site, with devices in memory.
+ghost use Rattle.std.specs.Prelude.{◌≡◌};
+ghost use Rattle.site_hub.specs.Hub.{IsLater};
+
+use crate::made::{found, query};
+use crate::messages::{answered, asked};
+use archive_model::View;
+use archive_query::Query;
+use association_run::{End, Gate, run_association};
+use association_session::Moment;
+use association_worker::{AtEntry, HubPort};
+use devices::{Store, Supply};
+use octets::{ListOf, Octets};
+use site_hub::{HubName, Keeper, Pass, Snapshot};
+use std::alloc::Global;
+use std::marker::Brand;
+use std::process::Abort;
+use std::sync::atomic::{AtomicU64, Ordering};
+use std::sync::{Mutex, Wait};
+use std::test::*;
+use std::thread::{Threads, join};
+use ul_state::{Title, Titles};
+
+type Shared<'a, H, R> = Mutex<Keeper<H, Snapshot<H>, &'a R>>;
+
+/// What an association reads and writes, and under which titles.
+#[derive(Drop)]
+struct Line {
+    supply: Supply,
+    store: Store,
+    titles: Titles<View>,
+}
+
+/// A line whose peer sends what `asked` says.
+fn line_of(alloc: Global, first: u64, count: u64) -> Result<Line, Fail> {
+    let input = asked(alloc, first, count)?;
+    let title = Title {
+        title: Octets::from_slice(alloc, b"ARCHIVE")?,
+        value: View::Archive,
+    };
+    Ok(Line {
+        supply: Supply::new(Octets::from_slice(alloc, input.as_slice())?, 65_536, None),
+        store: Store::new(alloc, 1_000_000),
+        titles: Titles {
+            list: ListOf::of(vec![in alloc; title]?),
+        },
+    })
+}
+
+/// An association for the pass that the caller named.
+fn associate<E: AtEntry, H: HubName, R: Wait, G: Gate>(
+    rt: &R,
+    alloc: Global,
+    keeper: &Shared<'_, H, R>,
+    pass: Pass<H>,
+    line: &mut Line,
+    gate: &mut G,
+) -> (Pass<H>, Option<End>)
+    requires entry { pass ≡ E.seat }
+    ensures onward { IsLater E.seat result.0 }
+{
+    let mut port = HubPort::<H, Snapshot<H>, &R, R, E>::new(rt, keeper, pass);
+    let ended = run_association(
+        alloc,
+        &mut line.supply,
+        &mut line.store,
+        &mut port,
+        gate,
+        &line.titles,
+    );
+    (port.into_pass(), ended.ok())
+}
+
+/// An association, after which the pass has gone on from what it was.
+fn serve<H: HubName, R: Wait, G: Gate>(
+    rt: &R,
+    alloc: Global,
+    keeper: &Shared<'_, H, R>,
+    pass: Pass<H>,
+    line: &mut Line,
+    gate: &mut G,
+) -> (Pass<H>, Option<End>)
+    ensures onward { IsLater pass result.0 }
+{
+    associate::<Brand, H, R, G>(rt, alloc, keeper, pass, line, gate)
+}
+
+/// Looks with a second pass after each find, and counts those that find as many.
+#[derive(Drop)]
+struct Watch<'a, H: HubName> {
+    pass: &'a mut Pass<H>,
+    query: &'a Query,
+    finds: u64,
+    same: u64,
+}
+
+impl<'a, H: HubName> Gate for Watch<'a, H> {
+    ghost use Rattle.std.specs.Prelude.{None};
+
+    ghost reached = { λ _. None };
+
+    fn reach(&mut self, moment: Moment) {
+        if moment == Moment::FindAnswered {
+            self.finds = self.finds.saturating_add(1);
+            if found(self.pass, self.query) == Some(self.finds) {
+                self.same = self.same.saturating_add(1);
+            }
+        }
+    }
+}
+
+/// Within its store an association waits until the word is set; one that is answered sets it.
+#[derive(Drop)]
+struct Hold<'a> {
+    word: &'a AtomicU64,
+    moment: Moment,
+}
+
+impl<'a> Gate for Hold<'a> {
+    ghost use Rattle.std.specs.Prelude.{None};
+
+    ghost reached = { λ _. None };
+
+    fn reach(&mut self, moment: Moment) {
+        if moment == self.moment {
+            match moment {
+                Moment::InStore => is_set(self.word),
+                Moment::FindAnswered => self.word.store(1, Ordering::SeqCst),
+            }
+        }
+    }
+}
+
+/// Returns once the word is set, or after 1,000,000,000 turns.
+fn is_set(word: &AtomicU64) {
+    for _ in 0..1_000_000_000u64 {
+        if word.load(Ordering::SeqCst) != 0 {
+            break;
+        }
+    }
+}
+
+/// Two hundred images are stored and looked for in one association, while another pass looks.
+pub fn associates<H: HubName, R: Wait + Abort>(
+    rt: &R,
+    alloc: Global,
+    keeper: &Shared<'_, H, R>,
+    one: Pass<H>,
+    two: &mut Pass<H>,
+) -> Result<(), Fail> {
+    let query = query(alloc)?;
+    let mut line = line_of(alloc, 1, 200)?;
+    let wanted = answered(alloc, 1, 200, 0)?;
+    let mut watch = Watch {
+        pass: two,
+        query: &query,
+        finds: 0,
+        same: 0,
+    };
+    let (mut one, ended) = serve(rt, alloc, keeper, one, &mut line, &mut watch);
+    assert_eq!(rt; ended, Some(End::Released), "its end");
+    assert_eq!(rt; watch.same, 200, "looks of the other pass");
+    assert_eq!(rt;
+        line.store.as_slice(),
+        wanted.as_slice(),
+        "what it is answered"
+    );
+    assert_eq!(rt; found(&mut one, &query), Some(200), "its pass comes back");
+    Ok(())
+}
+
+/// An association is held within its store; a second one stores and finds; then the first goes on.
+pub fn holds<H: HubName + Send + Sync, R: Threads + Wait + Abort + Sync>(
+    rt: &R,
+    alloc: Global,
+    keeper: &Shared<'_, H, R>,
+    one: Pass<H>,
+    two: Pass<H>,
+) -> Result<(), Fail> {
+    let word = AtomicU64::new(0);
+    let (mut later, mut sooner) = (line_of(alloc, 1, 1)?, line_of(alloc, 2, 1)?);
+    let mut held = Hold {
+        word: &word,
+        moment: Moment::InStore,
+    };
+    let mut frees = Hold {
+        word: &word,
+        moment: Moment::FindAnswered,
+    };
+    let (first, second) = join(
+        rt,
+        || serve(rt, alloc, keeper, one, &mut later, &mut held),
+        || serve(rt, alloc, keeper, two, &mut sooner, &mut frees),
+    );
+    assert_eq!(rt; first.1, Some(End::Released), "the end of the first");
+    assert_eq!(rt; second.1, Some(End::Released), "the end of the second");
+    let wanted = answered(alloc, 2, 1, 0)?;
+    assert_eq!(rt;
+        sooner.store.as_slice(),
+        wanted.as_slice(),
+        "the second finds its own alone"
+    );
+    let wanted = answered(alloc, 1, 1, 1)?;
+    assert_eq!(rt;
+        later.store.as_slice(),
+        wanted.as_slice(),
+        "the first finds both"
+    );
+    Ok(())
+}

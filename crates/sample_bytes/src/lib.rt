@@ -1,0 +1,112 @@
+//! The bytes of PDUs and data sets that the tests of several crates share.
+#![tactic(auto)]
+
+use std::alloc::{AllocError, Global};
+
+/// The fixed part of an A-ASSOCIATE-RQ from SCU1 to ARCHIVE, and the application context (PS3.8,
+/// section 9.3.2).
+pub const OPENING: &[u8] = b"\x00\x01\x00\x00ARCHIVE         SCU1            \
+    \0\0\0\0\0\0\0\0\0\0\0\0\0\0\0\0\0\0\0\0\0\0\0\0\0\0\0\0\0\0\0\0\
+    \x10\x00\x00\x151.2.840.10008.3.1.1.1";
+
+/// Verification on context 1, with the implicit syntax.
+pub const VERIFICATION: &[u8] = b"\x20\x00\x00\x2e\x01\x00\x00\x00\
+    \x30\x00\x00\x111.2.840.10008.1.1\
+    \x40\x00\x00\x111.2.840.10008.1.2";
+
+/// CT Image Storage on context 1, with the implicit syntax.
+pub const STORAGE: &[u8] = b"\x20\x00\x00\x36\x01\x00\x00\x00\
+    \x30\x00\x00\x191.2.840.10008.5.1.4.1.1.2\
+    \x40\x00\x00\x111.2.840.10008.1.2";
+
+/// A user that takes at most 16,384 bytes a PDU.
+pub const USER: &[u8] = b"\x50\x00\x00\x08\x51\x00\x00\x04\x00\x00\x40\x00";
+
+/// The same, with the UID of its implementation.
+pub const NAMED_USER: &[u8] =
+    b"\x50\x00\x00\x11\x51\x00\x00\x04\x00\x00\x40\x00\x52\x00\x00\x051.2.3";
+
+/// What the acceptance of the implicit syntax on context 1 says behind the opening.
+pub const ACCEPTED: &[u8] = b"\x21\x00\x00\x19\x01\x00\x00\x00\x40\x00\x00\x111.2.840.10008.1.2\
+    \x50\x00\x00\x17\x51\x00\x00\x04\x00\x01\x00\x00\x52\x00\x00\x0b2.25.113001";
+
+/// A-RELEASE-RQ
+pub const RELEASE: &[u8] = b"\x05\x00\x00\x00\x00\x04\x00\x00\x00\x00";
+
+/// A-RELEASE-RP
+pub const RELEASED: &[u8] = b"\x06\x00\x00\x00\x00\x04\x00\x00\x00\x00";
+
+/// The command set of a C-ECHO request, message ID 1 (PS3.7, section 9.3.5).
+pub const ECHO: &[u8] = b"\x00\x00\x00\x00\x04\x00\x00\x00\x38\x00\x00\x00\
+    \x00\x00\x02\x00\x12\x00\x00\x001.2.840.10008.1.1\x00\
+    \x00\x00\x00\x01\x02\x00\x00\x00\x30\x00\x00\x00\x10\x01\x02\x00\x00\x00\x01\x00\
+    \x00\x00\x00\x08\x02\x00\x00\x00\x01\x01";
+
+/// The command set of its response.
+pub const ECHOED: &[u8] = b"\x00\x00\x00\x00\x04\x00\x00\x00\x42\x00\x00\x00\
+    \x00\x00\x02\x00\x12\x00\x00\x001.2.840.10008.1.1\x00\
+    \x00\x00\x00\x01\x02\x00\x00\x00\x30\x80\x00\x00\x20\x01\x02\x00\x00\x00\x01\x00\
+    \x00\x00\x00\x08\x02\x00\x00\x00\x01\x01\x00\x00\x00\x09\x02\x00\x00\x00\x00\x00";
+
+/// The command set of a C-STORE request of the image, message ID 2 (PS3.7, section 9.3.1).
+pub const STORE: &[u8] = b"\x00\x00\x00\x00\x04\x00\x00\x00\x5c\x00\x00\x00\
+    \x00\x00\x02\x00\x1a\x00\x00\x001.2.840.10008.5.1.4.1.1.2\x00\
+    \x00\x00\x00\x01\x02\x00\x00\x00\x01\x00\x00\x00\x10\x01\x02\x00\x00\x00\x02\x00\
+    \x00\x00\x00\x07\x02\x00\x00\x00\x00\x00\x00\x00\x00\x08\x02\x00\x00\x00\x00\x00\
+    \x00\x00\x00\x10\x0a\x00\x00\x001.2.1.1.1\x00";
+
+/// The data set of a CT image of UID 1.2.1.1.1, in the implicit syntax.
+pub const IMAGE: &[u8] = b"\x08\x00\x16\x00\x1a\x00\x00\x001.2.840.10008.5.1.4.1.1.2\x00\
+    \x08\x00\x18\x00\x0a\x00\x00\x001.2.1.1.1\x00\
+    \x08\x00\x60\x00\x02\x00\x00\x00CT\
+    \x10\x00\x10\x00\x08\x00\x00\x00DOE^JANE\
+    \x10\x00\x20\x00\x02\x00\x00\x00P1\
+    \x20\x00\x0d\x00\x06\x00\x00\x001.2.1\x00\
+    \x20\x00\x0e\x00\x08\x00\x00\x001.2.1.1\x00";
+
+/// The command set of the response to the C-STORE request: the image was stored.
+pub const STORED: &[u8] = b"\x00\x00\x00\x00\x04\x00\x00\x00\x5c\x00\x00\x00\
+    \x00\x00\x02\x00\x1a\x00\x00\x001.2.840.10008.5.1.4.1.1.2\x00\
+    \x00\x00\x00\x01\x02\x00\x00\x00\x01\x80\x00\x00\x20\x01\x02\x00\x00\x00\x02\x00\
+    \x00\x00\x00\x08\x02\x00\x00\x00\x01\x01\x00\x00\x00\x09\x02\x00\x00\x00\x00\x00\
+    \x00\x00\x00\x10\x0a\x00\x00\x001.2.1.1.1\x00";
+
+/// The same as a P-DATA-TF on context 1.
+pub const STORED_PDU: &[u8] = b"\x04\x00\x00\x00\x00\x6e\x00\x00\x00\x6a\x01\x03\
+    \x00\x00\x00\x00\x04\x00\x00\x00\x5c\x00\x00\x00\
+    \x00\x00\x02\x00\x1a\x00\x00\x001.2.840.10008.5.1.4.1.1.2\x00\
+    \x00\x00\x00\x01\x02\x00\x00\x00\x01\x80\x00\x00\x20\x01\x02\x00\x00\x00\x02\x00\
+    \x00\x00\x00\x08\x02\x00\x00\x00\x01\x01\x00\x00\x00\x09\x02\x00\x00\x00\x00\x00\
+    \x00\x00\x00\x10\x0a\x00\x00\x001.2.1.1.1\x00";
+
+/// Texts, one behind the other.
+pub fn joined(alloc: Global, parts: &[&[u8]]) -> Result<Vec<u8>, AllocError> {
+    let mut out = Vec::new(alloc);
+    for part in parts {
+        out.extend_from_slice(part)?;
+    }
+    Ok(out)
+}
+
+/// A PDU of this type with this body.
+pub fn pdu(alloc: Global, code: u8, body: &[&[u8]]) -> Result<Vec<u8>, AllocError> {
+    let body = joined(alloc, body)?;
+    let [_, _, _, _, a, b, c, d] = (body.len() as u64).to_be_bytes();
+    joined(alloc, &[&[code, 0, a, b, c, d], body.as_slice()])
+}
+
+/// A P-DATA-TF with one value: on a context, with its control bits, a fragment in parts.
+pub fn data(
+    alloc: Global,
+    context: u8,
+    control: u8,
+    parts: &[&[u8]],
+) -> Result<Vec<u8>, AllocError> {
+    let value = joined(alloc, parts)?;
+    let [_, _, _, _, a, b, c, d] = (value.len() as u64).saturating_add(2).to_be_bytes();
+    pdu(
+        alloc,
+        4,
+        &[&[a, b, c, d, context, control], value.as_slice()],
+    )
+}

@@ -1,0 +1,10 @@
+use Rattle.server_tests.proofs.exchanged.servers_that_exchange_while_they_take_stores_have_the_same.Given as goal
+
+-- the hub that was just opened
+abbrev pub ghosts-visited : goal.ghosts-visited
+ghosts-visited g a = record {
+  book = a.opened.book;
+  number = a.opened.number;
+  opening = a.opened.opening;
+  passes = a.opened.passes;
+}

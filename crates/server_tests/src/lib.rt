@@ -1,0 +1,11 @@
+//! Tests of servers: both ends in threads of one process, over 127.0.0.1.
+#![tactic(auto)]
+
+#[cfg(test)]
+mod client;
+#[cfg(test)]
+mod exchanged;
+#[cfg(test)]
+mod served;
+#[cfg(test)]
+mod shelves;

@@ -1,0 +1,176 @@
+//! Servers of two workers.
+
+ghost use Rattle.std.specs.Prelude.{◌≡◌, vec_len};
+
+use crate::client::{Answered, Asked, ask, response};
+use crate::shelves::Counting;
+use archive_model::View;
+use archive_server::{Served, serve_on};
+use association_run::OpenGate;
+use octets::{ListOf, Octets};
+use site_hub::{HubName, Keeper, Opened, Pass, Snapshot, open};
+use site_state::Site;
+use std::alloc::{AllocError, Global};
+use std::io;
+use std::marker::Brand;
+use std::net::{Net, TcpListener, TcpStream};
+use std::sync::{Mutex, Wait};
+use std::test::Fail;
+use std::thread::{Threads, join};
+use ul_state::{Title, Titles};
+
+pub(crate) fn titles(alloc: Global) -> Result<Titles<View>, AllocError> {
+    let mut list = ListOf::new(alloc);
+    let title = Octets::from_slice(alloc, b"ARCHIVE")?;
+    list.push(Title {
+        title,
+        value: View::Archive,
+    })?;
+    Ok(Titles { list })
+}
+
+/// Whether each association is answered as it is wanted, one after another.
+pub(crate) fn hears_all(
+    alloc: Global,
+    streams: &[TcpStream],
+    rows: &[(Asked, Answered)],
+) -> io::Result<bool> {
+    for (stream, (asked, answered)) in streams.iter().zip(rows) {
+        let heard = ask(alloc, stream, *asked)?;
+        let wanted = response(alloc, *answered)?;
+        if heard.as_slice() != wanted.as_slice() {
+            return Ok(false);
+        }
+    }
+    Ok(true)
+}
+
+/// Connects so many times. What listens need not have accepted.
+pub(crate) fn connected<R: Net<Listener = TcpListener, Stream = TcpStream>>(
+    rt: &R,
+    alloc: Global,
+    listener: &TcpListener,
+    count: usize,
+) -> io::Result<Vec<TcpStream>> {
+    let to = listener.local_addr()?;
+    let mut streams = Vec::new(alloc);
+    for _ in 0..count {
+        streams.push(TcpStream::connect(rt, to)?)?;
+    }
+    Ok(streams)
+}
+
+/// Serves with two workers, while clients ask over some streams. It says whether they heard what
+/// they wanted, and how many were accepted.
+fn served<H: HubName + Send + Sync, R: Threads + Wait + Sync>(
+    rt: &R,
+    alloc: Global,
+    listener: &TcpListener,
+    keeper: &Mutex<Keeper<H, Snapshot<H>, &R>>,
+    passes: Vec<Pass<H>>,
+    shelf: &mut Counting,
+    streams: &[TcpStream],
+    rows: &[(Asked, Answered)],
+) -> Result<(bool, u64), Fail>
+    requires two { vec_len passes ≡ 2 }
+{
+    let titles = titles(alloc)?;
+    let each = (rows.len() / 2) as u64;
+    let gates = Vec::from_array(alloc, [OpenGate, OpenGate])?;
+    let (heard, served) = join(
+        rt,
+        || hears_all(alloc, streams, rows).unwrap_or(false),
+        || -> Served<H>
+            requires { (vec_len gates ≡ 2) × (vec_len passes ≡ 2) }
+        {
+            serve_on(
+                rt, alloc, listener, None, &titles, gates, each, keeper, passes, shelf,
+            )
+        },
+    );
+    Ok((heard, served.accepted))
+}
+
+fn run<H: HubName + Send + Sync, R: Threads + Wait + Sync>(
+    rt: &R,
+    alloc: Global,
+    opened: Opened<&R>,
+    listener: &TcpListener,
+    shelf: &mut Counting,
+    streams: &[TcpStream],
+    rows: &[(Asked, Answered)],
+) -> Result<(bool, u64), Fail>
+    requires book { opened.book ≡ H.book }
+    requires number { opened.number ≡ H.number }
+    requires opening { opened.opening ≡ H.opening }
+    requires passes { opened.passes ≡ H.passes }
+{
+    let Ok((keeper, passes)) = opened.named::<H>() else {
+        return Err(Fail::from("no hub"));
+    };
+    let keeper = Mutex::new(keeper);
+    if passes.len() != 2 {
+        return Err(Fail::from("no two passes"));
+    }
+    served(rt, alloc, listener, &keeper, passes, shelf, streams, rows)
+}
+
+/// With two associations each worker serves one: the second sees what the first stored.
+#[test]
+fn an_image_stored_at_one_worker_is_found_at_the_other(rt: HostRuntime) -> Result<(), Fail> {
+    let alloc = rt.alloc();
+    let listener = TcpListener::bind(&rt, "127.0.0.1:0")?;
+    let streams = connected(&rt, alloc, &listener, 2)?;
+    let mut shelf = Counting { asked: 0, room: 1 };
+    let opened = open(alloc, &rt, Site::new(alloc), 1, 2)?;
+    let rows = [
+        (Asked::Store, Answered::Stored),
+        (Asked::Find, Answered::Row),
+    ];
+    let (heard, accepted) = run::<Brand, _>(
+        &rt,
+        alloc,
+        opened,
+        &listener,
+        &mut shelf,
+        streams.as_slice(),
+        rows.as_slice(),
+    )?;
+    assert_eq!(&rt;
+        (heard, accepted, shelf.asked),
+        (true, 2, 1),
+        "heard, accepted, put"
+    );
+    Ok(())
+}
+
+/// An image that the shelf refuses is answered A700H and is in no row.
+#[test]
+fn an_image_that_the_shelf_refuses_is_not_found(rt: HostRuntime) -> Result<(), Fail> {
+    let alloc = rt.alloc();
+    let listener = TcpListener::bind(&rt, "127.0.0.1:0")?;
+    let streams = connected(&rt, alloc, &listener, 4)?;
+    let mut shelf = Counting { asked: 0, room: 0 };
+    let opened = open(alloc, &rt, Site::new(alloc), 1, 2)?;
+    let rows = [
+        (Asked::Echo, Answered::Echoed),
+        (Asked::Store, Answered::Refused),
+        (Asked::Find, Answered::NoRow),
+        (Asked::Find, Answered::NoRow),
+    ];
+    let (heard, accepted) = run::<Brand, _>(
+        &rt,
+        alloc,
+        opened,
+        &listener,
+        &mut shelf,
+        streams.as_slice(),
+        rows.as_slice(),
+    )?;
+    assert_eq!(&rt;
+        (heard, accepted, shelf.asked),
+        (true, 4, 1),
+        "heard, accepted, put"
+    );
+    Ok(())
+}

@@ -1,0 +1,31 @@
+//! Shelves that tell nothing of what they hold.
+
+use op_shelf::{Keep, Kept, ShelfFault};
+use operation::{Digested, Op};
+
+/// A shelf that counts what it is asked to keep, and takes so many of it.
+#[derive(Drop)]
+pub(crate) struct Counting {
+    pub asked: u64,
+    pub room: u64,
+}
+
+impl Keep for Counting {
+    ghost is_up = { λ _. ⊥ };
+
+    ghost holds = { λ _ _. ⊥ };
+
+    ghost lasts = { λ _ _. ⊥ };
+
+    fn put(&mut self, _op: &Op) -> Result<Kept, ShelfFault> {
+        self.asked = self.asked.saturating_add(1);
+        if self.asked <= self.room {
+            return Ok(Kept::New);
+        }
+        Err(ShelfFault::Store)
+    }
+
+    fn put_digested(&mut self, op: &Digested) -> Result<Kept, ShelfFault> {
+        self.put(op.op())
+    }
+}

@@ -1,0 +1,2 @@
+pub mod PuttingLaws
+pub mod Gains

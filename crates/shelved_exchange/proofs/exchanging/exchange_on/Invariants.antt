@@ -1,0 +1,5 @@
+use Rattle.shelved_exchange.proofs.exchanging.exchange_on.Given as goal
+
+-- what the site holds when its exchange begins
+abbrev pub ghosts-exchange_with : goal.ghosts-exchange_with
+ghosts-exchange_with g a = record { opening = a.site }

@@ -1,0 +1,33 @@
+-- What a shelf answered, and what a site gains of it.
+use Rattle.std.specs.Prelude.{ℕ, ◌≡◌, ◌⊎◌, List, Some, drop, length}
+use Rattle.octets.specs.Members.{Has}
+use Rattle.operation.specs.declared.op.Op.{Op}
+use Rattle.operation.specs.Spelling.{digest_of}
+use Rattle.op_shelf.specs.declared.fault.ShelfFault.{ShelfFault}
+use Rattle.op_shelf.specs.declared.fault.ShelfFault.TheVariants as shelf_faults
+use Rattle.site_state.specs.Site.{Map, held_at}
+use Rattle.exchange.specs.declared.fault.HolderFault.{HolderFault}
+use Rattle.exchange.specs.declared.fault.HolderFault.TheVariants.{Memory, Refused}
+
+-- A shelf of this type answered to a put that it keeps an operation of this digest: while what it tells of its
+-- operations holds, the operation is among them, and every crash leaves it.
+abbrev pub WasPut : {K : Type 0} → (K → Type 0) → (K → Op → Type 0) → (K → Op → Type 0) → List ℕ → Type 0
+WasPut {K = K} is_up holds lasts digest = ∥ ((shelf : K) × ((op : Op) × ((digest_of op ≡ digest)
+    × (is_up shelf → holds shelf op × lasts shelf op)))) ∥₁
+
+-- Each digest behind the first ones was put on the shelf.
+abbrev pub WerePut : {K : Type 0} → (K → Type 0) → (K → Op → Type 0) → (K → Op → Type 0) → List (List ℕ)
+    → List (List ℕ) → Type 0
+WerePut is_up holds lasts first all = (digest : List ℕ) → Has (drop (length first) all) digest
+    → WasPut is_up holds lasts digest
+
+-- Each operation that a site has gained was put on the shelf.
+abbrev pub GainsWhatWasPut : {K : Type 0} → (K → Type 0) → (K → Op → Type 0) → (K → Op → Type 0) → Map → Map → Type 0
+GainsWhatWasPut is_up holds lasts before after = (digest : List ℕ) (op : Op) → held_at after digest ≡ Some op
+    → (held_at before digest ≡ Some op) ⊎ WasPut is_up holds lasts (digest_of op)
+
+-- what a fault of the shelf is to a round
+abbrev pub refusal_of : ShelfFault → HolderFault
+refusal_of shelf_faults.Store = Refused
+refusal_of shelf_faults.BadRow = Refused
+refusal_of shelf_faults.Memory = Memory

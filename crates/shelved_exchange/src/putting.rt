@@ -1,0 +1,64 @@
+//! How operations come on a shelf, and what shows that they did.
+
+ghost use Rattle.std.specs.Prelude.{◌≡◌, IfOk};
+ghost use Rattle.operation.specs.Spelling.{digest_of};
+ghost use Rattle.shelved_exchange.specs.Putting.{WasPut, refusal_of};
+
+use exchange::HolderFault;
+use op_shelf::{Keep, ShelfFault};
+use operation::{Digest, Digested};
+use std::marker::PhantomData;
+
+/// The digest of an operation that a shelf of this type keeps. Only a put makes one.
+#[derive(Drop)]
+pub struct Shelved<K: Keep> {
+    pub digest: Digest,
+    pub of: PhantomData<K>,
+    pub ghost put: { WasPut K.is_up K.holds K.lasts digest },
+}
+
+/// Puts an operation on a shelf.
+pub fn put_shown<K: Keep>(shelf: &mut K, op: &Digested) -> Result<Shelved<K>, ShelfFault>
+    ensures { IfOk result (λ shelved. shelved.digest ≡ digest_of op.now) }
+{
+    shelf.put_digested(op)?;
+    Ok(Shelved {
+        digest: *op.digest(),
+        of: PhantomData,
+    })
+}
+
+/// A way to a shelf of a type.
+pub trait Put<K: Keep> {
+    /// Puts an operation on the shelf, where it is after `Ok`.
+    fn put(&mut self, op: &Digested) -> Result<Shelved<K>, ShelfFault>
+        ensures { IfOk result (λ shelved. shelved.digest ≡ digest_of op.now) };
+}
+
+/// The way to a shelf in the same thread.
+#[derive(Drop)]
+pub struct Direct<'a, K: Keep> {
+    shelf: &'a mut K,
+}
+
+impl<'a, K: Keep> Direct<'a, K> {
+    pub fn new(shelf: &'a mut K) -> Direct<'a, K> {
+        Direct { shelf }
+    }
+}
+
+impl<'a, K: Keep> Put<K> for Direct<'a, K> {
+    fn put(&mut self, op: &Digested) -> Result<Shelved<K>, ShelfFault> {
+        put_shown(self.shelf, op)
+    }
+}
+
+/// What a fault of the shelf is to a round: want of memory, or a refusal.
+pub fn refusal_of_shelf(fault: ShelfFault) -> HolderFault
+    ensures { result ≡ refusal_of fault }
+{
+    match fault {
+        ShelfFault::Memory => HolderFault::Memory,
+        ShelfFault::Store | ShelfFault::BadRow => HolderFault::Refused,
+    }
+}

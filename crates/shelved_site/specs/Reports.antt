@@ -1,0 +1,24 @@
+-- What a report tells of the operations of a shelf.
+use Rattle.std.specs.Prelude.{◌≡◌, ℕ, List}
+use Rattle.sqlite.specs.State.{State}
+use Rattle.operation.specs.declared.op.Op.{Op}
+use Rattle.archive_model.specs.Contents.{flagged}
+use Rattle.site_state.specs.Site.{ops_of, counts_of}
+use Rattle.site_state.specs.Laws.{after_taking}
+use Rattle.op_shelf.specs.Entries.{Lists}
+use Rattle.op_shelf.specs.States.{rows_of, count_of}
+use Rattle.shelved_site.specs.declared.reporting.Report.{Report}
+
+-- the report of the operations of a site, so many of which are corrections of series
+abbrev pub reported : List Op → ℕ → Report
+reported ops series = record { counts = counts_of ops; series = series; flagged = flagged ops }
+
+-- the kind of a correction of a series
+abbrev pub SERIES_KIND : ℕ
+SERIES_KIND = 3
+
+-- the report is that of the site which took all operations of the table
+pub record IsReport (s : State) (report : Report) : Type 0 where
+  pub ops : List Op
+  pub listed : Lists (rows_of s) ops
+  pub told : report ≡ reported (ops_of (after_taking ops)) (count_of SERIES_KIND (rows_of s))

@@ -1,0 +1,124 @@
+//! Corrections of a site on a shelf.
+
+ghost use Rattle.std.specs.Prelude.{◌≡◌, ◌≤◌, ◌↔◌, Ok, Err, IfOk, IsErrOf, OnOk, OnErr, true, false};
+ghost use Rattle.op_shelf.specs.States.{IfClean, KeepsAll};
+ghost use Rattle.site_hub.specs.History.{set_of};
+ghost use Rattle.site_hub.specs.Stamps.{next_correction as next_correction_in, may_be_made};
+ghost use Rattle.shelved_site.specs.declared.fault.ShelvedFault.TheVariants.{Hub};
+ghost use Rattle.shelved_site.specs.Corrections.{IsCorrected, IsSpent};
+
+use crate::fault::ShelvedFault;
+use crate::taking::site_of;
+use octets::Octets;
+use op_shelf::Shelf;
+use operation::{Correction, Op, Stamp, Target};
+use site_hub::{HubFault, HubName, Keeper, Opened, Pass, Snapshot, open};
+use site_state::Site;
+use sqlite::Alter;
+use std::alloc::Global;
+use std::marker::Brand;
+use std::sync::{Mutex, Wait};
+
+/// The correction that comes next after all that a hub's keeper has.
+fn correction_by<H: HubName, R: Wait>(
+    keeper: &mut Keeper<H, Snapshot<H>, &R>,
+    pass: &mut Pass<H>,
+    target: Target,
+    tag: u32,
+    value: Octets,
+) -> Result<Correction, HubFault>
+    ensures made { IfOk result (λ made. Ok made ≡
+        next_correction_in H.number (set_of H.opening keeper.old.all) target tag value) }
+    ensures bad_correction { result ≡ Err HubFault.BadCorrection →
+        next_correction_in H.number (set_of H.opening keeper.old.all) target tag value
+        ≡ Err HubFault.BadCorrection }
+    ensures stamps_spent { result ≡ Err HubFault.StampsSpent →
+        next_correction_in H.number (set_of H.opening keeper.old.all) target tag value
+        ≡ Err HubFault.StampsSpent }
+{
+    let (made, _told) = keeper.correct(pass, target, tag, value)?;
+    Ok(made)
+}
+
+/// The correction that comes next in a hub that was just opened.
+fn correction_in<H: HubName, R: Wait>(
+    opened: Opened<&R>,
+    target: Target,
+    tag: u32,
+    value: Octets,
+) -> Result<Correction, HubFault>
+    requires book { opened.book ≡ H.book }
+    requires number { opened.number ≡ H.number }
+    requires opening { opened.opening ≡ H.opening }
+    requires passes { opened.passes ≡ H.passes }
+    ensures made { IfOk result (λ made. Ok made ≡
+        next_correction_in H.number H.opening target tag value) }
+    ensures bad_correction { result ≡ Err HubFault.BadCorrection →
+        next_correction_in H.number H.opening target tag value ≡ Err HubFault.BadCorrection }
+    ensures stamps_spent { result ≡ Err HubFault.StampsSpent →
+        next_correction_in H.number H.opening target tag value ≡ Err HubFault.StampsSpent }
+{
+    let (mut keeper, mut passes) = match opened.named::<H>() {
+        Ok(hub) => hub,
+        Err(HubFault::Busy) => return Err(HubFault::Busy),
+        Err(_refused) => return Err(HubFault::Memory),
+    };
+    let made = match passes.as_mut_slice() {
+        [pass] => correction_by(&mut keeper, pass, target, tag, value),
+        _ => Err(HubFault::Torn),
+    };
+    // A keeper is dropped by the lock that holds it.
+    let _locked = Mutex::new(keeper);
+    made
+}
+
+/// The correction that comes next at a site of a number, made by a hub that is opened for it.
+pub fn next_correction<R: Wait>(
+    alloc: Global,
+    rt: &R,
+    site: Site,
+    number: u16,
+    target: Target,
+    tag: u32,
+    value: Octets,
+) -> Result<Correction, HubFault>
+    requires number { 1 ≤ number }
+    ensures made { IfOk result (λ made. Ok made ≡
+        next_correction_in number site target tag value) }
+    ensures bad_correction { result ≡ Err HubFault.BadCorrection →
+        next_correction_in number site target tag value ≡ Err HubFault.BadCorrection }
+    ensures stamps_spent { result ≡ Err HubFault.StampsSpent →
+        next_correction_in number site target tag value ≡ Err HubFault.StampsSpent }
+{
+    let opened = open(alloc, rt, site, number, 1)?;
+    correction_in::<Brand, R>(opened, target, tag, value)
+}
+
+/// Corrects an attribute at the site of a number, whose operations stand on a shelf. The stamp is
+/// that of the correction which the shelf then has.
+pub fn correct_on<S: Alter, R: Wait>(
+    alloc: Global,
+    rt: &R,
+    shelf: &mut Shelf<S>,
+    number: u16,
+    target: Target,
+    tag: u32,
+    value: Octets,
+) -> Result<Stamp, ShelvedFault>
+    requires number { 1 ≤ number }
+    ensures corrected { IfClean S.Store shelf.old shelf.new (λ s t.
+        IfOk result (IsCorrected s t number target tag value)) }
+    ensures refused { IfClean S.Store shelf.old shelf.new (λ s t. OnErr result (KeepsAll s t)) }
+
+    // Each fault of the hub.
+    ensures bad_correction { result ≡ Err (Hub HubFault.BadCorrection) →
+        may_be_made number target tag value ≡ false }
+    ensures stamps_spent { IfClean S.Store shelf.old shelf.new (λ s t.
+        result ≡ Err (Hub HubFault.StampsSpent) → IsSpent s) }
+{
+    let site = site_of(alloc, shelf.all()?)?;
+    let made = next_correction(alloc, rt, site, number, target, tag, value)?;
+    let stamp = made.stamp();
+    let _kept = shelf.put(&Op::Correction(made))?;
+    Ok(stamp)
+}

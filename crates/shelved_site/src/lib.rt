@@ -1,0 +1,15 @@
+//! A site whose operations stand on a shelf: what the shelf makes of the site at a start, the report
+//! of both, and corrections, which the site's hub stamps and the shelf then keeps.
+//!
+//! Nothing here opens a file: each call takes the shelf that its caller opened.
+#![tactic(auto)]
+
+mod correcting;
+mod fault;
+mod reporting;
+mod taking;
+
+pub use correcting::{correct_on, next_correction};
+pub use fault::ShelvedFault;
+pub use reporting::{Report, report_of, report_on};
+pub use taking::site_of;

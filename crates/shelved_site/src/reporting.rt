@@ -1,0 +1,51 @@
+//! What a report tells of a shelf.
+
+ghost use Rattle.std.specs.Prelude.{◌≡◌, IfOk, OnOk, OnErr};
+ghost use Rattle.sqlite.specs.State.{IsUnchanged};
+ghost use Rattle.op_shelf.specs.States.{IfClean, KeepsAll};
+ghost use Rattle.site_state.specs.Site.{ops_of};
+ghost use Rattle.shelved_site.specs.Reports.{reported, IsReport};
+
+use crate::fault::ShelvedFault;
+use crate::taking::site_of;
+use octets::{ListOf, Octets};
+use op_shelf::Shelf;
+use site_state::{Counts, Site, SiteFault};
+use sqlite::Alter;
+use std::alloc::Global;
+
+/// The kind of a correction of a series, as the shelf counts it.
+const SERIES: u8 = 3;
+
+/// How many operations there are of each kind, and which SOP Instance UIDs have two contents or more.
+#[derive(Debug, Drop)]
+pub struct Report {
+    pub counts: Counts,
+    /// Those of the corrections that are of a series.
+    pub series: u64,
+    /// Ascending.
+    pub flagged: ListOf<Octets>,
+}
+
+/// The report of a site whose shelf counts so many corrections of series.
+pub fn report_of(alloc: Global, site: &Site, series: u64) -> Result<Report, SiteFault>
+    ensures report { IfOk result (λ report. report ≡ reported (ops_of site.now) series) }
+{
+    Ok(Report {
+        counts: site.counts(),
+        series,
+        flagged: ListOf::of(site.flagged(alloc)?),
+    })
+}
+
+/// The report of the site that a shelf's operations make. The shelf stays as it is.
+pub fn report_on<S: Alter>(alloc: Global, shelf: &mut Shelf<S>) -> Result<Report, ShelvedFault>
+    ensures report { IfClean S.Store shelf.old shelf.new (λ s t. IfOk result (IsReport s)) }
+    ensures same { IfClean S.Store shelf.old shelf.new (λ s t. OnOk result (IsUnchanged s t)) }
+    ensures refused { IfClean S.Store shelf.old shelf.new (λ s t. OnErr result (KeepsAll s t)) }
+{
+    let site = site_of(alloc, shelf.all()?)?;
+    let series = shelf.count_kind(SERIES)?;
+    let report = report_of(alloc, &site, series)?;
+    Ok(report)
+}

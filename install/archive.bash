@@ -1,0 +1,21 @@
+# Completion of the program archive in bash.
+_archive() {
+    local word=${COMP_WORDS[COMP_CWORD]} before=${COMP_WORDS[COMP_CWORD - 1]} words=
+    if [ "$COMP_CWORD" -eq 1 ]; then
+        words="serve exchange correct report simulate help --help"
+    else
+        case "${COMP_WORDS[1]} $before" in
+            *\ --listen | *\ --exchange | *\ --peer | *\ --workers | *\ --each | *\ --rounds | *\ --site) return ;;
+            *\ --peer-version) words="1 2" ;;
+            serve\ *) words="--listen --workers --each --exchange --rounds --help" ;;
+            exchange\ *) words="--peer --peer-version --help" ;;
+            correct\ *) words="--site study patient series --help" ;;
+            report\ *) words="--help" ;;
+            help\ help) words="serve exchange correct report simulate" ;;
+            *) return ;;
+        esac
+    fi
+    COMPREPLY=()
+    while IFS= read -r word; do COMPREPLY+=("$word"); done < <(compgen -W "$words" -- "${COMP_WORDS[COMP_CWORD]}")
+}
+complete -o default -F _archive archive
