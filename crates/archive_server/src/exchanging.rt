@@ -38,13 +38,7 @@ fn converse<E: AtEntry, H: HubName, R: Wait + Drop, S: Wait, K: Keep>(
 ) -> Option<ServeFault> {
     let mut reader = Counted::new(stream);
     let mut writer = Counted::new(stream);
-    match run_exchange(
-        hall.alloc,
-        Role::Callee,
-        &mut reader,
-        &mut writer,
-        holder,
-    ) {
+    match run_exchange(hall.alloc, Role::Callee, &mut reader, &mut writer, holder) {
         Ok(_ended) => None,
         Err(fault) => Some(ServeFault::Exchange(fault)),
     }

@@ -1,10 +1,9 @@
 //! What crosses the channels between the workers and the shelf.
 
-pub use shelved_exchange::Shelved;
-
 use crossbeam_channel::Sender;
 use op_shelf::{Keep, ShelfFault};
 use operation::Digested;
+pub use shelved_exchange::Shelved;
 
 /// Asks for a put.
 #[derive(Drop)]

@@ -108,10 +108,7 @@ fn start_exchanges<
         (λ done. IsOnward K.is_up K.holds K.lasts pass done.pass) }
 {
     let Ok(to) = to.clone() else {
-        return Err(idle(
-            pass,
-            Some(ServeFault::Exchange(ExchangeFault::Memory)),
-        ));
+        return Err(idle(pass, Some(ServeFault::Exchange(ExchangeFault::Memory))));
     };
     let begun = Begun {
         was: Snapshot::of(&pass),
@@ -341,15 +338,7 @@ fn serve_all<
     ensures back { AllOnward K.is_up K.holds K.lasts passes.items result.passes.items }
 {
     let Total { accepted, fault } = match exchange {
-        None => serve_rest(
-            scope,
-            hall,
-            to,
-            requests,
-            shelf,
-            &mut gates,
-            &mut passes,
-        ),
+        None => serve_rest(scope, hall, to, requests, shelf, &mut gates, &mut passes),
         Some(exchanging) => serve_beside(
             scope,
             hall,

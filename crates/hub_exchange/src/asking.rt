@@ -4,9 +4,7 @@ ghost use Rattle.std.specs.Prelude.{◌≡◌, IfOk};
 ghost use Rattle.exchange.specs.Held.{offered, offered_in, lacked, given};
 ghost use Rattle.exchange.specs.Buckets.{bucket_list};
 
-use exchange::{
-    Version, buckets_of_site, digests_of_site, digests_of_site_in, ops_of_site,
-};
+use exchange::{Version, buckets_of_site, digests_of_site, digests_of_site_in, ops_of_site};
 use octets::ListOf;
 use operation::{Digest, Op};
 use site_hub::Question;

@@ -109,8 +109,17 @@ fn look<H: HubName, X: Drop, Q: Question<X>>(
     }
 }
 
-impl<'a, 'b, H: HubName, T: Shows<H>, R: Wait + Drop, S: Wait, K: Keep, P, E: AtEntry>
-    HubHolder<'a, 'b, H, T, R, S, K, P, E> {
+impl<'a, 'b, H: HubName, T: Shows<H>, R: Wait + Drop, S: Wait, K: Keep, P, E: AtEntry> HubHolder<
+    'a,
+    'b,
+    H,
+    T,
+    R,
+    S,
+    K,
+    P,
+    E,
+> {
     /// The holder of an exchange that begins with this pass.
     pub fn new(
         rt: &'a S,
@@ -147,8 +156,17 @@ impl<'a, 'b, H: HubName, T: Shows<H>, R: Wait + Drop, S: Wait, K: Keep, P, E: At
 }
 
 /// Others may store meanwhile, so nothing is said of a set that nobody else changes.
-impl<'a, 'b, H: HubName, T: Shows<H>, R: Wait + Drop, S: Wait, K: Keep, P: Put<K> + Copy, E: AtEntry> Holder
-    for HubHolder<'a, 'b, H, T, R, S, K, P, E> {
+impl<
+    'a,
+    'b,
+    H: HubName,
+    T: Shows<H>,
+    R: Wait + Drop,
+    S: Wait,
+    K: Keep,
+    P: Put<K> + Copy,
+    E: AtEntry,
+> Holder for HubHolder<'a, 'b, H, T, R, S, K, P, E> {
     ghost holds = { λ s. set_of H.opening s.seen };
 
     ghost alone = { λ _. ⊥ };
