@@ -1,0 +1,189 @@
+"""Command lines that `archive` has to refuse: the line on standard error, the status, and that nothing was made.
+
+Files are tried by a user without rights on them: where the script is run by root, by the user and group 65534.
+"""
+import os
+import shutil
+import socket
+import sqlite3
+import subprocess
+
+from archive import free_port, same, told
+
+NOBODY = {"user": 65534, "group": 65534, "extra_groups": []} if os.geteuid() == 0 else {}
+SERVED = ["--workers", "1", "--each", "1"]
+
+
+def below(folder):
+    """What stands below a folder: each path with its kind, mode, size and bytes."""
+    found = {}
+    for at, folders, names in os.walk(folder):
+        for name in folders + names:
+            path = os.path.join(at, name)
+            mode = os.lstat(path).st_mode
+            data = b""
+            if os.path.isfile(path):
+                with open(path, "rb") as f:
+                    data = f.read()
+            found[os.path.relpath(path, folder)] = (mode, data)
+    return found
+
+
+def changes(before, after):
+    """What was made, and what is otherwise than it was."""
+    made = sorted(set(after) - set(before))
+    other = sorted(p for p in before if after.get(p) != before[p])
+    return " ".join([f"made {p}" for p in made] + [f"changed or removed {p}" for p in other])
+
+
+class Refusals:
+    def __init__(self, program, folder):
+        self.folder = os.path.join(folder, "refused")
+        os.mkdir(self.folder)
+        os.chmod(folder, 0o755)
+        os.chmod(self.folder, 0o777)
+        # Where the program stands, another user may not reach it.
+        self.program = shutil.copy(program, os.path.join(folder, "archive"))
+        os.chmod(self.program, 0o755)
+
+    def path(self, name):
+        return os.path.join(self.folder, name)
+
+    def run(self, words, user):
+        """The status of a command line, what it printed and what it wrote on standard error."""
+        done = subprocess.run(
+            [self.program, *words], stdin=subprocess.DEVNULL, stdout=subprocess.PIPE, stderr=subprocess.PIPE,
+            timeout=60, check=False, **user)
+        return done.returncode, done.stdout.decode(), done.stderr.decode()
+
+    def refused(self, what, words, status, line, user=NOBODY):
+        """A command line that has to end so: with this whole line, or, where it is None, with some."""
+        before = below(self.folder)
+        ended, out, err = self.run(words, user)
+        fault = same((ended, out), (status, ""))
+        if line is None:
+            fault = fault or ("" if err.strip() else "nothing stands on standard error")
+        else:
+            fault = fault or same(err, line + "\n")
+        told(f"{what}: status {status}" + (f", {line}" if line else ""), fault)
+        told(f"{what}: nothing is made or changed", changes(before, below(self.folder)))
+
+    def serve(self, file, address="", *more):
+        return ["serve", self.path(file), "--listen", address or f"127.0.0.1:{free_port()}", *(more or SERVED)]
+
+
+def try_words(refusals):
+    """Words of another form: status 2."""
+    for more in (["--workers", "0", "--each", "1"], ["--workers", "33", "--each", "1"],
+                 ["--workers", "1", "--each", "4294967296"], ["--workers", "1", "--each", "-1"],
+                 ["--workers", "one", "--each", "1"], ["--workers", "1"], [*SERVED, "--rounds", "4294967296"]):
+        refusals.refused("serve " + " ".join(more), refusals.serve("new", "", *more), 2, None)
+    for address in ("localhost:11112", "127.0.0.1", "127.0.0.1:", "127.0.0.1:65536", "127.0.0.256:11112",
+                    "[::1]:11112", ":11112", "11112", "127.0.0.1:11112 ", "tcp://127.0.0.1:11112"):
+        refusals.refused(f"serve --listen {address!r}", refusals.serve("new", address), 2, None)
+        refusals.refused(f"exchange --peer {address!r}", ["exchange", refusals.path("new"), "--peer", address], 2, None)
+        refusals.refused(f"serve --exchange {address!r}", refusals.serve(
+            "new", "", *SERVED, "--exchange", address, "--rounds", "1"), 2, None)
+    for words in ([], ["nothing"], ["serve"], ["report"], ["exchange", refusals.path("new")],
+                  ["correct", refusals.path("new"), "--site", "0", "patient", "P1", "00100010", "A"],
+                  ["correct", refusals.path("new"), "--site", "65536", "patient", "P1", "00100010", "A"],
+                  ["correct", refusals.path("new"), "--site", "1", "image", "P1", "00100010", "A"],
+                  ["correct", refusals.path("new"), "--site", "1", "patient", "P1", "0010001", "A"]):
+        refusals.refused("archive " + " ".join(os.path.basename(w) for w in words), words, 2, None)
+
+
+def on_file(refusals, file):
+    """Each command on a file."""
+    return (("serve", refusals.serve(file)), ("report", ["report", refusals.path(file)]),
+            ("correct", ["correct", refusals.path(file), "--site", "1", "patient", "P1", "00100010", "A"]),
+            ("exchange", ["exchange", refusals.path(file), "--peer", f"127.0.0.1:{free_port()}"]))
+
+
+def make_files(refusals, site):
+    """Files that are no site's, by name, and copies of a site's file that were harmed."""
+    os.mkdir(refusals.path("a folder"))
+    for name, data in (("a text", b"This is no database.\n"), ("one octet", b"S"), ("zeros", bytes(8192)),
+                       ("the head alone", b"SQLite format 3\0"), ("noise", b"SQLite format 3\0" + os.urandom(8176))):
+        with open(refusals.path(name), "wb") as f:
+            f.write(data)
+    database = sqlite3.connect(refusals.path("another database"))
+    database.execute("CREATE TABLE note (id INTEGER PRIMARY KEY, title TEXT)")
+    database.commit()
+    database.close()
+    # sqlite3 copies the log into the file.
+    shutil.copy(site, refusals.path("whole"))
+    if os.path.exists(site + "-wal"):
+        shutil.copy(site + "-wal", refusals.path("whole-wal"))
+    database = sqlite3.connect(refusals.path("whole"))
+    database.execute("PRAGMA journal_mode = DELETE")
+    database.close()
+    with open(refusals.path("whole"), "rb") as f:
+        whole = f.read()
+    with open(refusals.path("half"), "wb") as f:
+        f.write(whole[:len(whole) // 8192 * 4096])
+    shutil.copy(refusals.path("whole"), refusals.path("an operation changed"))
+    database = sqlite3.connect(refusals.path("an operation changed"))
+    database.execute("UPDATE ops2 SET body = body || x'00' WHERE digest = (SELECT min(digest) FROM ops2)")
+    database.commit()
+    database.close()
+    for name in os.listdir(refusals.folder):
+        if os.path.isfile(refusals.path(name)):
+            os.chmod(refusals.path(name), 0o666)
+
+
+def try_files(refusals, site):
+    make_files(refusals, site)
+    for file in ("a folder", "a text", "one octet", "zeros", "the head alone", "noise", "another database", "half"):
+        for command, words in on_file(refusals, file):
+            refusals.refused(f"{command} of a FILE that is {file}", words, 1, "fault shelf 1")
+    for command, words in on_file(refusals, "an operation changed"):
+        refusals.refused(f"{command} of a FILE with {'an operation changed'}", words, 1, "fault shelf 2")
+    for command, words in on_file(refusals, "a folder that is not there/new")[:1]:
+        refusals.refused(f"{command} of a FILE in no folder", words, 1, "fault shelf 1")
+    shutil.copy(refusals.path("whole"), refusals.path("unreadable"))
+    os.chmod(refusals.path("unreadable"), 0)
+    shutil.copy(refusals.path("whole"), refusals.path("unwritable"))
+    os.chmod(refusals.path("unwritable"), 0o444)
+    os.mkdir(refusals.path("closed"), 0o555)
+    for file in ("unreadable", "unwritable", "closed/new"):
+        for command, words in on_file(refusals, file):
+            if (command, file) != ("report", "closed/new"):
+                refusals.refused(f"{command} of a FILE without rights, {file}", words, 1, "fault shelf 1")
+
+
+def try_addresses(refusals, archive):
+    """Ports in use, and peers that are none."""
+    with socket.socket() as other:
+        other.bind(("127.0.0.1", 0))
+        other.listen()
+        used = "127.0.0.1:%d" % other.getsockname()[1]
+        refusals.refused("serve on a port in use", refusals.serve("new", used), 1, "fault net 1")
+        refusals.refused("serve --exchange on a port in use", refusals.serve(
+            "new", "", *SERVED, "--exchange", used, "--rounds", "1"), 1, "fault net 1")
+    refusals.refused("serve on a port of the archive", refusals.serve("new", ":".join(archive.at())), 1, "fault net 1")
+    refusals.refused("serve at an address of another machine", refusals.serve("new", "192.0.2.1:11112"), 1,
+                     "fault net 1")
+    refusals.refused("exchange with nobody", [
+        "exchange", refusals.path("new"), "--peer", f"127.0.0.1:{free_port()}"], 1, "fault net 3")
+    refusals.refused("correct of an attribute that may not be corrected", [
+        "correct", refusals.path("new"), "--site", "1", "patient", "P1", "00080018", "1.2"], 1, "fault hub 7")
+
+
+def try_served(refusals, archive):
+    """A file that another program serves: refused, and that one is as it was."""
+    before = archive.find("ARCHIVE", "0008,0052=STUDY", "0020,000d")
+    for command, words in on_file(refusals, archive.path):
+        refusals.refused(f"{command} of a FILE that is served", words, 1, "fault shelf 1", {})
+    told("the site that serves it answers as before", same(
+        archive.find("ARCHIVE", "0008,0052=STUDY", "0020,000d"), before))
+
+
+def try_commands(archive, folder):
+    """All of them, beside an archive that serves and holds something."""
+    refusals = Refusals(archive.program, folder)
+    try_words(refusals)
+    try_addresses(refusals, archive)
+    try_served(refusals, archive)
+    archive.kill()
+    try_files(refusals, archive.path)
+    archive.start()
