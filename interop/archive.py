@@ -95,9 +95,10 @@ class Archive:
         rows = []
         for part in re.split(r"(?m)^.*# Dicom-Data-Set.*$", text)[1:]:
             row = {}
-            for m in re.finditer(r"(?m)^.*\(([0-9a-f]{4}),([0-9a-f]{4})\) \w\w (?:\[([^\]]*)\]|\(no value.*)", part):
-                # A UID is printed with its padding.
-                row[f"{m.group(1)},{m.group(2)}"] = (m.group(3) or "").strip("\0 ")
+            for m in re.finditer(
+                    r"(?m)^.*\(([0-9a-f]{4}),([0-9a-f]{4})\) \w\w (?:\[([^\]]*)\]|(=\w+)|\(no value.*)", part):
+                # A UID is printed with its padding, or by its name.
+                row[f"{m.group(1)},{m.group(2)}"] = (m.group(3) or m.group(4) or "").strip("\0 ")
             rows.append(row)
         return rows, "" if status == 0 else f"findscu ended with {status}: {text[-300:]}"
 

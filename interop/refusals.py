@@ -12,10 +12,11 @@ from archive import free_port, same, told
 
 NOBODY = {"user": 65534, "group": 65534, "extra_groups": []} if os.geteuid() == 0 else {}
 SERVED = ["--workers", "1", "--each", "1"]
+HEAD = b"SQLite format 3\0"
 
 
 def below(folder):
-    """What stands below a folder: each path with its kind, mode, size and bytes."""
+    """What stands below a folder: each path with its kind and mode, and its bytes."""
     found = {}
     for at, folders, names in os.walk(folder):
         for name in folders + names:
@@ -29,11 +30,22 @@ def below(folder):
     return found
 
 
+# What SQLite's log has before its first commit: a header, and a mark of the sqlite crate behind it.
+BARE_LOG = 41
+
+
+def is_bare_log(path, before, data):
+    """Whether a file is a log without a commit beside a database that was there: an open may leave one."""
+    file = path.removesuffix("-wal")
+    return path != file and before.get(file, (0, b""))[1].startswith(HEAD) and len(data) <= BARE_LOG
+
+
 def changes(before, after):
-    """What was made, and what is otherwise than it was."""
-    made = sorted(set(after) - set(before))
-    other = sorted(p for p in before if after.get(p) != before[p])
-    return " ".join([f"made {p}" for p in made] + [f"changed or removed {p}" for p in other])
+    """What was made, and what is otherwise than it was, but for a log that holds nothing."""
+    other = [f"made {p}" for p in sorted(set(after) - set(before)) if not is_bare_log(p, before, after[p][1])]
+    other += [f"removed {p}" for p in sorted(set(before) - set(after))]
+    return " ".join(other + [f"changed {p}" for p in sorted(set(before) & set(after)) if after[p] != before[p]
+                             and not is_bare_log(p, before, after[p][1])])
 
 
 class Refusals:
@@ -45,6 +57,12 @@ class Refusals:
         # Where the program stands, another user may not reach it.
         self.program = shutil.copy(program, os.path.join(folder, "archive"))
         os.chmod(self.program, 0o755)
+        self.count = 0
+
+    def new(self):
+        """The path of a file that is not there."""
+        self.count += 1
+        return self.path(f"new {self.count}")
 
     def path(self, name):
         return os.path.join(self.folder, name)
@@ -77,18 +95,18 @@ def try_words(refusals):
     for more in (["--workers", "0", "--each", "1"], ["--workers", "33", "--each", "1"],
                  ["--workers", "1", "--each", "4294967296"], ["--workers", "1", "--each", "-1"],
                  ["--workers", "one", "--each", "1"], ["--workers", "1"], [*SERVED, "--rounds", "4294967296"]):
-        refusals.refused("serve " + " ".join(more), refusals.serve("new", "", *more), 2, None)
+        refusals.refused("serve " + " ".join(more), refusals.serve(refusals.new(), "", *more), 2, None)
     for address in ("localhost:11112", "127.0.0.1", "127.0.0.1:", "127.0.0.1:65536", "127.0.0.256:11112",
                     "[::1]:11112", ":11112", "11112", "127.0.0.1:11112 ", "tcp://127.0.0.1:11112"):
-        refusals.refused(f"serve --listen {address!r}", refusals.serve("new", address), 2, None)
-        refusals.refused(f"exchange --peer {address!r}", ["exchange", refusals.path("new"), "--peer", address], 2, None)
+        refusals.refused(f"serve --listen {address!r}", refusals.serve(refusals.new(), address), 2, None)
+        refusals.refused(f"exchange --peer {address!r}", ["exchange", refusals.new(), "--peer", address], 2, None)
         refusals.refused(f"serve --exchange {address!r}", refusals.serve(
-            "new", "", *SERVED, "--exchange", address, "--rounds", "1"), 2, None)
-    for words in ([], ["nothing"], ["serve"], ["report"], ["exchange", refusals.path("new")],
-                  ["correct", refusals.path("new"), "--site", "0", "patient", "P1", "00100010", "A"],
-                  ["correct", refusals.path("new"), "--site", "65536", "patient", "P1", "00100010", "A"],
-                  ["correct", refusals.path("new"), "--site", "1", "image", "P1", "00100010", "A"],
-                  ["correct", refusals.path("new"), "--site", "1", "patient", "P1", "0010001", "A"]):
+            refusals.new(), "", *SERVED, "--exchange", address, "--rounds", "1"), 2, None)
+    for words in ([], ["nothing"], ["serve"], ["report"], ["exchange", refusals.new()],
+                  ["correct", refusals.new(), "--site", "0", "patient", "P1", "00100010", "A"],
+                  ["correct", refusals.new(), "--site", "65536", "patient", "P1", "00100010", "A"],
+                  ["correct", refusals.new(), "--site", "1", "image", "P1", "00100010", "A"],
+                  ["correct", refusals.new(), "--site", "1", "patient", "P1", "0010001", "A"]):
         refusals.refused("archive " + " ".join(os.path.basename(w) for w in words), words, 2, None)
 
 
@@ -99,28 +117,32 @@ def on_file(refusals, file):
             ("exchange", ["exchange", refusals.path(file), "--peer", f"127.0.0.1:{free_port()}"]))
 
 
-def make_files(refusals, site):
+def make_site(refusals, name):
+    """The file of a site with two corrections, without a log."""
+    for value in ("ROE^ANN", "DOE^JANE"):
+        refusals.run(["correct", refusals.path(name), "--site", "1", "patient", "P1", "00100010", value], NOBODY)
+    # Before its last connection ends, sqlite3 copies the log into the file.
+    database = sqlite3.connect(refusals.path(name))
+    database.execute("PRAGMA journal_mode = DELETE")
+    database.close()
+
+
+def make_files(refusals):
     """Files that are no site's, by name, and copies of a site's file that were harmed."""
     os.mkdir(refusals.path("a folder"))
     for name, data in (("a text", b"This is no database.\n"), ("one octet", b"S"), ("zeros", bytes(8192)),
-                       ("the head alone", b"SQLite format 3\0"), ("noise", b"SQLite format 3\0" + os.urandom(8176))):
+                       ("the head alone", HEAD), ("noise", HEAD + os.urandom(8176))):
         with open(refusals.path(name), "wb") as f:
             f.write(data)
     database = sqlite3.connect(refusals.path("another database"))
     database.execute("CREATE TABLE note (id INTEGER PRIMARY KEY, title TEXT)")
     database.commit()
     database.close()
-    # sqlite3 copies the log into the file.
-    shutil.copy(site, refusals.path("whole"))
-    if os.path.exists(site + "-wal"):
-        shutil.copy(site + "-wal", refusals.path("whole-wal"))
-    database = sqlite3.connect(refusals.path("whole"))
-    database.execute("PRAGMA journal_mode = DELETE")
-    database.close()
+    make_site(refusals, "whole")
     with open(refusals.path("whole"), "rb") as f:
         whole = f.read()
-    with open(refusals.path("half"), "wb") as f:
-        f.write(whole[:len(whole) // 8192 * 4096])
+    with open(refusals.path("cut off"), "wb") as f:
+        f.write(whole[:len(whole) - 4096])
     shutil.copy(refusals.path("whole"), refusals.path("an operation changed"))
     database = sqlite3.connect(refusals.path("an operation changed"))
     database.execute("UPDATE ops2 SET body = body || x'00' WHERE digest = (SELECT min(digest) FROM ops2)")
@@ -131,13 +153,13 @@ def make_files(refusals, site):
             os.chmod(refusals.path(name), 0o666)
 
 
-def try_files(refusals, site):
-    make_files(refusals, site)
-    for file in ("a folder", "a text", "one octet", "zeros", "the head alone", "noise", "another database", "half"):
+def try_files(refusals):
+    make_files(refusals)
+    for file in ("a folder", "a text", "one octet", "zeros", "the head alone", "noise", "another database", "cut off"):
         for command, words in on_file(refusals, file):
             refusals.refused(f"{command} of a FILE that is {file}", words, 1, "fault shelf 1")
     for command, words in on_file(refusals, "an operation changed"):
-        refusals.refused(f"{command} of a FILE with {'an operation changed'}", words, 1, "fault shelf 2")
+        refusals.refused(f"{command} of a FILE with an operation changed", words, 1, "fault shelf 2")
     for command, words in on_file(refusals, "a folder that is not there/new")[:1]:
         refusals.refused(f"{command} of a FILE in no folder", words, 1, "fault shelf 1")
     shutil.copy(refusals.path("whole"), refusals.path("unreadable"))
@@ -157,16 +179,17 @@ def try_addresses(refusals, archive):
         other.bind(("127.0.0.1", 0))
         other.listen()
         used = "127.0.0.1:%d" % other.getsockname()[1]
-        refusals.refused("serve on a port in use", refusals.serve("new", used), 1, "fault net 1")
+        refusals.refused("serve on a port in use", refusals.serve(refusals.new(), used), 1, "fault net 1")
         refusals.refused("serve --exchange on a port in use", refusals.serve(
-            "new", "", *SERVED, "--exchange", used, "--rounds", "1"), 1, "fault net 1")
-    refusals.refused("serve on a port of the archive", refusals.serve("new", ":".join(archive.at())), 1, "fault net 1")
-    refusals.refused("serve at an address of another machine", refusals.serve("new", "192.0.2.1:11112"), 1,
+            refusals.new(), "", *SERVED, "--exchange", used, "--rounds", "1"), 1, "fault net 1")
+    refusals.refused("serve on a port of the archive", refusals.serve(refusals.new(), ":".join(archive.at())), 1,
+                     "fault net 1")
+    refusals.refused("serve at an address of another machine", refusals.serve(refusals.new(), "192.0.2.1:11112"), 1,
                      "fault net 1")
     refusals.refused("exchange with nobody", [
-        "exchange", refusals.path("new"), "--peer", f"127.0.0.1:{free_port()}"], 1, "fault net 3")
+        "exchange", refusals.new(), "--peer", f"127.0.0.1:{free_port()}"], 1, "fault net 3")
     refusals.refused("correct of an attribute that may not be corrected", [
-        "correct", refusals.path("new"), "--site", "1", "patient", "P1", "00080018", "1.2"], 1, "fault hub 7")
+        "correct", refusals.new(), "--site", "1", "patient", "P1", "00080018", "1.2"], 1, "fault hub 7")
 
 
 def try_served(refusals, archive):
@@ -184,6 +207,4 @@ def try_commands(archive, folder):
     try_words(refusals)
     try_addresses(refusals, archive)
     try_served(refusals, archive)
-    archive.kill()
-    try_files(refusals, archive.path)
-    archive.start()
+    try_files(refusals)
