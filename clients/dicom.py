@@ -266,5 +266,6 @@ class Association:
     def release(self):
         self.socket.sendall(b"\5\0\0\0\0\4\0\0\0\0")
         kind, _ = self.pdu()
+        self.file.close()
         self.socket.close()
         return kind == 6
