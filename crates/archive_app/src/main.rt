@@ -10,6 +10,7 @@ use std::process::ExitCode;
 use std::rt::HostRuntime;
 use std::sync::Wait;
 use std::thread::Threads;
+use std::time::Clock;
 use std::{env, io};
 
 /// Prints an answer, or the line of its fault. It says the status.
@@ -28,7 +29,7 @@ fn told(rt: &HostRuntime, answered: Answered) -> Result<u8> {
     Ok(ending.status)
 }
 
-fn run<R: Net<Listener = TcpListener, Stream = TcpStream> + Threads + Wait + Print + Sync>(
+fn run<R: Net<Listener = TcpListener, Stream = TcpStream> + Threads + Wait + Clock + Print + Sync>(
     rt: &HostRuntime,
     host: &R,
 ) -> Result<u8> {

@@ -1,11 +1,11 @@
 //! A worker: it accepts so many associations on the shared listener, with a pass of its own.
 
-ghost use Rattle.std.specs.Prelude.{◌≡◌, ◌+◌, ◌-◌, ◌<◌, ◌^◌, ◌⊎◌, Some};
+ghost use Rattle.std.specs.Prelude.{◌≡◌, ◌+◌, ◌-◌, ◌<◌, ◌≤◌, ◌^◌, ◌⊎◌, Some, IsSome};
 ghost use Rattle.std.specs.Option.{option_or};
-ghost use Rattle.archive_server.specs.Serving.{IsOnward};
+ghost use Rattle.archive_server.specs.Serving.{IsOnward, HasServed};
 
 use crate::fault::{NetFault, ServeFault};
-use crate::message::Request;
+use crate::message::{Desk, Request};
 use crate::port::ServerPort;
 use archive_model::View;
 use association_run::{Gate, RunFault, run_association};
@@ -99,6 +99,7 @@ fn with_one<H: HubName, T: Shows<H>, R: Wait + Drop, S: Wait, K: Keep, G: Gate>(
     ensures onward { IsOnward K.is_up K.holds K.lasts done.pass result.pass }
     ensures accepted { result.accepted ≡ done.accepted + 1 }
     ensures failed { result.failed ≡ done.failed }
+    ensures told { IsSome done.fault → IsSome result.fault }
 {
     let Done {
         pass,
@@ -138,6 +139,7 @@ fn next<H: HubName, T: Shows<H>, R: Wait + Drop, S: Wait, K: Keep, G: Gate>(
     requires room { done.accepted + done.failed < 2 ^ 64 - 1 }
     ensures onward { IsOnward K.is_up K.holds K.lasts done.pass result.pass }
     ensures used { result.accepted + result.failed ≡ done.accepted + done.failed + 1 }
+    ensures told { IsSome done.fault ⊎ (done.failed ≡ 0) → IsSome result.fault ⊎ (result.failed ≡ 0) }
 {
     match hall.listener.accept() {
         Ok((stream, _address)) => with_one(hall, to, gate, stream, done),
@@ -149,20 +151,19 @@ fn next<H: HubName, T: Shows<H>, R: Wait + Drop, S: Wait, K: Keep, G: Gate>(
 pub(crate) fn work<H: HubName, T: Shows<H>, R: Wait + Drop, S: Wait, K: Keep, G: Gate + Drop>(
     place: u64,
     hall: &Hall<'_, H, T, R, S>,
-    to: Sender<Request<K>>,
+    desk: Desk<K>,
     mut gate: G,
     pass: Pass<H>,
 ) -> Done<H>
-    ensures onward { IsOnward K.is_up K.holds K.lasts pass result.pass }
-    ensures used { (result.accepted + result.failed ≡ 0)
-        ⊎ (result.accepted + result.failed ≡ hall.now.each) }
+    ensures served { HasServed K.is_up K.holds K.lasts pass result.pass hall.now.each
+        result.accepted result.fault }
 {
     if hall.refused.load(Ordering::SeqCst) == place {
         return idle(pass, Some(ServeFault::Run(RunFault::Memory)));
     }
     let mut done = idle(pass, None);
     for _ in 0..hall.each {
-        done = next(hall, &to, &mut gate, done);
+        done = next(hall, &desk.to, &mut gate, done);
     }
     done
 }

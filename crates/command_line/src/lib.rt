@@ -1,11 +1,11 @@
 //! The words of a command line, and what they ask for.
 #![tactic(auto)]
 
-ghost use Rattle.std.specs.Prelude.{IfOk, IfSome};
-ghost use Rattle.command_words.specs.Words.{HasSite, HasWorkers, IsInRange};
+ghost use Rattle.std.specs.Prelude.{◌≤◌, IfOk, IfSome, vec_len};
+ghost use Rattle.command_words.specs.Words.{HasSite, HasPlaces, IsInRange};
 
 use clap::error::ErrorKind;
-use clap::{Arg, ArgMatches, Command, Error, value_parser};
+use clap::{Arg, ArgAction, ArgMatches, Command, Error, value_parser};
 use command_words::{Asked, Correcting, Exchanging, Serving, change_in};
 use exchange_run::Role;
 use std::alloc::{AllocError, Global};
@@ -31,12 +31,13 @@ Example: archive correct ops.db --site 1 study 1.2.1 00100010 ROE^ANN";
 
 const SERVE: &str =
     "Serves the operations in FILE, which is made where it is not there, to C-ECHO, \
-    C-STORE and C-FIND under the called titles ARCHIVE, QUALITY and AUDIT, and ends once each \
-    worker has accepted what it may. With --rounds it also serves so many exchanges, in which \
-    another site calls by `archive exchange`
+    C-STORE, C-FIND and C-GET under the called titles ARCHIVE, QUALITY and AUDIT, and ends once \
+    each worker has accepted what it may. With --rounds it also serves so many exchanges, in which \
+    another site calls. With --peer it meanwhile calls another site, waits --every seconds and \
+    calls it again; one that does not answer is called again all the same
 
 Example: archive serve ops.db --listen 127.0.0.1:11112 --workers 4 --each 1000 \
-    --exchange 127.0.0.1:11113 --rounds 10";
+    --exchange 127.0.0.1:11113 --rounds 1000 --peer 127.0.0.1:11115 --every 30";
 
 const EXCHANGE: &str =
     "Exchanges operations with the site that serves exchanges at ADDR: it is given what it lacks \
@@ -46,7 +47,13 @@ const EXCHANGE: &str =
 
 Example: archive exchange ops.db --peer 127.0.0.1:11113";
 
-const NO_ADDRESS: &str = "ADDR is an IPv4 address, a colon and a port";
+const NO_ADDRESS: &str =
+    "ADDR is an IPv4 address, a colon and a port, and at most 31 peers are called";
+
+/// The seconds between exchanges with a peer, where none are named.
+const EVERY: u32 = 60;
+
+const MOST_PEERS: usize = 31;
 
 const NO_FORM: &str = "TARGET is study, patient or series, and TAG eight hexadecimal digits";
 
@@ -107,6 +114,16 @@ fn serve_command<'a>(alloc: Global) -> Result<Command<'a>, AllocError> {
         .value_name("N")
         .value_parser(value_parser!(u32))
         .help("How many exchanges are served, none where it is left out");
+    let peer = Arg::new(alloc, "peer")
+        .long("peer")
+        .value_name("ADDR")
+        .action(ArgAction::Append)
+        .help("The IPv4 address and port of a site that is called again and again, at most 31");
+    let every = Arg::new(alloc, "every")
+        .long("every")
+        .value_name("SECONDS")
+        .value_parser(value_parser!(u32).range(1..))
+        .help("How long it waits before it calls a peer again, 60 where it is left out");
     Command::new(alloc, "serve")
         .about(SERVE)
         .arg(word(alloc, "FILE", "The file with the operations"))?
@@ -114,7 +131,9 @@ fn serve_command<'a>(alloc: Global) -> Result<Command<'a>, AllocError> {
         .arg(workers)?
         .arg(each)?
         .arg(exchange)?
-        .arg(rounds)
+        .arg(rounds)?
+        .arg(peer)?
+        .arg(every)
 }
 
 fn exchange_command<'a>(alloc: Global) -> Result<Command<'a>, AllocError> {
@@ -184,28 +203,48 @@ fn rounds_in(found: &ArgMatches<'_>) -> u32 {
     }
 }
 
+/// The peers that are to be called, if they are no more than may be and their addresses have their
+/// form.
+fn peers_in<'a>(alloc: Global, found: &ArgMatches<'a>) -> Result<Option<Vec<&'a str>>, AllocError>
+    ensures { IfOk result (λ peers. IfSome peers (λ p. vec_len p ≤ 31)) }
+{
+    let mut peers = Vec::new(alloc);
+    for peer in found.get_strs("peer").unwrap_or(&[]) {
+        if peers.len() == MOST_PEERS || !is_address(peer) {
+            return Ok(None);
+        }
+        peers.push(*peer)?;
+    }
+    Ok(Some(peers))
+}
+
 /// What the words behind `serve` ask for, if its addresses have their form.
-fn read_serve<'a>(found: &ArgMatches<'a>) -> Option<Serving<'a>>
-    ensures { IfSome result HasWorkers }
+fn read_serve<'a>(alloc: Global, found: &ArgMatches<'a>) -> Result<Option<Serving<'a>>, AllocError>
+    ensures { IfOk result (λ serving. IfSome serving HasPlaces) }
 {
     let listen = text(found, "listen");
     let exchange = found.get_str("exchange");
     if !is_address(listen) || !exchange.is_none_or(is_address) {
-        return None;
+        return Ok(None);
     }
+    let Some(peers) = peers_in(alloc, found)? else {
+        return Ok(None);
+    };
     match (
         found.get_one::<u16>("workers"),
         found.get_one::<u32>("each"),
     ) {
-        (Some(workers), Some(each)) if 1 <= workers && workers <= 32 => Some(Serving {
+        (Some(workers), Some(each)) if 1 <= workers && workers <= 32 => Ok(Some(Serving {
             file: text(found, "FILE"),
             listen,
             workers,
             each,
             exchange: text(found, "exchange"),
             rounds: rounds_in(found),
-        }),
-        _ => None,
+            peers,
+            every: found.get_one::<u32>("every").unwrap_or(EVERY),
+        })),
+        _ => Ok(None),
     }
 }
 
@@ -238,7 +277,7 @@ pub fn read_words<'a>(alloc: Global, words: &'a [&'a str]) -> Result<Asked<'a>, 
             Some(correcting) => Ok(Asked::Correct(correcting)),
             None => Err(command.error(ErrorKind::InvalidValue, NO_FORM)?),
         },
-        Some(("serve", found)) => match read_serve(found) {
+        Some(("serve", found)) => match read_serve(alloc, found)? {
             Some(serving) => Ok(Asked::Serve(serving)),
             None => Err(command.error(ErrorKind::InvalidValue, NO_ADDRESS)?),
         },

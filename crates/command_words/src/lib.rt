@@ -28,7 +28,7 @@ pub struct Correcting<'a> {
 
 /// The operations in a file, served at an address by so many workers, each of which accepts so many
 /// associations.
-#[derive(Clone, Copy, Debug)]
+#[derive(Debug, Drop)]
 pub struct Serving<'a> {
     pub file: &'a str,
     pub listen: &'a str,
@@ -38,6 +38,10 @@ pub struct Serving<'a> {
     pub exchange: &'a str,
     /// How many are served. Where none is, nothing is listened for them.
     pub rounds: u32,
+    /// The sites that are called for an exchange, again and again.
+    pub peers: Vec<&'a str>,
+    /// The seconds between an exchange with one of them and the next.
+    pub every: u32,
 }
 
 /// The operations in a file, and the address of the site that they are exchanged with.

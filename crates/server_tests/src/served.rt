@@ -17,6 +17,7 @@ use std::net::{Net, TcpListener, TcpStream};
 use std::sync::{Mutex, Wait};
 use std::test::Fail;
 use std::thread::{Threads, join};
+use std::time::Clock;
 use ul_state::{Title, Titles};
 
 pub(crate) fn titles(alloc: Global) -> Result<Titles<View>, AllocError> {
@@ -62,7 +63,10 @@ pub(crate) fn connected<R: Net<Listener = TcpListener, Stream = TcpStream>>(
 
 /// Serves with two workers, while clients ask over some streams. It says whether they heard what
 /// they wanted, and how many were accepted.
-fn served<H: HubName + Send + Sync, R: Threads + Wait + Sync>(
+fn served<
+    H: HubName + Send + Sync,
+    R: Net<Listener = TcpListener, Stream = TcpStream> + Threads + Wait + Clock + Sync,
+>(
     rt: &R,
     alloc: Global,
     listener: &TcpListener,
@@ -84,14 +88,27 @@ fn served<H: HubName + Send + Sync, R: Threads + Wait + Sync>(
             requires { (vec_len gates ≡ 2) × (vec_len passes ≡ 2) }
         {
             serve_on(
-                rt, alloc, listener, None, &titles, gates, each, keeper, passes, shelf,
+                rt,
+                alloc,
+                listener,
+                None,
+                &[],
+                &titles,
+                gates,
+                each,
+                keeper,
+                passes,
+                shelf,
             )
         },
     );
     Ok((heard, served.accepted))
 }
 
-fn run<H: HubName + Send + Sync, R: Threads + Wait + Sync>(
+fn run<
+    H: HubName + Send + Sync,
+    R: Net<Listener = TcpListener, Stream = TcpStream> + Threads + Wait + Clock + Sync,
+>(
     rt: &R,
     alloc: Global,
     opened: Opened<&R>,

@@ -1,5 +1,5 @@
 use Rattle.archive_server.proofs.OnwardLaws.{seat_in}
-use Rattle.archive_server.proofs.exchanging.serve_exchange.Given as goal
+use Rattle.archive_server.proofs.exchanging.exchange_over.Given as goal
 
 -- what the pass is when its exchange begins
 abbrev pub ghosts-exchange : goal.ghosts-exchange
