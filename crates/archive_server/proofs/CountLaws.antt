@@ -1,6 +1,6 @@
 -- Laws of what threads have accepted and which fault they tell.
 use Rattle.std.proofs.Common.{◌≡◌, ◌⊎◌, ◌+◌, ◌*◌, ◌≤◌, ℕ, zero, suc, List, [], ◌∷◌, ◌++◌, min, refl, sym, subst, ap, inl, inr, ◌∙◌}
-use Rattle.std.proofs.Common.{Option, Some, None, IsSome}
+use Rattle.std.proofs.Common.{Option, Some, None, IsSome, absurd, false≢true, arith}
 use Rattle.std.specs.Option.{option_or}
 use Rattle.std.proofs.lemmas.Bool.{cases_lt}
 use Rattle.std.proofs.Math.Nat.{min-eq_left, min-eq_right, min-le_left, le_of_lt, le_trans, le-add_right, add-le-add, le_refl, add-zero}
@@ -20,7 +20,7 @@ min_more a b m = elim (cases_lt a m) as (λ _. min (min a m + b) m ≡ min (a + 
 
 -- a fault that is told stays told
 pub told_first : (f g : Option ServeFault) → IsSome f → IsSome (option_or f g)
-told_first None g told = elim told [ ]
+told_first None g told = absurd (false≢true told)
 told_first (Some x) g told = refl
 
 pub told_then : (f g : Option ServeFault) → IsSome g → IsSome (option_or f g)

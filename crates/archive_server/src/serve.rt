@@ -82,7 +82,7 @@ fn start<
         of: PhantomData,
     };
     let job = move || -> Done<H>
-        ensures { HasServed K.is_up K.holds K.lasts pass result.pass hall.now.each
+        ensures { HasServed K.is_up K.holds K.lasts pass result.pass hall.entry.now.each
             result.accepted result.fault }
     { work(place, hall, desk, gate, pass) };
     match Stack::new()
@@ -114,8 +114,8 @@ fn start_exchanges<
     pass: Pass<H>,
 ) -> Started<H, K>
     ensures { MatchResult result
-        (λ thread. (thread.promise.was.value ≡ pass) × (thread.promise.most ≡ exchanging.rounds))
-        (λ done. HasServed K.is_up K.holds K.lasts pass done.pass exchanging.rounds done.accepted
+        (λ thread. (thread.promise.was.value ≡ pass) × (thread.promise.most ≡ exchanging.entry.rounds))
+        (λ done. HasServed K.is_up K.holds K.lasts pass done.pass exchanging.entry.rounds done.accepted
         done.fault) }
 {
     let Ok(desk) = desk.another() else {
@@ -448,7 +448,7 @@ pub fn serve_on<
             requires { vec_len passes
                 ≡ places_for (vec_len gates) (is_some exchange) (length peers.now) }
             ensures { HaveServed K.is_up K.holds K.lasts passes.items result.passes.items
-                (vec_len gates * each) result.accepted result.fault }
+                (vec_len gates * hall.entry.now.each) result.accepted result.fault }
         { serve_all(scope, hall, peers, exchange, channels, shelf, gates, passes) },
     )
 }

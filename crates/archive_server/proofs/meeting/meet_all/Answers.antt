@@ -4,8 +4,10 @@ use Rattle.archive_server.proofs.meeting.meet_all.Goals as goal
 
 -- A thread that was refused gives its pass back as it came, and tells it.
 pub returns-then-load-place : goal.returns-then-load-place
-returns-then-load-place g c = rw (c.idle.ensures.pass, c.idle.ensures.none.0, c.idle.ensures.fault)
-    (told_alone g.K.Keep.is_up g.K.Keep.holds g.K.Keep.lasts _ _ _)
+returns-then-load-place g c = record {
+  served = rw (c.idle.ensures.pass, c.idle.ensures.none.0, c.idle.ensures.fault)
+      (told_alone g.K.Keep.is_up g.K.Keep.holds g.K.Keep.lasts _ _ _);
+}
 
 -- Before the first call the pass is as it came.
 pub loop-init : goal.loop-init
@@ -13,9 +15,11 @@ loop-init g c = onward_self g.K.Keep.is_up g.K.Keep.holds g.K.Keep.lasts _
 
 -- Each call goes on from the one before.
 pub loop-preserved : goal.loop-preserved
-loop-preserved g c = onward_trans g.K.Keep.is_up g.K.Keep.holds g.K.Keep.lasts _ _ _ c.loop.invariant c.meet-onward.ensures
+loop-preserved g c = onward_trans g.K.Keep.is_up g.K.Keep.holds g.K.Keep.lasts _ _ _ c.loop.invariant c.meet-onward.ensures.onward
 
 -- Nothing is accepted.
 pub returns : goal.returns
-returns g c = rw (c.idle.ensures.pass, c.idle.ensures.none.0, c.idle.ensures.fault)
-    (served_none g.K.Keep.is_up g.K.Keep.holds g.K.Keep.lasts _ _ _ c.loop.invariant)
+returns g c = record {
+  served = rw (c.idle-2.ensures.pass, c.idle-2.ensures.none.0, c.idle-2.ensures.fault)
+      (served_none g.K.Keep.is_up g.K.Keep.holds g.K.Keep.lasts _ _ _ c.loop.invariant);
+}

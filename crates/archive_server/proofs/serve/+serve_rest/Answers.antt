@@ -1,6 +1,6 @@
 use Rattle.std.proofs.Common.{rules, ◌≡◌, ◌∷◌, ◌++◌, ◌+◌, ◌*◌, [], List, suc, refl, inr}
 use Rattle.archive_server.specs.Serving.{IsOnward, AllOnward, HasServed, HaveServed}
-use Rattle.archive_server.proofs.CountLaws.{served_with, served_first}
+use Rattle.archive_server.proofs.CountLaws.{served_with}
 use Rattle.archive_server.proofs.serve.+serve_rest.Goals as goal
 
 -- The passes before the last went on, and so did the last, which stands behind them again; and its accepts are counted.

@@ -4,9 +4,11 @@ use Rattle.archive_server.proofs.CountLaws.{served_by_all, told_alone}
 use Rattle.archive_server.proofs.worker.work.Goals as goal
 
 -- A worker whose thread was refused gives its pass back as it came, and tells it.
-pub returns-then-load-place-clause-served : goal.returns-then-load-place-clause-served
-returns-then-load-place-clause-served g c = rw (c.idle.ensures.pass, c.idle.ensures.none.0, c.idle.ensures.fault)
-    (told_alone g.K.Keep.is_up g.K.Keep.holds g.K.Keep.lasts _ _ _)
+pub returns-then-load-place : goal.returns-then-load-place
+returns-then-load-place g c = record {
+  served = rw (c.idle.ensures.pass, c.idle.ensures.none.0, c.idle.ensures.fault)
+      (told_alone g.K.Keep.is_up g.K.Keep.holds g.K.Keep.lasts _ _ _);
+}
 
 -- Before the first accept nothing is used up.
 pub loop-init : goal.loop-init
@@ -20,11 +22,13 @@ loop-init g c = (
 pub loop-preserved : goal.loop-preserved
 loop-preserved g c = (
   c.next-done.ensures.used ∙ ap (λ n. n + 1) c.loop.invariant.0,
-  c.next-done.ensures.told c.loop.invariant.1.0,
-  onward_trans g.K.Keep.is_up g.K.Keep.holds g.K.Keep.lasts _ _ _ c.loop.invariant.1.1 c.next-done.ensures.onward,
+  c.next-done.ensures.told c.loop.invariant.1,
+  onward_trans g.K.Keep.is_up g.K.Keep.holds g.K.Keep.lasts _ _ _ c.loop.invariant.2 c.next-done.ensures.onward,
 )
 
 -- So all that may be accepted was, or a fault is told.
-pub returns-clause-served : goal.returns-clause-served
-returns-clause-served g c = served_by_all g.K.Keep.is_up g.K.Keep.holds g.K.Keep.lasts _ _ _ _ _ _
-    c.loop.invariant.0 c.loop.invariant.1.0 c.loop.invariant.1.1
+pub returns : goal.returns
+returns g c = record {
+  served = served_by_all g.K.Keep.is_up g.K.Keep.holds g.K.Keep.lasts _ _ _ _ _ _ c.loop.invariant.0
+      c.loop.invariant.1 c.loop.invariant.2;
+}
