@@ -1,11 +1,14 @@
 //! Hubs of two passes and of five.
 ghost use Rattle.std.specs.Prelude.{◌≡◌};
 
-use crate::made::{NAME, accepts, correction, found, image, name, query, selection, study};
+use crate::made::{NAME, accepts, closed, correction, found, image, name, query, selection, study};
 use crate::ports::{associates, holds};
 use archive_model::View;
 use operation::{Digested, Taken};
-use site_hub::{HubFault, HubName, Keeper, Opened, Pass, Snapshot, correct, open, store};
+use site_hub::{
+    CloseFault, HubFault, HubName, Keeper, Logged, Opened, Pass, Snapshot, close, correct, open,
+    store,
+};
 use site_state::Site;
 use std::alloc::Global;
 use std::marker::Brand;
@@ -21,6 +24,10 @@ enum Row {
     Learns,
     /// A correction of this counter is held.
     Corrects(u64),
+    /// Two corrections are made where none is held.
+    Numbers,
+    /// It is closed without a pass, and then with both.
+    Closes,
     /// One association stores and looks, and the other pass looks.
     Associates,
     /// One association is held within its store, while another stores and finds.
@@ -51,8 +58,10 @@ fn run<H: HubName + Send + Sync, R: Threads + Wait + Abort + Sync>(
     match row {
         Row::Learns => learns(rt, alloc, &keeper, &mut one, &mut two),
         Row::Corrects(counter) => corrects(rt, alloc, &keeper, &mut one, counter),
+        Row::Numbers => numbers(rt, alloc, keeper, one, two),
+        Row::Closes => closes(rt, alloc, keeper, one, two),
         Row::Associates => associates(rt, alloc, &keeper, one, &mut two),
-        Row::Holds => holds(rt, alloc, &keeper, one, two),
+        Row::Holds => holds(rt, alloc, keeper, one, two),
     }
 }
 
@@ -71,6 +80,20 @@ fn the_last_counter_is_used_once(rt: HostRuntime) -> Result<(), Fail> {
         run::<Brand, _>(&rt, alloc, opened, Row::Corrects(counter))?;
     }
     Ok(())
+}
+
+#[test]
+fn the_first_corrections_have_the_counters_1_and_2(rt: HostRuntime) -> Result<(), Fail> {
+    let alloc = rt.alloc();
+    let opened = open(alloc, &rt, Site::new(alloc), 1, 2)?;
+    run::<Brand, _>(&rt, alloc, opened, Row::Numbers)
+}
+
+#[test]
+fn a_hub_is_closed_with_all_its_passes(rt: HostRuntime) -> Result<(), Fail> {
+    let alloc = rt.alloc();
+    let opened = open(alloc, &rt, Site::new(alloc), 1, 2)?;
+    run::<Brand, _>(&rt, alloc, opened, Row::Closes)
 }
 
 #[test]
@@ -140,7 +163,7 @@ fn corrects<H: HubName, R: Wait + Abort>(
 ) -> Result<(), Fail> {
     let held = correction(alloc, counter)?;
     assert!(rt; store(rt, keeper, pass, held).is_ok(), "{counter} is held");
-    for k in 1..3u64 {
+    for k in 1..4u64 {
         let want = match counter.checked_add(k) {
             Some(next) => Ok(next),
             None => Err(HubFault::StampsSpent),
@@ -154,5 +177,71 @@ fn corrects<H: HubName, R: Wait + Abort>(
         let more = usize::from(want.is_ok());
         assert_eq!(rt; pass.digests()?.len(), held.saturating_add(more), "held");
     }
+    Ok(())
+}
+
+/// Two passes correct, and the site of the closed hub has both corrections.
+fn numbers<H: HubName, R: Wait + Abort>(
+    rt: &R,
+    alloc: Global,
+    keeper: Shared<'_, H, R>,
+    one: Pass<H>,
+    two: Pass<H>,
+) -> Result<(), Fail> {
+    let (mut one, mut two) = (one, two);
+    assert_eq!(rt;
+        corrected(rt, alloc, &keeper, &mut one)?,
+        Ok(1),
+        "the first"
+    );
+    assert_eq!(rt;
+        corrected(rt, alloc, &keeper, &mut two)?,
+        Ok(2),
+        "the second"
+    );
+    let (site, log) = closed(keeper.into_inner(), vec![in alloc; one, two]?)?;
+    assert_eq!(rt; site.top_counter(), 2, "the greatest counter");
+    for (k, pass) in [(1u64, 1u64), (2, 2)] {
+        let made = Digested::of(correction(alloc, k)?);
+        assert!(rt; site.has(made.digest()), "counter {k} of site 1");
+        let entry = Logged {
+            pass,
+            digest: *made.digest(),
+        };
+        assert!(rt; log.as_slice().contains(&entry), "its entry");
+    }
+    Ok(())
+}
+
+/// Both passes store one image. Without the second pass the hub is not closed.
+fn closes<H: HubName, R: Wait + Abort>(
+    rt: &R,
+    alloc: Global,
+    keeper: Shared<'_, H, R>,
+    one: Pass<H>,
+    two: Pass<H>,
+) -> Result<(), Fail> {
+    let (mut one, mut two) = (one, two);
+    let digest = *Digested::of(image(alloc, 1)?).digest();
+    store(rt, &keeper, &mut one, image(alloc, 1)?)?;
+    store(rt, &keeper, &mut two, image(alloc, 1)?)?;
+    let Err(back) = close(keeper.into_inner(), vec![in alloc; one]?) else {
+        return Err(Fail::from("closed without the second pass"));
+    };
+    assert_eq!(rt; back.fault, HubFault::Torn, "without the second pass");
+    let CloseFault {
+        keeper,
+        mut passes,
+        fault: _,
+    } = back;
+    assert_eq!(rt; passes.len(), 1, "the first pass comes back");
+    passes.push(two)?;
+    let (site, log) = closed(keeper, passes)?;
+    assert_eq!(rt; site.counts().operations, 1, "one operation");
+    assert_eq!(rt;
+        log.as_slice(),
+        [Logged { pass: 1, digest }, Logged { pass: 2, digest }].as_slice(),
+        "an entry of each"
+    );
     Ok(())
 }

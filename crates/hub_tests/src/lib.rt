@@ -11,3 +11,5 @@ mod made;
 mod messages;
 #[cfg(test)]
 mod ports;
+#[cfg(test)]
+mod stress;

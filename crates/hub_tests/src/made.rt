@@ -7,8 +7,10 @@ use bytes::Bytes;
 use data_set::{Syntax, read};
 use octets::{ListOf, Octets};
 use operation::{Op, Stamp, Target, content_of, correction_of};
-use site_hub::{HubName, Pass};
+use site_hub::{HubName, Keeper, Log, Pass, Snapshot, close};
+use site_state::Site;
 use std::alloc::Global;
+use std::sync::Wait;
 use std::test::Fail;
 
 /// (0010,0010) Patient's Name
@@ -131,5 +133,16 @@ pub fn found<H: HubName>(pass: &mut Pass<H>, query: &Query) -> Option<u64> {
     match pass.find(View::Archive, b"ARCHIVE", query) {
         Ok(rows) => Some(count_in(&rows)),
         Err(_refused) => None,
+    }
+}
+
+/// What a hub held, and its history, once it is closed with all its passes.
+pub fn closed<H: HubName, R: Wait + Drop>(
+    keeper: Keeper<H, Snapshot<H>, R>,
+    passes: Vec<Pass<H>>,
+) -> Result<(Site, Log), Fail> {
+    match close(keeper, passes) {
+        Ok(both) => Ok(both),
+        Err(_back) => Err(Fail::from("the hub is not closed")),
     }
 }

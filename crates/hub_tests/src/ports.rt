@@ -2,7 +2,7 @@
 ghost use Rattle.std.specs.Prelude.{◌≡◌};
 ghost use Rattle.site_hub.specs.Hub.{IsLater};
 
-use crate::made::{found, query};
+use crate::made::{closed, found, image, query};
 use crate::messages::{answered, asked};
 use archive_model::View;
 use archive_query::Query;
@@ -11,7 +11,8 @@ use association_session::Moment;
 use association_worker::{AtEntry, HubPort};
 use devices::{Store, Supply};
 use octets::{ListOf, Octets};
-use site_hub::{HubName, Keeper, Pass, Snapshot};
+use operation::Digested;
+use site_hub::{HubName, Keeper, Logged, Pass, Snapshot};
 use std::alloc::Global;
 use std::marker::Brand;
 use std::process::Abort;
@@ -170,10 +171,11 @@ pub fn associates<H: HubName, R: Wait + Abort>(
 }
 
 /// An association is held within its store; a second one stores and finds; then the first goes on.
+/// The history has the second one's entry first.
 pub fn holds<H: HubName + Send + Sync, R: Threads + Wait + Abort + Sync>(
     rt: &R,
     alloc: Global,
-    keeper: &Shared<'_, H, R>,
+    keeper: Shared<'_, H, R>,
     one: Pass<H>,
     two: Pass<H>,
 ) -> Result<(), Fail> {
@@ -189,8 +191,8 @@ pub fn holds<H: HubName + Send + Sync, R: Threads + Wait + Abort + Sync>(
     };
     let (first, second) = join(
         rt,
-        || serve(rt, alloc, keeper, one, &mut later, &mut held),
-        || serve(rt, alloc, keeper, two, &mut sooner, &mut frees),
+        || serve(rt, alloc, &keeper, one, &mut later, &mut held),
+        || serve(rt, alloc, &keeper, two, &mut sooner, &mut frees),
     );
     assert_eq!(rt; first.1, Some(End::Released), "the end of the first");
     assert_eq!(rt; second.1, Some(End::Released), "the end of the second");
@@ -205,6 +207,24 @@ pub fn holds<H: HubName + Send + Sync, R: Threads + Wait + Abort + Sync>(
         later.store.as_slice(),
         wanted.as_slice(),
         "the first finds both"
+    );
+    let (_site, log) = closed(keeper.into_inner(), vec![in alloc; first.0, second.0]?)?;
+    let sooner = *Digested::of(image(alloc, 2)?).digest();
+    let later = *Digested::of(image(alloc, 1)?).digest();
+    assert_eq!(rt;
+        log.as_slice(),
+        [
+            Logged {
+                pass: 2,
+                digest: sooner,
+            },
+            Logged {
+                pass: 1,
+                digest: later,
+            },
+        ]
+        .as_slice(),
+        "the entry of the second comes first"
     );
     Ok(())
 }
