@@ -10,6 +10,8 @@ use Rattle.pdu.specs.declared.value.Pdu.TheVariants as pdus
 use Rattle.ul_state.specs.declared.table.State.{State}
 use Rattle.ul_state.specs.declared.table.State.TheVariants.{Sta6}
 use Rattle.dimse.specs.declared.message.Message.{Message}
+use Rattle.dimse.specs.Command.{command_text}
+use Rattle.dimse.specs.Remainder.{Left, SendsFirst}
 use Rattle.dimse.specs.Sending.{Sends, IsSending, size_of}
 use Rattle.association_session.specs.declared.deed.Deed.{Deed}
 use Rattle.association_session.specs.declared.deed.Deed.TheVariants.{Send}
@@ -20,7 +22,7 @@ use Rattle.association_session.specs.Projections.{state_after}
 use Rattle.association_session.specs.Response.{Awaited}
 use Rattle.association_session.specs.Retrieval.{SendsOn, way_for, sub_operation, failing, RespondsIfLeft}
 use Rattle.association_session.specs.SubOperation.{Retrieval}
-use Rattle.association_session.specs.Retrieval.{RespondsBy, ByWay, Both}
+use Rattle.association_session.specs.Retrieval.{RespondsFirst, ByWay, Both}
 use Rattle.association_session.specs.declared.retrieval.Progress.{Progress}
 use Rattle.association_session.specs.declared.way.Way.{Way}
 use Rattle.pdu.specs.declared.context.Context.{Context}
@@ -47,7 +49,7 @@ data_append (pdus.ReleaseRq ∷ xs) ys p q = absurd p
 data_append (pdus.ReleaseRp ∷ xs) ys p q = absurd p
 data_append (pdus.Abort source reason ∷ xs) ys p q = absurd p
 
-sends_data : (size context : ℕ) (command : Bool) (text : List ℕ) (ps : List Pdu) → Sends size context command text ps
+pub sends_data : (size context : ℕ) (command : Bool) (text : List ℕ) (ps : List Pdu) → Sends size context command text ps
     → AreData ps
 sends_data size context command text [] p = absurd p
 sends_data size context command text (x ∷ []) p = subst (λ (t : Pdu). AreData (t ∷ [])) (sym p.1) tt
@@ -89,10 +91,26 @@ sends_on_data contexts g (x ∷ left) ps p =
     (λ y q. subst (λ (t : List Pdu). AreData t) (sym q.4) (data_append q.0 q.1 (if_left_data (failing g x) left q.0 q.2)
     (sends_on_data contexts (failing g x) left q.1 q.3))) p
 
-pub responds_by_data : (cancelled : Bool) (g : Progress) (left : List Prepared) (ps : List Pdu)
-    (next : Option Retrieval) → RespondsBy cancelled g left ps next → AreData ps
-responds_by_data true g left ps next p = sending_data _ _ ps p.0
-responds_by_data false g left ps next p = if_left_data g left ps p.0
+-- the first of a message
+pub first_data : (m : Message) (max : ℕ) (first : List Pdu) (rest : Option Left) → SendsFirst m max first rest
+    → AreData first
+first_data m max first rest p = sends_data (size_of max) m.context true (command_text m.command) first p.command
+
+pub responds_first_data : (cancelled : Bool) (g : Progress) (left : List Prepared) (ps : List Pdu)
+    (rest : Option Left) (next : Option Retrieval) → RespondsFirst cancelled g left ps rest next → AreData ps
+responds_first_data true g left ps rest next p = first_data _ _ ps rest p.0
+responds_first_data false g left ps rest next p = if_left_data g left ps p.0
+
+-- the front of what is sent
+pub data_front : (xs ys : List Pdu) → AreData (xs ++ ys) → AreData xs
+data_front [] ys p = tt
+data_front (pdus.PData values ∷ xs) ys p = data_front xs ys p
+data_front (pdus.AssociateRq request ∷ xs) ys p = absurd p
+data_front (pdus.AssociateAc accept ∷ xs) ys p = absurd p
+data_front (pdus.AssociateRj reject ∷ xs) ys p = absurd p
+data_front (pdus.ReleaseRq ∷ xs) ys p = absurd p
+data_front (pdus.ReleaseRp ∷ xs) ys p = absurd p
+data_front (pdus.Abort source reason ∷ xs) ys p = absurd p
 
 -- P-DATA-TFs lead nowhere else.
 pub data_then : (s : State) (ps : List Pdu) (rest : List Deed) → AreData ps

@@ -114,6 +114,13 @@ list_by uids room some (inl h) = padded_by (length (join_with_byte 92 uids) % 2 
 list_by uids room some (inr none) =
     let e : length (uid_list uids) ≡ 0 = ap (λ t. length (uid_list t)) none in omega (arith, e, some)
 
+-- The value that lists failed instances has room.
+pub list_fits : (syntax : Syntax) (uids : List (List ℕ))
+    → length (uid_list (fitting (room_in syntax) uids)) ≤ room_in syntax
+list_fits Explicit uids = list_by (fitting 0xFFFF uids) 0xFFFF (ltb-true 0 0xFFFF refl) (joined_within 0xFFFF uids)
+list_fits Implicit uids = list_by (fitting 0xFFFFFFFE uids) 0xFFFFFFFE (ltb-true 0 0xFFFFFFFE refl)
+    (joined_within 0xFFFFFFFE uids)
+
 no_length : (size : ℕ) → size < 4294967295 → (size == 4294967295) ≡ false
 no_length size h = grind arith
 
@@ -149,12 +156,10 @@ pub failed_is_set : (syntax : Syntax) (uids : List (List ℕ))
     → IsSet syntax (leaf FAILED_SOP_INSTANCE_UID_LIST (vr_in syntax) (uid_list (fitting (room_in syntax) uids)) ∷ [])
 unfolding IsSet
 failed_is_set Explicit uids = (
-  explicit_stands (length (uid_list (fitting 0xFFFF uids)))
-      (list_by (fitting 0xFFFF uids) 0xFFFF (ltb-true 0 0xFFFF refl) (joined_within 0xFFFF uids)),
+  explicit_stands (length (uid_list (fitting 0xFFFF uids))) (list_fits Explicit uids),
   tt,
 )
 failed_is_set Implicit uids = (
-  implicit_stands (length (uid_list (fitting 0xFFFFFFFE uids)))
-      (list_by (fitting 0xFFFFFFFE uids) 0xFFFFFFFE (ltb-true 0 0xFFFFFFFE refl) (joined_within 0xFFFFFFFE uids)),
+  implicit_stands (length (uid_list (fitting 0xFFFFFFFE uids))) (list_fits Implicit uids),
   tt,
 )

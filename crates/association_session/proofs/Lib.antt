@@ -6,6 +6,7 @@ pub mod HearLaws
 pub mod LimitLaws
 pub mod OrderLaws
 pub mod ResponseLaws
+pub mod RestLaws
 pub mod RowLaws
 pub mod SelectedLaws
 pub mod SendLaws

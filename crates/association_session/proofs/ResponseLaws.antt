@@ -10,6 +10,7 @@ use Rattle.dimse.specs.declared.command.Command.{Command}
 use Rattle.dimse.specs.declared.status.Status.{Status}
 use Rattle.dimse.specs.Command.{HasRoom, IsCommand, is_complete, announces, command_text}
 use Rattle.dimse.specs.Status.{status_code}
+use Rattle.dimse.specs.Remainder.{Left, IsCut, SendsLeft}
 use Rattle.dimse.specs.Response.{response_of}
 use Rattle.dimse.specs.Sending.{size_of, sent, Sends, IsSending, IsWhole}
 use Rattle.dimse.specs.declared.message.Message.{Message}
@@ -62,6 +63,12 @@ text_goes : (max context : ℕ) (command : Bool) (text : List ℕ) → 8 ≤ max
     → (pdus : List Pdu) × Sends (size_of max) context command text pdus
 text_goes max context command text least = goes (length text) (size_of max) context command text (some_size max least)
     (omega arith) (cases_lt (size_of max) (length text))
+
+-- What is left of a message goes in some PDUs.
+pub rest_goes : (rest : Option Left) → IfSome rest IsCut → (pdus : List Pdu) × SendsLeft rest pdus
+rest_goes None fits = ([], refl)
+rest_goes (Some left) fits = goes (length left.text) left.size left.context false left.text fits.0 (omega arith)
+    (cases_lt left.size (length left.text))
 
 body_goes : (max context : ℕ) (body : Option (List ℕ)) → 8 ≤ max
     → (pdus : List Pdu) × MatchOption body (pdus ≡ []) (λ text. Sends (size_of max) context false text pdus)

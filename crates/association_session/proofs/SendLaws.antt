@@ -2,11 +2,13 @@
 use Rattle.std.proofs.Common.{◌≡◌, ℕ, ◌<◌, ◌≤◌, zero, suc, Bool, true, false, List, [], ◌∷◌, ◌++◌, map, length}
 use Rattle.std.proofs.Common.{Option, Some}
 use Rattle.std.proofs.Common.{None, refl, sym, ap, subst, ◌∙◌, append_assoc, append-nil, arith}
-use Rattle.std.specs.Prelude.{IsSome}
+use Rattle.std.specs.Prelude.{IsSome, IfSome}
 use Rattle.archive_model.specs.declared.view.View.{View}
 use Rattle.dimse.specs.declared.message.Message.{Message}
 use Rattle.dimse.specs.declared.status.Status.TheVariants.{Pending}
+use Rattle.dimse.specs.Remainder.{Left, IsCut, SendsFirst}
 use Rattle.dimse.specs.Sending.{IsSending}
+use Rattle.dimse.proofs.RemainderLaws.{in_parts}
 use Rattle.pdu.specs.declared.context.Context.{Context}
 use Rattle.pdu.specs.declared.value.Pdu.{Pdu}
 use Rattle.retrieve_model.specs.declared.prepared.Prepared.{Prepared}
@@ -36,23 +38,25 @@ use Rattle.association_session.specs.declared.retrieval.Meaning.{Meaning}
 use Rattle.association_session.specs.declared.retrieval.Meaning.TheVariants.{Cancelled, Performed, Unawaited}
 use Rattle.association_session.specs.declared.retrieval.Progress.{Progress}
 use Rattle.association_session.specs.declared.way.Way.{Way}
-use Rattle.association_session.specs.Due.{IsAnswered, Fits, due_of, left_of}
+use Rattle.association_session.specs.Due.{IsAnswered, Fits, due_of}
 use Rattle.association_session.specs.Get.{final_status, failed_set}
 use Rattle.association_session.specs.Projections.{state_after}
 use Rattle.association_session.specs.Response.{FitsLimit}
 use Rattle.association_session.specs.Retrieval.{counting, sub_operation, failing, sending, way_for, ByWay, Both}
 use Rattle.association_session.specs.Retrieval.{SendsOn}
-use Rattle.association_session.specs.Retrieval.{RespondsIfLeft, RespondsEnd, RespondsBy, begun, begun_by, meaning_of}
+use Rattle.association_session.specs.Retrieval.{RespondsIfLeft, RespondsBy, begun, begun_by, meaning_of}
+use Rattle.association_session.specs.Retrieval.{EndsFirst, RespondsFirst}
 use Rattle.association_session.specs.Retrieval.{performed, cancelling}
 use Rattle.association_session.specs.Row.{Within, row}
 use Rattle.association_session.specs.Session.{AssociationState, Answered, Turned, OwedFor, OwedAt, Stops, IsToldBy}
-use Rattle.association_session.specs.Session.{IsFewer, FewerFor, entered}
+use Rattle.association_session.specs.Session.{entered}
 use Rattle.association_session.specs.SubOperation.{Retrieval, SubOperation}
 use Rattle.association_session.specs.Talks.{Goes, GoesBy, Then, Begins, GoesOnBy, Performs, Attends, Talks, awaiting}
-use Rattle.association_session.proofs.DataLaws.{AreData, sending_data, if_left_data, responds_by_data, data_state}
+use Rattle.association_session.proofs.DataLaws.{AreData, if_left_data, first_data, responds_first_data, data_state}
 use Rattle.association_session.proofs.HearLaws.{still, owed_at, sends_halt, answered_broken, answered_sent}
 use Rattle.association_session.proofs.HearLaws.{answered_asked}
 use Rattle.association_session.proofs.ResponseLaws.{sending_goes}
+use Rattle.association_session.proofs.RestLaws.{owed_rest, then_is, rest_answered, rest_fits}
 use Rattle.association_session.proofs.TellLaws.{sends_join}
 
 -- ---- what is left can be sent
@@ -158,30 +162,50 @@ sends_turn titles now new r ps deeds sub due has is sent are_data answered fits 
     }
 
 pub ended_turn : (titles : List (Title View)) (now new : AssociationState) (r : Retrieval) (ps : List Pdu)
-    (deeds : List Deed) → now.awaited ≡ Some (dues.Sending r)
-    → new ≡ record { within = now.within; sub = None; stage = now.stage; awaited = None; queue = now.queue }
-    → deeds ≡ map Send ps → r.left ≡ [] → RespondsEnd r.progress ps → Turned titles now GoesOn deeds new
-ended_turn titles now new r ps deeds has is sent none told =
-    sends_turn titles now new r ps deeds None None has is sent (sending_data _ _ ps told) tt tt
-    (λ R rs rest owed. subst (λ (t : List Prepared). Begins now.within.link.contexts r.progress t (λ next. R next rs)
-    (map Send ps ++ rest)) (sym none) (ps, told, (rest, refl, owed)))
+    (rest : Option Left) (deeds : List Deed) → now.awaited ≡ Some (dues.Sending r)
+    → new ≡ record {
+      within = now.within;
+      sub = None;
+      stage = now.stage;
+      awaited = due_of rest None;
+      queue = now.queue;
+    }
+    → deeds ≡ map Send ps → r.left ≡ [] → EndsFirst r.progress ps rest → IfSome rest IsCut
+    → Turned titles now GoesOn deeds new
+ended_turn titles now new r ps rest deeds has is sent none told fits =
+    sends_turn titles now new r ps deeds None (due_of rest None) has is sent (first_data _ _ ps rest told)
+    (rest_answered rest) (rest_fits rest fits)
+    (λ R rs behind owed. subst (λ (t : List Prepared). Begins now.within.link.contexts r.progress t (λ next. R next rs)
+    (map Send ps ++ behind)) (sym none)
+    (let p = owed_rest now.within.link.contexts rest R (R None) rs behind owed in
+    (ps ++ p.0, in_parts _ _ ps p.0 rest told p.1, (p.2.0, then_is ps p.0 p.2.0 behind p.2.1, p.2.2))))
 
 pub sent_turn : (titles : List (Title View)) (now new : AssociationState) (r : Retrieval) (contexts : List Context)
-    (x : Prepared) (left : List Prepared) (way : Way) (ps : List Pdu) (sub : SubOperation) (deeds : List Deed)
-    → now.awaited ≡ Some (dues.Sending r)
-    → new ≡ record { within = now.within; sub = Some sub; stage = now.stage; awaited = None; queue = now.queue }
+    (x : Prepared) (left : List Prepared) (way : Way) (ps : List Pdu) (rest : Option Left) (sub : SubOperation)
+    (deeds : List Deed) → now.awaited ≡ Some (dues.Sending r)
+    → new ≡ record {
+      within = now.within;
+      sub = Some sub;
+      stage = now.stage;
+      awaited = due_of rest None;
+      queue = now.queue;
+    }
     → deeds ≡ map Send ps → contexts ≡ now.within.link.contexts → r.left ≡ x ∷ left → way_for contexts x ≡ Some way
-    → IsSending (sub_operation r.progress way x) r.progress.awaited.limit ps → sub ≡ sending r.progress x left
-    → Turned titles now GoesOn deeds new
-sent_turn titles now new r contexts x left way ps sub deeds has is sent same some there told sub_is =
+    → SendsFirst (sub_operation r.progress way x) r.progress.awaited.limit ps rest → sub ≡ sending r.progress x left
+    → IfSome rest IsCut → Turned titles now GoesOn deeds new
+sent_turn titles now new r contexts x left way ps rest sub deeds has is sent same some there told sub_is fits =
     let there_now : way_for now.within.link.contexts x ≡ Some way = ap (λ (cs : List Context). way_for cs x) (sym same)
     ∙ there in
-    sends_turn titles now new r ps deeds (Some sub) None has is sent (sending_data _ _ ps told) tt tt
-    (λ R rs rest owed. subst (λ (t : List Prepared). Begins now.within.link.contexts r.progress t (λ next. R next rs)
-    (map Send ps ++ rest)) (sym some)
+    sends_turn titles now new r ps deeds (Some sub) (due_of rest None) has is sent (first_data _ _ ps rest told)
+    (rest_answered rest) (rest_fits rest fits)
+    (λ R rs behind owed. subst (λ (t : List Prepared). Begins now.within.link.contexts r.progress t (λ next. R next rs)
+    (map Send ps ++ behind)) (sym some)
+    (let p = owed_rest now.within.link.contexts rest R (R (Some sub)) rs behind owed in
+    subst (λ (t : List Deed). Begins now.within.link.contexts r.progress (x ∷ left) (λ next. R next rs) t)
+    (sym (then_is ps p.0 p.2.0 behind p.2.1))
     (sent_begins (way_for now.within.link.contexts x) way now.within.link.contexts r.progress x left
-    (λ next. R next rs) ps rest there_now told
-    (subst (λ (s : SubOperation). R (Some s) rs rest) sub_is owed)))
+    (λ next. R next rs) (ps ++ p.0) p.2.0 there_now (in_parts _ _ ps p.0 rest told p.1)
+    (subst (λ (s : SubOperation). R (Some s) rs p.2.0) sub_is p.2.2))))
 
 pub unsent_turn : (titles : List (Title View)) (now new : AssociationState) (r : Retrieval) (contexts : List Context)
     (x : Prepared) (left : List Prepared) (ps : List Pdu) (next : Retrieval) (deeds : List Deed)
@@ -208,29 +232,6 @@ unsent_turn titles now new r contexts x left ps next deeds has is sent same some
     (unsent_begins (way_for now.within.link.contexts x) now.within.link.contexts r.progress x left (λ n. R n rs) ps rest
     there_now told
     (subst (λ (n : Retrieval). Begins now.within.link.contexts n.progress n.left (λ k. R k rs) rest) next_is owed)))
-
--- ---- what is left becomes fewer
-
-pub fewer_none : (now new : AssociationState) (r : Retrieval) → now.awaited ≡ Some (dues.Sending r) → new.awaited ≡ None
-    → new.queue ≡ now.queue → IsFewer GoesOn now new
-fewer_none now new r has none queue =
-    subst (λ (o : Option Due). FewerFor o now new) (sym has) (
-      queue,
-      subst (λ (o : Option Due). left_of new.awaited < left_of o) (sym has)
-          (subst (λ (o : Option Due). left_of o < suc (length r.left)) (sym none) (omega arith)),
-    )
-
-pub fewer_one : (now new : AssociationState) (r next : Retrieval) (x : Prepared) (left : List Prepared)
-    → now.awaited ≡ Some (dues.Sending r) → new.awaited ≡ Some (dues.Sending next) → new.queue ≡ now.queue
-    → r.left ≡ x ∷ left → next.left ≡ left → IsFewer GoesOn now new
-fewer_one now new r next x left has due queue some rest =
-    let one : length r.left ≡ suc (length left) = ap length some in
-    let other : length next.left ≡ length left = ap length rest in
-    subst (λ (o : Option Due). FewerFor o now new) (sym has) (
-      queue,
-      subst (λ (o : Option Due). left_of new.awaited < left_of o) (sym has)
-          (subst (λ (o : Option Due). left_of o < suc (length r.left)) (sym due) (omega (arith, one, other))),
-    )
 
 -- ---- what is heard within a C-GET
 
@@ -282,41 +283,72 @@ attended_broken titles now mid new m sub deeds opened idle has means is sent nex
     answered_broken titles now mid new m deeds opened idle is sent next
     (λ abort gets gone rs rest p. attends_as now.sub sub Unawaited now.within m abort gets gone rs rest has means p)
 
-goes_on_by : (next : Option Retrieval) (contexts : List Context) (gets : GoesBy) (rs : List Reply) (rest : List Deed)
-    → OwedFor contexts (due_of next) gets (gets None) rs rest → GoesOnBy next contexts gets rs rest
-goes_on_by None contexts gets rs rest owed = owed
-goes_on_by (Some r) contexts gets rs rest owed = owed
+goes_on_by : (next : Option Retrieval) (contexts : List Context) (gets : GoesBy) (rs : List Reply) (deeds : List Deed)
+    → OwedFor contexts (due_of None next) gets (gets None) rs deeds → GoesOnBy next contexts gets rs deeds
+goes_on_by None contexts gets rs deeds owed = owed
+goes_on_by (Some r) contexts gets rs deeds owed = owed
 
-due_answered : (next : Option Retrieval) → IsAnswered (due_of next)
-due_answered None = tt
-due_answered (Some r) = tt
+-- behind its first PDUs what is left of the response, and then what goes on
+performs_by : (cancelled : Bool) (g : Progress) (left : List Prepared) (first : List Pdu) (rest : Option Left)
+    (next : Option Retrieval) (contexts : List Context) (gets : GoesBy) (rs : List Reply) (deeds : List Deed)
+    → RespondsFirst cancelled g left first rest next → OwedFor contexts (due_of rest next) gets (gets None) rs deeds
+    → (ps : List Pdu) × (after : Option Retrieval) × RespondsBy cancelled g left ps after
+    × Then (map Send ps) (GoesOnBy after contexts gets rs) (map Send first ++ deeds)
+performs_by true g left first rest next contexts gets rs deeds told owed =
+    let p = owed_rest contexts rest gets (gets None) rs deeds
+    (subst (λ (n : Option Retrieval). OwedFor contexts (due_of rest n) gets (gets None) rs deeds) told.1 owed) in (
+      first ++ p.0,
+      None,
+      (in_parts _ _ first p.0 rest told.0 p.1, refl),
+      (p.2.0, then_is first p.0 p.2.0 deeds p.2.1, p.2.2),
+    )
+performs_by false g left first rest next contexts gets rs deeds told owed = (
+  first,
+  next,
+  (told.0, told.2),
+  (
+    deeds,
+    refl,
+    goes_on_by next contexts gets rs deeds
+        (subst (λ (o : Option Left). OwedFor contexts (due_of o next) gets (gets None) rs deeds) told.1 owed),
+  ),
+)
 
-due_fits : (cancelled : Bool) (g : Progress) (left : List Prepared) (ps : List Pdu) (next : Option Retrieval)
-    → RespondsBy cancelled g left ps next → FitsLimit g.awaited.limit → Fits (due_of next)
-due_fits true g left ps next p fits = subst (λ (n : Option Retrieval). Fits (due_of n)) (sym p.1) tt
-due_fits false g left ps next p fits = subst (λ (n : Option Retrieval). Fits (due_of n)) (sym p.1) fits
+due_answered : (rest : Option Left) (next : Option Retrieval) → IsAnswered (due_of rest next)
+due_answered (Some left) next = tt
+due_answered None None = tt
+due_answered None (Some r) = tt
+
+due_fits : (cancelled : Bool) (g : Progress) (left : List Prepared) (ps : List Pdu) (rest : Option Left)
+    (next : Option Retrieval) → RespondsFirst cancelled g left ps rest next → IfSome rest IsCut
+    → FitsLimit g.awaited.limit → Fits (due_of rest next)
+due_fits true g left ps rest next p cut fits = subst (λ (n : Option Retrieval). Fits (due_of rest n)) (sym p.1)
+    (rest_fits rest cut)
+due_fits false g left ps rest next p cut fits = subst (λ (o : Option Left). Fits (due_of o next)) (sym p.1)
+    (subst (λ (n : Option Retrieval). Fits (due_of None n)) (sym p.2) fits)
 
 -- the response that is awaited
 pub attended_performed : (titles : List (Title View)) (now new : AssociationState) (m : Message) (sub : SubOperation)
-    (outcome : Outcome) (ps : List Pdu) (next : Option Retrieval) (deeds : List Deed)
+    (outcome : Outcome) (ps : List Pdu) (rest : Option Left) (next : Option Retrieval) (deeds : List Deed)
     → now.within.state ≡ Sta6 → now.awaited ≡ None → now.sub ≡ Some sub
     → meaning_of sub.progress m.command ≡ Performed outcome
     → new ≡ record {
       within = now.within;
       sub = None;
       stage = now.stage;
-      awaited = due_of next;
+      awaited = due_of rest next;
       queue = now.queue;
     }
-    → deeds ≡ map Send ps → RespondsBy sub.cancelled (performed sub outcome) sub.left ps next
-    → FitsLimit sub.progress.awaited.limit → Answered titles now m deeds new
-attended_performed titles now new m sub outcome ps next deeds opened idle has means is sent told fits =
-    answered_sent titles now new m deeds ps None (due_of next) opened idle is sent
-    (responds_by_data sub.cancelled (performed sub outcome) sub.left ps next told) (due_answered next)
-    (due_fits sub.cancelled (performed sub outcome) sub.left ps next told fits)
-    (λ abort gets gone rs rest owed. attends_as now.sub sub (Performed outcome) now.within m abort gets gone rs
-    (map Send ps ++ rest) has means
-    (ps, next, told, (rest, refl, goes_on_by next now.within.link.contexts gets rs rest owed)))
+    → deeds ≡ map Send ps → RespondsFirst sub.cancelled (performed sub outcome) sub.left ps rest next
+    → IfSome rest IsCut → FitsLimit sub.progress.awaited.limit → Answered titles now m deeds new
+attended_performed titles now new m sub outcome ps rest next deeds opened idle has means is sent told cut fits =
+    answered_sent titles now new m deeds ps None (due_of rest next) opened idle is sent
+    (responds_first_data sub.cancelled (performed sub outcome) sub.left ps rest next told) (due_answered rest next)
+    (due_fits sub.cancelled (performed sub outcome) sub.left ps rest next told cut fits)
+    (λ abort gets gone rs behind owed. attends_as now.sub sub (Performed outcome) now.within m abort gets gone rs
+    (map Send ps ++ behind) has means
+    (performs_by sub.cancelled (performed sub outcome) sub.left ps rest next now.within.link.contexts gets rs behind
+    told owed))
 
 -- ---- the state behind a turn, part by part
 

@@ -159,6 +159,10 @@ vr_in Implicit = None
 abbrev pub uid_list : List (List ℕ) → List ℕ
 uid_list uids = padded (0x55 ∷ 0x49 ∷ []) (join_with_byte 0x5c uids)
 
+-- the most bytes of the data set with the failed ones: eight before the longest value
+abbrev pub LONGEST_LIST : ℕ
+LONGEST_LIST = 0x100000006
+
 -- the data set with the failed ones, where there are any (PS3.7, 9.1.3.1.10)
 abbrev pub failed_text : Syntax → List (List ℕ) → List ℕ
 failed_text syntax uids =

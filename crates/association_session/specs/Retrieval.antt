@@ -9,6 +9,7 @@ use Rattle.dimse.specs.declared.command.TheConstants.{DATA_SET_FOLLOWS}
 use Rattle.dimse.specs.declared.message.Message.{Message}
 use Rattle.dimse.specs.declared.status.Status.{Status}
 use Rattle.dimse.specs.declared.status.Status.TheVariants.{Cancel, Pending}
+use Rattle.dimse.specs.Remainder.{Left, SendsFirst}
 use Rattle.dimse.specs.Response.{response_of}
 use Rattle.dimse.specs.Sending.{IsSending}
 use Rattle.dimse.specs.Status.{status_code}
@@ -195,17 +196,43 @@ RespondsBy false g left pdus next = RespondsIfLeft g left pdus × (next ≡ Some
 
 -- ---- one step
 
+-- the first PDUs of a response with these counts, and what is left of it then
+abbrev pub CountsFirst : Progress → Status → Option ℕ → Option (List ℕ) → List Pdu → Option Left → Type 0
+CountsFirst g status remaining body first rest =
+    SendsFirst (counting g status remaining body) g.awaited.limit first rest
+
+-- those of the last response, behind all of them
+abbrev pub EndsFirst : Progress → List Pdu → Option Left → Type 0
+EndsFirst g first rest = CountsFirst g (final_status g.counts) None (failed_set g.syntax g.counts.failed) first rest
+
+-- those of the last response, where a C-CANCEL was heard
+abbrev pub CancelsFirst : Progress → List Prepared → List Pdu → Option Left → Type 0
+CancelsFirst g left first rest = CountsFirst g Cancel (Some (length left)) (failed_set g.syntax g.counts.failed) first
+    rest
+
+-- what is responded first behind a sub-operation, what is left of that, and what goes on then
+abbrev pub RespondsFirst : Bool → Progress → List Prepared → List Pdu → Option Left → Option Retrieval → Type 0
+RespondsFirst true g left first rest next = CancelsFirst g left first rest × (next ≡ None)
+RespondsFirst false g left first rest next = RespondsIfLeft g left first × (rest ≡ None)
+    × (next ≡ Some (record { progress = g; left = left }))
+
 -- what one step begins: the last response; a sub-operation; or one that fails unsent, and what is left behind it
 abbrev pub Begins : List Context → Retrieval → Begun → Type 0
-Begins contexts r (Ended pdus) = (r.left ≡ []) × RespondsEnd r.progress pdus
-Begins contexts r (Sent pdus sub) = (p : Prepared) × (ps : List Prepared) × (way : Way) × (r.left ≡ p ∷ ps)
-    × (way_for contexts p ≡ Some way) × IsSending (sub_operation r.progress way p) r.progress.awaited.limit pdus
+Begins contexts r (Ended first rest) = (r.left ≡ []) × EndsFirst r.progress first rest
+Begins contexts r (Sent first rest sub) = (p : Prepared) × (ps : List Prepared) × (way : Way) × (r.left ≡ p ∷ ps)
+    × (way_for contexts p ≡ Some way)
+    × SendsFirst (sub_operation r.progress way p) r.progress.awaited.limit first rest
     × (sub ≡ sending r.progress p ps)
 Begins contexts r (Unsent pdus next) = (p : Prepared) × (ps : List Prepared) × (r.left ≡ p ∷ ps)
     × (way_for contexts p ≡ None) × RespondsIfLeft (failing r.progress p) ps pdus
     × (next ≡ record { progress = failing r.progress p; left = ps })
 
 abbrev pub pdus_begun : Begun → List Pdu
-pdus_begun (Ended pdus) = pdus
-pdus_begun (Sent pdus sub) = pdus
+pdus_begun (Ended first rest) = first
+pdus_begun (Sent first rest sub) = first
 pdus_begun (Unsent pdus next) = pdus
+
+abbrev pub rest_begun : Begun → Option Left
+rest_begun (Ended first rest) = rest
+rest_begun (Sent first rest sub) = rest
+rest_begun (Unsent pdus next) = None

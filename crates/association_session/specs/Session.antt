@@ -24,6 +24,7 @@ use Rattle.dimse.specs.declared.message.Message.{Message}
 use Rattle.dimse.specs.declared.status.Status.{Status}
 use Rattle.dimse.specs.Assembly.{Assembly}
 use Rattle.dimse.specs.Messages.{Run, HadMemory}
+use Rattle.dimse.specs.Remainder.{Left, SendsLeft}
 use Rattle.association_session.specs.declared.due.Due.{Due}
 use Rattle.association_session.specs.declared.due.Due.TheVariants as dues
 use Rattle.association_session.specs.declared.deed.Call.{Call}
@@ -42,7 +43,7 @@ use Rattle.association_session.specs.Response.{Awaited, Responds}
 use Rattle.association_session.specs.SubOperation.{SubOperation}
 use Rattle.association_session.specs.Row.{Link, Within, met, handed_on, opening, NO_LINK}
 use Rattle.association_session.specs.Talks.{Heard, Met, Said, Goes, GoesBy, FollowsStore, FollowsFind, FollowsGet}
-use Rattle.association_session.specs.Talks.{TellsRows, Begins, Talks, Leads}
+use Rattle.association_session.specs.Talks.{TellsRows, Begins, Talks, Leads, Then}
 use Rattle.archive_model.specs.declared.view.View.{View}
 
 -- ---- where a session is
@@ -90,6 +91,10 @@ settled_of (Some acceptor) = acceptor.settled
 
 -- ---- what is still to be done
 
+-- What is left of a message is sent, and then it goes on.
+abbrev pub SendsRest : Left → (List Deed → Type 0) → List Deed → Type 0
+SendsRest left Rest deeds = (pdus : List Pdu) × SendsLeft (Some left) pdus × Then (map Send pdus) Rest deeds
+
 abbrev pub OwedFor : List Context → Option Due → GoesBy → Goes → Goes
 OwedFor contexts None gets goes = goes
 OwedFor contexts (Some (dues.Store awaited)) gets goes = FollowsStore awaited goes
@@ -99,6 +104,7 @@ OwedFor contexts (Some (dues.Rows telling)) gets goes =
 OwedFor contexts (Some (dues.Get awaited syntax)) gets goes = FollowsGet contexts awaited syntax gets goes
 OwedFor contexts (Some (dues.Sending r)) gets goes =
     λ rs deeds. Begins contexts r.progress r.left (λ next. gets next rs) deeds
+OwedFor contexts (Some (dues.Rest left)) gets goes = λ rs deeds. SendsRest left (goes rs) deeds
 
 -- the same, at a place, with a sub-operation whose response is awaited
 abbrev pub OwedAt : List (Title View) → Within → Option SubOperation → Option Due → List Heard → Goes
@@ -123,18 +129,21 @@ Awaits (Store content) (Some (dues.Find awaited kind)) = ⊥
 Awaits (Store content) (Some (dues.Rows telling)) = ⊥
 Awaits (Store content) (Some (dues.Get awaited syntax)) = ⊥
 Awaits (Store content) (Some (dues.Sending r)) = ⊥
+Awaits (Store content) (Some (dues.Rest left)) = ⊥
 Awaits (Store content) None = ⊥
 Awaits (Find finding) (Some (dues.Find awaited kind)) = ⊤
 Awaits (Find finding) (Some (dues.Store awaited)) = ⊥
 Awaits (Find finding) (Some (dues.Rows telling)) = ⊥
 Awaits (Find finding) (Some (dues.Get awaited syntax)) = ⊥
 Awaits (Find finding) (Some (dues.Sending r)) = ⊥
+Awaits (Find finding) (Some (dues.Rest left)) = ⊥
 Awaits (Find finding) None = ⊥
 Awaits (Get getting) (Some (dues.Get awaited syntax)) = ⊤
 Awaits (Get getting) (Some (dues.Store awaited)) = ⊥
 Awaits (Get getting) (Some (dues.Find awaited kind)) = ⊥
 Awaits (Get getting) (Some (dues.Rows telling)) = ⊥
 Awaits (Get getting) (Some (dues.Sending r)) = ⊥
+Awaits (Get getting) (Some (dues.Rest left)) = ⊥
 Awaits (Get getting) None = ⊥
 
 -- A call is the last deed, and its reply is awaited. So is a close, and nothing is awaited.

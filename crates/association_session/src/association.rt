@@ -16,14 +16,16 @@ ghost use Rattle.association_session.specs.declared.deed.Moment.TheVariants.{InS
 ghost use Rattle.association_session.specs.declared.event.SessionEvent.TheVariants.{Heard, Replied, GoesOn};
 ghost use Rattle.association_session.specs.Row.{action_on, agreed_by, limit_in, deeds_of, values_of, row};
 ghost use Rattle.association_session.specs.declared.reply.Reply.TheVariants.{Stored, Found, Gotten};
-ghost use Rattle.association_session.specs.Due.{tells_rows, has_rows, is_sending};
+ghost use Rattle.association_session.specs.Due.{tells_rows, has_rows, is_sending, has_rest};
 ghost use Rattle.association_session.specs.Find.{RespondsRow};
 ghost use Rattle.association_session.specs.Session.{start, closed, is_left, is_in_turn, stage_by, IsTold, Answered, Turned, entered, IsWritable, IsSound, IsFewer, TellsSome, IsEnd};
 ghost use Rattle.archive_model.specs.declared.view.View.{View};
 
 use crate::awaited::Awaited;
 use crate::deed::{Call, Deed, Moment};
-use crate::due::{Due, RowKind, Rows, Telling, are_rows, are_sent, due_for, is_telling, takes};
+use crate::due::{
+    Due, RowKind, Rows, Telling, are_rows, are_sent, due_for, is_rest, is_telling, takes,
+};
 use crate::event::SessionEvent;
 use crate::find::{found, row_text};
 use crate::limit::limit_of;
@@ -294,7 +296,7 @@ impl Association {
         }
     }
 
-    /// Whether rows are told, or sub-operations begun.
+    /// Whether rows are told, sub-operations begun, or fragments sent.
     pub(crate) fn is_telling(&self) -> bool
         ensures { result ≡ tells_rows self.now.awaited }
     {
@@ -434,8 +436,8 @@ impl Association {
             }
             Meaning::Unawaited => self.abort(titles),
             Meaning::Performed(outcome) => {
-                let (pdus, next) = sub.perform(self.alloc, outcome)?;
-                self.awaited = due_for(next);
+                let (pdus, rest, next) = sub.perform(self.alloc, outcome)?;
+                self.awaited = due_for(rest, next);
                 sends(self.alloc, pdus)
             }
         }
@@ -567,12 +569,14 @@ impl Association {
         };
         retrieval.progress.awaited.see_room();
         match retrieval.begin(self.alloc, self.link.contexts())? {
-            Begun::Ended(pdus) => {
+            Begun::Ended(pdus, rest) => {
                 self.sub = None;
+                self.awaited = due_for(rest, None);
                 sends(self.alloc, pdus)
             }
-            Begun::Sent(pdus, sub) => {
+            Begun::Sent(pdus, rest, sub) => {
                 self.sub = Some(sub);
+                self.awaited = due_for(rest, None);
                 sends(self.alloc, pdus)
             }
             Begun::Unsent(pdus, retrieval) => {
@@ -580,6 +584,22 @@ impl Association {
                 sends(self.alloc, pdus)
             }
         }
+    }
+
+    /// Sends the next fragments of what is left of a message.
+    fn send_rest(&mut self) -> Result<ListOf<Deed>, AllocError>
+        requires { has_rest self.old.awaited ≡ true }
+        ensures turned { (titles : List (Title View)) → IfOk result (λ deeds.
+            Turned titles self.old GoesOn deeds self.new) }
+        ensures fewer { OnOk result (IsFewer GoesOn self.old self.new) }
+        ensures writable { IfOk result (All IsWritable) }
+    {
+        let Some(Due::Rest(remainder)) = self.awaited.take() else {
+            return Ok(ListOf::new(self.alloc));
+        };
+        let (pdus, rest) = remainder.next(self.alloc)?;
+        self.awaited = due_for(rest, None);
+        sends(self.alloc, pdus)
     }
 
     /// Tells the next of the rows that are left, and behind the last one ends them.
@@ -614,8 +634,8 @@ impl Association {
         Ok(deeds)
     }
 
-    /// Tells the rows that are left, begins the sub-operations that are left, or hears the values
-    /// that are left.
+    /// Tells the rows that are left, begins the sub-operations that are left, sends what is left of
+    /// a message, or hears the values that are left.
     fn go_on(&mut self, titles: &Titles<View>) -> Result<ListOf<Deed>, AllocError>
         requires { IsTrue (is_in_turn self.old GoesOn) }
         ensures turned { IfOk result (λ deeds.
@@ -628,6 +648,9 @@ impl Association {
         }
         if are_sent(&self.awaited) {
             return self.send_on();
+        }
+        if is_rest(&self.awaited) {
+            return self.send_rest();
         }
         self.hear_values(titles)
     }

@@ -1,13 +1,13 @@
 //! What is still to be told of the request that was served last (PS3.7, section 9.3).
 
 ghost use Rattle.std.specs.Prelude.{◌≡◌, ◌++◌, [], length, ◌==◌, None, option_to_list};
-ghost use Rattle.association_session.specs.Due.{takes_reply, is_telling as is_telling_due, has_rows, is_sending, due_of};
+ghost use Rattle.association_session.specs.Due.{takes_reply, is_telling as is_telling_due, has_rows, is_sending, has_rest, due_of};
 
 use crate::awaited::Awaited;
 use crate::reply::Reply;
 use crate::retrieval::Retrieval;
 use data_set::Syntax;
-use dimse::Status;
+use dimse::{Remainder, Status};
 use octets::ListOf;
 use query_model::Answer;
 use std::collections::VecDeque;
@@ -84,6 +84,8 @@ pub(crate) enum Due {
     Get(Awaited, Syntax),
     /// Sub-operations that are left.
     Sending(Retrieval),
+    /// What is left of a message that is sent.
+    Rest(Remainder),
 }
 
 /// Whether the port's reply is awaited, and is one of this kind.
@@ -102,10 +104,11 @@ pub(crate) fn takes(due: &Due, reply: &Reply) -> bool
         (Due::Get(_, _), Reply::Stored(_)) => false,
         (Due::Get(_, _), Reply::Found(_)) => false,
         (Due::Sending(_), _) => false,
+        (Due::Rest(_), _) => false,
     }
 }
 
-/// Whether rows are told or sub-operations begun, and no reply is awaited.
+/// Whether rows are told, sub-operations begun or fragments made, and no reply is awaited.
 pub(crate) fn is_telling(due: &Due) -> bool
     ensures { result ≡ is_telling_due due.now }
 {
@@ -115,6 +118,7 @@ pub(crate) fn is_telling(due: &Due) -> bool
         Due::Rows(_) => true,
         Due::Get(_, _) => false,
         Due::Sending(_) => true,
+        Due::Rest(_) => true,
     }
 }
 
@@ -132,10 +136,20 @@ pub(crate) fn are_sent(due: &Option<Due>) -> bool
     matches!(due, Some(Due::Sending(_)))
 }
 
-/// What goes on of a C-GET.
-pub(crate) fn due_for(retrieval: Option<Retrieval>) -> Option<Due>
-    ensures { result ≡ due_of retrieval }
+/// Whether something is left of a message that is sent.
+pub(crate) fn is_rest(due: &Option<Due>) -> bool
+    ensures { result ≡ has_rest due.now }
 {
+    matches!(due, Some(Due::Rest(_)))
+}
+
+/// What goes on of a C-GET: what is left of a message, or else the sub-operations that are left.
+pub(crate) fn due_for(rest: Option<Remainder>, retrieval: Option<Retrieval>) -> Option<Due>
+    ensures { result ≡ due_of rest retrieval }
+{
+    if let Some(rest) = rest {
+        return Some(Due::Rest(rest));
+    }
     match retrieval {
         None => None,
         Some(retrieval) => Some(Due::Sending(retrieval)),

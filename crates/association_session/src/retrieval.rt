@@ -1,11 +1,12 @@
 //! A C-GET whose sub-operations are performed (PS3.7, section 9.1.3; PS3.4, section C.4.3).
 
-ghost use Rattle.std.specs.Prelude.{◌≡◌, ◌<◌, ◌≤◌, IfOk, IfSome, All, length};
+ghost use Rattle.std.specs.Prelude.{◌≡◌, ◌<◌, ◌≤◌, IfOk, IfSome, All, length, None, Some};
 ghost use Rattle.pdu.specs.Spelling.{IsPdu};
-ghost use Rattle.dimse.specs.Sending.{IsSending};
+ghost use Rattle.dimse.specs.declared.status.Status.TheVariants.{Pending};
+ghost use Rattle.dimse.specs.Remainder.{IsCut, SendsFirst};
 ghost use Rattle.association_session.specs.Get.{all_counted, counted};
 ghost use Rattle.association_session.specs.SubOperation.{IsBound};
-ghost use Rattle.association_session.specs.Retrieval.{few_in, with_counts, with_sent, setting_out, counting, CountsIn, RespondsIfLeft, RespondsEnd, RespondsCancel, sub_operation, is_named, meaning_of, performed, cancelling, RespondsBy, Begins, pdus_begun};
+ghost use Rattle.association_session.specs.Retrieval.{few_in, with_counts, with_sent, setting_out, counting, CountsIn, CountsFirst, RespondsIfLeft, EndsFirst, CancelsFirst, sub_operation, is_named, meaning_of, performed, cancelling, RespondsFirst, Begins, pdus_begun, rest_begun};
 
 use crate::awaited::Awaited;
 use crate::counts::{Counts, Outcome, outcome_for};
@@ -14,7 +15,7 @@ use crate::way::{Way, way_for};
 use bytes::Bytes;
 use data_set::Syntax;
 use dictionary::{C_CANCEL_RQ, C_STORE_RQ, C_STORE_RSP};
-use dimse::{Command, DATA_SET_FOLLOWS, Message, Status, fragments};
+use dimse::{Command, DATA_SET_FOLLOWS, Message, Remainder, Status, first_fragments, fragments};
 use octets::{ListOf, Octets};
 use pdu::{Context, Pdu};
 use retrieve_model::Prepared;
@@ -106,10 +107,10 @@ fn names(id: Option<u16>, named: Option<u16>) -> bool
 /// What a step of a C-GET begins.
 #[derive(Drop)]
 pub(crate) enum Begun {
-    /// Nothing was left: these are the last response.
-    Ended(ListOf<Pdu>),
-    /// These bring the sub-operation, whose response is awaited.
-    Sent(ListOf<Pdu>, SubOperation),
+    /// Nothing was left: these come first of the last response, and this is left of it.
+    Ended(ListOf<Pdu>, Option<Remainder>),
+    /// These come first of the sub-operation, whose response is awaited, and this is left of it.
+    Sent(ListOf<Pdu>, Option<Remainder>, SubOperation),
     /// One failed unsent, which these tell, and this is left.
     Unsent(ListOf<Pdu>, Retrieval),
 }
@@ -141,21 +142,33 @@ impl Progress {
         })
     }
 
-    /// Its PDUs.
-    fn respond(
+    /// The PDUs of the pending response, where so many are left.
+    fn respond(&self, alloc: Global, left: u16) -> Result<ListOf<Pdu>, AllocError>
+        requires { all_counted self.now.counts ≤ MOST_SUB_OPERATIONS }
+        ensures sent { IfOk result (λ pdus. CountsIn self.now Pending (Some left) None pdus) }
+        ensures lawful { IfOk result (λ pdus. All IsPdu pdus) }
+    {
+        self.awaited.see_lawful();
+        let message = self.message(alloc, Status::Pending, Some(left), None)?;
+        Ok(ListOf::of(fragments(alloc, &message, self.awaited.limit)?))
+    }
+
+    /// The first PDUs of a response with these counts, and what is left of it.
+    fn respond_first(
         &self,
         alloc: Global,
         status: Status,
         remaining: Option<u16>,
         body: Option<Bytes>,
-    ) -> Result<ListOf<Pdu>, AllocError>
+    ) -> Result<(ListOf<Pdu>, Option<Remainder>), AllocError>
         requires { all_counted self.now.counts ≤ MOST_SUB_OPERATIONS }
-        ensures sent { IfOk result (λ pdus. CountsIn self.now status remaining body pdus) }
-        ensures lawful { IfOk result (λ pdus. All IsPdu pdus) }
+        ensures sent { IfOk result (λ x. CountsFirst self.now status remaining body x.0 x.1) }
+        ensures fits { IfOk result (λ x. IfSome x.1 IsCut) }
+        ensures lawful { IfOk result (λ x. All IsPdu x.0) }
     {
         self.awaited.see_lawful();
         let message = self.message(alloc, status, remaining, body)?;
-        Ok(ListOf::of(fragments(alloc, &message, self.awaited.limit)?))
+        first_fragments(alloc, &message, self.awaited.limit)
     }
 
     /// The pending response behind a sub-operation, where some are left.
@@ -171,31 +184,33 @@ impl Progress {
         if left.is_empty() {
             return Ok(ListOf::new(alloc));
         }
-        self.respond(alloc, Status::Pending, Some(left.len() as u16), None)
+        self.respond(alloc, left.len() as u16)
     }
 
-    /// The last response.
-    fn respond_end(&self, alloc: Global) -> Result<ListOf<Pdu>, AllocError>
+    /// The first PDUs of the last response, and what is left of it.
+    fn respond_end(&self, alloc: Global) -> Result<(ListOf<Pdu>, Option<Remainder>), AllocError>
         requires { all_counted self.now.counts ≤ MOST_SUB_OPERATIONS }
-        ensures sent { IfOk result (λ pdus. RespondsEnd self.now pdus) }
-        ensures lawful { IfOk result (λ pdus. All IsPdu pdus) }
+        ensures sent { IfOk result (λ x. EndsFirst self.now x.0 x.1) }
+        ensures fits { IfOk result (λ x. IfSome x.1 IsCut) }
+        ensures lawful { IfOk result (λ x. All IsPdu x.0) }
     {
         let failed = self.counts.failed_set(alloc, self.syntax)?;
-        self.respond(alloc, self.counts.status(), None, failed)
+        self.respond_first(alloc, self.counts.status(), None, failed)
     }
 
-    /// The last response, where the C-GET was cancelled.
+    /// The same, where the C-GET was cancelled.
     fn respond_cancel(
         &self,
         alloc: Global,
         left: &VecDeque<Prepared>,
-    ) -> Result<ListOf<Pdu>, AllocError>
+    ) -> Result<(ListOf<Pdu>, Option<Remainder>), AllocError>
         requires { IsBound self.now (length left.now.items) }
-        ensures sent { IfOk result (λ pdus. RespondsCancel self.now left.now.items pdus) }
-        ensures lawful { IfOk result (λ pdus. All IsPdu pdus) }
+        ensures sent { IfOk result (λ x. CancelsFirst self.now left.now.items x.0 x.1) }
+        ensures fits { IfOk result (λ x. IfSome x.1 IsCut) }
+        ensures lawful { IfOk result (λ x. All IsPdu x.0) }
     {
         let failed = self.counts.failed_set(alloc, self.syntax)?;
-        self.respond(alloc, Status::Cancel, Some(left.len() as u16), failed)
+        self.respond_first(alloc, Status::Cancel, Some(left.len() as u16), failed)
     }
 
     /// The C-STORE that sends an instance.
@@ -224,18 +239,24 @@ impl Progress {
         })
     }
 
-    /// Its PDUs.
-    fn bring(&self, alloc: Global, way: Way, prepared: &Prepared) -> Result<ListOf<Pdu>, AllocError>
+    /// Its first PDUs, and what is left of it.
+    fn bring(
+        &self,
+        alloc: Global,
+        way: Way,
+        prepared: &Prepared,
+    ) -> Result<(ListOf<Pdu>, Option<Remainder>), AllocError>
         requires { self.now.sent < MOST_SUB_OPERATIONS }
-        ensures sent { IfOk result (λ pdus. IsSending (sub_operation self.now way prepared.now)
-            self.now.awaited.limit pdus) }
-        ensures lawful { IfOk result (λ pdus. All IsPdu pdus) }
+        ensures sent { IfOk result (λ x. SendsFirst (sub_operation self.now way prepared.now)
+            self.now.awaited.limit x.0 x.1) }
+        ensures fits { IfOk result (λ x. IfSome x.1 IsCut) }
+        ensures lawful { IfOk result (λ x. All IsPdu x.0) }
     {
         self.awaited.see_lawful();
         // Its class and its instance are UIDs.
         let _body = prepared.content.body();
         let message = self.request(alloc, way, prepared)?;
-        Ok(ListOf::of(fragments(alloc, &message, self.awaited.limit)?))
+        first_fragments(alloc, &message, self.awaited.limit)
     }
 
     /// One sub-operation more is counted.
@@ -319,11 +340,13 @@ impl Retrieval {
     /// Begins the next sub-operation.
     pub(crate) fn begin(self, alloc: Global, contexts: &[Context]) -> Result<Begun, AllocError>
         ensures begun { IfOk result (Begins contexts.now self) }
+        ensures fits { IfOk result (λ begun. IfSome (rest_begun begun) IsCut) }
         ensures lawful { IfOk result (λ begun. All IsPdu (pdus_begun begun)) }
     {
         let Retrieval { progress, mut left } = self;
         let Some(prepared) = left.pop_front() else {
-            return Ok(Begun::Ended(progress.respond_end(alloc)?));
+            let (pdus, rest) = progress.respond_end(alloc)?;
+            return Ok(Begun::Ended(pdus, rest));
         };
         let instance = Octets::from_slice(alloc, prepared.instance())?;
         match way_for(contexts, prepared.class(), prepared.syntax()) {
@@ -333,14 +356,14 @@ impl Retrieval {
                 Ok(Begun::Unsent(pdus, Retrieval { progress, left }))
             }
             Some(way) => {
-                let pdus = progress.bring(alloc, way, &prepared)?;
+                let (pdus, rest) = progress.bring(alloc, way, &prepared)?;
                 let sub = SubOperation {
                     progress: progress.send(),
                     left,
                     instance,
                     cancelled: false,
                 };
-                Ok(Begun::Sent(pdus, sub))
+                Ok(Begun::Sent(pdus, rest, sub))
             }
         }
     }
@@ -380,14 +403,15 @@ impl SubOperation {
         }
     }
 
-    /// What is responded once it came to this, and what goes on then.
+    /// What is responded first once it came to this, what is left of that, and what goes on then.
     pub(crate) fn perform(
         self,
         alloc: Global,
         outcome: Outcome,
-    ) -> Result<(ListOf<Pdu>, Option<Retrieval>), AllocError>
+    ) -> Result<(ListOf<Pdu>, Option<Remainder>, Option<Retrieval>), AllocError>
         ensures told { IfOk result (λ x.
-            RespondsBy self.cancelled (performed self outcome) self.left x.0 x.1) }
+            RespondsFirst self.cancelled (performed self outcome) self.left x.0 x.1 x.2) }
+        ensures fits { IfOk result (λ x. IfSome x.1 IsCut) }
         ensures lawful { IfOk result (λ x. All IsPdu x.0) }
     {
         let SubOperation {
@@ -398,9 +422,10 @@ impl SubOperation {
         } = self;
         let progress = progress.count(outcome, instance)?;
         if cancelled {
-            return Ok((progress.respond_cancel(alloc, &left)?, None));
+            let (pdus, rest) = progress.respond_cancel(alloc, &left)?;
+            return Ok((pdus, rest, None));
         }
         let pdus = progress.respond_if_left(alloc, &left)?;
-        Ok((pdus, Some(Retrieval { progress, left })))
+        Ok((pdus, None, Some(Retrieval { progress, left })))
     }
 }

@@ -19,7 +19,8 @@ use ul_state::{Event, State, Titles};
 /// An association without its reader, its writer and its port.
 ///
 /// It asks the port for one thing at a time, and takes the reply before anything else. Rows are
-/// told some at a time, and before anything else is heard.
+/// told some at a time, and what a C-GET sends goes some fragments at a time, before anything else
+/// is heard.
 #[derive(Drop)]
 pub struct Session {
     alloc: Global,
@@ -100,7 +101,7 @@ impl Session {
         self.association.state()
     }
 
-    /// Whether rows are told on, or what is left of a P-DATA-TF is heard on, by
+    /// Whether rows are told on, a C-GET sends on, or what is left of a P-DATA-TF is heard on, by
     /// `SessionEvent::GoesOn`.
     pub fn goes_on(&self) -> bool
         ensures { result ≡ is_in_turn self.now.association GoesOn }
@@ -108,7 +109,7 @@ impl Session {
         self.association.is_in_turn(&SessionEvent::GoesOn)
     }
 
-    /// Whether rows are told on.
+    /// Whether rows are told on, or a C-GET sends on.
     pub fn is_telling(&self) -> bool
         ensures { result ≡ tells_rows self.now.association.awaited }
     {
@@ -130,8 +131,8 @@ impl Session {
     }
 
     /// Takes an event of the acceptor, or the port's reply to the call that was asked last, or
-    /// tells some of the rows that are left, or hears on what is left of a P-DATA-TF: up to the
-    /// end of one message.
+    /// tells some of the rows that are left, begins a sub-operation, sends some of the fragments
+    /// that are left, or hears on what is left of a P-DATA-TF: up to the end of one message.
     ///
     /// The deeds are for the caller to do in order. Where they end with a call, what comes next is
     /// its reply.

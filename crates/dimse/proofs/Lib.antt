@@ -10,3 +10,4 @@ pub mod FragmentLaws
 pub mod LawfulLaws
 pub mod CutLaws
 pub mod TotalLaws
+pub mod RemainderLaws

@@ -30,7 +30,7 @@ sent_fits : (max context : ℕ) (command last : Bool) (fragment : List ℕ) → 
 sent_fits max context command last fragment least most le =
     (λ e. absurd (omega (arith, e)), omega (arith, least, most, le, length-append fragment []))
 
-text_fits : (max context : ℕ) (command : Bool) (text : List ℕ) (pdus : List Pdu) → 8 ≤ max → max ≤ 65536
+pub text_fits : (max context : ℕ) (command : Bool) (text : List ℕ) (pdus : List Pdu) → 8 ≤ max → max ≤ 65536
     → Sends (size_of max) context command text pdus → AllByRecursion IsPdu pdus
 text_fits max context command text [] least most sends = absurd sends
 text_fits max context command text (p ∷ []) least most sends =

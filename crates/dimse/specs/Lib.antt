@@ -5,6 +5,7 @@ pub mod Elements
 pub mod Fault
 pub mod Messages
 pub mod Refusal
+pub mod Remainder
 pub mod Response
 pub mod Sending
 pub mod Status

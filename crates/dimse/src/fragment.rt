@@ -17,7 +17,7 @@ use std::alloc::{AllocError, Global};
 
 /// How long each fragment but the last of a text is: the largest even length that leaves room for
 /// the six bytes of its header.
-fn size_within(max: u32) -> usize
+pub(crate) fn size_within(max: u32) -> usize
     requires { 8 ≤ max }
     ensures size { result ≡ size_of max }
     ensures some { 0 < result }
@@ -26,7 +26,7 @@ fn size_within(max: u32) -> usize
 }
 
 /// A PDU with one fragment.
-fn pdu_with(
+pub(crate) fn pdu_with(
     alloc: Global,
     context: u8,
     command: bool,
@@ -46,7 +46,7 @@ fn pdu_with(
 }
 
 /// Appends the fragments of a text. No byte is copied.
-fn put_text(
+pub(crate) fn put_text(
     pdus: &mut Vec<Pdu>,
     alloc: Global,
     context: u8,

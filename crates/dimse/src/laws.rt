@@ -5,6 +5,7 @@ ghost use Rattle.std.specs.Prelude.{◌≡◌, ◌≢◌, ◌⊎◌, ◌∷◌, 
 ghost use Rattle.octets.specs.Bytes.{IsBytes};
 ghost use Rattle.pdu.specs.declared.pdv.Pdv.{Pdv};
 ghost use Rattle.pdu.specs.declared.context.Context.{Context};
+ghost use Rattle.pdu.specs.declared.value.Pdu.{Pdu};
 ghost use Rattle.dimse.specs.declared.command.Command.{Command};
 ghost use Rattle.dimse.specs.declared.message.Message.{Message};
 ghost use Rattle.dimse.specs.declared.fault.DimseFault.{DimseFault};
@@ -13,7 +14,9 @@ ghost use Rattle.dimse.specs.Assembly.{Assembly};
 ghost use Rattle.dimse.specs.Command.{Spells, IsCommand, HasRoom};
 ghost use Rattle.dimse.specs.Messages.{Splits, Ends, Run, fresh, messages, first_fault, HadMemory};
 ghost use Rattle.dimse.specs.Texts.{as_one, texts_in, AreFragments};
+ghost use Rattle.dimse.specs.Remainder.{Left, SendsFirst, SendsLeft};
 ghost use Rattle.dimse.specs.Response.{IsResponseTo};
+ghost use Rattle.dimse.specs.Sending.{IsSending};
 
 /// The messages are those that the fragments spell, and a fault comes only where its cause stands.
 pub fn messages_are_those_spelled()
@@ -77,4 +80,11 @@ pub fn a_response_can_be_written()
         IsCommand request → IsResponseTo request response → IsCommand response }
     ensures room { (request response : Command) →
         HasRoom request → IsResponseTo request response → HasRoom response }
+{}
+
+/// The PDUs of a message that is sent in parts are those of the message: the first ones, and behind
+/// them those in which what is left then goes.
+pub fn parts_are_the_message()
+    ensures { (m : Message) (max : ℕ) (first more : List Pdu) (left : Option Left) →
+        SendsFirst m max first left → SendsLeft left more → IsSending m max (first ++ more) }
 {}

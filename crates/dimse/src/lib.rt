@@ -1,8 +1,9 @@
 //! DIMSE messages: their command sets, and the fragments that they come in (PS3.7, PS3.8 annex E).
 //!
 //! A message is a command set and, where that announces one, a data set. Each is cut into fragments
-//! of presentation data values; `Assembler::feed` puts them together and `fragments` cuts them.
-//! Nothing here reads a socket, and no data set is read.
+//! of presentation data values; `Assembler::feed` puts them together and `fragments` cuts them, or
+//! `first_fragments` and then `Remainder::next`, some at a time. Nothing here reads a socket, and no
+//! data set is read.
 #![tactic(auto)]
 
 mod assembler;
@@ -15,6 +16,7 @@ mod laws;
 mod message;
 mod numbers;
 mod reader;
+mod remainder;
 mod response;
 mod status;
 mod uid;
@@ -30,10 +32,11 @@ pub use fragment::fragments;
 pub use laws::{
     a_cut_text_is_the_same_text, a_response_can_be_written, cuts_do_not_matter,
     each_text_has_an_outcome, messages_are_those_spelled, nothing_is_taken_after_a_fault,
-    what_is_spelled_is_answered,
+    parts_are_the_message, what_is_spelled_is_answered,
 };
 pub use message::Message;
 pub use numbers::limits_are_these;
 pub use reader::read_command;
+pub use remainder::{MOST_AT_ONCE, Remainder, first_fragments};
 pub use status::Status;
 pub use writer::write_command;

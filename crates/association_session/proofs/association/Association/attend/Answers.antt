@@ -11,12 +11,12 @@ pub returns-in_ok-pdus-in-Performed-clause-answered : goal.returns-in_ok-pdus-in
 returns-in_ok-pdus-in-Performed-clause-answered c =
     ok_map c.sends.result _ _
     (λ deeds sent. attended_performed c.args.titles.now.list c.args.self.now _ c.args.message c.in-Some.sub
-    c.in-Performed.outcome c.in_ok-pdus-in-Performed.pdus c.in_ok-pdus-in-Performed.next deeds c.requires.established
-    c.requires.idle (sym (at_sub _ _ c.self.view_is) ∙ sym c.take.ensures.value ∙ c.in-Some.is)
+    c.in-Performed.outcome c.in_ok-pdus-in-Performed.pdus c.in_ok-pdus-in-Performed.rest c.in_ok-pdus-in-Performed.next
+    deeds c.requires.established c.requires.idle (sym (at_sub _ _ c.self.view_is) ∙ sym c.take.ensures.value ∙ c.in-Some.is)
     (sym c.meaning-meaning.ensures ∙ c.in-Performed.is)
-    (state_is _ c.args.self.now None (due_of c.in_ok-pdus-in-Performed.next) (at_place _ _ c.self.view_is)
+    (state_is _ c.args.self.now None (due_of c.in_ok-pdus-in-Performed.rest c.in_ok-pdus-in-Performed.next) (at_place _ _ c.self.view_is)
     (at_stage _ _ c.self.view_is) (at_queue _ _ c.self.view_is) c.take.ensures.after c.due_for.ensures) sent
-    c.in_ok-pdus-in-Performed.ensures.told
+    c.in_ok-pdus-in-Performed.ensures.told c.in_ok-pdus-in-Performed.ensures.fits
     (subst (λ (s : SubOperation). FitsLimit s.progress.awaited.limit) c.sub.view_is c.see_room.ensures))
     c.sends.ensures
 

@@ -1,31 +1,49 @@
 use Rattle.std.proofs.Common.{Some, None, List, refl, ◌∙◌, sym, ap, subst}
-use Rattle.std.specs.Prelude.{All}
+use Rattle.std.specs.Prelude.{All, IfSome}
+use Rattle.dimse.specs.Remainder.{IsCut}
 use Rattle.pdu.specs.Spelling.{IsPdu}
 use Rattle.association_session.specs.declared.due.Due.{Due}
 use Rattle.association_session.specs.declared.due.Due.TheVariants as dues
 use Rattle.association_session.specs.declared.retrieval.Begun.{Begun}
 use Rattle.association_session.specs.declared.retrieval.Begun.TheVariants.{Ended, Sent, Unsent}
+use Rattle.association_session.specs.Due.{due_of}
 use Rattle.association_session.specs.Response.{FitsLimit}
-use Rattle.association_session.specs.Retrieval.{Begins, pdus_begun}
+use Rattle.association_session.specs.Retrieval.{Begins, pdus_begun, rest_begun}
 use Rattle.association_session.specs.SubOperation.{Retrieval}
-use Rattle.association_session.proofs.HearLaws.{ok_map, all_is, at_awaited, at_place, at_stage, at_queue, at_sub}
-use Rattle.association_session.proofs.HearLaws.{at_contexts}
+use Rattle.association_session.proofs.HearLaws.{ok_map, on_ok_map, all_is, at_awaited, at_place, at_stage, at_queue}
+use Rattle.association_session.proofs.HearLaws.{at_sub, at_contexts}
+use Rattle.association_session.proofs.RestLaws.{fewer_ended, fewer_sent, fewer_unsent}
 use Rattle.association_session.proofs.SendLaws.{ended_turn, sent_turn, unsent_turn, state_is}
 use Rattle.association_session.proofs.association.Association.send_on.Goals as goal
 
 -- Nothing was left: the last response is sent.
 pub returns-in-Ended-clause-turned : goal.returns-in-Ended-clause-turned
 returns-in-Ended-clause-turned c = λ titles.
-    let is : Begins c.contexts.result.now c.in-Some-Sending.retrieval (Ended c.in-Ended.pdus) =
+    let is : Begins c.contexts.result.now c.in-Some-Sending.retrieval (Ended c.in-Ended.pdus c.in-Ended.rest) =
     subst (λ (b : Begun). Begins c.contexts.result.now c.in-Some-Sending.retrieval b) c.in-Ended.is
     c.in_ok-pdus.ensures.begun in
     let has = sym (at_awaited _ _ c.self.view_is) ∙ sym c.take.ensures.value ∙ c.in-Some-Sending.is
     ∙ ap (λ (d : Due). Some d) c.in-Some-Sending.field-0-is in
     ok_map c.sends.result _ _
-    (λ deeds sent. ended_turn titles c.args.self.now _ c.in-Some-Sending.retrieval c.in-Ended.pdus deeds has
-    (state_is _ c.args.self.now None None (at_place _ _ c.self.view_is) (at_stage _ _ c.self.view_is)
-    (at_queue _ _ c.self.view_is)
-    refl c.take.ensures.after) sent is.0 is.1)
+    (λ deeds sent. ended_turn titles c.args.self.now _ c.in-Some-Sending.retrieval c.in-Ended.pdus c.in-Ended.rest deeds
+    has
+    (state_is _ c.args.self.now None (due_of c.in-Ended.rest None) (at_place _ _ c.self.view_is)
+    (at_stage _ _ c.self.view_is) (at_queue _ _ c.self.view_is)
+    refl c.due_for.ensures) sent is.0 is.1
+    (subst (λ (b : Begun). IfSome (rest_begun b) IsCut) c.in-Ended.is c.in_ok-pdus.ensures.fits))
+    c.sends.ensures
+
+-- The list of failed instances is no longer than is left.
+pub returns-in-Ended-clause-fewer : goal.returns-in-Ended-clause-fewer
+returns-in-Ended-clause-fewer c =
+    let is : Begins c.contexts.result.now c.in-Some-Sending.retrieval (Ended c.in-Ended.pdus c.in-Ended.rest) =
+    subst (λ (b : Begun). Begins c.contexts.result.now c.in-Some-Sending.retrieval b) c.in-Ended.is
+    c.in_ok-pdus.ensures.begun in
+    let has = sym (at_awaited _ _ c.self.view_is) ∙ sym c.take.ensures.value ∙ c.in-Some-Sending.is
+    ∙ ap (λ (d : Due). Some d) c.in-Some-Sending.field-0-is in
+    ok_map c.sends.result _ _
+    (λ deeds sent. fewer_ended c.args.self.now _ c.in-Some-Sending.retrieval _ _ c.in-Ended.rest has c.due_for.ensures
+    (at_queue _ _ c.self.view_is) is.1.data_set)
     c.sends.ensures
 
 -- Each PDU of it can be written.
@@ -37,17 +55,31 @@ returns-in-Ended-clause-writable c =
 -- A sub-operation is sent, and its response is awaited.
 pub returns-in-Sent-clause-turned : goal.returns-in-Sent-clause-turned
 returns-in-Sent-clause-turned c = λ titles.
-    let is : Begins c.contexts.result.now c.in-Some-Sending.retrieval (Sent c.in-Sent.pdus c.in-Sent.sub) =
-    subst (λ (b : Begun). Begins c.contexts.result.now c.in-Some-Sending.retrieval b) c.in-Sent.is
+    let is : Begins c.contexts.result.now c.in-Some-Sending.retrieval (Sent c.in-Sent.pdus c.in-Sent.rest c.in-Sent.sub)
+    = subst (λ (b : Begun). Begins c.contexts.result.now c.in-Some-Sending.retrieval b) c.in-Sent.is
     c.in_ok-pdus.ensures.begun in
     let has = sym (at_awaited _ _ c.self.view_is) ∙ sym c.take.ensures.value ∙ c.in-Some-Sending.is
     ∙ ap (λ (d : Due). Some d) c.in-Some-Sending.field-0-is in
     ok_map c.sends-in-Sent.result _ _
     (λ deeds sent. sent_turn titles c.args.self.now _ c.in-Some-Sending.retrieval c.contexts.result.now
-    is.0 is.1 is.2 c.in-Sent.pdus c.in-Sent.sub deeds has
-    (state_is _ c.args.self.now (Some c.in-Sent.sub) None (at_place _ _ c.self.view_is) (at_stage _ _ c.self.view_is)
-    (at_queue _ _ c.self.view_is)
-    refl c.take.ensures.after) sent (c.contexts.ensures ∙ at_contexts _ _ c.self.view_is) is.3 is.4 is.5 is.6)
+    is.0 is.1 is.2 c.in-Sent.pdus c.in-Sent.rest c.in-Sent.sub deeds has
+    (state_is _ c.args.self.now (Some c.in-Sent.sub) (due_of c.in-Sent.rest None) (at_place _ _ c.self.view_is)
+    (at_stage _ _ c.self.view_is) (at_queue _ _ c.self.view_is)
+    refl c.due_for-in-Sent.ensures) sent (c.contexts.ensures ∙ at_contexts _ _ c.self.view_is) is.3 is.4 is.5 is.6
+    (subst (λ (b : Begun). IfSome (rest_begun b) IsCut) c.in-Sent.is c.in_ok-pdus.ensures.fits))
+    c.sends-in-Sent.ensures
+
+-- What is left of it is less than all that was left.
+pub returns-in-Sent-clause-fewer : goal.returns-in-Sent-clause-fewer
+returns-in-Sent-clause-fewer c =
+    let is : Begins c.contexts.result.now c.in-Some-Sending.retrieval (Sent c.in-Sent.pdus c.in-Sent.rest c.in-Sent.sub)
+    = subst (λ (b : Begun). Begins c.contexts.result.now c.in-Some-Sending.retrieval b) c.in-Sent.is
+    c.in_ok-pdus.ensures.begun in
+    let has = sym (at_awaited _ _ c.self.view_is) ∙ sym c.take.ensures.value ∙ c.in-Some-Sending.is
+    ∙ ap (λ (d : Due). Some d) c.in-Some-Sending.field-0-is in
+    ok_map c.sends-in-Sent.result _ _
+    (λ deeds sent. fewer_sent c.args.self.now _ c.in-Some-Sending.retrieval _ _ is.2.form is.0 is.1 c.in-Sent.rest has
+    c.due_for-in-Sent.ensures (at_queue _ _ c.self.view_is) is.3 is.5.data_set)
     c.sends-in-Sent.ensures
 
 -- Each PDU of it can be written.
@@ -71,6 +103,19 @@ returns-in-Unsent-clause-turned c = λ titles.
     (at_place _ _ c.self.view_is) (at_stage _ _ c.self.view_is) (at_queue _ _ c.self.view_is)
     (at_sub _ _ c.self.view_is) refl) sent (c.contexts.ensures ∙ at_contexts _ _ c.self.view_is) is.2 is.3 is.4 is.5
     (subst (λ (r : Retrieval). FitsLimit r.progress.awaited.limit) c.retrieval.view_is c.see_room.ensures))
+    c.sends-in-Unsent.ensures
+
+-- One instance less is left.
+pub returns-in-Unsent-clause-fewer : goal.returns-in-Unsent-clause-fewer
+returns-in-Unsent-clause-fewer c =
+    let is : Begins c.contexts.result.now c.in-Some-Sending.retrieval (Unsent c.in-Unsent.pdus c.in-Unsent.retrieval) =
+    subst (λ (b : Begun). Begins c.contexts.result.now c.in-Some-Sending.retrieval b) c.in-Unsent.is
+    c.in_ok-pdus.ensures.begun in
+    let has = sym (at_awaited _ _ c.self.view_is) ∙ sym c.take.ensures.value ∙ c.in-Some-Sending.is
+    ∙ ap (λ (d : Due). Some d) c.in-Some-Sending.field-0-is in
+    ok_map c.sends-in-Unsent.result _ _
+    (λ deeds sent. fewer_unsent c.args.self.now _ c.in-Some-Sending.retrieval c.in-Unsent.retrieval is.0 is.1 has
+    refl (at_queue _ _ c.self.view_is) is.2 (ap (λ (r : Retrieval). r.left) is.5))
     c.sends-in-Unsent.ensures
 
 -- Each PDU of it can be written.

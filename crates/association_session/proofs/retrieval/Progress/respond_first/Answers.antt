@@ -1,0 +1,7 @@
+use Rattle.association_session.proofs.UidLaws.{counting_whole}
+use Rattle.association_session.proofs.retrieval.Progress.respond_first.Goals as goal
+
+-- The response is lawful, and announces a data set where it has one.
+pub first_fragments-requires-clause-whole : goal.first_fragments-requires-clause-whole
+first_fragments-requires-clause-whole c = counting_whole c.args.self.now c.args.status c.args.remaining c.args.body
+    c.in_ok-message.message c.see_lawful.ensures c.in_ok-message.ensures
