@@ -218,8 +218,8 @@ fn say_where<R: Print>(rt: &R, serving: Serving<'_>) -> Printed<()> {
     Ok(())
 }
 
-/// Serves the operations in a file, until each worker has accepted what it may and each exchange was
-/// served.
+/// Serves the operations in a file, until each worker has accepted what it may and each exchange
+/// was served.
 ///
 /// It prints where it listens once it does, and at the end how many associations were accepted.
 /// Refusals come in this order: the shelf, the site, the hub, the listeners; behind them the first

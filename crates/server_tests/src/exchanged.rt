@@ -57,8 +57,8 @@ fn exchanged<R: Net<Listener = TcpListener, Stream = TcpStream>>(
     Ok((site, ended?))
 }
 
-/// Exchanges with one server after another. It says the site, and how many operations came that were
-/// new.
+/// Exchanges with one server after another. It says the site, and how many operations came that
+/// were new.
 fn relayed<R: Net<Listener = TcpListener, Stream = TcpStream>>(
     rt: &R,
     alloc: Global,
@@ -189,7 +189,8 @@ fn with_correction(alloc: Global, shelf: &mut Shelf<MemStore>) -> Result<Site, F
     Ok(site)
 }
 
-/// A server has an image, and a site a correction: afterwards both have both, also on their shelves.
+/// A server has an image, and a site a correction: afterwards both have both, also on their
+/// shelves.
 #[test]
 fn a_site_that_exchanges_with_a_server_has_what_it_has(rt: HostRuntime) -> Result<(), Fail> {
     let alloc = rt.alloc();

@@ -41,7 +41,8 @@ fn exchange_with<E: AtOpening, K: Keep, R: Source, W: Sink>(
     (holder.into_site(), ended)
 }
 
-/// Takes part in an exchange with a site whose operations stand on a shelf, and gives the site back.
+/// Takes part in an exchange with a site whose operations stand on a shelf, and gives the site
+/// back.
 ///
 /// The faults are those of `run_exchange`: `Refused` where the shelf refused for another cause than
 /// memory, or has another operation under an equal digest.

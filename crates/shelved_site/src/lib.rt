@@ -1,5 +1,5 @@
-//! A site whose operations stand on a shelf: what the shelf makes of the site at a start, the report
-//! of both, and corrections, which the site's hub stamps and the shelf then keeps.
+//! A site whose operations stand on a shelf: what the shelf makes of the site at a start, the
+//! report of both, and corrections, which the site's hub stamps and the shelf then keeps.
 //!
 //! Nothing here opens a file: each call takes the shelf that its caller opened.
 #![tactic(auto)]

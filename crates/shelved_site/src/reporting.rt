@@ -17,7 +17,8 @@ use std::alloc::Global;
 /// The kind of a correction of a series, as the shelf counts it.
 const SERIES: u8 = 3;
 
-/// How many operations there are of each kind, and which SOP Instance UIDs have two contents or more.
+/// How many operations there are of each kind, and which SOP Instance UIDs have two contents or
+/// more.
 #[derive(Debug, Drop)]
 pub struct Report {
     pub counts: Counts,
