@@ -31,8 +31,8 @@ Example: archive correct ops.db --site 1 study 1.2.1 00100010 ROE^ANN";
 
 const SERVE: &str =
     "Serves the operations in FILE, which is made where it is not there, to C-ECHO, \
-    C-STORE and C-FIND under the called titles ARCHIVE, QUALITY and AUDIT, and ends once each \
-    worker has accepted what it may. With --rounds it also serves so many exchanges, in which \
+    C-STORE, C-FIND and C-GET under the called titles ARCHIVE, QUALITY and AUDIT, and ends once \
+    each worker has accepted what it may. With --rounds it also serves so many exchanges, in which \
     another site calls by `archive exchange`
 
 Example: archive serve ops.db --listen 127.0.0.1:11112 --workers 4 --each 1000 \
