@@ -52,18 +52,18 @@ def free_port():
 
 
 class Archive:
-    """A site that serves the file at a path, and exchanges where it is asked to."""
+    """A site that serves the file at a path, and exchanges where it is asked to; more options may follow."""
 
-    def __init__(self, program, path, exchanges):
-        self.program, self.path, self.process = program, path, None
+    def __init__(self, program, path, exchanges, *options):
+        self.program, self.path, self.process, self.options = program, path, None, options
         self.port, self.peer, self.exchanges = 0, "", exchanges
 
     def start(self):
         self.port, self.peer = free_port(), f"127.0.0.1:{free_port()}"
-        words = ["--exchange", self.peer, "--rounds", "100"] if self.exchanges else []
+        words = ["--exchange", self.peer, "--rounds", "1000"] if self.exchanges else []
         self.process = subprocess.Popen(
             [self.program, "serve", self.path, "--listen", f"127.0.0.1:{self.port}", "--workers", "4",
-             "--each", "100000", *words], stdout=subprocess.PIPE, stderr=subprocess.PIPE)
+             "--each", "100000", *words, *self.options], stdout=subprocess.PIPE, stderr=subprocess.PIPE)
         wanted = [f"listening 127.0.0.1:{self.port}\n"] + [f"exchanging {self.peer}\n"] * self.exchanges
         for line in wanted:
             found = self.process.stdout.readline().decode()

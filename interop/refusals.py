@@ -102,6 +102,14 @@ def try_words(refusals):
         refusals.refused(f"exchange --peer {address!r}", ["exchange", refusals.new(), "--peer", address], 2, None)
         refusals.refused(f"serve --exchange {address!r}", refusals.serve(
             refusals.new(), "", *SERVED, "--exchange", address, "--rounds", "1"), 2, None)
+        refusals.refused(f"serve --peer {address!r}", refusals.serve(
+            refusals.new(), "", *SERVED, "--peer", address), 2, None)
+    for network in ("10.0.0.0/33", "10.0.0", "10.0.0.0/", "10.0.0.256", "::1/128", "localhost"):
+        for option in ("--allow", "--exchange-allow"):
+            refusals.refused(f"serve {option} {network!r}", refusals.serve(
+                refusals.new(), "", *SERVED, option, network), 2, None)
+    many = [w for port in range(1, 33) for w in ("--peer", f"127.0.0.1:{port}")]
+    refusals.refused("serve with 32 peers", refusals.serve(refusals.new(), "", *SERVED, *many), 2, None)
     for words in ([], ["nothing"], ["serve"], ["report"], ["exchange", refusals.new()],
                   ["correct", refusals.new(), "--site", "0", "patient", "P1", "00100010", "A"],
                   ["correct", refusals.new(), "--site", "65536", "patient", "P1", "00100010", "A"],
@@ -169,8 +177,10 @@ def try_files(refusals):
     os.mkdir(refusals.path("closed"), 0o555)
     for file in ("unreadable", "unwritable", "closed/new"):
         for command, words in on_file(refusals, file):
+            # A file that is not there is made once the peer answers, and nobody does here.
+            line = "fault net 3" if (command, file) == ("exchange", "closed/new") else "fault shelf 1"
             if (command, file) != ("report", "closed/new"):
-                refusals.refused(f"{command} of a FILE without rights, {file}", words, 1, "fault shelf 1")
+                refusals.refused(f"{command} of a FILE without rights, {file}", words, 1, line)
 
 
 def try_addresses(refusals, archive):

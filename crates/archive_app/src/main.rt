@@ -2,14 +2,16 @@
 #![tactic(auto)]
 
 use anyhow::Result;
-use archive_commands::{Answered, answer, ending_of, status_of_refusal};
+use archive_commands::{Answered, answer};
 use command_line::read_words;
+use command_output::{ending_of, status_of_refusal};
 use std::io::{Print, Write};
 use std::net::{Net, TcpListener, TcpStream};
 use std::process::ExitCode;
 use std::rt::HostRuntime;
 use std::sync::Wait;
 use std::thread::Threads;
+use std::time::Clock;
 use std::{env, io};
 
 /// Prints an answer, or the line of its fault. It says the status.
@@ -28,7 +30,7 @@ fn told(rt: &HostRuntime, answered: Answered) -> Result<u8> {
     Ok(ending.status)
 }
 
-fn run<R: Net<Listener = TcpListener, Stream = TcpStream> + Threads + Wait + Print + Sync>(
+fn run<R: Net<Listener = TcpListener, Stream = TcpStream> + Threads + Wait + Clock + Print + Sync>(
     rt: &HostRuntime,
     host: &R,
 ) -> Result<u8> {

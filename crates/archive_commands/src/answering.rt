@@ -3,12 +3,12 @@
 ghost use Rattle.command_words.specs.Words.{IsInRange};
 
 use crate::correct::correct;
-use crate::ending::CommandFault;
 use crate::exchanging::exchange;
 use crate::report::report;
 use crate::serve::serve;
 use crate::simulate::answer_script;
 use anyhow::Result;
+use command_output::CommandFault;
 use command_words::Asked;
 use std::alloc::Global;
 use std::io::Print;
@@ -16,6 +16,7 @@ use std::net::{Net, TcpListener, TcpStream};
 use std::rt::HostRuntime;
 use std::sync::Wait;
 use std::thread::Threads;
+use std::time::Clock;
 
 /// What is left to print on standard output, or a fault.
 pub type Answered = std::result::Result<Vec<u8>, CommandFault>;
@@ -32,11 +33,9 @@ fn printed<T: Drop, E: Into<CommandFault> + Drop>(
 }
 
 /// Does what a command line asks for. It fails where standard output does.
-pub fn answer<R: Net<Listener = TcpListener, Stream = TcpStream> + Threads + Wait + Print + Sync>(
-    rt: &HostRuntime,
-    host: &R,
-    asked: Asked<'_>,
-) -> Result<Answered>
+pub fn answer<
+    R: Net<Listener = TcpListener, Stream = TcpStream> + Threads + Wait + Clock + Print + Sync,
+>(rt: &HostRuntime, host: &R, asked: Asked<'_>) -> Result<Answered>
     requires ranges { IsInRange asked }
 {
     match asked {
@@ -44,6 +43,6 @@ pub fn answer<R: Net<Listener = TcpListener, Stream = TcpStream> + Threads + Wai
         Asked::Report(file) => Ok(report(rt, file)),
         Asked::Correct(correcting) => Ok(correct(rt, host, correcting)),
         Asked::Exchange(exchanging) => Ok(exchange(rt, host, exchanging)),
-        Asked::Serve(serving) => Ok(printed(rt.alloc(), serve(rt, host, serving)?)),
+        Asked::Serve(serving) => Ok(printed(rt.alloc(), serve(rt, host, &serving)?)),
     }
 }

@@ -1,9 +1,8 @@
 //! `archive exchange`: exchanges the operations in a file with another site.
 
-use crate::ending::CommandFault;
-use crate::file::open_shelf;
-use crate::lines::lines_of_exchange;
+use crate::file::{is_new, open_shelf};
 use archive_server::NetFault;
+use command_output::{CommandFault, lines_of_exchange};
 use command_words::Exchanging;
 use devices::Counted;
 use shelved_exchange::exchange_on;
@@ -11,10 +10,21 @@ use shelved_site::site_of;
 use std::net::{Net, TcpListener, TcpStream};
 use std::rt::HostRuntime;
 
+fn connect_to<R: Net<Listener = TcpListener, Stream = TcpStream>>(
+    net: &R,
+    peer: &str,
+) -> Result<TcpStream, CommandFault> {
+    match TcpStream::connect(net, peer) {
+        Ok(stream) => Ok(stream),
+        Err(_refused) => Err(CommandFault::Net(NetFault::Connect)),
+    }
+}
+
 /// Exchanges the operations in a file with the site at an address, and says what came of it.
 ///
 /// What is taken is on the shelf before it counts as given, and stays there whatever comes after.
-/// Refusals come in this order: the shelf, the site, the connection, the exchange.
+/// Refusals come in this order: the shelf, the site, the connection, the exchange. Where the file
+/// is not there the connection comes first, so that no file is made where nobody answers.
 pub fn exchange<R: Net<Listener = TcpListener, Stream = TcpStream>>(
     rt: &HostRuntime,
     net: &R,
@@ -22,10 +32,15 @@ pub fn exchange<R: Net<Listener = TcpListener, Stream = TcpStream>>(
 ) -> Result<Vec<u8>, CommandFault> {
     let alloc = rt.alloc();
     let Exchanging { file, peer, role } = exchanging;
+    let connected = match is_new(rt, file) {
+        true => Some(connect_to(net, peer)?),
+        false => None,
+    };
     let mut shelf = open_shelf(rt, file)?;
     let site = site_of(alloc, shelf.all()?)?;
-    let Ok(stream) = TcpStream::connect(net, peer) else {
-        return Err(CommandFault::Net(NetFault::Connect));
+    let stream = match connected {
+        Some(stream) => stream,
+        None => connect_to(net, peer)?,
     };
     // A stream that refuses this serves as well.
     let _ = stream.set_nodelay(true);

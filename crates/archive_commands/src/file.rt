@@ -1,9 +1,10 @@
 //! The file of a site's shelf.
 
-use crate::ending::CommandFault;
+use command_output::CommandFault;
 use op_shelf::{Shelf, ShelfFault};
 use sqlite::{FileFrom, FileStore, Wary};
 use std::alloc::Global;
+use std::fs;
 use std::fs::File;
 use std::io::Read;
 use std::rt::HostRuntime;
@@ -24,6 +25,11 @@ fn is_other(rt: &HostRuntime, file: &str) -> bool {
         Ok(_) => !head.is_empty() && head.as_slice() != HEAD,
         Err(_unread) => false,
     }
+}
+
+/// Whether a file is not there, so that opening its shelf makes it.
+pub fn is_new(rt: &HostRuntime, file: &str) -> bool {
+    matches!(fs::exists(rt, file), Ok(false))
 }
 
 /// Opens the shelf in a file, which is made where it is not there. A file of another kind is

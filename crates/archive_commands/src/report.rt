@@ -1,12 +1,10 @@
 //! `archive report`: counts the operations in a file.
 
-use crate::ending::CommandFault;
-use crate::file::open_shelf;
-use crate::lines::lines_of;
+use crate::file::{is_new, open_shelf};
+use command_output::{CommandFault, lines_of};
 use shelved_site::{Report, report_of, report_on};
 use site_state::Site;
 use std::alloc::Global;
-use std::fs;
 use std::rt::HostRuntime;
 
 /// The report of no operations.
@@ -24,9 +22,10 @@ fn report_in(rt: &HostRuntime, file: &str) -> Result<Report, CommandFault> {
 /// The report of the operations in a file. One that is not there has none, and is not made.
 pub fn report(rt: &HostRuntime, file: &str) -> Result<Vec<u8>, CommandFault> {
     let alloc = rt.alloc();
-    let report = match fs::exists(rt, file) {
-        Ok(false) => report_of_none(alloc)?,
-        _ => report_in(rt, file)?,
+    let report = if is_new(rt, file) {
+        report_of_none(alloc)?
+    } else {
+        report_in(rt, file)?
     };
     Ok(lines_of(alloc, &report)?)
 }

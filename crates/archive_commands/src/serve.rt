@@ -1,15 +1,15 @@
 //! `archive serve`: serves the operations in a file to DICOM clients (PS3.8, section 9.1).
 
-ghost use Rattle.std.specs.Prelude.{◌≡◌, ◌≤◌, ◌<◌, vec_len};
+ghost use Rattle.std.specs.Prelude.{◌≡◌, ◌≤◌, ◌<◌, ◌+◌, not, ◌==◌, vec_len};
 ghost use Rattle.archive_server.specs.Serving.{places_for};
-ghost use Rattle.command_words.specs.Words.{HasWorkers};
+ghost use Rattle.command_words.specs.Words.{HasPlaces};
 
-use crate::ending::CommandFault;
-use crate::file::{FileShelf, open_shelf};
+use crate::file::{FileShelf, is_new, open_shelf};
 use anyhow::Result as Printed;
 use archive_model::View;
-use archive_server::{Exchanging, NetFault, ServeFault, Served, serve_on};
+use archive_server::{Entrance, Exchanging, NetFault, Peer, ServeFault, Served, serve_on};
 use association_run::OpenGate;
+use command_output::CommandFault;
 use command_words::Serving;
 use octets::{ListOf, Octets};
 use op_shelf::Shelf;
@@ -23,6 +23,7 @@ use std::net::{Net, TcpListener, TcpStream};
 use std::rt::HostRuntime;
 use std::sync::{Mutex, Wait};
 use std::thread::Threads;
+use std::time::{Clock, Duration};
 use ul_state::{Title, Titles};
 
 /// The number of the site of a server, which makes no correction.
@@ -86,36 +87,56 @@ fn close_hub<H: HubName, R: Wait>(
 }
 
 /// Where exchanges come in, and how many are served.
-fn exchanging_of<'a>(listening: &'a Listening, serving: Serving<'_>) -> Option<Exchanging<'a>> {
+fn exchanging_of<'a>(listening: &'a Listening, serving: &'a Serving<'_>) -> Option<Exchanging<'a>> {
     match &listening.exchanges {
         None => None,
         Some(listener) => Some(Exchanging {
-            listener,
+            entrance: Entrance {
+                listener,
+                allowed: serving.exchange_allowed.as_slice(),
+            },
             rounds: serving.rounds as u64,
         }),
     }
 }
 
-/// How many passes are left for workers, where one serves exchanges.
-fn workers_of(passes: usize, exchanges: bool) -> usize
-    ensures { 0 < result → passes ≡ places_for result exchanges }
+/// The peers, each called after so many seconds.
+fn peers_of<'a>(alloc: Global, serving: &'a Serving<'_>) -> Result<Vec<Peer<'a>>, AllocError> {
+    let every = Duration::from_secs(serving.every as u64);
+    let mut peers = Vec::new(alloc);
+    for address in serving.peers.iter() {
+        peers.push(Peer {
+            address: *address,
+            every,
+        })?;
+    }
+    Ok(peers)
+}
+
+/// How many passes are left for workers, where one serves exchanges and one calls each peer.
+fn workers_of(passes: usize, exchanges: bool, peers: usize) -> usize
+    ensures { 0 < result → passes ≡ places_for result exchanges peers }
 {
+    let rest = passes.saturating_sub(peers);
     if exchanges {
-        passes.saturating_sub(1)
+        rest.saturating_sub(1)
     } else {
-        passes
+        rest
     }
 }
 
 /// Serves in threads until each worker has accepted what it may and each exchange was served, and
 /// closes the hub.
-fn serve_hub<H: HubName + Send + Sync, R: Threads + Wait + Sync>(
+fn serve_hub<
+    H: HubName + Send + Sync,
+    R: Net<Listener = TcpListener, Stream = TcpStream> + Threads + Wait + Clock + Sync,
+>(
     rt: &R,
     alloc: Global,
     shelf: &mut FileShelf,
     opened: Opened<&R>,
     listening: &Listening,
-    serving: Serving<'_>,
+    serving: &Serving<'_>,
 ) -> Result<Count, CommandFault>
     requires book { opened.book ≡ H.book }
     requires number { opened.number ≡ H.number }
@@ -123,16 +144,20 @@ fn serve_hub<H: HubName + Send + Sync, R: Threads + Wait + Sync>(
     requires passes { opened.passes ≡ H.passes }
 {
     let titles = titles(alloc)?;
-    let listener = &listening.associations;
+    let entrance = Entrance {
+        listener: &listening.associations,
+        allowed: serving.allowed.as_slice(),
+    };
     let exchange = exchanging_of(listening, serving);
     let each = serving.each as u64;
+    let peers = peers_of(alloc, serving)?;
     let (keeper, passes) = match opened.named::<H>() {
         Ok(hub) => hub,
         Err(fault) => return Err(CommandFault::Hub(fault)),
     };
     // A keeper is dropped by the lock that holds it.
     let keeper = Mutex::new(keeper);
-    let workers = workers_of(passes.len(), exchange.is_some());
+    let workers = workers_of(passes.len(), exchange.is_some(), peers.len());
     if workers == 0 {
         return Err(CommandFault::Hub(HubFault::Torn));
     }
@@ -142,7 +167,17 @@ fn serve_hub<H: HubName + Send + Sync, R: Threads + Wait + Sync>(
         passes,
         fault,
     } = serve_on(
-        rt, alloc, listener, exchange, &titles, gates, each, &keeper, passes, shelf,
+        rt,
+        alloc,
+        entrance,
+        exchange,
+        peers.as_slice(),
+        &titles,
+        gates,
+        each,
+        &keeper,
+        passes,
+        shelf,
     );
     let closed = close_hub(keeper.into_inner(), passes);
     Ok(Count {
@@ -183,7 +218,7 @@ fn listener_of<R: Net<Listener = TcpListener, Stream = TcpStream>>(
 /// Listens, first for associations.
 fn listen_to<R: Net<Listener = TcpListener, Stream = TcpStream>>(
     rt: &R,
-    serving: Serving<'_>,
+    serving: &Serving<'_>,
 ) -> Result<Listening, CommandFault> {
     let Ok(associations) = TcpListener::bind(rt, serving.listen) else {
         return Err(CommandFault::Net(NetFault::Listen));
@@ -194,12 +229,12 @@ fn listen_to<R: Net<Listener = TcpListener, Stream = TcpStream>>(
     })
 }
 
-/// A pass for each worker, and one for exchanges where some are to be served.
-fn passes_for(serving: Serving<'_>) -> usize
-    requires workers { HasWorkers serving }
+/// A pass for each worker, one for exchanges where some are to be served, and one for each peer.
+fn passes_for(serving: &Serving<'_>) -> usize
+    requires places { HasPlaces serving.now }
     ensures { (1 ≤ result) × (result ≤ 64) }
 {
-    let workers = serving.workers as usize;
+    let workers = serving.workers as usize + serving.peers.len();
     if serving.rounds == 0 {
         workers
     } else {
@@ -208,7 +243,7 @@ fn passes_for(serving: Serving<'_>) -> usize
 }
 
 /// Prints where the program listens.
-fn say_where<R: Print>(rt: &R, serving: Serving<'_>) -> Printed<()> {
+fn say_where<R: Print>(rt: &R, serving: &Serving<'_>) -> Printed<()> {
     let listen = serving.listen;
     println!(rt; "listening {listen}")?;
     if serving.rounds != 0 {
@@ -218,29 +253,42 @@ fn say_where<R: Print>(rt: &R, serving: Serving<'_>) -> Printed<()> {
     Ok(())
 }
 
+/// Opens a site's shelf and hub, and listens. Where the file is not there listening comes first, so
+/// that no file is made where nobody can listen.
+fn open_site<'r, R: Net<Listener = TcpListener, Stream = TcpStream> + Wait>(
+    host: &HostRuntime,
+    rt: &'r R,
+    serving: &Serving<'_>,
+) -> Result<(FileShelf, Opened<&'r R>, Listening), CommandFault>
+    requires places { HasPlaces serving.now }
+{
+    let listening = match is_new(host, serving.file) {
+        true => Some(listen_to(rt, serving)?),
+        false => None,
+    };
+    let mut shelf = open_shelf(host, serving.file)?;
+    let opened = hub_of(rt, host.alloc(), &mut shelf, passes_for(serving))?;
+    let listening = match listening {
+        Some(listening) => listening,
+        None => listen_to(rt, serving)?,
+    };
+    Ok((shelf, opened, listening))
+}
+
 /// Serves the operations in a file, until each worker has accepted what it may and each exchange
-/// was served.
+/// was served. Meanwhile it calls its peers.
 ///
 /// It prints where it listens once it does, and at the end how many associations were accepted.
 /// Refusals come in this order: the shelf, the site, the hub, the listeners; behind them the first
-/// fault of an association or an accept, and that of an exchange.
-pub fn serve<R: Net<Listener = TcpListener, Stream = TcpStream> + Threads + Wait + Print + Sync>(
-    host: &HostRuntime,
-    rt: &R,
-    serving: Serving<'_>,
-) -> Printed<Result<(), CommandFault>>
-    requires workers { HasWorkers serving }
+/// fault of an association or an accept, and that of an exchange. Where the file is not there the
+/// listeners come first.
+pub fn serve<
+    R: Net<Listener = TcpListener, Stream = TcpStream> + Threads + Wait + Clock + Print + Sync,
+>(host: &HostRuntime, rt: &R, serving: &Serving<'_>) -> Printed<Result<(), CommandFault>>
+    requires places { HasPlaces serving.now }
 {
-    let mut shelf = match open_shelf(host, serving.file) {
-        Ok(shelf) => shelf,
-        Err(fault) => return Ok(Err(fault)),
-    };
-    let opened = match hub_of(rt, host.alloc(), &mut shelf, passes_for(serving)) {
-        Ok(opened) => opened,
-        Err(fault) => return Ok(Err(fault)),
-    };
-    let listening = match listen_to(rt, serving) {
-        Ok(listening) => listening,
+    let (mut shelf, opened, listening) = match open_site(host, rt, serving) {
+        Ok(site) => site,
         Err(fault) => return Ok(Err(fault)),
     };
     say_where(rt, serving)?;

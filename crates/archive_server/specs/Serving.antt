@@ -1,7 +1,8 @@
 -- What passes gain while they serve, and how many passes a server takes.
-use Rattle.std.specs.Prelude.{ℕ, ◌+◌, List, [], ◌∷◌, Bool, true, false}
+use Rattle.std.specs.Prelude.{ℕ, ◌+◌, min, ◌≤◌, ◌≡◌, ◌⊎◌, suc, List, [], ◌∷◌, Bool, true, false, Option, IsSome}
 use Rattle.operation.specs.declared.op.Op.{Op}
 use Rattle.site_hub.specs.Hub.{Seat}
+use Rattle.archive_server.specs.declared.fault.ServeFault.{ServeFault}
 pub use Rattle.shelved_exchange.specs.Putting.{WasPut, WerePut}
 pub use Rattle.hub_exchange.specs.Onward.{IsOnward}
 
@@ -13,7 +14,22 @@ AllOnward is_up holds lasts [] (y ∷ ys) = ⊥
 AllOnward is_up holds lasts (x ∷ xs) [] = ⊥
 AllOnward is_up holds lasts (x ∷ xs) (y ∷ ys) = IsOnward is_up holds lasts x y × AllOnward is_up holds lasts xs ys
 
--- a pass for each gate, and one more where exchanges are served
-abbrev pub places_for : ℕ → Bool → ℕ
-places_for gates false = gates
-places_for gates true = gates + 1
+-- What a thread comes back with: its pass has gone on, and it has accepted all that it may, or tells a fault.
+pub record HasServed {K : Type 0} (is_up : K → Type 0) (holds lasts : K → Op → Type 0) (before after : Seat)
+    (limit accepted : ℕ) (fault : Option ServeFault) : Type 0 where
+  pub onward : IsOnward is_up holds lasts before after
+  pub most : accepted ≤ limit
+  pub all : IsSome fault ⊎ (accepted ≡ limit)
+
+-- What all threads come back with: each pass in its place has gone on, and no more was accepted than may be. Where no
+-- fault is told all was, as far as a u64 counts.
+pub record HaveServed {K : Type 0} (is_up : K → Type 0) (holds lasts : K → Op → Type 0) (before after : List Seat)
+    (limit accepted : ℕ) (fault : Option ServeFault) : Type 0 where
+  pub onward : AllOnward is_up holds lasts before after
+  pub most : accepted ≤ limit
+  pub all : IsSome fault ⊎ (accepted ≡ min limit 18446744073709551615)
+
+-- a pass for each gate, one more where exchanges are served, and one for each peer
+abbrev pub places_for : ℕ → Bool → ℕ → ℕ
+places_for gates false peers = gates + peers
+places_for gates true peers = suc gates + peers

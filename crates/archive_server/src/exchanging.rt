@@ -1,12 +1,13 @@
 //! The thread of exchanges: it accepts so many on a listener of its own, with the last pass.
 
 ghost use Rattle.std.specs.Prelude.{◌≡◌, ◌+◌, ◌-◌, ◌<◌, ◌^◌, ◌⊎◌, Some, IfSome, IsSome};
-ghost use Rattle.archive_server.specs.Serving.{IsOnward};
+ghost use Rattle.archive_server.specs.Serving.{IsOnward, HasServed};
 
+use crate::entrance::{Entrance, accept_from};
 use crate::fault::ServeFault;
 use crate::keeping::Asking;
-use crate::message::Request;
-use crate::worker::{Done, Hall, idle, with_none};
+use crate::message::{Desk, Request};
+use crate::worker::{Done, Hall, idle, turned_away, with_none};
 use association_worker::AtEntry;
 use crossbeam_channel::Sender;
 use devices::Counted;
@@ -16,14 +17,14 @@ use hub_exchange::HubHolder;
 use op_shelf::Keep;
 use site_hub::{HubName, Pass, Snapshot as Shown};
 use std::marker::Brand;
-use std::net::{TcpListener, TcpStream};
+use std::net::TcpStream;
 use std::sync::Wait;
 use std::sync::atomic::Ordering;
 
 /// Where exchanges come in, and how many connections are served.
 #[derive(Clone, Copy)]
 pub struct Exchanging<'a> {
-    pub listener: &'a TcpListener,
+    pub entrance: Entrance<'a>,
     pub rounds: u64,
 }
 
@@ -34,11 +35,12 @@ type Held<'a, 'b, H, R, S, K, E> = HubHolder<'a, 'b, H, Shown<H>, R, S, K, Askin
 fn converse<E: AtEntry, H: HubName, R: Wait + Drop, S: Wait, K: Keep>(
     hall: &Hall<'_, H, Shown<H>, R, S>,
     stream: &TcpStream,
+    role: Role,
     holder: &mut Held<'_, '_, H, R, S, K, E>,
 ) -> Option<ServeFault> {
     let mut reader = Counted::new(stream);
     let mut writer = Counted::new(stream);
-    match run_exchange(hall.alloc, Role::Callee, &mut reader, &mut writer, holder) {
+    match run_exchange(hall.alloc, role, &mut reader, &mut writer, holder) {
         Ok(_ended) => None,
         Err(fault) => Some(ServeFault::Exchange(fault)),
     }
@@ -49,6 +51,7 @@ fn exchange<'x, E: AtEntry, H: HubName, R: Wait + Drop, S: Wait, K: Keep>(
     hall: &'x Hall<'x, H, Shown<H>, R, S>,
     to: &'x Sender<Request<K>>,
     stream: &TcpStream,
+    role: Role,
     place: &mut Option<Pass<H>>,
 ) -> Option<ServeFault>
     requires entry { place.old ≡ Some E.seat }
@@ -60,16 +63,17 @@ fn exchange<'x, E: AtEntry, H: HubName, R: Wait + Drop, S: Wait, K: Keep>(
     };
     let shelf = Asking::new(hall.rt, hall.alloc, to);
     let mut holder = Held::<H, R, S, K, E>::new(hall.rt, hall.keeper, &shelf, pass);
-    let fault = converse(hall, stream, &mut holder);
+    let fault = converse(hall, stream, role, &mut holder);
     *place = Some(holder.into_pass());
     fault
 }
 
 /// One exchange. Its frames are sent at once, as they are written.
-fn serve_exchange<H: HubName, R: Wait + Drop, S: Wait, K: Keep>(
+pub(crate) fn exchange_over<H: HubName, R: Wait + Drop, S: Wait, K: Keep>(
     hall: &Hall<'_, H, Shown<H>, R, S>,
     to: &Sender<Request<K>>,
     stream: TcpStream,
+    role: Role,
     pass: Pass<H>,
 ) -> (Pass<H>, Option<ServeFault>)
     ensures onward { IsOnward K.is_up K.holds K.lasts pass result.0 }
@@ -77,7 +81,7 @@ fn serve_exchange<H: HubName, R: Wait + Drop, S: Wait, K: Keep>(
     // A stream that refuses this serves as well.
     let _ = stream.set_nodelay(true);
     let mut place = Some(pass);
-    let fault = exchange::<Brand, H, R, S, K>(hall, to, &stream, &mut place);
+    let fault = exchange::<Brand, H, R, S, K>(hall, to, &stream, role, &mut place);
     match place {
         Some(pass) => (pass, fault),
         None => unreachable!(),
@@ -95,6 +99,7 @@ fn with_exchange<H: HubName, R: Wait + Drop, S: Wait, K: Keep>(
     ensures onward { IsOnward K.is_up K.holds K.lasts done.pass result.pass }
     ensures accepted { result.accepted ≡ done.accepted + 1 }
     ensures failed { result.failed ≡ done.failed }
+    ensures told { IsSome done.fault → IsSome result.fault }
 {
     let Done {
         pass,
@@ -102,7 +107,7 @@ fn with_exchange<H: HubName, R: Wait + Drop, S: Wait, K: Keep>(
         failed,
         fault,
     } = done;
-    let (pass, broken) = serve_exchange(hall, to, stream, pass);
+    let (pass, broken) = exchange_over(hall, to, stream, Role::Callee, pass);
     Done {
         pass,
         accepted: accepted + 1,
@@ -114,16 +119,18 @@ fn with_exchange<H: HubName, R: Wait + Drop, S: Wait, K: Keep>(
 /// Accepts once. An accept that fails is used up as well.
 fn next_exchange<H: HubName, R: Wait + Drop, S: Wait, K: Keep>(
     hall: &Hall<'_, H, Shown<H>, R, S>,
-    listener: &TcpListener,
+    entrance: Entrance<'_>,
     to: &Sender<Request<K>>,
     done: Done<H>,
 ) -> Done<H>
     requires room { done.accepted + done.failed < 2 ^ 64 - 1 }
     ensures onward { IsOnward K.is_up K.holds K.lasts done.pass result.pass }
     ensures used { result.accepted + result.failed ≡ done.accepted + done.failed + 1 }
+    ensures told { IsSome done.fault ⊎ (done.failed ≡ 0) → IsSome result.fault ⊎ (result.failed ≡ 0) }
 {
-    match listener.accept() {
-        Ok((stream, _address)) => with_exchange(hall, to, stream, done),
+    match accept_from(entrance) {
+        Ok(Some(stream)) => with_exchange(hall, to, stream, done),
+        Ok(None) => turned_away(done),
         Err(_error) => with_none(done),
     }
 }
@@ -132,21 +139,20 @@ fn next_exchange<H: HubName, R: Wait + Drop, S: Wait, K: Keep>(
 pub(crate) fn exchange_all<H: HubName, R: Wait + Drop, S: Wait, K: Keep>(
     place: u64,
     hall: &Hall<'_, H, Shown<H>, R, S>,
-    listener: &TcpListener,
+    entrance: Entrance<'_>,
     rounds: u64,
-    to: Sender<Request<K>>,
+    desk: Desk<K>,
     pass: Pass<H>,
 ) -> Done<H>
-    ensures onward { IsOnward K.is_up K.holds K.lasts pass result.pass }
-    ensures used { (result.accepted + result.failed ≡ 0)
-        ⊎ (result.accepted + result.failed ≡ rounds) }
+    ensures served { HasServed K.is_up K.holds K.lasts pass result.pass rounds result.accepted
+        result.fault }
 {
     if hall.refused.load(Ordering::SeqCst) == place {
         return idle(pass, Some(ServeFault::Exchange(ExchangeFault::Memory)));
     }
     let mut done = idle(pass, None);
     for _ in 0..rounds {
-        done = next_exchange(hall, listener, &to, done);
+        done = next_exchange(hall, entrance, &desk.to, done);
     }
     done
 }

@@ -3,19 +3,24 @@
 //! Each worker has a thread, a gate and a pass of the hub, and serves associations that it accepts
 //! on a listener that all share. The thread that calls keeps the shelf. A content that an
 //! association stores is put on the shelf, then taken by the hub, then answered; and so is what a
-//! peer gives in an exchange, for which there is a listener, a thread and a pass.
+//! peer gives in an exchange: for those that peers call there is a listener, a thread and a pass,
+//! and for each peer that the server calls again and again a thread and a pass.
 #![tactic(auto)]
 
+mod entrance;
 mod exchanging;
 mod fault;
 mod keeping;
+mod meeting;
 mod message;
 mod port;
 mod serve;
 mod worker;
 
+pub use entrance::Entrance;
 pub use exchanging::Exchanging;
 pub use fault::{NetFault, ServeFault};
+pub use meeting::Peer;
 pub use message::Shelved;
 pub use port::ServerPort;
 pub use serve::{Served, serve_on};

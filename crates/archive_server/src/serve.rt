@@ -1,14 +1,16 @@
-//! The server: a thread for each worker and one for exchanges, and the shelf in the thread that
-//! called.
+//! The server: a thread for each worker, one for exchanges and one for each peer, and the shelf in
+//! the thread that called.
 
-ghost use Rattle.std.specs.Prelude.{◌≡◌, ◌+◌, ◌<◌, MatchResult, min, is_some, vec_len, vec_capacity};
+ghost use Rattle.std.specs.Prelude.{◌≡◌, ◌+◌, ◌*◌, ◌<◌, ◌≤◌, ◌⊎◌, MatchResult, min, length, is_some, true, IsSome, vec_len, vec_capacity};
 ghost use Rattle.std.specs.Option.{option_or};
-ghost use Rattle.archive_server.specs.Serving.{IsOnward, AllOnward, places_for};
+ghost use Rattle.archive_server.specs.Serving.{AllOnward, HasServed, HaveServed, places_for};
 
+use crate::entrance::Entrance;
 use crate::exchanging::{Exchanging, exchange_all};
 use crate::fault::ServeFault;
 use crate::keeping::keep_all;
-use crate::message::Request;
+use crate::meeting::{Peer, meet_all};
+use crate::message::{Desk, Request};
 use crate::worker::{Done, Hall, idle, work};
 use archive_model::View;
 use association_run::{Gate, RunFault};
@@ -19,12 +21,13 @@ use op_shelf::Keep;
 use site_hub::{HubName, Keeper, Pass, Snapshot as Shown};
 use std::alloc::Global;
 use std::marker::PhantomData;
-use std::net::TcpListener;
+use std::net::{Net, TcpListener, TcpStream};
 use std::snapshot::Snapshot;
 use std::sync::atomic::{AtomicU64, Ordering};
 use std::sync::{Mutex, Wait};
 use std::thread;
 use std::thread::{Promise, PromisedHandle, Scope, Threads};
+use std::time::Clock;
 use ul_state::Titles;
 
 /// The bytes of a worker's stack: 8 MiB.
@@ -33,15 +36,18 @@ const STACK: usize = 8_388_608;
 /// How many requests wait for the shelf.
 const WAITING: usize = 64;
 
-/// What a worker's pass was: it goes on from that, and what it stores is on a shelf of this type.
+/// What a thread's pass was, and how many it accepts at most. It goes on from that, and what it
+/// stores is on a shelf of this type.
 #[derive(Drop)]
 pub(crate) struct Begun<H: HubName, K: Keep> {
     was: Snapshot<Pass<H>>,
+    most: u64,
     of: PhantomData<K>,
 }
 
 impl<H: HubName, K: Keep> Promise<Done<H>> for Begun<H, K> {
-    ghost kept_by = { λ p done. IsOnward K.is_up K.holds K.lasts p.was.value done.pass };
+    ghost kept_by = { λ p done. HasServed K.is_up K.holds K.lasts p.was.value done.pass p.most
+        done.accepted done.fault };
 }
 
 type Started<H, K> = Result<PromisedHandle<Done<H>, Begun<H, K>>, Done<H>>;
@@ -58,24 +64,28 @@ fn start<
 >(
     scope: &Scope<'s, E>,
     hall: &'s Hall<'s, H, Shown<H>, R, S>,
-    to: &Sender<Request<K>>,
+    desk: &Desk<K>,
     place: u64,
     gate: G,
     pass: Pass<H>,
 ) -> Started<H, K>
-    ensures { MatchResult result (λ thread. thread.promise.was.value ≡ pass)
-        (λ done. IsOnward K.is_up K.holds K.lasts pass done.pass) }
+    ensures { MatchResult result
+        (λ thread. (thread.promise.was.value ≡ pass) × (thread.promise.most ≡ hall.now.each))
+        (λ done. HasServed K.is_up K.holds K.lasts pass done.pass hall.now.each done.accepted
+        done.fault) }
 {
-    let Ok(to) = to.clone() else {
+    let Ok(desk) = desk.another() else {
         return Err(idle(pass, Some(ServeFault::Run(RunFault::Memory))));
     };
     let begun = Begun {
         was: Snapshot::of(&pass),
+        most: hall.each,
         of: PhantomData,
     };
     let job = move || -> Done<H>
-        ensures { IsOnward K.is_up K.holds K.lasts pass result.pass }
-    { work(place, hall, to, gate, pass) };
+        ensures { HasServed K.is_up K.holds K.lasts pass result.pass hall.entry.now.each
+            result.accepted result.fault }
+    { work(place, hall, desk, gate, pass) };
     match Stack::new()
         .stack_size(STACK)
         .spawn_scoped_with(scope, begun, job)
@@ -100,24 +110,28 @@ fn start_exchanges<
     scope: &Scope<'s, E>,
     hall: &'s Hall<'s, H, Shown<H>, R, S>,
     exchanging: Exchanging<'s>,
-    to: &Sender<Request<K>>,
+    desk: &Desk<K>,
     place: u64,
     pass: Pass<H>,
 ) -> Started<H, K>
-    ensures { MatchResult result (λ thread. thread.promise.was.value ≡ pass)
-        (λ done. IsOnward K.is_up K.holds K.lasts pass done.pass) }
+    ensures { MatchResult result
+        (λ thread. (thread.promise.was.value ≡ pass) × (thread.promise.most ≡ exchanging.entry.rounds))
+        (λ done. HasServed K.is_up K.holds K.lasts pass done.pass exchanging.entry.rounds done.accepted
+        done.fault) }
 {
-    let Ok(to) = to.clone() else {
+    let Ok(desk) = desk.another() else {
         return Err(idle(pass, Some(ServeFault::Exchange(ExchangeFault::Memory))));
     };
+    let Exchanging { entrance, rounds } = exchanging;
     let begun = Begun {
         was: Snapshot::of(&pass),
+        most: rounds,
         of: PhantomData,
     };
-    let Exchanging { listener, rounds } = exchanging;
     let job = move || -> Done<H>
-        ensures { IsOnward K.is_up K.holds K.lasts pass result.pass }
-    { exchange_all(place, hall, listener, rounds, to, pass) };
+        ensures { HasServed K.is_up K.holds K.lasts pass result.pass rounds result.accepted
+            result.fault }
+    { exchange_all(place, hall, entrance, rounds, desk, pass) };
     match Stack::new()
         .stack_size(STACK)
         .spawn_scoped_with(scope, begun, job)
@@ -130,15 +144,65 @@ fn start_exchanges<
     }
 }
 
-/// What a worker came back with.
+/// Starts the thread that calls a peer. One that is refused calls nobody.
+fn start_meeting<
+    's,
+    E,
+    H: HubName + Send + Sync + 's,
+    R: Wait + Drop + Send + 's,
+    S: Net<Listener = TcpListener, Stream = TcpStream> + Wait + Clock + Sync + 's,
+    K: Keep + Send + 's,
+>(
+    scope: &Scope<'s, E>,
+    hall: &'s Hall<'s, H, Shown<H>, R, S>,
+    peer: Peer<'s>,
+    to: &Sender<Request<K>>,
+    ended: &Receiver<()>,
+    place: u64,
+    pass: Pass<H>,
+) -> Started<H, K>
+    ensures { MatchResult result
+        (λ thread. (thread.promise.was.value ≡ pass) × (thread.promise.most ≡ 0))
+        (λ done. HasServed K.is_up K.holds K.lasts pass done.pass 0 done.accepted done.fault) }
+{
+    let (to, ended): (Result<_, _>, Result<_, _>) = (to.clone(), ended.clone());
+    let (Ok(to), Ok(ended)) = (to, ended) else {
+        return Err(idle(pass, Some(ServeFault::Exchange(ExchangeFault::Memory))));
+    };
+    let begun = Begun {
+        was: Snapshot::of(&pass),
+        most: 0,
+        of: PhantomData,
+    };
+    let job = move || -> Done<H>
+        ensures { HasServed K.is_up K.holds K.lasts pass result.pass 0 result.accepted
+            result.fault }
+    { meet_all(place, hall, peer, to, ended, pass) };
+    match Stack::new()
+        .stack_size(STACK)
+        .spawn_scoped_with(scope, begun, job)
+    {
+        Ok(thread) => Ok(thread),
+        Err(back) => {
+            hall.refused.store(place, Ordering::SeqCst);
+            Err((back.value)())
+        }
+    }
+}
+
+/// What a thread came back with.
 fn finish<H: HubName, K: Keep, S: Threads>(
     rt: &S,
     was: Snapshot<Pass<H>>,
+    most: u64,
     started: Started<H, K>,
 ) -> Done<H>
-    requires { MatchResult started (λ thread. thread.promise.was.value ≡ was.value)
-        (λ done. IsOnward K.is_up K.holds K.lasts was.value done.pass) }
-    ensures { IsOnward K.is_up K.holds K.lasts was.value result.pass }
+    requires { MatchResult started
+        (λ thread. (thread.promise.was.value ≡ was.value) × (thread.promise.most ≡ most))
+        (λ done. HasServed K.is_up K.holds K.lasts was.value done.pass most done.accepted
+        done.fault) }
+    ensures { HasServed K.is_up K.holds K.lasts was.value result.pass most result.accepted
+        result.fault }
 {
     match started {
         Ok(thread) => thread.join(rt),
@@ -176,19 +240,20 @@ fn serve_rest<
 >(
     scope: &Scope<'s, E>,
     hall: &'s Hall<'s, H, Shown<H>, R, S>,
-    to: Sender<Request<K>>,
+    desk: Desk<K>,
     requests: Receiver<Request<K>>,
     shelf: &mut K,
     gates: &mut Vec<G>,
     passes: &mut Vec<Pass<H>>,
 ) -> Total
     requires places { vec_len gates.old ≡ vec_len passes.old }
-    ensures onward { AllOnward K.is_up K.holds K.lasts passes.old.items passes.new.items }
+    ensures served { HaveServed K.is_up K.holds K.lasts passes.old.items passes.new.items
+        (vec_len gates.old * hall.now.each) result.accepted result.fault }
     ensures len { vec_len passes.new ≡ vec_len passes.old }
     ensures room { vec_capacity passes.new ≡ vec_capacity passes.old }
 {
     let Some(pass) = passes.pop() else {
-        drop(to);
+        drop(desk);
         keep_all(hall.rt, shelf, requests);
         return Total {
             accepted: 0,
@@ -199,9 +264,9 @@ fn serve_rest<
         unreachable!()
     };
     let was = Snapshot::of(&pass);
-    let started = start(scope, hall, &to, passes.len() as u64, gate, pass);
-    let before = serve_rest(scope, hall, to, requests, shelf, gates, passes);
-    let done = finish(hall.rt, was, started);
+    let started = start(scope, hall, &desk, passes.len() as u64, gate, pass);
+    let before = serve_rest(scope, hall, desk, requests, shelf, gates, passes);
+    let done = finish(hall.rt, was, hall.each, started);
     let Done {
         pass,
         accepted,
@@ -225,22 +290,25 @@ fn serve_beside<
     scope: &Scope<'s, E>,
     hall: &'s Hall<'s, H, Shown<H>, R, S>,
     exchanging: Exchanging<'s>,
-    to: Sender<Request<K>>,
+    desk: Desk<K>,
     requests: Receiver<Request<K>>,
     shelf: &mut K,
     gates: &mut Vec<G>,
     passes: &mut Vec<Pass<H>>,
 ) -> Total
-    requires places { vec_len passes.old ≡ vec_len gates.old + 1 }
-    ensures onward { AllOnward K.is_up K.holds K.lasts passes.old.items passes.new.items }
+    requires places { vec_len passes.old ≡ places_for (vec_len gates.old) true 0 }
+    ensures served { HaveServed K.is_up K.holds K.lasts passes.old.items passes.new.items
+        (vec_len gates.old * hall.now.each) result.accepted result.fault }
+    ensures len { vec_len passes.new ≡ vec_len passes.old }
+    ensures room { vec_capacity passes.new ≡ vec_capacity passes.old }
 {
     let Some(pass) = passes.pop() else {
         unreachable!()
     };
     let was = Snapshot::of(&pass);
-    let started = start_exchanges(scope, hall, exchanging, &to, passes.len() as u64, pass);
-    let before = serve_rest(scope, hall, to, requests, shelf, gates, passes);
-    let done = finish(hall.rt, was, started);
+    let started = start_exchanges(scope, hall, exchanging, &desk, passes.len() as u64, pass);
+    let before = serve_rest(scope, hall, desk, requests, shelf, gates, passes);
+    let done = finish(hall.rt, was, exchanging.rounds, started);
     let Done {
         pass: last,
         accepted: _,
@@ -251,6 +319,64 @@ fn serve_beside<
     with_worker(before, 0, fault)
 }
 
+/// Calls each peer with a pass of its own, the last passes, beside all else.
+fn serve_meeting<
+    's,
+    E,
+    H: HubName + Send + Sync + 's,
+    R: Wait + Drop + Send + 's,
+    S: Net<Listener = TcpListener, Stream = TcpStream> + Threads + Wait + Clock + Sync + 's,
+    K: Keep + Send + 's,
+    G: Gate + Send + Drop + 's,
+>(
+    scope: &Scope<'s, E>,
+    hall: &'s Hall<'s, H, Shown<H>, R, S>,
+    peers: &[Peer<'s>],
+    exchange: Option<Exchanging<'s>>,
+    ended: &Receiver<()>,
+    desk: Desk<K>,
+    requests: Receiver<Request<K>>,
+    shelf: &mut K,
+    gates: &mut Vec<G>,
+    passes: &mut Vec<Pass<H>>,
+) -> Total
+    requires places { vec_len passes.old
+        ≡ places_for (vec_len gates.old) (is_some exchange) (length peers.now) }
+    ensures served { HaveServed K.is_up K.holds K.lasts passes.old.items passes.new.items
+        (vec_len gates.old * hall.now.each) result.accepted result.fault }
+    ensures len { vec_len passes.new ≡ vec_len passes.old }
+    ensures room { vec_capacity passes.new ≡ vec_capacity passes.old }
+{
+    let Some((peer, others)) = peers.split_first() else {
+        return match exchange {
+            None => serve_rest(scope, hall, desk, requests, shelf, gates, passes),
+            Some(exchanging) => {
+                serve_beside(
+                    scope, hall, exchanging, desk, requests, shelf, gates, passes,
+                )
+            }
+        };
+    };
+    let Some(pass) = passes.pop() else {
+        unreachable!()
+    };
+    let was = Snapshot::of(&pass);
+    let place = passes.len() as u64;
+    let started = start_meeting(scope, hall, *peer, &desk.to, ended, place, pass);
+    let before = serve_meeting(
+        scope, hall, others, exchange, ended, desk, requests, shelf, gates, passes,
+    );
+    let done = finish(hall.rt, was, 0, started);
+    let Done {
+        pass: met,
+        accepted: _,
+        failed: _,
+        fault,
+    } = done;
+    passes.push_reserved(met);
+    with_worker(before, 0, fault)
+}
+
 /// What came of serving.
 #[derive(Drop)]
 pub struct Served<H: HubName> {
@@ -258,25 +384,29 @@ pub struct Served<H: HubName> {
     pub accepted: u64,
     /// The passes, each in its place.
     pub passes: Vec<Pass<H>>,
-    /// The first fault, by worker and then by its own order; behind them that of an exchange.
+    /// The first fault, by worker and then by its own order; behind them that of an exchange that
+    /// was served, and behind it that of a thread for a peer which was refused. A peer that is not
+    /// reached is no fault.
     pub fault: Option<ServeFault>,
 }
 
-/// Serves associations, `each` in a thread for each gate, with the pass of its place, and with
-/// `exchange` so many exchanges, in a thread of their own with the last pass. The thread that calls
-/// keeps the shelf.
+/// Serves associations that come in at an entrance, `each` in a thread for each gate, with the pass
+/// of its place; with `exchange` so many exchanges, in a thread of their own with the next pass;
+/// and meanwhile calls each peer again and again, in a thread for each, with the passes behind. The
+/// thread that calls keeps the shelf.
 pub fn serve_on<
     'x,
     H: HubName + Send + Sync,
     R: Wait + Drop + Send,
-    S: Threads + Wait + Sync,
+    S: Net<Listener = TcpListener, Stream = TcpStream> + Threads + Wait + Clock + Sync,
     K: Keep + Send,
     G: Gate + Send + Drop,
 >(
     rt: &'x S,
     alloc: Global,
-    listener: &'x TcpListener,
+    entrance: Entrance<'x>,
     exchange: Option<Exchanging<'x>>,
+    peers: &'x [Peer<'x>],
     titles: &'x Titles<View>,
     gates: Vec<G>,
     each: u64,
@@ -285,10 +415,15 @@ pub fn serve_on<
     shelf: &mut K,
 ) -> Served<H>
     requires some { 0 < vec_len gates }
-    requires places { vec_len passes ≡ places_for (vec_len gates) (is_some exchange) }
+    requires places { vec_len passes
+        ≡ places_for (vec_len gates) (is_some exchange) (length peers.now) }
     ensures back { AllOnward K.is_up K.holds K.lasts passes.items result.passes.items }
+    ensures most { result.accepted ≤ vec_len gates * each }
+    ensures all { IsSome result.fault
+        ⊎ (result.accepted ≡ min (vec_len gates * each) 18446744073709551615) }
 {
-    let Ok((to, requests)) = bounded(alloc, WAITING) else {
+    let (Ok((to, requests)), Ok((still, ended))) = (bounded(alloc, WAITING), bounded(alloc, 1))
+    else {
         return Served {
             accepted: 0,
             passes,
@@ -298,21 +433,36 @@ pub fn serve_on<
     let hall = Hall {
         rt,
         alloc,
-        listener,
+        entrance,
         titles,
         each,
         keeper,
         refused: AtomicU64::new(u64::MAX),
     };
     let hall = &hall;
+    let channels = Channels {
+        desk: Desk { to, still },
+        ended,
+        requests,
+    };
     thread::scope(
         thread::scope_env(),
         rt,
         |scope| -> Served<H>
-            requires { vec_len passes ≡ places_for (vec_len gates) (is_some exchange) }
-            ensures { AllOnward K.is_up K.holds K.lasts passes.items result.passes.items }
-        { serve_all(scope, hall, exchange, to, requests, shelf, gates, passes) },
+            requires { vec_len passes
+                ≡ places_for (vec_len gates) (is_some exchange) (length peers.now) }
+            ensures { HaveServed K.is_up K.holds K.lasts passes.items result.passes.items
+                (vec_len gates * hall.entry.now.each) result.accepted result.fault }
+        { serve_all(scope, hall, peers, exchange, channels, shelf, gates, passes) },
     )
+}
+
+/// The channels of a server.
+#[derive(Drop)]
+struct Channels<K: Keep> {
+    desk: Desk<K>,
+    ended: Receiver<()>,
+    requests: Receiver<Request<K>>,
 }
 
 /// The threads of one scope.
@@ -321,35 +471,41 @@ fn serve_all<
     E,
     H: HubName + Send + Sync + 's,
     R: Wait + Drop + Send + 's,
-    S: Threads + Wait + Sync + 's,
+    S: Net<Listener = TcpListener, Stream = TcpStream> + Threads + Wait + Clock + Sync + 's,
     K: Keep + Send + 's,
     G: Gate + Send + Drop + 's,
 >(
     scope: &Scope<'s, E>,
     hall: &'s Hall<'s, H, Shown<H>, R, S>,
+    peers: &'s [Peer<'s>],
     exchange: Option<Exchanging<'s>>,
-    to: Sender<Request<K>>,
-    requests: Receiver<Request<K>>,
+    channels: Channels<K>,
     shelf: &mut K,
     mut gates: Vec<G>,
     mut passes: Vec<Pass<H>>,
 ) -> Served<H>
-    requires places { vec_len passes ≡ places_for (vec_len gates) (is_some exchange) }
-    ensures back { AllOnward K.is_up K.holds K.lasts passes.items result.passes.items }
+    requires places { vec_len passes
+        ≡ places_for (vec_len gates) (is_some exchange) (length peers.now) }
+    ensures served { HaveServed K.is_up K.holds K.lasts passes.items result.passes.items
+        (vec_len gates * hall.now.each) result.accepted result.fault }
 {
-    let Total { accepted, fault } = match exchange {
-        None => serve_rest(scope, hall, to, requests, shelf, &mut gates, &mut passes),
-        Some(exchanging) => serve_beside(
-            scope,
-            hall,
-            exchanging,
-            to,
-            requests,
-            shelf,
-            &mut gates,
-            &mut passes,
-        ),
-    };
+    let Channels {
+        desk,
+        ended,
+        requests,
+    } = channels;
+    let Total { accepted, fault } = serve_meeting(
+        scope,
+        hall,
+        peers,
+        exchange,
+        &ended,
+        desk,
+        requests,
+        shelf,
+        &mut gates,
+        &mut passes,
+    );
     Served {
         accepted,
         passes,

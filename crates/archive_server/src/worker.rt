@@ -1,11 +1,12 @@
 //! A worker: it accepts so many associations on the shared listener, with a pass of its own.
 
-ghost use Rattle.std.specs.Prelude.{◌≡◌, ◌+◌, ◌-◌, ◌<◌, ◌^◌, ◌⊎◌, Some};
+ghost use Rattle.std.specs.Prelude.{◌≡◌, ◌+◌, ◌-◌, ◌<◌, ◌≤◌, ◌^◌, ◌⊎◌, Some, IsSome};
 ghost use Rattle.std.specs.Option.{option_or};
-ghost use Rattle.archive_server.specs.Serving.{IsOnward};
+ghost use Rattle.archive_server.specs.Serving.{IsOnward, HasServed};
 
+use crate::entrance::{Entrance, accept_from};
 use crate::fault::{NetFault, ServeFault};
-use crate::message::Request;
+use crate::message::{Desk, Request};
 use crate::port::ServerPort;
 use archive_model::View;
 use association_run::{Gate, RunFault, run_association};
@@ -16,7 +17,7 @@ use op_shelf::Keep;
 use site_hub::{HubName, Keeper, Pass, Shows};
 use std::alloc::Global;
 use std::marker::Brand;
-use std::net::{TcpListener, TcpStream};
+use std::net::TcpStream;
 use std::sync::atomic::{AtomicU64, Ordering};
 use std::sync::{Mutex, Wait};
 use ul_state::Titles;
@@ -35,7 +36,7 @@ pub(crate) struct Done<H: HubName> {
 pub(crate) struct Hall<'a, H: HubName, T: Shows<H>, R: Wait + Drop, S: Wait> {
     pub rt: &'a S,
     pub alloc: Global,
-    pub listener: &'a TcpListener,
+    pub entrance: Entrance<'a>,
     pub titles: &'a Titles<View>,
     pub each: u64,
     pub keeper: &'a Mutex<Keeper<H, T, R>>,
@@ -99,6 +100,7 @@ fn with_one<H: HubName, T: Shows<H>, R: Wait + Drop, S: Wait, K: Keep, G: Gate>(
     ensures onward { IsOnward K.is_up K.holds K.lasts done.pass result.pass }
     ensures accepted { result.accepted ≡ done.accepted + 1 }
     ensures failed { result.failed ≡ done.failed }
+    ensures told { IsSome done.fault → IsSome result.fault }
 {
     let Done {
         pass,
@@ -128,6 +130,18 @@ pub(crate) fn with_none<H: HubName>(mut done: Done<H>) -> Done<H>
     done
 }
 
+/// What a worker has done, and one peer more that may not come. It counts as accepted.
+pub(crate) fn turned_away<H: HubName>(mut done: Done<H>) -> Done<H>
+    requires room { done.accepted + done.failed < 2 ^ 64 - 1 }
+    ensures pass { result.pass ≡ done.pass }
+    ensures accepted { result.accepted ≡ done.accepted + 1 }
+    ensures failed { result.failed ≡ done.failed }
+    ensures fault { result.fault ≡ done.fault }
+{
+    done.accepted += 1;
+    done
+}
+
 /// Accepts once. An accept that fails is used up as well.
 fn next<H: HubName, T: Shows<H>, R: Wait + Drop, S: Wait, K: Keep, G: Gate>(
     hall: &Hall<'_, H, T, R, S>,
@@ -138,9 +152,11 @@ fn next<H: HubName, T: Shows<H>, R: Wait + Drop, S: Wait, K: Keep, G: Gate>(
     requires room { done.accepted + done.failed < 2 ^ 64 - 1 }
     ensures onward { IsOnward K.is_up K.holds K.lasts done.pass result.pass }
     ensures used { result.accepted + result.failed ≡ done.accepted + done.failed + 1 }
+    ensures told { IsSome done.fault ⊎ (done.failed ≡ 0) → IsSome result.fault ⊎ (result.failed ≡ 0) }
 {
-    match hall.listener.accept() {
-        Ok((stream, _address)) => with_one(hall, to, gate, stream, done),
+    match accept_from(hall.entrance) {
+        Ok(Some(stream)) => with_one(hall, to, gate, stream, done),
+        Ok(None) => turned_away(done),
         Err(_error) => with_none(done),
     }
 }
@@ -149,20 +165,19 @@ fn next<H: HubName, T: Shows<H>, R: Wait + Drop, S: Wait, K: Keep, G: Gate>(
 pub(crate) fn work<H: HubName, T: Shows<H>, R: Wait + Drop, S: Wait, K: Keep, G: Gate + Drop>(
     place: u64,
     hall: &Hall<'_, H, T, R, S>,
-    to: Sender<Request<K>>,
+    desk: Desk<K>,
     mut gate: G,
     pass: Pass<H>,
 ) -> Done<H>
-    ensures onward { IsOnward K.is_up K.holds K.lasts pass result.pass }
-    ensures used { (result.accepted + result.failed ≡ 0)
-        ⊎ (result.accepted + result.failed ≡ hall.now.each) }
+    ensures served { HasServed K.is_up K.holds K.lasts pass result.pass hall.now.each
+        result.accepted result.fault }
 {
     if hall.refused.load(Ordering::SeqCst) == place {
         return idle(pass, Some(ServeFault::Run(RunFault::Memory)));
     }
     let mut done = idle(pass, None);
     for _ in 0..hall.each {
-        done = next(hall, &to, &mut gate, done);
+        done = next(hall, &desk.to, &mut gate, done);
     }
     done
 }

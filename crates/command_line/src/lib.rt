@@ -1,13 +1,14 @@
 //! The words of a command line, and what they ask for.
 #![tactic(auto)]
 
-ghost use Rattle.std.specs.Prelude.{IfOk, IfSome};
-ghost use Rattle.command_words.specs.Words.{HasSite, HasWorkers, IsInRange};
+ghost use Rattle.std.specs.Prelude.{◌≤◌, IfOk, IfSome, vec_len};
+ghost use Rattle.command_words.specs.Words.{HasSite, HasPlaces, IsInRange};
 
 use clap::error::ErrorKind;
-use clap::{Arg, ArgMatches, Command, Error, value_parser};
+use clap::{Arg, ArgAction, ArgMatches, Command, Error, value_parser};
 use command_words::{Asked, Correcting, Exchanging, Serving, change_in};
 use exchange_run::Role;
+use ipv4_networks::{Network, read_network};
 use std::alloc::{AllocError, Global};
 use std::net::SocketAddrV4;
 
@@ -33,10 +34,12 @@ const SERVE: &str =
     "Serves the operations in FILE, which is made where it is not there, to C-ECHO, \
     C-STORE, C-FIND and C-GET under the called titles ARCHIVE, QUALITY and AUDIT, and ends once \
     each worker has accepted what it may. With --rounds it also serves so many exchanges, in which \
-    another site calls by `archive exchange`
+    another site calls. With --peer it meanwhile calls another site, waits --every seconds and \
+    calls it again; one that does not answer is called again all the same. With --allow only peers \
+    of these networks may come, such as 10.1.0.0/16; a connection from elsewhere is closed unread
 
 Example: archive serve ops.db --listen 127.0.0.1:11112 --workers 4 --each 1000 \
-    --exchange 127.0.0.1:11113 --rounds 10";
+    --exchange 127.0.0.1:11113 --rounds 1000 --peer 127.0.0.1:11115 --every 30";
 
 const EXCHANGE: &str =
     "Exchanges operations with the site that serves exchanges at ADDR: it is given what it lacks \
@@ -46,7 +49,14 @@ const EXCHANGE: &str =
 
 Example: archive exchange ops.db --peer 127.0.0.1:11113";
 
-const NO_ADDRESS: &str = "ADDR is an IPv4 address, a colon and a port";
+const NO_ADDRESS: &str =
+    "ADDR is an IPv4 address, a colon and a port, NETWORK an IPv4 address, or one with a slash and \
+    how many bits count; at most 31 peers are called";
+
+/// The seconds between exchanges with a peer, where none are named.
+const EVERY: u32 = 60;
+
+const MOST_PEERS: usize = 31;
 
 const NO_FORM: &str = "TARGET is study, patient or series, and TAG eight hexadecimal digits";
 
@@ -82,6 +92,15 @@ fn correct_command<'a>(alloc: Global) -> Result<Command<'a>, AllocError> {
         ))
 }
 
+/// An option that names networks.
+fn networks_of<'a>(alloc: Global, name: &'a str, help: &'a str) -> Arg<'a> {
+    Arg::new(alloc, name)
+        .long(name)
+        .value_name("NETWORK")
+        .action(ArgAction::Append)
+        .help(help)
+}
+
 fn serve_command<'a>(alloc: Global) -> Result<Command<'a>, AllocError> {
     let listen = word(alloc, "listen", "The IPv4 address and port to listen at")
         .long("listen")
@@ -107,6 +126,26 @@ fn serve_command<'a>(alloc: Global) -> Result<Command<'a>, AllocError> {
         .value_name("N")
         .value_parser(value_parser!(u32))
         .help("How many exchanges are served, none where it is left out");
+    let peer = Arg::new(alloc, "peer")
+        .long("peer")
+        .value_name("ADDR")
+        .action(ArgAction::Append)
+        .help("The IPv4 address and port of a site that is called again and again, at most 31");
+    let every = Arg::new(alloc, "every")
+        .long("every")
+        .value_name("SECONDS")
+        .value_parser(value_parser!(u32).range(1..))
+        .help("How long it waits before it calls a peer again, 60 where it is left out");
+    let allow = networks_of(
+        alloc,
+        "allow",
+        "A network from which associations may come, else from anywhere",
+    );
+    let exchange_allow = networks_of(
+        alloc,
+        "exchange-allow",
+        "A network from which exchanges may come, else from anywhere",
+    );
     Command::new(alloc, "serve")
         .about(SERVE)
         .arg(word(alloc, "FILE", "The file with the operations"))?
@@ -114,7 +153,11 @@ fn serve_command<'a>(alloc: Global) -> Result<Command<'a>, AllocError> {
         .arg(workers)?
         .arg(each)?
         .arg(exchange)?
-        .arg(rounds)
+        .arg(rounds)?
+        .arg(peer)?
+        .arg(every)?
+        .arg(allow)?
+        .arg(exchange_allow)
 }
 
 fn exchange_command<'a>(alloc: Global) -> Result<Command<'a>, AllocError> {
@@ -184,28 +227,70 @@ fn rounds_in(found: &ArgMatches<'_>) -> u32 {
     }
 }
 
+/// The peers that are to be called, if they are no more than may be and their addresses have their
+/// form.
+fn peers_in<'a>(alloc: Global, found: &ArgMatches<'a>) -> Result<Option<Vec<&'a str>>, AllocError>
+    ensures { IfOk result (λ peers. IfSome peers (λ p. vec_len p ≤ 31)) }
+{
+    let mut peers = Vec::new(alloc);
+    for peer in found.get_strs("peer").unwrap_or(&[]) {
+        if peers.len() == MOST_PEERS || !is_address(peer) {
+            return Ok(None);
+        }
+        peers.push(*peer)?;
+    }
+    Ok(Some(peers))
+}
+
+/// The networks of an option, if they have their form.
+fn networks_in(
+    alloc: Global,
+    found: &ArgMatches<'_>,
+    name: &str,
+) -> Result<Option<Vec<Network>>, AllocError> {
+    let mut networks = Vec::new(alloc);
+    for text in found.get_strs(name).unwrap_or(&[]) {
+        let Some(network) = read_network(text) else {
+            return Ok(None);
+        };
+        networks.push(network)?;
+    }
+    Ok(Some(networks))
+}
+
 /// What the words behind `serve` ask for, if its addresses have their form.
-fn read_serve<'a>(found: &ArgMatches<'a>) -> Option<Serving<'a>>
-    ensures { IfSome result HasWorkers }
+fn read_serve<'a>(alloc: Global, found: &ArgMatches<'a>) -> Result<Option<Serving<'a>>, AllocError>
+    ensures { IfOk result (λ serving. IfSome serving HasPlaces) }
 {
     let listen = text(found, "listen");
     let exchange = found.get_str("exchange");
     if !is_address(listen) || !exchange.is_none_or(is_address) {
-        return None;
+        return Ok(None);
     }
+    let (Some(peers), Some(allowed), Some(exchange_allowed)) = (
+        peers_in(alloc, found)?,
+        networks_in(alloc, found, "allow")?,
+        networks_in(alloc, found, "exchange-allow")?,
+    ) else {
+        return Ok(None);
+    };
     match (
         found.get_one::<u16>("workers"),
         found.get_one::<u32>("each"),
     ) {
-        (Some(workers), Some(each)) if 1 <= workers && workers <= 32 => Some(Serving {
+        (Some(workers), Some(each)) if 1 <= workers && workers <= 32 => Ok(Some(Serving {
             file: text(found, "FILE"),
             listen,
             workers,
             each,
             exchange: text(found, "exchange"),
             rounds: rounds_in(found),
-        }),
-        _ => None,
+            peers,
+            every: found.get_one::<u32>("every").unwrap_or(EVERY),
+            allowed,
+            exchange_allowed,
+        })),
+        _ => Ok(None),
     }
 }
 
@@ -238,7 +323,7 @@ pub fn read_words<'a>(alloc: Global, words: &'a [&'a str]) -> Result<Asked<'a>, 
             Some(correcting) => Ok(Asked::Correct(correcting)),
             None => Err(command.error(ErrorKind::InvalidValue, NO_FORM)?),
         },
-        Some(("serve", found)) => match read_serve(found) {
+        Some(("serve", found)) => match read_serve(alloc, found)? {
             Some(serving) => Ok(Asked::Serve(serving)),
             None => Err(command.error(ErrorKind::InvalidValue, NO_ADDRESS)?),
         },

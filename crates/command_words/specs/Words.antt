@@ -1,5 +1,5 @@
 -- What the words of a command line ask for.
-use Rattle.std.specs.Prelude.{ℕ, ◌≤◌, List, Option, Some, None}
+use Rattle.std.specs.Prelude.{ℕ, ◌≤◌, List, Option, Some, None, vec_len}
 use Rattle.operation.specs.declared.target.Target.{Target}
 use Rattle.site_script.specs.Commands.{target_in}
 use Rattle.site_script.specs.Names.{tag_in}
@@ -21,14 +21,14 @@ change_in kind key tag value = change_for (target_in kind key) (tag_in tag) valu
 abbrev pub HasSite : Correcting → Type 0
 HasSite correcting = 1 ≤ correcting.site
 
--- the workers of a server are 1 to 32
-abbrev pub HasWorkers : Serving → Type 0
-HasWorkers serving = (1 ≤ serving.workers) × (serving.workers ≤ 32)
+-- the workers of a server are 1 to 32, and it calls at most 31 peers
+abbrev pub HasPlaces : Serving → Type 0
+HasPlaces serving = (1 ≤ serving.workers) × (serving.workers ≤ 32) × (vec_len serving.peers ≤ 31)
 
 -- the numbers that a command names are in their ranges
 abbrev pub IsInRange : Asked → Type 0
 IsInRange Simulate = Unit {0}
 IsInRange (Report file) = Unit {0}
 IsInRange (Correct correcting) = HasSite correcting
-IsInRange (Serve serving) = HasWorkers serving
+IsInRange (Serve serving) = HasPlaces serving
 IsInRange (Exchange exchanging) = Unit {0}

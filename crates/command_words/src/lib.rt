@@ -5,6 +5,7 @@ ghost use Rattle.std.specs.Prelude.{◌≡◌, IfOk};
 ghost use Rattle.command_words.specs.Words.{change_in as change_in_words};
 
 use exchange_run::Role;
+use ipv4_networks::Network;
 use octets::Octets;
 use operation::Target;
 use site_script::{tag_in, target_in};
@@ -28,7 +29,7 @@ pub struct Correcting<'a> {
 
 /// The operations in a file, served at an address by so many workers, each of which accepts so many
 /// associations.
-#[derive(Clone, Copy, Debug)]
+#[derive(Debug, Drop)]
 pub struct Serving<'a> {
     pub file: &'a str,
     pub listen: &'a str,
@@ -38,6 +39,14 @@ pub struct Serving<'a> {
     pub exchange: &'a str,
     /// How many are served. Where none is, nothing is listened for them.
     pub rounds: u32,
+    /// The sites that are called for an exchange, again and again.
+    pub peers: Vec<&'a str>,
+    /// The seconds between an exchange with one of them and the next.
+    pub every: u32,
+    /// From where associations may come. Where none is named they may come from anywhere.
+    pub allowed: Vec<Network>,
+    /// From where exchanges may come, likewise.
+    pub exchange_allowed: Vec<Network>,
 }
 
 /// The operations in a file, and the address of the site that they are exchanged with.

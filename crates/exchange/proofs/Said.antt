@@ -1,6 +1,6 @@
 -- What a round says is a frame.
-use Rattle.std.proofs.Common.{inl, inr, ◌≡◌, ◌≤◌, ◌<◌, ◌+◌, ℕ, zero, suc, List, [], ◌∷◌, Bool, true, false, cond, length}
-use Rattle.std.proofs.Common.{arith, refl, sym, ap, subst, ◌∙◌, map}
+use Rattle.std.proofs.Common.{inl, inr, ◌≡◌, ◌≤◌, ◌<◌, ◌+◌, ℕ, zero, suc, List, [], ◌∷◌, Bool, true, false}
+use Rattle.std.proofs.Common.{cond, length, arith, refl, sym, ap, subst, ◌∙◌, map}
 use Rattle.std.specs.Prelude.{filter, ◌&&◌}
 use Rattle.std.specs.Cmp.{IsTotalOrder}
 use Rattle.std.specs.FinMap.{entries, entries_sorted}

@@ -226,10 +226,10 @@ module _ {A B : Type 0} (holds_a : A → Map) (alone_a : A → Type 0) (holds_b 
       → IsTrue ended_a.finished → IsTrue ended_b.finished → SetsTell (holds_a to_a.holder) (holds_b to_b.holder)
       → SetsTell (holds_b to_b.holder) (holds_a to_a.holder) → holds_a to_a.holder ≡ holds_b to_b.holder
   equal own_a own_b here_a here_b finished_a finished_b tell_a tell_b =
-      let to_b_all = has_theirs holds_b alone_b Callee from_b to_b ended_b b holds_a alone_a Caller from_a to_a ended_a a
-      back there meets.0 version_a agree_too own_a here_a finished_b tell_b gave_b in
-      let to_a_all = has_theirs holds_a alone_a Caller from_a to_a ended_a a holds_b alone_b Callee from_b to_b ended_b b
-      there back version_a meets.0 agree own_b here_b finished_a tell_a gave_a in
+      let to_b_all = has_theirs holds_b alone_b Callee from_b to_b ended_b b holds_a alone_a Caller from_a to_a ended_a
+      a back there meets.0 version_a agree_too own_a here_a finished_b tell_b gave_b in
+      let to_a_all = has_theirs holds_a alone_a Caller from_a to_a ended_a a holds_b alone_b Callee from_b to_b ended_b
+      b there back version_a meets.0 agree own_b here_b finished_a tell_a gave_a in
       same_sites (holds_a to_a.holder) (holds_b to_b.holder)
       (λ d. same_option (held_at (holds_a to_a.holder) d) (held_at (holds_b to_b.holder) d) (to_b_all d) (to_a_all d))
 

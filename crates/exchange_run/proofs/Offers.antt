@@ -126,7 +126,8 @@ module _ {H : Type 0} (holds : H → Map) (alone : H → Type 0) (start : H) (he
       → Shows holds alone u h more t k → Offering holds start (heard ++ frame ∷ []) (told ++ more) t k
   shows u before other does = record {
     grown = λ d op e. (idles_of does.1).grown d op (know.grown d op e);
-    none = λ e. absurd (let clash : true ≡ false = sym (ap (λ (x : Side). has_shown x.role x.awaited) does.0) ∙ e in cc);
+    none = λ e. absurd (let clash : true ≡ false = sym (ap (λ (x : Side). has_shown x.role x.awaited) does.0)
+        ∙ e in cc);
     some = λ _. subst (λ (v : Version). IsShown v (holds start) (heard ++ frame ∷ []) (told ++ more) (holds k))
         (sym (ap (λ (x : Side). x.round.version) does.0)) (record {
           had = does.1.had;
@@ -135,7 +136,8 @@ module _ {H : Type 0} (holds : H → Map) (alone : H → Type 0) (start : H) (he
           until = does.1.was_had.until;
           said = has_right told more _ (subst (λ (l : List Frame). Has l (Buckets (bucket_list (offered u.round.version
               does.1.had)))) (sym does.1.answers) (inl refl));
-          offers = λ places p. absurd (know.none before places (other_has heard frame (Differ places) (other places) p));
+          offers = λ places p. absurd (know.none before places
+              (other_has heard frame (Differ places) (other places) p));
         });
     gave = λ op p. (idles_of does.1).grown (digest_of op) op (know.gave op (old_gift (no_gift _ more does.1.answers
         (λ o e. let clash : Give o ≡ Buckets _ = e in absurd cc)) op p));
@@ -147,7 +149,8 @@ module _ {H : Type 0} (holds : H → Map) (alone : H → Type 0) (start : H) (he
       → Offering holds start (heard ++ frame ∷ []) (told ++ more) t k
   offers_next places is awaited does = record {
     grown = λ d op e. (idles_of does.1).grown d op (know.grown d op e);
-    none = λ e. absurd (let clash : true ≡ false = sym (ap (λ (x : Side). has_shown x.role x.awaited) does.0) ∙ e in cc);
+    none = λ e. absurd (let clash : true ≡ false = sym (ap (λ (x : Side). has_shown x.role x.awaited) does.0)
+        ∙ e in cc);
     some = λ _. subst (λ (v : Version). IsShown v (holds start) (heard ++ frame ∷ []) (told ++ more) (holds k))
         (sym (ap (λ (x : Side). x.round.version) does.0)) (record {
           had = was.had;

@@ -24,7 +24,14 @@ unfolding text_of
 head_long f = omega arith
 
 drop_length : (n : ℕ) (text : List ℕ) → n ≤ length text → n + length (drop n text) ≡ length text
-drop_length n text le = omega (arith, le, ap length (take-append-drop n text), length-append (take n text) (drop n text), length-take-le n text le)
+drop_length n text le =
+    omega (
+      arith,
+      le,
+      ap length (take-append-drop n text),
+      length-append (take n text) (drop n text),
+      length-take-le n text le,
+    )
 
 same_parts : (p q : HeaderParts) (r s : Result HeaderParts FrameFault) → r ≡ Ok p → s ≡ Ok q → r ≡ s → p ≡ q
 same_parts p q r s is_p is_q e = let one : Ok p ≡ Ok q = sym is_p ∙ e ∙ is_q in cc

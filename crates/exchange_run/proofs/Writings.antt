@@ -1,6 +1,6 @@
 -- Texts that are written one after another.
-use Rattle.std.proofs.Common.{◌≡◌, ◌≤◌, ℕ, arith, length, List, [], ◌∷◌, ◌++◌, take, drop, Bool, true, false, Option, Result}
-use Rattle.std.proofs.Common.{Ok, Err}
+use Rattle.std.proofs.Common.{◌≡◌, ◌≤◌, ℕ, arith, length, List, [], ◌∷◌, ◌++◌, take, drop, Bool, true, false}
+use Rattle.std.proofs.Common.{Option, Result, Ok, Err}
 use Rattle.std.proofs.Common.{refl, sym, ap, subst, ◌∙◌, append_assoc, append-nil}
 use Rattle.std.specs.Prelude.{OnOk, OnErr}
 use Rattle.std.specs.List.{list_any}

@@ -6,6 +6,8 @@
 #[cfg(test)]
 mod frames;
 #[cfg(test)]
+mod numbered;
+#[cfg(test)]
 mod rounds;
 #[cfg(test)]
 mod runs;

@@ -78,7 +78,7 @@ fn of_empty_caller(alloc: Global) -> Result<Vec<u8>, AllocError> {
 }
 
 /// What a side writes for what it reads, `piece` bytes at a time, and how its exchange ended.
-fn run(
+pub(crate) fn run(
     alloc: Global,
     role: Role,
     site: &mut Site,

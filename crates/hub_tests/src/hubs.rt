@@ -21,6 +21,8 @@ enum Row {
     Learns,
     /// A correction of this counter is held.
     Corrects(u64),
+    /// Two corrections are made where none is held.
+    Numbers,
     /// One association stores and looks, and the other pass looks.
     Associates,
     /// One association is held within its store, while another stores and finds.
@@ -51,6 +53,7 @@ fn run<H: HubName + Send + Sync, R: Threads + Wait + Abort + Sync>(
     match row {
         Row::Learns => learns(rt, alloc, &keeper, &mut one, &mut two),
         Row::Corrects(counter) => corrects(rt, alloc, &keeper, &mut one, counter),
+        Row::Numbers => numbers(rt, alloc, &keeper, &mut one, &mut two),
         Row::Associates => associates(rt, alloc, &keeper, one, &mut two),
         Row::Holds => holds(rt, alloc, &keeper, one, two),
     }
@@ -71,6 +74,13 @@ fn the_last_counter_is_used_once(rt: HostRuntime) -> Result<(), Fail> {
         run::<Brand, _>(&rt, alloc, opened, Row::Corrects(counter))?;
     }
     Ok(())
+}
+
+#[test]
+fn the_first_corrections_have_the_counters_1_and_2(rt: HostRuntime) -> Result<(), Fail> {
+    let alloc = rt.alloc();
+    let opened = open(alloc, &rt, Site::new(alloc), 1, 2)?;
+    run::<Brand, _>(&rt, alloc, opened, Row::Numbers)
 }
 
 #[test]
@@ -140,7 +150,7 @@ fn corrects<H: HubName, R: Wait + Abort>(
 ) -> Result<(), Fail> {
     let held = correction(alloc, counter)?;
     assert!(rt; store(rt, keeper, pass, held).is_ok(), "{counter} is held");
-    for k in 1..3u64 {
+    for k in 1..4u64 {
         let want = match counter.checked_add(k) {
             Some(next) => Ok(next),
             None => Err(HubFault::StampsSpent),
@@ -154,5 +164,18 @@ fn corrects<H: HubName, R: Wait + Abort>(
         let more = usize::from(want.is_ok());
         assert_eq!(rt; pass.digests()?.len(), held.saturating_add(more), "held");
     }
+    Ok(())
+}
+
+/// Two passes correct: the first has the counter 1, the second the counter 2.
+fn numbers<H: HubName, R: Wait + Abort>(
+    rt: &R,
+    alloc: Global,
+    keeper: &Shared<'_, H, R>,
+    one: &mut Pass<H>,
+    two: &mut Pass<H>,
+) -> Result<(), Fail> {
+    assert_eq!(rt; corrected(rt, alloc, keeper, one)?, Ok(1), "the first");
+    assert_eq!(rt; corrected(rt, alloc, keeper, two)?, Ok(2), "the second");
     Ok(())
 }

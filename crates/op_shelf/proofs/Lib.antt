@@ -9,3 +9,4 @@ mod Puts
 mod Queries
 mod Schemas
 mod Texts
+mod Walks

@@ -15,6 +15,7 @@ mod schema;
 mod shelf;
 mod statements;
 mod table;
+mod walk;
 
 pub use fault::ShelfFault;
 pub use keep::Keep;

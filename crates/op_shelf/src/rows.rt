@@ -105,7 +105,7 @@ fn decoded(alloc: Global, body: &[u8]) -> Result<Op, ShelfFault>
 }
 
 /// The operation of an entry.
-fn op_of(alloc: Global, entry: &Row) -> Result<Op, ShelfFault>
+pub(crate) fn op_of(alloc: Global, entry: &Row) -> Result<Op, ShelfFault>
     ensures found { IfOk result (λ op. entry.now ≡ entry_of op) }
     ensures lawful { IfOk result IsOp }
     ensures bad { IsErrOf result ShelfFault.BadRow → ¬ IsEntry entry.now }
@@ -176,18 +176,4 @@ pub(crate) fn are_pairs(alloc: Global, pairs: &[Row]) -> Result<(), ShelfFault>
         is_pair(alloc, pair)?;
     }
     Ok(())
-}
-
-/// The operations of entries, in their order.
-pub(crate) fn ops_of(alloc: Global, entries: Vec<Row>) -> Result<Vec<Op>, ShelfFault>
-    ensures found { IfOk result (λ ops. map entry_of ops.items ≡ entries.items) }
-    ensures lawful { IfOk result (λ ops. All IsOp ops.items) }
-    ensures bad { IsErrOf result ShelfFault.BadRow → Any (λ e. ¬ IsEntry e) entries.items }
-    ensures only { IfErr result (λ e. e ≢ ShelfFault.Store) }
-{
-    let mut ops = Vec::with_capacity(alloc, entries.len())?;
-    for entry in entries {
-        ops.push(op_of(alloc, &entry)?)?;
-    }
-    Ok(ops)
 }

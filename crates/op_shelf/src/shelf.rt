@@ -11,9 +11,9 @@ ghost use Rattle.op_shelf.specs.Texts.{all_text, kind_text};
 
 use crate::fault::ShelfFault;
 use crate::kept::Kept;
-use crate::rows::ops_of;
-use crate::statements::{all_rows, kind_rows};
+use crate::statements::kind_rows;
 use crate::table::{is_ready, put_entry};
+use crate::walk::all_ops;
 use operation::{Digested, Op, encode};
 use sqlite::{Alter, Connection};
 use std::alloc::Global;
@@ -128,8 +128,7 @@ impl<S: Alter> Shelf<S> {
         if !is_ready(&self.database) {
             return Err(ShelfFault::Store);
         }
-        let entries = all_rows(&mut self.database)?;
-        ops_of(self.alloc, entries)
+        all_ops(&mut self.database, self.alloc)
     }
 
     /// How many operations of a kind the table has.

@@ -1,17 +1,17 @@
 //! The statements on the table. Each function makes one call of the database.
 
-ghost use Rattle.std.specs.Prelude.{◌≡◌, ◌∷◌, [], pos, length, false, IfOk, IfErr, OnOk, OnErr, Err, IsPermutation, IsSorted};
+ghost use Rattle.std.specs.Prelude.{◌≡◌, ◌∷◌, [], pos, length, false, IfOk, IfErr, OnOk, OnErr, Err, IsPermutation};
 ghost use Rattle.sqlite.specs.declared.types.Value.TheVariants.{Int, Text, Blob};
 ghost use Rattle.sqlite.specs.Given.{IsPlain};
 ghost use Rattle.sqlite.specs.Held.{state};
 ghost use Rattle.sqlite.specs.Listing.{understood};
 ghost use Rattle.sqlite.specs.State.{HasCleanDisk, IsUnchanged, Survives, Shown, FailsToQuery, Executes};
 ghost use Rattle.sqlite.specs.Values.{bound};
-ghost use Rattle.op_shelf.specs.Entries.{entries, Adds};
+ghost use Rattle.op_shelf.specs.Entries.{Adds};
 ghost use Rattle.op_shelf.specs.Older.{older_schema, pairs};
-ghost use Rattle.op_shelf.specs.States.{rows_of, rows_left, IfClean, Spares, under, count_of, digest_cmp, IsAdded, IsBare, IsMade};
+ghost use Rattle.op_shelf.specs.States.{rows_of, rows_left, IfClean, Spares, under, count_of, IsAdded, IsBare, IsMade};
 ghost use Rattle.op_shelf.specs.Table.{IsShelf};
-ghost use Rattle.op_shelf.specs.Texts.{all_text, create_text, held_text, kind_text, insert_text, older_text};
+ghost use Rattle.op_shelf.specs.Texts.{create_text, held_text, kind_text, insert_text, older_text};
 
 use sqlite::types::ValueRef;
 use sqlite::{Alter, Connection, Error, Row, params};
@@ -35,27 +35,6 @@ fn select<S: Alter>(
     ensures crash { Survives (state S.Store database.old) (state S.Store database.new) (λ _. ⊥) }
 {
     database.query_all(text, values)
-}
-
-/// The entries of the table, ascending by the texts of their digests.
-pub(crate) fn all_rows<S: Alter>(database: &mut Connection<S>) -> Result<Vec<Row>, Error>
-    requires shelf { IsShelf (state S.Store database.old).now.schema }
-    ensures rows { IfClean S.Store database.old database.new (λ s t.
-        IfOk result (λ rows. IsPermutation (entries (rows_of s)) rows.items)) }
-    ensures ascending { IfClean S.Store database.old database.new (λ s t.
-        IfOk result (λ rows. IsSorted digest_cmp rows.items)) }
-    ensures same { IfClean S.Store database.old database.new (λ s t.
-        OnOk result (IsUnchanged s t)) }
-    ensures refused { IfClean S.Store database.old database.new (λ s t. OnErr result (Spares s t)) }
-    ensures cause { IfClean S.Store database.old database.new (λ s t.
-        IfErr result (FailsToQuery all_text [] s t)) }
-    ensures crash { Survives (state S.Store database.old) (state S.Store database.new) (λ _. ⊥) }
-{
-    select(
-        database,
-        "SELECT digest, kind, body FROM ops2 ORDER BY digest",
-        &[],
-    )
 }
 
 /// The rows of the older table, each a digest's text and bytes.

@@ -74,6 +74,8 @@ pub(crate) enum Asked {
     /// Stores the other image of the same instance.
     StoreOther,
     Find,
+    /// Says nothing, and no association either.
+    Nothing,
 }
 
 /// What it is answered.
@@ -87,6 +89,8 @@ pub(crate) enum Answered {
     /// The one study.
     Row,
     NoRow,
+    /// The connection is closed without a word.
+    Nothing,
 }
 
 fn said(alloc: Global, asked: Asked) -> Result<Vec<u8>, AllocError> {
@@ -113,6 +117,7 @@ fn said(alloc: Global, asked: Asked) -> Result<Vec<u8>, AllocError> {
                 data(alloc, 5, 2, &[NAMES])?.as_slice(),
             ],
         ),
+        Asked::Nothing => Ok(Vec::new(alloc)),
     }
 }
 
@@ -130,12 +135,16 @@ fn heard(alloc: Global, answered: Answered) -> Result<Vec<u8>, AllocError> {
             ],
         ),
         Answered::NoRow => data(alloc, 5, 3, &[FOUND]),
+        Answered::Nothing => Ok(Vec::new(alloc)),
     }
 }
 
 /// All that a client says in an association.
 pub(crate) fn request(alloc: Global, asked: Asked) -> Result<Vec<u8>, AllocError> {
     let said = said(alloc, asked)?;
+    if said.is_empty() {
+        return Ok(said);
+    }
     let opening = pdu(alloc, 1, &[OPENING, CONTEXTS])?;
     joined(alloc, &[opening.as_slice(), said.as_slice(), RELEASE])
 }
@@ -143,6 +152,9 @@ pub(crate) fn request(alloc: Global, asked: Asked) -> Result<Vec<u8>, AllocError
 /// All that it hears.
 pub(crate) fn response(alloc: Global, answered: Answered) -> Result<Vec<u8>, AllocError> {
     let heard = heard(alloc, answered)?;
+    if heard.is_empty() {
+        return Ok(heard);
+    }
     let accepted = pdu(alloc, 2, &[OPENING, ACCEPTED])?;
     joined(alloc, &[accepted.as_slice(), heard.as_slice(), RELEASED])
 }

@@ -3,7 +3,7 @@
 ghost use Rattle.std.specs.Prelude.{◌≡◌, vec_len};
 
 use crate::client::{Answered, Asked};
-use crate::served::{connected, hears_all, titles};
+use crate::served::{connected, hears_all, open_to_all, titles};
 use archive_server::{Exchanging, serve_on};
 use association_run::OpenGate;
 use bytes::Bytes;
@@ -21,18 +21,19 @@ use std::net::{Net, SocketAddr, TcpListener, TcpStream};
 use std::sync::{Mutex, Wait};
 use std::test::Fail;
 use std::thread::{Threads, join};
+use std::time::Clock;
 
 // The correction of study 1.2.1 by which (0010,0010) is ROE^ANN, of counter 1 and site 1.
 const CORRECTION: &[u8] =
     b"\x02\x01\x051.2.1\x00\x10\x00\x10\x00\x07ROE^ANN\x00\x00\x00\x00\x00\x00\x00\x01\x00\x01";
 
-fn in_memory(alloc: Global) -> Result<Shelf<MemStore>, Fail> {
+pub(crate) fn in_memory(alloc: Global) -> Result<Shelf<MemStore>, Fail> {
     let database = Connection::open_in_memory(alloc)?;
     Ok(Shelf::adopt(alloc, database)?)
 }
 
 /// The site that a shelf makes when it is opened again.
-fn opened_again(alloc: Global, shelf: Shelf<MemStore>) -> Result<Site, Fail> {
+pub(crate) fn opened_again(alloc: Global, shelf: Shelf<MemStore>) -> Result<Site, Fail> {
     let mut shelf = Shelf::adopt(alloc, shelf.into_connection())?;
     let mut site = Site::new(alloc);
     for op in shelf.all()? {
@@ -87,7 +88,10 @@ struct Server<'a> {
 }
 
 /// Serves with one worker. It says how many associations were accepted, if there was no fault.
-fn serve<H: HubName + Send + Sync, R: Threads + Wait + Sync>(
+fn serve<
+    H: HubName + Send + Sync,
+    R: Net<Listener = TcpListener, Stream = TcpStream> + Threads + Wait + Clock + Sync,
+>(
     rt: &R,
     alloc: Global,
     server: Server<'_>,
@@ -108,8 +112,9 @@ fn serve<H: HubName + Send + Sync, R: Threads + Wait + Sync>(
     let served = serve_on(
         rt,
         alloc,
-        associations,
+        open_to_all(associations),
         exchange,
+        &[],
         &titles,
         gates,
         each,
@@ -144,7 +149,7 @@ fn stored_and_exchanged<R: Net<Listener = TcpListener, Stream = TcpStream>>(
 /// Serves meanwhile.
 fn met<
     H: HubName + Send + Sync,
-    R: Net<Listener = TcpListener, Stream = TcpStream> + Threads + Wait + Sync,
+    R: Net<Listener = TcpListener, Stream = TcpStream> + Threads + Wait + Clock + Sync,
 >(
     rt: &R,
     alloc: Global,
@@ -168,7 +173,7 @@ fn met<
     if passes.len() != 2 {
         return Err(Fail::from("no two passes"));
     }
-    let to = server.exchanging.listener.local_addr()?;
+    let to = server.exchanging.entrance.listener.local_addr()?;
     let (came, accepted) = join(
         rt,
         || stored_and_exchanged(rt, alloc, streams, rows, to, site, theirs),
@@ -181,7 +186,7 @@ fn met<
 }
 
 /// A site with a correction, on a shelf.
-fn with_correction(alloc: Global, shelf: &mut Shelf<MemStore>) -> Result<Site, Fail> {
+pub(crate) fn with_correction(alloc: Global, shelf: &mut Shelf<MemStore>) -> Result<Site, Fail> {
     let op = decode(alloc, Bytes::copy_from_slice(alloc, CORRECTION)?)?;
     shelf.put(&op)?;
     let mut site = Site::new(alloc);
@@ -285,7 +290,7 @@ struct Visit<'a> {
 fn with_both<
     H: HubName + Send + Sync,
     J: HubName + Send + Sync,
-    R: Net<Listener = TcpListener, Stream = TcpStream> + Threads + Wait + Sync,
+    R: Net<Listener = TcpListener, Stream = TcpStream> + Threads + Wait + Clock + Sync,
 >(
     rt: &R,
     alloc: Global,
@@ -317,8 +322,8 @@ fn with_both<
         there,
     } = visit;
     let to = [
-        first.exchanging.listener.local_addr()?,
-        second.exchanging.listener.local_addr()?,
+        first.exchanging.entrance.listener.local_addr()?,
+        second.exchanging.entrance.listener.local_addr()?,
     ];
     let (came, accepted) = join(
         rt,
@@ -344,7 +349,7 @@ fn with_both<
 /// Names the first hub, and serves both.
 fn visited<
     H: HubName + Send + Sync,
-    R: Net<Listener = TcpListener, Stream = TcpStream> + Threads + Wait + Sync,
+    R: Net<Listener = TcpListener, Stream = TcpStream> + Threads + Wait + Clock + Sync,
 >(
     rt: &R,
     alloc: Global,
@@ -431,7 +436,7 @@ fn serving<'a>(
     Server {
         associations,
         exchanging: Exchanging {
-            listener: exchanges,
+            entrance: open_to_all(exchanges),
             rounds,
         },
         each,

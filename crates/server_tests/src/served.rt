@@ -5,18 +5,20 @@ ghost use Rattle.std.specs.Prelude.{◌≡◌, vec_len};
 use crate::client::{Answered, Asked, ask, response};
 use crate::shelves::Counting;
 use archive_model::View;
-use archive_server::{Served, serve_on};
+use archive_server::{Entrance, Served, serve_on};
 use association_run::OpenGate;
+use ipv4_networks::Network;
 use octets::{ListOf, Octets};
 use site_hub::{HubName, Keeper, Opened, Pass, Snapshot, open};
 use site_state::Site;
 use std::alloc::{AllocError, Global};
 use std::io;
 use std::marker::Brand;
-use std::net::{Net, TcpListener, TcpStream};
+use std::net::{Ipv4Addr, Net, TcpListener, TcpStream};
 use std::sync::{Mutex, Wait};
 use std::test::Fail;
 use std::thread::{Threads, join};
+use std::time::Clock;
 use ul_state::{Title, Titles};
 
 pub(crate) fn titles(alloc: Global) -> Result<Titles<View>, AllocError> {
@@ -45,6 +47,14 @@ pub(crate) fn hears_all(
     Ok(true)
 }
 
+/// Where every peer may come.
+pub(crate) fn open_to_all<'a>(listener: &'a TcpListener) -> Entrance<'a> {
+    Entrance {
+        listener,
+        allowed: &[],
+    }
+}
+
 /// Connects so many times. What listens need not have accepted.
 pub(crate) fn connected<R: Net<Listener = TcpListener, Stream = TcpStream>>(
     rt: &R,
@@ -62,10 +72,13 @@ pub(crate) fn connected<R: Net<Listener = TcpListener, Stream = TcpStream>>(
 
 /// Serves with two workers, while clients ask over some streams. It says whether they heard what
 /// they wanted, and how many were accepted.
-fn served<H: HubName + Send + Sync, R: Threads + Wait + Sync>(
+fn served<
+    H: HubName + Send + Sync,
+    R: Net<Listener = TcpListener, Stream = TcpStream> + Threads + Wait + Clock + Sync,
+>(
     rt: &R,
     alloc: Global,
-    listener: &TcpListener,
+    entrance: Entrance<'_>,
     keeper: &Mutex<Keeper<H, Snapshot<H>, &R>>,
     passes: Vec<Pass<H>>,
     shelf: &mut Counting,
@@ -84,18 +97,31 @@ fn served<H: HubName + Send + Sync, R: Threads + Wait + Sync>(
             requires { (vec_len gates ≡ 2) × (vec_len passes ≡ 2) }
         {
             serve_on(
-                rt, alloc, listener, None, &titles, gates, each, keeper, passes, shelf,
+                rt,
+                alloc,
+                entrance,
+                None,
+                &[],
+                &titles,
+                gates,
+                each,
+                keeper,
+                passes,
+                shelf,
             )
         },
     );
     Ok((heard, served.accepted))
 }
 
-fn run<H: HubName + Send + Sync, R: Threads + Wait + Sync>(
+fn run<
+    H: HubName + Send + Sync,
+    R: Net<Listener = TcpListener, Stream = TcpStream> + Threads + Wait + Clock + Sync,
+>(
     rt: &R,
     alloc: Global,
     opened: Opened<&R>,
-    listener: &TcpListener,
+    entrance: Entrance<'_>,
     shelf: &mut Counting,
     streams: &[TcpStream],
     rows: &[(Asked, Answered)],
@@ -112,7 +138,7 @@ fn run<H: HubName + Send + Sync, R: Threads + Wait + Sync>(
     if passes.len() != 2 {
         return Err(Fail::from("no two passes"));
     }
-    served(rt, alloc, listener, &keeper, passes, shelf, streams, rows)
+    served(rt, alloc, entrance, &keeper, passes, shelf, streams, rows)
 }
 
 /// With two associations each worker serves one: the second sees what the first stored.
@@ -131,7 +157,7 @@ fn an_image_stored_at_one_worker_is_found_at_the_other(rt: HostRuntime) -> Resul
         &rt,
         alloc,
         opened,
-        &listener,
+        open_to_all(&listener),
         &mut shelf,
         streams.as_slice(),
         rows.as_slice(),
@@ -162,7 +188,7 @@ fn an_image_that_the_shelf_refuses_is_not_found(rt: HostRuntime) -> Result<(), F
         &rt,
         alloc,
         opened,
-        &listener,
+        open_to_all(&listener),
         &mut shelf,
         streams.as_slice(),
         rows.as_slice(),
@@ -170,6 +196,49 @@ fn an_image_that_the_shelf_refuses_is_not_found(rt: HostRuntime) -> Result<(), F
     assert_eq!(&rt;
         (heard, accepted, shelf.asked),
         (true, 4, 1),
+        "heard, accepted, put"
+    );
+    Ok(())
+}
+
+/// A peer from elsewhere than the networks that are allowed hears nothing, and counts.
+#[test]
+fn a_peer_from_elsewhere_is_turned_away(rt: HostRuntime) -> Result<(), Fail> {
+    let alloc = rt.alloc();
+    let listener = TcpListener::bind(&rt, "127.0.0.1:0")?;
+    let streams = connected(&rt, alloc, &listener, 2)?;
+    let mut shelf = Counting { asked: 0, room: 0 };
+    let opened = open(alloc, &rt, Site::new(alloc), 1, 2)?;
+    let allowed = [
+        Network {
+            address: Ipv4Addr::new(10, 0, 0, 0),
+            bits: 8,
+        },
+        Network {
+            address: Ipv4Addr::new(127, 0, 0, 2),
+            bits: 32,
+        },
+    ];
+    let entrance = Entrance {
+        listener: &listener,
+        allowed: allowed.as_slice(),
+    };
+    let rows = [
+        (Asked::Nothing, Answered::Nothing),
+        (Asked::Nothing, Answered::Nothing),
+    ];
+    let (heard, accepted) = run::<Brand, _>(
+        &rt,
+        alloc,
+        opened,
+        entrance,
+        &mut shelf,
+        streams.as_slice(),
+        rows.as_slice(),
+    )?;
+    assert_eq!(&rt;
+        (heard, accepted, shelf.asked),
+        (true, 2, 0),
         "heard, accepted, put"
     );
     Ok(())

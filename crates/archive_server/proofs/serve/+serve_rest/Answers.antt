@@ -1,16 +1,21 @@
-use Rattle.std.proofs.Common.{rules, ◌≡◌, ◌∷◌, ◌++◌, [], List, sym, subst}
-use Rattle.archive_server.specs.Serving.{IsOnward, AllOnward}
-use Rattle.archive_server.proofs.OnwardLaws.{all_behind}
+use Rattle.std.proofs.Common.{rules, ◌≡◌, ◌∷◌, ◌++◌, ◌+◌, ◌*◌, [], List, suc, ap, sym, ◌∙◌}
+use Rattle.std.specs.Prelude.{vec_len}
+use Rattle.std.proofs.Math.Nat.{suc-mul}
+use Rattle.archive_server.specs.Serving.{HasServed, HaveServed}
+use Rattle.archive_server.proofs.CountLaws.{served_with}
 use Rattle.archive_server.proofs.serve.+serve_rest.Goals as goal
 
--- The passes before the last went on, and so did the last, which stands behind them again.
-pub returns-clause-onward : goal.returns-clause-onward
-returns-clause-onward g t c =
+-- The passes before the last went on, and so did the last, which stands behind them again; and its accepts are counted.
+pub returns-clause-served : goal.returns-clause-served
+returns-clause-served g t c =
     let up = g.K.Keep.is_up in let holds = g.K.Keep.holds in let lasts = g.K.Keep.lasts in
-    let before = c.serve_rest-before.new.passes.items in let pass = c.finish-done.result.pass in
+    let before = c.serve_rest-before.new.passes.items in let done = c.finish-done.result in
     let popped : c.args.passes.now.items ≡ c.pop.new.self.items ++ c.in-Some.pass ∷ [] = search rules in
-    let pushed : c.push_reserved.new.self.items ≡ before ++ pass ∷ [] = search rules in
-    let one : IsOnward up holds lasts c.in-Some.pass pass = search rules in
-    let all = all_behind up holds lasts c.pop.new.self.items before c.in-Some.pass pass
-    c.serve_rest-before.ensures.onward one in
-    rw (popped, pushed) all
+    let pushed : c.push_reserved.new.self.items ≡ before ++ done.pass ∷ [] = search rules in
+    let one : HasServed up holds lasts c.in-Some.pass done.pass c.args.hall.now.each done.accepted done.fault =
+    rw (sym c.of-was.ensures) c.finish-done.ensures in
+    let counted : vec_len c.args.gates.now ≡ suc (vec_len c.pop-2.new.self) = search rules in
+    let limit = ap (λ n. n * c.args.hall.now.each) counted ∙ suc-mul _ _ in
+    rw (popped, pushed, limit, c.with_worker.ensures.accepted, c.with_worker.ensures.fault)
+    (served_with up holds lasts c.pop.new.self.items before c.in-Some.pass done.pass _ _ _ _ _ _
+    c.serve_rest-before.ensures.served one)

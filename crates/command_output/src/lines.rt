@@ -1,0 +1,105 @@
+//! The lines that commands print on standard output.
+
+ghost use Rattle.std.specs.Prelude.{◌≡◌, ◌++◌, [], OnOk, IfOk};
+ghost use Rattle.std.specs.Fmt.{decimal};
+ghost use Rattle.std.specs.List.{flat_map};
+ghost use Rattle.site_world.specs.Texts.{line, end_line, message_line, stamp_line};
+ghost use Rattle.command_output.specs.Lines.{count_lines, exchange_lines, finished_line, flagged_line, report_lines};
+
+use exchange_run::Ended;
+use octets::Octets;
+use operation::Stamp;
+use shelved_site::Report;
+use std::alloc::{AllocError, Global};
+
+/// A number in decimal digits.
+fn put_number(alloc: Global, out: &mut Vec<u8>, number: u64) -> Result<(), AllocError>
+    ensures { OnOk result (out.new.items ≡ out.old.items ++ decimal number) }
+{
+    let digits = number.to_string(alloc)?;
+    out.extend_from_slice(digits.as_bytes())
+}
+
+/// A line of a word and a number.
+fn put_count(alloc: Global, out: &mut Vec<u8>, word: &[u8], number: u64) -> Result<(), AllocError>
+    ensures { OnOk result (out.new.items ≡ out.old.items ++ message_line word.now number) }
+{
+    out.extend_from_slice(word)?;
+    out.push(b' ')?;
+    put_number(alloc, out, number)?;
+    out.push(b'\n')?;
+    Ok(())
+}
+
+fn put_counts(alloc: Global, out: &mut Vec<u8>, report: &Report) -> Result<(), AllocError>
+    ensures { OnOk result (out.new.items ≡ out.old.items ++ count_lines report.now) }
+{
+    put_count(alloc, out, b"operations", report.counts.operations as u64)?;
+    put_count(alloc, out, b"contents", report.counts.contents as u64)?;
+    put_count(alloc, out, b"corrections", report.counts.corrections as u64)?;
+    put_count(alloc, out, b"series", report.series)
+}
+
+fn put_flagged(out: &mut Vec<u8>, uid: &[u8]) -> Result<(), AllocError>
+    ensures { OnOk result (out.new.items ≡ out.old.items ++ flagged_line uid.now) }
+{
+    out.extend_from_slice(b"flagged ")?;
+    out.extend_from_slice(uid)?;
+    out.push(b'\n')?;
+    Ok(())
+}
+
+fn put_all_flagged(out: &mut Vec<u8>, uids: &[Octets]) -> Result<(), AllocError>
+    ensures { OnOk result (out.new.items ≡ out.old.items ++ flat_map flagged_line uids.now) }
+{
+    for uid in uids {
+        put_flagged(out, uid.as_slice())?;
+    }
+    Ok(())
+}
+
+/// The lines of a report: how many operations there are of each kind, each flagged UID, and how
+/// many of these there are.
+pub fn lines_of(alloc: Global, report: &Report) -> Result<Vec<u8>, AllocError>
+    ensures { IfOk result (λ text. text.items ≡ report_lines report.now) }
+{
+    let mut out = Vec::new(alloc);
+    put_counts(alloc, &mut out, report)?;
+    put_all_flagged(&mut out, report.flagged.as_slice())?;
+    put_count(alloc, &mut out, b"end", report.flagged.len() as u64)?;
+    Ok(out)
+}
+
+/// The line of a stamp.
+pub fn line_of_stamp(alloc: Global, stamp: Stamp) -> Result<Vec<u8>, AllocError>
+    ensures { IfOk result (λ text. text.items ≡ stamp_line stamp) }
+{
+    let mut out = Vec::new(alloc);
+    out.extend_from_slice(b"stamp ")?;
+    put_number(alloc, &mut out, stamp.counter)?;
+    out.push(b' ')?;
+    put_number(alloc, &mut out, u64::from(stamp.site))?;
+    out.push(b'\n')?;
+    Ok(out)
+}
+
+fn put_finished(out: &mut Vec<u8>, finished: bool) -> Result<(), AllocError>
+    ensures { OnOk result (out.new.items ≡ out.old.items ++ finished_line finished) }
+{
+    if finished {
+        return out.extend_from_slice(b"finished yes\n");
+    }
+    out.extend_from_slice(b"finished no\n")
+}
+
+/// The lines of an exchange: how many operations were given, how many taken that were new, and
+/// whether all were given that were asked for.
+pub fn lines_of_exchange(alloc: Global, ended: Ended) -> Result<Vec<u8>, AllocError>
+    ensures { IfOk result (λ text. text.items ≡ exchange_lines ended) }
+{
+    let mut out = Vec::new(alloc);
+    put_count(alloc, &mut out, b"given", ended.given)?;
+    put_count(alloc, &mut out, b"taken", ended.taken)?;
+    put_finished(&mut out, ended.finished)?;
+    Ok(out)
+}

@@ -1,0 +1,47 @@
+//! The walk over all entries, a row at a time.
+
+ghost use Rattle.std.specs.Prelude.{map, [], IfOk, IsErrOf, OnOk, OnErr, IsSorted};
+ghost use Rattle.sqlite.specs.Held.{state};
+ghost use Rattle.sqlite.specs.State.{IsUnchanged, Survives};
+ghost use Rattle.op_shelf.specs.Entries.{Lists, HasBadRow, entry_of};
+ghost use Rattle.op_shelf.specs.States.{IfClean, Spares, IsNotShown, rows_of, digest_cmp};
+ghost use Rattle.op_shelf.specs.Table.{IsShelf};
+ghost use Rattle.op_shelf.specs.Texts.{all_text};
+
+use crate::fault::ShelfFault;
+use crate::rows::op_of;
+use operation::Op;
+use sqlite::{Alter, Connection};
+use std::alloc::Global;
+
+/// The operations of the entries, ascending by the texts of their digests. The index of the digests
+/// gives that order, so that nothing is sorted, and each row is let go before the next is read.
+pub(crate) fn all_ops<S: Alter>(
+    database: &mut Connection<S>,
+    alloc: Global,
+) -> Result<Vec<Op>, ShelfFault>
+    requires shelf { IsShelf (state S.Store database.old).now.schema }
+    ensures all { IfClean S.Store database.old database.new (λ s t.
+        IfOk result (λ ops. Lists (rows_of s) ops.items)) }
+    ensures ascending { IfClean S.Store database.old database.new (λ s t.
+        IfOk result (λ ops. IsSorted digest_cmp (map entry_of ops.items))) }
+    ensures same { IfClean S.Store database.old database.new (λ s t.
+        OnOk result (IsUnchanged s t)) }
+    ensures refused { IfClean S.Store database.old database.new (λ s t. OnErr result (Spares s t)) }
+    ensures bad_row { IfClean S.Store database.old database.new (λ s t.
+        IsErrOf result ShelfFault.BadRow → HasBadRow (rows_of s)) }
+    ensures store { IfClean S.Store database.old database.new (λ s t.
+        IsErrOf result ShelfFault.Store → IsNotShown all_text [] s t) }
+    ensures crash { Survives (state S.Store database.old) (state S.Store database.new) (λ _. ⊥) }
+{
+    let mut ops = Vec::new(alloc);
+    let mut rows = database.query("SELECT digest, kind, body FROM ops2 ORDER BY digest", &[])?;
+    'rows: for _ in 0..u64::MAX {
+        rows.advance()?;
+        let Some(row) = rows.get() else {
+            return Ok(ops);
+        };
+        ops.push(op_of(alloc, row)?)?;
+    }
+    Err(ShelfFault::Memory)
+}
