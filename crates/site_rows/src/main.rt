@@ -5,6 +5,7 @@
 #![tactic(auto)]
 
 mod finding;
+mod holding;
 mod matching;
 mod rows;
 mod sending;

@@ -1,6 +1,9 @@
 //! The kinds of rows.
 
 use crate::finding::{told_of_find, told_of_select};
+use crate::holding::{
+    told_of_counts, told_of_digests, told_of_faults, told_of_flagged, told_of_walk,
+};
 use crate::matching::{is_form, is_match, is_universal_key};
 use crate::sending::told_of_get;
 use crate::words::{octets_of, parted, syntax_of, tag_of, target_of};
@@ -9,12 +12,14 @@ use operation::{Op, OpFault, Stamp, content_of, correction_of};
 use row_text::{RowFault, bytes_of, number_of};
 use site_state::Site;
 use std::alloc::{AllocError, Global};
+use std::mem::swap;
 
-/// What rows work on: a site.
+/// What rows work on: a site, and another one beside it.
 #[derive(Drop)]
 pub struct Rows {
     alloc: Global,
     site: Site,
+    other: Site,
 }
 
 fn told_if(alloc: Global, holds: bool) -> Result<String, AllocError> {
@@ -32,6 +37,38 @@ impl Rows {
         Rows {
             alloc,
             site: Site::new(alloc),
+            other: Site::new(alloc),
+        }
+    }
+
+    /// `merge`: the site takes in what the other one holds.
+    fn told_of_merge(&mut self) -> Result<String, AllocError> {
+        let alloc = self.alloc;
+        match self.site.merge(&self.other) {
+            Ok(()) => format!(in alloc; "merged"),
+            Err(fault) => format!(in alloc; "not merged: {fault}"),
+        }
+    }
+
+    /// `other`: from here on rows work on the other site, and this one stands beside it.
+    fn told_of_other(&mut self) -> Result<String, AllocError> {
+        swap(&mut self.site, &mut self.other);
+        format!(in self.alloc; "the other site")
+    }
+
+    /// What a site holds, alone and beside the other one.
+    fn told_of_held(&mut self, kind: &str) -> Result<String, AllocError> {
+        let alloc = self.alloc;
+        match kind {
+            "merge" => self.told_of_merge(),
+            "other" => self.told_of_other(),
+            "same" => told_if(alloc, self.site.same(&self.other)),
+            "counts" => told_of_counts(alloc, &self.site),
+            "flagged" => told_of_flagged(alloc, &self.site),
+            "walk" => told_of_walk(alloc, &self.site),
+            "digests" => told_of_digests(alloc, &self.site, &self.other),
+            "faults" => told_of_faults(alloc),
+            _ => format!(in alloc; "no kind of rows"),
         }
     }
 
@@ -98,7 +135,7 @@ impl Rows {
             "matches" => Ok(told_if(alloc, is_match(alloc, words)?)?),
             "form" => Ok(told_if(alloc, is_form(alloc, words)?)?),
             "universal" => Ok(told_if(alloc, is_universal_key(alloc, words)?)?),
-            _ => Ok(format!(in alloc; "no kind of rows")?),
+            _ => Ok(self.told_of_held(kind)?),
         }
     }
 

@@ -8,6 +8,6 @@ mod indexes;
 #[cfg(test)]
 mod joins;
 #[cfg(test)]
-mod refusals;
+mod made;
 #[cfg(test)]
-mod sites;
+mod refusals;

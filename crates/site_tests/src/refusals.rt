@@ -3,7 +3,7 @@
 //! `rt try --test --fail-alloc N` refuses the Nth request of each test. Where it is one of what
 //! comes before the call in question the test ends with want of memory; no assertion fails.
 
-use crate::sites::{Given, op_of, site_of};
+use crate::made::{Given, op_of, site_of};
 use site_state::{Site, SiteFault, Taken};
 use std::alloc::Global;
 use std::process::Abort;

@@ -1,5 +1,6 @@
 //! Answers over many small sites, beside the plain definitions.
 
+use crate::drawn::one_of;
 use crate::queries::made::{
     IMAGE, Image, correction, image_of, note, patient, query, site_of, study,
 };
@@ -28,14 +29,6 @@ const PATIENTS: [&[u8]; 2] = [b"P1", b"P2"];
 const TITLES: [&[u8]; 4] = [b"113001", b"113037", b"113038", b"113039"];
 
 const KEYS: [&[u8]; 4] = [b"", b"DOE*", b"?OE^*", b"*j*n*"];
-
-fn one_of(random: &mut Pcg32, texts: &[&'static [u8]]) -> &'static [u8] {
-    let word = random.next_word() as usize;
-    if texts.is_empty() {
-        return b"";
-    }
-    texts[word % texts.len()]
-}
 
 fn some_image(alloc: Global, random: &mut Pcg32) -> Result<Op, Fail> {
     let image = Image {

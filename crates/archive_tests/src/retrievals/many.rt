@@ -1,5 +1,6 @@
 //! What small sites send, beside the plain definitions.
 
+use crate::drawn::one_of;
 use crate::retrievals::made::{
     CT, Part, accepts, content, correction, note, put, selecting, site_of,
 };
@@ -20,14 +21,6 @@ const STUDIES: [&[u8]; 2] = [b"1.2.1\0", b"1.2.22"];
 const INSTANCES: [&[u8]; 4] = [b"1.4.1\0", b"1.4.2\0", b"1.4.3\0", b"1.4.22"];
 
 const NAMES: [&[u8]; 3] = [b"DOE^JANE", b"ROE^ANN ", b""];
-
-fn one_of(random: &mut Pcg32, texts: &[&'static [u8]]) -> &'static [u8] {
-    let word = random.next_word() as usize;
-    if texts.is_empty() {
-        return b"";
-    }
-    texts[word % texts.len()]
-}
 
 fn some_image(alloc: Global, random: &mut Pcg32) -> Result<Op, Fail> {
     let syntax = if random.next_word() % 2 == 0 {
