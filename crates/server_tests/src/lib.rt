@@ -2,8 +2,6 @@
 #![tactic(auto)]
 
 #[cfg(test)]
-mod called;
-#[cfg(test)]
 mod client;
 #[cfg(test)]
 mod exchanged;
