@@ -29,19 +29,30 @@ use ul_state::{Title, Titles};
 /// The number of the site of a server, which makes no correction.
 const SITE: u16 = 1;
 
-fn title(alloc: Global, text: &[u8], value: View) -> Result<Title<View>, AllocError> {
+/// A called title that these calling titles may call, or any where none is named.
+fn title(
+    alloc: Global,
+    text: &[u8],
+    value: View,
+    callers: &[&str],
+) -> Result<Title<View>, AllocError> {
+    let mut named = ListOf::new(alloc);
+    for caller in callers {
+        named.push(Octets::from_slice(alloc, caller.as_bytes())?)?;
+    }
     Ok(Title {
         title: Octets::from_slice(alloc, text)?,
         value,
+        callers: named,
     })
 }
 
 /// The called titles, a view for each.
-fn titles(alloc: Global) -> Result<Titles<View>, AllocError> {
+fn titles(alloc: Global, callers: &[&str]) -> Result<Titles<View>, AllocError> {
     let mut list = ListOf::new(alloc);
-    list.push(title(alloc, b"ARCHIVE", View::Archive)?)?;
-    list.push(title(alloc, b"QUALITY", View::Quality)?)?;
-    list.push(title(alloc, b"AUDIT", View::Audit)?)?;
+    list.push(title(alloc, b"ARCHIVE", View::Archive, callers)?)?;
+    list.push(title(alloc, b"QUALITY", View::Quality, callers)?)?;
+    list.push(title(alloc, b"AUDIT", View::Audit, callers)?)?;
     Ok(Titles { list })
 }
 
@@ -143,7 +154,7 @@ fn serve_hub<
     requires opening { opened.opening ≡ H.opening }
     requires passes { opened.passes ≡ H.passes }
 {
-    let titles = titles(alloc)?;
+    let titles = titles(alloc, serving.callers.as_slice())?;
     let entrance = Entrance {
         listener: &listening.associations,
         allowed: serving.allowed.as_slice(),

@@ -10,7 +10,7 @@ use Rattle.ul_state.specs.declared.event.Event.TheVariants as events
 use Rattle.ul_state.specs.declared.titles.Title.{Title}
 use Rattle.ul_state.specs.Admission.{is_too_short, by_title, is_version_one, is_known_context, refused}
 use Rattle.ul_state.specs.Decision.{value_for}
-use Rattle.ul_state.specs.Titles.{value_of, without_spaces}
+use Rattle.ul_state.specs.Titles.{title_of, without_spaces, may_call}
 use Rattle.ul_state.specs.Acceptor.{settled_with, settled_for}
 use Rattle.association_session.specs.Response.{FitsLimit}
 use Rattle.association_session.specs.Row.{sending_limit, limit_in}
@@ -29,28 +29,35 @@ fits : (n : ℕ) → is_too_short n ≡ false → FitsLimit (sending_limit n)
 unfolding sending_limit
 fits n short = fits_by n (n == 0) (nat_lt 65536 n) (nat_lt n 8) refl refl refl short
 
-by_title_fits : (request : Request) (value : Option View) (v : View) (short : Bool)
-    → is_too_short request.user.maximum_length ≡ short → by_title request value ≡ Ok v → short ≡ false
-by_title_fits request None v short is e = absurd cc
-by_title_fits request (Some value) v true is e = absurd cc
-by_title_fits request (Some value) v false is e = refl
+by_caller_fits : (value v : View) (may short : Bool)
+    → cond (not may) (Err (refused 1 3)) (cond short (Err (refused 1 1)) (Ok value)) ≡ Ok v → short ≡ false
+by_caller_fits value v false short e = absurd cc
+by_caller_fits value v true true e = absurd cc
+by_caller_fits value v true false e = refl
 
-admitted_by : (request : Request) (value : Option View) (v : View) (version context : Bool)
+by_title_fits : (request : Request) (title : Option (Title View)) (v : View) → by_title request title ≡ Ok v
+    → is_too_short request.user.maximum_length ≡ false
+by_title_fits request None v e = absurd cc
+by_title_fits request (Some title) v e = by_caller_fits title.value v
+    (may_call title.callers (without_spaces request.opening.calling))
+    (is_too_short request.user.maximum_length) e
+
+admitted_by : (request : Request) (title : Option (Title View)) (v : View) (version context : Bool)
     → is_version_one request.opening.version ≡ version → is_known_context request.application_context ≡ context
-    → cond (not version) (Err (refused 2 2)) (cond (not context) (Err (refused 1 2)) (by_title request value)) ≡ Ok v
-    → by_title request value ≡ Ok v
-admitted_by request value v true true e f is = is
-admitted_by request value v true false e f is = absurd cc
-admitted_by request value v false context e f is = absurd cc
+    → cond (not version) (Err (refused 2 2)) (cond (not context) (Err (refused 1 2)) (by_title request title)) ≡ Ok v
+    → by_title request title ≡ Ok v
+admitted_by request title v true true e f is = is
+admitted_by request title v true false e f is = absurd cc
+admitted_by request title v false context e f is = absurd cc
 
 -- what is admitted takes a fragment
 pub admitted_fits : (titles : List (Title View)) (request : Request) (v : View) → value_for titles request ≡ Ok v
     → FitsLimit (sending_limit request.user.maximum_length)
 unfolding value_for
 admitted_fits titles request v is =
-    let value = value_of titles (without_spaces request.opening.called) in
-    fits request.user.maximum_length (by_title_fits request value v (is_too_short request.user.maximum_length) refl
-    (admitted_by request value v (is_version_one request.opening.version) (is_known_context request.application_context)
+    let title = title_of titles (without_spaces request.opening.called) in
+    fits request.user.maximum_length (by_title_fits request title v
+    (admitted_by request title v (is_version_one request.opening.version) (is_known_context request.application_context)
     refl refl is))
 
 settled_request : (titles : List (Title View)) (request : Request) (value : Result View Reject)

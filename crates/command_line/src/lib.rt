@@ -36,7 +36,8 @@ const SERVE: &str =
     each worker has accepted what it may. With --rounds it also serves so many exchanges, in which \
     another site calls. With --peer it meanwhile calls another site, waits --every seconds and \
     calls it again; one that does not answer is called again all the same. With --allow only peers \
-    of these networks may come, such as 10.1.0.0/16; a connection from elsewhere is closed unread
+    of these networks may come, such as 10.1.0.0/16; a connection from elsewhere is closed unread. \
+    With --calling only requestors that call themselves so are answered; others are rejected
 
 Example: archive serve ops.db --listen 127.0.0.1:11112 --workers 4 --each 1000 \
     --exchange 127.0.0.1:11113 --rounds 1000 --peer 127.0.0.1:11115 --every 30";
@@ -51,7 +52,7 @@ Example: archive exchange ops.db --peer 127.0.0.1:11113";
 
 const NO_ADDRESS: &str =
     "ADDR is an IPv4 address, a colon and a port, NETWORK an IPv4 address, or one with a slash and \
-    how many bits count; at most 31 peers are called";
+    how many bits count, TITLE 1 to 16 ASCII characters; at most 31 peers are called";
 
 /// The seconds between exchanges with a peer, where none are named.
 const EVERY: u32 = 60;
@@ -146,6 +147,11 @@ fn serve_command<'a>(alloc: Global) -> Result<Command<'a>, AllocError> {
         "exchange-allow",
         "A network from which exchanges may come, else from anywhere",
     );
+    let calling = Arg::new(alloc, "calling")
+        .long("calling")
+        .value_name("TITLE")
+        .action(ArgAction::Append)
+        .help("A calling title that may ask for an association, else any may");
     Command::new(alloc, "serve")
         .about(SERVE)
         .arg(word(alloc, "FILE", "The file with the operations"))?
@@ -157,7 +163,8 @@ fn serve_command<'a>(alloc: Global) -> Result<Command<'a>, AllocError> {
         .arg(peer)?
         .arg(every)?
         .arg(allow)?
-        .arg(exchange_allow)
+        .arg(exchange_allow)?
+        .arg(calling)
 }
 
 fn exchange_command<'a>(alloc: Global) -> Result<Command<'a>, AllocError> {
@@ -258,6 +265,32 @@ fn networks_in(
     Ok(Some(networks))
 }
 
+/// Whether a word is an AE title: 1 to 16 bytes of ASCII, without control bytes, backslashes and
+/// outer spaces, and no more (PS3.5, section 6.2).
+fn is_title(text: &str) -> bool {
+    let bytes = text.as_bytes();
+    let is_in_title = |byte: &u8| (b' '..=b'~').contains(byte) && *byte != b'\\';
+    1 <= bytes.len() && bytes.len() <= 16
+        && bytes.iter().all(is_in_title)
+        && bytes.first() != Some(&b' ')
+        && bytes.last() != Some(&b' ')
+}
+
+/// The calling titles that may come, if they have their form.
+fn callers_in<'a>(
+    alloc: Global,
+    found: &ArgMatches<'a>,
+) -> Result<Option<Vec<&'a str>>, AllocError> {
+    let mut callers = Vec::new(alloc);
+    for title in found.get_strs("calling").unwrap_or(&[]) {
+        if !is_title(title) {
+            return Ok(None);
+        }
+        callers.push(*title)?;
+    }
+    Ok(Some(callers))
+}
+
 /// What the words behind `serve` ask for, if its addresses have their form.
 fn read_serve<'a>(alloc: Global, found: &ArgMatches<'a>) -> Result<Option<Serving<'a>>, AllocError>
     ensures { IfOk result (λ serving. IfSome serving HasPlaces) }
@@ -267,10 +300,11 @@ fn read_serve<'a>(alloc: Global, found: &ArgMatches<'a>) -> Result<Option<Servin
     if !is_address(listen) || !exchange.is_none_or(is_address) {
         return Ok(None);
     }
-    let (Some(peers), Some(allowed), Some(exchange_allowed)) = (
+    let (Some(peers), Some(allowed), Some(exchange_allowed), Some(callers)) = (
         peers_in(alloc, found)?,
         networks_in(alloc, found, "allow")?,
         networks_in(alloc, found, "exchange-allow")?,
+        callers_in(alloc, found)?,
     ) else {
         return Ok(None);
     };
@@ -289,6 +323,7 @@ fn read_serve<'a>(alloc: Global, found: &ArgMatches<'a>) -> Result<Option<Servin
             every: found.get_one::<u32>("every").unwrap_or(EVERY),
             allowed,
             exchange_allowed,
+            callers,
         })),
         _ => Ok(None),
     }

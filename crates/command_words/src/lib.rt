@@ -47,6 +47,8 @@ pub struct Serving<'a> {
     pub allowed: Vec<Network>,
     /// From where exchanges may come, likewise.
     pub exchange_allowed: Vec<Network>,
+    /// The calling titles that may ask for an association. Where none is named any may.
+    pub callers: Vec<&'a str>,
 }
 
 /// The operations in a file, and the address of the site that they are exchanged with.

@@ -37,6 +37,7 @@ fn line_of(alloc: Global, first: u64, count: u64) -> Result<Line, Fail> {
     let title = Title {
         title: Octets::from_slice(alloc, b"ARCHIVE")?,
         value: View::Archive,
+        callers: ListOf::new(alloc),
     };
     Ok(Line {
         supply: Supply::new(Octets::from_slice(alloc, input.as_slice())?, 65_536, None),

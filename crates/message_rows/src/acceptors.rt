@@ -10,13 +10,23 @@ use row_text::put_bytes;
 use std::alloc::{AllocError, Global};
 use ul_state::{Acceptor, Action, Decision, Event, Title, Titles, negotiate};
 
-/// Two titles of one name, and another between them.
+fn title_of(alloc: Global, name: &[u8], value: u8) -> Result<Title<u8>, AllocError> {
+    Ok(Title {
+        title: Octets::from_slice(alloc, name)?,
+        value,
+        callers: ListOf::new(alloc),
+    })
+}
+
+/// Two titles of one name, which any may call, and between them one that SCU1 and SCU3 may.
 pub fn titles_of(alloc: Global) -> Result<Titles<u8>, AllocError> {
+    let mut named = title_of(alloc, b"QUALITY", 2)?;
+    named.callers.push(Octets::from_slice(alloc, b"SCU1")?)?;
+    named.callers.push(Octets::from_slice(alloc, b"SCU3")?)?;
     let mut list = ListOf::new(alloc);
-    for (name, value) in [(b"ARCHIVE", 1u8), (b"QUALITY", 2), (b"ARCHIVE", 3)] {
-        let title = Octets::from_slice(alloc, name)?;
-        list.push(Title { title, value })?;
-    }
+    list.push(title_of(alloc, b"ARCHIVE", 1)?)?;
+    list.push(named)?;
+    list.push(title_of(alloc, b"ARCHIVE", 3)?)?;
     Ok(Titles { list })
 }
 

@@ -27,6 +27,7 @@ pub(crate) fn titles(alloc: Global) -> Result<Titles<View>, AllocError> {
     list.push(Title {
         title,
         value: View::Archive,
+        callers: ListOf::new(alloc),
     })?;
     Ok(Titles { list })
 }

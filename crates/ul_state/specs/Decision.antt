@@ -7,13 +7,13 @@ use Rattle.pdu.specs.declared.reject.Reject.{Reject}
 use Rattle.ul_state.specs.declared.titles.Title.{Title}
 use Rattle.ul_state.specs.declared.decision.Decision.{Decision}
 use Rattle.ul_state.specs.declared.decision.Decision.TheVariants.{Accepted, Rejected}
-use Rattle.ul_state.specs.Titles.{without_spaces, value_of}
+use Rattle.ul_state.specs.Titles.{without_spaces, title_of}
 use Rattle.ul_state.specs.Admission.{admitted}
 use Rattle.ul_state.specs.Answer.{accept_for, contexts_for}
 
 -- what the called title stands for, or the first refusal
 unfoldable pub value_for : {V : Type 0} → List (Title V) → Request → Result V Reject
-value_for titles request = admitted request (value_of titles (without_spaces request.opening.called))
+value_for titles request = admitted request (title_of titles (without_spaces request.opening.called))
 
 abbrev pub decided : {V : Type 0} → Request → Result V Reject → Decision V
 decided request (Ok value) = Accepted (accept_for request) (contexts_for request) value

@@ -1,5 +1,6 @@
 -- Called titles, and what they stand for.
-use Rattle.std.specs.Prelude.{ℕ, Bool, List, [], ◌∷◌, ◌==◌, Option, Some, None, nat_eq, if◌then◌else◌}
+use Rattle.std.specs.Prelude.{ℕ, Bool, true, List, [], ◌∷◌, ◌==◌, ◌||◌, Option, Some, None, nat_eq, if◌then◌else◌}
+use Rattle.std.specs.List.{list_any}
 use Rattle.std.specs.Cmp.Lexicographic.{pointwise}
 use Rattle.ul_state.specs.declared.titles.Title.{Title}
 
@@ -27,7 +28,12 @@ without_spaces text = without_end (without_front text)
 abbrev pub is_text : List ℕ → List ℕ → Bool
 is_text text wanted = pointwise nat_eq text wanted
 
--- the value of the first of the titles that are this one
-abbrev pub value_of : {V : Type 0} → List (Title V) → List ℕ → Option V
-value_of [] called = None
-value_of (title ∷ titles) called = if is_text title.title called then Some title.value else value_of titles called
+-- the first of the titles that are this one
+abbrev pub title_of : {V : Type 0} → List (Title V) → List ℕ → Option (Title V)
+title_of [] called = None
+title_of (title ∷ titles) called = if is_text title.title called then Some title else title_of titles called
+
+-- one of the calling titles that are named, or any where none is
+unfoldable pub may_call : List (List ℕ) → List ℕ → Bool
+may_call [] calling = true
+may_call (caller ∷ callers) calling = is_text caller calling || list_any (λ named. is_text named calling) callers

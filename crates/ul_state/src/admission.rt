@@ -1,8 +1,10 @@
 //! Why a request is refused (PS3.8, section 9.3.4).
 
 ghost use Rattle.std.specs.Prelude.{◌≡◌};
+ghost use Rattle.std.specs.Option.{option_copied};
 ghost use Rattle.ul_state.specs.Admission.{is_version_one, is_known_context, is_too_short, refused, admitted};
 
+use crate::titles::{Title, trimmed};
 use dictionary::APPLICATION_CONTEXT_NAME;
 use pdu::{Reject, Request};
 
@@ -31,8 +33,8 @@ fn is_too_short_a_maximum(maximum: u32) -> bool
 }
 
 /// What the called title stands for, or the first refusal that holds.
-pub(crate) fn admit<V: Copy>(request: &Request, value: Option<V>) -> Result<V, Reject>
-    ensures { result ≡ admitted request.now value }
+pub(crate) fn admit<V: Copy>(request: &Request, title: Option<&Title<V>>) -> Result<V, Reject>
+    ensures { result ≡ admitted request.now (option_copied title) }
 {
     if !has_version_one(request.opening.version) {
         return Err(refusal(2, 2));
@@ -40,13 +42,16 @@ pub(crate) fn admit<V: Copy>(request: &Request, value: Option<V>) -> Result<V, R
     if !has_known_context(request.application_context.as_slice()) {
         return Err(refusal(1, 2));
     }
-    let Some(value) = value else {
+    let Some(title) = title else {
         return Err(refusal(1, 7));
     };
+    if !title.takes(trimmed(&request.opening.calling)) {
+        return Err(refusal(1, 3));
+    }
     if is_too_short_a_maximum(request.user.maximum_length) {
         return Err(refusal(1, 1));
     }
-    Ok(value)
+    Ok(title.value)
 }
 
 // 1 is a permanent refusal.

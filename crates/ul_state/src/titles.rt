@@ -1,7 +1,9 @@
 //! The titles by which this archive is called.
 
 ghost use Rattle.std.specs.Prelude.{◌≡◌};
-ghost use Rattle.ul_state.specs.Titles.{is_space, without_front, without_end, without_spaces, value_of};
+ghost use Rattle.std.specs.List.{list_any};
+ghost use Rattle.std.specs.Option.{option_copied};
+ghost use Rattle.ul_state.specs.Titles.{is_space, without_front, without_end, without_spaces, title_of, may_call, is_text};
 
 use octets::{ListOf, Octets};
 
@@ -10,6 +12,8 @@ use octets::{ListOf, Octets};
 pub struct Title<V> {
     pub title: Octets,
     pub value: V,
+    /// The calling titles, without outer spaces, that may call it; where none is named, any may.
+    pub callers: ListOf<Octets>,
 }
 
 /// The titles that are known. Of equal ones the first counts.
@@ -19,19 +23,38 @@ pub struct Titles<V> {
 }
 
 impl<V: Copy> Titles<V> {
-    /// What a called title stands for, where it is known.
-    pub(crate) fn find(&self, called: &[u8]) -> Option<V>
-        ensures { result ≡ value_of self.now.list called.now }
+    /// A called title, where it is known.
+    pub(crate) fn find(&self, called: &[u8]) -> Option<&Title<V>>
+        ensures { option_copied result ≡ title_of self.now.list called.now }
     {
         let mut rest = self.list.as_slice();
         while let [first, others @ ..] = rest {
             if first.title.as_slice() == called {
-                return Some(first.value);
+                return Some(first);
             }
             rest = others;
         }
         None
     }
+}
+
+impl<V> Title<V> {
+    /// Whether a calling title may call it.
+    #[tactic(auto, unfolding(crate::specs::Titles::may_call))]
+    pub(crate) fn takes(&self, calling: &[u8]) -> bool
+        ensures { result ≡ may_call self.now.callers calling.now }
+    {
+        match self.callers.as_slice() {
+            [] => true,
+            [caller, callers @ ..] => caller.as_slice() == calling || is_among(callers, calling),
+        }
+    }
+}
+
+fn is_among(callers: &[Octets], calling: &[u8]) -> bool
+    ensures { result ≡ list_any (λ named. is_text named calling.now) callers.now }
+{
+    callers.iter().any(|named| named.as_slice() == calling)
 }
 
 fn is_space_byte(byte: u8) -> bool
