@@ -2,7 +2,7 @@
 ghost use Rattle.std.specs.Prelude.{◌≡◌};
 
 use crate::made::{NAME, accepts, correction, found, image, name, query, selection, study};
-use crate::ports::{associates, holds};
+use crate::ports::{associates, holds, renames};
 use archive_model::View;
 use operation::{Digested, Taken};
 use site_hub::{HubFault, HubName, Keeper, Opened, Pass, Snapshot, correct, open, store};
@@ -25,6 +25,8 @@ enum Row {
     Numbers,
     /// One association stores and looks, and the other pass looks.
     Associates,
+    /// One association stores, finds and retrieves, while the other pass corrects.
+    Renames,
     /// One association is held within its store, while another stores and finds.
     Holds,
 }
@@ -55,6 +57,7 @@ fn run<H: HubName + Send + Sync, R: Threads + Wait + Abort + Sync>(
         Row::Corrects(counter) => corrects(rt, alloc, &keeper, &mut one, counter),
         Row::Numbers => numbers(rt, alloc, &keeper, &mut one, &mut two),
         Row::Associates => associates(rt, alloc, &keeper, one, &mut two),
+        Row::Renames => renames(rt, alloc, &keeper, one, &mut two),
         Row::Holds => holds(rt, alloc, &keeper, one, two),
     }
 }
@@ -88,6 +91,15 @@ fn a_long_association_is_seen_by_another_pass(rt: HostRuntime) -> Result<(), Fai
     let alloc = rt.alloc();
     let opened = open(alloc, &rt, Site::new(alloc), 1, 2)?;
     run::<Brand, _>(&rt, alloc, opened, Row::Associates)
+}
+
+#[test]
+fn an_image_is_found_and_sent_with_its_correction_over_one_port(
+    rt: HostRuntime,
+) -> Result<(), Fail> {
+    let alloc = rt.alloc();
+    let opened = open(alloc, &rt, Site::new(alloc), 1, 2)?;
+    run::<Brand, _>(&rt, alloc, opened, Row::Renames)
 }
 
 #[test]

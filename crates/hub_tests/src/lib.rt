@@ -4,6 +4,8 @@
 #![tactic(auto)]
 
 #[cfg(test)]
+mod corrected;
+#[cfg(test)]
 mod hubs;
 #[cfg(test)]
 mod made;
@@ -11,3 +13,5 @@ mod made;
 mod messages;
 #[cfg(test)]
 mod ports;
+#[cfg(test)]
+mod stress;

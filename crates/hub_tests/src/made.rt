@@ -30,16 +30,21 @@ pub fn put(bytes: &mut Vec<u8>, tag: [u8; 4], value: &[u8]) -> Result<(), Fail> 
     Ok(())
 }
 
-/// The data set of an image of study 1.2.1.
-pub fn image_set(alloc: Global, uid: &[u8]) -> Result<Vec<u8>, Fail> {
+/// The data set of an image of study 1.2.1, whose patient has this name.
+pub fn image_of(alloc: Global, uid: &[u8], name: &[u8]) -> Result<Vec<u8>, Fail> {
     let mut bytes = Vec::new(alloc);
     put(&mut bytes, [0x08, 0x00, 0x16, 0x00], CT)?;
     put(&mut bytes, [0x08, 0x00, 0x18, 0x00], uid)?;
     put(&mut bytes, [0x08, 0x00, 0x60, 0x00], b"CT")?;
-    put(&mut bytes, [0x10, 0x00, 0x10, 0x00], b"DOE^JANE")?;
+    put(&mut bytes, [0x10, 0x00, 0x10, 0x00], name)?;
     put(&mut bytes, [0x20, 0x00, 0x0d, 0x00], b"1.2.1")?;
     put(&mut bytes, [0x20, 0x00, 0x0e, 0x00], b"1.2.1.1")?;
     Ok(bytes)
+}
+
+/// The data set of an image of study 1.2.1, whose patient is Jane Doe.
+pub fn image_set(alloc: Global, uid: &[u8]) -> Result<Vec<u8>, Fail> {
+    image_of(alloc, uid, b"DOE^JANE")
 }
 
 /// Image 1.2.1.1.k of study 1.2.1.

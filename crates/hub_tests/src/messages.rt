@@ -22,7 +22,7 @@ const ACCEPTED: &[u8] = b"\x21\x00\x00\x19\x01\x00\x00\x00\x40\x00\x00\x111.2.84
 const FIND: &[u8] = b"1.2.840.10008.5.1.4.1.2.2.1";
 
 /// Puts a PDU of this type, whose body is in two parts.
-fn put_pdu(out: &mut Vec<u8>, code: u8, first: &[u8], second: &[u8]) -> Result<(), Fail> {
+pub fn put_pdu(out: &mut Vec<u8>, code: u8, first: &[u8], second: &[u8]) -> Result<(), Fail> {
     let size = u32::try_from(first.len().saturating_add(second.len()))?;
     out.push(code)?;
     out.push(0x00)?;
@@ -40,15 +40,17 @@ fn put_value(out: &mut Vec<u8>, context: u8, control: u8, text: &[u8]) -> Result
     put_pdu(out, 4, head.as_slice(), text)
 }
 
-/// A command set (PS3.7, section 9.3).
+/// A command set (PS3.7, section 9.3). Its last elements are numbers, each behind its own one.
 #[derive(Clone, Copy)]
-struct Message<'a> {
-    context: u8,
-    class: &'a [u8],
-    field: u16,
-    has_data: bool,
-    status: Option<u16>,
-    instance: Option<&'a [u8]>,
+pub struct Message<'a> {
+    pub context: u8,
+    pub class: &'a [u8],
+    pub field: u16,
+    pub id: u16,
+    pub has_data: bool,
+    pub status: Option<u16>,
+    pub instance: Option<&'a [u8]>,
+    pub counts: &'a [(u16, u16)],
 }
 
 /// The elements of a command set behind its group length. A response has a status.
@@ -67,7 +69,11 @@ fn elements(alloc: Global, message: Message<'_>) -> Result<Vec<u8>, Fail> {
         [0x00, 0x00, 0x00, 0x01],
         message.field.to_le_bytes().as_slice(),
     )?;
-    put(&mut body, [0x00, 0x00, id, 0x01], [0x07, 0x00].as_slice())?;
+    put(
+        &mut body,
+        [0x00, 0x00, id, 0x01],
+        message.id.to_le_bytes().as_slice(),
+    )?;
     if is_request {
         put(&mut body, [0x00, 0x00, 0x00, 0x07], [0x00, 0x00].as_slice())?;
     }
@@ -82,11 +88,19 @@ fn elements(alloc: Global, message: Message<'_>) -> Result<Vec<u8>, Fail> {
     if let Some(instance) = message.instance {
         put(&mut body, [0x00, 0x00, 0x00, 0x10], instance)?;
     }
+    for (element, count) in message.counts {
+        let [low, high] = element.to_le_bytes();
+        put(
+            &mut body,
+            [0x00, 0x00, low, high],
+            count.to_le_bytes().as_slice(),
+        )?;
+    }
     Ok(body)
 }
 
 /// Puts a message: its command set, and its data set where it has one.
-fn put_message(
+pub fn put_message(
     alloc: Global,
     out: &mut Vec<u8>,
     message: Message<'_>,
@@ -104,25 +118,31 @@ fn put_message(
     Ok(())
 }
 
-fn store<'a>(uid: &'a [u8], field: u16, status: Option<u16>) -> Message<'a> {
+/// A C-STORE of a CT image, or its response.
+pub fn store<'a>(uid: &'a [u8], field: u16, status: Option<u16>) -> Message<'a> {
     Message {
         context: 1,
         class: CT,
         field,
+        id: 7,
         has_data: status.is_none(),
         status,
         instance: Some(uid),
+        counts: &[],
     }
 }
 
-fn find<'a>(field: u16, has_data: bool, status: Option<u16>) -> Message<'a> {
+/// A C-FIND, or a response to it.
+pub fn find<'a>(field: u16, has_data: bool, status: Option<u16>) -> Message<'a> {
     Message {
         context: 3,
         class: FIND,
         field,
+        id: 7,
         has_data,
         status,
         instance: None,
+        counts: &[],
     }
 }
 

@@ -2,7 +2,8 @@
 ghost use Rattle.std.specs.Prelude.{◌≡◌};
 ghost use Rattle.site_hub.specs.Hub.{IsLater};
 
-use crate::made::{found, query};
+use crate::corrected::{answered_anew, asked_anew};
+use crate::made::{NAME, found, name, query, study};
 use crate::messages::{answered, asked};
 use archive_model::View;
 use archive_query::Query;
@@ -11,7 +12,8 @@ use association_session::Moment;
 use association_worker::{AtEntry, HubPort};
 use devices::{Store, Supply};
 use octets::{ListOf, Octets};
-use site_hub::{HubName, Keeper, Pass, Snapshot};
+use operation::Target;
+use site_hub::{HubName, Keeper, Pass, Snapshot, correct};
 use std::alloc::Global;
 use std::marker::Brand;
 use std::process::Abort;
@@ -31,16 +33,15 @@ struct Line {
     titles: Titles<View>,
 }
 
-/// A line whose peer sends what `asked` says.
-fn line_of(alloc: Global, first: u64, count: u64) -> Result<Line, Fail> {
-    let input = asked(alloc, first, count)?;
+/// A line whose peer sends these bytes.
+fn line_of(alloc: Global, input: &[u8]) -> Result<Line, Fail> {
     let title = Title {
         title: Octets::from_slice(alloc, b"ARCHIVE")?,
         value: View::Archive,
         callers: ListOf::new(alloc),
     };
     Ok(Line {
-        supply: Supply::new(Octets::from_slice(alloc, input.as_slice())?, 65_536, None),
+        supply: Supply::new(Octets::from_slice(alloc, input)?, 65_536, None),
         store: Store::new(alloc, 1_000_000),
         titles: Titles {
             list: ListOf::of(vec![in alloc; title]?),
@@ -141,6 +142,59 @@ fn is_set(word: &AtomicU64) {
     }
 }
 
+/// Corrects a study's name with a second pass, once the first find was answered.
+#[derive(Drop)]
+struct Rename<'a, 'k, H: HubName, R: Wait> {
+    rt: &'a R,
+    keeper: &'a Shared<'k, H, R>,
+    pass: &'a mut Pass<H>,
+    name: Option<(Target, Octets)>,
+    is_done: bool,
+}
+
+impl<'a, 'k, H: HubName, R: Wait> Gate for Rename<'a, 'k, H, R> {
+    ghost use Rattle.std.specs.Prelude.{None};
+
+    ghost reached = { λ _. None };
+
+    fn reach(&mut self, moment: Moment) {
+        if moment == Moment::FindAnswered
+            && let Some((study, name)) = self.name.take()
+        {
+            self.is_done = correct(self.rt, self.keeper, self.pass, study, NAME, name).is_ok();
+        }
+    }
+}
+
+/// An image is stored, found under its name, found and sent under the name that its study is given
+/// between, all in one association.
+pub fn renames<H: HubName, R: Wait + Abort>(
+    rt: &R,
+    alloc: Global,
+    keeper: &Shared<'_, H, R>,
+    one: Pass<H>,
+    two: &mut Pass<H>,
+) -> Result<(), Fail> {
+    let mut line = line_of(alloc, asked_anew(alloc)?.as_slice())?;
+    let wanted = answered_anew(alloc)?;
+    let mut gate = Rename {
+        rt,
+        keeper,
+        pass: two,
+        name: Some((study(alloc)?, name(alloc)?)),
+        is_done: false,
+    };
+    let (_one, ended) = serve(rt, alloc, keeper, one, &mut line, &mut gate);
+    assert!(rt; gate.is_done, "the correction is made");
+    assert_eq!(rt; ended, Some(End::Released), "its end");
+    assert_eq!(rt;
+        line.store.as_slice(),
+        wanted.as_slice(),
+        "what it is answered"
+    );
+    Ok(())
+}
+
 /// Two hundred images are stored and looked for in one association, while another pass looks.
 pub fn associates<H: HubName, R: Wait + Abort>(
     rt: &R,
@@ -150,7 +204,7 @@ pub fn associates<H: HubName, R: Wait + Abort>(
     two: &mut Pass<H>,
 ) -> Result<(), Fail> {
     let query = query(alloc)?;
-    let mut line = line_of(alloc, 1, 200)?;
+    let mut line = line_of(alloc, asked(alloc, 1, 200)?.as_slice())?;
     let wanted = answered(alloc, 1, 200, 0)?;
     let mut watch = Watch {
         pass: two,
@@ -179,7 +233,8 @@ pub fn holds<H: HubName + Send + Sync, R: Threads + Wait + Abort + Sync>(
     two: Pass<H>,
 ) -> Result<(), Fail> {
     let word = AtomicU64::new(0);
-    let (mut later, mut sooner) = (line_of(alloc, 1, 1)?, line_of(alloc, 2, 1)?);
+    let mut later = line_of(alloc, asked(alloc, 1, 1)?.as_slice())?;
+    let mut sooner = line_of(alloc, asked(alloc, 2, 1)?.as_slice())?;
     let mut held = Hold {
         word: &word,
         moment: Moment::InStore,
