@@ -11,6 +11,7 @@ use octets::{ListOf, Octets};
 use rejection_note::Note;
 use std::alloc::{AllocError, Global};
 use std::marker::Model;
+use std::sync::Arc;
 
 /// The trimmed value of an element that queries know.
 #[derive(Debug, Drop)]
@@ -28,15 +29,6 @@ impl Model for KeyValue {
 }
 
 impl KeyValue {
-    fn copy(&self, alloc: Global) -> Result<KeyValue, AllocError>
-        ensures { IfOk result (λ copy. copy ≡ self.now) }
-    {
-        Ok(KeyValue {
-            tag: self.tag,
-            value: self.value.copy(alloc)?,
-        })
-    }
-
     fn equals(&self, other: &KeyValue) -> bool
         ensures { IsTrue result ↔ (self.now ≡ other.now) }
     {
@@ -44,21 +36,20 @@ impl KeyValue {
     }
 }
 
-/// A stored data set with its SOP class, SOP instance and transfer syntax (PS3.4, annex B).
+/// What all copies of a content share.
 #[derive(Debug, Drop)]
-pub struct Content {
-    pub(crate) class: Octets,
-    pub(crate) instance: Octets,
-    pub(crate) syntax: Syntax,
-    pub(crate) body: Bytes,
-    pub(crate) values: ListOf<KeyValue>,
-    pub(crate) note: Option<Note>,
+pub(crate) struct Stored {
+    pub class: Octets,
+    pub instance: Octets,
+    pub syntax: Syntax,
+    pub body: Bytes,
+    pub values: ListOf<KeyValue>,
+    pub note: Option<Note>,
 }
 
-impl Model for Content {
+impl Model for Stored {
     ghost use Rattle.operation.specs.Parts.{ContentParts};
     ghost use Rattle.operation.specs.Code.{content_code};
-    ghost use Rattle.operation.specs.Contents.{IsContent};
 
     ghost Value = { ContentParts };
 
@@ -72,15 +63,29 @@ impl Model for Content {
       values = c.values;
       note = c.note;
     } };
+}
 
-    ghost invariant = { λ c. IsContent (record {
-      class = c.class;
-      instance = c.instance;
-      syntax = c.syntax;
-      body = c.body;
-      values = c.values;
-      note = c.note;
-    }) };
+/// A stored data set with its SOP class, SOP instance and transfer syntax (PS3.4, annex B).
+///
+/// Its copies share its bytes and all that it keeps of them.
+#[derive(Debug, Drop)]
+pub struct Content {
+    pub(crate) stored: Arc<Stored, Global>,
+}
+
+impl Model for Content {
+    ghost use Rattle.std.specs.Arc.{arc_value};
+    ghost use Rattle.operation.specs.Parts.{ContentParts};
+    ghost use Rattle.operation.specs.Code.{content_code};
+    ghost use Rattle.operation.specs.Contents.{IsContent};
+
+    ghost Value = { ContentParts };
+
+    ghost coded = { content_code };
+
+    ghost view = { λ c. arc_value c.stored };
+
+    ghost invariant = { λ c. IsContent (arc_value c.stored) };
 }
 
 fn key_value<'a>(values: &'a [KeyValue], tag: u32) -> Option<&'a [u8]>
@@ -94,16 +99,6 @@ fn key_value<'a>(values: &'a [KeyValue], tag: u32) -> Option<&'a [u8]>
     None
 }
 
-fn copies_of(alloc: Global, values: &[KeyValue]) -> Result<Vec<KeyValue>, AllocError>
-    ensures { IfOk result (λ copies. copies.items ≡ values.now) }
-{
-    let mut copies = Vec::with_capacity(alloc, values.len())?;
-    for value in values {
-        copies.push(value.copy(alloc)?)?;
-    }
-    Ok(copies)
-}
-
 fn same_values(these: &[KeyValue], those: &[KeyValue]) -> bool
     ensures { IsTrue result ↔ (these.now ≡ those.now) }
 {
@@ -112,15 +107,6 @@ fn same_values(these: &[KeyValue], those: &[KeyValue]) -> bool
         ([], [_, ..]) => false,
         ([_, ..], []) => false,
         ([a, these @ ..], [b, those @ ..]) => a.equals(b) && same_values(these, those),
-    }
-}
-
-fn copy_of_note(alloc: Global, note: &Option<Note>) -> Result<Option<Note>, AllocError>
-    ensures { IfOk result (λ copy. copy ≡ note.now) }
-{
-    match note {
-        None => Ok(None),
-        Some(note) => Ok(Some(note.copy(alloc)?)),
     }
 }
 
@@ -136,17 +122,12 @@ fn same_notes(this: &Option<Note>, other: &Option<Note>) -> bool
 }
 
 impl Content {
-    /// A second owner of the same content. The bytes of the data set are shared.
-    pub fn copy(&self, alloc: Global) -> Result<Content, AllocError>
+    /// A second owner of the same content, which shares all of it.
+    pub fn copy(&self, _alloc: Global) -> Result<Content, AllocError>
         ensures { IfOk result (λ copy. copy ≡ self.now) }
     {
         Ok(Content {
-            class: self.class.copy(alloc)?,
-            instance: self.instance.copy(alloc)?,
-            syntax: self.syntax,
-            body: self.body.clone()?,
-            values: ListOf::of(copies_of(alloc, self.values.as_slice())?),
-            note: copy_of_note(alloc, &self.note)?,
+            stored: Arc::try_clone(&self.stored)?,
         })
     }
 
@@ -154,32 +135,35 @@ impl Content {
     pub fn equals(&self, other: &Content) -> bool
         ensures { IsTrue result ↔ (self.now ≡ other.now) }
     {
-        self.syntax == other.syntax
-            && self.class.equals(&other.class)
-            && self.instance.equals(&other.instance)
-            && self.body.as_slice() == other.body.as_slice()
-            && same_values(self.values.as_slice(), other.values.as_slice())
-            && same_notes(&self.note, &other.note)
+        self.stored.syntax == other.stored.syntax
+            && self.stored.class.equals(&other.stored.class)
+            && self.stored.instance.equals(&other.stored.instance)
+            && self.stored.body.as_slice() == other.stored.body.as_slice()
+            && same_values(
+                self.stored.values.as_slice(),
+                other.stored.values.as_slice(),
+            )
+            && same_notes(&self.stored.note, &other.stored.note)
     }
 
     pub fn class(&self) -> &[u8]
         ensures value { result.now ≡ self.now.class }
         ensures short { length result.now ≤ 64 }
     {
-        self.class.as_slice()
+        self.stored.class.as_slice()
     }
 
     pub fn instance(&self) -> &[u8]
         ensures value { result.now ≡ self.now.instance }
         ensures short { length result.now ≤ 64 }
     {
-        self.instance.as_slice()
+        self.stored.instance.as_slice()
     }
 
     pub fn syntax(&self) -> Syntax
         ensures { result ≡ self.now.syntax }
     {
-        self.syntax
+        self.stored.syntax
     }
 
     /// The bytes of the data set, as they came.
@@ -188,21 +172,21 @@ impl Content {
         ensures short { length result.now ≤ 67108864 }
         ensures content { IsContent self.now }
     {
-        &self.body
+        &self.stored.body
     }
 
     /// The content's own trimmed value of an element that queries know, if it has one.
     pub fn value(&self, tag: u32) -> Option<&[u8]>
         ensures { option_map (λ v. v.now) result ≡ value_at tag self.now.values }
     {
-        key_value(self.values.as_slice(), tag)
+        key_value(self.stored.values.as_slice(), tag)
     }
 
     /// The same, empty where the element is missing or holds items.
     pub fn own_value(&self, tag: u32) -> &[u8]
         ensures { result.now ≡ own_value self.now tag }
     {
-        match key_value(self.values.as_slice(), tag) {
+        match key_value(self.stored.values.as_slice(), tag) {
             Some(value) => value,
             None => &[],
         }
@@ -212,6 +196,6 @@ impl Content {
     pub fn note(&self) -> &Option<Note>
         ensures { result.now ≡ self.now.note }
     {
-        &self.note
+        &self.stored.note
     }
 }

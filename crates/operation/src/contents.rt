@@ -10,7 +10,7 @@ ghost use Rattle.operation.specs.Fault.{is_memory};
 ghost use Rattle.operation.specs.Parts.{ContentParts};
 ghost use Rattle.operation.specs.Contents.{has_uids, names_itself, is_uid_value, is_value, tagged, values_in, IsOutcome, IsContent, IsRefused, draft_of, drafted};
 
-use crate::content::{Content, KeyValue};
+use crate::content::{Content, KeyValue, Stored};
 use crate::draft::Draft;
 use crate::fault::OpFault;
 use bytes::Bytes;
@@ -24,6 +24,7 @@ use dictionary::{
 use octets::{ListOf, Octets, is_uid, without_padding};
 use rejection_note::note_of;
 use std::alloc::{AllocError, Global};
+use std::sync::Arc;
 
 /// The most bytes of a data set.
 const LONGEST_DATA_SET: usize = 67_108_864;
@@ -134,13 +135,16 @@ pub fn content_from(alloc: Global, draft: Draft) -> Result<Content, OpFault>
         syntax,
         body,
     } = draft;
-    Ok(Content {
+    let stored = Stored {
         class,
         instance,
         syntax,
         body,
         values,
         note,
+    };
+    Ok(Content {
+        stored: Arc::new(alloc, stored)?,
     })
 }
 

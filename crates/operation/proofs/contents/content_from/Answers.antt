@@ -4,7 +4,7 @@ use Rattle.data_set.specs.Tree.{Tree}
 use Rattle.data_set.specs.Texts.{Spells}
 use Rattle.rejection_note.specs.Notes.{note_in}
 use Rattle.operation.specs.Parts.{ContentParts}
-use Rattle.operation.specs.Contents.{has_uids, names_itself, IsShort}
+use Rattle.operation.specs.Contents.{has_uids, names_itself, IsShort, IsContent, draft_of}
 use Rattle.operation.proofs.ContentLaws.{without_uids, of_other_names, of_its_names, of_a_note, made}
 use Rattle.operation.proofs.contents.content_from.Goals as goal
 
@@ -88,8 +88,9 @@ invariant_of-result c =
       note = c.in_ok-note.note;
     }
     in
-    made content elements short (rw c.as_slice.ensures at c.in_ok-set.ensures.found) uids names
-    said (c.of-values.ensures ∙ rw c.elements-elements.ensures.elements at c.in_ok-key_values.ensures)
+    subst IsContent (sym c.in_ok-new.ensures.ok)
+    (made content elements short (rw c.as_slice.ensures at c.in_ok-set.ensures.found) uids names
+    said (c.of-values.ensures ∙ rw c.elements-elements.ensures.elements at c.in_ok-key_values.ensures))
 
 -- Every test was passed, so the outcome is this content.
 pub returns : goal.returns
@@ -117,7 +118,8 @@ returns c =
       note = c.in_ok-note.note;
     }
     in (
-      refl,
-      made content elements short (rw c.as_slice.ensures at c.in_ok-set.ensures.found) uids names
-          said (c.of-values.ensures ∙ rw c.elements-elements.ensures.elements at c.in_ok-key_values.ensures),
+      ap draft_of c.in_ok-new.ensures.ok,
+      subst IsContent (sym c.in_ok-new.ensures.ok)
+          (made content elements short (rw c.as_slice.ensures at c.in_ok-set.ensures.found) uids names
+          said (c.of-values.ensures ∙ rw c.elements-elements.ensures.elements at c.in_ok-key_values.ensures)),
     )

@@ -1,6 +1,9 @@
+use Rattle.std.proofs.Common.{subst, sym, ◌∙◌}
+use Rattle.operation.specs.Contents.{IsContent}
 use Rattle.operation.proofs.Bounds.{instance_short}
 use Rattle.operation.proofs.content.Content.instance.Goals as goal
 
 -- The instance of a content is a UID, and no UID is longer.
 pub returns-clause-short : goal.returns-clause-short
-returns-clause-short c = rw c.as_slice.ensures (instance_short _ c.self.invariant)
+returns-clause-short c = rw c.as_slice.ensures (instance_short _
+    (subst IsContent (sym (c.behind-self.view_is ∙ c.deref.ensures)) c.self.invariant))
