@@ -20,6 +20,7 @@ mod get;
 mod laws;
 mod limit;
 mod link;
+mod numbers;
 mod reply;
 mod retrieval;
 mod service;
@@ -35,5 +36,6 @@ pub use laws::{
     no_row_of_a_partial_query_is_a_full_one, nothing_is_asked_after_goodbye,
     there_is_one_list_of_deeds,
 };
+pub use numbers::limits_are_these;
 pub use reply::{PortFault, Reply};
 pub use session::Session;

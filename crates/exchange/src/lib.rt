@@ -13,6 +13,7 @@ mod frame;
 mod header;
 mod holder;
 mod laws;
+mod numbers;
 mod reader;
 mod round;
 mod site_holder;
@@ -28,6 +29,7 @@ pub use laws::{
     a_give_is_a_frame, a_round_by_buckets_gives_all, a_round_gives_all,
     rounds_each_way_make_sites_equal, what_a_round_says_is_a_frame,
 };
+pub use numbers::{frames_have_these_kinds, limits_are_these};
 pub use reader::{MOST_DIGESTS, a_text_spells_one_frame, read_frame_body};
 pub use round::Round;
 pub use site_holder::{

@@ -7,6 +7,7 @@
 
 mod hearing;
 mod laws;
+mod numbers;
 mod role;
 mod run;
 mod saying;
@@ -14,5 +15,6 @@ mod side;
 mod task;
 
 pub use laws::{an_exchange_gives_all, an_exchange_makes_holders_equal};
+pub use numbers::numbers_are_these;
 pub use role::{Ended, Role};
 pub use run::run_exchange;
