@@ -27,6 +27,7 @@ fn is_decoded_of(alloc: Global, op: &Op) -> Result<bool, AllocError> {
     let spelled = Bytes::from_vec(encode(alloc, op)?)?;
     match decode(alloc, spelled) {
         Ok(again) => Ok(again.equals(op)),
+        Err(OpFault::Memory) => Err(AllocError),
         Err(_) => Ok(false),
     }
 }
@@ -86,6 +87,28 @@ pub fn told_of_content(alloc: Global, words: &str) -> Result<String, RowFault> {
         Ok(content) => Ok(told_of_op(alloc, Op::Content(content), &[])?),
         Err(fault) => Ok(told_of_fault(alloc, fault)?),
     }
+}
+
+/// `cuts CLASS INSTANCE SYNTAX BYTES`: what comes of each front of a data set as a content.
+pub fn told_of_cuts(alloc: Global, words: &str) -> Result<String, RowFault> {
+    let (class, words) = parted(words);
+    let (instance, words) = parted(words);
+    let (syntax, words) = parted(words);
+    let text = bytes_of(alloc, words)?;
+    let mut out = String::from_str(alloc, "without a UID are the fronts of")?;
+    let mut faulty = 0u64;
+    for end in 0..text.len() {
+        let body = Bytes::copy_from_slice(alloc, &text[..end])?;
+        let (class, instance) = (octets_of(alloc, class)?, octets_of(alloc, instance)?);
+        match content_of(alloc, class, instance, syntax_of(syntax), body) {
+            Err(OpFault::NoUid) => write!(out, " {end}")?,
+            Err(OpFault::BadSet) => faulty = faulty.saturating_add(1),
+            Err(fault) => write!(out, " ({end}: {fault})")?,
+            Ok(_) => write!(out, " ({end}: a content)")?,
+        }
+    }
+    write!(out, " bytes, and {faulty} are no data sets")?;
+    Ok(out)
 }
 
 /// `correction KIND KEY TAG COUNTER SITE VALUE`: a correction.

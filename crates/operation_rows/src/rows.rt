@@ -1,6 +1,6 @@
 //! The kinds of rows.
 
-use crate::operations::{told_of_content, told_of_correction, told_of_decoded};
+use crate::operations::{told_of_content, told_of_correction, told_of_cuts, told_of_decoded};
 use crate::sets::{
     told_of_fronts, told_of_nested, told_of_note, told_of_padded, told_of_replaced, told_of_set,
     told_of_value,
@@ -47,6 +47,7 @@ fn told_of_kind(alloc: Global, kind: &str, words: &str) -> Result<String, RowFau
         "replaced" => told_of_replaced(alloc, words),
         "note" => told_of_note(alloc, words),
         "content" => told_of_content(alloc, words),
+        "cuts" => told_of_cuts(alloc, words),
         "correction" => told_of_correction(alloc, words),
         "decode" => told_of_decoded(alloc, words),
         "faults" => Ok(told_of_faults(alloc)?),
