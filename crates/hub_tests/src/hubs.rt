@@ -1,11 +1,14 @@
 //! Hubs of two passes and of five.
 ghost use Rattle.std.specs.Prelude.{◌≡◌};
 
-use crate::made::{NAME, accepts, correction, found, image, name, query, selection, study};
+use crate::made::{NAME, accepts, closed, correction, found, image, name, query, selection, study};
 use crate::ports::{associates, holds, renames};
 use archive_model::View;
 use operation::{Digested, Taken};
-use site_hub::{HubFault, HubName, Keeper, Opened, Pass, Snapshot, correct, open, store};
+use site_hub::{
+    CloseFault, HubFault, HubName, Keeper, Logged, Opened, Pass, Snapshot, close, correct, open,
+    store,
+};
 use site_state::Site;
 use std::alloc::Global;
 use std::marker::Brand;
@@ -23,6 +26,8 @@ enum Row {
     Corrects(u64),
     /// Two corrections are made where none is held.
     Numbers,
+    /// It is closed without a pass, and then with both.
+    Closes,
     /// One association stores and looks, and the other pass looks.
     Associates,
     /// One association stores, finds and retrieves, while the other pass corrects.
@@ -55,10 +60,11 @@ fn run<H: HubName + Send + Sync, R: Threads + Wait + Abort + Sync>(
     match row {
         Row::Learns => learns(rt, alloc, &keeper, &mut one, &mut two),
         Row::Corrects(counter) => corrects(rt, alloc, &keeper, &mut one, counter),
-        Row::Numbers => numbers(rt, alloc, &keeper, &mut one, &mut two),
+        Row::Numbers => numbers(rt, alloc, keeper, one, two),
+        Row::Closes => closes(rt, alloc, keeper, one, two),
         Row::Associates => associates(rt, alloc, &keeper, one, &mut two),
         Row::Renames => renames(rt, alloc, &keeper, one, &mut two),
-        Row::Holds => holds(rt, alloc, &keeper, one, two),
+        Row::Holds => holds(rt, alloc, keeper, one, two),
     }
 }
 
@@ -84,6 +90,13 @@ fn the_first_corrections_have_the_counters_1_and_2(rt: HostRuntime) -> Result<()
     let alloc = rt.alloc();
     let opened = open(alloc, &rt, Site::new(alloc), 1, 2)?;
     run::<Brand, _>(&rt, alloc, opened, Row::Numbers)
+}
+
+#[test]
+fn a_hub_is_closed_with_all_its_passes(rt: HostRuntime) -> Result<(), Fail> {
+    let alloc = rt.alloc();
+    let opened = open(alloc, &rt, Site::new(alloc), 1, 2)?;
+    run::<Brand, _>(&rt, alloc, opened, Row::Closes)
 }
 
 #[test]
@@ -179,15 +192,57 @@ fn corrects<H: HubName, R: Wait + Abort>(
     Ok(())
 }
 
-/// Two passes correct: the first has the counter 1, the second the counter 2.
+/// Two passes correct: the first has the counter 1, the second the counter 2, and the site of the
+/// closed hub has both.
 fn numbers<H: HubName, R: Wait + Abort>(
     rt: &R,
     alloc: Global,
-    keeper: &Shared<'_, H, R>,
-    one: &mut Pass<H>,
-    two: &mut Pass<H>,
+    keeper: Shared<'_, H, R>,
+    mut one: Pass<H>,
+    mut two: Pass<H>,
 ) -> Result<(), Fail> {
-    assert_eq!(rt; corrected(rt, alloc, keeper, one)?, Ok(1), "the first");
-    assert_eq!(rt; corrected(rt, alloc, keeper, two)?, Ok(2), "the second");
+    let (first, second) = (
+        corrected(rt, alloc, &keeper, &mut one)?,
+        corrected(rt, alloc, &keeper, &mut two)?,
+    );
+    assert_eq!(rt; first, Ok(1), "the first");
+    assert_eq!(rt; second, Ok(2), "the second");
+    let (site, log) = closed(keeper, vec![in alloc; one, two]?)?;
+    assert_eq!(rt; site.top_counter(), 2, "the greatest counter");
+    assert_eq!(rt; site.counts().corrections, 2, "both corrections");
+    assert_eq!(rt; log.as_slice().len(), 2, "an entry of each");
+    Ok(())
+}
+
+/// Both passes store one image. Without the second pass the hub is not closed.
+fn closes<H: HubName, R: Wait + Abort>(
+    rt: &R,
+    alloc: Global,
+    keeper: Shared<'_, H, R>,
+    mut one: Pass<H>,
+    mut two: Pass<H>,
+) -> Result<(), Fail> {
+    let digest = *Digested::of(image(alloc, 1)?).digest();
+    store(rt, &keeper, &mut one, image(alloc, 1)?)?;
+    store(rt, &keeper, &mut two, image(alloc, 1)?)?;
+    let passes = vec![in alloc; one]?;
+    let Err(back) = close(keeper.into_inner(), passes) else {
+        return Err(Fail::from("closed without the second pass"));
+    };
+    let CloseFault {
+        keeper,
+        mut passes,
+        fault,
+    } = back;
+    let keeper = Mutex::new(keeper);
+    assert_eq!(rt; fault, HubFault::Torn, "without the second pass");
+    passes.push(two)?;
+    let (site, log) = closed(keeper, passes)?;
+    assert_eq!(rt; site.counts().operations, 1, "one operation");
+    assert_eq!(rt;
+        log.as_slice(),
+        [Logged { pass: 1, digest }, Logged { pass: 2, digest }].as_slice(),
+        "an entry of each"
+    );
     Ok(())
 }

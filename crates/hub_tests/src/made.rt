@@ -7,8 +7,10 @@ use bytes::Bytes;
 use data_set::{Syntax, read};
 use octets::{ListOf, Octets};
 use operation::{Op, Stamp, Target, content_of, correction_of};
-use site_hub::{HubName, Pass};
+use site_hub::{CloseFault, HubName, Keeper, Log, Pass, Snapshot, close};
+use site_state::Site;
 use std::alloc::Global;
+use std::sync::{Mutex, Wait};
 use std::test::Fail;
 
 /// (0010,0010) Patient's Name
@@ -136,5 +138,24 @@ pub fn found<H: HubName>(pass: &mut Pass<H>, query: &Query) -> Option<u64> {
     match pass.find(View::Archive, b"ARCHIVE", query) {
         Ok(rows) => Some(count_in(&rows)),
         Err(_refused) => None,
+    }
+}
+
+/// What a hub leaves that is closed. A keeper that is not closed is dropped by a lock.
+pub fn closed<H: HubName, R: Wait>(
+    keeper: Mutex<Keeper<H, Snapshot<H>, &R>>,
+    passes: Vec<Pass<H>>,
+) -> Result<(Site, Log), Fail> {
+    match close(keeper.into_inner(), passes) {
+        Ok(left) => Ok(left),
+        Err(back) => {
+            let CloseFault {
+                keeper,
+                passes: _,
+                fault: _,
+            } = back;
+            let _locked = Mutex::new(keeper);
+            Err(Fail::from("a hub that is not closed"))
+        }
     }
 }

@@ -3,7 +3,7 @@ ghost use Rattle.std.specs.Prelude.{◌≡◌};
 ghost use Rattle.site_hub.specs.Hub.{IsLater};
 
 use crate::corrected::{answered_anew, asked_anew};
-use crate::made::{NAME, found, name, query, study};
+use crate::made::{NAME, closed, found, name, query, study};
 use crate::messages::{answered, asked};
 use archive_model::View;
 use archive_query::Query;
@@ -225,10 +225,11 @@ pub fn associates<H: HubName, R: Wait + Abort>(
 }
 
 /// An association is held within its store; a second one stores and finds; then the first goes on.
+/// The entry of the second stands before that of the first in the log of the closed hub.
 pub fn holds<H: HubName + Send + Sync, R: Threads + Wait + Abort + Sync>(
     rt: &R,
     alloc: Global,
-    keeper: &Shared<'_, H, R>,
+    keeper: Shared<'_, H, R>,
     one: Pass<H>,
     two: Pass<H>,
 ) -> Result<(), Fail> {
@@ -245,8 +246,8 @@ pub fn holds<H: HubName + Send + Sync, R: Threads + Wait + Abort + Sync>(
     };
     let (first, second) = join(
         rt,
-        || serve(rt, alloc, keeper, one, &mut later, &mut held),
-        || serve(rt, alloc, keeper, two, &mut sooner, &mut frees),
+        || serve(rt, alloc, &keeper, one, &mut later, &mut held),
+        || serve(rt, alloc, &keeper, two, &mut sooner, &mut frees),
     );
     assert_eq!(rt; first.1, Some(End::Released), "the end of the first");
     assert_eq!(rt; second.1, Some(End::Released), "the end of the second");
@@ -261,6 +262,15 @@ pub fn holds<H: HubName + Send + Sync, R: Threads + Wait + Abort + Sync>(
         later.store.as_slice(),
         wanted.as_slice(),
         "the first finds both"
+    );
+    let (_site, log) = closed(keeper, vec![in alloc; first.0, second.0]?)?;
+    let [sooner, later] = log.as_slice() else {
+        return Err(Fail::from("two entries"));
+    };
+    assert_eq!(rt;
+        (sooner.pass, later.pass),
+        (2, 1),
+        "the order of publishing"
     );
     Ok(())
 }
