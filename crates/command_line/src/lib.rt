@@ -102,22 +102,8 @@ fn networks_of<'a>(alloc: Global, name: &'a str, help: &'a str) -> Arg<'a> {
         .help(help)
 }
 
-fn serve_command<'a>(alloc: Global) -> Result<Command<'a>, AllocError> {
-    let listen = word(alloc, "listen", "The IPv4 address and port to listen at")
-        .long("listen")
-        .value_name("ADDR");
-    let workers = word(
-        alloc,
-        "workers",
-        "How many associations are served at once, 1 to 32",
-    )
-    .long("workers")
-    .value_name("N")
-    .value_parser(value_parser!(u16).range(1..=32));
-    let each = word(alloc, "each", "How many associations each worker accepts")
-        .long("each")
-        .value_name("N")
-        .value_parser(value_parser!(u32));
+/// With the options of the exchanges that a server serves, and of the sites that it calls.
+fn with_exchanges<'a>(alloc: Global, command: Command<'a>) -> Result<Command<'a>, AllocError> {
     let exchange = Arg::new(alloc, "exchange")
         .long("exchange")
         .value_name("ADDR")
@@ -137,6 +123,11 @@ fn serve_command<'a>(alloc: Global) -> Result<Command<'a>, AllocError> {
         .value_name("SECONDS")
         .value_parser(value_parser!(u32).range(1..))
         .help("How long it waits before it calls a peer again, 60 where it is left out");
+    command.arg(exchange)?.arg(rounds)?.arg(peer)?.arg(every)
+}
+
+/// With the options of who may come.
+fn with_callers<'a>(alloc: Global, command: Command<'a>) -> Result<Command<'a>, AllocError> {
     let allow = networks_of(
         alloc,
         "allow",
@@ -152,19 +143,33 @@ fn serve_command<'a>(alloc: Global) -> Result<Command<'a>, AllocError> {
         .value_name("TITLE")
         .action(ArgAction::Append)
         .help("A calling title that may ask for an association, else any may");
-    Command::new(alloc, "serve")
+    command.arg(allow)?.arg(exchange_allow)?.arg(calling)
+}
+
+fn serve_command<'a>(alloc: Global) -> Result<Command<'a>, AllocError> {
+    let listen = word(alloc, "listen", "The IPv4 address and port to listen at")
+        .long("listen")
+        .value_name("ADDR");
+    let workers = word(
+        alloc,
+        "workers",
+        "How many associations are served at once, 1 to 32",
+    )
+    .long("workers")
+    .value_name("N")
+    .value_parser(value_parser!(u16).range(1..=32));
+    let each = word(alloc, "each", "How many associations each worker accepts")
+        .long("each")
+        .value_name("N")
+        .value_parser(value_parser!(u32));
+    let command = Command::new(alloc, "serve")
         .about(SERVE)
         .arg(word(alloc, "FILE", "The file with the operations"))?
         .arg(listen)?
         .arg(workers)?
-        .arg(each)?
-        .arg(exchange)?
-        .arg(rounds)?
-        .arg(peer)?
-        .arg(every)?
-        .arg(allow)?
-        .arg(exchange_allow)?
-        .arg(calling)
+        .arg(each)?;
+    let command = with_exchanges(alloc, command)?;
+    with_callers(alloc, command)
 }
 
 fn exchange_command<'a>(alloc: Global) -> Result<Command<'a>, AllocError> {
@@ -270,7 +275,8 @@ fn networks_in(
 fn is_title(text: &str) -> bool {
     let bytes = text.as_bytes();
     let is_in_title = |byte: &u8| (b' '..=b'~').contains(byte) && *byte != b'\\';
-    1 <= bytes.len() && bytes.len() <= 16
+    1 <= bytes.len()
+        && bytes.len() <= 16
         && bytes.iter().all(is_in_title)
         && bytes.first() != Some(&b' ')
         && bytes.last() != Some(&b' ')
