@@ -1,0 +1,197 @@
+//! Associations over devices in memory: bytes in, bytes out.
+
+use crate::ports::{AskedPort, Passed, Refusal};
+use crate::words::Words;
+use archive_model::View;
+use association_run::{End, RunFault, run_association};
+use devices::{Store, Supply};
+use octets::{ListOf, Octets};
+use std::alloc::{AllocError, Global};
+use ul_state::{Title, Titles};
+
+/// How many bytes there is room for where no writer is to fail.
+const AMPLE: usize = 10_000_000;
+
+/// How an association is read and written: each read gives `piece` bytes at most, the read
+/// `fails_at` fails, and so does a write for which there is no room.
+#[derive(Clone, Copy)]
+pub struct Way {
+    pub piece: usize,
+    pub fails_at: Option<u64>,
+    pub room: usize,
+}
+
+impl Way {
+    /// Reads of so many bytes, and devices that do not fail.
+    pub fn of_pieces(piece: usize) -> Way {
+        Way {
+            piece,
+            fails_at: None,
+            room: AMPLE,
+        }
+    }
+}
+
+/// What an association meets: the port, and what an earlier peer has sent it.
+#[derive(Drop)]
+pub struct Setting {
+    pub refusal: Option<Refusal>,
+    pub before: Vec<u8>,
+}
+
+/// What a run came to.
+#[derive(Drop)]
+pub struct Ran {
+    pub ended: Result<End, RunFault>,
+    pub written: Vec<u8>,
+    passed: Passed,
+    port: AskedPort,
+}
+
+fn title_of(alloc: Global, name: &[u8], value: View) -> Result<Title<View>, AllocError> {
+    Ok(Title {
+        title: Octets::from_slice(alloc, name)?,
+        value,
+        callers: ListOf::new(alloc),
+    })
+}
+
+/// ARCHIVE, which any may call, and QUALITY, which SCU1 alone may.
+pub fn titles_of(alloc: Global) -> Result<Titles<View>, AllocError> {
+    let mut quality = title_of(alloc, b"QUALITY", View::Quality)?;
+    quality.callers.push(Octets::from_slice(alloc, b"SCU1")?)?;
+    let mut list = ListOf::new(alloc);
+    list.push(title_of(alloc, b"ARCHIVE", View::Archive)?)?;
+    list.push(quality)?;
+    Ok(Titles { list })
+}
+
+/// One association over a port.
+fn ran_over(alloc: Global, port: AskedPort, input: &[u8], way: Way) -> Result<Ran, AllocError> {
+    let titles = titles_of(alloc)?;
+    let mut supply = Supply::new(Octets::from_slice(alloc, input)?, way.piece, way.fails_at);
+    let mut store = Store::new(alloc, way.room);
+    let mut port = port;
+    let mut passed = Passed {
+        stores: 0,
+        finds: 0,
+    };
+    let ended = run_association(
+        alloc,
+        &mut supply,
+        &mut store,
+        &mut port,
+        &mut passed,
+        &titles,
+    );
+    Ok(Ran {
+        ended,
+        written: Vec::from_slice(alloc, store.as_slice())?,
+        passed,
+        port,
+    })
+}
+
+/// One association, behind that of the earlier peer, which is read whole.
+pub fn run_behind(
+    alloc: Global,
+    setting: &Setting,
+    input: &[u8],
+    way: Way,
+) -> Result<Ran, AllocError> {
+    let mut port = AskedPort::new(alloc, setting.refusal);
+    if !setting.before.is_empty() {
+        let earlier = ran_over(
+            alloc,
+            port,
+            setting.before.as_slice(),
+            Way::of_pieces(AMPLE),
+        )?;
+        port = earlier.into_port();
+    }
+    ran_over(alloc, port, input, way)
+}
+
+impl Ran {
+    fn into_port(self) -> AskedPort {
+        let Ran {
+            ended: _,
+            written: _,
+            passed: _,
+            mut port,
+        } = self;
+        port.forget();
+        port
+    }
+
+    /// How many operations are held then.
+    pub fn held(&self) -> usize {
+        self.port.held()
+    }
+
+    /// Puts how it ended.
+    pub fn put_end(&self, out: &mut String) -> Result<(), AllocError> {
+        match self.ended {
+            Ok(end) => write!(out, "{end:?}"),
+            Err(fault) => write!(out, "fault: {fault}"),
+        }
+    }
+
+    /// Puts which moments of the gate were reached, and how often.
+    fn put_passed(&self, out: &mut String) -> Result<(), AllocError> {
+        let Passed { stores, finds } = self.passed;
+        if stores > 0 {
+            write!(out, ", gate InStore {stores}")?;
+        }
+        if finds > 0 {
+            write!(out, ", gate FindAnswered {finds}")?;
+        }
+        Ok(())
+    }
+
+    /// Puts how it ended and what is held, what was written, and what the port was asked.
+    fn put_all(&self, out: &mut String, words: &Words) -> Result<(), AllocError> {
+        self.put_end(out)?;
+        let size = self.written.len();
+        let held = self.held();
+        write!(out, ", {size} bytes written, {held} held")?;
+        self.put_passed(out)?;
+        out.push_str(self.port.asked())?;
+        out.push_str("\n  written ")?;
+        words.put_told(out, self.written.as_slice())
+    }
+}
+
+/// What a run in reads of `piece` bytes tells.
+fn told_in(
+    alloc: Global,
+    setting: &Setting,
+    words: &Words,
+    input: &[u8],
+    piece: usize,
+) -> Result<String, AllocError> {
+    let ran = run_behind(alloc, setting, input, Way::of_pieces(piece))?;
+    let mut out = String::new(alloc);
+    ran.put_all(&mut out, words)?;
+    Ok(out)
+}
+
+/// What a run tells, in whole reads, and where it is told otherwise in reads of 1 byte or of 7,
+/// that too.
+pub fn told_of_run(
+    alloc: Global,
+    setting: &Setting,
+    words: &Words,
+    input: &[u8],
+) -> Result<String, AllocError> {
+    let size = input.len();
+    let whole = told_in(alloc, setting, words, input, AMPLE)?;
+    let mut out = format!(in alloc; "{size} bytes: {whole}")?;
+    for piece in [1, 7] {
+        let told = told_in(alloc, setting, words, input, piece)?;
+        if told != whole {
+            write!(out, "\nin reads of {piece}: {told}")?;
+        }
+    }
+    Ok(out)
+}
