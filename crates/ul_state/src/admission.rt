@@ -1,10 +1,10 @@
 //! Why a request is refused (PS3.8, section 9.3.4).
 
 ghost use Rattle.std.specs.Prelude.{◌≡◌};
-ghost use Rattle.std.specs.Option.{option_copied};
 ghost use Rattle.ul_state.specs.Admission.{is_version_one, is_known_context, is_too_short, refused, admitted};
+ghost use Rattle.ul_state.specs.Titles.{title_of, without_spaces};
 
-use crate::titles::{Title, trimmed};
+use crate::titles::{Titles, trimmed};
 use dictionary::APPLICATION_CONTEXT_NAME;
 use pdu::{Reject, Request};
 
@@ -33,8 +33,9 @@ fn is_too_short_a_maximum(maximum: u32) -> bool
 }
 
 /// What the called title stands for, or the first refusal that holds.
-pub(crate) fn admit<V: Copy>(request: &Request, title: Option<&Title<V>>) -> Result<V, Reject>
-    ensures { result ≡ admitted request.now (option_copied title) }
+pub(crate) fn admit<V: Copy>(request: &Request, titles: &Titles<V>) -> Result<V, Reject>
+    ensures { result ≡ admitted request.now
+        (title_of titles.now.list (without_spaces request.now.opening.called)) }
 {
     if !has_version_one(request.opening.version) {
         return Err(refusal(2, 2));
@@ -42,7 +43,7 @@ pub(crate) fn admit<V: Copy>(request: &Request, title: Option<&Title<V>>) -> Res
     if !has_known_context(request.application_context.as_slice()) {
         return Err(refusal(1, 2));
     }
-    let Some(title) = title else {
+    let Some(title) = titles.find(trimmed(&request.opening.called)) else {
         return Err(refusal(1, 7));
     };
     if !title.takes(trimmed(&request.opening.calling)) {

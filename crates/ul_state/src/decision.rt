@@ -7,7 +7,7 @@ ghost use Rattle.ul_state.specs.Decision.{value_for, decision_of, pdu_of};
 
 use crate::admission::admit;
 use crate::answer::{accept_of, contexts_of};
-use crate::titles::{Titles, trimmed};
+use crate::titles::Titles;
 use pdu::{Accept, Contexts, Reject, Request};
 use std::alloc::{AllocError, Global};
 
@@ -24,7 +24,7 @@ pub enum Decision<V> {
 pub(crate) fn admission<V: Copy>(request: &Request, titles: &Titles<V>) -> Result<V, Reject>
     ensures { result ≡ value_for titles.now.list request.now }
 {
-    admit(request, titles.find(trimmed(&request.opening.called)))
+    admit(request, titles)
 }
 
 /// Decides on a request.
