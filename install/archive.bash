@@ -10,7 +10,7 @@ _archive() {
             serve\ *) words="--listen --workers --each --exchange --rounds --peer --every --allow --exchange-allow --help" ;;
             exchange\ *) words="--peer --peer-version --help" ;;
             correct\ *) words="--site study patient series --help" ;;
-            report\ *) words="--help" ;;
+            report\ *) words="--conflicts --rejected --corrections --studies --tsv --help" ;;
             help\ help) words="serve exchange correct report simulate" ;;
             *) return ;;
         esac

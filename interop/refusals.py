@@ -111,6 +111,7 @@ def try_words(refusals):
     many = [w for port in range(1, 33) for w in ("--peer", f"127.0.0.1:{port}")]
     refusals.refused("serve with 32 peers", refusals.serve(refusals.new(), "", *SERVED, *many), 2, None)
     for words in ([], ["nothing"], ["serve"], ["report"], ["exchange", refusals.new()],
+                  ["report", refusals.new(), "--tsv"], ["report", refusals.new(), "--studies", "--rejected"],
                   ["correct", refusals.new(), "--site", "0", "patient", "P1", "00100010", "A"],
                   ["correct", refusals.new(), "--site", "65536", "patient", "P1", "00100010", "A"],
                   ["correct", refusals.new(), "--site", "1", "image", "P1", "00100010", "A"],

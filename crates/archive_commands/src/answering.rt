@@ -40,7 +40,7 @@ pub fn answer<
 {
     match asked {
         Asked::Simulate => Ok(printed(rt.alloc(), answer_script(rt))),
-        Asked::Report(file) => Ok(report(rt, file)),
+        Asked::Report(reporting) => Ok(report(rt, reporting)),
         Asked::Correct(correcting) => Ok(correct(rt, host, correcting)),
         Asked::Exchange(exchanging) => Ok(exchange(rt, host, exchanging)),
         Asked::Serve(serving) => Ok(printed(rt.alloc(), serve(rt, host, &serving)?)),

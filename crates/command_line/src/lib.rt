@@ -5,10 +5,11 @@ ghost use Rattle.std.specs.Prelude.{◌≤◌, IfOk, IfSome, vec_len};
 ghost use Rattle.command_words.specs.Words.{HasSite, HasPlaces, IsInRange};
 
 use clap::error::ErrorKind;
-use clap::{Arg, ArgAction, ArgMatches, Command, Error, value_parser};
-use command_words::{Asked, Correcting, Exchanging, Serving, change_in};
+use clap::{Arg, ArgAction, ArgGroup, ArgMatches, Command, Error, value_parser};
+use command_words::{Asked, Correcting, Exchanging, Reporting, Serving, change_in};
 use exchange_run::Role;
 use ipv4_networks::{Network, read_network};
+use site_tables::Table;
 use std::alloc::{AllocError, Global};
 use std::net::SocketAddrV4;
 
@@ -20,9 +21,10 @@ const SIMULATE: &str = "Answers the script on standard input, in which sites tak
 Example: archive simulate < rejected.script";
 
 const REPORT: &str = "Counts the operations in FILE, and tells the SOP Instance UIDs of which it \
-    has two contents or more
+    has two contents or more. With one of --conflicts, --rejected, --corrections and --studies it \
+    tells a table instead, aligned for reading, and with --tsv parted by tabs
 
-Example: archive report ops.db";
+Example: archive report ops.db --studies";
 
 const CORRECT: &str =
     "Corrects an attribute of a study, a patient or a series in FILE, which is made \
@@ -68,9 +70,50 @@ fn word<'a>(alloc: Global, name: &'a str, help: &'a str) -> Arg<'a> {
     Arg::new(alloc, name).required(true).help(help)
 }
 
+/// An option that names a table.
+fn table_of<'a>(alloc: Global, name: &'a str, help: &'a str) -> Arg<'a> {
+    Arg::new(alloc, name)
+        .long(name)
+        .action(ArgAction::SetTrue)
+        .help(help)
+}
+
+/// The options that name tables, of which one may be given.
+fn tables_of<'a>(alloc: Global) -> Result<ArgGroup<'a>, AllocError> {
+    ArgGroup::new(alloc, "table").args(&["conflicts", "rejected", "corrections", "studies"])
+}
+
 fn report_command<'a>(alloc: Global) -> Result<Command<'a>, AllocError> {
-    let file = word(alloc, "FILE", "The file with the operations");
-    Command::new(alloc, "report").about(REPORT).arg(file)
+    let separated = Arg::new(alloc, "tsv")
+        .long("tsv")
+        .action(ArgAction::SetTrue)
+        .requires_arg("table")?
+        .help("Parts the cells of the table by tabs");
+    Command::new(alloc, "report")
+        .about(REPORT)
+        .arg(word(alloc, "FILE", "The file with the operations"))?
+        .arg(table_of(
+            alloc,
+            "conflicts",
+            "The contents of each SOP Instance UID that has two or more, and which is picked",
+        ))?
+        .arg(table_of(
+            alloc,
+            "rejected",
+            "The UIDs that rejection notes name, with the titles of the notes and the notes",
+        ))?
+        .arg(table_of(
+            alloc,
+            "corrections",
+            "The corrections, and which of them count",
+        ))?
+        .arg(table_of(
+            alloc,
+            "studies",
+            "The studies that ARCHIVE shows, corrected",
+        ))?
+        .arg(separated)?
+        .group(tables_of(alloc)?)
 }
 
 fn correct_command<'a>(alloc: Global) -> Result<Command<'a>, AllocError> {
@@ -197,6 +240,32 @@ fn archive_command<'a>(alloc: Global) -> Result<Command<'a>, AllocError> {
 /// The word of a name, which is there where the name is that of a word that has to be.
 fn text<'a>(found: &ArgMatches<'a>, name: &str) -> &'a str {
     found.get_str(name).unwrap_or("")
+}
+
+/// The table that an option names, if one does.
+fn table_in(found: &ArgMatches<'_>) -> Option<Table> {
+    if found.get_flag("conflicts") {
+        return Some(Table::Conflicts);
+    }
+    if found.get_flag("rejected") {
+        return Some(Table::Rejected);
+    }
+    if found.get_flag("corrections") {
+        return Some(Table::Corrections);
+    }
+    if found.get_flag("studies") {
+        return Some(Table::Studies);
+    }
+    None
+}
+
+/// What the words behind `report` ask for.
+fn read_report<'a>(found: &ArgMatches<'a>) -> Reporting<'a> {
+    Reporting {
+        file: text(found, "FILE"),
+        table: table_in(found),
+        separated: found.get_flag("tsv"),
+    }
 }
 
 /// What the words behind `correct` ask for, if they have its form.
@@ -353,7 +422,7 @@ pub fn read_words<'a>(alloc: Global, words: &'a [&'a str]) -> Result<Asked<'a>, 
     let mut command = archive_command(alloc)?;
     let matches = command.try_get_matches_from_mut(words)?;
     match matches.subcommand() {
-        Some(("report", found)) => Ok(Asked::Report(text(found, "FILE"))),
+        Some(("report", found)) => Ok(Asked::Report(read_report(found))),
         Some(("correct", found)) => match read_correct(alloc, found)? {
             Some(correcting) => Ok(Asked::Correct(correcting)),
             None => Err(command.error(ErrorKind::InvalidValue, NO_FORM)?),
