@@ -1,9 +1,9 @@
-//! Tables of a few rows.
+//! Tables of a few rows as text.
 
-use crate::{align, separate};
 use octets::{ListOf, Octets};
 use std::alloc::{AllocError, Global};
 use std::rt::HostRuntime;
+use table_text::{align, separate};
 
 fn row(alloc: Global, cells: &[&[u8]]) -> Result<ListOf<Octets>, AllocError> {
     let mut row = ListOf::new(alloc);
