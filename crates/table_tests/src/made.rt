@@ -1,6 +1,7 @@
 //! Sites as the lines of a script make them.
 
-use octets::Octets;
+ghost use Rattle.site_script.specs.Fitting.{MakesSets};
+
 use operation::{Op, Stamp, correction_of};
 use site_script::{Command, CorrectLine, command_of, image_content, note_content};
 use site_state::Site;
@@ -24,17 +25,25 @@ fn correction(line: CorrectLine, counter: u64) -> Result<Op, Fail> {
     Ok(Op::Correction(correction_of(target, tag, value, stamp)?))
 }
 
-/// The operation of a line, of which a correction has a counter.
-fn op_of(alloc: Global, line: &str, counter: u64) -> Result<Option<Op>, Fail> {
-    if line.len() > LONGEST {
-        return Ok(None);
-    }
-    match command_of(alloc, line.as_bytes())? {
+/// The operation that a command takes in, of which a correction has a counter.
+fn taken(alloc: Global, command: Command, counter: u64) -> Result<Option<Op>, Fail>
+    requires { MakesSets command }
+{
+    match command {
         Command::Image(image) => Ok(Some(Op::Content(image_content(alloc, &image)?))),
         Command::Note(note) => Ok(Some(Op::Content(note_content(alloc, &note)?))),
         Command::Correct(line) => Ok(Some(correction(line, counter)?)),
         _ => Ok(None),
     }
+}
+
+/// The operation of a line, of which a correction has a counter.
+fn op_of(alloc: Global, line: &str, counter: u64) -> Result<Option<Op>, Fail> {
+    if line.len() > LONGEST {
+        return Ok(None);
+    }
+    let command = command_of(alloc, line.as_bytes())?;
+    taken(alloc, command, counter)
 }
 
 /// A site that took the operations of some lines. The counter of a correction is the line's number.

@@ -3,8 +3,6 @@
 
 mod aligned;
 mod separated;
-#[cfg(test)]
-mod tests;
 
 pub use aligned::align;
 pub use separated::separate;

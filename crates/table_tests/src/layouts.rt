@@ -1,9 +1,9 @@
-//! Tables of a few rows.
+//! Tables of a few rows as text.
 
-use crate::{align, separate};
 use octets::{ListOf, Octets};
 use std::alloc::{AllocError, Global};
 use std::rt::HostRuntime;
+use table_text::{align, separate};
 
 fn row(alloc: Global, cells: &[&[u8]]) -> Result<ListOf<Octets>, AllocError> {
     let mut row = ListOf::new(alloc);
@@ -55,7 +55,8 @@ fn no_rows_are_a_heading_alone(rt: HostRuntime) {
 fn values_are_parted_by_tabs(rt: HostRuntime) {
     let rows = rows(rt.alloc()).unwrap();
     let text = separate(rt.alloc(), &["STUDY", "NAME"], rows.as_slice()).unwrap();
-    let told =
-        b"STUDY\tNAME\n1.2\tDOE^JANE\n1.2.840\t\xe5\xb1\xb1\xe7\x94\xb0^\xe5\xa4\xaa\xe9\x83\x8e\n\"1\t2\"\tM\xfcLLER\n";
+    let told = b"STUDY\tNAME\n1.2\tDOE^JANE\n\
+        1.2.840\t\xe5\xb1\xb1\xe7\x94\xb0^\xe5\xa4\xaa\xe9\x83\x8e\n\
+        \"1\t2\"\tM\xfcLLER\n";
     assert_eq!(rt; text.as_slice(), told.as_slice());
 }
