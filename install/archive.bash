@@ -5,9 +5,9 @@ _archive() {
         words="serve exchange correct report simulate help --help"
     else
         case "${COMP_WORDS[1]} $before" in
-            *\ --listen | *\ --exchange | *\ --peer | *\ --every | *\ --allow | *\ --exchange-allow | *\ --workers | *\ --each | *\ --rounds | *\ --site) return ;;
+            *\ --listen | *\ --exchange | *\ --peer | *\ --every | *\ --allow | *\ --exchange-allow | *\ --calling | *\ --workers | *\ --each | *\ --rounds | *\ --site) return ;;
             *\ --peer-version) words="1 2" ;;
-            serve\ *) words="--listen --workers --each --exchange --rounds --peer --every --allow --exchange-allow --help" ;;
+            serve\ *) words="--listen --workers --each --exchange --rounds --peer --every --allow --exchange-allow --calling --until-end-of-input --verbose --help" ;;
             exchange\ *) words="--peer --peer-version --help" ;;
             correct\ *) words="--site study patient series --help" ;;
             report\ *) words="--conflicts --rejected --corrections --studies --tsv --help" ;;

@@ -10,6 +10,7 @@ use crate::simulate::answer_script;
 use anyhow::Result;
 use command_output::CommandFault;
 use command_words::Asked;
+use log::Log;
 use std::alloc::Global;
 use std::io::Print;
 use std::net::{Net, TcpListener, TcpStream};
@@ -34,7 +35,13 @@ fn printed<T: Drop, E: Into<CommandFault> + Drop>(
 
 /// Does what a command line asks for. It fails where standard output does.
 pub fn answer<
-    R: Net<Listener = TcpListener, Stream = TcpStream> + Threads + Wait + Clock + Print + Sync,
+    R: Net<Listener = TcpListener, Stream = TcpStream>
+        + Threads
+        + Wait
+        + Clock
+        + Print
+        + Log
+        + Sync,
 >(rt: &HostRuntime, host: &R, asked: Asked<'_>) -> Result<Answered>
     requires ranges { IsInRange asked }
 {

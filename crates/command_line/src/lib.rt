@@ -39,7 +39,9 @@ const SERVE: &str =
     another site calls. With --peer it meanwhile calls another site, waits --every seconds and \
     calls it again; one that does not answer is called again all the same. With --allow only peers \
     of these networks may come, such as 10.1.0.0/16; a connection from elsewhere is closed unread. \
-    With --calling only requestors that call themselves so are answered; others are rejected
+    With --calling only requestors that call themselves so are answered; others are rejected. With \
+    --until-end-of-input it ends once its standard input does; with --verbose each association and \
+    each exchange is a line on standard error
 
 Example: archive serve ops.db --listen 127.0.0.1:11112 --workers 4 --each 1000 \
     --exchange 127.0.0.1:11113 --rounds 1000 --peer 127.0.0.1:11115 --every 30";
@@ -145,6 +147,14 @@ fn networks_of<'a>(alloc: Global, name: &'a str, help: &'a str) -> Arg<'a> {
         .help(help)
 }
 
+/// An option without a value.
+fn flag<'a>(alloc: Global, name: &'a str, help: &'a str) -> Arg<'a> {
+    Arg::new(alloc, name)
+        .long(name)
+        .action(ArgAction::SetTrue)
+        .help(help)
+}
+
 fn serve_command<'a>(alloc: Global) -> Result<Command<'a>, AllocError> {
     let listen = word(alloc, "listen", "The IPv4 address and port to listen at")
         .long("listen")
@@ -195,6 +205,16 @@ fn serve_command<'a>(alloc: Global) -> Result<Command<'a>, AllocError> {
         .value_name("TITLE")
         .action(ArgAction::Append)
         .help("A calling title that may ask for an association, else any may");
+    let until = flag(
+        alloc,
+        "until-end-of-input",
+        "Ends once its standard input does",
+    );
+    let verbose = flag(
+        alloc,
+        "verbose",
+        "Tells each association and each exchange on standard error",
+    );
     Command::new(alloc, "serve")
         .about(SERVE)
         .arg(word(alloc, "FILE", "The file with the operations"))?
@@ -207,7 +227,9 @@ fn serve_command<'a>(alloc: Global) -> Result<Command<'a>, AllocError> {
         .arg(every)?
         .arg(allow)?
         .arg(exchange_allow)?
-        .arg(calling)
+        .arg(calling)?
+        .arg(until)?
+        .arg(verbose)
 }
 
 fn exchange_command<'a>(alloc: Global) -> Result<Command<'a>, AllocError> {
@@ -339,7 +361,8 @@ fn networks_in(
 fn is_title(text: &str) -> bool {
     let bytes = text.as_bytes();
     let is_in_title = |byte: &u8| (b' '..=b'~').contains(byte) && *byte != b'\\';
-    1 <= bytes.len() && bytes.len() <= 16
+    1 <= bytes.len()
+        && bytes.len() <= 16
         && bytes.iter().all(is_in_title)
         && bytes.first() != Some(&b' ')
         && bytes.last() != Some(&b' ')
@@ -393,6 +416,8 @@ fn read_serve<'a>(alloc: Global, found: &ArgMatches<'a>) -> Result<Option<Servin
             allowed,
             exchange_allowed,
             callers,
+            ends_with_input: found.get_flag("until-end-of-input"),
+            is_verbose: found.get_flag("verbose"),
         })),
         _ => Ok(None),
     }

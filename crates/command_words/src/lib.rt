@@ -50,6 +50,10 @@ pub struct Serving<'a> {
     pub exchange_allowed: Vec<Network>,
     /// The calling titles that may ask for an association. Where none is named any may.
     pub callers: Vec<&'a str>,
+    /// Whether the end of standard input ends it.
+    pub ends_with_input: bool,
+    /// Whether each association and each exchange is a line on standard error.
+    pub is_verbose: bool,
 }
 
 /// The operations in a file, and the address of the site that they are exchanged with.

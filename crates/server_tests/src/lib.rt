@@ -6,6 +6,8 @@ mod called;
 #[cfg(test)]
 mod client;
 #[cfg(test)]
+mod ended;
+#[cfg(test)]
 mod exchanged;
 #[cfg(test)]
 mod served;
