@@ -82,7 +82,11 @@ fn table_of<'a>(alloc: Global, name: &'a str, help: &'a str) -> Arg<'a> {
 
 /// The options that name tables, of which one may be given.
 fn tables_of<'a>(alloc: Global) -> Result<ArgGroup<'a>, AllocError> {
-    ArgGroup::new(alloc, "table").args(&["conflicts", "rejected", "corrections", "studies"])
+    ArgGroup::new(alloc, "table")
+        .arg("conflicts")?
+        .arg("rejected")?
+        .arg("corrections")?
+        .arg("studies")
 }
 
 fn report_command<'a>(alloc: Global) -> Result<Command<'a>, AllocError> {
@@ -155,22 +159,8 @@ fn flag<'a>(alloc: Global, name: &'a str, help: &'a str) -> Arg<'a> {
         .help(help)
 }
 
-fn serve_command<'a>(alloc: Global) -> Result<Command<'a>, AllocError> {
-    let listen = word(alloc, "listen", "The IPv4 address and port to listen at")
-        .long("listen")
-        .value_name("ADDR");
-    let workers = word(
-        alloc,
-        "workers",
-        "How many associations are served at once, 1 to 32",
-    )
-    .long("workers")
-    .value_name("N")
-    .value_parser(value_parser!(u16).range(1..=32));
-    let each = word(alloc, "each", "How many associations each worker accepts")
-        .long("each")
-        .value_name("N")
-        .value_parser(value_parser!(u32));
+/// With the options of the exchanges that a server serves, and of the sites that it calls.
+fn with_exchanges<'a>(alloc: Global, command: Command<'a>) -> Result<Command<'a>, AllocError> {
     let exchange = Arg::new(alloc, "exchange")
         .long("exchange")
         .value_name("ADDR")
@@ -190,6 +180,11 @@ fn serve_command<'a>(alloc: Global) -> Result<Command<'a>, AllocError> {
         .value_name("SECONDS")
         .value_parser(value_parser!(u32).range(1..))
         .help("How long it waits before it calls a peer again, 60 where it is left out");
+    command.arg(exchange)?.arg(rounds)?.arg(peer)?.arg(every)
+}
+
+/// With the options of who may come.
+fn with_callers<'a>(alloc: Global, command: Command<'a>) -> Result<Command<'a>, AllocError> {
     let allow = networks_of(
         alloc,
         "allow",
@@ -205,6 +200,11 @@ fn serve_command<'a>(alloc: Global) -> Result<Command<'a>, AllocError> {
         .value_name("TITLE")
         .action(ArgAction::Append)
         .help("A calling title that may ask for an association, else any may");
+    command.arg(allow)?.arg(exchange_allow)?.arg(calling)
+}
+
+/// With the options of how a server ends and what it tells.
+fn with_manner<'a>(alloc: Global, command: Command<'a>) -> Result<Command<'a>, AllocError> {
     let until = flag(
         alloc,
         "until-end-of-input",
@@ -215,21 +215,34 @@ fn serve_command<'a>(alloc: Global) -> Result<Command<'a>, AllocError> {
         "verbose",
         "Tells each association and each exchange on standard error",
     );
-    Command::new(alloc, "serve")
+    command.arg(until)?.arg(verbose)
+}
+
+fn serve_command<'a>(alloc: Global) -> Result<Command<'a>, AllocError> {
+    let listen = word(alloc, "listen", "The IPv4 address and port to listen at")
+        .long("listen")
+        .value_name("ADDR");
+    let workers = word(
+        alloc,
+        "workers",
+        "How many associations are served at once, 1 to 32",
+    )
+    .long("workers")
+    .value_name("N")
+    .value_parser(value_parser!(u16).range(1..=32));
+    let each = word(alloc, "each", "How many associations each worker accepts")
+        .long("each")
+        .value_name("N")
+        .value_parser(value_parser!(u32));
+    let command = Command::new(alloc, "serve")
         .about(SERVE)
         .arg(word(alloc, "FILE", "The file with the operations"))?
         .arg(listen)?
         .arg(workers)?
-        .arg(each)?
-        .arg(exchange)?
-        .arg(rounds)?
-        .arg(peer)?
-        .arg(every)?
-        .arg(allow)?
-        .arg(exchange_allow)?
-        .arg(calling)?
-        .arg(until)?
-        .arg(verbose)
+        .arg(each)?;
+    let command = with_exchanges(alloc, command)?;
+    let command = with_callers(alloc, command)?;
+    with_manner(alloc, command)
 }
 
 fn exchange_command<'a>(alloc: Global) -> Result<Command<'a>, AllocError> {
