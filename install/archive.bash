@@ -7,10 +7,10 @@ _archive() {
         case "${COMP_WORDS[1]} $before" in
             *\ --listen | *\ --exchange | *\ --peer | *\ --every | *\ --allow | *\ --exchange-allow | *\ --calling | *\ --workers | *\ --each | *\ --rounds | *\ --site) return ;;
             *\ --peer-version) words="1 2" ;;
-            serve\ *) words="--listen --workers --each --exchange --rounds --peer --every --allow --exchange-allow --calling --help" ;;
+            serve\ *) words="--listen --workers --each --exchange --rounds --peer --every --allow --exchange-allow --calling --until-end-of-input --verbose --help" ;;
             exchange\ *) words="--peer --peer-version --help" ;;
             correct\ *) words="--site study patient series --help" ;;
-            report\ *) words="--help" ;;
+            report\ *) words="--conflicts --rejected --corrections --studies --tsv --help" ;;
             help\ help) words="serve exchange correct report simulate" ;;
             *) return ;;
         esac

@@ -63,7 +63,8 @@ class Archive:
         words = ["--exchange", self.peer, "--rounds", "1000"] if self.exchanges else []
         self.process = subprocess.Popen(
             [self.program, "serve", self.path, "--listen", f"127.0.0.1:{self.port}", "--workers", "4",
-             "--each", "100000", *words, *self.options], stdout=subprocess.PIPE, stderr=subprocess.PIPE)
+             "--each", "100000", *words, *self.options],
+            stdin=subprocess.PIPE, stdout=subprocess.PIPE, stderr=subprocess.PIPE)
         wanted = [f"listening 127.0.0.1:{self.port}\n"] + [f"exchanging {self.peer}\n"] * self.exchanges
         for line in wanted:
             found = self.process.stdout.readline().decode()

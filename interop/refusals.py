@@ -94,7 +94,9 @@ def try_words(refusals):
     """Words of another form: status 2."""
     for more in (["--workers", "0", "--each", "1"], ["--workers", "33", "--each", "1"],
                  ["--workers", "1", "--each", "4294967296"], ["--workers", "1", "--each", "-1"],
-                 ["--workers", "one", "--each", "1"], ["--workers", "1"], [*SERVED, "--rounds", "4294967296"]):
+                 ["--workers", "one", "--each", "1"], ["--workers", "1"], [*SERVED, "--rounds", "4294967296"],
+                 [*SERVED, "--rounds", "1"], [*SERVED, "--exchange", f"127.0.0.1:{free_port()}"],
+                 [*SERVED, "--every", "1"]):
         refusals.refused("serve " + " ".join(more), refusals.serve(refusals.new(), "", *more), 2, None)
     for address in ("localhost:11112", "127.0.0.1", "127.0.0.1:", "127.0.0.1:65536", "127.0.0.256:11112",
                     "[::1]:11112", ":11112", "11112", "127.0.0.1:11112 ", "tcp://127.0.0.1:11112"):
@@ -111,6 +113,7 @@ def try_words(refusals):
     many = [w for port in range(1, 33) for w in ("--peer", f"127.0.0.1:{port}")]
     refusals.refused("serve with 32 peers", refusals.serve(refusals.new(), "", *SERVED, *many), 2, None)
     for words in ([], ["nothing"], ["serve"], ["report"], ["exchange", refusals.new()],
+                  ["report", refusals.new(), "--tsv"], ["report", refusals.new(), "--studies", "--rejected"],
                   ["correct", refusals.new(), "--site", "0", "patient", "P1", "00100010", "A"],
                   ["correct", refusals.new(), "--site", "65536", "patient", "P1", "00100010", "A"],
                   ["correct", refusals.new(), "--site", "1", "image", "P1", "00100010", "A"],

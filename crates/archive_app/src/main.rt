@@ -3,8 +3,9 @@
 
 use anyhow::Result;
 use archive_commands::{Answered, answer};
-use command_line::read_words;
+use command_line::{is_want_of_memory, read_words};
 use command_output::{ending_of, status_of_refusal};
+use log::Log;
 use std::io::{Print, Write};
 use std::net::{Net, TcpListener, TcpStream};
 use std::process::ExitCode;
@@ -30,16 +31,24 @@ fn told(rt: &HostRuntime, answered: Answered) -> Result<u8> {
     Ok(ending.status)
 }
 
-fn run<R: Net<Listener = TcpListener, Stream = TcpStream> + Threads + Wait + Clock + Print + Sync>(
-    rt: &HostRuntime,
-    host: &R,
-) -> Result<u8> {
+fn run<
+    R: Net<Listener = TcpListener, Stream = TcpStream>
+        + Threads
+        + Wait
+        + Clock
+        + Print
+        + Log
+        + Sync,
+>(rt: &HostRuntime, host: &R) -> Result<u8> {
     let words: Vec<String> = env::args(rt)?.collect(rt.alloc())?;
     let words: Vec<&str> = words.iter().map(|word| word.as_str()).collect(rt.alloc())?;
     match read_words(rt.alloc(), words.as_slice()) {
         Ok(asked) => told(rt, answer(rt, host, asked)?),
         Err(error) => {
             error.print(rt)?;
+            if is_want_of_memory(&error) {
+                return Ok(1);
+            }
             Ok(status_of_refusal(error.use_stderr()))
         }
     }

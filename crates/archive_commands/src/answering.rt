@@ -10,6 +10,7 @@ use crate::simulate::answer_script;
 use anyhow::Result;
 use command_output::CommandFault;
 use command_words::Asked;
+use log::Log;
 use std::alloc::Global;
 use std::io::Print;
 use std::net::{Net, TcpListener, TcpStream};
@@ -34,13 +35,19 @@ fn printed<T: Drop, E: Into<CommandFault> + Drop>(
 
 /// Does what a command line asks for. It fails where standard output does.
 pub fn answer<
-    R: Net<Listener = TcpListener, Stream = TcpStream> + Threads + Wait + Clock + Print + Sync,
+    R: Net<Listener = TcpListener, Stream = TcpStream>
+        + Threads
+        + Wait
+        + Clock
+        + Print
+        + Log
+        + Sync,
 >(rt: &HostRuntime, host: &R, asked: Asked<'_>) -> Result<Answered>
     requires ranges { IsInRange asked }
 {
     match asked {
         Asked::Simulate => Ok(printed(rt.alloc(), answer_script(rt))),
-        Asked::Report(file) => Ok(report(rt, file)),
+        Asked::Report(reporting) => Ok(report(rt, reporting)),
         Asked::Correct(correcting) => Ok(correct(rt, host, correcting)),
         Asked::Exchange(exchanging) => Ok(exchange(rt, host, exchanging)),
         Asked::Serve(serving) => Ok(printed(rt.alloc(), serve(rt, host, &serving)?)),

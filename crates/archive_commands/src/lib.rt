@@ -3,8 +3,10 @@
 
 mod answering;
 mod correct;
+mod ending;
 mod exchanging;
 mod file;
+mod progress;
 mod report;
 mod serve;
 mod simulate;

@@ -4,24 +4,25 @@ ghost use Rattle.std.specs.Prelude.{◌≡◌, ◌≤◌, ◌<◌, ◌+◌, not,
 ghost use Rattle.archive_server.specs.Serving.{places_for};
 ghost use Rattle.command_words.specs.Words.{HasPlaces};
 
+use crate::ending::ended_with_input;
 use crate::file::{FileShelf, is_new, open_shelf};
+use crate::progress::site_on;
 use anyhow::Result as Printed;
 use archive_model::View;
-use archive_server::{Entrance, Exchanging, NetFault, Peer, ServeFault, Served, serve_on};
+use archive_server::{Entrance, Exchanging, Manner, NetFault, Peer, ServeFault, Served, serve_on};
 use association_run::OpenGate;
 use command_output::CommandFault;
 use command_words::Serving;
+use log::Log;
 use octets::{ListOf, Octets};
-use op_shelf::Shelf;
-use shelved_site::site_of;
 use site_hub::{CloseFault, HubFault, HubName, Keeper, Opened, Pass, Snapshot, close, open};
-use sqlite::Alter;
 use std::alloc::{AllocError, Global};
 use std::io::Print;
 use std::marker::Brand;
 use std::net::{Net, TcpListener, TcpStream};
 use std::rt::HostRuntime;
-use std::sync::{Mutex, Wait};
+use std::sync::atomic::AtomicBool;
+use std::sync::{Arc, Mutex, Wait};
 use std::thread::Threads;
 use std::time::{Clock, Duration};
 use ul_state::{Title, Titles};
@@ -140,7 +141,7 @@ fn workers_of(passes: usize, exchanges: bool, peers: usize) -> usize
 /// closes the hub.
 fn serve_hub<
     H: HubName + Send + Sync,
-    R: Net<Listener = TcpListener, Stream = TcpStream> + Threads + Wait + Clock + Sync,
+    R: Net<Listener = TcpListener, Stream = TcpStream> + Threads + Wait + Clock + Log + Sync,
 >(
     rt: &R,
     alloc: Global,
@@ -148,6 +149,7 @@ fn serve_hub<
     opened: Opened<&R>,
     listening: &Listening,
     serving: &Serving<'_>,
+    manner: Manner<'_>,
 ) -> Result<Count, CommandFault>
     requires book { opened.book ≡ H.book }
     requires number { opened.number ≡ H.number }
@@ -189,6 +191,7 @@ fn serve_hub<
         &keeper,
         passes,
         shelf,
+        manner,
     );
     let closed = close_hub(keeper.into_inner(), passes);
     Ok(Count {
@@ -198,16 +201,17 @@ fn serve_hub<
 }
 
 /// The hub of a site whose operations stand on a shelf, with so many passes.
-fn hub_of<'r, S: Alter, R: Wait>(
+fn hub_of<'r, R: Wait>(
+    host: &HostRuntime,
     rt: &'r R,
-    alloc: Global,
-    shelf: &mut Shelf<S>,
+    file: &str,
+    shelf: &mut FileShelf,
     passes: usize,
 ) -> Result<Opened<&'r R>, CommandFault>
     requires passes { (1 ≤ passes) × (passes ≤ 64) }
 {
-    let site = site_of(alloc, shelf.all()?)?;
-    let opened = open(alloc, rt, site, SITE, passes)?;
+    let site = site_on(host, file, shelf)?;
+    let opened = open(host.alloc(), rt, site, SITE, passes)?;
     Ok(opened)
 }
 
@@ -278,7 +282,7 @@ fn open_site<'r, R: Net<Listener = TcpListener, Stream = TcpStream> + Wait>(
         false => None,
     };
     let mut shelf = open_shelf(host, serving.file)?;
-    let opened = hub_of(rt, host.alloc(), &mut shelf, passes_for(serving))?;
+    let opened = hub_of(host, rt, serving.file, &mut shelf, passes_for(serving))?;
     let listening = match listening {
         Some(listening) => listening,
         None => listen_to(rt, serving)?,
@@ -286,24 +290,71 @@ fn open_site<'r, R: Net<Listener = TcpListener, Stream = TcpStream> + Wait>(
     Ok((shelf, opened, listening))
 }
 
+/// What ends a server before its time, where something does.
+fn ending_of<T: Threads>(
+    host: &HostRuntime,
+    rt: &T,
+    listening: &Listening,
+    serving: &Serving<'_>,
+) -> Result<Option<Arc<AtomicBool, Global>>, CommandFault> {
+    if !serving.ends_with_input {
+        return Ok(None);
+    }
+    let ended = ended_with_input(host, rt, &listening.associations, &listening.exchanges)?;
+    Ok(Some(ended))
+}
+
+/// Serves a site that is open, in a manner that lasts as long.
+fn serve_site<
+    R: Net<Listener = TcpListener, Stream = TcpStream> + Threads + Wait + Clock + Log + Sync,
+>(
+    host: &HostRuntime,
+    rt: &R,
+    site: (FileShelf, Opened<&R>, Listening),
+    serving: &Serving<'_>,
+) -> Result<Count, CommandFault> {
+    let (mut shelf, opened, listening) = site;
+    let ended = ending_of(host, rt, &listening, serving)?;
+    let manner = Manner {
+        ending: ended.as_deref(),
+        is_verbose: serving.is_verbose,
+    };
+    serve_hub::<Brand, R>(
+        rt,
+        host.alloc(),
+        &mut shelf,
+        opened,
+        &listening,
+        serving,
+        manner,
+    )
+}
+
 /// Serves the operations in a file, until each worker has accepted what it may and each exchange
-/// was served. Meanwhile it calls its peers.
+/// was served, or until standard input ends where that is asked for. Meanwhile it calls its peers.
 ///
 /// It prints where it listens once it does, and at the end how many associations were accepted.
 /// Refusals come in this order: the shelf, the site, the hub, the listeners; behind them the first
 /// fault of an association or an accept, and that of an exchange. Where the file is not there the
-/// listeners come first.
+/// listeners come first. The thread that waits for the end of standard input comes behind what is
+/// printed.
 pub fn serve<
-    R: Net<Listener = TcpListener, Stream = TcpStream> + Threads + Wait + Clock + Print + Sync,
+    R: Net<Listener = TcpListener, Stream = TcpStream>
+        + Threads
+        + Wait
+        + Clock
+        + Print
+        + Log
+        + Sync,
 >(host: &HostRuntime, rt: &R, serving: &Serving<'_>) -> Printed<Result<(), CommandFault>>
     requires places { HasPlaces serving.now }
 {
-    let (mut shelf, opened, listening) = match open_site(host, rt, serving) {
+    let site = match open_site(host, rt, serving) {
         Ok(site) => site,
         Err(fault) => return Ok(Err(fault)),
     };
     say_where(rt, serving)?;
-    match serve_hub::<Brand, R>(rt, host.alloc(), &mut shelf, opened, &listening, serving) {
+    match serve_site(host, rt, site, serving) {
         Ok(Count { accepted, ended }) => {
             println!(rt; "served {accepted}")?;
             Ok(ended)

@@ -8,10 +8,11 @@ use Rattle.std.specs.List.Sorted.{IsStrictlySortedBy}
 use Rattle.std.specs.Option.{option_map}
 use Rattle.std.specs.BTreeMap.{is_at}
 use Rattle.std.specs.declared.cmp.Ordering.TheVariants.{Less}
-use Rattle.dictionary.specs.declared.elements.TheConstants.{STUDY_INSTANCE_UID}
+use Rattle.dictionary.specs.declared.elements.TheConstants.{STUDY_INSTANCE_UID, SERIES_INSTANCE_UID}
 use Rattle.data_set.specs.Set.{Set}
 use Rattle.operation.specs.declared.op.Op.{Op}
-use Rattle.operation.specs.Parts.{ContentParts}
+use Rattle.operation.specs.Corrections.{is_corrected}
+use Rattle.operation.specs.Parts.{ContentParts, own_value}
 use Rattle.octets.specs.Members.{Has as IsOne}
 use Rattle.octets.specs.Padding.{trimmed}
 use Rattle.octets.specs.Texts.{same, text_cmp, ascending}
@@ -28,7 +29,7 @@ use Rattle.key_matching.specs.declared.matching.Matching.TheVariants.{Dates, Tim
 use Rattle.key_matching.specs.declared.matching.Matching.TheVariants.{Answered}
 use Rattle.key_matching.specs.Matches.{is_universal, parts, matches, is_same_part}
 use Rattle.study_index.specs.Keys.{has}
-use Rattle.study_index.specs.Live.{pick_at, is_of_study}
+use Rattle.study_index.specs.Live.{pick_at, is_of_study, is_of_series}
 use Rattle.study_index.specs.Index.{IndexValue, pick_of}
 use Rattle.study_index.specs.Definition.{IsIndexOf, AreLawful}
 use Rattle.study_index.specs.Proved.Picks.{text_exact}
@@ -42,7 +43,8 @@ use Rattle.query_model.specs.declared.key.Level.TheVariants.{Study, Series, Imag
 use Rattle.query_model.specs.Key.{has_study_above, has_series_above}
 use Rattle.query_model.specs.Rows.{uid_at, is_named, named, uids_at, is_at as is_at_uid, contents_at, is_key_match}
 use Rattle.query_model.specs.Rows.{is_match, row, row_of, row_at, rows_among, rows_of}
-use Rattle.archive_query.specs.Candidates.{is_uids, is_study_key, is_listed, is_reached_by, is_reached}
+use Rattle.archive_query.specs.Candidates.{is_uids, is_list_of, is_listed, is_reached_by, is_reached}
+use Rattle.archive_query.specs.Candidates.{is_listed_series, is_reached_in, is_reached_at}
 use Rattle.archive_query.proofs.AscendingLaws.{Text, Has, Below, Rises, one_rising, ascending_rises, ascending_has}
 use Rattle.archive_query.proofs.AscendingLaws.{has_ascending}
 
@@ -190,13 +192,24 @@ enough view ops keep us up has_all_kept =
 
 -- ---- what a query asks for
 
+-- at STUDY: what the key that lists studies matches
 abbrev kept_by : Option Asked → ContentParts → Bool
 kept_by None c = true
 kept_by (Some asked) c = matches Uids asked.key (study_of c)
 
--- a content is of the study that is named, or of one that a key matches
+-- at SERIES: what is of the study that is named, and what the key that lists series matches
+abbrev kept_in : Option Asked → Query → ContentParts → Bool
+kept_in None q c = is_named q c
+kept_in (Some asked) q c = is_named q c && matches Uids asked.key (series_of c)
+
+abbrev kept_at : Level → Query → ContentParts → Bool
+kept_at Study q c = kept_by (find (is_list_of STUDY_INSTANCE_UID) q.asked) c
+kept_at Series q c = kept_in (find (is_list_of SERIES_INSTANCE_UID) q.asked) q c
+kept_at Image q c = is_named q c
+
+-- a content is of what is named above the level, and of what a key matches
 abbrev pub is_kept : Query → ContentParts → Bool
-is_kept q c = if has_study_above q.level then is_named q c else kept_by (find is_study_key q.asked) c
+is_kept q c = kept_at q.level q c
 
 and_both : (a b : Bool) → (a && b) ≡ true → (a ≡ true) × (b ≡ true)
 and_both true b e = (refl, e)
@@ -241,33 +254,75 @@ listed_by key c some e =
     (has_map trimmed (parts key) at.0 at.1) (of_cut (trimmed at.0)
     c (sym (same_is (trimmed at.0) (study_of c) at.2)))))
 
+of_cut_series : (study series : Text) (c : ContentParts) → study_of c ≡ study → series_of c ≡ series
+    → is_of_series (take 64 study) (take 64 series) (Some (pick_of c)) ≡ true
+of_cut_series study series c e g =
+    ap (λ b. b && same (take 64 (series_of c)) (take 64 series)) (of_cut study c e)
+    ∙ same_equal (take 64 (series_of c)) (take 64 series) (ap (take 64) g)
+
+-- the same of a key that lists series
+listed_in : (study key : Text) (c : ContentParts) → study_of c ≡ study → is_universal key ≡ false
+    → matches Uids key (series_of c) ≡ true → is_listed_series (take 64 study) key (Some (pick_of c)) ≡ true
+listed_in study key c of some e =
+    either_of (is_universal key || length (series_of c) == 0) (list_any (is_same_part (series_of c)) (parts key)) e
+    (λ h. either_of (is_universal key) (length (series_of c) == 0) h
+    (λ u. absurd (false≢true (sym some ∙ u)))
+    (λ none. or_first _ _ (of_cut_series study [] c of (none_long (series_of c) none))))
+    (λ h. or_second _ _ (let at = any_has (is_same_part (series_of c)) (parts key) h in
+    has_any (λ one. is_of_series (take 64 study) (take 64 one) (Some (pick_of c))) (map trimmed (parts key))
+    (trimmed at.0) (has_map trimmed (parts key) at.0 at.1)
+    (of_cut_series study (trimmed at.0) c of (sym (same_is (trimmed at.0) (series_of c) at.2)))))
+
+named_study : (q : Query) (c : ContentParts) → has_study_above q.level ≡ true → is_named q c ≡ true
+    → study_of c ≡ q.study
+named_study q c l k = same_is (study_of c) q.study (sym (ap (λ b. not b || same (study_of c) q.study) l)
+    ∙ (and_both _ _ k).0)
+
+named_series : (q : Query) (c : ContentParts) → has_series_above q.level ≡ true → is_named q c ≡ true
+    → series_of c ≡ q.series
+named_series q c l k = same_is (series_of c) q.series (sym (ap (λ b. not b || same (series_of c) q.series) l)
+    ∙ (and_both _ _ k).1)
+
 module _ (ops : List Op) (index : IndexValue) (is : IsIndexOf ops index) where
   pick_there : (uid : Text) (c : ContentParts) → pick uid ops ≡ Some c → pick_at uid index.1.1.1 ≡ Some (pick_of c)
   pick_there uid c e = is.picks uid ∙ ap (option_map pick_of) e
 
-  reached_by : (r : Option Asked) (asked : List Asked) → find is_study_key asked ≡ r → (uid : Text) (c : ContentParts)
+  reached_by : (r : Option Asked) (asked : List Asked) → find (is_list_of STUDY_INSTANCE_UID) asked ≡ r
+      → (uid : Text) (c : ContentParts)
       → pick uid ops ≡ Some c → kept_by r c ≡ true → is_reached_by r index.1.1.1 uid ≡ true
   reached_by None asked f uid c e k = pick_listed index.1.1.1 uid (pick_of c) (pick_there uid c e)
   reached_by (Some a) asked f uid c e k =
-      let key = (found_has is_study_key asked a f).1 in
+      let key = (found_has (is_list_of STUDY_INSTANCE_UID) asked a f).1 in
       let some = not_true (is_universal a.key) (and_both _ _ key).1 in
       ap (is_listed a.key) (pick_there uid c e) ∙ listed_by a.key c some k
 
-  above : (q : Query) (uid : Text) (c : ContentParts) (b : Bool) → pick uid ops ≡ Some c → has_study_above q.level ≡ b
-      → (if b then is_named q c else kept_by (find is_study_key q.asked) c) ≡ true
-      → (if b then is_of_study (take 64 q.study) (pick_at uid index.1.1.1) else is_reached_by
-      (find is_study_key q.asked) index.1.1.1 uid) ≡ true
-  above q uid c true e l k =
-      let study = (and_both _ _ k).0 in
-      let one_study : same (study_of c) q.study ≡ true = sym (ap (λ b. not b || same (study_of c) q.study) l) ∙ study in
+  reached_in : (r : Option Asked) (q : Query) → find (is_list_of SERIES_INSTANCE_UID) q.asked ≡ r → q.level ≡ Series
+      → (uid : Text) (c : ContentParts) → pick uid ops ≡ Some c → kept_in r q c ≡ true
+      → is_reached_in r (take 64 q.study) (pick_at uid index.1.1.1) ≡ true
+  reached_in None q f l uid c e k =
       ap (is_of_study (take 64 q.study)) (pick_there uid c e)
-      ∙ of_cut q.study c (same_is (study_of c) q.study one_study)
-  above q uid c false e l k = reached_by (find is_study_key q.asked) q.asked refl uid c e k
+      ∙ of_cut q.study c (named_study q c (ap has_study_above l) k)
+  reached_in (Some a) q f l uid c e k =
+      let both = and_both _ _ k in
+      let key = (found_has (is_list_of SERIES_INSTANCE_UID) q.asked a f).1 in
+      let some = not_true (is_universal a.key) (and_both _ _ key).1 in
+      ap (is_listed_series (take 64 q.study) a.key) (pick_there uid c e)
+      ∙ listed_in q.study a.key c (named_study q c (ap has_study_above l) both.0) some both.1
+
+  reached_at : (level : Level) (q : Query) → q.level ≡ level → (uid : Text) (c : ContentParts) → pick uid ops ≡ Some c
+      → kept_at level q c ≡ true → is_reached_at level q index.1.1.1 uid ≡ true
+  reached_at Study q l uid c e k =
+      reached_by (find (is_list_of STUDY_INSTANCE_UID) q.asked) q.asked refl uid c e k
+  reached_at Series q l uid c e k = reached_in (find (is_list_of SERIES_INSTANCE_UID) q.asked) q refl l uid c e k
+  reached_at Image q l uid c e k =
+      ap (is_of_series (take 64 q.study) (take 64 q.series)) (pick_there uid c e)
+      ∙ of_cut_series q.study q.series c (named_study q c (ap has_study_above l) k)
+      (named_series q c (ap has_series_above l) k)
 
   -- what is kept is reached
   pub reached : (q : Query) (uid : Text) (c : ContentParts) → pick uid ops ≡ Some c → is_kept q c ≡ true
       → is_reached q index.1.1.1 uid ≡ true
-  reached q uid c e k = above q uid c (has_study_above q.level) e refl k
+  reached q uid c e k = reached_at q.level q refl uid c e k
 
 -- ---- rows without what no row is of
 
@@ -284,6 +339,27 @@ filter_twice {X} p r (x ∷ xs) within = by (r x) refl (filter_twice p r xs with
         ≡ cond (p x) (x ∷ filter p xs) (filter p xs)
     by true h e = ap (λ (ys : List X). cond (p x) (x ∷ ys) ys) e
     by false h e = e ∙ out (p x) refl h
+
+-- what passes one test and then another passes both, and the first again
+filter_and : {X : Type 0} (p r : X → Bool) (xs : List X) → filter r (filter p xs) ≡ filter p
+    (filter (λ x. p x && r x) xs)
+filter_and p r [] = refl
+filter_and {X} p r (x ∷ xs) = by (p x) (r x) refl refl (filter_and p r xs)
+  where
+    by : (b d : Bool) → p x ≡ b → r x ≡ d → filter r (filter p xs) ≡ filter p (filter (λ y. p y && r y) xs)
+        → filter r (cond b (x ∷ filter p xs) (filter p xs))
+        ≡ filter p (cond (b && d) (x ∷ filter (λ y. p y && r y) xs) (filter (λ y. p y && r y) xs))
+    by true true h k e =
+        ap (λ d. cond d (x ∷ filter r (filter p xs)) (filter r (filter p xs))) k
+        ∙ ap (λ (ys : List X). x ∷ ys) e
+        ∙ sym (ap (λ b. cond b (x ∷ filter p (filter (λ y. p y && r y) xs)) (filter p (filter (λ y. p y && r y) xs))) h)
+    by true false h k e = ap (λ d. cond d (x ∷ filter r (filter p xs)) (filter r (filter p xs))) k ∙ e
+    by false d h k e = e
+
+filter_alike : {X : Type 0} (p r : X → Bool) → ((x : X) → p x ≡ r x) → (xs : List X) → filter p xs ≡ filter r xs
+filter_alike p r alike [] = refl
+filter_alike {X} p r alike (x ∷ xs) = ap (λ b. cond b (x ∷ filter p xs) (filter p xs)) (alike x)
+    ∙ ap (λ (ys : List X). cond (r x) (x ∷ ys) ys) (filter_alike p r alike xs)
 
 filter_all : {X : Type 0} (p : X → Bool) → ((x : X) → p x ≡ true) → (xs : List X) → filter p xs ≡ xs
 filter_all p all [] = refl
@@ -382,58 +458,70 @@ is_uids_of Uids e = refl
 is_uids_of Single e = absurd (false≢true e)
 is_uids_of Answered e = absurd (false≢true e)
 
-at_study : (level : Level) → has_study_above level ≡ false → level ≡ Study
-at_study Study e = refl
-at_study Series e = absurd (false≢true (sym e))
-at_study Image e = absurd (false≢true (sym e))
-
 module _ (ops : List Op) (lawful : AreLawful ops) (called : List ℕ) (q : Query) where
-  -- a content whose study a key does not match has no row: no correction is for that attribute
-  unmatched : (a : Asked) → find is_study_key q.asked ≡ Some a → (c : ContentParts)
-      → matches Uids a.key (study_of c) ≡ false → is_match ops q c ≡ false
-  unmatched a f c e =
-      let found = found_has is_study_key q.asked a f in
+  -- a content whose UID a key does not match has no row, where no correction is for that attribute
+  unmatched : (tag : ℕ) → is_corrected tag ≡ false → (a : Asked) → find (is_list_of tag) q.asked ≡ Some a
+      → (c : ContentParts) → matches Uids a.key (own_value c tag) ≡ false → is_match ops q c ≡ false
+  unmatched tag other a f c e =
+      let found = found_has (is_list_of tag) q.asked a f in
       let parts_of = and_both _ _ found.1 in
       let tag_and = and_both _ _ parts_of.0 in
-      let tag : a.tag ≡ STUDY_INSTANCE_UID = eqb-true a.tag STUDY_INSTANCE_UID tag_and.0 in
+      let is_tag : a.tag ≡ tag = eqb-true a.tag tag tag_and.0 in
       all_fails (is_key_match ops c) q.asked a found.0
       (ap (λ m. matches m a.key (attribute ops c a.tag)) (is_uids_of a.matching tag_and.1)
-      ∙ ap (λ t. matches Uids a.key (attribute ops c t)) tag
-      ∙ ap (λ r. matches Uids a.key (corrected (study_of c) r)) (not_corrected ops lawful c STUDY_INSTANCE_UID refl)
+      ∙ ap (λ t. matches Uids a.key (attribute ops c t)) is_tag
+      ∙ ap (λ r. matches Uids a.key (corrected (own_value c tag) r)) (not_corrected ops lawful c tag other)
       ∙ e)
 
-  by_level : (b : Bool) → has_study_above q.level ≡ b → (r : Option Asked) → find is_study_key q.asked ≡ r
-      → (cs : List ContentParts)
-      → rows_among ops called q (named q cs) ≡ rows_among ops called
-      q (named q (filter (λ c. if b then is_named q c else kept_by r c) cs))
-  by_level true l r f cs = ap (rows_among ops called q) (sym (filter_twice (is_named q) (is_named q) cs (λ c e. e)))
-  by_level false l None f cs = ap (λ xs. rows_among ops called q (named q xs))
-      (sym (filter_all (λ c. true) (λ c. refl) cs))
-  by_level false l (Some a) f cs =
-      ap (rows_among ops called q) (filter_all (is_named q) all_named cs)
-      ∙ rows_kept ops called q (matches Uids a.key) (λ c e. unmatched a f c (ap (matches Uids a.key) (sym (study_is c))
-      ∙ e)) cs
-      ∙ ap (λ xs. rows_among ops called q xs) (filter_each cs
-      ∙ sym (filter_all (is_named q) all_named (filter (λ c. matches Uids a.key (study_of c)) cs)))
+  abbrev IsEnough : (ContentParts → Bool) → List ContentParts → Type 0
+  IsEnough keep cs = rows_among ops called q (named q cs) ≡ rows_among ops called q (named q (filter keep cs))
+
+  -- what is not of the study and the series that are named is left out again
+  of_named : (cs : List ContentParts) → IsEnough (is_named q) cs
+  of_named cs = ap (rows_among ops called q) (sym (filter_twice (is_named q) (is_named q) cs (λ c e. e)))
+
+  -- what has no row is left out among what is named
+  of_matching : (k : Text → Bool) → ((c : ContentParts) → k (uid_at q.level c) ≡ false → is_match ops q c ≡ false)
+      → (cs : List ContentParts) → IsEnough (λ c. is_named q c && k (uid_at q.level c)) cs
+  of_matching k fails cs =
+      rows_kept ops called q k fails (named q cs)
+      ∙ ap (rows_among ops called q) (filter_and (is_named q) (λ c. k (uid_at q.level c)) cs)
+
+  by_study : (r : Option Asked) → q.level ≡ Study → find (is_list_of STUDY_INSTANCE_UID) q.asked ≡ r
+      → (cs : List ContentParts) → IsEnough (kept_by r) cs
+  by_study None l f cs = ap (λ xs. rows_among ops called q (named q xs)) (sym (filter_all (λ c. true) (λ c. refl) cs))
+  by_study (Some a) l f cs =
+      of_matching (matches Uids a.key)
+      (λ c e. unmatched STUDY_INSTANCE_UID refl a f c (ap (matches Uids a.key) (sym (study_is c)) ∙ e)) cs
+      ∙ ap (λ (xs : List ContentParts). rows_among ops called q (named q xs)) (filter_alike _ _ all_named cs)
     where
-      level : q.level ≡ Study
-      level = at_study q.level l
-
-      all_named : (c : ContentParts) → is_named q c ≡ true
-      all_named c = ap (λ x. (not (has_study_above x) || same (study_of c) q.study) &&
-          (not (has_series_above x) || same (series_of c) q.series)) level
-
       study_is : (c : ContentParts) → uid_at q.level c ≡ study_of c
-      study_is c = ap (λ x. uid_at x c) level
+      study_is c = ap (λ x. uid_at x c) l
 
-      filter_each : (xs : List ContentParts) → filter (λ c. matches Uids a.key (uid_at q.level c)) xs ≡ filter
-          (λ c. matches Uids a.key (study_of c)) xs
-      filter_each xs = ap (λ x. filter (λ c. matches Uids a.key (uid_at x c)) xs) level
+      all_named : (c : ContentParts) → (is_named q c && matches Uids a.key (uid_at q.level c)) ≡ matches
+          Uids a.key (study_of c)
+      all_named c = ap (λ x. ((not (has_study_above x) || same (study_of c) q.study) &&
+          (not (has_series_above x) || same (series_of c) q.series)) && matches Uids a.key (uid_at x c)) l
+
+  by_series : (r : Option Asked) → q.level ≡ Series → find (is_list_of SERIES_INSTANCE_UID) q.asked ≡ r
+      → (cs : List ContentParts) → IsEnough (kept_in r q) cs
+  by_series None l f cs = of_named cs
+  by_series (Some a) l f cs =
+      of_matching (matches Uids a.key)
+      (λ c e. unmatched SERIES_INSTANCE_UID refl a f c (ap (matches Uids a.key) (sym (series_is c)) ∙ e)) cs
+      ∙ ap (λ x. rows_among ops called q (named q (filter (λ c. is_named q c && matches Uids a.key (uid_at x c)) cs))) l
+    where
+      series_is : (c : ContentParts) → uid_at q.level c ≡ series_of c
+      series_is c = ap (λ x. uid_at x c) l
+
+  by_level : (level : Level) → q.level ≡ level → (cs : List ContentParts) → IsEnough (kept_at level q) cs
+  by_level Study l cs = by_study (find (is_list_of STUDY_INSTANCE_UID) q.asked) l refl cs
+  by_level Series l cs = by_series (find (is_list_of SERIES_INSTANCE_UID) q.asked) l refl cs
+  by_level Image l cs = of_named cs
 
   -- what is not kept has no row
-  pub rows_of_kept : (cs : List ContentParts) → rows_among ops called q (named q cs) ≡ rows_among ops called
-      q (named q (filter (is_kept q) cs))
-  rows_of_kept cs = by_level (has_study_above q.level) refl (find is_study_key q.asked) refl cs
+  pub rows_of_kept : (cs : List ContentParts) → IsEnough (is_kept q) cs
+  rows_of_kept cs = by_level q.level refl cs
 
 -- the rows of what is shown of the candidates are all rows
 pub rows_enough : (view : View) (called : List ℕ) (q : Query) (ops : List Op) (index : IndexValue) → IsIndexOf ops index

@@ -1,9 +1,8 @@
 -- Among which SOP Instance UIDs the contents are that a query asks for, by the picks of an index.
 use Rattle.std.specs.Prelude.{ℕ, List, [], take, map, Bool, true, false, not, ◌&&◌, ◌||◌, ◌==◌, Option, Some, None}
-use Rattle.std.specs.Prelude.{if◌then◌else◌}
 use Rattle.std.specs.List.{find, list_any}
 use Rattle.std.specs.Map.{keys_of}
-use Rattle.dictionary.specs.declared.elements.TheConstants.{STUDY_INSTANCE_UID}
+use Rattle.dictionary.specs.declared.elements.TheConstants.{STUDY_INSTANCE_UID, SERIES_INSTANCE_UID}
 use Rattle.octets.specs.Padding.{trimmed}
 use Rattle.octets.specs.Texts.{text_cmp}
 use Rattle.key_matching.specs.declared.matching.Matching.{Matching}
@@ -11,10 +10,11 @@ use Rattle.key_matching.specs.declared.matching.Matching.TheVariants.{Dates, Tim
 use Rattle.key_matching.specs.declared.matching.Matching.TheVariants.{Answered}
 use Rattle.key_matching.specs.Matches.{is_universal, parts}
 use Rattle.study_index.specs.Keys.{has}
-use Rattle.study_index.specs.Live.{Text, Pick, pick_at, is_of_study}
+use Rattle.study_index.specs.Live.{Text, Pick, pick_at, is_of_study, is_of_series}
 use Rattle.query_model.specs.declared.asked.Asked.{Asked}
+use Rattle.query_model.specs.declared.key.Level.{Level}
+use Rattle.query_model.specs.declared.key.Level.TheVariants.{Study, Series, Image}
 use Rattle.query_model.specs.declared.query.Query.{Query}
-use Rattle.query_model.specs.Key.{has_study_above}
 
 abbrev pub is_uids : Matching → Bool
 is_uids Dates = false
@@ -25,9 +25,9 @@ is_uids Uids = true
 is_uids Single = false
 is_uids Answered = false
 
--- whether a key lists studies
-abbrev pub is_study_key : Asked → Bool
-is_study_key asked = asked.tag == STUDY_INSTANCE_UID && is_uids asked.matching && not (is_universal asked.key)
+-- whether a key lists UIDs of an attribute
+abbrev pub is_list_of : ℕ → Asked → Bool
+is_list_of tag asked = asked.tag == tag && is_uids asked.matching && not (is_universal asked.key)
 
 -- whether the pick of an instance is of one of these studies, of each of which an index knows 64 bytes
 abbrev pub is_of_some : List (List ℕ) → Option Pick → Bool
@@ -37,13 +37,32 @@ is_of_some studies pick = list_any (λ study. is_of_study (take 64 study) pick) 
 abbrev pub is_listed : List ℕ → Option Pick → Bool
 is_listed key pick = is_of_study [] pick || is_of_some (map trimmed (parts key)) pick
 
--- where no key lists studies, each instance that has a pick
+-- at STUDY: where no key lists studies, each instance that has a pick
 abbrev pub is_reached_by : Option Asked → List (Text × Option Pick) → List ℕ → Bool
 is_reached_by None picks uid = has text_cmp (keys_of picks) uid
 is_reached_by (Some asked) picks uid = is_listed asked.key (pick_at uid picks)
 
--- whether an instance is a candidate: its pick is of the study that the query names, or of one that a key lists
+-- whether the pick of an instance is of one of these series of a study
+abbrev pub is_of_some_series : List ℕ → List (List ℕ) → Option Pick → Bool
+is_of_some_series study series pick = list_any (λ one. is_of_series study (take 64 one) pick) series
+
+-- the same of the series that a key lists, and of the one without a name
+abbrev pub is_listed_series : List ℕ → List ℕ → Option Pick → Bool
+is_listed_series study key pick =
+    is_of_series study [] pick || is_of_some_series study (map trimmed (parts key)) pick
+
+-- at SERIES, of the study that is named: where no key lists series, all that is of it
+abbrev pub is_reached_in : Option Asked → List ℕ → Option Pick → Bool
+is_reached_in None study pick = is_of_study study pick
+is_reached_in (Some asked) study pick = is_listed_series study asked.key pick
+
+-- at each level; at IMAGE what is of the series that is named
+abbrev pub is_reached_at : Level → Query → List (Text × Option Pick) → List ℕ → Bool
+is_reached_at Study q picks uid = is_reached_by (find (is_list_of STUDY_INSTANCE_UID) q.asked) picks uid
+is_reached_at Series q picks uid =
+    is_reached_in (find (is_list_of SERIES_INSTANCE_UID) q.asked) (take 64 q.study) (pick_at uid picks)
+is_reached_at Image q picks uid = is_of_series (take 64 q.study) (take 64 q.series) (pick_at uid picks)
+
+-- whether an instance is a candidate: its pick is of what the query names above its level, and of what a key lists
 abbrev pub is_reached : Query → List (Text × Option Pick) → List ℕ → Bool
-is_reached q picks uid =
-    if has_study_above q.level then is_of_study (take 64 q.study) (pick_at uid picks)
-    else is_reached_by (find is_study_key q.asked) picks uid
+is_reached q picks uid = is_reached_at q.level q picks uid

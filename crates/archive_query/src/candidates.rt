@@ -1,5 +1,5 @@
-//! Among which contents the answers to a query are: where it names studies, only what the index has
-//! of them is walked.
+//! Among which contents the answers to a query are: where it names studies or series, only what the
+//! index has of them is walked.
 
 ghost use Rattle.std.specs.Prelude.{◌≡◌, ◌||◌, List, ℕ, IfOk, OnOk, map};
 ghost use Rattle.std.specs.List.{find, filter_map};
@@ -10,14 +10,14 @@ ghost use Rattle.archive_model.specs.Shown.{shown_at};
 ghost use Rattle.study_index.specs.Keys.{has};
 ghost use Rattle.study_index.specs.Live.{pick_at};
 ghost use Rattle.site_state.specs.Site.{ops_of};
-ghost use Rattle.archive_query.specs.Candidates.{is_uids as is_uids_in, is_study_key as is_study_key_in, is_of_some, is_listed, is_reached};
+ghost use Rattle.archive_query.specs.Candidates.{is_uids as is_uids_in, is_list_of as is_list_in, is_of_some, is_listed, is_reached_by, is_of_some_series, is_listed_series, is_reached_in, is_reached};
 
 use archive_model::View;
-use dictionary::STUDY_INSTANCE_UID;
+use dictionary::{SERIES_INSTANCE_UID, STUDY_INSTANCE_UID};
 use key_matching::{Matching, is_universal, members_of};
 use octets::Octets;
 use operation::Content;
-use query_model::{Asked, Query};
+use query_model::{Asked, Level, Query};
 use site_state::Site;
 use std::alloc::{AllocError, Global};
 use std::collections::BTreeSet;
@@ -37,24 +37,22 @@ fn is_uids(matching: Matching) -> bool
     }
 }
 
-/// Whether a key lists studies.
-fn is_study_key(asked: &Asked) -> bool
-    ensures { result ≡ is_study_key_in asked.now }
+/// Whether a key lists UIDs of an attribute.
+fn is_list_of(tag: u32, asked: &Asked) -> bool
+    ensures { result ≡ is_list_in tag asked.now }
 {
-    asked.tag == STUDY_INSTANCE_UID
-        && is_uids(asked.matching)
-        && !is_universal(asked.key.as_slice())
+    asked.tag == tag && is_uids(asked.matching) && !is_universal(asked.key.as_slice())
 }
 
-/// The key of a query that lists studies, if it has one.
-fn study_key(query: &Query) -> Option<&Asked>
-    ensures { option_map (λ asked. asked.now) result ≡ find is_study_key_in query.now.asked }
+/// The key of a query that lists UIDs of an attribute, if it has one.
+fn list_of(query: &Query, tag: u32) -> Option<&Asked>
+    ensures { option_map (λ asked. asked.now) result ≡ find (is_list_in tag) query.now.asked }
 {
     query
         .asked
         .as_slice()
         .iter()
-        .find(|asked| is_study_key(asked))
+        .find(|asked| is_list_of(tag, asked))
 }
 
 /// Puts the SOP Instance UIDs of what is of some studies into a set. What was put in before memory
@@ -90,7 +88,77 @@ fn put_listed(
     Ok(())
 }
 
-/// Puts in the candidates of a query at STUDY.
+/// Puts in what is of some series of a study.
+fn put_some_series(
+    index: &Index,
+    study: &ShortText,
+    series: &[Octets],
+    uids: &mut BTreeSet<ShortText>,
+) -> Result<(), AllocError>
+    ensures { OnOk result ((uid : List ℕ) → has text_cmp uids.new.keys uid ≡
+        (has text_cmp uids.old.keys uid
+        || is_of_some_series study.now series.now (pick_at uid index.now.1.1.1))) }
+{
+    for one in series {
+        index.put_series(study, &ShortText::cut(one.as_slice()), uids)?;
+    }
+    Ok(())
+}
+
+/// Puts in what is of the series that a key lists, or of one without a name.
+fn put_listed_series(
+    alloc: Global,
+    index: &Index,
+    study: &ShortText,
+    key: &[u8],
+    uids: &mut BTreeSet<ShortText>,
+) -> Result<(), AllocError>
+    ensures { OnOk result ((uid : List ℕ) → has text_cmp uids.new.keys uid ≡
+        (has text_cmp uids.old.keys uid
+        || is_listed_series study.now key.now (pick_at uid index.now.1.1.1))) }
+{
+    let series = members_of(alloc, key)?;
+    index.put_series(study, &ShortText::empty(), uids)?;
+    put_some_series(index, study, &series, uids)?;
+    Ok(())
+}
+
+/// Puts in the candidates at STUDY, by the key that lists studies, if there is one.
+fn put_at_study(
+    alloc: Global,
+    index: &Index,
+    list: Option<&Asked>,
+    uids: &mut BTreeSet<ShortText>,
+) -> Result<(), AllocError>
+    ensures { OnOk result ((uid : List ℕ) → has text_cmp uids.new.keys uid ≡
+        (has text_cmp uids.old.keys uid
+        || is_reached_by (option_map (λ asked. asked.now) list.entry) index.now.1.1.1 uid)) }
+{
+    match list {
+        None => index.put_all(uids),
+        Some(asked) => put_listed(alloc, index, asked.key.as_slice(), uids),
+    }
+}
+
+/// Puts in the candidates at SERIES, by the key that lists series of the study, if there is one.
+fn put_at_series(
+    alloc: Global,
+    index: &Index,
+    study: &ShortText,
+    list: Option<&Asked>,
+    uids: &mut BTreeSet<ShortText>,
+) -> Result<(), AllocError>
+    ensures { OnOk result ((uid : List ℕ) → has text_cmp uids.new.keys uid ≡
+        (has text_cmp uids.old.keys uid || is_reached_in
+        (option_map (λ asked. asked.now) list.entry) study.now (pick_at uid index.now.1.1.1))) }
+{
+    match list {
+        None => index.put_study(study, uids),
+        Some(asked) => put_listed_series(alloc, index, study, asked.key.as_slice(), uids),
+    }
+}
+
+/// Puts in the candidates of a query.
 fn put_reached(
     alloc: Global,
     index: &Index,
@@ -100,19 +168,15 @@ fn put_reached(
     ensures { OnOk result ((uid : List ℕ) → has text_cmp uids.new.keys uid ≡
         (has text_cmp uids.old.keys uid || is_reached query.now index.now.1.1.1 uid)) }
 {
-    if query.level.names_study() {
-        index.put_study(&ShortText::cut(query.study.as_slice()), uids)?;
-        return Ok(());
-    }
-    match study_key(query) {
-        None => {
-            index.put_all(uids)?;
-            Ok(())
+    let study = ShortText::cut(query.study.as_slice());
+    let series = ShortText::cut(query.series.as_slice());
+    match query.level {
+        Level::Study => put_at_study(alloc, index, list_of(query, STUDY_INSTANCE_UID), uids),
+        Level::Series => {
+            let list = list_of(query, SERIES_INSTANCE_UID);
+            put_at_series(alloc, index, &study, list, uids)
         }
-        Some(asked) => {
-            put_listed(alloc, index, asked.key.as_slice(), uids)?;
-            Ok(())
-        }
+        Level::Image => index.put_series(&study, &series, uids),
     }
 }
 

@@ -1,3 +1,4 @@
 pub mod Entering
 pub mod Fault
+pub mod Journal
 pub mod Serving

@@ -1,5 +1,5 @@
 -- What passes gain while they serve, and how many passes a server takes.
-use Rattle.std.specs.Prelude.{ℕ, ◌+◌, min, ◌≤◌, ◌≡◌, ◌⊎◌, suc, List, [], ◌∷◌, Bool, true, false, Option, IsSome}
+use Rattle.std.specs.Prelude.{ℕ, ◌+◌, min, ◌≤◌, ◌≡◌, ◌⊎◌, suc, List, [], ◌∷◌, Bool, true, false, IsTrue, Option, IsSome}
 use Rattle.operation.specs.declared.op.Op.{Op}
 use Rattle.site_hub.specs.Hub.{Seat}
 use Rattle.archive_server.specs.declared.fault.ServeFault.{ServeFault}
@@ -14,20 +14,21 @@ AllOnward is_up holds lasts [] (y ∷ ys) = ⊥
 AllOnward is_up holds lasts (x ∷ xs) [] = ⊥
 AllOnward is_up holds lasts (x ∷ xs) (y ∷ ys) = IsOnward is_up holds lasts x y × AllOnward is_up holds lasts xs ys
 
--- What a thread comes back with: its pass has gone on, and it has accepted all that it may, or tells a fault.
+-- What a thread comes back with: its pass has gone on, and it has accepted all that it may, or tells a fault, or somebody
+-- may end it.
 pub record HasServed {K : Type 0} (is_up : K → Type 0) (holds lasts : K → Op → Type 0) (before after : Seat)
-    (limit accepted : ℕ) (fault : Option ServeFault) : Type 0 where
+    (ends : Bool) (limit accepted : ℕ) (fault : Option ServeFault) : Type 0 where
   pub onward : IsOnward is_up holds lasts before after
   pub most : accepted ≤ limit
-  pub all : IsSome fault ⊎ (accepted ≡ limit)
+  pub all : IsTrue ends ⊎ IsSome fault ⊎ (accepted ≡ limit)
 
 -- What all threads come back with: each pass in its place has gone on, and no more was accepted than may be. Where no
--- fault is told all was, as far as a u64 counts.
+-- fault is told and nobody may end them all was, as far as a u64 counts.
 pub record HaveServed {K : Type 0} (is_up : K → Type 0) (holds lasts : K → Op → Type 0) (before after : List Seat)
-    (limit accepted : ℕ) (fault : Option ServeFault) : Type 0 where
+    (ends : Bool) (limit accepted : ℕ) (fault : Option ServeFault) : Type 0 where
   pub onward : AllOnward is_up holds lasts before after
   pub most : accepted ≤ limit
-  pub all : IsSome fault ⊎ (accepted ≡ min limit 18446744073709551615)
+  pub all : IsTrue ends ⊎ IsSome fault ⊎ (accepted ≡ min limit 18446744073709551615)
 
 -- a pass for each gate, one more where exchanges are served, and one for each peer
 abbrev pub places_for : ℕ → Bool → ℕ → ℕ

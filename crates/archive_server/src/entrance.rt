@@ -3,9 +3,13 @@
 ghost use Rattle.std.specs.Prelude.{◌≡◌};
 ghost use Rattle.archive_server.specs.Entering.{stream_of};
 
+use crate::journal::tell_turned_away;
+use crate::manner::Manner;
 use ipv4_networks::{Network, is_allowed};
+use log::Log;
 use std::io;
 use std::net::{SocketAddr, TcpListener, TcpStream};
+use std::time::Clock;
 
 /// A listener, and the networks from which peers may come. A connection from elsewhere is closed
 /// before a byte of it is read. Where no network is named, each peer may come.
@@ -26,7 +30,15 @@ fn let_in(allowed: &[Network], stream: TcpStream, peer: SocketAddr) -> Option<Tc
 }
 
 /// Accepts once: the stream of a peer that may come, or nothing where it may not.
-pub(crate) fn accept_from(entrance: Entrance<'_>) -> io::Result<Option<TcpStream>> {
+pub(crate) fn accept_from<S: Clock + Log>(
+    rt: &S,
+    manner: Manner<'_>,
+    entrance: Entrance<'_>,
+) -> io::Result<Option<TcpStream>> {
     let (stream, peer) = entrance.listener.accept()?;
-    Ok(let_in(entrance.allowed, stream, peer))
+    let stream = let_in(entrance.allowed, stream, peer);
+    if stream.is_none() {
+        tell_turned_away(rt, manner, peer);
+    }
+    Ok(stream)
 }

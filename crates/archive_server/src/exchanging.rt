@@ -1,10 +1,11 @@
 //! The thread of exchanges: it accepts so many on a listener of its own, with the last pass.
 
-ghost use Rattle.std.specs.Prelude.{◌≡◌, ◌+◌, ◌-◌, ◌<◌, ◌^◌, ◌⊎◌, Some, IfSome, IsSome};
+ghost use Rattle.std.specs.Prelude.{◌≡◌, ◌+◌, ◌-◌, ◌<◌, ◌^◌, ◌⊎◌, Some, IfSome, IsSome, is_some};
 ghost use Rattle.archive_server.specs.Serving.{IsOnward, HasServed};
 
 use crate::entrance::{Entrance, accept_from};
 use crate::fault::ServeFault;
+use crate::journal::{Whence, tell_exchange};
 use crate::keeping::Asking;
 use crate::message::{Desk, Request};
 use crate::worker::{Done, Hall, idle, turned_away, with_none};
@@ -14,12 +15,14 @@ use devices::Counted;
 use exchange::ExchangeFault;
 use exchange_run::{Role, run_exchange};
 use hub_exchange::HubHolder;
+use log::Log;
 use op_shelf::Keep;
 use site_hub::{HubName, Pass, Snapshot as Shown};
 use std::marker::Brand;
 use std::net::TcpStream;
 use std::sync::Wait;
 use std::sync::atomic::Ordering;
+use std::time::Clock;
 
 /// Where exchanges come in, and how many connections are served.
 #[derive(Clone, Copy)]
@@ -32,22 +35,25 @@ pub struct Exchanging<'a> {
 type Held<'a, 'b, H, R, S, K, E> = HubHolder<'a, 'b, H, Shown<H>, R, S, K, Asking<'a, K, S>, E>;
 
 /// The exchange of a holder with the peer behind a stream.
-fn converse<E: AtEntry, H: HubName, R: Wait + Drop, S: Wait, K: Keep>(
+fn converse<E: AtEntry, H: HubName, R: Wait + Drop, S: Wait + Clock + Log, K: Keep>(
     hall: &Hall<'_, H, Shown<H>, R, S>,
     stream: &TcpStream,
     role: Role,
     holder: &mut Held<'_, '_, H, R, S, K, E>,
 ) -> Option<ServeFault> {
+    let peer = Whence::of(stream);
     let mut reader = Counted::new(stream);
     let mut writer = Counted::new(stream);
-    match run_exchange(hall.alloc, role, &mut reader, &mut writer, holder) {
+    let ended = run_exchange(hall.alloc, role, &mut reader, &mut writer, holder);
+    tell_exchange(hall.rt, hall.manner, peer, role, ended);
+    match ended {
         Ok(_ended) => None,
         Err(fault) => Some(ServeFault::Exchange(fault)),
     }
 }
 
 /// One exchange, for the pass that the caller named, which is taken out and put back.
-fn exchange<'x, E: AtEntry, H: HubName, R: Wait + Drop, S: Wait, K: Keep>(
+fn exchange<'x, E: AtEntry, H: HubName, R: Wait + Drop, S: Wait + Clock + Log, K: Keep>(
     hall: &'x Hall<'x, H, Shown<H>, R, S>,
     to: &'x Sender<Request<K>>,
     stream: &TcpStream,
@@ -69,7 +75,7 @@ fn exchange<'x, E: AtEntry, H: HubName, R: Wait + Drop, S: Wait, K: Keep>(
 }
 
 /// One exchange. Its frames are sent at once, as they are written.
-pub(crate) fn exchange_over<H: HubName, R: Wait + Drop, S: Wait, K: Keep>(
+pub(crate) fn exchange_over<H: HubName, R: Wait + Drop, S: Wait + Clock + Log, K: Keep>(
     hall: &Hall<'_, H, Shown<H>, R, S>,
     to: &Sender<Request<K>>,
     stream: TcpStream,
@@ -89,7 +95,7 @@ pub(crate) fn exchange_over<H: HubName, R: Wait + Drop, S: Wait, K: Keep>(
 }
 
 /// What the thread has done, and one exchange more.
-fn with_exchange<H: HubName, R: Wait + Drop, S: Wait, K: Keep>(
+fn with_exchange<H: HubName, R: Wait + Drop, S: Wait + Clock + Log, K: Keep>(
     hall: &Hall<'_, H, Shown<H>, R, S>,
     to: &Sender<Request<K>>,
     stream: TcpStream,
@@ -117,7 +123,7 @@ fn with_exchange<H: HubName, R: Wait + Drop, S: Wait, K: Keep>(
 }
 
 /// Accepts once. An accept that fails is used up as well.
-fn next_exchange<H: HubName, R: Wait + Drop, S: Wait, K: Keep>(
+fn next_exchange<H: HubName, R: Wait + Drop, S: Wait + Clock + Log, K: Keep>(
     hall: &Hall<'_, H, Shown<H>, R, S>,
     entrance: Entrance<'_>,
     to: &Sender<Request<K>>,
@@ -126,17 +132,19 @@ fn next_exchange<H: HubName, R: Wait + Drop, S: Wait, K: Keep>(
     requires room { done.accepted + done.failed < 2 ^ 64 - 1 }
     ensures onward { IsOnward K.is_up K.holds K.lasts done.pass result.pass }
     ensures used { result.accepted + result.failed ≡ done.accepted + done.failed + 1 }
-    ensures told { IsSome done.fault ⊎ (done.failed ≡ 0) → IsSome result.fault ⊎ (result.failed ≡ 0) }
+    ensures told { IsSome hall.now.manner.ending ⊎ IsSome done.fault ⊎ (done.failed ≡ 0)
+        → IsSome hall.now.manner.ending ⊎ IsSome result.fault ⊎ (result.failed ≡ 0) }
 {
-    match accept_from(entrance) {
+    match accept_from(hall.rt, hall.manner, entrance) {
         Ok(Some(stream)) => with_exchange(hall, to, stream, done),
         Ok(None) => turned_away(done),
-        Err(_error) => with_none(done),
+        Err(_error) => with_none(hall.manner.is_ended(), done),
     }
 }
 
-/// Accepts so many times as there are rounds, unless the thread of this place was refused.
-pub(crate) fn exchange_all<H: HubName, R: Wait + Drop, S: Wait, K: Keep>(
+/// Accepts so many times as there are rounds, or until the server is ended, unless the thread of
+/// this place was refused.
+pub(crate) fn exchange_all<H: HubName, R: Wait + Drop, S: Wait + Clock + Log, K: Keep>(
     place: u64,
     hall: &Hall<'_, H, Shown<H>, R, S>,
     entrance: Entrance<'_>,
@@ -144,14 +152,17 @@ pub(crate) fn exchange_all<H: HubName, R: Wait + Drop, S: Wait, K: Keep>(
     desk: Desk<K>,
     pass: Pass<H>,
 ) -> Done<H>
-    ensures served { HasServed K.is_up K.holds K.lasts pass result.pass rounds result.accepted
-        result.fault }
+    ensures served { HasServed K.is_up K.holds K.lasts pass result.pass
+        (is_some hall.now.manner.ending) rounds result.accepted result.fault }
 {
     if hall.refused.load(Ordering::SeqCst) == place {
         return idle(pass, Some(ServeFault::Exchange(ExchangeFault::Memory)));
     }
     let mut done = idle(pass, None);
     for _ in 0..rounds {
+        if hall.manner.is_ended() {
+            return done;
+        }
         done = next_exchange(hall, entrance, &desk.to, done);
     }
     done

@@ -4,22 +4,28 @@
 //! on a listener that all share. The thread that calls keeps the shelf. A content that an
 //! association stores is put on the shelf, then taken by the hub, then answered; and so is what a
 //! peer gives in an exchange: for those that peers call there is a listener, a thread and a pass,
-//! and for each peer that the server calls again and again a thread and a pass.
+//! and for each peer that the server calls again and again a thread and a pass. Who serves may name
+//! a word by which somebody ends the server, and ask for a line on each association and exchange.
 #![tactic(auto)]
 
 mod entrance;
 mod exchanging;
 mod fault;
+mod heard;
+mod journal;
 mod keeping;
+mod manner;
 mod meeting;
 mod message;
 mod port;
 mod serve;
+mod tally;
 mod worker;
 
 pub use entrance::Entrance;
 pub use exchanging::Exchanging;
 pub use fault::{NetFault, ServeFault};
+pub use manner::Manner;
 pub use meeting::Peer;
 pub use message::Shelved;
 pub use port::ServerPort;

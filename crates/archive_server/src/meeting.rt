@@ -1,15 +1,17 @@
 //! The threads that call peers: each exchanges with one, again and again, with a pass of its own.
 
-ghost use Rattle.std.specs.Prelude.{◌≡◌};
+ghost use Rattle.std.specs.Prelude.{◌≡◌, false};
 ghost use Rattle.archive_server.specs.Serving.{IsOnward, HasServed};
 
 use crate::exchanging::exchange_over;
 use crate::fault::ServeFault;
+use crate::journal::tell_unreached;
 use crate::message::Request;
 use crate::worker::{Done, Hall, idle};
 use crossbeam_channel::{Receiver, RecvTimeoutError, Sender};
 use exchange::ExchangeFault;
 use exchange_run::Role;
+use log::Log;
 use op_shelf::Keep;
 use site_hub::{HubName, Pass, Snapshot as Shown};
 use std::net::{Net, TcpListener, TcpStream};
@@ -30,7 +32,7 @@ pub struct Peer<'a> {
 fn meet<
     H: HubName,
     R: Wait + Drop,
-    S: Net<Listener = TcpListener, Stream = TcpStream> + Wait,
+    S: Net<Listener = TcpListener, Stream = TcpStream> + Wait + Clock + Log,
     K: Keep,
 >(
     hall: &Hall<'_, H, Shown<H>, R, S>,
@@ -42,7 +44,10 @@ fn meet<
 {
     match TcpStream::connect(hall.rt, address) {
         Ok(stream) => exchange_over(hall, to, stream, Role::Caller, pass).0,
-        Err(_refused) => pass,
+        Err(_refused) => {
+            tell_unreached(hall.rt, hall.manner, address);
+            pass
+        }
     }
 }
 
@@ -58,7 +63,7 @@ fn is_served<S: Wait + Clock>(rt: &S, ended: &Receiver<()>, every: Duration) -> 
 pub(crate) fn meet_all<
     H: HubName,
     R: Wait + Drop,
-    S: Net<Listener = TcpListener, Stream = TcpStream> + Wait + Clock,
+    S: Net<Listener = TcpListener, Stream = TcpStream> + Wait + Clock + Log,
     K: Keep,
 >(
     place: u64,
@@ -68,7 +73,7 @@ pub(crate) fn meet_all<
     ended: Receiver<()>,
     pass: Pass<H>,
 ) -> Done<H>
-    ensures served { HasServed K.is_up K.holds K.lasts pass result.pass 0 result.accepted
+    ensures served { HasServed K.is_up K.holds K.lasts pass result.pass false 0 result.accepted
         result.fault }
 {
     if hall.refused.load(Ordering::SeqCst) == place {

@@ -12,6 +12,7 @@ ghost use Rattle.archive_server.specs.Fault.{port_fault_of};
 
 use crate::keeping::ask;
 use crate::message::{Request, Shelved};
+use crate::tally::Tally;
 use archive_model::View;
 use association_run::Port;
 use association_session::PortFault;
@@ -34,6 +35,7 @@ pub struct ServerPort<'a, H: HubName, T: Shows<H>, R: Wait + Drop, S: Wait, K: K
     rt: &'a S,
     to: &'a Sender<Request<K>>,
     hub: HubPort<'a, H, T, R, S, E>,
+    tally: Tally,
 }
 
 impl<'a, H: HubName, T: Shows<H>, R: Wait + Drop, S: Wait, K: Keep, E: AtEntry> Model
@@ -97,7 +99,13 @@ impl<'a, H: HubName, T: Shows<H>, R: Wait + Drop, S: Wait, K: Keep, E: AtEntry> 
             rt,
             to,
             hub: HubPort::new(rt, keeper, pass),
+            tally: Tally::new(),
         }
+    }
+
+    /// What it was asked for so far.
+    pub(crate) fn tally(&self) -> Tally {
+        self.tally
     }
 
     /// Gives the pass back.
@@ -110,6 +118,7 @@ impl<'a, H: HubName, T: Shows<H>, R: Wait + Drop, S: Wait, K: Keep, E: AtEntry> 
             rt: _,
             to: _,
             hub,
+            tally: _,
         } = self;
         hub.into_pass()
     }
@@ -128,8 +137,8 @@ impl<'a, H: HubName, T: Shows<H>, R: Wait + Drop, S: Wait, K: Keep, E: AtEntry> 
     {
         let op = Digested::of(Op::Content(content));
         match ask(self.rt, self.alloc, self.to, &op) {
-            Ok(shelved) => publish(&mut self.hub, op, &shelved),
-            Err(fault) => Err(fault_of_shelf(fault)),
+            Ok(shelved) => self.tally.stored(publish(&mut self.hub, op, &shelved)),
+            Err(fault) => self.tally.stored(Err(fault_of_shelf(fault))),
         }
     }
 
@@ -144,6 +153,7 @@ impl<'a, H: HubName, T: Shows<H>, R: Wait + Drop, S: Wait, K: Keep, E: AtEntry> 
             (record { called = called.now; view = view; query = query.now }) result self.new }
         ensures later { IsLater self.old self.new }
     {
+        self.tally.finds = self.tally.finds.saturating_add(1);
         self.hub.rows(called, view, query)
     }
 
@@ -153,6 +163,7 @@ impl<'a, H: HubName, T: Shows<H>, R: Wait + Drop, S: Wait, K: Keep, E: AtEntry> 
             (record { view = view; selection = selection.now }) result self.new }
         ensures later { IsLater self.old self.new }
     {
+        self.tally.gets = self.tally.gets.saturating_add(1);
         self.hub.prepared(view, selection)
     }
 }

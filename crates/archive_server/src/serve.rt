@@ -1,7 +1,7 @@
 //! The server: a thread for each worker, one for exchanges and one for each peer, and the shelf in
 //! the thread that called.
 
-ghost use Rattle.std.specs.Prelude.{◌≡◌, ◌+◌, ◌*◌, ◌<◌, ◌≤◌, ◌⊎◌, MatchResult, min, length, is_some, true, IsSome, vec_len, vec_capacity};
+ghost use Rattle.std.specs.Prelude.{◌≡◌, ◌+◌, ◌*◌, ◌<◌, ◌≤◌, ◌⊎◌, MatchResult, min, length, is_some, false, true, IsSome, vec_len, vec_capacity};
 ghost use Rattle.std.specs.Option.{option_or};
 ghost use Rattle.archive_server.specs.Serving.{AllOnward, HasServed, HaveServed, places_for};
 
@@ -9,6 +9,7 @@ use crate::entrance::Entrance;
 use crate::exchanging::{Exchanging, exchange_all};
 use crate::fault::ServeFault;
 use crate::keeping::keep_all;
+use crate::manner::Manner;
 use crate::meeting::{Peer, meet_all};
 use crate::message::{Desk, Request};
 use crate::worker::{Done, Hall, idle, work};
@@ -17,6 +18,7 @@ use association_run::{Gate, RunFault};
 use core::thread::Stack;
 use crossbeam_channel::{Receiver, Sender, bounded};
 use exchange::ExchangeFault;
+use log::Log;
 use op_shelf::Keep;
 use site_hub::{HubName, Keeper, Pass, Snapshot as Shown};
 use std::alloc::Global;
@@ -36,18 +38,19 @@ const STACK: usize = 8_388_608;
 /// How many requests wait for the shelf.
 const WAITING: usize = 64;
 
-/// What a thread's pass was, and how many it accepts at most. It goes on from that, and what it
-/// stores is on a shelf of this type.
+/// What a thread's pass was, whether somebody may end it, and how many it accepts at most. It goes
+/// on from that, and what it stores is on a shelf of this type.
 #[derive(Drop)]
 pub(crate) struct Begun<H: HubName, K: Keep> {
     was: Snapshot<Pass<H>>,
+    ends: bool,
     most: u64,
     of: PhantomData<K>,
 }
 
 impl<H: HubName, K: Keep> Promise<Done<H>> for Begun<H, K> {
-    ghost kept_by = { λ p done. HasServed K.is_up K.holds K.lasts p.was.value done.pass p.most
-        done.accepted done.fault };
+    ghost kept_by = { λ p done. HasServed K.is_up K.holds K.lasts p.was.value done.pass p.ends
+        p.most done.accepted done.fault };
 }
 
 type Started<H, K> = Result<PromisedHandle<Done<H>, Begun<H, K>>, Done<H>>;
@@ -58,7 +61,7 @@ fn start<
     E,
     H: HubName + Send + Sync + 's,
     R: Wait + Drop + Send + 's,
-    S: Wait + Sync + 's,
+    S: Wait + Clock + Log + Sync + 's,
     K: Keep + Send + 's,
     G: Gate + Send + Drop + 's,
 >(
@@ -70,21 +73,25 @@ fn start<
     pass: Pass<H>,
 ) -> Started<H, K>
     ensures { MatchResult result
-        (λ thread. (thread.promise.was.value ≡ pass) × (thread.promise.most ≡ hall.now.each))
-        (λ done. HasServed K.is_up K.holds K.lasts pass done.pass hall.now.each done.accepted
-        done.fault) }
+        (λ thread. (thread.promise.was.value ≡ pass)
+        × (thread.promise.ends ≡ is_some hall.now.manner.ending)
+        × (thread.promise.most ≡ hall.now.each))
+        (λ done. HasServed K.is_up K.holds K.lasts pass done.pass
+        (is_some hall.now.manner.ending) hall.now.each done.accepted done.fault) }
 {
     let Ok(desk) = desk.another() else {
         return Err(idle(pass, Some(ServeFault::Run(RunFault::Memory))));
     };
     let begun = Begun {
         was: Snapshot::of(&pass),
+        ends: hall.manner.ending.is_some(),
         most: hall.each,
         of: PhantomData,
     };
     let job = move || -> Done<H>
-        ensures { HasServed K.is_up K.holds K.lasts pass result.pass hall.entry.now.each
-            result.accepted result.fault }
+        ensures { HasServed K.is_up K.holds K.lasts pass result.pass
+            (is_some hall.entry.now.manner.ending) hall.entry.now.each result.accepted
+            result.fault }
     { work(place, hall, desk, gate, pass) };
     match Stack::new()
         .stack_size(STACK)
@@ -104,7 +111,7 @@ fn start_exchanges<
     E,
     H: HubName + Send + Sync + 's,
     R: Wait + Drop + Send + 's,
-    S: Wait + Sync + 's,
+    S: Wait + Clock + Log + Sync + 's,
     K: Keep + Send + 's,
 >(
     scope: &Scope<'s, E>,
@@ -115,9 +122,11 @@ fn start_exchanges<
     pass: Pass<H>,
 ) -> Started<H, K>
     ensures { MatchResult result
-        (λ thread. (thread.promise.was.value ≡ pass) × (thread.promise.most ≡ exchanging.entry.rounds))
-        (λ done. HasServed K.is_up K.holds K.lasts pass done.pass exchanging.entry.rounds done.accepted
-        done.fault) }
+        (λ thread. (thread.promise.was.value ≡ pass)
+        × (thread.promise.ends ≡ is_some hall.now.manner.ending)
+        × (thread.promise.most ≡ exchanging.entry.rounds))
+        (λ done. HasServed K.is_up K.holds K.lasts pass done.pass
+        (is_some hall.now.manner.ending) exchanging.entry.rounds done.accepted done.fault) }
 {
     let Ok(desk) = desk.another() else {
         return Err(idle(pass, Some(ServeFault::Exchange(ExchangeFault::Memory))));
@@ -125,12 +134,13 @@ fn start_exchanges<
     let Exchanging { entrance, rounds } = exchanging;
     let begun = Begun {
         was: Snapshot::of(&pass),
+        ends: hall.manner.ending.is_some(),
         most: rounds,
         of: PhantomData,
     };
     let job = move || -> Done<H>
-        ensures { HasServed K.is_up K.holds K.lasts pass result.pass rounds result.accepted
-            result.fault }
+        ensures { HasServed K.is_up K.holds K.lasts pass result.pass
+            (is_some hall.entry.now.manner.ending) rounds result.accepted result.fault }
     { exchange_all(place, hall, entrance, rounds, desk, pass) };
     match Stack::new()
         .stack_size(STACK)
@@ -150,7 +160,7 @@ fn start_meeting<
     E,
     H: HubName + Send + Sync + 's,
     R: Wait + Drop + Send + 's,
-    S: Net<Listener = TcpListener, Stream = TcpStream> + Wait + Clock + Sync + 's,
+    S: Net<Listener = TcpListener, Stream = TcpStream> + Wait + Clock + Log + Sync + 's,
     K: Keep + Send + 's,
 >(
     scope: &Scope<'s, E>,
@@ -162,8 +172,10 @@ fn start_meeting<
     pass: Pass<H>,
 ) -> Started<H, K>
     ensures { MatchResult result
-        (λ thread. (thread.promise.was.value ≡ pass) × (thread.promise.most ≡ 0))
-        (λ done. HasServed K.is_up K.holds K.lasts pass done.pass 0 done.accepted done.fault) }
+        (λ thread. (thread.promise.was.value ≡ pass) × (thread.promise.ends ≡ false)
+        × (thread.promise.most ≡ 0))
+        (λ done. HasServed K.is_up K.holds K.lasts pass done.pass false 0 done.accepted
+        done.fault) }
 {
     let (to, ended): (Result<_, _>, Result<_, _>) = (to.clone(), ended.clone());
     let (Ok(to), Ok(ended)) = (to, ended) else {
@@ -171,11 +183,12 @@ fn start_meeting<
     };
     let begun = Begun {
         was: Snapshot::of(&pass),
+        ends: false,
         most: 0,
         of: PhantomData,
     };
     let job = move || -> Done<H>
-        ensures { HasServed K.is_up K.holds K.lasts pass result.pass 0 result.accepted
+        ensures { HasServed K.is_up K.holds K.lasts pass result.pass false 0 result.accepted
             result.fault }
     { meet_all(place, hall, peer, to, ended, pass) };
     match Stack::new()
@@ -194,14 +207,16 @@ fn start_meeting<
 fn finish<H: HubName, K: Keep, S: Threads>(
     rt: &S,
     was: Snapshot<Pass<H>>,
+    ends: bool,
     most: u64,
     started: Started<H, K>,
 ) -> Done<H>
     requires { MatchResult started
-        (λ thread. (thread.promise.was.value ≡ was.value) × (thread.promise.most ≡ most))
-        (λ done. HasServed K.is_up K.holds K.lasts was.value done.pass most done.accepted
+        (λ thread. (thread.promise.was.value ≡ was.value) × (thread.promise.ends ≡ ends)
+        × (thread.promise.most ≡ most))
+        (λ done. HasServed K.is_up K.holds K.lasts was.value done.pass ends most done.accepted
         done.fault) }
-    ensures { HasServed K.is_up K.holds K.lasts was.value result.pass most result.accepted
+    ensures { HasServed K.is_up K.holds K.lasts was.value result.pass ends most result.accepted
         result.fault }
 {
     match started {
@@ -234,7 +249,7 @@ fn serve_rest<
     E,
     H: HubName + Send + Sync + 's,
     R: Wait + Drop + Send + 's,
-    S: Threads + Wait + Sync + 's,
+    S: Threads + Wait + Clock + Log + Sync + 's,
     K: Keep + Send + 's,
     G: Gate + Send + Drop + 's,
 >(
@@ -248,7 +263,8 @@ fn serve_rest<
 ) -> Total
     requires places { vec_len gates.old ≡ vec_len passes.old }
     ensures served { HaveServed K.is_up K.holds K.lasts passes.old.items passes.new.items
-        (vec_len gates.old * hall.now.each) result.accepted result.fault }
+        (is_some hall.now.manner.ending) (vec_len gates.old * hall.now.each) result.accepted
+        result.fault }
     ensures len { vec_len passes.new ≡ vec_len passes.old }
     ensures room { vec_capacity passes.new ≡ vec_capacity passes.old }
 {
@@ -266,7 +282,13 @@ fn serve_rest<
     let was = Snapshot::of(&pass);
     let started = start(scope, hall, &desk, passes.len() as u64, gate, pass);
     let before = serve_rest(scope, hall, desk, requests, shelf, gates, passes);
-    let done = finish(hall.rt, was, hall.each, started);
+    let done = finish(
+        hall.rt,
+        was,
+        hall.manner.ending.is_some(),
+        hall.each,
+        started,
+    );
     let Done {
         pass,
         accepted,
@@ -283,7 +305,7 @@ fn serve_beside<
     E,
     H: HubName + Send + Sync + 's,
     R: Wait + Drop + Send + 's,
-    S: Threads + Wait + Sync + 's,
+    S: Threads + Wait + Clock + Log + Sync + 's,
     K: Keep + Send + 's,
     G: Gate + Send + Drop + 's,
 >(
@@ -298,7 +320,8 @@ fn serve_beside<
 ) -> Total
     requires places { vec_len passes.old ≡ places_for (vec_len gates.old) true 0 }
     ensures served { HaveServed K.is_up K.holds K.lasts passes.old.items passes.new.items
-        (vec_len gates.old * hall.now.each) result.accepted result.fault }
+        (is_some hall.now.manner.ending) (vec_len gates.old * hall.now.each) result.accepted
+        result.fault }
     ensures len { vec_len passes.new ≡ vec_len passes.old }
     ensures room { vec_capacity passes.new ≡ vec_capacity passes.old }
 {
@@ -308,7 +331,13 @@ fn serve_beside<
     let was = Snapshot::of(&pass);
     let started = start_exchanges(scope, hall, exchanging, &desk, passes.len() as u64, pass);
     let before = serve_rest(scope, hall, desk, requests, shelf, gates, passes);
-    let done = finish(hall.rt, was, exchanging.rounds, started);
+    let done = finish(
+        hall.rt,
+        was,
+        hall.manner.ending.is_some(),
+        exchanging.rounds,
+        started,
+    );
     let Done {
         pass: last,
         accepted: _,
@@ -325,7 +354,7 @@ fn serve_meeting<
     E,
     H: HubName + Send + Sync + 's,
     R: Wait + Drop + Send + 's,
-    S: Net<Listener = TcpListener, Stream = TcpStream> + Threads + Wait + Clock + Sync + 's,
+    S: Net<Listener = TcpListener, Stream = TcpStream> + Threads + Wait + Clock + Log + Sync + 's,
     K: Keep + Send + 's,
     G: Gate + Send + Drop + 's,
 >(
@@ -343,7 +372,8 @@ fn serve_meeting<
     requires places { vec_len passes.old
         ≡ places_for (vec_len gates.old) (is_some exchange) (length peers.now) }
     ensures served { HaveServed K.is_up K.holds K.lasts passes.old.items passes.new.items
-        (vec_len gates.old * hall.now.each) result.accepted result.fault }
+        (is_some hall.now.manner.ending) (vec_len gates.old * hall.now.each) result.accepted
+        result.fault }
     ensures len { vec_len passes.new ≡ vec_len passes.old }
     ensures room { vec_capacity passes.new ≡ vec_capacity passes.old }
 {
@@ -366,7 +396,7 @@ fn serve_meeting<
     let before = serve_meeting(
         scope, hall, others, exchange, ended, desk, requests, shelf, gates, passes,
     );
-    let done = finish(hall.rt, was, 0, started);
+    let done = finish(hall.rt, was, false, 0, started);
     let Done {
         pass: met,
         accepted: _,
@@ -393,12 +423,12 @@ pub struct Served<H: HubName> {
 /// Serves associations that come in at an entrance, `each` in a thread for each gate, with the pass
 /// of its place; with `exchange` so many exchanges, in a thread of their own with the next pass;
 /// and meanwhile calls each peer again and again, in a thread for each, with the passes behind. The
-/// thread that calls keeps the shelf.
+/// thread that calls keeps the shelf. Whoever may end it in this manner ends it early.
 pub fn serve_on<
     'x,
     H: HubName + Send + Sync,
     R: Wait + Drop + Send,
-    S: Net<Listener = TcpListener, Stream = TcpStream> + Threads + Wait + Clock + Sync,
+    S: Net<Listener = TcpListener, Stream = TcpStream> + Threads + Wait + Clock + Log + Sync,
     K: Keep + Send,
     G: Gate + Send + Drop,
 >(
@@ -413,13 +443,14 @@ pub fn serve_on<
     keeper: &'x Mutex<Keeper<H, Shown<H>, R>>,
     passes: Vec<Pass<H>>,
     shelf: &mut K,
+    manner: Manner<'x>,
 ) -> Served<H>
     requires some { 0 < vec_len gates }
     requires places { vec_len passes
         ≡ places_for (vec_len gates) (is_some exchange) (length peers.now) }
     ensures back { AllOnward K.is_up K.holds K.lasts passes.items result.passes.items }
     ensures most { result.accepted ≤ vec_len gates * each }
-    ensures all { IsSome result.fault
+    ensures all { IsSome manner.entry.ending ⊎ IsSome result.fault
         ⊎ (result.accepted ≡ min (vec_len gates * each) 18446744073709551615) }
 {
     let (Ok((to, requests)), Ok((still, ended))) = (bounded(alloc, WAITING), bounded(alloc, 1))
@@ -437,6 +468,7 @@ pub fn serve_on<
         titles,
         each,
         keeper,
+        manner,
         refused: AtomicU64::new(u64::MAX),
     };
     let hall = &hall;
@@ -452,7 +484,8 @@ pub fn serve_on<
             requires { vec_len passes
                 ≡ places_for (vec_len gates) (is_some exchange) (length peers.now) }
             ensures { HaveServed K.is_up K.holds K.lasts passes.items result.passes.items
-                (vec_len gates * hall.entry.now.each) result.accepted result.fault }
+                (is_some hall.entry.now.manner.ending) (vec_len gates * hall.entry.now.each)
+                result.accepted result.fault }
         { serve_all(scope, hall, peers, exchange, channels, shelf, gates, passes) },
     )
 }
@@ -471,7 +504,7 @@ fn serve_all<
     E,
     H: HubName + Send + Sync + 's,
     R: Wait + Drop + Send + 's,
-    S: Net<Listener = TcpListener, Stream = TcpStream> + Threads + Wait + Clock + Sync + 's,
+    S: Net<Listener = TcpListener, Stream = TcpStream> + Threads + Wait + Clock + Log + Sync + 's,
     K: Keep + Send + 's,
     G: Gate + Send + Drop + 's,
 >(
@@ -487,7 +520,8 @@ fn serve_all<
     requires places { vec_len passes
         ≡ places_for (vec_len gates) (is_some exchange) (length peers.now) }
     ensures served { HaveServed K.is_up K.holds K.lasts passes.items result.passes.items
-        (vec_len gates * hall.now.each) result.accepted result.fault }
+        (is_some hall.now.manner.ending) (vec_len gates * hall.now.each) result.accepted
+        result.fault }
 {
     let Channels {
         desk,

@@ -1,18 +1,22 @@
 //! A worker: it accepts so many associations on the shared listener, with a pass of its own.
 
-ghost use Rattle.std.specs.Prelude.{◌≡◌, ◌+◌, ◌-◌, ◌<◌, ◌≤◌, ◌^◌, ◌⊎◌, Some, IsSome};
+ghost use Rattle.std.specs.Prelude.{◌≡◌, ◌+◌, ◌-◌, ◌<◌, ◌≤◌, ◌^◌, ◌⊎◌, if◌then◌else◌, Some, IsSome, is_some};
 ghost use Rattle.std.specs.Option.{option_or};
 ghost use Rattle.archive_server.specs.Serving.{IsOnward, HasServed};
 
 use crate::entrance::{Entrance, accept_from};
 use crate::fault::{NetFault, ServeFault};
+use crate::heard::Heard;
+use crate::journal::{Whence, tell_association};
+use crate::manner::Manner;
 use crate::message::{Desk, Request};
 use crate::port::ServerPort;
 use archive_model::View;
-use association_run::{Gate, RunFault, run_association};
+use association_run::{Gate, Outbox, RunFault, run_association};
 use association_worker::AtEntry;
 use crossbeam_channel::Sender;
 use devices::Counted;
+use log::Log;
 use op_shelf::Keep;
 use site_hub::{HubName, Keeper, Pass, Shows};
 use std::alloc::Global;
@@ -20,6 +24,7 @@ use std::marker::Brand;
 use std::net::TcpStream;
 use std::sync::atomic::{AtomicU64, Ordering};
 use std::sync::{Mutex, Wait};
+use std::time::Clock;
 use ul_state::Titles;
 
 /// What a worker comes back with.
@@ -40,15 +45,25 @@ pub(crate) struct Hall<'a, H: HubName, T: Shows<H>, R: Wait + Drop, S: Wait> {
     pub titles: &'a Titles<View>,
     pub each: u64,
     pub keeper: &'a Mutex<Keeper<H, T, R>>,
+    pub manner: Manner<'a>,
     /// The place of a worker whose thread was refused.
     pub refused: AtomicU64,
 }
 
 /// One association, for the pass that the caller named.
-fn associate<E: AtEntry, H: HubName, T: Shows<H>, R: Wait + Drop, S: Wait, K: Keep, G: Gate>(
+fn associate<
+    E: AtEntry,
+    H: HubName,
+    T: Shows<H>,
+    R: Wait + Drop,
+    S: Wait + Clock + Log,
+    K: Keep,
+    G: Gate,
+>(
     hall: &Hall<'_, H, T, R, S>,
     to: &Sender<Request<K>>,
     gate: &mut G,
+    outbox: &mut Outbox,
     stream: TcpStream,
     pass: Pass<H>,
 ) -> (Pass<H>, Option<ServeFault>)
@@ -56,16 +71,20 @@ fn associate<E: AtEntry, H: HubName, T: Shows<H>, R: Wait + Drop, S: Wait, K: Ke
     ensures onward { IsOnward K.is_up K.holds K.lasts E.seat result.0 }
 {
     let mut port = ServerPort::<H, T, R, S, K, E>::new(hall.alloc, hall.rt, hall.keeper, to, pass);
-    let mut reader = Counted::new(&stream);
+    let peer = Whence::of(&stream);
+    let mut reader = Heard::new(Counted::new(&stream));
     let mut writer = Counted::new(&stream);
     let ended = run_association(
         hall.alloc,
         &mut reader,
+        outbox,
         &mut writer,
         &mut port,
         gate,
         hall.titles,
     );
+    let front = reader.front();
+    tell_association(hall.rt, hall.manner, peer, &front, port.tally(), ended);
     let fault = match ended {
         Ok(_end) => None,
         Err(fault) => Some(ServeFault::Run(fault)),
@@ -74,10 +93,11 @@ fn associate<E: AtEntry, H: HubName, T: Shows<H>, R: Wait + Drop, S: Wait, K: Ke
 }
 
 /// One association. Its responses are sent at once, as they are written.
-fn serve_one<H: HubName, T: Shows<H>, R: Wait + Drop, S: Wait, K: Keep, G: Gate>(
+fn serve_one<H: HubName, T: Shows<H>, R: Wait + Drop, S: Wait + Clock + Log, K: Keep, G: Gate>(
     hall: &Hall<'_, H, T, R, S>,
     to: &Sender<Request<K>>,
     gate: &mut G,
+    outbox: &mut Outbox,
     stream: TcpStream,
     pass: Pass<H>,
 ) -> (Pass<H>, Option<ServeFault>)
@@ -85,14 +105,15 @@ fn serve_one<H: HubName, T: Shows<H>, R: Wait + Drop, S: Wait, K: Keep, G: Gate>
 {
     // A stream that refuses this serves as well.
     let _ = stream.set_nodelay(true);
-    associate::<Brand, H, T, R, S, K, G>(hall, to, gate, stream, pass)
+    associate::<Brand, H, T, R, S, K, G>(hall, to, gate, outbox, stream, pass)
 }
 
 /// What a worker has done, and one association more.
-fn with_one<H: HubName, T: Shows<H>, R: Wait + Drop, S: Wait, K: Keep, G: Gate>(
+fn with_one<H: HubName, T: Shows<H>, R: Wait + Drop, S: Wait + Clock + Log, K: Keep, G: Gate>(
     hall: &Hall<'_, H, T, R, S>,
     to: &Sender<Request<K>>,
     gate: &mut G,
+    outbox: &mut Outbox,
     stream: TcpStream,
     done: Done<H>,
 ) -> Done<H>
@@ -108,7 +129,7 @@ fn with_one<H: HubName, T: Shows<H>, R: Wait + Drop, S: Wait, K: Keep, G: Gate>(
         failed,
         fault,
     } = done;
-    let (pass, broken) = serve_one(hall, to, gate, stream, pass);
+    let (pass, broken) = serve_one(hall, to, gate, outbox, stream, pass);
     Done {
         pass,
         accepted: accepted + 1,
@@ -117,16 +138,19 @@ fn with_one<H: HubName, T: Shows<H>, R: Wait + Drop, S: Wait, K: Keep, G: Gate>(
     }
 }
 
-/// What a worker has done, and one accept that failed.
-pub(crate) fn with_none<H: HubName>(mut done: Done<H>) -> Done<H>
+/// What a worker has done, and one accept that failed: a fault, unless the server was ended.
+pub(crate) fn with_none<H: HubName>(is_ended: bool, mut done: Done<H>) -> Done<H>
     requires room { done.accepted + done.failed < 2 ^ 64 - 1 }
     ensures pass { result.pass ≡ done.pass }
     ensures accepted { result.accepted ≡ done.accepted }
     ensures failed { result.failed ≡ done.failed + 1 }
-    ensures fault { result.fault ≡ option_or done.fault (Some (ServeFault.Net NetFault.Accept)) }
+    ensures fault { result.fault ≡ (if is_ended then done.fault
+        else option_or done.fault (Some (ServeFault.Net NetFault.Accept))) }
 {
     done.failed += 1;
-    done.fault = done.fault.or(Some(ServeFault::Net(NetFault::Accept)));
+    if !is_ended {
+        done.fault = done.fault.or(Some(ServeFault::Net(NetFault::Accept)));
+    }
     done
 }
 
@@ -143,41 +167,51 @@ pub(crate) fn turned_away<H: HubName>(mut done: Done<H>) -> Done<H>
 }
 
 /// Accepts once. An accept that fails is used up as well.
-fn next<H: HubName, T: Shows<H>, R: Wait + Drop, S: Wait, K: Keep, G: Gate>(
+fn next<H: HubName, T: Shows<H>, R: Wait + Drop, S: Wait + Clock + Log, K: Keep, G: Gate>(
     hall: &Hall<'_, H, T, R, S>,
     to: &Sender<Request<K>>,
     gate: &mut G,
+    outbox: &mut Outbox,
     done: Done<H>,
 ) -> Done<H>
     requires room { done.accepted + done.failed < 2 ^ 64 - 1 }
     ensures onward { IsOnward K.is_up K.holds K.lasts done.pass result.pass }
     ensures used { result.accepted + result.failed ≡ done.accepted + done.failed + 1 }
-    ensures told { IsSome done.fault ⊎ (done.failed ≡ 0) → IsSome result.fault ⊎ (result.failed ≡ 0) }
+    ensures told { IsSome hall.now.manner.ending ⊎ IsSome done.fault ⊎ (done.failed ≡ 0)
+        → IsSome hall.now.manner.ending ⊎ IsSome result.fault ⊎ (result.failed ≡ 0) }
 {
-    match accept_from(hall.entrance) {
-        Ok(Some(stream)) => with_one(hall, to, gate, stream, done),
+    match accept_from(hall.rt, hall.manner, hall.entrance) {
+        Ok(Some(stream)) => with_one(hall, to, gate, outbox, stream, done),
         Ok(None) => turned_away(done),
-        Err(_error) => with_none(done),
+        Err(_error) => with_none(hall.manner.is_ended(), done),
     }
 }
 
-/// Accepts `each` times, unless the thread of this place was refused.
-pub(crate) fn work<H: HubName, T: Shows<H>, R: Wait + Drop, S: Wait, K: Keep, G: Gate + Drop>(
-    place: u64,
-    hall: &Hall<'_, H, T, R, S>,
-    desk: Desk<K>,
-    mut gate: G,
-    pass: Pass<H>,
-) -> Done<H>
-    ensures served { HasServed K.is_up K.holds K.lasts pass result.pass hall.now.each
-        result.accepted result.fault }
+/// Accepts `each` times, or until the server is ended, unless the thread of this place was refused,
+/// or the buffer that serves all its associations.
+pub(crate) fn work<
+    H: HubName,
+    T: Shows<H>,
+    R: Wait + Drop,
+    S: Wait + Clock + Log,
+    K: Keep,
+    G: Gate + Drop,
+>(place: u64, hall: &Hall<'_, H, T, R, S>, desk: Desk<K>, mut gate: G, pass: Pass<H>) -> Done<H>
+    ensures served { HasServed K.is_up K.holds K.lasts pass result.pass
+        (is_some hall.now.manner.ending) hall.now.each result.accepted result.fault }
 {
     if hall.refused.load(Ordering::SeqCst) == place {
         return idle(pass, Some(ServeFault::Run(RunFault::Memory)));
     }
+    let Ok(mut outbox) = Outbox::new(hall.alloc) else {
+        return idle(pass, Some(ServeFault::Run(RunFault::Memory)));
+    };
     let mut done = idle(pass, None);
     for _ in 0..hall.each {
-        done = next(hall, &desk.to, &mut gate, done);
+        if hall.manner.is_ended() {
+            return done;
+        }
+        done = next(hall, &desk.to, &mut gate, &mut outbox, done);
     }
     done
 }

@@ -3,7 +3,7 @@
 use crate::ports::{AskedPort, Passed, Refusal};
 use crate::words::Words;
 use archive_model::View;
-use association_run::{End, RunFault, run_association};
+use association_run::{End, Outbox, RunFault, run_association};
 use devices::{Store, Supply};
 use octets::{ListOf, Octets};
 use std::alloc::{AllocError, Global};
@@ -67,7 +67,13 @@ pub fn titles_of(alloc: Global) -> Result<Titles<View>, AllocError> {
 }
 
 /// One association over a port.
-fn ran_over(alloc: Global, port: AskedPort, input: &[u8], way: Way) -> Result<Ran, AllocError> {
+fn ran_over(
+    alloc: Global,
+    outbox: &mut Outbox,
+    port: AskedPort,
+    input: &[u8],
+    way: Way,
+) -> Result<Ran, AllocError> {
     let titles = titles_of(alloc)?;
     let mut supply = Supply::new(Octets::from_slice(alloc, input)?, way.piece, way.fails_at);
     let mut store = Store::new(alloc, way.room);
@@ -79,6 +85,7 @@ fn ran_over(alloc: Global, port: AskedPort, input: &[u8], way: Way) -> Result<Ra
     let ended = run_association(
         alloc,
         &mut supply,
+        outbox,
         &mut store,
         &mut port,
         &mut passed,
@@ -99,17 +106,19 @@ pub fn run_behind(
     input: &[u8],
     way: Way,
 ) -> Result<Ran, AllocError> {
+    let mut outbox = Outbox::new(alloc)?;
     let mut port = AskedPort::new(alloc, setting.refusal);
     if !setting.before.is_empty() {
         let earlier = ran_over(
             alloc,
+            &mut outbox,
             port,
             setting.before.as_slice(),
             Way::of_pieces(AMPLE),
         )?;
         port = earlier.into_port();
     }
-    ran_over(alloc, port, input, way)
+    ran_over(alloc, &mut outbox, port, input, way)
 }
 
 impl Ran {

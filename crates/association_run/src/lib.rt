@@ -21,5 +21,6 @@ pub use end::End;
 pub use fault::RunFault;
 pub use gate::{Gate, OpenGate};
 pub use numbers::limits_are_these;
+pub use outbox::Outbox;
 pub use port::Port;
 pub use run::run_association;

@@ -1,6 +1,6 @@
-//! What is to be written, in one buffer for the whole association.
+//! What is to be written, in one buffer for one association after another.
 
-ghost use Rattle.std.specs.Prelude.{◌≡◌, ◌≤◌, ℕ, List, [], length, OnOk, OnErr, false};
+ghost use Rattle.std.specs.Prelude.{◌≡◌, ◌≤◌, ℕ, List, [], length, IfOk, OnOk, OnErr, false};
 ghost use Rattle.std.specs.List.{flat_map};
 ghost use Rattle.std.specs.Io.KnownBytes.{Appends};
 ghost use Rattle.pdu.specs.declared.header.TheConstants.{LONGEST_BODY};
@@ -18,10 +18,10 @@ use std::marker::Model;
 /// The most bytes that are held back: 64 KB.
 const ROOM: usize = 65_536;
 
-/// The bytes of PDUs that are still to be written. The PDUs that are sent together are written by
-/// as few writes as the room allows.
+/// The bytes of PDUs that are still to be written, at most 65,536. The PDUs that are sent together
+/// are written by as few writes as the room allows. Contracts see the bytes.
 #[derive(Drop)]
-pub(crate) struct Outbox {
+pub struct Outbox {
     bytes: Vec<u8>,
 }
 
@@ -53,8 +53,10 @@ fn write<W: Sink>(writer: &mut W, bytes: &[u8]) -> Result<(), RunFault>
 }
 
 impl Outbox {
-    /// Nothing is held. All the room is made here.
-    pub(crate) fn new(alloc: Global) -> Result<Outbox, AllocError> {
+    /// Nothing is held. All the room is made here, for as many associations as are served with it.
+    pub fn new(alloc: Global) -> Result<Outbox, AllocError>
+        ensures none { IfOk result (λ outbox. outbox ≡ []) }
+    {
         Ok(Outbox {
             bytes: Vec::with_capacity(alloc, ROOM)?,
         })

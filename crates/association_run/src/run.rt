@@ -261,13 +261,15 @@ fn take_turn<R: Source, W: Sink, P: Port, G: Gate>(
     Ok(None)
 }
 
-/// Serves an association over any reader, writer, port and gate, up to its end.
+/// Serves an association over any reader, writer, port and gate, up to its end. What is to be
+/// written is held in `outbox`, out of which is dropped what an earlier association left in it.
 ///
 /// Nothing is read behind the PDU in hand. Once the peer is to close the connection, at most 65,536
 /// bytes more are read. `Turns` is told after 4,294,967,296 reads.
 pub fn run_association<R: Source, W: Sink, P: Port, G: Gate>(
     alloc: Global,
     reader: &mut R,
+    outbox: &mut Outbox,
     writer: &mut W,
     port: &mut P,
     gate: &mut G,
@@ -294,7 +296,7 @@ pub fn run_association<R: Source, W: Sink, P: Port, G: Gate>(
 {
     let mut session = Session::new(alloc);
     let mut intake = Intake::new(alloc);
-    let mut outbox = Outbox::new(alloc)?;
+    outbox.clear();
     for _ in 0..MOST_READS {
         match take_turn(
             alloc,
@@ -302,7 +304,7 @@ pub fn run_association<R: Source, W: Sink, P: Port, G: Gate>(
             titles,
             &mut intake,
             reader,
-            &mut outbox,
+            outbox,
             writer,
             port,
             gate,

@@ -1,14 +1,16 @@
 //! The words of a command line, and what they ask for.
 #![tactic(auto)]
 
-ghost use Rattle.std.specs.Prelude.{◌≤◌, IfOk, IfSome, vec_len};
+ghost use Rattle.std.specs.Prelude.{◌≡◌, ◌≤◌, ◌↔◌, IsTrue, IfOk, IfSome, vec_len};
+ghost use Rattle.clap.specs.Values.{kind_of};
 ghost use Rattle.command_words.specs.Words.{HasSite, HasPlaces, IsInRange};
 
 use clap::error::ErrorKind;
-use clap::{Arg, ArgAction, ArgMatches, Command, Error, value_parser};
-use command_words::{Asked, Correcting, Exchanging, Serving, change_in};
+use clap::{Arg, ArgAction, ArgGroup, ArgMatches, Command, Error, value_parser};
+use command_words::{Asked, Correcting, Exchanging, Reporting, Serving, change_in};
 use exchange_run::Role;
 use ipv4_networks::{Network, read_network};
+use site_tables::Table;
 use std::alloc::{AllocError, Global};
 use std::net::SocketAddrV4;
 
@@ -20,9 +22,10 @@ const SIMULATE: &str = "Answers the script on standard input, in which sites tak
 Example: archive simulate < rejected.script";
 
 const REPORT: &str = "Counts the operations in FILE, and tells the SOP Instance UIDs of which it \
-    has two contents or more
+    has two contents or more. With one of --conflicts, --rejected, --corrections and --studies it \
+    tells a table instead, aligned for reading, and with --tsv parted by tabs
 
-Example: archive report ops.db";
+Example: archive report ops.db --studies";
 
 const CORRECT: &str =
     "Corrects an attribute of a study, a patient or a series in FILE, which is made \
@@ -37,7 +40,9 @@ const SERVE: &str =
     another site calls. With --peer it meanwhile calls another site, waits --every seconds and \
     calls it again; one that does not answer is called again all the same. With --allow only peers \
     of these networks may come, such as 10.1.0.0/16; a connection from elsewhere is closed unread. \
-    With --calling only requestors that call themselves so are answered; others are rejected
+    With --calling only requestors that call themselves so are answered; others are rejected. With \
+    --until-end-of-input it ends once its standard input does; with --verbose each association and \
+    each exchange is a line on standard error
 
 Example: archive serve ops.db --listen 127.0.0.1:11112 --workers 4 --each 1000 \
     --exchange 127.0.0.1:11113 --rounds 1000 --peer 127.0.0.1:11115 --every 30";
@@ -68,9 +73,54 @@ fn word<'a>(alloc: Global, name: &'a str, help: &'a str) -> Arg<'a> {
     Arg::new(alloc, name).required(true).help(help)
 }
 
+/// An option that names a table.
+fn table_of<'a>(alloc: Global, name: &'a str, help: &'a str) -> Arg<'a> {
+    Arg::new(alloc, name)
+        .long(name)
+        .action(ArgAction::SetTrue)
+        .help(help)
+}
+
+/// The options that name tables, of which one may be given.
+fn tables_of<'a>(alloc: Global) -> Result<ArgGroup<'a>, AllocError> {
+    ArgGroup::new(alloc, "table")
+        .arg("conflicts")?
+        .arg("rejected")?
+        .arg("corrections")?
+        .arg("studies")
+}
+
 fn report_command<'a>(alloc: Global) -> Result<Command<'a>, AllocError> {
-    let file = word(alloc, "FILE", "The file with the operations");
-    Command::new(alloc, "report").about(REPORT).arg(file)
+    let separated = Arg::new(alloc, "tsv")
+        .long("tsv")
+        .action(ArgAction::SetTrue)
+        .requires_arg("table")?
+        .help("Parts the cells of the table by tabs");
+    Command::new(alloc, "report")
+        .about(REPORT)
+        .arg(word(alloc, "FILE", "The file with the operations"))?
+        .arg(table_of(
+            alloc,
+            "conflicts",
+            "The contents of each SOP Instance UID that has two or more, and which is picked",
+        ))?
+        .arg(table_of(
+            alloc,
+            "rejected",
+            "The UIDs that rejection notes name, with the titles of the notes and the notes",
+        ))?
+        .arg(table_of(
+            alloc,
+            "corrections",
+            "The corrections, and which of them count",
+        ))?
+        .arg(table_of(
+            alloc,
+            "studies",
+            "The studies that ARCHIVE shows, corrected",
+        ))?
+        .arg(separated)?
+        .group(tables_of(alloc)?)
 }
 
 fn correct_command<'a>(alloc: Global) -> Result<Command<'a>, AllocError> {
@@ -102,17 +152,27 @@ fn networks_of<'a>(alloc: Global, name: &'a str, help: &'a str) -> Arg<'a> {
         .help(help)
 }
 
+/// An option without a value.
+fn flag<'a>(alloc: Global, name: &'a str, help: &'a str) -> Arg<'a> {
+    Arg::new(alloc, name)
+        .long(name)
+        .action(ArgAction::SetTrue)
+        .help(help)
+}
+
 /// With the options of the exchanges that a server serves, and of the sites that it calls.
 fn with_exchanges<'a>(alloc: Global, command: Command<'a>) -> Result<Command<'a>, AllocError> {
     let exchange = Arg::new(alloc, "exchange")
         .long("exchange")
         .value_name("ADDR")
+        .requires_arg("rounds")?
         .help("The IPv4 address and port to listen at for exchanges");
     let rounds = Arg::new(alloc, "rounds")
         .long("rounds")
         .value_name("N")
         .value_parser(value_parser!(u32))
-        .help("How many exchanges are served, none where it is left out");
+        .requires_arg("exchange")?
+        .help("How many exchanges are served");
     let peer = Arg::new(alloc, "peer")
         .long("peer")
         .value_name("ADDR")
@@ -122,6 +182,7 @@ fn with_exchanges<'a>(alloc: Global, command: Command<'a>) -> Result<Command<'a>
         .long("every")
         .value_name("SECONDS")
         .value_parser(value_parser!(u32).range(1..))
+        .requires_arg("peer")?
         .help("How long it waits before it calls a peer again, 60 where it is left out");
     command.arg(exchange)?.arg(rounds)?.arg(peer)?.arg(every)
 }
@@ -144,6 +205,21 @@ fn with_callers<'a>(alloc: Global, command: Command<'a>) -> Result<Command<'a>, 
         .action(ArgAction::Append)
         .help("A calling title that may ask for an association, else any may");
     command.arg(allow)?.arg(exchange_allow)?.arg(calling)
+}
+
+/// With the options of how a server ends and what it tells.
+fn with_manner<'a>(alloc: Global, command: Command<'a>) -> Result<Command<'a>, AllocError> {
+    let until = flag(
+        alloc,
+        "until-end-of-input",
+        "Ends once its standard input does",
+    );
+    let verbose = flag(
+        alloc,
+        "verbose",
+        "Tells each association and each exchange on standard error",
+    );
+    command.arg(until)?.arg(verbose)
 }
 
 fn serve_command<'a>(alloc: Global) -> Result<Command<'a>, AllocError> {
@@ -169,7 +245,8 @@ fn serve_command<'a>(alloc: Global) -> Result<Command<'a>, AllocError> {
         .arg(workers)?
         .arg(each)?;
     let command = with_exchanges(alloc, command)?;
-    with_callers(alloc, command)
+    let command = with_callers(alloc, command)?;
+    with_manner(alloc, command)
 }
 
 fn exchange_command<'a>(alloc: Global) -> Result<Command<'a>, AllocError> {
@@ -202,6 +279,32 @@ fn archive_command<'a>(alloc: Global) -> Result<Command<'a>, AllocError> {
 /// The word of a name, which is there where the name is that of a word that has to be.
 fn text<'a>(found: &ArgMatches<'a>, name: &str) -> &'a str {
     found.get_str(name).unwrap_or("")
+}
+
+/// The table that an option names, if one does.
+fn table_in(found: &ArgMatches<'_>) -> Option<Table> {
+    if found.get_flag("conflicts") {
+        return Some(Table::Conflicts);
+    }
+    if found.get_flag("rejected") {
+        return Some(Table::Rejected);
+    }
+    if found.get_flag("corrections") {
+        return Some(Table::Corrections);
+    }
+    if found.get_flag("studies") {
+        return Some(Table::Studies);
+    }
+    None
+}
+
+/// What the words behind `report` ask for.
+fn read_report<'a>(found: &ArgMatches<'a>) -> Reporting<'a> {
+    Reporting {
+        file: text(found, "FILE"),
+        table: table_in(found),
+        separated: found.get_flag("tsv"),
+    }
 }
 
 /// What the words behind `correct` ask for, if they have its form.
@@ -330,6 +433,8 @@ fn read_serve<'a>(alloc: Global, found: &ArgMatches<'a>) -> Result<Option<Servin
             allowed,
             exchange_allowed,
             callers,
+            ends_with_input: found.get_flag("until-end-of-input"),
+            is_verbose: found.get_flag("verbose"),
         })),
         _ => Ok(None),
     }
@@ -352,6 +457,13 @@ fn read_exchange<'a>(found: &ArgMatches<'a>) -> Option<Exchanging<'a>> {
     })
 }
 
+/// Whether words were refused for want of memory, and not for what they say.
+pub fn is_want_of_memory(error: &Error) -> bool
+    ensures { IsTrue result ↔ kind_of error.now ≡ ErrorKind.OutOfMemory }
+{
+    error.kind() == ErrorKind::OutOfMemory
+}
+
 /// What the words of a command line ask for, the program's name first.
 pub fn read_words<'a>(alloc: Global, words: &'a [&'a str]) -> Result<Asked<'a>, Error>
     ensures ranges { IfOk result IsInRange }
@@ -359,7 +471,7 @@ pub fn read_words<'a>(alloc: Global, words: &'a [&'a str]) -> Result<Asked<'a>, 
     let mut command = archive_command(alloc)?;
     let matches = command.try_get_matches_from_mut(words)?;
     match matches.subcommand() {
-        Some(("report", found)) => Ok(Asked::Report(text(found, "FILE"))),
+        Some(("report", found)) => Ok(Asked::Report(read_report(found))),
         Some(("correct", found)) => match read_correct(alloc, found)? {
             Some(correcting) => Ok(Asked::Correct(correcting)),
             None => Err(command.error(ErrorKind::InvalidValue, NO_FORM)?),

@@ -28,7 +28,7 @@ HasPlaces serving = (1 ≤ serving.workers) × (serving.workers ≤ 32) × (vec_
 -- the numbers that a command names are in their ranges
 abbrev pub IsInRange : Asked → Type 0
 IsInRange Simulate = Unit {0}
-IsInRange (Report file) = Unit {0}
+IsInRange (Report reporting) = Unit {0}
 IsInRange (Correct correcting) = HasSite correcting
 IsInRange (Serve serving) = HasPlaces serving
 IsInRange (Exchange exchanging) = Unit {0}

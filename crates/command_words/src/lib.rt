@@ -9,6 +9,7 @@ use ipv4_networks::Network;
 use octets::Octets;
 use operation::Target;
 use site_script::{tag_in, target_in};
+use site_tables::Table;
 use std::alloc::{AllocError, Global};
 
 /// The value that an attribute of a target is given.
@@ -49,6 +50,10 @@ pub struct Serving<'a> {
     pub exchange_allowed: Vec<Network>,
     /// The calling titles that may ask for an association. Where none is named any may.
     pub callers: Vec<&'a str>,
+    /// Whether the end of standard input ends it.
+    pub ends_with_input: bool,
+    /// Whether each association and each exchange is a line on standard error.
+    pub is_verbose: bool,
 }
 
 /// The operations in a file, and the address of the site that they are exchanged with.
@@ -60,13 +65,23 @@ pub struct Exchanging<'a> {
     pub role: Role,
 }
 
+/// A report on the shelf in a file.
+#[derive(Clone, Copy, Debug)]
+pub struct Reporting<'a> {
+    pub file: &'a str,
+    /// What is told of the site, or the counts where none is named.
+    pub table: Option<Table>,
+    /// Whether the table is told as tab-separated values.
+    pub separated: bool,
+}
+
 /// What a command line asks for.
 #[derive(Debug, Drop)]
 pub enum Asked<'a> {
     /// Answers a script.
     Simulate,
     /// Reports on the shelf in a file.
-    Report(&'a str),
+    Report(Reporting<'a>),
     /// Makes a correction.
     Correct(Correcting<'a>),
     /// Serves.

@@ -145,6 +145,34 @@ fn bodies_of_no_frame_are_told(rt: HostRuntime) {
 }
 
 #[test]
+fn a_give_is_as_long_as_its_operation(rt: HostRuntime) {
+    is_read(
+        &rt,
+        rt.alloc(),
+        b"\x03\x00\x00\x00\x1c\x03\x071.2.1.1\x00\x08\x10\x3e\x00\x03HEA\
+        \x00\x00\x00\x00\x00\x00\x00\x01\x00\x01",
+        0,
+        "28 bytes of 28",
+    );
+    is_read(
+        &rt,
+        rt.alloc(),
+        b"\x03\x00\x00\x00\x1d\x03\x071.2.1.1\x00\x08\x10\x3e\x00\x03HEA\
+        \x00\x00\x00\x00\x00\x00\x00\x01\x00\x01\x00",
+        1,
+        "28 bytes of 29",
+    );
+    is_read(
+        &rt,
+        rt.alloc(),
+        b"\x03\x00\x00\x00\x1b\x03\x071.2.1.1\x00\x08\x10\x3e\x00\x03HEA\
+        \x00\x00\x00\x00\x00\x00\x00\x01\x00",
+        1,
+        "27 bytes of an operation of 28",
+    );
+}
+
+#[test]
 fn first_bytes_ascend(rt: HostRuntime) {
     is_read(
         &rt,

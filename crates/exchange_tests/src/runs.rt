@@ -8,6 +8,7 @@ use octets::Octets;
 use operation::{Op, decode, digest};
 use site_state::Site;
 use std::alloc::{AllocError, Global};
+use std::process::Abort;
 use std::test::Fail;
 
 // The corrections of study 1.2.1 by which (0010,0010) is ROE^ANN, and of series 1.2.1.1 by which
@@ -72,6 +73,25 @@ fn of_empty_caller(alloc: Global) -> Result<Vec<u8>, AllocError> {
     around(
         alloc,
         HELLO,
+        b"\x01\x00\x00\x00\x04\x00\x00\x00\x00\x04\x00\x00\x00\x00\
+        \x06\x00\x00\x00\x02\x00\x00\x02\x00\x00\x00\x04\x00\x00\x00\x00",
+    )
+}
+
+/// What such a side reads at version 1, where it calls.
+fn of_old_callee(alloc: Global) -> Result<Vec<u8>, AllocError> {
+    around(
+        alloc,
+        b"\x06\x00\x00\x00\x02\x00\x00\x02\x00\x00\x00\x04\x00\x00\x00\x00",
+        b"\x01\x00\x00\x00\x04\x00\x00\x00\x00\x04\x00\x00\x00\x00",
+    )
+}
+
+/// And where it is called.
+fn of_old_caller(alloc: Global) -> Result<Vec<u8>, AllocError> {
+    around(
+        alloc,
+        b"",
         b"\x01\x00\x00\x00\x04\x00\x00\x00\x00\x04\x00\x00\x00\x00\
         \x06\x00\x00\x00\x02\x00\x00\x02\x00\x00\x00\x04\x00\x00\x00\x00",
     )
@@ -150,6 +170,71 @@ fn a_stream_that_ends_too_soon_is_no_exchange(rt: HostRuntime) -> Result<(), Fai
         );
     }
     Ok(())
+}
+
+/// A side with nothing reads fronts of what a peer says, and writes a front of its own text: each
+/// front that ends outside of BUCKETS or near its ends, and some that end inside.
+fn ends_too_soon(
+    rt: &impl Abort,
+    alloc: Global,
+    role: Role,
+    input: &[u8],
+    output: &[u8],
+) -> Result<(), Fail> {
+    let mut site = Site::new(alloc);
+    for end in 0..input.len() {
+        if end < 48 || input.len() - end < 48 || end % 251 == 0 {
+            let (out, ended) = run(alloc, role, &mut site, &input[..end], 4096)?;
+            assert_eq!(rt; fault_of(ended), 1, "of {end} bytes");
+            assert!(rt;
+                output.starts_with(out.as_slice()),
+                "what is written for {end} bytes"
+            );
+        }
+    }
+    let (out, ended) = run(alloc, role, &mut site, input, 4096)?;
+    assert_eq!(rt; fault_of(ended), 0, "the whole text");
+    assert!(rt; out.as_slice() == output, "what is written for it");
+    Ok(())
+}
+
+#[test]
+fn a_callee_that_ends_too_soon_is_no_exchange(rt: HostRuntime) -> Result<(), Fail> {
+    let caller = of_empty_caller(rt.alloc())?;
+    let callee = of_empty_callee(rt.alloc())?;
+    ends_too_soon(
+        &rt,
+        rt.alloc(),
+        Role::Caller,
+        callee.as_slice(),
+        caller.as_slice(),
+    )
+}
+
+#[test]
+fn an_old_callee_that_ends_too_soon_is_no_exchange(rt: HostRuntime) -> Result<(), Fail> {
+    let caller = of_old_caller(rt.alloc())?;
+    let callee = of_old_callee(rt.alloc())?;
+    ends_too_soon(
+        &rt,
+        rt.alloc(),
+        Role::OldCaller,
+        callee.as_slice(),
+        caller.as_slice(),
+    )
+}
+
+#[test]
+fn an_old_caller_that_ends_too_soon_is_no_exchange(rt: HostRuntime) -> Result<(), Fail> {
+    let caller = of_old_caller(rt.alloc())?;
+    let callee = of_old_callee(rt.alloc())?;
+    ends_too_soon(
+        &rt,
+        rt.alloc(),
+        Role::Callee,
+        caller.as_slice(),
+        callee.as_slice(),
+    )
 }
 
 #[test]

@@ -7,7 +7,7 @@ use crate::made::{NAME, closed, found, name, query, study};
 use crate::messages::{answered, asked};
 use archive_model::View;
 use archive_query::Query;
-use association_run::{End, Gate, run_association};
+use association_run::{End, Gate, Outbox, run_association};
 use association_session::Moment;
 use association_worker::{AtEntry, HubPort};
 use devices::{Store, Supply};
@@ -29,6 +29,7 @@ type Shared<'a, H, R> = Mutex<Keeper<H, Snapshot<H>, &'a R>>;
 #[derive(Drop)]
 struct Line {
     supply: Supply,
+    outbox: Outbox,
     store: Store,
     titles: Titles<View>,
 }
@@ -42,6 +43,7 @@ fn line_of(alloc: Global, input: &[u8]) -> Result<Line, Fail> {
     };
     Ok(Line {
         supply: Supply::new(Octets::from_slice(alloc, input)?, 65_536, None),
+        outbox: Outbox::new(alloc)?,
         store: Store::new(alloc, 1_000_000),
         titles: Titles {
             list: ListOf::of(vec![in alloc; title]?),
@@ -65,6 +67,7 @@ fn associate<E: AtEntry, H: HubName, R: Wait, G: Gate>(
     let ended = run_association(
         alloc,
         &mut line.supply,
+        &mut line.outbox,
         &mut line.store,
         &mut port,
         gate,

@@ -1,10 +1,12 @@
 mod Back
 mod Changes
+mod Digits
 mod Keeps
 mod Made
 mod Migrated
 mod Olders
 mod Ops
+mod Orders
 mod Puts
 mod Queries
 mod Schemas

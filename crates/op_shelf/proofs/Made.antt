@@ -23,7 +23,7 @@ checks_in : {E : Type 0} → Result Table E → List Term
 checks_in (Ok table) = table.checks
 checks_in (Err e) = []
 
--- CHECK (kind IN (1, 2, 3))
+-- no CHECK: each row is tested when it is read
 pub made_checks : List Term
 made_checks = checks_in (table_defined_by create_text)
 

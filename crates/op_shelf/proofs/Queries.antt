@@ -1,21 +1,21 @@
 -- What the queries show.
-use Rattle.std.proofs.Common.{flat_map, ◌≡◌, ◌++◌, ◌&&◌, inl, inr, ℕ, ◌+◌, ◌<◌, pos, List}
-use Rattle.std.proofs.Common.{[], ◌∷◌, map, filter, length, get_or, Bool, true, false, cond, Some}
-use Rattle.std.proofs.Common.{IsPermutation, IsSorted, All, refl, sym, ap, ap₂, subst, ◌∙◌, is_lt, arith}
-use Rattle.std.proofs.lemmas.List.{get_or-map, length-map}
+use Rattle.std.proofs.Common.{flat_map, ◌≡◌, ◌++◌, ◌&&◌, inl, inr, ℕ, pos, List}
+use Rattle.std.proofs.Common.{[], ◌∷◌, map, filter, length, Bool, true, false, cond, Some}
+use Rattle.std.proofs.Common.{IsPermutation, refl, sym, ap, subst, ◌∙◌}
+use Rattle.std.proofs.lemmas.List.{length-map}
 use Rattle.std.specs.Ordering.{is_eq}
-use Rattle.std.proofs.lemmas.List.Sorted.{IsPermutation-map, length_permutation, All-permutation}
+use Rattle.std.proofs.lemmas.List.Sorted.{IsPermutation-map, length_permutation}
 use Rattle.sqlite.specs.declared.types.Value.{Value}
 use Rattle.sqlite.specs.declared.types.Value.TheVariants.{Null, Int, Real, Text, Blob}
 use Rattle.sqlite.specs.Order.{Row, column, value_cmp}
-use Rattle.sqlite_value.proofs.OrderLemmas.{value_cmp-Null, then-Equal}
+use Rattle.sqlite_value.proofs.OrderLemmas.{value_cmp-Null}
 use Rattle.sqlite.specs.Term.{Term, Env}
 use Rattle.sqlite.specs.Ops.{unary, binary, is_true, from_truth}
 use Rattle.sqlite_sql.specs.declared.ops.CompareOp.TheVariants.{Eq}
 use Rattle.sqlite_sql.specs.declared.ops.UnaryOp.TheVariants.{ToNumeric}
 use Rattle.sqlite_sql.specs.declared.ops.BinaryOp.TheVariants.{Compare}
 use Rattle.sqlite.specs.Collation.TheVariants.{Binary}
-use Rattle.sqlite.specs.Query.{IsAnswer, output, output_cmp, Output}
+use Rattle.sqlite.specs.Query.{IsAnswer, output, Output}
 use Rattle.sqlite.specs.Program.{overlay}
 use Rattle.sqlite.specs.Tree.{Trees}
 use Rattle.sqlite.specs.State.{State, Shown}
@@ -23,7 +23,7 @@ use Rattle.sqlite.specs.Schema.{Schema}
 use Rattle.sqlite.specs.Listing.{understood}
 use Rattle.sqlite.proofs.Callers.{IsPlain, reads_as}
 use Rattle.op_shelf.specs.Entries.{entries, entry_in}
-use Rattle.op_shelf.specs.States.{under, count_of, digest_cmp, rows_of, tree_in}
+use Rattle.op_shelf.specs.States.{under, count_of, rows_of, tree_in}
 use Rattle.op_shelf.specs.Table.{shelf_schema, IsShelf}
 use Rattle.op_shelf.specs.Texts.{all_text, held_text, kind_text}
 use Rattle.op_shelf.proofs.Texts.{Serves, all_is, all_query, held_is, held_query, kind_is, kind_query}
@@ -110,33 +110,6 @@ pub overlaid : (db : Trees) (tree : ℕ) → Serves tree → overlay db [] tree 
 overlaid db tree (inl first) = rw first
 overlaid db tree (inr third) = rw third
 
--- the order of what ORDER BY compares is that of what is shown
-as_shown : (tree : ℕ) (o p : Output) → column o.0 0 ≡ column o.1 0 → column p.0 0 ≡ column p.1 0
-    → output_cmp (all_query tree) o p ≡ digest_cmp o.1 p.1
-as_shown tree o p a b = then-Equal _ ∙ ap₂ value_cmp a b
-
-sorted_rows : (tree : ℕ) (ordered : List Output) (rows : List Row) → All (λ (o : Output). column o.0 0 ≡ column o.1 0)
-    ordered → IsSorted (output_cmp (all_query tree)) ordered
-    → rows ≡ map (λ (o : Output). o.1) ordered → IsSorted digest_cmp rows
-sorted_rows tree ordered rows same sorted is k d low high =
-    let many : length rows ≡ length ordered = ap length is ∙ length-map ordered (λ (o : Output). o.1) in
-    let o : Output = ([], d) in
-    let next : k + 1 < length ordered = omega (arith, high, many) in
-    let here : k < length ordered = omega (arith, high, many) in
-    let at_next : get_or rows (k + 1) d ≡ (get_or ordered (k + 1) o).1 = ap (λ xs. get_or xs (k + 1) d) is
-    ∙ get_or-map (λ (o : Output). o.1) ordered (k + 1) o d next in
-    let at_here : get_or rows k d ≡ (get_or ordered k o).1 = ap (λ xs. get_or xs k d) is
-    ∙ get_or-map (λ (o : Output). o.1) ordered k o d here in
-    ap is_lt (ap₂ digest_cmp at_next at_here ∙ sym (as_shown tree (get_or ordered (k + 1) o) (get_or ordered k o)
-    (same (k + 1) o next) (same k o here))) ∙ sorted k o low next
-
-pick_first : (g : Row → Output) → ((r : Row) → column (g r).0 0 ≡ column (g r).1 0) → (rows : List Row)
-    → All (λ (o : Output). column o.0 0 ≡ column o.1 0) (map g rows)
-pick_first g same rows i d low =
-    let within : i < length rows = omega (arith, low, length-map rows g) in
-    subst (λ (o : Output). column o.0 0 ≡ column o.1 0) (sym (get_or-map g rows i [] d within))
-    (same (get_or rows i []))
-
 module _ (tree : ℕ) (checks : List Term) (serves : Serves tree) (old new : State) (has : old.now.schema ≡ shelf_schema
     tree checks) (rows : List Row) where
   abbrev table : List Row
@@ -177,23 +150,17 @@ module _ (tree : ℕ) (checks : List Term) (serves : Serves tree) (old new : Sta
       length_permutation _ rows all ∙ length-map picked (λ r. (shows r).1) ∙ sym (length-map picked entry_in)
       ∙ ap length (sifted (λ entry. is_eq (value_cmp (column entry 1) (Int (pos kind)))) table)
 
-  lists_in : Shown all_text [] old new rows → IsPermutation (entries table) rows × IsSorted digest_cmp rows
+  lists_in : Shown all_text [] old new rows → IsPermutation (entries table) rows
   lists_in h =
       let q = all_is tree checks serves in
       let got = reads_as all_text [] old new (shelf_schema tree checks) has _ q.is q.plain q.unlisted rows h in
       let a : IsAnswer (all_query tree) (overlay old.now.trees []) [] rows = got.answer Null in
-      let shows : Row → Output = λ r. (column r 1 ∷ [], entry_in r) in
+      let shows : Row → Output = λ r. ([], entry_in r) in
       let staged : a.staged ≡ map (λ (r : Row). [] ∷ r ∷ []) table = a.grouped ∙ rw (overlaid old.now.trees tree serves)
       (each table) in
       let kept : a.kept ≡ map shows table = a.distinct ∙ ap (map (output (all_query tree))) staged
       ∙ outs (output (all_query tree)) shows [] (λ r. refl) table in
-      let firsts = All-permutation (λ (o : Output). column o.0 0 ≡ column o.1 0) a.kept a.ordered
-      a.same (subst (All (λ (o : Output). column o.0 0 ≡ column o.1 0)) (sym kept)
-      (pick_first shows (λ r. refl) table)) in (
-        permuted shows table rows a.kept a.ordered kept a.same (a.shown ∙ refl),
-        sorted_rows tree a.ordered rows firsts
-            a.sorted (a.shown ∙ refl),
-      )
+      permuted shows table rows a.kept a.ordered kept a.same (a.shown ∙ refl)
 
 -- the same of any schema of a shelf
 pub plain_all : (s : Schema) → IsShelf s → IsPlain (understood s all_text)
@@ -216,6 +183,6 @@ module _ (old new : State) (shelf : IsShelf old.now.schema) (rows : List Row) wh
   counts kind h = subst (λ n. length rows ≡ count_of kind (old.now.trees n)) (sym (ap tree_in shelf.3))
       (counts_in shelf.0 shelf.2 shelf.1 old new shelf.3 rows kind h)
 
-  pub lists : Shown all_text [] old new rows → IsPermutation (entries (rows_of old)) rows × IsSorted digest_cmp rows
-  lists h = subst (λ n. IsPermutation (entries (old.now.trees n)) rows × IsSorted digest_cmp rows)
+  pub lists : Shown all_text [] old new rows → IsPermutation (entries (rows_of old)) rows
+  lists h = subst (λ n. IsPermutation (entries (old.now.trees n)) rows)
       (sym (ap tree_in shelf.3)) (lists_in shelf.0 shelf.2 shelf.1 old new shelf.3 rows h)

@@ -50,7 +50,7 @@ all_query tree = record {
   project = col 1 1 ∷ col 1 2 ∷ col 1 3 ∷ [];
   distinct = false;
   collations = [];
-  order = (col 1 1, record { collation = Binary; descending = false }) ∷ [];
+  order = [];
   limit = lit (Int (negsuc 0));
   offset = lit (Int (pos 0));
 }

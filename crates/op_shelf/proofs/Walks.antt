@@ -1,6 +1,6 @@
 -- What a walk over the entries knows at each row, where the state at its start is `first`.
 use Rattle.std.proofs.Common.{◌≡◌, ◌++◌, ◌∷◌, ◌≤◌, [], List, None, Ok, inl, inr, sym, ap, subst, ◌∙◌, IsPermutation}
-use Rattle.std.proofs.Common.{IsSorted, Contains}
+use Rattle.std.proofs.Common.{Contains}
 use Rattle.std.proofs.lemmas.List.Elements.{Contains-push, Contains-append_left}
 use Rattle.std.proofs.lemmas.List.Sorted.{IsPermutation-sym, Contains-permutation}
 use Rattle.sqlite.specs.Order.{Row}
@@ -14,7 +14,7 @@ use Rattle.sqlite.proofs.Callers.{IsPlain, EndsIn, command_of, begins_shown, unc
 use Rattle.sqlite.proofs.StateLemmas.{unchanged}
 use Rattle.sqlite.proofs.StreamLemmas.{fails_since}
 use Rattle.op_shelf.specs.Entries.{IsEntry, HasBadRow, entries}
-use Rattle.op_shelf.specs.States.{rows_of, tree_in, digest_cmp}
+use Rattle.op_shelf.specs.States.{rows_of, tree_in}
 use Rattle.op_shelf.specs.Table.{IsShelf}
 use Rattle.op_shelf.specs.Texts.{all_text}
 use Rattle.op_shelf.proofs.Queries.{lists, plain_all}
@@ -34,9 +34,9 @@ module _ (first now : State) (shelf : IsShelf first.now.schema) (same : IsUnchan
 
   -- The rows of the whole answer are those of the table at the start.
   pub walked : (new : State) (rows : List Row) → Shown all_text [] now new rows
-      → IsPermutation (entries (rows_of first)) rows × IsSorted digest_cmp rows
+      → IsPermutation (entries (rows_of first)) rows
   walked new rows h =
-      subst (λ (d : Database). IsPermutation (entries (d.trees (tree_in d.schema))) rows × IsSorted digest_cmp rows)
+      subst (λ (d : Database). IsPermutation (entries (d.trees (tree_in d.schema))) rows)
       same.0.now_is (lists now new still rows h)
 
   -- A row that is none of an operation stands in the table, also where others are still to come.
@@ -45,7 +45,7 @@ module _ (first now : State) (shelf : IsShelf first.now.schema) (same : IsUnchan
   bad_stands given row begun bad =
       let more = begins_shown all_text [] now now (given ++ row ∷ []) begun (unchanged now same.0.is_open)
       (λ c db it source. ends now still c it.is db (timed [] c.formats it.now)) in
-      let all = (walked now ((given ++ row ∷ []) ++ more.0) more.1).0 in
+      let all = walked now ((given ++ row ∷ []) ++ more.0) more.1 in
       let found : Contains ((given ++ row ∷ []) ++ more.0) row = Contains-append_left (given ++ row ∷ []) more.0 row
       (Contains-push given row) in
       (row, Contains-permutation _ _ row (IsPermutation-sym _ _ all) found, bad)

@@ -3,14 +3,13 @@ use Rattle.std.specs.Prelude.{ℕ, List, codes}
 
 abbrev pub create_text : List ℕ
 create_text =
-    codes
-    "CREATE TABLE ops2 (digest TEXT PRIMARY KEY, kind INTEGER NOT NULL CHECK (kind IN (1, 2, 3)), body BLOB NOT NULL)"
+    codes "CREATE TABLE ops2 (digest TEXT PRIMARY KEY, kind INTEGER NOT NULL, body BLOB NOT NULL)"
 
 abbrev pub insert_text : List ℕ
 insert_text = codes "INSERT INTO ops2 (digest, kind, body) VALUES (?1, ?2, ?3)"
 
 abbrev pub all_text : List ℕ
-all_text = codes "SELECT digest, kind, body FROM ops2 ORDER BY digest"
+all_text = codes "SELECT digest, kind, body FROM ops2"
 
 abbrev pub held_text : List ℕ
 held_text = codes "SELECT digest, kind, body FROM ops2 WHERE digest = ?1"

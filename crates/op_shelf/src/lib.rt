@@ -10,6 +10,7 @@ mod keep;
 mod kept;
 mod migration;
 mod open;
+mod order;
 mod rows;
 mod schema;
 mod shelf;

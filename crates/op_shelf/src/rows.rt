@@ -11,7 +11,7 @@ ghost use Rattle.op_shelf.specs.Older.{IsPair};
 
 use crate::fault::ShelfFault;
 use bytes::Bytes;
-use operation::{Op, decode, digest};
+use operation::{Digested, Op, decode, digest};
 use sqlite::Row;
 use sqlite::types::ValueRef;
 use std::alloc::Global;
@@ -66,6 +66,20 @@ fn is_entry(entry: &Row, digest: &[u8], body: &[u8]) -> bool
     has_text(entry, 0, digest) && has_kind(entry, 1, kind_of(body)) && has_body(entry, 2, body)
 }
 
+/// Whether an entry that has these bytes is that of a digest. They are not compared again.
+fn is_headed(entry: &Row, digest: &[u8], body: &[u8]) -> bool
+    requires { column entry.now 2 ≡ Blob body.now }
+    ensures { IsTrue result ↔ (entry.now ≡ entry_by digest.now body.now) }
+{
+    if entry.column_count() != 3 {
+        return false;
+    }
+    if !has_text(entry, 0, digest) {
+        return false;
+    }
+    has_kind(entry, 1, kind_of(body))
+}
+
 /// Whether an entry is there: `BadRow` where another one is.
 pub(crate) fn find_in(rows: &[Row], digest: &[u8], body: &[u8]) -> Result<bool, ShelfFault>
     ensures absent { result ≡ Ok false → rows.now ≡ [] }
@@ -104,8 +118,8 @@ fn decoded(alloc: Global, body: &[u8]) -> Result<Op, ShelfFault>
     Ok(op)
 }
 
-/// The operation of an entry.
-pub(crate) fn op_of(alloc: Global, entry: &Row) -> Result<Op, ShelfFault>
+/// The operation of an entry, which is hashed here.
+pub(crate) fn op_of(alloc: Global, entry: &Row) -> Result<Digested, ShelfFault>
     ensures found { IfOk result (λ op. entry.now ≡ entry_of op) }
     ensures lawful { IfOk result IsOp }
     ensures bad { IsErrOf result ShelfFault.BadRow → ¬ IsEntry entry.now }
@@ -114,9 +128,10 @@ pub(crate) fn op_of(alloc: Global, entry: &Row) -> Result<Op, ShelfFault>
     let Some(body) = body_in(entry) else {
         return Err(ShelfFault::BadRow);
     };
-    let op = decoded(alloc, body)?;
-    let text = digest(&op).text(alloc)?;
-    if !is_entry(entry, text.as_bytes(), body) {
+    let made = decoded(alloc, body)?;
+    let op = Digested::of(made);
+    let text = op.digest().text(alloc)?;
+    if !is_headed(entry, text.as_bytes(), body) {
         return Err(ShelfFault::BadRow);
     }
     Ok(op)

@@ -109,8 +109,9 @@ impl<S: Alter> Shelf<S> {
         put_entry(&mut self.database, name.as_str(), &body)
     }
 
-    /// The operations of the shelf, ascending by digest.
-    pub fn all(&mut self) -> Result<Vec<Op>, ShelfFault>
+    /// The operations of the shelf, ascending by digest. Each is hashed once, to test its row, and
+    /// comes with its digest.
+    pub fn all(&mut self) -> Result<Vec<Digested>, ShelfFault>
         ensures all { IfClean S.Store self.old self.new (λ s t.
             IfOk result (λ ops. Lists (rows_of s) ops.items)) }
         ensures ascending { IfClean S.Store self.old self.new (λ s t.

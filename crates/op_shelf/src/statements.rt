@@ -132,8 +132,7 @@ pub(crate) fn create<S: Alter>(database: &mut Connection<S>) -> Result<usize, Er
         trees 0 ≡ []) }
 {
     database.execute(
-        "CREATE TABLE ops2 (digest TEXT PRIMARY KEY, \
-            kind INTEGER NOT NULL CHECK (kind IN (1, 2, 3)), body BLOB NOT NULL)",
+        "CREATE TABLE ops2 (digest TEXT PRIMARY KEY, kind INTEGER NOT NULL, body BLOB NOT NULL)",
         &[],
     )
 }

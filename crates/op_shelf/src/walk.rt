@@ -9,17 +9,48 @@ ghost use Rattle.op_shelf.specs.Table.{IsShelf};
 ghost use Rattle.op_shelf.specs.Texts.{all_text};
 
 use crate::fault::ShelfFault;
+use crate::order::put_in_order;
 use crate::rows::op_of;
-use operation::Op;
+use operation::Digested;
 use sqlite::{Alter, Connection};
 use std::alloc::Global;
 
-/// The operations of the entries, ascending by the texts of their digests. The index of the digests
-/// gives that order, so that nothing is sorted, and each row is let go before the next is read.
+/// The operations of the entries with their digests, in the order of the table. Each row is let go
+/// before the next is read.
+fn read_ops<S: Alter>(
+    database: &mut Connection<S>,
+    alloc: Global,
+) -> Result<Vec<Digested>, ShelfFault>
+    requires shelf { IsShelf (state S.Store database.old).now.schema }
+    ensures all { IfClean S.Store database.old database.new (λ s t.
+        IfOk result (λ ops. Lists (rows_of s) ops.items)) }
+    ensures same { IfClean S.Store database.old database.new (λ s t.
+        OnOk result (IsUnchanged s t)) }
+    ensures refused { IfClean S.Store database.old database.new (λ s t. OnErr result (Spares s t)) }
+    ensures bad_row { IfClean S.Store database.old database.new (λ s t.
+        IsErrOf result ShelfFault.BadRow → HasBadRow (rows_of s)) }
+    ensures store { IfClean S.Store database.old database.new (λ s t.
+        IsErrOf result ShelfFault.Store → IsNotShown all_text [] s t) }
+    ensures crash { Survives (state S.Store database.old) (state S.Store database.new) (λ _. ⊥) }
+{
+    let mut ops = Vec::new(alloc);
+    let mut rows = database.query("SELECT digest, kind, body FROM ops2", &[])?;
+    'rows: for _ in 0..u64::MAX {
+        rows.advance()?;
+        let Some(row) = rows.get() else {
+            return Ok(ops);
+        };
+        ops.push(op_of(alloc, row)?)?;
+    }
+    Err(ShelfFault::Memory)
+}
+
+/// The operations of the entries with their digests, ascending by the texts of these. They are
+/// sorted here: by the index of the digests each row would be looked up, into memory of its own.
 pub(crate) fn all_ops<S: Alter>(
     database: &mut Connection<S>,
     alloc: Global,
-) -> Result<Vec<Op>, ShelfFault>
+) -> Result<Vec<Digested>, ShelfFault>
     requires shelf { IsShelf (state S.Store database.old).now.schema }
     ensures all { IfClean S.Store database.old database.new (λ s t.
         IfOk result (λ ops. Lists (rows_of s) ops.items)) }
@@ -34,14 +65,11 @@ pub(crate) fn all_ops<S: Alter>(
         IsErrOf result ShelfFault.Store → IsNotShown all_text [] s t) }
     ensures crash { Survives (state S.Store database.old) (state S.Store database.new) (λ _. ⊥) }
 {
-    let mut ops = Vec::new(alloc);
-    let mut rows = database.query("SELECT digest, kind, body FROM ops2 ORDER BY digest", &[])?;
-    'rows: for _ in 0..u64::MAX {
-        rows.advance()?;
-        let Some(row) = rows.get() else {
-            return Ok(ops);
-        };
-        ops.push(op_of(alloc, row)?)?;
+    match read_ops(database, alloc) {
+        Ok(mut ops) => {
+            put_in_order(&mut ops);
+            Ok(ops)
+        }
+        Err(fault) => Err(fault),
     }
-    Err(ShelfFault::Memory)
 }

@@ -4,13 +4,14 @@ ghost use Rattle.std.specs.Prelude.{◌≡◌, length, vec_len};
 
 use crate::client::{Answered, Asked};
 use crate::exchanged::{in_memory, opened_again, with_correction};
-use crate::served::{connected, hears_all, open_to_all, titles};
+use crate::served::{UNENDED, connected, hears_all, open_to_all, titles};
 use archive_server::{Peer, serve_on};
 use association_run::OpenGate;
 use bytes::Bytes;
 use data_set::Syntax;
 use devices::Counted;
 use exchange_run::Role;
+use log::Log;
 use octets::Octets;
 use op_shelf::{Keep, Shelf};
 use operation::{Op, content_of};
@@ -125,7 +126,7 @@ fn answer_all(
 /// there was no fault.
 fn serve_calling<
     H: HubName + Send + Sync,
-    R: Net<Listener = TcpListener, Stream = TcpStream> + Threads + Wait + Clock + Sync,
+    R: Net<Listener = TcpListener, Stream = TcpStream> + Threads + Wait + Clock + Log + Sync,
 >(
     rt: &R,
     alloc: Global,
@@ -152,6 +153,7 @@ fn serve_calling<
         keeper,
         passes,
         shelf,
+        UNENDED,
     );
     match served.fault {
         None => Some(served.accepted),
@@ -162,7 +164,7 @@ fn serve_calling<
 /// Serves meanwhile, and calls both sites.
 fn meet<
     H: HubName + Send + Sync,
-    R: Net<Listener = TcpListener, Stream = TcpStream> + Threads + Wait + Clock + Sync,
+    R: Net<Listener = TcpListener, Stream = TcpStream> + Threads + Wait + Clock + Log + Sync,
 >(
     rt: &R,
     alloc: Global,

@@ -3,12 +3,13 @@
 ghost use Rattle.std.specs.Prelude.{◌≡◌, vec_len};
 
 use crate::client::{Answered, Asked};
-use crate::served::{connected, hears_all, open_to_all, titles};
+use crate::served::{UNENDED, connected, hears_all, open_to_all, titles};
 use archive_server::{Exchanging, serve_on};
 use association_run::OpenGate;
 use bytes::Bytes;
 use devices::Counted;
 use exchange_run::{Ended, Role};
+use log::Log;
 use op_shelf::Shelf;
 use operation::decode;
 use shelved_exchange::exchange_on;
@@ -37,7 +38,7 @@ pub(crate) fn opened_again(alloc: Global, shelf: Shelf<MemStore>) -> Result<Site
     let mut shelf = Shelf::adopt(alloc, shelf.into_connection())?;
     let mut site = Site::new(alloc);
     for op in shelf.all()? {
-        site.take(op)?;
+        site.take_digested(op)?;
     }
     Ok(site)
 }
@@ -90,7 +91,7 @@ struct Server<'a> {
 /// Serves with one worker. It says how many associations were accepted, if there was no fault.
 fn serve<
     H: HubName + Send + Sync,
-    R: Net<Listener = TcpListener, Stream = TcpStream> + Threads + Wait + Clock + Sync,
+    R: Net<Listener = TcpListener, Stream = TcpStream> + Threads + Wait + Clock + Log + Sync,
 >(
     rt: &R,
     alloc: Global,
@@ -121,6 +122,7 @@ fn serve<
         keeper,
         passes,
         shelf,
+        UNENDED,
     );
     match served.fault {
         None => Some(served.accepted),
@@ -149,7 +151,7 @@ fn stored_and_exchanged<R: Net<Listener = TcpListener, Stream = TcpStream>>(
 /// Serves meanwhile.
 fn met<
     H: HubName + Send + Sync,
-    R: Net<Listener = TcpListener, Stream = TcpStream> + Threads + Wait + Clock + Sync,
+    R: Net<Listener = TcpListener, Stream = TcpStream> + Threads + Wait + Clock + Log + Sync,
 >(
     rt: &R,
     alloc: Global,
@@ -290,7 +292,7 @@ struct Visit<'a> {
 fn with_both<
     H: HubName + Send + Sync,
     J: HubName + Send + Sync,
-    R: Net<Listener = TcpListener, Stream = TcpStream> + Threads + Wait + Clock + Sync,
+    R: Net<Listener = TcpListener, Stream = TcpStream> + Threads + Wait + Clock + Log + Sync,
 >(
     rt: &R,
     alloc: Global,
@@ -349,7 +351,7 @@ fn with_both<
 /// Names the first hub, and serves both.
 fn visited<
     H: HubName + Send + Sync,
-    R: Net<Listener = TcpListener, Stream = TcpStream> + Threads + Wait + Clock + Sync,
+    R: Net<Listener = TcpListener, Stream = TcpStream> + Threads + Wait + Clock + Log + Sync,
 >(
     rt: &R,
     alloc: Global,

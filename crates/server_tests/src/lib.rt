@@ -6,7 +6,11 @@ mod called;
 #[cfg(test)]
 mod client;
 #[cfg(test)]
+mod ended;
+#[cfg(test)]
 mod exchanged;
+#[cfg(test)]
+mod held;
 #[cfg(test)]
 mod served;
 #[cfg(test)]

@@ -5,9 +5,10 @@ ghost use Rattle.std.specs.Prelude.{◌≡◌, vec_len};
 use crate::client::{Answered, Asked, ask, response};
 use crate::shelves::Counting;
 use archive_model::View;
-use archive_server::{Entrance, Served, serve_on};
+use archive_server::{Entrance, Manner, Served, serve_on};
 use association_run::OpenGate;
 use ipv4_networks::Network;
+use log::Log;
 use octets::{ListOf, Octets};
 use site_hub::{HubName, Keeper, Opened, Pass, Snapshot, open};
 use site_state::Site;
@@ -48,6 +49,12 @@ pub(crate) fn hears_all(
     Ok(true)
 }
 
+/// Nobody ends the server, and nothing is told of what it serves.
+pub(crate) const UNENDED: Manner<'static> = Manner {
+    ending: None,
+    is_verbose: false,
+};
+
 /// Where every peer may come.
 pub(crate) fn open_to_all<'a>(listener: &'a TcpListener) -> Entrance<'a> {
     Entrance {
@@ -75,7 +82,7 @@ pub(crate) fn connected<R: Net<Listener = TcpListener, Stream = TcpStream>>(
 /// they wanted, and how many were accepted.
 fn served<
     H: HubName + Send + Sync,
-    R: Net<Listener = TcpListener, Stream = TcpStream> + Threads + Wait + Clock + Sync,
+    R: Net<Listener = TcpListener, Stream = TcpStream> + Threads + Wait + Clock + Log + Sync,
 >(
     rt: &R,
     alloc: Global,
@@ -109,6 +116,7 @@ fn served<
                 keeper,
                 passes,
                 shelf,
+                UNENDED,
             )
         },
     );
@@ -117,7 +125,7 @@ fn served<
 
 fn run<
     H: HubName + Send + Sync,
-    R: Net<Listener = TcpListener, Stream = TcpStream> + Threads + Wait + Clock + Sync,
+    R: Net<Listener = TcpListener, Stream = TcpStream> + Threads + Wait + Clock + Log + Sync,
 >(
     rt: &R,
     alloc: Global,

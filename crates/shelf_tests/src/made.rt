@@ -3,7 +3,7 @@
 
 use octets::Octets;
 use op_shelf::{Kept, Shelf, ShelfFault};
-use operation::{Op, Stamp, Target, correction_of, digest, encode};
+use operation::{Digested, Op, Stamp, Target, correction_of, digest, encode};
 use sqlite::{Alter, Connection, params};
 use std::alloc::Global;
 use std::test::Fail;
@@ -31,7 +31,7 @@ pub(crate) fn keep<S: Alter>(shelf: &mut Shelf<S>, op: &Op) -> Result<Kept, Shel
     shelf.put(op)
 }
 
-pub(crate) fn all<S: Alter>(shelf: &mut Shelf<S>) -> Result<Vec<Op>, ShelfFault> {
+pub(crate) fn all<S: Alter>(shelf: &mut Shelf<S>) -> Result<Vec<Digested>, ShelfFault> {
     shelf.all()
 }
 
@@ -64,7 +64,7 @@ pub(crate) fn put_older<S: Alter>(
 pub(crate) fn counters<S: Alter>(shelf: &mut Shelf<S>, alloc: Global) -> Result<Vec<u64>, Fail> {
     let mut counters = Vec::new(alloc);
     for op in all(shelf)? {
-        if let Op::Correction(correction) = op {
+        if let Op::Correction(correction) = op.op() {
             counters.push(correction.stamp().counter)?;
         }
     }

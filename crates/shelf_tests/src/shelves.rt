@@ -28,6 +28,21 @@ fn an_operation_is_new_once_and_then_known(rt: HostRuntime) -> Result<(), Fail> 
     Ok(())
 }
 
+// The table as it was made first, which tells the kinds.
+const CHECKED: &str = "CREATE TABLE ops2 (digest TEXT PRIMARY KEY, \
+    kind INTEGER NOT NULL CHECK (kind IN (1, 2, 3)), body BLOB NOT NULL)";
+
+#[test]
+fn a_table_that_tests_the_kind_is_a_shelf(rt: HostRuntime) -> Result<(), Fail> {
+    let mut database = Connection::open_in_memory(rt.alloc())?;
+    run(&mut database, CHECKED)?;
+    let mut shelf = Shelf::adopt(rt.alloc(), database)?;
+    assert_eq!(rt; put(&mut shelf, rt.alloc(), 1)?, Kept::New);
+    assert_eq!(rt; put(&mut shelf, rt.alloc(), 1)?, Kept::Known);
+    assert_eq!(rt; all(&mut shelf)?.len(), 1);
+    Ok(())
+}
+
 #[test]
 fn operations_come_by_ascending_digest(rt: HostRuntime) -> Result<(), Fail> {
     let mut shelf = in_memory(rt.alloc())?;
@@ -37,7 +52,8 @@ fn operations_come_by_ascending_digest(rt: HostRuntime) -> Result<(), Fail> {
     let ops = all(&mut shelf)?;
     assert_eq!(rt; ops.len(), 8);
     for at in 1..ops.len() {
-        assert!(rt; digest(&ops[at - 1]) < digest(&ops[at]), "at {at}");
+        assert!(rt; digest(ops[at - 1].op()) < digest(ops[at].op()), "at {at}");
+        assert!(rt; *ops[at].digest() == digest(ops[at].op()), "at {at}");
     }
     assert_eq!(rt; count(&mut shelf, 1), Ok(0));
     assert_eq!(rt; count(&mut shelf, 2), Ok(8));
@@ -62,6 +78,7 @@ fn a_row_that_is_none_of_an_operation_is_told(rt: HostRuntime) -> Result<(), Fai
     let bad = Some(ShelfFault::BadRow);
     let rows = [
         ("UPDATE ops2 SET kind = 1", bad),
+        ("UPDATE ops2 SET kind = 9", bad),
         ("UPDATE ops2 SET body = x'02'", bad),
         ("UPDATE ops2 SET body = 'text'", bad),
         ("UPDATE ops2 SET digest = upper(digest)", None),

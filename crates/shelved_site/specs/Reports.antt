@@ -5,6 +5,8 @@ use Rattle.operation.specs.declared.op.Op.{Op}
 use Rattle.archive_model.specs.Contents.{flagged}
 use Rattle.site_state.specs.Site.{ops_of, counts_of}
 use Rattle.site_state.specs.Laws.{after_taking}
+use Rattle.site_tables.specs.declared.table.Table.{Table}
+use Rattle.site_tables.specs.Tables.{IsTable}
 use Rattle.op_shelf.specs.Entries.{Lists}
 use Rattle.op_shelf.specs.States.{rows_of, count_of}
 use Rattle.shelved_site.specs.declared.reporting.Report.{Report}
@@ -22,3 +24,9 @@ pub record IsReport (s : State) (report : Report) : Type 0 where
   pub ops : List Op
   pub listed : Lists (rows_of s) ops
   pub told : report ≡ reported (ops_of (after_taking ops)) (count_of SERIES_KIND (rows_of s))
+
+-- the rows of a table are those of the site which took all operations of the table of the shelf
+pub record IsTableOf (s : State) (table : Table) (rows : List (List (List ℕ))) : Type 0 where
+  pub ops : List Op
+  pub listed : Lists (rows_of s) ops
+  pub told : IsTable table (ops_of (after_taking ops)) rows

@@ -11,5 +11,5 @@ mod taking;
 
 pub use correcting::{correct_on, next_correction};
 pub use fault::ShelvedFault;
-pub use reporting::{Report, report_of, report_on};
+pub use reporting::{Report, report_of, report_on, table_on};
 pub use taking::site_of;

@@ -4,13 +4,15 @@ ghost use Rattle.std.specs.Prelude.{◌≡◌, IfOk, OnOk, OnErr};
 ghost use Rattle.sqlite.specs.State.{IsUnchanged};
 ghost use Rattle.op_shelf.specs.States.{IfClean, KeepsAll};
 ghost use Rattle.site_state.specs.Site.{ops_of};
-ghost use Rattle.shelved_site.specs.Reports.{reported, IsReport};
+ghost use Rattle.site_tables.specs.Tables.{IsTable};
+ghost use Rattle.shelved_site.specs.Reports.{reported, IsReport, IsTableOf};
 
 use crate::fault::ShelvedFault;
 use crate::taking::site_of;
 use octets::{ListOf, Octets};
 use op_shelf::Shelf;
 use site_state::{Counts, Site, SiteFault};
+use site_tables::{Row, Table, rows_of_table};
 use sqlite::Alter;
 use std::alloc::Global;
 
@@ -49,4 +51,28 @@ pub fn report_on<S: Alter>(alloc: Global, shelf: &mut Shelf<S>) -> Result<Report
     let series = shelf.count_kind(SERIES)?;
     let report = report_of(alloc, &site, series)?;
     Ok(report)
+}
+
+/// The rows of a table over a site.
+fn rows_in(alloc: Global, site: &Site, table: Table) -> Result<Vec<Row>, SiteFault>
+    ensures { IfOk result (λ rows. IsTable table (ops_of site.now) rows.items) }
+{
+    let rows = rows_of_table(alloc, site, table)?;
+    Ok(rows)
+}
+
+/// The rows of a table over the site that a shelf's operations make. The shelf stays as it is.
+pub fn table_on<S: Alter>(
+    alloc: Global,
+    shelf: &mut Shelf<S>,
+    table: Table,
+) -> Result<Vec<Row>, ShelvedFault>
+    ensures table { IfClean S.Store shelf.old shelf.new (λ s t.
+        IfOk result (λ rows. IsTableOf s table rows.items)) }
+    ensures same { IfClean S.Store shelf.old shelf.new (λ s t. OnOk result (IsUnchanged s t)) }
+    ensures refused { IfClean S.Store shelf.old shelf.new (λ s t. OnErr result (KeepsAll s t)) }
+{
+    let site = site_of(alloc, shelf.all()?)?;
+    let rows = rows_in(alloc, &site, table)?;
+    Ok(rows)
 }

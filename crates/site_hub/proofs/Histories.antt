@@ -14,7 +14,6 @@ use Rattle.site_state.proofs.Maps.{tied}
 use Rattle.site_state.proofs.Same.{taking_adds}
 use Rattle.site_hub.proofs.Fronts.{one_more}
 use mathlib.Core.List.{IsPrefix}
-use Rattle.site_state.specs.Laws.{holding}
 use Rattle.site_hub.specs.declared.entry.Entry.{Entry}
 use Rattle.site_hub.specs.declared.entry.Logged.{Logged}
 use Rattle.site_hub.specs.History.{set_of, logged_of, HasNoClash, IsHistory}

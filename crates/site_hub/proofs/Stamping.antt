@@ -1,21 +1,28 @@
 -- The correction that comes next.
-use Rattle.std.proofs.Common.{rules, ◌≡◌, ℕ, ◌+◌, ◌<◌, ◌≤◌, max, Bool, true, false, List, [], ◌∷◌, Result, Ok, Err}
+use Rattle.std.proofs.Common.{rules, ◌≡◌, ℕ, ◌+◌, ◌≤◌, max, Bool, true, false, List, [], ◌∷◌, Ok, Err}
 use Rattle.std.proofs.Common.{refl, sym, ap, subst, ◌∙◌, arith, inl, inr}
-use Rattle.std.specs.Prelude.{◌&&◌, ◌==◌, nat_le, if◌then◌else◌}
+use Rattle.std.specs.Prelude.{◌&&◌, ◌==◌, ◌↔◌, nat_le, if◌then◌else◌}
 use Rattle.std.proofs.Math.Nat.{le-max_left, le-max_right}
 use Rattle.operation.specs.declared.op.Op.{Op}
 use Rattle.operation.specs.declared.op.Op.TheVariants.{Correction as a_correction}
 use Rattle.operation.specs.declared.target.Target.{Target}
 use Rattle.operation.specs.declared.fault.OpFault.{OpFault}
 use Rattle.operation.specs.Parts.{CorrectionParts}
+use Rattle.operation.specs.Spelling.{digest_of}
 use Rattle.operation.specs.Corrections.{is_correction, is_key, is_tag_for, is_plain, checked}
 use Rattle.archive_model.specs.Attributes.{correction_in, corrections}
 use Rattle.archive_model.specs.Members.{Has}
 use Rattle.archive_model.proofs.MemberLaws.{has_filter_map}
 use Rattle.site_state.specs.Site.{Map, ops_of, greatest_counter, top_counter_of}
-use Rattle.site_hub.specs.declared.fault.HubFault.{HubFault}
+use Rattle.site_state.proofs.Lookups.{held_under}
+use Rattle.site_state.proofs.Same.{of_ops}
+use mathlib.Core.List.{IsPrefix}
+use Rattle.site_hub.specs.declared.entry.Entry.{Entry}
+use Rattle.site_hub.specs.History.{set_of, IsHistory}
+use Rattle.site_hub.specs.Hub.{Seat, IsTurn}
+use Rattle.site_hub.proofs.Histories.{stays, history_front, history_is_site}
 use Rattle.site_hub.specs.declared.fault.HubFault.TheVariants.{StampsSpent, BadCorrection}
-use Rattle.site_hub.specs.Stamps.{LAST_COUNTER, made_with, may_be_made, next_correction, CountersRise}
+use Rattle.site_hub.specs.Stamps.{LAST_COUNTER, made_with, may_be_made, next_correction, CountersRise, HasLesser}
 
 le_one : (n : ℕ) → 1 ≤ n → nat_le 1 n ≡ true
 le_one n h = search rules
@@ -142,3 +149,39 @@ counters_rise number m target tag value made held e has =
     held has refl) in
     let next = made_next number m target tag value made e in
     omega (arith, below, next)
+
+-- ---- at a pass's turn
+
+-- an operation that a beginning of a history holds is held after it
+has_still : (opening : Map) (xs ys : List Entry) → IsHistory opening ys → IsPrefix xs ys → (o : Op)
+    → Has (ops_of (set_of opening xs)) o → Has (ops_of (set_of opening ys)) o
+has_still opening xs ys history pre o has =
+    let before = history_is_site opening xs (history_front opening xs ys pre history) in
+    of_ops (set_of opening ys) (digest_of o) o (stays opening xs ys history pre (digest_of o) o
+    (held_under (set_of opening xs) before o has))
+
+-- what comes next at a pass's turn has a greater counter than each that the pass had seen
+pub turn_rises : (number : ℕ) (opening : Map) (before : Seat) (turn : List Entry) (target : Target) (tag : ℕ)
+    (value : List ℕ) (made : CorrectionParts) → IsTurn opening before turn
+    → next_correction number (set_of opening turn) target tag value ≡ Ok made
+    → HasLesser (set_of opening before.seen) made.stamp.counter
+turn_rises number opening before turn target tag value made comes next held has =
+    counters_rise number (set_of opening turn) target tag value made held next
+    (has_still opening before.seen turn comes.history comes.seen (a_correction held) has)
+
+-- that a part is bad is told by the parts alone
+pub bad_is : (number : ℕ) (m : Map) (target : Target) (tag : ℕ) (value : List ℕ)
+    → (next_correction number m target tag value ≡ Err BadCorrection) ↔ (may_be_made number target tag value ≡ false)
+bad_is number m target tag value = by (may_be_made number target tag value)
+  where
+    inside : (b : Bool) → (if b then Err StampsSpent else Ok (made_with (top_counter_of (ops_of m) + 1) number target
+        tag value)) ≡ Err BadCorrection → ⊥
+    inside true e = cc
+    inside false e = cc
+
+    by : (b : Bool)
+        → ((if b then (if top_counter_of (ops_of m) == LAST_COUNTER then Err StampsSpent
+        else Ok (made_with (top_counter_of (ops_of m) + 1) number target tag value)) else Err BadCorrection) ≡ Err
+        BadCorrection) ↔ (b ≡ false)
+    by true = (λ e. absurd (inside (top_counter_of (ops_of m) == LAST_COUNTER) e), λ e. absurd cc)
+    by false = (λ e. refl, λ e. refl)

@@ -17,3 +17,7 @@ number_of BadCorrection = 7
 -- the faults of a look
 abbrev pub IsLookFault : HubFault → Type 0
 IsLookFault fault = (fault ≡ Busy) ⊎ (fault ≡ Memory)
+
+-- the faults of a correction that are told at its pass's turn
+abbrev pub IsTurnFault : HubFault → Type 0
+IsTurnFault fault = (fault ≡ StampsSpent) ⊎ (fault ≡ Collision) ⊎ (fault ≡ Pending)

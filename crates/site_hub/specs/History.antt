@@ -1,5 +1,5 @@
 -- The history of a hub: entries, each an operation that was taken for a pass.
-use Rattle.std.specs.Prelude.{ℕ, ◌≡◌, ◌<◌, ◌==◌, List, [], ◌∷◌, ◌++◌, length, map, filter, ⊤}
+use Rattle.std.specs.Prelude.{ℕ, ◌≡◌, ◌<◌, List, [], ◌∷◌, ◌++◌, length, map, filter, ⊤}
 use mathlib.Core.List.{IsPrefix}
 use Rattle.operation.specs.declared.op.Op.{Op}
 use Rattle.operation.specs.Spelling.{digest_of}

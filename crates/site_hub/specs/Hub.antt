@@ -1,5 +1,5 @@
 -- What contracts see of a hub's keeper, passes and tokens.
-use Rattle.std.specs.Prelude.{ℕ, zero, suc, ◌≡◌, ◌+◌, ◌++◌, ◌∷◌, ◌⊎◌, List, [], fold, refl, Option, None, Some}
+use Rattle.std.specs.Prelude.{ℕ, zero, suc, ◌≡◌, ◌++◌, ◌∷◌, ◌⊎◌, List, [], fold, refl, Option, None, Some}
 use Rattle.std.specs.FinMap as finmap
 use Rattle.std.specs.Coded.{Coded, code_by, coded×, coded_ℕ, coded_list}
 use Rattle.operation.specs.OpCode.{op_code}

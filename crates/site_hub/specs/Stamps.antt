@@ -1,11 +1,14 @@
 -- The corrections that a hub makes.
-use Rattle.std.specs.Prelude.{ℕ, ◌+◌, ◌==◌, ◌≡◌, ◌<◌, List, Bool, Result, Ok, Err, if◌then◌else◌}
+use Rattle.std.specs.Prelude.{ℕ, ◌+◌, ◌==◌, ◌≡◌, ◌<◌, ◌++◌, ◌∷◌, [], List, Bool, Result, Ok, Err, if◌then◌else◌}
 use Rattle.operation.specs.declared.op.Op.TheVariants.{Correction as a_correction}
 use Rattle.operation.specs.declared.target.Target.{Target}
 use Rattle.operation.specs.Parts.{CorrectionParts}
 use Rattle.operation.specs.Corrections.{is_correction}
 use Rattle.archive_model.specs.Members.{Has}
-use Rattle.site_state.specs.Site.{Map, ops_of, top_counter_of}
+use Rattle.site_state.specs.Site.{Map, ops_of, top_counter_of, IsClash}
+use Rattle.site_hub.specs.declared.entry.Entry.{Entry}
+use Rattle.site_hub.specs.History.{set_of, entry_of}
+use Rattle.site_hub.specs.Hub.{Seat, IsTurn}
 use Rattle.site_hub.specs.declared.fault.HubFault.{HubFault}
 use Rattle.site_hub.specs.declared.fault.HubFault.TheVariants.{StampsSpent, BadCorrection}
 
@@ -35,6 +38,34 @@ next_correction number m target tag value =
     if top_counter_of (ops_of m) == LAST_COUNTER then Err StampsSpent
     else Ok (made_with (top_counter_of (ops_of m) + 1) number target tag value))
     else Err BadCorrection
+
+-- each correction of a set has a lesser counter
+abbrev pub HasLesser : Map → ℕ → Type 0
+HasLesser m counter = (held : CorrectionParts) → Has (ops_of m) (a_correction held) → held.stamp.counter < counter
+
+-- What came next at a pass's turn, a correction or the first reason why there is none.
+pub record IsNext (number : ℕ) (opening : Map) (before : Seat) (target : Target) (tag : ℕ) (value : List ℕ)
+    (outcome : Result CorrectionParts HubFault) : Type 0 where
+  pub turn : List Entry
+  pub comes : IsTurn opening before turn
+  pub next : next_correction number (set_of opening turn) target tag value ≡ outcome
+
+-- A correction was made for a pass: it came next at its turn, and its entry comes next.
+pub record IsMade (number : ℕ) (opening : Map) (before : Seat) (target : Target) (tag : ℕ) (value : List ℕ)
+    (made : CorrectionParts) (later : Seat) : Type 0 where
+  pub turn : List Entry
+  pub comes : IsTurn opening before turn
+  pub next : next_correction number (set_of opening turn) target tag value ≡ Ok made
+  pub seen : later.seen ≡ turn ++ entry_of before.number (a_correction made) ∷ []
+
+-- A correction was not made for a pass: at its turn another operation of its digest was held.
+pub record IsBarred (number : ℕ) (opening : Map) (before : Seat) (target : Target) (tag : ℕ) (value : List ℕ) : Type
+    0 where
+  pub turn : List Entry
+  pub made : CorrectionParts
+  pub comes : IsTurn opening before turn
+  pub next : next_correction number (set_of opening turn) target tag value ≡ Ok made
+  pub clash : IsClash (set_of opening turn) (a_correction made)
 
 -- the correction that comes next has a greater counter than each that is held
 abbrev pub CountersRise : Type 0

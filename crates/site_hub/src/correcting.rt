@@ -1,12 +1,14 @@
 //! Corrections that a hub makes.
-ghost use Rattle.std.specs.Prelude.{◌≡◌, ◌⊎◌, ◌↔◌, ◌∷◌, ◌++◌, [], Ok, Err, IfOk, IfErr, OnOk};
+ghost use Rattle.std.specs.Prelude.{◌≡◌, ◌⊎◌, ◌↔◌, ◌∷◌, ◌++◌, [], Ok, Err, IfOk, IfErr, OnOk, MatchResult};
 ghost use mathlib.Core.List.{IsPrefix};
 ghost use Rattle.operation.specs.declared.op.Op.TheVariants.{Correction as a_correction};
 ghost use Rattle.operation.specs.Parts.{CorrectionParts};
 ghost use Rattle.operation.specs.Spelling.{digest_of};
+ghost use Rattle.site_state.specs.Site.{IsClash};
+ghost use Rattle.site_hub.specs.Fault.{IsTurnFault};
 ghost use Rattle.site_hub.specs.History.{set_of, entry_of};
-ghost use Rattle.site_hub.specs.Hub.{HasStayed, IsLater};
-ghost use Rattle.site_hub.specs.Stamps.{next_correction as next_correction_in};
+ghost use Rattle.site_hub.specs.Hub.{HasStayed, IsTurn, IsLater};
+ghost use Rattle.site_hub.specs.Stamps.{next_correction as next_correction_in, HasLesser};
 
 use crate::book::HubName;
 use crate::fault::HubFault;
@@ -43,14 +45,22 @@ impl<H: HubName, T: Shows<H>, R: Wait + Drop> Keeper<H, T, R> {
         Ok(made)
     }
 
-    /// Publishes all, and says which correction comes next. That it has a part that it may not have
-    /// is told first.
-    fn prepared(&mut self, target: Target, tag: u32, value: Octets) -> Result<Correction, HubFault>
+    /// Publishes all, and says which correction comes next at a pass's turn. That it has a part
+    /// that it may not have is told first.
+    fn prepared(
+        &mut self,
+        pass: &Pass<H>,
+        target: Target,
+        tag: u32,
+        value: Octets,
+    ) -> Result<Correction, HubFault>
         ensures all { self.new.all ≡ self.old.all }
         ensures stayed { HasStayed self.old self.new }
         ensures shown { OnOk result (self.new.published ≡ self.new.all) }
         ensures made { IfOk result (λ made. Ok made ≡
             next_correction_in H.number (set_of H.opening self.old.all) target tag value) }
+        ensures turn { MatchResult result (λ _. IsTurn H.opening pass.now self.old.all)
+            (λ e. e ≡ HubFault.StampsSpent → IsTurn H.opening pass.now self.old.all) }
         ensures bad_correction { (result ≡ Err HubFault.BadCorrection) ↔
             (next_correction_in H.number (set_of H.opening self.old.all) target tag value
             ≡ Err HubFault.BadCorrection) }
@@ -58,15 +68,17 @@ impl<H: HubName, T: Shows<H>, R: Wait + Drop> Keeper<H, T, R> {
             next_correction_in H.number (set_of H.opening self.old.all) target tag value
             ≡ Err HubFault.StampsSpent }
         ensures fault { IfErr result (λ e. (e ≡ HubFault.BadCorrection)
-            ⊎ (e ≡ HubFault.StampsSpent) ⊎ (e ≡ HubFault.Memory)) }
+            ⊎ (e ≡ HubFault.StampsSpent) ⊎ (e ≡ HubFault.Busy) ⊎ (e ≡ HubFault.Memory)) }
     {
         let is_shown = self.flush();
+        let is_turn = self.is_turn(pass);
         let made = self.next_correction(target, tag, value);
-        if is_shown {
+        if is_shown && is_turn {
             return made;
         }
         match made {
             Err(HubFault::BadCorrection) => Err(HubFault::BadCorrection),
+            _ if is_shown => Err(HubFault::Busy),
             _ => Err(HubFault::Memory),
         }
     }
@@ -93,6 +105,9 @@ impl<H: HubName, T: Shows<H>, R: Wait + Drop> Keeper<H, T, R> {
             (self.new.all ≡ self.old.all ++ entry_of pass.old.number (a_correction made) ∷ [])
             × (pass.new.mine ≡ pass.old.mine ++ digest_of (a_correction made) ∷ [])
             × (pass.new.seen ≡ pass.old.seen)) }
+        ensures unpublished { result ≡ Err HubFault.Pending → self.new.published ≡ self.old.all }
+        ensures collision { result ≡ Err HubFault.Collision →
+            IsClash (set_of H.opening self.old.all) (a_correction made) }
         ensures kept { IfErr result (λ e. (e ≡ HubFault.Pending)
             ⊎ ((self.new ≡ self.old) × (pass.new ≡ pass.old))) }
         ensures fault { IfErr result (λ e. (e ≡ HubFault.Busy) ⊎ (e ≡ HubFault.Collision)
@@ -123,6 +138,10 @@ impl<H: HubName, T: Shows<H>, R: Wait + Drop> Keeper<H, T, R> {
         // What was made, and where it stands.
         ensures made { IfOk result (λ both. Ok both.0 ≡
             next_correction_in H.number (set_of H.opening self.old.all) target tag value) }
+        ensures counter { IfOk result (λ both.
+            HasLesser (set_of H.opening pass.old.seen) both.0.stamp.counter) }
+        ensures turn { MatchResult result (λ _. IsTurn H.opening pass.old self.old.all)
+            (λ e. IsTurnFault e → IsTurn H.opening pass.old self.old.all) }
         ensures told { IfOk result (λ both. both.1.reached ≡ self.new.all) }
         ensures history { IfOk result (λ both. self.new.all
             ≡ self.old.all ++ entry_of pass.old.number (a_correction both.0) ∷ []) }
@@ -149,13 +168,17 @@ impl<H: HubName, T: Shows<H>, R: Wait + Drop> Keeper<H, T, R> {
             × (self.new.all ≡ self.old.all ++ entry_of pass.old.number (a_correction made) ∷ [])
             × (pass.new.mine ≡ pass.old.mine ++ digest_of (a_correction made) ∷ [])
             × (pass.new.seen ≡ pass.old.seen)) }
+        ensures unpublished { result ≡ Err HubFault.Pending → self.new.published ≡ self.old.all }
+        ensures collision { result ≡ Err HubFault.Collision → (made : CorrectionParts)
+            × (next_correction_in H.number (set_of H.opening self.old.all) target tag value
+            ≡ Ok made) × IsClash (set_of H.opening self.old.all) (a_correction made) }
         ensures kept { IfErr result (λ e. (e ≡ HubFault.Pending)
             ⊎ (HasStayed self.old self.new × (pass.new ≡ pass.old))) }
         ensures fault { IfErr result (λ e. (e ≡ HubFault.BadCorrection)
             ⊎ (e ≡ HubFault.StampsSpent) ⊎ (e ≡ HubFault.Busy) ⊎ (e ≡ HubFault.Collision)
             ⊎ (e ≡ HubFault.Memory) ⊎ (e ≡ HubFault.Pending)) }
     {
-        let made = self.prepared(target, tag, value)?;
+        let made = self.prepared(pass, target, tag, value)?;
         let both = self.take_made(pass, made)?;
         Ok(both)
     }

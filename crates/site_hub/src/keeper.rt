@@ -77,6 +77,14 @@ impl<H: HubName, T: Shows<H>, R: Wait + Drop> Keeper<H, T, R> {
         self.pair.publish()
     }
 
+    /// Whether a pass's turn has come: the history goes on from all that it had seen.
+    pub(crate) fn is_turn(&self, pass: &Pass<H>) -> bool
+        ensures { result ≡ true → IsTurn H.opening pass.now self.now.all }
+    {
+        self.front.see_history();
+        pass.seen.begins(&self.front)
+    }
+
     /// Whether an operation is held at a pass's turn, or `Collision` where its digest is held with
     /// another.
     #[tactic(auto, using(crate::proofs::Histories::clash))]
@@ -87,10 +95,9 @@ impl<H: HubName, T: Shows<H>, R: Wait + Drop> Keeper<H, T, R> {
             ⊎ ((e ≡ HubFault.Collision) × IsClash (set_of H.opening self.now.all) op.now)) }
         ensures turn { result ≢ Err HubFault.Busy → IsTurn H.opening pass.now self.now.all }
     {
-        if !pass.seen.begins(&self.front) {
+        if !self.is_turn(pass) {
             return Err(HubFault::Busy);
         }
-        self.front.see_history();
         match self.pair.site().op(op.digest()) {
             None => Ok(Taken::New),
             Some(held) => {
@@ -191,6 +198,7 @@ impl<H: HubName, T: Shows<H>, R: Wait + Drop> Keeper<H, T, R> {
             (self.new.all ≡ self.old.all ++ entry_of pass.old.number op ∷ [])
             × (pass.new.mine ≡ pass.old.mine ++ digest_of op ∷ [])
             × (pass.new.seen ≡ pass.old.seen)) }
+        ensures unpublished { result ≡ Err HubFault.Pending → self.new.published ≡ self.old.all }
         ensures collision { result ≡ Err HubFault.Collision →
             IsTurn H.opening pass.old self.old.all × IsClash (set_of H.opening self.old.all) op }
         ensures kept { IfErr result (λ e. (e ≡ HubFault.Pending)

@@ -1,5 +1,5 @@
 //! A hub before it has a name.
-ghost use Rattle.std.specs.Prelude.{◌≡◌, ◌≤◌, [], IfOk, IfErr};
+ghost use Rattle.std.specs.Prelude.{◌≡◌, ◌≤◌, ◌⊎◌, [], IfOk, IfErr};
 ghost use Rattle.site_hub.specs.Hub.{new_seat, new_seats};
 
 use crate::book::{Blank, Front, HubName};
@@ -80,7 +80,8 @@ fn pass_of<H: HubName, R: Wait + Drop>(
     seen: Front<H>,
 ) -> Result<Pass<H>, HubFault>
     requires { seen ≡ [] }
-    ensures { IfOk result (λ pass. pass ≡ new_seat number) }
+    ensures pass { IfOk result (λ pass. pass ≡ new_seat number) }
+    ensures busy { IfErr result (λ fault. fault ≡ HubFault.Busy) }
 {
     let Ok(reader) = handle.handle() else {
         return Err(HubFault::Busy);
@@ -103,7 +104,8 @@ fn passes_of<H: HubName, R: Wait + Drop>(
 ) -> Result<Vec<Pass<H>>, HubFault>
     requires nothing { front.now ≡ [] }
     requires few { count ≤ 64 }
-    ensures { IfOk result (λ passes. passes.items ≡ new_seats count) }
+    ensures passes { IfOk result (λ passes. passes.items ≡ new_seats count) }
+    ensures fault { IfErr result (λ fault. (fault ≡ HubFault.Busy) ⊎ (fault ≡ HubFault.Memory)) }
 {
     let Ok(mut passes) = Vec::with_capacity(alloc, count) else {
         return Err(HubFault::Memory);
@@ -126,6 +128,7 @@ impl<R: Wait + Drop> Opened<R> {
         requires passes { self.passes ≡ H.passes }
         ensures keeper { IfOk result (λ hub. hub.0 ≡ record { published = []; all = [] }) }
         ensures passes { IfOk result (λ hub. hub.1.items ≡ new_seats self.passes) }
+        ensures fault { IfErr result (λ e. (e ≡ HubFault.Busy) ⊎ (e ≡ HubFault.Memory)) }
     {
         let Opened {
             blank,

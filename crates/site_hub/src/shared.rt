@@ -1,9 +1,11 @@
 //! The keeper behind a lock.
-ghost use Rattle.std.specs.Prelude.{◌≡◌, ◌⊎◌, ◌∷◌, ◌++◌, [], Err, OnOk, IfOk, IfErr};
+ghost use Rattle.std.specs.Prelude.{◌≡◌, ◌⊎◌, ◌↔◌, ◌∷◌, ◌++◌, [], Ok, Err, OnOk, IfOk, IfErr, false};
 ghost use Rattle.operation.specs.declared.op.Op.TheVariants.{Correction as a_correction};
+ghost use Rattle.operation.specs.Parts.{CorrectionParts};
 ghost use Rattle.operation.specs.Spelling.{digest_of};
-ghost use Rattle.site_hub.specs.History.{entry_of, EndsWith};
+ghost use Rattle.site_hub.specs.History.{set_of, entry_of, EndsWith};
 ghost use Rattle.site_hub.specs.Hub.{IsTaken, IsClashed, IsLater};
+ghost use Rattle.site_hub.specs.Stamps.{may_be_made, HasLesser, IsMade, IsNext, IsBarred};
 ghost use mathlib.Core.List.{IsPrefix};
 
 use crate::book::HubName;
@@ -76,6 +78,7 @@ pub fn store_digested<H: HubName, T: Shows<H>, R: Wait + Drop>(
 
 /// Makes a correction for a pass, in any thread. Its counter is known under the lock alone, so it
 /// is hashed there.
+#[tactic(auto, using(crate::proofs::Stamping::bad_is))]
 pub fn correct<H: HubName, T: Shows<H>, R: Wait + Drop>(
     rt: &impl Wait,
     keeper: &Mutex<Keeper<H, T, R>>,
@@ -84,7 +87,14 @@ pub fn correct<H: HubName, T: Shows<H>, R: Wait + Drop>(
     tag: u32,
     value: Octets,
 ) -> Result<(Correction, Told<H>), HubFault>
+    // What was made, and where it stands.
+    ensures made { IfOk result (λ both.
+        IsMade H.number H.opening pass.old target tag value both.0 pass.new) }
+    ensures counter { IfOk result (λ both.
+        HasLesser (set_of H.opening pass.old.seen) both.0.stamp.counter) }
     ensures told { IfOk result (λ both. both.1.reached ≡ pass.new.seen) }
+
+    // The pass.
     ensures seen { IfOk result (λ both.
         EndsWith pass.new.seen (entry_of pass.old.number (a_correction both.0))) }
     ensures mine { IfOk result (λ both. pass.new.mine
@@ -92,8 +102,22 @@ pub fn correct<H: HubName, T: Shows<H>, R: Wait + Drop>(
     ensures older { OnOk result (IsPrefix pass.old.seen pass.new.seen) }
     ensures number { pass.new.number ≡ pass.old.number }
     ensures later { IsLater pass.old pass.new }
-    ensures pending { IfErr result (λ e. e ≡ HubFault.Pending → pass.new.seen ≡ pass.old.seen) }
+
+    // Each fault. That a part is bad is told first.
+    ensures bad_correction { (result ≡ Err HubFault.BadCorrection) ↔
+        (may_be_made H.number target tag value ≡ false) }
+    ensures stamps_spent { result ≡ Err HubFault.StampsSpent →
+        IsNext H.number H.opening pass.old target tag value (Err HubFault.StampsSpent) }
+    ensures pending { IfErr result (λ e. e ≡ HubFault.Pending → (made : CorrectionParts)
+        × IsNext H.number H.opening pass.old target tag value (Ok made)
+        × (pass.new.mine ≡ pass.old.mine ++ digest_of (a_correction made) ∷ [])
+        × (pass.new.seen ≡ pass.old.seen)) }
+    ensures collision { result ≡ Err HubFault.Collision →
+        IsBarred H.number H.opening pass.old target tag value }
     ensures kept { IfErr result (λ e. (e ≡ HubFault.Pending) ⊎ (pass.new ≡ pass.old)) }
+    ensures fault { IfErr result (λ e. (e ≡ HubFault.BadCorrection)
+        ⊎ (e ≡ HubFault.StampsSpent) ⊎ (e ≡ HubFault.Busy) ⊎ (e ≡ HubFault.Collision)
+        ⊎ (e ≡ HubFault.Memory) ⊎ (e ≡ HubFault.Pending)) }
 {
     keeper.lock(rt).correct(pass, target, tag, value)
 }

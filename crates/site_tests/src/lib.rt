@@ -4,6 +4,8 @@
 #![tactic(auto)]
 
 #[cfg(test)]
+mod answers;
+#[cfg(test)]
 mod indexes;
 #[cfg(test)]
 mod joins;
@@ -11,3 +13,5 @@ mod joins;
 mod made;
 #[cfg(test)]
 mod refusals;
+#[cfg(test)]
+mod walks;

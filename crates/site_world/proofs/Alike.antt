@@ -1,6 +1,6 @@
 -- Sites at which the same operations were taken are alike.
 use Rattle.std.proofs.Common.{◌≡◌, ℕ, suc, zero, List, [], ◌∷◌, ◌++◌, Option, Some, None, Ok, Result, refl, sym, ap}
-use Rattle.std.proofs.Common.{subst, ◌∙◌, inl, inr, ◌⊎◌, take, length}
+use Rattle.std.proofs.Common.{subst, ◌∙◌, inl, inr, ◌⊎◌, take, drop, length}
 use Rattle.std.specs.Prelude.{replicate}
 use Rattle.std.specs.List.{slice_get}
 use Rattle.std.specs.Option.{option_map}
@@ -38,17 +38,18 @@ use Rattle.site_world.proofs.Fitting.{Fits, run_fits, fits_apart}
 some_is : {X : Type 0} (x y : X) → Some x ≡ Some y → x ≡ y
 some_is x y e = cc
 
--- where a run stands before a step, and the step
+-- where a run stands before a step, the step, and the run behind it
 pub record Stands (old new : WorldState) (steps : List Step) (answers : List (Result Seen WorldFault)) (i : ℕ)
     (step : Step) (answer : Result Seen WorldFault) : Type 0 where
   pub mid : WorldState
   pub next : WorldState
   pub run : Run old (take i steps) (take i answers) mid
   pub happens : Happens mid step answer next
+  pub behind : Run next (drop (suc i) steps) (drop (suc i) answers) new
   pub sent : Front mid.sent new.sent
 
 -- Before a step the world is where the run of the steps before it ends.
-before : (old new : WorldState) (steps : List Step) (answers : List (Result Seen WorldFault)) (i : ℕ) (step : Step)
+pub before : (old new : WorldState) (steps : List Step) (answers : List (Result Seen WorldFault)) (i : ℕ) (step : Step)
     (answer : Result Seen WorldFault)
     → Run old steps answers new → slice_get steps i ≡ Some step → slice_get answers i ≡ Some answer
     → Stands old new steps answers i step answer
@@ -60,6 +61,7 @@ before old new (s ∷ steps) (a ∷ answers) zero step answer (mid, first, rest)
   run = refl;
   happens = subst (λ x. Happens old x answer mid) (some_is s step at) (subst
       (λ x. Happens old s x mid) (some_is a answer told) first);
+  behind = rest;
   sent = front_front old.sent mid.sent new.sent (step_stays old mid s a first) (run_stays mid new steps answers rest);
 }
 before old new (s ∷ steps) (a ∷ answers) (suc i) step answer (mid, first, rest) at told =
@@ -69,6 +71,7 @@ before old new (s ∷ steps) (a ∷ answers) (suc i) step answer (mid, first, re
       next = later.next;
       run = (mid, first, later.run);
       happens = later.happens;
+      behind = later.behind;
       sent = later.sent;
     }
 
@@ -148,15 +151,15 @@ of_copies zero k m e = absurd cc
 of_copies (suc count) zero m e = sym (some_is empty m e)
 of_copies (suc count) (suc k) m e = of_copies count k m e
 
-new_holds : (count n : ℕ) (m : Map) → site_at (replicate count empty) n ≡ Some m → m ≡ empty
+pub new_holds : (count n : ℕ) (m : Map) → site_at (replicate count empty) n ≡ Some m → m ≡ empty
 new_holds count zero m e = absurd cc
 new_holds count (suc k) m e = of_copies count k m e
 
 -- a site of a new world after a run: it holds what was taken at it, and that fits
-abbrev Took : Map → List Op → Type 0
+abbrev pub Took : Map → List Op → Type 0
 Took a ops = (a ≡ holding empty ops) × Fits empty ops
 
-by_site : (old new : WorldState) (steps : List Step) (answers : List (Result Seen WorldFault)) (all : List Message)
+pub by_site : (old new : WorldState) (steps : List Step) (answers : List (Result Seen WorldFault)) (all : List Message)
     (n : ℕ) (a : Map) (r : Option Map)
     → ((m : Map) → site_at old.sites n ≡ Some m → m ≡ empty) → site_at old.sites n ≡ r → Run old steps answers new
     → Front new.sent all → site_at new.sites n ≡ Some a

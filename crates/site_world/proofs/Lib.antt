@@ -7,6 +7,9 @@ pub mod Fitting
 pub mod Told
 pub mod Rounds
 pub mod Alike
+pub mod Given
+pub mod Knowing
+pub mod Finished
 pub mod Rejected
 pub mod Played
 pub mod Lined

@@ -104,7 +104,7 @@ after_grown w step n m at =
       fits_grow m ops (here_fits w step n m b refl at),
     )
 
-old_or_not : (old : List ℕ) (k n : ℕ) → (k == n) ≡ false → is_old (old ++ (k ∷ [])) n ≡ is_old old n
+pub old_or_not : (old : List ℕ) (k n : ℕ) → (k == n) ≡ false → is_old (old ++ (k ∷ [])) n ≡ is_old old n
 old_or_not [] k n e = ap (λ b. b || false) e
 old_or_not (x ∷ old) k n e = ap (λ b. (x == n) || b) (old_or_not old k n e)
 
@@ -310,7 +310,7 @@ open_by w one have None e = absurd cc
 open_by w one have (Some x) e = (offered_is have (length w.sent + 1) e, refl, refl)
 
 -- The offer sent its HAVE.
-offer_did : (w v : WorldState) (a b have : ℕ) (m : Map) → Happens w (Offer a b) (Ok (Offered have)) v
+pub offer_did : (w v : WorldState) (a b have : ℕ) (m : Map) → Happens w (Offer a b) (Ok (Offered have)) v
     → site_at w.sites a ≡ Some m
     → let one = message a b (Have (offered (version_between w.aged a b) m)) in
     (have ≡ length w.sent + 1) × (v.sent ≡ w.sent ++ (one ∷ [])) × (v.aged ≡ w.aged)
@@ -429,7 +429,7 @@ give_did w v a b number op taken did at = by (site_at w.sites b) refl
 
 -- ---- rounds
 
-versions_turned : (old : List ℕ) (a b : ℕ) → version_between old b a ≡ version_between old a b
+pub versions_turned : (old : List ℕ) (a b : ℕ) → version_between old b a ≡ version_between old a b
 versions_turned old a b = by (is_old old a) (is_old old b)
   where
     by : (p q : Bool) → cond q One (cond p One Two) ≡ cond p One (cond q One Two)
@@ -443,7 +443,7 @@ same_versions : (old new : List ℕ) (a b : ℕ) → is_old new a ≡ is_old old
 same_versions old new a b one two =
     ap (λ p. cond p One (cond (is_old new b) One Two)) one ∙ ap (λ q. cond (is_old old a) One (cond q One Two)) two
 
-any_last : {X : Type 0} (p : X → Bool) (front : List X) (x : X) → p x ≡ true → list_any p (front ++ (x ∷ [])) ≡ true
+pub any_last : {X : Type 0} (p : X → Bool) (front : List X) (x : X) → p x ≡ true → list_any p (front ++ (x ∷ [])) ≡ true
 any_last p [] x e = ap (λ b. b || false) e
 any_last p (y ∷ front) x e = by (p y) (any_last p front x e)
   where
@@ -451,10 +451,10 @@ any_last p (y ∷ front) x e = by (p y) (any_last p front x e)
     by true e = refl
     by false e = e
 
-is_from : (a b : ℕ) (says : Says) → is_of a (message a b says) ≡ true
+pub is_from : (a b : ℕ) (says : Says) → is_of a (message a b says) ≡ true
 is_from a b says = ap (λ c. c || (b == a)) (eq-eqb a a refl)
 
-is_to : (a b : ℕ) (says : Says) → is_of b (message a b says) ≡ true
+pub is_to : (a b : ℕ) (says : Says) → is_of b (message a b says) ≡ true
 is_to a b says = by (a == b) (eq-eqb b b refl)
   where
     by : (c : Bool) → (b == b) ≡ true → (c || (b == b)) ≡ true
@@ -482,14 +482,14 @@ gifts_taken mid next new a b wish gifts rest others n op gave has taken run ther
     ∙ grew.2 (digest_of op) op did.2
 
 -- what a site held is in what it holds later
-grew : (w v : WorldState) (k : ℕ) (m n : Map) → Later w v → site_at w.sites k ≡ Some m → site_at v.sites k ≡ Some n
+pub grew : (w v : WorldState) (k : ℕ) (m n : Map) → Later w v → site_at w.sites k ≡ Some m → site_at v.sites k ≡ Some n
     → HasGrown m n
 grew w v k m n later at there =
     let more = later.grown k m at in
     subst (HasGrown m) (same_some more.0 n (sym more.1 ∙ there)) more.2
 
 -- two sites that told each other something speak what they spoke
-speak : (w v : WorldState) (a b : ℕ) → Later w v → has_met w.sent a ≡ true → has_met w.sent b ≡ true
+pub speak : (w v : WorldState) (a b : ℕ) → Later w v → has_met w.sent a ≡ true → has_met w.sent b ≡ true
     → version_between v.aged a b ≡ version_between w.aged a b
 speak w v a b later met_a met_b = same_versions w.aged v.aged a b (later.stays a met_a) (later.stays b met_b)
 
@@ -557,7 +557,7 @@ rounds_give_all w new a b have steps answers m n (w1, first, run) finished at th
 -- ---- rounds by buckets
 
 -- The opening sent its BUCKETS.
-buckets_did : (w v : WorldState) (a b number : ℕ) (m : Map) → Happens w (Buckets a b) (Ok (Offered number)) v
+pub buckets_did : (w v : WorldState) (a b number : ℕ) (m : Map) → Happens w (Buckets a b) (Ok (Offered number)) v
     → site_at w.sites a ≡ Some m
     → let one = message a b (says_buckets (bucket_list (offered (version_between w.aged a b) m))) in
     (number ≡ length w.sent + 1) × (v.sent ≡ w.sent ++ (one ∷ [])) × (v.aged ≡ w.aged)

@@ -262,7 +262,7 @@ neither true false xs ys e f = e
 neither false true xs ys e f = sym f
 neither false false xs ys e f = refl
 
-nothing_took : (answer : Result Seen WorldFault) → if_took answer [] ≡ []
+pub nothing_took : (answer : Result Seen WorldFault) → if_took answer [] ≡ []
 nothing_took (Ok (Took taken)) = refl
 nothing_took (Ok (Stamped stamp)) = refl
 nothing_took (Ok (Offered number)) = refl

@@ -7,6 +7,7 @@ pub mod Steps
 pub mod Runs
 pub mod Headline
 pub mod Rounds
+pub mod Finished
 pub mod Rejected
 pub mod Texts
 pub mod Script

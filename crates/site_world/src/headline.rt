@@ -2,6 +2,8 @@
 
 ghost use Rattle.site_world.specs.Headline.{SameTakenSameMaps, SameTakenSameAnswers, TimeIsFree};
 ghost use Rattle.site_world.specs.Headline.{TakenAreApart};
+ghost use Rattle.site_world.specs.Finished.{FinishedRoundsGiveAll, RoundsEachWayTellAll};
+ghost use Rattle.site_world.specs.Finished.{RoundsEachWayMakeEqual};
 ghost use Rattle.site_world.specs.Laws.{SameOpIsEquality, SameSiteIsEquality};
 ghost use Rattle.site_world.specs.Lines.{LinesAreTheText, OutputIsOfLines};
 ghost use Rattle.site_world.specs.Played.{ScriptsAreRuns};
@@ -33,6 +35,17 @@ pub fn what_is_rejected_is_in_no_row()
 pub fn a_finished_round_gives_all()
     ensures offer { RoundsGiveAll }
     ensures buckets { RoundsByBucketsGiveAll }
+{}
+
+/// So it is of a round anywhere in a run of a new world, whatever is done before it and after it.
+/// After a round each way, where each of the two sites was changed since its own offer by nothing
+/// but what the other gave it, both hold the same of what both speak of; where both know
+/// corrections of series, or neither does, they are equal, and every query in every view is
+/// answered the same rows at both.
+pub fn rounds_each_way_make_equal()
+    ensures anywhere { FinishedRoundsGiveAll }
+    ensures spoken { RoundsEachWayTellAll }
+    ensures equal { RoundsEachWayMakeEqual }
 {}
 
 /// The lines of a script are a run of 16 new sites: so the headline holds of what a script prints.

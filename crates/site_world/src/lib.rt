@@ -17,7 +17,7 @@ mod world;
 pub use fault::WorldFault;
 pub use headline::{
     a_finished_round_gives_all, a_script_is_a_run, lines_are_parted_by_their_ends, order_is_free,
-    what_is_rejected_is_in_no_row, what_is_told_to_be_one_is_one,
+    rounds_each_way_make_equal, what_is_rejected_is_in_no_row, what_is_told_to_be_one_is_one,
 };
 pub use run::{SimFault, simulate};
 pub use step::{Seen, Step};

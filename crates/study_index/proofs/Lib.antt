@@ -5,4 +5,5 @@ pub mod Flagged
 pub mod KeyLaws
 pub mod Studies
 pub mod Trees
+pub mod Visits
 pub mod Walks

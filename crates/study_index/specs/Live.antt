@@ -142,6 +142,18 @@ front_of study = (study, (0, ([], (0, []))))
 abbrev pub end_of : List ℕ → Place
 end_of study = (study, (1, ([], (0, []))))
 
+-- whether a pick is of a series of a study
+abbrev pub is_of_series : List ℕ → List ℕ → Option Pick → Bool
+is_of_series study series None = false
+is_of_series study series (Some pick) = same pick.1.0 study && same pick.1.1 series
+
+-- where the places of a series of a study begin and where they end
+abbrev pub front_of_series : List ℕ → List ℕ → Place
+front_of_series study series = (study, (0, (series, (0, []))))
+
+abbrev pub end_of_series : List ℕ → List ℕ → Place
+end_of_series study series = (study, (0, (series, (1, []))))
+
 -- whether a place is from a front on and before an end
 abbrev pub is_between : Text × (ℕ × (Text × (ℕ × Text))) → Text × (ℕ × (Text × (ℕ × Text))) → Text
     × (ℕ × (Text × (ℕ × Text))) → Bool

@@ -11,7 +11,7 @@ ghost use Rattle.archive_model.specs.Index.{code_of};
 ghost use Rattle.join_laws.specs.GrowSet.{union_of};
 ghost use Rattle.study_index.specs.Copies.{is_doubled};
 ghost use Rattle.study_index.specs.Keys.{has};
-ghost use Rattle.study_index.specs.Live.{pick_at, HasStudy, HasSeries, HasInstance, IsNext, picks_joined, is_of_study};
+ghost use Rattle.study_index.specs.Live.{pick_at, HasStudy, HasSeries, HasInstance, IsNext, picks_joined, is_of_study, is_of_series};
 ghost use Rattle.study_index.specs.Index.{IsIndex, index_joined, index_of, nothing, fixes_joined, titles_of, naming_cmp, copy_cmp, fix_key, fix_at, short_fix_at, latest_at, keys_of, named};
 ghost use Rattle.study_index.specs.Proved.Indexes.{index_laws, index_summary_laws};
 
@@ -378,6 +378,21 @@ impl Index {
             || is_of_study study.now (pick_at uid self.now.1.1.1))) }
     {
         self.live.put_study(study, uids)
+    }
+
+    /// Puts the SOP Instance UIDs of the picks of a series of a study into a set. What was put in
+    /// before memory was refused stays.
+    pub fn put_series(
+        &self,
+        study: &ShortText,
+        series: &ShortText,
+        uids: &mut BTreeSet<ShortText>,
+    ) -> Result<(), AllocError>
+        ensures { OnOk result ((uid : List ℕ) → has text_cmp uids.new.keys uid ≡
+            (has text_cmp uids.old.keys uid
+            || is_of_series study.now series.now (pick_at uid self.now.1.1.1))) }
+    {
+        self.live.put_series(study, series, uids)
     }
 
     /// Puts the SOP Instance UIDs of all picks into a set. What was put in before memory was

@@ -13,6 +13,7 @@ ghost use Rattle.study_index.specs.Live.{study_start, series_start, instance_sta
 ghost use Rattle.study_index.specs.Live.{HasStudy, HasSeries, HasInstance, IsNext};
 ghost use Rattle.study_index.specs.Keys.{has};
 ghost use Rattle.study_index.specs.Live.{is_of_study, front_of, end_of};
+ghost use Rattle.study_index.specs.Live.{is_of_series, front_of_series, end_of_series};
 ghost use Rattle.study_index.specs.Proved.Picks.{picks_laws};
 
 use crate::pick::Pick;
@@ -243,6 +244,32 @@ fn end_of(study: &ShortText) -> Place
     }
 }
 
+// Where the places of a series of a study begin.
+fn front_of_series(study: &ShortText, series: &ShortText) -> Place
+    ensures { result ≡ front_of_series study.now series.now }
+{
+    Place {
+        study: study.duplicate(),
+        study_end: 0,
+        series: series.duplicate(),
+        series_end: 0,
+        instance: ShortText::empty(),
+    }
+}
+
+// Where they end.
+fn end_of_series(study: &ShortText, series: &ShortText) -> Place
+    ensures { result ≡ end_of_series study.now series.now }
+{
+    Place {
+        study: study.duplicate(),
+        study_end: 0,
+        series: series.duplicate(),
+        series_end: 1,
+        instance: ShortText::empty(),
+    }
+}
+
 // In the series of the study, past the instance `after`.
 fn instance_start(study: &ShortText, series: &ShortText, after: Option<&ShortText>) -> Bound<Place>
     ensures { result ≡ instance_start study.now series.now (option_copied after.entry) }
@@ -373,6 +400,23 @@ impl LivePicks {
     {
         self.picks.held();
         put_between(&self.tree, front_of(study), end_of(study), uids)?;
+        Ok(())
+    }
+
+    /// Puts the instances of the picks of a series of a study into a set.
+    pub fn put_series(
+        &self,
+        study: &ShortText,
+        series: &ShortText,
+        uids: &mut BTreeSet<ShortText>,
+    ) -> Result<(), AllocError>
+        ensures { OnOk result ((uid : List ℕ) → has text_cmp uids.new.keys uid
+            ≡ (has text_cmp uids.old.keys uid
+            || is_of_series study.now series.now (pick_at uid self.now))) }
+    {
+        self.picks.held();
+        let front = front_of_series(study, series);
+        put_between(&self.tree, front, end_of_series(study, series), uids)?;
         Ok(())
     }
 

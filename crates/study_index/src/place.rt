@@ -1,7 +1,8 @@
 //! Where a pick stands in the list of places.
 ghost use Rattle.std.specs.Prelude.{◌≡◌, refl, Some};
-ghost use Rattle.std.specs.Ordering.{eq_by_cmp};
+ghost use Rattle.std.specs.Ordering.{eq_by_cmp, nat_cmp, ordering_then};
 ghost use Rattle.std.specs.Cmp.{partial_equiv_from_equiv, eq_by_cmp_equiv, partial_order_from_total};
+ghost use Rattle.octets.specs.Texts.{text_cmp};
 ghost use Rattle.study_index.specs.Live.{place_cmp, place_of};
 ghost use Rattle.study_index.specs.Proved.Picks.{place_total};
 
@@ -58,6 +59,45 @@ impl Place {
             instance: self.instance.duplicate(),
         }
     }
+
+    // The order of places of one study and one series.
+    fn in_series(&self, other: &Place) -> Ordering
+        ensures { result ≡ ordering_then (nat_cmp self.now.1.1.1.0 other.now.1.1.1.0)
+            (text_cmp self.now.1.1.1.1 other.now.1.1.1.1) }
+    {
+        match self.series_end.cmp(&other.series_end) {
+            Ordering::Less => Ordering::Less,
+            Ordering::Equal => self.instance.cmp(&other.instance),
+            Ordering::Greater => Ordering::Greater,
+        }
+    }
+
+    // The order of places of one study, by their series.
+    fn by_series(&self, other: &Place) -> Ordering
+        ensures { result ≡ ordering_then (text_cmp self.now.1.1.0 other.now.1.1.0)
+            (ordering_then (nat_cmp self.now.1.1.1.0 other.now.1.1.1.0)
+            (text_cmp self.now.1.1.1.1 other.now.1.1.1.1)) }
+    {
+        match self.series.cmp(&other.series) {
+            Ordering::Less => Ordering::Less,
+            Ordering::Equal => self.in_series(other),
+            Ordering::Greater => Ordering::Greater,
+        }
+    }
+
+    // The order of places of one study.
+    fn in_study(&self, other: &Place) -> Ordering
+        ensures { result ≡ ordering_then (nat_cmp self.now.1.0 other.now.1.0)
+            (ordering_then (text_cmp self.now.1.1.0 other.now.1.1.0)
+            (ordering_then (nat_cmp self.now.1.1.1.0 other.now.1.1.1.0)
+            (text_cmp self.now.1.1.1.1 other.now.1.1.1.1))) }
+    {
+        match self.study_end.cmp(&other.study_end) {
+            Ordering::Less => Ordering::Less,
+            Ordering::Equal => self.by_series(other),
+            Ordering::Greater => Ordering::Greater,
+        }
+    }
 }
 
 impl PartialEq for Place {
@@ -94,10 +134,10 @@ impl Ord for Place {
     ghost matches_eq = { λ x y. refl };
 
     fn cmp(&self, other: &Place) -> Ordering {
-        let instances = self.instance.cmp(&other.instance);
-        let series = self.series.cmp(&other.series);
-        let in_study = series.then(self.series_end.cmp(&other.series_end).then(instances));
-        let studies = self.study.cmp(&other.study);
-        studies.then(self.study_end.cmp(&other.study_end).then(in_study))
+        match self.study.cmp(&other.study) {
+            Ordering::Less => Ordering::Less,
+            Ordering::Equal => self.in_study(other),
+            Ordering::Greater => Ordering::Greater,
+        }
     }
 }

@@ -6,7 +6,7 @@ use Rattle.archive_server.proofs.meeting.meet_all.Goals as goal
 pub returns-then-load-place : goal.returns-then-load-place
 returns-then-load-place g c = record {
   served = rw (c.idle.ensures.pass, c.idle.ensures.none.0, c.idle.ensures.fault)
-      (told_alone g.K.Keep.is_up g.K.Keep.holds g.K.Keep.lasts _ _ _);
+      (told_alone g.K.Keep.is_up g.K.Keep.holds g.K.Keep.lasts _ _ _ _);
 }
 
 -- The first call goes on from the pass as it came.
@@ -22,5 +22,5 @@ loop-preserved g c = onward_trans g.K.Keep.is_up g.K.Keep.holds g.K.Keep.lasts _
 pub returns : goal.returns
 returns g c = record {
   served = rw (c.idle-2.ensures.pass, c.idle-2.ensures.none.0, c.idle-2.ensures.fault)
-      (served_none g.K.Keep.is_up g.K.Keep.holds g.K.Keep.lasts _ _ _ c.loop.invariant);
+      (served_none g.K.Keep.is_up g.K.Keep.holds g.K.Keep.lasts _ _ _ _ c.loop.invariant);
 }

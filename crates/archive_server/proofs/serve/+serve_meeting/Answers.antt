@@ -1,5 +1,5 @@
-use Rattle.std.proofs.Common.{rules, ◌≡◌, ◌∷◌, ◌++◌, [], List, sym}
-use Rattle.archive_server.specs.Serving.{HasServed, HaveServed}
+use Rattle.std.proofs.Common.{rules, ◌≡◌, ◌∷◌, ◌++◌, [], sym, false}
+use Rattle.archive_server.specs.Serving.{HasServed}
 use Rattle.archive_server.proofs.CountLaws.{served_beside}
 use Rattle.archive_server.proofs.serve.+serve_meeting.Goals as goal
 
@@ -10,8 +10,8 @@ returns-clause-served g t c =
     let before = c.serve_meeting-before.new.passes.items in let done = c.finish-done.result in
     let popped : c.args.passes.now.items ≡ c.pop.new.self.items ++ c.in-Some-pop.pass ∷ [] = search rules in
     let pushed : c.push_reserved.new.self.items ≡ before ++ done.pass ∷ [] = search rules in
-    let one : HasServed up holds lasts c.in-Some-pop.pass done.pass 0 done.accepted done.fault =
+    let one : HasServed up holds lasts c.in-Some-pop.pass done.pass false 0 done.accepted done.fault =
     rw (sym c.of-was.ensures) c.finish-done.ensures in
     rw (popped, pushed, c.with_worker.ensures.accepted, c.with_worker.ensures.fault)
-    (served_beside up holds lasts c.pop.new.self.items before c.in-Some-pop.pass done.pass _ _ _ _
+    (served_beside up holds lasts c.pop.new.self.items before c.in-Some-pop.pass done.pass _ _ _ _ _
     c.serve_meeting-before.ensures.served one.onward)

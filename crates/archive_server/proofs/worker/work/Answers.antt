@@ -1,4 +1,4 @@
-use Rattle.std.proofs.Common.{rules, ◌≡◌, ◌+◌, refl, ap, ◌∙◌, inl, inr}
+use Rattle.std.proofs.Common.{rules, ◌≡◌, ◌+◌, refl, ap, ◌∙◌, inr}
 use Rattle.archive_server.proofs.OnwardLaws.{onward_self, onward_trans}
 use Rattle.archive_server.proofs.CountLaws.{served_by_all, told_alone}
 use Rattle.archive_server.proofs.worker.work.Goals as goal
@@ -7,14 +7,21 @@ use Rattle.archive_server.proofs.worker.work.Goals as goal
 pub returns-then-load-place : goal.returns-then-load-place
 returns-then-load-place g c = record {
   served = rw (c.idle.ensures.pass, c.idle.ensures.none.0, c.idle.ensures.fault)
-      (told_alone g.K.Keep.is_up g.K.Keep.holds g.K.Keep.lasts _ _ _);
+      (told_alone g.K.Keep.is_up g.K.Keep.holds g.K.Keep.lasts _ _ _ _);
+}
+
+-- So does one whose buffer was refused.
+pub returns-in_default : goal.returns-in_default
+returns-in_default g c = record {
+  served = rw (c.idle-in_default.ensures.pass, c.idle-in_default.ensures.none.0, c.idle-in_default.ensures.fault)
+      (told_alone g.K.Keep.is_up g.K.Keep.holds g.K.Keep.lasts _ _ _ _);
 }
 
 -- Before the first accept nothing is used up.
 pub loop-init : goal.loop-init
 loop-init g c = (
   let none = c.idle-done.ensures.none in rw (none.0, none.1) refl,
-  inr c.idle-done.ensures.none.1,
+  inr (inr c.idle-done.ensures.none.1),
   rw c.idle-done.ensures.pass (onward_self g.K.Keep.is_up g.K.Keep.holds g.K.Keep.lasts _),
 )
 
@@ -31,6 +38,6 @@ pub returns : goal.returns
 returns g c =
     let ended : c.loop.counter ≡ c.args.hall.now.each = search rules in
     record {
-      served = served_by_all g.K.Keep.is_up g.K.Keep.holds g.K.Keep.lasts _ _ _ _ _ _ (c.loop.invariant.0 ∙ ended)
+      served = served_by_all g.K.Keep.is_up g.K.Keep.holds g.K.Keep.lasts _ _ _ _ _ _ _ (c.loop.invariant.0 ∙ ended)
           c.loop.invariant.1 c.loop.invariant.2;
     }

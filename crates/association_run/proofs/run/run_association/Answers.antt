@@ -1,7 +1,5 @@
 use Rattle.std.proofs.Common.{refl}
-use Rattle.std.proofs.lemmas.Result.{err_from_is_err_and}
 use Rattle.association_run.specs.Parts.{sides}
-use Rattle.association_run.specs.Turns.{NOTHING_READ}
 use Rattle.association_run.proofs.Fronts.{nothing_read}
 use Rattle.association_run.proofs.TurnLaws.{nothing_yet, stopped, starts_ready}
 use Rattle.association_run.proofs.run.run_association.Goals as goal
@@ -17,17 +15,6 @@ loop-init g c = record {
   read = refl;
   write = refl;
 }
-
--- No room was made, and nothing was done.
-pub returns-in_err-outbox-clause-err : goal.returns-in_err-outbox-clause-err
-returns-in_err-outbox-clause-err g c =
-    let e = err_from_is_err_and c.from_residual.result c.from_residual.ensures.1 in
-    let start = nothing_yet g.P.Port.ops g.P.Port.own c.args.titles.now.list (g.R.Source.remaining c.args.reader.now)
-    (sides c.args.port.now (g.W.Sink.contents c.args.writer.now) (g.G.Gate.reached c.args.gate.now))
-    c.new-session.result c.new-session.ensures.association c.new-session.ensures.aborted
-    c.new-session.ensures.released in
-    rw e.1 (stopped g.P.Port.ops g.P.Port.own c.args.titles.now.list _ _ _ _ _ c.new-session.result NOTHING_READ _
-    start (nothing_read _))
 
 -- The turn ended the run.
 pub returns-in-Ok-Some-clause-ok : goal.returns-in-Ok-Some-clause-ok

@@ -18,7 +18,7 @@ loop-op-init c =
 pub loop-op-preserved : goal.loop-op-preserved
 loop-op-preserved c =
     let seen = c.loop-op.invariant in
-    let more = taken_next c.loop-op.site c.take.new.self seen.0 (into_iter_items c.next.new.self) c.args.ops.items
+    let more = taken_next c.loop-op.site c.take_digested.new.self seen.0 (into_iter_items c.next.new.self) c.args.ops.items
     c.in-Some.op c.in_ok-_taken._taken seen.1 (ap (λ left. seen.0 ++ left) (sym c.in-Some.ensures.steps.0) ∙ seen.2)
     c.in_ok-_taken.ensures.takes in
     (more.0, more.1, more.2, omega (arith, seen.3, ap length c.in-Some.ensures.steps.0, c.in-Some.ensures.steps.1))
@@ -31,7 +31,7 @@ returns-in_err-_taken-clause-collision c bad =
     let seen = c.loop-op.invariant in
     clash_is_among c.loop-op.site seen.0 (into_iter_items c.next.new.self) c.args.ops.items c.in-Some.op seen.1
     (ap (λ left. seen.0 ++ left) (sym c.in-Some.ensures.steps.0) ∙ seen.2)
-    (subst (λ (f : SiteFault). Takes c.loop-op.site c.in-Some.op (Err f) c.take.new.self) is
+    (subst (λ (f : SiteFault). Takes c.loop-op.site c.in-Some.op (Err f) c.take_digested.new.self) is
     c.in_err-_taken.ensures.takes).0
 
 -- All were.

@@ -1,5 +1,4 @@
-use Rattle.std.proofs.Common.{rules, ◌≡◌, ◌∷◌, ◌++◌, [], sym, ◌∙◌, ap}
-use mathlib.Core.List.{IsPrefix}
+use Rattle.std.proofs.Common.{rules, ◌≡◌, ◌∷◌, ◌++◌, [], sym}
 use Rattle.site_hub.proofs.Fronts.{prefix_trans}
 use Rattle.operation.specs.Spelling.{digest_of}
 use Rattle.site_hub.specs.History.{entry_of}

@@ -1,6 +1,6 @@
-use Rattle.std.proofs.Common.{◌≡◌, ◌+◌, ◌≤◌, ℕ, Bool, true, false, sym, ap, ◌∙◌, arith, rules}
+use Rattle.std.proofs.Common.{◌≡◌, ◌+◌, true, false, sym, ap, ◌∙◌, arith, rules}
 use Rattle.std.specs.Prelude.{◌==◌}
-use Rattle.site_state.specs.Site.{Map, ops_of, top_counter_of}
+use Rattle.site_state.specs.Site.{ops_of, top_counter_of}
 use Rattle.site_hub.specs.History.{set_of}
 use Rattle.site_hub.specs.Stamps.{LAST_COUNTER}
 use Rattle.site_hub.proofs.Stamping.{next_bad, next_spent, next_made}

@@ -4,7 +4,7 @@ use Rattle.sqlite.specs.Held.{state}
 use Rattle.sqlite.specs.Given.{HasGiven}
 use Rattle.op_shelf.specs.Entries.{entry_of}
 use Rattle.op_shelf.specs.Texts.{all_text}
-use Rattle.op_shelf.proofs.walk.all_ops.Given as goal
+use Rattle.op_shelf.proofs.walk.read_ops.Given as goal
 
 -- the rows so far are the entries of the operations so far, and nothing changed
 abbrev pub invariant-rows : goal.invariant-rows

@@ -1,0 +1,22 @@
+use Rattle.std.proofs.Common.{◌∙◌, ap, List, []}
+use Rattle.std.specs.Prelude.{◌||◌}
+use Rattle.octets.specs.Texts.{text_cmp}
+use Rattle.study_index.specs.Keys.{has}
+use Rattle.study_index.specs.Live.{Text, pick_at, is_of_series}
+use Rattle.study_index.proofs.KeyLaws.{or_assoc}
+use Rattle.archive_query.specs.Candidates.{is_of_some_series}
+use Rattle.archive_query.proofs.candidates.put_listed_series.Goals as goal
+
+-- First what is of the series without a name, then what is of those listed.
+pub returns : goal.returns
+returns c = λ uid.
+    let study = c.args.study.now in
+    let old = c.args.uids.now.keys in
+    let pick = pick_at uid c.args.index.now.1.1.1 in
+    c.in_ok-put_some_series.ensures uid
+    ∙ ap (λ b. b || is_of_some_series study c.deref.result.now pick) (c.in_ok-put_series.ensures uid)
+    ∙ ap (λ (t : Text). (has text_cmp old uid || is_of_series study t pick) || is_of_some_series
+    study c.deref.result.now pick) c.empty.ensures
+    ∙ ap (λ (ts : List Text). (has text_cmp old uid || is_of_series study [] pick) || is_of_some_series study ts pick)
+    (c.deref.ensures.value ∙ c.in_ok-series.ensures)
+    ∙ or_assoc (has text_cmp old uid) (is_of_series study [] pick) (is_of_some_series study _ pick)

@@ -1,0 +1,27 @@
+//! How a server runs beside what it serves.
+
+ghost use Rattle.std.specs.Prelude.{IsTrue, IsSome};
+
+use std::sync::atomic::{AtomicBool, Ordering};
+
+/// How a server runs: by whom it may be ended, and whether it tells what it serves.
+#[derive(Clone, Copy)]
+pub struct Manner<'a> {
+    /// Set once the server is to end: then nobody accepts any more, and an accept that fails is no
+    /// fault. Who waits in an accept must be woken. Where there is none, nobody may end it.
+    pub ending: Option<&'a AtomicBool>,
+    /// Whether each association and each exchange is a line on standard error.
+    pub is_verbose: bool,
+}
+
+impl<'a> Manner<'a> {
+    /// Whether somebody has ended the server.
+    pub(crate) fn is_ended(self) -> bool
+        ensures asked { IsTrue result → IsSome self.entry.ending }
+    {
+        match self.ending {
+            Some(ending) => ending.load(Ordering::SeqCst),
+            None => false,
+        }
+    }
+}

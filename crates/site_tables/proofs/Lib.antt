@@ -1,0 +1,3 @@
+pub mod ConflictLaws
+pub mod OrderLaws
+pub mod RejectedLaws

@@ -1,0 +1,7 @@
+pub mod Cells
+pub mod Conflicts
+pub mod Rejected
+pub mod Corrections
+pub mod Studies
+pub mod Tables
+pub mod Laws

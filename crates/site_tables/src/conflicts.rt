@@ -1,0 +1,112 @@
+//! The contents of each flagged UID.
+
+ghost use Rattle.std.specs.Prelude.{◌≡◌, ◌++◌, IfOk, OnOk, map};
+ghost use Rattle.operation.specs.declared.op.Op.TheVariants.{Content as a_content};
+ghost use Rattle.operation.specs.Spelling.{digest_of};
+ghost use Rattle.site_state.specs.Site.{ops_of};
+ghost use Rattle.site_tables.specs.Conflicts.{is_pick as is_pick_in, conflict_row as row_of, conflicts_in, conflicts_among, conflicts_of, conflict_rows as rows_in};
+
+use crate::cells::{digits, hex_digits, word};
+use crate::table::Row;
+use archive_model::study;
+use octets::{ListOf, Octets};
+use operation::{Content, Digest, Op, digest};
+use site_state::Site;
+use std::alloc::{AllocError, Global};
+use study_index::ShortText;
+
+/// Whether a content, which has this digest, is the pick of its SOP Instance UID.
+fn is_pick(site: &Site, digest: &Digest, content: &Content) -> bool
+    requires { digest.now ≡ digest_of (a_content content.now) }
+    ensures { result ≡ is_pick_in (ops_of site.now) content.now }
+{
+    match site.index().pick(&ShortText::whole(content.instance())) {
+        None => false,
+        Some(picked) => picked.digest.as_bytes() == digest.as_bytes(),
+    }
+}
+
+/// The row of a content, which has this digest.
+fn row(alloc: Global, site: &Site, digest: &Digest, content: &Content) -> Result<Row, AllocError>
+    requires { digest.now ≡ digest_of (a_content content.now) }
+    ensures { IfOk result (λ row. row ≡ row_of (ops_of site.now) content.now) }
+{
+    let mut cells = ListOf::new(alloc);
+    cells.push(Octets::from_slice(alloc, content.instance())?)?;
+    cells.push(hex_digits(alloc, digest)?)?;
+    cells.push(digits(alloc, content.body().len() as u64)?)?;
+    cells.push(Octets::from_slice(alloc, study(content))?)?;
+    cells.push(word(alloc, is_pick(site, digest, content))?)?;
+    Ok(cells)
+}
+
+/// Puts the row of an operation that is a content of a SOP Instance UID.
+fn put_conflict(
+    alloc: Global,
+    site: &Site,
+    uid: &[u8],
+    op: &Op,
+    rows: &mut Vec<Row>,
+) -> Result<(), AllocError>
+    ensures { OnOk result (rows.new.items ≡
+        rows.old.items ++ conflicts_in (ops_of site.now) uid.now op.now) }
+{
+    match op {
+        Op::Correction(_) => Ok(()),
+        Op::Content(content) => {
+            if content.instance() != uid {
+                return Ok(());
+            }
+            rows.push(row(alloc, site, &digest(op), content)?)?;
+            Ok(())
+        }
+    }
+}
+
+/// Puts the rows of the contents of a SOP Instance UID among some operations.
+fn put_conflicts(
+    alloc: Global,
+    site: &Site,
+    uid: &[u8],
+    ops: &[&Op],
+    rows: &mut Vec<Row>,
+) -> Result<(), AllocError>
+    ensures { OnOk result (rows.new.items ≡ rows.old.items
+        ++ conflicts_among (ops_of site.now) uid.now (map (λ o. o.now) ops.now)) }
+{
+    for op in ops {
+        put_conflict(alloc, site, uid, op, rows)?;
+    }
+    Ok(())
+}
+
+/// Puts the rows of the contents of a SOP Instance UID among all operations.
+fn put_conflicts_of(
+    alloc: Global,
+    site: &Site,
+    uid: &[u8],
+    ops: &[&Op],
+    rows: &mut Vec<Row>,
+) -> Result<(), AllocError>
+    requires { map (λ o. o.now) ops.now ≡ ops_of site.now }
+    ensures { OnOk result (rows.new.items ≡
+        rows.old.items ++ conflicts_of (ops_of site.now) uid.now) }
+{
+    put_conflicts(alloc, site, uid, ops, rows)
+}
+
+/// Of each flagged SOP Instance UID, ascending, its contents, ascending by digest: the UID, the
+/// digest, the bytes of the data set, the Study Instance UID, and whether it is the pick.
+///
+/// It passes over the operations once for each flagged UID.
+pub fn conflict_rows(alloc: Global, site: &Site) -> Result<Vec<Row>, AllocError>
+    ensures { IfOk result (λ rows. rows.items ≡ rows_in (ops_of site.now)) }
+{
+    let ops = site.operations(alloc)?;
+    let uids = site.flagged(alloc)?;
+    let mut rows = Vec::new(alloc);
+    for uid in uids.as_slice() {
+        put_conflicts_of(alloc, site, uid.as_slice(), &ops, &mut rows)?;
+    }
+    Ok(rows)
+}

@@ -1,0 +1,21 @@
+//! What an operator asks of a site, as tables: the contents of each flagged UID, what notes reject,
+//! the corrections, and the studies.
+//!
+//! A row is the texts of its cells. Each table is written in `specs/` from the operations alone, so
+//! sites that hold the same have the same tables.
+#![tactic(auto)]
+
+mod cells;
+mod conflicts;
+mod corrections;
+mod laws;
+mod rejected;
+mod studies;
+mod table;
+
+pub use conflicts::conflict_rows;
+pub use corrections::correction_rows;
+pub use laws::the_rejected_are_what_is_covered;
+pub use rejected::rejected_rows;
+pub use studies::study_rows;
+pub use table::{Row, Table, rows_of_table};

@@ -1,0 +1,208 @@
+//! What rejection notes name (IHE RAD-66).
+
+ghost use Rattle.std.specs.Prelude.{◌≡◌, ◌++◌, IfOk, OnOk, map};
+ghost use Rattle.std.specs.Option.{option_copied};
+ghost use Rattle.archive_model.specs.Covered.{is_among as is_among_in};
+ghost use Rattle.archive_model.specs.Index.{names_under as names_under_in};
+ghost use Rattle.site_state.specs.Site.{ops_of};
+ghost use Rattle.site_tables.specs.Rejected.{note_of, notes_of, named_by, covered_uids as covered_in, is_naming as is_naming_in, naming as naming_in, is_titled as is_titled_in, code_under, codes as codes_in, rejected_row as row_of, rejected_rows as rows_in};
+
+use crate::cells::{digits, joined};
+use crate::table::Row;
+use archive_model::title_code;
+use octets::{ListOf, Octets, ascending};
+use operation::{Content, Op};
+use rejection_note::{Note, NoteTitle};
+use site_state::Site;
+use std::alloc::{AllocError, Global};
+
+/// The content in an operation, where it is a note.
+fn note_in(op: &Op) -> Option<&Content>
+    ensures { option_copied result ≡ note_of op.now }
+{
+    match op {
+        Op::Correction(_) => None,
+        Op::Content(content) => match content.note() {
+            None => None,
+            Some(_) => Some(content),
+        },
+    }
+}
+
+/// The contents among some operations that are notes.
+fn notes_in<'a>(alloc: Global, ops: &[&'a Op]) -> Result<Vec<&'a Content>, AllocError>
+    ensures { IfOk result (λ found. map (λ c. c.now) found.items
+        ≡ notes_of (map (λ o. o.now) ops.now)) }
+{
+    let mut found = Vec::new(alloc);
+    for op in ops {
+        if let Some(content) = note_in(op) {
+            found.push(content)?;
+        }
+    }
+    Ok(found)
+}
+
+/// Puts copies of some UIDs.
+fn put_all(alloc: Global, uids: &mut Vec<Octets>, more: &[Octets]) -> Result<(), AllocError>
+    ensures { OnOk result (uids.new.items ≡ uids.old.items ++ more.now) }
+{
+    for uid in more {
+        uids.push(uid.copy(alloc)?)?;
+    }
+    Ok(())
+}
+
+/// Puts what a content names as a note.
+fn put_named(alloc: Global, uids: &mut Vec<Octets>, content: &Content) -> Result<(), AllocError>
+    ensures { OnOk result (uids.new.items ≡ uids.old.items ++ named_by content.now.note) }
+{
+    match content.note() {
+        None => Ok(()),
+        Some(note) => put_all(alloc, uids, note.covers.as_slice()),
+    }
+}
+
+/// The UIDs that some notes name, ascending, each once.
+fn uids_named(alloc: Global, notes: &[&Content]) -> Result<Vec<Octets>, AllocError>
+    ensures { IfOk result (λ uids. uids.items ≡ covered_in (map (λ c. c.now) notes.now)) }
+{
+    let mut uids = Vec::new(alloc);
+    for note in notes {
+        put_named(alloc, &mut uids, note)?;
+    }
+    Ok(ascending(uids))
+}
+
+/// Whether a UID is one of these.
+fn is_among(uids: &[Octets], uid: &[u8]) -> bool
+    ensures { result ≡ is_among_in uids.now uid.now }
+{
+    uids.iter().any(|one| one.as_slice() == uid)
+}
+
+/// Whether a content is a note that names a UID.
+fn is_naming(content: &Content, uid: &[u8]) -> bool
+    ensures { result ≡ is_naming_in uid.now content.now }
+{
+    match content.note() {
+        None => false,
+        Some(note) => is_among(note.covers.as_slice(), uid),
+    }
+}
+
+/// Whether what a content says as a note names a UID under a title.
+fn names_under(title: NoteTitle, uid: &[u8], note: &Option<Note>) -> bool
+    ensures { result ≡ names_under_in title uid.now note.now }
+{
+    match note {
+        None => false,
+        Some(note) => {
+            title_code(note.title) == title_code(title) && is_among(note.covers.as_slice(), uid)
+        }
+    }
+}
+
+/// The SOP Instance UIDs of the notes that name a UID, ascending, each once.
+fn naming(alloc: Global, notes: &[&Content], uid: &[u8]) -> Result<Vec<Octets>, AllocError>
+    ensures { IfOk result (λ found. found.items ≡ naming_in uid.now (map (λ c. c.now) notes.now)) }
+{
+    let mut found = Vec::new(alloc);
+    for note in notes {
+        if is_naming(note, uid) {
+            found.push(Octets::from_slice(alloc, note.instance())?)?;
+        }
+    }
+    Ok(ascending(found))
+}
+
+/// Whether some note names a UID under a title.
+fn is_titled(notes: &[&Content], uid: &[u8], title: NoteTitle) -> bool
+    ensures { result ≡ is_titled_in uid.now (map (λ c. c.now) notes.now) title }
+{
+    for note in notes {
+        if names_under(title, uid, note.note()) {
+            return true;
+        }
+    }
+    false
+}
+
+/// Puts the code of a title under which some note names a UID.
+fn put_code(
+    alloc: Global,
+    notes: &[&Content],
+    uid: &[u8],
+    title: NoteTitle,
+    codes: &mut Vec<Octets>,
+) -> Result<(), AllocError>
+    ensures { OnOk result (codes.new.items ≡
+        codes.old.items ++ code_under uid.now (map (λ c. c.now) notes.now) title) }
+{
+    if is_titled(notes, uid, title) {
+        codes.push(digits(alloc, u64::from(title_code(title)))?)?;
+    }
+    Ok(())
+}
+
+/// The codes of the titles under which notes name a UID, ascending (PS3.16, CID 7010).
+fn codes(alloc: Global, notes: &[&Content], uid: &[u8]) -> Result<Vec<Octets>, AllocError>
+    ensures { IfOk result (λ codes. codes.items
+        ≡ codes_in uid.now (map (λ c. c.now) notes.now)) }
+{
+    let mut codes = Vec::new(alloc);
+    put_code(alloc, notes, uid, NoteTitle::Quality, &mut codes)?;
+    put_code(alloc, notes, uid, NoteTitle::Safety, &mut codes)?;
+    put_code(alloc, notes, uid, NoteTitle::Worklist, &mut codes)?;
+    put_code(alloc, notes, uid, NoteTitle::Expired, &mut codes)?;
+    Ok(codes)
+}
+
+/// The row of a UID that some of these notes name.
+fn row(alloc: Global, notes: &[&Content], uid: &[u8]) -> Result<Row, AllocError>
+    ensures { IfOk result (λ row. row ≡ row_of (map (λ c. c.now) notes.now) uid.now) }
+{
+    let codes = codes(alloc, notes, uid)?;
+    let naming = naming(alloc, notes, uid)?;
+    let mut cells = ListOf::new(alloc);
+    cells.push(Octets::from_slice(alloc, uid)?)?;
+    cells.push(joined(alloc, &codes)?)?;
+    cells.push(joined(alloc, &naming)?)?;
+    Ok(cells)
+}
+
+/// The rows of some UIDs.
+fn rows_at(alloc: Global, notes: &[&Content], uids: &[Octets]) -> Result<Vec<Row>, AllocError>
+    ensures { IfOk result (λ rows. rows.items
+        ≡ map (row_of (map (λ c. c.now) notes.now)) uids.now) }
+{
+    let mut rows = Vec::with_capacity(alloc, uids.len())?;
+    for uid in uids {
+        rows.push(row(alloc, notes, uid.as_slice())?)?;
+    }
+    Ok(rows)
+}
+
+/// The UIDs that notes name, ascending, each once: what ARCHIVE does not show.
+pub(crate) fn covered_uids(alloc: Global, site: &Site) -> Result<Vec<Octets>, AllocError>
+    ensures { IfOk result (λ uids. uids.items ≡ covered_in (notes_of (ops_of site.now))) }
+{
+    let ops = site.operations(alloc)?;
+    let notes = notes_in(alloc, &ops)?;
+    let uids = uids_named(alloc, &notes)?;
+    Ok(uids)
+}
+
+/// Of each SOP Instance UID that a note names, ascending: the UID, the codes of the titles of the
+/// notes that name it, and the SOP Instance UIDs of these notes.
+///
+/// It passes over the notes once for each such UID.
+pub fn rejected_rows(alloc: Global, site: &Site) -> Result<Vec<Row>, AllocError>
+    ensures { IfOk result (λ rows. rows.items ≡ rows_in (ops_of site.now)) }
+{
+    let ops = site.operations(alloc)?;
+    let notes = notes_in(alloc, &ops)?;
+    let uids = uids_named(alloc, &notes)?;
+    let rows = rows_at(alloc, &notes, &uids)?;
+    Ok(rows)
+}

@@ -1,0 +1,162 @@
+//! The studies.
+
+ghost use Rattle.std.specs.Prelude.{◌≡◌, IfOk, map, length};
+ghost use Rattle.std.specs.Fmt.{decimal};
+ghost use Rattle.std.specs.Option.{option_copied};
+ghost use Rattle.operation.specs.Parts.{value_or_empty};
+ghost use Rattle.data_set.specs.Values.{value_in};
+ghost use Rattle.archive_model.specs.Groups.{in_study};
+ghost use Rattle.site_state.specs.Site.{ops_of};
+ghost use Rattle.site_tables.specs.Studies.{asked_of as asked_in, study_query as query_in, pick_of_short, rejected_picks as rejected_in, study_row as row_of, study_rows as rows_in};
+
+use crate::cells::digits;
+use crate::rejected::covered_uids;
+use crate::table::Row;
+use archive_model::{View, study};
+use archive_query::{Answer, Asked, Level, Matching, Query, find};
+use data_set::DataSet;
+use dictionary::{
+    NUMBER_OF_STUDY_RELATED_INSTANCES, NUMBER_OF_STUDY_RELATED_SERIES, PATIENT_ID, PATIENT_NAME,
+    STUDY_DATE, STUDY_INSTANCE_UID,
+};
+use octets::{ListOf, Octets};
+use operation::Content;
+use site_state::Site;
+use std::alloc::{AllocError, Global};
+use study_index::ShortText;
+
+/// A universal key (PS3.4, section C.2.2.2.3).
+fn asked(alloc: Global, tag: u32, matching: Matching) -> Asked
+    ensures { result ≡ asked_in tag matching }
+{
+    Asked {
+        tag,
+        matching,
+        key: Octets::of(Vec::new(alloc)),
+    }
+}
+
+/// The query for what is told of all studies (PS3.4, section C.6.2.1).
+fn study_query(alloc: Global) -> Result<Query, AllocError>
+    ensures { IfOk result (λ query. query ≡ query_in) }
+{
+    let mut keys = ListOf::new(alloc);
+    keys.push(asked(alloc, STUDY_DATE, Matching::Dates))?;
+    keys.push(asked(alloc, PATIENT_NAME, Matching::Name))?;
+    keys.push(asked(alloc, PATIENT_ID, Matching::WildCard))?;
+    keys.push(asked(alloc, NUMBER_OF_STUDY_RELATED_SERIES, Matching::Answered))?;
+    keys.push(asked(alloc, NUMBER_OF_STUDY_RELATED_INSTANCES, Matching::Answered))?;
+    Ok(Query {
+        level: Level::Study,
+        study: Octets::of(Vec::new(alloc)),
+        series: Octets::of(Vec::new(alloc)),
+        asked: keys,
+        partial: false,
+    })
+}
+
+/// The pick of a SOP Instance UID, which has at most 64 bytes.
+fn pick<'a>(site: &'a Site, uid: &[u8]) -> Option<&'a Content>
+    ensures { option_copied result ≡ pick_of_short (ops_of site.now) uid.now }
+{
+    match ShortText::of(uid) {
+        None => None,
+        Some(uid) => site.pick(&uid),
+    }
+}
+
+/// The picks of the UIDs that notes name.
+fn rejected_picks<'a>(alloc: Global, site: &'a Site) -> Result<Vec<&'a Content>, AllocError>
+    ensures { IfOk result (λ found. map (λ c. c.now) found.items
+        ≡ rejected_in (ops_of site.now)) }
+{
+    let uids = covered_uids(alloc, site)?;
+    let mut found = Vec::new(alloc);
+    for uid in uids.as_slice() {
+        if let Some(content) = pick(site, uid.as_slice()) {
+            found.push(content)?;
+        }
+    }
+    Ok(found)
+}
+
+/// Those of some contents that are of a study.
+fn of_study<'a>(
+    alloc: Global,
+    contents: &[&'a Content],
+    uid: &[u8],
+) -> Result<Vec<&'a Content>, AllocError>
+    ensures { IfOk result (λ found. map (λ c. c.now) found.items
+        ≡ in_study uid.now (map (λ c. c.now) contents.now)) }
+{
+    let mut found = Vec::new(alloc);
+    for content in contents {
+        if study(content) == uid {
+            found.push(*content)?;
+        }
+    }
+    Ok(found)
+}
+
+/// How many of some contents are of a study, in decimal digits.
+fn count_of_study(alloc: Global, contents: &[&Content], uid: &[u8]) -> Result<Octets, AllocError>
+    ensures { IfOk result (λ text. text
+        ≡ decimal (length (in_study uid.now (map (λ c. c.now) contents.now)))) }
+{
+    let found = of_study(alloc, contents, uid)?;
+    digits(alloc, found.len() as u64)
+}
+
+/// The trimmed value of an element, empty where there is none.
+fn value(set: &DataSet, tag: u32) -> &[u8]
+    ensures { result.now ≡ value_or_empty (value_in tag set.now.elements) }
+{
+    match set.value(tag) {
+        None => &[],
+        Some(value) => value,
+    }
+}
+
+/// The row of a study that is answered.
+fn row(alloc: Global, rejected: &[&Content], set: &DataSet) -> Result<Row, AllocError>
+    ensures { IfOk result (λ row. row ≡ row_of (map (λ c. c.now) rejected.now) set.now) }
+{
+    let uid = value(set, STUDY_INSTANCE_UID);
+    let series = value(set, NUMBER_OF_STUDY_RELATED_SERIES);
+    let instances = value(set, NUMBER_OF_STUDY_RELATED_INSTANCES);
+    let mut cells = ListOf::new(alloc);
+    cells.push(Octets::from_slice(alloc, uid)?)?;
+    cells.push(Octets::from_slice(alloc, value(set, PATIENT_ID))?)?;
+    cells.push(Octets::from_slice(alloc, value(set, PATIENT_NAME))?)?;
+    cells.push(Octets::from_slice(alloc, value(set, STUDY_DATE))?)?;
+    cells.push(Octets::from_slice(alloc, series)?)?;
+    cells.push(Octets::from_slice(alloc, instances)?)?;
+    cells.push(count_of_study(alloc, rejected, uid)?)?;
+    Ok(cells)
+}
+
+/// The rows of what is answered.
+fn rows_at(alloc: Global, rejected: &[&Content], answers: &[Answer]) -> Result<Vec<Row>, AllocError>
+    ensures { IfOk result (λ rows. rows.items
+        ≡ map (row_of (map (λ c. c.now) rejected.now)) answers.now) }
+{
+    let mut rows = Vec::with_capacity(alloc, answers.len())?;
+    for answer in answers {
+        rows.push(row(alloc, rejected, answer.set())?)?;
+    }
+    Ok(rows)
+}
+
+/// Of each study that ARCHIVE shows, ascending, what a C-FIND answers there: the UID, Patient ID,
+/// name, date, how many series and instances; and how many instances of the study are rejected.
+///
+/// It passes over the rejected instances once for each study.
+pub fn study_rows(alloc: Global, site: &Site) -> Result<Vec<Row>, AllocError>
+    ensures { IfOk result (λ rows. rows.items ≡ rows_in (ops_of site.now)) }
+{
+    let rejected = rejected_picks(alloc, site)?;
+    let query = study_query(alloc)?;
+    let answers = find(alloc, site, View::Archive, b"ARCHIVE", &query)?;
+    let rows = rows_at(alloc, &rejected, &answers)?;
+    Ok(rows)
+}

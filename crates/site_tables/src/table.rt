@@ -1,0 +1,59 @@
+//! The tables by name.
+
+ghost use Rattle.std.specs.Prelude.{◌≡◌, IfOk};
+ghost use Rattle.site_state.specs.Site.{ops_of};
+ghost use Rattle.site_tables.specs.Tables.{IsTable};
+
+use crate::conflicts::conflict_rows;
+use crate::corrections::correction_rows;
+use crate::rejected::rejected_rows;
+use crate::studies::study_rows;
+use octets::{ListOf, Octets};
+use site_state::Site;
+use std::alloc::{AllocError, Global};
+
+/// The texts of the cells of a row.
+pub type Row = ListOf<Octets>;
+
+/// What a table tells of a site.
+#[derive(Clone, Copy, Debug, PartialEq, Eq)]
+pub enum Table {
+    /// The contents of each flagged UID.
+    Conflicts,
+    /// What notes name.
+    Rejected,
+    Corrections,
+    Studies,
+}
+
+impl Table {
+    /// What stands above the columns.
+    pub fn heading(self) -> &'static [&'static str] {
+        match self {
+            Table::Conflicts => &["INSTANCE", "DIGEST", "BYTES", "STUDY", "PICK"],
+            Table::Rejected => &["INSTANCE", "TITLES", "NOTES"],
+            Table::Corrections => &["TARGET", "KEY", "TAG", "VALUE", "COUNTER", "SITE", "COUNTS"],
+            Table::Studies => &[
+                "STUDY",
+                "PATIENT",
+                "NAME",
+                "DATE",
+                "SERIES",
+                "INSTANCES",
+                "REJECTED",
+            ],
+        }
+    }
+}
+
+/// The rows of a table.
+pub fn rows_of_table(alloc: Global, site: &Site, table: Table) -> Result<Vec<Row>, AllocError>
+    ensures { IfOk result (λ rows. IsTable table (ops_of site.now) rows.items) }
+{
+    match table {
+        Table::Conflicts => conflict_rows(alloc, site),
+        Table::Rejected => rejected_rows(alloc, site),
+        Table::Corrections => correction_rows(alloc, site),
+        Table::Studies => study_rows(alloc, site),
+    }
+}
