@@ -5,13 +5,15 @@ A row `run` has three runs, in reads of all, of 1 byte and of 7; rows `fronts`, 
 may differ: it ends with want of memory behind a front of what is always written, or it answers
 A700H or A702H. Where the earlier association of a row `before` was refused memory, the run is that
 over the images that were stored all the same; and where a response of A700H is cut before its
-status, that over a port which is refused memory.
+status, that over a port which is refused memory. The writer is in memory too, and fails where it is refused
+memory, which the run tells as that.
 """
 import itertools
 import re
 
 KINDS = ("run", "fronts", "writers", "readers")
-WANT = "fault: memory was refused"
+# How a run ends that was refused memory itself, or whose writer was: it is in memory, and fails then.
+ENDS = {"fault: memory was refused": "told", "fault: the connection could not be written": "aside"}
 RANGE = re.compile("([0-9]+) to ([0-9]+): (.*), (Released|Aborted|Closed|Dropped|fault: [a-z ]+), ([0-9]+) held")
 STORED = re.compile(" (put-[0-9]+) \\1-data")
 # The status A700H or A702H in a response, or the words that rows have for such a response.
@@ -68,8 +70,10 @@ def judge_places(kind, usual, told, others):
     size, end, held, _, line = new[strays[0]]
     if len(strays) > 1:
         return None
-    if (end == WANT and size <= old[strays[0]][0] and held <= old[strays[0]][2]) or REFUSED.search(line):
+    if REFUSED.search(line):
         return "told"
+    if end in ENDS and size <= old[strays[0]][0] and held <= old[strays[0]][2]:
+        return ENDS[end]
     answers = ((places(it) or [])[strays[0]:] for it in others())
     return "aside" if any(it and it[0][:3] == new[strays[0]][:3] for it in answers) else None
 
@@ -82,12 +86,13 @@ def runs(text):
     return [whole, found.get("1", whole), found.get("7", whole)]
 
 
-def is_front(told, usual):
-    """Whether a run that ended with want of memory did a front of what it always does."""
-    (_, *old), (end, *new) = usual.split("\n"), told.split("\n")
+def way_of_front(told, usual):
+    """What a run tells that did a front of what it always does, and then was refused memory or its writer was."""
+    (_, *old), (ended, *new) = usual.split("\n"), told.split("\n")
     asked, written = new[:-1], new[-1].split()[1:]
-    return (end.startswith(WANT) and old[:len(asked)] == asked
-            and (written == ["nothing"] or old[-1].split()[1:][:len(written)] == written))
+    is_front = written == ["nothing"] or old[-1].split()[1:][:len(written)] == written
+    return next((way for end, way in ENDS.items() if ended.startswith(end) and is_front and old[:len(asked)] == asked),
+                None)
 
 
 def judge_runs(usual, told, others):
@@ -96,8 +101,10 @@ def judge_runs(usual, told, others):
     if len(strays) != 1:
         return None
     at = strays[0]
-    if is_front(new[at], old[at]) or (REFUSED.search(new[at]) and not REFUSED.search(old[at])):
+    if REFUSED.search(new[at]) and not REFUSED.search(old[at]):
         return "told"
+    if way_of_front(new[at], old[at]):
+        return way_of_front(new[at], old[at])
     return "aside" if any(new[at] == runs(it)[at] for it in others()) else None
 
 
