@@ -88,8 +88,9 @@ fn put_listed(
     Ok(())
 }
 
-/// Puts in what is of some series of a study.
-fn put_some_series(
+/// Puts the SOP Instance UIDs of what is of some series of a study into a set. What was put in before
+/// memory was refused stays.
+pub fn put_some_series(
     index: &Index,
     study: &ShortText,
     series: &[Octets],

@@ -12,7 +12,7 @@ mod groups;
 mod laws;
 mod rows;
 
-pub use candidates::{put_studies, shown_of};
+pub use candidates::{put_some_series, put_studies, shown_of};
 pub use finding::find;
 pub use groups::uid_at;
 pub use laws::same_sites_answer_alike;

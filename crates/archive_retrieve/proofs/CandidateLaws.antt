@@ -1,5 +1,5 @@
 -- The candidates of a selection are enough: nothing of it is lost.
-use Rattle.std.proofs.Common.{◌≡◌, ◌≢◌, Bool, true, false, List, take, Option, Some, refl, sym, ap, subst, ◌∙◌}
+use Rattle.std.proofs.Common.{◌≡◌, Bool, true, false, List, take, Option, Some, refl, sym, ap, subst, ◌∙◌}
 use Rattle.std.specs.Prelude.{◌&&◌, ◌||◌, not, Result, Ok, Err, OnOk}
 use Rattle.std.proofs.lemmas.Bool.{false≢true}
 use Rattle.std.specs.List.{filter_map}
@@ -14,22 +14,22 @@ use Rattle.join_laws.specs.Proved.Sets.{has-union}
 use Rattle.operation.specs.declared.op.Op.{Op}
 use Rattle.operation.specs.Parts.{ContentParts}
 use Rattle.archive_model.specs.declared.view.View.{View}
-use Rattle.archive_model.specs.Contents.{pick, study_of}
+use Rattle.archive_model.specs.Contents.{pick, study_of, series_of}
 use Rattle.archive_model.specs.Covered.{is_among}
 use Rattle.archive_model.specs.Shown.{shown, shown_at}
 use Rattle.archive_model.proofs.MemberLaws.{any_has, has_any}
 use Rattle.archive_model.proofs.ModelLaws.{same_is, same_itself, pick_is_content}
 use Rattle.study_index.specs.Keys.{has}
-use Rattle.study_index.specs.Live.{Text, Pick, pick_at, is_of_study}
+use Rattle.study_index.specs.Live.{Text, Pick, pick_at, is_of_study, is_of_series}
 use Rattle.study_index.specs.Index.{IndexValue, pick_of}
 use Rattle.study_index.specs.Definition.{IsIndexOf}
 use Rattle.study_index.specs.Proved.Picks.{text_exact}
 use Rattle.study_index.proofs.KeyLaws.{at_itself, same_key}
 use Rattle.query_model.specs.declared.key.Level.{Level}
 use Rattle.query_model.specs.declared.key.Level.TheVariants.{Study, Series, Image}
-use Rattle.query_model.specs.Key.{has_study_above}
+use Rattle.query_model.specs.Key.{has_study_above, has_series_above}
 use Rattle.query_model.specs.Rows.{uid_at}
-use Rattle.archive_query.specs.Candidates.{is_of_some}
+use Rattle.archive_query.specs.Candidates.{is_of_some, is_of_some_series}
 use Rattle.archive_query.proofs.CandidateLaws.{enough, sorted_rises}
 use Rattle.retrieve_model.specs.declared.selection.Selection.{Selection}
 use Rattle.retrieve_model.specs.Selection.{is_within, is_selected, selected}
@@ -63,10 +63,18 @@ of_some studies c h =
     has_any (λ study. is_of_study (take 64 study) (Some (pick_of c))) studies at.0
     at.1 (of_cut at.0 c (sym (same_is at.0 (study_of c) at.2)))
 
-is_above : (level : Level) → level ≢ Study → has_study_above level ≡ true
-is_above Study below = absurd (below refl)
-is_above Series below = refl
-is_above Image below = refl
+of_one_series : (study series : Text) (c : ContentParts) → study_of c ≡ study → series_of c ≡ series
+    → is_of_series (take 64 study) (take 64 series) (Some (pick_of c)) ≡ true
+of_one_series study series c e f =
+    ap (λ b. b && same (take 64 (series_of c)) (take 64 series)) (of_cut study c e)
+    ∙ same_itself (take 64 (series_of c)) (take 64 series) (ap (take 64) f)
+
+of_some_series : (study : Text) (series : List Text) (c : ContentParts) → study_of c ≡ study
+    → is_among series (series_of c) ≡ true → is_of_some_series (take 64 study) series (Some (pick_of c)) ≡ true
+of_some_series study series c e h =
+    let at = any_has (λ u. same u (series_of c)) series h in
+    has_any (λ one. is_of_series (take 64 study) (take 64 one) (Some (pick_of c))) series at.0
+    at.1 (of_one_series study at.0 c e (sym (same_is at.0 (series_of c) at.2)))
 
 -- below the level of studies, what is selected is of the study that is named
 of_named : (s : Selection) (c : ContentParts) → has_study_above s.level ≡ true → is_selected s c ≡ true
@@ -75,6 +83,14 @@ of_named s c above is =
     let within = (and_both (is_within s c) _ is).0 in
     let study = (and_both (not (has_study_above s.level) || same (study_of c) s.study) _ within).0 in
     same_is (study_of c) s.study (sym (ap (λ b. not b || same (study_of c) s.study) above) ∙ study)
+
+-- and at IMAGE of the series
+of_named_series : (s : Selection) (c : ContentParts) → s.level ≡ Image → is_selected s c ≡ true → series_of c ≡ s.series
+of_named_series s c level is =
+    let within = (and_both (is_within s c) _ is).0 in
+    let series = (and_both (not (has_study_above s.level) || same (study_of c) s.study) _ within).1 in
+    same_is (series_of c) s.series
+    (sym (ap (λ (l : Level). not (has_series_above l) || same (series_of c) s.series) level) ∙ series)
 
 -- and its UID is one of those named
 is_one_named : (s : Selection) (c : ContentParts) (level : Level) → s.level ≡ level → is_selected s c ≡ true
@@ -91,14 +107,25 @@ reached_by_studies s picks old new level put = λ c picked is.
     ∙ ap (λ p. has text_cmp old c.instance || is_of_some s.uids p) picked
     ∙ or_second (has text_cmp old c.instance) _ (of_some s.uids c (is_one_named s c Study level is))
 
-pub reached_by_study : (s : Selection) (picks : List (Text × Option Pick)) (old new : List Text) → s.level ≢ Study
-    → ((uid : Text) → has text_cmp new uid ≡ (has text_cmp old uid || is_of_study (take 64 s.study)
+pub reached_by_some_series : (s : Selection) (picks : List (Text × Option Pick)) (old new : List Text) → s.level ≡ Series
+    → ((uid : Text) → has text_cmp new uid ≡ (has text_cmp old uid || is_of_some_series (take 64 s.study) s.uids
     (pick_at uid picks)))
     → ReachesAll s picks new
-reached_by_study s picks old new level put = λ c picked is.
+reached_by_some_series s picks old new level put = λ c picked is.
     put c.instance
-    ∙ ap (λ p. has text_cmp old c.instance || is_of_study (take 64 s.study) p) picked
-    ∙ or_second (has text_cmp old c.instance) _ (of_cut s.study c (of_named s c (is_above s.level level) is))
+    ∙ ap (λ p. has text_cmp old c.instance || is_of_some_series (take 64 s.study) s.uids p) picked
+    ∙ or_second (has text_cmp old c.instance) _ (of_some_series s.study s.uids c
+    (of_named s c (ap has_study_above level) is) (is_one_named s c Series level is))
+
+pub reached_by_series : (s : Selection) (picks : List (Text × Option Pick)) (old new : List Text) → s.level ≡ Image
+    → ((uid : Text) → has text_cmp new uid ≡ (has text_cmp old uid || is_of_series (take 64 s.study) (take 64 s.series)
+    (pick_at uid picks)))
+    → ReachesAll s picks new
+reached_by_series s picks old new level put = λ c picked is.
+    put c.instance
+    ∙ ap (λ p. has text_cmp old c.instance || is_of_series (take 64 s.study) (take 64 s.series) p) picked
+    ∙ or_second (has text_cmp old c.instance) _ (of_one_series s.study s.series c
+    (of_named s c (ap has_study_above level) is) (of_named_series s c level is))
 
 pub reached_by_instances : (s : Selection) (picks : List (Text × Option Pick)) (old new : List Text) → s.level ≡ Image
     → new ≡ union_of text_cmp old s.uids → ReachesAll s picks new

@@ -1,12 +1,12 @@
-//! Among which contents those of a selection are: what the index has of the studies that it names,
-//! or the instances that it names.
+//! Among which contents those of a selection are: what the index has of the studies or the series
+//! that it names, or the instances that it names.
 
-ghost use Rattle.std.specs.Prelude.{◌≡◌, ◌≢◌, true, IfOk, OnOk};
+ghost use Rattle.std.specs.Prelude.{◌≡◌, true, take, IfOk, OnOk};
 ghost use Rattle.octets.specs.Texts.{text_cmp};
 ghost use Rattle.join_laws.specs.GrowSet.{union_of};
 ghost use Rattle.archive_retrieve.specs.Candidates.{ReachesAll};
 
-use archive_query::{Level, put_studies};
+use archive_query::{Level, put_some_series, put_studies};
 use octets::Octets;
 use retrieve_model::Selection;
 use std::alloc::{AllocError, Global};
@@ -28,16 +28,18 @@ fn put_instances(instances: &[Octets], uids: &mut BTreeSet<ShortText>) -> Result
     Ok(true)
 }
 
-/// Puts in what is of the study that a selection names above its level.
-fn put_study(
+/// Puts in what is of the series that a selection of instances names above its level.
+fn put_series(
     index: &Index,
+    study: &ShortText,
     selection: &Selection,
     uids: &mut BTreeSet<ShortText>,
 ) -> Result<(), AllocError>
-    requires { selection.now.level ≢ Level.Study }
+    requires level { selection.now.level ≡ Level.Image }
+    requires study { study.now ≡ take 64 selection.now.study }
     ensures { OnOk result (ReachesAll selection.now index.now.1.1.1 uids.new.keys) }
 {
-    index.put_study(&ShortText::cut(selection.study.as_slice()), uids)
+    index.put_series(study, &ShortText::cut(selection.series.as_slice()), uids)
 }
 
 /// Puts in the candidates of a selection.
@@ -49,14 +51,15 @@ fn put_reached(
     ensures { OnOk result (ReachesAll selection.now index.now.1.1.1 uids.new.keys) }
 {
     let named = selection.uids.as_slice();
+    let study = ShortText::cut(selection.study.as_slice());
     match selection.level {
         Level::Study => put_studies(index, named, uids),
-        Level::Series => put_study(index, selection, uids),
+        Level::Series => put_some_series(index, &study, named, uids),
         Level::Image => {
             if put_instances(named, uids)? {
                 return Ok(());
             }
-            put_study(index, selection, uids)
+            put_series(index, &study, selection, uids)
         }
     }
 }

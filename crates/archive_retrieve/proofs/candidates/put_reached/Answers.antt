@@ -1,11 +1,11 @@
-use Rattle.std.proofs.Common.{List, ap, ◌∙◌}
+use Rattle.std.proofs.Common.{List, take, ap, ◌∙◌}
 use Rattle.std.specs.Prelude.{◌||◌}
 use Rattle.octets.specs.Texts.{text_cmp}
 use Rattle.join_laws.specs.GrowSet.{union_of}
 use Rattle.study_index.specs.Keys.{has}
 use Rattle.study_index.specs.Live.{Text, pick_at}
-use Rattle.archive_query.specs.Candidates.{is_of_some}
-use Rattle.archive_retrieve.proofs.CandidateLaws.{on_ok, reached_by_studies, reached_by_instances}
+use Rattle.archive_query.specs.Candidates.{is_of_some, is_of_some_series}
+use Rattle.archive_retrieve.proofs.CandidateLaws.{on_ok, reached_by_studies, reached_by_some_series, reached_by_instances}
 use Rattle.archive_retrieve.proofs.candidates.put_reached.Goals as goal
 
 -- At STUDY, what is selected is of a study that is named.
@@ -18,6 +18,19 @@ returns-in-Study c =
     put uid ∙ ap (λ (ts : List Text). has text_cmp old uid || is_of_some ts (pick_at uid picks))
     c.as_slice-named.ensures))
     c.put_studies.ensures
+
+-- At SERIES, it is of a series that is named.
+pub returns-in-Series : goal.returns-in-Series
+returns-in-Series c =
+    let old = c.args.uids.now.keys in
+    let picks = c.args.index.now.1.1.1 in
+    on_ok c.put_some_series.result (λ put. reached_by_some_series c.args.selection.now picks
+    old c.put_some_series.new.uids.keys c.in-Series.is (λ uid.
+    put uid ∙ ap (λ (t : Text). has text_cmp old uid || is_of_some_series t c.as_slice-named.result.now
+    (pick_at uid picks)) (c.cut-study.ensures ∙ ap (take 64) c.as_slice.ensures)
+    ∙ ap (λ (ts : List Text). has text_cmp old uid || is_of_some_series (take 64 c.args.selection.now.study) ts
+    (pick_at uid picks)) c.as_slice-named.ensures))
+    c.put_some_series.ensures
 
 -- At IMAGE, it is one of the instances that are named.
 pub returns-then-branch : goal.returns-then-branch
