@@ -3,6 +3,7 @@ ghost use Rattle.std.specs.Prelude.{◌≡◌};
 
 use crate::made::{NAME, accepts, closed, correction, found, image, name, query, selection, study};
 use crate::ports::{associates, holds, renames};
+use crate::refusals::{closes_on, corrects_on, stores_on};
 use archive_model::View;
 use operation::{Digested, Taken};
 use site_hub::{
@@ -19,7 +20,7 @@ use std::thread::Threads;
 
 /// What is tried of a hub of site 1 with two passes.
 #[derive(Clone, Copy)]
-enum Row {
+pub enum Row {
     /// One pass learns what the other stored.
     Learns,
     /// A correction of this counter is held.
@@ -34,9 +35,15 @@ enum Row {
     Renames,
     /// One association is held within its store, while another stores and finds.
     Holds,
+    /// An image is stored after one that may have been refused.
+    StoresOn,
+    /// A correction is made after one that may have been refused.
+    CorrectsOn,
+    /// It is closed after an image that may have been refused.
+    ClosesOn,
 }
 
-fn run<H: HubName + Send + Sync, R: Threads + Wait + Abort + Sync>(
+pub fn run<H: HubName + Send + Sync, R: Threads + Wait + Abort + Sync>(
     rt: &R,
     alloc: Global,
     opened: Opened<&R>,
@@ -65,6 +72,9 @@ fn run<H: HubName + Send + Sync, R: Threads + Wait + Abort + Sync>(
         Row::Associates => associates(rt, alloc, &keeper, one, &mut two),
         Row::Renames => renames(rt, alloc, &keeper, one, &mut two),
         Row::Holds => holds(rt, alloc, keeper, one, two),
+        Row::StoresOn => stores_on(rt, alloc, keeper, one, two),
+        Row::CorrectsOn => corrects_on(rt, alloc, keeper, one, two),
+        Row::ClosesOn => closes_on(rt, alloc, keeper, one, two),
     }
 }
 
@@ -122,7 +132,7 @@ fn an_association_stores_and_finds_while_another_is_held(rt: HostRuntime) -> Res
     run::<Brand, _>(&rt, alloc, opened, Row::Holds)
 }
 
-type Shared<'a, H, R> = Mutex<Keeper<H, Snapshot<H>, &'a R>>;
+pub type Shared<'a, H, R> = Mutex<Keeper<H, Snapshot<H>, &'a R>>;
 
 fn learns<H: HubName, R: Wait + Abort>(
     rt: &R,
@@ -154,7 +164,7 @@ fn learns<H: HubName, R: Wait + Abort>(
 }
 
 /// The counter of the correction that the hub makes.
-fn corrected<H: HubName, R: Wait>(
+pub fn corrected<H: HubName, R: Wait>(
     rt: &R,
     alloc: Global,
     keeper: &Shared<'_, H, R>,

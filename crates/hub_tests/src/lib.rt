@@ -14,4 +14,6 @@ mod messages;
 #[cfg(test)]
 mod ports;
 #[cfg(test)]
+mod refusals;
+#[cfg(test)]
 mod stress;

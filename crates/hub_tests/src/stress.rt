@@ -13,7 +13,7 @@ use std::test::*;
 use std::thread::{Threads, join, yield_now};
 
 /// How many images are published.
-const PUBLISHED: u64 = 2_000;
+const PUBLISHED: u64 = 20_000;
 
 /// How many passes look.
 const READERS: u64 = 4;

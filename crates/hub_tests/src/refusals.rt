@@ -1,0 +1,144 @@
+//! Hubs that are refused memory.
+//!
+//! `rt try --test --fail-alloc N` refuses the Nth request of each test. Where it is not one of the
+//! first call's the test ends with want of memory; no assertion fails.
+
+use crate::hubs::{Row, Shared, corrected, run};
+use crate::made::{closed, correction, image};
+use operation::{Digested, Op};
+use site_hub::{HubFault, HubName, Logged, Pass, open, store};
+use site_state::Site;
+use std::alloc::Global;
+use std::marker::Brand;
+use std::process::Abort;
+use std::sync::Wait;
+use std::test::*;
+
+#[test]
+fn an_image_that_is_pending_is_published_with_the_next(rt: HostRuntime) -> Result<(), Fail> {
+    let alloc = rt.alloc();
+    let opened = open(alloc, &rt, Site::new(alloc), 1, 2)?;
+    run::<Brand, _>(&rt, alloc, opened, Row::StoresOn)
+}
+
+#[test]
+fn a_counter_that_is_pending_is_not_used_again(rt: HostRuntime) -> Result<(), Fail> {
+    let alloc = rt.alloc();
+    let opened = open(alloc, &rt, Site::new(alloc), 1, 2)?;
+    run::<Brand, _>(&rt, alloc, opened, Row::CorrectsOn)
+}
+
+#[test]
+fn an_image_that_is_pending_is_left_by_a_closed_hub(rt: HostRuntime) -> Result<(), Fail> {
+    let alloc = rt.alloc();
+    let opened = open(alloc, &rt, Site::new(alloc), 1, 2)?;
+    run::<Brand, _>(&rt, alloc, opened, Row::ClosesOn)
+}
+
+/// The entry of an operation of the first pass.
+fn entry_of(op: Op) -> Logged {
+    Logged {
+        pass: 1,
+        digest: *Digested::of(op).digest(),
+    }
+}
+
+/// Whether an operation has its place in the history, as one that is pending has. It has none where
+/// memory was refused before.
+fn is_placed(rt: &impl Abort, refused: Option<HubFault>) -> bool {
+    match refused {
+        None | Some(HubFault::Pending) => true,
+        Some(fault) => {
+            assert_eq!(rt; fault, HubFault::Memory, "want of memory");
+            false
+        }
+    }
+}
+
+/// A closed hub leaves a log of these entries, and a site of their operations.
+fn leaves<H: HubName, R: Wait + Abort>(
+    rt: &R,
+    keeper: Shared<'_, H, R>,
+    passes: Vec<Pass<H>>,
+    entries: &[Logged],
+) -> Result<(), Fail> {
+    let (site, log) = closed(keeper, passes)?;
+    assert_eq!(rt; log.as_slice(), entries, "its log");
+    assert_eq!(rt; site.counts().operations, entries.len(), "its operations");
+    for entry in entries {
+        assert!(rt; site.op(&entry.digest).is_some(), "each of its log");
+    }
+    Ok(())
+}
+
+/// A pass stores an image and another one. Where the first is refused, the second is taken.
+pub fn stores_on<H: HubName, R: Wait + Abort>(
+    rt: &R,
+    alloc: Global,
+    keeper: Shared<'_, H, R>,
+    mut one: Pass<H>,
+    two: Pass<H>,
+) -> Result<(), Fail> {
+    let entries = [entry_of(image(alloc, 1)?), entry_of(image(alloc, 2)?)];
+    let (this, next) = (image(alloc, 1)?, image(alloc, 2)?);
+    let refused = store(rt, &keeper, &mut one, this).err();
+    let told = store(rt, &keeper, &mut one, next);
+    if refused.is_some() {
+        assert!(rt; told.is_ok(), "the second is taken after {refused:?}");
+    }
+    told?;
+    let held = one.digests()?.len();
+    let (passes, all) = (vec![in alloc; one, two]?, entries.as_slice());
+    if is_placed(rt, refused) {
+        assert_eq!(rt; held, 2, "its looks hold both");
+        return leaves(rt, keeper, passes, all);
+    }
+    assert_eq!(rt; held, 1, "its looks hold the second");
+    leaves(rt, keeper, passes, &all[1..])
+}
+
+/// A pass corrects a name twice. Where the first is pending its counter is used; where memory was
+/// refused before it is not.
+pub fn corrects_on<H: HubName, R: Wait + Abort>(
+    rt: &R,
+    alloc: Global,
+    keeper: Shared<'_, H, R>,
+    mut one: Pass<H>,
+    two: Pass<H>,
+) -> Result<(), Fail> {
+    let entries = [
+        entry_of(correction(alloc, 1)?),
+        entry_of(correction(alloc, 2)?),
+    ];
+    let first = corrected(rt, alloc, &keeper, &mut one)?;
+    let second = corrected(rt, alloc, &keeper, &mut one)?;
+    if first.is_err() {
+        assert!(rt; second.is_ok(), "the second is made after {first:?}");
+    }
+    let counter = second?;
+    let (passes, all) = (vec![in alloc; one, two]?, entries.as_slice());
+    if is_placed(rt, first.err()) {
+        assert_eq!(rt; counter, 2, "the counter after {first:?}");
+        return leaves(rt, keeper, passes, all);
+    }
+    assert_eq!(rt; counter, 1, "the counter where none was made");
+    leaves(rt, keeper, passes, &all[..1])
+}
+
+/// A hub is closed behind one image, which it leaves if it is pending.
+pub fn closes_on<H: HubName, R: Wait + Abort>(
+    rt: &R,
+    alloc: Global,
+    keeper: Shared<'_, H, R>,
+    mut one: Pass<H>,
+    two: Pass<H>,
+) -> Result<(), Fail> {
+    let entries = [entry_of(image(alloc, 1)?)];
+    let op = image(alloc, 1)?;
+    let refused = store(rt, &keeper, &mut one, op).err();
+    let (passes, all) = (vec![in alloc; one, two]?, entries.as_slice());
+    if is_placed(rt, refused) {
+        return leaves(rt, keeper, passes, all);
+    }
+    leaves(rt, keeper, passes, &all[1..])
+}
