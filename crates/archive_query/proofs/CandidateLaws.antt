@@ -238,7 +238,9 @@ nothing (x ∷ xs) e = absurd (omega arith)
 none_long : (t : Text) → (length t == 0) ≡ true → t ≡ []
 none_long t e = nothing t (eqb-true (length t) 0 e)
 
-of_cut : (study : Text) (c : ContentParts) → study_of c ≡ study → is_of_study (take 64 study) (Some (pick_of c)) ≡ true
+-- a content is of its study, of which an index knows 64 bytes
+pub of_cut : (study : Text) (c : ContentParts) → study_of c ≡ study
+    → is_of_study (take 64 study) (Some (pick_of c)) ≡ true
 of_cut study c e = same_equal (take 64 (study_of c)) (take 64 study) (ap (take 64) e)
 
 -- a key that is not universal lists what it matches
@@ -254,7 +256,8 @@ listed_by key c some e =
     (has_map trimmed (parts key) at.0 at.1) (of_cut (trimmed at.0)
     c (sym (same_is (trimmed at.0) (study_of c) at.2)))))
 
-of_cut_series : (study series : Text) (c : ContentParts) → study_of c ≡ study → series_of c ≡ series
+-- and of its series, likewise
+pub of_cut_series : (study series : Text) (c : ContentParts) → study_of c ≡ study → series_of c ≡ series
     → is_of_series (take 64 study) (take 64 series) (Some (pick_of c)) ≡ true
 of_cut_series study series c e g =
     ap (λ b. b && same (take 64 (series_of c)) (take 64 series)) (of_cut study c e)

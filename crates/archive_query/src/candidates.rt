@@ -88,8 +88,8 @@ fn put_listed(
     Ok(())
 }
 
-/// Puts the SOP Instance UIDs of what is of some series of a study into a set. What was put in before
-/// memory was refused stays.
+/// Puts the SOP Instance UIDs of what is of some series of a study into a set. What was put in
+/// before memory was refused stays.
 pub fn put_some_series(
     index: &Index,
     study: &ShortText,

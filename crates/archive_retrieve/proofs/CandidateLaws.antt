@@ -18,7 +18,7 @@ use Rattle.archive_model.specs.Contents.{pick, study_of, series_of}
 use Rattle.archive_model.specs.Covered.{is_among}
 use Rattle.archive_model.specs.Shown.{shown, shown_at}
 use Rattle.archive_model.proofs.MemberLaws.{any_has, has_any}
-use Rattle.archive_model.proofs.ModelLaws.{same_is, same_itself, pick_is_content}
+use Rattle.archive_model.proofs.ModelLaws.{same_is, pick_is_content}
 use Rattle.study_index.specs.Keys.{has}
 use Rattle.study_index.specs.Live.{Text, Pick, pick_at, is_of_study, is_of_series}
 use Rattle.study_index.specs.Index.{IndexValue, pick_of}
@@ -30,7 +30,7 @@ use Rattle.query_model.specs.declared.key.Level.TheVariants.{Study, Series, Imag
 use Rattle.query_model.specs.Key.{has_study_above, has_series_above}
 use Rattle.query_model.specs.Rows.{uid_at}
 use Rattle.archive_query.specs.Candidates.{is_of_some, is_of_some_series}
-use Rattle.archive_query.proofs.CandidateLaws.{enough, sorted_rises}
+use Rattle.archive_query.proofs.CandidateLaws.{enough, sorted_rises, of_cut, of_cut_series}
 use Rattle.retrieve_model.specs.declared.selection.Selection.{Selection}
 use Rattle.retrieve_model.specs.Selection.{is_within, is_selected, selected}
 use Rattle.archive_retrieve.specs.Candidates.{ReachesAll}
@@ -52,10 +52,6 @@ on_ok (Err e) f p = p
 
 -- ---- what the index has of studies
 
--- a content is of its study, of which an index knows 64 bytes
-of_cut : (study : Text) (c : ContentParts) → study_of c ≡ study → is_of_study (take 64 study) (Some (pick_of c)) ≡ true
-of_cut study c e = same_itself (take 64 (study_of c)) (take 64 study) (ap (take 64) e)
-
 of_some : (studies : List Text) (c : ContentParts) → is_among studies (study_of c) ≡ true
     → is_of_some studies (Some (pick_of c)) ≡ true
 of_some studies c h =
@@ -63,18 +59,12 @@ of_some studies c h =
     has_any (λ study. is_of_study (take 64 study) (Some (pick_of c))) studies at.0
     at.1 (of_cut at.0 c (sym (same_is at.0 (study_of c) at.2)))
 
-of_one_series : (study series : Text) (c : ContentParts) → study_of c ≡ study → series_of c ≡ series
-    → is_of_series (take 64 study) (take 64 series) (Some (pick_of c)) ≡ true
-of_one_series study series c e f =
-    ap (λ b. b && same (take 64 (series_of c)) (take 64 series)) (of_cut study c e)
-    ∙ same_itself (take 64 (series_of c)) (take 64 series) (ap (take 64) f)
-
 of_some_series : (study : Text) (series : List Text) (c : ContentParts) → study_of c ≡ study
     → is_among series (series_of c) ≡ true → is_of_some_series (take 64 study) series (Some (pick_of c)) ≡ true
 of_some_series study series c e h =
     let at = any_has (λ u. same u (series_of c)) series h in
     has_any (λ one. is_of_series (take 64 study) (take 64 one) (Some (pick_of c))) series at.0
-    at.1 (of_one_series study at.0 c e (sym (same_is at.0 (series_of c) at.2)))
+    at.1 (of_cut_series study at.0 c e (sym (same_is at.0 (series_of c) at.2)))
 
 -- below the level of studies, what is selected is of the study that is named
 of_named : (s : Selection) (c : ContentParts) → has_study_above s.level ≡ true → is_selected s c ≡ true
@@ -107,7 +97,8 @@ reached_by_studies s picks old new level put = λ c picked is.
     ∙ ap (λ p. has text_cmp old c.instance || is_of_some s.uids p) picked
     ∙ or_second (has text_cmp old c.instance) _ (of_some s.uids c (is_one_named s c Study level is))
 
-pub reached_by_some_series : (s : Selection) (picks : List (Text × Option Pick)) (old new : List Text) → s.level ≡ Series
+pub reached_by_some_series : (s : Selection) (picks : List (Text × Option Pick)) (old new : List Text)
+    → s.level ≡ Series
     → ((uid : Text) → has text_cmp new uid ≡ (has text_cmp old uid || is_of_some_series (take 64 s.study) s.uids
     (pick_at uid picks)))
     → ReachesAll s picks new
@@ -124,7 +115,7 @@ pub reached_by_series : (s : Selection) (picks : List (Text × Option Pick)) (ol
 reached_by_series s picks old new level put = λ c picked is.
     put c.instance
     ∙ ap (λ p. has text_cmp old c.instance || is_of_series (take 64 s.study) (take 64 s.series) p) picked
-    ∙ or_second (has text_cmp old c.instance) _ (of_one_series s.study s.series c
+    ∙ or_second (has text_cmp old c.instance) _ (of_cut_series s.study s.series c
     (of_named s c (ap has_study_above level) is) (of_named_series s c level is))
 
 pub reached_by_instances : (s : Selection) (picks : List (Text × Option Pick)) (old new : List Text) → s.level ≡ Image

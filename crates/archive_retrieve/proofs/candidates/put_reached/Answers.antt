@@ -5,7 +5,8 @@ use Rattle.join_laws.specs.GrowSet.{union_of}
 use Rattle.study_index.specs.Keys.{has}
 use Rattle.study_index.specs.Live.{Text, pick_at}
 use Rattle.archive_query.specs.Candidates.{is_of_some, is_of_some_series}
-use Rattle.archive_retrieve.proofs.CandidateLaws.{on_ok, reached_by_studies, reached_by_some_series, reached_by_instances}
+use Rattle.archive_retrieve.proofs.CandidateLaws.{on_ok, reached_by_studies, reached_by_some_series}
+use Rattle.archive_retrieve.proofs.CandidateLaws.{reached_by_instances}
 use Rattle.archive_retrieve.proofs.candidates.put_reached.Goals as goal
 
 -- At STUDY, what is selected is of a study that is named.

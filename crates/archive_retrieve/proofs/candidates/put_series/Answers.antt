@@ -13,7 +13,8 @@ returns c =
     let picks = c.args.index.now.1.1.1 in
     on_ok c.put_series.result (λ put. reached_by_series c.args.selection.now picks old c.put_series.new.uids.keys
     c.requires.level (λ uid.
-    put uid ∙ ap (λ (t : Text). has text_cmp old uid || is_of_series t c.cut.result (pick_at uid picks)) c.requires.study
+    put uid
+    ∙ ap (λ (t : Text). has text_cmp old uid || is_of_series t c.cut.result (pick_at uid picks)) c.requires.study
     ∙ ap (λ (t : Text). has text_cmp old uid || is_of_series (take 64 c.args.selection.now.study) t (pick_at uid picks))
     (c.cut.ensures ∙ ap (take 64) c.as_slice.ensures)))
     c.put_series.ensures
