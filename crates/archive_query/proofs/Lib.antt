@@ -1,4 +1,3 @@
-pub mod Joined
 pub mod RowSets
 pub mod AscendingLaws
 pub mod GroupingLaws

@@ -9,7 +9,8 @@ use Rattle.std.proofs.lemmas.Bool.{ltb-true, leb-true, lt-ltb}
 use Rattle.dictionary.specs.Elements.{vr_in_table}
 use Rattle.data_set.specs.declared.syntax.Syntax.TheVariants.{Explicit}
 use Rattle.data_set.specs.Tree.{Tree, leaf, trees_of, tag_of}
-use Rattle.data_set.specs.Tags.{is_item_tag, is_reserved_group, is_above}
+use Rattle.dictionary.specs.Tags.{is_above}
+use Rattle.data_set.specs.Tags.{is_item_tag, is_reserved_group}
 use Rattle.data_set.specs.Values.{pad_of, padded}
 use Rattle.data_set.specs.Vr.{is_short, is_name, has_bad_vr, inner_syntax, is_undefined, undefined_length}
 use Rattle.data_set.specs.Header.{offence}

@@ -1,9 +1,9 @@
 //! The rows of a C-FIND (PS3.4, section C.4.1).
 
-ghost use Rattle.std.specs.Prelude.{◌≡◌, ◌++◌, ◌∷◌, if◌then◌else◌, IfOk, OnOk, map};
+ghost use Rattle.std.specs.Prelude.{◌≡◌, IfOk, map};
 ghost use Rattle.std.specs.Option.{option_map};
 ghost use Rattle.std.specs.Fmt.{decimal};
-ghost use Rattle.std.specs.List.{join_with_byte, filter_map};
+ghost use Rattle.std.specs.List.{filter_map};
 ghost use Rattle.operation.specs.Parts.{value_at};
 ghost use Rattle.site_state.specs.Site.{ops_of};
 ghost use Rattle.query_model.specs.Column.{columns as columns_of};
@@ -21,7 +21,7 @@ use dictionary::{
     SOP_INSTANCE_UID, SPECIFIC_CHARACTER_SET, STUDY_INSTANCE_UID,
 };
 use key_matching::matches;
-use octets::Octets;
+use octets::{Octets, joined};
 use operation::Content;
 use query_model::{Answer, Asked, Query};
 use site_state::Site;
@@ -61,29 +61,6 @@ fn is_asked(query: &Query, tag: u32) -> bool
     query.asked.as_slice().iter().any(|asked| asked.tag == tag)
 }
 
-/// Adds a text to others, behind a backslash where it is not the first.
-fn add(bytes: &mut Vec<u8>, is_first: bool, text: &[u8]) -> Result<(), AllocError>
-    ensures { OnOk result (bytes.new.items ≡
-        bytes.old.items ++ (if is_first then text.now else 92 ∷ text.now)) }
-{
-    if !is_first {
-        bytes.push(b'\\')?;
-    }
-    bytes.extend_from_slice(text)?;
-    Ok(())
-}
-
-/// Some texts, with a backslash between each two.
-fn joined(alloc: Global, texts: &[Octets]) -> Result<Octets, AllocError>
-    ensures { IfOk result (λ text. text ≡ join_with_byte 92 texts.now) }
-{
-    let mut bytes = Vec::new(alloc);
-    for (i, text) in texts.iter().enumerate() {
-        add(&mut bytes, i == 0, text.as_slice())?;
-    }
-    Ok(Octets::of(bytes))
-}
-
 /// A number in decimal digits.
 fn digits(alloc: Global, number: usize) -> Result<Octets, AllocError>
     ensures { IfOk result (λ text. text ≡ decimal number) }
@@ -107,7 +84,7 @@ fn asked_cell(
 {
     if tag == MODALITIES_IN_STUDY {
         let modalities = modalities_of(alloc, contents)?;
-        let text = joined(alloc, &modalities)?;
+        let text = joined(alloc, b'\\', &modalities)?;
         return cell(alloc, tag, text.as_slice());
     }
     if tag == NUMBER_OF_STUDY_RELATED_SERIES {
@@ -205,7 +182,8 @@ fn row(
         first.now) }
 {
     let cells = cells(alloc, site, called, query, contents, first)?;
-    Ok(Answer::of(DataSet::of(Syntax::Explicit, cells)))
+    let set = DataSet::of(Syntax::Explicit, cells);
+    Answer::of(alloc, &set)
 }
 
 /// The row of some contents, where the first of them matches.

@@ -14,7 +14,8 @@ AllOnward is_up holds lasts [] (y ∷ ys) = ⊥
 AllOnward is_up holds lasts (x ∷ xs) [] = ⊥
 AllOnward is_up holds lasts (x ∷ xs) (y ∷ ys) = IsOnward is_up holds lasts x y × AllOnward is_up holds lasts xs ys
 
--- What a thread comes back with: its pass has gone on, and it has accepted all that it may, or tells a fault, or somebody
+-- What a thread comes back with: its pass has gone on, and it has accepted all that it may, or tells a fault, or
+-- somebody
 -- may end it.
 pub record HasServed {K : Type 0} (is_up : K → Type 0) (holds lasts : K → Op → Type 0) (before after : Seat)
     (ends : Bool) (limit accepted : ℕ) (fault : Option ServeFault) : Type 0 where

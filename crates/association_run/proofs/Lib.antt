@@ -1,4 +1,4 @@
-pub mod DidLaws
+pub mod DeedLaws
 pub mod Fronts
 pub mod HandLaws
 pub mod OutboxLaws

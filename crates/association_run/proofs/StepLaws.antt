@@ -42,11 +42,11 @@ use Rattle.ul_state.specs.declared.event.Event.TheVariants.{LocalAbort}
 use Rattle.association_session.specs.Projections.{state_after, state_by_pdu}
 use Rattle.association_session.proofs.HearLaws.{none_answered, none_fits}
 use Rattle.association_run.specs.Hearing.{Place, Says, HearsSome}
-use Rattle.association_run.specs.Parts.{Sides, Did}
+use Rattle.association_run.specs.Parts.{Sides, Performs}
 use Rattle.association_run.specs.Port.{Replies, History}
 use Rattle.association_run.specs.Steps.{Halts, Pends, IsNext, DidTurn, BrokeTurn, HeardWhole, HeardFront, place_of}
 use Rattle.association_run.proofs.Fronts.{all_front}
-use Rattle.association_run.proofs.DidLaws.{did_none, did_then, all_begun, begun_behind}
+use Rattle.association_run.proofs.DeedLaws.{did_none, did_then, all_begun, begun_behind}
 use Rattle.archive_model.specs.declared.view.View.{View}
 
 -- ---- how deeds end
@@ -461,7 +461,7 @@ module _ {P : Type 0} (ops : P → List Op) (own : P → List (List ℕ)) (title
         turn.deeds input next.2 h.takes turn.turned.takes;
     state = turn.turned.state ∙ ap (λ (k : State). state_after k turn.deeds) h.state
         ∙ sym (state_then from.association.within.state h.done turn.deeds);
-    did = subst (λ (k : List Reply). Did ops own old then (h.done ++ turn.deeds) [] (k ++ option_to_list behind))
+    did = subst (λ (k : List Reply). Performs ops own old then (h.done ++ turn.deeds) [] (k ++ option_to_list behind))
         (replied_so h.told pending input next.3)
         (did_then ops own old now then h.done turn.deeds [] (h.told ++ option_to_list pending) (option_to_list behind)
         h.did turn.did);
@@ -517,7 +517,7 @@ module _ {P : Type 0} (ops : P → List Op) (own : P → List (List ℕ)) (title
         hears = (h.left, h.some, all_left s.association.within.state s.association.queue h.left finished h.kept);
         takes = h.takes;
         state = h.state;
-        did = subst (λ (k : List Reply). Did ops own old now h.done [] k) (append-nil h.told) h.did;
+        did = subst (λ (k : List Reply). Performs ops own old now h.done [] k) (append-nil h.told) h.did;
         idle = idle;
         finished = finished;
         aborted = h.aborted;
@@ -548,7 +548,7 @@ module _ {P : Type 0} (ops : P → List Op) (own : P → List (List ℕ)) (title
     done = [];
     part = [];
     front = all_begun [];
-    did = subst (λ (k : Sides P). Did ops own old k [] [] []) (sym same) (did_none ops own old);
+    did = subst (λ (k : Sides P). Performs ops own old k [] [] []) (sym same) (did_none ops own old);
   }
   fails_first old new from event idle (inr b) = record {
     heard = Met event ∷ b.turned.said;
@@ -583,7 +583,7 @@ module _ {P : Type 0} (ops : P → List Op) (own : P → List (List ℕ)) (title
     done = h.done;
     part = [];
     front = all_begun h.done;
-    did = subst (λ (k : Sides P). Did ops own old k h.done [] (h.told ++ option_to_list pending)) (sym same) h.did;
+    did = subst (λ (k : Sides P). Performs ops own old k h.done [] (h.told ++ option_to_list pending)) (sym same) h.did;
   }
   fails_on old now then from event pending s input h next (inr b) = record {
     heard = h.heard ++ b.turned.said;
@@ -604,7 +604,7 @@ module _ {P : Type 0} (ops : P → List Op) (own : P → List (List ℕ)) (title
     done = h.done ++ b.broke.0;
     part = b.broke.1;
     front = begun_behind h.done b.broke.0 b.broke.1 b.deeds b.broke.2;
-    did = subst (λ (k : List Reply). Did ops own old then (h.done ++ b.broke.0) b.broke.1 k)
+    did = subst (λ (k : List Reply). Performs ops own old then (h.done ++ b.broke.0) b.broke.1 k)
         (append-nil (h.told ++ option_to_list pending) ∙ replied_so h.told pending input next.3)
         (did_then ops own old now then h.done b.broke.0 b.broke.1 (h.told ++ option_to_list pending) [] h.did
         b.broke.3);

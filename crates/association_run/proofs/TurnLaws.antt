@@ -48,9 +48,9 @@ use Rattle.association_run.specs.Output.{Output, FrontOfOutput, IsOver, IsLeft, 
 use Rattle.association_run.specs.Output.{is_abort_piece, was_aborted, was_released}
 use Rattle.association_run.specs.Steps.{place_of, HearsPart, HeardFront}
 use Rattle.association_run.specs.Turns.{counted_in, NOTHING_READ, Adds, Drops, Reads, HearsPiece, TakesHand}
-use Rattle.association_run.specs.Turns.{TakingBroke, IsInHand, IsDropped, IsReady, Sofar}
+use Rattle.association_run.specs.Turns.{TakingFails, IsInHand, IsDropped, IsReady, Progress}
 use Rattle.association_run.proofs.Fronts.{read_further, nothing_read, all_front, front_behind}
-use Rattle.association_run.proofs.DidLaws.{did_none, did_then, all_begun, begun_behind, begun_more}
+use Rattle.association_run.proofs.DeedLaws.{did_none, did_then, all_begun, begun_behind, begun_more}
 use Rattle.association_run.proofs.StepLaws.{takes_all, takes_front, takes_then, state_then}
 use Rattle.archive_model.specs.declared.view.View.{View}
 
@@ -294,7 +294,7 @@ module _ {P : Type 0} (ops : P → List Op) (own : P → List (List ℕ)) (title
   }
 
   pub nothing_yet : (r : Option (List ℕ)) (a : Sides P) (s : SessionState) → s.association ≡ start → s.aborted ≡ false
-      → s.released ≡ false → Sofar ops own titles r r a a s NOTHING_READ 0
+      → s.released ≡ false → Progress ops own titles r r a a s NOTHING_READ 0
   nothing_yet r a s is aborted released = record {
     text = [];
     read = nothing_read r;
@@ -322,8 +322,8 @@ module _ {P : Type 0} (ops : P → List Op) (own : P → List (List ℕ)) (title
   }
 
   pub after_read : (r0 r1 r2 : Option (List ℕ)) (old now : Sides P) (s : SessionState) (before after : Intake)
-      (n count : ℕ) → Sofar ops own titles r0 r1 old now s before n → Reads r1 r2 before count after
-      → counted_in after s.association.within.state ≤ MOST_DROPPED → Sofar ops own titles r0 r2 old now s
+      (n count : ℕ) → Progress ops own titles r0 r1 old now s before n → Reads r1 r2 before count after
+      → counted_in after s.association.within.state ≤ MOST_DROPPED → Progress ops own titles r0 r2 old now s
       after (n + count)
   after_read r0 r1 r2 old now s before after n count so r within = record {
     text = so.text ++ r.bytes;
@@ -392,11 +392,11 @@ module _ {P : Type 0} (ops : P → List Op) (own : P → List (List ℕ)) (title
   )
 
   took_nothing : (r0 r1 : Option (List ℕ)) (old now then : Sides P) (s : SessionState) (before : Intake)
-      (t : SessionState) (after : Intake) (n : ℕ) → Sofar ops own titles r0 r1 old now s before n
+      (t : SessionState) (after : Intake) (n : ℕ) → Progress ops own titles r0 r1 old now s before n
       → then ≡ now → t ≡ s → after.is_cut ≡ before.is_cut → after.counted ≡ before.counted
-      → after.inbox.text ≡ before.inbox.text → Sofar ops own titles r0 r1 old then t after n
+      → after.inbox.text ≡ before.inbox.text → Progress ops own titles r0 r1 old then t after n
   took_nothing r0 r1 old now then s before t after n so sides_same same cut counted text =
-      let kept : Sofar ops own titles r0 r1 old now s after n = record {
+      let kept : Progress ops own titles r0 r1 old now s after n = record {
         text = so.text;
         read = so.read;
         many = so.many;
@@ -417,8 +417,8 @@ module _ {P : Type 0} (ops : P → List Op) (own : P → List (List ℕ)) (title
         aborted = so.aborted;
         released = so.released;
       } in
-      subst (λ (k : Sides P). Sofar ops own titles r0 r1 old k t after n) (sym sides_same)
-      (subst (λ (k : SessionState). Sofar ops own titles r0 r1 old now k after n) (sym same) kept)
+      subst (λ (k : Sides P). Progress ops own titles r0 r1 old k t after n) (sym sides_same)
+      (subst (λ (k : SessionState). Progress ops own titles r0 r1 old now k after n) (sym same) kept)
 
   talk_of : (s : SessionState) (heard : List Heard) (replies : List Reply) (done : List Deed)
       → s.association.awaited ≡ None → Takes titles start heard replies done s.association
@@ -426,9 +426,9 @@ module _ {P : Type 0} (ops : P → List Op) (own : P → List (List ℕ)) (title
   talk_of s heard replies done idle takes = takes_all titles start s.association heard replies done idle takes
 
   took_piece : (r0 r1 : Option (List ℕ)) (old now then : Sides P) (s : SessionState) (before : Intake)
-      (t : SessionState) (after : Intake) (n : ℕ) (so : Sofar ops own titles r0 r1 old now s before n)
+      (t : SessionState) (after : Intake) (n : ℕ) (so : Progress ops own titles r0 r1 old now s before n)
       → s.association.within.state ≢ Sta1 → HearsPiece ops own titles now then s before t after
-      → IsInHand before so.pieces so.rest so.counted → Sofar ops own titles r0 r1 old then t after n
+      → IsInHand before so.pieces so.rest so.counted → Progress ops own titles r0 r1 old then t after n
   took_piece r0 r1 old now then s before t after n so connected h hand =
       let is : IsPiece h.piece so.rest = subst (λ (k : List ℕ). IsPiece h.piece k) (sym hand.2) h.is in
       let empty : after.inbox.text ≡ [] = ap (λ (k : InHand). k.text) h.empty in
@@ -478,13 +478,13 @@ module _ {P : Type 0} (ops : P → List Op) (own : P → List (List ℕ)) (title
       }
 
   pub after_take : (r0 r1 : Option (List ℕ)) (old now then : Sides P) (s : SessionState) (before : Intake)
-      (t : SessionState) (after : Intake) (n : ℕ) → Sofar ops own titles r0 r1 old now s before n
+      (t : SessionState) (after : Intake) (n : ℕ) → Progress ops own titles r0 r1 old now s before n
       → s.association.within.state ≢ Sta1
-      → TakesHand ops own titles now then s before t after → Sofar ops own titles r0 r1 old then t after n
+      → TakesHand ops own titles now then s before t after → Progress ops own titles r0 r1 old then t after n
   after_take r0 r1 old now then s before t after n so connected (inl none) = took_nothing r0 r1 old now then s before t
       after n so none.0 none.1 none.2 none.3 none.4
   after_take r0 r1 old now then s before t after n so connected (inr h) = elim so.held
-      as (λ _. Sofar ops own titles r0 r1 old then t after n) [
+      as (λ _. Progress ops own titles r0 r1 old then t after n) [
         | inl hand ↦ took_piece r0 r1 old now then s before t after n so connected h hand
         | inr dropped ↦ absurd (no_piece h.piece (subst (λ (k : List ℕ). IsPiece h.piece k) dropped.3 h.is))
       ]
@@ -503,7 +503,7 @@ module _ {P : Type 0} (ops : P → List Op) (own : P → List (List ℕ)) (title
 
   -- what is done is a front of itself
   pub stopped : (r0 r1 r2 : Option (List ℕ)) (old now : Sides P) (s : SessionState) (intake : Intake) (n : ℕ)
-      → Sofar ops own titles r0 r1 old now s intake n → Consumes r1 r2 [] → FrontOfOutput ops own titles r0 r2 old
+      → Progress ops own titles r0 r1 old now s intake n → Consumes r1 r2 [] → FrontOfOutput ops own titles r0 r2 old
       now
   stopped r0 r1 r2 old now s intake n so none = record {
     text = so.text ++ [];
@@ -544,7 +544,7 @@ module _ {P : Type 0} (ops : P → List Op) (own : P → List (List ℕ)) (title
   some_front s counted piece heard connected (inr some) h r d = inr (some.0, some.1, connected, some.2)
 
   broke_piece : (r0 r1 : Option (List ℕ)) (old now then : Sides P) (s : SessionState) (intake : Intake) (n : ℕ)
-      (so : Sofar ops own titles r0 r1 old now s intake n) → s.association.within.state ≢ Sta1 → (piece : Piece)
+      (so : Progress ops own titles r0 r1 old now s intake n) → s.association.within.state ≢ Sta1 → (piece : Piece)
       → IsPiece piece intake.inbox.text
       → HeardFront ops own titles now then s.association (event_of piece) → IsInHand intake so.pieces so.rest
       so.counted → FrontOfOutput ops own titles r0 r1 old then
@@ -590,8 +590,8 @@ module _ {P : Type 0} (ops : P → List Op) (own : P → List (List ℕ)) (title
       }
 
   pub broken : (r0 r1 : Option (List ℕ)) (old now then : Sides P) (s : SessionState) (intake : Intake) (n : ℕ)
-      → Sofar ops own titles r0 r1 old now s intake n → s.association.within.state ≢ Sta1
-      → TakingBroke ops own titles now then s intake → FrontOfOutput ops own titles r0 r1 old then
+      → Progress ops own titles r0 r1 old now s intake n → s.association.within.state ≢ Sta1
+      → TakingFails ops own titles now then s intake → FrontOfOutput ops own titles r0 r1 old then
   broken r0 r1 old now then s intake n so connected (inl same) = subst (λ (k : Sides P). FrontOfOutput ops own titles
       r0 r1 old k) (sym same) (stopped r0 r1 r1 old now s intake n so (nothing_read r1))
   broken r0 r1 old now then s intake n so connected (inr b) = elim so.held as (λ _. FrontOfOutput ops own titles r0 r1
@@ -614,7 +614,7 @@ module _ {P : Type 0} (ops : P → List Op) (own : P → List (List ℕ)) (title
   none_left intake state pieces rest counted empty (inr dropped) closed = absurd (let e = sym closed ∙ dropped.4 in cc)
 
   pub finished : (r0 r1 : Option (List ℕ)) (old now : Sides P) (s : SessionState) (intake : Intake) (n : ℕ)
-      (end : End) → Sofar ops own titles r0 r1 old now s intake n → IsUnfinished intake.inbox.text
+      (end : End) → Progress ops own titles r0 r1 old now s intake n → IsUnfinished intake.inbox.text
       → (s.association.within.state ≡ Sta1) ⊎ ((counted_in intake s.association.within.state ≡ MOST_DROPPED)
       ⊎ IsAtEnd r1) → (s.association.within.state ≡ Sta1 → intake.inbox.text ≡ [])
       → end ≡ end_in (counted_in intake s.association.within.state) s.aborted s.released → Output ops own titles r0 r1
@@ -647,7 +647,7 @@ module _ {P : Type 0} (ops : P → List Op) (own : P → List (List ℕ)) (title
       }
 
   pub fewer_reads : (r0 r1 : Option (List ℕ)) (old now : Sides P) (s : SessionState) (intake : Intake) (m n : ℕ)
-      → Sofar ops own titles r0 r1 old now s intake n → m ≤ n → Sofar ops own titles r0 r1 old now s intake m
+      → Progress ops own titles r0 r1 old now s intake n → m ≤ n → Progress ops own titles r0 r1 old now s intake m
   fewer_reads r0 r1 old now s intake m n so few = record {
     text = so.text;
     read = so.read;

@@ -21,7 +21,7 @@ use Rattle.association_run.specs.declared.piece.Piece.{Piece}
 use Rattle.association_run.specs.declared.run.TheConstants.{MOST_DROPPED}
 use Rattle.association_run.specs.Pieces.{Cuts, is_cut, event_of}
 use Rattle.association_run.specs.Hearing.{Course, SETTING_OUT, counts, TakesPieces, TakesSome}
-use Rattle.association_run.specs.Parts.{Sides, Did, Begins}
+use Rattle.association_run.specs.Parts.{Sides, Performs, Begins}
 use Rattle.archive_model.specs.declared.view.View.{View}
 
 -- ---- how it ends
@@ -90,7 +90,7 @@ pub record Output {P : Type 0} (ops : P → List Op) (own : P → List (List ℕ
   pub all_replied : course.replies ≡ replies
   pub done : List Deed
   pub talk : Talks titles opening None heard replies done
-  pub did : Did ops own old new done [] replies
+  pub did : Performs ops own old new done [] replies
   pub within : all_counted course rest ≤ MOST_DROPPED
   pub over : IsOver course rest r1
   -- Once it is closed no byte is read.
@@ -110,7 +110,7 @@ pub record FrontOfOutput {P : Type 0} (ops : P → List Op) (own : P → List (L
   pub replies : List Reply
   pub done : List Deed
   pub part : List ℕ
-  pub did : Did ops own old new done part replies
+  pub did : Performs ops own old new done part replies
   -- They are a front of the deeds for what was heard and told, where the last reply may not be told yet,
   pub told : List Reply
   pub first : IsFront told replies

@@ -33,7 +33,7 @@ abbrev pub bytes_in : List Deed → List ℕ
 bytes_in deeds = flat_map text_of (sent_in deeds)
 
 -- Just these deeds were done, in order, and then these bytes were written; the port replied so to the calls.
-pub record Did {P : Type 0} (ops : P → List Op) (own : P → List (List ℕ)) (old new : Sides P) (done : List Deed)
+pub record Performs {P : Type 0} (ops : P → List Op) (own : P → List (List ℕ)) (old new : Sides P) (done : List Deed)
     (cut : List ℕ) (replies : List Reply) : Type 0 where
   pub history : History ops own old.port (calls_in done) replies new.port
   pub appended : Appends old.written new.written (bytes_in done ++ cut)

@@ -21,7 +21,7 @@ use Rattle.association_session.specs.Session.{is_in_turn, is_left, is_abort, is_
 use Rattle.association_session.specs.Session.{released_by, met_in, replies_in}
 use Rattle.association_session.specs.Talks.{Heard}
 use Rattle.association_run.specs.Hearing.{Place, Hears, HearsSome}
-use Rattle.association_run.specs.Parts.{Sides, Did, Begins}
+use Rattle.association_run.specs.Parts.{Sides, Performs, Begins}
 use Rattle.archive_model.specs.declared.view.View.{View}
 
 -- A call or a close is the last deed.
@@ -35,7 +35,7 @@ Halts (Reach moment ∷ ds) = Halts ds
 -- A front of these deeds was done, and then this front of the next one's bytes was written; no call was made.
 abbrev pub BreaksOff : {P : Type 0} → (P → List Op) → (P → List (List ℕ)) → Sides P → Sides P → List Deed → Type 0
 BreaksOff ops own old new deeds = (done : List Deed) × (part : List ℕ) × Begins done part deeds
-    × Did ops own old new done part []
+    × Performs ops own old new done part []
 
 -- ---- one event of a session
 
@@ -60,7 +60,7 @@ pub record DidTurn {P : Type 0} (ops : P → List Op) (own : P → List (List �
   pub fewer : IsFewer event from.association to.association
   pub aborted : to.aborted ≡ aborted_by from.aborted from.association.within.state event deeds
   pub released : to.released ≡ released_by from.released deeds
-  pub did : Did ops own old new deeds [] (option_to_list pending)
+  pub did : Performs ops own old new deeds [] (option_to_list pending)
 
 -- The session was told, and a front of its deeds was done.
 pub record BrokeDeeds {P : Type 0} (ops : P → List Op) (own : P → List (List ℕ)) (titles : List (Title View))
@@ -89,7 +89,7 @@ pub record HeardWhole {P : Type 0} (ops : P → List Op) (own : P → List (List
   pub hears : Hears titles (place_of from.association) event heard (place_of to.association)
   pub takes : Takes titles from.association heard replies done to.association
   pub state : to.association.within.state ≡ state_after from.association.within.state done
-  pub did : Did ops own old new done [] replies
+  pub did : Performs ops own old new done [] replies
   pub idle : to.association.awaited ≡ None
   pub finished : is_left to.association.within.state to.association.queue ≡ false
   pub aborted : to.aborted ≡ (from.aborted || (is_abort_event (inputs.Heard event) || list_any is_abort done))
@@ -115,7 +115,7 @@ pub record HeardFront {P : Type 0} (ops : P → List Op) (own : P → List (List
   pub done : List Deed
   pub part : List ℕ
   pub front : Begins done part all
-  pub did : Did ops own old new done part replies
+  pub did : Performs ops own old new done part replies
 
 -- ---- up to the end of a PDU
 
@@ -131,7 +131,7 @@ pub record Hearing {P : Type 0} (ops : P → List Op) (own : P → List (List �
     pub kept : (s.association.queue ≡ left) ⊎ IsLeft s.association.within.state
     pub takes : Takes titles from.association heard told done s.association
     pub state : s.association.within.state ≡ state_after from.association.within.state done
-    pub did : Did ops own old now done [] (told ++ option_to_list pending)
+    pub did : Performs ops own old now done [] (told ++ option_to_list pending)
     pub pends : Pends s.association.awaited pending
     pub asked : IsOpenFor s.association
     pub fits : Fits s.association.awaited

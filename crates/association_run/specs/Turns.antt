@@ -20,7 +20,7 @@ use Rattle.association_run.specs.declared.run.TheConstants.{MOST_DROPPED}
 use Rattle.association_run.specs.Inbox.{EMPTY}
 use Rattle.association_run.specs.Pieces.{IsPiece, Cuts, is_cut, is_whole, event_of, size_of_piece}
 use Rattle.association_run.specs.Hearing.{SETTING_OUT, counts, TakesPieces}
-use Rattle.association_run.specs.Parts.{Sides, Did}
+use Rattle.association_run.specs.Parts.{Sides, Performs}
 use Rattle.association_run.specs.Steps.{place_of, HeardWhole, HeardFront}
 use Rattle.association_run.specs.Output.{Output, FrontOfOutput, was_aborted, was_released}
 use Rattle.archive_model.specs.declared.view.View.{View}
@@ -78,9 +78,9 @@ TakesHand ops own titles old new s before t after = HearsNothing old new s befor
     titles old new s before t after
 
 -- Nothing was heard for want of memory, or of a piece a front was heard.
-abbrev pub TakingBroke : {P : Type 0} → (P → List Op) → (P → List (List ℕ)) → List (Title View) → Sides P → Sides P
+abbrev pub TakingFails : {P : Type 0} → (P → List Op) → (P → List (List ℕ)) → List (Title View) → Sides P → Sides P
     → SessionState → Intake → Type 0
-TakingBroke ops own titles old new s before =
+TakingFails ops own titles old new s before =
     (new ≡ old) ⊎ ((piece : Piece) × IsPiece piece before.inbox.text × HeardFront ops own titles old new s.association
     (event_of piece))
 
@@ -109,7 +109,7 @@ IsDropped intake state pieces rest counted =
     × (intake.inbox.text ≡ []) × (state ≡ Sta13)
 
 -- all that was read, heard, and done so far, by n reads
-pub record Sofar {P : Type 0} (ops : P → List Op) (own : P → List (List ℕ)) (titles : List (Title View))
+pub record Progress {P : Type 0} (ops : P → List Op) (own : P → List (List ℕ)) (titles : List (Title View))
     (r0 r1 : Option (List ℕ)) (old now : Sides P) (s : SessionState) (intake : Intake) (n : ℕ) : Type 0 where
   pub text : List ℕ
   pub read : Consumes r0 r1 text
@@ -131,7 +131,7 @@ pub record Sofar {P : Type 0} (ops : P → List Op) (own : P → List (List ℕ)
   pub takes : Takes titles start heard replies done s.association
   pub state : s.association.within.state ≡ state_after Sta2 done
   pub idle : s.association.awaited ≡ None
-  pub did : Did ops own old now done [] replies
+  pub did : Performs ops own old now done [] replies
   pub held : IsInHand intake pieces rest counted ⊎ IsDropped intake s.association.within.state pieces rest counted
   pub within : counted_in intake s.association.within.state ≤ MOST_DROPPED
   pub aborted : s.aborted ≡ was_aborted pieces done
@@ -139,7 +139,7 @@ pub record Sofar {P : Type 0} (ops : P → List Op) (own : P → List (List ℕ)
 
 abbrev pub After : {P : Type 0} → (P → List Op) → (P → List (List ℕ)) → List (Title View) → Option (List ℕ)
     → Option (List ℕ) → Sides P → Sides P → SessionState → Intake → ℕ → Result (Option End) RunFault → Type 0
-After ops own titles r0 r1 old now s intake n (Ok None) = Sofar ops own titles r0 r1 old now s intake (n + 1)
+After ops own titles r0 r1 old now s intake n (Ok None) = Progress ops own titles r0 r1 old now s intake (n + 1)
 After ops own titles r0 r1 old now s intake n (Ok (Some end)) = Output ops own titles r0 r1 old now end
 After ops own titles r0 r1 old now s intake n (Err fault) = FrontOfOutput ops own titles r0 r1 old now
 
@@ -148,5 +148,5 @@ abbrev pub Turns : {P : Type 0} → (P → List Op) → (P → List (List ℕ)) 
     → Option (List ℕ) → Sides P → Sides P → SessionState → Intake → Result (Option End) RunFault → SessionState
     → Intake → Type 0
 Turns {P = P} ops own titles r1 r2 now then s before result t after =
-    (r0 : Option (List ℕ)) (old : Sides P) (n : ℕ) → Sofar ops own titles r0 r1 old now s before n
+    (r0 : Option (List ℕ)) (old : Sides P) (n : ℕ) → Progress ops own titles r0 r1 old now s before n
     → After ops own titles r0 r2 old then t after n result

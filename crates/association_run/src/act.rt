@@ -8,7 +8,7 @@ ghost use Rattle.association_session.specs.Due.{IsQuiet};
 ghost use Rattle.association_session.specs.Session.{IsSound, IsWritable, is_in_turn, is_left};
 ghost use Rattle.association_run.specs.Fault.{CountedWhere, tells_read, tells_write, tells_turns};
 ghost use Rattle.association_run.specs.Outbox.{Puts, PutsFront};
-ghost use Rattle.association_run.specs.Parts.{sides, Did};
+ghost use Rattle.association_run.specs.Parts.{sides, Performs};
 ghost use Rattle.association_run.specs.Port.{Replies};
 ghost use Rattle.association_run.specs.Steps.{Halts, BreaksOff, Pends, IsNext, DidTurn, BrokeTurn, HeardWhole, HeardFront, GoesOnWith, BreaksWith};
 
@@ -70,7 +70,7 @@ fn act<W: Sink, P: Port, G: Gate>(
 ) -> Result<Option<Reply>, RunFault>
     requires writable { All IsWritable deeds }
     requires halts { Halts deeds }
-    ensures ok { IfOk result (λ pending. Did P.ops P.own
+    ensures ok { IfOk result (λ pending. Performs P.ops P.own
         (sides port.old (W.contents writer.old) (G.reached gate.old))
         (sides port.new (W.contents writer.new) (G.reached gate.new)) deeds []
         (option_to_list pending)) }

@@ -9,7 +9,7 @@ ghost use Rattle.association_run.specs.Fault.{CountedWhere, tells_read, tells_wr
 ghost use Rattle.association_run.specs.Output.{Output, FrontOfOutput, ReadAtLeast, end_in, is_over as is_over_in};
 ghost use Rattle.association_run.specs.Parts.{sides};
 ghost use Rattle.association_run.specs.Pieces.{event_of, size_of_piece, is_whole as is_whole_piece};
-ghost use Rattle.association_run.specs.Turns.{NOTHING_READ, counted_in, Reads, TakesHand, TakingBroke, IsReady, Turns};
+ghost use Rattle.association_run.specs.Turns.{NOTHING_READ, counted_in, Reads, TakesHand, TakingFails, IsReady, Turns};
 
 use crate::act::hear;
 use crate::end::End;
@@ -176,7 +176,7 @@ fn take_piece<W: Sink, P: Port, G: Gate>(
         (sides port.old (W.contents writer.old) (G.reached gate.old))
         (sides port.new (W.contents writer.new) (G.reached gate.new)) session.old intake.old
         session.new intake.new) }
-    ensures err { OnErr result (TakingBroke P.ops P.own titles.now.list
+    ensures err { OnErr result (TakingFails P.ops P.own titles.now.list
         (sides port.old (W.contents writer.old) (G.reached gate.old))
         (sides port.new (W.contents writer.new) (G.reached gate.new)) session.old intake.old) }
     ensures read { tells_read result ≡ false }

@@ -16,7 +16,8 @@ use Rattle.dimse.specs.Command.{IsCommand, HasRoom, is_complete, announces}
 use Rattle.dimse.specs.Response.{response_of}
 use Rattle.dimse.specs.Sending.{IsWhole}
 use Rattle.dimse.specs.Status.{status_code}
-use Rattle.dimse.specs.Uid.{IsUid, is_graphic}
+use Rattle.dimse.specs.Uid.{IsUid}
+use Rattle.octets.specs.Graphic.{is_graphic}
 use Rattle.dimse.proofs.SoundLaws.{answer_lawful}
 use Rattle.retrieve_model.specs.declared.prepared.Prepared.{Prepared}
 use Rattle.association_session.specs.declared.retrieval.Progress.{Progress}

@@ -189,10 +189,10 @@ fn put_row(
     deeds: &mut ListOf<Deed>,
     awaited: &Awaited,
     kind: RowKind,
-    row: &Answer,
+    row: Answer,
 ) -> Result<usize, AllocError>
     ensures told { OnOk result ((response : List Pdu)
-        × RespondsRow awaited.now kind row.now response
+        × RespondsRow awaited.now kind row response
         × (deeds.new ≡ deeds.old ++ map Send response)) }
     ensures writable { All IsWritable deeds.old → OnOk result (All IsWritable deeds.new) }
 {
@@ -222,7 +222,7 @@ fn put_rows(
         let Some(row) = rows.next() else {
             return Ok(());
         };
-        let size = put_row(alloc, deeds, awaited, kind, &row)?;
+        let size = put_row(alloc, deeds, awaited, kind, row)?;
         spelled = 1.max(size).saturating_add(spelled);
     }
     Ok(())

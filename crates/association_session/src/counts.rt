@@ -1,13 +1,12 @@
 //! What the sub-operations of a C-GET came to (PS3.7, section 9.1.3; PS3.4, section C.4.3.1).
 
-ghost use Rattle.std.specs.Prelude.{◌≡◌, ◌<◌, ◌≤◌, ◌++◌, ◌∷◌, [], IfOk, OnOk, take, length, if◌then◌else◌};
-ghost use Rattle.std.specs.List.{join_with_byte};
+ghost use Rattle.std.specs.Prelude.{◌≡◌, ◌<◌, ◌≤◌, [], IfOk, take, length};
 ghost use Rattle.association_session.specs.Get.{is_warning as is_warning_code, outcome_by, outcome_of, counted, all_counted, final_status, fitting, room_in, vr_in, uid_list, failed_text as text_of_failed, failed_set};
 
 use bytes::Bytes;
 use data_set::{DataSet, Element, Syntax, padded_of, write};
 use dimse::Status;
-use octets::{ListOf, Octets};
+use octets::{ListOf, Octets, joined};
 use std::alloc::{AllocError, Global};
 
 /// (0008,0058) Failed SOP Instance UID List
@@ -70,28 +69,6 @@ fn fitted(uids: &[Octets], room: usize) -> usize
     uids.len()
 }
 
-/// Adds a text to others, behind a backslash where it is not the first.
-fn add(bytes: &mut Vec<u8>, is_first: bool, text: &[u8]) -> Result<(), AllocError>
-    ensures { OnOk result (bytes.new.items ≡
-        bytes.old.items ++ (if is_first then text.now else 0x5c ∷ text.now)) }
-{
-    if !is_first {
-        bytes.push(b'\\')?;
-    }
-    bytes.extend_from_slice(text)
-}
-
-/// Some UIDs, with a backslash between each two.
-fn joined(alloc: Global, uids: &[Octets]) -> Result<Octets, AllocError>
-    ensures { IfOk result (λ text. text ≡ join_with_byte 0x5c uids.now) }
-{
-    let mut bytes = Vec::new(alloc);
-    for (i, uid) in uids.iter().enumerate() {
-        add(&mut bytes, i == 0, uid.as_slice())?;
-    }
-    Ok(Octets::of(bytes))
-}
-
 /// How many bytes of a UID list with a backslash at its end have room in a data set.
 fn room(syntax: Syntax) -> usize
     ensures { result ≡ room_in syntax }
@@ -116,7 +93,7 @@ fn uid_list_of(alloc: Global, syntax: Syntax, uids: &[Octets]) -> Result<Octets,
     ensures { IfOk result (λ value. value ≡ uid_list (fitting (room_in syntax) uids.now)) }
 {
     let count = fitted(uids, room(syntax));
-    let text = joined(alloc, &uids[..count])?;
+    let text = joined(alloc, b'\\', &uids[..count])?;
     padded_of(alloc, *b"UI", text.as_slice())
 }
 

@@ -131,15 +131,15 @@ pub(crate) fn serve_find(
 }
 
 /// The data set of a row, in a transfer syntax.
-pub(crate) fn row_text(alloc: Global, syntax: Syntax, row: &Answer) -> Result<Bytes, AllocError>
-    ensures { IfOk result (λ text. text ≡ row_text_of syntax row.now) }
+pub(crate) fn row_text(alloc: Global, syntax: Syntax, row: Answer) -> Result<Bytes, AllocError>
+    ensures { IfOk result (λ text. text ≡ row_text_of syntax row) }
 {
     match syntax {
         Syntax::Implicit => {
-            let set = row.set().to_implicit(alloc)?;
+            let set = row.to_set(alloc)?.to_implicit(alloc)?;
             Ok(Bytes::from_vec(write(alloc, &set)?)?)
         }
-        Syntax::Explicit => Ok(Bytes::from_vec(write(alloc, row.set())?)?),
+        Syntax::Explicit => Ok(Bytes::from_vec(row.into_text().into_vec())?),
     }
 }
 

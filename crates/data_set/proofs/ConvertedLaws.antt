@@ -7,7 +7,8 @@ use Rattle.data_set.specs.declared.fault.SetFault.TheVariants.{Order, Group, Bad
 use Rattle.data_set.specs.declared.syntax.Syntax.{Syntax}
 use Rattle.data_set.specs.declared.syntax.Syntax.TheVariants.{Implicit, Explicit}
 use Rattle.data_set.specs.Tree.{Rows, Tree, Trees, leaf, no_rows, no_trees, node, row, tag_of, tree, trees_of}
-use Rattle.data_set.specs.Tags.{is_above, is_group_length, is_item_tag, is_listed, is_reserved_group}
+use Rattle.dictionary.specs.Tags.{is_above}
+use Rattle.data_set.specs.Tags.{is_group_length, is_item_tag, is_listed, is_reserved_group}
 use Rattle.data_set.specs.Vr.{has_bad_vr, inner_syntax, is_capital, is_undefined, undefined_length}
 use Rattle.data_set.specs.Header.{offence}
 use Rattle.data_set.specs.Texts.{deepest}
@@ -156,7 +157,8 @@ mutual
   implicit_trees (tree t ts) n s p q later are =
       either (is_group_length (tag_of t)) (converted_trees Implicit ts)
       (tree (converted_tree Implicit t) (converted_trees Implicit ts)) n q
-      (implicit_trees ts n s (Some (tag_of t)) q (skip q (tag_of t) (later (tag_of t) (tag_above s p t n are.0))) are.1) (
+      (implicit_trees ts n s (Some (tag_of t)) q (skip q (tag_of t) (later (tag_of t) (tag_above s p t n are.0)))
+      are.1) (
         implicit_tree t n s p q (later (tag_of t) (tag_above s p t n are.0)) are.0,
         implicit_trees ts n
             s (Some (tag_of t)) (Some (tag_of (converted_tree Implicit t)))

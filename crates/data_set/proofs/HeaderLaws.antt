@@ -17,7 +17,8 @@ use Rattle.octets.specs.Bytes.{IsBytes}
 use Rattle.octets.specs.Gives.{Gives, ◌>>=◌}
 use Rattle.octets.proofs.ByteLaws.{IsBytes-two, IsBytes-four, bind_ok, guard_ok, ok_is}
 use Rattle.data_set.specs.Fault.{is_memory}
-use Rattle.data_set.specs.Tags.{item, is_above, is_item_tag, is_reserved_group, tag_from, tag_text}
+use Rattle.dictionary.specs.Tags.{is_above, tag_from, tag_text}
+use Rattle.data_set.specs.Tags.{item, is_item_tag, is_reserved_group}
 use Rattle.data_set.specs.Vr.{has_bad_vr, inner_syntax, is_capital, is_short, is_undefined}
 use Rattle.data_set.specs.Header.{checked, explicit_header, front_at, front_from, has_long_size, header_at}
 use Rattle.data_set.specs.Header.{implicit_header, is_place, item_at, long_size, offence, short_size}

@@ -4,7 +4,8 @@ use Rattle.std.proofs.Common.{sym, ap, ◌∙◌, arith}
 use Rattle.data_set.specs.declared.syntax.Syntax.{Syntax}
 use Rattle.data_set.specs.declared.header.Header.{Header}
 use Rattle.data_set.specs.declared.fault.SetFault.TheVariants.{Order, Group, BadVr, Undefined}
-use Rattle.data_set.specs.Tags.{is_above, is_item_tag, is_reserved_group}
+use Rattle.dictionary.specs.Tags.{is_above}
+use Rattle.data_set.specs.Tags.{is_item_tag, is_reserved_group}
 use Rattle.data_set.specs.Vr.{has_bad_vr, inner_syntax, is_undefined}
 use Rattle.data_set.specs.Header.{is_place, offence}
 

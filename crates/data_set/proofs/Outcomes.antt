@@ -13,7 +13,8 @@ use Rattle.data_set.specs.declared.header.Front.{Front}
 use Rattle.data_set.specs.declared.header.Closing.{Closing}
 use Rattle.data_set.specs.declared.header.Closing.TheVariants.{Filled, End}
 use Rattle.data_set.specs.Tree.{Tree, leaf, node, rows_of}
-use Rattle.data_set.specs.Tags.{item, item_end, sequence_end, tag_text}
+use Rattle.dictionary.specs.Tags.{tag_text}
+use Rattle.data_set.specs.Tags.{item, item_end, sequence_end}
 use Rattle.data_set.specs.Vr.{undefined_length}
 use Rattle.data_set.specs.Header.{behind_end, eight_at, end_at, front_at, item_at}
 use Rattle.data_set.specs.Spelling.{Begins, BeginsItem}

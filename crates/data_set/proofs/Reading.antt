@@ -12,7 +12,8 @@ use Rattle.data_set.specs.declared.header.Closing.{Closing}
 use Rattle.data_set.specs.declared.header.Closing.TheVariants.{Filled, End}
 use Rattle.octets.specs.Gives.{◌>>=◌}
 use Rattle.data_set.specs.Tree.{Tree, leaf, node, rows_of}
-use Rattle.data_set.specs.Tags.{tag_text, item, item_end, sequence_end}
+use Rattle.dictionary.specs.Tags.{tag_text}
+use Rattle.data_set.specs.Tags.{item, item_end, sequence_end}
 use Rattle.data_set.specs.Vr.{undefined_length}
 use Rattle.data_set.specs.Header.{front_at, item_at, eight_at, behind_end, end_at}
 use Rattle.data_set.specs.Spelling.{Begins, BeginsItem}

@@ -12,7 +12,8 @@ use Rattle.dictionary.specs.Elements.{vr_in_table}
 use Rattle.data_set.specs.declared.syntax.Syntax.{Syntax}
 use Rattle.data_set.specs.declared.syntax.Syntax.TheVariants.{Implicit, Explicit}
 use Rattle.data_set.specs.Tree.{Tree, Trees, leaf, tree, tag_of, trees_of, list_trees}
-use Rattle.data_set.specs.Tags.{is_above, is_group_length, is_item_tag, is_listed, is_reserved_group}
+use Rattle.dictionary.specs.Tags.{is_above}
+use Rattle.data_set.specs.Tags.{is_group_length, is_item_tag, is_listed, is_reserved_group}
 use Rattle.data_set.specs.Vr.{is_capital, is_name, is_short, undefined_length}
 use Rattle.data_set.specs.Header.{offence}
 use Rattle.data_set.specs.Texts.{deepest}

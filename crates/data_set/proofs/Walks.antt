@@ -6,7 +6,8 @@ use Rattle.std.proofs.lemmas.List.{drop_more, drop-map, map_push}
 use Rattle.data_set.specs.declared.syntax.Syntax.{Syntax}
 use Rattle.data_set.specs.Tree.{Tree, count, count_rows, count_trees, list_rows, rows_of, trees_of}
 use Rattle.data_set.specs.Converted.{converted, converted_rows}
-use Rattle.data_set.specs.Tags.{tag_text, item, item_end}
+use Rattle.dictionary.specs.Tags.{tag_text}
+use Rattle.data_set.specs.Tags.{item, item_end}
 use Rattle.data_set.specs.Vr.{undefined_length}
 use Rattle.data_set.specs.Written.{end_text, text_tree, text_rows, text_trees}
 use Rattle.data_set.specs.Lengths.{FitsTree, FitsRows, FitsTrees}

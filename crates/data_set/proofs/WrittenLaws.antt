@@ -12,7 +12,8 @@ use Rattle.data_set.specs.declared.header.Closing.{Closing}
 use Rattle.data_set.specs.declared.header.Closing.TheVariants.{Filled, End}
 use Rattle.data_set.specs.Tree.{Rows, Tree, Trees, leaf, list_rows, list_trees, no_rows, no_trees, node, row, tag_of}
 use Rattle.data_set.specs.Tree.{tree, trees_of}
-use Rattle.data_set.specs.Tags.{item, is_item_tag, item_end, sequence_end, tag_text}
+use Rattle.dictionary.specs.Tags.{tag_text}
+use Rattle.data_set.specs.Tags.{item, is_item_tag, item_end, sequence_end}
 use Rattle.data_set.specs.Vr.{is_short, undefined_length}
 use Rattle.data_set.specs.Header.{eight_at, end_at, is_place}
 use Rattle.data_set.specs.Spelling.{Begins, BeginsItem, FitsHead, IsHead}

@@ -12,7 +12,8 @@ use Rattle.data_set.specs.declared.header.Header.{Header}
 use Rattle.data_set.specs.declared.header.Front.{Front}
 use Rattle.data_set.specs.declared.header.Closing.{Closing}
 use Rattle.data_set.specs.declared.header.Closing.TheVariants.{Filled, End}
-use Rattle.data_set.specs.Tags.{tag_from, item, is_item_tag, is_reserved_group, is_above}
+use Rattle.dictionary.specs.Tags.{tag_from, is_above}
+use Rattle.data_set.specs.Tags.{item, is_item_tag, is_reserved_group}
 use Rattle.data_set.specs.Vr.{undefined_length, is_capital, is_short, has_bad_vr, inner_syntax, is_undefined}
 
 -- ---- the bytes of a header

@@ -4,7 +4,8 @@ use Rattle.std.specs.Int.{w16, w32, to_le_bytes}
 use Rattle.data_set.specs.declared.syntax.Syntax.{Syntax}
 use Rattle.data_set.specs.declared.syntax.Syntax.TheVariants.{Implicit, Explicit}
 use Rattle.data_set.specs.declared.header.Front.{Front}
-use Rattle.data_set.specs.Tags.{tag_text, item}
+use Rattle.dictionary.specs.Tags.{tag_text}
+use Rattle.data_set.specs.Tags.{item}
 use Rattle.data_set.specs.Vr.{is_short, inner_syntax}
 use Rattle.data_set.specs.Header.{offence, is_place}
 

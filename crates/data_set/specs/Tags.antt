@@ -1,20 +1,10 @@
--- Tags: a group and an element, of 16 bits each (PS3.5, 7.1.1), as one number of 32 bits.
-use Rattle.std.specs.Prelude.{ℕ, ◌+◌, ◌*◌, ◌/◌, ◌%◌, List, [], ◌∷◌, ◌++◌, Option, Some, None, Bool, true, nat_lt, ◌==◌}
-use Rattle.std.specs.Prelude.{◌||◌}
-use Rattle.std.specs.Int.{w16, from_le_bytes, to_le_bytes}
+-- Tags of data sets (PS3.5, 7.1.1).
+use Rattle.std.specs.Prelude.{ℕ, ◌/◌, ◌%◌, Bool, ◌==◌, ◌||◌}
 use Rattle.dictionary.specs.declared.elements.TheConstants.{CONCEPT_NAME_CODE_SEQUENCE}
 use Rattle.dictionary.specs.declared.elements.TheConstants.{CURRENT_REQUESTED_PROCEDURE_EVIDENCE_SEQUENCE, ITEM}
 use Rattle.dictionary.specs.declared.elements.TheConstants.{ITEM_DELIMITATION_ITEM, PIXEL_DATA}
 use Rattle.dictionary.specs.declared.elements.TheConstants.{REFERENCED_SERIES_SEQUENCE, REFERENCED_SOP_SEQUENCE}
 use Rattle.dictionary.specs.declared.elements.TheConstants.{SEQUENCE_DELIMITATION_ITEM}
-
--- the tag in four bytes: group and element, each with the low byte first
-abbrev pub tag_from : ℕ → ℕ → ℕ → ℕ → ℕ
-tag_from g0 g1 e0 e1 = from_le_bytes w16 (g0 ∷ g1 ∷ []) * 65536 + from_le_bytes w16 (e0 ∷ e1 ∷ [])
-
--- the four bytes of a tag
-abbrev pub tag_text : ℕ → List ℕ
-tag_text tag = to_le_bytes w16 (tag / 65536) ++ to_le_bytes w16 (tag % 65536)
 
 abbrev pub group_of : ℕ → ℕ
 group_of tag = tag / 65536
@@ -51,8 +41,3 @@ is_pixel_data tag = tag == PIXEL_DATA
 -- (gggg,0000) Group Length
 abbrev pub is_group_length : ℕ → Bool
 is_group_length tag = tag % 65536 == 0
-
--- tags ascend: behind the one before
-abbrev pub is_above : Option ℕ → ℕ → Bool
-is_above None tag = true
-is_above (Some previous) tag = nat_lt previous tag

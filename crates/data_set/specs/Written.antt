@@ -4,7 +4,8 @@ use Rattle.std.specs.Prelude.{if◌then◌else◌}
 use Rattle.std.specs.Int.{w16, w32, to_le_bytes}
 use Rattle.data_set.specs.declared.syntax.Syntax.{Syntax}
 use Rattle.data_set.specs.Tree.{Tree, Rows, Trees, leaf, node, no_rows, row, no_trees, tree, tag_of, trees_of}
-use Rattle.data_set.specs.Tags.{tag_text, item, item_end, sequence_end}
+use Rattle.dictionary.specs.Tags.{tag_text}
+use Rattle.data_set.specs.Tags.{item, item_end, sequence_end}
 use Rattle.data_set.specs.Vr.{undefined_length, is_short, inner_syntax}
 use Rattle.data_set.specs.Header.{offence}
 use Rattle.data_set.specs.Spelling.{FitsHead, SuitsSyntax}

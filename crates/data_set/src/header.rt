@@ -8,12 +8,12 @@ ghost use Rattle.data_set.specs.Seen.{GivesAt, bytes_seen};
 
 use crate::fault::SetFault;
 use crate::syntax::Syntax;
-use crate::tags::{has_reserved_group, is_after, is_item_or_end, tag_of};
+use crate::tags::{has_reserved_group, is_item_or_end};
 use crate::vr::{
     UNDEFINED_LENGTH, has_no_length, has_short_length, has_wrong_vr, is_capital_letter,
     syntax_inside,
 };
-use dictionary::ITEM;
+use dictionary::{ITEM, is_after, tag_of};
 
 /// What stands before a value.
 #[derive(Clone, Copy, Debug)]

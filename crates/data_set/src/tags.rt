@@ -1,21 +1,12 @@
-//! Tags: a group and an element, of 16 bits each (PS3.5, section 7.1.1), as one number.
+//! Tags of data sets (PS3.5, section 7.1.1).
 
 ghost use Rattle.std.specs.Prelude.{◌≡◌};
-ghost use Rattle.data_set.specs.Tags.{tag_from, is_item_tag, is_reserved_group, is_listed, is_group_length, is_above};
+ghost use Rattle.data_set.specs.Tags.{is_item_tag, is_reserved_group, is_listed, is_group_length};
 
 use dictionary::{
     CONCEPT_NAME_CODE_SEQUENCE, CURRENT_REQUESTED_PROCEDURE_EVIDENCE_SEQUENCE,
     REFERENCED_SERIES_SEQUENCE, REFERENCED_SOP_SEQUENCE,
 };
-
-/// The tag that four bytes spell: group and element, each with the low byte first.
-pub fn tag_of(g0: u8, g1: u8, e0: u8, e1: u8) -> u32
-    ensures { result ≡ tag_from g0 g1 e0 e1 }
-{
-    let group = u16::from_le_bytes([g0, g1]);
-    let element = u16::from_le_bytes([e0, e1]);
-    u32::from(group) * 65536 + u32::from(element)
-}
 
 /// Whether a tag is that of an item or of an end, whose group is FFFE.
 pub fn is_item_or_end(tag: u32) -> bool
@@ -52,14 +43,4 @@ pub fn names_group_length(tag: u32) -> bool
     ensures { result ≡ is_group_length tag }
 {
     tag % 65536 == 0
-}
-
-/// Whether a tag may come behind another.
-pub fn is_after(previous: Option<u32>, tag: u32) -> bool
-    ensures { result ≡ is_above previous tag }
-{
-    match previous {
-        None => true,
-        Some(last) => last < tag,
-    }
 }

@@ -5,7 +5,7 @@
 
 ghost use Rattle.std.specs.Prelude.{◌≡◌, ◌++◌, ◌∷◌, [], OnOk, IfOk, Some};
 ghost use Rattle.data_set.specs.Tree.{rows_of, trees_of};
-ghost use Rattle.data_set.specs.Tags.{tag_text};
+ghost use Rattle.dictionary.specs.Tags.{tag_text};
 ghost use Rattle.data_set.specs.Spelling.{FitsHead};
 ghost use Rattle.data_set.specs.Texts.{Spells};
 ghost use Rattle.data_set.specs.Written.{head_of, end_text, text_of, text_tree, text_rows, text_trees};
@@ -15,19 +15,8 @@ ghost use Rattle.data_set.specs.Lengths.{FitsTree, FitsRows, FitsTrees};
 use crate::element::{Content, Element};
 use crate::set::DataSet;
 use crate::vr::{UNDEFINED_LENGTH, has_short_length};
-use dictionary::{ITEM, ITEM_DELIMITATION_ITEM, SEQUENCE_DELIMITATION_ITEM};
+use dictionary::{ITEM, ITEM_DELIMITATION_ITEM, SEQUENCE_DELIMITATION_ITEM, put_tag};
 use std::alloc::{AllocError, Global};
-
-/// Puts a tag at the end: group and element, each with the low byte first.
-fn put_tag(out: &mut Vec<u8>, tag: u32) -> Result<(), AllocError>
-    ensures { OnOk result (out.new.items ≡ out.old.items ++ tag_text tag) }
-{
-    let group = (tag / 65536) as u16;
-    let element = (tag % 65536) as u16;
-    out.extend_from_slice(&group.to_le_bytes())?;
-    out.extend_from_slice(&element.to_le_bytes())?;
-    Ok(())
-}
 
 /// Puts a value representation and a length at the end (PS3.5, section 7.1.2).
 fn put_pair(out: &mut Vec<u8>, a: u8, b: u8, size: u32) -> Result<(), AllocError>

@@ -2,5 +2,6 @@ pub mod Agree
 pub mod Elements
 pub mod Commands
 pub mod Statuses
+pub mod Tags
 pub mod Uids
 pub mod Titles

@@ -1,13 +1,15 @@
 //! The numbers of the DICOM standard, each in one place and under the standard's name.
 //!
 //! Code and definitions cite them from here. The standard's tables stand in `specs/`, and a law
-//! says that the constants are theirs.
+//! says that the constants are theirs. How a tag is spelled stands here too, since data sets and
+//! command sets spell it alike.
 #![tactic(auto)]
 
 mod commands;
 mod elements;
 mod laws;
 mod statuses;
+mod tags;
 mod titles;
 mod uids;
 
@@ -39,6 +41,7 @@ pub use statuses::{
     STATUS_SOP_CLASS_NOT_SUPPORTED, STATUS_SUBOPERATIONS_WITH_FAILURES, STATUS_SUCCESS,
     STATUS_UNABLE_TO_PERFORM_SUBOPERATIONS, STATUS_UNRECOGNIZED_OPERATION,
 };
+pub use tags::{is_after, put_tag, tag_of};
 pub use titles::{
     CODING_SCHEME_DCM, DATA_RETENTION_POLICY_EXPIRED, INCORRECT_MODALITY_WORKLIST_ENTRY,
     REJECTED_FOR_PATIENT_SAFETY_REASONS, REJECTED_FOR_QUALITY_REASONS,

@@ -1,8 +1,8 @@
 -- However the texts were cut, the answers are the same.
-use Rattle.std.proofs.Common.{◌≡◌, ◌≢◌, ℕ, ◌+◌, ◌<◌, Bool, true, false, not, cond, ltb, List, [], ◌∷◌, ◌++◌, length}
+use Rattle.std.proofs.Common.{◌≡◌, ◌≢◌, ℕ, Bool, true, false, not, cond, ltb, List, [], ◌∷◌, ◌++◌, length}
 use Rattle.std.proofs.Common.{Option, Some, None, Result, Ok, Err, refl, sym, ap, subst, ◌∙◌, append_assoc}
 use Rattle.std.proofs.Common.{length-append, arith}
-use Rattle.std.specs.Prelude.{OnErr, MatchBool, ◌==◌, ◌&&◌}
+use Rattle.std.specs.Prelude.{MatchBool, ◌==◌, ◌&&◌}
 use Rattle.pdu.specs.declared.pdv.Pdv.{Pdv}
 use Rattle.pdu.specs.declared.context.Context.{Context}
 use Rattle.dimse.specs.declared.command.Command.{Command}
@@ -13,7 +13,7 @@ use Rattle.dimse.specs.declared.fault.DimseFault.TheVariants.{Failed as HasFaile
 use Rattle.dimse.specs.declared.assembler.Stage.{Stage}
 use Rattle.dimse.specs.declared.assembler.Stage.TheVariants.{Between, InCommand, InDataSet, Failed}
 use Rattle.dimse.specs.Command.{Spells}
-use Rattle.dimse.specs.Assembly.{Assembly, accepts, has_place, is_over, fault_of, Closes, Advances, EndsNoCommand}
+use Rattle.dimse.specs.Assembly.{Assembly, fault_of, Closes, Advances, EndsNoCommand}
 use Rattle.dimse.specs.Assembly.{IsCause, Feeds}
 use Rattle.dimse.specs.Messages.{Run, fresh, messages, first_fault, HadMemory}
 use Rattle.dimse.specs.Texts.{same_flag, go_together, as_one, before_texts, texts_in}

@@ -13,7 +13,8 @@ use Rattle.octets.proofs.ByteLaws.{IsBytes-two, IsBytes-four, ok_is}
 use Rattle.dimse.specs.declared.fault.DimseFault.{DimseFault}
 use Rattle.dimse.specs.declared.fault.DimseFault.TheVariants.{BadCommand}
 use Rattle.dimse.specs.Fault.{Gives}
-use Rattle.dimse.specs.Elements.{Element, tag_text, element_text, is_above, IsElement, tag_from, element_at}
+use Rattle.dictionary.specs.Tags.{tag_text, is_above, tag_from}
+use Rattle.dimse.specs.Elements.{Element, element_text, IsElement, element_at}
 
 -- the four bytes of a tag are spelled by it
 tag_takes : (g0 g1 e0 e1 : ℕ) → g0 < 256 → g1 < 256 → e0 < 256 → e1 < 256

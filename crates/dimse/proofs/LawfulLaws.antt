@@ -1,38 +1,24 @@
 -- What a text spells is lawful, and its UIDs are no longer than the text.
-use Rattle.std.proofs.Common.{◌≡◌, ℕ, zero, suc, ◌+◌, ◌-◌, ◌<◌, ◌≤◌, Bool, true, false, cond, List, [], ◌∷◌, ◌++◌}
-use Rattle.std.proofs.Common.{length, take, reverse, get_or, Option, Some, None, Result, Ok, Err, refl, sym, ap, subst}
+use Rattle.std.proofs.Common.{◌≡◌, ℕ, ◌+◌, ◌≤◌, Bool, true, false, cond, List, [], ◌∷◌, ◌++◌}
+use Rattle.std.proofs.Common.{length, Option, Some, None, Result, Ok, Err, refl, ap, subst}
 use Rattle.std.proofs.Common.{◌∙◌, arith}
 use Rattle.std.specs.Prelude.{IfOk, IfSome, find, ◌==◌, ◌&&◌}
 use Rattle.std.specs.Option.{option_map}
-use Rattle.std.specs.List.{list_all, suffix_len}
+use Rattle.std.specs.List.{list_all}
 use Rattle.std.specs.Int.{w32, to_le_bytes}
-use Rattle.std.proofs.lemmas.List.{length-append, length-reverse, length-take, get_or-reverse}
+use Rattle.std.proofs.lemmas.List.{length-append}
 use Rattle.std.proofs.lemmas.List.Concat.{flat_map-cons}
-use Rattle.std.proofs.lemmas.List.Sums.{suffix_len-le-length, suffix_len-take_no, prefix_len_stops}
 use Rattle.dimse.specs.declared.command.Command.{Command}
 use Rattle.dimse.specs.declared.command.TheConstants.{LONGEST_COMMAND}
 use Rattle.dictionary.specs.declared.commands.TheConstants.{AFFECTED_SOP_CLASS_UID, AFFECTED_SOP_INSTANCE_UID}
 use Rattle.dimse.specs.declared.fault.DimseFault.{DimseFault}
-use Rattle.octets.specs.Padding.{is_padding, without_padding}
-use Rattle.dimse.specs.Uid.{IsUid, is_graphic}
-use Rattle.dimse.specs.Elements.{Element, element_text, text_of, tag_text, value_of}
+use Rattle.octets.specs.Padding.{without_padding}
+use Rattle.octets.proofs.PaddingLaws.{bare, bare_is_no_longer}
+use Rattle.dimse.specs.Uid.{IsUid}
+use Rattle.octets.specs.Graphic.{is_graphic}
+use Rattle.dictionary.specs.Tags.{tag_text}
+use Rattle.dimse.specs.Elements.{Element, element_text, text_of, value_of}
 use Rattle.dimse.specs.Command.{is_lawful, is_number_tag, is_uid_tag, Says, IsCommand, HasRoom}
-
--- no padding is left
-bare_at : (v : List ℕ) (k n : ℕ) → suffix_len is_padding v ≡ k → length v ≡ n + k → suffix_len is_padding (take n v) ≡ 0
-bare_at v k zero is len = refl
-bare_at v k (suc n) is len =
-    let lt : suffix_len is_padding v < length (reverse v) = omega (arith, length-reverse v) in
-    let stops : is_padding (get_or (reverse v) (suffix_len is_padding v) 0) ≡ false = prefix_len_stops is_padding
-    (reverse v) 0 lt in
-    let place : length v - 1 - suffix_len is_padding v ≡ suc n - 1 = omega arith in
-    let at : get_or (reverse v) (suffix_len is_padding v) 0 ≡ get_or v (suc n - 1) 0 = get_or-reverse
-    v (suffix_len is_padding v) 0 (omega arith) ∙ ap (λ (i : ℕ). get_or v i 0) place in
-    suffix_len-take_no is_padding v (suc n) 0 (omega arith) (omega arith) (ap is_padding (sym at) ∙ stops)
-
-bare : (v : List ℕ) → suffix_len is_padding (without_padding v) ≡ 0
-bare v = bare_at v (suffix_len is_padding v) (length v - suffix_len is_padding v)
-    refl (omega (arith, suffix_len-le-length is_padding v))
 
 -- the element with a value
 record Found (es : List Element) (tag : ℕ) (v : List ℕ) : Type 0 where
@@ -116,7 +102,7 @@ uid_at es tag o (Some v) lawful p q is uid =
     let f = found es tag v lawful is in
     subst (λ (x : Option (List ℕ)). IfSome x (ShortIn es)) uid (
       record { graphic = graphic f.element tag v p q f.has_tag f.has_value f.is_lawful_one; bare = bare v },
-      omega (arith, f.within, length-take (length v - suffix_len is_padding v) v),
+      omega (arith, f.within, bare_is_no_longer v),
     )
 
 first_of : (es : List Element) (o : Option (List ℕ)) → IfSome o (ShortIn es) → IfSome o IsUid

@@ -14,7 +14,7 @@ use Rattle.dimse.specs.declared.fault.DimseFault.TheVariants.{BadContext, Interl
 use Rattle.dimse.specs.declared.assembler.Stage.{Stage}
 use Rattle.dimse.specs.declared.assembler.Stage.TheVariants.{Between, InCommand, InDataSet, Failed}
 use Rattle.dimse.specs.declared.command.TheConstants.{LONGEST_COMMAND}
-use Rattle.dimse.specs.declared.assembler.TheConstants.{LONGEST_DATA_SET}
+use Rattle.octets.specs.declared.limits.TheConstants.{LONGEST_DATA_SET}
 use Rattle.dimse.specs.Command.{announces}
 use Rattle.dimse.specs.Assembly.{Assembly, accepts, has_place, text_so_far, limit_of, is_over, fault_of, Closes}
 use Rattle.dimse.specs.Assembly.{Advances, Feeds}

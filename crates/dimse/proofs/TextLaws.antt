@@ -9,7 +9,8 @@ use Rattle.octets.proofs.ByteLaws.{ok_is}
 use Rattle.dimse.specs.declared.fault.DimseFault.{DimseFault}
 use Rattle.dimse.specs.declared.fault.DimseFault.TheVariants.{BadContext, Interleaved, BadCommand, TooLong, Memory}
 use Rattle.dimse.specs.declared.fault.DimseFault.TheVariants.{Failed}
-use Rattle.dimse.specs.Elements.{Element, tag_text, element_text, text_of, is_above, IsElement, AreElements, tag_from}
+use Rattle.dictionary.specs.Tags.{tag_text, is_above, tag_from}
+use Rattle.dimse.specs.Elements.{Element, element_text, text_of, IsElement, AreElements}
 use Rattle.dimse.specs.Elements.{element_at}
 use Rattle.octets.specs.Gives.{Told}
 use Rattle.dimse.specs.Fault.{is_memory}

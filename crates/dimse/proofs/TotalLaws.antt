@@ -1,8 +1,8 @@
 -- Every text comes to a command or to none, and all fragments come to messages and perhaps a fault.
-use Rattle.std.proofs.Common.{◌≡◌, ◌≢◌, ℕ, ◌+◌, ◌<◌, ◌≤◌, zero, suc, Bool, true, false, cond, List, [], ◌∷◌, ◌++◌}
+use Rattle.std.proofs.Common.{◌≡◌, ◌≢◌, ℕ, ◌<◌, zero, suc, Bool, true, false, List, [], ◌∷◌, ◌++◌}
 use Rattle.std.proofs.Common.{length, drop, Option, Some, None, Result, Ok, Err, refl, sym, ap, subst, ◌∙◌, ◌⊎◌, inl}
-use Rattle.std.proofs.Common.{inr, arith, get_or}
-use Rattle.std.specs.Prelude.{IfOk, IfErr, OnErr, OnOk, MatchBool}
+use Rattle.std.proofs.Common.{inr, arith}
+use Rattle.std.specs.Prelude.{MatchBool}
 use Rattle.std.specs.List.{list_all}
 use Rattle.std.proofs.lemmas.List.{drop_at}
 use Rattle.std.proofs.lemmas.List.Concat.{flat_map-cons}
@@ -13,8 +13,7 @@ use Rattle.pdu.specs.declared.context.Context.{Context}
 use Rattle.dimse.specs.declared.command.Command.{Command}
 use Rattle.dimse.specs.declared.message.Message.{Message}
 use Rattle.dimse.specs.declared.fault.DimseFault.{DimseFault}
-use Rattle.dimse.specs.declared.fault.DimseFault.TheVariants.{BadContext, Interleaved, BadCommand, TooLong, Memory}
-use Rattle.dimse.specs.declared.fault.DimseFault.TheVariants.{Failed as HasFailed}
+use Rattle.dimse.specs.declared.fault.DimseFault.TheVariants.{BadCommand, Memory}
 use Rattle.dimse.specs.declared.assembler.Stage.{Stage}
 use Rattle.dimse.specs.declared.assembler.Stage.TheVariants.{Between, InCommand, InDataSet, Failed}
 use Rattle.dictionary.specs.declared.commands.TheConstants.{AFFECTED_SOP_CLASS_UID, COMMAND_FIELD, MESSAGE_ID}
@@ -24,17 +23,17 @@ use Rattle.dictionary.specs.declared.commands.TheConstants.{NUMBER_OF_REMAINING_
 use Rattle.dictionary.specs.declared.commands.TheConstants.{NUMBER_OF_COMPLETED_SUBOPERATIONS}
 use Rattle.dictionary.specs.declared.commands.TheConstants.{NUMBER_OF_FAILED_SUBOPERATIONS}
 use Rattle.dictionary.specs.declared.commands.TheConstants.{NUMBER_OF_WARNING_SUBOPERATIONS}
-use Rattle.dimse.specs.Elements.{Element, element_text, text_of, IsElement, AreElements, element_at}
+use Rattle.dimse.specs.Elements.{Element, element_text, text_of, AreElements, element_at}
 use Rattle.dimse.specs.Command.{is_lawful, number_of, uid_of, is_complete, Says, SpellsElements, Spells, announces}
-use Rattle.dimse.specs.Assembly.{Assembly, text_so_far, fault_of, Closes, AdvancesCommand, Advances, EndsNoCommand}
-use Rattle.dimse.specs.Assembly.{IsCause, Feeds}
+use Rattle.dimse.specs.Assembly.{Assembly, text_so_far, fault_of, AdvancesCommand, Advances, EndsNoCommand}
+use Rattle.dimse.specs.Assembly.{Feeds}
 use Rattle.dimse.specs.Messages.{Run, fresh, messages, first_fault, Ends, HadMemory}
 use Rattle.dimse.specs.Texts.{AreFragments}
 use Rattle.dimse.proofs.ElementLaws.{TakesElement, element_takes, element_again}
 use Rattle.dimse.proofs.TextLaws.{Front, takes_shorter, one_front, not_empty}
 use Rattle.dimse.proofs.CommandLaws.{said, same_command}
 use Rattle.dimse.proofs.StepLaws.{refusal, feeds_refused, not_failed, not_memory}
-use Rattle.dimse.proofs.RunLaws.{run_ends, failed_fault}
+use Rattle.dimse.proofs.RunLaws.{run_ends}
 use Rattle.dimse.proofs.CutLaws.{no_memory_told}
 
 -- ---- elements

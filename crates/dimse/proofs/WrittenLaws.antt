@@ -9,7 +9,7 @@ use Rattle.std.specs.Option.{option_map}
 use Rattle.std.specs.List.{list_all, prefix_len, suffix_len}
 use Rattle.std.specs.Int.{w16, w32, to_le_bytes}
 use Rattle.std.proofs.lemmas.Bool.{ltb-true}
-use Rattle.std.proofs.lemmas.List.{append-nil, reverse-append, take_at, take_all}
+use Rattle.std.proofs.lemmas.List.{append-nil, reverse-append, take_at}
 use Rattle.std.proofs.lemmas.List.Concat.{flat_map-cons, flat_map-append}
 use Rattle.std.proofs.lemmas.Nat.{from_le_bytes-to_le_bytes_2}
 use Rattle.dimse.specs.declared.command.Command.{Command}
@@ -22,8 +22,11 @@ use Rattle.dictionary.specs.declared.commands.TheConstants.{NUMBER_OF_COMPLETED_
 use Rattle.dictionary.specs.declared.commands.TheConstants.{NUMBER_OF_FAILED_SUBOPERATIONS}
 use Rattle.dictionary.specs.declared.commands.TheConstants.{NUMBER_OF_WARNING_SUBOPERATIONS}
 use Rattle.octets.specs.Padding.{is_padding, without_padding}
-use Rattle.dimse.specs.Uid.{IsUid, is_graphic, padded}
-use Rattle.dimse.specs.Elements.{Element, element_text, text_of, is_above, AreElements, value_of}
+use Rattle.dimse.specs.Uid.{IsUid, padded}
+use Rattle.octets.specs.Graphic.{is_graphic}
+use Rattle.octets.proofs.PaddingLaws.{bare_stays}
+use Rattle.dictionary.specs.Tags.{is_above}
+use Rattle.dimse.specs.Elements.{Element, element_text, text_of, AreElements, value_of}
 use Rattle.dimse.specs.Command.{is_lawful, is_number_tag, is_uid_tag, number_from, number_of, uid_of, Says, Spells}
 use Rattle.dimse.specs.Command.{number_field, uid_field, fields_of, field_elements, elements_of, fields_text}
 use Rattle.dimse.specs.Command.{group_length, command_text, FitsTwoBytes, IsCommand, HasRoom}
@@ -272,12 +275,9 @@ trimmed_zero uid bare =
     let len : length (uid ++ 0 ∷ []) - 1 ≡ length uid = omega (arith, length-append uid (0 ∷ [])) in
     rw (one, len) (take_at uid (0 ∷ []) (length uid) refl)
 
-trimmed_bare : (uid : List ℕ) → suffix_len is_padding uid ≡ 0 → without_padding uid ≡ uid
-trimmed_bare uid bare = rw bare (take_all (length uid - 0) uid (omega arith))
-
 padded_by : (uid : List ℕ) (b : Bool) → suffix_len is_padding uid ≡ 0
     → without_padding (if b then uid else uid ++ 0 ∷ []) ≡ uid
-padded_by uid true bare = trimmed_bare uid bare
+padded_by uid true bare = bare_stays uid bare
 padded_by uid false bare = trimmed_zero uid bare
 
 pub without_padding-padded : (uid : List ℕ) → IsUid uid → without_padding (padded uid) ≡ uid

@@ -17,7 +17,8 @@ use Rattle.dictionary.specs.declared.commands.TheConstants.{NUMBER_OF_WARNING_SU
 use Rattle.dimse.specs.CommandField.{is_response_code, names_class_code}
 use Rattle.dimse.specs.Elements.{Element, AreElements, text_of, element_text, value_of}
 use Rattle.octets.specs.Padding.{without_padding}
-use Rattle.dimse.specs.Uid.{IsUid, is_graphic, padded}
+use Rattle.dimse.specs.Uid.{IsUid, padded}
+use Rattle.octets.specs.Graphic.{is_graphic}
 
 -- ---- what elements say
 

@@ -1,9 +1,10 @@
 -- Elements of a command set, and the texts that spell them (PS3.7, 6.3.1; PS3.5, A.1).
-use Rattle.std.specs.Prelude.{◌≡◌, ℕ, ◌+◌, ◌*◌, ◌/◌, ◌%◌, ◌^◌, ◌<◌, Bool, true, List, [], ◌∷◌, ◌++◌, length, take, drop}
-use Rattle.std.specs.Prelude.{find, ◌==◌, nat_lt, Option, Some, None, Result, Ok, Err, if◌then◌else◌}
+use Rattle.std.specs.Prelude.{◌≡◌, ℕ, ◌^◌, ◌<◌, true, List, [], ◌∷◌, ◌++◌, length, take, drop, find, ◌==◌, nat_lt}
+use Rattle.std.specs.Prelude.{Option, Some, Result, Ok, Err, if◌then◌else◌}
 use Rattle.std.specs.List.{flat_map}
 use Rattle.std.specs.Option.{option_map}
-use Rattle.std.specs.Int.{w16, w32, to_le_bytes, from_le_bytes}
+use Rattle.std.specs.Int.{w32, to_le_bytes, from_le_bytes}
+use Rattle.dictionary.specs.Tags.{tag_from, tag_text, is_above}
 use Rattle.dimse.specs.declared.fault.DimseFault.{DimseFault}
 use Rattle.dimse.specs.declared.fault.DimseFault.TheVariants.{BadCommand}
 
@@ -12,21 +13,12 @@ pub record Element : Type 0 where
   pub tag : ℕ
   pub value : List ℕ
 
--- group and element, each with the low byte first
-abbrev pub tag_text : ℕ → List ℕ
-tag_text tag = to_le_bytes w16 (tag / 65536) ++ to_le_bytes w16 (tag % 65536)
-
 -- the tag, the length in four bytes, and the value
 abbrev pub element_text : Element → List ℕ
 element_text e = tag_text e.tag ++ (to_le_bytes w32 (length e.value) ++ e.value)
 
 abbrev pub text_of : List Element → List ℕ
 text_of es = flat_map element_text es
-
--- tags ascend, so no tag stands twice
-abbrev pub is_above : Option ℕ → ℕ → Bool
-is_above None tag = true
-is_above (Some previous) tag = nat_lt previous tag
 
 -- an element that may stand behind the tag previous
 pub record IsElement (previous : Option ℕ) (e : Element) : Type 0 where
@@ -44,9 +36,6 @@ abbrev pub value_of : List Element → ℕ → Option (List ℕ)
 value_of es tag = option_map (λ e. e.value) (find (λ e. e.tag == tag) es)
 
 -- ---- reading the element at the front
-
-abbrev pub tag_from : ℕ → ℕ → ℕ → ℕ → ℕ
-tag_from g0 g1 e0 e1 = from_le_bytes w16 (g0 ∷ g1 ∷ []) * 65536 + from_le_bytes w16 (e0 ∷ e1 ∷ [])
 
 -- the element at the front, and what comes behind it
 unfoldable pub element_at : Option ℕ → List ℕ → Result (Element × List ℕ) DimseFault

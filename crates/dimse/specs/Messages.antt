@@ -10,7 +10,7 @@ use Rattle.dimse.specs.declared.fault.DimseFault.TheVariants.{Memory}
 use Rattle.dimse.specs.declared.assembler.Stage.{Stage}
 use Rattle.dimse.specs.declared.assembler.Stage.TheVariants.{Between, InCommand, InDataSet, Failed}
 use Rattle.dimse.specs.declared.command.TheConstants.{LONGEST_COMMAND}
-use Rattle.dimse.specs.declared.assembler.TheConstants.{LONGEST_DATA_SET}
+use Rattle.octets.specs.declared.limits.TheConstants.{LONGEST_DATA_SET}
 use Rattle.dimse.specs.Command.{Spells, announces}
 use Rattle.dimse.specs.Assembly.{Assembly, accepts, IsCause, Feeds}
 

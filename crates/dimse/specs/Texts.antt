@@ -1,5 +1,5 @@
 -- The texts that fragments are cut from: the same, however they were cut (PS3.8, annex E).
-use Rattle.std.specs.Prelude.{◌≡◌, ℕ, Bool, true, false, not, ◌==◌, ◌&&◌, List, [], ◌∷◌, ◌++◌, if◌then◌else◌}
+use Rattle.std.specs.Prelude.{Bool, true, false, not, ◌==◌, ◌&&◌, List, [], ◌∷◌, ◌++◌, if◌then◌else◌}
 use Rattle.octets.specs.Bytes.{IsBytes}
 use Rattle.pdu.specs.declared.pdv.Pdv.{Pdv}
 

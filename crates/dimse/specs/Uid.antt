@@ -1,11 +1,8 @@
 -- UIDs as they stand in command sets (PS3.5, 9.1).
-use Rattle.std.specs.Prelude.{◌≡◌, ℕ, ◌%◌, Bool, true, List, [], ◌∷◌, ◌++◌, ◌==◌, ◌&&◌, nat_le, length, if◌then◌else◌}
+use Rattle.std.specs.Prelude.{◌≡◌, ℕ, ◌%◌, true, List, [], ◌∷◌, ◌++◌, ◌==◌, length, if◌then◌else◌}
 use Rattle.std.specs.List.{list_all, suffix_len}
+use Rattle.octets.specs.Graphic.{is_graphic}
 use Rattle.octets.specs.Padding.{is_padding}
-
--- a byte of 20 to 7E
-abbrev pub is_graphic : ℕ → Bool
-is_graphic b = nat_le 32 b && nat_le b 126
 
 -- bytes of 20 to 7E, the last of which pads nothing
 pub record IsUid (uid : List ℕ) : Type 0 where

@@ -12,14 +12,11 @@ use crate::message::Message;
 use crate::reader::read_command;
 use crate::whole::closed;
 use bytes::Bytes;
-use octets::Octets;
+use octets::{LONGEST_DATA_SET, Octets};
 use pdu::{Context, Contexts, Pdv};
 use std::alloc::Global;
 use std::marker::Model;
 use std::mem;
-
-/// The longest data set that is read, in bytes, a limit of this archive.
-pub const LONGEST_DATA_SET: usize = 67_108_864;
 
 /// What was put together since the last message.
 #[derive(Drop)]

@@ -3,11 +3,13 @@
 ghost use Rattle.std.specs.Prelude.{◌≡◌, ◌++◌, List, length, find, ◌==◌, IfOk, IfErr};
 ghost use Rattle.std.specs.Option.{option_map};
 ghost use Rattle.dimse.specs.Fault.{Gives};
-ghost use Rattle.dimse.specs.Elements.{Element as Parts, IsElement, AreElements, element_text, text_of, is_above, value_of, tag_from, element_at};
+ghost use Rattle.dictionary.specs.Tags.{is_above, tag_from};
+ghost use Rattle.dimse.specs.Elements.{Element as Parts, IsElement, AreElements, element_text, text_of, value_of, element_at};
 ghost use Rattle.dimse.specs.Command.{SpellsElements};
 ghost use Rattle.dimse.specs.Refusal.{RefusesElements};
 
 use crate::fault::DimseFault;
+use dictionary::{is_after, tag_of};
 use std::alloc::Global;
 use std::marker::Model;
 
@@ -40,15 +42,6 @@ impl<'a> Element<'a> {
     }
 }
 
-fn is_after(previous: Option<u32>, tag: u32) -> bool
-    ensures { result ≡ is_above previous tag }
-{
-    match previous {
-        None => true,
-        Some(last) => last < tag,
-    }
-}
-
 /// The element at the front, and what comes behind it.
 #[tactic(auto, unfolding(crate::specs::Elements::element_at))]
 fn element_of(previous: Option<u32>, text: &[u8]) -> Result<(Element<'_>, &[u8]), DimseFault>
@@ -57,9 +50,7 @@ fn element_of(previous: Option<u32>, text: &[u8]) -> Result<(Element<'_>, &[u8])
     let [g0, g1, e0, e1, l0, l1, l2, l3, rest @ ..] = text else {
         return Err(DimseFault::BadCommand);
     };
-    let group = u16::from_le_bytes([*g0, *g1]);
-    let element = u16::from_le_bytes([*e0, *e1]);
-    let tag = u32::from(group) * 65536 + u32::from(element);
+    let tag = tag_of(*g0, *g1, *e0, *e1);
     let size = u32::from_le_bytes([*l0, *l1, *l2, *l3]) as usize;
     if !is_after(previous, tag) || rest.len() < size {
         return Err(DimseFault::BadCommand);

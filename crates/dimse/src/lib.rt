@@ -17,11 +17,10 @@ mod numbers;
 mod reader;
 mod response;
 mod status;
-mod uid;
 mod whole;
 mod writer;
 
-pub use assembler::{Assembler, LONGEST_DATA_SET};
+pub use assembler::Assembler;
 pub use command::{Command, DATA_SET_FOLLOWS, LONGEST_COMMAND};
 pub use command_field::{CommandField, UnknownField};
 pub use dictionary::NO_DATA_SET;

@@ -3,11 +3,9 @@
 
 ghost use Rattle.std.specs.Prelude.{◌≡◌};
 ghost use Rattle.dimse.specs.declared.command.TheConstants.{LONGEST_COMMAND, DATA_SET_FOLLOWS};
-ghost use Rattle.dimse.specs.declared.assembler.TheConstants.{LONGEST_DATA_SET};
 
-/// How long a command set and a data set may be, in bytes, and how a data set is announced.
+/// How long a command set may be, in bytes, and how a data set is announced.
 pub fn limits_are_these()
     ensures command { LONGEST_COMMAND ≡ 16384 }
-    ensures data_set { LONGEST_DATA_SET ≡ 67108864 }
     ensures announced { DATA_SET_FOLLOWS ≡ 0x0000 }
 {}

@@ -12,14 +12,13 @@ ghost use Rattle.std.specs.Option.{option_map};
 use crate::command::{Command, LONGEST_COMMAND};
 use crate::element::{Element, elements_of};
 use crate::fault::DimseFault;
-use crate::uid::are_graphic;
 use dictionary::{
     AFFECTED_SOP_CLASS_UID, AFFECTED_SOP_INSTANCE_UID, COMMAND_DATA_SET_TYPE, COMMAND_FIELD,
     MESSAGE_ID, MESSAGE_ID_BEING_RESPONDED_TO, NUMBER_OF_COMPLETED_SUBOPERATIONS,
     NUMBER_OF_FAILED_SUBOPERATIONS, NUMBER_OF_REMAINING_SUBOPERATIONS,
     NUMBER_OF_WARNING_SUBOPERATIONS, PRIORITY, STATUS,
 };
-use octets::{Octets, without_padding};
+use octets::{Octets, are_graphic, without_padding};
 use std::alloc::{AllocError, Global};
 
 fn holds_number(tag: u32) -> bool

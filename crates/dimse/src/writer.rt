@@ -3,7 +3,8 @@
 ghost use Rattle.std.specs.Prelude.{◌≡◌, ◌+◌, ◌^◌, ◌<◌, ◌≤◌, ◌++◌, length, OnOk, IfOk, IfSome, Some};
 ghost use Rattle.std.specs.Int.{w32, to_le_bytes};
 ghost use Rattle.dimse.specs.Uid.{padded};
-ghost use Rattle.dimse.specs.Elements.{tag_text, text_of, Element};
+ghost use Rattle.dictionary.specs.Tags.{tag_text};
+ghost use Rattle.dimse.specs.Elements.{text_of, Element};
 ghost use Rattle.dimse.specs.Command.{field_elements, number_field, uid_field, fields_text, command_text, FitsTwoBytes, IsCommand, HasRoom, Spells};
 
 use crate::command::{Command, LONGEST_COMMAND};
@@ -11,7 +12,7 @@ use dictionary::{
     AFFECTED_SOP_CLASS_UID, AFFECTED_SOP_INSTANCE_UID, COMMAND_DATA_SET_TYPE, COMMAND_FIELD,
     COMMAND_GROUP_LENGTH, MESSAGE_ID, MESSAGE_ID_BEING_RESPONDED_TO,
     NUMBER_OF_COMPLETED_SUBOPERATIONS, NUMBER_OF_FAILED_SUBOPERATIONS,
-    NUMBER_OF_REMAINING_SUBOPERATIONS, NUMBER_OF_WARNING_SUBOPERATIONS, PRIORITY, STATUS,
+    NUMBER_OF_REMAINING_SUBOPERATIONS, NUMBER_OF_WARNING_SUBOPERATIONS, PRIORITY, STATUS, put_tag,
 };
 use octets::Octets;
 use std::alloc::{AllocError, Global};
@@ -21,10 +22,7 @@ fn put_header(out: &mut Vec<u8>, tag: u32, size: u32) -> Result<(), AllocError>
     ensures { OnOk result (out.new.items
         ≡ out.old.items ++ (tag_text tag ++ to_le_bytes w32 size)) }
 {
-    let group = (tag / 65536) as u16;
-    let element = (tag % 65536) as u16;
-    out.extend_from_slice(&group.to_le_bytes())?;
-    out.extend_from_slice(&element.to_le_bytes())?;
+    put_tag(out, tag)?;
     out.extend_from_slice(&size.to_le_bytes())?;
     Ok(())
 }

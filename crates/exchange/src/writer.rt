@@ -14,15 +14,13 @@ use crate::header::{BUCKETS, DIFFER, END, GIVE, HAVE, HEADER_LENGTH, HELLO, WANT
 use crate::reader::{BUCKET_COUNT, DIGEST_LENGTH, MOST_DIGESTS};
 use bytes::Bytes;
 use data_set::Syntax;
+use octets::LONGEST_DATA_SET;
 use operation::{Content, Digest, Op, encode};
 use std::alloc::{AllocError, Global};
 use std::marker::Model;
 
 /// How many bytes stand before a data set, at most, in the spelling of a content.
 const MOST_BEFORE: usize = 136;
-
-/// The most bytes of a data set.
-const LONGEST_DATA_SET: usize = 67_108_864;
 
 /// The most first bytes that a DIFFER can count.
 const MOST_PLACES: usize = 65_535;

@@ -34,8 +34,8 @@ use Rattle.exchange_run.specs.Tasks.{task_for}
 use Rattle.exchange_run.specs.Course.{news, Does, DoesAll, SetsOut, Talks, Idles, IsOfHolder, Why}
 use Rattle.exchange_run.specs.Hearing.{texts, is_io, Heard, Unheard, Fails}
 use Rattle.exchange_run.specs.Saying.{WroteFront, WhyUnsaid, AreSayable}
-use Rattle.exchange_run.specs.Run.{Ends, ends, NoneFailed, CountsFailures, Exchanged, BrokeOff}
-use Rattle.exchange_run.specs.Run.{Sofar, Turned}
+use Rattle.exchange_run.specs.Run.{Ends, ends, NoneFailed, CountsFailures, Exchanged, EndsEarly}
+use Rattle.exchange_run.specs.Run.{Progress, Turned}
 use Rattle.exchange_run.proofs.Frames.{frames_more, told_frames, first_frames}
 use Rattle.exchange_run.proofs.Holders.{idles_same}
 use Rattle.exchange_run.proofs.Outcomes.{outcome_of}
@@ -221,10 +221,10 @@ why_behind frames more Refused why = why
 
 module _ {H : Type 0} (holds : H → Map) (alone : H → Type 0) (role : Role) (from : Ends H) (h : H)
     (r0 r1 w : Option (List ℕ)) (rf wf : ℕ) (side : Side) (reads n : ℕ)
-    (so : Sofar holds alone role from (ends h r0 w rf wf) side reads n) where
+    (so : Progress holds alone role from (ends h r0 w rf wf) side reads n) where
   -- No frame was heard.
   pub unheard_breaks : (rf1 : ℕ) (fault : ExchangeFault) → Unheard r0 r1 reads fault
-      → MatchBool (is_io fault) (Rose rf rf1) (rf1 ≡ rf) → BrokeOff holds alone role from (ends h r1 w rf1 wf) fault
+      → MatchBool (is_io fault) (Rose rf rf1) (rf1 ≡ rf) → EndsEarly holds alone role from (ends h r1 w rf1 wf) fault
   unheard_breaks rf1 fault u failed = inr (record {
     heard = so.heard;
     told = so.told;
@@ -248,7 +248,7 @@ module _ {H : Type 0} (holds : H → Map) (alone : H → Type 0) (role : Role) (
     -- One was, and was refused.
     pub refused_breaks : (k : H) (fault : ExchangeFault) → Idles holds alone h k
         → Why (task_for side.awaited frame side.role) side fault
-        → BrokeOff holds alone role from (ends k r1 w rf1 wf) fault
+        → EndsEarly holds alone role from (ends k r1 w rf1 wf) fault
     refused_breaks k fault idle why =
         let q = quiet_why (task_for side.awaited frame side.role) side fault why in
         inr (record {
@@ -280,7 +280,7 @@ module _ {H : Type 0} (holds : H → Map) (alone : H → Type 0) (role : Role) (
 
       -- It was answered, and the answer was written.
       pub answered : (w1 : Option (List ℕ)) (wf1 : ℕ) → Appends w w1 (texts more) → AreSayable more → wf1 ≡ wf
-          → Sofar holds alone role from (ends k r1 w1 rf1 wf1) u left (n + 1)
+          → Progress holds alone role from (ends k r1 w1 rf1 wf1) u left (n + 1)
       answered w1 wf1 wrote sayable fine = record {
         heard = so.heard ++ frame ∷ [];
         told = so.told ++ more;
@@ -318,7 +318,7 @@ module _ {H : Type 0} (holds : H → Map) (alone : H → Type 0) (role : Role) (
       -- Of the answer a front was written.
       pub unsaid_breaks : (w1 : Option (List ℕ)) (wf1 : ℕ) (fault : ExchangeFault) → WroteFront w w1 (texts more)
           → WhyUnsaid more fault → MatchBool (is_io fault) (Rose wf wf1) (wf1 ≡ wf)
-          → BrokeOff holds alone role from (ends k r1 w1 rf1 wf1) fault
+          → EndsEarly holds alone role from (ends k r1 w1 rf1 wf1) fault
       unsaid_breaks w1 wf1 fault wrote why failed = inr (record {
         heard = so.heard ++ frame ∷ [];
         told = so.told ++ more;
@@ -365,7 +365,7 @@ module _ {H : Type 0} (holds : H → Map) (alone : H → Type 0) (role : Role) (
   }
 
   pub begun : Appends w0 w1 (texts told) → wf1 ≡ wf0
-      → Sofar holds alone role (ends h left w0 rf wf0) (ends k left w1 rf wf1) s MOST_READS 0
+      → Progress holds alone role (ends h left w0 rf wf0) (ends k left w1 rf wf1) s MOST_READS 0
   begun wrote fine = record {
     heard = [];
     told = told;
@@ -382,7 +382,7 @@ module _ {H : Type 0} (holds : H → Map) (alone : H → Type 0) (role : Role) (
 
   pub unbegun : (fault : ExchangeFault) → WroteFront w0 w1 (texts told) → WhyUnsaid told fault
       → MatchBool (is_io fault) (Rose wf0 wf1) (wf1 ≡ wf0)
-      → BrokeOff holds alone role (ends h left w0 rf wf0) (ends k left w1 rf wf1) fault
+      → EndsEarly holds alone role (ends h left w0 rf wf0) (ends k left w1 rf wf1) fault
   unbegun fault wrote why failed = inr (record {
     heard = [];
     told = told;
@@ -416,7 +416,7 @@ err_begun (Err e) A P Q old new a p f to = to e a p f
 
 -- The exchange is over.
 pub ended : {H : Type 0} (holds : H → Map) (alone : H → Type 0) (role : Role) (from to : Ends H) (side : Side)
-    (reads n : ℕ) (e : Ended) → Sofar holds alone role from to side reads n → side.awaited ≡ awaits.Nothing
+    (reads n : ℕ) (e : Ended) → Progress holds alone role from to side reads n → side.awaited ≡ awaits.Nothing
     → e.given ≡ side.given → e.taken ≡ side.taken → (IsTrue e.finished ↔ IsFinished side.round)
     → Exchanged holds alone role from to e
 ended holds alone role from to side reads n e so over given taken finished =
@@ -442,8 +442,8 @@ ended holds alone role from to side reads n e so over given taken finished =
 
 -- It has no end.
 pub endless : {H : Type 0} (holds : H → Map) (alone : H → Type 0) (role : Role) (from to : Ends H) (side : Side)
-    (reads n : ℕ) → MOST_READS ≤ n → Sofar holds alone role from to side reads n
-    → BrokeOff holds alone role from to Turns
+    (reads n : ℕ) → MOST_READS ≤ n → Progress holds alone role from to side reads n
+    → EndsEarly holds alone role from to Turns
 endless holds alone role from to side reads n many so = inr (record {
   heard = so.heard;
   told = so.told;

@@ -155,10 +155,10 @@ SetsOut holds alone OldCaller before told s after = Shows holds alone (start_of 
 -- ---- what a machine does
 
 -- A task was done, or refused; then nothing was taken.
-abbrev pub Did : {H : Type 0} → (H → Map) → (H → Type 0) → Task → Side → H → Result Said ExchangeFault → Side → H
+abbrev pub Performs : {H : Type 0} → (H → Map) → (H → Type 0) → Task → Side → H → Result Said ExchangeFault → Side → H
     → Type 0
-Did holds alone task s before (Ok said) t after = Does holds alone task s before (frames_of said) t after
-Did holds alone task s before (Err fault) t after = Idles holds alone before after
+Performs holds alone task s before (Ok said) t after = Does holds alone task s before (frames_of said) t after
+Performs holds alone task s before (Err fault) t after = Idles holds alone before after
 
 abbrev pub SetOut : {H : Type 0} → (H → Map) → (H → Type 0) → Role → H → Result Said ExchangeFault → Side → H → Type 0
 SetOut holds alone role before (Ok said) t after = SetsOut holds alone role before (frames_of said) t after

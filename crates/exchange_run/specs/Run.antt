@@ -85,7 +85,7 @@ WhyBroke r1 side told rest out fault =
     × Why (task_for side.awaited frame side.role) side fault)) ⊎ ((rest ≡ []) × WhyUnsaid told fault))
 
 -- These frames were heard, and a front was written of what is said for them; what was taken stays.
-pub record Broke {H : Type 0} (holds : H → Map) (alone : H → Type 0) (role : Role) (from to : Ends H)
+pub record BrokenOff {H : Type 0} (holds : H → Map) (alone : H → Type 0) (role : Role) (from to : Ends H)
     (fault : ExchangeFault) : Type 0 where
   pub heard : List Frame
   pub told : List Frame
@@ -112,13 +112,13 @@ pub record Unbegun {H : Type 0} (holds : H → Map) (alone : H → Type 0) (from
   pub why : IsOfHolder fault
   pub failed : NoneFailed from to
 
-abbrev pub BrokeOff : {H : Type 0} → (H → Map) → (H → Type 0) → Role → Ends H → Ends H → ExchangeFault → Type 0
-BrokeOff holds alone role from to fault = Unbegun holds alone from to fault ⊎ Broke holds alone role from to fault
+abbrev pub EndsEarly : {H : Type 0} → (H → Map) → (H → Type 0) → Role → Ends H → Ends H → ExchangeFault → Type 0
+EndsEarly holds alone role from to fault = Unbegun holds alone from to fault ⊎ BrokenOff holds alone role from to fault
 
 -- ---- turns
 
 -- all that was heard and said so far, in n turns, with so many reads left
-pub record Sofar {H : Type 0} (holds : H → Map) (alone : H → Type 0) (role : Role) (from now : Ends H) (side : Side)
+pub record Progress {H : Type 0} (holds : H → Map) (alone : H → Type 0) (role : Role) (from now : Ends H) (side : Side)
     (reads n : ℕ) : Type 0 where
   pub heard : List Frame
   pub told : List Frame
@@ -135,5 +135,5 @@ pub record Sofar {H : Type 0} (holds : H → Map) (alone : H → Type 0) (role :
 -- what a turn leads to
 abbrev pub Turned : {H : Type 0} → (H → Map) → (H → Type 0) → Role → Ends H → Ends H → Side → ℕ → ℕ
     → Result (Unit {0}) ExchangeFault → Type 0
-Turned holds alone role from to side reads n (Ok x) = Sofar holds alone role from to side reads (n + 1)
-Turned holds alone role from to side reads n (Err fault) = BrokeOff holds alone role from to fault
+Turned holds alone role from to side reads n (Ok x) = Progress holds alone role from to side reads (n + 1)
+Turned holds alone role from to side reads n (Err fault) = EndsEarly holds alone role from to fault

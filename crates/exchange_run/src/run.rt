@@ -3,7 +3,7 @@
 ghost use Rattle.std.specs.Prelude.{◌≡◌, ◌<◌, ◌^◌, ◌-◌, ℕ, List, Option, IfOk, IfErr, OnOk};
 ghost use Rattle.exchange_run.specs.declared.role.Role.{Role};
 ghost use Rattle.exchange_run.specs.Course.{start_of};
-ghost use Rattle.exchange_run.specs.Run.{Ends, ends, Exchanged, BrokeOff, Sofar, Turned};
+ghost use Rattle.exchange_run.specs.Run.{Ends, ends, Exchanged, EndsEarly, Progress, Turned};
 
 use crate::hearing::hear;
 use crate::role::{Ended, Role};
@@ -24,11 +24,11 @@ fn set_out<W: Sink, H: Holder>(
     holder: &mut H,
 ) -> Result<(), ExchangeFault>
     requires { side.old ≡ start_of side.old.role }
-    ensures ok { OnOk result ((left : Option (List ℕ)) (failed : ℕ) → Sofar H.holds H.alone
+    ensures ok { OnOk result ((left : Option (List ℕ)) (failed : ℕ) → Progress H.holds H.alone
         side.old.role (ends holder.old left (W.contents writer.old) failed (W.failures writer.old))
         (ends holder.new left (W.contents writer.new) failed (W.failures writer.new))
         side.new MOST_READS 0) }
-    ensures err { IfErr result (λ fault. (left : Option (List ℕ)) (failed : ℕ) → BrokeOff H.holds
+    ensures err { IfErr result (λ fault. (left : Option (List ℕ)) (failed : ℕ) → EndsEarly H.holds
         H.alone side.old.role
         (ends holder.old left (W.contents writer.old) failed (W.failures writer.old))
         (ends holder.new left (W.contents writer.new) failed (W.failures writer.new)) fault) }
@@ -47,7 +47,7 @@ fn take_turn<R: Source, W: Sink, H: Holder>(
     holder: &mut H,
 ) -> Result<(), ExchangeFault>
     requires { side.old.taken < 2 ^ 64 - 1 }
-    ensures turn { (role : Role) (from : Ends _) (n : ℕ) → Sofar H.holds H.alone role from
+    ensures turn { (role : Role) (from : Ends _) (n : ℕ) → Progress H.holds H.alone role from
         (ends holder.old (R.remaining reader.old) (W.contents writer.old)
         (R.failures reader.old) (W.failures writer.old)) side.old reads.old n
         → Turned H.holds H.alone role from
@@ -78,7 +78,7 @@ pub fn run_exchange<R: Source, W: Sink, H: Holder>(
         (R.failures reader.old) (W.failures writer.old))
         (ends holder.new (R.remaining reader.new) (W.contents writer.new)
         (R.failures reader.new) (W.failures writer.new))) }
-    ensures err { IfErr result (BrokeOff H.holds H.alone role
+    ensures err { IfErr result (EndsEarly H.holds H.alone role
         (ends holder.old (R.remaining reader.old) (W.contents writer.old)
         (R.failures reader.old) (W.failures writer.old))
         (ends holder.new (R.remaining reader.new) (W.contents writer.new)

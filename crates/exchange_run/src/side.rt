@@ -5,7 +5,7 @@ ghost use Rattle.exchange.specs.declared.frame.Frame.TheVariants.{Hello};
 ghost use Rattle.exchange_run.specs.declared.task.Awaited.TheVariants as awaits;
 ghost use Rattle.exchange_run.specs.declared.task.Task.TheVariants as tasks;
 ghost use Rattle.exchange_run.specs.Tasks.{task_for};
-ghost use Rattle.exchange_run.specs.Course.{Did, SetOut, Why, IsOfHolder, frames_of, next_after_gifts, news, settled, start_of};
+ghost use Rattle.exchange_run.specs.Course.{Performs, SetOut, Why, IsOfHolder, frames_of, next_after_gifts, news, settled, start_of};
 ghost use Rattle.exchange.specs.Round.{IsFinished};
 
 use crate::role::{Ended, Role};
@@ -129,8 +129,8 @@ impl Side {
         frame: Frame,
     ) -> Result<Said, ExchangeFault>
         requires { self.old.taken < 2 ^ 64 - 1 }
-        ensures did { Did H.holds H.alone (task_for self.old.awaited frame self.old.role) self.old
-            holder.old result self.new holder.new }
+        ensures did { Performs H.holds H.alone (task_for self.old.awaited frame self.old.role)
+            self.old holder.old result self.new holder.new }
         ensures why { IfErr result (Why (task_for self.old.awaited frame self.old.role) self.old) }
     {
         self.act(alloc, holder, task_of(self.awaited, frame, self.role))
@@ -143,7 +143,7 @@ impl Side {
         task: Task,
     ) -> Result<Said, ExchangeFault>
         requires { self.old.taken < 2 ^ 64 - 1 }
-        ensures did { Did H.holds H.alone task self.old holder.old result self.new holder.new }
+        ensures did { Performs H.holds H.alone task self.old holder.old result self.new holder.new }
         ensures why { IfErr result (Why task self.old) }
     {
         match task {
@@ -162,7 +162,7 @@ impl Side {
 
     /// Says BUCKETS.
     fn show<H: Holder>(&mut self, alloc: Global, holder: &mut H) -> Result<Said, ExchangeFault>
-        ensures did { Did H.holds H.alone tasks.Show self.old holder.old result self.new
+        ensures did { Performs H.holds H.alone tasks.Show self.old holder.old result self.new
             holder.new }
         ensures why { IfErr result IsOfHolder }
     {
@@ -178,8 +178,8 @@ impl Side {
         holder: &mut H,
         version: Version,
     ) -> Result<Said, ExchangeFault>
-        ensures did { Did H.holds H.alone (tasks.Begin version) self.old holder.old result self.new
-            holder.new }
+        ensures did { Performs H.holds H.alone (tasks.Begin version) self.old holder.old result
+            self.new holder.new }
         ensures why { IfErr result IsOfHolder }
     {
         self.round = Round::new(alloc, version);
@@ -203,8 +203,8 @@ impl Side {
         holder: &mut H,
         buckets: &[Digest],
     ) -> Result<Said, ExchangeFault>
-        ensures did { Did H.holds H.alone (tasks.Compare buckets.now) self.old holder.old result
-            self.new holder.new }
+        ensures did { Performs H.holds H.alone (tasks.Compare buckets.now) self.old holder.old
+            result self.new holder.new }
         ensures why { IfErr result IsOfHolder }
     {
         let places = self.round.on_buckets(alloc, holder, buckets)?;
@@ -219,7 +219,7 @@ impl Side {
         holder: &mut H,
         places: &[u8],
     ) -> Result<Said, ExchangeFault>
-        ensures did { Did H.holds H.alone (tasks.Offer places.now) self.old holder.old result
+        ensures did { Performs H.holds H.alone (tasks.Offer places.now) self.old holder.old result
             self.new holder.new }
         ensures why { IfErr result IsOfHolder }
     {
@@ -235,7 +235,7 @@ impl Side {
         holder: &mut H,
         have: &[Digest],
     ) -> Result<Said, ExchangeFault>
-        ensures did { Did H.holds H.alone (tasks.Ask have.now) self.old holder.old result
+        ensures did { Performs H.holds H.alone (tasks.Ask have.now) self.old holder.old result
             self.new holder.new }
         ensures why { IfErr result IsOfHolder }
     {
@@ -251,7 +251,7 @@ impl Side {
         holder: &mut H,
         want: &[Digest],
     ) -> Result<Said, ExchangeFault>
-        ensures did { Did H.holds H.alone (tasks.Give want.now) self.old holder.old result
+        ensures did { Performs H.holds H.alone (tasks.Give want.now) self.old holder.old result
             self.new holder.new }
         ensures why { IfErr result IsOfHolder }
     {
@@ -264,7 +264,7 @@ impl Side {
     /// Takes the operation of a GIVE.
     fn take<H: Holder>(&mut self, holder: &mut H, op: Op) -> Result<Said, ExchangeFault>
         requires { self.old.taken < 2 ^ 64 - 1 }
-        ensures did { Did H.holds H.alone (tasks.Take op) self.old holder.old result self.new
+        ensures did { Performs H.holds H.alone (tasks.Take op) self.old holder.old result self.new
             holder.new }
         ensures why { IfErr result (Why (tasks.Take op) self.old) }
     {

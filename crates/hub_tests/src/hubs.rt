@@ -146,7 +146,7 @@ fn learns<H: HubName, R: Wait + Abort>(
     let told = keeper.lock(rt).take(one, op)?;
     assert_eq!(rt; told.taken(), Taken::New, "the first time");
     two.learn(told);
-    assert_eq!(rt; found(two, &query(alloc)?), Some(1), "its row");
+    assert_eq!(rt; found(alloc, two, &query(alloc)?), Some(1), "its row");
     let sent = two.get(View::Archive, &selection(alloc)?, &accepts(alloc)?)?;
     assert_eq!(rt; sent.len(), 1, "its sending");
     let prepared = two.prepare(View::Archive, &selection(alloc)?)?;

@@ -9,7 +9,7 @@ use octets::{ListOf, Octets};
 use operation::{Op, Stamp, Target, content_of, correction_of};
 use site_hub::{CloseFault, HubName, Keeper, Log, Pass, Snapshot, close};
 use site_state::Site;
-use std::alloc::Global;
+use std::alloc::{AllocError, Global};
 use std::sync::{Mutex, Wait};
 use std::test::Fail;
 
@@ -126,17 +126,20 @@ fn number_of(digits: &[u8]) -> u64 {
 }
 
 /// How many instances the only row has, or 0 where there is no row or a second one.
-fn count_in(rows: &[Answer]) -> u64 {
+fn count_in(alloc: Global, rows: &[Answer]) -> Result<u64, AllocError> {
     match rows {
-        [row] => number_of(row.set().value(0x0020_1208).unwrap_or(b"")),
-        _ => 0,
+        [row] => {
+            let set = row.to_set(alloc)?;
+            Ok(number_of(set.value(0x0020_1208).unwrap_or(b"")))
+        }
+        _ => Ok(0),
     }
 }
 
 /// How many instances a pass finds of the only study.
-pub fn found<H: HubName>(pass: &mut Pass<H>, query: &Query) -> Option<u64> {
+pub fn found<H: HubName>(alloc: Global, pass: &mut Pass<H>, query: &Query) -> Option<u64> {
     match pass.find(View::Archive, b"ARCHIVE", query) {
-        Ok(rows) => Some(count_in(&rows)),
+        Ok(rows) => count_in(alloc, &rows).ok(),
         Err(_refused) => None,
     }
 }

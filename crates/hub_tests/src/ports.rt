@@ -93,6 +93,7 @@ fn serve<H: HubName, R: Wait, G: Gate>(
 /// Looks with a second pass after each find, and counts those that find as many.
 #[derive(Drop)]
 struct Watch<'a, H: HubName> {
+    alloc: Global,
     pass: &'a mut Pass<H>,
     query: &'a Query,
     finds: u64,
@@ -107,7 +108,7 @@ impl<'a, H: HubName> Gate for Watch<'a, H> {
     fn reach(&mut self, moment: Moment) {
         if moment == Moment::FindAnswered {
             self.finds = self.finds.saturating_add(1);
-            if found(self.pass, self.query) == Some(self.finds) {
+            if found(self.alloc, self.pass, self.query) == Some(self.finds) {
                 self.same = self.same.saturating_add(1);
             }
         }
@@ -210,6 +211,7 @@ pub fn associates<H: HubName, R: Wait + Abort>(
     let mut line = line_of(alloc, asked(alloc, 1, 200)?.as_slice())?;
     let wanted = answered(alloc, 1, 200, 0)?;
     let mut watch = Watch {
+        alloc,
         pass: two,
         query: &query,
         finds: 0,
@@ -223,7 +225,11 @@ pub fn associates<H: HubName, R: Wait + Abort>(
         wanted.as_slice(),
         "what it is answered"
     );
-    assert_eq!(rt; found(&mut one, &query), Some(200), "its pass comes back");
+    assert_eq!(rt;
+        found(alloc, &mut one, &query),
+        Some(200),
+        "its pass comes back"
+    );
     Ok(())
 }
 

@@ -40,7 +40,8 @@ module _ {K : Type 0} {R : K → K → Ordering} (o : IsTotalOrder R) (exact : I
           ]
 
       back : Contains xs key ⊎ Contains ys key → Contains (union_of R xs ys) key
-      back h = (contains (union_of R xs ys)).0 (has-union o exact key ys xs ∙ elim h as (λ _. (has xs || has ys) ≡ true) [
-        | inl first ↦ or_first (has xs) (has ys) ((contains xs).1 first)
-        | inr second ↦ or_second (has xs) (has ys) ((contains ys).1 second)
-      ])
+      back h =
+          (contains (union_of R xs ys)).0 (has-union o exact key ys xs ∙ elim h as (λ _. (has xs || has ys) ≡ true) [
+            | inl first ↦ or_first (has xs) (has ys) ((contains xs).1 first)
+            | inr second ↦ or_second (has xs) (has ys) ((contains ys).1 second)
+          ])

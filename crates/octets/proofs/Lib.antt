@@ -1,2 +1,4 @@
 pub mod ByteLaws
+pub mod JoinedLaws
+pub mod PaddingLaws
 pub mod TextLemmas

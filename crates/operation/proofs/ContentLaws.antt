@@ -1,9 +1,10 @@
 -- A draft has one outcome.
-use Rattle.std.proofs.Common.{◌≡◌, ℕ, ◌<◌, ◌≤◌, List, length, Bool, true, false, cond, Option, Some, None, Result, Ok}
+use Rattle.std.proofs.Common.{◌≡◌, ℕ, ◌<◌, List, length, Bool, true, false, Option, Some, None, Result, Ok}
 use Rattle.std.proofs.Common.{Err, refl, sym, ap, subst, ◌∙◌, ◌⊎◌, inl, inr, arith}
 use Rattle.std.specs.Prelude.{not, if◌then◌else◌}
 use Rattle.std.specs.Coded.{Coded-set}
 use Rattle.std.proofs.Math.Logic.{∥∥₁_elim}
+use Rattle.dictionary.specs.declared.elements.TheConstants.{SOP_CLASS_UID, SOP_INSTANCE_UID}
 use Rattle.octets.specs.Gives.{Tells, Told, Gives}
 use Rattle.octets.proofs.ByteLaws.{tells_map}
 use Rattle.data_set.specs.Tree.{Tree}
@@ -19,9 +20,10 @@ use Rattle.operation.specs.declared.fault.OpFault.TheVariants.{NoUid, Mismatch, 
 use Rattle.operation.specs.declared.fault.OpFault.TheVariants.{UnknownKind, Memory, Shape}
 use Rattle.operation.specs.Code.{content_code}
 use Rattle.operation.specs.Fault.{is_memory, fault_of_note}
-use Rattle.operation.specs.Parts.{ContentParts}
+use Rattle.operation.specs.Parts.{ContentParts, value_at, value_or_empty}
 use Rattle.operation.specs.Contents.{offence, has_uids, names_itself, note_offence, Describes, IsContent, IsRefused}
 use Rattle.operation.specs.Contents.{IsShort, IsOutcome, SpellsNothing, Offends, values_in, draft_of, longest}
+use Rattle.operation.proofs.KeyValueLaws.{kept_names}
 
 -- ---- what offends
 
@@ -76,6 +78,51 @@ made c elements short spelled uids names said values =
         note = said;
       },
     ) ∣₁
+
+-- what is kept of a draft: its class and its instance are among the values
+abbrev pub kept_of : Draft → List (ℕ × List ℕ) → Option Note → ContentParts
+kept_of draft values note = record {
+  class = value_or_empty (value_at SOP_CLASS_UID values);
+  instance = value_or_empty (value_at SOP_INSTANCE_UID values);
+  syntax = draft.syntax;
+  body = draft.body;
+  values = values;
+  note = note;
+}
+
+-- What is kept of a draft whose elements, as they were seen, passed each test is its outcome.
+pub kept_is_outcome : (draft : Draft) (elements seen : List Tree) (values : List (ℕ × List ℕ)) (note : Option Note)
+    → IsShort draft → Spells draft.syntax draft.body elements → seen ≡ elements
+    → true ≡ has_uids draft.class draft.instance seen → true ≡ names_itself draft.class draft.instance seen
+    → note_in draft.class elements ≡ Ok note → values ≡ values_in seen
+    → IsOutcome draft (Ok (kept_of draft values note))
+kept_is_outcome draft elements seen values note short spelled same uids names said is =
+    let here : values ≡ values_in elements = is ∙ ap values_in same in
+    let uids : has_uids draft.class draft.instance elements ≡ true =
+    sym (uids ∙ ap (has_uids draft.class draft.instance) same)
+    in
+    let names : names_itself draft.class draft.instance elements ≡ true =
+    sym (names ∙ ap (names_itself draft.class draft.instance) same)
+    in
+    let own = kept_names draft.class draft.instance elements values here names in
+    let given : ContentParts = record {
+      class = draft.class;
+      instance = draft.instance;
+      syntax = draft.syntax;
+      body = draft.body;
+      values = values;
+      note = note;
+    } in
+    let parts : given ≡ kept_of draft values note =
+    λ i. record {
+      class = sym own.0 i;
+      instance = sym own.1 i;
+      syntax = draft.syntax;
+      body = draft.body;
+      values = values;
+      note = note;
+    } in
+    (ap draft_of (sym parts), subst IsContent parts (made given elements short spelled uids names said here))
 
 -- ---- one outcome
 

@@ -1,5 +1,6 @@
 pub mod Bounds
 pub mod ContentLaws
+pub mod KeyValueLaws
 pub mod ReadingLaws
 pub mod OutcomeLaws
 pub mod ExistenceLaws

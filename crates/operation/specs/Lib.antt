@@ -3,6 +3,7 @@ pub mod Code
 pub mod Fault
 pub mod Corrections
 pub mod Contents
+pub mod KeyValues
 pub mod OpCode
 pub mod Spelling
 pub mod Reading

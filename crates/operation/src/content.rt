@@ -5,50 +5,27 @@ ghost use Rattle.std.specs.Option.{option_map, option_copied};
 ghost use Rattle.operation.specs.Parts.{value_at, own_value};
 ghost use Rattle.operation.specs.Contents.{IsContent};
 
+use crate::key_values::KeyValues;
 use bytes::Bytes;
 use data_set::Syntax;
-use octets::{ListOf, Octets};
+use dictionary::{SOP_CLASS_UID, SOP_INSTANCE_UID};
 use rejection_note::Note;
 use std::alloc::{AllocError, Global};
 use std::marker::Model;
 use std::sync::Arc;
 
-/// The trimmed value of an element that queries know.
-#[derive(Debug, Drop)]
-pub struct KeyValue {
-    pub(crate) tag: u32,
-    pub(crate) value: Octets,
-}
-
-impl Model for KeyValue {
-    ghost use Rattle.std.specs.Prelude.{List, ℕ};
-
-    ghost Value = { ℕ × List ℕ };
-
-    ghost view = { λ k. (k.tag, k.value) };
-}
-
-impl KeyValue {
-    fn equals(&self, other: &KeyValue) -> bool
-        ensures { IsTrue result ↔ (self.now ≡ other.now) }
-    {
-        self.tag == other.tag && self.value.equals(&other.value)
-    }
-}
-
-/// What all copies of a content share.
+/// What all copies of a content share. Its class and its instance are values that it keeps.
 #[derive(Debug, Drop)]
 pub(crate) struct Stored {
-    pub class: Octets,
-    pub instance: Octets,
     pub syntax: Syntax,
     pub body: Bytes,
-    pub values: ListOf<KeyValue>,
+    pub values: KeyValues,
     pub note: Option<Note>,
 }
 
 impl Model for Stored {
-    ghost use Rattle.operation.specs.Parts.{ContentParts};
+    ghost use Rattle.dictionary.specs.declared.elements.TheConstants.{SOP_CLASS_UID, SOP_INSTANCE_UID};
+    ghost use Rattle.operation.specs.Parts.{ContentParts, value_at, value_or_empty};
     ghost use Rattle.operation.specs.Code.{content_code};
 
     ghost Value = { ContentParts };
@@ -56,8 +33,8 @@ impl Model for Stored {
     ghost coded = { content_code };
 
     ghost view = { λ c. record {
-      class = c.class;
-      instance = c.instance;
+      class = value_or_empty (value_at SOP_CLASS_UID c.values);
+      instance = value_or_empty (value_at SOP_INSTANCE_UID c.values);
       syntax = c.syntax;
       body = c.body;
       values = c.values;
@@ -88,28 +65,6 @@ impl Model for Content {
     ghost invariant = { λ c. IsContent (arc_value c.stored) };
 }
 
-fn key_value<'a>(values: &'a [KeyValue], tag: u32) -> Option<&'a [u8]>
-    ensures { option_map (λ v. v.now) result ≡ value_at tag values.now }
-{
-    for value in values {
-        if value.tag == tag {
-            return Some(value.value.as_slice());
-        }
-    }
-    None
-}
-
-fn same_values(these: &[KeyValue], those: &[KeyValue]) -> bool
-    ensures { IsTrue result ↔ (these.now ≡ those.now) }
-{
-    match (these, those) {
-        ([], []) => true,
-        ([], [_, ..]) => false,
-        ([_, ..], []) => false,
-        ([a, these @ ..], [b, those @ ..]) => a.equals(b) && same_values(these, those),
-    }
-}
-
 fn same_notes(this: &Option<Note>, other: &Option<Note>) -> bool
     ensures { IsTrue result ↔ (this.now ≡ other.now) }
 {
@@ -136,13 +91,8 @@ impl Content {
         ensures { IsTrue result ↔ (self.now ≡ other.now) }
     {
         self.stored.syntax == other.stored.syntax
-            && self.stored.class.equals(&other.stored.class)
-            && self.stored.instance.equals(&other.stored.instance)
             && self.stored.body.as_slice() == other.stored.body.as_slice()
-            && same_values(
-                self.stored.values.as_slice(),
-                other.stored.values.as_slice(),
-            )
+            && self.stored.values.equals(&other.stored.values)
             && same_notes(&self.stored.note, &other.stored.note)
     }
 
@@ -150,14 +100,14 @@ impl Content {
         ensures value { result.now ≡ self.now.class }
         ensures short { length result.now ≤ 64 }
     {
-        self.stored.class.as_slice()
+        self.stored.values.value_or_empty(SOP_CLASS_UID)
     }
 
     pub fn instance(&self) -> &[u8]
         ensures value { result.now ≡ self.now.instance }
         ensures short { length result.now ≤ 64 }
     {
-        self.stored.instance.as_slice()
+        self.stored.values.value_or_empty(SOP_INSTANCE_UID)
     }
 
     pub fn syntax(&self) -> Syntax
@@ -179,17 +129,14 @@ impl Content {
     pub fn value(&self, tag: u32) -> Option<&[u8]>
         ensures { option_map (λ v. v.now) result ≡ value_at tag self.now.values }
     {
-        key_value(self.stored.values.as_slice(), tag)
+        self.stored.values.value(tag)
     }
 
     /// The same, empty where the element is missing or holds items.
     pub fn own_value(&self, tag: u32) -> &[u8]
         ensures { result.now ≡ own_value self.now tag }
     {
-        match key_value(self.stored.values.as_slice(), tag) {
-            Some(value) => value,
-            None => &[],
-        }
+        self.stored.values.value_or_empty(tag)
     }
 
     /// What the content says as a rejection note, if it is one.

@@ -1,18 +1,20 @@
 //! Which data sets are contents (docs/DECISIONS.md, "Contents").
 
 ghost use Rattle.std.specs.Prelude.{◌≡◌, Ok, Err, IfOk, IfErr};
-ghost use Rattle.std.specs.List.{filter_map};
 ghost use Rattle.octets.specs.Gives.{Tells, Told, Gives};
 ghost use Rattle.octets.specs.Padding.{without_padding};
+ghost use Rattle.data_set.specs.Lengths.{FitsTrees};
+ghost use Rattle.data_set.specs.Tree.{trees_of};
 ghost use Rattle.data_set.specs.Values.{value_in};
 ghost use Rattle.operation.specs.declared.fault.OpFault.{OpFault};
 ghost use Rattle.operation.specs.Fault.{is_memory};
 ghost use Rattle.operation.specs.Parts.{ContentParts};
-ghost use Rattle.operation.specs.Contents.{has_uids, names_itself, is_uid_value, is_value, tagged, values_in, IsOutcome, IsContent, IsRefused, draft_of, drafted};
+ghost use Rattle.operation.specs.Contents.{has_uids, names_itself, is_uid_value, is_value, values_in, IsOutcome, IsContent, IsRefused, draft_of, drafted};
 
-use crate::content::{Content, KeyValue, Stored};
+use crate::content::{Content, Stored};
 use crate::draft::Draft;
 use crate::fault::OpFault;
+use crate::key_values::{KeyValues, values_under};
 use bytes::Bytes;
 use data_set::{Element, Syntax, read, value_of};
 use dictionary::{
@@ -21,13 +23,10 @@ use dictionary::{
     SOP_CLASS_UID, SOP_INSTANCE_UID, SPECIFIC_CHARACTER_SET, STUDY_DATE, STUDY_DESCRIPTION,
     STUDY_ID, STUDY_INSTANCE_UID, STUDY_TIME,
 };
-use octets::{ListOf, Octets, is_uid, without_padding};
+use octets::{LONGEST_DATA_SET, Octets, is_uid, without_padding};
 use rejection_note::note_of;
 use std::alloc::{AllocError, Global};
 use std::sync::Arc;
-
-/// The most bytes of a data set.
-const LONGEST_DATA_SET: usize = 67_108_864;
 
 /// The elements that queries know, ascending.
 const KNOWN_TAGS: [u32; 19] = [
@@ -52,26 +51,10 @@ const KNOWN_TAGS: [u32; 19] = [
     INSTANCE_NUMBER,
 ];
 
-fn values_under(
-    alloc: Global,
-    tags: &[u32],
-    elements: &[Element],
-) -> Result<Vec<KeyValue>, AllocError>
-    ensures { IfOk result (λ values. values.items
-        ≡ filter_map (λ tag. tagged tag elements.now) tags.now) }
-{
-    let mut values = Vec::new(alloc);
-    for tag in tags {
-        if let Some(value) = value_of(elements, *tag) {
-            let value = Octets::from_slice(alloc, value)?;
-            values.push(KeyValue { tag: *tag, value })?;
-        }
-    }
-    Ok(values)
-}
-
-fn key_values(alloc: Global, elements: &[Element]) -> Result<Vec<KeyValue>, AllocError>
-    ensures { IfOk result (λ values. values.items ≡ values_in elements.now) }
+/// What a content keeps of its elements.
+fn key_values(alloc: Global, elements: &[Element]) -> Result<KeyValues, AllocError>
+    requires { FitsTrees (trees_of elements.now) }
+    ensures { IfOk result (λ values. values ≡ values_in elements.now) }
 {
     values_under(alloc, &KNOWN_TAGS, elements)
 }
@@ -128,16 +111,9 @@ pub fn content_from(alloc: Global, draft: Draft) -> Result<Content, OpFault>
         return Err(OpFault::Mismatch);
     }
     let note = note_of(alloc, draft.class.as_slice(), &set)?;
-    let values = ListOf::of(key_values(alloc, elements)?);
-    let Draft {
-        class,
-        instance,
-        syntax,
-        body,
-    } = draft;
+    let values = key_values(alloc, elements)?;
+    let Draft { syntax, body, .. } = draft;
     let stored = Stored {
-        class,
-        instance,
         syntax,
         body,
         values,

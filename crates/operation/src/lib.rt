@@ -12,6 +12,7 @@ mod draft;
 mod encoding;
 mod fault;
 mod hashing;
+mod key_values;
 mod laws;
 mod op;
 mod stamp;

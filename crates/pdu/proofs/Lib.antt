@@ -4,7 +4,6 @@ pub mod Faults
 pub mod Fronts
 pub mod Items
 pub mod Lists
-pub mod Padding
 pub mod Pieces
 pub mod Sizes
 pub mod Values

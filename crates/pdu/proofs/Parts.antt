@@ -1,6 +1,6 @@
 -- A header and the body behind it, read one after the other.
-use Rattle.std.proofs.Common.{◌≡◌, ℕ, ◌+◌, ◌≤◌, List, [], ◌∷◌, ◌++◌, length, take, Option, Some, None, Result, Ok, Err}
-use Rattle.std.proofs.Common.{refl, sym, ap, subst, ◌∙◌, arith, length-append, take_all}
+use Rattle.std.proofs.Common.{◌≡◌, ℕ, ◌+◌, List, [], ◌∷◌, ◌++◌, length, take, Option, Some, None, Result, Ok, Err}
+use Rattle.std.proofs.Common.{refl, sym, ap, subst, ◌∙◌, arith, take_all}
 use Rattle.std.specs.Prelude.{IfOk, IfErr, IsOk}
 use Rattle.std.specs.Int.{w32, from_be_bytes}
 use Rattle.octets.specs.Bytes.{IsBytes}

@@ -15,7 +15,9 @@ use Rattle.pdu.specs.declared.user.Role.{Role}
 use Rattle.pdu.specs.declared.user.UserInformation.{UserInformation}
 use Rattle.pdu.specs.declared.context.ProposedContext.{ProposedContext}
 use Rattle.pdu.specs.declared.context.AnsweredContext.{AnsweredContext}
-use Rattle.pdu.specs.Grammar.{contents_of, is_graphic, trimmed, IsUid, IsLength, IsRole, first_or, first_of, IsUser}
+use Rattle.octets.specs.Graphic.{is_graphic}
+use Rattle.octets.specs.Padding.{without_padding}
+use Rattle.pdu.specs.Grammar.{contents_of, IsUid, IsLength, IsRole, first_or, first_of, IsUser}
 use Rattle.pdu.specs.Grammar.{is_odd, IsProposal, IsAnswer}
 use Rattle.pdu.specs.Reading.{pieces_of, item_at, each_at, sole_at, uid_at, length_at, role_at, user_at, proposal_at}
 use Rattle.pdu.specs.Reading.{answer_at}
@@ -34,13 +36,14 @@ tested false read x e = absurd cc
 pub uid-found : FoundIn uid_at IsUid
 unfolding uid_at
 uid-found content v e =
-    let g = guard_end (list_all is_graphic (trimmed content)) BadItem (trimmed content) v e in
+    let g = guard_end (list_all is_graphic (without_padding content)) BadItem (without_padding content) v e in
     (sym g.1, subst (λ u. list_all is_graphic u ≡ true) g.1 g.0)
 
 pub uid-again : AgainIn uid_at IsUid
 unfolding uid_at
 uid-again v content (is, graphic) =
-    let g : list_all is_graphic (trimmed content) ≡ true = subst (λ u. list_all is_graphic u ≡ true) is graphic in
+    let g : list_all is_graphic (without_padding content) ≡ true =
+    subst (λ u. list_all is_graphic u ≡ true) is graphic in
     rw g (ap Ok (sym is))
 
 pub length-found : FoundIn length_at IsLength

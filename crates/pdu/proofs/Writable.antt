@@ -28,7 +28,9 @@ use Rattle.pdu.specs.declared.value.Step.{Step}
 use Rattle.pdu.specs.declared.value.Step.TheVariants.{Need, Done}
 use Rattle.pdu.specs.declared.fault.PduFault.{PduFault}
 use Rattle.pdu.specs.Header.{header_fault}
-use Rattle.pdu.specs.Grammar.{Fill, Each, Sole, BeginsItem, contents_of, is_padding, before, trimmed, IsUid, IsLength}
+use Rattle.octets.specs.Padding.{without_padding}
+use Rattle.octets.proofs.PaddingLaws.{bare_again, bare_is_no_longer}
+use Rattle.pdu.specs.Grammar.{Fill, Each, Sole, BeginsItem, contents_of, IsUid, IsLength}
 use Rattle.pdu.specs.Grammar.{IsRole, first_or, first_of, IsUser, IsProposal, IsAnswer, BeginsOpening, IsRequest}
 use Rattle.pdu.specs.Grammar.{IsAccept, BeginsPdv, IsBody, code_of, Spells, IfDone}
 use Rattle.pdu.specs.Spelling.{item_of, items_text, HasLength, role_text, role_item, class_items, user_items}
@@ -59,38 +61,11 @@ four_bytes a b c d p q r s = omega (arith, p, q, r, s)
 
 -- ---- UIDs
 
-trimmed_before : (b : ℕ) (text : List ℕ) → trimmed text ≡ text → trimmed (before b text) ≡ before b text
-unfolding trimmed
-trimmed_before b [] e = by_test (is_padding b) refl
-  where
-    by_test : (t : Bool) → is_padding b ≡ t → trimmed (cond t [] (b ∷ [])) ≡ cond t [] (b ∷ [])
-    by_test true is = refl
-    by_test false is = rw is refl
-trimmed_before b (c ∷ cs) e = ap (before b) e
-
-trimmed_again : (text : List ℕ) → trimmed (trimmed text) ≡ trimmed text
-unfolding trimmed
-trimmed_again [] = refl
-trimmed_again (b ∷ bs) = trimmed_before b (trimmed bs) (trimmed_again bs)
-
-before_short : (b : ℕ) (text : List ℕ) → length (before b text) ≤ 1 + length text
-before_short b [] = by_test (is_padding b)
-  where
-    by_test : (t : Bool) → length (cond t [] (b ∷ [])) ≤ 1
-    by_test true = omega arith
-    by_test false = omega arith
-before_short b (c ∷ cs) = omega arith
-
-trimmed_short : (text : List ℕ) → length (trimmed text) ≤ length text
-unfolding trimmed
-trimmed_short [] = omega arith
-trimmed_short (b ∷ bs) = omega (arith, before_short b (trimmed bs), trimmed_short bs)
-
 uid_fits : (uid content : List ℕ) → IsUid uid content → IsUidText uid
-uid_fits uid content is = (is.0 ∙ sym (trimmed_again content) ∙ ap trimmed (sym is.0), is.1)
+uid_fits uid content is = (is.0 ∙ sym (bare_again content) ∙ ap without_padding (sym is.0), is.1)
 
 uid_short : (uid content : List ℕ) → IsUid uid content → length uid ≤ length content
-uid_short uid content is = omega (arith, ap length is.0, trimmed_short content)
+uid_short uid content is = omega (arith, ap length is.0, bare_is_no_longer content)
 
 -- ---- items
 

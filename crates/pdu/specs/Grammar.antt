@@ -1,9 +1,11 @@
 -- Which texts spell a PDU (PS3.8, 9.3; PS3.7, D.3.3), from the side of the value.
 use Rattle.std.specs.Prelude.{◌≡◌, ◌≢◌, ◌<◌, ◌≤◌, ◌⊎◌, ℕ, ◌+◌, ◌/◌, ◌%◌, Result, Ok, Err, take, slice_index, Bool, true}
-use Rattle.std.specs.Prelude.{IsTrue, not, List, [], ◌∷◌, ◌++◌, ◌==◌, ◌||◌, ◌&&◌, length, map, nat_le, Option, Some}
+use Rattle.std.specs.Prelude.{IsTrue, not, List, [], ◌∷◌, ◌++◌, ◌==◌, ◌&&◌, length, map, Option, Some}
 use Rattle.std.specs.Prelude.{None, if◌then◌else◌, ⊤}
 use Rattle.std.specs.List.{list_all, list_any}
 use Rattle.std.specs.Int.{w16, w32, from_be_bytes}
+use Rattle.octets.specs.Graphic.{is_graphic}
+use Rattle.octets.specs.Padding.{without_padding}
 use Rattle.pdu.specs.declared.header.TheConstants.{HEADER_LENGTH, ASSOCIATE_RQ, ASSOCIATE_AC, ASSOCIATE_RJ, P_DATA}
 use Rattle.pdu.specs.declared.header.TheConstants.{RELEASE_RQ, RELEASE_RP, ABORT, FIXED_LENGTH}
 use Rattle.pdu.specs.declared.item.TheConstants.{APPLICATION_CONTEXT, PROPOSED_CONTEXT, ANSWERED_CONTEXT}
@@ -58,26 +60,9 @@ contents_of kind [] = []
 contents_of kind (item ∷ items) =
     if item.kind == kind then item.content ∷ contents_of kind items else contents_of kind items
 
--- 00 and 20 pad a UID
-abbrev pub is_padding : ℕ → Bool
-is_padding b = b == 0 || b == 32
-
-abbrev pub is_graphic : ℕ → Bool
-is_graphic b = nat_le 32 b && nat_le b 126
-
--- a byte before a text whose padding was dropped
-abbrev pub before : ℕ → List ℕ → List ℕ
-before b [] = if is_padding b then [] else b ∷ []
-before b (c ∷ cs) = b ∷ c ∷ cs
-
--- without the padding at its end
-unfoldable pub trimmed : List ℕ → List ℕ
-trimmed [] = []
-trimmed (b ∷ bs) = before b (trimmed bs)
-
 -- a UID is its content without padding, of bytes 20 to 7E
 abbrev pub IsUid : List ℕ → List ℕ → Type 0
-IsUid uid content = (uid ≡ trimmed content) × IsTrue (list_all is_graphic uid)
+IsUid uid content = (uid ≡ without_padding content) × IsTrue (list_all is_graphic uid)
 
 -- ---- user information (PS3.8, 9.3.2.3)
 

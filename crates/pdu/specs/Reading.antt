@@ -28,7 +28,9 @@ use Rattle.pdu.specs.declared.value.Step.{Step}
 use Rattle.pdu.specs.declared.value.Step.TheVariants.{Need, Done}
 use Rattle.pdu.specs.Fault.{Gives}
 use Rattle.pdu.specs.Header.{HeaderParts, header_at}
-use Rattle.pdu.specs.Grammar.{type_of, size_of, contents_of, is_graphic, trimmed, first_or, first_of, is_odd}
+use Rattle.octets.specs.Graphic.{is_graphic}
+use Rattle.octets.specs.Padding.{without_padding}
+use Rattle.pdu.specs.Grammar.{type_of, size_of, contents_of, first_or, first_of, is_odd}
 use Rattle.pdu.specs.Grammar.{are_distinct, is_command, is_last}
 
 -- a piece at the front, and what comes behind it
@@ -70,7 +72,7 @@ sole_at at (content ∷ []) = at content
 sole_at at _ = Err BadItem
 
 unfoldable pub uid_at : List ℕ → Result (List ℕ) PduFault
-uid_at content = if list_all is_graphic (trimmed content) then Ok (trimmed content) else Err BadItem
+uid_at content = if list_all is_graphic (without_padding content) then Ok (without_padding content) else Err BadItem
 
 -- ---- user information
 

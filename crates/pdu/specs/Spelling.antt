@@ -19,7 +19,9 @@ use Rattle.pdu.specs.declared.pdv.Pdv.{Pdv}
 use Rattle.pdu.specs.declared.value.Pdu.{Pdu}
 use Rattle.pdu.specs.declared.value.Pdu.TheVariants.{AssociateRq, AssociateAc, AssociateRj, PData, ReleaseRq, ReleaseRp}
 use Rattle.pdu.specs.declared.value.Pdu.TheVariants.{Abort}
-use Rattle.pdu.specs.Grammar.{trimmed, is_graphic, is_odd, are_distinct, code_of}
+use Rattle.octets.specs.Graphic.{is_graphic}
+use Rattle.octets.specs.Padding.{without_padding}
+use Rattle.pdu.specs.Grammar.{is_odd, are_distinct, code_of}
 
 -- ---- items
 
@@ -125,7 +127,7 @@ text_of p = code_of p ∷ 0 ∷ (to_be_bytes w32 (length (body_text p)) ++ body_
 
 -- bytes 20 to 7E with no padding at the end
 abbrev pub IsUidText : List ℕ → Type 0
-IsUidText uid = (uid ≡ trimmed uid) × IsTrue (list_all is_graphic uid)
+IsUidText uid = (uid ≡ without_padding uid) × IsTrue (list_all is_graphic uid)
 
 pub record FitsRole (role : Role) : Type 0 where
   pub class : IsUidText role.class

@@ -4,3 +4,4 @@ pub mod Query
 pub mod Column
 pub mod Cell
 pub mod Rows
+pub mod Answer

@@ -1,5 +1,5 @@
 -- The query that the elements of an identifier say (PS3.4, C.4.1.1.3).
-use Rattle.std.specs.Prelude.{ℕ, ◌%◌, List, [], ◌∷◌, length, Bool, true, false, not, ◌&&◌, ◌||◌, ◌==◌, nat_eq, Option}
+use Rattle.std.specs.Prelude.{ℕ, ◌%◌, List, [], length, Bool, true, false, not, ◌&&◌, ◌||◌, ◌==◌, nat_eq, Option}
 use Rattle.std.specs.Prelude.{Some, None, Result, Ok, Err, if◌then◌else◌}
 use Rattle.std.specs.List.{filter_map, list_any}
 use Rattle.std.specs.Cmp.Lexicographic.{pointwise}

@@ -69,8 +69,10 @@ shown_put up holds lasts old new op kept reply digest is named gains finds durab
     op,
     (
       sym named,
-      λ now.
-          (there_now holds old new op kept (λ e. gains now (is ∙ ap Ok e)) (λ e. finds now (is ∙ ap Ok e)), durable now),
+      λ now. (
+        there_now holds old new op kept (λ e. gains now (is ∙ ap Ok e)) (λ e. finds now (is ∙ ap Ok e)),
+        durable now,
+      ),
     ),
   ),
 ) ∣₁

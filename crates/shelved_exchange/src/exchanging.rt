@@ -1,7 +1,7 @@
 //! A whole exchange of a site on a shelf.
 
 ghost use Rattle.std.specs.Prelude.{◌≡◌, IfOk, IfErr, ⊤};
-ghost use Rattle.exchange_run.specs.Run.{ends, Exchanged, BrokeOff};
+ghost use Rattle.exchange_run.specs.Run.{ends, Exchanged, EndsEarly};
 ghost use Rattle.shelved_exchange.specs.Putting.{GainsWhatWasPut};
 
 use crate::holder::{AtOpening, ShelvedHolder};
@@ -30,7 +30,7 @@ fn exchange_with<E: AtOpening, K: Keep, R: Source, W: Sink>(
         (R.failures reader.old) (W.failures writer.old))
         (ends result.0 (R.remaining reader.new) (W.contents writer.new)
         (R.failures reader.new) (W.failures writer.new))) }
-    ensures err { IfErr result.1 (BrokeOff (λ s. s) (λ _. ⊤) role
+    ensures err { IfErr result.1 (EndsEarly (λ s. s) (λ _. ⊤) role
         (ends site (R.remaining reader.old) (W.contents writer.old)
         (R.failures reader.old) (W.failures writer.old))
         (ends result.0 (R.remaining reader.new) (W.contents writer.new)
@@ -63,7 +63,7 @@ pub fn exchange_on<K: Keep, R: Source, W: Sink>(
         (R.failures reader.old) (W.failures writer.old))
         (ends result.0 (R.remaining reader.new) (W.contents writer.new)
         (R.failures reader.new) (W.failures writer.new))) }
-    ensures err { IfErr result.1 (BrokeOff (λ s. s) (λ _. ⊤) role
+    ensures err { IfErr result.1 (EndsEarly (λ s. s) (λ _. ⊤) role
         (ends site (R.remaining reader.old) (W.contents writer.old)
         (R.failures reader.old) (W.failures writer.old))
         (ends result.0 (R.remaining reader.new) (W.contents writer.new)

@@ -55,6 +55,7 @@ met done op other r (inr (none, is)) held =
 pub clash_is_among : (m : Map) (done rest all : List Op) (op : Op) → m ≡ after_taking done → done ++ (op ∷ rest) ≡ all
     → IsClash m op → ¬ Apart all
 clash_is_among m done rest all op is parts (other, held, differs) apart =
-    let here = met done op other _ (told empty done (digest_of op)) (ap (λ s. held_at s (digest_of op)) (sym is) ∙ held) in
+    let here =
+    met done op other _ (told empty done (digest_of op)) (ap (λ s. held_at s (digest_of op)) (sym is) ∙ held) in
     differs (apart other op (subst (λ ops. Has ops other) parts (has_left done (op ∷ rest) other here.0))
     (subst (λ ops. Has ops op) parts (has_right done (op ∷ rest) op (inl refl))) here.1)

@@ -13,7 +13,8 @@ use Rattle.site_hub.specs.Stamps.{next_correction, LAST_COUNTER}
 use Rattle.op_shelf.specs.Entries.{Lists, Holds}
 use Rattle.op_shelf.specs.States.{rows_of, rows_left}
 
--- The correction that comes next at the site which took all operations of the table: it has this stamp, and the table has
+-- The correction that comes next at the site which took all operations of the table: it has this stamp, and the table
+-- has
 -- it afterwards, also after any crash.
 pub record IsCorrected (s t : State) (number : ℕ) (target : Target) (tag : ℕ) (value : List ℕ) (stamp : Stamp) : Type 0
   where

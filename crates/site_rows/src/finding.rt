@@ -35,9 +35,10 @@ fn put_element(out: &mut String, element: &Element) -> Result<(), AllocError> {
     }
 }
 
-fn put_row(out: &mut String, row: &Answer) -> Result<(), AllocError> {
+fn put_row(alloc: Global, out: &mut String, row: &Answer) -> Result<(), AllocError> {
+    let set = row.to_set(alloc)?;
     out.push_str("row")?;
-    for element in row.set().elements() {
+    for element in set.elements() {
         put_element(out, element)?;
     }
     out.push('\n')
@@ -57,7 +58,7 @@ fn told_of_query(
     }
     let rows = find(alloc, site, view, called, query)?;
     for row in &rows {
-        put_row(&mut out, row)?;
+        put_row(alloc, &mut out, row)?;
     }
     let count = rows.len();
     write!(out, "end {count}")?;

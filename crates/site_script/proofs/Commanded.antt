@@ -10,7 +10,8 @@ use Rattle.std.proofs.lemmas.Bool.{eqb-false, ltb-false, lt-ltb, leb-true}
 use Rattle.std.proofs.lemmas.List.{length-take}
 use Rattle.octets.specs.Padding.{trimmed}
 use Rattle.data_set.specs.declared.syntax.Syntax.TheVariants.{Implicit}
-use Rattle.data_set.specs.Tags.{is_item_tag, is_reserved_group, is_listed, is_above}
+use Rattle.dictionary.specs.Tags.{is_above}
+use Rattle.data_set.specs.Tags.{is_item_tag, is_reserved_group, is_listed}
 use Rattle.data_set.specs.Tree.{trees_of}
 use Rattle.data_set.specs.Written.{AreTrees, IsSet}
 use Rattle.operation.specs.declared.target.Target.{Target}
@@ -36,7 +37,7 @@ use Rattle.site_script.specs.Commands.{correct_for, target_in, find_in, find_for
 use Rattle.site_script.specs.Commands.{offer_in, buckets_in, deliver_in, deliver_for, old_in}
 use Rattle.site_script.specs.Numbers.{number_in}
 use Rattle.site_script.specs.Commands.{verb_of}
-use Rattle.site_script.specs.Retrieves.{parted, joined, first_in, behind_first, key_at, study_keys, series_keys}
+use Rattle.site_script.specs.Retrieves.{joined, first_in, behind_first, key_at, study_keys, series_keys}
 use Rattle.site_script.specs.Retrieves.{image_keys, named_keys}
 use Rattle.site_script.specs.Fitting.{IsShort, MakesSets}
 use Rattle.site_script.proofs.Lawful.{leaf_stands, image_lawful, note_lawful, AllShort, MOST}
@@ -107,13 +108,10 @@ uids_weigh : (words : List (List ℕ)) → weigh (map uid_in words) ≤ weigh wo
 uids_weigh [] = omega arith
 uids_weigh (w ∷ words) = omega (arith, uids_weigh words, length-take (length w - suffix_len (λ b. b == 0) w) w)
 
-parted_weighs : (uids : List (List ℕ)) → length (parted uids) ≤ weigh uids
-parted_weighs [] = omega arith
-parted_weighs (u ∷ uids) = omega (arith, parted_weighs uids, length-append (92 ∷ u) (parted uids))
-
 joined_weighs : (uids : List (List ℕ)) → length (joined uids) ≤ weigh uids
 joined_weighs [] = omega arith
-joined_weighs (u ∷ uids) = omega (arith, parted_weighs uids, length-append u (parted uids))
+joined_weighs (u ∷ []) = omega arith
+joined_weighs (u ∷ v ∷ uids) = omega (arith, joined_weighs (v ∷ uids), length-append u (92 ∷ joined (v ∷ uids)))
 
 first_weighs : (uids : List (List ℕ)) → length (first_in uids) ≤ weigh uids
 first_weighs [] = omega arith

@@ -9,7 +9,8 @@ use Rattle.data_set.specs.declared.syntax.Syntax.{Syntax}
 use Rattle.data_set.specs.declared.syntax.Syntax.TheVariants.{Implicit}
 use Rattle.data_set.specs.declared.fault.SetFault.TheVariants.{Order, Group, Undefined}
 use Rattle.data_set.specs.Header.{offence}
-use Rattle.data_set.specs.Tags.{is_item_tag, is_reserved_group, is_listed, is_above, is_pixel_data}
+use Rattle.dictionary.specs.Tags.{is_above}
+use Rattle.data_set.specs.Tags.{is_item_tag, is_reserved_group, is_listed, is_pixel_data}
 use Rattle.data_set.specs.Tree.{rows_of}
 use Rattle.data_set.specs.Values.{padded, pad_of}
 use Rattle.data_set.specs.Vr.{undefined_length, inner_syntax, is_undefined}

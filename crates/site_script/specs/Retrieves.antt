@@ -1,6 +1,6 @@
 -- What a `get` line asks for: the keys of its identifier (PS3.4, C.4.3.1.3), and what it accepts.
-use Rattle.std.specs.Prelude.{ℕ, List, [], ◌∷◌, ◌++◌, true, false, codes, if◌then◌else◌}
-use Rattle.std.specs.List.{flat_map}
+use Rattle.std.specs.Prelude.{ℕ, List, [], ◌∷◌, true, false, codes, if◌then◌else◌}
+use Rattle.std.specs.List.{join_with_byte}
 use Rattle.octets.specs.Padding.{trimmed}
 use Rattle.dictionary.specs.declared.elements.TheConstants.{QUERY_RETRIEVE_LEVEL, SERIES_INSTANCE_UID, SOP_INSTANCE_UID}
 use Rattle.dictionary.specs.declared.elements.TheConstants.{STUDY_INSTANCE_UID}
@@ -12,14 +12,9 @@ use Rattle.site_script.specs.Names.{is}
 
 -- ---- lists of UIDs
 
--- some UIDs, with a backslash before each
-abbrev pub parted : List (List ℕ) → List ℕ
-parted uids = flat_map (λ uid. 92 ∷ uid) uids
-
 -- some UIDs, with a backslash between each two
 abbrev pub joined : List (List ℕ) → List ℕ
-joined [] = []
-joined (uid ∷ uids) = uid ++ parted uids
+joined uids = join_with_byte 92 uids
 
 -- the first, and nothing where there is none
 abbrev pub first_in : List (List ℕ) → List ℕ

@@ -7,7 +7,7 @@ ghost use Rattle.retrieve_model.specs.Selection.{selection_of};
 ghost use Rattle.data_set.specs.declared.syntax.Syntax.TheVariants.{Implicit};
 ghost use Rattle.data_set.specs.Written.{IsSet};
 ghost use Rattle.site_script.specs.Sets.{identifier as identifier_of};
-ghost use Rattle.site_script.specs.Retrieves.{parted, joined as joined_of, first_in as first_of, behind_first as behind_first_of, key_at, study_keys as study_keys_of, series_keys as series_keys_of, image_keys as image_keys_of, named_keys as named_keys_of, in_implicit, SCRIPT_ACCEPTS};
+ghost use Rattle.site_script.specs.Retrieves.{first_in as first_of, behind_first as behind_first_of, key_at, study_keys as study_keys_of, series_keys as series_keys_of, image_keys as image_keys_of, named_keys as named_keys_of, in_implicit, SCRIPT_ACCEPTS};
 
 use crate::command::GetLine;
 use crate::identifier::identifier;
@@ -19,33 +19,8 @@ use dictionary::{
     CT_IMAGE_STORAGE, KEY_OBJECT_SELECTION_DOCUMENT_STORAGE, QUERY_RETRIEVE_LEVEL,
     SERIES_INSTANCE_UID, SOP_INSTANCE_UID, STUDY_INSTANCE_UID,
 };
-use octets::{ListOf, Octets, trimmed};
+use octets::{ListOf, Octets, joined, trimmed};
 use std::alloc::{AllocError, Global};
-
-/// Puts UIDs behind others, each behind a backslash.
-fn put_parted(out: &mut Vec<u8>, uids: &[Octets]) -> Result<(), AllocError>
-    ensures { OnOk result (out.new.items ≡ out.old.items ++ parted uids.now) }
-{
-    for uid in uids {
-        out.push(b'\\')?;
-        out.extend_from_slice(uid.as_slice())?;
-    }
-    Ok(())
-}
-
-/// Some UIDs, with a backslash between each two.
-fn joined(alloc: Global, uids: &[Octets]) -> Result<Octets, AllocError>
-    ensures { IfOk result (λ text. text ≡ joined_of uids.now) }
-{
-    match uids {
-        [] => Ok(Octets::of(Vec::new(alloc))),
-        [first, others @ ..] => {
-            let mut text = Vec::from_slice(alloc, first.as_slice())?;
-            put_parted(&mut text, others)?;
-            Ok(Octets::of(text))
-        }
-    }
-}
 
 /// The first UID, and nothing where there is none.
 fn first_in(alloc: Global, uids: &[Octets]) -> Result<Octets, AllocError>
@@ -79,7 +54,7 @@ fn study_keys(alloc: Global, level: &Octets, uids: &[Octets]) -> Result<Vec<Key>
 {
     let mut keys = Vec::new(alloc);
     put_key(&mut keys, QUERY_RETRIEVE_LEVEL, level.copy(alloc)?)?;
-    put_key(&mut keys, STUDY_INSTANCE_UID, joined(alloc, uids)?)?;
+    put_key(&mut keys, STUDY_INSTANCE_UID, joined(alloc, b'\\', uids)?)?;
     Ok(keys)
 }
 
@@ -87,7 +62,7 @@ fn study_keys(alloc: Global, level: &Octets, uids: &[Octets]) -> Result<Vec<Key>
 fn series_keys(alloc: Global, level: &Octets, uids: &[Octets]) -> Result<Vec<Key>, AllocError>
     ensures { IfOk result (λ keys. keys.items ≡ series_keys_of level.now uids.now) }
 {
-    let series = joined(alloc, behind_first(uids))?;
+    let series = joined(alloc, b'\\', behind_first(uids))?;
     let mut keys = Vec::new(alloc);
     put_key(&mut keys, QUERY_RETRIEVE_LEVEL, level.copy(alloc)?)?;
     put_key(&mut keys, STUDY_INSTANCE_UID, first_in(alloc, uids)?)?;
@@ -100,7 +75,7 @@ fn image_keys(alloc: Global, level: &Octets, uids: &[Octets]) -> Result<Vec<Key>
     ensures { IfOk result (λ keys. keys.items ≡ image_keys_of level.now uids.now) }
 {
     let below = behind_first(uids);
-    let instances = joined(alloc, behind_first(below))?;
+    let instances = joined(alloc, b'\\', behind_first(below))?;
     let mut keys = Vec::new(alloc);
     put_key(&mut keys, SOP_INSTANCE_UID, instances)?;
     put_key(&mut keys, QUERY_RETRIEVE_LEVEL, level.copy(alloc)?)?;

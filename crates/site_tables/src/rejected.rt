@@ -7,10 +7,10 @@ ghost use Rattle.archive_model.specs.Index.{names_under as names_under_in};
 ghost use Rattle.site_state.specs.Site.{ops_of};
 ghost use Rattle.site_tables.specs.Rejected.{note_of, notes_of, named_by, covered_uids as covered_in, is_naming as is_naming_in, naming as naming_in, is_titled as is_titled_in, code_under, codes as codes_in, rejected_row as row_of, rejected_rows as rows_in};
 
-use crate::cells::{digits, joined};
+use crate::cells::digits;
 use crate::table::Row;
 use archive_model::title_code;
-use octets::{ListOf, Octets, ascending};
+use octets::{ListOf, Octets, ascending, joined};
 use operation::{Content, Op};
 use rejection_note::{Note, NoteTitle};
 use site_state::Site;
@@ -166,8 +166,8 @@ fn row(alloc: Global, notes: &[&Content], uid: &[u8]) -> Result<Row, AllocError>
     let naming = naming(alloc, notes, uid)?;
     let mut cells = ListOf::new(alloc);
     cells.push(Octets::from_slice(alloc, uid)?)?;
-    cells.push(joined(alloc, &codes)?)?;
-    cells.push(joined(alloc, &naming)?)?;
+    cells.push(joined(alloc, b' ', &codes)?)?;
+    cells.push(joined(alloc, b' ', &naming)?)?;
     Ok(cells)
 }
 

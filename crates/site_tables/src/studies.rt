@@ -142,7 +142,8 @@ fn rows_at(alloc: Global, rejected: &[&Content], answers: &[Answer]) -> Result<V
 {
     let mut rows = Vec::with_capacity(alloc, answers.len())?;
     for answer in answers {
-        rows.push(row(alloc, rejected, answer.set())?)?;
+        let set = answer.to_set(alloc)?;
+        rows.push(row(alloc, rejected, &set)?)?;
     }
     Ok(rows)
 }

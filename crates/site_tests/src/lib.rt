@@ -12,6 +12,8 @@ mod joins;
 #[cfg(test)]
 mod made;
 #[cfg(test)]
+mod merges;
+#[cfg(test)]
 mod refusals;
 #[cfg(test)]
 mod walks;

@@ -21,13 +21,18 @@ fn joined(alloc: Global, texts: &[&[u8]]) -> Result<Vec<u8>, AllocError> {
     Ok(joined)
 }
 
-/// An implicit image of UID 1.2.1.1.1, with a study of 6 bytes and a patient's name of 8.
-fn image_set(alloc: Global, study: &[u8], name: &[u8]) -> Result<Vec<u8>, AllocError> {
+/// An implicit image, with an instance of 10 bytes, a study of 6 and a patient's name of 8.
+fn image_set(
+    alloc: Global,
+    instance: &[u8],
+    study: &[u8],
+    name: &[u8],
+) -> Result<Vec<u8>, AllocError> {
     let parts: [&[u8]; 14] = [
         b"\x08\x00\x16\x00\x1a\x00\x00\x00",
         b"1.2.840.10008.5.1.4.1.1.2\x00",
         b"\x08\x00\x18\x00\x0a\x00\x00\x00",
-        b"1.2.1.1.1\x00",
+        instance,
         b"\x08\x00\x60\x00\x02\x00\x00\x00",
         b"CT",
         b"\x10\x00\x10\x00\x08\x00\x00\x00",
@@ -86,12 +91,20 @@ fn note_set(alloc: Global, title: &[u8], uid: &[u8], covers: &[u8]) -> Result<Ve
 /// What a site may be given.
 #[derive(Clone, Copy)]
 pub enum Given<'a> {
-    /// An image of a study and a patient's name.
+    /// The image of UID 1.2.1.1.1, of a study and a patient's name.
     Image(&'a [u8], &'a [u8]),
+    /// The image of UID 1.2.1.N of study 1.2.1, for a number of four digits.
+    Numbered(u16),
     /// A note of a title and a UID that covers another.
     Note(&'a [u8], &'a [u8], &'a [u8]),
     /// A correction of the patient's name in study 1.2.1, with stamp (1, 1).
     Renaming(&'a [u8]),
+}
+
+fn numbered(alloc: Global, number: u16) -> Result<Op, Fail> {
+    let uid = format!(in alloc; "1.2.1.{number}")?;
+    let set = image_set(alloc, uid.as_bytes(), b"1.2.1\x00", b"DOE^JANE")?;
+    content(alloc, CT, uid.as_bytes(), set)
 }
 
 fn renaming(alloc: Global, name: &[u8]) -> Result<Op, Fail> {
@@ -107,8 +120,10 @@ fn renaming(alloc: Global, name: &[u8]) -> Result<Op, Fail> {
 pub fn op_of(alloc: Global, given: Given<'_>) -> Result<Op, Fail> {
     match given {
         Given::Image(study, name) => {
-            content(alloc, CT, b"1.2.1.1.1", image_set(alloc, study, name)?)
+            let set = image_set(alloc, b"1.2.1.1.1\x00", study, name)?;
+            content(alloc, CT, b"1.2.1.1.1", set)
         }
+        Given::Numbered(number) => numbered(alloc, number),
         Given::Note(title, uid, covers) => {
             let set = note_set(alloc, title, uid, covers)?;
             content(alloc, KEY_OBJECT_SELECTION, uid, set)

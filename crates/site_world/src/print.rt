@@ -157,7 +157,7 @@ fn put_world_fault(alloc: Global, out: &mut Vec<u8>, fault: WorldFault) -> Resul
 fn put_answer(alloc: Global, out: &mut Vec<u8>, row: &Answer) -> Result<(), AllocError>
     ensures { OnOk result (out.new.items ≡ out.old.items ++ answer_line row.now) }
 {
-    let set = row.set().to_implicit(alloc)?;
+    let set = row.to_set(alloc)?.to_implicit(alloc)?;
     let text = write(alloc, &set)?;
     let digits = hex::encode(alloc, text.as_slice())?;
     out.extend_from_slice(b"answer ")?;

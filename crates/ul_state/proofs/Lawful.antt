@@ -9,7 +9,7 @@ use Rattle.pdu.specs.declared.user.Role.{Role}
 use Rattle.pdu.specs.declared.user.UserInformation.{UserInformation}
 use Rattle.pdu.specs.declared.context.ProposedContext.{ProposedContext}
 use Rattle.pdu.specs.declared.request.Request.{Request}
-use Rattle.pdu.specs.Grammar.{trimmed, is_among, are_distinct}
+use Rattle.pdu.specs.Grammar.{is_among, are_distinct}
 use Rattle.pdu.specs.Spelling.{item_of, items_text, HasLength, role_item, length_items, class_items, user_items}
 use Rattle.pdu.specs.Spelling.{syntax_item, proposal_item, answer_item, request_items, IsUidText, FitsRole, FitsUser}
 use Rattle.pdu.specs.Spelling.{FitsProposal, FitsAnswer, FitsOpening, FitsRequest, FitsAccept}
@@ -74,7 +74,6 @@ few cs all e = omega (
 -- ---- contexts
 
 syntax_fits : (taken : Result Bool ℕ) → IsUidText (answer_syntax taken)
-unfolding trimmed
 syntax_fits (Ok true) = (refl, refl)
 syntax_fits (Ok false) = (refl, refl)
 syntax_fits (Err number) = (refl, refl)
@@ -215,7 +214,6 @@ user_size user =
     )
 
 class_fits : IsUidText IMPLEMENTATION_CLASS
-unfolding trimmed
 class_fits = (refl, refl)
 
 our_fits : (user : UserInformation) → FitsUser user → FitsUser (our_user (filter stored user.roles))

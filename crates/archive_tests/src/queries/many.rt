@@ -111,7 +111,7 @@ fn found_rows(alloc: Global, site: &Site, view: View, key: &[u8]) -> Result<Vec<
     let asked = query(alloc, b"STUDY", &keys)??;
     let mut rows = Vec::new(alloc);
     for row in &archive_query::find(alloc, site, view, b"ARCHIVE", &asked)? {
-        let set = row.set();
+        let set = row.to_set(alloc)?;
         let values: [&[u8]; 4] = [
             set.value(0x0020_000d).unwrap_or(b"-"),
             set.value(0x0010_0010).unwrap_or(b"-"),

@@ -11,5 +11,6 @@ returns c =
     record {
       run = run_from_step key c.run_length-length.result c.args.sorted.now c.run_length-length.ensures.within
           (group_step key c.uid_at-uid.result.now c.index-sorted-0.result c.args.sorted.now c.run_length-length.result
-          c.requires.some c.index-sorted-0.is c.uid_at-uid.ensures c.run_length-length.ensures.counted c.requires.ascends);
+          c.requires.some c.index-sorted-0.is c.uid_at-uid.ensures c.run_length-length.ensures.counted
+          c.requires.ascends);
     }

@@ -7,8 +7,8 @@ use Rattle.site_state.specs.Site.{ops_of}
 use Rattle.archive_query.proofs.rows.row.Goals as goal
 
 -- The elements of a row ascend by tag and fit Explicit VR Little Endian, so they are a data set.
-pub of-requires : goal.of-requires
-of-requires c =
+pub of-set-requires : goal.of-set-requires
+of-set-requires c =
     subst (IsSet Explicit) (sym c.in_ok-cells.ensures)
     (row_is_set (λ tag. value_in_row (ops_of c.args.site.now) c.args.called.now c.args.query.now
     (map (λ x. x.now) c.args.contents.now) c.args.first.now tag) c.args.query.now.level)

@@ -23,7 +23,8 @@ pub loop-preserved : goal.loop-preserved
 loop-preserved g c = (
   c.next_exchange-done.ensures.used ∙ ap (λ n. n + 1) c.loop.invariant.0,
   c.next_exchange-done.ensures.told c.loop.invariant.1,
-  onward_trans g.K.Keep.is_up g.K.Keep.holds g.K.Keep.lasts _ _ _ c.loop.invariant.2 c.next_exchange-done.ensures.onward,
+  onward_trans g.K.Keep.is_up g.K.Keep.holds g.K.Keep.lasts _ _ _ c.loop.invariant.2
+      c.next_exchange-done.ensures.onward,
 )
 
 -- So all that may be accepted was, or a fault is told.

@@ -3,7 +3,8 @@ use Rattle.archive_server.proofs.exchanging.next_exchange.Goals as goal
 
 -- Where no exchange came the pass stays.
 pub returns-in-Err-clause-onward : goal.returns-in-Err-clause-onward
-returns-in-Err-clause-onward g c = rw c.with_none.ensures.pass (onward_self g.K.Keep.is_up g.K.Keep.holds g.K.Keep.lasts _)
+returns-in-Err-clause-onward g c =
+    rw c.with_none.ensures.pass (onward_self g.K.Keep.is_up g.K.Keep.holds g.K.Keep.lasts _)
 
 -- Whoever may not come leaves the pass as it is.
 pub returns-in-Ok-None-clause-onward : goal.returns-in-Ok-None-clause-onward

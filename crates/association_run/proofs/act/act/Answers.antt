@@ -3,8 +3,8 @@ use Rattle.std.proofs.lemmas.List.Elements.{All-same, All-rest}
 use Rattle.std.proofs.lemmas.Result.{err_from_is_err_and}
 use Rattle.association_session.specs.Session.{IsWritable}
 use Rattle.association_run.proofs.Fronts.{no_front}
-use Rattle.association_run.proofs.DidLaws.{acting_start, acting_send, acting_reach, acted_ask, acted_close, acted_all}
-use Rattle.association_run.proofs.DidLaws.{acting_broke, acting_broke_at, none_left}
+use Rattle.association_run.proofs.DeedLaws.{acting_start, acting_send, acting_reach, acted_ask, acted_close, acted_all}
+use Rattle.association_run.proofs.DeedLaws.{acting_broke, acting_broke_at, none_left}
 use Rattle.association_run.proofs.act.act.Goals as goal
 
 -- Nothing was done yet.

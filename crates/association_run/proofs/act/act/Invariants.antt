@@ -2,7 +2,7 @@ use Rattle.std.proofs.Common.{◌≡◌}
 use Rattle.std.specs.Prelude.{All}
 use Rattle.association_session.specs.Session.{IsWritable}
 use Rattle.association_run.specs.Parts.{sides}
-use Rattle.association_run.proofs.DidLaws.{Acting}
+use Rattle.association_run.proofs.DeedLaws.{Acting}
 use Rattle.association_run.proofs.act.act.Given as goal
 
 -- The deeds so far are done but for the bytes that are held, none of them a call, and the others are left.

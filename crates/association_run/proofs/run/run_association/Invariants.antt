@@ -1,5 +1,5 @@
 use Rattle.std.proofs.Common.{◌≡◌}
-use Rattle.association_run.specs.Turns.{IsReady, Sofar}
+use Rattle.association_run.specs.Turns.{IsReady, Progress}
 use Rattle.association_run.specs.Parts.{sides}
 use Rattle.association_run.proofs.run.run_association.Given as goal
 
@@ -7,7 +7,7 @@ use Rattle.association_run.proofs.run.run_association.Given as goal
 abbrev pub invariant-loop : goal.invariant-loop
 invariant-loop g l = record {
   ready : IsReady l.session l.intake;
-  so_far : Sofar g.P.Port.ops g.P.Port.own l.titles.list (g.R.Source.remaining l.fn.reader)
+  so_far : Progress g.P.Port.ops g.P.Port.own l.titles.list (g.R.Source.remaining l.fn.reader)
       (g.R.Source.remaining l.reader) (sides l.fn.port (g.W.Sink.contents l.fn.writer) (g.G.Gate.reached l.fn.gate))
       (sides l.port (g.W.Sink.contents l.writer) (g.G.Gate.reached l.gate)) l.session l.intake l.counter;
   read : g.R.Source.failures l.reader ≡ g.R.Source.failures l.fn.reader;

@@ -18,7 +18,8 @@ returns-in-Memory c = ap (λ (fault : HubFault). fault_line (codes "hub") (numbe
 
 -- The last counter is used: the line has its number.
 pub returns-in-StampsSpent : goal.returns-in-StampsSpent
-returns-in-StampsSpent c = ap (λ (fault : HubFault). fault_line (codes "hub") (number_of fault)) (sym c.in-StampsSpent.is)
+returns-in-StampsSpent c =
+    ap (λ (fault : HubFault). fault_line (codes "hub") (number_of fault)) (sym c.in-StampsSpent.is)
 
 -- A pass is missing: the line has its number.
 pub returns-in-Torn : goal.returns-in-Torn
@@ -30,4 +31,5 @@ returns-in-Pending c = ap (λ (fault : HubFault). fault_line (codes "hub") (numb
 
 -- A part may not be there: the line has its number.
 pub returns-in-BadCorrection : goal.returns-in-BadCorrection
-returns-in-BadCorrection c = ap (λ (fault : HubFault). fault_line (codes "hub") (number_of fault)) (sym c.in-BadCorrection.is)
+returns-in-BadCorrection c =
+    ap (λ (fault : HubFault). fault_line (codes "hub") (number_of fault)) (sym c.in-BadCorrection.is)

@@ -8,5 +8,6 @@ use Rattle.op_shelf.proofs.order.by_digest.Goals as goal
 -- The first columns are the texts.
 pub returns : goal.returns
 returns c =
-    let told : c.by_text.result ≡ slice_cmp nat_cmp (digest_text c.args.a.now) (digest_text c.args.b.now) = search rules in
+    let told : c.by_text.result ≡ slice_cmp nat_cmp (digest_text c.args.a.now) (digest_text c.args.b.now) =
+    search rules in
     told ∙ sym (value_cmp-Text (digest_text c.args.a.now) (digest_text c.args.b.now))

@@ -1,11 +1,11 @@
-use Rattle.std.proofs.Common.{◌≡◌, List, true, false, Ok, Err, refl, sym, subst, ap, ◌∙◌, rules, arith}
+use Rattle.std.proofs.Common.{◌≡◌, List, true, false, Ok, sym, subst, arith}
 use Rattle.std.proofs.lemmas.Result.{err_from_is_err_and}
-use Rattle.data_set.specs.Tree.{Tree}
-use Rattle.data_set.specs.Texts.{Spells}
-use Rattle.rejection_note.specs.Notes.{note_in}
+use Rattle.data_set.specs.Lengths.{FitsTrees}
+use Rattle.data_set.specs.Tree.{Tree, trees_of}
+use Rattle.data_set.proofs.Fitting.{set_fits}
 use Rattle.operation.specs.Parts.{ContentParts}
-use Rattle.operation.specs.Contents.{has_uids, names_itself, IsShort, IsContent, draft_of}
-use Rattle.operation.proofs.ContentLaws.{without_uids, of_other_names, of_its_names, of_a_note, made}
+use Rattle.operation.specs.Contents.{has_uids, names_itself, IsShort, IsContent, IsOutcome}
+use Rattle.operation.proofs.ContentLaws.{without_uids, of_other_names, of_its_names, of_a_note, kept_is_outcome}
 use Rattle.operation.proofs.contents.content_from.Goals as goal
 
 -- The data set was read, and the test of its UIDs failed: NoUid offends.
@@ -62,64 +62,29 @@ returns-in_err-note c =
     short (rw c.as_slice.ensures at c.in_ok-set.ensures.found) (of_its_names draft elements uids names)
     (rw c.as_slice-2.ensures at c.in_err-note.ensures))
 
+-- What was read has lengths that their headers spell.
+pub key_values-requires : goal.key_values-requires
+key_values-requires c = subst (λ (ts : List Tree). FitsTrees (trees_of ts)) (sym c.elements-elements.ensures.elements)
+    (set_fits c.in_ok-set.set.syntax c.in_ok-set.set.elements c.elements-elements.ensures.set)
+
 -- Every test was passed, so the parts are those of a content.
 pub invariant_of-result : goal.invariant_of-result
 invariant_of-result c =
     let draft = c.args.draft in
-    let elements = c.in_ok-set.set.elements in
     let short : IsShort draft = omega (arith, c.len.ensures.value) in
-    let uids : has_uids draft.class draft.instance elements ≡ true =
-    sym (rw c.elements-elements.ensures.elements at c.if-not-has_all_uids.ensures)
-    in
-    let names : names_itself draft.class draft.instance elements ≡ true =
-    sym (rw c.elements-elements.ensures.elements at c.if-not-is_named_so.ensures)
-    in
-    let said : note_in draft.class elements ≡ Ok c.in_ok-note.note =
-    rw (c.as_slice-2.ensures) at c.in_ok-note.ensures
-    in
-    let content : ContentParts =
-    record {
-      class = draft.class;
-      instance = draft.instance;
-      syntax = draft.syntax;
-      body = draft.body;
-      values =
-          c.of-values.result;
-      note = c.in_ok-note.note;
-    }
-    in
-    subst IsContent (sym c.in_ok-new.ensures.ok)
-    (made content elements short (rw c.as_slice.ensures at c.in_ok-set.ensures.found) uids names
-    said (c.of-values.ensures ∙ rw c.elements-elements.ensures.elements at c.in_ok-key_values.ensures))
+    let is = kept_is_outcome draft c.in_ok-set.set.elements c.elements-elements.result.now c.in_ok-values.values
+    c.in_ok-note.note short (rw c.as_slice.ensures at c.in_ok-set.ensures.found) c.elements-elements.ensures.elements
+    c.if-not-has_all_uids.ensures c.if-not-is_named_so.ensures (rw c.as_slice-2.ensures at c.in_ok-note.ensures)
+    c.in_ok-values.ensures in
+    subst IsContent (sym c.in_ok-new.ensures.ok) is.1
 
 -- Every test was passed, so the outcome is this content.
 pub returns : goal.returns
 returns c =
     let draft = c.args.draft in
-    let elements = c.in_ok-set.set.elements in
     let short : IsShort draft = omega (arith, c.len.ensures.value) in
-    let uids : has_uids draft.class draft.instance elements ≡ true =
-    sym (rw c.elements-elements.ensures.elements at c.if-not-has_all_uids.ensures)
-    in
-    let names : names_itself draft.class draft.instance elements ≡ true =
-    sym (rw c.elements-elements.ensures.elements at c.if-not-is_named_so.ensures)
-    in
-    let said : note_in draft.class elements ≡ Ok c.in_ok-note.note =
-    rw (c.as_slice-2.ensures) at c.in_ok-note.ensures
-    in
-    let content : ContentParts =
-    record {
-      class = draft.class;
-      instance = draft.instance;
-      syntax = draft.syntax;
-      body = draft.body;
-      values =
-          c.of-values.result;
-      note = c.in_ok-note.note;
-    }
-    in (
-      ap draft_of c.in_ok-new.ensures.ok,
-      subst IsContent (sym c.in_ok-new.ensures.ok)
-          (made content elements short (rw c.as_slice.ensures at c.in_ok-set.ensures.found) uids names
-          said (c.of-values.ensures ∙ rw c.elements-elements.ensures.elements at c.in_ok-key_values.ensures)),
-    )
+    let is = kept_is_outcome draft c.in_ok-set.set.elements c.elements-elements.result.now c.in_ok-values.values
+    c.in_ok-note.note short (rw c.as_slice.ensures at c.in_ok-set.ensures.found) c.elements-elements.ensures.elements
+    c.if-not-has_all_uids.ensures c.if-not-is_named_so.ensures (rw c.as_slice-2.ensures at c.in_ok-note.ensures)
+    c.in_ok-values.ensures in
+    subst (λ (content : ContentParts). IsOutcome draft (Ok content)) (sym c.in_ok-new.ensures.ok) is

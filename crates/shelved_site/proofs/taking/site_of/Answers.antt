@@ -18,7 +18,8 @@ loop-op-init c =
 pub loop-op-preserved : goal.loop-op-preserved
 loop-op-preserved c =
     let seen = c.loop-op.invariant in
-    let more = taken_next c.loop-op.site c.take_digested.new.self seen.0 (into_iter_items c.next.new.self) c.args.ops.items
+    let more =
+    taken_next c.loop-op.site c.take_digested.new.self seen.0 (into_iter_items c.next.new.self) c.args.ops.items
     c.in-Some.op c.in_ok-_taken._taken seen.1 (ap (λ left. seen.0 ++ left) (sym c.in-Some.ensures.steps.0) ∙ seen.2)
     c.in_ok-_taken.ensures.takes in
     (more.0, more.1, more.2, omega (arith, seen.3, ap length c.in-Some.ensures.steps.0, c.in-Some.ensures.steps.1))

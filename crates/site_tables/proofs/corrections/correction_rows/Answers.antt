@@ -17,7 +17,8 @@ returns c =
     in
     record {
       ordered = ordered;
-      same = subst (λ ks. IsPermutation ks ordered) found (IsPermutation-map (λ k. k.now) _ _ c.put_in_order.ensures.same);
+      same =
+          subst (λ ks. IsPermutation ks ordered) found (IsPermutation-map (λ k. k.now) _ _ c.put_in_order.ensures.same);
       order = c.put_in_order.ensures.ordered;
       told = c.in_ok-rows.ensures
           ∙ ap (λ ks. map (correction_row all) (map (λ k. k.now) ks)) c.deref-2.ensures.value;

@@ -3,5 +3,6 @@ use Rattle.archive_server.proofs.port.ServerPortPort.find.Goals as goal
 
 -- A look makes nothing the pass's own.
 pub invariant_of-self : goal.invariant_of-self
-invariant_of-self g c = onward_looked g.K.Keep.is_up g.K.Keep.holds g.K.Keep.lasts _ _ _ c.self.invariant c.rows.ensures.later
+invariant_of-self g c =
+    onward_looked g.K.Keep.is_up g.K.Keep.holds g.K.Keep.lasts _ _ _ c.self.invariant c.rows.ensures.later
     c.rows.ensures.finds.own_kept

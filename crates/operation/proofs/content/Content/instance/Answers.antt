@@ -5,5 +5,5 @@ use Rattle.operation.proofs.content.Content.instance.Goals as goal
 
 -- The instance of a content is a UID, and no UID is longer.
 pub returns-clause-short : goal.returns-clause-short
-returns-clause-short c = rw c.as_slice.ensures (instance_short _
+returns-clause-short c = rw c.value_or_empty.ensures (instance_short _
     (subst IsContent (sym (c.behind-self.view_is ∙ c.deref.ensures)) c.self.invariant))

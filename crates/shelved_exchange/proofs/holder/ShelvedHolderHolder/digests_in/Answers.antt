@@ -5,7 +5,8 @@ use Rattle.shelved_exchange.proofs.holder.ShelvedHolderHolder.digests_in.Goals a
 pub invariant_of-self : goal.invariant_of-self
 invariant_of-self g c =
     let up = g.K.Keep.is_up in let holds = g.K.Keep.holds in let lasts = g.K.Keep.lasts in
-    gains_trans up holds lasts _ _ _ c.self.invariant (gains_same up holds lasts _ _ ((c.digests_in.ensures.stays tt).1))
+    gains_trans up holds lasts _ _ _ c.self.invariant
+    (gains_same up holds lasts _ _ ((c.digests_in.ensures.stays tt).1))
 
 -- What the site answers the holder answers.
 pub returns : goal.returns

@@ -1,0 +1,108 @@
+//! The figures, each a line on standard output.
+ghost use Rattle.std.specs.Prelude.{◌≡◌};
+
+use crate::made::{IMAGE_LENGTH, images, queries};
+use crate::running::{MOST_READERS, Work, run};
+use anyhow::{Result, anyhow};
+use operation::Digested;
+use site_hub::open;
+use site_state::Site;
+use std::alloc::Global;
+use std::marker::Brand;
+use std::process::Abort;
+use std::rt::HostRuntime;
+use std::sync::Wait;
+use std::thread::Threads;
+use std::time::{Duration, Instant};
+
+/// The site of these images.
+fn site_of(alloc: Global, images: Vec<Digested>) -> Result<Site> {
+    let mut site = Site::new(alloc);
+    for image in images {
+        site.take_digested(image)?;
+    }
+    Ok(site)
+}
+
+/// How many a second, in a time.
+fn a_second(count: u64, time: Duration) -> u128 {
+    let micros = time.as_micros();
+    if micros == 0 {
+        return 0;
+    }
+    u128::from(count).saturating_mul(1_000_000) / micros
+}
+
+/// The number of a word.
+fn number(words: &[String], place: usize) -> Result<u64> {
+    match words.get(place) {
+        Some(word) => Ok(word.as_str().parse::<u64>()?),
+        None => Err(anyhow!("a number is missing")),
+    }
+}
+
+/// Publishes, while passes look.
+pub fn published<R: Threads + Wait + Abort + Sync>(
+    rt: &HostRuntime,
+    host: &R,
+    words: &[String],
+) -> Result<()> {
+    let alloc = rt.alloc();
+    let readers = number(words, 2)?.min(MOST_READERS);
+    let count = number(words, 3)?;
+    let work = Work {
+        images: images(alloc, count)?,
+        queries: queries(alloc, 1)?,
+        readers,
+        looks: u64::MAX,
+    };
+    let opened = open(alloc, host, Site::new(alloc), 1, 5)?;
+    let begin = Instant::now(rt)?;
+    let looks = run::<Brand, _>(host, opened, work)?;
+    let time = begin.elapsed(rt)?;
+    let publishes = a_second(count, time);
+    let answered = a_second(looks, time);
+    println!(rt; "{publishes} published a second, {answered} looks a second by {readers}")?;
+    Ok(())
+}
+
+/// Looks at a hub to which nothing is published.
+pub fn looked<R: Threads + Wait + Abort + Sync>(
+    rt: &HostRuntime,
+    host: &R,
+    words: &[String],
+) -> Result<()> {
+    let alloc = rt.alloc();
+    let readers = number(words, 2)?.min(MOST_READERS);
+    let count = number(words, 3)?;
+    let site = site_of(alloc, images(alloc, count)?)?;
+    let work = Work {
+        images: Vec::new(alloc),
+        queries: queries(alloc, count)?,
+        readers,
+        looks: number(words, 4)?,
+    };
+    let opened = open(alloc, host, site, 1, 5)?;
+    let begin = Instant::now(rt)?;
+    let looks = run::<Brand, _>(host, opened, work)?;
+    let time = begin.elapsed(rt)?;
+    let answered = a_second(looks, time);
+    println!(rt; "{answered} looks a second by {readers}")?;
+    Ok(())
+}
+
+/// Holds a site, or a hub of it.
+pub fn held<R: Wait>(rt: &HostRuntime, host: &R, words: &[String], is_hub: bool) -> Result<()> {
+    let alloc = rt.alloc();
+    let count = number(words, 2)?;
+    let site = site_of(alloc, images(alloc, count)?)?;
+    if is_hub {
+        let opened = open(alloc, host, site, 1, 5)?;
+        println!(rt; "a hub of {count} images of {IMAGE_LENGTH} bytes")?;
+        drop(opened);
+        return Ok(());
+    }
+    println!(rt; "a site of {count} images of {IMAGE_LENGTH} bytes")?;
+    drop(site);
+    Ok(())
+}

@@ -1,0 +1,119 @@
+//! The images that are published, and the query that is asked.
+
+use anyhow::Result;
+use archive_query::Query;
+use bytes::Bytes;
+use data_set::{Syntax, read};
+use octets::Octets;
+use operation::{Digested, Op, content_of};
+use std::alloc::Global;
+
+/// How many bytes the data set of an image has.
+pub const IMAGE_LENGTH: usize = 1_966;
+
+/// CT Image Storage
+const CT: &[u8] = b"1.2.840.10008.5.1.4.1.1.2";
+
+/// An element in Implicit VR Little Endian, which a byte pads to even length.
+fn put(bytes: &mut Vec<u8>, tag: [u8; 4], value: &[u8], pad: u8) -> Result<()> {
+    let size = u32::try_from(value.len())?;
+    bytes.extend_from_slice(tag.as_slice())?;
+    bytes.extend_from_slice(size.saturating_add(size % 2).to_le_bytes().as_slice())?;
+    bytes.extend_from_slice(value)?;
+    if size % 2 == 1 {
+        bytes.push(pad)?;
+    }
+    Ok(())
+}
+
+/// The UID of study k.
+fn study(alloc: Global, k: u64) -> Result<String> {
+    Ok(format!(in alloc; "1.2.826.0.1.3680043.2.1143.{k}")?)
+}
+
+/// The data set of the only image of study k.
+fn image_set(alloc: Global, k: u64) -> Result<Vec<u8>> {
+    let study = study(alloc, k)?;
+    let series = format!(in alloc; "{study}.1")?;
+    let uid = format!(in alloc; "{study}.1.1")?;
+    let patient = format!(in alloc; "PATIENT{k}")?;
+    let mut bytes = Vec::with_capacity(alloc, IMAGE_LENGTH)?;
+    put(&mut bytes, [0x08, 0x00, 0x16, 0x00], CT, 0)?;
+    put(&mut bytes, [0x08, 0x00, 0x18, 0x00], uid.as_bytes(), 0)?;
+    put(&mut bytes, [0x08, 0x00, 0x20, 0x00], b"20250131", b' ')?;
+    put(&mut bytes, [0x08, 0x00, 0x30, 0x00], b"101500", b' ')?;
+    put(
+        &mut bytes,
+        [0x08, 0x00, 0x50, 0x00],
+        patient.as_bytes(),
+        b' ',
+    )?;
+    put(&mut bytes, [0x08, 0x00, 0x60, 0x00], b"CT", b' ')?;
+    put(&mut bytes, [0x08, 0x00, 0x90, 0x00], b"ROE^RICHARD", b' ')?;
+    put(&mut bytes, [0x08, 0x00, 0x30, 0x10], b"THORAX", b' ')?;
+    put(&mut bytes, [0x08, 0x00, 0x3e, 0x10], b"AXIAL", b' ')?;
+    put(&mut bytes, [0x10, 0x00, 0x10, 0x00], b"DOE^JANE", b' ')?;
+    put(
+        &mut bytes,
+        [0x10, 0x00, 0x20, 0x00],
+        patient.as_bytes(),
+        b' ',
+    )?;
+    put(&mut bytes, [0x10, 0x00, 0x30, 0x00], b"19610203", b' ')?;
+    put(&mut bytes, [0x10, 0x00, 0x40, 0x00], b"F", b' ')?;
+    put(&mut bytes, [0x20, 0x00, 0x0d, 0x00], study.as_bytes(), 0)?;
+    put(&mut bytes, [0x20, 0x00, 0x0e, 0x00], series.as_bytes(), 0)?;
+    put(&mut bytes, [0x20, 0x00, 0x10, 0x00], b"1", b' ')?;
+    put(&mut bytes, [0x20, 0x00, 0x11, 0x00], b"1", b' ')?;
+    put(&mut bytes, [0x20, 0x00, 0x13, 0x00], b"1", b' ')?;
+    let left = IMAGE_LENGTH.saturating_sub(bytes.len()).saturating_sub(8);
+    let pixels = vec![in alloc; 0u8; left]?;
+    put(&mut bytes, [0xe0, 0x7f, 0x10, 0x00], &pixels, 0)?;
+    Ok(bytes)
+}
+
+/// The only image of study k, with its digest.
+fn image(alloc: Global, k: u64) -> Result<Digested> {
+    let bytes = image_set(alloc, k)?;
+    let uid = format!(in alloc; "{study}.1.1", study = study(alloc, k)?)?;
+    let class = Octets::from_slice(alloc, CT)?;
+    let instance = Octets::from_slice(alloc, uid.as_bytes())?;
+    let body = Bytes::from_vec(bytes)?;
+    let content = content_of(alloc, class, instance, Syntax::Implicit, body)?;
+    Ok(Digested::of(Op::Content(content)))
+}
+
+/// So many images, each of a study of its own.
+pub fn images(alloc: Global, count: u64) -> Result<Vec<Digested>> {
+    let mut images = Vec::new(alloc);
+    for k in 0..count {
+        images.push(image(alloc, k)?)?;
+    }
+    Ok(images)
+}
+
+/// A query by the UID of study k, with four keys more.
+fn query(alloc: Global, k: u64) -> Result<Query> {
+    let study = study(alloc, k)?;
+    let mut bytes = Vec::new(alloc);
+    put(&mut bytes, [0x08, 0x00, 0x20, 0x00], b"", b' ')?;
+    put(&mut bytes, [0x08, 0x00, 0x52, 0x00], b"STUDY", b' ')?;
+    put(&mut bytes, [0x08, 0x00, 0x30, 0x10], b"", b' ')?;
+    put(&mut bytes, [0x10, 0x00, 0x10, 0x00], b"", b' ')?;
+    put(&mut bytes, [0x10, 0x00, 0x20, 0x00], b"", b' ')?;
+    put(&mut bytes, [0x20, 0x00, 0x0d, 0x00], study.as_bytes(), 0)?;
+    let set = read(alloc, Syntax::Implicit, &bytes)?;
+    Ok(Query::read(alloc, &set)?)
+}
+
+/// How many queries are asked in turn.
+pub const QUERIES: u64 = 256;
+
+/// Queries by the UIDs of studies that lie apart, of so many.
+pub fn queries(alloc: Global, studies: u64) -> Result<Vec<Query>> {
+    let mut queries = Vec::new(alloc);
+    for k in 0..QUERIES {
+        queries.push(query(alloc, k.saturating_mul(7_919) % studies.max(1))?)?;
+    }
+    Ok(queries)
+}
