@@ -9,7 +9,6 @@ use site_hub::open;
 use site_state::Site;
 use std::alloc::Global;
 use std::marker::Brand;
-use std::process::Abort;
 use std::rt::HostRuntime;
 use std::sync::Wait;
 use std::thread::Threads;
@@ -42,7 +41,7 @@ fn number(words: &[String], place: usize) -> Result<u64> {
 }
 
 /// Publishes, while passes look.
-pub fn published<R: Threads + Wait + Abort + Sync>(
+pub fn published<R: Threads + Wait + Sync>(
     rt: &HostRuntime,
     host: &R,
     words: &[String],
@@ -67,7 +66,7 @@ pub fn published<R: Threads + Wait + Abort + Sync>(
 }
 
 /// Looks at a hub to which nothing is published.
-pub fn looked<R: Threads + Wait + Abort + Sync>(
+pub fn looked<R: Threads + Wait + Sync>(
     rt: &HostRuntime,
     host: &R,
     words: &[String],

@@ -7,7 +7,6 @@ use archive_model::View;
 use archive_query::Query;
 use operation::Digested;
 use site_hub::{HubName, Keeper, Opened, Pass, Snapshot, store_digested};
-use std::process::Abort;
 use std::sync::atomic::{AtomicU64, Ordering};
 use std::sync::{Mutex, Wait};
 use std::thread::{Threads, join, yield_now};
@@ -140,7 +139,7 @@ fn reader<H: HubName>(passes: &mut Vec<Pass<H>>, readers: u64, place: u64) -> Op
 }
 
 /// The work of a hub. It says how many looks were answered.
-pub fn run<H: HubName + Send + Sync, R: Threads + Wait + Abort + Sync>(
+pub fn run<H: HubName + Send + Sync, R: Threads + Wait + Sync>(
     rt: &R,
     opened: Opened<&R>,
     work: Work,
