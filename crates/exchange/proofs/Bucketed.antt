@@ -1,9 +1,8 @@
 -- What a round by buckets gives.
 use Rattle.std.proofs.Common.{inl, inr, ◌≡◌, ℕ, zero, suc, ◌+◌, ◌<◌, ◌≤◌, List, [], ◌∷◌, Bool, true, false, cond}
-use Rattle.std.proofs.Common.{Option, Some, None, get_or, refl, sym, ap, subst, ◌∙◌, arith, eqb}
-use Rattle.std.proofs.lemmas.Bool.{false≢true}
-use Rattle.std.specs.Prelude.{◌==◌, ◌||◌, map, filter, not, slice_index}
-use Rattle.std.specs.List.{range_with_len, list_any}
+use Rattle.std.proofs.Common.{Option, Some, get_or, refl, sym, ap, subst, ◌∙◌, arith, eqb}
+use Rattle.std.specs.Prelude.{◌==◌, map, filter, not, slice_index}
+use Rattle.std.specs.List.{range_with_len}
 use Rattle.std.specs.Map.{keys_of}
 use Rattle.std.specs.BTreeMap.{is_at}
 use Rattle.std.specs.Ordering.{is_eq}
@@ -12,17 +11,16 @@ use Rattle.std.specs.Cmp.Lexicographic.{nat_list_cmp_total}
 use Rattle.std.specs.FinMap.{entries}
 use Rattle.sha2.specs.Sha256.{sha256, digest_bytes}
 use Rattle.octets.specs.Members.{Has}
-use Rattle.octets.specs.Texts.{same}
 use Rattle.archive_model.proofs.ModelLaws.{same_is}
 use Rattle.archive_model.proofs.MemberLaws.{has_any, has_filter, filter_has}
 use Rattle.operation.specs.declared.op.Op.{Op}
 use Rattle.operation.specs.Spelling.{digest_of}
-use Rattle.site_state.specs.Site.{Map, IsSite, held_at, digest_cmp}
-use Rattle.site_state.proofs.Maps.{held, tied}
+use Rattle.site_state.specs.Site.{Map, held_at, digest_cmp}
+use Rattle.site_state.proofs.Maps.{held}
 use Rattle.site_state.proofs.Unions.{held_entries}
 use Rattle.exchange.specs.declared.version.Version.{Version}
 use Rattle.exchange.specs.declared.reader.TheConstants.{BUCKET_COUNT}
-use Rattle.exchange.specs.Held.{is_spoken, place_of, is_in, spoken_of, offered, HasGrown}
+use Rattle.exchange.specs.Held.{is_spoken, place_of, is_in, spoken_of, offered}
 use Rattle.exchange.specs.Buckets.{bucket_of, bucket_list, is_unequal, unequal}
 use Rattle.exchange.specs.Laws.{RoundByBucketsGivesAll}
 use Rattle.exchange.proofs.Rounds.{offered_has, own_digest, had_is_held}

@@ -1,10 +1,11 @@
 pub mod Lists
+pub mod Chunks
 pub mod Frames
 pub mod Outcomes
 pub mod Writings
 pub mod Hashed
 pub mod Holdings
-pub mod Asked
+pub mod Askings
 pub mod Rounds
 pub mod Bucketed
 pub mod Said

@@ -16,7 +16,7 @@ use Rattle.site_state.proofs.Unions.{held_entries}
 use Rattle.exchange.specs.declared.version.Version.{Version}
 use Rattle.exchange.specs.declared.version.Version.TheVariants.{Two}
 use Rattle.exchange.specs.Held.{is_spoken, spoken_of, offered, is_lacking, lacked, if_spoken, given, HasGrown}
-use Rattle.exchange.specs.Laws.{HasAllSpoken, HoldsEach, IsAnswered, GainsOnly, IsRound, RoundGivesAll, RoundsMakeEqual}
+use Rattle.exchange.specs.Laws.{IsAnswered, IsRound, RoundGivesAll, RoundsMakeEqual}
 
 -- ---- members
 

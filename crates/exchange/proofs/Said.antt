@@ -28,7 +28,7 @@ use Rattle.exchange.specs.declared.frame.Frame.TheVariants.{Have, Want, Buckets,
 use Rattle.exchange.specs.declared.reader.TheConstants.{BUCKET_COUNT, MOST_DIGESTS}
 use Rattle.exchange.specs.Held.{is_spoken, place_of, is_in, is_lacking, offered, offered_in, lacked}
 use Rattle.exchange.specs.Buckets.{bucket_of, bucket_list, is_unequal, unequal}
-use Rattle.exchange.specs.Spelling.{ascends, AreDigests, IsCounted, IsFrame}
+use Rattle.exchange.specs.Spelling.{ascends, AreDigests, IsFrame}
 use Rattle.exchange.specs.Laws.{RoundSaysFrames}
 use Rattle.exchange.proofs.Bucketed.{offered_held, place_small}
 use Rattle.exchange.proofs.Rounds.{own_digest}
@@ -92,7 +92,7 @@ above_too cmp order x y [] less above = tt
 above_too cmp order x y (z ∷ ys) less above =
     (order.trans x y z less above.0, above_too cmp order x y ys less above.1)
 
-ascends_sorted : {X : Type 0} (cmp : X → X → Ordering) (order : IsTotalOrder cmp) (xs : List X)
+pub ascends_sorted : {X : Type 0} (cmp : X → X → Ordering) (order : IsTotalOrder cmp) (xs : List X)
     → ascends cmp xs ≡ true → IsStrictlySortedBy cmp xs
 unfolding IsStrictlySortedBy
 ascends_sorted cmp order [] e = tt

@@ -1,3 +1,4 @@
+pub mod Digests
 pub mod Fault
 pub mod Header
 pub mod Spelling
@@ -7,5 +8,6 @@ pub mod Held
 pub mod Buckets
 pub mod Hashing
 pub mod Places
+pub mod Asked
 pub mod Round
 pub mod Laws

@@ -1,5 +1,6 @@
 //! What a frame says.
 
+use crate::digests::Digests;
 use octets::{ListOf, Octets};
 use operation::{Digest, Op};
 
@@ -7,9 +8,9 @@ use operation::{Digest, Op};
 #[derive(Debug, Drop)]
 pub enum Frame {
     /// Digests that the sender holds, ascending.
-    Have(ListOf<Digest>),
+    Have(Digests),
     /// Digests that the sender asks for, ascending.
-    Want(ListOf<Digest>),
+    Want(Digests),
     /// An operation that was asked for.
     Give(Op),
     /// No more operations are given.

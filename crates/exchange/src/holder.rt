@@ -6,6 +6,7 @@ ghost use Rattle.site_state.specs.Site.{Map};
 ghost use Rattle.exchange.specs.Held.{offered, offered_in, lacked, given, Looks, TakesIn};
 ghost use Rattle.exchange.specs.Buckets.{bucket_list};
 
+use crate::digests::Digests;
 use crate::fault::HolderFault;
 use crate::version::Version;
 use octets::ListOf;
@@ -22,7 +23,7 @@ pub trait Holder {
     ghost alone: { Self → Type 0 };
 
     /// The digests of all operations that a version speaks of, ascending.
-    fn digests(&mut self, alloc: Global, version: Version) -> Result<ListOf<Digest>, HolderFault>
+    fn digests(&mut self, alloc: Global, version: Version) -> Result<Digests, HolderFault>
         ensures { Looks holds alone self.old self.new (λ m. IfOk result (λ digests. digests
             ≡ offered version m)) };
 
@@ -32,7 +33,7 @@ pub trait Holder {
         alloc: Global,
         version: Version,
         places: &[u8],
-    ) -> Result<ListOf<Digest>, HolderFault>
+    ) -> Result<Digests, HolderFault>
         ensures { Looks holds alone self.old self.new (λ m. IfOk result (λ digests. digests
             ≡ offered_in version places.now m)) };
 
@@ -43,7 +44,7 @@ pub trait Holder {
             ≡ bucket_list (offered version m))) };
 
     /// Those of some digests that are not held, in the order given.
-    fn missing(&mut self, alloc: Global, digests: &[Digest]) -> Result<ListOf<Digest>, HolderFault>
+    fn missing(&mut self, alloc: Global, digests: &Digests) -> Result<Digests, HolderFault>
         ensures { Looks holds alone self.old self.new (λ m. IfOk result (λ missing. missing
             ≡ lacked m digests.now)) };
 
@@ -53,7 +54,7 @@ pub trait Holder {
         &mut self,
         alloc: Global,
         version: Version,
-        digests: &[Digest],
+        digests: &Digests,
     ) -> Result<ListOf<Op>, HolderFault>
         ensures { Looks holds alone self.old self.new (λ m. IfOk result (λ ops. ops
             ≡ given version digests.now m)) };

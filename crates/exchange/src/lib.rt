@@ -7,7 +7,9 @@
 //! (docs/DECISIONS.md, "Frames").
 #![tactic(auto)]
 
+mod asked;
 mod buckets;
+mod digests;
 mod fault;
 mod frame;
 mod header;
@@ -21,6 +23,7 @@ mod version;
 mod writer;
 
 pub use buckets::buckets_of_tree;
+pub use digests::{Digests, DigestsMut};
 pub use fault::{ExchangeFault, FrameFault, HolderFault};
 pub use frame::Frame;
 pub use header::{FrameHeader, HEADER_LENGTH, LONGEST_BODY, read_frame_header};
@@ -33,7 +36,8 @@ pub use numbers::{frames_have_these_kinds, limits_are_these};
 pub use reader::{MOST_DIGESTS, a_text_spells_one_frame, read_frame_body};
 pub use round::Round;
 pub use site_holder::{
-    buckets_of_site, differ_of_site, digests_of_site, digests_of_site_in, ops_of_site,
+    buckets_of_site, differ_of_site, digests_of_site, digests_of_site_in, missing_of_site,
+    ops_of_site,
 };
 pub use version::Version;
 pub use writer::{FrameText, what_is_written_is_read_again, write_frame};

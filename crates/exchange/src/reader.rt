@@ -12,6 +12,7 @@ ghost use Rattle.exchange.specs.Header.{header_text};
 ghost use Rattle.exchange.specs.Spelling.{text_of, ascends, IsFrame};
 ghost use Rattle.exchange.specs.Reading.{cut, counts_too_many as has_many, is_long, or_bad, counted_at, buckets_at, places_at, version_at, end_at, frame_at, IsGiven, IsOutcome, HasFault};
 
+use crate::digests::Digests;
 use crate::fault::FrameFault;
 use crate::frame::Frame;
 use crate::header::{BUCKETS, DIFFER, END, FrameHeader, GIVE, HAVE, HELLO, WANT};
@@ -53,17 +54,6 @@ fn digests_of(alloc: Global, count: usize, text: &[u8]) -> Result<Vec<Digest>, A
     Ok(digests)
 }
 
-fn digests_ascend(digests: &[Digest]) -> bool
-    ensures { result ≡ ascends text_cmp digests.now }
-{
-    for at in 1..digests.len() {
-        if digests[at - 1].cmp(&digests[at]) != Ordering::Less {
-            return false;
-        }
-    }
-    true
-}
-
 fn bytes_ascend(bytes: &[u8]) -> bool
     ensures { result ≡ ascends nat_cmp bytes.now }
 {
@@ -87,28 +77,29 @@ fn counts_too_many(body: &[u8]) -> bool
 /// Whether a HAVE or a WANT says that it has more digests than are read.
 #[tactic(auto, unfolding(crate::specs::Reading::is_long))]
 fn says_too_many(kind: u8, body: &[u8]) -> bool
-    ensures { result ≡ is_long kind body.now }
+    ensures exact { result ≡ is_long kind body.now }
+    ensures octets { IsBytes body.now }
 {
     (kind == HAVE || kind == WANT) && counts_too_many(body)
 }
 
-/// A count and that many digests, ascending.
+/// A count and that many digests, ascending, which stay where they lie.
 #[tactic(auto, unfolding(crate::specs::Reading::counted_at))]
-fn counted_of(alloc: Global, text: &[u8]) -> Result<ListOf<Digest>, FrameFault>
-    ensures { Gives is_memory (λ digests. digests) result (or_bad (counted_at text.now)) }
+fn counted_of(body: Bytes) -> Result<Digests, FrameFault>
+    ensures { Gives is_memory (λ digests. digests) result (or_bad (counted_at body)) }
 {
-    let [a, b, c, d, rest @ ..] = text else {
+    let [a, b, c, d, rest @ ..] = body.as_slice() else {
         return Err(FrameFault::BadFrame);
     };
     let count = u32::from_be_bytes([*a, *b, *c, *d]) as usize;
     if rest.len() != DIGEST_LENGTH * count {
         return Err(FrameFault::BadFrame);
     }
-    let digests = digests_of(alloc, count, rest)?;
-    if !digests_ascend(digests.as_slice()) {
+    let digests = Digests::cut(body.slice(4..)?, count);
+    if !digests.ascend() {
         return Err(FrameFault::BadFrame);
     }
-    Ok(ListOf::of(digests))
+    Ok(digests)
 }
 
 #[tactic(auto, unfolding(crate::specs::Reading::buckets_at))]
@@ -159,17 +150,16 @@ fn end_of(text: &[u8]) -> Result<Frame, FrameFault>
 
 /// What a body says that is none of a GIVE.
 #[tactic(auto, unfolding(crate::specs::Reading::frame_at))]
-fn frame_of(alloc: Global, kind: u8, text: &[u8]) -> Result<Frame, FrameFault>
-    ensures exact { Gives is_memory (λ frame. frame) result (or_bad (frame_at kind text.now)) }
-    ensures octets { IsBytes text.now }
+fn frame_of(alloc: Global, kind: u8, body: Bytes) -> Result<Frame, FrameFault>
+    ensures { Gives is_memory (λ frame. frame) result (or_bad (frame_at kind body)) }
 {
     match kind {
-        HAVE => Ok(Frame::Have(counted_of(alloc, text)?)),
-        WANT => Ok(Frame::Want(counted_of(alloc, text)?)),
-        END => end_of(text),
-        BUCKETS => Ok(Frame::Buckets(buckets_of(alloc, text)?)),
-        DIFFER => Ok(Frame::Differ(places_of(alloc, text)?)),
-        HELLO => Ok(Frame::Hello(version_of(text)?)),
+        HAVE => Ok(Frame::Have(counted_of(body)?)),
+        WANT => Ok(Frame::Want(counted_of(body)?)),
+        END => end_of(body.as_slice()),
+        BUCKETS => Ok(Frame::Buckets(buckets_of(alloc, body.as_slice())?)),
+        DIFFER => Ok(Frame::Differ(places_of(alloc, body.as_slice())?)),
+        HELLO => Ok(Frame::Hello(version_of(body.as_slice())?)),
         _ => Err(FrameFault::BadFrame),
     }
 }
@@ -203,13 +193,13 @@ fn body_of(alloc: Global, kind: u8, body: Bytes) -> Result<Frame, FrameFault>
     if kind == GIVE {
         return Ok(Frame::Give(given_of(alloc, body)?));
     }
-    frame_of(alloc, kind, body.as_slice())
+    frame_of(alloc, kind, body)
 }
 
 /// Reads the body behind a header, of the length that the header says.
 ///
-/// The operation of a GIVE shares its bytes, and no byte of a data set is copied. The digests of a
-/// HAVE, a WANT or a BUCKETS take one buffer of their size.
+/// The operation of a GIVE shares its bytes, and so do the digests of a HAVE or a WANT: none of
+/// them is copied.
 pub fn read_frame_body(
     alloc: Global,
     header: &FrameHeader,

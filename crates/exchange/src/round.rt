@@ -9,14 +9,15 @@ ghost use Rattle.exchange.specs.Held.{offered, offered_in, lacked, given, is_spo
 ghost use Rattle.exchange.specs.Buckets.{bucket_list, unequal as unequal_in};
 ghost use Rattle.exchange.specs.Round.{asked_at, asked_in, is_among, with_given, refusal_of, IsFinished, TakesAsked};
 
+use crate::asked::Asked;
 use crate::buckets::unequal;
+use crate::digests::Digests;
 use crate::fault::{ExchangeFault, HolderFault};
 use crate::holder::Holder;
 use crate::version::Version;
 use octets::{ListOf, Octets};
 use operation::{Digest, Digested, Op, Taken};
-use std::alloc::{AllocError, Global};
-use std::collections::BTreeMap;
+use std::alloc::Global;
 use std::marker::Model;
 
 /// What this side asked for, and which of it was given. Contracts see each asked digest, with
@@ -24,7 +25,7 @@ use std::marker::Model;
 #[derive(Drop)]
 pub struct Round {
     version: Version,
-    asked: BTreeMap<Digest, bool>,
+    asked: Asked,
 }
 
 impl Model for Round {
@@ -32,36 +33,7 @@ impl Model for Round {
 
     ghost Value = { RoundState };
 
-    ghost view = { λ r. record { version = r.version; asked = r.asked.entries } };
-}
-
-/// A second tree of the same.
-fn copied(asked: &BTreeMap<Digest, bool>) -> Result<BTreeMap<Digest, bool>, AllocError>
-    ensures { IfOk result (λ copy. copy.entries ≡ asked.now.entries) }
-{
-    asked.clone()
-}
-
-/// Asks for some digests, which were not given yet.
-fn ask(asked: &mut BTreeMap<Digest, bool>, digests: &[Digest]) -> Result<(), AllocError>
-    ensures { OnOk result ((digest : List ℕ) → asked_in digest asked.new.entries
-        ≡ cond (is_among digest digests.now) (Some false) (asked_in digest asked.old.entries)) }
-{
-    for digest in digests {
-        asked.insert(*digest, false)?;
-    }
-    Ok(())
-}
-
-/// The operation of a digest that was asked for was given.
-fn mark(asked: &mut BTreeMap<Digest, bool>, digest: &Digest)
-    ensures { asked.new.entries
-        ≡ set_value (is_at (digest_cmp digest.now)) asked.old.entries true }
-{
-    match asked.get_mut(digest) {
-        Some(given) => *given = true,
-        None => {}
-    }
+    ghost view = { λ r. record { version = r.version; asked = r.asked } };
 }
 
 impl Round {
@@ -71,7 +43,7 @@ impl Round {
     {
         Round {
             version,
-            asked: BTreeMap::new(alloc),
+            asked: Asked::new(alloc),
         }
     }
 
@@ -83,11 +55,7 @@ impl Round {
     }
 
     /// The HAVE of all digests.
-    pub fn offer<H: Holder>(
-        &self,
-        alloc: Global,
-        holder: &mut H,
-    ) -> Result<ListOf<Digest>, HolderFault>
+    pub fn offer<H: Holder>(&self, alloc: Global, holder: &mut H) -> Result<Digests, HolderFault>
         ensures { Looks H.holds H.alone holder.old holder.new (λ m.
             IfOk result (λ have. have ≡ offered self.now.version m)) }
     {
@@ -126,7 +94,7 @@ impl Round {
         alloc: Global,
         holder: &mut H,
         places: &[u8],
-    ) -> Result<ListOf<Digest>, HolderFault>
+    ) -> Result<Digests, HolderFault>
         ensures { Looks H.holds H.alone holder.old holder.new (λ m.
             IfOk result (λ have. have ≡ offered_in self.now.version places.now m)) }
     {
@@ -139,8 +107,8 @@ impl Round {
         &mut self,
         alloc: Global,
         holder: &mut H,
-        have: &[Digest],
-    ) -> Result<ListOf<Digest>, HolderFault>
+        have: &Digests,
+    ) -> Result<Digests, HolderFault>
         ensures want { Looks H.holds H.alone holder.old holder.new (λ m.
             IfOk result (λ want. want ≡ lacked m have.now)) }
         ensures asked { IfOk result (λ want. (digest : List ℕ) → asked_at digest self.new
@@ -149,8 +117,7 @@ impl Round {
         ensures kept { OnErr result (self.new ≡ self.old) }
     {
         let want = holder.missing(alloc, have)?;
-        let mut asked = copied(&self.asked)?;
-        ask(&mut asked, want.as_slice())?;
+        let asked = self.asked.with(alloc, &want)?;
         self.asked = asked;
         Ok(want)
     }
@@ -160,7 +127,7 @@ impl Round {
         &self,
         alloc: Global,
         holder: &mut H,
-        want: &[Digest],
+        want: &Digests,
     ) -> Result<ListOf<Op>, HolderFault>
         ensures { Looks H.holds H.alone holder.old holder.new (λ m.
             IfOk result (λ ops. ops ≡ given self.now.version want.now m)) }
@@ -175,7 +142,7 @@ impl Round {
         if !self.version.speaks(op.op()) {
             return Some(ExchangeFault::BadFrame);
         }
-        if !self.asked.contains_key(op.digest()) {
+        if self.asked.given(op.digest()).is_none() {
             return Some(ExchangeFault::Stranger);
         }
         None
@@ -203,7 +170,7 @@ impl Round {
         }
         let digest = *op.digest();
         let taken = holder.take(op)?;
-        mark(&mut self.asked, &digest);
+        self.asked.mark(&digest);
         Ok(taken)
     }
 
@@ -211,11 +178,6 @@ impl Round {
     pub fn finished(&self) -> bool
         ensures { IsTrue result ↔ IsFinished self.now }
     {
-        for (_, given) in self.asked.iter() {
-            if !*given {
-                return false;
-            }
-        }
-        true
+        self.asked.all_given()
     }
 }

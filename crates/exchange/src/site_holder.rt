@@ -7,6 +7,7 @@ ghost use Rattle.exchange.specs.Buckets.{bucket_list, unequal as unequal_in};
 ghost use Rattle.exchange.specs.Places.{front_at, end_at};
 
 use crate::buckets::{buckets_of_tree, has_place, place_of_digest, unequal};
+use crate::digests::{Digests, DigestsMut};
 use crate::fault::HolderFault;
 use crate::holder::Holder;
 use crate::reader::{BUCKET_COUNT, DIGEST_LENGTH};
@@ -23,16 +24,16 @@ fn digests_of_tree(
     alloc: Global,
     version: Version,
     tree: &BTreeMap<Digest, Op>,
-) -> Result<ListOf<Digest>, AllocError>
+) -> Result<Digests, AllocError>
     ensures { IfOk result (λ digests. digests ≡ spoken_of version tree.now.entries) }
 {
-    let mut digests = Vec::with_capacity(alloc, tree.len())?;
+    let mut digests = DigestsMut::with_capacity(alloc, tree.len())?;
     for (digest, op) in tree.iter() {
         if version.speaks(op) {
-            digests.push(*digest)?;
+            digests.push(digest)?;
         }
     }
-    Ok(ListOf::of(digests))
+    digests.freeze()
 }
 
 /// The least digest that begins with a byte.
@@ -59,9 +60,9 @@ fn put_in_place(
     version: Version,
     place: u8,
     site: &Site,
-    digests: &mut Vec<Digest>,
+    digests: &mut DigestsMut,
 ) -> Result<(), AllocError>
-    ensures { OnOk result (digests.new.items ≡ digests.old.items
+    ensures { OnOk result (digests.new ≡ digests.old
         ++ filter (λ d. place_of d == place) (offered version site.now)) }
 {
     site.see_lawful();
@@ -70,18 +71,14 @@ fn put_in_place(
         .range((Bound::Included(front_of(place)), end_of(place)))
     {
         if version.speaks(op) && place_of_digest(digest) == place as usize {
-            digests.push(*digest)?;
+            digests.push(digest)?;
         }
     }
     Ok(())
 }
 
 /// The digests of a site's operations that a version speaks of, ascending.
-pub fn digests_of_site(
-    alloc: Global,
-    version: Version,
-    site: &Site,
-) -> Result<ListOf<Digest>, AllocError>
+pub fn digests_of_site(alloc: Global, version: Version, site: &Site) -> Result<Digests, AllocError>
     ensures { IfOk result (λ digests. digests ≡ offered version site.now) }
 {
     digests_of_tree(alloc, version, site.tree())
@@ -93,18 +90,19 @@ pub fn digests_of_site_in(
     version: Version,
     places: &[u8],
     site: &Site,
-) -> Result<ListOf<Digest>, AllocError>
+) -> Result<Digests, AllocError>
     ensures { IfOk result (λ digests. digests ≡ offered_in version places.now site.now) }
 {
     site.see_lawful();
-    let mut digests = Vec::new(alloc);
+    let mut digests = DigestsMut::with_capacity(alloc, 0)?;
     for place in 0..BUCKET_COUNT {
         if !has_place(places, place) {
             continue;
         }
         put_in_place(version, place as u8, site, &mut digests)?;
     }
-    Ok(ListOf::of(digests))
+    let frozen = digests.freeze()?;
+    Ok(frozen)
 }
 
 /// The buckets of a site's operations that a version speaks of.
@@ -130,6 +128,22 @@ pub fn differ_of_site(
 {
     let own = buckets_of_site(alloc, version, site)?;
     unequal(alloc, own.as_slice(), buckets)
+}
+
+/// Those of some digests that a site does not have, in the order given.
+pub fn missing_of_site(alloc: Global, site: &Site, digests: &Digests) -> Result<Digests, AllocError>
+    ensures { IfOk result (λ missing. missing ≡ lacked site.now digests.now) }
+{
+    let mut missing = DigestsMut::with_capacity(alloc, digests.len())?;
+    let arrays = digests.as_arrays();
+    for bytes in arrays {
+        let digest = Digest::of(*bytes);
+        if !site.has(&digest) {
+            missing.push(&digest)?;
+        }
+    }
+    let frozen = missing.freeze()?;
+    Ok(frozen)
 }
 
 /// A second owner of the operation of a digest, if it is held and a version speaks of it.
@@ -158,13 +172,14 @@ pub fn ops_of_site(
     alloc: Global,
     version: Version,
     site: &Site,
-    digests: &[Digest],
+    digests: &Digests,
 ) -> Result<ListOf<Op>, AllocError>
     ensures { IfOk result (λ ops. ops ≡ given version digests.now site.now) }
 {
     let mut ops = Vec::new(alloc);
-    for digest in digests {
-        if let Some(op) = op_of(alloc, version, site, digest)? {
+    let arrays = digests.as_arrays();
+    for bytes in arrays {
+        if let Some(op) = op_of(alloc, version, site, &Digest::of(*bytes))? {
             ops.push(op)?;
         }
     }
@@ -177,7 +192,7 @@ impl Holder for Site {
 
     ghost alone = { λ _. ⊤ };
 
-    fn digests(&mut self, alloc: Global, version: Version) -> Result<ListOf<Digest>, HolderFault> {
+    fn digests(&mut self, alloc: Global, version: Version) -> Result<Digests, HolderFault> {
         self.see_lawful();
         Ok(digests_of_site(alloc, version, self)?)
     }
@@ -187,7 +202,7 @@ impl Holder for Site {
         alloc: Global,
         version: Version,
         places: &[u8],
-    ) -> Result<ListOf<Digest>, HolderFault> {
+    ) -> Result<Digests, HolderFault> {
         self.see_lawful();
         Ok(digests_of_site_in(alloc, version, places, self)?)
     }
@@ -197,20 +212,16 @@ impl Holder for Site {
         Ok(buckets_of_site(alloc, version, self)?)
     }
 
-    fn missing(
-        &mut self,
-        alloc: Global,
-        digests: &[Digest],
-    ) -> Result<ListOf<Digest>, HolderFault> {
+    fn missing(&mut self, alloc: Global, digests: &Digests) -> Result<Digests, HolderFault> {
         self.see_lawful();
-        Ok(ListOf::of(Site::missing(self, alloc, digests)?))
+        Ok(missing_of_site(alloc, self, digests)?)
     }
 
     fn ops(
         &mut self,
         alloc: Global,
         version: Version,
-        digests: &[Digest],
+        digests: &Digests,
     ) -> Result<ListOf<Op>, HolderFault> {
         self.see_lawful();
         Ok(ops_of_site(alloc, version, self, digests)?)

@@ -1,4 +1,4 @@
-//! Writing a frame: its head, and the bytes of a data set, which are not copied.
+//! Writing a frame: its head, and the bytes of a data set or of digests, which are not copied.
 
 ghost use Rattle.std.specs.Prelude.{◌≡◌, ◌⊎◌, ◌↔◌, ◌<◌, ◌≤◌, ◌++◌, ◌^◌, ◌+◌, ◌*◌, [], length, List, ℕ, IfOk, OnOk, IfErr, IsErrOf, IsTrue};
 ghost use Rattle.operation.specs.Spelling.{content_text, short_text};
@@ -8,6 +8,7 @@ ghost use Rattle.exchange.specs.Header.{head_text};
 ghost use Rattle.exchange.specs.Spelling.{text_of, digests_text, counted_text, IsFrame};
 ghost use Rattle.exchange.specs.Writing.{is_too_long, IsWrittenAgain};
 
+use crate::digests::{Digests, put_digest};
 use crate::fault::FrameFault;
 use crate::frame::Frame;
 use crate::header::{BUCKETS, DIFFER, END, GIVE, HAVE, HEADER_LENGTH, HELLO, WANT};
@@ -25,7 +26,7 @@ const MOST_BEFORE: usize = 136;
 /// The most first bytes that a DIFFER can count.
 const MOST_PLACES: usize = 65_535;
 
-/// The bytes of a frame, in two parts: the second shares the bytes of a data set.
+/// The bytes of a frame, in two parts: the second shares the bytes of a data set, or of digests.
 #[derive(Debug, Drop)]
 pub struct FrameText {
     head: Vec<u8>,
@@ -69,13 +70,6 @@ fn with_header(alloc: Global, kind: u8, length: usize) -> Result<Vec<u8>, AllocE
     Ok(out)
 }
 
-fn put_digest(out: &mut Vec<u8>, bytes: &[u8; DIGEST_LENGTH]) -> Result<(), AllocError>
-    ensures text { OnOk result (out.new.items ≡ out.old.items ++ bytes.now) }
-    ensures long { length bytes.now ≡ DIGEST_LENGTH }
-{
-    out.extend_from_slice(bytes.as_slice())
-}
-
 fn put_digests(out: &mut Vec<u8>, digests: &[Digest]) -> Result<(), AllocError>
     ensures text { OnOk result (out.new.items ≡ out.old.items ++ digests_text digests.now) }
     ensures long { OnOk result (length (digests_text digests.now)
@@ -87,9 +81,9 @@ fn put_digests(out: &mut Vec<u8>, digests: &[Digest]) -> Result<(), AllocError>
     Ok(())
 }
 
-/// A count and that many digests.
-fn counted(alloc: Global, kind: u8, digests: &[Digest]) -> Result<Vec<u8>, FrameFault>
-    ensures text { IfOk result (λ out. out.items
+/// A count and that many digests, which are shared.
+fn counted(alloc: Global, kind: u8, digests: &Digests) -> Result<FrameText, FrameFault>
+    ensures text { IfOk result (λ text. text
         ≡ head_text kind (length (counted_text digests.now)) ++ counted_text digests.now) }
     ensures long { IsErrOf result FrameFault.TooLong ↔ (MOST_DIGESTS < length digests.now) }
     ensures fault { IfErr result (λ e. (e ≡ FrameFault.TooLong) ⊎ (e ≡ FrameFault.Memory)) }
@@ -98,10 +92,14 @@ fn counted(alloc: Global, kind: u8, digests: &[Digest]) -> Result<Vec<u8>, Frame
     if count > MOST_DIGESTS {
         return Err(FrameFault::TooLong);
     }
-    let mut out = with_header(alloc, kind, 4 + DIGEST_LENGTH * count)?;
-    out.extend_from_slice(&(count as u32).to_be_bytes())?;
-    put_digests(&mut out, digests)?;
-    Ok(out)
+    let mut head = Vec::with_capacity(alloc, HEADER_LENGTH + 4)?;
+    head.push(kind)?;
+    head.extend_from_slice(&((4 + DIGEST_LENGTH * count) as u32).to_be_bytes())?;
+    head.extend_from_slice(&(count as u32).to_be_bytes())?;
+    Ok(FrameText {
+        head,
+        rest: digests.text().clone()?,
+    })
 }
 
 fn buckets(alloc: Global, digests: &[Digest]) -> Result<Vec<u8>, FrameFault>
@@ -216,8 +214,8 @@ fn give(alloc: Global, op: &Op) -> Result<FrameText, AllocError>
     }
 }
 
-/// The bytes of a frame. The bytes of a data set are shared, and no spelling of it is built; what
-/// has digests takes one buffer of its size.
+/// The bytes of a frame. Those of a data set and those of the digests of a HAVE or a WANT are
+/// shared, and no spelling of them is built.
 ///
 /// `TooLong` is told of more than 1,048,576 digests in a HAVE or a WANT, of more than 256 in a
 /// BUCKETS, and of more than 65,535 first bytes in a DIFFER: so of no frame that can be read.
@@ -228,8 +226,8 @@ pub fn write_frame(alloc: Global, frame: &Frame) -> Result<FrameText, FrameFault
     ensures fault { IfErr result (λ e. (e ≡ FrameFault.TooLong) ⊎ (e ≡ FrameFault.Memory)) }
 {
     match frame {
-        Frame::Have(digests) => Ok(FrameText::whole(counted(alloc, HAVE, digests.as_slice())?)),
-        Frame::Want(digests) => Ok(FrameText::whole(counted(alloc, WANT, digests.as_slice())?)),
+        Frame::Have(digests) => counted(alloc, HAVE, digests),
+        Frame::Want(digests) => counted(alloc, WANT, digests),
         Frame::Give(op) => Ok(give(alloc, op)?),
         Frame::End => Ok(FrameText::whole(with_header(alloc, END, 0)?)),
         Frame::Buckets(digests) => Ok(FrameText::whole(buckets(alloc, digests.as_slice())?)),

@@ -10,7 +10,7 @@ ghost use Rattle.exchange.specs.Round.{IsFinished};
 
 use crate::role::{Ended, Role};
 use crate::task::{Awaited, Task, task_of};
-use exchange::{ExchangeFault, Frame, Holder, Round, Version};
+use exchange::{Digests, ExchangeFault, Frame, Holder, Round, Version};
 use octets::ListOf;
 use operation::{Digest, Op, Taken};
 use std::alloc::Global;
@@ -152,8 +152,8 @@ impl Side {
             Task::Meet(version) => Ok(self.meet(alloc, version)),
             Task::Compare(buckets) => self.compare(alloc, holder, buckets.as_slice()),
             Task::Offer(places) => self.offer(alloc, holder, places.as_slice()),
-            Task::Ask(have) => self.ask(alloc, holder, have.as_slice()),
-            Task::Give(want) => self.give(alloc, holder, want.as_slice()),
+            Task::Ask(have) => self.ask(alloc, holder, &have),
+            Task::Give(want) => self.give(alloc, holder, &want),
             Task::Take(op) => self.take(holder, op),
             Task::Show => self.show(alloc, holder),
             Task::Rest => Ok(self.rest()),
@@ -233,7 +233,7 @@ impl Side {
         &mut self,
         alloc: Global,
         holder: &mut H,
-        have: &[Digest],
+        have: &Digests,
     ) -> Result<Said, ExchangeFault>
         ensures did { Performs H.holds H.alone (tasks.Ask have.now) self.old holder.old result
             self.new holder.new }
@@ -249,7 +249,7 @@ impl Side {
         &mut self,
         alloc: Global,
         holder: &mut H,
-        want: &[Digest],
+        want: &Digests,
     ) -> Result<Said, ExchangeFault>
         ensures did { Performs H.holds H.alone (tasks.Give want.now) self.old holder.old result
             self.new holder.new }

@@ -4,7 +4,7 @@ ghost use Rattle.std.specs.Prelude.{◌≡◌};
 ghost use Rattle.exchange_run.specs.Tasks.{task_for, greeted_by, opened_by, ended_by};
 
 use crate::role::Role;
-use exchange::{Frame, Version};
+use exchange::{Digests, Frame, Version};
 use octets::{ListOf, Octets};
 use operation::{Digest, Op};
 
@@ -37,9 +37,9 @@ pub(crate) enum Task {
     /// DIFFER is answered by HAVE.
     Offer(Octets),
     /// HAVE is answered by WANT.
-    Ask(ListOf<Digest>),
+    Ask(Digests),
     /// WANT is answered by GIVEs and END.
-    Give(ListOf<Digest>),
+    Give(Digests),
     /// The operation of a GIVE is taken.
     Take(Op),
     /// END was heard, and the other side asks now: BUCKETS are said.

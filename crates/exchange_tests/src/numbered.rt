@@ -99,7 +99,7 @@ fn put_places_of(
     to: &mut Site,
     says: &mut Vec<u8>,
     answers: &mut Vec<u8>,
-) -> Result<ListOf<Digest>, Fail> {
+) -> Result<Digests, Fail> {
     let round = Round::new(alloc, Version::Two);
     let buckets = round.buckets(alloc, from)?;
     let places = round.on_buckets(alloc, to, buckets.as_slice())?;
@@ -135,9 +135,9 @@ fn put_round(
 ) -> Result<(), Fail> {
     let have = put_places_of(alloc, from, to, says, answers)?;
     let mut round = Round::new(alloc, Version::Two);
-    let want = round.on_have(alloc, to, have.as_slice())?;
+    let want = round.on_have(alloc, to, &have)?;
     put(alloc, says, &Frame::Have(have))?;
-    let ops = round.on_want(alloc, from, want.as_slice())?;
+    let ops = round.on_want(alloc, from, &want)?;
     put(alloc, answers, &Frame::Want(want))?;
     put_gifts(alloc, &mut round, to, ops, says)
 }

@@ -26,6 +26,13 @@ fn digest_of(alloc: Global, text: &[u8]) -> Result<Digest, Fail> {
     Ok(digest(&op(alloc, text)?))
 }
 
+/// The digest of one operation alone.
+fn one(alloc: Global, text: &[u8]) -> Result<Digests, Fail> {
+    let mut digests = DigestsMut::with_capacity(alloc, 1)?;
+    digests.push(&digest_of(alloc, text)?)?;
+    Ok(digests.freeze()?)
+}
+
 /// A site that holds one operation.
 fn site_of(alloc: Global, text: &[u8]) -> Result<Site, Fail> {
     let mut site = Site::new(alloc);
@@ -35,8 +42,7 @@ fn site_of(alloc: Global, text: &[u8]) -> Result<Site, Fail> {
 
 /// How many operations are asked for where one is offered.
 fn asked(alloc: Global, round: &mut Round, site: &mut Site, text: &[u8]) -> Result<usize, Fail> {
-    let have = digest_of(alloc, text)?;
-    Ok(round.on_have(alloc, site, &[have])?.len())
+    Ok(round.on_have(alloc, site, &one(alloc, text)?)?.len())
 }
 
 /// 0 where an operation that is given is new, 10 where it is known, or the fault's number.
@@ -54,28 +60,26 @@ fn offered(alloc: Global, version: Version, site: &mut Site) -> Result<usize, Fa
 
 /// How many operations are given for the WANT of one.
 fn wanted(alloc: Global, version: Version, site: &mut Site, text: &[u8]) -> Result<usize, Fail> {
-    let want = digest_of(alloc, text)?;
-    Ok(
-        Round::new(alloc, version)
-            .on_want(alloc, site, &[want])?
-            .len(),
-    )
+    let want = one(alloc, text)?;
+    Ok(Round::new(alloc, version)
+        .on_want(alloc, site, &want)?
+        .len())
 }
 
 /// The digests in the places in which two sites differ.
-fn differing(alloc: Global, from: &mut Site, to: &mut Site) -> Result<Vec<Digest>, Fail> {
+fn differing(alloc: Global, from: &mut Site, to: &mut Site) -> Result<Digests, Fail> {
     let round = Round::new(alloc, Version::Two);
     let buckets = round.buckets(alloc, from)?;
     let places = round.on_buckets(alloc, to, buckets.as_slice())?;
-    Ok(round.on_differ(alloc, from, places.as_slice())?.into_vec())
+    Ok(round.on_differ(alloc, from, places.as_slice())?)
 }
 
 /// A round by buckets, and how many digests were in its HAVE.
 fn run(alloc: Global, from: &mut Site, to: &mut Site) -> Result<usize, Fail> {
     let have = differing(alloc, from, to)?;
     let mut round = Round::new(alloc, Version::Two);
-    let want = round.on_have(alloc, to, have.as_slice())?;
-    let ops = round.on_want(alloc, from, want.as_slice())?;
+    let want = round.on_have(alloc, to, &have)?;
+    let ops = round.on_want(alloc, from, &want)?;
     for op in ops.into_vec() {
         let _ = round.on_give(to, op);
     }
@@ -147,6 +151,27 @@ fn a_give_that_comes_twice_is_known(rt: HostRuntime) -> Result<(), Fail> {
     );
     assert!(rt; round.finished(), "after it");
     Ok(())
+}
+
+/// What was asked for by one HAVE and then by another is found, whichever is the greater.
+fn asked_by_two(rt: &HostRuntime, first: &[u8], second: &[u8]) -> Result<(), Fail> {
+    let alloc = rt.alloc();
+    let mut site = Site::new(alloc);
+    let mut round = Round::new(alloc, Version::Two);
+    assert_eq!(rt; asked(alloc, &mut round, &mut site, first)?, 1, "by the first");
+    assert_eq!(rt; asked(alloc, &mut round, &mut site, second)?, 1, "by the second");
+    assert_eq!(rt; given(alloc, &mut round, &mut site, second)?, 0, "the second");
+    assert!(rt; !round.finished(), "while the first is not given");
+    assert_eq!(rt; given(alloc, &mut round, &mut site, first)?, 0, "the first");
+    assert!(rt; round.finished(), "once both were given");
+    assert_eq!(rt; given(alloc, &mut round, &mut site, first)?, 10, "the first again");
+    Ok(())
+}
+
+#[test]
+fn two_haves_are_asked_for(rt: HostRuntime) -> Result<(), Fail> {
+    asked_by_two(&rt, OF_STUDY, OF_SERIES)?;
+    asked_by_two(&rt, OF_SERIES, OF_STUDY)
 }
 
 #[test]

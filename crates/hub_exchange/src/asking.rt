@@ -4,7 +4,10 @@ ghost use Rattle.std.specs.Prelude.{◌≡◌, IfOk};
 ghost use Rattle.exchange.specs.Held.{offered, offered_in, lacked, given};
 ghost use Rattle.exchange.specs.Buckets.{bucket_list};
 
-use exchange::{Version, buckets_of_site, digests_of_site, digests_of_site_in, ops_of_site};
+use exchange::{
+    Digests, Version, buckets_of_site, digests_of_site, digests_of_site_in, missing_of_site,
+    ops_of_site,
+};
 use octets::ListOf;
 use operation::{Digest, Op};
 use site_hub::Question;
@@ -17,10 +20,10 @@ pub(crate) struct All {
     pub version: Version,
 }
 
-impl Question<ListOf<Digest>> for All {
+impl Question<Digests> for All {
     ghost answers = { λ q m digests. digests ≡ offered q.version m };
 
-    fn answer(&self, alloc: Global, site: &Site) -> Result<ListOf<Digest>, AllocError> {
+    fn answer(&self, alloc: Global, site: &Site) -> Result<Digests, AllocError> {
         digests_of_site(alloc, self.version, site)
     }
 }
@@ -32,10 +35,10 @@ pub(crate) struct In<'a> {
     pub places: &'a [u8],
 }
 
-impl<'a> Question<ListOf<Digest>> for In<'a> {
+impl<'a> Question<Digests> for In<'a> {
     ghost answers = { λ q m digests. digests ≡ offered_in q.version q.places.now m };
 
-    fn answer(&self, alloc: Global, site: &Site) -> Result<ListOf<Digest>, AllocError> {
+    fn answer(&self, alloc: Global, site: &Site) -> Result<Digests, AllocError> {
         digests_of_site_in(alloc, self.version, self.places, site)
     }
 }
@@ -57,14 +60,14 @@ impl Question<ListOf<Digest>> for Buckets {
 /// Asks which of some digests are not held.
 #[derive(Clone, Copy)]
 pub(crate) struct Missing<'a> {
-    pub digests: &'a [Digest],
+    pub digests: &'a Digests,
 }
 
-impl<'a> Question<ListOf<Digest>> for Missing<'a> {
+impl<'a> Question<Digests> for Missing<'a> {
     ghost answers = { λ q m missing. missing ≡ lacked m q.digests.now };
 
-    fn answer(&self, alloc: Global, site: &Site) -> Result<ListOf<Digest>, AllocError> {
-        Ok(ListOf::of(site.missing(alloc, self.digests)?))
+    fn answer(&self, alloc: Global, site: &Site) -> Result<Digests, AllocError> {
+        missing_of_site(alloc, site, self.digests)
     }
 }
 
@@ -72,7 +75,7 @@ impl<'a> Question<ListOf<Digest>> for Missing<'a> {
 #[derive(Clone, Copy)]
 pub(crate) struct Wanted<'a> {
     pub version: Version,
-    pub digests: &'a [Digest],
+    pub digests: &'a Digests,
 }
 
 impl<'a> Question<ListOf<Op>> for Wanted<'a> {

@@ -10,7 +10,7 @@ ghost use Rattle.hub_exchange.specs.Onward.{IsOnward};
 
 use crate::asking::{All, Buckets, In, Missing, Wanted};
 use association_worker::AtEntry;
-use exchange::{Holder, HolderFault, Version};
+use exchange::{Digests, Holder, HolderFault, Version};
 use octets::ListOf;
 use op_shelf::Keep;
 use operation::{Digest, Digested, Op, Taken};
@@ -171,7 +171,7 @@ impl<
 
     ghost alone = { λ _. ⊥ };
 
-    fn digests(&mut self, _alloc: Global, version: Version) -> Result<ListOf<Digest>, HolderFault> {
+    fn digests(&mut self, _alloc: Global, version: Version) -> Result<Digests, HolderFault> {
         look(&mut self.pass, &All { version })
     }
 
@@ -180,7 +180,7 @@ impl<
         _alloc: Global,
         version: Version,
         places: &[u8],
-    ) -> Result<ListOf<Digest>, HolderFault> {
+    ) -> Result<Digests, HolderFault> {
         look(&mut self.pass, &In { version, places })
     }
 
@@ -188,11 +188,7 @@ impl<
         look(&mut self.pass, &Buckets { version })
     }
 
-    fn missing(
-        &mut self,
-        _alloc: Global,
-        digests: &[Digest],
-    ) -> Result<ListOf<Digest>, HolderFault> {
+    fn missing(&mut self, _alloc: Global, digests: &Digests) -> Result<Digests, HolderFault> {
         look(&mut self.pass, &Missing { digests })
     }
 
@@ -200,7 +196,7 @@ impl<
         &mut self,
         _alloc: Global,
         version: Version,
-        digests: &[Digest],
+        digests: &Digests,
     ) -> Result<ListOf<Op>, HolderFault> {
         look(&mut self.pass, &Wanted { version, digests })
     }

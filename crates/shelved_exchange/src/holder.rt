@@ -8,7 +8,7 @@ ghost use Rattle.exchange.specs.Held.{TakesIn};
 ghost use Rattle.shelved_exchange.specs.Putting.{GainsWhatWasPut};
 
 use crate::putting::{Put, Shelved, refusal_of_shelf};
-use exchange::{Holder, HolderFault, Version};
+use exchange::{Digests, Holder, HolderFault, Version};
 use octets::ListOf;
 use op_shelf::Keep;
 use operation::{Digest, Digested, Op, Taken};
@@ -96,7 +96,7 @@ impl<K: Keep, P: Put<K> + Drop, E: AtOpening> Holder for ShelvedHolder<K, P, E> 
 
     ghost alone = { λ _. ⊤ };
 
-    fn digests(&mut self, alloc: Global, version: Version) -> Result<ListOf<Digest>, HolderFault> {
+    fn digests(&mut self, alloc: Global, version: Version) -> Result<Digests, HolderFault> {
         Holder::digests(&mut self.site, alloc, version)
     }
 
@@ -105,7 +105,7 @@ impl<K: Keep, P: Put<K> + Drop, E: AtOpening> Holder for ShelvedHolder<K, P, E> 
         alloc: Global,
         version: Version,
         places: &[u8],
-    ) -> Result<ListOf<Digest>, HolderFault> {
+    ) -> Result<Digests, HolderFault> {
         Holder::digests_in(&mut self.site, alloc, version, places)
     }
 
@@ -113,11 +113,7 @@ impl<K: Keep, P: Put<K> + Drop, E: AtOpening> Holder for ShelvedHolder<K, P, E> 
         Holder::buckets(&mut self.site, alloc, version)
     }
 
-    fn missing(
-        &mut self,
-        alloc: Global,
-        digests: &[Digest],
-    ) -> Result<ListOf<Digest>, HolderFault> {
+    fn missing(&mut self, alloc: Global, digests: &Digests) -> Result<Digests, HolderFault> {
         Holder::missing(&mut self.site, alloc, digests)
     }
 
@@ -125,7 +121,7 @@ impl<K: Keep, P: Put<K> + Drop, E: AtOpening> Holder for ShelvedHolder<K, P, E> 
         &mut self,
         alloc: Global,
         version: Version,
-        digests: &[Digest],
+        digests: &Digests,
     ) -> Result<ListOf<Op>, HolderFault> {
         Holder::ops(&mut self.site, alloc, version, digests)
     }

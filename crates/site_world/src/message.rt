@@ -4,7 +4,7 @@ ghost use Rattle.std.specs.Prelude.{◌≡◌, IfOk};
 ghost use Rattle.site_world.specs.Messages.{is_old as is_old_site, has_met as has_met_in, is_of as is_of_site};
 ghost use Rattle.site_world.specs.Messages.{reaction as reaction_to, has_begun as has_begun_at};
 
-use exchange::{Version, differ_of_site, digests_of_site_in, ops_of_site};
+use exchange::{Digests, Version, differ_of_site, digests_of_site_in, missing_of_site, ops_of_site};
 use octets::{ListOf, Octets};
 use operation::{Digest, Op};
 use site_state::Site;
@@ -14,9 +14,9 @@ use std::alloc::{AllocError, Global};
 #[derive(Drop)]
 pub enum Says {
     /// Digests that the sender holds.
-    Have(ListOf<Digest>),
+    Have(Digests),
     /// Digests that the sender asks for.
-    Want(ListOf<Digest>),
+    Want(Digests),
     /// An operation that was asked for.
     Give(Op),
     /// For each first byte, a digest of the digests held that begin with it.
@@ -37,11 +37,11 @@ pub struct Message {
 #[derive(Drop)]
 pub enum Reaction {
     /// It asks its sender for these.
-    Asks(ListOf<Digest>),
+    Asks(Digests),
     /// It tells its sender in which places their buckets differ.
     Compares(Octets),
     /// It offers its sender these.
-    Offers(ListOf<Digest>),
+    Offers(Digests),
     /// It gives its sender these, a message each.
     Gives(ListOf<Op>),
     /// It takes an operation.
@@ -96,11 +96,11 @@ pub fn comes_of(
 {
     match says {
         Says::Have(have) => {
-            let want = site.missing(alloc, have.as_slice())?;
-            Ok(Reaction::Asks(ListOf::of(want)))
+            let want = missing_of_site(alloc, site, have)?;
+            Ok(Reaction::Asks(want))
         }
         Says::Want(want) => {
-            let ops = ops_of_site(alloc, version, site, want.as_slice())?;
+            let ops = ops_of_site(alloc, version, site, want)?;
             Ok(Reaction::Gives(ops))
         }
         Says::Give(op) => Ok(Reaction::Takes(op.copy(alloc)?)),

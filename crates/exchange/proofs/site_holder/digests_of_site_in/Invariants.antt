@@ -7,5 +7,5 @@ use Rattle.exchange.proofs.site_holder.digests_of_site_in.Given as goal
 -- The digests that were found, with those of the places from this one on, are those in the places.
 abbrev pub invariant-loop-place : goal.invariant-loop-place
 invariant-loop-place l =
-    l.digests.items ++ filter (is_in l.places) (filter (from_place l.place) (offered l.version l.site))
+    l.digests ++ filter (is_in l.places) (filter (from_place l.place) (offered l.version l.site))
     ≡ filter (is_in l.places) (offered l.version l.site)

@@ -3,6 +3,6 @@ use Rattle.exchange.specs.Held.{given}
 use Rattle.exchange.proofs.site_holder.ops_of_site.Given as goal
 
 -- The operations that were found, with those that are still to be found, are those to be given.
-abbrev pub invariant-loop-digest : goal.invariant-loop-digest
-invariant-loop-digest l = l.ops.items ++ given l.version (drop l.digest-index l.digests) l.site ≡ given l.version
-    l.digests l.site
+abbrev pub invariant-loop-bytes : goal.invariant-loop-bytes
+invariant-loop-bytes l = l.ops.items ++ given l.version (drop l.bytes-index l.arrays) l.site ≡ given l.version
+    l.arrays l.site

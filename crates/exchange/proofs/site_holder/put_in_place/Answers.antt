@@ -13,7 +13,7 @@ pub returns : goal.returns
 returns c =
     let version = c.args.version in
     let place = c.args.place in
-    let old = c.args.digests.now.items in
+    let old = c.args.digests.now in
     let tree = c.tree.result.now.entries in
     let whole : c.into_iter-digest-iterator.result ≡ entries_between digest_cmp (Included (front_at place))
     (end_at place) tree =
@@ -21,8 +21,8 @@ returns c =
     ∙ ap (λ a. entries_between digest_cmp (Included a) c.end_of.result tree) c.front_of.ensures
     ∙ ap (λ b. entries_between digest_cmp (Included (front_at place)) b tree) c.end_of.ensures
     in
-    sym (append-nil c.loop-digest.digests.items)
-    ∙ ap (λ es. c.loop-digest.digests.items ++ filter (at_place place) (spoken_of version es))
+    sym (append-nil c.loop-digest.digests)
+    ∙ ap (λ es. c.loop-digest.digests ++ filter (at_place place) (spoken_of version es))
     (sym c.in-None.ensures.steps.0)
     ∙ c.loop-digest.invariant
     ∙ ap (λ es. old ++ filter (at_place place) (spoken_of version es)) whole

@@ -6,5 +6,5 @@ use Rattle.exchange.proofs.site_holder.put_in_place.Given as goal
 -- The digests that were found, with those that are still to be found, are those of the place.
 abbrev pub invariant-loop-digest : goal.invariant-loop-digest
 invariant-loop-digest l =
-    l.digests.items ++ filter (λ d. place_of d == l.place) (spoken_of l.version l.digest-iterator)
-    ≡ l.initial.digests.items ++ filter (λ d. place_of d == l.place) (spoken_of l.version l.initial.digest-iterator)
+    l.digests ++ filter (λ d. place_of d == l.place) (spoken_of l.version l.digest-iterator)
+    ≡ l.initial.digests ++ filter (λ d. place_of d == l.place) (spoken_of l.version l.initial.digest-iterator)

@@ -7,12 +7,7 @@ pub returns-in_err-want-clause-want : goal.returns-in_err-want-clause-want
 returns-in_err-want-clause-want g c = let p = err_from_is_err_and c.from_residual.result c.from_residual.ensures.1 in
     turned c.in_err-want.ensures (λ m e. rw p.1 tt)
 
--- Where memory for the copy is refused nothing is wanted.
+-- Where memory for what is asked is refused nothing is wanted.
 pub returns-in_err-asked-clause-want : goal.returns-in_err-asked-clause-want
 returns-in_err-asked-clause-want g c = let p = err_from_is_err_and c.from_residual-in_err-asked.result
     c.from_residual-in_err-asked.ensures.1 in turned c.in_ok-want.ensures (λ m e. rw p.1 tt)
-
--- Where memory for what is asked is refused nothing is wanted.
-pub returns-in_err-ask-clause-want : goal.returns-in_err-ask-clause-want
-returns-in_err-ask-clause-want g c = let p = err_from_is_err_and c.from_residual-in_err-ask.result
-    c.from_residual-in_err-ask.ensures.1 in turned c.in_ok-want.ensures (λ m e. rw p.1 tt)

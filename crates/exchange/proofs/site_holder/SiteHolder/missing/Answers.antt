@@ -1,13 +1,12 @@
-use Rattle.std.proofs.Common.{◌∙◌}
 use Rattle.std.proofs.lemmas.Result.{err_from_is_err_and}
 use Rattle.exchange.proofs.Holdings.{of_site}
 use Rattle.exchange.proofs.site_holder.SiteHolder.missing.Goals as goal
 
 -- A refusal says nothing of the set.
-pub returns-in_err-missing : goal.returns-in_err-missing
-returns-in_err-missing c = let p = err_from_is_err_and c.from_residual.result c.from_residual.ensures.1 in
+pub returns-in_err-missing_of_site : goal.returns-in_err-missing_of_site
+returns-in_err-missing_of_site c = let p = err_from_is_err_and c.from_residual.result c.from_residual.ensures.1 in
     of_site _ c.see_lawful.ensures.own (rw p.1 tt)
 
 -- What the site answers is what is asked of a holder.
 pub returns : goal.returns
-returns c = of_site _ c.see_lawful.ensures.own (c.of.ensures ∙ c.in_ok-missing.ensures)
+returns c = of_site _ c.see_lawful.ensures.own c.in_ok-missing_of_site.ensures
