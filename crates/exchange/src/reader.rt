@@ -1,9 +1,8 @@
 //! Reading the body of a frame, once its header is read.
 
-ghost use Rattle.std.specs.Prelude.{◌≡◌, ◌++◌, ◌*◌, length, List, ℕ, Ok, Err, IfOk, IfErr};
+ghost use Rattle.std.specs.Prelude.{◌≡◌, ◌++◌, ◌*◌, length, List, Ok, Err, IfOk, IfErr};
 ghost use Rattle.octets.specs.Bytes.{IsBytes};
 ghost use Rattle.octets.specs.Gives.{Gives, Tells, Told};
-ghost use Rattle.octets.specs.Texts.{text_cmp};
 ghost use Rattle.std.specs.Ordering.{nat_cmp};
 ghost use Rattle.exchange.specs.declared.fault.FrameFault.{FrameFault};
 ghost use Rattle.exchange.specs.declared.frame.Frame.{Frame};

@@ -1,13 +1,10 @@
 //! One side's part in a round of an exchange.
 
-ghost use Rattle.std.specs.Prelude.{◌≡◌, ◌≢◌, ◌↔◌, [], List, ℕ, Some, None, Err, cond, true, false, IfOk, OnOk, OnErr, IfErr, IsErrOf, IsTrue};
-ghost use Rattle.std.specs.BTreeMap.{is_at};
-ghost use Rattle.std.specs.Map.{set_value};
+ghost use Rattle.std.specs.Prelude.{◌≡◌, ◌≢◌, ◌↔◌, [], List, ℕ, Some, None, Err, cond, false, IfOk, OnOk, OnErr, IsErrOf, IsTrue};
 ghost use Rattle.operation.specs.Spelling.{digest_of};
-ghost use Rattle.site_state.specs.Site.{digest_cmp};
-ghost use Rattle.exchange.specs.Held.{offered, offered_in, lacked, given, is_spoken, Looks, TakesIn};
+ghost use Rattle.exchange.specs.Held.{offered, offered_in, lacked, given, Looks};
 ghost use Rattle.exchange.specs.Buckets.{bucket_list, unequal as unequal_in};
-ghost use Rattle.exchange.specs.Round.{asked_at, asked_in, is_among, with_given, refusal_of, IsFinished, TakesAsked};
+ghost use Rattle.exchange.specs.Round.{asked_at, is_among, with_given, refusal_of, IsFinished, TakesAsked};
 
 use crate::asked::Asked;
 use crate::buckets::unequal;

@@ -61,9 +61,11 @@ fn offered(alloc: Global, version: Version, site: &mut Site) -> Result<usize, Fa
 /// How many operations are given for the WANT of one.
 fn wanted(alloc: Global, version: Version, site: &mut Site, text: &[u8]) -> Result<usize, Fail> {
     let want = one(alloc, text)?;
-    Ok(Round::new(alloc, version)
-        .on_want(alloc, site, &want)?
-        .len())
+    Ok(
+        Round::new(alloc, version)
+            .on_want(alloc, site, &want)?
+            .len(),
+    )
 }
 
 /// The digests in the places in which two sites differ.
@@ -158,13 +160,29 @@ fn asked_by_two(rt: &HostRuntime, first: &[u8], second: &[u8]) -> Result<(), Fai
     let alloc = rt.alloc();
     let mut site = Site::new(alloc);
     let mut round = Round::new(alloc, Version::Two);
-    assert_eq!(rt; asked(alloc, &mut round, &mut site, first)?, 1, "by the first");
-    assert_eq!(rt; asked(alloc, &mut round, &mut site, second)?, 1, "by the second");
-    assert_eq!(rt; given(alloc, &mut round, &mut site, second)?, 0, "the second");
+    assert_eq!(rt;
+        asked(alloc, &mut round, &mut site, first)?,
+        1,
+        "by the first"
+    );
+    assert_eq!(rt;
+        asked(alloc, &mut round, &mut site, second)?,
+        1,
+        "by the second"
+    );
+    assert_eq!(rt;
+        given(alloc, &mut round, &mut site, second)?,
+        0,
+        "the second"
+    );
     assert!(rt; !round.finished(), "while the first is not given");
     assert_eq!(rt; given(alloc, &mut round, &mut site, first)?, 0, "the first");
     assert!(rt; round.finished(), "once both were given");
-    assert_eq!(rt; given(alloc, &mut round, &mut site, first)?, 10, "the first again");
+    assert_eq!(rt;
+        given(alloc, &mut round, &mut site, first)?,
+        10,
+        "the first again"
+    );
     Ok(())
 }
 

@@ -2,7 +2,7 @@
 ghost use Rattle.std.specs.Prelude.{◌≡◌};
 
 use crate::made::{NAME, accepts, closed, correction, found, image, name, query, selection, study};
-use crate::ports::{associates, holds, renames};
+use crate::ports::{associates, holds, renames, stores_large};
 use crate::refusals::{closes_on, corrects_on, stores_on};
 use archive_model::View;
 use operation::{Digested, Taken};
@@ -31,6 +31,8 @@ pub enum Row {
     Closes,
     /// One association stores and looks, and the other pass looks.
     Associates,
+    /// One association stores a large image.
+    StoresLarge,
     /// One association stores, finds and retrieves, while the other pass corrects.
     Renames,
     /// One association is held within its store, while another stores and finds.
@@ -70,6 +72,7 @@ pub fn run<H: HubName + Send + Sync, R: Threads + Wait + Abort + Sync>(
         Row::Numbers => numbers(rt, alloc, keeper, one, two),
         Row::Closes => closes(rt, alloc, keeper, one, two),
         Row::Associates => associates(rt, alloc, &keeper, one, &mut two),
+        Row::StoresLarge => stores_large(rt, alloc, &keeper, one, &mut two),
         Row::Renames => renames(rt, alloc, &keeper, one, &mut two),
         Row::Holds => holds(rt, alloc, keeper, one, two),
         Row::StoresOn => stores_on(rt, alloc, keeper, one, two),
@@ -114,6 +117,13 @@ fn a_long_association_is_seen_by_another_pass(rt: HostRuntime) -> Result<(), Fai
     let alloc = rt.alloc();
     let opened = open(alloc, &rt, Site::new(alloc), 1, 2)?;
     run::<Brand, _>(&rt, alloc, opened, Row::Associates)
+}
+
+#[test]
+fn an_image_of_33_mib_is_stored_whole(rt: HostRuntime) -> Result<(), Fail> {
+    let alloc = rt.alloc();
+    let opened = open(alloc, &rt, Site::new(alloc), 1, 2)?;
+    run::<Brand, _>(&rt, alloc, opened, Row::StoresLarge)
 }
 
 #[test]

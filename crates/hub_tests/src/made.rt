@@ -49,14 +49,28 @@ pub fn image_set(alloc: Global, uid: &[u8]) -> Result<Vec<u8>, Fail> {
     image_of(alloc, uid, b"DOE^JANE")
 }
 
+/// The image of this UID and data set.
+pub fn content(alloc: Global, uid: &[u8], bytes: Vec<u8>) -> Result<Op, Fail> {
+    let class = Octets::from_slice(alloc, CT)?;
+    let instance = Octets::from_slice(alloc, uid)?;
+    let body = Bytes::from_vec(bytes)?;
+    Ok(Op::Content(content_of(alloc, class, instance, Syntax::Implicit, body)?))
+}
+
 /// Image 1.2.1.1.k of study 1.2.1.
 pub fn image(alloc: Global, k: u64) -> Result<Op, Fail> {
     let uid = format!(in alloc; "1.2.1.1.{k}")?;
     let bytes = image_set(alloc, uid.as_bytes())?;
-    let class = Octets::from_slice(alloc, CT)?;
-    let instance = Octets::from_slice(alloc, uid.as_bytes())?;
-    let body = Bytes::from_vec(bytes)?;
-    Ok(Op::Content(content_of(alloc, class, instance, Syntax::Implicit, body)?))
+    content(alloc, uid.as_bytes(), bytes)
+}
+
+/// The data set of image 1.2.1.1.1, with pixel data (7FE0,0010) of 33 MiB.
+pub fn large_set(alloc: Global) -> Result<Vec<u8>, Fail> {
+    let mut bytes = image_set(alloc, b"1.2.1.1.1")?;
+    let mut pixels = Vec::new(alloc);
+    pixels.resize(34_603_008, 0x5a)?;
+    put(&mut bytes, [0xe0, 0x7f, 0x10, 0x00], pixels.as_slice())?;
+    Ok(bytes)
 }
 
 /// Study 1.2.1

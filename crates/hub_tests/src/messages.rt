@@ -18,6 +18,9 @@ const ACCEPTED: &[u8] = b"\x21\x00\x00\x19\x01\x00\x00\x00\x40\x00\x00\x111.2.84
     \x21\x00\x00\x19\x03\x00\x00\x00\x40\x00\x00\x111.2.840.10008.1.2\
     \x50\x00\x00\x17\x51\x00\x00\x04\x00\x01\x00\x00\x52\x00\x00\x0b2.25.113001";
 
+/// How many bytes of a data set a P-DATA-TF of 65,536 bytes has in its one value.
+const LONGEST_FRAGMENT: usize = 65_530;
+
 // Study Root FIND
 const FIND: &[u8] = b"1.2.840.10008.5.1.4.1.2.2.1";
 
@@ -99,6 +102,16 @@ fn elements(alloc: Global, message: Message<'_>) -> Result<Vec<u8>, Fail> {
     Ok(body)
 }
 
+/// Puts the command set of a message.
+fn put_command(alloc: Global, out: &mut Vec<u8>, message: Message<'_>) -> Result<(), Fail> {
+    let body = elements(alloc, message)?;
+    let mut text = Vec::new(alloc);
+    let size = u32::try_from(body.len())?.to_le_bytes();
+    put(&mut text, [0x00, 0x00, 0x00, 0x00], size.as_slice())?;
+    text.extend_from_slice(body.as_slice())?;
+    put_value(out, message.context, 3, text.as_slice())
+}
+
 /// Puts a message: its command set, and its data set where it has one.
 pub fn put_message(
     alloc: Global,
@@ -106,12 +119,7 @@ pub fn put_message(
     message: Message<'_>,
     data: &[u8],
 ) -> Result<(), Fail> {
-    let body = elements(alloc, message)?;
-    let mut text = Vec::new(alloc);
-    let size = u32::try_from(body.len())?.to_le_bytes();
-    put(&mut text, [0x00, 0x00, 0x00, 0x00], size.as_slice())?;
-    text.extend_from_slice(body.as_slice())?;
-    put_value(out, message.context, 3, text.as_slice())?;
+    put_command(alloc, out, message)?;
     if message.has_data {
         put_value(out, message.context, 2, data)?;
     }
@@ -171,6 +179,39 @@ pub fn asked(alloc: Global, first: u64, count: u64) -> Result<Vec<u8>, Fail> {
             identifier.as_slice(),
         )?;
     }
+    out.extend_from_slice(RELEASE)?;
+    Ok(out)
+}
+
+/// Puts a data set in fragments that fill P-DATA-TFs of 65,536 bytes, but for the last.
+fn put_fragments(out: &mut Vec<u8>, context: u8, data: &[u8]) -> Result<(), Fail> {
+    let mut rest = data;
+    for _ in 0..data.len() / LONGEST_FRAGMENT {
+        let Some((front, behind)) = rest.split_at_checked(LONGEST_FRAGMENT) else {
+            break;
+        };
+        put_value(out, context, 0, front)?;
+        rest = behind;
+    }
+    put_value(out, context, 2, rest)
+}
+
+/// What an association sends that stores this data set as image 1.2.1.1.1, in many fragments, and
+/// looks for the number of instances.
+pub fn asked_in_fragments(alloc: Global, set: &[u8]) -> Result<Vec<u8>, Fail> {
+    let mut out = Vec::new(alloc);
+    let mut opening = Vec::from_slice(alloc, OPENING)?;
+    opening.extend_from_slice(CONTEXTS)?;
+    put_pdu(&mut out, 1, opening.as_slice(), USER)?;
+    put_command(alloc, &mut out, store(b"1.2.1.1.1", 0x0001, None))?;
+    put_fragments(&mut out, 1, set)?;
+    let identifier = identifier(alloc)?;
+    put_message(
+        alloc,
+        &mut out,
+        find(0x0020, true, None),
+        identifier.as_slice(),
+    )?;
     out.extend_from_slice(RELEASE)?;
     Ok(out)
 }

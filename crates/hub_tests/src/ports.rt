@@ -3,8 +3,8 @@ ghost use Rattle.std.specs.Prelude.{◌≡◌};
 ghost use Rattle.site_hub.specs.Hub.{IsLater};
 
 use crate::corrected::{answered_anew, asked_anew};
-use crate::made::{NAME, closed, found, name, query, study};
-use crate::messages::{answered, asked};
+use crate::made::{NAME, closed, content, found, large_set, name, query, study};
+use crate::messages::{answered, asked, asked_in_fragments};
 use archive_model::View;
 use archive_query::Query;
 use association_run::{End, Gate, Outbox, run_association};
@@ -12,7 +12,7 @@ use association_session::Moment;
 use association_worker::{AtEntry, HubPort};
 use devices::{Store, Supply};
 use octets::{ListOf, Octets};
-use operation::Target;
+use operation::{Target, digest};
 use site_hub::{HubName, Keeper, Pass, Snapshot, correct};
 use std::alloc::Global;
 use std::marker::Brand;
@@ -229,6 +229,41 @@ pub fn associates<H: HubName, R: Wait + Abort>(
         found(alloc, &mut one, &query),
         Some(200),
         "its pass comes back"
+    );
+    Ok(())
+}
+
+/// An image of 33 MiB is stored whole by one association, which finds it, as another pass does.
+pub fn stores_large<H: HubName, R: Wait + Abort>(
+    rt: &R,
+    alloc: Global,
+    keeper: &Shared<'_, H, R>,
+    one: Pass<H>,
+    two: &mut Pass<H>,
+) -> Result<(), Fail> {
+    let query = query(alloc)?;
+    let set = large_set(alloc)?;
+    let mut line = line_of(alloc, asked_in_fragments(alloc, set.as_slice())?.as_slice())?;
+    let wanted = answered(alloc, 1, 1, 0)?;
+    let mut watch = Watch {
+        alloc,
+        pass: two,
+        query: &query,
+        finds: 0,
+        same: 0,
+    };
+    let (mut one, ended) = serve(rt, alloc, keeper, one, &mut line, &mut watch);
+    assert_eq!(rt; ended, Some(End::Released), "its end");
+    assert_eq!(rt; watch.same, 1, "looks of the other pass");
+    assert_eq!(rt;
+        line.store.as_slice(),
+        wanted.as_slice(),
+        "what it is answered"
+    );
+    let digest = digest(&content(alloc, b"1.2.1.1.1", set)?);
+    assert!(rt;
+        one.missing(&[digest])?.is_empty(),
+        "all its bytes are held"
     );
     Ok(())
 }

@@ -4,7 +4,9 @@ ghost use Rattle.std.specs.Prelude.{◌≡◌, IfOk};
 ghost use Rattle.site_world.specs.Messages.{is_old as is_old_site, has_met as has_met_in, is_of as is_of_site};
 ghost use Rattle.site_world.specs.Messages.{reaction as reaction_to, has_begun as has_begun_at};
 
-use exchange::{Digests, Version, differ_of_site, digests_of_site_in, missing_of_site, ops_of_site};
+use exchange::{
+    Digests, Version, differ_of_site, digests_of_site_in, missing_of_site, ops_of_site,
+};
 use octets::{ListOf, Octets};
 use operation::{Digest, Op};
 use site_state::Site;

@@ -1,0 +1,10 @@
+use Rattle.hub_tests.proofs.hubs.an_image_of_33_mib_is_stored_whole.Given as goal
+
+-- the hub that was just opened
+abbrev pub ghosts-run : goal.ghosts-run
+ghosts-run g a = record {
+  book = a.opened.book;
+  number = a.opened.number;
+  opening = a.opened.opening;
+  passes = a.opened.passes;
+}
