@@ -5,6 +5,7 @@ use exchange::*;
 use operation::{Digest, Op, Taken, decode, digest};
 use site_state::Site;
 use std::alloc::Global;
+use std::process::Abort;
 use std::test::Fail;
 
 // The corrections of study 1.2.1 by which (0010,0010) is ROE^ANN, and of series 1.2.1.1 by which
@@ -156,8 +157,7 @@ fn a_give_that_comes_twice_is_known(rt: HostRuntime) -> Result<(), Fail> {
 }
 
 /// What was asked for by one HAVE and then by another is found, whichever is the greater.
-fn asked_by_two(rt: &HostRuntime, first: &[u8], second: &[u8]) -> Result<(), Fail> {
-    let alloc = rt.alloc();
+fn asked_by_two(rt: &impl Abort, alloc: Global, first: &[u8], second: &[u8]) -> Result<(), Fail> {
     let mut site = Site::new(alloc);
     let mut round = Round::new(alloc, Version::Two);
     assert_eq!(rt;
@@ -188,8 +188,8 @@ fn asked_by_two(rt: &HostRuntime, first: &[u8], second: &[u8]) -> Result<(), Fai
 
 #[test]
 fn two_haves_are_asked_for(rt: HostRuntime) -> Result<(), Fail> {
-    asked_by_two(&rt, OF_STUDY, OF_SERIES)?;
-    asked_by_two(&rt, OF_SERIES, OF_STUDY)
+    asked_by_two(&rt, rt.alloc(), OF_STUDY, OF_SERIES)?;
+    asked_by_two(&rt, rt.alloc(), OF_SERIES, OF_STUDY)
 }
 
 #[test]
