@@ -5,7 +5,6 @@ use exchange::*;
 use operation::{Digest, Op, Taken, decode, digest};
 use site_state::Site;
 use std::alloc::Global;
-use std::process::Abort;
 use std::test::Fail;
 
 // The corrections of study 1.2.1 by which (0010,0010) is ROE^ANN, and of series 1.2.1.1 by which
@@ -154,42 +153,6 @@ fn a_give_that_comes_twice_is_known(rt: HostRuntime) -> Result<(), Fail> {
     );
     assert!(rt; round.finished(), "after it");
     Ok(())
-}
-
-/// What was asked for by one HAVE and then by another is found, whichever is the greater.
-fn asked_by_two(rt: &impl Abort, alloc: Global, first: &[u8], second: &[u8]) -> Result<(), Fail> {
-    let mut site = Site::new(alloc);
-    let mut round = Round::new(alloc, Version::Two);
-    assert_eq!(rt;
-        asked(alloc, &mut round, &mut site, first)?,
-        1,
-        "by the first"
-    );
-    assert_eq!(rt;
-        asked(alloc, &mut round, &mut site, second)?,
-        1,
-        "by the second"
-    );
-    assert_eq!(rt;
-        given(alloc, &mut round, &mut site, second)?,
-        0,
-        "the second"
-    );
-    assert!(rt; !round.finished(), "while the first is not given");
-    assert_eq!(rt; given(alloc, &mut round, &mut site, first)?, 0, "the first");
-    assert!(rt; round.finished(), "once both were given");
-    assert_eq!(rt;
-        given(alloc, &mut round, &mut site, first)?,
-        10,
-        "the first again"
-    );
-    Ok(())
-}
-
-#[test]
-fn two_haves_are_asked_for(rt: HostRuntime) -> Result<(), Fail> {
-    asked_by_two(&rt, rt.alloc(), OF_STUDY, OF_SERIES)?;
-    asked_by_two(&rt, rt.alloc(), OF_SERIES, OF_STUDY)
 }
 
 #[test]
