@@ -58,15 +58,14 @@ fn sort_by_instance(contents: &mut Vec<&Content>) -> Result<(), AllocError>
 
 /// These contents by ascending UID; those of one UID stay in their order.
 pub(crate) fn by_uid<'a>(
-    alloc: Global,
     level: Level,
-    contents: &[&'a Content],
+    contents: Vec<&'a Content>,
 ) -> Result<Vec<&'a Content>, AllocError>
     ensures ascends { IfOk result (λ sorted. Ascends (λ c. uid_in level c.now) sorted.items) }
     ensures groups { IfOk result (λ sorted. groups_by (λ c. uid_in level c.now) sorted.items
-        ≡ groups_by (λ c. uid_in level c.now) contents.now) }
+        ≡ groups_by (λ c. uid_in level c.now) contents.entry.items) }
 {
-    let mut sorted = Vec::from_slice(alloc, contents)?;
+    let mut sorted = contents;
     match level {
         Level::Study => {
             sort_by_study(&mut sorted)?;

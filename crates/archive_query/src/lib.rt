@@ -16,4 +16,6 @@ pub use candidates::{put_some_series, put_studies, shown_of};
 pub use finding::find;
 pub use groups::uid_at;
 pub use laws::same_sites_answer_alike;
-pub use query_model::{Answer, Asked, Level, Matching, Query, QueryFault, level_of, upper_uid};
+pub use query_model::{
+    Answer, Answers, Asked, Level, Matching, Query, QueryFault, level_of, upper_uid,
+};

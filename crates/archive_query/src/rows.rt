@@ -1,6 +1,6 @@
 //! The rows of a C-FIND (PS3.4, section C.4.1).
 
-ghost use Rattle.std.specs.Prelude.{◌≡◌, IfOk, map};
+ghost use Rattle.std.specs.Prelude.{◌≡◌, ◌++◌, ◌∷◌, [], IfOk, OnOk, map, option_to_list};
 ghost use Rattle.std.specs.Option.{option_map};
 ghost use Rattle.std.specs.Fmt.{decimal};
 ghost use Rattle.std.specs.List.{filter_map};
@@ -23,7 +23,7 @@ use dictionary::{
 use key_matching::matches;
 use octets::{Octets, joined};
 use operation::Content;
-use query_model::{Answer, Asked, Query};
+use query_model::{Answers, AnswersMut, Asked, Query};
 use site_state::Site;
 use std::alloc::{AllocError, Global};
 
@@ -168,42 +168,44 @@ fn cells(
     Ok(cells)
 }
 
-/// The row of some contents, of which the first is its representative.
-fn row(
+/// Puts the row of some contents, of which the first is its representative.
+fn put_row(
     alloc: Global,
+    rows: &mut AnswersMut,
     site: &Site,
     called: &[u8],
     query: &Query,
     contents: &[&Content],
     first: &Content,
-) -> Result<Answer, AllocError>
-    ensures { IfOk result (λ answer. answer ≡
+) -> Result<(), AllocError>
+    ensures { OnOk result (rows.new ≡ rows.old ++
         row_in (ops_of site.now) called.now query.now (map (λ c. c.now) contents.now)
-        first.now) }
+        first.now ∷ []) }
 {
     let cells = cells(alloc, site, called, query, contents, first)?;
     let set = DataSet::of(Syntax::Explicit, cells);
-    Answer::of(alloc, &set)
+    rows.push(&set)
 }
 
-/// The row of some contents, where the first of them matches.
-fn row_of(
+/// Puts the row of some contents, where the first of them matches.
+fn put_row_of(
     alloc: Global,
+    rows: &mut AnswersMut,
     site: &Site,
     called: &[u8],
     query: &Query,
     contents: &[&Content],
-) -> Result<Option<Answer>, AllocError>
-    ensures { IfOk result (λ answer. answer ≡
-        row_of_in (ops_of site.now) called.now query.now (map (λ c. c.now) contents.now)) }
+) -> Result<(), AllocError>
+    ensures { OnOk result (rows.new ≡ rows.old ++ option_to_list
+        (row_of_in (ops_of site.now) called.now query.now (map (λ c. c.now) contents.now))) }
 {
     match contents {
-        [] => Ok(None),
+        [] => Ok(()),
         [first, ..] => {
             if !is_match(site, query, first) {
-                return Ok(None);
+                return Ok(());
             }
-            Ok(Some(row(alloc, site, called, query, contents, first)?))
+            put_row(alloc, rows, site, called, query, contents, first)
         }
     }
 }
@@ -215,18 +217,16 @@ fn rows_of_groups(
     called: &[u8],
     query: &Query,
     groups: &[&[&Content]],
-) -> Result<Vec<Answer>, AllocError>
-    ensures { IfOk result (λ rows. rows.items ≡
+) -> Result<Answers, AllocError>
+    ensures { IfOk result (λ rows. rows ≡
         filter_map (row_of_in (ops_of site.now) called.now query.now)
         (map (λ g. map (λ c. c.now) g.now) groups.now)) }
 {
-    let mut rows = Vec::new(alloc);
+    let mut rows = AnswersMut::new(alloc);
     for group in groups {
-        if let Some(row) = row_of(alloc, site, called, query, group)? {
-            rows.push(row)?;
-        }
+        put_row_of(alloc, &mut rows, site, called, query, group)?;
     }
-    Ok(rows)
+    rows.freeze()
 }
 
 /// The rows of some contents: one sort, and a row for each run of one UID.
@@ -235,13 +235,13 @@ pub(crate) fn rows_among(
     site: &Site,
     called: &[u8],
     query: &Query,
-    contents: &[&Content],
-) -> Result<Vec<Answer>, AllocError>
-    ensures { IfOk result (λ rows. rows.items ≡
+    contents: Vec<&Content>,
+) -> Result<Answers, AllocError>
+    ensures { IfOk result (λ rows. rows ≡
         rows_among_in (ops_of site.now) called.now query.now
-        (map (λ c. c.now) contents.now)) }
+        (map (λ c. c.now) contents.entry.items)) }
 {
-    let sorted = by_uid(alloc, query.level, contents)?;
+    let sorted = by_uid(query.level, contents)?;
     let groups = groups_of(alloc, query.level, &sorted)?;
     let rows = rows_of_groups(alloc, site, called, query, &groups)?;
     Ok(rows)

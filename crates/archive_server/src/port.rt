@@ -21,7 +21,7 @@ use crossbeam_channel::Sender;
 use octets::ListOf;
 use op_shelf::{Keep, ShelfFault};
 use operation::{Content, Digested, Op, Taken};
-use query_model::{Answer, Query};
+use query_model::{Answers, Query};
 use retrieve_model::{Prepared, Selection};
 use site_hub::{HubName, Keeper, Pass, Shows};
 use std::alloc::Global;
@@ -142,12 +142,7 @@ impl<'a, H: HubName, T: Shows<H>, R: Wait + Drop, S: Wait, K: Keep, E: AtEntry> 
         }
     }
 
-    fn find(
-        &mut self,
-        called: &[u8],
-        view: View,
-        query: &Query,
-    ) -> Result<ListOf<Answer>, PortFault>
+    fn find(&mut self, called: &[u8], view: View, query: &Query) -> Result<Answers, PortFault>
         ensures finds { Finds (λ (s : Seat). ops_of (set_of H.opening s.seen))
             (λ (s : Seat). s.mine) self.old
             (record { called = called.now; view = view; query = query.now }) result self.new }

@@ -8,7 +8,7 @@ use association_session::{Moment, PortFault};
 use association_worker::*;
 use octets::ListOf;
 use operation::{Content, Taken};
-use query_model::{Answer, Query};
+use query_model::{Answers, Query};
 use retrieve_model::{Prepared, Selection};
 use row_text::put_bytes;
 use std::alloc::{AllocError, Global};
@@ -97,12 +97,7 @@ impl Port for AskedPort {
         }
     }
 
-    fn find(
-        &mut self,
-        called: &[u8],
-        view: View,
-        query: &Query,
-    ) -> Result<ListOf<Answer>, PortFault> {
+    fn find(&mut self, called: &[u8], view: View, query: &Query) -> Result<Answers, PortFault> {
         if note(&mut self.asked, "find of", called).is_err() {
             return Err(PortFault::Memory);
         }

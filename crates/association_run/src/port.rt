@@ -9,7 +9,7 @@ use archive_model::View;
 use association_session::PortFault;
 use octets::ListOf;
 use operation::{Content, Taken};
-use query_model::{Answer, Query};
+use query_model::{Answers, Query};
 use retrieve_model::{Prepared, Selection};
 
 /// A site, as one association sees it. Others may store between two steps, and nothing that is held
@@ -27,12 +27,7 @@ pub trait Port {
         ensures { Stores ops own self.old (a_content content) result self.new };
 
     /// The rows that answer a query, in one look: over all that is held when it ends.
-    fn find(
-        &mut self,
-        called: &[u8],
-        view: View,
-        query: &Query,
-    ) -> Result<ListOf<Answer>, PortFault>
+    fn find(&mut self, called: &[u8], view: View, query: &Query) -> Result<Answers, PortFault>
         ensures { Finds ops own self.old
             (record { called = called.now; view = view; query = query.now }) result self.new };
 

@@ -1,9 +1,8 @@
 -- Rows that are told, some in each turn.
-use Rattle.std.proofs.Common.{◌≡◌, ℕ, ◌<◌, ◌≤◌, ◌⊎◌, ◌+◌, zero, suc, true, false, List, [], ◌∷◌, ◌++◌, map, length}
-use Rattle.std.proofs.Common.{Option, Some, None, inl, inr}
+use Rattle.std.proofs.Common.{◌≡◌, ◌<◌, ◌≤◌, ◌+◌, zero, suc, List, [], ◌∷◌, ◌++◌, map, length}
+use Rattle.std.proofs.Common.{Option, Some, None}
 use Rattle.std.proofs.Common.{refl, sym, ap, subst, ◌∙◌, append_assoc, append-nil, length-append, arith}
-use Rattle.std.proofs.lemmas.Bool.{eqb-true}
-use Rattle.std.specs.Prelude.{IsSome, All, ◌==◌, option_to_list}
+use Rattle.std.specs.Prelude.{IsSome, All, option_to_list}
 use Rattle.archive_model.specs.declared.view.View.{View}
 use Rattle.data_set.specs.Set.{Set}
 use Rattle.pdu.specs.declared.value.Pdu.{Pdu}
@@ -18,13 +17,13 @@ use Rattle.association_session.specs.declared.due.Due.{Due}
 use Rattle.association_session.specs.declared.due.Due.TheVariants as dues
 use Rattle.association_session.specs.declared.due.RowKind.{RowKind}
 use Rattle.association_session.specs.declared.event.SessionEvent.TheVariants.{GoesOn}
-use Rattle.association_session.specs.Due.{IsAnswered, Fits, left_of}
+use Rattle.association_session.specs.Due.{IsAnswered, Fits}
 use Rattle.association_session.specs.Find.{RespondsRow, AreRows, row_text}
 use Rattle.association_session.specs.Projections.{state_after}
 use Rattle.association_session.specs.Response.{Awaited, FitsLimit, response_to, response_with}
 use Rattle.association_session.specs.Row.{Within}
 use Rattle.association_session.specs.Session.{AssociationState, Turned, OwedAt, Stops, IsToldBy, TellsSome, IsEnd}
-use Rattle.association_session.specs.Session.{IsFewer, FewerFor, IsWritable}
+use Rattle.association_session.specs.Session.{IsWritable}
 use Rattle.association_session.specs.Talks.{TellsRows, Talks}
 use Rattle.association_session.proofs.DataLaws.{data_then, data_state, rows_data, sending_data}
 use Rattle.association_session.proofs.ResponseLaws.{sending_goes}
@@ -238,37 +237,9 @@ told_all titles now new a kind rows left status mid deeds has within sub stage n
 
 -- ---- what is left
 
-filled : (left : List Set) (n : ℕ) → (length left ≡ 0) ⊎ (length left < n) → (length left == 0) ≡ false
-    → length left < n
-filled [] n (inl none) some = absurd cc
-filled (row ∷ left) n (inl none) some = absurd (omega (arith, none))
-filled left n (inr less) some = less
-
-pub empty_of : (left : List Set) → (length left == 0) ≡ true → left ≡ []
+pub empty_of : (left : List Set) → length left ≡ 0 → left ≡ []
 empty_of [] e = refl
-empty_of (row ∷ left) e = absurd (omega (arith, eqb-true (length (row ∷ left)) 0 e))
-
-pub fewer_some : (now new : AssociationState) (a : Awaited) (kind : RowKind) (rows left : List Set) (status : Status)
-    → now.awaited ≡ Some (telling_of a kind rows status) → new.awaited ≡ Some (telling_of a kind left status)
-    → new.queue ≡ now.queue → (length left ≡ 0) ⊎ (length left < length rows) → (length left == 0) ≡ false
-    → IsFewer GoesOn now new
-fewer_some now new a kind rows left status has due queue fewer some =
-    let less = filled left (length rows) fewer some in
-    subst (λ (o : Option Due). FewerFor o now new) (sym has) (
-      queue,
-      subst (λ (o : Option Due). left_of new.awaited < left_of o) (sym has)
-          (subst (λ (o : Option Due). left_of o < suc (length rows)) (sym due) (omega (arith, less))),
-    )
-
-pub fewer_all : (now new : AssociationState) (a : Awaited) (kind : RowKind) (rows : List Set) (status : Status)
-    → now.awaited ≡ Some (telling_of a kind rows status) → new.awaited ≡ None → new.queue ≡ now.queue
-    → IsFewer GoesOn now new
-fewer_all now new a kind rows status has none queue =
-    subst (λ (o : Option Due). FewerFor o now new) (sym has) (
-      queue,
-      subst (λ (o : Option Due). left_of new.awaited < left_of o) (sym has)
-          (subst (λ (o : Option Due). left_of o < suc (length rows)) (sym none) (omega arith)),
-    )
+empty_of (row ∷ left) e = absurd (omega (arith, e))
 
 -- ---- what can be written
 

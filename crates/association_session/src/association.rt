@@ -1,6 +1,6 @@
 //! Where an association is, and what it does on one event, one message or one reply.
 
-ghost use Rattle.std.specs.Prelude.{◌≡◌, ◌<◌, ◌++◌, ◌∷◌, [], IfOk, OnOk, OnErr, IsTrue, IsSome, IfSome, None, Some, All, ◌≤◌, ◌⊎◌, length, List, map, true};
+ghost use Rattle.std.specs.Prelude.{◌≡◌, ◌<◌, ◌++◌, ◌∷◌, [], IfOk, OnOk, OnErr, IsTrue, IsSome, IfSome, None, Some, All, ◌≤◌, length, List, map, true, false};
 ghost use Rattle.std.specs.Option.{option_copied};
 ghost use Rattle.pdu.specs.declared.value.Pdu.{Pdu};
 ghost use Rattle.pdu.specs.Spelling.{IsPdu};
@@ -23,7 +23,7 @@ ghost use Rattle.archive_model.specs.declared.view.View.{View};
 
 use crate::awaited::Awaited;
 use crate::deed::{Call, Deed, Moment};
-use crate::due::{Due, RowKind, Rows, Telling, are_rows, are_sent, due_for, is_telling, takes};
+use crate::due::{Due, RowKind, Telling, are_rows, are_sent, due_for, is_telling, takes};
 use crate::event::SessionEvent;
 use crate::find::{found, row_text};
 use crate::limit::limit_of;
@@ -37,7 +37,7 @@ use dimse::{Message, Status};
 use octets::ListOf;
 use operation::{Content, Taken};
 use pdu::{Pdu, Pdv};
-use query_model::Answer;
+use query_model::{Answer, Answers};
 use retrieve_model::Prepared;
 use std::alloc::{AllocError, Global};
 use std::collections::VecDeque;
@@ -204,28 +204,29 @@ fn put_row(
 }
 
 /// Puts the deeds that respond with the next rows, until a turn's bytes were spelled or no row is
-/// left.
+/// left. The answer is whether none was found to be left.
 fn put_rows(
     alloc: Global,
     deeds: &mut ListOf<Deed>,
     awaited: &Awaited,
     kind: RowKind,
-    rows: &mut Rows,
-) -> Result<(), AllocError>
+    rows: &mut Answers,
+) -> Result<bool, AllocError>
     ensures told { OnOk result (TellsSome awaited.now kind rows.old rows.new deeds.old
         deeds.new) }
-    ensures fewer { OnOk result ((length rows.new ≡ 0) ⊎ (length rows.new < length rows.old)) }
+    ensures ended { IfOk result (λ ended. ended ≡ true → length rows.new ≡ 0) }
+    ensures fewer { IfOk result (λ ended. ended ≡ false → length rows.new < length rows.old) }
     ensures writable { All IsWritable deeds.old → OnOk result (All IsWritable deeds.new) }
 {
     let mut spelled = 0;
     while spelled < TURN {
-        let Some(row) = rows.next() else {
-            return Ok(());
+        let Some(row) = rows.next()? else {
+            return Ok(true);
         };
         let size = put_row(alloc, deeds, awaited, kind, row)?;
         spelled = 1.max(size).saturating_add(spelled);
     }
-    Ok(())
+    Ok(false)
 }
 
 /// Puts the deeds that end rows.
@@ -492,10 +493,7 @@ impl Association {
     }
 
     /// Takes the reply to a find, whose rows are left to be told.
-    fn take_found(
-        &mut self,
-        reply: Result<ListOf<Answer>, PortFault>,
-    ) -> Result<ListOf<Deed>, AllocError>
+    fn take_found(&mut self, reply: Result<Answers, PortFault>) -> Result<ListOf<Deed>, AllocError>
         requires { IsTrue (is_in_turn self.old (Replied (Found reply))) }
         ensures turned { (titles : List (Title View)) → IfOk result (λ deeds.
             Turned titles self.old (Replied (Found reply)) deeds self.new) }
@@ -600,8 +598,8 @@ impl Association {
             mut rows,
             status,
         } = telling;
-        put_rows(self.alloc, &mut deeds, &awaited, kind, &mut rows)?;
-        if rows.is_empty() {
+        let ended = put_rows(self.alloc, &mut deeds, &awaited, kind, &mut rows)?;
+        if ended {
             put_end(self.alloc, &mut deeds, &awaited, status)?;
             return Ok(deeds);
         }

@@ -1,6 +1,6 @@
 //! What is still to be told of the request that was served last (PS3.7, section 9.3).
 
-ghost use Rattle.std.specs.Prelude.{◌≡◌, ◌++◌, [], length, ◌==◌, None, option_to_list};
+ghost use Rattle.std.specs.Prelude.{◌≡◌};
 ghost use Rattle.association_session.specs.Due.{takes_reply, is_telling as is_telling_due, has_rows, is_sending, due_of};
 
 use crate::awaited::Awaited;
@@ -8,10 +8,7 @@ use crate::reply::Reply;
 use crate::retrieval::Retrieval;
 use data_set::Syntax;
 use dimse::Status;
-use octets::ListOf;
-use query_model::Answer;
-use std::collections::VecDeque;
-use std::marker::Model;
+use query_model::Answers;
 
 /// How the rows of a query are responded: in this transfer syntax, and with this status.
 #[derive(Clone, Copy)]
@@ -20,54 +17,12 @@ pub(crate) struct RowKind {
     pub(crate) status: Status,
 }
 
-/// Rows that are not told yet.
-#[derive(Drop)]
-pub(crate) struct Rows {
-    left: VecDeque<Answer>,
-}
-
-impl Model for Rows {
-    ghost use Rattle.std.specs.Prelude.{List};
-    ghost use Rattle.std.specs.Coded.{coded_list};
-    ghost use Rattle.data_set.specs.Set.{Set, set_code};
-
-    ghost Value = { List Set };
-
-    ghost coded = { coded_list set_code };
-
-    ghost view = { λ r. r.left.items };
-}
-
-impl Rows {
-    pub(crate) fn of(rows: ListOf<Answer>) -> Rows
-        ensures { result ≡ rows }
-    {
-        Rows {
-            left: VecDeque::from_vec(rows.into_vec()),
-        }
-    }
-
-    pub(crate) fn is_empty(&self) -> bool
-        ensures { result ≡ (length self.now == 0) }
-    {
-        self.left.is_empty()
-    }
-
-    /// The next row.
-    pub(crate) fn next(&mut self) -> Option<Answer>
-        ensures parts { self.old ≡ option_to_list result ++ self.new }
-        ensures none { result ≡ None → length self.new ≡ 0 }
-    {
-        self.left.pop_front()
-    }
-}
-
 /// Rows that are told, and the status that ends them.
 #[derive(Drop)]
 pub(crate) struct Telling {
     pub(crate) awaited: Awaited,
     pub(crate) kind: RowKind,
-    pub(crate) rows: Rows,
+    pub(crate) rows: Answers,
     pub(crate) status: Status,
 }
 

@@ -7,7 +7,7 @@ ghost use Rattle.association_session.specs.Find.{is_find, find_refusal, row_stat
 
 use crate::context::{is_of_other_class, syntax};
 use crate::deed::Finding;
-use crate::due::{RowKind, Rows};
+use crate::due::RowKind;
 use crate::reply::PortFault;
 use crate::service::Service;
 use archive_model::View;
@@ -15,9 +15,9 @@ use bytes::Bytes;
 use data_set::{DataSet, SetFault, Syntax, read, write};
 use dictionary::STUDY_ROOT_FIND;
 use dimse::{Command, Status};
-use octets::{ListOf, Octets};
+use octets::Octets;
 use pdu::Context;
-use query_model::{Answer, Query, QueryFault};
+use query_model::{Answer, Answers, Query, QueryFault};
 use std::alloc::{AllocError, Global};
 use ul_state::Settled;
 
@@ -139,17 +139,17 @@ pub(crate) fn row_text(alloc: Global, syntax: Syntax, row: Answer) -> Result<Byt
             let set = row.to_set(alloc)?.to_implicit(alloc)?;
             Ok(Bytes::from_vec(write(alloc, &set)?)?)
         }
-        Syntax::Explicit => Ok(Bytes::from_vec(row.into_text().into_vec())?),
+        Syntax::Explicit => Ok(row.into_text()),
     }
 }
 
 /// The rows that the port replied, and the status that ends them.
-pub(crate) fn found(alloc: Global, reply: Result<ListOf<Answer>, PortFault>) -> (Rows, Status)
+pub(crate) fn found(alloc: Global, reply: Result<Answers, PortFault>) -> (Answers, Status)
     ensures rows { result.0 ≡ rows_in reply }
     ensures status { result.1 ≡ status_of_found reply }
 {
     match reply {
-        Ok(rows) => (Rows::of(rows), Status::Success),
-        Err(_fault) => (Rows::of(ListOf::new(alloc)), Status::OutOfResources),
+        Ok(rows) => (rows, Status::Success),
+        Err(_fault) => (Answers::new(alloc), Status::OutOfResources),
     }
 }

@@ -5,7 +5,7 @@ ghost use Rattle.association_session.specs.Reply.{number_of};
 
 use octets::ListOf;
 use operation::Taken;
-use query_model::Answer;
+use query_model::Answers;
 use retrieve_model::Prepared;
 use thiserror::Error;
 
@@ -46,7 +46,7 @@ pub enum Reply {
     /// To a store.
     Stored(Result<Taken, PortFault>),
     /// To a find: the rows.
-    Found(Result<ListOf<Answer>, PortFault>),
+    Found(Result<Answers, PortFault>),
     /// To a get: what is to be sent, by ascending SOP Instance UID.
     Gotten(Result<ListOf<Prepared>, PortFault>),
 }

@@ -13,7 +13,7 @@ use association_run::Port;
 use association_session::PortFault;
 use octets::ListOf;
 use operation::{Content, Digested, Op, Taken};
-use query_model::{Answer, Query};
+use query_model::{Answers, Query};
 use retrieve_model::{Prepared, Selection};
 use site_hub::{HubFault, HubName, Keeper, Pass, Shows, Told, store_digested};
 use std::marker::{Brand, Model, PhantomData};
@@ -73,12 +73,12 @@ fn reply<H: HubName>(told: Result<Told<H>, HubFault>) -> Result<Taken, PortFault
 }
 
 /// What the answer to a find is to a port.
-fn rows_in(found: Result<Vec<Answer>, HubFault>) -> Result<ListOf<Answer>, PortFault>
-    ensures ok { IfOk found (λ rows. result ≡ Ok rows.items) }
+fn rows_in(found: Result<Answers, HubFault>) -> Result<Answers, PortFault>
+    ensures ok { IfOk found (λ rows. result ≡ Ok rows) }
     ensures err { IfErr found (λ fault. result ≡ Err (fault_of_hub fault)) }
 {
     match found {
-        Ok(rows) => Ok(ListOf::of(rows)),
+        Ok(rows) => Ok(rows),
         Err(fault) => Err(port_fault(fault)),
     }
 }
@@ -145,12 +145,7 @@ impl<'a, H: HubName, T: Shows<H>, R: Wait + Drop, S: Wait, E: AtEntry> HubPort<'
     }
 
     /// The rows that the pass finds, in one look.
-    pub fn rows(
-        &mut self,
-        called: &[u8],
-        view: View,
-        query: &Query,
-    ) -> Result<ListOf<Answer>, PortFault>
+    pub fn rows(&mut self, called: &[u8], view: View, query: &Query) -> Result<Answers, PortFault>
         ensures finds { Finds (λ (s : Seat). ops_of (set_of H.opening s.seen))
             (λ (s : Seat). s.mine) self.old
             (record { called = called.now; view = view; query = query.now }) result self.new }
@@ -195,12 +190,7 @@ impl<'a, H: HubName, T: Shows<H>, R: Wait + Drop, S: Wait, E: AtEntry> Port
         self.take(Digested::of(Op::Content(content)))
     }
 
-    fn find(
-        &mut self,
-        called: &[u8],
-        view: View,
-        query: &Query,
-    ) -> Result<ListOf<Answer>, PortFault>
+    fn find(&mut self, called: &[u8], view: View, query: &Query) -> Result<Answers, PortFault>
         ensures finds { Finds (λ (s : Seat). ops_of (set_of H.opening s.seen))
             (λ (s : Seat). s.mine) self.old
             (record { called = called.now; view = view; query = query.now }) result self.new }

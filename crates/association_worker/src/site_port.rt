@@ -17,7 +17,7 @@ use association_run::Port;
 use association_session::PortFault;
 use octets::ListOf;
 use operation::{Content, Digest, Digested, Op, Taken};
-use query_model::{Answer, Query};
+use query_model::{Answers, Query};
 use retrieve_model::{Prepared, Selection};
 use site_state::{Site, SiteFault};
 use std::alloc::Global;
@@ -89,18 +89,13 @@ impl SitePort {
     }
 
     /// The rows that the site answers to a query.
-    pub fn rows(
-        &self,
-        called: &[u8],
-        view: View,
-        query: &Query,
-    ) -> Result<ListOf<Answer>, PortFault>
+    pub fn rows(&self, called: &[u8], view: View, query: &Query) -> Result<Answers, PortFault>
         ensures found { IfOk result (λ rows. rows ≡
             rows_of view called.now query.now (ops_of self.now.site)) }
         ensures fault { IfErr result (λ fault. fault ≡ PortFault.Memory) }
     {
         match find(self.alloc, &self.site, view, called, query) {
-            Ok(rows) => Ok(ListOf::of(rows)),
+            Ok(rows) => Ok(rows),
             Err(_refused) => Err(PortFault::Memory),
         }
     }
@@ -168,12 +163,7 @@ impl Port for SitePort {
         self.take(content)
     }
 
-    fn find(
-        &mut self,
-        called: &[u8],
-        view: View,
-        query: &Query,
-    ) -> Result<ListOf<Answer>, PortFault>
+    fn find(&mut self, called: &[u8], view: View, query: &Query) -> Result<Answers, PortFault>
         ensures finds { Finds (λ (p : PortParts). ops_of p.site) (λ (p : PortParts). p.own) self.old
             (record { called = called.now; view = view; query = query.now }) result self.new }
 

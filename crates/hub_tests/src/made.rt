@@ -1,7 +1,7 @@
 //! Images, corrections and queries as the tests write them.
 
 use archive_model::View;
-use archive_query::{Answer, Level, Query};
+use archive_query::{Answer, Answers, Level, Query};
 use archive_retrieve::{Accepted, Accepts, Selection};
 use bytes::Bytes;
 use data_set::{Syntax, read};
@@ -150,10 +150,16 @@ fn count_in(alloc: Global, rows: &[Answer]) -> Result<u64, AllocError> {
     }
 }
 
+/// The same of rows that were found.
+fn count_of(alloc: Global, rows: Answers) -> Result<u64, AllocError> {
+    let rows = rows.into_vec(alloc)?;
+    count_in(alloc, &rows)
+}
+
 /// How many instances a pass finds of the only study.
 pub fn found<H: HubName>(alloc: Global, pass: &mut Pass<H>, query: &Query) -> Option<u64> {
     match pass.find(View::Archive, b"ARCHIVE", query) {
-        Ok(rows) => count_in(alloc, &rows).ok(),
+        Ok(rows) => count_of(alloc, rows).ok(),
         Err(_refused) => None,
     }
 }

@@ -1,20 +1,20 @@
 //! The rows of a C-FIND (PS3.4, section C.4.1.1.3.2).
 
 ghost use Rattle.std.specs.Prelude.{◌≡◌, IfOk};
-ghost use Rattle.data_set.specs.declared.syntax.Syntax.TheVariants.{Explicit};
 ghost use Rattle.data_set.specs.Written.{text_of};
+ghost use Rattle.query_model.specs.Answer.{set_in, IsWritten};
 
-use data_set::{DataSet, SetFault, Syntax, read, write};
-use octets::Octets;
+use bytes::Bytes;
+use data_set::{DataSet, SetFault, Syntax, read};
 use std::alloc::{AllocError, Global};
 use std::marker::Model;
 
-/// One row: the identifier that it answers, kept as its text in Explicit VR Little Endian.
+/// One row: the identifier that it answers, as its text in Explicit VR Little Endian.
 ///
-/// The text is in one block of its size, since all rows of a query are held until they are told.
+/// The text lies among those of other rows, whose bytes it keeps with its own.
 #[derive(Drop)]
 pub struct Answer {
-    text: Octets,
+    text: Bytes,
 }
 
 impl Model for Answer {
@@ -31,19 +31,16 @@ impl Model for Answer {
 }
 
 impl Answer {
-    /// The row that answers a data set, which is copied.
-    pub fn of(alloc: Global, set: &DataSet) -> Result<Answer, AllocError>
-        requires { set.now.syntax ≡ Explicit }
-        ensures { IfOk result (λ answer. answer ≡ set.now) }
+    /// The row of a text that was written.
+    pub(crate) fn of(text: Bytes) -> Answer
+        requires { IsWritten text }
+        ensures { result ≡ set_in text }
     {
-        let text = write(alloc, set)?;
-        Ok(Answer {
-            text: Octets::from_slice(alloc, text.as_slice())?,
-        })
+        Answer { text }
     }
 
-    /// The text that is kept.
-    pub fn into_text(self) -> Octets
+    /// The text, where it lies.
+    pub fn into_text(self) -> Bytes
         ensures { result ≡ text_of self.elements }
     {
         let Answer { text } = self;

@@ -5,12 +5,15 @@
 #![tactic(auto)]
 
 mod answer;
+mod answers;
 mod asked;
+mod block;
 mod fault;
 mod key;
 mod query;
 
 pub use answer::Answer;
+pub use answers::{Answers, AnswersMut};
 pub use asked::Asked;
 pub use fault::QueryFault;
 pub use key::Level;

@@ -15,7 +15,7 @@ use crate::fault::HubFault;
 use crate::snapshot::Snapshot;
 use crate::told::Told;
 use archive_model::View;
-use archive_query::{Answer, Query, find};
+use archive_query::{Answers, Query, find};
 use archive_retrieve::{Accepts, Prepared, Selection, Sending, get, prepare};
 use left_right::ReadHandle;
 use operation::{Digest, Op};
@@ -63,13 +63,8 @@ impl<H: HubName> Pass<H> {
     }
 
     /// The rows of a C-FIND (PS3.4, section C.4.1).
-    pub fn find(
-        &mut self,
-        view: View,
-        called: &[u8],
-        query: &Query,
-    ) -> Result<Vec<Answer>, HubFault>
-        ensures rows { IfOk result (λ rows. rows.items ≡
+    pub fn find(&mut self, view: View, called: &[u8], query: &Query) -> Result<Answers, HubFault>
+        ensures rows { IfOk result (λ rows. rows ≡
             rows_of view called.now query.now (ops_of (set_of H.opening self.new.seen))) }
         ensures looked { HasLooked self.old self.new }
         ensures fault { IfErr result IsLookFault }

@@ -56,7 +56,7 @@ fn told_of_query(
     if query.partial() {
         out.push_str("partial\n")?;
     }
-    let rows = find(alloc, site, view, called, query)?;
+    let rows = find(alloc, site, view, called, query)?.into_vec(alloc)?;
     for row in &rows {
         put_row(alloc, &mut out, row)?;
     }

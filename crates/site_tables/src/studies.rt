@@ -158,6 +158,7 @@ pub fn study_rows(alloc: Global, site: &Site) -> Result<Vec<Row>, AllocError>
     let rejected = rejected_picks(alloc, site)?;
     let query = study_query(alloc)?;
     let answers = find(alloc, site, View::Archive, b"ARCHIVE", &query)?;
+    let answers = answers.into_vec(alloc)?;
     let rows = rows_at(alloc, &rejected, &answers)?;
     Ok(rows)
 }

@@ -155,7 +155,7 @@ fn look_at(alloc: Global, site: &Site, view: View, query: &Query) -> Result<Seen
     ensures { IsTold site.now (told_of_looking site.now view query.now) result site.now }
 {
     let rows = find(alloc, site, view, title_of(view), query)?;
-    Ok(Seen::Rows(ListOf::of(rows)))
+    Ok(Seen::Rows(ListOf::of(rows.into_vec(alloc)?)))
 }
 
 /// A step that gets, at its site.

@@ -77,7 +77,7 @@ fn found_series(alloc: Global, site: &Site, view: View, key: &[u8]) -> Result<Ve
     ];
     let asked = query(alloc, b"SERIES", &keys)??;
     let mut rows = Vec::new(alloc);
-    for row in &find(alloc, site, view, b"ARCHIVE", &asked)? {
+    for row in &find(alloc, site, view, b"ARCHIVE", &asked)?.into_vec(alloc)? {
         let set = row.to_set(alloc)?;
         let values: [&[u8]; 3] = [
             set.value(0x0020_000e).unwrap_or(b"-"),
@@ -112,7 +112,7 @@ fn found_images(alloc: Global, site: &Site, view: View, key: &[u8]) -> Result<Ve
     ];
     let asked = query(alloc, b"IMAGE", &keys)??;
     let mut rows = Vec::new(alloc);
-    for row in &find(alloc, site, view, b"ARCHIVE", &asked)? {
+    for row in &find(alloc, site, view, b"ARCHIVE", &asked)?.into_vec(alloc)? {
         let set = row.to_set(alloc)?;
         let values: [&[u8]; 1] = [set.value(0x0008_0018).unwrap_or(b"-")];
         add_row(&mut rows, &values)?;

@@ -110,7 +110,7 @@ fn found_rows(alloc: Global, site: &Site, view: View, key: &[u8]) -> Result<Vec<
     let keys: [(u32, &[u8]); 3] = [(0x0010_0010, key), (0x0020_1206, b""), (0x0020_1208, b"")];
     let asked = query(alloc, b"STUDY", &keys)??;
     let mut rows = Vec::new(alloc);
-    for row in &archive_query::find(alloc, site, view, b"ARCHIVE", &asked)? {
+    for row in &archive_query::find(alloc, site, view, b"ARCHIVE", &asked)?.into_vec(alloc)? {
         let set = row.to_set(alloc)?;
         let values: [&[u8]; 4] = [
             set.value(0x0020_000d).unwrap_or(b"-"),

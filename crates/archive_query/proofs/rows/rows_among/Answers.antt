@@ -14,7 +14,7 @@ returns c =
     let now = λ (x : Bor Content). x.now in
     let q = c.args.query.now in
     let ops = ops_of c.args.site.now in
-    let cs = map now c.args.contents.now in
+    let cs = map now c.args.contents.items in
     let one = row_of ops c.args.called.now q in
     let key = λ (x : Bor Content). uid_at q.level x.now in
     c.in_ok-rows.ensures
@@ -24,6 +24,6 @@ returns c =
     sym (map-map (λ (g : Bor (List (Bor Content))). g.now) (map now) c.in_ok-groups.groups.items)
     ∙ ap (map (map now)) (c.in_ok-groups.ensures ∙ ap (groups_by key) c.deref.ensures.value
     ∙ c.in_ok-sorted.ensures.groups)
-    ∙ groups-map (uid_at q.level) now c.args.contents.now)
+    ∙ groups-map (uid_at q.level) now c.args.contents.items)
     ∙ filter_map-map (λ k. under (uid_at q.level) k cs) one (row_at ops c.args.called.now q cs) (λ uid. refl)
     (uids_at q.level cs)

@@ -7,6 +7,6 @@ use Rattle.archive_query.proofs.rows.rows_of_groups.Given as goal
 -- The rows so far, with those of the groups that are left, are the rows of all groups.
 abbrev pub invariant-loop-group : goal.invariant-loop-group
 invariant-loop-group l =
-    l.rows.items ++ filter_map (row_of (ops_of l.site) l.called l.query)
+    l.rows ++ filter_map (row_of (ops_of l.site) l.called l.query)
     (map (λ g. map (λ c. c.now) g.now) (drop l.group-index l.groups))
     ≡ filter_map (row_of (ops_of l.site) l.called l.query) (map (λ g. map (λ c. c.now) g.now) l.groups)

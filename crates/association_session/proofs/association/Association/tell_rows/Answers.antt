@@ -8,8 +8,8 @@ use Rattle.association_session.proofs.TellLaws.{told_some, told_all, empty_of}
 use Rattle.association_session.proofs.association.Association.tell_rows.Goals as goal
 
 -- The last rows are told, and their end.
-pub returns-then-is_empty-clause-turned : goal.returns-then-is_empty-clause-turned
-returns-then-is_empty-clause-turned c = λ titles.
+pub returns-then-ended-clause-turned : goal.returns-then-ended-clause-turned
+returns-then-ended-clause-turned c = λ titles.
     let t = c.in-Some-Rows.telling in
     told_all titles c.args.self.now _ t.awaited t.kind t.rows c.put_rows.new.rows t.status c.put_rows.new.deeds
     c.put_end.new.deeds
@@ -18,8 +18,8 @@ returns-then-is_empty-clause-turned c = λ titles.
     (at_place _ _ c.self.view_is) (at_sub _ _ c.self.view_is) (at_stage _ _ c.self.view_is) c.take.ensures.after
     (at_queue _ _ c.self.view_is)
     (subst (λ (d : List Deed). TellsSome t.awaited t.kind t.rows c.put_rows.new.rows d c.put_rows.new.deeds)
-    c.new-deeds.ensures c.in_ok-put_rows.ensures.told)
-    (empty_of c.put_rows.new.rows (sym c.is_empty.ensures ∙ c.if-is_empty.true))
+    c.new-deeds.ensures c.in_ok-ended.ensures.told)
+    (empty_of c.put_rows.new.rows (c.in_ok-ended.ensures.ended c.if-ended.true))
     c.in_ok-put_end.ensures.ends
 
 -- Some rows are told, and the others are left.
@@ -33,4 +33,4 @@ returns-clause-turned c = λ titles.
     (at_queue _ _ c.self.view_is)
     (subst (λ (a : Awaited). FitsLimit a.limit) c.awaited.view_is c.awaited.invariant.limit)
     (subst (λ (d : List Deed). TellsSome t.awaited t.kind t.rows c.put_rows.new.rows d c.put_rows.new.deeds)
-    c.new-deeds.ensures c.in_ok-put_rows.ensures.told)
+    c.new-deeds.ensures c.in_ok-ended.ensures.told)

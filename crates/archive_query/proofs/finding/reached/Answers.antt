@@ -3,18 +3,15 @@ use Rattle.operation.specs.declared.content.Content.{Content}
 use Rattle.site_state.specs.Site.{ops_of}
 use Rattle.query_model.specs.Rows.{named, rows_among}
 use Rattle.archive_query.proofs.CandidateLaws.{rows_enough}
-use Rattle.archive_query.proofs.finding.find.Goals as goal
+use Rattle.archive_query.proofs.finding.reached.Goals as goal
 
 -- The candidates are enough.
 pub returns : goal.returns
-returns c =
+returns c called =
     let q = c.args.query.now in
-    let called = c.args.called.now in
     let ops = ops_of c.args.site.now in
     let content_of = λ (x : Bor Content). x.now in
-    c.in_ok-rows.ensures
-    ∙ ap (λ (xs : List (Bor Content)). rows_among ops called q (map content_of xs)) c.deref-2.ensures.value
-    ∙ ap (rows_among ops called q) (
+    ap (rows_among ops called q) (
     c.in_ok-named.ensures
     ∙ ap (λ (xs : List (Bor Content)). named q (map content_of xs)) c.deref.ensures.value
     ∙ ap (named q) c.in_ok-shown.ensures.found)

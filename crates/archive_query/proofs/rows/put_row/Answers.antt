@@ -4,7 +4,7 @@ use Rattle.data_set.specs.declared.syntax.Syntax.TheVariants.{Explicit}
 use Rattle.query_model.specs.Rows.{value_in_row}
 use Rattle.archive_query.proofs.RowSets.{row_is_set}
 use Rattle.site_state.specs.Site.{ops_of}
-use Rattle.archive_query.proofs.rows.row.Goals as goal
+use Rattle.archive_query.proofs.rows.put_row.Goals as goal
 
 -- The elements of a row ascend by tag and fit Explicit VR Little Endian, so they are a data set.
 pub of-set-requires : goal.of-set-requires
