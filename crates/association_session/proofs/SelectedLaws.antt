@@ -1,7 +1,7 @@
 -- The counts of a C-GET add up, and a C-CANCEL ends it.
-use Rattle.std.proofs.Common.{◌≡◌, ℕ, ◌+◌, zero, suc, Bool, true, false, List, [], ◌∷◌, ◌++◌, map, length, Option}
+use Rattle.std.proofs.Common.{◌≡◌, ℕ, ◌+◌, suc, Bool, true, false, List, [], ◌∷◌, map, length, Option}
 use Rattle.std.proofs.Common.{Some, None}
-use Rattle.std.proofs.Common.{refl, sym, ap, subst, ◌∙◌, length-append, arith}
+use Rattle.std.proofs.Common.{refl, subst, length-append, arith}
 use Rattle.archive_model.specs.declared.view.View.{View}
 use Rattle.data_set.specs.declared.syntax.Syntax.{Syntax}
 use Rattle.dimse.specs.declared.status.Status.{Status}
@@ -27,7 +27,7 @@ use Rattle.association_session.specs.Retrieval.{RespondsCancel, meaning_of}
 use Rattle.association_session.specs.Row.{Within, row, met}
 use Rattle.association_session.specs.Selected.{selected_by, remaining_in, AddsUp, EndsBy, CancelEnds}
 use Rattle.association_session.specs.SubOperation.{Retrieval, SubOperation}
-use Rattle.association_session.specs.Talks.{Heard, Goes, GoesBy, Then, GoesOnBy, Performs, Attends, InState, Talks}
+use Rattle.association_session.specs.Talks.{Heard, Goes, Then, GoesOnBy, Performs, Attends, InState, Talks}
 
 -- ---- its counts
 
