@@ -29,8 +29,9 @@ use Rattle.association_session.specs.declared.service.Service.{Service}
 use Rattle.association_session.specs.declared.service.Service.TheVariants.{Ignored, Broken, Responded, Asked}
 use Rattle.association_session.specs.declared.service.Service.TheVariants.{Queried, Fetched}
 use Rattle.association_session.specs.Find.{AreRows, row_text, rows_in, status_of_found}
-use Rattle.association_session.specs.Finals.{data_in, is_pending, RespondsTo, IsOnTheWay, SendsOnTheWay, SendsLast}
-use Rattle.association_session.specs.Finals.{AreResponded, RequestsBy, Replied, FewRequests, RepliedGet, RequestFor}
+use Rattle.association_session.specs.Finals.{data_in, is_pending, Requested, plain, selecting, RespondsTo, IsOnTheWay}
+use Rattle.association_session.specs.Finals.{SendsOnTheWay, SendsLast, AreResponded, RequestsBy, Precedes, Replied}
+use Rattle.association_session.specs.Finals.{FewRequests, RepliedGet, RequestFor}
 use Rattle.association_session.specs.Finals.{next_of_get, RequestWithin, RequestOf, RequestIn, Requests, open_in}
 use Rattle.association_session.specs.Finals.{EndsInCall, IsOpen, HasResponses}
 use Rattle.association_session.specs.Get.{final_status, failed_set}
@@ -40,6 +41,7 @@ use Rattle.association_session.specs.Retrieval.{few_in, setting_out, counting, R
 use Rattle.association_session.specs.Retrieval.{sub_operation}
 use Rattle.association_session.specs.Retrieval.{failing, sending, way_for, ByWay, Both, SendsOn, begun, begun_by}
 use Rattle.association_session.specs.Retrieval.{meaning_of, performed, cancelling}
+use Rattle.association_session.specs.declared.counts.Outcome.{Outcome}
 use Rattle.association_session.specs.declared.deed.Call.{Call}
 use Rattle.association_session.specs.declared.deed.Getting.{Getting}
 use Rattle.association_session.specs.declared.retrieval.Meaning.{Meaning}
@@ -57,10 +59,13 @@ use Rattle.ul_state.specs.Acceptor.{kind_for}
 use Rattle.ul_state.specs.Table.{next_of}
 use Rattle.association_session.proofs.DataLaws.{AreData, sending_data, rows_data, sends_on_data, responds_by_data}
 use Rattle.association_session.proofs.OrderLaws.{orderly}
+use Rattle.association_session.proofs.SelectedLaws.{selected_in, counts_add_up, starts_with_all, unsent_keeps_all}
+use Rattle.association_session.proofs.SelectedLaws.{sent_keeps_all, performed_keeps_all}
 use Rattle.association_session.proofs.StatusLaws.{served_final, served_pending, served_get, stored_final}
 use Rattle.association_session.proofs.StatusLaws.{found_final, counts_final}
 use Rattle.association_session.specs.Response.{Awaited, response_to, response_with}
 use Rattle.association_session.specs.Row.{Within, row, met}
+use Rattle.association_session.specs.Selected.{selected_by, remaining_in, TellsNoCounts}
 use Rattle.association_session.specs.Service.{Serves}
 use Rattle.association_session.specs.Store.{status_of_reply}
 use Rattle.association_session.specs.Talks.{Heard, Met, Said, Goes, GoesBy, Then, Tells, TellsRows, FollowsStore}
@@ -146,116 +151,169 @@ data_behind (pdus.Abort source reason ∷ ps) rest p = absurd p
 
 -- ---- responses
 
-response_to_is : (a : Awaited) (status : Status) (b : Bool) → is_pending status ≡ b → RespondsTo a b (response_to a
-    status)
+-- They tell no counts,
+no_counts : (a : Awaited) (status : Status) → TellsNoCounts (response_to a status)
 unfolding response_of
-response_to_is a status b e = record { context = refl; id = refl; status = status; is = refl; kind = e }
+no_counts a status = record { remaining = refl; completed = refl; failed = refl; warning = refl }
+
+no_counts_with : (a : Awaited) (status : Status) (text : List ℕ) → TellsNoCounts (response_with a status text)
+unfolding response_of
+no_counts_with a status text = record { remaining = refl; completed = refl; failed = refl; warning = refl }
+
+response_to_is : (a : Awaited) (status : Status) (b : Bool) → is_pending status ≡ b → RespondsTo (plain a) b
+    (response_to a status)
+unfolding response_of
+response_to_is a status b e = record {
+  context = refl;
+  id = refl;
+  status = status;
+  is = refl;
+  kind = e;
+  counts = no_counts a status;
+}
 
 response_with_is : (a : Awaited) (status : Status) (text : List ℕ) (b : Bool) → is_pending status ≡ b
-    → RespondsTo a b (response_with a status text)
+    → RespondsTo (plain a) b (response_with a status text)
 unfolding response_of
-response_with_is a status text b e = record { context = refl; id = refl; status = status; is = refl; kind = e }
+response_with_is a status text b e = record {
+  context = refl;
+  id = refl;
+  status = status;
+  is = refl;
+  kind = e;
+  counts = no_counts_with a status text;
+}
 
-counting_is : (g : Progress) (status : Status) (remaining : Option ℕ) (body : Option (List ℕ)) (b : Bool)
-    → is_pending status ≡ b → RespondsTo g.awaited b (counting g status remaining body)
+-- but those of a C-GET, which add up to what it selected.
+abbrev request_in : Progress → List Prepared → Requested
+request_in g left = selecting g.awaited (selected_in g left)
+
+counting_is : (g : Progress) (left : List Prepared) (status : Status) (remaining : Option ℕ) (body : Option (List ℕ))
+    (b : Bool) → is_pending status ≡ b → remaining_in remaining ≡ length left
+    → RespondsTo (request_in g left) b (counting g status remaining body)
 unfolding response_of
-counting_is g status remaining body b e = record { context = refl; id = refl; status = status; is = refl; kind = e }
+counting_is g left status remaining body b e told = record {
+  context = refl;
+  id = refl;
+  status = status;
+  is = refl;
+  kind = e;
+  counts = counts_add_up g left status remaining body told;
+}
+
+-- It selected as many when one failed unsent, was sent, or has its response.
+unsent_same : (g : Progress) (x : Prepared) (left : List Prepared) → request_in (failing g x) left
+    ≡ request_in g (x ∷ left)
+unsent_same g x left = ap (λ (n : ℕ). selecting g.awaited n) (unsent_keeps_all g x left)
+
+sent_same : (g : Progress) (x : Prepared) (left : List Prepared)
+    → selecting g.awaited (selected_by (sending g x left)) ≡ request_in g (x ∷ left)
+sent_same g x left = ap (λ (n : ℕ). selecting g.awaited n) (sent_keeps_all g x left)
+
+performed_same : (sub : SubOperation) (outcome : Outcome) → request_in (performed sub outcome) sub.left
+    ≡ selecting sub.progress.awaited (selected_by sub)
+performed_same sub outcome = ap (λ (n : ℕ). selecting sub.progress.awaited n) (performed_keeps_all sub outcome)
 
 module _ (Open : Awaited → Type 0) where
   -- one message more on the way
-  way_more : (a : Awaited) (m : Message) (requests : List Awaited) (first rest : List Pdu) → IsOnTheWay a m
-      → IsSending m a.limit first → AreResponded Open (a ∷ requests) rest
-      → AreResponded Open (a ∷ requests) (first ++ rest)
-  way_more a m requests first rest is sent p = (m ∷ p.0, (is, first, rest, sent, p.1, refl))
+  way_more : (r : Requested) (m : Message) (requests : List Requested) (first rest : List Pdu) → IsOnTheWay r m
+      → IsSending m r.awaited.limit first → AreResponded Open (r ∷ requests) rest
+      → AreResponded Open (r ∷ requests) (first ++ rest)
+  way_more r m requests first rest is sent p = (m ∷ p.0, (is, first, rest, sent, p.1, refl))
 
   -- the last response
-  way_last : (a : Awaited) (m : Message) (requests : List Awaited) (first rest : List Pdu) → RespondsTo a false m
-      → IsSending m a.limit first → AreResponded Open requests rest → AreResponded Open (a ∷ requests) (first ++ rest)
-  way_last a m requests first rest is sent p = ([], inl (m, is, first, rest, sent, p, refl))
+  way_last : (r : Requested) (m : Message) (requests : List Requested) (first rest : List Pdu) → RespondsTo r false m
+      → IsSending m r.awaited.limit first → AreResponded Open requests rest
+      → AreResponded Open (r ∷ requests) (first ++ rest)
+  way_last r m requests first rest is sent p = ([], inl (m, is, first, rest, sent, p, refl))
 
   -- none any more
-  way_open : (a : Awaited) → Open a → AreResponded Open (a ∷ []) []
-  way_open a yet = ([], inr (refl, refl, yet))
+  way_open : (r : Requested) → Open r.awaited → AreResponded Open (r ∷ []) []
+  way_open r yet = ([], inr (refl, refl, yet))
 
-  rows_way : (a : Awaited) (kind : RowKind) (rows : List Set) (requests : List Awaited) (ps rest : List Pdu)
-      → is_pending kind.status ≡ true → AreRows a kind rows ps → AreResponded Open (a ∷ requests) rest
-      → AreResponded Open (a ∷ requests) (ps ++ rest)
+  rows_way : (a : Awaited) (kind : RowKind) (rows : List Set) (requests : List Requested) (ps rest : List Pdu)
+      → is_pending kind.status ≡ true → AreRows a kind rows ps → AreResponded Open (plain a ∷ requests) rest
+      → AreResponded Open (plain a ∷ requests) (ps ++ rest)
   rows_way a kind [] requests ps rest pending are p =
-      subst (λ (t : List Pdu). AreResponded Open (a ∷ requests) (t ++ rest)) (sym are) p
+      subst (λ (t : List Pdu). AreResponded Open (plain a ∷ requests) (t ++ rest)) (sym are) p
   rows_way a kind (r ∷ rows) requests ps rest pending are p =
-      subst (λ (t : List Pdu). AreResponded Open (a ∷ requests) t)
+      subst (λ (t : List Pdu). AreResponded Open (plain a ∷ requests) t)
       (sym (append_assoc are.0 are.1 rest) ∙ ap (λ (t : List Pdu). t ++ rest) (sym are.4))
-      (way_more a (response_with a kind.status (row_text kind.syntax r)) requests are.0 (are.1 ++ rest)
+      (way_more (plain a) (response_with a kind.status (row_text kind.syntax r)) requests are.0 (are.1 ++ rest)
       (inl (response_with_is a kind.status (row_text kind.syntax r) true pending)) are.2
       (rows_way a kind rows requests are.1 rest pending are.3 p))
 
-  left_way : (g : Progress) (left : List Prepared) (requests : List Awaited) (ps rest : List Pdu)
-      → RespondsIfLeft g left ps → AreResponded Open (g.awaited ∷ requests) rest
-      → AreResponded Open (g.awaited ∷ requests) (ps ++ rest)
+  left_way : (g : Progress) (left : List Prepared) (requests : List Requested) (ps rest : List Pdu)
+      → RespondsIfLeft g left ps → AreResponded Open (request_in g left ∷ requests) rest
+      → AreResponded Open (request_in g left ∷ requests) (ps ++ rest)
   left_way g [] requests ps rest none p =
-      subst (λ (t : List Pdu). AreResponded Open (g.awaited ∷ requests) (t ++ rest)) (sym none) p
-  left_way g (x ∷ left) requests ps rest sent p = way_more g.awaited (counting g Pending (Some (length (x ∷ left)))
-      None) requests ps rest (inl (counting_is g Pending (Some (length (x ∷ left))) None true refl)) sent p
+      subst (λ (t : List Pdu). AreResponded Open (request_in g [] ∷ requests) (t ++ rest)) (sym none) p
+  left_way g (x ∷ left) requests ps rest sent p = way_more (request_in g (x ∷ left)) (counting g Pending
+      (Some (length (x ∷ left))) None) requests ps rest (inl (counting_is g (x ∷ left) Pending
+      (Some (length (x ∷ left))) None true refl refl)) sent p
 
   begun_by_way : (way : Option Way) (contexts : List Context) (g : Progress) (x : Prepared) (left : List Prepared)
-      (requests : List Awaited) (ps rest : List Pdu)
+      (requests : List Requested) (ps rest : List Pdu)
       → ((qs : List Pdu) → SendsOn contexts (failing g x) left qs
       → AreResponded Open (open_in (begun contexts (failing g x) left) requests) rest
-      → AreResponded Open (g.awaited ∷ requests) (qs ++ rest))
+      → AreResponded Open (request_in (failing g x) left ∷ requests) (qs ++ rest))
       → ByWay way (λ k. IsSending (sub_operation g k x) g.awaited.limit)
       (Both (RespondsIfLeft (failing g x) left) (SendsOn contexts (failing g x) left)) ps
       → AreResponded Open (open_in (begun_by way (sending g x left) (begun contexts (failing g x) left)) requests) rest
-      → AreResponded Open (g.awaited ∷ requests) (ps ++ rest)
+      → AreResponded Open (request_in g (x ∷ left) ∷ requests) (ps ++ rest)
   begun_by_way None contexts g x left requests ps rest goes sent p =
-      subst (λ (t : List Pdu). AreResponded Open (g.awaited ∷ requests) t)
+      subst (λ (r : Requested). AreResponded Open (r ∷ requests) (ps ++ rest)) (unsent_same g x left)
+      (subst (λ (t : List Pdu). AreResponded Open (request_in (failing g x) left ∷ requests) t)
       (sym (append_assoc sent.0 sent.1 rest) ∙ ap (λ (t : List Pdu). t ++ rest) (sym sent.4))
-      (left_way (failing g x) left requests sent.0 (sent.1 ++ rest) sent.2 (goes sent.1 sent.3 p))
-  begun_by_way (Some way) contexts g x left requests ps rest goes sent p = way_more g.awaited (sub_operation g way x)
-      requests ps rest (inr refl) sent p
+      (left_way (failing g x) left requests sent.0 (sent.1 ++ rest) sent.2 (goes sent.1 sent.3 p)))
+  begun_by_way (Some way) contexts g x left requests ps rest goes sent p =
+      subst (λ (r : Requested). AreResponded Open (r ∷ requests) (ps ++ rest)) (sent_same g x left)
+      (way_more (selecting g.awaited (selected_by (sending g x left))) (sub_operation g way x) requests ps rest
+      (inr refl) sent p)
 
   -- Sub-operations are begun, and behind them stands what is responded then.
-  begun_way : (contexts : List Context) (g : Progress) (left : List Prepared) (requests : List Awaited)
+  begun_way : (contexts : List Context) (g : Progress) (left : List Prepared) (requests : List Requested)
       (ps rest : List Pdu) → SendsOn contexts g left ps
       → AreResponded Open (open_in (begun contexts g left) requests) rest
-      → AreResponded Open (g.awaited ∷ requests) (ps ++ rest)
-  begun_way contexts g [] requests ps rest sent p = way_last g.awaited (counting g (final_status g.counts) None
-      (failed_set g.syntax g.counts.failed)) requests ps rest (counting_is g (final_status g.counts) None (failed_set
-      g.syntax g.counts.failed) false (counts_final g.counts)) sent p
+      → AreResponded Open (request_in g left ∷ requests) (ps ++ rest)
+  begun_way contexts g [] requests ps rest sent p = way_last (request_in g []) (counting g (final_status g.counts) None
+      (failed_set g.syntax g.counts.failed)) requests ps rest (counting_is g [] (final_status g.counts) None (failed_set
+      g.syntax g.counts.failed) false (counts_final g.counts) refl) sent p
   begun_way contexts g (x ∷ left) requests ps rest sent p = begun_by_way (way_for contexts x) contexts g x left
       requests ps rest (λ qs. begun_way contexts (failing g x) left requests qs rest) sent p
 
 -- What is open stays so behind other deeds.
-last_map : (Open Wide : Awaited → Type 0) (a : Awaited) (requests : List Awaited) (rest : List Pdu)
+last_map : (Open Wide : Awaited → Type 0) (r : Requested) (requests : List Requested) (rest : List Pdu)
     → ((a : Awaited) → Open a → Wide a)
     → ((qs : List Pdu) → AreResponded Open requests qs → AreResponded Wide requests qs)
-    → SendsLast a (AreResponded Open requests) rest ⊎ ((requests ≡ []) × (rest ≡ []) × Open a)
-    → SendsLast a (AreResponded Wide requests) rest ⊎ ((requests ≡ []) × (rest ≡ []) × Wide a)
-last_map Open Wide a requests rest to goes (inl q) = inl (q.0, q.1, q.2, q.3, q.4, goes q.3 q.5, q.6)
-last_map Open Wide a requests rest to goes (inr q) = inr (q.0, q.1, to a q.2)
+    → SendsLast r (AreResponded Open requests) rest ⊎ ((requests ≡ []) × (rest ≡ []) × Open r.awaited)
+    → SendsLast r (AreResponded Wide requests) rest ⊎ ((requests ≡ []) × (rest ≡ []) × Wide r.awaited)
+last_map Open Wide r requests rest to goes (inl q) = inl (q.0, q.1, q.2, q.3, q.4, goes q.3 q.5, q.6)
+last_map Open Wide r requests rest to goes (inr q) = inr (q.0, q.1, to r.awaited q.2)
 
-way_map : (Open Wide : Awaited → Type 0) (a : Awaited) (requests : List Awaited) (ms : List Message) (qs : List Pdu)
+way_map : (Open Wide : Awaited → Type 0) (r : Requested) (requests : List Requested) (ms : List Message) (qs : List Pdu)
     → ((a : Awaited) → Open a → Wide a)
     → ((qs : List Pdu) → AreResponded Open requests qs → AreResponded Wide requests qs)
-    → SendsOnTheWay a ms (λ rest. SendsLast a (AreResponded Open requests) rest
-    ⊎ ((requests ≡ []) × (rest ≡ []) × Open a)) qs
-    → SendsOnTheWay a ms (λ rest. SendsLast a (AreResponded Wide requests) rest
-    ⊎ ((requests ≡ []) × (rest ≡ []) × Wide a)) qs
-way_map Open Wide a requests [] qs to goes q = last_map Open Wide a requests qs to goes q
-way_map Open Wide a requests (m ∷ ms) qs to goes q = (
+    → SendsOnTheWay r ms (λ rest. SendsLast r (AreResponded Open requests) rest
+    ⊎ ((requests ≡ []) × (rest ≡ []) × Open r.awaited)) qs
+    → SendsOnTheWay r ms (λ rest. SendsLast r (AreResponded Wide requests) rest
+    ⊎ ((requests ≡ []) × (rest ≡ []) × Wide r.awaited)) qs
+way_map Open Wide r requests [] qs to goes q = last_map Open Wide r requests qs to goes q
+way_map Open Wide r requests (m ∷ ms) qs to goes q = (
   q.0,
   q.1,
   q.2,
   q.3,
-  way_map Open Wide a requests ms q.2 to goes q.4,
+  way_map Open Wide r requests ms q.2 to goes q.4,
   q.5,
 )
 
-responded_map : (Open Wide : Awaited → Type 0) (requests : List Awaited) (ps : List Pdu)
+responded_map : (Open Wide : Awaited → Type 0) (requests : List Requested) (ps : List Pdu)
     → ((a : Awaited) → Open a → Wide a) → AreResponded Open requests ps → AreResponded Wide requests ps
 responded_map Open Wide [] ps to p = p
-responded_map Open Wide (a ∷ requests) ps to p = (
+responded_map Open Wide (r ∷ requests) ps to p = (
   p.0,
-  way_map Open Wide a requests p.0 ps to (λ qs. responded_map Open Wide requests qs to) p.1,
+  way_map Open Wide r requests p.0 ps to (λ qs. responded_map Open Wide requests qs to) p.1,
 )
 
 call_behind : (now ds : List Deed) → EndsInCall ds → EndsInCall (now ++ ds)
@@ -288,55 +346,56 @@ begun_get contexts g (x ∷ left) is = begun_by_get (way_for contexts x) (sendin
     left) is (begun_get contexts (failing g x) left is)
 
 -- of these deeds each of these requests, behind that of the sub-operation that is awaited, has its responses
-abbrev Have : Option SubOperation → List Deed → List Awaited → Type 0
+abbrev Have : Option SubOperation → List Deed → List Requested → Type 0
 Have sub ds requests = AreResponded (IsOpen ds) (open_in sub requests) (data_in ds)
 
 -- the same behind deeds that send no P-DATA-TF
-have_before : (sub : Option SubOperation) (now ds : List Deed) (requests : List Awaited)
+have_before : (sub : Option SubOperation) (now ds : List Deed) (requests : List Requested)
     → data_in (now ++ ds) ≡ data_in ds → Have sub ds requests → Have sub (now ++ ds) requests
 have_before sub now ds requests quiet p =
     subst (λ (t : List Pdu). AreResponded (IsOpen (now ++ ds)) (open_in sub requests) t) (sym quiet)
     (responded_map (IsOpen ds) (IsOpen (now ++ ds)) (open_in sub requests) (data_in ds) (open_behind now ds) p)
 
 -- what has its responses, for what is replied
-abbrev HaveAll : Option SubOperation → (List Reply → List Awaited → Type 0) → Goes → Type 0
-HaveAll sub Asks R = (rs : List Reply) (x : List Deed) → R rs x → (requests : List Awaited) × Asks rs requests
+abbrev HaveAll : Option SubOperation → (List Reply → List Requested → Type 0) → Goes → Type 0
+HaveAll sub Asks R = (rs : List Reply) (x : List Deed) → R rs x → (requests : List Requested) × Asks rs requests
     × Have sub x requests
 
 abbrev HaveBy : RequestsBy → GoesBy → Type 0
 HaveBy Asks R = (next : Option SubOperation) → IsGetOf next → HaveAll next (Asks next) (R next)
 
 -- messages of a C-GET behind which it goes on
-sent_have : (a : Awaited) (next : Option SubOperation) (pdus : List Pdu) (rest : List Deed) (requests : List Awaited)
-    → AreData pdus → Have next rest requests
+sent_have : (r : Requested) (next : Option SubOperation) (pdus : List Pdu) (rest : List Deed)
+    (requests : List Requested) → AreData pdus → Have next rest requests
     → ((Open : Awaited → Type 0) → AreResponded Open (open_in next requests) (data_in rest)
-    → AreResponded Open (a ∷ requests) (pdus ++ data_in rest))
-    → AreResponded (IsOpen (map Send pdus ++ rest)) (a ∷ requests) (data_in (map Send pdus ++ rest))
-sent_have a next pdus rest requests are_data p goes =
-    subst (λ (t : List Pdu). AreResponded (IsOpen (map Send pdus ++ rest)) (a ∷ requests) t)
+    → AreResponded Open (r ∷ requests) (pdus ++ data_in rest))
+    → AreResponded (IsOpen (map Send pdus ++ rest)) (r ∷ requests) (data_in (map Send pdus ++ rest))
+sent_have r next pdus rest requests are_data p goes =
+    subst (λ (t : List Pdu). AreResponded (IsOpen (map Send pdus ++ rest)) (r ∷ requests) t)
     (sym (data_behind pdus rest are_data))
     (goes (IsOpen (map Send pdus ++ rest)) (responded_map (IsOpen rest) (IsOpen (map Send pdus ++ rest))
     (open_in next requests) (data_in rest) (open_behind (map Send pdus) rest) p))
 
-tells_have : (a : Awaited) (status : Status) (Asks : List Awaited → Type 0) (R : List Deed → Type 0) (ds : List Deed)
+tells_have : (a : Awaited) (status : Status) (Asks : List Requested → Type 0) (R : List Deed → Type 0) (ds : List Deed)
     → is_pending status ≡ false
-    → ((x : List Deed) → R x → (requests : List Awaited) × Asks requests × Have None x requests) → Tells a status R ds
-    → (requests : List Awaited) × Asks requests × Have None ds (a ∷ requests)
+    → ((x : List Deed) → R x → (requests : List Requested) × Asks requests × Have None x requests) → Tells a status R ds
+    → (requests : List Requested) × Asks requests × Have None ds (plain a ∷ requests)
 tells_have a status Asks R ds final goes p =
     let q = goes p.2.0 p.2.2 in (
       q.0,
       q.1,
-      subst (λ (t : List Deed). Have None t (a ∷ q.0)) (sym p.2.1)
-          (sent_have a None p.0 p.2.0 q.0 (sending_data _ _ p.0 p.1) q.2
-          (λ Open x. way_last Open a (response_to a status) q.0 p.0 (data_in p.2.0)
+      subst (λ (t : List Deed). Have None t (plain a ∷ q.0)) (sym p.2.1)
+          (sent_have (plain a) None p.0 p.2.0 q.0 (sending_data _ _ p.0 p.1) q.2
+          (λ Open x. way_last Open (plain a) (response_to a status) q.0 p.0 (data_in p.2.0)
           (response_to_is a status false final)
           p.1 x)),
     )
 
-rows_have : (a : Awaited) (kind : RowKind) (rows : List Set) (status : Status) (Asks : List Awaited → Type 0)
+rows_have : (a : Awaited) (kind : RowKind) (rows : List Set) (status : Status) (Asks : List Requested → Type 0)
     (R : List Deed → Type 0) (ds : List Deed) → is_pending kind.status ≡ true → is_pending status ≡ false
-    → ((x : List Deed) → R x → (requests : List Awaited) × Asks requests × Have None x requests)
-    → TellsRows a kind rows status R ds → (requests : List Awaited) × Asks requests × Have None ds (a ∷ requests)
+    → ((x : List Deed) → R x → (requests : List Requested) × Asks requests × Have None x requests)
+    → TellsRows a kind rows status R ds
+    → (requests : List Requested) × Asks requests × Have None ds (plain a ∷ requests)
 rows_have a kind rows status Asks R ds pending final goes p =
     let q = tells_have a status Asks (Then (Reach FindAnswered ∷ []) R) p.2.0 final
     (λ x r. let s = goes r.0 r.2 in (
@@ -347,86 +406,94 @@ rows_have a kind rows status Asks R ds pending final goes p =
     )) p.2.2 in (
       q.0,
       q.1,
-      subst (λ (t : List Deed). Have None t (a ∷ q.0)) (sym p.2.1)
-          (subst (λ (t : List Pdu). AreResponded (IsOpen (map Send p.0 ++ p.2.0)) (a ∷ q.0) t)
+      subst (λ (t : List Deed). Have None t (plain a ∷ q.0)) (sym p.2.1)
+          (subst (λ (t : List Pdu). AreResponded (IsOpen (map Send p.0 ++ p.2.0)) (plain a ∷ q.0) t)
           (sym (data_behind p.0 p.2.0 (rows_data a kind rows p.0 p.1)))
           (rows_way (IsOpen (map Send p.0 ++ p.2.0)) a kind rows q.0 p.0 (data_in p.2.0) pending p.1
-          (responded_map (IsOpen p.2.0) (IsOpen (map Send p.0 ++ p.2.0)) (a ∷ q.0) (data_in p.2.0)
+          (responded_map (IsOpen p.2.0) (IsOpen (map Send p.0 ++ p.2.0)) (plain a ∷ q.0) (data_in p.2.0)
           (open_behind (map Send p.0) p.2.0) q.2))),
     )
 
 begins_have : (contexts : List Context) (g : Progress) (left : List Prepared)
-    (Asks : Option SubOperation → List Awaited → Type 0) (R : Option SubOperation → List Deed → Type 0)
+    (Asks : Option SubOperation → List Requested → Type 0) (R : Option SubOperation → List Deed → Type 0)
     (ds : List Deed) → g.awaited.command.field ≡ C_GET_RQ
-    → ((next : Option SubOperation) → IsGetOf next → (x : List Deed) → R next x → (requests : List Awaited)
+    → ((next : Option SubOperation) → IsGetOf next → (x : List Deed) → R next x → (requests : List Requested)
     × Asks next requests × Have next x requests)
     → Begins contexts g left R ds
-    → (requests : List Awaited) × Asks (begun contexts g left) requests × Have None ds (g.awaited ∷ requests)
+    → (requests : List Requested) × Asks (begun contexts g left) requests × Have None ds (request_in g left ∷ requests)
 begins_have contexts g left Asks R ds is goes p =
     let next = begun contexts g left in
     let q = goes next (begun_get contexts g left is) p.2.0 p.2.2 in (
       q.0,
       q.1,
-      subst (λ (t : List Deed). Have None t (g.awaited ∷ q.0)) (sym p.2.1)
-          (sent_have g.awaited next p.0 p.2.0 q.0 (sends_on_data contexts g left p.0 p.1) q.2
+      subst (λ (t : List Deed). Have None t (request_in g left ∷ q.0)) (sym p.2.1)
+          (sent_have (request_in g left) next p.0 p.2.0 q.0 (sends_on_data contexts g left p.0 p.1) q.2
           (λ Open x. begun_way Open contexts g left q.0 p.0 (data_in p.2.0) p.1 x)),
     )
 
 -- a request whose call has no reply yet
 unreplied : (a : Awaited) (now : List Deed) (call : Call) (rest : List Deed) → data_in (now ++ Ask call ∷ []) ≡ []
-    → rest ≡ [] → Have None ((now ++ Ask call ∷ []) ++ rest) (a ∷ [])
+    → rest ≡ [] → Have None ((now ++ Ask call ∷ []) ++ rest) (plain a ∷ [])
 unreplied a now call rest quiet none =
     let whole : (now ++ Ask call ∷ []) ++ rest ≡ now ++ Ask call ∷ [] = ap (λ (t : List Deed). (now ++ Ask call ∷ [])
     ++ t) none ∙ append-nil (now ++ Ask call ∷ []) in
-    subst (λ (t : List Deed). Have None t (a ∷ [])) (sym whole)
-    (subst (λ (t : List Pdu). AreResponded (IsOpen (now ++ Ask call ∷ [])) (a ∷ []) t) (sym quiet)
-    (way_open (IsOpen (now ++ Ask call ∷ [])) a (inl (now, call, refl))))
+    subst (λ (t : List Deed). Have None t (plain a ∷ [])) (sym whole)
+    (subst (λ (t : List Pdu). AreResponded (IsOpen (now ++ Ask call ∷ [])) (plain a ∷ []) t) (sym quiet)
+    (way_open (IsOpen (now ++ Ask call ∷ [])) (plain a) (inl (now, call, refl))))
 
-asked_have : (a : Awaited) (content : ContentParts) (Asks : List Reply → List Awaited → Type 0) (R : Goes)
+asked_have : (a : Awaited) (content : ContentParts) (Asks : List Reply → List Requested → Type 0) (R : Goes)
     (rs : List Reply) (rest : List Deed) → HaveAll None Asks R → FollowsStore a R rs rest
-    → (requests : List Awaited) × Replied Asks rs requests
-    × Have None (Reach InStore ∷ Ask (Store content) ∷ rest) (a ∷ requests)
+    → (requests : List Requested) × Replied Asks rs requests
+    × Have None (Reach InStore ∷ Ask (Store content) ∷ rest) (plain a ∷ requests)
 asked_have a content Asks R [] rest goes p = ([], refl, unreplied a (Reach InStore ∷ []) (Store content) rest refl p)
 asked_have a content Asks R (Stored reply ∷ rs) rest goes p =
     let q = tells_have a (status_of_reply reply) (Asks rs) (R rs) rest (stored_final reply) (goes rs) p in
-    (q.0, q.1, have_before None (Reach InStore ∷ Ask (Store content) ∷ []) rest (a ∷ q.0) refl q.2)
+    (q.0, q.1, have_before None (Reach InStore ∷ Ask (Store content) ∷ []) rest (plain a ∷ q.0) refl q.2)
 asked_have a content Asks R (Found reply ∷ rs) rest goes p = absurd p
 asked_have a content Asks R (Gotten reply ∷ rs) rest goes p = absurd p
 
-queried_have : (a : Awaited) (finding : Finding) (kind : RowKind) (Asks : List Reply → List Awaited → Type 0)
+queried_have : (a : Awaited) (finding : Finding) (kind : RowKind) (Asks : List Reply → List Requested → Type 0)
     (R : Goes) (rs : List Reply) (rest : List Deed) → is_pending kind.status ≡ true → HaveAll None Asks R
     → FollowsFind a kind R rs rest
-    → (requests : List Awaited) × Replied Asks rs requests × Have None (Ask (Find finding) ∷ rest) (a ∷ requests)
+    → (requests : List Requested) × Replied Asks rs requests
+    × Have None (Ask (Find finding) ∷ rest) (plain a ∷ requests)
 queried_have a finding kind Asks R [] rest pending goes p = ([], refl, unreplied a [] (Find finding) rest refl p)
 queried_have a finding kind Asks R (Found reply ∷ rs) rest pending goes p =
     let q = rows_have a kind (rows_in reply) (status_of_found reply) (Asks rs) (R rs) rest pending (found_final reply)
     (goes rs) p in
-    (q.0, q.1, have_before None (Ask (Find finding) ∷ []) rest (a ∷ q.0) refl q.2)
+    (q.0, q.1, have_before None (Ask (Find finding) ∷ []) rest (plain a ∷ q.0) refl q.2)
 queried_have a finding kind Asks R (Stored reply ∷ rs) rest pending goes p = absurd p
 queried_have a finding kind Asks R (Gotten reply ∷ rs) rest pending goes p = absurd p
 
 few_have : (few : Option (List Prepared)) (contexts : List Context) (a : Awaited) (syntax : Syntax)
-    (Asks : Option SubOperation → List Awaited → Type 0) (R : Option SubOperation → List Deed → Type 0)
+    (Asks : Option SubOperation → List Requested → Type 0) (R : Option SubOperation → List Deed → Type 0)
     (rest : List Deed) → a.command.field ≡ C_GET_RQ
-    → ((next : Option SubOperation) → IsGetOf next → (x : List Deed) → R next x → (requests : List Awaited)
+    → ((next : Option SubOperation) → IsGetOf next → (x : List Deed) → R next x → (requests : List Requested)
     × Asks next requests × Have next x requests)
     → BeginsFew contexts a syntax few R (R None) rest
-    → (requests : List Awaited) × FewRequests few contexts a syntax Asks requests × Have None rest (a ∷ requests)
-few_have None contexts a syntax Asks R rest is goes p = tells_have a UnableToPerformSubOperations (Asks None) (R None)
-    rest refl (goes None tt) p
-few_have (Some prepared) contexts a syntax Asks R rest is goes p = begins_have contexts (setting_out a syntax) prepared
-    Asks R rest is goes p
+    → (requests : List Requested) × FewRequests few contexts a syntax Asks requests × Have None rest requests
+few_have None contexts a syntax Asks R rest is goes p =
+    let q = tells_have a UnableToPerformSubOperations (Asks None) (R None) rest refl (goes None tt) p in
+    (plain a ∷ q.0, (q.0, refl, q.1), q.2)
+few_have (Some prepared) contexts a syntax Asks R rest is goes p =
+    let q = begins_have contexts (setting_out a syntax) prepared Asks R rest is goes p in (
+      selecting a (length prepared) ∷ q.0,
+      (q.0, refl, q.1),
+      subst (λ (r : Requested). Have None rest (r ∷ q.0))
+          (ap (λ (n : ℕ). selecting a n) (starts_with_all a syntax prepared)) q.2,
+    )
 
 fetched_have : (contexts : List Context) (a : Awaited) (getting : Getting) (syntax : Syntax) (Asks : RequestsBy)
     (R : GoesBy) (rs : List Reply) (rest : List Deed) → a.command.field ≡ C_GET_RQ → HaveBy Asks R
     → FollowsGet contexts a syntax R (R None) rs rest
-    → (requests : List Awaited) × RepliedGet contexts a syntax Asks rs requests
-    × Have None (Ask (Get getting) ∷ rest) (a ∷ requests)
-fetched_have contexts a getting syntax Asks R [] rest is goes p = ([], refl, unreplied a [] (Get getting) rest refl p)
+    → (requests : List Requested) × RepliedGet contexts a syntax Asks rs requests
+    × Have None (Ask (Get getting) ∷ rest) requests
+fetched_have contexts a getting syntax Asks R [] rest is goes p =
+    (plain a ∷ [], refl, unreplied a [] (Get getting) rest refl p)
 fetched_have contexts a getting syntax Asks R (Gotten reply ∷ rs) rest is goes p =
     let q = few_have (few_in reply) contexts a syntax (λ next. Asks next rs) (λ next. R next rs) rest is
     (λ next get. goes next get rs) p in
-    (q.0, q.1, have_before None (Ask (Get getting) ∷ []) rest (a ∷ q.0) refl q.2)
+    (q.0, q.1, have_before None (Ask (Get getting) ∷ []) rest q.0 refl q.2)
 fetched_have contexts a getting syntax Asks R (Stored reply ∷ rs) rest is goes p = absurd p
 fetched_have contexts a getting syntax Asks R (Found reply ∷ rs) rest is goes p = absurd p
 
@@ -457,22 +524,21 @@ module _ (titles : List (Title View)) where
       events.LocalAbort)) opened) (orderly titles (met titles w events.LocalAbort) None us rs x p))
 
   -- one request more
-  more : (ds now rest : List Deed) (a : Awaited) (Asks : List Awaited → Type 0) → ds ≡ now ++ rest
-      → (requests : List Awaited) × Asks requests × Have None (now ++ rest) (a ∷ requests)
-      → (requests : List Awaited) × ((behind : List Awaited) × (requests ≡ a ∷ behind) × Asks behind)
-      × Have None ds requests
+  more : (ds now rest : List Deed) (a : Awaited) (Asks : List Requested → Type 0) → ds ≡ now ++ rest
+      → (requests : List Requested) × Asks requests × Have None (now ++ rest) (plain a ∷ requests)
+      → (requests : List Requested) × Precedes (plain a) Asks requests × Have None ds requests
   more ds now rest a Asks is q = (
-    a ∷ q.0,
+    plain a ∷ q.0,
     (q.0, refl, q.1),
-    subst (λ (t : List Deed). Have None t (a ∷ q.0)) (sym is)
+    subst (λ (t : List Deed). Have None t (plain a ∷ q.0)) (sym is)
         q.2,
   )
 
   does_have : (w : Within) (m : Message) (service : Service) (Asks : RequestsBy)
-      (Gone : List Reply → List Awaited → Type 0) (R : GoesBy) (R' : Goes) (rs : List Reply) (ds : List Deed)
+      (Gone : List Reply → List Requested → Type 0) (R : GoesBy) (R' : Goes) (rs : List Reply) (ds : List Deed)
       → Serves w m service → HaveBy Asks R → HaveAll None Gone R'
       → Does service w.link.contexts (awaiting w.link m) (row titles w.state events.LocalAbort) R R' rs ds
-      → (requests : List Awaited) × RequestFor service w.link.contexts (awaiting w.link m) Asks Gone rs requests
+      → (requests : List Requested) × RequestFor service w.link.contexts (awaiting w.link m) Asks Gone rs requests
       × Have None ds requests
   does_have w m Ignored Asks Gone R R' rs ds serves goes gone p = goes None tt rs ds p
   does_have w m Broken Asks Gone R R' rs ds serves goes gone p =
@@ -493,46 +559,45 @@ module _ (titles : List (Title View)) where
       (queried_have (awaiting w.link m) finding kind (Asks None) (R None) rs p.0 (served_pending w m finding kind
       serves) (goes None tt) p.2)
   does_have w m (Fetched getting syntax) Asks Gone R R' rs ds serves goes gone p =
-      more ds (Ask (Get getting) ∷ []) p.0 (awaiting w.link m) (RepliedGet w.link.contexts (awaiting w.link m) syntax
-      Asks rs) p.1 (fetched_have w.link.contexts (awaiting w.link m) getting syntax Asks R rs p.0
-      (served_get w m getting
-      syntax serves) goes p.2)
+      let q = fetched_have w.link.contexts (awaiting w.link m) getting syntax Asks R rs p.0
+      (served_get w m getting syntax serves) goes p.2 in
+      (q.0, q.1, subst (λ (t : List Deed). Have None t q.0) (sym p.1) q.2)
 
   by_have : (cancelled : Bool) (contexts : List Context) (g : Progress) (left : List Prepared) (pdus : List Pdu)
       (next : Option Retrieval) (Asks : RequestsBy) (R : GoesBy) (rs : List Reply) (ds : List Deed)
       → g.awaited.command.field ≡ C_GET_RQ → RespondsBy cancelled g left pdus next → HaveBy Asks R
       → Then (map Send pdus) (GoesOnBy next contexts R rs) ds
-      → (requests : List Awaited) × Asks (next_of_get cancelled contexts g left) rs requests
-      × Have None ds (g.awaited ∷ requests)
+      → (requests : List Requested) × Asks (next_of_get cancelled contexts g left) rs requests
+      × Have None ds (request_in g left ∷ requests)
   by_have true contexts g left pdus next Asks R rs ds is told goes p =
+      let body = failed_set g.syntax g.counts.failed in
       let q = goes None tt rs p.0 (subst (λ (n : Option Retrieval). GoesOnBy n contexts R rs p.0) told.1 p.2) in (
         q.0,
         q.1,
-        subst (λ (t : List Deed). Have None t (g.awaited ∷ q.0)) (sym p.1)
-            (sent_have g.awaited None pdus p.0 q.0 (sending_data _ _ pdus told.0) q.2
-            (λ Open x. way_last Open g.awaited (counting g Cancel (Some (length left)) (failed_set g.syntax
-            g.counts.failed)) q.0 pdus (data_in p.0) (counting_is g Cancel (Some (length left)) (failed_set g.syntax
-            g.counts.failed) false refl) told.0 x)),
+        subst (λ (t : List Deed). Have None t (request_in g left ∷ q.0)) (sym p.1)
+            (sent_have (request_in g left) None pdus p.0 q.0 (sending_data _ _ pdus told.0) q.2
+            (λ Open x. way_last Open (request_in g left) (counting g Cancel (Some (length left)) body) q.0 pdus
+            (data_in p.0) (counting_is g left Cancel (Some (length left)) body false refl refl) told.0 x)),
       )
   by_have false contexts g left pdus next Asks R rs ds is told goes p =
       let q = begins_have contexts g left (λ n. Asks n rs) (λ n. R n rs) p.0 is (λ n get. goes n get rs)
       (subst (λ (n : Option Retrieval). GoesOnBy n contexts R rs p.0) told.1 p.2) in (
         q.0,
         q.1,
-        subst (λ (t : List Deed). Have None t (g.awaited ∷ q.0)) (sym p.1)
-            (subst (λ (t : List Pdu). AreResponded (IsOpen (map Send pdus ++ p.0)) (g.awaited ∷ q.0) t)
+        subst (λ (t : List Deed). Have None t (request_in g left ∷ q.0)) (sym p.1)
+            (subst (λ (t : List Pdu). AreResponded (IsOpen (map Send pdus ++ p.0)) (request_in g left ∷ q.0) t)
             (sym (data_behind pdus p.0 (responds_by_data false g left pdus next told)))
             (left_way (IsOpen (map Send pdus ++ p.0)) g left q.0 pdus (data_in p.0) told.0
-            (responded_map (IsOpen p.0) (IsOpen (map Send pdus ++ p.0)) (g.awaited ∷ q.0) (data_in p.0)
+            (responded_map (IsOpen p.0) (IsOpen (map Send pdus ++ p.0)) (request_in g left ∷ q.0) (data_in p.0)
             (open_behind (map Send pdus) p.0) q.2))),
       )
 
   performs_have : (w : Within) (meaning : Meaning) (sub : SubOperation) (Asks : RequestsBy)
-      (Gone : List Reply → List Awaited → Type 0) (R : GoesBy) (R' : Goes) (rs : List Reply) (ds : List Deed)
+      (Gone : List Reply → List Requested → Type 0) (R : GoesBy) (R' : Goes) (rs : List Reply) (ds : List Deed)
       → IsGetOf (Some sub) → HaveBy Asks R → HaveAll None Gone R'
       → ((rs : List Reply) (x : List Deed) → R' rs x → data_in x ≡ [])
       → Performs meaning sub w.link.contexts (row titles w.state events.LocalAbort) R R' rs ds
-      → (requests : List Awaited) × RequestWithin meaning sub w.link.contexts Asks Gone rs requests
+      → (requests : List Requested) × RequestWithin meaning sub w.link.contexts Asks Gone rs requests
       × Have (Some sub) ds requests
   performs_have w Cancelled sub Asks Gone R R' rs ds is goes gone quiet p = goes (Some (cancelling sub)) is rs ds p
   performs_have w Unawaited sub Asks Gone R R' rs ds is goes gone quiet p =
@@ -540,11 +605,13 @@ module _ (titles : List (Title View)) where
       ∙ quiet rs p.0 p.2 in (
         [],
         refl,
-        subst (λ (t : List Pdu). AreResponded (IsOpen ds) (sub.progress.awaited ∷ []) t) (sym no_data)
-            (way_open (IsOpen ds) sub.progress.awaited (inr is)),
+        subst (λ (t : List Pdu). AreResponded (IsOpen ds) (selecting sub.progress.awaited (selected_by sub) ∷ []) t)
+            (sym no_data) (way_open (IsOpen ds) (selecting sub.progress.awaited (selected_by sub)) (inr is)),
       )
   performs_have w (Performed outcome) sub Asks Gone R R' rs ds is goes gone quiet p =
-      by_have sub.cancelled w.link.contexts (performed sub outcome) sub.left p.0 p.1 Asks R rs ds is p.2 goes p.3
+      let q = by_have sub.cancelled w.link.contexts (performed sub outcome) sub.left p.0 p.1 Asks R rs ds is p.2 goes
+      p.3 in
+      (q.0, q.1, subst (λ (r : Requested). Have None ds (r ∷ q.0)) (performed_same sub outcome) q.2)
 
   attends_have : (sub : Option SubOperation) (w : Within) (m : Message) (us : List Heard) (rs : List Reply)
       (ds : List Deed) → w.state ≡ Sta6 → IsGetOf sub
@@ -553,7 +620,7 @@ module _ (titles : List (Title View)) where
       (Talks titles (met titles w events.LocalAbort) None us)
       → Attends sub w m (row titles w.state events.LocalAbort) (λ next. Talks titles w next us)
       (Talks titles (met titles w events.LocalAbort) None us) rs ds
-      → (requests : List Awaited) × RequestOf sub w m (λ next. Requests titles w next us)
+      → (requests : List Requested) × RequestOf sub w m (λ next. Requests titles w next us)
       (Requests titles (met titles w events.LocalAbort) None us) rs requests × Have sub ds requests
   attends_have None w m us rs ds opened is goes gone p =
       let q = does_have w m p.0 (λ next. Requests titles w next us) (Requests titles (met titles w events.LocalAbort)
@@ -573,7 +640,7 @@ module _ (titles : List (Title View)) where
       (Talks titles (met titles w events.LocalAbort) None us)
       → InState s (Attends sub w m (row titles w.state events.LocalAbort) (λ next. Talks titles w next us)
       (Talks titles (met titles w events.LocalAbort) None us)) (Talks titles w sub us) rs ds
-      → (requests : List Awaited) × RequestIn s (RequestOf sub w m (λ next. Requests titles w next us)
+      → (requests : List Requested) × RequestIn s (RequestOf sub w m (λ next. Requests titles w next us)
       (Requests titles (met titles w events.LocalAbort) None us)) (Requests titles w sub us) rs requests
       × Have sub ds requests
   said_have Sta1 sub w m us rs ds opened is goes gone p = goes sub is rs ds p
@@ -583,7 +650,7 @@ module _ (titles : List (Title View)) where
 
   none_have : (sub : Option SubOperation) → IsGetOf sub → Have sub [] []
   none_have None is = refl
-  none_have (Some sub) is = way_open (IsOpen []) sub.progress.awaited (inr is)
+  none_have (Some sub) is = way_open (IsOpen []) (selecting sub.progress.awaited (selected_by sub)) (inr is)
 
   pub responded : (us : List Heard) (w : Within) (sub : Option SubOperation) (rs : List Reply) (ds : List Deed)
       → IsGetOf sub → Talks titles w sub us rs ds → HasResponses titles w sub us rs ds

@@ -1,10 +1,10 @@
 -- The counts of a C-GET add up, and a C-CANCEL ends it.
-use Rattle.std.proofs.Common.{◌≡◌, ℕ, ◌+◌, zero, suc, Bool, true, false, List, [], ◌∷◌, ◌++◌, map, length, Option}
+use Rattle.std.proofs.Common.{◌≡◌, ℕ, ◌+◌, suc, Bool, true, false, List, [], ◌∷◌, map, length, Option}
 use Rattle.std.proofs.Common.{Some, None}
-use Rattle.std.proofs.Common.{refl, sym, ap, subst, ◌∙◌, length-append, arith}
+use Rattle.std.proofs.Common.{refl, subst, length-append, arith}
 use Rattle.archive_model.specs.declared.view.View.{View}
-use Rattle.dimse.specs.declared.message.Message.{Message}
-use Rattle.pdu.specs.declared.context.Context.{Context}
+use Rattle.data_set.specs.declared.syntax.Syntax.{Syntax}
+use Rattle.dimse.specs.declared.status.Status.{Status}
 use Rattle.pdu.specs.declared.value.Pdu.{Pdu}
 use Rattle.retrieve_model.specs.declared.prepared.Prepared.{Prepared}
 use Rattle.ul_state.specs.declared.event.Event.TheVariants.{LocalAbort}
@@ -20,16 +20,20 @@ use Rattle.association_session.specs.declared.reply.Reply.{Reply}
 use Rattle.association_session.specs.declared.retrieval.Meaning.{Meaning}
 use Rattle.association_session.specs.declared.retrieval.Meaning.TheVariants.{Cancelled, Performed, Unawaited}
 use Rattle.association_session.specs.declared.retrieval.Progress.{Progress}
-use Rattle.association_session.specs.declared.way.Way.{Way}
 use Rattle.association_session.specs.Get.{all_counted, counted}
-use Rattle.association_session.specs.Retrieval.{failing, sending, begun, begun_by, way_for, performed, RespondsBy}
+use Rattle.association_session.specs.Response.{Awaited}
+use Rattle.association_session.specs.Retrieval.{setting_out, counting, failing, sending, performed, RespondsBy}
 use Rattle.association_session.specs.Retrieval.{RespondsCancel, meaning_of}
 use Rattle.association_session.specs.Row.{Within, row, met}
-use Rattle.association_session.specs.Selected.{selected_in, selected_by, EndsBy}
-use Rattle.association_session.specs.Selected.{ResponsesAddUp, StartsWithAll, UnsentKeepsAll, SentKeepsAll}
-use Rattle.association_session.specs.Selected.{PerformedKeepsAll, CancelKeepsAll, CancelEnds}
+use Rattle.association_session.specs.Selected.{selected_by, remaining_in, AddsUp, EndsBy, CancelEnds}
 use Rattle.association_session.specs.SubOperation.{Retrieval, SubOperation}
-use Rattle.association_session.specs.Talks.{Heard, Goes, GoesBy, Then, GoesOnBy, Performs, Attends, InState, Talks}
+use Rattle.association_session.specs.Talks.{Heard, Goes, Then, GoesOnBy, Performs, Attends, InState, Talks}
+
+-- ---- its counts
+
+-- how many instances it selected: those that ended, and those that are left
+abbrev pub selected_in : Progress → List Prepared → ℕ
+selected_in g left = all_counted g.counts + length left
 
 -- one more is counted
 counted_more : (outcome : Outcome) (uid : List ℕ) (k : Counts) → all_counted (counted outcome uid k)
@@ -38,46 +42,37 @@ counted_more Completed uid k = omega arith
 counted_more Warned uid k = omega arith
 counted_more Failed uid k = omega (arith, length-append k.failed (uid ∷ []))
 
--- the same number in two places
-one_number : (a b : ℕ) → Some a ≡ Some b → a ≡ b
-one_number a b is = cc
+-- In each response the counts add up to the instances that were selected,
+pub counts_add_up : (g : Progress) (left : List Prepared) (status : Status) (remaining : Option ℕ)
+    (body : Option (List ℕ)) → remaining_in remaining ≡ length left
+    → AddsUp (selected_in g left) (counting g status remaining body)
+counts_add_up g left status remaining body told = record {
+  completed = g.counts.completed;
+  failed = length g.counts.failed;
+  warning = g.counts.warning;
+  tells_completed = refl;
+  tells_failed = refl;
+  tells_warning = refl;
+  all = omega (arith, told);
+}
 
-pub responses_add_up : ResponsesAddUp
-responses_add_up g left status body remaining completed failed warning r c f w =
-    let ri : remaining ≡ length left = cc in
-    let ci : completed ≡ g.counts.completed = cc in
-    let fi : failed ≡ length g.counts.failed = cc in
-    let wi : warning ≡ g.counts.warning = cc in
-    omega (arith, ri, ci, fi, wi)
+-- and these stay: all that the port replied are selected at first; one that fails unsent leaves as many,
+pub starts_with_all : (a : Awaited) (syntax : Syntax) (prepared : List Prepared)
+    → selected_in (setting_out a syntax) prepared ≡ length prepared
+starts_with_all a syntax prepared = omega arith
 
-pub unsent_keeps_all : UnsentKeepsAll
+pub unsent_keeps_all : (g : Progress) (p : Prepared) (left : List Prepared) → selected_in (failing g p) left
+    ≡ selected_in g (p ∷ left)
 unsent_keeps_all g p left = omega (arith, counted_more Failed p.content.instance g.counts)
 
-one_is_sent : (g : Progress) (p : Prepared) (left : List Prepared) → selected_by (sending g p left)
+-- one that is sent does,
+pub sent_keeps_all : (g : Progress) (p : Prepared) (left : List Prepared) → selected_by (sending g p left)
     ≡ selected_in g (p ∷ left)
-one_is_sent g p left = omega arith
+sent_keeps_all g p left = omega arith
 
-begun_keeps : (way : Option Way) (g : Progress) (p : Prepared) (left : List Prepared) (others : Option SubOperation)
-    (sub : SubOperation) → (others ≡ Some sub → selected_by sub ≡ selected_in (failing g p) left)
-    → begun_by way (sending g p left) others ≡ Some sub → selected_by sub ≡ selected_in g (p ∷ left)
-begun_keeps None g p left others sub before is = before is ∙ unsent_keeps_all g p left
-begun_keeps (Some way) g p left others sub before is =
-    let same : sub ≡ sending g p left = cc in
-    ap (λ (s : SubOperation). selected_by s) same ∙ one_is_sent g p left
-
-pub sent_keeps_all : SentKeepsAll
-sent_keeps_all contexts g [] sub is = absurd cc
-sent_keeps_all contexts g (p ∷ left) sub is =
-    begun_keeps (way_for contexts p) g p left (begun contexts (failing g p) left) sub
-    (sent_keeps_all contexts (failing g p) left sub) is
-
-pub starts_with_all : StartsWithAll
-starts_with_all awaited syntax prepared = omega arith
-
-pub cancel_keeps_all : CancelKeepsAll
-cancel_keeps_all sub = refl
-
-pub performed_keeps_all : PerformedKeepsAll
+-- and so does the response to it.
+pub performed_keeps_all : (sub : SubOperation) (outcome : Outcome) → selected_in (performed sub outcome) sub.left
+    ≡ selected_by sub
 performed_keeps_all sub outcome = omega (arith, counted_more outcome sub.instance sub.progress.counts)
 
 -- ---- a C-CANCEL

@@ -1,5 +1,5 @@
 -- Requests, and the responses that they have (PS3.7, 9.3).
-use Rattle.std.specs.Prelude.{◌≡◌, ◌⊎◌, Bool, true, false, List, [], ◌∷◌, ◌++◌, Option, Some, None}
+use Rattle.std.specs.Prelude.{◌≡◌, ◌⊎◌, ℕ, Bool, true, false, List, [], ◌∷◌, ◌++◌, length, Option, Some, None}
 use Rattle.pdu.specs.declared.value.Pdu.{Pdu}
 use Rattle.pdu.specs.declared.value.Pdu.TheVariants.{AssociateRq, AssociateAc, AssociateRj, PData, ReleaseRq, ReleaseRp}
 use Rattle.pdu.specs.declared.value.Pdu.TheVariants.{Abort}
@@ -35,6 +35,7 @@ use Rattle.association_session.specs.SubOperation.{SubOperation}
 use Rattle.association_session.specs.Retrieval.{few_in, setting_out, begun, meaning_of, performed}
 use Rattle.association_session.specs.Retrieval.{cancelling}
 use Rattle.association_session.specs.Row.{Within, met}
+use Rattle.association_session.specs.Selected.{selected_by, CountsFor}
 use Rattle.association_session.specs.Service.{Serves}
 use Rattle.association_session.specs.Talks.{Heard, Met, Said, awaiting}
 use Rattle.archive_model.specs.declared.view.View.{View}
@@ -67,73 +68,90 @@ is_pending Cancel = false
 is_pending Pending = true
 is_pending PendingWithoutOptionalKeys = true
 
--- a response to a request, on its context: a pending one, or the last
-pub record RespondsTo (a : Awaited) (pending : Bool) (m : Message) : Type 0 where
-  pub context : m.context ≡ a.context
-  pub id : m.command.responded_to ≡ a.command.message_id
+-- a request that awaits its responses, and how many instances it selected, where it is a C-GET whose sub-operations are
+-- performed
+pub record Requested : Type 0 where
+  pub awaited : Awaited
+  pub selected : Option ℕ
+
+-- one without sub-operations
+abbrev pub plain : Awaited → Requested
+plain a = record { awaited = a; selected = None }
+
+-- one that selected so many
+abbrev pub selecting : Awaited → ℕ → Requested
+selecting a selected = record { awaited = a; selected = Some selected }
+
+-- a response to a request, on its context: a pending one, or the last; its counts add up to what was selected
+pub record RespondsTo (r : Requested) (pending : Bool) (m : Message) : Type 0 where
+  pub context : m.context ≡ r.awaited.context
+  pub id : m.command.responded_to ≡ r.awaited.command.message_id
   pub status : Status
   pub is : m.command.status ≡ Some (status_code status)
   pub kind : is_pending status ≡ pending
+  pub counts : CountsFor r.selected m
 
 -- a pending response to a request, or a C-STORE that it brings
-abbrev pub IsOnTheWay : Awaited → Message → Type 0
-IsOnTheWay a m = RespondsTo a true m ⊎ (m.command.field ≡ C_STORE_RQ)
+abbrev pub IsOnTheWay : Requested → Message → Type 0
+IsOnTheWay r m = RespondsTo r true m ⊎ (m.command.field ≡ C_STORE_RQ)
 
 -- These messages are sent on the way to the last response, and then others behind them.
-abbrev pub SendsOnTheWay : Awaited → List Message → (List Pdu → Type 0) → List Pdu → Type 0
-SendsOnTheWay a [] Behind pdus = Behind pdus
-SendsOnTheWay a (m ∷ ms) Behind pdus = IsOnTheWay a m × (first rest : List Pdu) × IsSending m a.limit first
-    × SendsOnTheWay a ms Behind rest × (pdus ≡ first ++ rest)
+abbrev pub SendsOnTheWay : Requested → List Message → (List Pdu → Type 0) → List Pdu → Type 0
+SendsOnTheWay r [] Behind pdus = Behind pdus
+SendsOnTheWay r (m ∷ ms) Behind pdus = IsOnTheWay r m × (first rest : List Pdu) × IsSending m r.awaited.limit first
+    × SendsOnTheWay r ms Behind rest × (pdus ≡ first ++ rest)
 
 -- The last response is sent, and then others behind it.
-abbrev pub SendsLast : Awaited → (List Pdu → Type 0) → List Pdu → Type 0
-SendsLast a Behind pdus = (m : Message) × RespondsTo a false m × (first rest : List Pdu) × IsSending m a.limit first
-    × Behind rest × (pdus ≡ first ++ rest)
+abbrev pub SendsLast : Requested → (List Pdu → Type 0) → List Pdu → Type 0
+SendsLast r Behind pdus = (m : Message) × RespondsTo r false m × (first rest : List Pdu)
+    × IsSending m r.awaited.limit first × Behind rest × (pdus ≡ first ++ rest)
 
 -- Each of these requests has one last response, in order, behind what is on the way to it, and nothing else is sent; to
 -- the last of them it may be open.
-abbrev pub AreResponded : (Awaited → Type 0) → List Awaited → List Pdu → Type 0
+abbrev pub AreResponded : (Awaited → Type 0) → List Requested → List Pdu → Type 0
 AreResponded Open [] pdus = pdus ≡ []
-AreResponded Open (a ∷ requests) pdus = (ms : List Message) × SendsOnTheWay a ms
-    (λ rest. SendsLast a (AreResponded Open requests) rest ⊎ ((requests ≡ []) × (rest ≡ []) × Open a)) pdus
+AreResponded Open (r ∷ requests) pdus = (ms : List Message) × SendsOnTheWay r ms
+    (λ rest. SendsLast r (AreResponded Open requests) rest ⊎ ((requests ≡ []) × (rest ≡ []) × Open r.awaited)) pdus
 
 -- ---- the requests
 
 -- what is to be responded, by the sub-operation whose response is awaited
 abbrev pub RequestsBy : Type 1
-RequestsBy = Option SubOperation → List Reply → List Awaited → Type 0
+RequestsBy = Option SubOperation → List Reply → List Requested → Type 0
 
--- One request, and then those behind the reply of the port; where it did not reply yet, no more.
-abbrev pub Replied : (List Reply → List Awaited → Type 0) → List Reply → List Awaited → Type 0
+-- this request, and then those behind it
+abbrev pub Precedes : Requested → (List Requested → Type 0) → List Requested → Type 0
+Precedes r Rest requests = (rest : List Requested) × (requests ≡ r ∷ rest) × Rest rest
+
+-- those behind the reply of the port; where it did not reply yet, no more
+abbrev pub Replied : (List Reply → List Requested → Type 0) → List Reply → List Requested → Type 0
 Replied Goes [] requests = requests ≡ []
 Replied Goes (r ∷ rs) requests = Goes rs requests
 
-abbrev pub FewRequests : Option (List Prepared) → List Context → Awaited → Syntax → (Option SubOperation → List Awaited
-    → Type 0) → List Awaited → Type 0
-FewRequests None contexts a syntax Goes requests = Goes None requests
-FewRequests (Some prepared) contexts a syntax Goes requests = Goes (begun contexts (setting_out a syntax) prepared)
-    requests
+-- a C-GET selected all that the port replied, and where these are no few nothing
+abbrev pub FewRequests : Option (List Prepared) → List Context → Awaited → Syntax → (Option SubOperation
+    → List Requested → Type 0) → List Requested → Type 0
+FewRequests None contexts a syntax Goes requests = Precedes (plain a) (Goes None) requests
+FewRequests (Some prepared) contexts a syntax Goes requests = Precedes (selecting a (length prepared))
+    (Goes (begun contexts (setting_out a syntax) prepared)) requests
 
-abbrev pub RepliedGet : List Context → Awaited → Syntax → RequestsBy → List Reply → List Awaited → Type 0
-RepliedGet contexts a syntax Goes [] requests = requests ≡ []
+abbrev pub RepliedGet : List Context → Awaited → Syntax → RequestsBy → List Reply → List Requested → Type 0
+RepliedGet contexts a syntax Goes [] requests = requests ≡ plain a ∷ []
 RepliedGet contexts a syntax Goes (Gotten reply ∷ rs) requests = FewRequests (few_in reply) contexts a syntax
     (λ next. Goes next rs) requests
 RepliedGet contexts a syntax Goes (Stored reply ∷ rs) requests = ⊥
 RepliedGet contexts a syntax Goes (Found reply ∷ rs) requests = ⊥
 
 -- what is to be responded of a message that is served so, and then of what stands behind it
-abbrev pub RequestFor : Service → List Context → Awaited → RequestsBy → (List Reply → List Awaited → Type 0)
-    → List Reply → List Awaited → Type 0
+abbrev pub RequestFor : Service → List Context → Awaited → RequestsBy → (List Reply → List Requested → Type 0)
+    → List Reply → List Requested → Type 0
 RequestFor Ignored contexts a Goes Gone rs requests = Goes None rs requests
 RequestFor Broken contexts a Goes Gone rs requests = Gone rs requests
-RequestFor (Responded status) contexts a Goes Gone rs requests = (rest : List Awaited) × (requests ≡ a ∷ rest)
-    × Goes None rs rest
-RequestFor (Asked content) contexts a Goes Gone rs requests = (rest : List Awaited) × (requests ≡ a ∷ rest)
-    × Replied (Goes None) rs rest
-RequestFor (Queried finding kind) contexts a Goes Gone rs requests = (rest : List Awaited) × (requests ≡ a ∷ rest)
-    × Replied (Goes None) rs rest
-RequestFor (Fetched getting syntax) contexts a Goes Gone rs requests = (rest : List Awaited) × (requests ≡ a ∷ rest)
-    × RepliedGet contexts a syntax Goes rs rest
+RequestFor (Responded status) contexts a Goes Gone rs requests = Precedes (plain a) (Goes None rs) requests
+RequestFor (Asked content) contexts a Goes Gone rs requests = Precedes (plain a) (Replied (Goes None) rs) requests
+RequestFor (Queried finding kind) contexts a Goes Gone rs requests = Precedes (plain a) (Replied (Goes None) rs)
+    requests
+RequestFor (Fetched getting syntax) contexts a Goes Gone rs requests = RepliedGet contexts a syntax Goes rs requests
 
 -- what goes on of a C-GET that is cancelled or not
 abbrev pub next_of_get : Bool → List Context → Progress → List Prepared → Option SubOperation
@@ -141,30 +159,31 @@ next_of_get true contexts g left = None
 next_of_get false contexts g left = begun contexts g left
 
 -- Within a C-GET there is no other request, and any other message ends the association.
-abbrev pub RequestWithin : Meaning → SubOperation → List Context → RequestsBy → (List Reply → List Awaited → Type 0)
-    → List Reply → List Awaited → Type 0
+abbrev pub RequestWithin : Meaning → SubOperation → List Context → RequestsBy → (List Reply → List Requested → Type 0)
+    → List Reply → List Requested → Type 0
 RequestWithin Cancelled sub contexts Goes Gone rs requests = Goes (Some (cancelling sub)) rs requests
 RequestWithin Unawaited sub contexts Goes Gone rs requests = requests ≡ []
 RequestWithin (Performed outcome) sub contexts Goes Gone rs requests =
     Goes (next_of_get sub.cancelled contexts (performed sub outcome) sub.left) rs requests
 
-abbrev pub RequestOf : Option SubOperation → Within → Message → RequestsBy → (List Reply → List Awaited → Type 0)
-    → List Reply → List Awaited → Type 0
+abbrev pub RequestOf : Option SubOperation → Within → Message → RequestsBy → (List Reply → List Requested → Type 0)
+    → List Reply → List Requested → Type 0
 RequestOf None w m Goes Gone rs requests = (service : Service) × Serves w m service
     × RequestFor service w.link.contexts (awaiting w.link m) Goes Gone rs requests
 RequestOf (Some sub) w m Goes Gone rs requests = RequestWithin (meaning_of sub.progress m.command) sub w.link.contexts
     Goes Gone rs requests
 
 -- A message is served while the association is established, and dropped at any other time.
-abbrev pub RequestIn : State → (List Reply → List Awaited → Type 0) → (List Reply → List Awaited → Type 0)
-    → List Reply → List Awaited → Type 0
+abbrev pub RequestIn : State → (List Reply → List Requested → Type 0) → (List Reply → List Requested → Type 0)
+    → List Reply → List Requested → Type 0
 RequestIn Sta6 Served Dropped = Served
 RequestIn Sta1 Served Dropped = Dropped
 RequestIn Sta2 Served Dropped = Dropped
 RequestIn Sta13 Served Dropped = Dropped
 
 -- These are the requests that are to be responded among what is heard, in order, for these replies of the port.
-abbrev pub Requests : List (Title View) → Within → Option SubOperation → List Heard → List Reply → List Awaited → Type 0
+abbrev pub Requests : List (Title View) → Within → Option SubOperation → List Heard → List Reply → List Requested
+    → Type 0
 Requests titles w sub [] rs requests = requests ≡ []
 Requests titles w sub (Met event ∷ us) rs requests = Requests titles (met titles w event) sub us rs requests
 Requests titles w sub (Said m ∷ us) rs requests =
@@ -172,10 +191,10 @@ Requests titles w sub (Said m ∷ us) rs requests =
     (RequestOf sub w m (λ next. Requests titles w next us) (Requests titles (met titles w LocalAbort) None us))
     (Requests titles w sub us) rs requests
 
--- the request of the C-GET whose sub-operation is awaited, and then these
-abbrev pub open_in : Option SubOperation → List Awaited → List Awaited
+-- the C-GET whose sub-operation is awaited, and then these
+abbrev pub open_in : Option SubOperation → List Requested → List Requested
 open_in None requests = requests
-open_in (Some sub) requests = sub.progress.awaited ∷ requests
+open_in (Some sub) requests = selecting sub.progress.awaited (selected_by sub) ∷ requests
 
 -- A call is the last deed.
 abbrev pub EndsInCall : List Deed → Type 0
@@ -189,5 +208,5 @@ IsOpen ds a = EndsInCall ds ⊎ (a.command.field ≡ C_GET_RQ)
 -- Each request that was heard has one last response, unless it is open.
 abbrev pub HasResponses : List (Title View) → Within → Option SubOperation → List Heard → List Reply → List Deed
     → Type 0
-HasResponses titles w sub us rs ds = (requests : List Awaited) × Requests titles w sub us rs requests
+HasResponses titles w sub us rs ds = (requests : List Requested) × Requests titles w sub us rs requests
     × AreResponded (IsOpen ds) (open_in sub requests) (data_in ds)

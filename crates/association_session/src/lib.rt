@@ -31,10 +31,9 @@ mod way;
 pub use deed::{Call, Deed, Finding, Getting, Moment};
 pub use event::SessionEvent;
 pub use laws::{
-    a_cancelled_get_begins_no_more, a_response_stands_behind_its_call, counts_of_a_get_add_up,
-    each_request_has_a_response, each_request_has_one_response, more_is_only_added,
-    no_row_of_a_partial_query_is_a_full_one, nothing_is_asked_after_goodbye,
-    there_is_one_list_of_deeds,
+    a_cancelled_get_begins_no_more, a_response_stands_behind_its_call, each_request_has_a_response,
+    each_request_has_one_response, more_is_only_added, no_row_of_a_partial_query_is_a_full_one,
+    nothing_is_asked_after_goodbye, there_is_one_list_of_deeds,
 };
 pub use numbers::limits_are_these;
 pub use reply::{PortFault, Reply};
