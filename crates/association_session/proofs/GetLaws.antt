@@ -1,6 +1,6 @@
 -- Which failed instances are told, on which context a content goes out, and what a sub-operation may be.
-use Rattle.std.proofs.Common.{◌≡◌, ◌<◌, ◌≤◌, ◌+◌, ◌-◌, ◌^◌, ◌%◌, ℕ, List, [], ◌∷◌, ◌++◌, length, take, drop}
-use Rattle.std.proofs.Common.{Bool, true, false, cond, ◌==◌, nat_lt, Some, None, refl, sym, ap, ◌∙◌, arith}
+use Rattle.std.proofs.Common.{◌≡◌, ◌<◌, ◌≤◌, ◌+◌, ◌-◌, ◌^◌, ◌%◌, ℕ, zero, suc, List, [], ◌∷◌, ◌++◌, length, take, drop}
+use Rattle.std.proofs.Common.{Bool, true, false, cond, ◌==◌, nat_lt, Option, Some, None, refl, sym, ap, ◌∙◌, arith}
 use Rattle.std.proofs.Common.{◌⊎◌, inl, inr}
 use Rattle.std.proofs.Common.{slice_index_or, length-append, append-nil}
 use Rattle.std.specs.List.{join_with_byte}
@@ -9,7 +9,7 @@ use Rattle.std.proofs.lemmas.List.{take_more, at_drop_more, append_assoc}
 use Rattle.data_set.specs.declared.syntax.Syntax.{Syntax}
 use Rattle.data_set.specs.declared.syntax.Syntax.TheVariants.{Implicit, Explicit}
 use Rattle.data_set.specs.Tree.{leaf}
-use Rattle.data_set.specs.Values.{pad_of}
+use Rattle.data_set.specs.Values.{padded, pad_of}
 use Rattle.data_set.specs.Vr.{is_short, undefined_length}
 use Rattle.data_set.specs.Header.{offence}
 use Rattle.data_set.specs.Written.{IsSet, MayStand}

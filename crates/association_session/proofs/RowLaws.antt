@@ -21,7 +21,7 @@ use Rattle.association_session.specs.Projections.{state_after}
 use Rattle.association_session.specs.declared.due.Due.{Due}
 use Rattle.association_session.specs.Row.{row, deeds_of, values_of, action_on}
 use Rattle.association_session.specs.Session.{AssociationState, HearsValues, Turned, Takes, Owes, Stops, entered}
-use Rattle.association_session.specs.Session.{is_left}
+use Rattle.association_session.specs.Session.{is_left, IsToldBy}
 use Rattle.association_session.specs.Talks.{Met, Leads}
 use Rattle.association_session.proofs.HearLaws.{takes_row, idle_owed, owed_idle, none_due, none_fits}
 use Rattle.archive_model.specs.declared.view.View.{View}

@@ -1,8 +1,10 @@
 -- The counts of a C-GET add up, and a C-CANCEL ends it.
-use Rattle.std.proofs.Common.{◌≡◌, ℕ, suc, Bool, true, false, List, [], ◌∷◌, map, length, Option}
+use Rattle.std.proofs.Common.{◌≡◌, ℕ, ◌+◌, zero, suc, Bool, true, false, List, [], ◌∷◌, ◌++◌, map, length, Option}
 use Rattle.std.proofs.Common.{Some, None}
-use Rattle.std.proofs.Common.{refl, ap, subst, ◌∙◌, length-append, arith}
+use Rattle.std.proofs.Common.{refl, sym, ap, subst, ◌∙◌, length-append, arith}
 use Rattle.archive_model.specs.declared.view.View.{View}
+use Rattle.dimse.specs.declared.message.Message.{Message}
+use Rattle.pdu.specs.declared.context.Context.{Context}
 use Rattle.pdu.specs.declared.value.Pdu.{Pdu}
 use Rattle.retrieve_model.specs.declared.prepared.Prepared.{Prepared}
 use Rattle.ul_state.specs.declared.event.Event.TheVariants.{LocalAbort}
@@ -27,7 +29,7 @@ use Rattle.association_session.specs.Selected.{selected_in, selected_by, EndsBy}
 use Rattle.association_session.specs.Selected.{ResponsesAddUp, StartsWithAll, UnsentKeepsAll, SentKeepsAll}
 use Rattle.association_session.specs.Selected.{PerformedKeepsAll, CancelKeepsAll, CancelEnds}
 use Rattle.association_session.specs.SubOperation.{Retrieval, SubOperation}
-use Rattle.association_session.specs.Talks.{Heard, Goes, Then, GoesOnBy, Performs, Attends, InState, Talks}
+use Rattle.association_session.specs.Talks.{Heard, Goes, GoesBy, Then, GoesOnBy, Performs, Attends, InState, Talks}
 
 -- one more is counted
 counted_more : (outcome : Outcome) (uid : List ℕ) (k : Counts) → all_counted (counted outcome uid k)

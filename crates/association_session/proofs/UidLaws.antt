@@ -1,6 +1,6 @@
 -- A sub-operation's command set, and the responses of a C-GET, can be written.
-use Rattle.std.proofs.Common.{◌≡◌, ◌<◌, ◌-◌, ℕ, Bool, true, false, List, [], ◌∷◌, length, Option, Some, None, refl}
-use Rattle.std.proofs.Common.{sym, subst, ◌∙◌, arith, slice_index_or, ◌&&◌}
+use Rattle.std.proofs.Common.{◌≡◌, ◌<◌, ◌≤◌, ◌-◌, ℕ, Bool, true, false, List, [], ◌∷◌, length, Option, Some, None, refl}
+use Rattle.std.proofs.Common.{sym, ap, subst, ◌∙◌, arith, slice_index_or, ◌&&◌}
 use Rattle.std.specs.Prelude.{is_some, not, nat_le, ◌==◌}
 use Rattle.std.proofs.lemmas.Bool.Decides.{nat_tests}
 use Rattle.std.specs.List.{list_all, suffix_len}
@@ -23,7 +23,7 @@ use Rattle.retrieve_model.specs.declared.prepared.Prepared.{Prepared}
 use Rattle.association_session.specs.declared.retrieval.Progress.{Progress}
 use Rattle.association_session.specs.declared.way.Way.{Way}
 use Rattle.association_session.specs.Response.{CanBeResponded}
-use Rattle.association_session.specs.Retrieval.{counting, sub_operation}
+use Rattle.association_session.specs.Retrieval.{counting, sub_operation, numbered}
 use Rattle.association_session.proofs.ResponseLaws.{response_room}
 
 -- ---- UIDs

@@ -1,5 +1,5 @@
 -- The sub-operations of a C-GET (PS3.7, 9.1.3; PS3.4, C.4.3; docs/DECISIONS.md, "What a message is answered").
-use Rattle.std.specs.Prelude.{◌≡◌, ℕ, ◌+◌, Bool, true, false, ◌&&◌, List, [], ◌∷◌, ◌++◌, length, Option, Some}
+use Rattle.std.specs.Prelude.{◌≡◌, ◌≤◌, ℕ, ◌+◌, Bool, true, false, ◌&&◌, List, [], ◌∷◌, ◌++◌, length, Option, Some}
 use Rattle.std.specs.Prelude.{None}
 use Rattle.std.specs.Prelude.{Result, Ok, Err, ◌==◌, if◌then◌else◌, nat_le, is_some}
 use Rattle.data_set.specs.declared.syntax.Syntax.{Syntax}
@@ -29,7 +29,7 @@ use Rattle.association_session.specs.declared.retrieval.TheConstants.{MOST_SUB_O
 use Rattle.association_session.specs.declared.way.Way.{Way}
 use Rattle.association_session.specs.Response.{Awaited}
 use Rattle.association_session.specs.SubOperation.{Retrieval, SubOperation}
-use Rattle.association_session.specs.Get.{counted, failed_set, final_status, outcome_of, way_of}
+use Rattle.association_session.specs.Get.{all_counted, counted, failed_set, final_status, outcome_of, way_of}
 
 -- ---- where a C-GET is
 

@@ -1,5 +1,5 @@
 -- What holds of every C-GET: its counts add up, and a C-CANCEL ends it (PS3.7, 9.1.3; PS3.4, C.4.3).
-use Rattle.std.specs.Prelude.{◌≡◌, ℕ, ◌+◌, true, List, ◌∷◌, length, map, Option, Some, None}
+use Rattle.std.specs.Prelude.{◌≡◌, ℕ, ◌+◌, Bool, true, List, [], ◌∷◌, ◌++◌, length, map, Option, Some, None}
 use Rattle.archive_model.specs.declared.view.View.{View}
 use Rattle.data_set.specs.declared.syntax.Syntax.{Syntax}
 use Rattle.dimse.specs.declared.message.Message.{Message}

@@ -1,4 +1,4 @@
-use Rattle.std.proofs.Common.{Some, None, refl, ◌∙◌, sym, ap, subst}
+use Rattle.std.proofs.Common.{Some, None, List, refl, ◌∙◌, sym, ap, subst}
 use Rattle.std.specs.Prelude.{All}
 use Rattle.pdu.specs.Spelling.{IsPdu}
 use Rattle.association_session.specs.declared.due.Due.{Due}
