@@ -38,17 +38,17 @@ fn put_call(words: &Words, out: &mut String, call: &Call) -> Result<(), AllocErr
     }
 }
 
-fn put_deed(alloc: Global, words: &Words, out: &mut String, deed: &Deed) -> Result<(), AllocError>
-    requires { IsWritable deed.now }
+fn put_deed(alloc: Global, words: &Words, out: &mut String, deed: Deed) -> Result<(), AllocError>
+    requires { IsWritable deed }
 {
     match deed {
         Deed::Send(pdu) => {
-            let written = write_pdu(alloc, pdu)?;
+            let written = write_pdu(alloc, &pdu)?;
             out.push_str("send ")?;
             words.put_told(out, written.as_slice())
         }
         Deed::Reach(moment) => write!(out, "gate {moment:?}"),
-        Deed::Ask(call) => put_call(words, out, call),
+        Deed::Ask(call) => put_call(words, out, &call),
         Deed::Close => out.push_str("close"),
     }
 }
@@ -64,8 +64,8 @@ fn put_deeds(
     requires { IsSound event }
 {
     let titles = titles_of(alloc)?;
-    let deeds = session.on(&titles, event)?;
-    for deed in deeds.as_slice() {
+    let mut deeds = session.on(&titles, event)?;
+    while let Some(deed) = deeds.next()? {
         put_deed(alloc, words, out, deed)?;
         out.push_str(", ")?;
     }

@@ -1,11 +1,12 @@
 -- Deeds that were done, one after another.
-use Rattle.std.proofs.Common.{◌≡◌, ℕ, List, [], ◌∷◌, ◌++◌, length, map, Option, inl, inr, refl, sym, ap, subst, ◌∙◌}
+use Rattle.std.proofs.Common.{◌≡◌, ℕ, List, [], ◌∷◌, ◌++◌, length, map, Option, Some, inl, inr, refl, sym, ap, subst, ◌∙◌}
 use Rattle.std.proofs.Common.{append_assoc, append-nil, arith}
+use Rattle.std.specs.Prelude.{All, option_to_list}
 use Rattle.std.specs.List.{flat_map}
 use Rattle.std.specs.Io.KnownBytes.{Appends}
 use Rattle.std.proofs.lemmas.Grind.{flat_map-append}
 use Rattle.pdu.specs.declared.value.Pdu.{Pdu}
-use Rattle.pdu.specs.Spelling.{text_of}
+use Rattle.pdu.specs.Spelling.{IsPdu, text_of}
 use Rattle.operation.specs.declared.op.Op.{Op}
 use Rattle.association_session.specs.declared.deed.Call.{Call}
 use Rattle.association_session.specs.declared.deed.Deed.{Deed}
@@ -13,11 +14,12 @@ use Rattle.association_session.specs.declared.deed.Deed.TheVariants.{Send, Reach
 use Rattle.association_session.specs.declared.deed.Moment.{Moment}
 use Rattle.association_session.specs.declared.reply.Reply.{Reply}
 use Rattle.association_session.specs.Projections.{IsFront, sent_in, moments_in, calls_in}
+use Rattle.association_session.specs.Session.{IsWritable}
 use Rattle.association_run.specs.Port.{Replies, History}
 use Rattle.association_run.specs.Parts.{Passed, Sides, sides, bytes_in, Performs, next_bytes, Begins}
 use Rattle.association_run.specs.Outbox.{Puts, PutsFront}
 use Rattle.association_run.specs.Steps.{Halts, BreaksOff}
-use Rattle.association_run.proofs.Fronts.{further, nothing_written, all_front, front_behind, front_of_front}
+use Rattle.association_run.proofs.Fronts.{further, nothing_written, no_front, all_front, front_behind, front_of_front}
 use Rattle.association_run.proofs.Fronts.{front_split, passed_none, passed_on}
 
 -- ---- projections
@@ -54,9 +56,17 @@ bytes_behind xs ys part =
     ap (λ (t : List ℕ). t ++ (bytes_in ys ++ part)) (append-nil (bytes_in xs))
     ∙ sym (append_assoc (bytes_in xs) (bytes_in ys) part) ∙ ap (λ (t : List ℕ). t ++ part) (sym (bytes_on xs ys))
 
-pub none_left : (deeds : List Deed) → length deeds ≡ 0 → deeds ≡ []
-none_left [] none = refl
-none_left (d ∷ deeds) none = absurd (omega (arith, none))
+-- ---- the next deed
+
+pub next_is : (items rest : List Deed) (next : Option Deed) (d : Deed) → items ≡ option_to_list next ++ rest
+    → next ≡ Some d → items ≡ d ∷ rest
+next_is items rest next d parts is = parts ∙ ap (λ (n : Option Deed). option_to_list n ++ rest) is
+
+-- A PDU that is next can be written.
+pub first_writable : (items rest : List Deed) (d : Deed) (pdu : Pdu) → items ≡ d ∷ rest → d ≡ Send pdu
+    → All IsWritable items → IsPdu pdu
+first_writable items rest d pdu parts is all =
+    subst (λ (t : List Deed). All IsWritable t) (parts ∙ ap (λ (k : Deed). k ∷ rest) is) all 0 d (omega arith)
 
 -- ---- PDUs that are sent
 
@@ -374,6 +384,13 @@ module _ {P : Type 0} (ops : P → List Op) (own : P → List (List ℕ)) where
   acting_broke_at a port w0 w1 m held all items d pdu rest parts is so p =
       acting_broke a port w0 w1 m held all (Send pdu ∷ rest) (text_of pdu) (all_front (text_of pdu))
       (acting_at a (sides port w0 m) held all items d (Send pdu) rest parts is so) p
+
+  -- Nothing of what was held was written.
+  pub acting_stopped : (a : Sides P) (port : P) (w : Option (List ℕ)) (m : Option (List Moment)) (held : List ℕ)
+      (all rest : List Deed) → Acting a (sides port w m) held all rest → BreaksOff ops own a (sides port w m) all
+  acting_stopped a port w m held all rest at =
+      acting_broke a port w w m held all rest [] (no_front (next_bytes rest)) at
+      ([], nothing_written w, no_front (held ++ []))
 
 -- ---- fronts of deeds
 

@@ -17,9 +17,8 @@ use crate::gate::Gate;
 use crate::outbox::Outbox;
 use crate::port::Port;
 use archive_model::View;
-use association_session::{Call, Deed, Reply, Session, SessionEvent};
+use association_session::{Call, Deed, Deeds, Reply, Session, SessionEvent};
 use devices::Sink;
-use octets::ListOf;
 use pdu::Pdu;
 use std::alloc::Global;
 use ul_state::{Event, Titles};
@@ -62,7 +61,7 @@ fn ask<P: Port>(port: &mut P, call: Call) -> Reply
 /// another are written together; none is held back once the gate or the port is reached.
 fn act<W: Sink, P: Port, G: Gate>(
     alloc: Global,
-    deeds: ListOf<Deed>,
+    mut deeds: Deeds,
     outbox: &mut Outbox,
     writer: &mut W,
     port: &mut P,
@@ -83,7 +82,7 @@ fn act<W: Sink, P: Port, G: Gate>(
     ensures going { tells_turns result ≡ false }
 {
     outbox.clear();
-    for deed in deeds.into_vec() {
+    while let Some(deed) = deeds.next()? {
         match deed {
             Deed::Send(pdu) => send(alloc, outbox, writer, pdu)?,
             Deed::Reach(moment) => {

@@ -1,5 +1,6 @@
 pub mod AnsweredLaws
 pub mod DataLaws
+pub mod DeedsLaws
 pub mod FinalLaws
 pub mod GetLaws
 pub mod HearLaws
@@ -9,6 +10,7 @@ pub mod ResponseLaws
 pub mod RowLaws
 pub mod SelectedLaws
 pub mod SendLaws
+pub mod ServiceLaws
 pub mod StatusLaws
 pub mod TalkLaws
 pub mod TellLaws

@@ -1,5 +1,6 @@
 pub mod Answered
 pub mod Context
+pub mod Deeds
 pub mod Due
 pub mod Echo
 pub mod Finals

@@ -23,6 +23,7 @@ ghost use Rattle.archive_model.specs.declared.view.View.{View};
 
 use crate::awaited::Awaited;
 use crate::deed::{Call, Deed, Moment};
+use crate::deeds::Deeds;
 use crate::due::{Due, RowKind, Telling, are_rows, are_sent, due_for, is_telling, takes};
 use crate::event::SessionEvent;
 use crate::find::{found, row_text};
@@ -33,10 +34,10 @@ use crate::retrieval::{Begun, Meaning, Retrieval, SubOperation, few};
 use crate::service::{Service, serve};
 use crate::store::status_for;
 use archive_model::View;
-use dimse::{Message, Status};
+use dimse::{Fragments, Message, Status};
 use octets::ListOf;
 use operation::{Content, Taken};
-use pdu::{Pdu, Pdv};
+use pdu::Pdv;
 use query_model::{Answer, Answers};
 use retrieve_model::Prepared;
 use std::alloc::{AllocError, Global};
@@ -134,35 +135,25 @@ fn turn(
     Ok(action)
 }
 
-fn one(alloc: Global, deed: Deed) -> Result<ListOf<Deed>, AllocError>
+fn one(alloc: Global, deed: Deed) -> Result<Deeds, AllocError>
     ensures { IfOk result (λ deeds. deeds ≡ deed ∷ []) }
 {
-    let mut deeds = ListOf::new(alloc);
+    let mut deeds = Deeds::new(alloc);
     deeds.push(deed)?;
     Ok(deeds)
 }
 
-/// Puts the deeds that send these PDUs.
-fn put_sends(deeds: &mut ListOf<Deed>, pdus: ListOf<Pdu>) -> Result<(), AllocError>
-    ensures { OnOk result (deeds.new ≡ deeds.old ++ map Send pdus) }
-{
-    for pdu in pdus.into_vec() {
-        deeds.push(Deed::Send(pdu))?;
-    }
-    Ok(())
-}
-
 /// The deeds that send these PDUs.
-fn sends(alloc: Global, pdus: ListOf<Pdu>) -> Result<ListOf<Deed>, AllocError>
+fn sends(alloc: Global, pdus: Fragments) -> Result<Deeds, AllocError>
     ensures { IfOk result (λ deeds. deeds ≡ map Send pdus) }
 {
-    let mut deeds = ListOf::new(alloc);
-    put_sends(&mut deeds, pdus)?;
+    let mut deeds = Deeds::new(alloc);
+    deeds.put_sends(pdus)?;
     Ok(deeds)
 }
 
 /// The deeds that respond to a request.
-fn respond(alloc: Global, awaited: &Awaited, status: Status) -> Result<ListOf<Deed>, AllocError>
+fn respond(alloc: Global, awaited: &Awaited, status: Status) -> Result<Deeds, AllocError>
     ensures told { IfOk result (λ deeds. IsTold awaited.now status deeds) }
     ensures writable { IfOk result (All IsWritable) }
 {
@@ -170,11 +161,11 @@ fn respond(alloc: Global, awaited: &Awaited, status: Status) -> Result<ListOf<De
 }
 
 /// The gate is reached, and the port is asked to store a content.
-fn asks(alloc: Global, content: Content) -> Result<ListOf<Deed>, AllocError>
+fn asks(alloc: Global, content: Content) -> Result<Deeds, AllocError>
     ensures { IfOk result (λ deeds.
         deeds ≡ Reach InStore ∷ Ask (Store content) ∷ []) }
 {
-    let mut deeds = ListOf::new(alloc);
+    let mut deeds = Deeds::new(alloc);
     deeds.push(Deed::Reach(Moment::InStore))?;
     deeds.push(Deed::Ask(Call::Store(content)))?;
     Ok(deeds)
@@ -186,7 +177,7 @@ const TURN: usize = 32_768;
 /// Puts the deeds that respond with a row, and answers how many bytes its data set has.
 fn put_row(
     alloc: Global,
-    deeds: &mut ListOf<Deed>,
+    deeds: &mut Deeds,
     awaited: &Awaited,
     kind: RowKind,
     row: Answer,
@@ -199,7 +190,7 @@ fn put_row(
     let text = row_text(alloc, kind.syntax, row)?;
     let size = text.len();
     let pdus = awaited.respond_with(alloc, kind.status, text)?;
-    put_sends(deeds, pdus)?;
+    deeds.put_sends(pdus)?;
     Ok(size)
 }
 
@@ -207,7 +198,7 @@ fn put_row(
 /// left. The answer is whether none was found to be left.
 fn put_rows(
     alloc: Global,
-    deeds: &mut ListOf<Deed>,
+    deeds: &mut Deeds,
     awaited: &Awaited,
     kind: RowKind,
     rows: &mut Answers,
@@ -232,29 +223,29 @@ fn put_rows(
 /// Puts the deeds that end rows.
 fn put_end(
     alloc: Global,
-    deeds: &mut ListOf<Deed>,
+    deeds: &mut Deeds,
     awaited: &Awaited,
     status: Status,
 ) -> Result<(), AllocError>
     ensures ends { OnOk result (IsEnd awaited.now status deeds.old deeds.new) }
     ensures writable { All IsWritable deeds.old → OnOk result (All IsWritable deeds.new) }
 {
-    put_sends(deeds, awaited.respond(alloc, status)?)?;
+    deeds.put_sends(awaited.respond(alloc, status)?)?;
     deeds.push(Deed::Reach(Moment::FindAnswered))?;
     Ok(())
 }
 
 /// What a row's action does, and the values that it hands on.
-fn parted(alloc: Global, action: Option<Action>) -> Result<(ListOf<Deed>, ListOf<Pdv>), AllocError>
+fn parted(alloc: Global, action: Option<Action>) -> Result<(Deeds, ListOf<Pdv>), AllocError>
     ensures deeds { IfOk result (λ x. x.0 ≡ deeds_of action) }
     ensures values { IfOk result (λ x. x.1 ≡ values_of action) }
     ensures writable { IfSome action CanBeWritten → IfOk result (λ x. All IsWritable x.0) }
 {
     match action {
-        None => Ok((ListOf::new(alloc), ListOf::new(alloc))),
+        None => Ok((Deeds::new(alloc), ListOf::new(alloc))),
         Some(Action::Send(pdu)) => Ok((one(alloc, Deed::Send(pdu))?, ListOf::new(alloc))),
         Some(Action::Close) => Ok((one(alloc, Deed::Close)?, ListOf::new(alloc))),
-        Some(Action::Hand(values)) => Ok((ListOf::new(alloc), values)),
+        Some(Action::Hand(values)) => Ok((Deeds::new(alloc), values)),
     }
 }
 
@@ -323,7 +314,7 @@ impl Association {
     }
 
     /// Takes an event by the table's row. The values that are handed on are left to be heard.
-    fn meet(&mut self, titles: &Titles<View>, event: Event) -> Result<ListOf<Deed>, AllocError>
+    fn meet(&mut self, titles: &Titles<View>, event: Event) -> Result<Deeds, AllocError>
         requires { self.old.awaited ≡ None }
         ensures row { IfOk result (λ deeds.
             deeds ≡ row titles.now.list self.old.within.state event) }
@@ -332,7 +323,7 @@ impl Association {
     {
         let Some(acceptor) = &mut self.acceptor else {
             self.queue = VecDeque::new(self.alloc);
-            return Ok(ListOf::new(self.alloc));
+            return Ok(Deeds::new(self.alloc));
         };
         let action = turn(self.alloc, acceptor, &mut self.link, titles, event)?;
         let (deeds, values) = parted(self.alloc, action)?;
@@ -341,7 +332,7 @@ impl Association {
     }
 
     /// The local user aborts. What is left of a P-DATA-TF is dropped.
-    fn abort(&mut self, titles: &Titles<View>) -> Result<ListOf<Deed>, AllocError>
+    fn abort(&mut self, titles: &Titles<View>) -> Result<Deeds, AllocError>
         requires established { self.old.within.state ≡ Sta6 }
         requires idle { self.old.awaited ≡ None }
         ensures sent { IfOk result (λ deeds. deeds ≡ row titles.now.list Sta6 LocalAbort) }
@@ -352,11 +343,7 @@ impl Association {
     }
 
     /// Answers a message, while no sub-operation is awaited.
-    fn answer(
-        &mut self,
-        titles: &Titles<View>,
-        message: Message,
-    ) -> Result<ListOf<Deed>, AllocError>
+    fn answer(&mut self, titles: &Titles<View>, message: Message) -> Result<Deeds, AllocError>
         requires established { self.old.within.state ≡ Sta6 }
         requires idle { self.old.awaited ≡ None }
         requires none { self.old.sub ≡ None }
@@ -387,7 +374,7 @@ impl Association {
             command,
         };
         match service {
-            Service::Ignored => Ok(ListOf::new(self.alloc)),
+            Service::Ignored => Ok(Deeds::new(self.alloc)),
             Service::Broken => self.abort(titles),
             Service::Responded(status) => respond(self.alloc, &awaited, status),
             Service::Asked(content) => {
@@ -409,11 +396,7 @@ impl Association {
     }
 
     /// Takes a message: it is answered, or belongs to a C-GET whose sub-operation is awaited.
-    fn attend(
-        &mut self,
-        titles: &Titles<View>,
-        message: Message,
-    ) -> Result<ListOf<Deed>, AllocError>
+    fn attend(&mut self, titles: &Titles<View>, message: Message) -> Result<Deeds, AllocError>
         requires established { self.old.within.state ≡ Sta6 }
         requires idle { self.old.awaited ≡ None }
         requires whole { IsWhole message }
@@ -431,7 +414,7 @@ impl Association {
         match meaning {
             Meaning::Cancelled => {
                 self.sub = Some(sub.cancel());
-                Ok(ListOf::new(self.alloc))
+                Ok(Deeds::new(self.alloc))
             }
             Meaning::Unawaited => self.abort(titles),
             Meaning::Performed(outcome) => {
@@ -443,7 +426,7 @@ impl Association {
     }
 
     /// Hears the values that are left, up to the end of a message.
-    fn hear_values(&mut self, titles: &Titles<View>) -> Result<ListOf<Deed>, AllocError>
+    fn hear_values(&mut self, titles: &Titles<View>) -> Result<Deeds, AllocError>
         requires established { self.old.within.state ≡ Sta6 }
         requires idle { self.old.awaited ≡ None }
         ensures turned { IfOk result (λ deeds.
@@ -460,11 +443,11 @@ impl Association {
                 Err(_fault) => return self.abort(titles),
             }
         }
-        Ok(ListOf::new(self.alloc))
+        Ok(Deeds::new(self.alloc))
     }
 
     /// Hears an event.
-    fn hear(&mut self, titles: &Titles<View>, event: Event) -> Result<ListOf<Deed>, AllocError>
+    fn hear(&mut self, titles: &Titles<View>, event: Event) -> Result<Deeds, AllocError>
         requires { self.old.awaited ≡ None }
         ensures turned { IfOk result (λ deeds.
             Turned titles.now.list self.old (Heard event) deeds self.new) }
@@ -479,7 +462,7 @@ impl Association {
     }
 
     /// Takes the reply to a store, and responds.
-    fn take_stored(&mut self, reply: Result<Taken, PortFault>) -> Result<ListOf<Deed>, AllocError>
+    fn take_stored(&mut self, reply: Result<Taken, PortFault>) -> Result<Deeds, AllocError>
         requires { IsTrue (is_in_turn self.old (Replied (Stored reply))) }
         ensures turned { (titles : List (Title View)) → IfOk result (λ deeds.
             Turned titles self.old (Replied (Stored reply)) deeds self.new) }
@@ -487,13 +470,13 @@ impl Association {
         ensures writable { IfOk result (All IsWritable) }
     {
         let Some(Due::Store(awaited)) = self.awaited.take() else {
-            return Ok(ListOf::new(self.alloc));
+            return Ok(Deeds::new(self.alloc));
         };
         respond(self.alloc, &awaited, status_for(reply))
     }
 
     /// Takes the reply to a find, whose rows are left to be told.
-    fn take_found(&mut self, reply: Result<Answers, PortFault>) -> Result<ListOf<Deed>, AllocError>
+    fn take_found(&mut self, reply: Result<Answers, PortFault>) -> Result<Deeds, AllocError>
         requires { IsTrue (is_in_turn self.old (Replied (Found reply))) }
         ensures turned { (titles : List (Title View)) → IfOk result (λ deeds.
             Turned titles self.old (Replied (Found reply)) deeds self.new) }
@@ -501,7 +484,7 @@ impl Association {
         ensures writable { IfOk result (All IsWritable) }
     {
         let Some(Due::Find(awaited, kind)) = self.awaited.take() else {
-            return Ok(ListOf::new(self.alloc));
+            return Ok(Deeds::new(self.alloc));
         };
         awaited.see_room();
         let (rows, status) = found(self.alloc, reply);
@@ -511,14 +494,14 @@ impl Association {
             rows,
             status,
         }));
-        Ok(ListOf::new(self.alloc))
+        Ok(Deeds::new(self.alloc))
     }
 
     /// Takes the reply to a get, whose sub-operations are left to be begun.
     fn take_gotten(
         &mut self,
         reply: Result<ListOf<Prepared>, PortFault>,
-    ) -> Result<ListOf<Deed>, AllocError>
+    ) -> Result<Deeds, AllocError>
         requires { IsTrue (is_in_turn self.old (Replied (Gotten reply))) }
         ensures turned { (titles : List (Title View)) → IfOk result (λ deeds.
             Turned titles self.old (Replied (Gotten reply)) deeds self.new) }
@@ -526,7 +509,7 @@ impl Association {
         ensures writable { IfOk result (All IsWritable) }
     {
         let Some(Due::Get(awaited, syntax)) = self.awaited.take() else {
-            return Ok(ListOf::new(self.alloc));
+            return Ok(Deeds::new(self.alloc));
         };
         awaited.see_room();
         let Some(prepared) = few(reply) else {
@@ -534,11 +517,11 @@ impl Association {
         };
         let retrieval = Retrieval::of(self.alloc, awaited, syntax, prepared);
         self.awaited = Some(Due::Sending(retrieval));
-        Ok(ListOf::new(self.alloc))
+        Ok(Deeds::new(self.alloc))
     }
 
     /// Takes the reply that is awaited.
-    fn resume(&mut self, reply: Reply) -> Result<ListOf<Deed>, AllocError>
+    fn resume(&mut self, reply: Reply) -> Result<Deeds, AllocError>
         requires { IsTrue (is_in_turn self.old (Replied reply)) }
         ensures turned { (titles : List (Title View)) → IfOk result (λ deeds.
             Turned titles self.old (Replied reply) deeds self.new) }
@@ -553,7 +536,7 @@ impl Association {
     }
 
     /// Begins the next of the sub-operations that are left, and behind the last one ends them.
-    fn send_on(&mut self) -> Result<ListOf<Deed>, AllocError>
+    fn send_on(&mut self) -> Result<Deeds, AllocError>
         requires { is_sending self.old.awaited ≡ true }
         ensures turned { (titles : List (Title View)) → IfOk result (λ deeds.
             Turned titles self.old GoesOn deeds self.new) }
@@ -561,7 +544,7 @@ impl Association {
         ensures writable { IfOk result (All IsWritable) }
     {
         let Some(Due::Sending(retrieval)) = self.awaited.take() else {
-            return Ok(ListOf::new(self.alloc));
+            return Ok(Deeds::new(self.alloc));
         };
         retrieval.progress.awaited.see_room();
         match retrieval.begin(self.alloc, self.link.contexts())? {
@@ -581,14 +564,14 @@ impl Association {
     }
 
     /// Tells the next of the rows that are left, and behind the last one ends them.
-    fn tell_rows(&mut self) -> Result<ListOf<Deed>, AllocError>
+    fn tell_rows(&mut self) -> Result<Deeds, AllocError>
         requires { has_rows self.old.awaited ≡ true }
         ensures turned { (titles : List (Title View)) → IfOk result (λ deeds.
             Turned titles self.old GoesOn deeds self.new) }
         ensures fewer { OnOk result (IsFewer GoesOn self.old self.new) }
         ensures writable { IfOk result (All IsWritable) }
     {
-        let mut deeds = ListOf::new(self.alloc);
+        let mut deeds = Deeds::new(self.alloc);
         let Some(Due::Rows(telling)) = self.awaited.take() else {
             return Ok(deeds);
         };
@@ -614,7 +597,7 @@ impl Association {
 
     /// Tells the rows that are left, begins the sub-operations that are left, or hears the values
     /// that are left.
-    fn go_on(&mut self, titles: &Titles<View>) -> Result<ListOf<Deed>, AllocError>
+    fn go_on(&mut self, titles: &Titles<View>) -> Result<Deeds, AllocError>
         requires { IsTrue (is_in_turn self.old GoesOn) }
         ensures turned { IfOk result (λ deeds.
             Turned titles.now.list self.old GoesOn deeds self.new) }
@@ -649,7 +632,7 @@ impl Association {
         &mut self,
         titles: &Titles<View>,
         event: SessionEvent,
-    ) -> Result<ListOf<Deed>, AllocError>
+    ) -> Result<Deeds, AllocError>
         requires { IsTrue (is_in_turn self.old event) }
         ensures turned { IfOk result (λ deeds.
             Turned titles.now.list self.old event deeds self.new) }

@@ -5,9 +5,7 @@ ghost use Rattle.pdu.specs.Spelling.{IsPdu};
 ghost use Rattle.association_session.specs.Response.{FitsLimit, CanBeResponded, response_to, response_with, Responds, RespondsWith};
 
 use bytes::Bytes;
-use dimse::{Command, DATA_SET_FOLLOWS, Message, Status, fragments};
-use octets::ListOf;
-use pdu::Pdu;
+use dimse::{Command, DATA_SET_FOLLOWS, Fragments, Message, Status};
 use std::alloc::{AllocError, Global};
 use std::marker::Model;
 
@@ -61,12 +59,12 @@ impl Awaited {
     }
 
     /// The PDUs of the response with this status.
-    pub(crate) fn respond(&self, alloc: Global, status: Status) -> Result<ListOf<Pdu>, AllocError>
+    pub(crate) fn respond(&self, alloc: Global, status: Status) -> Result<Fragments, AllocError>
         ensures sent { IfOk result (λ pdus. Responds self.now status pdus) }
         ensures lawful { IfOk result (λ pdus. All IsPdu pdus) }
     {
         let message = self.response(alloc, status)?;
-        Ok(ListOf::of(fragments(alloc, &message, self.limit)?))
+        Fragments::of(alloc, &message, self.limit)
     }
 
     /// The response with this status and a data set.
@@ -93,11 +91,11 @@ impl Awaited {
         alloc: Global,
         status: Status,
         text: Bytes,
-    ) -> Result<ListOf<Pdu>, AllocError>
+    ) -> Result<Fragments, AllocError>
         ensures sent { IfOk result (λ pdus. RespondsWith self.now status text pdus) }
         ensures lawful { IfOk result (λ pdus. All IsPdu pdus) }
     {
         let message = self.response_with(alloc, status, text)?;
-        Ok(ListOf::of(fragments(alloc, &message, self.limit)?))
+        Fragments::of(alloc, &message, self.limit)
     }
 }

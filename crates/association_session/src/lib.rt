@@ -12,6 +12,7 @@ mod awaited;
 mod context;
 mod counts;
 mod deed;
+mod deeds;
 mod due;
 mod echo;
 mod event;
@@ -29,6 +30,7 @@ mod store;
 mod way;
 
 pub use deed::{Call, Deed, Finding, Getting, Moment};
+pub use deeds::Deeds;
 pub use event::SessionEvent;
 pub use laws::{
     a_cancelled_get_begins_no_more, a_response_stands_behind_its_call, each_request_has_a_response,

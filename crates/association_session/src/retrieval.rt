@@ -14,9 +14,9 @@ use crate::way::{Way, way_for};
 use bytes::Bytes;
 use data_set::Syntax;
 use dictionary::{C_CANCEL_RQ, C_STORE_RQ, C_STORE_RSP};
-use dimse::{Command, DATA_SET_FOLLOWS, Message, Status, fragments};
+use dimse::{Command, DATA_SET_FOLLOWS, Fragments, Message, Status};
 use octets::{ListOf, Octets};
-use pdu::{Context, Pdu};
+use pdu::Context;
 use retrieve_model::Prepared;
 use std::alloc::{AllocError, Global};
 use std::collections::VecDeque;
@@ -107,11 +107,11 @@ fn names(id: Option<u16>, named: Option<u16>) -> bool
 #[derive(Drop)]
 pub(crate) enum Begun {
     /// Nothing was left: these are the last response.
-    Ended(ListOf<Pdu>),
+    Ended(Fragments),
     /// These bring the sub-operation, whose response is awaited.
-    Sent(ListOf<Pdu>, SubOperation),
+    Sent(Fragments, SubOperation),
     /// One failed unsent, which these tell, and this is left.
-    Unsent(ListOf<Pdu>, Retrieval),
+    Unsent(Fragments, Retrieval),
 }
 
 impl Progress {
@@ -148,14 +148,14 @@ impl Progress {
         status: Status,
         remaining: Option<u16>,
         body: Option<Bytes>,
-    ) -> Result<ListOf<Pdu>, AllocError>
+    ) -> Result<Fragments, AllocError>
         requires { all_counted self.now.counts ≤ MOST_SUB_OPERATIONS }
         ensures sent { IfOk result (λ pdus. CountsIn self.now status remaining body pdus) }
         ensures lawful { IfOk result (λ pdus. All IsPdu pdus) }
     {
         self.awaited.see_lawful();
         let message = self.message(alloc, status, remaining, body)?;
-        Ok(ListOf::of(fragments(alloc, &message, self.awaited.limit)?))
+        Fragments::of(alloc, &message, self.awaited.limit)
     }
 
     /// The pending response behind a sub-operation, where some are left.
@@ -163,19 +163,19 @@ impl Progress {
         &self,
         alloc: Global,
         left: &VecDeque<Prepared>,
-    ) -> Result<ListOf<Pdu>, AllocError>
+    ) -> Result<Fragments, AllocError>
         requires { IsBound self.now (length left.now.items) }
         ensures sent { IfOk result (λ pdus. RespondsIfLeft self.now left.now.items pdus) }
         ensures lawful { IfOk result (λ pdus. All IsPdu pdus) }
     {
         if left.is_empty() {
-            return Ok(ListOf::new(alloc));
+            return Ok(Fragments::none(alloc));
         }
         self.respond(alloc, Status::Pending, Some(left.len() as u16), None)
     }
 
     /// The last response.
-    fn respond_end(&self, alloc: Global) -> Result<ListOf<Pdu>, AllocError>
+    fn respond_end(&self, alloc: Global) -> Result<Fragments, AllocError>
         requires { all_counted self.now.counts ≤ MOST_SUB_OPERATIONS }
         ensures sent { IfOk result (λ pdus. RespondsEnd self.now pdus) }
         ensures lawful { IfOk result (λ pdus. All IsPdu pdus) }
@@ -189,7 +189,7 @@ impl Progress {
         &self,
         alloc: Global,
         left: &VecDeque<Prepared>,
-    ) -> Result<ListOf<Pdu>, AllocError>
+    ) -> Result<Fragments, AllocError>
         requires { IsBound self.now (length left.now.items) }
         ensures sent { IfOk result (λ pdus. RespondsCancel self.now left.now.items pdus) }
         ensures lawful { IfOk result (λ pdus. All IsPdu pdus) }
@@ -225,7 +225,7 @@ impl Progress {
     }
 
     /// Its PDUs.
-    fn bring(&self, alloc: Global, way: Way, prepared: &Prepared) -> Result<ListOf<Pdu>, AllocError>
+    fn bring(&self, alloc: Global, way: Way, prepared: &Prepared) -> Result<Fragments, AllocError>
         requires { self.now.sent < MOST_SUB_OPERATIONS }
         ensures sent { IfOk result (λ pdus. IsSending (sub_operation self.now way prepared.now)
             self.now.awaited.limit pdus) }
@@ -235,7 +235,7 @@ impl Progress {
         // Its class and its instance are UIDs.
         let _body = prepared.content.body();
         let message = self.request(alloc, way, prepared)?;
-        Ok(ListOf::of(fragments(alloc, &message, self.awaited.limit)?))
+        Fragments::of(alloc, &message, self.awaited.limit)
     }
 
     /// One sub-operation more is counted.
@@ -385,7 +385,7 @@ impl SubOperation {
         self,
         alloc: Global,
         outcome: Outcome,
-    ) -> Result<(ListOf<Pdu>, Option<Retrieval>), AllocError>
+    ) -> Result<(Fragments, Option<Retrieval>), AllocError>
         ensures told { IfOk result (λ x.
             RespondsBy self.cancelled (performed self outcome) self.left x.0 x.1) }
         ensures lawful { IfOk result (λ x. All IsPdu x.0) }

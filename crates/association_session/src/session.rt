@@ -1,16 +1,14 @@
 //! An association as a machine (PS3.8, section 9.2; PS3.7, section 9).
 
 ghost use Rattle.std.specs.Prelude.{◌≡◌, [], IfOk, OnOk, OnErr, IsTrue, All, false};
-ghost use Rattle.std.specs.List.{list_any};
 ghost use Rattle.association_session.specs.declared.event.SessionEvent.TheVariants.{GoesOn};
 ghost use Rattle.association_session.specs.Due.{tells_rows};
-ghost use Rattle.association_session.specs.Session.{start, over, is_abort as is_abort_deed, is_release as is_release_deed, is_in_turn, Turned, IsFewer, IsWritable, IsSound, reads_abort, aborted_by, released_by};
+ghost use Rattle.association_session.specs.Session.{start, over, is_in_turn, Turned, IsFewer, IsWritable, IsSound, reads_abort, aborted_by, released_by};
 
 use crate::association::Association;
-use crate::deed::Deed;
+use crate::deeds::Deeds;
 use crate::event::SessionEvent;
 use archive_model::View;
-use octets::ListOf;
 use pdu::Pdu;
 use std::alloc::{AllocError, Global};
 use std::marker::Model;
@@ -44,18 +42,6 @@ impl Model for Session {
     } };
 }
 
-fn is_abort(deed: &Deed) -> bool
-    ensures { result ≡ is_abort_deed deed.now }
-{
-    matches!(deed, Deed::Send(Pdu::Abort { .. }))
-}
-
-fn is_release(deed: &Deed) -> bool
-    ensures { result ≡ is_release_deed deed.now }
-{
-    matches!(deed, Deed::Send(Pdu::ReleaseRp))
-}
-
 fn reads_an_abort(state: State, event: &SessionEvent) -> bool
     ensures { result ≡ reads_abort state event.now }
 {
@@ -64,18 +50,6 @@ fn reads_an_abort(state: State, event: &SessionEvent) -> bool
         (_, SessionEvent::Heard(Event::Got(Pdu::Abort { .. }))) => true,
         (_, _) => false,
     }
-}
-
-fn is_aborted_by(deeds: &[Deed]) -> bool
-    ensures { result ≡ list_any is_abort_deed deeds.now }
-{
-    deeds.iter().any(|deed| is_abort(deed))
-}
-
-fn is_released_by(deeds: &[Deed]) -> bool
-    ensures { result ≡ list_any is_release_deed deeds.now }
-{
-    deeds.iter().any(|deed| is_release(deed))
 }
 
 impl Session {
@@ -135,11 +109,7 @@ impl Session {
     ///
     /// The deeds are for the caller to do in order. Where they end with a call, what comes next is
     /// its reply.
-    pub fn on(
-        &mut self,
-        titles: &Titles<View>,
-        event: SessionEvent,
-    ) -> Result<ListOf<Deed>, AllocError>
+    pub fn on(&mut self, titles: &Titles<View>, event: SessionEvent) -> Result<Deeds, AllocError>
         // What is done: whatever is done from the new state on, these deeds and that are done from
         // the old one.
         ensures turned { IsTrue (is_in_turn self.old.association event) → IfOk result (λ deeds.
@@ -165,13 +135,13 @@ impl Session {
         ensures refused { OnErr result (self.new ≡ over self.old) }
     {
         if !self.association.is_in_turn(&event) {
-            return Ok(ListOf::new(self.alloc));
+            return Ok(Deeds::new(self.alloc));
         }
         let read = reads_an_abort(self.association.state(), &event);
         match self.association.on(titles, event) {
             Ok(deeds) => {
-                self.aborted = self.aborted || read || is_aborted_by(deeds.as_slice());
-                self.released = self.released || is_released_by(deeds.as_slice());
+                self.aborted = self.aborted || read || deeds.has_abort();
+                self.released = self.released || deeds.has_release();
                 Ok(deeds)
             }
             Err(fault) => {

@@ -1,9 +1,7 @@
 -- What is sent is put together to the same message.
-use Rattle.std.proofs.Common.{◌≡◌, ℕ, Bool, true, false, List, [], ◌∷◌, ◌++◌, take, drop, Option, Some, None, Result}
-use Rattle.std.proofs.Common.{Ok, Err, refl, sym, ap, subst, ◌∙◌, append_assoc}
-use Rattle.std.specs.Prelude.{IfOk, OnOk, MatchOption, is_some}
-use Rattle.std.specs.Global.{Vec}
-use Rattle.std.specs.declared.alloc.AllocError.{AllocError}
+use Rattle.std.proofs.Common.{◌≡◌, ℕ, Bool, true, false, List, [], ◌∷◌, ◌++◌, take, drop, Option, Some, None, refl}
+use Rattle.std.proofs.Common.{sym, ap, subst, ◌∙◌, append_assoc}
+use Rattle.std.specs.Prelude.{MatchOption, is_some}
 use Rattle.std.proofs.lemmas.List.{take-append-drop}
 use Rattle.pdu.specs.declared.pdv.Pdv.{Pdv}
 use Rattle.pdu.specs.declared.value.Pdu.{Pdu}
@@ -55,7 +53,8 @@ body_joins : (m : Message) (size : ℕ) (body : Option (List ℕ)) (pdus : List 
 body_joins m size None pdus is none = (is, ap pdvs_in none)
 body_joins m size (Some b) pdus is sends = (is, sends_joins size m.context false b pdus sends)
 
-put_together : (m : Message) (max : ℕ) (pdus : List Pdu) → IsWhole m → Spells (command_text m.command) m.command
+-- what is sent is put together to the message
+pub put_together : (m : Message) (max : ℕ) (pdus : List Pdu) → IsWhole m → Spells (command_text m.command) m.command
     → IsSending m max pdus → SpellsMessage (pdvs_in pdus) m
 put_together m max pdus whole spells s = record {
   of_command = pdvs_in s.of_command;
@@ -65,28 +64,4 @@ put_together m max pdus whole spells s = record {
   joined = sends_joins (size_of max) m.context true (command_text m.command) s.of_command s.command;
   spelled = spells;
   body = body_joins m (size_of max) m.body s.of_data whole.announced s.data_set;
-}
-
--- what a call cut
-pub cut_again : (m : Message) (max : ℕ) (r : Result (Vec Pdu) AllocError) → IsWhole m
-    → IfOk r (λ pdus. IsSending m max pdus.items) → OnOk r (Spells (command_text m.command) m.command)
-    → IfOk r (λ pdus. SpellsMessage (pdvs_in pdus.items) m)
-cut_again m max (Ok pdus) whole sending spells = put_together m max pdus.items whole spells sending
-cut_again m max (Err e) whole sending spells = tt
-
--- the command set's fragments, and then the data set's
-pub sending : (m : Message) (max size : ℕ) (all some : List Pdu) (text : List ℕ) → size ≡ size_of max
-    → text ≡ command_text m.command
-    → (first : List Pdu) → some ≡ first → Sends size m.context true text first
-    → (second : List Pdu) → all ≡ some ++ second → MatchOption m.body (second ≡ [])
-    (λ body. Sends size m.context false body second)
-    → IsSending m max all
-sending m max size all some text is text_is first some_is sends second all_is data_set = record {
-  of_command = first;
-  of_data = second;
-  parts = all_is ∙ ap (λ (t : List Pdu). t ++ second) some_is;
-  command = subst (λ (k : ℕ). Sends k m.context true (command_text m.command) first)
-      is (subst (λ (t : List ℕ). Sends size m.context true t first) text_is sends);
-  data_set = subst (λ (k : ℕ). MatchOption m.body (second ≡ []) (λ body. Sends k m.context false body second)) is
-      data_set;
 }

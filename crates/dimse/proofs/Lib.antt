@@ -7,6 +7,7 @@ pub mod RunLaws
 pub mod SoundLaws
 pub mod SpelledLaws
 pub mod FragmentLaws
+pub mod FragmentsLaws
 pub mod LawfulLaws
 pub mod CutLaws
 pub mod TotalLaws

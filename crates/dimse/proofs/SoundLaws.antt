@@ -1,11 +1,9 @@
 -- What was put together or cut can be sent, and so can what answers a request.
 use Rattle.std.proofs.Common.{◌≡◌, ℕ, ◌≤◌, Bool, true, false, cond, List, [], ◌∷◌, ◌++◌, length, take, drop}
-use Rattle.std.proofs.Common.{length-append, Option, Some, None, Result, Ok, Err, refl, sym, ap, subst, ◌∙◌, arith, inl}
+use Rattle.std.proofs.Common.{length-append, Option, Some, None, refl, sym, ap, subst, ◌∙◌, arith, inl}
 use Rattle.std.proofs.Common.{inr}
-use Rattle.std.specs.Prelude.{IfOk, IfSome, MatchOption, All, is_some, ◌==◌, ◌&&◌, ◌||◌, not}
+use Rattle.std.specs.Prelude.{IfSome, MatchOption, All, is_some, ◌==◌, ◌&&◌, ◌||◌, not}
 use Rattle.std.specs.List.{AllByRecursion}
-use Rattle.std.specs.Global.{Vec}
-use Rattle.std.specs.declared.alloc.AllocError.{AllocError}
 use Rattle.std.proofs.lemmas.List.{length-take}
 use Rattle.std.proofs.lemmas.List.Elements.{All-from_recursion}
 use Rattle.pdu.specs.declared.pdv.Pdv.{Pdv}
@@ -50,15 +48,14 @@ both_fit : (ps qs : List Pdu) → AllByRecursion IsPdu ps → AllByRecursion IsP
 both_fit [] qs one other = other
 both_fit (p ∷ ps) qs one other = (one.0, both_fit ps qs one.1 other)
 
--- each PDU that was cut can be written
-pub cut_fits : (m : Message) (max : ℕ) (r : Result (Vec Pdu) AllocError) → 8 ≤ max
-    → IfOk r (λ pdus. IsSending m max pdus.items) → max ≤ 65536 → IfOk r (λ pdus. All IsPdu pdus.items)
-cut_fits m max (Ok pdus) least s most =
+-- each PDU that is sent can be written
+pub sending_fits : (m : Message) (max : ℕ) (pdus : List Pdu) → 8 ≤ max → IsSending m max pdus → max ≤ 65536
+    → All IsPdu pdus
+sending_fits m max pdus least s most =
     let first = text_fits max m.context true (command_text m.command) s.of_command least most s.command in
     let second = body_fits max m.context m.body s.of_data least most s.data_set in
-    All-from_recursion IsPdu pdus.items (subst (λ (ps : List Pdu). AllByRecursion IsPdu ps) (sym s.parts)
+    All-from_recursion IsPdu pdus (subst (λ (ps : List Pdu). AllByRecursion IsPdu ps) (sym s.parts)
     (both_fit s.of_command s.of_data first second))
-cut_fits m max (Err e) least s most = tt
 
 -- ---- responses
 

@@ -1,6 +1,7 @@
 pub mod Assembly
 pub mod Command
 pub mod CommandField
+pub mod Cut
 pub mod Elements
 pub mod Fault
 pub mod Messages

@@ -1,15 +1,9 @@
-//! Messages are cut into fragments, each in a PDU of its own (PS3.8, annex E and section D.1).
+//! Texts are cut into fragments, each in a PDU of its own (PS3.8, annex E and section D.1).
 
-ghost use Rattle.std.specs.Prelude.{◌≡◌, ◌≤◌, ◌<◌, ◌++◌, ◌∷◌, [], List, OnOk, IfOk, MatchOption, All, false};
-ghost use Rattle.pdu.specs.declared.header.TheConstants.{LONGEST_BODY};
-ghost use Rattle.pdu.specs.declared.value.Pdu.{Pdu};
-ghost use Rattle.pdu.specs.Spelling.{IsPdu};
-ghost use Rattle.dimse.specs.Command.{command_text, Spells};
-ghost use Rattle.dimse.specs.Messages.{SpellsMessage};
-ghost use Rattle.dimse.specs.Sending.{size_of, sent, Sends, IsSending, IsWhole, pdvs_in};
+ghost use Rattle.std.specs.Prelude.{◌≡◌, ◌≤◌, ◌<◌, ◌++◌, IfOk, OnErr, None, Ok, option_to_list};
+ghost use Rattle.dimse.specs.Cut.{cut_left};
+ghost use Rattle.dimse.specs.Sending.{size_of, sent};
 
-use crate::message::Message;
-use crate::writer::write_command;
 use bytes::Bytes;
 use octets::ListOf;
 use pdu::{Pdu, Pdv};
@@ -17,7 +11,7 @@ use std::alloc::{AllocError, Global};
 
 /// How long each fragment but the last of a text is: the largest even length that leaves room for
 /// the six bytes of its header.
-fn size_within(max: u32) -> usize
+pub(crate) fn size_within(max: u32) -> usize
     requires { 8 ≤ max }
     ensures size { result ≡ size_of max }
     ensures some { 0 < result }
@@ -45,75 +39,29 @@ fn pdu_with(
     Ok(Pdu::PData(pdvs))
 }
 
-/// Appends the fragments of a text. No byte is copied.
-fn put_text(
-    pdus: &mut Vec<Pdu>,
+/// The PDU of the next fragment of what is left of a text, which is advanced. No byte is copied.
+pub(crate) fn take_fragment(
     alloc: Global,
+    size: usize,
     context: u8,
     command: bool,
-    text: Bytes,
-    size: usize,
-) -> Result<(), AllocError>
+    left: &mut Option<Bytes>,
+) -> Result<Option<Pdu>, AllocError>
     requires { 0 < size }
-    ensures { OnOk result ((more : List Pdu) × (pdus.new.items ≡ pdus.old.items ++ more)
-        × Sends size context command text more) }
+    ensures parts { IfOk result (λ pdu. cut_left size context command left.old
+        ≡ option_to_list pdu ++ cut_left size context command left.new) }
+    ensures none { result ≡ Ok None → left.old ≡ None }
+    ensures kept { OnErr result (left.new ≡ left.old) }
 {
-    let mut rest = text;
-    while rest.len() > size {
-        let fragment = rest.split_to(size)?;
-        let pdu = pdu_with(alloc, context, command, false, fragment)?;
-        pdus.push(pdu)?;
+    let Some(text) = left else {
+        return Ok(None);
+    };
+    if text.len() <= size {
+        let pdu = pdu_with(alloc, context, command, true, text.clone()?)?;
+        *left = None;
+        return Ok(Some(pdu));
     }
-    let pdu = pdu_with(alloc, context, command, true, rest)?;
-    pdus.push(pdu)?;
-    Ok(())
-}
-
-/// Appends the fragments of a data set, where there is one.
-fn put_body(
-    pdus: &mut Vec<Pdu>,
-    alloc: Global,
-    context: u8,
-    body: &Option<Bytes>,
-    size: usize,
-) -> Result<(), AllocError>
-    requires { 0 < size }
-    ensures { OnOk result ((more : List Pdu) × (pdus.new.items ≡ pdus.old.items ++ more)
-        × MatchOption body.now (more ≡ []) (λ text. Sends size context false text more)) }
-{
-    match body {
-        None => Ok(()),
-        Some(text) => put_text(pdus, alloc, context, false, text.clone()?, size),
-    }
-}
-
-/// The PDUs of a message: those of its command set, and then those of its data set.
-fn cut(alloc: Global, message: &Message, max: u32) -> Result<Vec<Pdu>, AllocError>
-    requires least { 8 ≤ max }
-    requires whole { IsWhole message.now }
-    ensures sent { IfOk result (λ pdus. IsSending message.now max pdus.items) }
-    ensures read { OnOk result (Spells (command_text message.now.command) message.now.command) }
-{
-    let size = size_within(max);
-    let text = Bytes::from_vec(write_command(alloc, &message.command)?)?;
-    let mut pdus = Vec::new(alloc);
-    put_text(&mut pdus, alloc, message.context, true, text, size)?;
-    put_body(&mut pdus, alloc, message.context, &message.body, size)?;
-    Ok(pdus)
-}
-
-/// The PDUs of a message, each with one fragment, for a peer that takes at most `max` bytes.
-///
-/// The data set's fragments share its bytes. A limit of 0, which means none, is for the caller to
-/// replace (docs/DECISIONS.md, "Sending limit").
-pub fn fragments(alloc: Global, message: &Message, max: u32) -> Result<Vec<Pdu>, AllocError>
-    requires least { 8 ≤ max }
-    requires whole { IsWhole message.now }
-    ensures sent { IfOk result (λ pdus. IsSending message.now max pdus.items) }
-    // They are put together to the same message.
-    ensures again { IfOk result (λ pdus. SpellsMessage (pdvs_in pdus.items) message.now) }
-    // Each can be written.
-    ensures lawful { max ≤ LONGEST_BODY → IfOk result (λ pdus. All IsPdu pdus.items) }
-{
-    cut(alloc, message, max)
+    let pdu = pdu_with(alloc, context, command, false, text.slice(..size)?)?;
+    text.advance(size);
+    Ok(Some(pdu))
 }

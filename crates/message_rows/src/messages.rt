@@ -6,7 +6,7 @@ ghost use Rattle.dimse.specs.Sending.{IsWhole};
 use crate::commands::{put_command, told_of_fault};
 use bytes::Bytes;
 use dimse::{
-    Assembler, Command, DimseFault, LONGEST_COMMAND, Message, Status, fragments, read_command,
+    Assembler, Command, DimseFault, Fragments, LONGEST_COMMAND, Message, Status, read_command,
 };
 use octets::{ListOf, Octets};
 use pdu::{Context, Pdu, Pdv};
@@ -60,6 +60,19 @@ fn put_pdus(out: &mut String, pdus: &[Pdu]) -> Result<(), AllocError> {
     Ok(())
 }
 
+/// The PDUs of a message.
+fn pdus_of(alloc: Global, message: &Message, max: u32) -> Result<Vec<Pdu>, AllocError>
+    requires least { 8 ≤ max }
+    requires whole { IsWhole message.now }
+{
+    let mut fragments = Fragments::of(alloc, message, max)?;
+    let mut pdus = Vec::new(alloc);
+    while let Some(pdu) = fragments.next()? {
+        pdus.push(pdu)?;
+    }
+    Ok(pdus)
+}
+
 /// Puts the PDUs of a success that answers a message, where it is a request.
 fn put_success(alloc: Global, out: &mut String, message: &Message) -> Result<(), AllocError>
     requires { IsWhole message.now }
@@ -72,7 +85,7 @@ fn put_success(alloc: Global, out: &mut String, message: &Message) -> Result<(),
         command: message.command.response(alloc, Status::Success)?,
         body: None,
     };
-    let pdus = fragments(alloc, &response, 16_384)?;
+    let pdus = pdus_of(alloc, &response, 16_384)?;
     out.push_str("\nanswered in ")?;
     put_pdus(out, pdus.as_slice())
 }
@@ -183,7 +196,7 @@ fn told_of_sent(
         command,
         body,
     };
-    let pdus = fragments(alloc, &message, max)?;
+    let pdus = pdus_of(alloc, &message, max)?;
     let mut out = String::new(alloc);
     put_pdus(&mut out, pdus.as_slice())?;
     Ok(out)

@@ -1,9 +1,10 @@
-use Rattle.std.proofs.Common.{◌∙◌, refl, Some}
+use Rattle.std.proofs.Common.{◌∙◌, refl, sym, subst, Some}
 use Rattle.association_session.specs.declared.due.Due.TheVariants as dues
 use Rattle.association_session.proofs.HearLaws.{ok_map, answered_told, at_contexts, at_limit, at_place, at_stage}
 use Rattle.association_session.proofs.HearLaws.{at_queue}
 use Rattle.association_session.proofs.HearLaws.{at_sub}
 use Rattle.association_session.proofs.SendLaws.{answered_store, answered_find, state_is}
+use Rattle.association_session.proofs.ServiceLaws.{IsServed, can_respond}
 use Rattle.association_session.proofs.association.Association.answer.Goals as goal
 
 -- The message is responded on the link that was agreed.
@@ -52,3 +53,18 @@ returns-in_ok-deeds-in-Queried-clause-answered c =
     (c.contexts-contexts.ensures ∙ at_contexts _ _ c.self.view_is)
     (c.limit-limit.ensures.limit ∙ at_limit _ _ c.self.view_is) c.in-Queried.is c.in_ok-service.ensures
     c.in_ok-deeds-in-Queried.ensures
+
+-- Its service is no response's and no C-CANCEL's.
+pub invariant_of-awaited-in-Asked : goal.invariant_of-awaited-in-Asked
+invariant_of-awaited-in-Asked c = can_respond _ _ c.args.message c.limit-limit.result c.in_ok-service.service
+    c.requires.whole c.limit-limit.ensures.fits c.in_ok-service.ensures (subst IsServed (sym c.in-Asked.is) tt)
+
+-- Its service is no response's and no C-CANCEL's.
+pub invariant_of-awaited-in-Queried : goal.invariant_of-awaited-in-Queried
+invariant_of-awaited-in-Queried c = can_respond _ _ c.args.message c.limit-limit.result c.in_ok-service.service
+    c.requires.whole c.limit-limit.ensures.fits c.in_ok-service.ensures (subst IsServed (sym c.in-Queried.is) tt)
+
+-- Its service is no response's and no C-CANCEL's.
+pub invariant_of-awaited-in-Fetched : goal.invariant_of-awaited-in-Fetched
+invariant_of-awaited-in-Fetched c = can_respond _ _ c.args.message c.limit-limit.result c.in_ok-service.service
+    c.requires.whole c.limit-limit.ensures.fits c.in_ok-service.ensures (subst IsServed (sym c.in-Fetched.is) tt)

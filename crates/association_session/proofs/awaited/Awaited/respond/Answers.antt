@@ -4,7 +4,7 @@ use Rattle.association_session.proofs.ResponseLaws.{response_whole}
 use Rattle.association_session.proofs.awaited.Awaited.respond.Goals as goal
 
 -- A response is a whole message: it has no data set.
-pub fragments-requires-clause-whole : goal.fragments-requires-clause-whole
-fragments-requires-clause-whole c =
+pub of-requires-clause-whole : goal.of-requires-clause-whole
+of-requires-clause-whole c =
     response_whole c.args.self.now c.args.status c.in_ok-message.message (subst (λ (a : Awaited). CanBeResponded a)
     c.self.view_is c.self.invariant) c.in_ok-message.ensures

@@ -4,7 +4,7 @@ use Rattle.association_session.proofs.ResponseLaws.{with_whole}
 use Rattle.association_session.proofs.awaited.Awaited.respond_with.Goals as goal
 
 -- The response is lawful, and announces its data set.
-pub fragments-requires-clause-whole : goal.fragments-requires-clause-whole
-fragments-requires-clause-whole c =
+pub of-requires-clause-whole : goal.of-requires-clause-whole
+of-requires-clause-whole c =
     with_whole c.args.self.now c.args.status c.args.text c.in_ok-message.message
     (subst (λ (a : Awaited). CanBeResponded a) c.self.view_is c.self.invariant) c.in_ok-message.ensures
