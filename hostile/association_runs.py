@@ -15,9 +15,10 @@ KINDS = ("run", "fronts", "writers", "readers")
 # How a run ends that was refused memory itself, or whose writer was: it is in memory, and fails then.
 ENDS = {"fault: memory was refused": "told", "fault: the connection could not be written": "aside"}
 RANGE = re.compile("([0-9]+) to ([0-9]+): (.*), (Released|Aborted|Closed|Dropped|fault: [a-z ]+), ([0-9]+) held")
-STORED = re.compile(" (put-[0-9]+) \\1-data")
-# The status A700H or A702H in a response, or the words that rows have for such a response.
-REFUSED = re.compile("out-of-resources|no-look|no-get|00000009020000000[02]a7")
+STORED = re.compile(" (put-[0-9]+) (?:\\1-data|put-large)")
+# The status A700H or A702H in a response, also in fragments of two bytes, or the words that rows have for such a response.
+REFUSED = re.compile("out-of-resources|no-look|no-get|00000009020000000[02]a7"
+                     "|0009 [0-9a-f]{24}0200 [0-9a-f]{24}0000 [0-9a-f]{24}0[02]a7")
 
 
 def earlier(line):
