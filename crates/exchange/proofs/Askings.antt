@@ -105,7 +105,8 @@ pub no_place : (digest : List ℕ) (ds : List (List ℕ))
 no_place digest [] none = refl
 no_place digest (d ∷ ds) none =
     ap (λ (b : Bool). cond b (Some 0) (option_map (λ i. suc i) (place_in digest ds))) (none 0 d (omega arith))
-    ∙ ap (λ (p : Option ℕ). option_map (λ i. suc i) p) (no_place digest ds (λ k e lt. none (suc k) e (omega (arith, lt))))
+    ∙ ap (λ (p : Option ℕ). option_map (λ i. suc i) p) (no_place digest ds
+    (λ k e lt. none (suc k) e (omega (arith, lt))))
 
 pub at_place : (digest : List ℕ) (ds : List (List ℕ)) (i : ℕ) → i < length ds
     → ((k : ℕ) (d : List ℕ) → k < i → is_at (text_cmp (get_or ds k d)) digest ≡ false)
@@ -130,7 +131,8 @@ pub more_asked : (digest : List ℕ) (want ds : List (List ℕ)) (gs : List Bool
     ≡ cond (is_among digest want) (Some false) (asked_in digest (asked_of ds gs))
 more_asked digest [] ds gs = refl
 more_asked digest (w ∷ want) ds gs =
-    ap (λ (b : Bool). cond b (Some false) (asked_in digest (asked_of (want ++ ds) (replicate (length want) false ++ gs))))
+    ap (λ (b : Bool). cond b (Some false) (asked_in digest
+    (asked_of (want ++ ds) (replicate (length want) false ++ gs))))
     (flip digest w)
     ∙ front_told (is_at (text_cmp w) digest) (is_among digest want) _ _ (more_asked digest want ds gs)
 
@@ -190,7 +192,8 @@ pub is_here : (ds : List (List ℕ)) (i : ℕ) (x : List ℕ) → i < length ds 
     → (ordering_index (text_cmp (get_or ds i e) x) == 1) ≡ true
     → (d : List ℕ) → is_at (text_cmp (get_or ds i d)) x ≡ true
 is_here ds i x lt e equal d =
-    ap (λ (y : List ℕ). is_eq (text_cmp y x)) (get_or_default ds i d e lt) ∙ eq_index (text_cmp (get_or ds i e) x) ∙ equal
+    ap (λ (y : List ℕ). is_eq (text_cmp y x)) (get_or_default ds i d e lt) ∙ eq_index (text_cmp (get_or ds i e) x)
+    ∙ equal
 
 same_from : (a b : List ℕ) → is_at (text_cmp a) b ≡ true → a ≡ b
 same_from a b e = same_text a b (sym (texts_ties a b ∙ e))
@@ -212,7 +215,8 @@ place_is x (d ∷ ds) i is e =
 
 -- where none is told as not given, none is
 pub none_left : (ds : List (List ℕ)) (gs : List Bool) → length gs ≡ length ds
-    → ((i : ℕ) (e : List ℕ) → i < length ds → get_or gs i false ≡ false → asked_in (get_or ds i e) (asked_of ds gs) ≢ Some false)
+    → ((i : ℕ) (e : List ℕ) → i < length ds → get_or gs i false ≡ false
+    → asked_in (get_or ds i e) (asked_of ds gs) ≢ Some false)
     → (x : List ℕ) → asked_in x (asked_of ds gs) ≢ Some false
 none_left ds gs same none x is = by (place_in x ds) refl (sym (told_of x ds gs same) ∙ is)
   where

@@ -43,7 +43,8 @@ returns-in_err-send-in-Send-clause-err g c =
 pub loop-deeds-preserved-in-Continue-branch-3 : goal.loop-deeds-preserved-in-Continue-branch-3
 loop-deeds-preserved-in-Continue-branch-3 g c = record {
   did = acting_send g.P.Port.ops g.P.Port.own _ _ _ _ _ c.loop-deeds.outbox c.send.new.outbox c.args.deeds _
-      c.in-Some.deed c.in-Send.pdu _ (next_is _ _ _ _ c.in_ok-deed.ensures.parts c.in-Some.is) c.in-Send.is c.loop-deeds.invariant.did
+      c.in-Some.deed c.in-Send.pdu _ (next_is _ _ _ _ c.in_ok-deed.ensures.parts c.in-Some.is)
+      c.in-Send.is c.loop-deeds.invariant.did
       c.in_ok-send-in-Send.ensures.ok;
   writable = All-rest IsWritable c.in-Some.deed c.next.new.self c.loop-deeds.deeds
       (next_is _ _ _ _ c.in_ok-deed.ensures.parts c.in-Some.is) c.loop-deeds.invariant.writable;
@@ -62,7 +63,8 @@ returns-in_err-flush-in-Reach-clause-err g c =
 pub loop-deeds-preserved : goal.loop-deeds-preserved
 loop-deeds-preserved g c = record {
   did = acting_reach g.P.Port.ops g.P.Port.own _ _ _ _ _ _ c.loop-deeds.outbox c.flush.new.self c.args.deeds _
-      c.in-Some.deed c.in-Reach.moment _ (next_is _ _ _ _ c.in_ok-deed.ensures.parts c.in-Some.is) c.in-Reach.is c.loop-deeds.invariant.did
+      c.in-Some.deed c.in-Reach.moment _ (next_is _ _ _ _ c.in_ok-deed.ensures.parts c.in-Some.is)
+      c.in-Reach.is c.loop-deeds.invariant.did
       c.in_ok-flush-in-Reach.ensures.ok c.in_ok-flush-in-Reach.ensures.empty c.reach.ensures;
   writable = All-rest IsWritable c.in-Some.deed c.next.new.self c.loop-deeds.deeds
       (next_is _ _ _ _ c.in_ok-deed.ensures.parts c.in-Some.is) c.loop-deeds.invariant.writable;
@@ -81,7 +83,8 @@ returns-in_err-flush-in-Ask-clause-err g c =
 pub returns-in-Ask-clause-ok : goal.returns-in-Ask-clause-ok
 returns-in-Ask-clause-ok g c =
     acted_ask g.P.Port.ops g.P.Port.own _ _ _ _ _ _ c.loop-deeds.outbox c.args.deeds _ c.in-Some.deed c.in-Ask.call
-    c.ask.result _ (next_is _ _ _ _ c.in_ok-deed.ensures.parts c.in-Some.is) c.in-Ask.is c.loop-deeds.invariant.did c.in_ok-flush-in-Ask.ensures.ok
+    c.ask.result _ (next_is _ _ _ _ c.in_ok-deed.ensures.parts c.in-Some.is) c.in-Ask.is c.loop-deeds.invariant.did
+    c.in_ok-flush-in-Ask.ensures.ok
     c.ask.ensures
 
 -- Of what was held a front was written.
@@ -96,7 +99,8 @@ returns-in_err-flush-in-Close-clause-err g c =
 pub returns-in-Close-clause-ok : goal.returns-in-Close-clause-ok
 returns-in-Close-clause-ok g c =
     acted_close g.P.Port.ops g.P.Port.own _ _ _ _ _ c.loop-deeds.outbox c.args.deeds _ c.in-Some.deed _
-    (next_is _ _ _ _ c.in_ok-deed.ensures.parts c.in-Some.is) c.in-Close.is c.loop-deeds.invariant.did c.in_ok-flush-in-Close.ensures.ok
+    (next_is _ _ _ _ c.in_ok-deed.ensures.parts c.in-Some.is) c.in-Close.is c.loop-deeds.invariant.did
+    c.in_ok-flush-in-Close.ensures.ok
 
 -- Of what was held a front was written.
 pub returns-in_err-flush-clause-err : goal.returns-in_err-flush-clause-err

@@ -7,5 +7,6 @@ use Rattle.association_session.proofs.deeds.Deeds.has_release.Goals as goal
 
 -- No fragment is one, so a part has it.
 pub returns : goal.returns
-returns c = c.is_release_in.ensures ∙ sym (any_behind is_release (map Send c.self.inside.sending) c.self.inside.parts.items
+returns c = c.is_release_in.ensures ∙ sym (any_behind is_release (map Send c.self.inside.sending)
+    c.self.inside.parts.items
     (no_release c.self.inside.sending c.see_data.ensures)) ∙ ap (list_any is_release) c.self.view_is

@@ -14,7 +14,8 @@ returns-clause-sent c = cut_sending c.args.message.now c.args.max c.size_within.
 -- The fragments join to the texts that were cut.
 pub returns-clause-again : goal.returns-clause-again
 returns-clause-again c =
-    put_together c.args.message.now c.args.max _ c.requires.whole (subst (λ text. Spells text c.args.message.now.command)
+    put_together c.args.message.now c.args.max _ c.requires.whole
+    (subst (λ text. Spells text c.args.message.now.command)
     c.in_ok-write_command.ensures.exact c.in_ok-write_command.ensures.again) (returns-clause-sent c)
 
 -- Each fragment leaves room for its header within the limit.

@@ -15,7 +15,8 @@ loop-at-preserved c = λ i e lt not is. elim (split i c.loop-at.at) [
       let one : get_or arrays i e ≡ c.of.result =
       ap (λ k. get_or arrays k e) at ∙ get_or_default arrays c.loop-at.at e [] c.loop-at-test.true ∙ sym c.of.ensures
       in
-      absurd (false≢true (sym c.if-lacks.false ∙ c.lacks.ensures.1 (ap (λ d. asked_in d c.args.self.now) (sym one) ∙ is)))
+      absurd (false≢true (sym c.if-lacks.false ∙ c.lacks.ensures.1
+      (ap (λ d. asked_in d c.args.self.now) (sym one) ∙ is)))
 ]
 
 -- None is asked for still.
