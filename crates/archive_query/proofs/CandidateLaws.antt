@@ -28,13 +28,13 @@ use Rattle.key_matching.specs.declared.matching.Matching.{Matching}
 use Rattle.key_matching.specs.declared.matching.Matching.TheVariants.{Dates, Times, WildCard, Name, Uids, Single}
 use Rattle.key_matching.specs.declared.matching.Matching.TheVariants.{Answered}
 use Rattle.key_matching.specs.Matches.{is_universal, parts, matches, is_same_part}
-use Rattle.study_index.specs.Keys.{has}
-use Rattle.study_index.specs.Live.{pick_at, is_of_study, is_of_series}
+use Rattle.live_picks.specs.Keys.{has}
+use Rattle.live_picks.specs.Live.{pick_at, is_of_study, is_of_series}
 use Rattle.study_index.specs.Index.{IndexValue, pick_of}
 use Rattle.study_index.specs.Definition.{IsIndexOf, AreLawful}
-use Rattle.study_index.specs.Proved.Picks.{text_exact}
-use Rattle.study_index.proofs.KeyLaws.{same_key}
-use Rattle.study_index.proofs.Studies.{pick_listed}
+use Rattle.live_picks.specs.Proved.Picks.{text_exact}
+use Rattle.live_picks.proofs.KeyLaws.{same_key}
+use Rattle.live_picks.proofs.Studies.{pick_listed}
 use Rattle.study_index.proofs.Corrected.{not_corrected}
 use Rattle.query_model.specs.declared.asked.Asked.{Asked}
 use Rattle.query_model.specs.declared.query.Query.{Query}

@@ -7,21 +7,22 @@ ghost use Rattle.std.specs.List.Sorted.{IsStrictlySortedBy};
 ghost use Rattle.std.specs.Option.{option_map};
 ghost use Rattle.octets.specs.Texts.{text_cmp};
 ghost use Rattle.archive_model.specs.Shown.{shown_at};
-ghost use Rattle.study_index.specs.Keys.{has};
-ghost use Rattle.study_index.specs.Live.{pick_at};
+ghost use Rattle.live_picks.specs.Keys.{has};
+ghost use Rattle.live_picks.specs.Live.{pick_at};
 ghost use Rattle.site_state.specs.Site.{ops_of};
 ghost use Rattle.archive_query.specs.Candidates.{is_uids as is_uids_in, is_list_of as is_list_in, is_of_some, is_listed, is_reached_by, is_of_some_series, is_listed_series, is_reached_in, is_reached};
 
 use archive_model::View;
 use dictionary::{SERIES_INSTANCE_UID, STUDY_INSTANCE_UID};
 use key_matching::{Matching, is_universal, members_of};
+use live_picks::ShortText;
 use octets::Octets;
 use operation::Content;
 use query_model::{Asked, Level, Query};
 use site_state::Site;
 use std::alloc::{AllocError, Global};
 use std::collections::BTreeSet;
-use study_index::{Index, ShortText};
+use study_index::Index;
 
 fn is_uids(matching: Matching) -> bool
     ensures { result ≡ is_uids_in matching }

@@ -19,12 +19,12 @@ use Rattle.archive_model.specs.Covered.{is_among}
 use Rattle.archive_model.specs.Shown.{shown, shown_at}
 use Rattle.archive_model.proofs.MemberLaws.{any_has, has_any}
 use Rattle.archive_model.proofs.ModelLaws.{same_is, pick_is_content}
-use Rattle.study_index.specs.Keys.{has}
-use Rattle.study_index.specs.Live.{Text, Pick, pick_at, is_of_study, is_of_series}
+use Rattle.live_picks.specs.Keys.{has}
+use Rattle.live_picks.specs.Live.{Text, Pick, pick_at, is_of_study, is_of_series}
 use Rattle.study_index.specs.Index.{IndexValue, pick_of}
 use Rattle.study_index.specs.Definition.{IsIndexOf}
-use Rattle.study_index.specs.Proved.Picks.{text_exact}
-use Rattle.study_index.proofs.KeyLaws.{at_itself, same_key}
+use Rattle.live_picks.specs.Proved.Picks.{text_exact}
+use Rattle.live_picks.proofs.KeyLaws.{at_itself, same_key}
 use Rattle.query_model.specs.declared.key.Level.{Level}
 use Rattle.query_model.specs.declared.key.Level.TheVariants.{Study, Series, Image}
 use Rattle.query_model.specs.Key.{has_study_above, has_series_above}

@@ -2,8 +2,8 @@
 use Rattle.std.specs.Prelude.{◌≡◌, ℕ, List, true, Option, Some}
 use Rattle.octets.specs.Texts.{text_cmp}
 use Rattle.operation.specs.Parts.{ContentParts}
-use Rattle.study_index.specs.Keys.{has}
-use Rattle.study_index.specs.Live.{Text, Pick, pick_at}
+use Rattle.live_picks.specs.Keys.{has}
+use Rattle.live_picks.specs.Live.{Text, Pick, pick_at}
 use Rattle.study_index.specs.Index.{pick_of}
 use Rattle.retrieve_model.specs.declared.selection.Selection.{Selection}
 use Rattle.retrieve_model.specs.Selection.{is_selected}

@@ -7,11 +7,12 @@ ghost use Rattle.join_laws.specs.GrowSet.{union_of};
 ghost use Rattle.archive_retrieve.specs.Candidates.{ReachesAll};
 
 use archive_query::{Level, put_some_series, put_studies};
+use live_picks::ShortText;
 use octets::Octets;
 use retrieve_model::Selection;
 use std::alloc::{AllocError, Global};
 use std::collections::BTreeSet;
-use study_index::{Index, ShortText};
+use study_index::Index;
 
 /// Puts in some UIDs. False where one of them has more than 64 bytes, which no UID has (PS3.5,
 /// section 9.1).

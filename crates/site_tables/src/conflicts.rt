@@ -9,11 +9,11 @@ ghost use Rattle.site_tables.specs.Conflicts.{is_pick as is_pick_in, conflict_ro
 use crate::cells::{digits, hex_digits, word};
 use crate::table::Row;
 use archive_model::study;
+use live_picks::ShortText;
 use octets::{ListOf, Octets};
 use operation::{Content, Digest, Op, digest};
 use site_state::Site;
 use std::alloc::{AllocError, Global};
-use study_index::ShortText;
 
 /// Whether a content, which has this digest, is the pick of its SOP Instance UID.
 fn is_pick(site: &Site, digest: &Digest, content: &Content) -> bool

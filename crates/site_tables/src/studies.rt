@@ -19,11 +19,11 @@ use dictionary::{
     NUMBER_OF_STUDY_RELATED_INSTANCES, NUMBER_OF_STUDY_RELATED_SERIES, PATIENT_ID, PATIENT_NAME,
     STUDY_DATE, STUDY_INSTANCE_UID,
 };
+use live_picks::ShortText;
 use octets::{ListOf, Octets};
 use operation::Content;
 use site_state::Site;
 use std::alloc::{AllocError, Global};
-use study_index::ShortText;
 
 /// A universal key (PS3.4, section C.2.2.2.3).
 fn asked(alloc: Global, tag: u32, matching: Matching) -> Asked

@@ -1,12 +1,13 @@
 //! What an index answers, as a text: indexes that answer alike have one text.
 
+use live_picks::ShortText;
 use octets::Octets;
 use operation::{Content, Target};
 use rejection_note::NoteTitle;
 use std::alloc::{AllocError, Global};
 use std::collections::BTreeSet;
 use std::test::Fail;
-use study_index::{Fix, Index, ShortText};
+use study_index::{Fix, Index};
 
 /// (0008,0020) Study Date and (0010,0010) Patient's Name
 const TAGS: [u32; 2] = [0x0008_0020, 0x0010_0010];

@@ -2,8 +2,4 @@ pub mod Corrected
 pub mod Definitions
 pub mod Doubles
 pub mod Flagged
-pub mod KeyLaws
-pub mod Studies
-pub mod Trees
 pub mod Visits
-pub mod Walks

@@ -1,8 +1,8 @@
 use Rattle.std.proofs.Common.{◌∙◌, ap, List}
 use Rattle.std.specs.Prelude.{◌||◌}
 use Rattle.octets.specs.Texts.{text_cmp}
-use Rattle.study_index.specs.Keys.{has}
-use Rattle.study_index.specs.Live.{Text}
+use Rattle.live_picks.specs.Keys.{has}
+use Rattle.live_picks.specs.Live.{Text}
 use Rattle.archive_query.specs.Candidates.{is_reached}
 use Rattle.archive_query.proofs.candidates.candidates.Goals as goal
 

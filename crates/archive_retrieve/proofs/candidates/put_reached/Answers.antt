@@ -2,8 +2,8 @@ use Rattle.std.proofs.Common.{List, take, ap, ◌∙◌}
 use Rattle.std.specs.Prelude.{◌||◌}
 use Rattle.octets.specs.Texts.{text_cmp}
 use Rattle.join_laws.specs.GrowSet.{union_of}
-use Rattle.study_index.specs.Keys.{has}
-use Rattle.study_index.specs.Live.{Text, pick_at}
+use Rattle.live_picks.specs.Keys.{has}
+use Rattle.live_picks.specs.Live.{Text, pick_at}
 use Rattle.archive_query.specs.Candidates.{is_of_some, is_of_some_series}
 use Rattle.archive_retrieve.proofs.CandidateLaws.{on_ok, reached_by_studies, reached_by_some_series}
 use Rattle.archive_retrieve.proofs.CandidateLaws.{reached_by_instances}

@@ -1,8 +1,8 @@
 use Rattle.std.proofs.Common.{take, ap, ◌∙◌}
 use Rattle.std.specs.Prelude.{◌||◌}
 use Rattle.octets.specs.Texts.{text_cmp}
-use Rattle.study_index.specs.Keys.{has}
-use Rattle.study_index.specs.Live.{Text, pick_at, is_of_series}
+use Rattle.live_picks.specs.Keys.{has}
+use Rattle.live_picks.specs.Live.{Text, pick_at, is_of_series}
 use Rattle.archive_retrieve.proofs.CandidateLaws.{on_ok, reached_by_series}
 use Rattle.archive_retrieve.proofs.candidates.put_series.Goals as goal
 

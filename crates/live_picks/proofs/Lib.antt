@@ -1,0 +1,4 @@
+pub mod KeyLaws
+pub mod Studies
+pub mod Trees
+pub mod Walks
