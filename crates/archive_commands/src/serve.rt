@@ -257,15 +257,23 @@ fn passes_for(serving: &Serving<'_>) -> usize
     }
 }
 
-/// Prints where the program listens.
-fn say_where<R: Print>(rt: &R, serving: &Serving<'_>) -> Printed<()> {
-    let listen = serving.listen;
-    println!(rt; "listening {listen}")?;
-    if serving.rounds != 0 {
-        let exchange = serving.exchange;
-        println!(rt; "exchanging {exchange}")?;
+/// Prints at which address a listener accepts, which is the one that was named, with a port of the
+/// system's choice where port 0 was.
+fn say_address<R: Print>(rt: &R, word: &str, listener: &TcpListener, named: &str) -> Printed<()> {
+    match listener.local_addr() {
+        Ok(address) => println!(rt; "{word} {address}")?,
+        Err(_unknown) => println!(rt; "{word} {named}")?,
     }
     Ok(())
+}
+
+/// Prints where the program listens.
+fn say_where<R: Print>(rt: &R, listening: &Listening, serving: &Serving<'_>) -> Printed<()> {
+    say_address(rt, "listening", &listening.associations, serving.listen)?;
+    match &listening.exchanges {
+        None => Ok(()),
+        Some(listener) => say_address(rt, "exchanging", listener, serving.exchange),
+    }
 }
 
 /// Opens a site's shelf and hub, and listens. Where the file is not there listening comes first, so
@@ -353,7 +361,8 @@ pub fn serve<
         Ok(site) => site,
         Err(fault) => return Ok(Err(fault)),
     };
-    say_where(rt, serving)?;
+    let (_, _, listening) = &site;
+    say_where(rt, listening, serving)?;
     match serve_site(host, rt, site, serving) {
         Ok(Count { accepted, ended }) => {
             println!(rt; "served {accepted}")?;

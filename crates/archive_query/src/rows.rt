@@ -2,7 +2,6 @@
 
 ghost use Rattle.std.specs.Prelude.{◌≡◌, ◌++◌, ◌∷◌, [], IfOk, OnOk, map, option_to_list};
 ghost use Rattle.std.specs.Option.{option_map};
-ghost use Rattle.std.specs.Fmt.{decimal};
 ghost use Rattle.std.specs.List.{filter_map};
 ghost use Rattle.operation.specs.Parts.{value_at};
 ghost use Rattle.site_state.specs.Site.{ops_of};
@@ -21,7 +20,7 @@ use dictionary::{
     SOP_INSTANCE_UID, SPECIFIC_CHARACTER_SET, STUDY_INSTANCE_UID,
 };
 use key_matching::matches;
-use octets::{Octets, joined};
+use octets::{Octets, digits, joined};
 use operation::Content;
 use query_model::{Answers, AnswersMut, Asked, Query};
 use site_state::Site;
@@ -61,14 +60,6 @@ fn is_asked(query: &Query, tag: u32) -> bool
     query.asked.as_slice().iter().any(|asked| asked.tag == tag)
 }
 
-/// A number in decimal digits.
-fn digits(alloc: Global, number: usize) -> Result<Octets, AllocError>
-    ensures { IfOk result (λ text. text ≡ decimal number) }
-{
-    let text = number.to_string(alloc)?;
-    Octets::from_slice(alloc, text.as_bytes())
-}
-
 /// The element of a row that is asked.
 fn asked_cell(
     alloc: Global,
@@ -88,11 +79,11 @@ fn asked_cell(
         return cell(alloc, tag, text.as_slice());
     }
     if tag == NUMBER_OF_STUDY_RELATED_SERIES {
-        let text = digits(alloc, count_series(alloc, contents)?)?;
+        let text = digits(alloc, count_series(alloc, contents)? as u64)?;
         return cell(alloc, tag, text.as_slice());
     }
     if tag == NUMBER_OF_STUDY_RELATED_INSTANCES || tag == NUMBER_OF_SERIES_RELATED_INSTANCES {
-        let text = digits(alloc, contents.len())?;
+        let text = digits(alloc, contents.len() as u64)?;
         return cell(alloc, tag, text.as_slice());
     }
     cell(alloc, tag, site.attribute(first, tag))

@@ -5,6 +5,7 @@ use exchange::*;
 use operation::{Digest, Op, Taken, decode, digest};
 use site_state::Site;
 use std::alloc::Global;
+use std::process::Abort;
 use std::test::Fail;
 
 // The corrections of study 1.2.1 by which (0010,0010) is ROE^ANN, and of series 1.2.1.1 by which
@@ -153,6 +154,31 @@ fn a_give_that_comes_twice_is_known(rt: HostRuntime) -> Result<(), Fail> {
     );
     assert!(rt; round.finished(), "after it");
     Ok(())
+}
+
+/// Two offers in one round, and what is given for both in the same order.
+fn offered_in_turn(
+    rt: &impl Abort,
+    alloc: Global,
+    first: &[u8],
+    second: &[u8],
+) -> Result<(), Fail> {
+    let mut site = Site::new(alloc);
+    let mut round = Round::new(alloc, Version::Two);
+    assert_eq!(rt; asked(alloc, &mut round, &mut site, first)?, 1, "the first");
+    assert_eq!(rt; asked(alloc, &mut round, &mut site, second)?, 1, "behind it");
+    assert_eq!(rt; given(alloc, &mut round, &mut site, first)?, 0, "given");
+    assert!(rt; !round.finished(), "before the other is given");
+    assert_eq!(rt; given(alloc, &mut round, &mut site, second)?, 0, "the other");
+    assert!(rt; round.finished(), "after both");
+    Ok(())
+}
+
+#[test]
+fn a_second_offer_adds_to_what_is_asked_for(rt: HostRuntime) -> Result<(), Fail> {
+    // Of the two, one has the lesser digest: so what was asked for ascends in one of them alone.
+    offered_in_turn(&rt, rt.alloc(), OF_STUDY, OF_SERIES)?;
+    offered_in_turn(&rt, rt.alloc(), OF_SERIES, OF_STUDY)
 }
 
 #[test]

@@ -1,12 +1,13 @@
 //! Bytes and lists as contracts see them, what is asked of texts everywhere (padding, UIDs, order,
-//! printable bytes, texts parted by a separator), and the words in which every codec says its
-//! contract.
+//! printable bytes, texts parted by a separator, numbers in digits), and the words in which every
+//! codec says its contract.
 //!
 //! A `Vec` in a field would show its capacity and its place to a clause that compares. The types
 //! here show only what they hold: `Octets` its bytes, `ListOf<T>` its elements. Both are made from
 //! a `Vec` and give it back, and neither takes memory for that.
 #![tactic(auto)]
 
+mod digits;
 mod graphic;
 mod joining;
 mod limits;
@@ -16,6 +17,7 @@ mod padding;
 mod texts;
 mod uid;
 
+pub use digits::{digits, put_digits};
 pub use graphic::are_graphic;
 pub use joining::joined;
 pub use limits::{LONGEST_DATA_SET, longest_data_set_is_this};

@@ -1,21 +1,12 @@
 //! The texts of cells.
 
 ghost use Rattle.std.specs.Prelude.{◌≡◌, IfOk};
-ghost use Rattle.std.specs.Fmt.{decimal};
 ghost use Rattle.hex.specs.Hex.{encode_lower};
 ghost use Rattle.site_tables.specs.Cells.{yes_no};
 
 use octets::Octets;
 use operation::Digest;
 use std::alloc::{AllocError, Global};
-
-/// A number in decimal digits.
-pub(crate) fn digits(alloc: Global, number: u64) -> Result<Octets, AllocError>
-    ensures { IfOk result (λ text. text ≡ decimal number) }
-{
-    let text = number.to_string(alloc)?;
-    Octets::from_slice(alloc, text.as_bytes())
-}
 
 /// A digest in hexadecimal digits.
 pub(crate) fn hex_digits(alloc: Global, digest: &Digest) -> Result<Octets, AllocError>

@@ -6,11 +6,11 @@ ghost use Rattle.operation.specs.Spelling.{digest_of};
 ghost use Rattle.site_state.specs.Site.{ops_of};
 ghost use Rattle.site_tables.specs.Conflicts.{is_pick as is_pick_in, conflict_row as row_of, conflicts_in, conflicts_among, conflicts_of, conflict_rows as rows_in};
 
-use crate::cells::{digits, hex_digits, word};
+use crate::cells::{hex_digits, word};
 use crate::table::Row;
 use archive_model::study;
 use live_picks::ShortText;
-use octets::{ListOf, Octets};
+use octets::{ListOf, Octets, digits};
 use operation::{Content, Digest, Op, digest};
 use site_state::Site;
 use std::alloc::{AllocError, Global};

@@ -10,9 +10,9 @@ ghost use Rattle.std.specs.Option.{option_copied};
 ghost use Rattle.site_state.specs.Site.{ops_of};
 ghost use Rattle.site_tables.specs.Corrections.{kind_word, target_cmp, order_cmp, AreInOrder, counts as counts_in, correction_row as row_of, AreCorrectionRows};
 
-use crate::cells::{digits, word};
+use crate::cells::word;
 use crate::table::Row;
-use octets::{ListOf, Octets};
+use octets::{ListOf, Octets, digits};
 use operation::{Correction, Op, Target};
 use site_state::Site;
 use std::alloc::{AllocError, Global};

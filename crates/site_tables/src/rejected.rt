@@ -7,10 +7,9 @@ ghost use Rattle.archive_model.specs.Index.{names_under as names_under_in};
 ghost use Rattle.site_state.specs.Site.{ops_of};
 ghost use Rattle.site_tables.specs.Rejected.{note_of, notes_of, named_by, covered_uids as covered_in, is_naming as is_naming_in, naming as naming_in, is_titled as is_titled_in, code_under, codes as codes_in, rejected_row as row_of, rejected_rows as rows_in};
 
-use crate::cells::digits;
 use crate::table::Row;
 use archive_model::title_code;
-use octets::{ListOf, Octets, ascending, joined};
+use octets::{ListOf, Octets, ascending, digits, joined};
 use operation::{Content, Op};
 use rejection_note::{Note, NoteTitle};
 use site_state::Site;

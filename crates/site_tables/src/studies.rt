@@ -9,7 +9,6 @@ ghost use Rattle.archive_model.specs.Groups.{in_study};
 ghost use Rattle.site_state.specs.Site.{ops_of};
 ghost use Rattle.site_tables.specs.Studies.{asked_of as asked_in, study_query as query_in, pick_of_short, rejected_picks as rejected_in, study_row as row_of, study_rows as rows_in};
 
-use crate::cells::digits;
 use crate::rejected::covered_uids;
 use crate::table::Row;
 use archive_model::{View, study};
@@ -20,7 +19,7 @@ use dictionary::{
     STUDY_DATE, STUDY_INSTANCE_UID,
 };
 use live_picks::ShortText;
-use octets::{ListOf, Octets};
+use octets::{ListOf, Octets, digits};
 use operation::Content;
 use site_state::Site;
 use std::alloc::{AllocError, Global};
