@@ -1,7 +1,7 @@
 //! `archive simulate`: answers the script on standard input.
 
 use devices::Counted;
-use site_world::{SimFault, simulate};
+use site_simulation::{SimFault, simulate};
 use std::alloc::Global;
 use std::io;
 use std::rt::Runtime;

@@ -1,6 +1,6 @@
 -- How commands end.
 use Rattle.std.specs.Prelude.{ℕ, ◌+◌, List, [], ◌∷◌, ◌++◌, codes}
-use Rattle.site_world.specs.Simulation.{number_of as number_of_script}
+use Rattle.site_simulation.specs.Simulation.{number_of as number_of_script}
 use Rattle.op_shelf.specs.Fault.{number_of as number_of_shelf}
 use Rattle.site_state.specs.Fault.{number_of as number_of_site}
 use Rattle.site_hub.specs.Fault.{number_of as number_of_hub}

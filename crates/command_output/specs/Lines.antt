@@ -2,7 +2,7 @@
 use Rattle.std.specs.Prelude.{ℕ, List, [], ◌++◌, ◌∷◌, length, codes, Bool, true, false}
 use Rattle.std.specs.Fmt.{decimal}
 use Rattle.std.specs.List.{flat_map}
-use Rattle.site_world.specs.Texts.{line, end_line, message_line}
+use Rattle.site_simulation.specs.Texts.{line, end_line, message_line}
 use Rattle.exchange_run.specs.declared.role.Ended.{Ended}
 use Rattle.shelved_site.specs.declared.reporting.Report.{Report}
 

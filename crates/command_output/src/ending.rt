@@ -1,7 +1,7 @@
 //! How a command ends: its line on standard error, and its status.
 
 ghost use Rattle.std.specs.Prelude.{◌≡◌, [], OnOk, OnErr, IfErr, true, false, codes};
-ghost use Rattle.site_world.specs.Simulation.{number_of as number_of_script};
+ghost use Rattle.site_simulation.specs.Simulation.{number_of as number_of_script};
 ghost use Rattle.op_shelf.specs.Fault.{number_of as number_of_shelf};
 ghost use Rattle.site_state.specs.Fault.{number_of as number_of_site};
 ghost use Rattle.site_hub.specs.Fault.{number_of as number_of_hub};
@@ -18,8 +18,8 @@ use exchange::ExchangeFault;
 use op_shelf::ShelfFault;
 use shelved_site::ShelvedFault;
 use site_hub::HubFault;
+use site_simulation::SimFault;
 use site_state::SiteFault;
-use site_world::SimFault;
 use std::alloc::{AllocError, AllocFailed};
 use thiserror::Error;
 

@@ -3,8 +3,9 @@
 use devices::{Store, Supply};
 use octets::Octets;
 use operation::{Op, Stamp, Target, correction_of};
+use site_simulation::{SimFault, simulate};
 use site_state::Taken;
-use site_world::{Seen, SimFault, Step, World, WorldFault, simulate};
+use site_world::{Seen, Step, World, WorldFault};
 use std::alloc::Global;
 use std::test::Fail;
 

@@ -4,12 +4,10 @@ pub mod Takings
 pub mod Worlds
 pub mod Taken
 pub mod Fitting
-pub mod Told
+pub mod Answered
 pub mod Rounds
 pub mod Alike
 pub mod Given
 pub mod Knowing
 pub mod Finished
 pub mod Rejected
-pub mod Played
-pub mod Lined

@@ -1,7 +1,5 @@
--- The public numbers of faults.
+-- The public numbers of the faults of a world.
 use Rattle.std.specs.Prelude.{ℕ}
-use Rattle.site_state.specs.declared.fault.SiteFault.{SiteFault}
-use Rattle.site_state.specs.declared.fault.SiteFault.TheVariants.{Collision, Memory as site_memory}
 use Rattle.site_world.specs.declared.fault.WorldFault.{WorldFault}
 use Rattle.site_world.specs.declared.fault.WorldFault.TheVariants.{NoSite, NoMessage, Site, StampsSpent, Memory}
 use Rattle.site_world.specs.declared.fault.WorldFault.TheVariants.{BadCorrection, OldSite}
@@ -14,7 +12,3 @@ number_of_world_fault StampsSpent = 4
 number_of_world_fault Memory = 5
 number_of_world_fault BadCorrection = 6
 number_of_world_fault OldSite = 7
-
-abbrev pub number_of_site_fault : SiteFault → ℕ
-number_of_site_fault Collision = 1
-number_of_site_fault site_memory = 2

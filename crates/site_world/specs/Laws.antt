@@ -1,4 +1,4 @@
--- What the tests of a script decide.
+-- What the tests of equality decide.
 use Rattle.std.specs.Prelude.{◌≡◌, ◌↔◌, IsTrue}
 use Rattle.operation.specs.declared.op.Op.{Op}
 use Rattle.site_state.specs.Site.{Map}

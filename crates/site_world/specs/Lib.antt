@@ -1,6 +1,5 @@
 pub mod Faults
 pub mod Same
-pub mod State
 pub mod Laws
 pub mod Messages
 pub mod Steps
@@ -9,9 +8,3 @@ pub mod Headline
 pub mod Rounds
 pub mod Finished
 pub mod Rejected
-pub mod Texts
-pub mod Script
-pub mod Output
-pub mod Lines
-pub mod Played
-pub mod Simulation

@@ -5,8 +5,6 @@ ghost use Rattle.site_world.specs.Headline.{TakenAreApart};
 ghost use Rattle.site_world.specs.Finished.{FinishedRoundsGiveAll, RoundsEachWayTellAll};
 ghost use Rattle.site_world.specs.Finished.{RoundsEachWayMakeEqual};
 ghost use Rattle.site_world.specs.Laws.{SameOpIsEquality, SameSiteIsEquality};
-ghost use Rattle.site_world.specs.Lines.{LinesAreTheText, OutputIsOfLines};
-ghost use Rattle.site_world.specs.Played.{ScriptsAreRuns};
 ghost use Rattle.site_world.specs.Rounds.{RoundsGiveAll, RoundsByBucketsGiveAll};
 ghost use Rattle.site_world.specs.Rejected.{RejectedIsInNoRow, RejectedIsAsIfNeverStored};
 
@@ -48,20 +46,8 @@ pub fn rounds_each_way_make_equal()
     ensures equal { RoundsEachWayMakeEqual }
 {}
 
-/// The lines of a script are a run of 16 new sites: so the headline holds of what a script prints.
-pub fn a_script_is_a_run()
-    ensures { ScriptsAreRuns }
-{}
-
 /// The tests that tell whether two operations, or two sites, are one decide equality.
 pub fn what_is_told_to_be_one_is_one()
     ensures operations { SameOpIsEquality }
     ensures sites { SameSiteIsEquality }
-{}
-
-/// The lines of an input, joined by LF, are the input, and what is printed for it is what they
-/// print.
-pub fn lines_are_parted_by_their_ends()
-    ensures text { LinesAreTheText }
-    ensures output { OutputIsOfLines }
 {}

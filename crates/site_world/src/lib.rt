@@ -1,4 +1,4 @@
-//! Several sites and the steps between them, and the script that drives them.
+//! Several sites and the steps between them.
 //!
 //! Sites tell each other what they hold by messages, which stay deliverable for ever; what each
 //! message leads to is `specs/Messages.antt`.
@@ -7,18 +7,13 @@
 mod fault;
 mod headline;
 mod message;
-mod print;
-mod progress;
-mod run;
-mod script;
 mod step;
 mod world;
 
 pub use fault::WorldFault;
 pub use headline::{
-    a_finished_round_gives_all, a_script_is_a_run, lines_are_parted_by_their_ends, order_is_free,
-    rounds_each_way_make_equal, what_is_rejected_is_in_no_row, what_is_told_to_be_one_is_one,
+    a_finished_round_gives_all, order_is_free, rounds_each_way_make_equal,
+    what_is_rejected_is_in_no_row, what_is_told_to_be_one_is_one,
 };
-pub use run::{SimFault, simulate};
 pub use step::{Seen, Step};
 pub use world::{MOST_SITES, World};
