@@ -17,9 +17,9 @@ use Rattle.std.proofs.lemmas.List.{get_or_default}
 use Rattle.std.proofs.lemmas.Bool.{ltb-true, ltb-false}
 use Rattle.octets.specs.Texts.{text_cmp}
 use Rattle.site_state.specs.Site.{digest_cmp}
+use Rattle.exchange_frames.specs.Spelling.{ascends}
 use Rattle.exchange.specs.Asked.{asked_of, place_in}
 use Rattle.exchange.specs.Round.{asked_in, is_among}
-use Rattle.exchange.specs.Spelling.{ascends}
 use Rattle.exchange.proofs.Said.{ascends_sorted}
 
 -- ---- comparing both ways

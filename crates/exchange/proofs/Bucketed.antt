@@ -18,8 +18,8 @@ use Rattle.operation.specs.Spelling.{digest_of}
 use Rattle.site_state.specs.Site.{Map, held_at, digest_cmp}
 use Rattle.site_state.proofs.Maps.{held}
 use Rattle.site_state.proofs.Unions.{held_entries}
+use Rattle.exchange_frames.specs.declared.reader.TheConstants.{BUCKET_COUNT}
 use Rattle.exchange.specs.declared.version.Version.{Version}
-use Rattle.exchange.specs.declared.reader.TheConstants.{BUCKET_COUNT}
 use Rattle.exchange.specs.Held.{is_spoken, place_of, is_in, spoken_of, offered}
 use Rattle.exchange.specs.Buckets.{bucket_of, bucket_list, is_unequal, unequal}
 use Rattle.exchange.specs.Laws.{RoundByBucketsGivesAll}

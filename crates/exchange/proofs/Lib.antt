@@ -1,8 +1,3 @@
-pub mod Lists
-pub mod Chunks
-pub mod Frames
-pub mod Outcomes
-pub mod Writings
 pub mod Hashed
 pub mod Holdings
 pub mod Askings

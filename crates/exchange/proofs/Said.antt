@@ -22,13 +22,13 @@ use Rattle.operation.specs.declared.op.Op.{Op}
 use Rattle.operation.specs.Spelling.{digest_of}
 use Rattle.site_state.specs.Site.{Map, IsSite, digest_cmp}
 use Rattle.site_state.proofs.Tops.{ascend}
+use Rattle.exchange_frames.specs.declared.frame.Frame.TheVariants.{Have, Want, Buckets, Differ}
+use Rattle.exchange_frames.specs.declared.reader.TheConstants.{BUCKET_COUNT, MOST_DIGESTS}
+use Rattle.exchange_frames.specs.Spelling.{ascends, AreDigests, IsFrame}
 use Rattle.exchange.specs.declared.version.Version.{Version}
 use Rattle.exchange.specs.declared.version.Version.TheVariants.{Two}
-use Rattle.exchange.specs.declared.frame.Frame.TheVariants.{Have, Want, Buckets, Differ}
-use Rattle.exchange.specs.declared.reader.TheConstants.{BUCKET_COUNT, MOST_DIGESTS}
 use Rattle.exchange.specs.Held.{is_spoken, place_of, is_in, is_lacking, offered, offered_in, lacked}
 use Rattle.exchange.specs.Buckets.{bucket_of, bucket_list, is_unequal, unequal}
-use Rattle.exchange.specs.Spelling.{ascends, AreDigests, IsFrame}
 use Rattle.exchange.specs.Laws.{RoundSaysFrames}
 use Rattle.exchange.proofs.Bucketed.{offered_held, place_small}
 use Rattle.exchange.proofs.Rounds.{own_digest}

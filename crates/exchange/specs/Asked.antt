@@ -4,7 +4,7 @@ use Rattle.std.specs.Prelude.{if◌then◌else◌}
 use Rattle.std.specs.Option.{option_map}
 use Rattle.std.specs.BTreeMap.{is_at}
 use Rattle.octets.specs.Texts.{text_cmp}
-use Rattle.exchange.specs.Spelling.{ascends}
+use Rattle.exchange_frames.specs.Spelling.{ascends}
 
 -- each digest with whether its operation was given
 abbrev pub asked_of : List (List ℕ) → List Bool → List (List ℕ × Bool)

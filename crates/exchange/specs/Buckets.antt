@@ -3,8 +3,8 @@ use Rattle.std.specs.Prelude.{ℕ, ◌==◌, Bool, not, List, [], filter, map, g
 use Rattle.std.specs.List.{range_with_len}
 use Rattle.sha2.specs.Sha256.{sha256}
 use Rattle.octets.specs.Texts.{same}
-use Rattle.exchange.specs.declared.reader.TheConstants.{BUCKET_COUNT}
-use Rattle.exchange.specs.Spelling.{digests_text}
+use Rattle.exchange_frames.specs.declared.reader.TheConstants.{BUCKET_COUNT}
+use Rattle.exchange_frames.specs.Spelling.{digests_text}
 use Rattle.exchange.specs.Held.{place_of}
 
 -- those of some digests that begin with a byte, one behind the other

@@ -1,24 +1,13 @@
--- Faults of frames, of holders and of exchanges.
-use Rattle.std.specs.Prelude.{ℕ, Bool, true, false}
-use Rattle.exchange.specs.declared.fault.FrameFault.{FrameFault}
-use Rattle.exchange.specs.declared.fault.FrameFault.TheVariants.{BadFrame, TooLong, Memory}
+-- Faults of holders and of exchanges.
+use Rattle.std.specs.Prelude.{ℕ}
+use Rattle.exchange_frames.specs.declared.fault.FrameFault.{FrameFault}
+use Rattle.exchange_frames.specs.declared.fault.FrameFault.TheVariants.{BadFrame, TooLong, Memory}
 use Rattle.exchange.specs.declared.fault.HolderFault.{HolderFault}
 use Rattle.exchange.specs.declared.fault.HolderFault.TheVariants as holders
 use Rattle.exchange.specs.declared.fault.ExchangeFault.{ExchangeFault}
 use Rattle.exchange.specs.declared.fault.ExchangeFault.TheVariants as exchanges
 
 -- the public number of a fault
-abbrev pub number_of : FrameFault → ℕ
-number_of BadFrame = 1
-number_of TooLong = 2
-number_of Memory = 5
-
--- Want of memory says nothing of the text.
-abbrev pub is_memory : FrameFault → Bool
-is_memory BadFrame = false
-is_memory TooLong = false
-is_memory Memory = true
-
 abbrev pub number_of_holder : HolderFault → ℕ
 number_of_holder holders.Memory = 1
 number_of_holder holders.Refused = 2

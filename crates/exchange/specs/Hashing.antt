@@ -2,7 +2,7 @@
 use Rattle.std.specs.Prelude.{◌≡◌, ℕ, ◌<◌, List, get_or, length}
 use Rattle.sha2.specs.declared.Sha256.{Sha256}
 use Rattle.sha2.specs.Hashers.{Holds256}
-use Rattle.exchange.specs.declared.reader.TheConstants.{BUCKET_COUNT}
+use Rattle.exchange_frames.specs.declared.reader.TheConstants.{BUCKET_COUNT}
 use Rattle.exchange.specs.Buckets.{bucket_text}
 
 -- each of so many hashers has hashed those of some digests that begin with the byte of its place

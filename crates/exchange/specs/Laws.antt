@@ -5,13 +5,13 @@ use Rattle.operation.specs.declared.op.Op.{Op}
 use Rattle.operation.specs.Spelling.{digest_of}
 use Rattle.site_state.specs.Site.{Map, IsSite, held_at}
 use Rattle.site_state.specs.Union.{Agree}
-use Rattle.exchange.specs.declared.frame.Frame.TheVariants.{Have, Want, Buckets, Differ}
-use Rattle.exchange.specs.declared.reader.TheConstants.{MOST_DIGESTS}
+use Rattle.exchange_frames.specs.declared.frame.Frame.TheVariants.{Have, Want, Buckets, Differ}
+use Rattle.exchange_frames.specs.declared.reader.TheConstants.{MOST_DIGESTS}
+use Rattle.exchange_frames.specs.Spelling.{IsFrame}
 use Rattle.exchange.specs.declared.version.Version.{Version}
 use Rattle.exchange.specs.declared.version.Version.TheVariants.{Two}
 use Rattle.exchange.specs.Held.{is_spoken, place_of, offered, offered_in, lacked, given, HasGrown}
 use Rattle.exchange.specs.Buckets.{bucket_of, bucket_list, unequal}
-use Rattle.exchange.specs.Spelling.{IsFrame}
 
 -- what a version speaks of in a set is in another
 abbrev pub HasAllSpoken : Version → Map → Map → Type 0

@@ -1,9 +1,4 @@
-pub mod Digests
 pub mod Fault
-pub mod Header
-pub mod Spelling
-pub mod Reading
-pub mod Writing
 pub mod Held
 pub mod Buckets
 pub mod Hashing

@@ -5,12 +5,11 @@ ghost use Rattle.std.specs.BTreeMap.{is_at};
 ghost use Rattle.std.specs.Map.{set_value};
 ghost use Rattle.octets.specs.Texts.{text_cmp};
 ghost use Rattle.site_state.specs.Site.{digest_cmp};
+ghost use Rattle.exchange_frames.specs.Spelling.{ascends};
 ghost use Rattle.exchange.specs.Asked.{place_in};
 ghost use Rattle.exchange.specs.Round.{asked_in, is_among};
-ghost use Rattle.exchange.specs.Spelling.{ascends};
 
-use crate::digests::{Digests, DigestsMut};
-use crate::reader::DIGEST_LENGTH;
+use exchange_frames::{DIGEST_LENGTH, Digests, DigestsMut};
 use operation::Digest;
 use std::alloc::{AllocError, Global};
 use std::cmp::Ordering;

@@ -7,8 +7,8 @@ ghost use Rattle.exchange.specs.Held.{place_of, spoken_of};
 ghost use Rattle.exchange.specs.Buckets.{bucket_list, unequal as unequal_in, is_unequal as is_unequal_in};
 ghost use Rattle.exchange.specs.Hashing.{AllHold};
 
-use crate::reader::BUCKET_COUNT;
 use crate::version::Version;
+use exchange_frames::BUCKET_COUNT;
 use octets::{ListOf, Octets};
 use operation::{Digest, Op};
 use sha2::Sha256;

@@ -1,52 +1,11 @@
-//! Why a frame could not be read or written, and why an exchange ended early.
+//! Why a holder did not answer, and why an exchange ended early.
 
 ghost use Rattle.std.specs.Prelude.{◌≡◌};
-ghost use Rattle.exchange.specs.Fault.{number_of, number_of_holder, number_of_exchange, of_frame, of_holder};
-ghost use Rattle.exchange.specs.declared.fault.FrameFault.TheVariants.{Memory};
+ghost use Rattle.exchange.specs.Fault.{number_of_holder, number_of_exchange, of_frame, of_holder};
 
+use exchange_frames::FrameFault;
 use std::alloc::{AllocError, AllocFailed};
 use thiserror::Error;
-
-/// Why bytes are no frame, or a frame could not be read or written. `TooLong` is told before
-/// `BadFrame`, save that an unknown kind is told first.
-#[derive(Clone, Copy, Debug, PartialEq, Eq, Hash, Error)]
-pub enum FrameFault {
-    #[error("the bytes are no frame")]
-    BadFrame,
-    #[error("the frame is longer than is read or written")]
-    TooLong,
-    #[error("out of memory")]
-    Memory,
-}
-
-impl FrameFault {
-    /// The number that the program prints.
-    pub fn number(self) -> u8
-        ensures { result ≡ number_of self }
-    {
-        match self {
-            FrameFault::BadFrame => 1,
-            FrameFault::TooLong => 2,
-            FrameFault::Memory => 5,
-        }
-    }
-}
-
-impl From<AllocError> for FrameFault {
-    ghost from_gives = { λ _ e. e ≡ Memory };
-
-    fn from(_error: AllocError) -> Self {
-        FrameFault::Memory
-    }
-}
-
-impl<T: Drop> From<AllocFailed<T>> for FrameFault {
-    ghost from_gives = { λ _ e. e ≡ Memory };
-
-    fn from(_error: AllocFailed<T>) -> Self {
-        FrameFault::Memory
-    }
-}
 
 /// Why a holder did not answer.
 #[derive(Clone, Copy, Debug, PartialEq, Eq, Hash, Error)]

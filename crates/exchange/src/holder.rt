@@ -6,9 +6,9 @@ ghost use Rattle.site_state.specs.Site.{Map};
 ghost use Rattle.exchange.specs.Held.{offered, offered_in, lacked, given, Looks, TakesIn};
 ghost use Rattle.exchange.specs.Buckets.{bucket_list};
 
-use crate::digests::Digests;
 use crate::fault::HolderFault;
 use crate::version::Version;
+use exchange_frames::Digests;
 use octets::ListOf;
 use operation::{Digest, Digested, Op, Taken};
 use std::alloc::Global;

@@ -1,10 +1,6 @@
 //! What rounds come to: laws, said as contracts of functions with nothing to do.
 
-ghost use Rattle.exchange.specs.declared.frame.Frame.TheVariants.{Give};
 ghost use Rattle.exchange.specs.Laws.{RoundGivesAll, RoundByBucketsGivesAll, RoundsMakeEqual, RoundSaysFrames};
-ghost use Rattle.exchange.specs.Spelling.{IsFrame};
-
-use operation::Op;
 
 /// After a round in which each operation that was given was taken, the one side holds all that the
 /// other held at its offer, of what the version speaks of: the sending of a HAVE of all digests.
@@ -28,17 +24,3 @@ pub fn rounds_each_way_make_sites_equal()
 pub fn what_a_round_says_is_a_frame()
     ensures { RoundSaysFrames }
 {}
-
-/// So is a GIVE of any operation.
-pub fn a_give_is_a_frame(op: &Op)
-    ensures { IsFrame (Give op.now) }
-{
-    match op {
-        Op::Content(content) => {
-            let _ = content.body();
-        }
-        Op::Correction(correction) => {
-            let _ = correction.stamp();
-        }
-    }
-}

@@ -8,10 +8,10 @@ ghost use Rattle.exchange.specs.Round.{asked_at, is_among, with_given, refusal_o
 
 use crate::asked::Asked;
 use crate::buckets::unequal;
-use crate::digests::Digests;
 use crate::fault::{ExchangeFault, HolderFault};
 use crate::holder::Holder;
 use crate::version::Version;
+use exchange_frames::Digests;
 use octets::{ListOf, Octets};
 use operation::{Digest, Digested, Op, Taken};
 use std::alloc::Global;

@@ -7,11 +7,10 @@ ghost use Rattle.exchange.specs.Buckets.{bucket_list, unequal as unequal_in};
 ghost use Rattle.exchange.specs.Places.{front_at, end_at};
 
 use crate::buckets::{buckets_of_tree, has_place, place_of_digest, unequal};
-use crate::digests::{Digests, DigestsMut};
 use crate::fault::HolderFault;
 use crate::holder::Holder;
-use crate::reader::{BUCKET_COUNT, DIGEST_LENGTH};
 use crate::version::Version;
+use exchange_frames::{BUCKET_COUNT, DIGEST_LENGTH, Digests, DigestsMut};
 use octets::{ListOf, Octets};
 use operation::{Digest, Digested, Op, Taken};
 use site_state::{Site, SiteFault};

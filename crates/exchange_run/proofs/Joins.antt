@@ -9,8 +9,8 @@ use Rattle.operation.specs.Spelling.{digest_of}
 use Rattle.site_state.specs.Site.{Map, IsSite, held_at}
 use Rattle.site_state.specs.Union.{Agree}
 use Rattle.site_state.proofs.Maps.{same_sites}
-use Rattle.exchange.specs.declared.frame.Frame.{Frame}
-use Rattle.exchange.specs.declared.frame.Frame.TheVariants.{Have, Give, Buckets, Differ, Hello}
+use Rattle.exchange_frames.specs.declared.frame.Frame.{Frame}
+use Rattle.exchange_frames.specs.declared.frame.Frame.TheVariants.{Have, Give, Buckets, Differ, Hello}
 use Rattle.exchange.specs.declared.version.Version.{Version}
 use Rattle.exchange.specs.declared.version.Version.TheVariants.{Two}
 use Rattle.exchange.specs.Held.{place_of, is_in, offered, offered_in, HasGrown}

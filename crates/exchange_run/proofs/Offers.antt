@@ -7,8 +7,8 @@ use Rattle.archive_model.proofs.MemberLaws.{filter_map_has}
 use Rattle.operation.specs.declared.op.Op.{Op}
 use Rattle.operation.specs.Spelling.{digest_of}
 use Rattle.site_state.specs.Site.{Map, IsSite, held_at}
-use Rattle.exchange.specs.declared.frame.Frame.{Frame}
-use Rattle.exchange.specs.declared.frame.Frame.TheVariants.{Have, Want, Give, End, Buckets, Differ, Hello}
+use Rattle.exchange_frames.specs.declared.frame.Frame.{Frame}
+use Rattle.exchange_frames.specs.declared.frame.Frame.TheVariants.{Have, Want, Give, End, Buckets, Differ, Hello}
 use Rattle.exchange.specs.declared.version.Version.{Version}
 use Rattle.exchange.specs.Held.{is_spoken, if_spoken, given, offered, offered_in, HasGrown}
 use Rattle.exchange.specs.Buckets.{bucket_list}

@@ -5,13 +5,13 @@ use Rattle.std.specs.List.{AllByRecursion}
 use Rattle.std.proofs.Math.Seq.{take-append_seam, drop-append_seam}
 use Rattle.std.proofs.lemmas.List.{length-append, length-take-le, take-append-drop}
 use Rattle.std.proofs.lemmas.List.Concat.{flat_map-cons}
-use Rattle.exchange.specs.declared.fault.FrameFault.{FrameFault}
-use Rattle.exchange.specs.declared.frame.Frame.{Frame}
-use Rattle.exchange.specs.Header.{HeaderParts, header_at}
-use Rattle.exchange.specs.Spelling.{text_of, IsFrame}
-use Rattle.exchange.specs.Writing.{IsWrittenAgain}
-use Rattle.exchange.proofs.Outcomes.{one_text}
-use Rattle.exchange.proofs.Writings.{written_again}
+use Rattle.exchange_frames.specs.declared.fault.FrameFault.{FrameFault}
+use Rattle.exchange_frames.specs.declared.frame.Frame.{Frame}
+use Rattle.exchange_frames.specs.Header.{HeaderParts, header_at}
+use Rattle.exchange_frames.specs.Spelling.{text_of, IsFrame}
+use Rattle.exchange_frames.specs.Writing.{IsWrittenAgain}
+use Rattle.exchange_frames.proofs.Outcomes.{one_text}
+use Rattle.exchange_frames.proofs.Writings.{written_again}
 use Rattle.exchange_run.specs.Hearing.{texts, AreFrames}
 
 -- the first five bytes of a text are those of its frame

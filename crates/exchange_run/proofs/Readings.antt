@@ -7,14 +7,15 @@ use Rattle.std.specs.Io.KnownBytes.{Consumes}
 use Rattle.std.proofs.KnownBytes.{Consumes-trans}
 use Rattle.std.proofs.lemmas.List.{length-append}
 use Rattle.octets.specs.Gives.{Told}
+use Rattle.exchange_frames.specs.declared.fault.FrameFault.{FrameFault}
+use Rattle.exchange_frames.specs.declared.fault.FrameFault.TheVariants as frames
+use Rattle.exchange_frames.specs.Fault.{is_memory}
+use Rattle.exchange_frames.specs.Header.{HeaderParts, header_fault, header_at, header_text, or_fault}
+use Rattle.exchange_frames.specs.Reading.{HasFault}
 use Rattle.exchange.specs.declared.fault.ExchangeFault.{ExchangeFault}
 use Rattle.exchange.specs.declared.fault.ExchangeFault.TheVariants.{BadFrame, TooLong, Stranger, Io, Memory, Turns}
 use Rattle.exchange.specs.declared.fault.ExchangeFault.TheVariants.{Refused}
-use Rattle.exchange.specs.declared.fault.FrameFault.{FrameFault}
-use Rattle.exchange.specs.declared.fault.FrameFault.TheVariants as frames
-use Rattle.exchange.specs.Fault.{is_memory, of_frame}
-use Rattle.exchange.specs.Header.{HeaderParts, header_fault, header_at, header_text, or_fault}
-use Rattle.exchange.specs.Reading.{HasFault}
+use Rattle.exchange.specs.Fault.{of_frame}
 use Rattle.exchange_run.specs.Hearing.{Stopped, WhyStopped, UnheardBody, WhyBodyUnheard, Unheard, WhyUnheard}
 
 why_body : (r1 : Option (List ℕ)) (header : HeaderParts) (text : List ℕ) (wanted : ℕ) (fault : ExchangeFault)

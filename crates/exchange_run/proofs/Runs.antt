@@ -12,16 +12,16 @@ use Rattle.devices.specs.Failures.{Rose}
 use Rattle.operation.specs.declared.taken.Taken.{Taken}
 use Rattle.operation.specs.declared.taken.Taken.TheVariants.{New, Known}
 use Rattle.site_state.specs.Site.{Map}
+use Rattle.exchange_frames.specs.declared.frame.Frame.{Frame}
+use Rattle.exchange_frames.specs.Spelling.{text_of}
+use Rattle.exchange_frames.specs.Writing.{is_too_long}
 use Rattle.exchange.specs.declared.fault.ExchangeFault.{ExchangeFault}
 use Rattle.exchange.specs.declared.fault.ExchangeFault.TheVariants.{BadFrame, TooLong, Stranger, Io, Memory, Turns}
 use Rattle.exchange.specs.declared.fault.ExchangeFault.TheVariants.{Refused}
 use Rattle.exchange.specs.declared.fault.HolderFault.{HolderFault}
 use Rattle.exchange.specs.declared.fault.HolderFault.TheVariants as holders
-use Rattle.exchange.specs.declared.frame.Frame.{Frame}
 use Rattle.exchange.specs.Fault.{of_holder}
 use Rattle.exchange.specs.Round.{IsFinished}
-use Rattle.exchange.specs.Spelling.{text_of}
-use Rattle.exchange.specs.Writing.{is_too_long}
 use Rattle.exchange_run.specs.declared.role.Role.{Role}
 use Rattle.exchange_run.specs.declared.role.Role.TheVariants.{Caller, Callee, OldCaller}
 use Rattle.exchange_run.specs.declared.role.Ended.{Ended}

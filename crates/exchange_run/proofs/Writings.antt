@@ -8,14 +8,14 @@ use Rattle.std.specs.Io.KnownBytes.{Appends}
 use Rattle.std.proofs.KnownBytes.{Appends-nil, Appends-trans}
 use Rattle.std.proofs.lemmas.List.{take-append-drop}
 use Rattle.operation.specs.declared.op.Op.{Op}
+use Rattle.exchange_frames.specs.declared.fault.FrameFault.{FrameFault}
+use Rattle.exchange_frames.specs.declared.frame.Frame.{Frame}
+use Rattle.exchange_frames.specs.declared.frame.Frame.TheVariants.{Give, End}
+use Rattle.exchange_frames.specs.Spelling.{text_of}
+use Rattle.exchange_frames.specs.Writing.{is_too_long}
 use Rattle.exchange.specs.declared.fault.ExchangeFault.{ExchangeFault}
 use Rattle.exchange.specs.declared.fault.ExchangeFault.TheVariants.{BadFrame, TooLong, Stranger, Io, Memory, Turns}
 use Rattle.exchange.specs.declared.fault.ExchangeFault.TheVariants.{Refused}
-use Rattle.exchange.specs.declared.fault.FrameFault.{FrameFault}
-use Rattle.exchange.specs.declared.frame.Frame.{Frame}
-use Rattle.exchange.specs.declared.frame.Frame.TheVariants.{Give, End}
-use Rattle.exchange.specs.Spelling.{text_of}
-use Rattle.exchange.specs.Writing.{is_too_long}
 use Rattle.exchange_run.specs.Course.{gifts_of}
 use Rattle.exchange_run.specs.Hearing.{texts}
 use Rattle.exchange_run.specs.Saying.{IsFront, WroteFront, WhyUnsaid, GivesLawful, IsSayable, AreSayable}

@@ -6,13 +6,13 @@ use Rattle.operation.specs.declared.taken.Taken.{Taken}
 use Rattle.operation.specs.declared.taken.Taken.TheVariants.{New, Known}
 use Rattle.operation.specs.Spelling.{digest_of}
 use Rattle.site_state.specs.Site.{Map}
+use Rattle.exchange_frames.specs.declared.frame.Frame.{Frame}
+use Rattle.exchange_frames.specs.declared.frame.Frame.TheVariants.{Have, Want, Give, End, Buckets, Differ, Hello}
 use Rattle.exchange.specs.declared.version.Version.{Version}
 use Rattle.exchange.specs.declared.version.Version.TheVariants.{One as version_one}
 use Rattle.exchange.specs.declared.fault.ExchangeFault.{ExchangeFault}
 use Rattle.exchange.specs.declared.fault.ExchangeFault.TheVariants.{BadFrame}
 use Rattle.exchange.specs.declared.fault.HolderFault.{HolderFault}
-use Rattle.exchange.specs.declared.frame.Frame.{Frame}
-use Rattle.exchange.specs.declared.frame.Frame.TheVariants.{Have, Want, Give, End, Buckets, Differ, Hello}
 use Rattle.exchange.specs.Fault.{of_holder}
 use Rattle.exchange.specs.Held.{offered, offered_in, lacked, given, HasGrown, Looks}
 use Rattle.exchange.specs.Buckets.{bucket_list, unequal}

@@ -5,16 +5,16 @@ use Rattle.std.specs.Prelude.{MatchBool, ⊤}
 use Rattle.std.specs.List.{flat_map, AllByRecursion}
 use Rattle.std.specs.Io.KnownBytes.{Consumes, IsAtEnd}
 use Rattle.devices.specs.Failures.{Rose}
+use Rattle.exchange_frames.specs.declared.fault.FrameFault.{FrameFault}
+use Rattle.exchange_frames.specs.declared.fault.FrameFault.TheVariants as frames
+use Rattle.exchange_frames.specs.declared.frame.Frame.{Frame}
+use Rattle.exchange_frames.specs.declared.header.TheConstants.{HEADER_LENGTH}
+use Rattle.exchange_frames.specs.Header.{HeaderParts, header_fault, header_at, header_text}
+use Rattle.exchange_frames.specs.Reading.{HasFault}
+use Rattle.exchange_frames.specs.Spelling.{text_of, IsFrame}
 use Rattle.exchange.specs.declared.fault.ExchangeFault.{ExchangeFault}
 use Rattle.exchange.specs.declared.fault.ExchangeFault.TheVariants.{BadFrame, TooLong, Stranger, Io, Memory, Turns}
 use Rattle.exchange.specs.declared.fault.ExchangeFault.TheVariants.{Refused}
-use Rattle.exchange.specs.declared.fault.FrameFault.{FrameFault}
-use Rattle.exchange.specs.declared.fault.FrameFault.TheVariants as frames
-use Rattle.exchange.specs.declared.frame.Frame.{Frame}
-use Rattle.exchange.specs.declared.header.TheConstants.{HEADER_LENGTH}
-use Rattle.exchange.specs.Header.{HeaderParts, header_fault, header_at, header_text}
-use Rattle.exchange.specs.Reading.{HasFault}
-use Rattle.exchange.specs.Spelling.{text_of, IsFrame}
 
 -- ---- failures of a device
 

@@ -3,8 +3,8 @@ use Rattle.std.specs.Prelude.{◌≡◌, List, true, IsTrue}
 use Rattle.octets.specs.Members.{Has}
 use Rattle.site_state.specs.Site.{Map, IsSite}
 use Rattle.site_state.specs.Union.{Agree}
-use Rattle.exchange.specs.declared.frame.Frame.{Frame}
-use Rattle.exchange.specs.declared.frame.Frame.TheVariants.{Buckets}
+use Rattle.exchange_frames.specs.declared.frame.Frame.{Frame}
+use Rattle.exchange_frames.specs.declared.frame.Frame.TheVariants.{Buckets}
 use Rattle.exchange.specs.declared.version.Version.TheVariants.{Two}
 use Rattle.exchange.specs.Held.{offered, HasGrown}
 use Rattle.exchange.specs.Buckets.{bucket_list}

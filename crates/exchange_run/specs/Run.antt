@@ -3,11 +3,11 @@ use Rattle.std.specs.Prelude.{◌≡◌, ◌⊎◌, ◌≤◌, ◌+◌, ◌↔�
 use Rattle.std.specs.Io.KnownBytes.{Consumes, Appends}
 use Rattle.devices.specs.Failures.{Rose}
 use Rattle.site_state.specs.Site.{Map}
+use Rattle.exchange_frames.specs.declared.frame.Frame.{Frame}
+use Rattle.exchange_frames.specs.Spelling.{text_of, IsFrame}
 use Rattle.exchange.specs.declared.fault.ExchangeFault.{ExchangeFault}
 use Rattle.exchange.specs.declared.fault.ExchangeFault.TheVariants.{BadFrame, TooLong, Stranger, Io, Memory, Turns}
 use Rattle.exchange.specs.declared.fault.ExchangeFault.TheVariants.{Refused}
-use Rattle.exchange.specs.declared.frame.Frame.{Frame}
-use Rattle.exchange.specs.Spelling.{text_of, IsFrame}
 use Rattle.exchange_run.specs.declared.role.Role.{Role}
 use Rattle.exchange_run.specs.declared.role.Ended.{Ended}
 use Rattle.exchange_run.specs.declared.run.TheConstants.{MOST_READS}

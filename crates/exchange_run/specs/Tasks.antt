@@ -1,8 +1,8 @@
 -- What each frame calls for.
 use Rattle.std.specs.Prelude.{List, ℕ, Option, Some, None}
+use Rattle.exchange_frames.specs.declared.frame.Frame.{Frame}
+use Rattle.exchange_frames.specs.declared.frame.Frame.TheVariants.{Have, Want, Give, End, Buckets, Differ, Hello}
 use Rattle.exchange.specs.declared.version.Version.{Version}
-use Rattle.exchange.specs.declared.frame.Frame.{Frame}
-use Rattle.exchange.specs.declared.frame.Frame.TheVariants.{Have, Want, Give, End, Buckets, Differ, Hello}
 use Rattle.exchange.specs.Held.{version_of}
 use Rattle.exchange_run.specs.declared.role.Role.{Role}
 use Rattle.exchange_run.specs.declared.role.Role.TheVariants.{Caller, Callee, OldCaller}

@@ -3,7 +3,7 @@
 ghost use Rattle.std.specs.Prelude.{◌≡◌, ◌<◌, ◌≤◌, ◌+◌, ◌++◌, IfOk, IfErr, OnOk, OnErr, length, take, drop};
 ghost use Rattle.std.specs.Io.KnownBytes.{Consumes, IsAtEnd, Keeps};
 ghost use Rattle.devices.specs.Failures.{Counts};
-ghost use Rattle.exchange.specs.Header.{header_text};
+ghost use Rattle.exchange_frames.specs.Header.{header_text};
 ghost use Rattle.exchange_run.specs.Hearing.{Fails, Stopped, Heard, Unheard, HeardBody, UnheardBody};
 
 use bytes::Bytes;

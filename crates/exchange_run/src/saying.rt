@@ -2,9 +2,9 @@
 
 ghost use Rattle.std.specs.Prelude.{◌≡◌, ◌∷◌, [], IfErr, OnOk, OnErr, ◌++◌};
 ghost use Rattle.std.specs.Io.KnownBytes.{Appends};
+ghost use Rattle.exchange_frames.specs.declared.frame.Frame.TheVariants.{Give};
+ghost use Rattle.exchange_frames.specs.Spelling.{text_of};
 ghost use Rattle.exchange.specs.declared.fault.ExchangeFault.TheVariants.{Io};
-ghost use Rattle.exchange.specs.declared.frame.Frame.TheVariants.{Give};
-ghost use Rattle.exchange.specs.Spelling.{text_of};
 ghost use Rattle.exchange_run.specs.Course.{frames_of, gifts_of};
 ghost use Rattle.exchange_run.specs.Hearing.{Fails, texts};
 ghost use Rattle.exchange_run.specs.Saying.{WroteFront, WhyUnsaid, GivesLawful, IsSayable, AreSayable};

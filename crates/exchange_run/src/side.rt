@@ -1,7 +1,7 @@
 //! One side of an exchange, as a machine: frames come in and frames go out.
 
 ghost use Rattle.std.specs.Prelude.{◌≡◌, ◌∷◌, [], ◌<◌, ◌^◌, ◌-◌, ◌↔◌, IfErr, IsTrue};
-ghost use Rattle.exchange.specs.declared.frame.Frame.TheVariants.{Hello};
+ghost use Rattle.exchange_frames.specs.declared.frame.Frame.TheVariants.{Hello};
 ghost use Rattle.exchange_run.specs.declared.task.Awaited.TheVariants as awaits;
 ghost use Rattle.exchange_run.specs.declared.task.Task.TheVariants as tasks;
 ghost use Rattle.exchange_run.specs.Tasks.{task_for};

@@ -2,8 +2,8 @@ use Rattle.std.proofs.Common.{◌≡◌, ◌++◌, ◌∷◌, [], cond, sym, ap,
 use Rattle.std.proofs.lemmas.List.{append-nil}
 use Rattle.std.specs.Prelude.{filter}
 use Rattle.std.specs.List.{range_with_len}
+use Rattle.exchange_frames.specs.declared.reader.TheConstants.{BUCKET_COUNT}
 use Rattle.exchange.specs.Buckets.{unequal, is_unequal}
-use Rattle.exchange.specs.declared.reader.TheConstants.{BUCKET_COUNT}
 use Rattle.exchange.proofs.Hashed.{kept_next}
 use Rattle.exchange.proofs.buckets.unequal.Goals as goal
 

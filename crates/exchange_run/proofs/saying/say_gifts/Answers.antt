@@ -1,6 +1,6 @@
 use Rattle.std.proofs.Common.{◌∙◌, refl, arith}
 use Rattle.std.proofs.lemmas.Result.{err_from_is_err_and, IfErr-weaker}
-use Rattle.exchange.specs.declared.frame.Frame.TheVariants.{Give, End}
+use Rattle.exchange_frames.specs.declared.frame.Frame.TheVariants.{Give, End}
 use Rattle.exchange_run.specs.Course.{gifts_of}
 use Rattle.exchange_run.proofs.Writings.{gave_none, gave_one, gave_front, gave_all, gave_last, none_left, on_ok_map}
 use Rattle.exchange_run.proofs.Writings.{on_err_map, other_why, sayable_all, sayable_one, sayable_end}

@@ -1,6 +1,0 @@
-use Rattle.exchange.proofs.Chunks.{cut_in}
-use Rattle.exchange.proofs.digests.Digests.cut.Goals as goal
-
--- The text has exactly as many as are cut off it.
-pub returns : goal.returns
-returns c = cut_in c.args.count c.args.text c.requires

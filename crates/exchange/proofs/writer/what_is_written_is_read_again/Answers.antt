@@ -1,6 +1,0 @@
-use Rattle.exchange.proofs.Writings.{written_again}
-use Rattle.exchange.proofs.writer.what_is_written_is_read_again.Goals as goal
-
--- The header of a frame has its kind and the length of its body, and no fault.
-pub returns : goal.returns
-returns c = written_again

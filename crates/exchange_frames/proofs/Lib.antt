@@ -1,0 +1,5 @@
+pub mod Lists
+pub mod Chunks
+pub mod Frames
+pub mod Outcomes
+pub mod Writings
