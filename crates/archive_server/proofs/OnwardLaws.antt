@@ -4,8 +4,8 @@ use Rattle.std.proofs.Common.{Option, Some, None}
 use Rattle.operation.specs.declared.op.Op.{Op}
 use Rattle.operation.specs.declared.taken.Taken.{Taken}
 use Rattle.operation.specs.Spelling.{digest_of}
-use Rattle.association_session.specs.declared.reply.PortFault.{PortFault}
-use Rattle.association_session.specs.declared.reply.PortFault.TheVariants.{Memory, Busy, Collision, Shelf}
+use Rattle.association_services.specs.declared.reply.PortFault.{PortFault}
+use Rattle.association_services.specs.declared.reply.PortFault.TheVariants.{Memory, Busy, Collision, Shelf}
 use Rattle.association_run.specs.Port.{Stores, HasGrown}
 use Rattle.site_hub.specs.Hub.{Seat, IsLater, new_seat}
 use Rattle.op_shelf.specs.declared.fault.ShelfFault.{ShelfFault}

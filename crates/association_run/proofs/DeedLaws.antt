@@ -8,11 +8,11 @@ use Rattle.std.proofs.lemmas.Grind.{flat_map-append}
 use Rattle.pdu.specs.declared.value.Pdu.{Pdu}
 use Rattle.pdu.specs.Spelling.{IsPdu, text_of}
 use Rattle.operation.specs.declared.op.Op.{Op}
-use Rattle.association_session.specs.declared.deed.Call.{Call}
+use Rattle.association_services.specs.declared.call.Call.{Call}
 use Rattle.association_session.specs.declared.deed.Deed.{Deed}
 use Rattle.association_session.specs.declared.deed.Deed.TheVariants.{Send, Reach, Ask, Close}
 use Rattle.association_session.specs.declared.deed.Moment.{Moment}
-use Rattle.association_session.specs.declared.reply.Reply.{Reply}
+use Rattle.association_services.specs.declared.reply.Reply.{Reply}
 use Rattle.association_session.specs.Projections.{IsFront, sent_in, moments_in, calls_in}
 use Rattle.association_session.specs.Session.{IsWritable}
 use Rattle.association_run.specs.Port.{Replies, History}

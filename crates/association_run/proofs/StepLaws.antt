@@ -20,13 +20,13 @@ use Rattle.association_session.specs.declared.deed.Deed.{Deed}
 use Rattle.association_session.specs.declared.deed.Deed.TheVariants.{Send, Reach, Ask, Close}
 use Rattle.association_session.specs.declared.event.SessionEvent.{SessionEvent}
 use Rattle.association_session.specs.declared.event.SessionEvent.TheVariants as inputs
-use Rattle.association_session.specs.declared.reply.Reply.{Reply}
+use Rattle.association_services.specs.declared.reply.Reply.{Reply}
 use Rattle.association_session.specs.Projections.{calls_in}
-use Rattle.association_session.specs.declared.deed.Call.{Call}
-use Rattle.association_session.specs.declared.deed.Call.TheVariants.{Store, Find, Get}
+use Rattle.association_services.specs.declared.call.Call.{Call}
+use Rattle.association_services.specs.declared.call.Call.TheVariants.{Store, Find, Get}
 use Rattle.association_session.specs.declared.due.Due.{Due}
 use Rattle.association_session.specs.declared.due.Due.TheVariants as dues
-use Rattle.association_session.specs.declared.reply.Reply.TheVariants.{Stored, Found, Gotten}
+use Rattle.association_services.specs.declared.reply.Reply.TheVariants.{Stored, Found, Gotten}
 use Rattle.association_session.specs.Due.{IsQuiet, IsAnswered, Fits, left_of, tells_rows}
 use Rattle.association_session.specs.Session.{Awaits, IsToldBy, IsFewer, FewerFor}
 use Rattle.association_session.proofs.TellLaws.{rows_go}
@@ -37,7 +37,7 @@ use Rattle.association_session.specs.Session.{AssociationState, SessionState, Tu
 use Rattle.association_session.specs.Session.{heard_in, is_left, in_turn, is_in_turn, is_abort, is_release}
 use Rattle.association_session.specs.Session.{is_abort_event, reads_abort, met_in, replies_in}
 use Rattle.association_session.specs.Talks.{Heard, Met, Said, Leads, Talks}
-use Rattle.association_session.specs.SubOperation.{SubOperation}
+use Rattle.association_services.specs.SubOperation.{SubOperation}
 use Rattle.ul_state.specs.declared.event.Event.TheVariants.{LocalAbort}
 use Rattle.association_session.specs.Projections.{state_after, state_by_pdu}
 use Rattle.association_session.proofs.HearLaws.{none_answered, none_fits}

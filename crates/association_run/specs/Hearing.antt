@@ -15,7 +15,7 @@ use Rattle.dimse.specs.declared.message.Message.{Message}
 use Rattle.dimse.specs.Assembly.{Assembly}
 use Rattle.dimse.specs.Messages.{Run, HadMemory}
 use Rattle.association_session.specs.declared.deed.Deed.{Deed}
-use Rattle.association_session.specs.declared.reply.Reply.{Reply}
+use Rattle.association_services.specs.declared.reply.Reply.{Reply}
 use Rattle.association_session.specs.Projections.{IsFront, calls_in, state_after}
 use Rattle.association_session.specs.Row.{Within, opening, met, handed_on}
 use Rattle.association_session.specs.Session.{heard_in, stage_by}

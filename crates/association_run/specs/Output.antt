@@ -10,7 +10,7 @@ use Rattle.ul_state.specs.declared.table.State.TheVariants.{Sta1, Sta2, Sta6, St
 use Rattle.ul_state.specs.declared.titles.Title.{Title}
 use Rattle.association_session.specs.declared.deed.Deed.{Deed}
 use Rattle.association_session.specs.declared.event.SessionEvent.TheVariants as inputs
-use Rattle.association_session.specs.declared.reply.Reply.{Reply}
+use Rattle.association_services.specs.declared.reply.Reply.{Reply}
 use Rattle.association_session.specs.Projections.{IsFront}
 use Rattle.association_session.specs.Row.{opening}
 use Rattle.association_session.specs.Session.{is_abort, is_release, is_abort_event}

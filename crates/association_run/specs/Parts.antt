@@ -7,7 +7,7 @@ use Rattle.operation.specs.declared.op.Op.{Op}
 use Rattle.association_session.specs.declared.deed.Deed.{Deed}
 use Rattle.association_session.specs.declared.deed.Deed.TheVariants.{Send, Reach, Ask, Close}
 use Rattle.association_session.specs.declared.deed.Moment.{Moment}
-use Rattle.association_session.specs.declared.reply.Reply.{Reply}
+use Rattle.association_services.specs.declared.reply.Reply.{Reply}
 use Rattle.association_session.specs.Projections.{IsFront, sent_in, moments_in, calls_in}
 use Rattle.association_run.specs.Port.{History}
 

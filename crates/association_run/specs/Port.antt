@@ -10,14 +10,14 @@ use Rattle.operation.specs.declared.op.Op.TheVariants.{Content}
 use Rattle.operation.specs.Spelling.{digest_of}
 use Rattle.operation.specs.declared.taken.Taken.TheVariants.{New, Known}
 use Rattle.operation.specs.declared.taken.Taken.{Taken}
-use Rattle.association_session.specs.declared.deed.Call.{Call}
-use Rattle.association_session.specs.declared.deed.Call.TheVariants.{Store, Find, Get}
-use Rattle.association_session.specs.declared.deed.Finding.{Finding}
-use Rattle.association_session.specs.declared.deed.Getting.{Getting}
-use Rattle.association_session.specs.declared.reply.PortFault.{PortFault}
-use Rattle.association_session.specs.declared.reply.PortFault.TheVariants.{Memory, Busy, Collision, Shelf}
-use Rattle.association_session.specs.declared.reply.Reply.{Reply}
-use Rattle.association_session.specs.declared.reply.Reply.TheVariants.{Stored, Found, Gotten}
+use Rattle.association_services.specs.declared.call.Call.{Call}
+use Rattle.association_services.specs.declared.call.Call.TheVariants.{Store, Find, Get}
+use Rattle.association_services.specs.declared.call.Finding.{Finding}
+use Rattle.association_services.specs.declared.call.Getting.{Getting}
+use Rattle.association_services.specs.declared.reply.PortFault.{PortFault}
+use Rattle.association_services.specs.declared.reply.PortFault.TheVariants.{Memory, Busy, Collision, Shelf}
+use Rattle.association_services.specs.declared.reply.Reply.{Reply}
+use Rattle.association_services.specs.declared.reply.Reply.TheVariants.{Stored, Found, Gotten}
 
 -- ---- one call
 

@@ -10,7 +10,7 @@ use Rattle.association_session.specs.declared.deed.Deed.{Deed}
 use Rattle.association_session.specs.declared.deed.Deed.TheVariants.{Send, Reach, Ask, Close}
 use Rattle.association_session.specs.declared.event.SessionEvent.{SessionEvent}
 use Rattle.association_session.specs.declared.event.SessionEvent.TheVariants as inputs
-use Rattle.association_session.specs.declared.reply.Reply.{Reply}
+use Rattle.association_services.specs.declared.reply.Reply.{Reply}
 use Rattle.association_session.specs.Projections.{IsFront, state_after}
 use Rattle.association_session.specs.declared.due.Due.{Due}
 use Rattle.association_session.specs.Due.{takes_reply, IsAnswered, Fits}

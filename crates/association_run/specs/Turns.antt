@@ -8,7 +8,7 @@ use Rattle.ul_state.specs.declared.table.State.{State}
 use Rattle.ul_state.specs.declared.table.State.TheVariants.{Sta1, Sta2, Sta13}
 use Rattle.ul_state.specs.declared.titles.Title.{Title}
 use Rattle.association_session.specs.declared.deed.Deed.{Deed}
-use Rattle.association_session.specs.declared.reply.Reply.{Reply}
+use Rattle.association_services.specs.declared.reply.Reply.{Reply}
 use Rattle.association_session.specs.Projections.{state_after}
 use Rattle.association_session.specs.Session.{SessionState, Takes, start, is_left}
 use Rattle.association_session.specs.Talks.{Heard}

@@ -11,39 +11,38 @@ use Rattle.ul_state.specs.declared.table.State.TheVariants.{Sta1, Sta2, Sta6, St
 use Rattle.ul_state.specs.declared.titles.Title.{Title}
 use Rattle.dimse.specs.declared.message.Message.{Message}
 use Rattle.dimse.specs.declared.status.Status.{Status}
-use Rattle.association_session.specs.declared.deed.Call.TheVariants.{Find, Get}
+use Rattle.association_services.specs.declared.call.Call.TheVariants.{Find, Get}
 use Rattle.association_session.specs.declared.deed.Deed.{Deed}
 use Rattle.association_session.specs.declared.deed.Deed.TheVariants.{Send, Reach, Ask}
-use Rattle.association_session.specs.declared.deed.Finding.{Finding}
+use Rattle.association_services.specs.declared.call.Finding.{Finding}
 use Rattle.association_session.specs.declared.deed.Moment.TheVariants.{FindAnswered}
-use Rattle.association_session.specs.declared.due.RowKind.{RowKind}
-use Rattle.association_session.specs.declared.reply.Reply.{Reply}
-use Rattle.association_session.specs.declared.reply.Reply.TheVariants.{Stored, Found, Gotten}
-use Rattle.association_session.specs.declared.service.Service.{Service}
-use Rattle.association_session.specs.declared.service.Service.TheVariants.{Ignored, Broken, Responded, Asked, Queried}
-use Rattle.association_session.specs.declared.service.Service.TheVariants.{Fetched}
+use Rattle.association_services.specs.declared.service.RowKind.{RowKind}
+use Rattle.association_services.specs.declared.reply.Reply.{Reply}
+use Rattle.association_services.specs.declared.reply.Reply.TheVariants.{Stored, Found, Gotten}
+use Rattle.association_services.specs.declared.service.Service.{Service}
+use Rattle.association_services.specs.declared.service.Service.TheVariants.{Ignored, Broken, Responded, Asked, Queried}
+use Rattle.association_services.specs.declared.service.Service.TheVariants.{Fetched}
 use Rattle.association_session.specs.Answered.{Answers as FindAnswers, AreAnswered}
-use Rattle.association_session.specs.Find.{row_status, rows_in, status_of_found}
-use Rattle.association_session.specs.Response.{Awaited}
-use Rattle.association_session.specs.Retrieval.{few_in, setting_out, begun, meaning_of}
-use Rattle.association_session.specs.SubOperation.{Retrieval, SubOperation}
-use Rattle.association_session.specs.Retrieval.{performed, cancelling}
-use Rattle.association_session.specs.declared.deed.Getting.{Getting}
-use Rattle.association_session.specs.declared.retrieval.Meaning.{Meaning}
-use Rattle.association_session.specs.declared.retrieval.Meaning.TheVariants.{Cancelled, Performed, Unawaited}
-use Rattle.association_session.specs.declared.retrieval.Progress.{Progress}
+use Rattle.association_services.specs.Find.{row_status, rows_in, status_of_found}
+use Rattle.association_services.specs.Response.{Awaited}
+use Rattle.association_services.specs.Retrieval.{few_in, setting_out, begun, meaning_of}
+use Rattle.association_services.specs.SubOperation.{Retrieval, SubOperation}
+use Rattle.association_services.specs.Retrieval.{performed, cancelling}
+use Rattle.association_services.specs.declared.call.Getting.{Getting}
+use Rattle.association_services.specs.declared.retrieval.Meaning.{Meaning}
+use Rattle.association_services.specs.declared.retrieval.Meaning.TheVariants.{Cancelled, Performed, Unawaited}
+use Rattle.association_services.specs.declared.retrieval.Progress.{Progress}
 use Rattle.data_set.specs.declared.syntax.Syntax.{Syntax}
 use Rattle.dimse.specs.declared.status.Status.TheVariants.{UnableToPerformSubOperations}
 use Rattle.pdu.specs.declared.context.Context.{Context}
 use Rattle.retrieve_model.specs.declared.prepared.Prepared.{Prepared}
 use Rattle.association_session.specs.Row.{Within, row, met, deeds_of, action_on}
-use Rattle.association_session.specs.Service.{Serves}
-use Rattle.association_session.specs.Store.{status_of_reply}
+use Rattle.association_services.specs.Store.{status_of_reply}
 use Rattle.association_session.specs.Talks.{Heard, Met, Said, Goes, GoesBy, Then, Tells, TellsRows, FollowsStore}
 use Rattle.association_session.specs.Talks.{FollowsFind}
 use Rattle.association_session.specs.Talks.{FollowsGet, BeginsFew, Begins, Does, InState, Answers, GoesOnBy, Performs}
 use Rattle.association_session.specs.Talks.{Attends}
-use Rattle.association_session.specs.Talks.{Talks, awaiting}
+use Rattle.association_session.specs.Talks.{Talks, Serves, awaiting}
 use Rattle.association_session.proofs.StatusLaws.{served_kind}
 
 sends_answered : (ps : List Pdu) (rest : List Deed) → AreAnswered rest → AreAnswered (map Send ps ++ rest)

@@ -15,39 +15,39 @@ use Rattle.ul_state.specs.Decision.{value_for}
 use Rattle.dimse.specs.declared.message.Message.{Message}
 use Rattle.dimse.specs.declared.status.Status.{Status}
 use Rattle.operation.specs.Parts.{ContentParts}
-use Rattle.association_session.specs.declared.deed.Call.TheVariants.{Store, Find, Get}
+use Rattle.association_services.specs.declared.call.Call.TheVariants.{Store, Find, Get}
 use Rattle.association_session.specs.declared.deed.Deed.{Deed}
 use Rattle.association_session.specs.declared.deed.Deed.TheVariants.{Send, Reach, Ask, Close}
 use Rattle.association_session.specs.declared.deed.Moment.TheVariants.{InStore, FindAnswered}
-use Rattle.association_session.specs.declared.deed.Finding.{Finding}
-use Rattle.association_session.specs.declared.due.RowKind.{RowKind}
+use Rattle.association_services.specs.declared.call.Finding.{Finding}
+use Rattle.association_services.specs.declared.service.RowKind.{RowKind}
 use Rattle.data_set.specs.Set.{Set}
 use Rattle.pdu.specs.declared.value.Pdu.{Pdu}
-use Rattle.association_session.specs.declared.reply.Reply.{Reply}
-use Rattle.association_session.specs.declared.reply.Reply.TheVariants.{Stored, Found, Gotten}
-use Rattle.association_session.specs.declared.service.Service.{Service}
-use Rattle.association_session.specs.declared.service.Service.TheVariants.{Ignored, Broken, Responded, Asked}
-use Rattle.association_session.specs.declared.service.Service.TheVariants.{Queried, Fetched}
-use Rattle.association_session.specs.Find.{AreRows, row_text, rows_in, status_of_found}
-use Rattle.association_session.specs.Finals.{data_in, is_pending, Requested, plain, selecting, RespondsTo, IsOnTheWay}
+use Rattle.association_services.specs.declared.reply.Reply.{Reply}
+use Rattle.association_services.specs.declared.reply.Reply.TheVariants.{Stored, Found, Gotten}
+use Rattle.association_services.specs.declared.service.Service.{Service}
+use Rattle.association_services.specs.declared.service.Service.TheVariants.{Ignored, Broken, Responded, Asked}
+use Rattle.association_services.specs.declared.service.Service.TheVariants.{Queried, Fetched}
+use Rattle.association_services.specs.Find.{AreRows, row_text, rows_in, status_of_found}
+use Rattle.association_session.specs.Finals.{data_in, Requested, plain, selecting, RespondsTo, IsOnTheWay}
 use Rattle.association_session.specs.Finals.{SendsOnTheWay, SendsLast, AreResponded, RequestsBy, Precedes, Replied}
 use Rattle.association_session.specs.Finals.{FewRequests, RepliedGet, RequestFor}
 use Rattle.association_session.specs.Finals.{next_of_get, RequestWithin, RequestOf, RequestIn, Requests, open_in}
 use Rattle.association_session.specs.Finals.{EndsInCall, IsOpen, HasResponses}
-use Rattle.association_session.specs.Get.{final_status, failed_set}
+use Rattle.association_services.specs.Get.{final_status, failed_set}
 use Rattle.association_session.specs.Order.{IsOrderly}
-use Rattle.association_session.specs.SubOperation.{Retrieval, SubOperation}
-use Rattle.association_session.specs.Retrieval.{few_in, setting_out, counting, RespondsIfLeft, RespondsBy}
-use Rattle.association_session.specs.Retrieval.{sub_operation}
-use Rattle.association_session.specs.Retrieval.{failing, sending, way_for, ByWay, Both, SendsOn, begun, begun_by}
-use Rattle.association_session.specs.Retrieval.{meaning_of, performed, cancelling}
-use Rattle.association_session.specs.declared.counts.Outcome.{Outcome}
-use Rattle.association_session.specs.declared.deed.Call.{Call}
-use Rattle.association_session.specs.declared.deed.Getting.{Getting}
-use Rattle.association_session.specs.declared.retrieval.Meaning.{Meaning}
-use Rattle.association_session.specs.declared.retrieval.Meaning.TheVariants.{Cancelled, Performed, Unawaited}
-use Rattle.association_session.specs.declared.retrieval.Progress.{Progress}
-use Rattle.association_session.specs.declared.way.Way.{Way}
+use Rattle.association_services.specs.SubOperation.{Retrieval, SubOperation}
+use Rattle.association_services.specs.Retrieval.{few_in, setting_out, counting, RespondsIfLeft, RespondsBy}
+use Rattle.association_services.specs.Retrieval.{sub_operation}
+use Rattle.association_services.specs.Retrieval.{failing, sending, way_for, ByWay, Both, SendsOn, begun, begun_by}
+use Rattle.association_services.specs.Retrieval.{meaning_of, performed, cancelling}
+use Rattle.association_services.specs.declared.counts.Outcome.{Outcome}
+use Rattle.association_services.specs.declared.call.Call.{Call}
+use Rattle.association_services.specs.declared.call.Getting.{Getting}
+use Rattle.association_services.specs.declared.retrieval.Meaning.{Meaning}
+use Rattle.association_services.specs.declared.retrieval.Meaning.TheVariants.{Cancelled, Performed, Unawaited}
+use Rattle.association_services.specs.declared.retrieval.Progress.{Progress}
+use Rattle.association_services.specs.declared.way.Way.{Way}
 use Rattle.data_set.specs.declared.syntax.Syntax.{Syntax}
 use Rattle.dictionary.specs.declared.commands.TheConstants.{C_GET_RQ}
 use Rattle.dimse.specs.declared.status.Status.TheVariants.{Cancel, Pending, UnableToPerformSubOperations}
@@ -57,22 +57,21 @@ use Rattle.pdu.specs.declared.context.Context.{Context}
 use Rattle.retrieve_model.specs.declared.prepared.Prepared.{Prepared}
 use Rattle.ul_state.specs.Acceptor.{kind_for}
 use Rattle.ul_state.specs.Table.{next_of}
-use Rattle.association_session.proofs.DataLaws.{AreData, sending_data, rows_data, sends_on_data, responds_by_data}
+use Rattle.association_services.proofs.DataLaws.{AreData, sending_data, rows_data, sends_on_data, responds_by_data}
 use Rattle.association_session.proofs.OrderLaws.{orderly}
 use Rattle.association_session.proofs.SelectedLaws.{selected_in, counts_add_up, starts_with_all, unsent_keeps_all}
 use Rattle.association_session.proofs.SelectedLaws.{sent_keeps_all, performed_keeps_all}
-use Rattle.association_session.proofs.StatusLaws.{served_final, served_pending, served_get, stored_final}
-use Rattle.association_session.proofs.StatusLaws.{found_final, counts_final}
-use Rattle.association_session.specs.Response.{Awaited, response_to, response_with}
+use Rattle.association_services.proofs.StatusLaws.{stored_final, found_final, counts_final}
+use Rattle.association_session.proofs.StatusLaws.{served_final, served_pending, served_get}
+use Rattle.association_services.specs.Response.{Awaited, is_pending, response_to, response_with}
 use Rattle.association_session.specs.Row.{Within, row, met}
 use Rattle.association_session.specs.Selected.{selected_by, remaining_in, TellsNoCounts}
-use Rattle.association_session.specs.Service.{Serves}
-use Rattle.association_session.specs.Store.{status_of_reply}
+use Rattle.association_services.specs.Store.{status_of_reply}
 use Rattle.association_session.specs.Talks.{Heard, Met, Said, Goes, GoesBy, Then, Tells, TellsRows, FollowsStore}
 use Rattle.association_session.specs.Talks.{FollowsFind}
 use Rattle.association_session.specs.Talks.{FollowsGet, BeginsFew, Begins, Does, InState, Attends, Performs, GoesOnBy}
 use Rattle.association_session.specs.Talks.{Talks}
-use Rattle.association_session.specs.Talks.{awaiting}
+use Rattle.association_session.specs.Talks.{Serves, awaiting}
 use Rattle.archive_model.specs.declared.view.View.{View}
 
 -- ---- what stands before a response

@@ -20,16 +20,17 @@ use Rattle.dimse.specs.declared.status.Status.{Status}
 use Rattle.data_set.specs.Set.{Set}
 use Rattle.operation.specs.declared.taken.Taken.{Taken}
 use Rattle.ul_state.specs.declared.acceptor.Settled.{Settled}
-use Rattle.association_session.specs.declared.deed.Call.{Call}
+use Rattle.association_services.specs.declared.call.Call.{Call}
 use Rattle.association_session.specs.declared.due.Due.{Due}
 use Rattle.association_session.specs.declared.due.Due.TheVariants as dues
-use Rattle.association_session.specs.declared.due.RowKind.{RowKind}
+use Rattle.association_services.specs.declared.service.RowKind.{RowKind}
 use Rattle.association_session.specs.declared.due.Telling.{Telling}
 use Rattle.association_session.specs.declared.event.SessionEvent.{SessionEvent}
-use Rattle.association_session.specs.declared.reply.PortFault.{PortFault}
+use Rattle.association_services.specs.declared.reply.PortFault.{PortFault}
 use Rattle.association_session.specs.Due.{IsAnswered, Fits}
-use Rattle.association_session.specs.Find.{rows_in, status_of_found}
-use Rattle.association_session.proofs.DataLaws.{AreData, data_state, sending_data}
+use Rattle.association_services.specs.Find.{rows_in, status_of_found}
+use Rattle.association_services.proofs.DataLaws.{AreData, sending_data}
+use Rattle.association_session.proofs.DataLaws.{data_state}
 use Rattle.dimse.specs.declared.fault.DimseFault.{DimseFault}
 use Rattle.dimse.specs.declared.fault.DimseFault.TheVariants.{Memory}
 use Rattle.dimse.specs.Assembly.{Assembly, Feeds}
@@ -37,26 +38,26 @@ use Rattle.dimse.specs.Messages.{Run, HadMemory}
 use Rattle.association_session.specs.declared.deed.Deed.{Deed}
 use Rattle.association_session.specs.declared.deed.Deed.TheVariants.{Send, Ask}
 use Rattle.association_session.specs.declared.event.SessionEvent.TheVariants.{GoesOn, Replied, Heard as IsHeard}
-use Rattle.association_session.specs.declared.reply.Reply.{Reply}
-use Rattle.association_session.specs.declared.reply.Reply.TheVariants.{Stored, Found, Gotten}
-use Rattle.association_session.specs.declared.service.Service.{Service}
-use Rattle.association_session.specs.declared.service.Service.TheVariants.{Responded}
+use Rattle.association_services.specs.declared.reply.Reply.{Reply}
+use Rattle.association_services.specs.declared.reply.Reply.TheVariants.{Stored, Found, Gotten}
+use Rattle.association_services.specs.declared.service.Service.{Service}
+use Rattle.association_services.specs.declared.service.Service.TheVariants.{Responded}
 use Rattle.association_session.specs.Projections.{state_after}
-use Rattle.association_session.specs.Response.{Awaited, FitsLimit}
-use Rattle.association_session.specs.Retrieval.{few_in, setting_out}
-use Rattle.association_session.specs.SubOperation.{Retrieval, SubOperation}
+use Rattle.association_services.specs.Response.{Awaited, FitsLimit}
+use Rattle.association_services.specs.Retrieval.{few_in, setting_out}
+use Rattle.association_services.specs.SubOperation.{Retrieval, SubOperation}
 use Rattle.retrieve_model.specs.declared.prepared.Prepared.{Prepared}
 use Rattle.data_set.specs.declared.syntax.Syntax.{Syntax}
 use Rattle.dimse.specs.declared.status.Status.TheVariants.{UnableToPerformSubOperations}
 use Rattle.association_session.specs.Row.{Within, Link, row, met, agreed_by, limit_in, handed_on}
-use Rattle.association_session.specs.Context.{context_in}
-use Rattle.association_session.specs.Service.{Serves, ServesOn}
-use Rattle.association_session.specs.Store.{status_of_reply}
+use Rattle.association_services.specs.Context.{context_in}
+use Rattle.association_services.specs.Service.{ServesOn}
+use Rattle.association_services.specs.Store.{status_of_reply}
 use Rattle.association_session.specs.Session.{AssociationState, Linked, assembly_in, assembly_of, heard_in, Turned}
 use Rattle.association_session.specs.Session.{Answered, Takes, Owes, OwedFor, OwedAt, Stops, entered, stage_by, IsTold}
 use Rattle.association_session.specs.Session.{IsWritable, IsToldBy, HearsValues, started}
 use Rattle.association_session.specs.Talks.{Heard, Met, Said, Goes, GoesBy, Then, Tells, FollowsFind, FollowsGet}
-use Rattle.association_session.specs.Talks.{BeginsFew, Does, InState, Answers, Attends, Talks, Leads, awaiting}
+use Rattle.association_session.specs.Talks.{BeginsFew, Does, InState, Answers, Attends, Talks, Leads, Serves, awaiting}
 use Rattle.archive_model.specs.declared.view.View.{View}
 
 -- ---- one value more

@@ -2,17 +2,13 @@ pub mod AnsweredLaws
 pub mod DataLaws
 pub mod DeedsLaws
 pub mod FinalLaws
-pub mod GetLaws
 pub mod HearLaws
 pub mod LimitLaws
 pub mod OrderLaws
-pub mod ResponseLaws
 pub mod RowLaws
 pub mod SelectedLaws
 pub mod SendLaws
-pub mod ServiceLaws
 pub mod StatusLaws
 pub mod TalkLaws
 pub mod TellLaws
 pub mod TurnLaws
-pub mod UidLaws

@@ -12,7 +12,7 @@ use Rattle.ul_state.specs.Admission.{is_too_short, by_title, is_version_one, is_
 use Rattle.ul_state.specs.Decision.{value_for}
 use Rattle.ul_state.specs.Titles.{title_of, without_spaces, may_call}
 use Rattle.ul_state.specs.Acceptor.{settled_with, settled_for}
-use Rattle.association_session.specs.Response.{FitsLimit}
+use Rattle.association_services.specs.Response.{FitsLimit}
 use Rattle.association_session.specs.Row.{sending_limit, limit_in}
 use Rattle.archive_model.specs.declared.view.View.{View}
 

@@ -18,36 +18,37 @@ use Rattle.ul_state.specs.Table.{next_of}
 use Rattle.ul_state.specs.Acceptor.{kind_for}
 use Rattle.dimse.specs.declared.message.Message.{Message}
 use Rattle.dimse.specs.declared.status.Status.{Status}
-use Rattle.association_session.specs.declared.deed.Call.TheVariants.{Store, Find, Get}
+use Rattle.association_services.specs.declared.call.Call.TheVariants.{Store, Find, Get}
 use Rattle.association_session.specs.declared.deed.Deed.{Deed}
 use Rattle.association_session.specs.declared.deed.Deed.TheVariants.{Send, Reach, Ask}
 use Rattle.association_session.specs.declared.deed.Moment.TheVariants.{InStore, FindAnswered}
-use Rattle.association_session.specs.declared.deed.Finding.{Finding}
-use Rattle.association_session.specs.declared.due.RowKind.{RowKind}
+use Rattle.association_services.specs.declared.call.Finding.{Finding}
+use Rattle.association_services.specs.declared.service.RowKind.{RowKind}
 use Rattle.data_set.specs.Set.{Set}
 use Rattle.operation.specs.Parts.{ContentParts}
-use Rattle.association_session.specs.declared.reply.Reply.{Reply}
-use Rattle.association_session.specs.declared.reply.Reply.TheVariants.{Stored, Found, Gotten}
-use Rattle.association_session.specs.declared.service.Service.{Service}
-use Rattle.association_session.specs.declared.service.Service.TheVariants.{Ignored, Broken, Responded, Asked}
-use Rattle.association_session.specs.declared.service.Service.TheVariants.{Queried, Fetched}
-use Rattle.association_session.specs.Find.{rows_in, status_of_found}
-use Rattle.association_session.proofs.DataLaws.{data_orderly, sending_data, rows_data, sends_on_data, responds_by_data}
+use Rattle.association_services.specs.declared.reply.Reply.{Reply}
+use Rattle.association_services.specs.declared.reply.Reply.TheVariants.{Stored, Found, Gotten}
+use Rattle.association_services.specs.declared.service.Service.{Service}
+use Rattle.association_services.specs.declared.service.Service.TheVariants.{Ignored, Broken, Responded, Asked}
+use Rattle.association_services.specs.declared.service.Service.TheVariants.{Queried, Fetched}
+use Rattle.association_services.specs.Find.{rows_in, status_of_found}
+use Rattle.association_services.proofs.DataLaws.{sending_data, rows_data, sends_on_data, responds_by_data}
+use Rattle.association_session.proofs.DataLaws.{data_orderly}
 use Rattle.association_session.specs.Order.{IsOrderly, IsReplied}
-use Rattle.association_session.specs.Response.{Awaited}
-use Rattle.association_session.specs.Retrieval.{few_in, setting_out, begun, meaning_of}
-use Rattle.association_session.specs.SubOperation.{Retrieval, SubOperation}
-use Rattle.association_session.specs.Retrieval.{performed, cancelling}
-use Rattle.association_session.specs.declared.deed.Getting.{Getting}
-use Rattle.association_session.specs.declared.retrieval.Meaning.{Meaning}
-use Rattle.association_session.specs.declared.retrieval.Meaning.TheVariants.{Cancelled, Performed, Unawaited}
-use Rattle.association_session.specs.declared.retrieval.Progress.{Progress}
+use Rattle.association_services.specs.Response.{Awaited}
+use Rattle.association_services.specs.Retrieval.{few_in, setting_out, begun, meaning_of}
+use Rattle.association_services.specs.SubOperation.{Retrieval, SubOperation}
+use Rattle.association_services.specs.Retrieval.{performed, cancelling}
+use Rattle.association_services.specs.declared.call.Getting.{Getting}
+use Rattle.association_services.specs.declared.retrieval.Meaning.{Meaning}
+use Rattle.association_services.specs.declared.retrieval.Meaning.TheVariants.{Cancelled, Performed, Unawaited}
+use Rattle.association_services.specs.declared.retrieval.Progress.{Progress}
 use Rattle.data_set.specs.declared.syntax.Syntax.{Syntax}
 use Rattle.dimse.specs.declared.status.Status.TheVariants.{UnableToPerformSubOperations}
 use Rattle.pdu.specs.declared.context.Context.{Context}
 use Rattle.retrieve_model.specs.declared.prepared.Prepared.{Prepared}
 use Rattle.association_session.specs.Row.{Within, row, met, deeds_of, action_on}
-use Rattle.association_session.specs.Store.{status_of_reply}
+use Rattle.association_services.specs.Store.{status_of_reply}
 use Rattle.association_session.specs.Talks.{Heard, Met, Said, Goes, GoesBy, Then, Tells, TellsRows, FollowsStore}
 use Rattle.association_session.specs.Talks.{FollowsFind}
 use Rattle.association_session.specs.Talks.{FollowsGet, BeginsFew, Begins, Does, InState, Answers, GoesOnBy, Performs}

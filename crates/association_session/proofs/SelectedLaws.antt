@@ -11,22 +11,22 @@ use Rattle.ul_state.specs.declared.event.Event.TheVariants.{LocalAbort}
 use Rattle.ul_state.specs.declared.table.State.{State}
 use Rattle.ul_state.specs.declared.table.State.TheVariants.{Sta1, Sta2, Sta6, Sta13}
 use Rattle.ul_state.specs.declared.titles.Title.{Title}
-use Rattle.association_session.specs.declared.counts.Counts.{Counts}
-use Rattle.association_session.specs.declared.counts.Outcome.{Outcome}
-use Rattle.association_session.specs.declared.counts.Outcome.TheVariants.{Completed, Warned, Failed}
+use Rattle.association_services.specs.declared.counts.Counts.{Counts}
+use Rattle.association_services.specs.declared.counts.Outcome.{Outcome}
+use Rattle.association_services.specs.declared.counts.Outcome.TheVariants.{Completed, Warned, Failed}
 use Rattle.association_session.specs.declared.deed.Deed.{Deed}
 use Rattle.association_session.specs.declared.deed.Deed.TheVariants.{Send}
-use Rattle.association_session.specs.declared.reply.Reply.{Reply}
-use Rattle.association_session.specs.declared.retrieval.Meaning.{Meaning}
-use Rattle.association_session.specs.declared.retrieval.Meaning.TheVariants.{Cancelled, Performed, Unawaited}
-use Rattle.association_session.specs.declared.retrieval.Progress.{Progress}
-use Rattle.association_session.specs.Get.{all_counted, counted}
-use Rattle.association_session.specs.Response.{Awaited}
-use Rattle.association_session.specs.Retrieval.{setting_out, counting, failing, sending, performed, RespondsBy}
-use Rattle.association_session.specs.Retrieval.{RespondsCancel, meaning_of}
+use Rattle.association_services.specs.declared.reply.Reply.{Reply}
+use Rattle.association_services.specs.declared.retrieval.Meaning.{Meaning}
+use Rattle.association_services.specs.declared.retrieval.Meaning.TheVariants.{Cancelled, Performed, Unawaited}
+use Rattle.association_services.specs.declared.retrieval.Progress.{Progress}
+use Rattle.association_services.specs.Get.{all_counted, counted}
+use Rattle.association_services.specs.Response.{Awaited}
+use Rattle.association_services.specs.Retrieval.{setting_out, counting, failing, sending, performed, RespondsBy}
+use Rattle.association_services.specs.Retrieval.{RespondsCancel, meaning_of}
 use Rattle.association_session.specs.Row.{Within, row, met}
 use Rattle.association_session.specs.Selected.{selected_by, remaining_in, AddsUp, EndsBy, CancelEnds}
-use Rattle.association_session.specs.SubOperation.{Retrieval, SubOperation}
+use Rattle.association_services.specs.SubOperation.{Retrieval, SubOperation}
 use Rattle.association_session.specs.Talks.{Heard, Goes, Then, GoesOnBy, Performs, Attends, InState, Talks}
 
 -- ---- its counts

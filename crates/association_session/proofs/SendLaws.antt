@@ -13,17 +13,17 @@ use Rattle.retrieve_model.specs.declared.prepared.Prepared.{Prepared}
 use Rattle.ul_state.specs.declared.event.Event.TheVariants.{LocalAbort}
 use Rattle.ul_state.specs.declared.table.State.TheVariants.{Sta6}
 use Rattle.ul_state.specs.declared.titles.Title.{Title}
-use Rattle.association_session.specs.declared.counts.Outcome.{Outcome}
+use Rattle.association_services.specs.declared.counts.Outcome.{Outcome}
 use Rattle.association_session.specs.declared.deed.Deed.{Deed}
-use Rattle.association_session.specs.declared.deed.Call.TheVariants.{Store, Find}
+use Rattle.association_services.specs.declared.call.Call.TheVariants.{Store, Find}
 use Rattle.association_session.specs.declared.deed.Deed.TheVariants.{Send, Reach, Ask}
-use Rattle.association_session.specs.declared.deed.Finding.{Finding}
+use Rattle.association_services.specs.declared.call.Finding.{Finding}
 use Rattle.association_session.specs.declared.deed.Moment.TheVariants.{InStore}
-use Rattle.association_session.specs.declared.due.RowKind.{RowKind}
-use Rattle.association_session.specs.declared.service.Service.{Service}
-use Rattle.association_session.specs.declared.service.Service.TheVariants.{Asked, Queried}
-use Rattle.association_session.specs.Context.{context_in}
-use Rattle.association_session.specs.Service.{ServesOn}
+use Rattle.association_services.specs.declared.service.RowKind.{RowKind}
+use Rattle.association_services.specs.declared.service.Service.{Service}
+use Rattle.association_services.specs.declared.service.Service.TheVariants.{Asked, Queried}
+use Rattle.association_services.specs.Context.{context_in}
+use Rattle.association_services.specs.Service.{ServesOn}
 use Rattle.operation.specs.Parts.{ContentParts}
 use Rattle.dimse.specs.declared.assembler.Stage.{Stage}
 use Rattle.pdu.specs.declared.pdv.Pdv.{Pdv}
@@ -31,28 +31,29 @@ use Rattle.ul_state.specs.declared.acceptor.Settled.{Settled}
 use Rattle.association_session.specs.declared.due.Due.{Due}
 use Rattle.association_session.specs.declared.due.Due.TheVariants as dues
 use Rattle.association_session.specs.declared.event.SessionEvent.TheVariants.{GoesOn}
-use Rattle.association_session.specs.declared.reply.Reply.{Reply}
-use Rattle.association_session.specs.declared.retrieval.Meaning.{Meaning}
-use Rattle.association_session.specs.declared.retrieval.Meaning.TheVariants.{Cancelled, Performed, Unawaited}
-use Rattle.association_session.specs.declared.retrieval.Progress.{Progress}
-use Rattle.association_session.specs.declared.way.Way.{Way}
+use Rattle.association_services.specs.declared.reply.Reply.{Reply}
+use Rattle.association_services.specs.declared.retrieval.Meaning.{Meaning}
+use Rattle.association_services.specs.declared.retrieval.Meaning.TheVariants.{Cancelled, Performed, Unawaited}
+use Rattle.association_services.specs.declared.retrieval.Progress.{Progress}
+use Rattle.association_services.specs.declared.way.Way.{Way}
 use Rattle.association_session.specs.Due.{IsAnswered, Fits, due_of, left_of}
-use Rattle.association_session.specs.Get.{final_status, failed_set}
+use Rattle.association_services.specs.Get.{final_status, failed_set}
 use Rattle.association_session.specs.Projections.{state_after}
-use Rattle.association_session.specs.Response.{FitsLimit}
-use Rattle.association_session.specs.Retrieval.{counting, sub_operation, failing, sending, way_for, ByWay, Both}
-use Rattle.association_session.specs.Retrieval.{SendsOn}
-use Rattle.association_session.specs.Retrieval.{RespondsIfLeft, RespondsEnd, RespondsBy, begun, begun_by, meaning_of}
-use Rattle.association_session.specs.Retrieval.{performed, cancelling}
+use Rattle.association_services.specs.Response.{FitsLimit}
+use Rattle.association_services.specs.Retrieval.{counting, sub_operation, failing, sending, way_for, ByWay, Both}
+use Rattle.association_services.specs.Retrieval.{SendsOn}
+use Rattle.association_services.specs.Retrieval.{RespondsIfLeft, RespondsEnd, RespondsBy, begun, begun_by, meaning_of}
+use Rattle.association_services.specs.Retrieval.{performed, cancelling}
 use Rattle.association_session.specs.Row.{Within, row}
 use Rattle.association_session.specs.Session.{AssociationState, Answered, Turned, OwedFor, OwedAt, Stops, IsToldBy}
 use Rattle.association_session.specs.Session.{IsFewer, FewerFor, entered}
-use Rattle.association_session.specs.SubOperation.{Retrieval, SubOperation}
+use Rattle.association_services.specs.SubOperation.{Retrieval, SubOperation}
 use Rattle.association_session.specs.Talks.{Goes, GoesBy, Then, Begins, GoesOnBy, Performs, Attends, Talks, awaiting}
-use Rattle.association_session.proofs.DataLaws.{AreData, sending_data, if_left_data, responds_by_data, data_state}
+use Rattle.association_services.proofs.DataLaws.{AreData, sending_data, if_left_data, responds_by_data}
+use Rattle.association_session.proofs.DataLaws.{data_state}
 use Rattle.association_session.proofs.HearLaws.{still, owed_at, sends_halt, answered_broken, answered_sent}
 use Rattle.association_session.proofs.HearLaws.{answered_asked}
-use Rattle.association_session.proofs.ResponseLaws.{sending_goes}
+use Rattle.association_services.proofs.ResponseLaws.{sending_goes}
 use Rattle.association_session.proofs.TellLaws.{sends_join}
 
 -- ---- what is left can be sent

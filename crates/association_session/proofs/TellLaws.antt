@@ -15,18 +15,19 @@ use Rattle.association_session.specs.declared.deed.Deed.TheVariants.{Send, Reach
 use Rattle.association_session.specs.declared.deed.Moment.TheVariants.{FindAnswered}
 use Rattle.association_session.specs.declared.due.Due.{Due}
 use Rattle.association_session.specs.declared.due.Due.TheVariants as dues
-use Rattle.association_session.specs.declared.due.RowKind.{RowKind}
+use Rattle.association_services.specs.declared.service.RowKind.{RowKind}
 use Rattle.association_session.specs.declared.event.SessionEvent.TheVariants.{GoesOn}
 use Rattle.association_session.specs.Due.{IsAnswered, Fits}
-use Rattle.association_session.specs.Find.{RespondsRow, AreRows, row_text}
+use Rattle.association_services.specs.Find.{RespondsRow, AreRows, row_text}
 use Rattle.association_session.specs.Projections.{state_after}
-use Rattle.association_session.specs.Response.{Awaited, FitsLimit, response_to, response_with}
+use Rattle.association_services.specs.Response.{Awaited, FitsLimit, response_to, response_with}
 use Rattle.association_session.specs.Row.{Within}
 use Rattle.association_session.specs.Session.{AssociationState, Turned, OwedAt, Stops, IsToldBy, TellsSome, IsEnd}
 use Rattle.association_session.specs.Session.{IsWritable}
 use Rattle.association_session.specs.Talks.{TellsRows, Talks}
-use Rattle.association_session.proofs.DataLaws.{data_then, data_state, rows_data, sending_data}
-use Rattle.association_session.proofs.ResponseLaws.{sending_goes}
+use Rattle.association_services.proofs.DataLaws.{rows_data, sending_data}
+use Rattle.association_session.proofs.DataLaws.{data_then, data_state}
+use Rattle.association_services.proofs.ResponseLaws.{sending_goes}
 use Rattle.association_session.proofs.HearLaws.{still, owed_at, none_due, none_fits, none_answered}
 
 -- ---- rows, one after another

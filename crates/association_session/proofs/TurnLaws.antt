@@ -10,10 +10,10 @@ use Rattle.ul_state.specs.declared.titles.Title.{Title}
 use Rattle.ul_state.specs.Table.{next_of, opens}
 use Rattle.ul_state.specs.Acceptor.{kind_for, settled_for, settled_by, CanBeWritten}
 use Rattle.ul_state.proofs.Openings.{settles_where_it_opens}
-use Rattle.association_session.specs.Response.{FitsLimit}
+use Rattle.association_services.specs.Response.{FitsLimit}
 use Rattle.pdu.specs.declared.pdv.Pdv.{Pdv}
 use Rattle.association_session.specs.declared.due.Due.{Due}
-use Rattle.association_session.specs.SubOperation.{SubOperation}
+use Rattle.association_services.specs.SubOperation.{SubOperation}
 use Rattle.association_session.specs.Row.{limit_in, agreed_by, handed_on}
 use Rattle.association_session.specs.Session.{AssociationState, Linked, stage_by, entered}
 use Rattle.association_session.proofs.LimitLaws.{settled_fits}

@@ -3,14 +3,14 @@ use Rattle.std.specs.Prelude.{◌≡◌, ◌⊎◌, List, [], ◌∷◌, ◌++�
 use Rattle.data_set.specs.Set.{Set}
 use Rattle.pdu.specs.declared.value.Pdu.{Pdu}
 use Rattle.dimse.specs.declared.status.Status.{Status}
-use Rattle.association_session.specs.declared.deed.Call.TheVariants.{Store, Find, Get}
+use Rattle.association_services.specs.declared.call.Call.TheVariants.{Store, Find, Get}
 use Rattle.association_session.specs.declared.deed.Deed.{Deed}
 use Rattle.association_session.specs.declared.deed.Deed.TheVariants.{Send, Reach, Ask, Close}
-use Rattle.association_session.specs.declared.deed.Finding.{Finding}
+use Rattle.association_services.specs.declared.call.Finding.{Finding}
 use Rattle.association_session.specs.declared.deed.Moment.TheVariants.{FindAnswered}
-use Rattle.association_session.specs.declared.due.RowKind.{RowKind}
-use Rattle.association_session.specs.Find.{AreRows, row_status}
-use Rattle.association_session.specs.Response.{Awaited, Responds}
+use Rattle.association_services.specs.declared.service.RowKind.{RowKind}
+use Rattle.association_services.specs.Find.{AreRows, row_status}
+use Rattle.association_services.specs.Response.{Awaited, Responds}
 
 -- the responses with its rows, each with FF01H where a key of the query is not supported and else with FF00H; then the
 -- last response, and then the gate is reached

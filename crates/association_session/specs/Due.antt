@@ -2,10 +2,10 @@
 use Rattle.std.specs.Prelude.{ℕ, suc, Bool, true, false, length, Option, Some, None, ⊤}
 use Rattle.association_session.specs.declared.due.Due.{Due}
 use Rattle.association_session.specs.declared.due.Due.TheVariants as dues
-use Rattle.association_session.specs.declared.reply.Reply.{Reply}
-use Rattle.association_session.specs.declared.reply.Reply.TheVariants.{Stored, Found, Gotten}
-use Rattle.association_session.specs.Response.{FitsLimit}
-use Rattle.association_session.specs.SubOperation.{Retrieval}
+use Rattle.association_services.specs.declared.reply.Reply.{Reply}
+use Rattle.association_services.specs.declared.reply.Reply.TheVariants.{Stored, Found, Gotten}
+use Rattle.association_services.specs.Response.{FitsLimit}
+use Rattle.association_services.specs.SubOperation.{Retrieval}
 
 -- whether the port's reply is awaited, and is one of this kind
 abbrev pub takes_reply : Due → Reply → Bool

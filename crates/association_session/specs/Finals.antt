@@ -15,29 +15,24 @@ use Rattle.dimse.specs.Status.{status_code}
 use Rattle.pdu.specs.declared.context.Context.{Context}
 use Rattle.retrieve_model.specs.declared.prepared.Prepared.{Prepared}
 use Rattle.dimse.specs.declared.status.Status.{Status}
-use Rattle.dimse.specs.declared.status.Status.TheVariants.{Success, SopClassNotSupported, UnrecognizedOperation}
-use Rattle.dimse.specs.declared.status.Status.TheVariants.{OutOfResources, UnableToPerformSubOperations}
-use Rattle.dimse.specs.declared.status.Status.TheVariants.{DataSetMismatch, SubOperationsWithFailures, CannotUnderstand}
-use Rattle.dimse.specs.declared.status.Status.TheVariants.{Cancel, Pending, PendingWithoutOptionalKeys}
-use Rattle.association_session.specs.declared.deed.Call.{Call}
+use Rattle.association_services.specs.declared.call.Call.{Call}
 use Rattle.association_session.specs.declared.deed.Deed.{Deed}
-use Rattle.association_session.specs.declared.reply.Reply.{Reply}
-use Rattle.association_session.specs.declared.reply.Reply.TheVariants.{Stored, Found, Gotten}
-use Rattle.association_session.specs.declared.retrieval.Meaning.{Meaning}
-use Rattle.association_session.specs.declared.retrieval.Meaning.TheVariants.{Cancelled, Performed, Unawaited}
-use Rattle.association_session.specs.declared.retrieval.Progress.{Progress}
+use Rattle.association_services.specs.declared.reply.Reply.{Reply}
+use Rattle.association_services.specs.declared.reply.Reply.TheVariants.{Stored, Found, Gotten}
+use Rattle.association_services.specs.declared.retrieval.Meaning.{Meaning}
+use Rattle.association_services.specs.declared.retrieval.Meaning.TheVariants.{Cancelled, Performed, Unawaited}
+use Rattle.association_services.specs.declared.retrieval.Progress.{Progress}
 use Rattle.association_session.specs.declared.deed.Deed.TheVariants.{Send, Reach, Ask, Close}
-use Rattle.association_session.specs.declared.service.Service.{Service}
-use Rattle.association_session.specs.declared.service.Service.TheVariants.{Ignored, Broken, Responded, Asked}
-use Rattle.association_session.specs.declared.service.Service.TheVariants.{Queried, Fetched}
-use Rattle.association_session.specs.Response.{Awaited}
-use Rattle.association_session.specs.SubOperation.{SubOperation}
-use Rattle.association_session.specs.Retrieval.{few_in, setting_out, begun, meaning_of, performed}
-use Rattle.association_session.specs.Retrieval.{cancelling}
+use Rattle.association_services.specs.declared.service.Service.{Service}
+use Rattle.association_services.specs.declared.service.Service.TheVariants.{Ignored, Broken, Responded, Asked}
+use Rattle.association_services.specs.declared.service.Service.TheVariants.{Queried, Fetched}
+use Rattle.association_services.specs.Response.{Awaited, is_pending}
+use Rattle.association_services.specs.SubOperation.{SubOperation}
+use Rattle.association_services.specs.Retrieval.{few_in, setting_out, begun, meaning_of, performed}
+use Rattle.association_services.specs.Retrieval.{cancelling}
 use Rattle.association_session.specs.Row.{Within, met}
 use Rattle.association_session.specs.Selected.{selected_by, CountsFor}
-use Rattle.association_session.specs.Service.{Serves}
-use Rattle.association_session.specs.Talks.{Heard, Met, Said, awaiting}
+use Rattle.association_session.specs.Talks.{Heard, Met, Said, Serves, awaiting}
 use Rattle.archive_model.specs.declared.view.View.{View}
 
 -- the P-DATA-TFs that are sent
@@ -53,20 +48,6 @@ data_in (Send (Abort source reason) ∷ ds) = data_in ds
 data_in (Reach moment ∷ ds) = data_in ds
 data_in (Ask call ∷ ds) = data_in ds
 data_in (Close ∷ ds) = data_in ds
-
--- more responses follow one with this status (PS3.7, C.1)
-abbrev pub is_pending : Status → Bool
-is_pending Success = false
-is_pending SopClassNotSupported = false
-is_pending UnrecognizedOperation = false
-is_pending OutOfResources = false
-is_pending UnableToPerformSubOperations = false
-is_pending DataSetMismatch = false
-is_pending SubOperationsWithFailures = false
-is_pending CannotUnderstand = false
-is_pending Cancel = false
-is_pending Pending = true
-is_pending PendingWithoutOptionalKeys = true
 
 -- a request that awaits its responses, and how many instances it selected, where it is a C-GET whose sub-operations are
 -- performed

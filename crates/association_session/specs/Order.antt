@@ -6,7 +6,7 @@ use Rattle.ul_state.specs.declared.table.State.{State}
 use Rattle.ul_state.specs.declared.table.State.TheVariants.{Sta1, Sta2, Sta6, Sta13}
 use Rattle.association_session.specs.declared.deed.Deed.{Deed}
 use Rattle.association_session.specs.declared.deed.Deed.TheVariants.{Send, Reach, Ask, Close}
-use Rattle.association_session.specs.declared.reply.Reply.{Reply}
+use Rattle.association_services.specs.declared.reply.Reply.{Reply}
 use Rattle.association_session.specs.Projections.{state_after}
 
 -- What may be done in a state (PS3.8, 9.2): anything while the association is established; before it no call of the

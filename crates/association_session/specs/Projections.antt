@@ -5,7 +5,7 @@ use Rattle.pdu.specs.declared.value.Pdu.TheVariants.{AssociateRq, AssociateAc, A
 use Rattle.pdu.specs.declared.value.Pdu.TheVariants.{Abort}
 use Rattle.ul_state.specs.declared.table.State.{State}
 use Rattle.ul_state.specs.declared.table.State.TheVariants.{Sta1, Sta6, Sta13}
-use Rattle.association_session.specs.declared.deed.Call.{Call}
+use Rattle.association_services.specs.declared.call.Call.{Call}
 use Rattle.association_session.specs.declared.deed.Deed.{Deed}
 use Rattle.association_session.specs.declared.deed.Deed.TheVariants.{Send, Reach, Ask, Close}
 use Rattle.association_session.specs.declared.deed.Moment.{Moment}

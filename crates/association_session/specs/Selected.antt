@@ -8,13 +8,13 @@ use Rattle.ul_state.specs.declared.table.State.TheVariants.{Sta6}
 use Rattle.ul_state.specs.declared.titles.Title.{Title}
 use Rattle.association_session.specs.declared.deed.Deed.{Deed}
 use Rattle.association_session.specs.declared.deed.Deed.TheVariants.{Send}
-use Rattle.association_session.specs.declared.reply.Reply.{Reply}
-use Rattle.association_session.specs.declared.retrieval.Meaning.{Meaning}
-use Rattle.association_session.specs.declared.retrieval.Meaning.TheVariants.{Cancelled, Performed, Unawaited}
-use Rattle.association_session.specs.Get.{all_counted}
-use Rattle.association_session.specs.Retrieval.{cancelling, performed, meaning_of, RespondsCancel}
+use Rattle.association_services.specs.declared.reply.Reply.{Reply}
+use Rattle.association_services.specs.declared.retrieval.Meaning.{Meaning}
+use Rattle.association_services.specs.declared.retrieval.Meaning.TheVariants.{Cancelled, Performed, Unawaited}
+use Rattle.association_services.specs.Get.{all_counted}
+use Rattle.association_services.specs.Retrieval.{cancelling, performed, meaning_of, RespondsCancel}
 use Rattle.association_session.specs.Row.{Within, row, met}
-use Rattle.association_session.specs.SubOperation.{SubOperation}
+use Rattle.association_services.specs.SubOperation.{SubOperation}
 use Rattle.association_session.specs.Talks.{Heard, Said, Then, Talks}
 
 -- ---- its counts

@@ -26,20 +26,20 @@ use Rattle.dimse.specs.Assembly.{Assembly}
 use Rattle.dimse.specs.Messages.{Run, HadMemory}
 use Rattle.association_session.specs.declared.due.Due.{Due}
 use Rattle.association_session.specs.declared.due.Due.TheVariants as dues
-use Rattle.association_session.specs.declared.deed.Call.{Call}
-use Rattle.association_session.specs.declared.deed.Call.TheVariants.{Store, Find, Get}
+use Rattle.association_services.specs.declared.call.Call.{Call}
+use Rattle.association_services.specs.declared.call.Call.TheVariants.{Store, Find, Get}
 use Rattle.association_session.specs.declared.deed.Deed.{Deed}
 use Rattle.association_session.specs.declared.deed.Deed.TheVariants.{Send, Reach, Ask, Close}
 use Rattle.association_session.specs.declared.deed.Moment.TheVariants.{FindAnswered}
-use Rattle.association_session.specs.declared.due.RowKind.{RowKind}
+use Rattle.association_services.specs.declared.service.RowKind.{RowKind}
 use Rattle.association_session.specs.declared.event.SessionEvent.{SessionEvent}
 use Rattle.association_session.specs.declared.event.SessionEvent.TheVariants as inputs
-use Rattle.association_session.specs.declared.reply.Reply.{Reply}
+use Rattle.association_services.specs.declared.reply.Reply.{Reply}
 use Rattle.association_session.specs.Due.{takes_reply, is_telling, IsAnswered, left_of, Fits}
-use Rattle.association_session.specs.Find.{AreRows}
+use Rattle.association_services.specs.Find.{AreRows}
 use Rattle.association_session.specs.Projections.{state_after}
-use Rattle.association_session.specs.Response.{Awaited, Responds}
-use Rattle.association_session.specs.SubOperation.{SubOperation}
+use Rattle.association_services.specs.Response.{Awaited, Responds}
+use Rattle.association_services.specs.SubOperation.{SubOperation}
 use Rattle.association_session.specs.Row.{Link, Within, met, handed_on, opening, NO_LINK}
 use Rattle.association_session.specs.Talks.{Heard, Met, Said, Goes, GoesBy, FollowsStore, FollowsFind, FollowsGet}
 use Rattle.association_session.specs.Talks.{TellsRows, Begins, Talks, Leads}

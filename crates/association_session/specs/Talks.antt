@@ -1,8 +1,8 @@
 -- What an association does for what it hears, given what its port replies (PS3.7, 9; PS3.8, 9.2).
 --
 -- It hears PDUs, and behind each P-DATA-TF that is handed on the messages that it ends. What each message is answered
--- is a table, a line a service: `ServesKind` of Service.antt, over a table for each service. A C-GET hands on the
--- sub-operation whose response it awaits, so that its responses and its C-CANCEL are heard by the same recursion.
+-- is a table, a line a service: `ServesKind` of `association_services`, over a table for each service. A C-GET hands on
+-- the sub-operation whose response it awaits, so that its responses and its C-CANCEL are heard by the same recursion.
 use Rattle.std.specs.Prelude.{◌≡◌, ◌⊎◌, List, [], ◌∷◌, ◌++◌, map, Option, Some, None}
 use Rattle.pdu.specs.declared.value.Pdu.{Pdu}
 use Rattle.ul_state.specs.declared.event.Event.{Event}
@@ -17,27 +17,28 @@ use Rattle.pdu.specs.declared.context.Context.{Context}
 use Rattle.data_set.specs.declared.syntax.Syntax.{Syntax}
 use Rattle.retrieve_model.specs.declared.prepared.Prepared.{Prepared}
 use Rattle.data_set.specs.Set.{Set}
-use Rattle.association_session.specs.declared.deed.Call.TheVariants.{Store, Find, Get}
+use Rattle.association_services.specs.declared.call.Call.TheVariants.{Store, Find, Get}
 use Rattle.association_session.specs.declared.deed.Deed.{Deed}
 use Rattle.association_session.specs.declared.deed.Deed.TheVariants.{Send, Reach, Ask}
 use Rattle.association_session.specs.declared.deed.Moment.TheVariants.{InStore, FindAnswered}
-use Rattle.association_session.specs.declared.due.RowKind.{RowKind}
-use Rattle.association_session.specs.declared.reply.Reply.{Reply}
-use Rattle.association_session.specs.declared.reply.Reply.TheVariants.{Stored, Found, Gotten}
-use Rattle.association_session.specs.declared.retrieval.Meaning.{Meaning}
-use Rattle.association_session.specs.declared.retrieval.Meaning.TheVariants.{Cancelled, Performed, Unawaited}
-use Rattle.association_session.specs.declared.retrieval.Progress.{Progress}
-use Rattle.association_session.specs.declared.service.Service.{Service}
-use Rattle.association_session.specs.declared.service.Service.TheVariants.{Ignored, Broken, Responded, Asked}
-use Rattle.association_session.specs.declared.service.Service.TheVariants.{Queried, Fetched}
-use Rattle.association_session.specs.Find.{AreRows, rows_in, status_of_found}
-use Rattle.association_session.specs.Response.{Awaited, Responds}
-use Rattle.association_session.specs.Retrieval.{few_in, setting_out, SendsOn, begun, meaning_of}
-use Rattle.association_session.specs.SubOperation.{Retrieval, SubOperation}
-use Rattle.association_session.specs.Retrieval.{performed, cancelling, RespondsBy}
+use Rattle.association_services.specs.declared.service.RowKind.{RowKind}
+use Rattle.association_services.specs.declared.reply.Reply.{Reply}
+use Rattle.association_services.specs.declared.reply.Reply.TheVariants.{Stored, Found, Gotten}
+use Rattle.association_services.specs.declared.retrieval.Meaning.{Meaning}
+use Rattle.association_services.specs.declared.retrieval.Meaning.TheVariants.{Cancelled, Performed, Unawaited}
+use Rattle.association_services.specs.declared.retrieval.Progress.{Progress}
+use Rattle.association_services.specs.declared.service.Service.{Service}
+use Rattle.association_services.specs.declared.service.Service.TheVariants.{Ignored, Broken, Responded, Asked}
+use Rattle.association_services.specs.declared.service.Service.TheVariants.{Queried, Fetched}
+use Rattle.association_services.specs.Context.{context_in}
+use Rattle.association_services.specs.Find.{AreRows, rows_in, status_of_found}
+use Rattle.association_services.specs.Response.{Awaited, Responds}
+use Rattle.association_services.specs.Retrieval.{few_in, setting_out, SendsOn, begun, meaning_of}
+use Rattle.association_services.specs.SubOperation.{Retrieval, SubOperation}
+use Rattle.association_services.specs.Retrieval.{performed, cancelling, RespondsBy}
 use Rattle.association_session.specs.Row.{Link, Within, row, met}
-use Rattle.association_session.specs.Service.{Serves}
-use Rattle.association_session.specs.Store.{status_of_reply}
+use Rattle.association_services.specs.Service.{ServesOn}
+use Rattle.association_services.specs.Store.{status_of_reply}
 use Rattle.archive_model.specs.declared.view.View.{View}
 
 -- a PDU or the local user's abort, or a whole message
@@ -108,6 +109,10 @@ FollowsGet contexts awaited syntax gets goes (Stored reply ∷ rs) deeds = ⊥
 FollowsGet contexts awaited syntax gets goes (Found reply ∷ rs) deeds = ⊥
 
 -- ---- what is done for a message
+
+-- what it is answered, on the context that it names of those that were agreed
+abbrev pub Serves : Within → Message → Service → Type 0
+Serves w m service = ServesOn w.settled (context_in w.link.contexts m.context) m.command m.body service
 
 -- the request that is to be responded
 abbrev pub awaiting : Link → Message → Awaited

@@ -10,30 +10,28 @@ ghost use Rattle.ul_state.specs.Table.{next_of, opens};
 ghost use Rattle.ul_state.specs.Acceptor.{kind_for, settled_by, HasLawfulPdu, CanBeWritten};
 ghost use Rattle.dimse.specs.Sending.{IsWhole};
 ghost use Rattle.ul_state.specs.declared.titles.Title.{Title};
-ghost use Rattle.association_session.specs.declared.deed.Call.TheVariants.{Store};
+ghost use Rattle.association_services.specs.declared.call.Call.TheVariants.{Store};
 ghost use Rattle.association_session.specs.declared.deed.Deed.TheVariants.{Send, Reach, Ask};
 ghost use Rattle.association_session.specs.declared.deed.Moment.TheVariants.{InStore};
 ghost use Rattle.association_session.specs.declared.event.SessionEvent.TheVariants.{Heard, Replied, GoesOn};
 ghost use Rattle.association_session.specs.Row.{action_on, agreed_by, limit_in, deeds_of, values_of, row};
-ghost use Rattle.association_session.specs.declared.reply.Reply.TheVariants.{Stored, Found, Gotten};
+ghost use Rattle.association_services.specs.declared.reply.Reply.TheVariants.{Stored, Found, Gotten};
 ghost use Rattle.association_session.specs.Due.{tells_rows, has_rows, is_sending};
-ghost use Rattle.association_session.specs.Find.{RespondsRow};
+ghost use Rattle.association_services.specs.Find.{RespondsRow};
 ghost use Rattle.association_session.specs.Session.{start, closed, is_left, is_in_turn, stage_by, IsTold, Answered, Turned, entered, IsWritable, IsSound, IsFewer, TellsSome, IsEnd};
 ghost use Rattle.archive_model.specs.declared.view.View.{View};
 
-use crate::awaited::Awaited;
-use crate::deed::{Call, Deed, Moment};
+use crate::deed::{Deed, Moment};
 use crate::deeds::Deeds;
-use crate::due::{Due, RowKind, Telling, are_rows, are_sent, due_for, is_telling, takes};
+use crate::due::{Due, Telling, are_rows, are_sent, due_for, is_telling, takes};
 use crate::event::SessionEvent;
-use crate::find::{found, row_text};
 use crate::limit::limit_of;
 use crate::link::Link;
-use crate::reply::{PortFault, Reply};
-use crate::retrieval::{Begun, Meaning, Retrieval, SubOperation, few};
-use crate::service::{Service, serve};
-use crate::store::status_for;
 use archive_model::View;
+use association_services::{
+    Awaited, Begun, Call, Meaning, PortFault, Reply, Retrieval, RowKind, Service, SubOperation, few,
+    found, row_text, serve, status_for,
+};
 use dimse::{Fragments, Message, Status};
 use octets::ListOf;
 use operation::{Content, Taken};

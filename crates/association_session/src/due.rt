@@ -3,19 +3,10 @@
 ghost use Rattle.std.specs.Prelude.{◌≡◌};
 ghost use Rattle.association_session.specs.Due.{takes_reply, is_telling as is_telling_due, has_rows, is_sending, due_of};
 
-use crate::awaited::Awaited;
-use crate::reply::Reply;
-use crate::retrieval::Retrieval;
+use association_services::{Awaited, Reply, Retrieval, RowKind};
 use data_set::Syntax;
 use dimse::Status;
 use query_model::Answers;
-
-/// How the rows of a query are responded: in this transfer syntax, and with this status.
-#[derive(Clone, Copy)]
-pub(crate) struct RowKind {
-    pub(crate) syntax: Syntax,
-    pub(crate) status: Status,
-}
 
 /// Rows that are told, and the status that ends them.
 #[derive(Drop)]

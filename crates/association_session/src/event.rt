@@ -1,6 +1,6 @@
 //! What reaches a session.
 
-use crate::reply::Reply;
+use association_services::Reply;
 use ul_state::Event;
 
 /// What reaches a session.

@@ -4,14 +4,14 @@ ghost use Rattle.std.specs.Prelude.{◌≡◌, ◌≤◌, ◌++◌, List, ℕ, O
 ghost use Rattle.ul_state.specs.declared.titles.Title.{Title};
 ghost use Rattle.dimse.specs.declared.status.Status.{Status};
 ghost use Rattle.association_session.specs.declared.deed.Deed.{Deed};
-ghost use Rattle.association_session.specs.declared.reply.Reply.{Reply};
+ghost use Rattle.association_services.specs.declared.reply.Reply.{Reply};
 ghost use Rattle.association_session.specs.Answered.{AreAnswered};
 ghost use Rattle.association_session.specs.Finals.{HasResponses};
 ghost use Rattle.association_session.specs.Order.{IsOrderly, IsReplied};
 ghost use Rattle.association_session.specs.Projections.{IsFront};
-ghost use Rattle.association_session.specs.Response.{Awaited, IsResponse};
+ghost use Rattle.association_services.specs.Response.{Awaited, IsResponse};
 ghost use Rattle.association_session.specs.Selected.{CancelEnds};
-ghost use Rattle.association_session.specs.SubOperation.{SubOperation};
+ghost use Rattle.association_services.specs.SubOperation.{SubOperation};
 ghost use Rattle.association_session.specs.Row.{Within};
 ghost use Rattle.association_session.specs.Talks.{Heard, Talks};
 ghost use Rattle.archive_model.specs.declared.view.View.{View};

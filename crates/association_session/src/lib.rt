@@ -3,33 +3,22 @@
 //! A session has no reader, no writer and no port. `Session::on` is told what was read, or what the
 //! port replied, and answers what is done: PDUs are sent, the gate is reached, the port is asked,
 //! the connection is closed. What an association does for all that it hears is `Talks` of
-//! `specs/Talks.antt`, and what each message is answered is a table a service: `specs/Echo.antt`,
-//! `specs/Store.antt`, `specs/Find.antt`, `specs/Get.antt`, and `specs/Service.antt` above them.
+//! `specs/Talks.antt`, and what each message is answered are the tables of `association_services`.
 #![tactic(auto)]
 
 mod association;
-mod awaited;
-mod context;
-mod counts;
 mod deed;
 mod deeds;
 mod due;
-mod echo;
 mod event;
-mod find;
-mod get;
 mod laws;
 mod limit;
 mod link;
 mod numbers;
-mod reply;
-mod retrieval;
-mod service;
 mod session;
-mod store;
-mod way;
 
-pub use deed::{Call, Deed, Finding, Getting, Moment};
+pub use association_services::{Call, Finding, Getting, PortFault, Reply};
+pub use deed::{Deed, Moment};
 pub use deeds::Deeds;
 pub use event::SessionEvent;
 pub use laws::{
@@ -38,5 +27,4 @@ pub use laws::{
     nothing_is_asked_after_goodbye, there_is_one_list_of_deeds,
 };
 pub use numbers::limits_are_these;
-pub use reply::{PortFault, Reply};
 pub use session::Session;

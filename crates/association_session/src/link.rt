@@ -5,7 +5,7 @@ ghost use Rattle.std.specs.Option.{option_copied};
 ghost use Rattle.dimse.specs.Assembly.{Feeds};
 ghost use Rattle.dimse.specs.Sending.{IsWhole};
 ghost use Rattle.dimse.specs.declared.assembler.Stage.TheVariants.{Between};
-ghost use Rattle.association_session.specs.Response.{FitsLimit};
+ghost use Rattle.association_services.specs.Response.{FitsLimit};
 ghost use Rattle.association_session.specs.Row.{NO_LINK, agreed_by};
 ghost use Rattle.association_session.specs.Session.{stage_by, assembly_in};
 
@@ -29,7 +29,7 @@ pub(crate) struct Link {
 impl Model for Link {
     ghost use Rattle.association_session.specs.Row.{Link as Agreed};
     ghost use Rattle.association_session.specs.Session.{Linked};
-    ghost use Rattle.association_session.specs.Response.{FitsLimit};
+    ghost use Rattle.association_services.specs.Response.{FitsLimit};
 
     ghost Value = { Linked };
 

@@ -21,9 +21,9 @@ use Rattle.site_hub.specs.Fault.{IsLookFault}
 use Rattle.site_hub.specs.History.{set_of, entry_of, IsHistory}
 use Rattle.site_hub.specs.Hub.{Seat, News, WasHeld, IsTaken, IsClashed, IsLater, HasLooked}
 use Rattle.site_hub.proofs.Histories.{set_of_more, stays, history_is_site}
-use Rattle.association_session.specs.declared.deed.Finding.{Finding}
-use Rattle.association_session.specs.declared.deed.Getting.{Getting}
-use Rattle.association_session.specs.declared.reply.PortFault.{PortFault}
+use Rattle.association_services.specs.declared.call.Finding.{Finding}
+use Rattle.association_services.specs.declared.call.Getting.{Getting}
+use Rattle.association_services.specs.declared.reply.PortFault.{PortFault}
 use Rattle.association_run.specs.Port as port
 use Rattle.association_worker.specs.Port.{fault_of_hub, reply_to}
 use Rattle.association_worker.proofs.PortLaws.{leaves, holds_now, other_at_own, taken_at_turn}

@@ -20,10 +20,10 @@ use Rattle.data_set.specs.Set.{Set}
 use Rattle.query_model.specs.Rows.{rows_of}
 use Rattle.retrieve_model.specs.declared.prepared.Prepared.{Prepared}
 use Rattle.retrieve_model.specs.Preparing.{prepared_of}
-use Rattle.association_session.specs.declared.deed.Finding.{Finding}
-use Rattle.association_session.specs.declared.deed.Getting.{Getting}
-use Rattle.association_session.specs.declared.reply.PortFault.{PortFault}
-use Rattle.association_session.specs.declared.reply.PortFault.TheVariants.{Memory, Busy, Collision, Shelf}
+use Rattle.association_services.specs.declared.call.Finding.{Finding}
+use Rattle.association_services.specs.declared.call.Getting.{Getting}
+use Rattle.association_services.specs.declared.reply.PortFault.{PortFault}
+use Rattle.association_services.specs.declared.reply.PortFault.TheVariants.{Memory, Busy, Collision, Shelf}
 use Rattle.association_run.specs.Port.{AreHeld, HasNoneAt, HasOtherAt, HasAdded, TakesInto, IsTaken, IsClashed}
 use Rattle.association_run.specs.Port.{ComesOf, Leaves, Stores, Finds, Gets, IsFindFault}
 use Rattle.association_worker.specs.Port.{PortParts}

@@ -10,8 +10,8 @@ use Rattle.site_state.specs.Site.{Map}
 use Rattle.site_hub.specs.declared.fault.HubFault.{HubFault}
 use Rattle.site_hub.specs.declared.fault.HubFault.TheVariants as hub_faults
 use Rattle.site_hub.specs.Hub.{News}
-use Rattle.association_session.specs.declared.reply.PortFault.{PortFault}
-use Rattle.association_session.specs.declared.reply.PortFault.TheVariants.{Memory, Busy, Collision}
+use Rattle.association_services.specs.declared.reply.PortFault.{PortFault}
+use Rattle.association_services.specs.declared.reply.PortFault.TheVariants.{Memory, Busy, Collision}
 
 -- what a site holds, and the digests of the contents that were stored in it
 pub record PortParts : Type 0 where

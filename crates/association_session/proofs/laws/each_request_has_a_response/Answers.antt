@@ -1,4 +1,4 @@
-use Rattle.association_session.proofs.ResponseLaws.{each_has_a_response}
+use Rattle.association_services.proofs.ResponseLaws.{each_has_a_response}
 use Rattle.association_session.proofs.laws.each_request_has_a_response.Goals as goal
 
 -- Each request has one final response, unless the association ends before it.

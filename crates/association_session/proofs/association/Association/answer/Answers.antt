@@ -4,7 +4,7 @@ use Rattle.association_session.proofs.HearLaws.{ok_map, answered_told, at_contex
 use Rattle.association_session.proofs.HearLaws.{at_queue}
 use Rattle.association_session.proofs.HearLaws.{at_sub}
 use Rattle.association_session.proofs.SendLaws.{answered_store, answered_find, state_is}
-use Rattle.association_session.proofs.ServiceLaws.{IsServed, can_respond}
+use Rattle.association_services.proofs.ServiceLaws.{IsServed, can_respond}
 use Rattle.association_session.proofs.association.Association.answer.Goals as goal
 
 -- The message is responded on the link that was agreed.

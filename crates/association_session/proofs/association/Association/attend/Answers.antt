@@ -1,7 +1,7 @@
 use Rattle.std.proofs.Common.{None, ◌∙◌, sym, subst}
 use Rattle.association_session.specs.Due.{due_of}
-use Rattle.association_session.specs.Response.{FitsLimit}
-use Rattle.association_session.specs.SubOperation.{SubOperation}
+use Rattle.association_services.specs.Response.{FitsLimit}
+use Rattle.association_services.specs.SubOperation.{SubOperation}
 use Rattle.association_session.proofs.HearLaws.{ok_map, all_is, at_place, at_stage, at_queue, at_sub}
 use Rattle.association_session.proofs.SendLaws.{attended_performed, state_is}
 use Rattle.association_session.proofs.association.Association.attend.Goals as goal

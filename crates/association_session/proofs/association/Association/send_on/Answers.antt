@@ -3,11 +3,11 @@ use Rattle.std.specs.Prelude.{All}
 use Rattle.pdu.specs.Spelling.{IsPdu}
 use Rattle.association_session.specs.declared.due.Due.{Due}
 use Rattle.association_session.specs.declared.due.Due.TheVariants as dues
-use Rattle.association_session.specs.declared.retrieval.Begun.{Begun}
-use Rattle.association_session.specs.declared.retrieval.Begun.TheVariants.{Ended, Sent, Unsent}
-use Rattle.association_session.specs.Response.{FitsLimit}
-use Rattle.association_session.specs.Retrieval.{Begins, pdus_begun}
-use Rattle.association_session.specs.SubOperation.{Retrieval}
+use Rattle.association_services.specs.declared.retrieval.Begun.{Begun}
+use Rattle.association_services.specs.declared.retrieval.Begun.TheVariants.{Ended, Sent, Unsent}
+use Rattle.association_services.specs.Response.{FitsLimit}
+use Rattle.association_services.specs.Retrieval.{Begins, pdus_begun}
+use Rattle.association_services.specs.SubOperation.{Retrieval}
 use Rattle.association_session.proofs.HearLaws.{ok_map, all_is, at_awaited, at_place, at_stage, at_queue, at_sub}
 use Rattle.association_session.proofs.HearLaws.{at_contexts}
 use Rattle.association_session.proofs.SendLaws.{ended_turn, sent_turn, unsent_turn, state_is}

@@ -1,7 +1,7 @@
 use Rattle.std.proofs.Common.{Some, List, refl, ◌∙◌, sym, ap, subst}
 use Rattle.association_session.specs.declared.deed.Deed.{Deed}
 use Rattle.association_session.specs.declared.due.Due.{Due}
-use Rattle.association_session.specs.Response.{Awaited, FitsLimit}
+use Rattle.association_services.specs.Response.{Awaited, FitsLimit}
 use Rattle.association_session.specs.Session.{TellsSome}
 use Rattle.association_session.proofs.HearLaws.{at_awaited, at_place, at_sub, at_stage, at_queue}
 use Rattle.association_session.proofs.TellLaws.{told_some, told_all, empty_of}

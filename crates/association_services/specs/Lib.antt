@@ -1,0 +1,10 @@
+pub mod Context
+pub mod Echo
+pub mod Find
+pub mod Get
+pub mod Reply
+pub mod Response
+pub mod Retrieval
+pub mod Service
+pub mod Store
+pub mod SubOperation

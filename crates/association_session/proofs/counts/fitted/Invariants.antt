@@ -1,7 +1,0 @@
-use Rattle.std.proofs.Common.{◌≡◌, ◌++◌, take, drop}
-use Rattle.association_session.specs.Get.{fitting}
-use Rattle.association_session.proofs.counts.fitted.Given as goal
-
--- those so far have room, and then those that have room in what is left
-abbrev pub invariant-loop-i : goal.invariant-loop-i
-invariant-loop-i l = take l.i l.uids ++ fitting l.left (drop l.i l.uids) ≡ fitting l.room l.uids
