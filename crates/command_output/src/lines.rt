@@ -1,24 +1,15 @@
 //! The lines that commands print on standard output.
 
 ghost use Rattle.std.specs.Prelude.{◌≡◌, ◌++◌, [], OnOk, IfOk};
-ghost use Rattle.std.specs.Fmt.{decimal};
 ghost use Rattle.std.specs.List.{flat_map};
 ghost use Rattle.site_simulation.specs.Texts.{line, end_line, message_line, stamp_line};
 ghost use Rattle.command_output.specs.Lines.{count_lines, exchange_lines, finished_line, flagged_line, report_lines};
 
 use exchange_run::Ended;
-use octets::Octets;
+use octets::{Octets, put_digits};
 use operation::Stamp;
 use shelved_site::Report;
 use std::alloc::{AllocError, Global};
-
-/// A number in decimal digits.
-fn put_number(alloc: Global, out: &mut Vec<u8>, number: u64) -> Result<(), AllocError>
-    ensures { OnOk result (out.new.items ≡ out.old.items ++ decimal number) }
-{
-    let digits = number.to_string(alloc)?;
-    out.extend_from_slice(digits.as_bytes())
-}
 
 /// A line of a word and a number.
 fn put_count(alloc: Global, out: &mut Vec<u8>, word: &[u8], number: u64) -> Result<(), AllocError>
@@ -26,7 +17,7 @@ fn put_count(alloc: Global, out: &mut Vec<u8>, word: &[u8], number: u64) -> Resu
 {
     out.extend_from_slice(word)?;
     out.push(b' ')?;
-    put_number(alloc, out, number)?;
+    put_digits(alloc, out, number)?;
     out.push(b'\n')?;
     Ok(())
 }
@@ -76,9 +67,9 @@ pub fn line_of_stamp(alloc: Global, stamp: Stamp) -> Result<Vec<u8>, AllocError>
 {
     let mut out = Vec::new(alloc);
     out.extend_from_slice(b"stamp ")?;
-    put_number(alloc, &mut out, stamp.counter)?;
+    put_digits(alloc, &mut out, stamp.counter)?;
     out.push(b' ')?;
-    put_number(alloc, &mut out, u64::from(stamp.site))?;
+    put_digits(alloc, &mut out, u64::from(stamp.site))?;
     out.push(b'\n')?;
     Ok(out)
 }

@@ -1,7 +1,6 @@
 //! The texts that a script prints.
 
 ghost use Rattle.std.specs.Prelude.{◌≡◌, ◌++◌, ◌∷◌, [], OnOk};
-ghost use Rattle.std.specs.Fmt.{decimal};
 ghost use Rattle.site_simulation.specs.Faults.{number_of_site_fault};
 ghost use Rattle.site_simulation.specs.Texts.{line, fault_line, site_line, taken_line, stamp_line};
 ghost use Rattle.site_simulation.specs.Texts.{end_line, uid_lines, flagged_lines, same_line};
@@ -14,19 +13,11 @@ use archive_query::Answer;
 use archive_retrieve::Sending;
 use bytes::Bytes;
 use data_set::{Syntax, write};
-use octets::Octets;
+use octets::{Octets, put_digits};
 use operation::Stamp;
 use site_state::{SiteFault, Taken};
 use site_world::{Seen, WorldFault};
 use std::alloc::{AllocError, Global};
-
-/// A number in decimal digits.
-fn put_number(alloc: Global, out: &mut Vec<u8>, number: u64) -> Result<(), AllocError>
-    ensures { OnOk result (out.new.items ≡ out.old.items ++ decimal number) }
-{
-    let digits = number.to_string(alloc)?;
-    out.extend_from_slice(digits.as_bytes())
-}
 
 /// A line of these bytes.
 pub fn put_line(out: &mut Vec<u8>, text: &[u8]) -> Result<(), AllocError>
@@ -49,7 +40,7 @@ pub fn put_fault(
     out.extend_from_slice(b"fault ")?;
     out.extend_from_slice(whose)?;
     out.push(b' ')?;
-    put_number(alloc, out, u64::from(number))?;
+    put_digits(alloc, out, u64::from(number))?;
     out.push(b'\n')?;
     Ok(())
 }
@@ -66,7 +57,7 @@ pub fn put_site(
     out.extend_from_slice(b"site ")?;
     out.extend_from_slice(name)?;
     out.push(b' ')?;
-    put_number(alloc, out, number as u64)?;
+    put_digits(alloc, out, number as u64)?;
     out.push(b'\n')?;
     Ok(())
 }
@@ -76,7 +67,7 @@ fn put_end(alloc: Global, out: &mut Vec<u8>, count: usize) -> Result<(), AllocEr
     ensures { OnOk result (out.new.items ≡ out.old.items ++ end_line count) }
 {
     out.extend_from_slice(b"end ")?;
-    put_number(alloc, out, count as u64)?;
+    put_digits(alloc, out, count as u64)?;
     out.push(b'\n')?;
     Ok(())
 }
@@ -122,9 +113,9 @@ fn put_stamp(alloc: Global, out: &mut Vec<u8>, stamp: Stamp) -> Result<(), Alloc
     ensures { OnOk result (out.new.items ≡ out.old.items ++ stamp_line stamp) }
 {
     out.extend_from_slice(b"stamp ")?;
-    put_number(alloc, out, stamp.counter)?;
+    put_digits(alloc, out, stamp.counter)?;
     out.push(b' ')?;
-    put_number(alloc, out, u64::from(stamp.site))?;
+    put_digits(alloc, out, u64::from(stamp.site))?;
     out.push(b'\n')?;
     Ok(())
 }
@@ -224,7 +215,7 @@ fn put_message(alloc: Global, out: &mut Vec<u8>, word: &[u8], number: u64) -> Re
 {
     out.extend_from_slice(word)?;
     out.push(b' ')?;
-    put_number(alloc, out, number)?;
+    put_digits(alloc, out, number)?;
     out.push(b'\n')?;
     Ok(())
 }
@@ -235,7 +226,7 @@ fn put_numbers(alloc: Global, out: &mut Vec<u8>, numbers: &[u64]) -> Result<(), 
 {
     for number in numbers {
         out.push(b' ')?;
-        put_number(alloc, out, *number)?;
+        put_digits(alloc, out, *number)?;
     }
     Ok(())
 }
