@@ -7,7 +7,7 @@
 //! a `Vec` and give it back, and neither takes memory for that.
 #![tactic(auto)]
 
-mod digits;
+mod decimal;
 mod graphic;
 mod joining;
 mod limits;
@@ -17,7 +17,7 @@ mod padding;
 mod texts;
 mod uid;
 
-pub use digits::{digits, put_digits};
+pub use decimal::{digits, put_digits};
 pub use graphic::are_graphic;
 pub use joining::joined;
 pub use limits::{LONGEST_DATA_SET, longest_data_set_is_this};
