@@ -1,3 +1,4 @@
+pub mod CutLaws
 pub mod DeedLaws
 pub mod Fronts
 pub mod HandLaws

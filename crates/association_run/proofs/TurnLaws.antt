@@ -1,11 +1,9 @@
 -- What a turn adds to what was done so far.
 use Rattle.std.proofs.Common.{◌≡◌, ◌≢◌, ℕ, suc, ◌+◌, ◌<◌, ◌≤◌, ◌==◌, Bool, true, false, ◌||◌, List, [], ◌∷◌, ◌++◌}
-use Rattle.std.proofs.Common.{length}
-use Rattle.std.proofs.Common.{drop, Option, None, Result, ◌⊎◌, inl, inr, refl, sym, ap, subst, ◌∙◌, append_assoc}
+use Rattle.std.proofs.Common.{length, Option, None, Result, ◌⊎◌, inl, inr, refl, sym, ap, subst, ◌∙◌, append_assoc}
 use Rattle.std.proofs.Common.{append-nil, arith, length-append}
 use Rattle.std.proofs.lemmas.Bool.{eqb-true, eqb-false}
 use Rattle.std.proofs.Math.Arith.{lt_of_le-ne}
-use Rattle.std.proofs.lemmas.List.{take_all, drop_all, take-append-le, drop-append-le}
 use Rattle.std.proofs.lemmas.List.Folds.{list_any-append}
 use Rattle.std.specs.List.{list_any}
 use Rattle.std.specs.Io.KnownBytes.{Consumes, IsAtEnd}
@@ -39,7 +37,7 @@ use Rattle.association_run.specs.declared.end.End.{End}
 use Rattle.association_run.specs.declared.run.Intake.{Intake}
 use Rattle.association_run.specs.declared.run.TheConstants.{MOST_DROPPED}
 use Rattle.association_run.specs.Inbox.{EMPTY, InHand}
-use Rattle.association_run.specs.Pieces.{IsPiece, Precedes, Cuts, is_cut, is_whole, event_of, size_of_piece}
+use Rattle.association_run.specs.Pieces.{IsPiece, Cuts, is_cut, is_whole, event_of, size_of_piece}
 use Rattle.association_run.specs.Hearing.{Place, Course, SETTING_OUT, Says, Hears, HearsFront, TakesPiece, TakesPieces}
 use Rattle.association_run.specs.Hearing.{counts}
 use Rattle.association_run.specs.Parts.{Sides, Begins}
@@ -49,68 +47,11 @@ use Rattle.association_run.specs.Output.{is_abort_piece, was_aborted, was_releas
 use Rattle.association_run.specs.Steps.{place_of, HearsPart, HeardFront}
 use Rattle.association_run.specs.Turns.{counted_in, NOTHING_READ, Adds, Drops, Reads, HearsPiece, TakesHand}
 use Rattle.association_run.specs.Turns.{TakingFails, IsInHand, IsDropped, IsReady, Progress}
+use Rattle.association_run.proofs.CutLaws.{long_of, cuts_push, cuts_more, is_cut-push}
 use Rattle.association_run.proofs.Fronts.{read_further, nothing_read, all_front, front_behind}
 use Rattle.association_run.proofs.DeedLaws.{did_none, did_then, all_begun, begun_behind, begun_more}
 use Rattle.association_run.proofs.StepLaws.{takes_all, takes_front, takes_then, state_then}
 use Rattle.archive_model.specs.declared.view.View.{View}
-
--- ---- pieces
-
-precedes_more : (piece last : Piece) (pieces : List Piece) → is_cut (piece ∷ pieces) ≡ true → Precedes piece pieces
-    → Precedes piece (pieces ++ last ∷ [])
-precedes_more (Whole p n) last pieces cut precedes = tt
-precedes_more (Faulty f n) last pieces cut precedes = absurd cc
-
-cut_behind : (piece : Piece) (pieces : List Piece) → is_cut (piece ∷ pieces) ≡ true → is_cut pieces ≡ true
-cut_behind (Whole p n) pieces cut = cut
-cut_behind (Faulty f n) pieces cut = absurd cc
-
-precedes_none : (piece : Piece) → Precedes piece []
-precedes_none (Whole p n) = tt
-precedes_none (Faulty f n) = refl
-
-long_of : (piece : Piece) (text : List ℕ) → IsPiece piece text → length text ≡ size_of_piece piece
-long_of (Whole p n) text is = is.1
-long_of (Faulty f n) text is = is.1
-
--- the whole rest is one piece more
-cuts_push : (text : List ℕ) (pieces : List Piece) (rest : List ℕ) (piece : Piece) → Cuts text pieces rest
-    → is_cut pieces ≡ true → IsPiece piece rest → Cuts text (pieces ++ piece ∷ []) []
-cuts_push text [] rest piece cuts cut is =
-    let same = ap (λ (t : List ℕ). length t) cuts in
-    let long = long_of piece rest is in (
-      omega (arith, same, long),
-      subst (λ (t : List ℕ). IsPiece piece t) (cuts
-          ∙ sym (take_all (size_of_piece piece) text (omega (arith, same, long)))) is,
-      precedes_none piece,
-      sym (drop_all (size_of_piece piece) text (omega (arith, same, long))),
-    )
-cuts_push text (p ∷ pieces) rest piece cuts cut is = (
-  cuts.0,
-  cuts.1,
-  precedes_more p piece pieces cut cuts.2,
-  cuts_push (drop (size_of_piece p) text) pieces rest piece
-      cuts.3 (cut_behind p pieces cut) is,
-)
-
--- more bytes behind
-cuts_more : (text : List ℕ) (pieces : List Piece) (rest more : List ℕ) → Cuts text pieces rest → Cuts (text ++ more)
-    pieces (rest ++ more)
-cuts_more text [] rest more cuts = ap (λ (t : List ℕ). t ++ more) cuts
-cuts_more text (p ∷ pieces) rest more cuts = (
-  omega (arith, cuts.0, length-append text more),
-  subst (λ (t : List ℕ). IsPiece p t) (sym (take-append-le (size_of_piece p) text more cuts.0)) cuts.1,
-  cuts.2,
-  subst (λ (t : List ℕ). Cuts t pieces (rest ++ more)) (sym (drop-append-le (size_of_piece p) text more cuts.0))
-      (cuts_more (drop (size_of_piece p) text) pieces rest more cuts.3),
-)
-
-is_cut-push : (pieces : List Piece) (piece : Piece) → is_cut pieces ≡ true → is_cut (pieces ++ piece ∷ []) ≡ is_whole
-    piece
-is_cut-push [] (Whole p n) cut = refl
-is_cut-push [] (Faulty f n) cut = refl
-is_cut-push (Whole p n ∷ pieces) piece cut = is_cut-push pieces piece cut
-is_cut-push (Faulty f n ∷ pieces) piece cut = absurd cc
 
 no_piece : (piece : Piece) → IsPiece piece [] → ⊥
 no_piece (Whole p n) is = let e = is.0.parts in cc

@@ -5,8 +5,8 @@ ghost use Rattle.std.specs.Option.{option_copied};
 ghost use Rattle.query_model.specs.Query.{query_of};
 ghost use Rattle.association_services.specs.Find.{is_find, find_refusal, row_status as row_status_of, finding_of, queried_by, row_text as row_text_of, rows_in, status_of_found, ServesIdentifier, ServesFind};
 
-use crate::context::{is_of_other_class, syntax};
 use crate::call::Finding;
+use crate::context::{is_of_other_class, syntax};
 use crate::reply::PortFault;
 use crate::service::{RowKind, Service};
 use archive_model::View;

@@ -5,8 +5,8 @@ ghost use Rattle.std.specs.Option.{option_copied};
 ghost use Rattle.retrieve_model.specs.Selection.{selection_of};
 ghost use Rattle.association_services.specs.Get.{is_get, get_refusal, getting_of, fetched_by, ServesSelection, ServesGet};
 
-use crate::context::{is_of_other_class, syntax};
 use crate::call::Getting;
+use crate::context::{is_of_other_class, syntax};
 use crate::service::Service;
 use archive_model::View;
 use bytes::Bytes;

@@ -29,3 +29,4 @@ pub use reply::{PortFault, Reply};
 pub use retrieval::{Begun, MOST_SUB_OPERATIONS, Meaning, Progress, Retrieval, SubOperation, few};
 pub use service::{RowKind, Service, serve};
 pub use store::status_for;
+pub use way::Way;

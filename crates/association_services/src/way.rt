@@ -9,9 +9,11 @@ use retrieve_model::Form;
 
 /// The context of a sub-operation, and how its data set is sent there.
 #[derive(Clone, Copy)]
-pub(crate) struct Way {
-    pub(crate) context: u8,
-    pub(crate) form: Form,
+pub struct Way {
+    /// The ID of the context, which is of the instance's class.
+    pub context: u8,
+    /// As it is, or converted to the context's transfer syntax.
+    pub form: Form,
 }
 
 /// Whether a context takes data sets of this class, in this syntax, and the requestor has the SCP

@@ -29,8 +29,8 @@ use crate::limit::limit_of;
 use crate::link::Link;
 use archive_model::View;
 use association_services::{
-    Awaited, Begun, Call, Meaning, PortFault, Reply, Retrieval, RowKind, Service, SubOperation, few,
-    found, row_text, serve, status_for,
+    Awaited, Begun, Call, Meaning, PortFault, Reply, Retrieval, RowKind, Service, SubOperation,
+    few, found, row_text, serve, status_for,
 };
 use dimse::{Fragments, Message, Status};
 use octets::ListOf;

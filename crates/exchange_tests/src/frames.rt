@@ -113,6 +113,10 @@ fn bodies_of_no_frame_are_told(rt: HostRuntime) {
         1,
         "a count of 1,048,576",
     );
+}
+
+#[test]
+fn what_is_no_body_of_a_kind_is_told(rt: HostRuntime) {
     is_read(
         &rt,
         rt.alloc(),

@@ -166,10 +166,18 @@ fn offered_in_turn(
     let mut site = Site::new(alloc);
     let mut round = Round::new(alloc, Version::Two);
     assert_eq!(rt; asked(alloc, &mut round, &mut site, first)?, 1, "the first");
-    assert_eq!(rt; asked(alloc, &mut round, &mut site, second)?, 1, "behind it");
+    assert_eq!(rt;
+        asked(alloc, &mut round, &mut site, second)?,
+        1,
+        "behind it"
+    );
     assert_eq!(rt; given(alloc, &mut round, &mut site, first)?, 0, "given");
     assert!(rt; !round.finished(), "before the other is given");
-    assert_eq!(rt; given(alloc, &mut round, &mut site, second)?, 0, "the other");
+    assert_eq!(rt;
+        given(alloc, &mut round, &mut site, second)?,
+        0,
+        "the other"
+    );
     assert!(rt; round.finished(), "after both");
     Ok(())
 }

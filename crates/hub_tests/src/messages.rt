@@ -56,48 +56,37 @@ pub struct Message<'a> {
     pub counts: &'a [(u16, u16)],
 }
 
+/// An element of a command set that has a number.
+fn put_number(body: &mut Vec<u8>, element: u16, number: u16) -> Result<(), Fail> {
+    let [low, high] = element.to_le_bytes();
+    put(
+        body,
+        [0x00, 0x00, low, high],
+        number.to_le_bytes().as_slice(),
+    )
+}
+
 /// The elements of a command set behind its group length. A response has a status.
 fn elements(alloc: Global, message: Message<'_>) -> Result<Vec<u8>, Fail> {
-    let kind = if message.has_data {
-        [0x00, 0x00]
-    } else {
-        [0x01, 0x01]
-    };
+    let kind = if message.has_data { 0x0000 } else { 0x0101 };
     let is_request = message.status.is_none();
-    let id = if is_request { 0x10 } else { 0x20 };
+    let id = if is_request { 0x0110 } else { 0x0120 };
     let mut body = Vec::new(alloc);
     put(&mut body, [0x00, 0x00, 0x02, 0x00], message.class)?;
-    put(
-        &mut body,
-        [0x00, 0x00, 0x00, 0x01],
-        message.field.to_le_bytes().as_slice(),
-    )?;
-    put(
-        &mut body,
-        [0x00, 0x00, id, 0x01],
-        message.id.to_le_bytes().as_slice(),
-    )?;
+    put_number(&mut body, 0x0100, message.field)?;
+    put_number(&mut body, id, message.id)?;
     if is_request {
-        put(&mut body, [0x00, 0x00, 0x00, 0x07], [0x00, 0x00].as_slice())?;
+        put_number(&mut body, 0x0700, 0)?;
     }
-    put(&mut body, [0x00, 0x00, 0x00, 0x08], kind.as_slice())?;
+    put_number(&mut body, 0x0800, kind)?;
     if let Some(status) = message.status {
-        put(
-            &mut body,
-            [0x00, 0x00, 0x00, 0x09],
-            status.to_le_bytes().as_slice(),
-        )?;
+        put_number(&mut body, 0x0900, status)?;
     }
     if let Some(instance) = message.instance {
         put(&mut body, [0x00, 0x00, 0x00, 0x10], instance)?;
     }
     for (element, count) in message.counts {
-        let [low, high] = element.to_le_bytes();
-        put(
-            &mut body,
-            [0x00, 0x00, low, high],
-            count.to_le_bytes().as_slice(),
-        )?;
+        put_number(&mut body, *element, *count)?;
     }
     Ok(body)
 }

@@ -1,4 +1,3 @@
-pub mod Faults
 pub mod State
 pub mod Texts
 pub mod Script

@@ -19,7 +19,7 @@ use Rattle.site_world.specs.declared.fault.WorldFault.TheVariants.{BadCorrection
 use Rattle.site_world.specs.declared.step.Seen.{Seen}
 use Rattle.site_world.specs.declared.step.Seen.TheVariants.{Took, Stamped, Offered, Wanted, Gave, Differs, Has, Aged}
 use Rattle.site_world.specs.declared.step.Seen.TheVariants.{Rows, Sent}
-use Rattle.site_simulation.specs.Faults.{number_of_site_fault}
+use Rattle.site_state.specs.Fault.{number_of as number_of_site_fault}
 
 -- a line, with its end
 abbrev pub line : List ℕ → List ℕ

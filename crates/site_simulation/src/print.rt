@@ -1,7 +1,6 @@
 //! The texts that a script prints.
 
 ghost use Rattle.std.specs.Prelude.{◌≡◌, ◌++◌, ◌∷◌, [], OnOk};
-ghost use Rattle.site_simulation.specs.Faults.{number_of_site_fault};
 ghost use Rattle.site_simulation.specs.Texts.{line, fault_line, site_line, taken_line, stamp_line};
 ghost use Rattle.site_simulation.specs.Texts.{end_line, uid_lines, flagged_lines, same_line};
 ghost use Rattle.site_simulation.specs.Texts.{world_fault_line, seen_lines, answer_line};
@@ -15,7 +14,7 @@ use bytes::Bytes;
 use data_set::{Syntax, write};
 use octets::{Octets, put_digits};
 use operation::Stamp;
-use site_state::{SiteFault, Taken};
+use site_state::Taken;
 use site_world::{Seen, WorldFault};
 use std::alloc::{AllocError, Global};
 
@@ -120,20 +119,11 @@ fn put_stamp(alloc: Global, out: &mut Vec<u8>, stamp: Stamp) -> Result<(), Alloc
     Ok(())
 }
 
-fn site_fault_number(fault: SiteFault) -> u8
-    ensures { result ≡ number_of_site_fault fault }
-{
-    match fault {
-        SiteFault::Collision => 1,
-        SiteFault::Memory => 2,
-    }
-}
-
 fn put_world_fault(alloc: Global, out: &mut Vec<u8>, fault: WorldFault) -> Result<(), AllocError>
     ensures { OnOk result (out.new.items ≡ out.old.items ++ world_fault_line fault) }
 {
     match fault {
-        WorldFault::Site(fault) => put_fault(alloc, out, b"site", site_fault_number(fault)),
+        WorldFault::Site(fault) => put_fault(alloc, out, b"site", fault.number()),
         WorldFault::NoSite => put_fault(alloc, out, b"world", 1),
         WorldFault::NoMessage => put_fault(alloc, out, b"world", 2),
         WorldFault::StampsSpent => put_fault(alloc, out, b"world", 4),
