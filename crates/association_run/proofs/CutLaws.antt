@@ -55,8 +55,8 @@ cuts_more text (p ∷ pieces) rest more cuts = (
       (cuts_more (drop (size_of_piece p) text) pieces rest more cuts.3),
 )
 
-pub is_cut-push : (pieces : List Piece) (piece : Piece) → is_cut pieces ≡ true → is_cut (pieces ++ piece ∷ []) ≡ is_whole
-    piece
+pub is_cut-push : (pieces : List Piece) (piece : Piece) → is_cut pieces ≡ true
+    → is_cut (pieces ++ piece ∷ []) ≡ is_whole piece
 is_cut-push [] (Whole p n) cut = refl
 is_cut-push [] (Faulty f n) cut = refl
 is_cut-push (Whole p n ∷ pieces) piece cut = is_cut-push pieces piece cut

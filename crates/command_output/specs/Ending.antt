@@ -14,7 +14,8 @@ use Rattle.shelved_site.specs.declared.fault.ShelvedFault.{ShelvedFault}
 use Rattle.shelved_site.specs.declared.fault.ShelvedFault.TheVariants.{Shelf as of_shelf, Site as of_site}
 use Rattle.shelved_site.specs.declared.fault.ShelvedFault.TheVariants.{Hub as of_hub}
 use Rattle.command_output.specs.declared.ending.CommandFault.{CommandFault}
-use Rattle.command_output.specs.declared.ending.CommandFault.TheVariants.{Simulate, Shelf, Site, Hub, Run, Exchange, Net}
+use Rattle.command_output.specs.declared.ending.CommandFault.TheVariants.{Simulate, Shelf, Site, Hub, Run}
+use Rattle.command_output.specs.declared.ending.CommandFault.TheVariants.{Exchange, Net}
 
 -- the line of a fault: whose it is, and its public number there, which is below 10
 abbrev pub fault_line : List ℕ → ℕ → List ℕ
