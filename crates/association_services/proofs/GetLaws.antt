@@ -13,7 +13,7 @@ use Rattle.data_set.specs.Values.{pad_of}
 use Rattle.data_set.specs.Vr.{is_short, undefined_length}
 use Rattle.data_set.specs.Header.{offence}
 use Rattle.data_set.specs.Written.{IsSet, MayStand}
-use Rattle.association_services.specs.declared.counts.TheConstants.{FAILED_SOP_INSTANCE_UID_LIST}
+use Rattle.dictionary.specs.declared.elements.TheConstants.{FAILED_SOP_INSTANCE_UID_LIST}
 use Rattle.association_services.specs.Get.{fitting, least_id, room_in, vr_in, uid_list}
 use Rattle.pdu.specs.declared.context.Context.{Context}
 

@@ -1,6 +1,8 @@
 -- A message that has a service can be responded.
 use Rattle.std.proofs.Common.{◌≡◌, ℕ, Bool, true, false, cond, Option, Some, None, List, refl, subst}
 use Rattle.std.specs.Prelude.{nat_le, ◌==◌, ◌||◌}
+use Rattle.dictionary.specs.declared.commands.TheConstants.{RESPONSE_BIT, C_CANCEL_RQ, C_FIND_RQ, C_GET_RQ}
+use Rattle.dictionary.specs.declared.commands.TheConstants.{C_ECHO_RQ, C_STORE_RQ}
 use Rattle.pdu.specs.declared.context.Context.{Context}
 use Rattle.ul_state.specs.declared.acceptor.Settled.{Settled}
 use Rattle.archive_model.specs.declared.view.View.{View}
@@ -35,9 +37,9 @@ served_request : (settled : Option (Settled View)) (context : Option Context) (c
     → is_response_code command.field ≡ false
 served_request settled None command body service serves is = absurd (subst IsServed serves is)
 served_request settled (Some context) command body service serves is =
-    by_kind (nat_le 0x8000 command.field) (command.field == 0x0FFF) (command.field == 0x0020)
-    (command.field == 0x0010) (command.field == 0x0030) (command.field == 0x0001) settled context command body service
-    serves is
+    by_kind (nat_le RESPONSE_BIT command.field) (command.field == C_CANCEL_RQ) (command.field == C_FIND_RQ)
+    (command.field == C_GET_RQ) (command.field == C_ECHO_RQ) (command.field == C_STORE_RQ) settled context command
+    body service serves is
 
 pub can_respond : (settled : Option (Settled View)) (context : Option Context) (m : Message) (limit : ℕ)
     (service : Service) → IsWhole m → FitsLimit limit → ServesOn settled context m.command m.body service

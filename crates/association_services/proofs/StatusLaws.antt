@@ -4,7 +4,8 @@ use Rattle.std.proofs.Common.{refl}
 use Rattle.std.proofs.Common.{sym, ap, ◌∙◌}
 use Rattle.std.specs.Prelude.{not, length, ◌==◌, ◌&&◌, nat_le}
 use Rattle.std.proofs.lemmas.Bool.{eqb-true}
-use Rattle.dictionary.specs.declared.commands.TheConstants.{C_GET_RQ}
+use Rattle.dictionary.specs.declared.commands.TheConstants.{RESPONSE_BIT, C_CANCEL_RQ, C_FIND_RQ, C_GET_RQ}
+use Rattle.dictionary.specs.declared.commands.TheConstants.{C_ECHO_RQ, C_STORE_RQ}
 use Rattle.dimse.specs.declared.status.Status.TheVariants.{UnableToPerformSubOperations, SubOperationsWithFailures}
 use Rattle.retrieve_model.specs.declared.selection.Selection.{Selection}
 use Rattle.retrieve_model.specs.Selection.{selection_of}
@@ -320,8 +321,8 @@ field_by false false false false false true e = absurd cc
 field_by false false false false false false e = absurd cc
 
 field_is : (field : ℕ) → kind_of field ≡ kinds.Get → field ≡ C_GET_RQ
-field_is field e = eqb-true field 16 (field_by (nat_le 0x8000 field) (field == 0x0FFF) (field == 0x0020)
-    (field == 0x0010) (field == 0x0030) (field == 0x0001) e)
+field_is field e = eqb-true field C_GET_RQ (field_by (nat_le RESPONSE_BIT field) (field == C_CANCEL_RQ)
+    (field == C_FIND_RQ) (field == C_GET_RQ) (field == C_ECHO_RQ) (field == C_STORE_RQ) e)
 
 -- What the port is asked to get is asked by a C-GET.
 pub on_is_get : (settled : Option (Settled View)) (context : Option Context) (command : Command)

@@ -12,6 +12,8 @@ use Rattle.data_set.specs.Texts.{Spells, HasFault}
 use Rattle.data_set.specs.Tree.{Tree, leaf}
 use Rattle.data_set.specs.Values.{padded}
 use Rattle.data_set.specs.Written.{text_of}
+use Rattle.dictionary.specs.declared.elements.TheConstants.{FAILED_SOP_INSTANCE_UID_LIST}
+use Rattle.dictionary.specs.declared.statuses.TheConstants.{FIRST_WARNING_STATUS, LAST_WARNING_STATUS, STATUS_SUCCESS}
 use Rattle.dictionary.specs.declared.uids.TheConstants.{STUDY_ROOT_GET}
 use Rattle.dimse.specs.declared.command.Command.{Command}
 use Rattle.dimse.specs.declared.status.Status.{Status}
@@ -29,7 +31,6 @@ use Rattle.association_services.specs.declared.call.Getting.{Getting}
 use Rattle.association_services.specs.declared.counts.Counts.{Counts}
 use Rattle.association_services.specs.declared.counts.Outcome.{Outcome}
 use Rattle.association_services.specs.declared.counts.Outcome.TheVariants.{Completed, Warned, Failed}
-use Rattle.association_services.specs.declared.counts.TheConstants.{FAILED_SOP_INSTANCE_UID_LIST}
 use Rattle.association_services.specs.declared.service.Service.{Service}
 use Rattle.association_services.specs.declared.service.Service.TheVariants.{Responded, Fetched}
 use Rattle.association_services.specs.declared.way.Way.{Way}
@@ -111,10 +112,10 @@ way_of contexts class Explicit = own_or (least_id class true contexts) (converte
 
 -- a warning: Bxxx (PS3.7, C.1)
 abbrev pub is_warning : ℕ → Bool
-is_warning status = nat_le 0xB000 status && nat_lt status 0xC000
+is_warning status = nat_le FIRST_WARNING_STATUS status && nat_le status LAST_WARNING_STATUS
 
 abbrev pub outcome_by : ℕ → Outcome
-outcome_by status = if status == 0 then Completed else if is_warning status then Warned else Failed
+outcome_by status = if status == STATUS_SUCCESS then Completed else if is_warning status then Warned else Failed
 
 -- A response without a status fails its sub-operation.
 abbrev pub outcome_of : Option ℕ → Outcome

@@ -1,6 +1,8 @@
 -- Which service answers a message (PS3.7, 9.1 and 9.3; docs/DECISIONS.md, "What a message is answered").
 use Rattle.std.specs.Prelude.{◌≡◌, ℕ, List, ◌==◌, nat_le, Option, Some, None, if◌then◌else◌}
 use Rattle.archive_model.specs.declared.view.View.{View}
+use Rattle.dictionary.specs.declared.commands.TheConstants.{RESPONSE_BIT, C_CANCEL_RQ, C_FIND_RQ, C_GET_RQ}
+use Rattle.dictionary.specs.declared.commands.TheConstants.{C_ECHO_RQ, C_STORE_RQ}
 use Rattle.pdu.specs.declared.context.Context.{Context}
 use Rattle.ul_state.specs.declared.acceptor.Settled.{Settled}
 use Rattle.dimse.specs.declared.command.Command.{Command}
@@ -19,12 +21,12 @@ use Rattle.association_services.specs.Store.{store_refusal, ServesStore}
 -- the kind of a command field (PS3.7, E.1)
 abbrev pub kind_of : ℕ → Kind
 kind_of field =
-    if nat_le 0x8000 field then kinds.Response
-    else if field == 0x0FFF then kinds.Cancel
-    else if field == 0x0020 then kinds.Find
-    else if field == 0x0010 then kinds.Get
-    else if field == 0x0030 then kinds.Echo
-    else if field == 0x0001 then kinds.Store
+    if nat_le RESPONSE_BIT field then kinds.Response
+    else if field == C_CANCEL_RQ then kinds.Cancel
+    else if field == C_FIND_RQ then kinds.Find
+    else if field == C_GET_RQ then kinds.Get
+    else if field == C_ECHO_RQ then kinds.Echo
+    else if field == C_STORE_RQ then kinds.Store
     else kinds.Unknown
 
 -- a request of no service that is known

@@ -5,12 +5,12 @@ ghost use Rattle.association_services.specs.Get.{is_warning as is_warning_code, 
 
 use bytes::Bytes;
 use data_set::{DataSet, Element, Syntax, padded_of, write};
+use dictionary::{
+    FAILED_SOP_INSTANCE_UID_LIST, FIRST_WARNING_STATUS, LAST_WARNING_STATUS, STATUS_SUCCESS,
+};
 use dimse::Status;
 use octets::{ListOf, Octets, joined};
 use std::alloc::{AllocError, Global};
-
-/// (0008,0058) Failed SOP Instance UID List
-pub const FAILED_SOP_INSTANCE_UID_LIST: u32 = 0x0008_0058;
 
 /// What a sub-operation came to, by the status of its response (PS3.7, section C.1).
 #[derive(Clone, Copy)]
@@ -36,7 +36,7 @@ pub(crate) struct Counts {
 fn is_warning(status: u16) -> bool
     ensures { result ≡ is_warning_code status }
 {
-    0xB000 <= status && status < 0xC000
+    FIRST_WARNING_STATUS <= status && status <= LAST_WARNING_STATUS
 }
 
 /// What a sub-operation with this status in its response came to.
@@ -46,7 +46,7 @@ pub(crate) fn outcome_for(status: Option<u16>) -> Outcome
     match status {
         None => Outcome::Failed,
         Some(status) => {
-            if status == 0x0000 {
+            if status == STATUS_SUCCESS {
                 return Outcome::Completed;
             }
             if is_warning(status) {

@@ -23,7 +23,7 @@ mod way;
 
 pub use awaited::Awaited;
 pub use call::{Call, Finding, Getting};
-pub use counts::{FAILED_SOP_INSTANCE_UID_LIST, Outcome};
+pub use counts::Outcome;
 pub use find::{found, row_text};
 pub use reply::{PortFault, Reply};
 pub use retrieval::{Begun, MOST_SUB_OPERATIONS, Meaning, Progress, Retrieval, SubOperation, few};

@@ -14,6 +14,7 @@ use crate::store::serve_store;
 use archive_model::View;
 use bytes::Bytes;
 use data_set::Syntax;
+use dictionary::{C_CANCEL_RQ, C_ECHO_RQ, C_FIND_RQ, C_GET_RQ, C_STORE_RQ, RESPONSE_BIT};
 use dimse::{Command, Status};
 use operation::Content;
 use pdu::Context;
@@ -66,12 +67,12 @@ fn kind_for(field: u16) -> Kind
     ensures { result ≡ kind_of field }
 {
     match field {
-        0x8000.. => Kind::Response,
-        0x0FFF => Kind::Cancel,
-        0x0020 => Kind::Find,
-        0x0010 => Kind::Get,
-        0x0030 => Kind::Echo,
-        0x0001 => Kind::Store,
+        RESPONSE_BIT.. => Kind::Response,
+        C_CANCEL_RQ => Kind::Cancel,
+        C_FIND_RQ => Kind::Find,
+        C_GET_RQ => Kind::Get,
+        C_ECHO_RQ => Kind::Echo,
+        C_STORE_RQ => Kind::Store,
         _ => Kind::Unknown,
     }
 }

@@ -1,15 +1,13 @@
 //! The limits that clauses cite by name, each said once as it is.
 
 ghost use Rattle.std.specs.Prelude.{◌≡◌};
-ghost use Rattle.association_services.specs.declared.counts.TheConstants.{FAILED_SOP_INSTANCE_UID_LIST};
 ghost use Rattle.association_session.specs.declared.limit.TheConstants.{MOST_SENT, SENT_WITHOUT_LIMIT};
 ghost use Rattle.association_services.specs.declared.retrieval.TheConstants.{MOST_SUB_OPERATIONS};
 
-/// How long a P-DATA-TF that is sent may be, also to a peer that names no limit, in bytes; how many
-/// sub-operations a C-GET has at most; and the element that lists those that failed.
+/// How long a P-DATA-TF that is sent may be, also to a peer that names no limit, in bytes, and how
+/// many sub-operations a C-GET has at most. The standard's numbers stand in `dictionary`.
 pub fn limits_are_these()
     ensures sent { MOST_SENT ≡ 65536 }
     ensures without_limit { SENT_WITHOUT_LIMIT ≡ 16384 }
     ensures sub_operations { MOST_SUB_OPERATIONS ≡ 65535 }
-    ensures failed { FAILED_SOP_INSTANCE_UID_LIST ≡ 0x00080058 }
 {}

@@ -8,7 +8,7 @@ use Rattle.dictionary.specs.declared.commands.TheConstants.{NUMBER_OF_COMPLETED_
 use Rattle.dictionary.specs.declared.commands.TheConstants.{NUMBER_OF_FAILED_SUBOPERATIONS}
 use Rattle.dictionary.specs.declared.commands.TheConstants.{NUMBER_OF_WARNING_SUBOPERATIONS, C_STORE_RQ, C_STORE_RSP}
 use Rattle.dictionary.specs.declared.commands.TheConstants.{C_GET_RQ, C_GET_RSP, C_FIND_RQ, C_FIND_RSP, C_ECHO_RQ}
-use Rattle.dictionary.specs.declared.commands.TheConstants.{C_ECHO_RSP, C_CANCEL_RQ, NO_DATA_SET}
+use Rattle.dictionary.specs.declared.commands.TheConstants.{RESPONSE_BIT, C_ECHO_RSP, C_CANCEL_RQ, NO_DATA_SET}
 
 abbrev pub elements : List (ℕ × ℕ)
 elements =
@@ -27,10 +27,11 @@ elements =
     ∷ (NUMBER_OF_WARNING_SUBOPERATIONS, 0x0000_1023)
     ∷ []
 
--- the values of (0000,0100) Command Field, and 0101H, by which (0000,0800) says that no data set follows
+-- the bit of responses and the values of (0000,0100) Command Field, and 0101H, by which (0000,0800) says that no data set follows
 abbrev pub values : List (ℕ × ℕ)
 values =
-    (C_STORE_RQ, 0x0001)
+    (RESPONSE_BIT, 0x8000)
+    ∷ (C_STORE_RQ, 0x0001)
     ∷ (C_STORE_RSP, 0x8001)
     ∷ (C_GET_RQ, 0x0010)
     ∷ (C_GET_RSP, 0x8010)

@@ -5,6 +5,7 @@ use Rattle.dictionary.specs.declared.elements.TheConstants.{SPECIFIC_CHARACTER_S
 use Rattle.dictionary.specs.declared.elements.TheConstants.{STUDY_DATE, STUDY_TIME, ACCESSION_NUMBER}
 use Rattle.dictionary.specs.declared.elements.TheConstants.{QUERY_RETRIEVE_LEVEL, RETRIEVE_AE_TITLE, MODALITY}
 use Rattle.dictionary.specs.declared.elements.TheConstants.{MODALITIES_IN_STUDY, REFERRING_PHYSICIAN_NAME, CODE_VALUE}
+use Rattle.dictionary.specs.declared.elements.TheConstants.{FAILED_SOP_INSTANCE_UID_LIST}
 use Rattle.dictionary.specs.declared.elements.TheConstants.{CODING_SCHEME_DESIGNATOR, STUDY_DESCRIPTION}
 use Rattle.dictionary.specs.declared.elements.TheConstants.{SERIES_DESCRIPTION, REFERENCED_SERIES_SEQUENCE}
 use Rattle.dictionary.specs.declared.elements.TheConstants.{REFERENCED_SOP_INSTANCE_UID, REFERENCED_SOP_SEQUENCE}
@@ -76,10 +77,12 @@ vr_in_table tag = vr_among tag table
 abbrev pub tags : List (ℕ × ℕ)
 tags = map (λ line. (line.name, line.tag)) table
 
--- (7FE0,0010) Pixel Data, which has one of two value representations; items and ends, which have none (PS3.5, 7.5)
+-- (0008,0058), which only responses to a C-GET have; (7FE0,0010) Pixel Data, which has one of two value
+-- representations; items and ends, which have none (PS3.5, 7.5)
 abbrev pub other_tags : List (ℕ × ℕ)
 other_tags =
-    (PIXEL_DATA, 0x7fe0_0010)
+    (FAILED_SOP_INSTANCE_UID_LIST, 0x0008_0058)
+    ∷ (PIXEL_DATA, 0x7fe0_0010)
     ∷ (ITEM, 0xfffe_e000)
     ∷ (ITEM_DELIMITATION_ITEM, 0xfffe_e00d)
     ∷ (SEQUENCE_DELIMITATION_ITEM, 0xfffe_e0dd)

@@ -8,6 +8,7 @@ use Rattle.dictionary.specs.declared.statuses.TheConstants.{STATUS_DATA_SET_DOES
 use Rattle.dictionary.specs.declared.statuses.TheConstants.{STATUS_SUBOPERATIONS_WITH_FAILURES}
 use Rattle.dictionary.specs.declared.statuses.TheConstants.{STATUS_CANNOT_UNDERSTAND, STATUS_CANCELED, STATUS_PENDING}
 use Rattle.dictionary.specs.declared.statuses.TheConstants.{STATUS_PENDING_WITHOUT_OPTIONAL_KEYS}
+use Rattle.dictionary.specs.declared.statuses.TheConstants.{FIRST_WARNING_STATUS, LAST_WARNING_STATUS}
 
 abbrev pub statuses : List (ℕ × ℕ)
 statuses =
@@ -17,6 +18,8 @@ statuses =
     ∷ (STATUS_OUT_OF_RESOURCES, 0xa700)
     ∷ (STATUS_UNABLE_TO_PERFORM_SUBOPERATIONS, 0xa702)
     ∷ (STATUS_DATA_SET_DOES_NOT_MATCH, 0xa900)
+    ∷ (FIRST_WARNING_STATUS, 0xb000)
+    ∷ (LAST_WARNING_STATUS, 0xbfff)
     ∷ (STATUS_SUBOPERATIONS_WITH_FAILURES, 0xb000)
     ∷ (STATUS_CANNOT_UNDERSTAND, 0xc000)
     ∷ (STATUS_CANCELED, 0xfe00)

@@ -39,6 +39,9 @@ pub const NUMBER_OF_FAILED_SUBOPERATIONS: u32 = 0x0000_1022;
 /// (0000,1023) Number of Warning Sub-operations, US
 pub const NUMBER_OF_WARNING_SUBOPERATIONS: u32 = 0x0000_1023;
 
+/// The bit that every response has, and no request, of (0000,0100) Command Field
+pub const RESPONSE_BIT: u16 = 0x8000;
+
 /// C-STORE-RQ, of (0000,0100) Command Field
 pub const C_STORE_RQ: u16 = 0x0001;
 

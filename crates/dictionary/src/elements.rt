@@ -29,6 +29,9 @@ pub const QUERY_RETRIEVE_LEVEL: u32 = 0x0008_0052;
 /// (0008,0054) Retrieve AE Title, AE
 pub const RETRIEVE_AE_TITLE: u32 = 0x0008_0054;
 
+/// (0008,0058) Failed SOP Instance UID List, UI, which the responses to a C-GET have
+pub const FAILED_SOP_INSTANCE_UID_LIST: u32 = 0x0008_0058;
+
 /// (0008,0060) Modality, CS
 pub const MODALITY: u32 = 0x0008_0060;
 

@@ -1,5 +1,5 @@
-//! The values of (0000,0900) Status that this archive answers (PS3.7, annex C; PS3.4, sections
-//! B.2.3, C.4.1.1.4 and C.4.3.1.4).
+//! The values of (0000,0900) Status that this archive answers or tells apart (PS3.7, annex C; PS3.4,
+//! sections B.2.3, C.4.1.1.4 and C.4.3.1.4).
 
 /// Success.
 pub const STATUS_SUCCESS: u16 = 0x0000;
@@ -18,6 +18,12 @@ pub const STATUS_UNABLE_TO_PERFORM_SUBOPERATIONS: u16 = 0xa702;
 
 /// Error: the data set, or the identifier, does not match the SOP class.
 pub const STATUS_DATA_SET_DOES_NOT_MATCH: u16 = 0xa900;
+
+/// The first of the statuses BxxxH, which warn.
+pub const FIRST_WARNING_STATUS: u16 = 0xb000;
+
+/// The last of the statuses BxxxH, which warn.
+pub const LAST_WARNING_STATUS: u16 = 0xbfff;
 
 /// Warning: sub-operations are complete, and one or more failed or warned (C-GET).
 pub const STATUS_SUBOPERATIONS_WITH_FAILURES: u16 = 0xb000;

@@ -1,7 +1,7 @@
 -- The command fields (PS3.7, section E.1).
 use Rattle.std.specs.Prelude.{◌≡◌, ◌≢◌, ℕ, Bool, ◌==◌, ◌||◌, nat_le, Result, MatchResult}
 use Rattle.dictionary.specs.declared.commands.TheConstants.{C_STORE_RQ, C_STORE_RSP, C_GET_RQ, C_GET_RSP, C_FIND_RQ}
-use Rattle.dictionary.specs.declared.commands.TheConstants.{C_FIND_RSP, C_ECHO_RQ, C_ECHO_RSP, C_CANCEL_RQ}
+use Rattle.dictionary.specs.declared.commands.TheConstants.{C_FIND_RSP, C_ECHO_RQ, C_ECHO_RSP, C_CANCEL_RQ, RESPONSE_BIT}
 use Rattle.dimse.specs.declared.command_field.CommandField.{CommandField}
 use Rattle.dimse.specs.declared.command_field.CommandField.TheVariants.{StoreRequest, StoreResponse, GetRequest}
 use Rattle.dimse.specs.declared.command_field.CommandField.TheVariants.{GetResponse, FindRequest, FindResponse}
@@ -27,7 +27,7 @@ Decodes code r = MatchResult r (λ field. code_of field ≡ code) (λ e. (e.0 �
 
 -- A response has the highest bit set, also one of no service here; a C-CANCEL answers a request too.
 abbrev pub is_response_code : ℕ → Bool
-is_response_code code = nat_le 0x8000 code || code == C_CANCEL_RQ
+is_response_code code = nat_le RESPONSE_BIT code || code == C_CANCEL_RQ
 
 -- the requests of C-STORE, C-GET, C-FIND and C-ECHO
 abbrev pub names_class_code : ℕ → Bool

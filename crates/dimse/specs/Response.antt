@@ -1,7 +1,7 @@
 -- What answers a request (PS3.7, 9.3).
 use Rattle.std.specs.Prelude.{◌≡◌, ◌⊎◌, ℕ, ◌+◌, ◌==◌, nat_lt, true, false, List, Option, Some, None, if◌then◌else◌}
 use Rattle.dimse.specs.declared.command.Command.{Command}
-use Rattle.dictionary.specs.declared.commands.TheConstants.{C_STORE_RQ, NO_DATA_SET}
+use Rattle.dictionary.specs.declared.commands.TheConstants.{C_STORE_RQ, NO_DATA_SET, RESPONSE_BIT}
 use Rattle.dimse.specs.CommandField.{is_response_code}
 
 -- the request's UID, or none
@@ -18,7 +18,7 @@ pub record IsResponseTo (request response : Command) : Type 0 where
 
 -- the field with its highest bit set
 abbrev pub response_code : ℕ → ℕ
-response_code code = if nat_lt code 0x8000 then code + 0x8000 else code
+response_code code = if nat_lt code RESPONSE_BIT then code + RESPONSE_BIT else code
 
 -- the instance is told of a C-STORE
 abbrev pub told_instance : Command → Option (List ℕ)

@@ -4,7 +4,9 @@ ghost use Rattle.std.specs.Prelude.{◌≡◌};
 ghost use Rattle.dimse.specs.CommandField.{is_response_code, names_class_code};
 ghost use Rattle.dimse.specs.Command.{is_complete, announces};
 
-use dictionary::{C_CANCEL_RQ, C_ECHO_RQ, C_FIND_RQ, C_GET_RQ, C_STORE_RQ, NO_DATA_SET};
+use dictionary::{
+    C_CANCEL_RQ, C_ECHO_RQ, C_FIND_RQ, C_GET_RQ, C_STORE_RQ, NO_DATA_SET, RESPONSE_BIT,
+};
 use octets::Octets;
 
 /// The longest command set that is read, in bytes, a limit of this archive.
@@ -48,7 +50,7 @@ pub struct Command {
 fn is_response(field: u16) -> bool
     ensures { result ≡ is_response_code field }
 {
-    field >= 0x8000 || field == C_CANCEL_RQ
+    field >= RESPONSE_BIT || field == C_CANCEL_RQ
 }
 
 /// Whether the requests of this field name a class.

@@ -8,7 +8,7 @@ ghost use Rattle.dimse.specs.Status.{status_code};
 
 use crate::command::Command;
 use crate::status::Status;
-use dictionary::{C_STORE_RQ, NO_DATA_SET};
+use dictionary::{C_STORE_RQ, NO_DATA_SET, RESPONSE_BIT};
 use octets::Octets;
 use std::alloc::{AllocError, Global};
 
@@ -35,8 +35,8 @@ fn instance_told(alloc: Global, request: &Command) -> Result<Option<Octets>, All
 fn response_field(field: u16) -> u16
     ensures { result ≡ response_code field }
 {
-    if field < 0x8000 {
-        field + 0x8000
+    if field < RESPONSE_BIT {
+        field + RESPONSE_BIT
     } else {
         field
     }

@@ -1,7 +1,7 @@
 use Rattle.std.proofs.Common.{◌≡◌, ◌∷◌, [], List, sym, subst}
 use Rattle.data_set.specs.Tree.{Tree, leaf}
 use Rattle.data_set.specs.Written.{IsSet}
-use Rattle.association_services.specs.declared.counts.TheConstants.{FAILED_SOP_INSTANCE_UID_LIST}
+use Rattle.dictionary.specs.declared.elements.TheConstants.{FAILED_SOP_INSTANCE_UID_LIST}
 use Rattle.association_services.specs.Get.{fitting, room_in, vr_in, uid_list}
 use Rattle.association_services.proofs.GetLaws.{failed_is_set}
 use Rattle.association_services.proofs.counts.failed_text.Goals as goal
