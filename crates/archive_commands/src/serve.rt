@@ -98,6 +98,23 @@ fn close_hub<H: HubName, R: Wait>(
     }
 }
 
+/// What was served, with the hub closed behind it.
+fn closed_behind<H: HubName, R: Wait>(
+    served: Served<H>,
+    keeper: Keeper<H, Snapshot<H>, &R>,
+) -> Count {
+    let Served {
+        accepted,
+        passes,
+        fault,
+    } = served;
+    let closed = close_hub(keeper, passes);
+    Count {
+        accepted,
+        ended: first_of(fault, closed),
+    }
+}
+
 /// Where exchanges come in, and how many are served.
 fn exchanging_of<'a>(listening: &'a Listening, serving: &'a Serving<'_>) -> Option<Exchanging<'a>> {
     match &listening.exchanges {
@@ -175,11 +192,7 @@ fn serve_hub<
         return Err(CommandFault::Hub(HubFault::Torn));
     }
     let gates = Vec::from_elem(alloc, OpenGate, workers)?;
-    let Served {
-        accepted,
-        passes,
-        fault,
-    } = serve_on(
+    let served = serve_on(
         rt,
         alloc,
         entrance,
@@ -193,11 +206,7 @@ fn serve_hub<
         shelf,
         manner,
     );
-    let closed = close_hub(keeper.into_inner(), passes);
-    Ok(Count {
-        accepted,
-        ended: first_of(fault, closed),
-    })
+    Ok(closed_behind(served, keeper.into_inner()))
 }
 
 /// The hub of a site whose operations stand on a shelf, with so many passes.

@@ -356,11 +356,10 @@ impl Association {
             command,
             body,
         } = message;
-        let contexts = self.link.contexts();
         let service = serve(
             self.alloc,
             self.settled(),
-            contexts,
+            self.link.contexts(),
             context,
             &command,
             body,

@@ -12,10 +12,10 @@ pub returns-in-Responded-clause-answered : goal.returns-in-Responded-clause-answ
 returns-in-Responded-clause-answered c =
     ok_map c.respond.result _ _
     (λ deeds told. answered_told c.args.titles.now.list c.args.self.now _ c.args.message c.in-Responded.status
-    c.in_ok-service.service _ c.contexts-contexts.result.now c.limit-limit.result deeds
+    c.in_ok-service.service _ c.contexts.result.now c.limit-limit.result deeds
     c.requires.established c.requires.idle c.requires.none refl
     c.settled.ensures
-    (c.contexts-contexts.ensures ∙ at_contexts _ _ c.self.view_is)
+    (c.contexts.ensures ∙ at_contexts _ _ c.self.view_is)
     (c.limit-limit.ensures.limit ∙ at_limit _ _ c.self.view_is)
     c.in-Responded.is c.in_ok-service.ensures told)
     c.respond.ensures.told
@@ -24,7 +24,7 @@ returns-in-Responded-clause-answered c =
 pub returns-in_ok-deeds-in-Asked-clause-answered : goal.returns-in_ok-deeds-in-Asked-clause-answered
 returns-in_ok-deeds-in-Asked-clause-answered c =
     answered_store c.args.titles.now.list c.args.self.now _ c.args.message c.in-Asked.content
-    c.in_ok-service.service _ c.contexts-contexts.result.now c.limit-limit.result c.in_ok-deeds-in-Asked.deeds
+    c.in_ok-service.service _ c.contexts.result.now c.limit-limit.result c.in_ok-deeds-in-Asked.deeds
     c.requires.established c.requires.idle c.requires.none
     (state_is _ c.args.self.now c.args.self.now.sub (Some (dues.Store (record {
       context = c.args.message.context;
@@ -33,7 +33,7 @@ returns-in_ok-deeds-in-Asked-clause-answered c =
     })))
     (at_place _ _ c.self.view_is) (at_stage _ _ c.self.view_is) (at_queue _ _ c.self.view_is)
     (at_sub _ _ c.self.view_is) refl) c.settled.ensures
-    (c.contexts-contexts.ensures ∙ at_contexts _ _ c.self.view_is)
+    (c.contexts.ensures ∙ at_contexts _ _ c.self.view_is)
     (c.limit-limit.ensures.limit ∙ at_limit _ _ c.self.view_is) c.in-Asked.is c.in_ok-service.ensures
     c.in_ok-deeds-in-Asked.ensures
 
@@ -41,7 +41,7 @@ returns-in_ok-deeds-in-Asked-clause-answered c =
 pub returns-in_ok-deeds-in-Queried-clause-answered : goal.returns-in_ok-deeds-in-Queried-clause-answered
 returns-in_ok-deeds-in-Queried-clause-answered c =
     answered_find c.args.titles.now.list c.args.self.now _ c.args.message c.in-Queried.finding c.in-Queried.kind
-    c.in_ok-service.service _ c.contexts-contexts.result.now c.limit-limit.result c.in_ok-deeds-in-Queried.deeds
+    c.in_ok-service.service _ c.contexts.result.now c.limit-limit.result c.in_ok-deeds-in-Queried.deeds
     c.requires.established c.requires.idle c.requires.none
     (state_is _ c.args.self.now c.args.self.now.sub (Some (dues.Find (record {
       context = c.args.message.context;
@@ -50,7 +50,7 @@ returns-in_ok-deeds-in-Queried-clause-answered c =
     }) c.in-Queried.kind))
     (at_place _ _ c.self.view_is) (at_stage _ _ c.self.view_is) (at_queue _ _ c.self.view_is)
     (at_sub _ _ c.self.view_is) refl) c.settled.ensures
-    (c.contexts-contexts.ensures ∙ at_contexts _ _ c.self.view_is)
+    (c.contexts.ensures ∙ at_contexts _ _ c.self.view_is)
     (c.limit-limit.ensures.limit ∙ at_limit _ _ c.self.view_is) c.in-Queried.is c.in_ok-service.ensures
     c.in_ok-deeds-in-Queried.ensures
 
