@@ -1,9 +1,9 @@
 //! Frames from outside.
 
+use assertions::{equal, holds};
 use bytes::Bytes;
 use exchange::*;
 use std::alloc::{AllocError, Global};
-use std::process::Abort;
 use std::test::Fail;
 
 // The correction of study 1.2.1 by which (0010,0010) is ROE^ANN, counter 1 and site 1.
@@ -17,29 +17,21 @@ fn told(header: &[u8; 5]) -> u8 {
     }
 }
 
+/// Headers, with 0 or the number of the fault of each.
+const HEADERS: [([u8; 5], u8, &str); 5] = [
+    ([0x08, 0x00, 0x00, 0x00, 0x00], 1, "kind 08"),
+    ([0x00, 0xff, 0xff, 0xff, 0xff], 1, "kind 00, however long"),
+    ([0x03, 0xff, 0xff, 0xff, 0xff], 2, "the greatest length"),
+    ([0x03, 0x04, 0x00, 0x00, 0x89], 2, "67,109,001 bytes"),
+    ([0x03, 0x04, 0x00, 0x00, 0x88], 0, "67,109,000 bytes"),
+];
+
 #[test]
-fn a_kind_is_told_before_a_length(rt: HostRuntime) {
-    assert_eq!(rt; told(&[0x08, 0x00, 0x00, 0x00, 0x00]), 1, "kind 08");
-    assert_eq!(rt;
-        told(&[0x00, 0xff, 0xff, 0xff, 0xff]),
-        1,
-        "kind 00, however long"
-    );
-    assert_eq!(rt;
-        told(&[0x03, 0xff, 0xff, 0xff, 0xff]),
-        2,
-        "the greatest length"
-    );
-    assert_eq!(rt;
-        told(&[0x03, 0x04, 0x00, 0x00, 0x89]),
-        2,
-        "67,109,001 bytes"
-    );
-    assert_eq!(rt;
-        told(&[0x03, 0x04, 0x00, 0x00, 0x88]),
-        0,
-        "67,109,000 bytes"
-    );
+fn a_kind_is_told_before_a_length(rt: HostRuntime) -> Result<(), Fail> {
+    for (header, wanted, what) in HEADERS {
+        equal(told(&header), wanted, what)?;
+    }
+    Ok(())
 }
 
 /// The frame that a whole text spells.
@@ -54,158 +46,106 @@ fn read(alloc: Global, text: &[u8]) -> Result<Frame, FrameFault> {
     read_frame_body(alloc, &header, Bytes::copy_from_slice(alloc, body)?)
 }
 
-fn is_read(rt: &impl Abort, alloc: Global, text: &[u8], wanted: u8, why: &str) {
+/// A text is read, where the number wanted is 0, or has the fault of this number.
+fn is_read(alloc: Global, text: &[u8], wanted: u8, why: &str) -> Result<(), Fail> {
     let number = match read(alloc, text) {
         Ok(_frame) => 0,
         Err(fault) => fault.number(),
     };
-    assert_eq!(rt; number, wanted, "{why}");
+    equal(number, wanted, why)
+}
+
+/// A text of a frame, 0 or the number of its fault, and what it is.
+type Row = (&'static [u8], u8, &'static str);
+
+fn are_read(alloc: Global, rows: &[Row]) -> Result<(), Fail> {
+    for (text, wanted, why) in rows.iter().copied() {
+        is_read(alloc, text, wanted, why)?;
+    }
+    Ok(())
 }
 
 #[test]
-fn frames_are_read(rt: HostRuntime) {
-    is_read(
-        &rt,
-        rt.alloc(),
-        b"\x01\x00\x00\x00\x04\x00\x00\x00\x00",
-        0,
-        "an empty HAVE",
-    );
-    is_read(
-        &rt,
-        rt.alloc(),
-        b"\x02\x00\x00\x00\x04\x00\x00\x00\x00",
-        0,
-        "an empty WANT",
-    );
-    is_read(&rt, rt.alloc(), CORRECTION, 0, "the GIVE of a correction");
-    is_read(&rt, rt.alloc(), b"\x04\x00\x00\x00\x00", 0, "END");
-    is_read(
-        &rt,
-        rt.alloc(),
-        b"\x06\x00\x00\x00\x02\x00\x00",
-        0,
-        "an empty DIFFER",
-    );
-    is_read(&rt, rt.alloc(), b"\x07\x00\x00\x00\x02\x00\x02", 0, "HELLO");
+fn frames_are_read(rt: HostRuntime) -> Result<(), Fail> {
+    let rows: [Row; 6] = [
+        (b"\x01\x00\x00\x00\x04\x00\x00\x00\x00", 0, "an empty HAVE"),
+        (b"\x02\x00\x00\x00\x04\x00\x00\x00\x00", 0, "an empty WANT"),
+        (CORRECTION, 0, "the GIVE of a correction"),
+        (b"\x04\x00\x00\x00\x00", 0, "END"),
+        (b"\x06\x00\x00\x00\x02\x00\x00", 0, "an empty DIFFER"),
+        (b"\x07\x00\x00\x00\x02\x00\x02", 0, "HELLO"),
+    ];
+    are_read(rt.alloc(), &rows)
 }
 
 #[test]
-fn bodies_of_no_frame_are_told(rt: HostRuntime) {
-    is_read(
-        &rt,
-        rt.alloc(),
-        b"\x01\x00\x00\x00\x03\x00\x00\x00",
-        1,
-        "a HAVE without a count",
-    );
-    is_read(
-        &rt,
-        rt.alloc(),
-        b"\x02\x00\x00\x00\x04\x00\x10\x00\x01",
-        2,
-        "a count of 1,048,577",
-    );
-    is_read(
-        &rt,
-        rt.alloc(),
-        b"\x02\x00\x00\x00\x04\x00\x10\x00\x00",
-        1,
-        "a count of 1,048,576",
-    );
+fn bodies_of_no_frame_are_told(rt: HostRuntime) -> Result<(), Fail> {
+    let rows: [Row; 3] = [
+        (
+            b"\x01\x00\x00\x00\x03\x00\x00\x00",
+            1,
+            "a HAVE without a count",
+        ),
+        (
+            b"\x02\x00\x00\x00\x04\x00\x10\x00\x01",
+            2,
+            "a count of 1,048,577",
+        ),
+        (
+            b"\x02\x00\x00\x00\x04\x00\x10\x00\x00",
+            1,
+            "a count of 1,048,576",
+        ),
+    ];
+    are_read(rt.alloc(), &rows)
 }
 
 #[test]
-fn what_is_no_body_of_a_kind_is_told(rt: HostRuntime) {
-    is_read(
-        &rt,
-        rt.alloc(),
-        b"\x03\x00\x00\x00\x00",
-        1,
-        "a GIVE of nothing",
-    );
-    is_read(
-        &rt,
-        rt.alloc(),
-        b"\x03\x00\x00\x00\x01\x04",
-        1,
-        "a GIVE of an unknown kind",
-    );
-    is_read(
-        &rt,
-        rt.alloc(),
-        b"\x04\x00\x00\x00\x01\x00",
-        1,
-        "an END with a byte",
-    );
-    is_read(&rt, rt.alloc(), b"\x05\x00\x00\x00\x00", 1, "no buckets");
-    is_read(
-        &rt,
-        rt.alloc(),
-        b"\x07\x00\x00\x00\x01\x02",
-        1,
-        "half a version",
-    );
+fn what_is_no_body_of_a_kind_is_told(rt: HostRuntime) -> Result<(), Fail> {
+    let rows: [Row; 5] = [
+        (b"\x03\x00\x00\x00\x00", 1, "a GIVE of nothing"),
+        (b"\x03\x00\x00\x00\x01\x04", 1, "a GIVE of an unknown kind"),
+        (b"\x04\x00\x00\x00\x01\x00", 1, "an END with a byte"),
+        (b"\x05\x00\x00\x00\x00", 1, "no buckets"),
+        (b"\x07\x00\x00\x00\x01\x02", 1, "half a version"),
+    ];
+    are_read(rt.alloc(), &rows)
 }
 
 #[test]
-fn a_give_is_as_long_as_its_operation(rt: HostRuntime) {
-    is_read(
-        &rt,
-        rt.alloc(),
-        b"\x03\x00\x00\x00\x1c\x03\x071.2.1.1\x00\x08\x10\x3e\x00\x03HEA\
+fn a_give_is_as_long_as_its_operation(rt: HostRuntime) -> Result<(), Fail> {
+    let rows: [Row; 3] = [
+        (
+            b"\x03\x00\x00\x00\x1c\x03\x071.2.1.1\x00\x08\x10\x3e\x00\x03HEA\
         \x00\x00\x00\x00\x00\x00\x00\x01\x00\x01",
-        0,
-        "28 bytes of 28",
-    );
-    is_read(
-        &rt,
-        rt.alloc(),
-        b"\x03\x00\x00\x00\x1d\x03\x071.2.1.1\x00\x08\x10\x3e\x00\x03HEA\
+            0,
+            "28 bytes of 28",
+        ),
+        (
+            b"\x03\x00\x00\x00\x1d\x03\x071.2.1.1\x00\x08\x10\x3e\x00\x03HEA\
         \x00\x00\x00\x00\x00\x00\x00\x01\x00\x01\x00",
-        1,
-        "28 bytes of 29",
-    );
-    is_read(
-        &rt,
-        rt.alloc(),
-        b"\x03\x00\x00\x00\x1b\x03\x071.2.1.1\x00\x08\x10\x3e\x00\x03HEA\
+            1,
+            "28 bytes of 29",
+        ),
+        (
+            b"\x03\x00\x00\x00\x1b\x03\x071.2.1.1\x00\x08\x10\x3e\x00\x03HEA\
         \x00\x00\x00\x00\x00\x00\x00\x01\x00",
-        1,
-        "27 bytes of an operation of 28",
-    );
+            1,
+            "27 bytes of an operation of 28",
+        ),
+    ];
+    are_read(rt.alloc(), &rows)
 }
 
 #[test]
-fn first_bytes_ascend(rt: HostRuntime) {
-    is_read(
-        &rt,
-        rt.alloc(),
-        b"\x06\x00\x00\x00\x04\x00\x02\x00\xff",
-        0,
-        "00 and FF",
-    );
-    is_read(
-        &rt,
-        rt.alloc(),
-        b"\x06\x00\x00\x00\x04\x00\x02\xff\x00",
-        1,
-        "FF and 00",
-    );
-    is_read(
-        &rt,
-        rt.alloc(),
-        b"\x06\x00\x00\x00\x04\x00\x02\x07\x07",
-        1,
-        "07 twice",
-    );
-    is_read(
-        &rt,
-        rt.alloc(),
-        b"\x06\x00\x00\x00\x04\x00\x01\x07\x08",
-        1,
-        "one byte more",
-    );
+fn first_bytes_ascend(rt: HostRuntime) -> Result<(), Fail> {
+    let rows: [Row; 4] = [
+        (b"\x06\x00\x00\x00\x04\x00\x02\x00\xff", 0, "00 and FF"),
+        (b"\x06\x00\x00\x00\x04\x00\x02\xff\x00", 1, "FF and 00"),
+        (b"\x06\x00\x00\x00\x04\x00\x02\x07\x07", 1, "07 twice"),
+        (b"\x06\x00\x00\x00\x04\x00\x01\x07\x08", 1, "one byte more"),
+    ];
+    are_read(rt.alloc(), &rows)
 }
 
 /// A HAVE that says this count, with digests of 32 equal bytes.
@@ -221,31 +161,23 @@ fn have(alloc: Global, length: u8, count: u8, firsts: &[u8]) -> Result<Vec<u8>, 
 #[test]
 fn digests_ascend(rt: HostRuntime) -> Result<(), Fail> {
     let text = have(rt.alloc(), 68, 2, &[1, 2])?;
-    is_read(&rt, rt.alloc(), text.as_slice(), 0, "01.. and 02..");
+    is_read(rt.alloc(), text.as_slice(), 0, "01.. and 02..")?;
     let text = have(rt.alloc(), 68, 2, &[2, 1])?;
-    is_read(&rt, rt.alloc(), text.as_slice(), 1, "02.. and 01..");
-    Ok(())
+    is_read(rt.alloc(), text.as_slice(), 1, "02.. and 01..")
 }
 
 #[test]
 fn a_count_is_that_of_the_digests(rt: HostRuntime) -> Result<(), Fail> {
     let text = have(rt.alloc(), 68, 3, &[1, 2])?;
-    is_read(
-        &rt,
-        rt.alloc(),
-        text.as_slice(),
-        1,
-        "one more than there are",
-    );
+    is_read(rt.alloc(), text.as_slice(), 1, "one more than there are")?;
     let text = have(rt.alloc(), 68, 2, &[1, 1])?;
-    is_read(&rt, rt.alloc(), text.as_slice(), 1, "01.. twice");
-    Ok(())
+    is_read(rt.alloc(), text.as_slice(), 1, "01.. twice")
 }
 
 #[test]
-fn a_frame_says_what_was_read(rt: HostRuntime) {
+fn a_frame_says_what_was_read(rt: HostRuntime) -> Result<(), Fail> {
     let hello = read(rt.alloc(), b"\x07\x00\x00\x00\x02\x00\x02");
-    assert!(rt; matches!(hello, Ok(Frame::Hello(2))), "version 2");
+    holds(matches!(hello, Ok(Frame::Hello(2))), "version 2")?;
     let end = read(rt.alloc(), b"\x04\x00\x00\x00\x00");
-    assert!(rt; matches!(end, Ok(Frame::End)), "END");
+    holds(matches!(end, Ok(Frame::End)), "END")
 }

@@ -1,6 +1,7 @@
 //! An exchange of two sites that hold much and differ in little.
 
 use crate::runs::run;
+use assertions::{equal, holds};
 use bytes::Bytes;
 use exchange::*;
 use exchange_run::*;
@@ -170,15 +171,14 @@ fn large_sites_that_differ_in_little_become_equal(rt: HostRuntime) -> Result<(),
         finished: true,
     };
     let (out, ended) = run(rt.alloc(), Role::Caller, &mut a, callee.as_slice(), 4096)?;
-    assert_eq!(rt; ended, Ok(ten), "the caller");
-    assert!(rt; out.as_slice() == caller.as_slice(), "what it writes");
-    assert!(rt; !a.same(&b), "before the callee took anything");
+    equal(ended, Ok(ten), "the caller")?;
+    holds(out.as_slice() == caller.as_slice(), "what it writes")?;
+    holds(!a.same(&b), "before the callee took anything")?;
     let (out, ended) = run(rt.alloc(), Role::Callee, &mut b, caller.as_slice(), 4096)?;
-    assert_eq!(rt; ended, Ok(ten), "the callee");
-    assert!(rt; out.as_slice() == callee.as_slice(), "what it writes");
-    assert!(rt; a.same(&b), "both sites");
-    assert_eq!(rt; a.counts().operations, 2_010, "what each holds");
-    Ok(())
+    equal(ended, Ok(ten), "the callee")?;
+    holds(out.as_slice() == callee.as_slice(), "what it writes")?;
+    holds(a.same(&b), "both sites")?;
+    equal(a.counts().operations, 2_010, "what each holds")
 }
 
 #[test]
@@ -194,12 +194,11 @@ fn what_is_written_goes_by_the_places_that_differ(rt: HostRuntime) -> Result<(),
     // What a had the callee has taken, so the second round is of what b had.
     let offered_by_b = digests_in(rt.alloc(), &b, of_b.as_slice())?;
     let wanted = bytes_for(of_b.len(), offered_by_a);
-    assert_eq!(rt; caller.len(), wanted, "what the caller writes");
-    assert!(rt; wanted < FULL_HAVE, "a full HAVE is longer");
+    equal(caller.len(), wanted, "what the caller writes")?;
+    holds(wanted < FULL_HAVE, "a full HAVE is longer")?;
     let wanted = bytes_for(places.len(), offered_by_b);
-    assert_eq!(rt; callee.len(), wanted, "what the callee writes");
-    assert!(rt; wanted < FULL_HAVE, "a full HAVE is longer");
-    Ok(())
+    equal(callee.len(), wanted, "what the callee writes")?;
+    holds(wanted < FULL_HAVE, "a full HAVE is longer")
 }
 
 #[test]
@@ -213,10 +212,9 @@ fn large_sites_that_are_equal_write_8234_bytes_each(rt: HostRuntime) -> Result<(
         finished: true,
     };
     let (out, ended) = run(rt.alloc(), Role::Caller, &mut a, callee.as_slice(), 4096)?;
-    assert_eq!(rt; ended, Ok(nothing), "the caller");
-    assert_eq!(rt; out.as_slice().len(), SMALLEST, "what it writes");
+    equal(ended, Ok(nothing), "the caller")?;
+    equal(out.as_slice().len(), SMALLEST, "what it writes")?;
     let (out, ended) = run(rt.alloc(), Role::Callee, &mut b, caller.as_slice(), 4096)?;
-    assert_eq!(rt; ended, Ok(nothing), "the callee");
-    assert_eq!(rt; out.as_slice().len(), SMALLEST, "what it writes");
-    Ok(())
+    equal(ended, Ok(nothing), "the callee")?;
+    equal(out.as_slice().len(), SMALLEST, "what it writes")
 }

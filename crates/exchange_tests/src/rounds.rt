@@ -1,11 +1,11 @@
 //! Rounds between two sites.
 
+use assertions::{equal, holds};
 use bytes::Bytes;
 use exchange::*;
 use operation::{Digest, Op, Taken, decode, digest};
 use site_state::Site;
 use std::alloc::Global;
-use std::process::Abort;
 use std::test::Fail;
 
 // The corrections of study 1.2.1 by which (0010,0010) is ROE^ANN, and of series 1.2.1.1 by which
@@ -93,10 +93,10 @@ fn run(alloc: Global, from: &mut Site, to: &mut Site) -> Result<usize, Fail> {
 fn buckets_of_no_digests_are_those_of_no_bytes(rt: HostRuntime) -> Result<(), Fail> {
     let mut site = Site::new(rt.alloc());
     let buckets = Round::new(rt.alloc(), Version::Two).buckets(rt.alloc(), &mut site)?;
-    assert_eq!(rt; buckets.len(), 256, "buckets");
+    equal(buckets.len(), 256, "buckets")?;
     for bucket in buckets.as_slice() {
         let text = bucket.text(rt.alloc())?;
-        assert!(rt; text.as_str() == OF_NOTHING, "a bucket of no bytes");
+        holds(text.as_str() == OF_NOTHING, "a bucket of no bytes")?;
     }
     Ok(())
 }
@@ -105,164 +105,144 @@ fn buckets_of_no_digests_are_those_of_no_bytes(rt: HostRuntime) -> Result<(), Fa
 fn a_round_by_buckets_makes_sites_equal(rt: HostRuntime) -> Result<(), Fail> {
     let mut a = site_of(rt.alloc(), OF_STUDY)?;
     let mut b = Site::new(rt.alloc());
-    assert_eq!(rt;
+    equal(
         run(rt.alloc(), &mut a, &mut b)?,
         1,
-        "digests where they differ"
-    );
-    assert!(rt; a.same(&b), "both sites");
-    assert_eq!(rt;
+        "digests where they differ",
+    )?;
+    holds(a.same(&b), "both sites")?;
+    equal(
         run(rt.alloc(), &mut a, &mut b)?,
         0,
-        "digests where they differ then"
-    );
-    Ok(())
+        "digests where they differ then",
+    )
 }
 
 #[test]
 fn a_stranger_is_not_taken(rt: HostRuntime) -> Result<(), Fail> {
     let mut site = Site::new(rt.alloc());
     let mut round = Round::new(rt.alloc(), Version::Two);
-    assert_eq!(rt;
+    equal(
         given(rt.alloc(), &mut round, &mut site, OF_STUDY)?,
         3,
-        "unasked"
-    );
-    assert_eq!(rt; site.counts().operations, 0, "what is held");
-    Ok(())
+        "unasked",
+    )?;
+    equal(site.counts().operations, 0, "what is held")
 }
 
 #[test]
 fn a_give_that_comes_twice_is_known(rt: HostRuntime) -> Result<(), Fail> {
     let mut site = Site::new(rt.alloc());
     let mut round = Round::new(rt.alloc(), Version::Two);
-    assert_eq!(rt;
+    equal(
         asked(rt.alloc(), &mut round, &mut site, OF_STUDY)?,
         1,
-        "asked for"
-    );
-    assert!(rt; !round.finished(), "before the GIVE");
-    assert_eq!(rt;
+        "asked for",
+    )?;
+    holds(!round.finished(), "before the GIVE")?;
+    equal(
         given(rt.alloc(), &mut round, &mut site, OF_STUDY)?,
         0,
-        "the first"
-    );
-    assert_eq!(rt;
+        "the first",
+    )?;
+    equal(
         given(rt.alloc(), &mut round, &mut site, OF_STUDY)?,
         10,
-        "the second"
-    );
-    assert!(rt; round.finished(), "after it");
-    Ok(())
+        "the second",
+    )?;
+    holds(round.finished(), "after it")
 }
 
 /// Two offers in one round, and what is given for both in the same order.
-fn offered_in_turn(
-    rt: &impl Abort,
-    alloc: Global,
-    first: &[u8],
-    second: &[u8],
-) -> Result<(), Fail> {
+fn offered_in_turn(alloc: Global, first: &[u8], second: &[u8]) -> Result<(), Fail> {
     let mut site = Site::new(alloc);
     let mut round = Round::new(alloc, Version::Two);
-    assert_eq!(rt; asked(alloc, &mut round, &mut site, first)?, 1, "the first");
-    assert_eq!(rt;
-        asked(alloc, &mut round, &mut site, second)?,
-        1,
-        "behind it"
-    );
-    assert_eq!(rt; given(alloc, &mut round, &mut site, first)?, 0, "given");
-    assert!(rt; !round.finished(), "before the other is given");
-    assert_eq!(rt;
-        given(alloc, &mut round, &mut site, second)?,
-        0,
-        "the other"
-    );
-    assert!(rt; round.finished(), "after both");
-    Ok(())
+    equal(asked(alloc, &mut round, &mut site, first)?, 1, "the first")?;
+    equal(asked(alloc, &mut round, &mut site, second)?, 1, "behind it")?;
+    equal(given(alloc, &mut round, &mut site, first)?, 0, "given")?;
+    holds(!round.finished(), "before the other is given")?;
+    equal(given(alloc, &mut round, &mut site, second)?, 0, "the other")?;
+    holds(round.finished(), "after both")
 }
 
 #[test]
 fn a_second_offer_adds_to_what_is_asked_for(rt: HostRuntime) -> Result<(), Fail> {
     // Of the two, one has the lesser digest: so what was asked for ascends in one of them alone.
-    offered_in_turn(&rt, rt.alloc(), OF_STUDY, OF_SERIES)?;
-    offered_in_turn(&rt, rt.alloc(), OF_SERIES, OF_STUDY)
+    offered_in_turn(rt.alloc(), OF_STUDY, OF_SERIES)?;
+    offered_in_turn(rt.alloc(), OF_SERIES, OF_STUDY)
 }
 
 #[test]
 fn what_is_held_is_not_asked_for(rt: HostRuntime) -> Result<(), Fail> {
     let mut site = site_of(rt.alloc(), OF_STUDY)?;
     let mut round = Round::new(rt.alloc(), Version::Two);
-    assert_eq!(rt;
+    equal(
         asked(rt.alloc(), &mut round, &mut site, OF_STUDY)?,
         0,
-        "held"
-    );
-    assert_eq!(rt;
+        "held",
+    )?;
+    equal(
         asked(rt.alloc(), &mut round, &mut site, OF_SERIES)?,
         1,
-        "lacked"
-    );
-    Ok(())
+        "lacked",
+    )
 }
 
 #[test]
 fn version_one_knows_no_corrections_of_series(rt: HostRuntime) -> Result<(), Fail> {
     let mut site = site_of(rt.alloc(), OF_SERIES)?;
-    assert_eq!(rt;
+    equal(
         offered(rt.alloc(), Version::One, &mut site)?,
         0,
-        "offered at 1"
-    );
-    assert_eq!(rt;
+        "offered at 1",
+    )?;
+    equal(
         offered(rt.alloc(), Version::Two, &mut site)?,
         1,
-        "offered at 2"
-    );
-    assert_eq!(rt;
+        "offered at 2",
+    )?;
+    equal(
         wanted(rt.alloc(), Version::One, &mut site, OF_SERIES)?,
         0,
-        "given at 1"
-    );
-    assert_eq!(rt;
+        "given at 1",
+    )?;
+    equal(
         wanted(rt.alloc(), Version::Two, &mut site, OF_SERIES)?,
         1,
-        "given at 2"
-    );
-    Ok(())
+        "given at 2",
+    )
 }
 
 #[test]
 fn a_series_correction_is_no_frame_of_version_one(rt: HostRuntime) -> Result<(), Fail> {
     let mut site = Site::new(rt.alloc());
     let mut round = Round::new(rt.alloc(), Version::One);
-    assert_eq!(rt;
+    equal(
         asked(rt.alloc(), &mut round, &mut site, OF_SERIES)?,
         1,
-        "asked for"
-    );
-    assert_eq!(rt;
+        "asked for",
+    )?;
+    equal(
         given(rt.alloc(), &mut round, &mut site, OF_SERIES)?,
         1,
-        "of version 2"
-    );
-    assert_eq!(rt; site.counts().operations, 0, "what is held");
-    Ok(())
+        "of version 2",
+    )?;
+    equal(site.counts().operations, 0, "what is held")
 }
 
 #[test]
-fn the_lesser_version_is_spoken(rt: HostRuntime) {
-    assert!(rt; Version::with_peer(0).is_none(), "version 0");
-    assert!(rt;
+fn the_lesser_version_is_spoken(rt: HostRuntime) -> Result<(), Fail> {
+    holds(Version::with_peer(0).is_none(), "version 0")?;
+    holds(
         matches!(Version::with_peer(1), Some(Version::One)),
-        "version 1"
-    );
-    assert!(rt;
+        "version 1",
+    )?;
+    holds(
         matches!(Version::with_peer(2), Some(Version::Two)),
-        "version 2"
-    );
-    assert!(rt;
+        "version 2",
+    )?;
+    holds(
         matches!(Version::with_peer(65_535), Some(Version::Two)),
-        "version 65,535"
-    );
+        "version 65,535",
+    )
 }

@@ -1,5 +1,6 @@
 //! Whole exchanges, over devices in memory.
 
+use assertions::{equal, equal_at, holds, holds_at};
 use bytes::Bytes;
 use devices::{Store, Supply};
 use exchange::*;
@@ -8,7 +9,6 @@ use octets::Octets;
 use operation::{Op, decode, digest};
 use site_state::Site;
 use std::alloc::{AllocError, Global};
-use std::process::Abort;
 use std::test::Fail;
 
 // The corrections of study 1.2.1 by which (0010,0010) is ROE^ANN, and of series 1.2.1.1 by which
@@ -123,7 +123,7 @@ fn fault_of(ended: Result<Ended, ExchangeFault>) -> u8 {
 fn two_empty_sites_write_8234_bytes_each(rt: HostRuntime) -> Result<(), Fail> {
     let caller = of_empty_caller(rt.alloc())?;
     let callee = of_empty_callee(rt.alloc())?;
-    assert_eq!(rt; caller.len(), 8234, "a caller's bytes");
+    equal(caller.len(), 8234, "a caller's bytes")?;
     let nothing = Ended {
         given: 0,
         taken: 0,
@@ -131,18 +131,17 @@ fn two_empty_sites_write_8234_bytes_each(rt: HostRuntime) -> Result<(), Fail> {
     };
     let mut site = Site::new(rt.alloc());
     let (out, ended) = run(rt.alloc(), Role::Caller, &mut site, callee.as_slice(), 7)?;
-    assert_eq!(rt; ended, Ok(nothing), "the caller");
-    assert!(rt;
+    equal(ended, Ok(nothing), "the caller")?;
+    holds(
         out.as_slice() == caller.as_slice(),
-        "what the caller writes"
-    );
+        "what the caller writes",
+    )?;
     let (out, ended) = run(rt.alloc(), Role::Callee, &mut site, caller.as_slice(), 1)?;
-    assert_eq!(rt; ended, Ok(nothing), "the callee");
-    assert!(rt;
+    equal(ended, Ok(nothing), "the callee")?;
+    holds(
         out.as_slice() == callee.as_slice(),
-        "what the callee writes"
-    );
-    Ok(())
+        "what the callee writes",
+    )
 }
 
 #[test]
@@ -158,44 +157,40 @@ fn a_stream_that_ends_too_soon_is_no_exchange(rt: HostRuntime) -> Result<(), Fai
             &caller.as_slice()[..end],
             4096,
         )?;
-        assert_eq!(rt; fault_of(ended), 1, "of {end} bytes");
-        assert!(rt;
+        equal_at(fault_of(ended), 1, "the fault of so many bytes", end)?;
+        holds_at(
             callee.as_slice().starts_with(out.as_slice()),
-            "what is written for {end} bytes"
-        );
-        assert_eq!(rt;
+            "what is written for so many bytes",
+            end,
+        )?;
+        equal_at(
             out.as_slice().is_empty(),
             end < 7,
-            "before a HELLO: {end} bytes"
-        );
+            "nothing before a HELLO, of so many bytes",
+            end,
+        )?;
     }
     Ok(())
 }
 
 /// A side with nothing reads fronts of what a peer says, and writes a front of its own text: each
 /// front that ends outside of BUCKETS or near its ends, and some that end inside.
-fn ends_too_soon(
-    rt: &impl Abort,
-    alloc: Global,
-    role: Role,
-    input: &[u8],
-    output: &[u8],
-) -> Result<(), Fail> {
+fn ends_too_soon(alloc: Global, role: Role, input: &[u8], output: &[u8]) -> Result<(), Fail> {
     let mut site = Site::new(alloc);
     for end in 0..input.len() {
         if end < 48 || input.len() - end < 48 || end % 251 == 0 {
             let (out, ended) = run(alloc, role, &mut site, &input[..end], 4096)?;
-            assert_eq!(rt; fault_of(ended), 1, "of {end} bytes");
-            assert!(rt;
+            equal_at(fault_of(ended), 1, "the fault of so many bytes", end)?;
+            holds_at(
                 output.starts_with(out.as_slice()),
-                "what is written for {end} bytes"
-            );
+                "what is written for so many bytes",
+                end,
+            )?;
         }
     }
     let (out, ended) = run(alloc, role, &mut site, input, 4096)?;
-    assert_eq!(rt; fault_of(ended), 0, "the whole text");
-    assert!(rt; out.as_slice() == output, "what is written for it");
-    Ok(())
+    equal(fault_of(ended), 0, "the whole text")?;
+    holds(out.as_slice() == output, "what is written for it")
 }
 
 #[test]
@@ -203,7 +198,6 @@ fn a_callee_that_ends_too_soon_is_no_exchange(rt: HostRuntime) -> Result<(), Fai
     let caller = of_empty_caller(rt.alloc())?;
     let callee = of_empty_callee(rt.alloc())?;
     ends_too_soon(
-        &rt,
         rt.alloc(),
         Role::Caller,
         callee.as_slice(),
@@ -216,7 +210,6 @@ fn an_old_callee_that_ends_too_soon_is_no_exchange(rt: HostRuntime) -> Result<()
     let caller = of_old_caller(rt.alloc())?;
     let callee = of_old_callee(rt.alloc())?;
     ends_too_soon(
-        &rt,
         rt.alloc(),
         Role::OldCaller,
         callee.as_slice(),
@@ -229,7 +222,6 @@ fn an_old_caller_that_ends_too_soon_is_no_exchange(rt: HostRuntime) -> Result<()
     let caller = of_old_caller(rt.alloc())?;
     let callee = of_old_callee(rt.alloc())?;
     ends_too_soon(
-        &rt,
         rt.alloc(),
         Role::Callee,
         caller.as_slice(),
@@ -248,9 +240,8 @@ fn what_was_not_asked_for_is_not_taken(rt: HostRuntime) -> Result<(), Fail> {
     input.extend_from_slice(OF_STUDY)?;
     let mut site = Site::new(rt.alloc());
     let (_, ended) = run(rt.alloc(), Role::Caller, &mut site, input.as_slice(), 4096)?;
-    assert_eq!(rt; fault_of(ended), 3, "a stranger");
-    assert_eq!(rt; site.counts().operations, 0, "what is held");
-    Ok(())
+    equal(fault_of(ended), 3, "a stranger")?;
+    equal(site.counts().operations, 0, "what is held")
 }
 
 /// What a copy of a site writes for what it reads.
@@ -294,11 +285,10 @@ fn an_exchange_makes_sites_equal(rt: HostRuntime) -> Result<(), Fail> {
         finished: true,
     };
     let (_, ended) = run(rt.alloc(), Role::Caller, &mut a, callee.as_slice(), 7)?;
-    assert_eq!(rt; ended, Ok(one), "the caller");
+    equal(ended, Ok(one), "the caller")?;
     let (_, ended) = run(rt.alloc(), Role::Callee, &mut b, caller.as_slice(), 7)?;
-    assert_eq!(rt; ended, Ok(one), "the callee");
-    assert!(rt; a.same(&b), "both sites");
-    Ok(())
+    equal(ended, Ok(one), "the callee")?;
+    holds(a.same(&b), "both sites")
 }
 
 #[test]
@@ -312,17 +302,16 @@ fn an_old_caller_is_given_what_it_knows(rt: HostRuntime) -> Result<(), Fail> {
         taken: 0,
         finished: true,
     };
-    assert_eq!(rt; ended, Ok(gave), "the caller");
+    equal(ended, Ok(gave), "the caller")?;
     let (_, ended) = run(rt.alloc(), Role::Callee, &mut b, caller.as_slice(), 1)?;
     let took = Ended {
         given: 0,
         taken: 1,
         finished: true,
     };
-    assert_eq!(rt; ended, Ok(took), "the callee");
-    assert_eq!(rt; a.counts().operations, 1, "what the caller holds");
-    assert_eq!(rt; b.counts().operations, 2, "what the callee holds");
-    Ok(())
+    equal(ended, Ok(took), "the callee")?;
+    equal(a.counts().operations, 1, "what the caller holds")?;
+    equal(b.counts().operations, 2, "what the callee holds")
 }
 
 /// What a caller with one operation says to a callee that asks for it, but for the GIVE.
@@ -345,8 +334,7 @@ fn what_was_asked_for_and_not_given_is_not_finished(rt: HostRuntime) -> Result<(
         taken: 0,
         finished: false,
     };
-    assert_eq!(rt; ended, Ok(unfinished), "END before the GIVE");
-    Ok(())
+    equal(ended, Ok(unfinished), "END before the GIVE")
 }
 
 #[test]
@@ -366,7 +354,7 @@ fn a_device_that_fails_is_told(rt: HostRuntime) -> Result<(), Fail> {
         &mut writer,
         &mut site,
     );
-    assert_eq!(rt; fault_of(ended), 4, "the third read");
+    equal(fault_of(ended), 4, "the third read")?;
     let mut reader = Supply::new(Octets::of(callee), 9000, None);
     let mut writer = Store::new(rt.alloc(), 100);
     let ended = run_exchange(
@@ -376,7 +364,6 @@ fn a_device_that_fails_is_told(rt: HostRuntime) -> Result<(), Fail> {
         &mut writer,
         &mut site,
     );
-    assert_eq!(rt; fault_of(ended), 4, "no room for more than 100 bytes");
-    assert_eq!(rt; writer.as_slice().len(), 100, "what is written");
-    Ok(())
+    equal(fault_of(ended), 4, "no room for more than 100 bytes")?;
+    equal(writer.as_slice().len(), 100, "what is written")
 }

@@ -2,9 +2,10 @@
 ghost use Rattle.std.specs.Prelude.{◌≡◌};
 
 use crate::made::{NAME, accepts, closed, correction, found, image, name, query, selection, study};
-use crate::ports::{associates, holds, renames, stores_large};
+use crate::ports::{associates, is_held, renames, stores_large};
 use crate::refusals::{closes_on, corrects_on, stores_on};
 use archive_model::View;
+use assertions::{equal, equal_at, holds, holds_at};
 use operation::{Digested, Taken};
 use site_hub::{
     CloseFault, HubFault, HubName, Keeper, Logged, Opened, Pass, Snapshot, close, correct, open,
@@ -74,7 +75,7 @@ pub fn run<H: HubName + Send + Sync, R: Threads + Wait + Abort + Sync>(
         Row::Associates => associates(rt, alloc, &keeper, one, &mut two),
         Row::StoresLarge => stores_large(rt, alloc, &keeper, one, &mut two),
         Row::Renames => renames(rt, alloc, &keeper, one, &mut two),
-        Row::Holds => holds(rt, alloc, keeper, one, two),
+        Row::Holds => is_held(rt, alloc, keeper, one, two),
         Row::StoresOn => stores_on(rt, alloc, keeper, one, two),
         Row::CorrectsOn => corrects_on(rt, alloc, keeper, one, two),
         Row::ClosesOn => closes_on(rt, alloc, keeper, one, two),
@@ -154,23 +155,18 @@ fn learns<H: HubName, R: Wait + Abort>(
     let op = Digested::of(image(alloc, 1)?);
     let digest = *op.digest();
     let told = keeper.lock(rt).take(one, op)?;
-    assert_eq!(rt; told.taken(), Taken::New, "the first time");
+    equal(told.taken(), Taken::New, "the first time")?;
     two.learn(told);
-    assert_eq!(rt; found(alloc, two, &query(alloc)?), Some(1), "its row");
+    equal(found(alloc, two, &query(alloc)?), Some(1), "its row")?;
     let sent = two.get(View::Archive, &selection(alloc)?, &accepts(alloc)?)?;
-    assert_eq!(rt; sent.len(), 1, "its sending");
+    equal(sent.len(), 1, "its sending")?;
     let prepared = two.prepare(View::Archive, &selection(alloc)?)?;
-    assert_eq!(rt; prepared.len(), 1, "what is to be sent");
-    assert_eq!(rt;
-        two.digests()?.as_slice(),
-        [digest].as_slice(),
-        "its digest"
-    );
-    assert!(rt; two.op(&digest)?.is_some(), "the operation");
-    assert!(rt; two.missing(&[digest])?.is_empty(), "nothing is missing");
+    equal(prepared.len(), 1, "what is to be sent")?;
+    equal(two.digests()?.as_slice(), [digest].as_slice(), "its digest")?;
+    holds(two.op(&digest)?.is_some(), "the operation")?;
+    holds(two.missing(&[digest])?.is_empty(), "nothing is missing")?;
     let told = store(rt, keeper, two, image(alloc, 1)?)?;
-    assert_eq!(rt; told.taken(), Taken::Known, "the second time");
-    Ok(())
+    equal(told.taken(), Taken::Known, "the second time")
 }
 
 /// The counter of the correction that the hub makes.
@@ -194,20 +190,20 @@ fn corrects<H: HubName, R: Wait + Abort>(
     counter: u64,
 ) -> Result<(), Fail> {
     let held = correction(alloc, counter)?;
-    assert!(rt; store(rt, keeper, pass, held).is_ok(), "{counter} is held");
+    holds_at(
+        store(rt, keeper, pass, held).is_ok(),
+        "the store is held, of counter",
+        counter,
+    )?;
     for k in 1..4u64 {
         let want = match counter.checked_add(k) {
             Some(next) => Ok(next),
             None => Err(HubFault::StampsSpent),
         };
         let held = pass.digests()?.len();
-        assert_eq!(rt;
-            corrected(rt, alloc, keeper, pass)?,
-            want,
-            "after {counter}"
-        );
+        equal_at(corrected(rt, alloc, keeper, pass)?, want, "after", counter)?;
         let more = usize::from(want.is_ok());
-        assert_eq!(rt; pass.digests()?.len(), held.saturating_add(more), "held");
+        equal(pass.digests()?.len(), held.saturating_add(more), "held")?;
     }
     Ok(())
 }
@@ -225,13 +221,12 @@ fn numbers<H: HubName, R: Wait + Abort>(
         corrected(rt, alloc, &keeper, &mut one)?,
         corrected(rt, alloc, &keeper, &mut two)?,
     );
-    assert_eq!(rt; first, Ok(1), "the first");
-    assert_eq!(rt; second, Ok(2), "the second");
+    equal(first, Ok(1), "the first")?;
+    equal(second, Ok(2), "the second")?;
     let (site, log) = closed(keeper, vec![in alloc; one, two]?)?;
-    assert_eq!(rt; site.top_counter(), 2, "the greatest counter");
-    assert_eq!(rt; site.counts().corrections, 2, "both corrections");
-    assert_eq!(rt; log.as_slice().len(), 2, "an entry of each");
-    Ok(())
+    equal(site.top_counter(), 2, "the greatest counter")?;
+    equal(site.counts().corrections, 2, "both corrections")?;
+    equal(log.as_slice().len(), 2, "an entry of each")
 }
 
 /// Both passes store one image. Without the second pass the hub is not closed.
@@ -255,14 +250,13 @@ fn closes<H: HubName, R: Wait + Abort>(
         fault,
     } = back;
     let keeper = Mutex::new(keeper);
-    assert_eq!(rt; fault, HubFault::Torn, "without the second pass");
+    equal(fault, HubFault::Torn, "without the second pass")?;
     passes.push(two)?;
     let (site, log) = closed(keeper, passes)?;
-    assert_eq!(rt; site.counts().operations, 1, "one operation");
-    assert_eq!(rt;
+    equal(site.counts().operations, 1, "one operation")?;
+    equal(
         log.as_slice(),
         [Logged { pass: 1, digest }, Logged { pass: 2, digest }].as_slice(),
-        "an entry of each"
-    );
-    Ok(())
+        "an entry of each",
+    )
 }

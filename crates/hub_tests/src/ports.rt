@@ -7,6 +7,7 @@ use crate::made::{NAME, closed, content, found, large_set, name, query, study};
 use crate::messages::{answered, asked, asked_in_fragments};
 use archive_model::View;
 use archive_query::Query;
+use assertions::{equal, holds};
 use association_run::{End, Gate, Outbox, run_association};
 use association_session::Moment;
 use association_worker::{AtEntry, HubPort};
@@ -189,14 +190,13 @@ pub fn renames<H: HubName, R: Wait + Abort>(
         is_done: false,
     };
     let (_one, ended) = serve(rt, alloc, keeper, one, &mut line, &mut gate);
-    assert!(rt; gate.is_done, "the correction is made");
-    assert_eq!(rt; ended, Some(End::Released), "its end");
-    assert_eq!(rt;
+    holds(gate.is_done, "the correction is made")?;
+    equal(ended, Some(End::Released), "its end")?;
+    equal(
         line.store.as_slice(),
         wanted.as_slice(),
-        "what it is answered"
-    );
-    Ok(())
+        "what it is answered",
+    )
 }
 
 /// Two hundred images are stored and looked for in one association, while another pass looks.
@@ -218,19 +218,18 @@ pub fn associates<H: HubName, R: Wait + Abort>(
         same: 0,
     };
     let (mut one, ended) = serve(rt, alloc, keeper, one, &mut line, &mut watch);
-    assert_eq!(rt; ended, Some(End::Released), "its end");
-    assert_eq!(rt; watch.same, 200, "looks of the other pass");
-    assert_eq!(rt;
+    equal(ended, Some(End::Released), "its end")?;
+    equal(watch.same, 200, "looks of the other pass")?;
+    equal(
         line.store.as_slice(),
         wanted.as_slice(),
-        "what it is answered"
-    );
-    assert_eq!(rt;
+        "what it is answered",
+    )?;
+    equal(
         found(alloc, &mut one, &query),
         Some(200),
-        "its pass comes back"
-    );
-    Ok(())
+        "its pass comes back",
+    )
 }
 
 /// An image of 33 MiB is stored whole by one association, which finds it, as another pass does.
@@ -253,24 +252,20 @@ pub fn stores_large<H: HubName, R: Wait + Abort>(
         same: 0,
     };
     let (mut one, ended) = serve(rt, alloc, keeper, one, &mut line, &mut watch);
-    assert_eq!(rt; ended, Some(End::Released), "its end");
-    assert_eq!(rt; watch.same, 1, "looks of the other pass");
-    assert_eq!(rt;
+    equal(ended, Some(End::Released), "its end")?;
+    equal(watch.same, 1, "looks of the other pass")?;
+    equal(
         line.store.as_slice(),
         wanted.as_slice(),
-        "what it is answered"
-    );
+        "what it is answered",
+    )?;
     let digest = digest(&content(alloc, b"1.2.1.1.1", set)?);
-    assert!(rt;
-        one.missing(&[digest])?.is_empty(),
-        "all its bytes are held"
-    );
-    Ok(())
+    holds(one.missing(&[digest])?.is_empty(), "all its bytes are held")
 }
 
 /// An association is held within its store; a second one stores and finds; then the first goes on.
 /// The entry of the second stands before that of the first in the log of the closed hub.
-pub fn holds<H: HubName + Send + Sync, R: Threads + Wait + Abort + Sync>(
+pub fn is_held<H: HubName + Send + Sync, R: Threads + Wait + Abort + Sync>(
     rt: &R,
     alloc: Global,
     keeper: Shared<'_, H, R>,
@@ -293,28 +288,23 @@ pub fn holds<H: HubName + Send + Sync, R: Threads + Wait + Abort + Sync>(
         || serve(rt, alloc, &keeper, one, &mut later, &mut held),
         || serve(rt, alloc, &keeper, two, &mut sooner, &mut frees),
     );
-    assert_eq!(rt; first.1, Some(End::Released), "the end of the first");
-    assert_eq!(rt; second.1, Some(End::Released), "the end of the second");
+    equal(first.1, Some(End::Released), "the end of the first")?;
+    equal(second.1, Some(End::Released), "the end of the second")?;
     let wanted = answered(alloc, 2, 1, 0)?;
-    assert_eq!(rt;
+    equal(
         sooner.store.as_slice(),
         wanted.as_slice(),
-        "the second finds its own alone"
-    );
+        "the second finds its own alone",
+    )?;
     let wanted = answered(alloc, 1, 1, 1)?;
-    assert_eq!(rt;
+    equal(
         later.store.as_slice(),
         wanted.as_slice(),
-        "the first finds both"
-    );
+        "the first finds both",
+    )?;
     let (_site, log) = closed(keeper, vec![in alloc; first.0, second.0]?)?;
     let [sooner, later] = log.as_slice() else {
         return Err(Fail::from("two entries"));
     };
-    assert_eq!(rt;
-        (sooner.pass, later.pass),
-        (2, 1),
-        "the order of publishing"
-    );
-    Ok(())
+    equal((sooner.pass, later.pass), (2, 1), "the order of publishing")
 }

@@ -1,6 +1,7 @@
 //! What no row can say: values inside items, and large texts.
 
 use Syntax::Explicit;
+use assertions::{equal, holds};
 use data_set::{DataSet, SetFault, Syntax, items_of, read, value_of, write};
 use std::alloc::{AllocError, Global};
 use std::test::Fail;
@@ -75,16 +76,15 @@ const MIXED: &str = "08000000 554c 0400 00000000
 fn values_inside_items_are_found(rt: HostRuntime) -> Result<(), Fail> {
     let set = set_of(rt.alloc(), Explicit, MIXED)?;
     let items = set.items(0x0010_1002).ok_or("no sequence")?;
-    assert_eq!(rt; items.len(), 2, "two items");
-    assert_eq!(rt; items[0].len(), 0, "an empty item");
+    holds(items.len() == 2, "two items")?;
+    equal(items[0].len(), 0, "an empty item")?;
     let second = items[1].as_slice();
-    assert_eq!(rt;
+    equal(
         value_of(second, 0x0008_0060).unwrap_or(b"none"),
         b"CT".as_slice(),
-        "in the second"
-    );
-    assert!(rt; items_of(second, 0x0008_0060).is_none(), "a value");
-    Ok(())
+        "in the second",
+    )?;
+    holds(items_of(second, 0x0008_0060).is_none(), "a value")
 }
 
 /// How many bytes are written of what was read of these.
@@ -97,12 +97,11 @@ fn length_written(alloc: Global, text: &[u8]) -> Result<usize, SetFault> {
 fn a_flat_image_of_64_mib_is_read_and_written(rt: HostRuntime) -> Result<(), Fail> {
     let mut text = bytes(rt.alloc(), "e07f1000 4f57 0000 00000004")?;
     text.resize(67_108_876, 0x5a)?;
-    assert_eq!(rt;
+    equal(
         length_written(rt.alloc(), text.as_slice()),
         Ok(67_108_876),
-        "its text"
-    );
-    Ok(())
+        "its text",
+    )
 }
 
 /// The digits of ten thousand elements.
@@ -128,7 +127,6 @@ fn ten_thousand_elements_at_depth_16_are_read_and_written(rt: HostRuntime) -> Re
     let inside = ten_thousand(rt.alloc())?;
     let text = nested(rt.alloc(), 16, inside.as_str())?;
     let (written, converted) = written_again(rt.alloc(), text.as_slice())?;
-    assert_eq!(rt; written.as_slice(), text.as_slice(), "as it was");
-    assert_eq!(rt; converted, 1, "converted");
-    Ok(())
+    equal(written.as_slice(), text.as_slice(), "as it was")?;
+    equal(converted, 1, "converted")
 }

@@ -1,5 +1,6 @@
 //! Values of a content, and the order of digests.
 
+use assertions::{equal, holds};
 use bytes::Bytes;
 use data_set::Syntax;
 use octets::Octets;
@@ -69,10 +70,9 @@ fn content(
 #[test]
 fn a_content_keeps_its_class_instance_and_syntax(rt: HostRuntime) -> Result<(), Fail> {
     let content = content(rt.alloc(), CT, INSTANCE, &IMAGE)?;
-    assert_eq!(rt; content.class(), CT, "class");
-    assert_eq!(rt; content.instance(), INSTANCE, "instance");
-    assert_eq!(rt; content.syntax(), Syntax::Implicit, "transfer syntax");
-    Ok(())
+    equal(content.class(), CT, "class")?;
+    equal(content.instance(), INSTANCE, "instance")?;
+    equal(content.syntax(), Syntax::Implicit, "transfer syntax")
 }
 
 #[test]
@@ -84,7 +84,7 @@ fn the_values_of_a_content_are_those_of_its_elements(rt: HostRuntime) -> Result<
         (0x0010_0010, b"DOE^JANE".as_slice()),
         (0x0008_0020, b"".as_slice()),
     ] {
-        assert_eq!(rt; content.own_value(tag), value, "a value of its own");
+        equal(content.own_value(tag), value, "a value of its own")?;
     }
     Ok(())
 }
@@ -92,21 +92,20 @@ fn the_values_of_a_content_are_those_of_its_elements(rt: HostRuntime) -> Result<
 #[test]
 fn an_image_has_no_study_date_and_is_no_note(rt: HostRuntime) -> Result<(), Fail> {
     let content = content(rt.alloc(), CT, INSTANCE, &IMAGE)?;
-    assert!(rt; content.value(0x0008_0020).is_none(), "no study date");
-    assert!(rt; content.note().is_none(), "an image is no note");
-    Ok(())
+    holds(content.value(0x0008_0020).is_none(), "no study date")?;
+    holds(content.note().is_none(), "an image is no note")
 }
 
 #[test]
-fn digests_are_ordered_as_bytes(rt: HostRuntime) {
+fn digests_are_ordered_as_bytes(rt: HostRuntime) -> Result<(), Fail> {
     let mut high = [0; 32];
     high[0] = 1;
     let mut low = [255; 32];
     low[0] = 0;
-    assert_eq!(rt;
+    equal(
         Digest::of(low).cmp(&Digest::of(high)),
         Ordering::Less,
-        "the first byte decides"
-    );
-    assert_eq!(rt; *Digest::of(low).as_bytes(), low, "the bytes given");
+        "the first byte decides",
+    )?;
+    equal(*Digest::of(low).as_bytes(), low, "the bytes given")
 }

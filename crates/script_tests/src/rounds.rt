@@ -1,6 +1,7 @@
 //! Scripts whose sites offer each other what they hold.
 
 use crate::scripts::answered;
+use assertions::equal;
 use std::test::Fail;
 
 /// A script, and what it prints.
@@ -52,7 +53,7 @@ const ROWS: [(&[u8], &[u8]); 6] = [
 fn sites_tell_each_other_what_they_hold(rt: HostRuntime) -> Result<(), Fail> {
     for (script, answers) in ROWS.iter().copied() {
         let (_ended, writer) = answered(rt.alloc(), script, 4096, None, 1000)?;
-        assert_eq!(rt; writer.as_slice(), answers, "what it prints");
+        equal(writer.as_slice(), answers, "what it prints")?;
     }
     Ok(())
 }

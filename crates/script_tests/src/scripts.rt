@@ -1,8 +1,10 @@
 //! Scripts over devices in memory, and steps of worlds.
 
+use assertions::{equal, equal_at, holds, holds_at};
 use devices::{Store, Supply};
 use octets::Octets;
-use operation::{Op, Stamp, Target, correction_of};
+use operation::Stamp;
+use sample_operations::{correction, study};
 use site_simulation::{SimFault, simulate};
 use site_state::Taken;
 use site_world::{Seen, Step, World, WorldFault};
@@ -38,16 +40,28 @@ pub fn answered(
     Ok((ended, writer))
 }
 
+/// A script that comes in pieces of so many bytes ends so, and writes this.
+fn ends(
+    alloc: Global,
+    script: &[u8],
+    piece: usize,
+    ended: Result<u64, SimFault>,
+    written: &[u8],
+) -> Result<(), Fail> {
+    let (told, writer) = answered(alloc, script, piece, None, 100_000)?;
+    equal_at(told, ended, "how it ends, in pieces of", piece)?;
+    equal_at(
+        writer.as_slice(),
+        written,
+        "what it writes, in pieces of",
+        piece,
+    )
+}
+
 #[test]
 fn the_cuts_of_the_reads_do_not_matter(rt: HostRuntime) -> Result<(), Fail> {
     for piece in [1, 7, 100_000].iter().copied() {
-        let (ended, writer) = answered(rt.alloc(), SCRIPT, piece, None, 100_000)?;
-        assert_eq!(rt; ended, Ok(LINES), "lines in pieces of {piece} bytes");
-        assert_eq!(rt;
-            writer.as_slice(),
-            ANSWERS,
-            "answers in pieces of {piece} bytes"
-        );
+        ends(rt.alloc(), SCRIPT, piece, Ok(LINES), ANSWERS)?;
     }
     Ok(())
 }
@@ -63,12 +77,9 @@ fn a_read_that_fails_leaves_a_front(rt: HostRuntime) -> Result<(), Fail> {
         } else {
             Ok(LINES)
         };
-        assert_eq!(rt; ended, told, "where read {fails_at} fails");
-        let written = writer.as_slice();
-        assert!(rt;
-            ANSWERS.starts_with(written),
-            "a front, before read {fails_at}"
-        );
+        equal_at(ended, told, "how it ends, where a read fails", fails_at)?;
+        let is_front = ANSWERS.starts_with(writer.as_slice());
+        holds_at(is_front, "a front, before read", fails_at)?;
     }
     Ok(())
 }
@@ -77,75 +88,73 @@ fn a_read_that_fails_leaves_a_front(rt: HostRuntime) -> Result<(), Fail> {
 fn a_writer_without_room_holds_a_front(rt: HostRuntime) -> Result<(), Fail> {
     for room in 0..ANSWERS.len() {
         let (ended, writer) = answered(rt.alloc(), SCRIPT, 50, None, room)?;
-        assert_eq!(rt; ended, Err(SimFault::Write), "with room for {room} bytes");
-        assert_eq!(rt;
+        equal_at(
+            ended,
+            Err(SimFault::Write),
+            "how it ends, with room for",
+            room,
+        )?;
+        equal_at(
             writer.as_slice(),
             &ANSWERS[..room],
-            "the first {room} bytes"
-        );
-        assert_eq!(rt; writer.failures(), 1, "failures with room for {room} bytes");
+            "what is written, with room for",
+            room,
+        )?;
+        equal_at(writer.failures(), 1, "failures, with room for", room)?;
     }
     Ok(())
+}
+
+/// A text, and so many bytes that are alike behind it.
+fn padded(alloc: Global, text: &[u8], byte: u8, count: u32) -> Result<Vec<u8>, Fail> {
+    let mut script = Vec::from_slice(alloc, text)?;
+    for _ in 0..count {
+        script.push(byte)?;
+    }
+    Ok(script)
 }
 
 #[test]
 fn a_line_has_65536_bytes_at_most(rt: HostRuntime) -> Result<(), Fail> {
-    let mut script = Vec::from_slice(rt.alloc(), b"site A\n#")?;
-    for _ in 1..65536u32 {
-        script.push(b'x')?;
-    }
+    let alloc = rt.alloc();
+    let mut script = padded(alloc, b"site A\n#", b'x', 65_535)?;
     script.extend_from_slice(b"\nsite B")?;
-    let (ended, writer) = answered(rt.alloc(), script.as_slice(), 4096, None, 100)?;
-    assert_eq!(rt; ended, Ok(3), "a comment of 65,536 bytes");
-    assert_eq!(rt;
-        writer.as_slice(),
-        b"site A 1\nsite B 2\n".as_slice(),
-        "both sites"
-    );
+    ends(
+        alloc,
+        script.as_slice(),
+        4096,
+        Ok(3),
+        b"site A 1\nsite B 2\n",
+    )?;
 
-    let mut longer = Vec::from_slice(rt.alloc(), b"site A\n#")?;
-    for _ in 0..65536u32 {
-        longer.push(b'x')?;
-    }
-    let (ended, writer) = answered(rt.alloc(), longer.as_slice(), 4096, None, 100)?;
-    assert_eq!(rt; ended, Err(SimFault::LongLine), "a comment of 65,537 bytes");
-    assert_eq!(rt;
-        writer.as_slice(),
-        b"site A 1\n".as_slice(),
-        "what came before stands"
-    );
-    Ok(())
+    let longer = padded(alloc, b"site A\n#", b'x', 65_536)?;
+    ends(
+        alloc,
+        longer.as_slice(),
+        4096,
+        Err(SimFault::LongLine),
+        b"site A 1\n",
+    )
 }
 
 #[test]
 fn a_hundred_thousand_and_one_lines_are_counted(rt: HostRuntime) -> Result<(), Fail> {
-    let mut script = Vec::from_slice(rt.alloc(), b"site A")?;
-    for _ in 0..100_001u32 {
-        script.push(b'\n')?;
-    }
-    let (ended, writer) = answered(rt.alloc(), script.as_slice(), 4096, None, 100)?;
-    assert_eq!(rt; ended, Ok(100_001), "a line, and 100,000 empty ones");
-    assert_eq!(rt; writer.as_slice(), b"site A 1\n".as_slice(), "its answer");
-    Ok(())
+    let script = padded(rt.alloc(), b"site A", b'\n', 100_001)?;
+    ends(
+        rt.alloc(),
+        script.as_slice(),
+        4096,
+        Ok(100_001),
+        b"site A 1\n",
+    )
 }
 
 /// A site that takes 6,000 images, each of a study and an instance of its own.
 fn six_thousand_images(alloc: Global) -> Result<Vec<u8>, Fail> {
-    const DIGITS: &[u8] = b"0123456789";
     let mut script = Vec::from_slice(alloc, b"site A\n")?;
-    for thousand in &DIGITS[..6] {
-        for hundred in DIGITS {
-            for ten in DIGITS {
-                for one in DIGITS {
-                    let uid = [*thousand, *hundred, *ten, *one];
-                    script.extend_from_slice(b"image A 1.2.1")?;
-                    script.extend_from_slice(&uid)?;
-                    script.extend_from_slice(b" 1.3 1.4.1")?;
-                    script.extend_from_slice(&uid)?;
-                    script.extend_from_slice(b" P1 DOE\n")?;
-                }
-            }
-        }
+    for number in 1_000..7_000u32 {
+        let line = format!(in alloc; "image A 1.2.1{number} 1.3 1.4.1{number} P1 DOE\n")?;
+        script.extend_from_slice(line.as_bytes())?;
     }
     Ok(script)
 }
@@ -155,81 +164,73 @@ fn six_thousand_studies_are_found(rt: HostRuntime) -> Result<(), Fail> {
     let mut script = six_thousand_images(rt.alloc())?;
     script.extend_from_slice(b"find A ARCHIVE STUDY 00100020=P1")?;
     let (ended, writer) = answered(rt.alloc(), script.as_slice(), 65_536, None, 4_000_000)?;
-    assert_eq!(rt; ended, Ok(6_002), "all lines");
-    assert!(rt;
-        writer.as_slice().ends_with(b"\nend 6000\n"),
-        "a row for each study"
-    );
-    Ok(())
+    equal(ended, Ok(6_002), "all lines")?;
+    let has_all = writer.as_slice().ends_with(b"\nend 6000\n");
+    holds(has_all, "a row for each study")
 }
 
+/// The lines before a long one, and none behind it, are answered where all came at once.
 #[test]
-fn the_lines_before_a_long_one_are_answered_where_all_came_at_once(
-    rt: HostRuntime,
-) -> Result<(), Fail> {
-    let mut script = Vec::from_slice(rt.alloc(), b"site A\nsite B\n#")?;
-    for _ in 0..65536u32 {
-        script.push(b'x')?;
-    }
+fn the_lines_before_a_long_one_are_answered(rt: HostRuntime) -> Result<(), Fail> {
+    let mut script = padded(rt.alloc(), b"site A\nsite B\n#", b'x', 65_536)?;
     script.extend_from_slice(b"\nsite C\n")?;
-    let (ended, writer) = answered(rt.alloc(), script.as_slice(), 100_000, None, 100)?;
-    assert_eq!(rt; ended, Err(SimFault::LongLine), "a line of 65,537 bytes");
-    assert_eq!(rt;
-        writer.as_slice(),
-        b"site A 1\nsite B 2\n".as_slice(),
-        "the two lines before it, and none behind it"
-    );
-    Ok(())
+    let written = b"site A 1\nsite B 2\n";
+    ends(
+        rt.alloc(),
+        script.as_slice(),
+        100_000,
+        Err(SimFault::LongLine),
+        written,
+    )
 }
 
-fn correction(alloc: Global, site: usize, value: &[u8]) -> Result<Step, Fail> {
-    let study = Octets::from_slice(alloc, b"1.2.1")?;
+/// A step that corrects the patient's name of study 1.2.1 at a site.
+fn correcting(alloc: Global, site: usize, value: &[u8]) -> Result<Step, Fail> {
     let value = Octets::from_slice(alloc, value)?;
-    Ok(Step::Correct(site, Target::Study(study), 0x0010_0010, value))
+    Ok(Step::Correct(site, study(alloc, b"1.2.1")?, 0x0010_0010, value))
 }
 
 #[test]
 fn a_correction_has_the_counter_above_the_greatest(rt: HostRuntime) -> Result<(), Fail> {
-    let mut world = World::new(rt.alloc(), 2).ok().expect(&rt, "two sites");
+    let mut world = World::new(rt.alloc(), 2)?;
     for counter in 1..4u64 {
-        let step = correction(rt.alloc(), 2, b"ROE^ANN")?;
+        let step = correcting(rt.alloc(), 2, b"ROE^ANN")?;
         match world.step(&step) {
             Ok(Seen::Stamped(stamp)) => {
-                assert_eq!(rt;
-                    stamp.counter,
+                equal_at(
+                    stamp,
+                    Stamp { counter, site: 2 },
+                    "the stamp of correction",
                     counter,
-                    "the counter of correction {counter}"
-                );
-                assert_eq!(rt; stamp.site, 2, "the site of correction {counter}");
+                )?;
             }
-            _ => assert!(rt; false, "correction {counter} is stamped"),
+            _ => holds_at(false, "it is stamped: correction", counter)?,
         }
     }
-    let refused = world.step(&correction(rt.alloc(), 2, b"A\\B")?);
-    assert_eq!(rt;
+    let refused = world.step(&correcting(rt.alloc(), 2, b"A\\B")?);
+    equal(
         refused.err(),
         Some(WorldFault::BadCorrection),
-        "a backslash"
-    );
-    let nowhere = world.step(&correction(rt.alloc(), 3, b"A\\B")?);
-    assert_eq!(rt;
+        "a backslash",
+    )?;
+    let nowhere = world.step(&correcting(rt.alloc(), 3, b"A\\B")?);
+    equal(
         nowhere.err(),
         Some(WorldFault::NoSite),
-        "the site comes first"
-    );
-    Ok(())
+        "the site comes first",
+    )
 }
 
-/// A step that takes a correction with the last counter, made at another site.
+/// A step that takes a correction of site 1 with the last counter.
 fn last_correction(alloc: Global, site: usize) -> Result<Step, Fail> {
-    let study = Octets::from_slice(alloc, b"1.2.1")?;
-    let value = Octets::from_slice(alloc, b"ROE^ANN")?;
-    let stamp = Stamp {
-        counter: u64::MAX,
-        site: 7,
-    };
-    let made = correction_of(Target::Study(study), 0x0010_0010, value, stamp)?;
-    Ok(Step::Take(site, Op::Correction(made)))
+    let made = correction(
+        alloc,
+        study(alloc, b"1.2.1")?,
+        0x0010_0010,
+        b"ROE^ANN",
+        u64::MAX,
+    )?;
+    Ok(Step::Take(site, made))
 }
 
 /// Whether a step was answered as an operation that was taken as new.
@@ -247,37 +248,35 @@ fn are_same(world: &World, a: usize, b: usize) -> bool {
 
 #[test]
 fn no_correction_is_made_behind_the_last_stamp(rt: HostRuntime) -> Result<(), Fail> {
-    let mut world = World::new(rt.alloc(), 2).ok().expect(&rt, "two sites");
+    let mut world = World::new(rt.alloc(), 2)?;
     for site in 1..3usize {
         let taken = world.step(&last_correction(rt.alloc(), site)?);
-        assert!(rt; is_new(&taken), "the last correction at site {site}");
+        holds_at(is_new(&taken), "the last correction at site", site)?;
     }
-    let refused = world.step(&correction(rt.alloc(), 1, b"ROE^BEA")?);
-    assert_eq!(rt;
+    let refused = world.step(&correcting(rt.alloc(), 1, b"ROE^BEA")?);
+    equal(
         refused.err(),
         Some(WorldFault::StampsSpent),
-        "no stamp is left"
-    );
-    assert!(rt; are_same(&world, 1, 2), "the site is as it was");
-    Ok(())
+        "no stamp is left",
+    )?;
+    holds(are_same(&world, 1, 2), "the site is as it was")
 }
 
 #[test]
 fn what_may_not_be_corrected_is_told_before_spent_stamps(rt: HostRuntime) -> Result<(), Fail> {
-    let mut world = World::new(rt.alloc(), 1).ok().expect(&rt, "one site");
+    let mut world = World::new(rt.alloc(), 1)?;
     let _taken = world.step(&last_correction(rt.alloc(), 1)?);
-    let refused = world.step(&correction(rt.alloc(), 1, b"A\\B")?);
-    assert_eq!(rt;
+    let refused = world.step(&correcting(rt.alloc(), 1, b"A\\B")?);
+    equal(
         refused.err(),
         Some(WorldFault::BadCorrection),
-        "a backslash comes first"
-    );
-    Ok(())
+        "a backslash comes first",
+    )
 }
 
 #[test]
-fn a_world_has_16_sites_at_most(rt: HostRuntime) {
-    assert!(rt; World::new(rt.alloc(), 16).is_ok(), "sixteen");
+fn a_world_has_16_sites_at_most(rt: HostRuntime) -> Result<(), Fail> {
+    holds(World::new(rt.alloc(), 16).is_ok(), "sixteen")?;
     let refused = World::new(rt.alloc(), 17).err();
-    assert_eq!(rt; refused, Some(WorldFault::NoSite), "seventeen");
+    equal(refused, Some(WorldFault::NoSite), "seventeen")
 }

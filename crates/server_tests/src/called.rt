@@ -6,6 +6,7 @@ use crate::client::{Answered, Asked};
 use crate::exchanged::{in_memory, opened_again, with_correction};
 use crate::served::{UNENDED, connected, hears_all, open_to_all, titles};
 use archive_server::{Peer, serve_on};
+use assertions::{equal, holds};
 use association_run::OpenGate;
 use bytes::Bytes;
 use data_set::Syntax;
@@ -237,14 +238,13 @@ fn a_server_and_the_sites_that_it_calls_have_the_same(rt: HostRuntime) -> Result
     let accepted = meet::<Brand, _>(
         &rt, alloc, opened, &listener, &mut ours, streams, here, there,
     )?;
-    assert_eq!(&rt; accepted, Some(2), "how many were accepted");
+    equal(accepted, Some(2), "how many were accepted")?;
     let ours = opened_again(alloc, ours)?;
     let correcting = opened_again(alloc, correcting)?;
     let rejecting = opened_again(alloc, rejecting)?;
-    assert_eq!(&rt; ours.counts().operations, 3, "on the server's shelf");
-    assert!(&rt;
+    equal(ours.counts().operations, 3, "on the server's shelf")?;
+    holds(
         ours.same(&correcting) && ours.same(&rejecting),
-        "the shelves hold the same"
-    );
-    Ok(())
+        "the shelves hold the same",
+    )
 }

@@ -6,6 +6,7 @@ use crate::client::{Answered, Asked};
 use crate::served::{connected, hears_all, open_to_all, titles};
 use crate::shelves::Counting;
 use archive_server::{Manner, Served, serve_on};
+use assertions::equal;
 use association_run::OpenGate;
 use log::Log;
 use site_hub::{HubName, Keeper, Opened, Pass, Snapshot, open};
@@ -139,10 +140,9 @@ fn a_server_ends_when_it_is_ended(rt: HostRuntime) -> Result<(), Fail> {
         stream.as_slice(),
         row.as_slice(),
     )?;
-    assert_eq!(&rt;
+    equal(
         (heard, accepted, shelf.asked),
         (true, 1, 1),
-        "heard, accepted, put"
-    );
-    Ok(())
+        "heard, accepted, put",
+    )
 }

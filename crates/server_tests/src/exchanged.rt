@@ -5,6 +5,7 @@ ghost use Rattle.std.specs.Prelude.{◌≡◌, vec_len};
 use crate::client::{Answered, Asked};
 use crate::served::{UNENDED, connected, hears_all, open_to_all, titles};
 use archive_server::{Exchanging, serve_on};
+use assertions::{equal, holds};
 use association_run::OpenGate;
 use bytes::Bytes;
 use devices::Counted;
@@ -222,16 +223,15 @@ fn a_site_that_exchanges_with_a_server_has_what_it_has(rt: HostRuntime) -> Resul
         &mut theirs,
     )?;
     let all = ((ended(1, 1), ended(0, 0)), Some(1));
-    assert_eq!(&rt;
+    equal(
         came,
         all,
-        "the exchanges, and how many associations were accepted"
-    );
+        "the exchanges, and how many associations were accepted",
+    )?;
     let ours = opened_again(alloc, ours)?;
     let theirs = opened_again(alloc, theirs)?;
-    assert_eq!(&rt; ours.counts().operations, 2, "on the server's shelf");
-    assert!(&rt; ours.same(&theirs), "the shelves hold the same");
-    Ok(())
+    equal(ours.counts().operations, 2, "on the server's shelf")?;
+    holds(ours.same(&theirs), "the shelves hold the same")
 }
 
 /// What an exchange comes to that gives so many operations and takes so many, and is finished.
@@ -412,20 +412,19 @@ fn servers_that_exchange_while_they_take_stores_have_the_same(rt: HostRuntime) -
         &rt, alloc, visit, &mut relay, opened, &mut one, also, &mut other,
     )?;
     let all = (2, (Some(2), Some(2)));
-    assert_eq!(&rt;
+    equal(
         taken,
         all,
-        "what was new to the relay, and how many were accepted"
-    );
+        "what was new to the relay, and how many were accepted",
+    )?;
     let one = opened_again(alloc, one)?;
     let other = opened_again(alloc, other)?;
     let relay = opened_again(alloc, relay)?;
-    assert_eq!(&rt; one.counts().operations, 2, "on a server's shelf");
-    assert!(&rt;
+    equal(one.counts().operations, 2, "on a server's shelf")?;
+    holds(
         one.same(&other) && one.same(&relay),
-        "the shelves hold the same"
-    );
-    Ok(())
+        "the shelves hold the same",
+    )
 }
 
 /// A server of so many associations and exchanges.

@@ -6,6 +6,7 @@ use crate::client::{Answered, Asked};
 use crate::served::{UNENDED, connected, hears_all, open_to_all, titles};
 use crate::shelves::Counting;
 use archive_server::{Served, serve_on};
+use assertions::equal;
 use association_run::OpenGate;
 use log::Log;
 use sample_bytes::RELEASE;
@@ -143,10 +144,9 @@ fn silent_peers_hold_no_other_worker(rt: HostRuntime) -> Result<(), Fail> {
     let mut shelf = Counting { asked: 0, room: 1 };
     let opened = open(alloc, &rt, Site::new(alloc), 1, 4)?;
     let (heard, accepted) = run::<Brand, _>(&rt, alloc, opened, &listener, &mut shelf, visitors)?;
-    assert_eq!(&rt;
+    equal(
         (heard, accepted, shelf.asked),
         (true, 8, 1),
-        "heard, accepted, put"
-    );
-    Ok(())
+        "heard, accepted, put",
+    )
 }

@@ -6,6 +6,7 @@ use crate::client::{Answered, Asked, ask, response};
 use crate::shelves::Counting;
 use archive_model::View;
 use archive_server::{Entrance, Manner, Served, serve_on};
+use assertions::equal;
 use association_run::OpenGate;
 use ipv4_networks::Network;
 use log::Log;
@@ -171,12 +172,11 @@ fn an_image_stored_at_one_worker_is_found_at_the_other(rt: HostRuntime) -> Resul
         streams.as_slice(),
         rows.as_slice(),
     )?;
-    assert_eq!(&rt;
+    equal(
         (heard, accepted, shelf.asked),
         (true, 2, 1),
-        "heard, accepted, put"
-    );
-    Ok(())
+        "heard, accepted, put",
+    )
 }
 
 /// An image that the shelf refuses is answered A700H and is in no row.
@@ -202,12 +202,11 @@ fn an_image_that_the_shelf_refuses_is_not_found(rt: HostRuntime) -> Result<(), F
         streams.as_slice(),
         rows.as_slice(),
     )?;
-    assert_eq!(&rt;
+    equal(
         (heard, accepted, shelf.asked),
         (true, 4, 1),
-        "heard, accepted, put"
-    );
-    Ok(())
+        "heard, accepted, put",
+    )
 }
 
 /// A peer from elsewhere than the networks that are allowed hears nothing, and counts.
@@ -245,10 +244,9 @@ fn a_peer_from_elsewhere_is_turned_away(rt: HostRuntime) -> Result<(), Fail> {
         streams.as_slice(),
         rows.as_slice(),
     )?;
-    assert_eq!(&rt;
+    equal(
         (heard, accepted, shelf.asked),
         (true, 2, 0),
-        "heard, accepted, put"
-    );
-    Ok(())
+        "heard, accepted, put",
+    )
 }

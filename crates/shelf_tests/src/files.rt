@@ -1,6 +1,7 @@
 //! Shelves in files, and files that are no shelf.
 
 use crate::made::{OLDER, counters, put, put_older, run};
+use assertions::{equal, equal_at};
 use op_shelf::{Shelf, ShelfFault};
 use sqlite::{Connection, FileFrom, FileStore, Wary};
 use std::fs;
@@ -33,7 +34,7 @@ fn what_was_put_is_in_the_file(rt: HostRuntime) -> Result<(), Fail> {
     }
     let mut shelf = opened(&rt, path.as_str())?;
     let found = counters(&mut shelf, rt.alloc())?;
-    assert_eq!(rt; found.as_slice(), [1u64, 2, 3].as_slice());
+    equal(found.as_slice(), [1u64, 2, 3].as_slice(), "its operations")?;
     fs::remove_dir_all(&rt, "shelf_of_three")?;
     Ok(())
 }
@@ -41,7 +42,12 @@ fn what_was_put_is_in_the_file(rt: HostRuntime) -> Result<(), Fail> {
 #[test]
 fn what_is_no_file_is_refused(rt: HostRuntime) -> Result<(), Fail> {
     for path in ["/", "/no/such/place", ":memory:", ""] {
-        assert_eq!(rt; opened(&rt, path).err(), Some(ShelfFault::Store), "{path}");
+        equal_at(
+            opened(&rt, path).err(),
+            Some(ShelfFault::Store),
+            "the fault of",
+            path,
+        )?;
     }
     Ok(())
 }
@@ -65,12 +71,11 @@ fn a_file_that_is_no_database_is_left_as_it_was(rt: HostRuntime) -> Result<(), F
         [0; 4096].as_slice(),
     ] {
         let (fault, left) = opened_over(&rt, bytes)?;
-        assert_eq!(rt; fault, store);
-        assert_eq!(rt; left.as_slice(), bytes);
+        equal(fault, store, "the fault")?;
+        equal(left.as_slice(), bytes, "the file is as it was")?;
     }
     let (fault, _left) = opened_over(&rt, b"")?;
-    assert_eq!(rt; fault, None, "an empty file becomes a shelf");
-    Ok(())
+    equal(fault, None, "an empty file becomes a shelf")
 }
 
 /// What an open of a file answers whose database was made by a text, with a row of the older table
@@ -99,7 +104,12 @@ fn a_database_of_another_schema_is_left_as_it_was(rt: HostRuntime) -> Result<(),
         (OLDER, ShelfFault::BadRow),
     ];
     for (text, fault) in rows {
-        assert_eq!(rt; opened_after(&rt, text)?, (Some(fault), true), "{text}");
+        equal_at(
+            opened_after(&rt, text)?,
+            (Some(fault), true),
+            "the fault behind",
+            text,
+        )?;
     }
     Ok(())
 }
@@ -125,6 +135,5 @@ fn a_file_without_rights_is_refused(rt: HostRuntime) -> Result<(), Fail> {
     } else {
         Some(ShelfFault::Store)
     };
-    assert_eq!(rt; fault, refused);
-    Ok(())
+    equal(fault, refused, "the fault")
 }

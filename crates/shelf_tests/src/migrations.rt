@@ -1,6 +1,7 @@
 //! Databases with the table that a shelf had first, and with others.
 
 use crate::made::{OLDER, all, count, counters, put_older, run};
+use assertions::{equal, equal_at};
 use op_shelf::{Shelf, ShelfFault, make_ready};
 use sqlite::{Connection, MemStore};
 use std::alloc::Global;
@@ -21,10 +22,14 @@ fn rows_of_the_older_table_are_operations(rt: HostRuntime) -> Result<(), Fail> {
     // And so they are when it is adopted again.
     for _ in 0..2 {
         let found = counters(&mut shelf, rt.alloc())?;
-        assert_eq!(rt; found.as_slice(), [1u64, 2].as_slice());
-        assert_eq!(rt; count(&mut shelf, 1), Ok(0));
-        assert_eq!(rt; count(&mut shelf, 2), Ok(2));
-        assert_eq!(rt; count(&mut shelf, 3), Ok(0));
+        equal(found.as_slice(), [1u64, 2].as_slice(), "its operations")?;
+        equal(count(&mut shelf, 1), Ok(0), "images")?;
+        equal(
+            count(&mut shelf, 2),
+            Ok(2),
+            "corrections of studies and patients",
+        )?;
+        equal(count(&mut shelf, 3), Ok(0), "corrections of series")?;
         shelf = Shelf::adopt(rt.alloc(), shelf.into_connection())?;
     }
     Ok(())
@@ -74,7 +79,12 @@ fn what_can_not_be_moved_is_refused_and_left(rt: HostRuntime) -> Result<(), Fail
         ),
     ];
     for (text, fault, left) in rows {
-        assert_eq!(rt; refused(rt.alloc(), text)?, (Some(fault), left), "{text}");
+        equal_at(
+            refused(rt.alloc(), text)?,
+            (Some(fault), left),
+            "refused behind",
+            text,
+        )?;
     }
     Ok(())
 }
@@ -97,11 +107,12 @@ fn another_schema_is_no_shelf(rt: HostRuntime) -> Result<(), Fail> {
         "CREATE TABLE ops (digest TEXT, body BLOB NOT NULL)",
     ];
     for text in rows {
-        assert_eq!(rt;
+        equal_at(
             adopted(rt.alloc(), text)?,
             Some(ShelfFault::Store),
-            "{text}"
-        );
+            "adopted behind",
+            text,
+        )?;
     }
     Ok(())
 }

@@ -1,6 +1,7 @@
 //! Shelves in memory.
 
 use crate::made::{all, count, op, put, run};
+use assertions::{equal, equal_at, holds, holds_at};
 use op_shelf::{Keep, Kept, Shelf, ShelfFault};
 use operation::{Digested, digest};
 use sqlite::{Connection, MemStore};
@@ -21,11 +22,14 @@ fn keep<K: Keep>(shelf: &mut K, alloc: Global, counter: u64) -> Result<Kept, Fai
 #[test]
 fn an_operation_is_new_once_and_then_known(rt: HostRuntime) -> Result<(), Fail> {
     let mut shelf = in_memory(rt.alloc())?;
-    assert_eq!(rt; put(&mut shelf, rt.alloc(), 1)?, Kept::New);
-    assert_eq!(rt; put(&mut shelf, rt.alloc(), 1)?, Kept::Known);
-    assert_eq!(rt; keep(&mut shelf, rt.alloc(), 1)?, Kept::Known);
-    assert_eq!(rt; all(&mut shelf)?.len(), 1);
-    Ok(())
+    equal(put(&mut shelf, rt.alloc(), 1)?, Kept::New, "the first put")?;
+    equal(put(&mut shelf, rt.alloc(), 1)?, Kept::Known, "the second")?;
+    equal(
+        keep(&mut shelf, rt.alloc(), 1)?,
+        Kept::Known,
+        "that of a server",
+    )?;
+    equal(all(&mut shelf)?.len(), 1, "one is there")
 }
 
 // The table as it was made first, which tells the kinds.
@@ -37,10 +41,9 @@ fn a_table_that_tests_the_kind_is_a_shelf(rt: HostRuntime) -> Result<(), Fail> {
     let mut database = Connection::open_in_memory(rt.alloc())?;
     run(&mut database, CHECKED)?;
     let mut shelf = Shelf::adopt(rt.alloc(), database)?;
-    assert_eq!(rt; put(&mut shelf, rt.alloc(), 1)?, Kept::New);
-    assert_eq!(rt; put(&mut shelf, rt.alloc(), 1)?, Kept::Known);
-    assert_eq!(rt; all(&mut shelf)?.len(), 1);
-    Ok(())
+    equal(put(&mut shelf, rt.alloc(), 1)?, Kept::New, "the first put")?;
+    equal(put(&mut shelf, rt.alloc(), 1)?, Kept::Known, "the second")?;
+    equal(all(&mut shelf)?.len(), 1, "one is there")
 }
 
 #[test]
@@ -50,15 +53,18 @@ fn operations_come_by_ascending_digest(rt: HostRuntime) -> Result<(), Fail> {
         let _kept = put(&mut shelf, rt.alloc(), counter)?;
     }
     let ops = all(&mut shelf)?;
-    assert_eq!(rt; ops.len(), 8);
+    holds(ops.len() == 8, "all of them")?;
     for at in 1..ops.len() {
-        assert!(rt; digest(ops[at - 1].op()) < digest(ops[at].op()), "at {at}");
-        assert!(rt; *ops[at].digest() == digest(ops[at].op()), "at {at}");
+        holds_at(digest(ops[at - 1].op()) < digest(ops[at].op()), "at", at)?;
+        holds_at(*ops[at].digest() == digest(ops[at].op()), "at", at)?;
     }
-    assert_eq!(rt; count(&mut shelf, 1), Ok(0));
-    assert_eq!(rt; count(&mut shelf, 2), Ok(8));
-    assert_eq!(rt; count(&mut shelf, 3), Ok(0));
-    Ok(())
+    equal(count(&mut shelf, 1), Ok(0), "images")?;
+    equal(
+        count(&mut shelf, 2),
+        Ok(8),
+        "corrections of studies and patients",
+    )?;
+    equal(count(&mut shelf, 3), Ok(0), "corrections of series")
 }
 
 /// What `all` and a put of the same operation answer on a shelf of one operation in whose database
@@ -85,7 +91,12 @@ fn a_row_that_is_none_of_an_operation_is_told(rt: HostRuntime) -> Result<(), Fai
         ("UPDATE ops2 SET digest = '00'", None),
     ];
     for (text, put) in rows {
-        assert_eq!(rt; spoiled(rt.alloc(), text)?, (bad, put), "{text}");
+        equal_at(
+            spoiled(rt.alloc(), text)?,
+            (bad, put),
+            "what is spoiled",
+            text,
+        )?;
     }
     Ok(())
 }

@@ -1,6 +1,7 @@
 //! Shelves over disks that stop at some call, opened again.
 
 use crate::made::{OLDER, counters, keep, op, put, put_older, run};
+use assertions::holds_at;
 use op_shelf::{Shelf, make_ready};
 use sqlite::{Alter, Connection, FileStore, Files, Options};
 use sqlite_disk::{Crash, Disk, Fuse, Memory};
@@ -213,11 +214,21 @@ fn migration(alloc: Global) -> Result<Case, Fail> {
     })
 }
 
+/// Each stop of a case is well, and there are some.
+fn is_safe(alloc: Global, case: &Case, of_log: bool) -> Result<(), Fail> {
+    let (calls, is_well) = each_stop(alloc, case, of_log)?;
+    holds_at(
+        is_well,
+        "well at each stop, where the log is stopped",
+        of_log,
+    )?;
+    holds_at(calls > 2, "some stops", calls)
+}
+
 #[test]
 fn a_stop_of_an_open_of_a_new_file_leaves_it_empty(rt: HostRuntime) -> Result<(), Fail> {
     for of_log in [true, false] {
-        let (calls, is_well) = each_stop(rt.alloc(), &new_file(rt.alloc()), of_log)?;
-        assert!(rt; is_well && calls > 2, "log {of_log}, after {calls} calls");
+        is_safe(rt.alloc(), &new_file(rt.alloc()), of_log)?;
     }
     Ok(())
 }
@@ -226,11 +237,7 @@ fn a_stop_of_an_open_of_a_new_file_leaves_it_empty(rt: HostRuntime) -> Result<()
 fn a_stop_of_a_put_loses_nothing(rt: HostRuntime) -> Result<(), Fail> {
     for (is_closed, of_log) in [(false, true), (false, false), (true, true), (true, false)] {
         let case = put_case(rt.alloc(), is_closed)?;
-        let (calls, is_well) = each_stop(rt.alloc(), &case, of_log)?;
-        assert!(rt;
-            is_well && calls > 2,
-            "closed {is_closed}, log {of_log}, after {calls} calls"
-        );
+        is_safe(rt.alloc(), &case, of_log)?;
     }
     Ok(())
 }
@@ -238,8 +245,7 @@ fn a_stop_of_a_put_loses_nothing(rt: HostRuntime) -> Result<(), Fail> {
 #[test]
 fn a_stop_of_a_migration_leaves_the_same_operations(rt: HostRuntime) -> Result<(), Fail> {
     for of_log in [true, false] {
-        let (calls, is_well) = each_stop(rt.alloc(), &migration(rt.alloc())?, of_log)?;
-        assert!(rt; is_well && calls > 2, "log {of_log}, after {calls} calls");
+        is_safe(rt.alloc(), &migration(rt.alloc())?, of_log)?;
     }
     Ok(())
 }

@@ -1,9 +1,9 @@
 //! What an index answers, as a text: indexes that answer alike have one text.
 
 use live_picks::ShortText;
-use octets::Octets;
-use operation::{Content, Target};
+use operation::Content;
 use rejection_note::NoteTitle;
+use sample_operations::{patient, study};
 use std::alloc::{AllocError, Global};
 use std::collections::BTreeSet;
 use std::test::Fail;
@@ -85,14 +85,9 @@ fn put_fix(alloc: Global, out: &mut Vec<u8>, fix: Option<&Fix>) -> Result<(), Al
 }
 
 /// The correction of each target and tag, and of the image's attributes.
-fn put_fixes(
-    alloc: Global,
-    out: &mut Vec<u8>,
-    index: &Index,
-    image: &Content,
-) -> Result<(), AllocError> {
-    let study = Target::Study(Octets::from_slice(alloc, b"1.2.1")?);
-    let patient = Target::Patient(Octets::from_slice(alloc, b"P1")?);
+fn put_fixes(alloc: Global, out: &mut Vec<u8>, index: &Index, image: &Content) -> Result<(), Fail> {
+    let study = study(alloc, b"1.2.1")?;
+    let patient = patient(alloc, b"P1")?;
     for tag in TAGS {
         put_fix(alloc, out, index.fix(&study, tag))?;
         put_fix(alloc, out, index.fix(&patient, tag))?;

@@ -1,6 +1,7 @@
 //! Large sites that merge.
 
 use crate::made::{Given, op_of};
+use assertions::{equal, holds};
 use site_state::Site;
 use std::alloc::Global;
 use std::test::*;
@@ -23,9 +24,8 @@ fn sites_of_six_thousand_images_are_merged(rt: HostRuntime) -> Result<(), Fail> 
     let mut one = site_from(alloc, 1_000)?;
     let mut other = site_from(alloc, 4_000)?;
     one.merge(&other)?;
-    assert_eq!(rt; one.counts().operations, 9_000, "half of each was at both");
-    assert!(rt; !one.same(&other), "the other lacks 3,000");
+    equal(one.counts().operations, 9_000, "half of each was at both")?;
+    holds(!one.same(&other), "the other lacks 3,000")?;
     other.merge(&one)?;
-    assert!(rt; one.same(&other), "both hold what either held");
-    Ok(())
+    holds(one.same(&other), "both hold what either held")
 }

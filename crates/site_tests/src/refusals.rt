@@ -9,11 +9,11 @@ use std::alloc::Global;
 use std::process::Abort;
 use std::test::Fail;
 
-const JANE: Given<'static> = Given::Image(b"1.2.1\x00", b"DOE^JANE");
+const JANE: Given<'static> = Given::Image(b"1.2.1", b"DOE^JANE");
 
-const ELSEWHERE: Given<'static> = Given::Image(b"1.2.2\x00", b"DOE^JANE");
+const ELSEWHERE: Given<'static> = Given::Image(b"1.2.2", b"DOE^JANE");
 
-const NOTE: Given<'static> = Given::Note(b"113037", b"1.2.99", b"\x0a\x00\x00\x001.2.1.1.1\x00");
+const NOTE: Given<'static> = Given::Note(b"113037", b"1.2.99", b"1.2.1.1.1");
 
 const RENAMED: Given<'static> = Given::Renaming(b"ROE^ANN");
 

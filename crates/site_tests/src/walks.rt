@@ -2,10 +2,10 @@
 
 use crate::answers::walked;
 use crate::made::{Given, op_of, site_of};
+use assertions::{equal, holds_at};
 use operation::digest;
 use site_state::Site;
 use std::alloc::Global;
-use std::process::Abort;
 use std::test::Fail;
 
 const NAMES: [&[u8]; 6] = [
@@ -19,12 +19,12 @@ const NAMES: [&[u8]; 6] = [
 
 /// The image in study 1.2.1.
 fn here(name: &[u8]) -> Given<'_> {
-    Given::Image(b"1.2.1\x00", name)
+    Given::Image(b"1.2.1", name)
 }
 
 /// The image of the same UID in study 1.2.2.
 fn elsewhere(name: &[u8]) -> Given<'_> {
-    Given::Image(b"1.2.2\x00", name)
+    Given::Image(b"1.2.2", name)
 }
 
 /// Whether the image in study 1.2.1 has the lesser digest.
@@ -35,19 +35,18 @@ fn is_lesser(alloc: Global, name: &[u8]) -> Result<bool, Fail> {
 }
 
 /// What a site walks, where the one or the other has the lesser digest.
-fn walks(rt: &impl Abort, alloc: Global, site: &Site, first: bool) -> Result<(), Fail> {
+fn walks(alloc: Global, site: &Site, first: bool) -> Result<(), Fail> {
     let expected: &[u8] = if first {
         b"1.2.1 1.2.1.1 1.2.1.1.1\n"
     } else {
         b"1.2.2 1.2.1.1 1.2.1.1.1\n"
     };
     let found = walked(alloc, site.index())?;
-    assert_eq!(rt;
+    equal(
         found.as_slice(),
         expected,
-        "the place of the lesser digest alone"
-    );
-    Ok(())
+        "the place of the lesser digest alone",
+    )
 }
 
 #[test]
@@ -59,8 +58,8 @@ fn merged_sites_walk_the_study_of_the_lesser_digest(rt: HostRuntime) -> Result<(
         let mut other = site_of(alloc, &[elsewhere(name)])?;
         site.merge(&other)?;
         other.merge(&site_of(alloc, &[here(name)])?)?;
-        walks(&rt, alloc, &site, first)?;
-        walks(&rt, alloc, &other, first)?;
+        walks(alloc, &site, first)?;
+        walks(alloc, &other, first)?;
     }
     Ok(())
 }
@@ -72,8 +71,8 @@ fn a_site_that_took_both_walks_the_study_of_the_lesser_digest(rt: HostRuntime) -
         let first = is_lesser(alloc, name)?;
         let one = site_of(alloc, &[here(name), elsewhere(name)])?;
         let other = site_of(alloc, &[elsewhere(name), here(name)])?;
-        walks(&rt, alloc, &one, first)?;
-        walks(&rt, alloc, &other, first)?;
+        walks(alloc, &one, first)?;
+        walks(alloc, &other, first)?;
     }
     Ok(())
 }
@@ -88,6 +87,6 @@ fn either_digest_may_be_the_lesser(rt: HostRuntime) -> Result<(), Fail> {
         }
     }
     let count = NAMES.len();
-    assert!(rt; firsts > 0 && firsts < count, "{firsts} of {count}");
-    Ok(())
+    holds_at(firsts > 0, "some of them walk the first study", firsts)?;
+    holds_at(firsts < count, "and some do not", firsts)
 }

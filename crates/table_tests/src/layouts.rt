@@ -1,5 +1,6 @@
 //! Tables of a few rows as text.
 
+use assertions::equal;
 use octets::{ListOf, Octets};
 use std::alloc::{AllocError, Global};
 use std::test::Fail;
@@ -27,8 +28,7 @@ fn columns_are_aligned_by_width(rt: HostRuntime) -> Result<(), Fail> {
     let rows = rows(rt.alloc())?;
     let text = align(rt.alloc(), &["STUDY", "NAME"], rows.as_slice())?;
     let told = "STUDY    NAME\n1.2      DOE^JANE\n1.2.840  山田^太郎\n1?2      M?LLER\n";
-    assert_eq!(&rt; text.as_slice(), told.as_bytes());
-    Ok(())
+    equal(text.as_slice(), told.as_bytes(), "the text")
 }
 
 #[test]
@@ -38,18 +38,20 @@ fn a_wide_text_fills_its_column(rt: HostRuntime) -> Result<(), Fail> {
     rows.push(row(alloc, &["山田".as_bytes(), b"1"])?)?;
     rows.push(row(alloc, &[b"DOE", b"2"])?)?;
     let text = align(alloc, &["N", "I"], rows.as_slice())?;
-    assert_eq!(&rt; text.as_slice(), "N     I\n山田  1\nDOE   2\n".as_bytes());
-    Ok(())
+    equal(
+        text.as_slice(),
+        "N     I\n山田  1\nDOE   2\n".as_bytes(),
+        "the text",
+    )
 }
 
 #[test]
 fn no_rows_are_a_heading_alone(rt: HostRuntime) -> Result<(), Fail> {
     let alloc = rt.alloc();
     let text = align(alloc, &["STUDY", "NAME"], &[])?;
-    assert_eq!(&rt; text.as_slice(), b"STUDY  NAME\n".as_slice());
+    equal(text.as_slice(), b"STUDY  NAME\n".as_slice(), "of columns")?;
     let text = separate(alloc, &["STUDY", "NAME"], &[])?;
-    assert_eq!(&rt; text.as_slice(), b"STUDY\tNAME\n".as_slice());
-    Ok(())
+    equal(text.as_slice(), b"STUDY\tNAME\n".as_slice(), "of tabs")
 }
 
 // What holds a tab is quoted, and bytes are as they are.
@@ -60,6 +62,5 @@ fn values_are_parted_by_tabs(rt: HostRuntime) -> Result<(), Fail> {
     let told = b"STUDY\tNAME\n1.2\tDOE^JANE\n\
         1.2.840\t\xe5\xb1\xb1\xe7\x94\xb0^\xe5\xa4\xaa\xe9\x83\x8e\n\
         \"1\t2\"\tM\xfcLLER\n";
-    assert_eq!(&rt; text.as_slice(), told.as_slice());
-    Ok(())
+    equal(text.as_slice(), told.as_slice(), "the text")
 }

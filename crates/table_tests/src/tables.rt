@@ -1,6 +1,7 @@
 //! The tables of a small site, and of one that holds nothing.
 
 use crate::made::{site_of, told};
+use assertions::{equal, equal_at};
 use site_state::Site;
 use site_tables::Table;
 use std::test::Fail;
@@ -33,8 +34,7 @@ fn each_content_of_a_flagged_uid_has_a_row(rt: HostRuntime) -> Result<(), Fail> 
         118    1.2.2  yes\n\
         1.2.2.1.1  676c38defea00e04afd79a30729fb0b162d4574e637dd6f4b7a411f1cb83496e  \
         118    1.2.3  no\n";
-    assert_eq!(&rt; text.as_slice(), wanted.as_slice());
-    Ok(())
+    equal(text.as_slice(), wanted.as_slice(), "the table")
 }
 
 #[test]
@@ -44,8 +44,7 @@ fn what_a_note_names_has_a_row(rt: HostRuntime) -> Result<(), Fail> {
     let wanted = "INSTANCE   TITLES         NOTES\n\
         1.2.1.1.2  113001 113037  1.2.8 1.2.9\n\
         1.2.7.1    113037         1.2.8\n";
-    assert_eq!(&rt; text.as_slice(), wanted.as_bytes());
-    Ok(())
+    equal(text.as_slice(), wanted.as_bytes(), "the table")
 }
 
 // Of the study 1.2.1 the later correction counts; that of the patient is one of another target.
@@ -58,8 +57,7 @@ fn the_greatest_correction_of_a_target_counts(rt: HostRuntime) -> Result<(), Fai
         series   1.2.1.1  0008103e  HEAD       11       1     yes\n\
         study    1.2.1    00100010  DOE^JOAN   9        1     no\n\
         study    1.2.1    00100010  DOE^JO     10       1     yes\n";
-    assert_eq!(&rt; text.as_slice(), wanted.as_bytes());
-    Ok(())
+    equal(text.as_slice(), wanted.as_bytes(), "the table")
 }
 
 // The rejected image is in no count but its own, the notes are in none, and what is not picked of
@@ -71,16 +69,18 @@ fn studies_are_as_archive_shows_them(rt: HostRuntime) -> Result<(), Fail> {
     let wanted = "STUDY  PATIENT  NAME     DATE  SERIES  INSTANCES  REJECTED\n\
         1.2.1  P1       DOE^JO         2       2          1\n\
         1.2.2  P2       ROE^ANN        1       1          0\n";
-    assert_eq!(&rt; text.as_slice(), wanted.as_bytes());
-    Ok(())
+    equal(text.as_slice(), wanted.as_bytes(), "the table")
 }
 
 #[test]
 fn a_site_that_holds_nothing_has_headings_alone(rt: HostRuntime) -> Result<(), Fail> {
     let site = Site::new(rt.alloc());
     let text = told(rt.alloc(), &site, Table::Rejected)?;
-    assert_eq!(&rt; text.as_slice(), b"INSTANCE  TITLES  NOTES\n".as_slice());
-    Ok(())
+    equal(
+        text.as_slice(),
+        b"INSTANCE  TITLES  NOTES\n".as_slice(),
+        "the table",
+    )
 }
 
 // The order in which a site took its operations is in no table.
@@ -90,10 +90,11 @@ fn the_order_of_arrival_is_free(rt: HostRuntime) -> Result<(), Fail> {
     backwards.reverse();
     let one = site_of(rt.alloc(), &LINES[..7])?;
     let other = site_of(rt.alloc(), &backwards[4..])?;
-    for table in [Table::Conflicts, Table::Rejected, Table::Studies] {
+    let tables = [Table::Conflicts, Table::Rejected, Table::Studies];
+    for (number, table) in tables.iter().copied().enumerate() {
         let wanted = told(rt.alloc(), &one, table)?;
         let text = told(rt.alloc(), &other, table)?;
-        assert_eq!(&rt; text.as_slice(), wanted.as_slice(), "{table:?}");
+        equal_at(text.as_slice(), wanted.as_slice(), "table", number)?;
     }
     Ok(())
 }

@@ -1,12 +1,14 @@
 //! Rows of series and of images over many small sites, beside the plain definitions.
 
-use crate::queries::made::{correction, query, series as series_target};
+use crate::queries::made::query;
 use crate::queries::many::{add_row, some_site};
 use archive_model::{View, series, study};
 use archive_query::find;
+use assertions::{equal_at, holds};
 use key_matching::{Matching, matches};
 use operation::Content;
 use plain_archive::{attribute, series_in, shown};
+use sample_operations::{correction, series as series_target};
 use site_state::Site;
 use std::alloc::Global;
 use std::test::Fail;
@@ -130,13 +132,12 @@ fn series_are_answered_as_the_plain_definitions_say(rt: HostRuntime) -> Result<(
             for key in KEYS {
                 let plain = plain_series(alloc, &site, view, key)?;
                 let found = found_series(alloc, &site, view, key)?;
-                assert_eq!(rt; found.as_slice(), plain.as_slice(), "site {seed}");
+                equal_at(found.as_slice(), plain.as_slice(), "site", seed)?;
                 answered = answered.saturating_add(found.len());
             }
         }
     }
-    assert!(rt; answered > 2_000, "most sites answered something");
-    Ok(())
+    holds(answered > 2_000, "most sites answered something")
 }
 
 #[test]
@@ -149,11 +150,10 @@ fn images_are_answered_as_the_plain_definitions_say(rt: HostRuntime) -> Result<(
             for key in UIDS {
                 let plain = plain_images(alloc, &site, view, key)?;
                 let found = found_images(alloc, &site, view, key)?;
-                assert_eq!(rt; found.as_slice(), plain.as_slice(), "site {seed}");
+                equal_at(found.as_slice(), plain.as_slice(), "site", seed)?;
                 answered = answered.saturating_add(found.len());
             }
         }
     }
-    assert!(rt; answered > 400, "many sites answered something");
-    Ok(())
+    holds(answered > 400, "many sites answered something")
 }

@@ -1,10 +1,9 @@
 //! Answers over many small sites, beside the plain definitions.
 
-use crate::drawn::one_of;
-use crate::queries::made::{
-    IMAGE, Image, correction, image_of, note, patient, query, site_of, study,
-};
+use crate::drawn::{one_of, site_of};
+use crate::queries::made::query;
 use archive_model::View;
+use assertions::{equal_at, holds};
 use key_matching::{Matching, matches};
 use operation::Op;
 use plain_archive::{
@@ -12,6 +11,7 @@ use plain_archive::{
 };
 use rand_core::utils::NextWord;
 use rand_pcg::Pcg32;
+use sample_operations::{IMAGE, Image, correction, image_of, note, patient, study};
 use site_state::Site;
 use std::alloc::Global;
 use std::test::Fail;
@@ -133,11 +133,10 @@ fn a_hundred_sites_answer_as_the_plain_definitions(rt: HostRuntime) -> Result<()
             for key in KEYS {
                 let plain = plain_rows(alloc, &site, view, key)?;
                 let found = found_rows(alloc, &site, view, key)?;
-                assert_eq!(rt; found.as_slice(), plain.as_slice(), "site {seed}");
+                equal_at(found.as_slice(), plain.as_slice(), "site", seed)?;
                 answered = answered.saturating_add(found.len());
             }
         }
     }
-    assert!(rt; answered > 10_000, "most sites answered something");
-    Ok(())
+    holds(answered > 10_000, "most sites answered something")
 }

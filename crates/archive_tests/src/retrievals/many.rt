@@ -1,26 +1,26 @@
 //! What small sites send, beside the plain definitions.
 
-use crate::drawn::one_of;
-use crate::retrievals::made::{
-    CT, Part, accepts, content, correction, note, put, selecting, site_of,
-};
+use crate::drawn::{one_of, site_of};
+use crate::retrievals::made::{CT, accepts, selecting};
 use archive_model::{View, series, study};
 use archive_query::Level;
 use archive_retrieve::{Selection, Sending, get};
+use assertions::holds;
 use data_set::{Syntax, write};
 use operation::{Content, Op};
 use plain_archive::{coerced, is_coerced, shown};
 use rand_core::utils::NextWord;
 use rand_pcg::Pcg32;
+use sample_operations::{IMAGE, Image, correction, image_of, note, study as study_target};
 use site_state::Site;
 use std::alloc::Global;
 use std::test::Fail;
 
-const STUDIES: [&[u8]; 2] = [b"1.2.1\0", b"1.2.22"];
+const STUDIES: [&[u8]; 2] = [b"1.2.1", b"1.2.22"];
 
-const INSTANCES: [&[u8]; 4] = [b"1.4.1\0", b"1.4.2\0", b"1.4.3\0", b"1.4.22"];
+const INSTANCES: [&[u8]; 4] = [b"1.4.1", b"1.4.2", b"1.4.3", b"1.4.22"];
 
-const NAMES: [&[u8]; 3] = [b"DOE^JANE", b"ROE^ANN ", b""];
+const NAMES: [&[u8]; 3] = [b"DOE^JANE", b"ROE^ANN", b""];
 
 fn some_image(alloc: Global, random: &mut Pcg32) -> Result<Op, Fail> {
     let syntax = if random.next_word() % 2 == 0 {
@@ -28,19 +28,14 @@ fn some_image(alloc: Global, random: &mut Pcg32) -> Result<Op, Fail> {
     } else {
         Syntax::Explicit
     };
-    let instance = one_of(random, &INSTANCES);
-    let parts: [Part; 5] = [
-        (0x0008_0016, *b"UI", b"1.2.840.10008.5.1.4.1.1.2\0"),
-        (0x0008_0018, *b"UI", instance),
-        (0x0010_0010, *b"PN", one_of(random, &NAMES)),
-        (0x0020_000d, *b"UI", one_of(random, &STUDIES)),
-        (0x0020_000e, *b"UI", b"1.2.1.1\0"),
-    ];
-    let mut body = Vec::new(alloc);
-    for part in parts {
-        put(&mut body, syntax, part)?;
-    }
-    content(alloc, instance, syntax, body)
+    let image = Image {
+        syntax,
+        instance: one_of(random, &INSTANCES),
+        name: one_of(random, &NAMES),
+        study: one_of(random, &STUDIES),
+        ..IMAGE
+    };
+    image_of(alloc, &image)
 }
 
 fn some_site(alloc: Global, seed: u64) -> Result<Site, Fail> {
@@ -48,8 +43,14 @@ fn some_site(alloc: Global, seed: u64) -> Result<Site, Fail> {
     let mut ops = Vec::new(alloc);
     for counter in 1..12u64 {
         let op = match random.next_word() % 6 {
-            0 => note(alloc, one_of(&mut random, &INSTANCES))?,
-            1 => correction(alloc, 0x0010_0010, b"POE^EVE", counter)?,
+            0 => {
+                let covers: [&[u8]; 1] = [one_of(&mut random, &INSTANCES)];
+                note(alloc, b"113001", b"1.2.9.1", &covers)?
+            }
+            1 => {
+                let target = study_target(alloc, b"1.2.1")?;
+                correction(alloc, target, 0x0010_0010, b"POE^EVE", counter)?
+            }
             _ => some_image(alloc, &mut random)?,
         };
         ops.push(op)?;
@@ -127,30 +128,24 @@ fn agree(alloc: Global, seeds: u64, level: Level, uids: &[&[u8]]) -> Result<bool
 #[test]
 fn sites_send_studies_as_the_plain_definitions(rt: HostRuntime) -> Result<(), Fail> {
     let uids: [&[u8]; 3] = [b"1.2.22", b"1.2.9", b"1.2.1"];
-    assert!(rt;
-        agree(rt.alloc(), 40, Level::Study, &uids)?,
-        "three studies"
-    );
-    assert!(rt;
+    holds(agree(rt.alloc(), 40, Level::Study, &uids)?, "three studies")?;
+    holds(
         agree(rt.alloc(), 40, Level::Study, &uids[2..])?,
-        "one study"
-    );
-    Ok(())
+        "one study",
+    )
 }
 
 #[test]
 fn sites_send_series_as_the_plain_definitions(rt: HostRuntime) -> Result<(), Fail> {
     let uids: [&[u8]; 2] = [b"1.2.1.1", b"1.2.1.2"];
-    assert!(rt; agree(rt.alloc(), 40, Level::Series, &uids)?, "two series");
-    Ok(())
+    holds(agree(rt.alloc(), 40, Level::Series, &uids)?, "two series")
 }
 
 #[test]
 fn sites_send_instances_as_the_plain_definitions(rt: HostRuntime) -> Result<(), Fail> {
     let uids: [&[u8]; 3] = [b"1.4.22", b"1.4.3", b"1.4.1"];
-    assert!(rt;
+    holds(
         agree(rt.alloc(), 40, Level::Image, &uids)?,
-        "three instances"
-    );
-    Ok(())
+        "three instances",
+    )
 }
