@@ -27,7 +27,8 @@ elements =
     ∷ (NUMBER_OF_WARNING_SUBOPERATIONS, 0x0000_1023)
     ∷ []
 
--- the bit of responses and the values of (0000,0100) Command Field, and 0101H, by which (0000,0800) says that no data set follows
+-- the bit of responses and the values of (0000,0100) Command Field, and 0101H, by which (0000,0800) says that no data
+-- set follows
 abbrev pub values : List (ℕ × ℕ)
 values =
     (RESPONSE_BIT, 0x8000)

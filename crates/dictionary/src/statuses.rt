@@ -1,5 +1,5 @@
-//! The values of (0000,0900) Status that this archive answers or tells apart (PS3.7, annex C; PS3.4,
-//! sections B.2.3, C.4.1.1.4 and C.4.3.1.4).
+//! The values of (0000,0900) Status that this archive answers or tells apart (PS3.7, annex C;
+//! PS3.4, sections B.2.3, C.4.1.1.4 and C.4.3.1.4).
 
 /// Success.
 pub const STATUS_SUCCESS: u16 = 0x0000;

@@ -1,7 +1,8 @@
 -- The command fields (PS3.7, section E.1).
 use Rattle.std.specs.Prelude.{◌≡◌, ◌≢◌, ℕ, Bool, ◌==◌, ◌||◌, nat_le, Result, MatchResult}
 use Rattle.dictionary.specs.declared.commands.TheConstants.{C_STORE_RQ, C_STORE_RSP, C_GET_RQ, C_GET_RSP, C_FIND_RQ}
-use Rattle.dictionary.specs.declared.commands.TheConstants.{C_FIND_RSP, C_ECHO_RQ, C_ECHO_RSP, C_CANCEL_RQ, RESPONSE_BIT}
+use Rattle.dictionary.specs.declared.commands.TheConstants.{C_FIND_RSP, C_ECHO_RQ, C_ECHO_RSP, C_CANCEL_RQ}
+use Rattle.dictionary.specs.declared.commands.TheConstants.{RESPONSE_BIT}
 use Rattle.dimse.specs.declared.command_field.CommandField.{CommandField}
 use Rattle.dimse.specs.declared.command_field.CommandField.TheVariants.{StoreRequest, StoreResponse, GetRequest}
 use Rattle.dimse.specs.declared.command_field.CommandField.TheVariants.{GetResponse, FindRequest, FindResponse}

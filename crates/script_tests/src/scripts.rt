@@ -18,7 +18,8 @@ const SCRIPT: &[u8] = b"site A\r\nsite B\n# a comment\n\n\
     image B 1.2.1 1.2.1.1 1.2.1.1.1 P1 DOE^JANE\n\
     note  B  113037 1.2.1 1.2.9 1.2.1.1.1 \n\
     note B 113037 1.2.1 1.2.9 1.2.1.1.1\nsame A B\n\
-    find A ARCHIVE STUDY 0020000d=\nfind B QUALITY STUDY 0020000D=\nflagged A\nfind C ARCHIVE STUDY\n \nend";
+    find A ARCHIVE STUDY 0020000d=\nfind B QUALITY STUDY 0020000D=\nflagged A\n\
+    find C ARCHIVE STUDY\n \nend";
 
 const ANSWERS: &[u8] = b"site A 1\nsite B 2\nnew\nnew\nnew\nnew\nknown\nequal\n\
     end 0\nend 0\nend 0\nfault world 1\nbad\nbad\n";
