@@ -1,13 +1,9 @@
-//! Scripts over devices in memory, and steps of worlds.
+//! Scripts over devices in memory.
 
 use assertions::{equal, equal_at, holds, holds_at};
 use devices::{Store, Supply};
 use octets::Octets;
-use operation::Stamp;
-use sample_operations::{correction, study};
 use site_simulation::{SimFault, simulate};
-use site_state::Taken;
-use site_world::{Seen, Step, World, WorldFault};
 use std::alloc::Global;
 use std::test::Fail;
 
@@ -183,101 +179,4 @@ fn the_lines_before_a_long_one_are_answered(rt: HostRuntime) -> Result<(), Fail>
         Err(SimFault::LongLine),
         written,
     )
-}
-
-/// A step that corrects the patient's name of study 1.2.1 at a site.
-fn correcting(alloc: Global, site: usize, value: &[u8]) -> Result<Step, Fail> {
-    let value = Octets::from_slice(alloc, value)?;
-    Ok(Step::Correct(site, study(alloc, b"1.2.1")?, 0x0010_0010, value))
-}
-
-#[test]
-fn a_correction_has_the_counter_above_the_greatest(rt: HostRuntime) -> Result<(), Fail> {
-    let mut world = World::new(rt.alloc(), 2)?;
-    for counter in 1..4u64 {
-        let step = correcting(rt.alloc(), 2, b"ROE^ANN")?;
-        match world.step(&step) {
-            Ok(Seen::Stamped(stamp)) => {
-                equal_at(
-                    stamp,
-                    Stamp { counter, site: 2 },
-                    "the stamp of correction",
-                    counter,
-                )?;
-            }
-            _ => holds_at(false, "it is stamped: correction", counter)?,
-        }
-    }
-    let refused = world.step(&correcting(rt.alloc(), 2, b"A\\B")?);
-    equal(
-        refused.err(),
-        Some(WorldFault::BadCorrection),
-        "a backslash",
-    )?;
-    let nowhere = world.step(&correcting(rt.alloc(), 3, b"A\\B")?);
-    equal(
-        nowhere.err(),
-        Some(WorldFault::NoSite),
-        "the site comes first",
-    )
-}
-
-/// A step that takes a correction of site 1 with the last counter.
-fn last_correction(alloc: Global, site: usize) -> Result<Step, Fail> {
-    let made = correction(
-        alloc,
-        study(alloc, b"1.2.1")?,
-        0x0010_0010,
-        b"ROE^ANN",
-        u64::MAX,
-    )?;
-    Ok(Step::Take(site, made))
-}
-
-/// Whether a step was answered as an operation that was taken as new.
-fn is_new(seen: &Result<Seen, WorldFault>) -> bool {
-    matches!(seen, Ok(Seen::Took(Taken::New)))
-}
-
-/// Whether the sites of two numbers hold the same.
-fn are_same(world: &World, a: usize, b: usize) -> bool {
-    match (world.site(a), world.site(b)) {
-        (Some(a), Some(b)) => a.same(b),
-        _ => false,
-    }
-}
-
-#[test]
-fn no_correction_is_made_behind_the_last_stamp(rt: HostRuntime) -> Result<(), Fail> {
-    let mut world = World::new(rt.alloc(), 2)?;
-    for site in 1..3usize {
-        let taken = world.step(&last_correction(rt.alloc(), site)?);
-        holds_at(is_new(&taken), "the last correction at site", site)?;
-    }
-    let refused = world.step(&correcting(rt.alloc(), 1, b"ROE^BEA")?);
-    equal(
-        refused.err(),
-        Some(WorldFault::StampsSpent),
-        "no stamp is left",
-    )?;
-    holds(are_same(&world, 1, 2), "the site is as it was")
-}
-
-#[test]
-fn what_may_not_be_corrected_is_told_before_spent_stamps(rt: HostRuntime) -> Result<(), Fail> {
-    let mut world = World::new(rt.alloc(), 1)?;
-    let _taken = world.step(&last_correction(rt.alloc(), 1)?);
-    let refused = world.step(&correcting(rt.alloc(), 1, b"A\\B")?);
-    equal(
-        refused.err(),
-        Some(WorldFault::BadCorrection),
-        "a backslash comes first",
-    )
-}
-
-#[test]
-fn a_world_has_16_sites_at_most(rt: HostRuntime) -> Result<(), Fail> {
-    holds(World::new(rt.alloc(), 16).is_ok(), "sixteen")?;
-    let refused = World::new(rt.alloc(), 17).err();
-    equal(refused, Some(WorldFault::NoSite), "seventeen")
 }
