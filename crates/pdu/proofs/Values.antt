@@ -6,9 +6,10 @@ use Rattle.std.specs.List.{list_all}
 use Rattle.std.specs.Int.{w16, w32, from_be_bytes}
 use Rattle.std.proofs.lemmas.List.{take_at, drop_at, take-append-drop, length-take, nil_from_length}
 use Rattle.octets.specs.Gives.{◌>>=◌}
-use Rattle.octets.proofs.ByteLaws.{bind_ok, guard_end, ok_is}
+use Rattle.octets.proofs.ByteLaws.{bind_ok, guard_end, ok_is, done}
 use Rattle.pdu.specs.declared.item.TheConstants.{ABSTRACT_SYNTAX, TRANSFER_SYNTAX, MAXIMUM_LENGTH, IMPLEMENTATION_CLASS}
 use Rattle.pdu.specs.declared.item.TheConstants.{ROLE_SELECTION}
+use Rattle.pdu.specs.declared.item.Item.{Item}
 use Rattle.pdu.specs.declared.fault.PduFault.{PduFault}
 use Rattle.pdu.specs.declared.fault.PduFault.TheVariants.{BadItem}
 use Rattle.pdu.specs.declared.user.Role.{Role}
@@ -17,7 +18,7 @@ use Rattle.pdu.specs.declared.context.ProposedContext.{ProposedContext}
 use Rattle.pdu.specs.declared.context.AnsweredContext.{AnsweredContext}
 use Rattle.octets.specs.Graphic.{is_graphic}
 use Rattle.octets.specs.Padding.{without_padding}
-use Rattle.pdu.specs.Grammar.{contents_of, IsUid, IsLength, IsRole, first_or, first_of, IsUser}
+use Rattle.pdu.specs.Grammar.{Fill, Each, BeginsItem, contents_of, IsUid, IsLength, IsRole, first_or, first_of, IsUser}
 use Rattle.pdu.specs.Grammar.{is_odd, IsProposal, IsAnswer}
 use Rattle.pdu.specs.Reading.{pieces_of, item_at, each_at, sole_at, uid_at, length_at, role_at, user_at, proposal_at}
 use Rattle.pdu.specs.Reading.{answer_at}
@@ -135,33 +136,85 @@ role-again v content r =
 abbrev user : ℕ → Option (List ℕ) → List Role → UserInformation
 user n class roles = record { maximum_length = n; implementation_class = class; roles = roles }
 
+-- the roles behind the other sub-items
+abbrev roles_read : List Item → ℕ → Option (List ℕ) → Result UserInformation PduFault
+roles_read items n class = each_at role_at (contents_of ROLE_SELECTION items) >>= λ roles. Ok (user n class roles)
+
+-- the class and the roles
+abbrev classes_read : List Item → ℕ → Result UserInformation PduFault
+classes_read items n = each_at uid_at (contents_of IMPLEMENTATION_CLASS items) >>= λ classes. roles_read items n
+    (first_of classes)
+
+-- what the sub-items say
+abbrev user_read : List Item → Result UserInformation PduFault
+user_read items = each_at length_at (contents_of MAXIMUM_LENGTH items) >>= λ lengths. classes_read items
+    (first_or 0 lengths)
+
+user_is : (text : List ℕ) (items : List Item) (filled : Fill BeginsItem items text) (lengths : List ℕ)
+    (are_lengths : Each IsLength lengths (contents_of MAXIMUM_LENGTH items)) (classes : List (List ℕ))
+    (are_classes : Each IsUid classes (contents_of IMPLEMENTATION_CLASS items)) (roles : List Role)
+    → Each IsRole roles (contents_of ROLE_SELECTION items) → (v : UserInformation)
+    → user (first_or 0 lengths) (first_of classes) roles ≡ v → IsUser v text
+user_is text items filled lengths are_lengths classes are_classes roles are_roles v is =
+    subst (λ u. IsUser u text) is (record {
+      items = items;
+      filled = filled;
+      lengths = lengths;
+      are_lengths = are_lengths;
+      maximum_length = refl;
+      classes = classes;
+      are_classes = are_classes;
+      implementation_class = refl;
+      roles = are_roles;
+    })
+
+roles-found : (text : List ℕ) (items : List Item) (filled : Fill BeginsItem items text) (lengths : List ℕ)
+    (are_lengths : Each IsLength lengths (contents_of MAXIMUM_LENGTH items)) (classes : List (List ℕ))
+    (are_classes : Each IsUid classes (contents_of IMPLEMENTATION_CLASS items)) (v : UserInformation)
+    → roles_read items (first_or 0 lengths) (first_of classes) ≡ Ok v → IsUser v text
+roles-found text items filled lengths are_lengths classes are_classes v e =
+    behind (bind_ok (each_at role_at (contents_of ROLE_SELECTION items))
+    (λ roles. Ok (user (first_or 0 lengths) (first_of classes) roles)) v e)
+  where
+    behind : (roles : List Role) × (each_at role_at (contents_of ROLE_SELECTION items) ≡ Ok roles)
+        × (done PduFault (user (first_or 0 lengths) (first_of classes) roles) ≡ Ok v) → IsUser v text
+    behind (roles, read, is) =
+        user_is text items filled lengths are_lengths classes are_classes roles
+        (each-found role_at IsRole role-found (contents_of ROLE_SELECTION items) roles read) v
+        (ok_is PduFault (user (first_or 0 lengths) (first_of classes) roles) v is)
+
+classes-found : (text : List ℕ) (items : List Item) (filled : Fill BeginsItem items text) (lengths : List ℕ)
+    (are_lengths : Each IsLength lengths (contents_of MAXIMUM_LENGTH items)) (v : UserInformation)
+    → classes_read items (first_or 0 lengths) ≡ Ok v → IsUser v text
+classes-found text items filled lengths are_lengths v e =
+    behind (bind_ok (each_at uid_at (contents_of IMPLEMENTATION_CLASS items))
+    (λ classes. roles_read items (first_or 0 lengths) (first_of classes)) v e)
+  where
+    behind : (classes : List (List ℕ)) × (each_at uid_at (contents_of IMPLEMENTATION_CLASS items) ≡ Ok classes)
+        × (roles_read items (first_or 0 lengths) (first_of classes) ≡ Ok v) → IsUser v text
+    behind (classes, read, rest) =
+        roles-found text items filled lengths are_lengths classes
+        (each-found uid_at IsUid uid-found (contents_of IMPLEMENTATION_CLASS items) classes read) v rest
+
+lengths-found : (text : List ℕ) (items : List Item) (filled : Fill BeginsItem items text) (v : UserInformation)
+    → user_read items ≡ Ok v → IsUser v text
+lengths-found text items filled v e =
+    behind (bind_ok (each_at length_at (contents_of MAXIMUM_LENGTH items))
+    (λ lengths. classes_read items (first_or 0 lengths)) v e)
+  where
+    behind : (lengths : List ℕ) × (each_at length_at (contents_of MAXIMUM_LENGTH items) ≡ Ok lengths)
+        × (classes_read items (first_or 0 lengths) ≡ Ok v) → IsUser v text
+    behind (lengths, read, rest) =
+        classes-found text items filled lengths
+        (each-found length_at IsLength length-found (contents_of MAXIMUM_LENGTH items) lengths read) v rest
+
 pub user-found : FoundIn user_at IsUser
 unfolding user_at
 user-found text v e =
-    let i = bind_ok (pieces_of item_at text) (λ items. each_at length_at (contents_of MAXIMUM_LENGTH items) >>=
-    λ lengths. each_at uid_at (contents_of IMPLEMENTATION_CLASS items) >>= λ classes. each_at
-    role_at (contents_of ROLE_SELECTION items) >>= λ roles. Ok (user (first_or 0 lengths) (first_of classes) roles))
-    v e in
-    let l = bind_ok (each_at length_at (contents_of MAXIMUM_LENGTH i.0))
-    (λ lengths. each_at uid_at (contents_of IMPLEMENTATION_CLASS i.0) >>= λ classes. each_at
-    role_at (contents_of ROLE_SELECTION i.0) >>= λ roles. Ok (user (first_or 0 lengths) (first_of classes) roles)) v
-    i.2 in
-    let c = bind_ok (each_at uid_at (contents_of IMPLEMENTATION_CLASS i.0))
-    (λ classes. each_at role_at (contents_of ROLE_SELECTION i.0) >>= λ roles. Ok
-    (user (first_or 0 l.0) (first_of classes) roles)) v l.2 in
-    let r = bind_ok (each_at role_at (contents_of ROLE_SELECTION i.0))
-    (λ roles. Ok (user (first_or 0 l.0) (first_of c.0) roles)) v c.2 in
-    subst (λ u. IsUser u text) (ok_is PduFault (user (first_or 0 l.0) (first_of c.0) r.0) v r.2) (record {
-      items = i.0;
-      filled = pieces-found item_at _ item-found text i.0 i.1;
-      lengths = l.0;
-      are_lengths = each-found length_at IsLength length-found _ l.0 l.1;
-      maximum_length = refl;
-      classes = c.0;
-      are_classes = each-found uid_at IsUid uid-found _ c.0 c.1;
-      implementation_class = refl;
-      roles = each-found role_at IsRole role-found _ r.0 r.1;
-    })
+    behind (bind_ok (pieces_of item_at text) user_read v e)
+  where
+    behind : (items : List Item) × (pieces_of item_at text ≡ Ok items) × (user_read items ≡ Ok v) → IsUser v text
+    behind (items, read, rest) = lengths-found text items (pieces-found item_at _ item-found text items read) v rest
 
 pub user-again : AgainIn user_at IsUser
 unfolding user_at

@@ -3,21 +3,36 @@
 ghost use Rattle.std.specs.Prelude.{IfOk};
 ghost use Rattle.pdu.specs.Spelling.{IsPdu};
 
-use crate::told::told;
+use crate::told::{told, told_of_done, told_of_fault, told_of_read};
 use bytes::Bytes;
-use pdu::{Pdu, PduFault, Step, read_body, read_header, read_pdu, read_shared};
+use pdu::{Pdu, PduFault, read_body, read_header, read_pdu, read_shared};
 use row_text::bytes_of;
 use std::alloc::{AllocError, Global};
 
+/// What the reader of a slice tells of the front of a stream.
+fn told_of_slice(alloc: Global, bytes: &[u8]) -> Result<String, AllocError> {
+    told(alloc, bytes, &read_pdu(alloc, bytes))
+}
+
+/// What the reader of shared bytes tells of it.
+fn told_of_shared(alloc: Global, bytes: &[u8]) -> Result<String, AllocError> {
+    let shared = Bytes::copy_from_slice(alloc, bytes)?;
+    told(alloc, bytes, &read_shared(alloc, &shared))
+}
+
 /// What both readers tell of the front of a stream, which is the same.
 fn told_of_pdu(alloc: Global, bytes: &[u8]) -> Result<String, AllocError> {
-    let shared = Bytes::copy_from_slice(alloc, bytes)?;
-    let one = told(alloc, bytes, read_pdu(alloc, bytes))?;
-    let other = told(alloc, bytes, read_shared(alloc, &shared))?;
+    let one = told_of_slice(alloc, bytes)?;
+    let other = told_of_shared(alloc, bytes)?;
     if one == other {
         return Ok(one);
     }
     format!(in alloc; "{one}\nand shared {other}")
+}
+
+/// What a front of a stream tells, where it does not need more bytes.
+fn told_of_front(alloc: Global, front: &[u8]) -> Result<Option<String>, AllocError> {
+    told_of_read(alloc, front, &read_pdu(alloc, front))
 }
 
 /// The fronts of a stream that need more bytes, and what the others tell.
@@ -25,12 +40,9 @@ fn told_of_fronts(alloc: Global, bytes: &[u8]) -> Result<String, AllocError> {
     let mut needs = 0u64;
     let mut out = String::new(alloc);
     for end in 0..bytes.len() {
-        match read_pdu(alloc, &bytes[..end]) {
-            Ok(Step::Need) => needs = needs.saturating_add(1),
-            other => {
-                let text = told(alloc, &bytes[..end], other)?;
-                write!(out, "of {end} bytes {text}\n")?;
-            }
+        match told_of_front(alloc, &bytes[..end])? {
+            None => needs = needs.saturating_add(1),
+            Some(text) => write!(out, "of {end} bytes {text}\n")?,
         }
     }
     write!(out, "{needs} fronts need more")?;
@@ -48,7 +60,7 @@ fn told_of_header(alloc: Global, bytes: &[u8]) -> Result<String, AllocError> {
             let length = header.body_length();
             format!(in alloc; "type {code:02x} body {length}")
         }
-        Err(fault) => told(alloc, bytes, Err(fault)),
+        Err(fault) => told_of_fault(alloc, fault),
     }
 }
 
@@ -65,6 +77,14 @@ fn body_of(alloc: Global, bytes: &[u8]) -> Result<Pdu, PduFault>
         return Err(PduFault::BadLength);
     }
     read_body(alloc, &header, body)
+}
+
+/// What a header and its body tell.
+fn told_of_body(alloc: Global, bytes: &[u8]) -> Result<String, AllocError> {
+    match body_of(alloc, bytes) {
+        Ok(pdu) => told_of_done(alloc, bytes, &pdu, bytes.len()),
+        Err(fault) => told_of_fault(alloc, fault),
+    }
 }
 
 /// Each fault, with its number.
@@ -88,10 +108,7 @@ fn told_of_kind(alloc: Global, kind: &str, bytes: &[u8]) -> Result<String, Alloc
         "pdu" => told_of_pdu(alloc, bytes),
         "fronts" => told_of_fronts(alloc, bytes),
         "header" => told_of_header(alloc, bytes),
-        "body" => match body_of(alloc, bytes) {
-            Ok(pdu) => told(alloc, bytes, Ok(Step::Done(pdu, bytes.len()))),
-            Err(fault) => told(alloc, bytes, Err(fault)),
-        },
+        "body" => told_of_body(alloc, bytes),
         "faults" => told_of_faults(alloc),
         _ => format!(in alloc; "no kind of rows"),
     }

@@ -118,22 +118,52 @@ fn put_written(alloc: Global, out: &mut String, pdu: &Pdu, bytes: &[u8]) -> Resu
     put(out, "\n  written", written.as_slice())
 }
 
-/// What the front of some bytes gives.
-pub fn told(alloc: Global, bytes: &[u8], read: Result<Step, PduFault>) -> Result<String, AllocError>
-    requires { IfDone read (λ p n. IsPdu p) }
+/// What a PDU says that was read from the first of some bytes.
+pub fn told_of_done(
+    alloc: Global,
+    bytes: &[u8],
+    pdu: &Pdu,
+    size: usize,
+) -> Result<String, AllocError>
+    requires { IsPdu pdu.now }
+{
+    let mut out = format!(in alloc; "{size} bytes ")?;
+    put_pdu(&mut out, pdu)?;
+    put_written(alloc, &mut out, pdu, bytes.get(..size).unwrap_or(&[]))?;
+    Ok(out)
+}
+
+/// A fault, with its number.
+pub fn told_of_fault(alloc: Global, fault: PduFault) -> Result<String, AllocError> {
+    let number = fault.number();
+    format!(in alloc; "fault {number}: {fault}")
+}
+
+/// What the front of some bytes gives, where it does not need more bytes.
+pub fn told_of_read(
+    alloc: Global,
+    bytes: &[u8],
+    read: &Result<Step, PduFault>,
+) -> Result<Option<String>, AllocError>
+    requires { IfDone read.now (λ p n. IsPdu p) }
 {
     match read {
-        Ok(Step::Need) => format!(in alloc; "need"),
-        Ok(Step::Done(pdu, size)) => {
-            let mut out = format!(in alloc; "{size} bytes ")?;
-            put_pdu(&mut out, &pdu)?;
-            let front = bytes.get(..size).unwrap_or(&[]);
-            put_written(alloc, &mut out, &pdu, front)?;
-            Ok(out)
-        }
-        Err(fault) => {
-            let number = fault.number();
-            format!(in alloc; "fault {number}: {fault}")
-        }
+        Ok(Step::Need) => Ok(None),
+        Ok(Step::Done(pdu, size)) => Ok(Some(told_of_done(alloc, bytes, pdu, *size)?)),
+        Err(fault) => Ok(Some(told_of_fault(alloc, *fault)?)),
+    }
+}
+
+/// What the front of some bytes gives.
+pub fn told(
+    alloc: Global,
+    bytes: &[u8],
+    read: &Result<Step, PduFault>,
+) -> Result<String, AllocError>
+    requires { IfDone read.now (λ p n. IsPdu p) }
+{
+    match told_of_read(alloc, bytes, read)? {
+        Some(text) => Ok(text),
+        None => format!(in alloc; "need"),
     }
 }

@@ -1,9 +1,10 @@
 //! The machine of one connection, on the side that is called (PS3.8, section 9.2).
 
-ghost use Rattle.std.specs.Prelude.{◌≡◌, IfOk, IfSome, OnOk, OnErr, All, None, option_to_list};
+ghost use Rattle.std.specs.Prelude.{◌≡◌, ◌≢◌, IfOk, IfSome, OnOk, OnErr, All, None, option_to_list};
 ghost use Rattle.std.specs.Option.{option_copied};
 ghost use Rattle.pdu.specs.declared.value.Pdu.TheVariants.{Abort};
 ghost use Rattle.ul_state.specs.declared.event.Action.TheVariants.{Send};
+ghost use Rattle.ul_state.specs.declared.table.Does.TheVariants.{HandOn};
 ghost use Rattle.ul_state.specs.declared.table.State.TheVariants.{Sta2};
 ghost use Rattle.ul_state.specs.Acceptor.{kind_for, kind_for_pdu, acceptance_for, rejection_for, hand_for, action_for, actions_for, state_on, settled_for, settled_by, HasLawfulPdu, CanBeWritten};
 
@@ -149,7 +150,7 @@ fn settle<V: Copy>(
     }))
 }
 
-/// What is asked of the caller.
+/// What is asked of the caller. Only what is handed on is taken from the event.
 fn action<V: Copy>(
     alloc: Global,
     titles: &Titles<V>,
@@ -160,41 +161,58 @@ fn action<V: Copy>(
     ensures exact { IfOk result (λ action. action ≡ action_for does kind titles.now.list event) }
     ensures lawful { HasLawfulPdu event → IfOk result (λ action. IfSome action CanBeWritten) }
 {
+    if does == Does::HandOn {
+        return Ok(handed_on(event));
+    }
+    answer(alloc, titles, does, kind, &event)
+}
+
+/// What is asked of the caller where nothing is handed on.
+fn answer<V: Copy>(
+    alloc: Global,
+    titles: &Titles<V>,
+    does: Does,
+    kind: Kind,
+    event: &Event,
+) -> Result<Option<Action>, AllocError>
+    ensures exact { does ≢ HandOn →
+        IfOk result (λ action. action ≡ action_for does kind titles.now.list event.now) }
+    ensures lawful { HasLawfulPdu event.now →
+        IfOk result (λ action. IfSome action CanBeWritten) }
+{
     match does {
-        Does::Nothing => Ok(None),
+        Does::Nothing | Does::HandOn => Ok(None),
         Does::SendAccept => acceptance(alloc, event),
         Does::SendReject => Ok(rejection(titles, event)),
         Does::SendReleaseRp => Ok(Some(Action::Send(Pdu::ReleaseRp))),
         Does::AbortAsUser => Ok(Some(abort(0, 0))),
         Does::AbortAsProvider => Ok(Some(abort(2, reason_of(kind)))),
-        Does::HandOn => Ok(handed_on(event)),
         Does::Close => Ok(Some(Action::Close)),
     }
 }
 
-fn acceptance(alloc: Global, event: Event) -> Result<Option<Action>, AllocError>
-    ensures exact { IfOk result (λ action. action ≡ acceptance_for event) }
-    ensures lawful { HasLawfulPdu event → IfOk result (λ action. IfSome action CanBeWritten) }
+fn acceptance(alloc: Global, event: &Event) -> Result<Option<Action>, AllocError>
+    ensures exact { IfOk result (λ action. action ≡ acceptance_for event.now) }
+    ensures lawful { HasLawfulPdu event.now →
+        IfOk result (λ action. IfSome action CanBeWritten) }
 {
-    match event {
-        Event::Got(Pdu::AssociateRq(request)) => {
-            let accept = accept_of(alloc, &request)?;
-            Ok(Some(Action::Send(Pdu::AssociateAc(accept))))
-        }
-        _ => Ok(None),
-    }
+    let Event::Got(Pdu::AssociateRq(request)) = event else {
+        return Ok(None);
+    };
+    let accept = accept_of(alloc, request)?;
+    Ok(Some(Action::Send(Pdu::AssociateAc(accept))))
 }
 
-fn rejection<V: Copy>(titles: &Titles<V>, event: Event) -> Option<Action>
-    ensures exact { result ≡ rejection_for titles.now.list event }
+fn rejection<V: Copy>(titles: &Titles<V>, event: &Event) -> Option<Action>
+    ensures exact { result ≡ rejection_for titles.now.list event.now }
     ensures lawful { IfSome result CanBeWritten }
 {
-    match event {
-        Event::Got(Pdu::AssociateRq(request)) => match admission(&request, titles) {
-            Ok(_) => None,
-            Err(reject) => Some(Action::Send(Pdu::AssociateRj(reject))),
-        },
-        _ => None,
+    let Event::Got(Pdu::AssociateRq(request)) = event else {
+        return None;
+    };
+    match admission(request, titles) {
+        Ok(_) => None,
+        Err(reject) => Some(Action::Send(Pdu::AssociateRj(reject))),
     }
 }
 

@@ -3,7 +3,7 @@
 ghost use Rattle.std.specs.Prelude.{◌≡◌, map, filter, IfOk, OnOk};
 ghost use Rattle.std.specs.List.{AllByRecursion};
 ghost use Rattle.pdu.specs.Spelling.{FitsRequest, FitsAccept};
-ghost use Rattle.ul_state.specs.Answer.{is_verification_or_query, is_storage, has_scp, has_scp_role, proposes, chosen, taken_syntax, answered, accepted, opening_back, accept_for, contexts_for, HasByteId};
+ghost use Rattle.ul_state.specs.Answer.{is_verification_or_query, is_storage, has_scp, has_scp_role, proposes, chosen, taken_syntax, answer_number, answer_syntax, answered, accepted, opening_back, accept_for, contexts_for, HasByteId};
 
 use dictionary::{
     EXPLICIT_VR_LITTLE_ENDIAN, IMPLICIT_VR_LITTLE_ENDIAN, STORAGE_ROOT, STUDY_ROOT_FIND,
@@ -112,7 +112,35 @@ fn take_syntax(roles: &[Role], context: &ProposedContext) -> Result<bool, u8>
     }
 }
 
-/// The answer to a context. Where it is refused, the syntax has no meaning and is the implicit one.
+/// The number of an answer (PS3.8, section 9.3.3.2).
+fn number_of(taken: Result<bool, u8>) -> u8
+    ensures { result ≡ answer_number taken }
+{
+    match taken {
+        Ok(_) => ACCEPTANCE,
+        Err(number) => number,
+    }
+}
+
+/// The syntax that an answer names. Where the context is refused, it has no meaning and is the
+/// implicit one.
+fn syntax_of(alloc: Global, taken: Result<bool, u8>) -> Result<Octets, AllocError>
+    ensures { IfOk result (λ syntax. syntax ≡ answer_syntax taken) }
+{
+    match taken {
+        Ok(true) => Octets::from_slice(alloc, EXPLICIT_VR_LITTLE_ENDIAN.as_slice()),
+        _ => Octets::from_slice(alloc, IMPLICIT_VR_LITTLE_ENDIAN.as_slice()),
+    }
+}
+
+/// The ID of a context, one byte as its type is.
+fn id_of(context: &ProposedContext) -> u8
+    ensures { result ≡ context.now.id }
+{
+    context.id
+}
+
+/// The answer to a context.
 #[tactic(auto, unfolding(crate::specs::Answer::answered))]
 fn answer(
     alloc: Global,
@@ -122,25 +150,13 @@ fn answer(
     ensures exact { IfOk result (λ a. a ≡ answered roles.now context.now) }
     ensures octet { OnOk result (HasByteId context.now) }
 {
-    let id = context.id;
-    let (number, syntax) = match take_syntax(roles, context) {
-        Ok(true) => (
-            ACCEPTANCE,
-            Octets::from_slice(alloc, EXPLICIT_VR_LITTLE_ENDIAN.as_slice())?,
-        ),
-        Ok(false) => (
-            ACCEPTANCE,
-            Octets::from_slice(alloc, IMPLICIT_VR_LITTLE_ENDIAN.as_slice())?,
-        ),
-        Err(number) => (
-            number,
-            Octets::from_slice(alloc, IMPLICIT_VR_LITTLE_ENDIAN.as_slice())?,
-        ),
-    };
+    let id = id_of(context);
+    let taken = take_syntax(roles, context);
+    let transfer_syntax = syntax_of(alloc, taken)?;
     Ok(AnsweredContext {
         id,
-        result: number,
-        transfer_syntax: syntax,
+        result: number_of(taken),
+        transfer_syntax,
     })
 }
 
