@@ -64,6 +64,20 @@ module _ {K J : Type 0} (R : K → K → Ordering) where
   undone-noted notes more note es new longer back = ap (λ ns. undone R ns new) longer ∙ undone-push notes note new
       ∙ ap (undone R notes) back
 
+  -- A value that was noted and then written over leads back.
+  pub undone-written : (notes more : List (Bor K × Option J)) (key : Bor K) (es : List (K × J)) (there copy w : J)
+      → lookup (is_at (R key.now)) es ≡ Some there → copy ≡ there → more ≡ notes ++ (key, Some copy) ∷ []
+      → undone R more (set_value (is_at (R key.now)) es w) ≡ undone R notes es
+  undone-written notes more key es there copy w found copied longer =
+      undone-noted notes more (key, Some copy) es (set_value (is_at (R key.now)) es w) longer
+      (written_back (is_at (R key.now)) es (set_value (is_at (R key.now)) es w) there copy w found copied refl)
+
+  -- An entry that was noted as absent leads back.
+  pub undone-first : (notes more : List (Bor K × Option J)) (key : Bor K) (es new : List (K × J))
+      → remove_entry (is_at (R key.now)) new ≡ es → more ≡ notes ++ (key, None) ∷ []
+      → undone R more new ≡ undone R notes es
+  undone-first notes more key es new out longer = undone-noted notes more (key, None) es new longer out
+
 -- ---- sets
 pub remove_key_absent : {K : Type 0} (test : K → Bool) (ks : List K) → list_any test ks ≡ false
     → remove_key test ks ≡ ks

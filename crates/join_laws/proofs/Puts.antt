@@ -1,5 +1,5 @@
 -- What the calls of std leave in a map is what `put_joined` says.
-use Rattle.std.specs.Prelude.{◌≡◌, List, [], ◌∷◌, cond, None, Some}
+use Rattle.std.specs.Prelude.{◌≡◌, Bool, List, [], ◌∷◌, cond, None, Some}
 use Rattle.std.proofs.Common.{refl, sym, ap, ◌∙◌}
 use Rattle.std.specs.Cmp.{IsTotalOrder}
 use Rattle.std.specs.List.Sorted.{IsStrictlySortedBy}
@@ -10,6 +10,7 @@ use Rattle.std.specs.BTreeMap.{is_at, insert_entry}
 use Rattle.std.specs.Map.{keys_of, lookup, set_value}
 use Rattle.std.proofs.lemmas.Map.{lookup-none}
 use Rattle.std.proofs.lemmas.Map.Keys.{sorted_tail}
+use Rattle.std.proofs.lemmas.Map.Steps.{set_value_same}
 use Rattle.std.proofs.lemmas.Map.Entries.{none_below_head}
 use Rattle.join_laws.specs.MapOf.{put_joined}
 use Rattle.join_laws.specs.Proved.Maps.{none_is_not_some, some_same}
@@ -43,3 +44,25 @@ module _ {K J : Type 0} {R : K → K → Ordering} (o : IsTotalOrder R) (join : 
           (none_below_head o k e es s l)))
       by Equal l f later = ap (λ x. (e.0, join x w) ∷ es) (some_same v e.1 (sym f))
       by Greater l f later = ap (λ es. e ∷ es) (later f)
+
+  -- an insertion of a copy where the key is absent
+  pub put_copy : (es new : List (K × J)) (k' : K) (w' : J) → new ≡ insert_entry R es k' w' → k' ≡ k → w' ≡ w
+      → lookup (is_at (R k)) es ≡ None → new ≡ put_joined R join es k w
+  put_copy es new k' w' put same_key same absent =
+      put ∙ ap (λ q. insert_entry R es q w') same_key ∙ ap (insert_entry R es k) same ∙ put_absent es absent
+
+  -- a value that is written where the key is there
+  pub put_written : (es new : List (K × J)) (v u : J) → new ≡ set_value (is_at (R k)) es u → u ≡ join v w
+      → IsStrictlySortedBy R (keys_of es) → lookup (is_at (R k)) es ≡ Some v → new ≡ put_joined R join es k w
+  put_written es new v u written joined s found =
+      written ∙ ap (set_value (is_at (R k)) es) joined ∙ put_found es v s found
+
+-- a value that is written where it was there already
+pub put_same : {K J : Type 0} (test : K → Bool) (es new : List (K × J)) (v u : J) → new ≡ set_value test es u → u ≡ v
+    → lookup test es ≡ Some v → new ≡ es
+put_same test es new v u written kept found = written ∙ ap (set_value test es) kept ∙ set_value_same test es v found
+
+-- what is joined to nothing
+pub one_value : {J : Type 0} (join : J → J → J) (nothing one first value : J) → value ≡ join first one
+    → first ≡ nothing → join nothing one ≡ one → value ≡ one
+one_value join nothing one first value joined empty neutral = joined ∙ ap (λ v. join v one) empty ∙ neutral

@@ -1,7 +1,7 @@
 //! Maps whose values are joined key by key.
-ghost use Rattle.std.specs.Prelude.{◌≡◌, List, [], OnOk, OnErr, IfOk, Some};
+ghost use Rattle.std.specs.Prelude.{◌≡◌, List, [], OnOk, OnErr, IfOk, None, Some};
 ghost use Rattle.std.specs.List.Sorted.{IsStrictlySortedBy};
-ghost use Rattle.std.specs.Map.{keys_of, lookup};
+ghost use Rattle.std.specs.Map.{keys_of, lookup, set_value};
 ghost use Rattle.std.specs.Option.{option_copied, is_some};
 ghost use Rattle.std.specs.BTreeMap.{is_at};
 ghost use Rattle.join_laws.specs.Journal.{undone, undone_at};
@@ -89,6 +89,23 @@ impl<K: Exact, J: Join> MapOf<K, J> {
     }
 }
 
+// Puts in a copy of a value at a key that is absent. Where memory is refused, the map stays as it
+// was.
+fn put_first<K: Exact, J: Join + Copies>(
+    into: &mut BTreeMap<K, J>,
+    key: &K,
+    value: &J,
+) -> Result<(), AllocError>
+    requires absent { lookup (is_at (K.cmp key.now)) into.old.entries ≡ None }
+    ensures ok { OnOk result (into.new.entries ≡
+        put_joined K.cmp J.joined into.old.entries key.now value.now) }
+    ensures refused { OnErr result (into.new.entries ≡ into.old.entries) }
+{
+    let entry = (key.copy()?, value.copy()?);
+    into.insert(entry.0, entry.1)?;
+    Ok(())
+}
+
 // Takes in a value at a key. Where memory is refused, the map stays as it was.
 fn put<K: Exact, J: Join + Copies>(
     into: &mut BTreeMap<K, J>,
@@ -101,10 +118,7 @@ fn put<K: Exact, J: Join + Copies>(
 {
     match into.get_mut(key) {
         Some(there) => there.join_with(value),
-        None => {
-            into.insert(key.copy()?, value.copy()?)?;
-            Ok(())
-        }
+        None => put_first(into, key, value),
     }
 }
 
@@ -170,6 +184,45 @@ fn take_back<K: Exact, J: Drop>(map: &mut BTreeMap<K, J>, notes: Vec<(&K, Option
     }
 }
 
+// Takes in a value where there is one, and notes what was there. What is there then, written into
+// a map at the key, leads back by the notes, also where memory is refused.
+fn join_there<'a, K: Exact, J: Join + Copies>(
+    there: &mut J,
+    notes: &mut Vec<(&'a K, Option<J>)>,
+    key: &'a K,
+    value: &J,
+) -> Result<(), AllocError>
+    ensures ok { OnOk result (there.new ≡ J.joined there.old value.now) }
+    ensures noted { (entries : List (K × J)) →
+        lookup (is_at (K.cmp key.now)) entries ≡ Some there.old →
+        undone K.cmp notes.new.items (set_value (is_at (K.cmp key.now)) entries there.new) ≡
+        undone K.cmp notes.old.items entries }
+{
+    let before = there.copy()?;
+    notes.push((key, Some(before)))?;
+    there.join_with(value)?;
+    Ok(())
+}
+
+// Notes that a key is absent, and puts in a copy of a value at it. Where memory is refused, the
+// notes still lead back.
+fn put_first_noted<'a, K: Exact, J: Join + Copies>(
+    into: &mut BTreeMap<K, J>,
+    notes: &mut Vec<(&'a K, Option<J>)>,
+    key: &'a K,
+    value: &J,
+) -> Result<(), AllocError>
+    requires absent { lookup (is_at (K.cmp key.now)) into.old.entries ≡ None }
+    ensures ok { OnOk result (into.new.entries ≡
+        put_joined K.cmp J.joined into.old.entries key.now value.now) }
+    ensures noted { undone K.cmp notes.new.items into.new.entries ≡
+        undone K.cmp notes.old.items into.old.entries }
+{
+    notes.push((key, None))?;
+    put_first(into, key, value)?;
+    Ok(())
+}
+
 // Takes in a value at a key, and notes what was there. Where memory is refused, the notes still
 // lead back.
 fn put_noted<'a, K: Exact, J: Join + Copies>(
@@ -184,18 +237,8 @@ fn put_noted<'a, K: Exact, J: Join + Copies>(
         undone K.cmp notes.old.items into.old.entries }
 {
     match into.get_mut(key) {
-        Some(there) => {
-            let before = there.copy()?;
-            notes.push((key, Some(before)))?;
-            there.join_with(value)?;
-            Ok(())
-        }
-        None => {
-            let entry = (key.copy()?, value.copy()?);
-            notes.push((key, None))?;
-            into.insert(entry.0, entry.1)?;
-            Ok(())
-        }
+        Some(there) => join_there(there, notes, key, value),
+        None => put_first_noted(into, notes, key, value),
     }
 }
 
@@ -262,6 +305,24 @@ impl<K: Exact, J: Join + Copies> Join for MapOf<K, J> {
     }
 }
 
+// Takes in an operation at a key that is absent. Where memory is refused, the map stays as it was.
+fn add_first<K: Exact, O, J: Summary<O>>(
+    alloc: Global,
+    into: &mut BTreeMap<K, J>,
+    key: &K,
+    op: &O,
+) -> Result<(), AllocError>
+    requires absent { lookup (is_at (K.cmp key.now)) into.old.entries ≡ None }
+    ensures ok { OnOk result (into.new.entries ≡
+        put_joined K.cmp J.joined into.old.entries key.now (J.of_one op.now)) }
+    ensures refused { OnErr result (into.new.entries ≡ into.old.entries) }
+{
+    let mut value = J::empty(alloc);
+    value.add(op)?;
+    into.insert(key.copy()?, value)?;
+    Ok(())
+}
+
 // Takes in an operation at a key. Where memory is refused, the map stays as it was.
 fn add_at<K: Exact, O, J: Summary<O>>(
     alloc: Global,
@@ -274,16 +335,8 @@ fn add_at<K: Exact, O, J: Summary<O>>(
     ensures refused { OnErr result (into.new.entries ≡ into.old.entries) }
 {
     match into.get_mut(key) {
-        Some(there) => {
-            there.add(op)?;
-            Ok(())
-        }
-        None => {
-            let mut value = J::empty(alloc);
-            value.add(op)?;
-            into.insert(key.copy()?, value)?;
-            Ok(())
-        }
+        Some(there) => there.add(op),
+        None => add_first(alloc, into, key, op),
     }
 }
 
@@ -321,9 +374,7 @@ fn add_undoable<K: Exact, O, J: Undoes<O>>(
     match into.get_mut(key) {
         Some(there) => Ok(Some(there.add_with_undo(op)?)),
         None => {
-            let mut value = J::empty(alloc);
-            value.add(op)?;
-            into.insert(key.copy()?, value)?;
+            add_first(alloc, into, key, op)?;
             Ok(None)
         }
     }
