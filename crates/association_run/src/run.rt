@@ -3,7 +3,7 @@
 ghost use Rattle.std.specs.Prelude.{◌≡◌, ◌≢◌, ◌<◌, ◌≤◌, ◌+◌, List, ℕ, Option, OnOk, OnErr, IfOk, IsErrOf, None, false, length};
 ghost use Rattle.std.specs.Io.KnownBytes.{Consumes, IsAtEnd, Keeps};
 ghost use Rattle.ul_state.specs.declared.table.State.TheVariants.{Sta1, Sta13};
-ghost use Rattle.association_session.specs.Session.{is_left};
+ghost use Rattle.association_session.specs.Session.{start, is_left};
 ghost use Rattle.association_run.specs.Hearing.{counts};
 ghost use Rattle.association_run.specs.Fault.{CountedWhere, tells_read, tells_write, tells_turns};
 ghost use Rattle.association_run.specs.Output.{Output, FrontOfOutput, ReadAtLeast, end_in, is_over as is_over_in};
@@ -261,6 +261,48 @@ fn take_turn<R: Source, W: Sink, P: Port, G: Gate>(
     Ok(None)
 }
 
+/// Takes turn after turn, from the first one to the last.
+fn take_turns<R: Source, W: Sink, P: Port, G: Gate>(
+    alloc: Global,
+    session: &mut Session,
+    titles: &Titles<View>,
+    intake: &mut Intake,
+    reader: &mut R,
+    outbox: &mut Outbox,
+    writer: &mut W,
+    port: &mut P,
+    gate: &mut G,
+) -> Result<End, RunFault>
+    requires association { session.old.association ≡ start }
+    requires aborted { session.old.aborted ≡ false }
+    requires released { session.old.released ≡ false }
+    requires intake { intake.old ≡ NOTHING_READ }
+    ensures ok { IfOk result (Output P.ops P.own titles.now.list (R.remaining reader.old)
+        (R.remaining reader.new) (sides port.old (W.contents writer.old) (G.reached gate.old))
+        (sides port.new (W.contents writer.new) (G.reached gate.new))) }
+    ensures err { OnErr result (FrontOfOutput P.ops P.own titles.now.list
+        (R.remaining reader.old) (R.remaining reader.new)
+        (sides port.old (W.contents writer.old) (G.reached gate.old))
+        (sides port.new (W.contents writer.new) (G.reached gate.new))) }
+    ensures read { CountedWhere (tells_read result) (R.failures reader.old)
+        (R.failures reader.new) }
+    ensures write { CountedWhere (tells_write result) (W.failures writer.old)
+        (W.failures writer.new) }
+    ensures turns { IsErrOf result RunFault.Turns → ReadAtLeast MOST_READS
+        (R.remaining reader.old) (R.remaining reader.new) }
+{
+    for _ in 0..MOST_READS {
+        match take_turn(
+            alloc, session, titles, intake, reader, outbox, writer, port, gate,
+        ) {
+            Ok(None) => {}
+            Ok(Some(end)) => return Ok(end),
+            Err(fault) => return Err(fault),
+        }
+    }
+    Err(RunFault::Turns)
+}
+
 /// Serves an association over any reader, writer, port and gate, up to its end. What is to be
 /// written is held in `outbox`, out of which is dropped what an earlier association left in it.
 ///
@@ -297,22 +339,15 @@ pub fn run_association<R: Source, W: Sink, P: Port, G: Gate>(
     let mut session = Session::new(alloc);
     let mut intake = Intake::new(alloc);
     outbox.clear();
-    for _ in 0..MOST_READS {
-        match take_turn(
-            alloc,
-            &mut session,
-            titles,
-            &mut intake,
-            reader,
-            outbox,
-            writer,
-            port,
-            gate,
-        ) {
-            Ok(None) => {}
-            Ok(Some(end)) => return Ok(end),
-            Err(fault) => return Err(fault),
-        }
-    }
-    Err(RunFault::Turns)
+    take_turns(
+        alloc,
+        &mut session,
+        titles,
+        &mut intake,
+        reader,
+        outbox,
+        writer,
+        port,
+        gate,
+    )
 }

@@ -2,16 +2,16 @@ use Rattle.std.proofs.Common.{refl}
 use Rattle.association_run.specs.Parts.{sides}
 use Rattle.association_run.proofs.Fronts.{nothing_read}
 use Rattle.association_run.proofs.TurnLaws.{nothing_yet, stopped, starts_ready}
-use Rattle.association_run.proofs.run.run_association.Goals as goal
+use Rattle.association_run.proofs.run.take_turns.Goals as goal
 
 -- Nothing was read and nothing was done yet.
 pub loop-init : goal.loop-init
 loop-init g c = record {
-  ready = rw c.new-intake.ensures (starts_ready c.new-session.result c.new-session.ensures.association);
-  so_far = rw c.new-intake.ensures (nothing_yet g.P.Port.ops g.P.Port.own c.args.titles.now.list
+  ready = rw c.requires.intake (starts_ready c.args.session.now c.requires.association);
+  so_far = rw c.requires.intake (nothing_yet g.P.Port.ops g.P.Port.own c.args.titles.now.list
       (g.R.Source.remaining c.args.reader.now) (sides c.args.port.now (g.W.Sink.contents c.args.writer.now)
-      (g.G.Gate.reached c.args.gate.now)) c.new-session.result c.new-session.ensures.association
-      c.new-session.ensures.aborted c.new-session.ensures.released);
+      (g.G.Gate.reached c.args.gate.now)) c.args.session.now c.requires.association c.requires.aborted
+      c.requires.released);
   read = refl;
   write = refl;
 }

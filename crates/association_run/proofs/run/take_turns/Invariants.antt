@@ -1,7 +1,7 @@
 use Rattle.std.proofs.Common.{◌≡◌}
 use Rattle.association_run.specs.Turns.{IsReady, Progress}
 use Rattle.association_run.specs.Parts.{sides}
-use Rattle.association_run.proofs.run.run_association.Given as goal
+use Rattle.association_run.proofs.run.take_turns.Given as goal
 
 -- what was done so far
 abbrev pub invariant-loop : goal.invariant-loop
