@@ -17,6 +17,7 @@ mod looking;
 mod opened;
 mod pair;
 mod pass;
+mod questions;
 mod shared;
 mod snapshot;
 mod told;

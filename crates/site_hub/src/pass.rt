@@ -1,6 +1,5 @@
 //! Readers, each with what it has seen and its own entries.
 ghost use Rattle.std.specs.Prelude.{◌≡◌, ◌⊎◌, Err, IfOk, IfErr};
-ghost use Rattle.std.specs.Option.{option_copied};
 ghost use mathlib.Core.List.{IsPrefix};
 ghost use Rattle.site_state.specs.Site.{ops_of, held_at, digests_of};
 ghost use Rattle.query_model.specs.Rows.{rows_of};
@@ -12,15 +11,15 @@ ghost use Rattle.site_hub.specs.Hub.{HasLooked};
 
 use crate::book::{Front, HubName};
 use crate::fault::HubFault;
+use crate::questions::{AllDigests, Finding, Getting, Missing, OpOf, Preparing};
 use crate::snapshot::Snapshot;
 use crate::told::Told;
 use archive_model::View;
-use archive_query::{Answers, Query, find};
-use archive_retrieve::{Accepts, Prepared, Selection, Sending, get, prepare};
+use archive_query::{Answers, Query};
+use archive_retrieve::{Accepts, Prepared, Selection, Sending};
 use left_right::ReadHandle;
 use operation::{Digest, Op};
-use site_state::Site;
-use std::alloc::{AllocError, Global};
+use std::alloc::Global;
 use std::marker::Model;
 
 /// A place from which a hub is looked at. It waits for nobody.
@@ -70,20 +69,11 @@ impl<H: HubName> Pass<H> {
         ensures fault { IfErr result IsLookFault }
         ensures busy { result ≡ Err HubFault.Busy → self.new ≡ self.old }
     {
-        let Some(guard) = self.reader.enter() else {
-            return Err(HubFault::Busy);
-        };
-        let front = guard.front();
-        if !self.seen.begins(&front) {
-            return Err(HubFault::Busy);
-        }
-        let rows = find(self.alloc, guard.site(), view, called, query);
-        drop(guard);
-        self.seen = front;
-        match rows {
-            Ok(rows) => Ok(rows),
-            Err(_refused) => Err(HubFault::Memory),
-        }
+        self.look(&Finding {
+            view,
+            called,
+            query,
+        })
     }
 
     /// What a C-GET sends (PS3.4, section C.4.3).
@@ -99,20 +89,11 @@ impl<H: HubName> Pass<H> {
         ensures fault { IfErr result IsLookFault }
         ensures busy { result ≡ Err HubFault.Busy → self.new ≡ self.old }
     {
-        let Some(guard) = self.reader.enter() else {
-            return Err(HubFault::Busy);
-        };
-        let front = guard.front();
-        if !self.seen.begins(&front) {
-            return Err(HubFault::Busy);
-        }
-        let found = get(self.alloc, guard.site(), view, selection, accepts);
-        drop(guard);
-        self.seen = front;
-        match found {
-            Ok(found) => Ok(found),
-            Err(_refused) => Err(HubFault::Memory),
-        }
+        self.look(&Getting {
+            view,
+            selection,
+            accepts,
+        })
     }
 
     /// What a C-GET is to send, before it is made (PS3.4, section C.4.3): it shares the bytes of
@@ -124,20 +105,7 @@ impl<H: HubName> Pass<H> {
         ensures fault { IfErr result IsLookFault }
         ensures busy { result ≡ Err HubFault.Busy → self.new ≡ self.old }
     {
-        let Some(guard) = self.reader.enter() else {
-            return Err(HubFault::Busy);
-        };
-        let front = guard.front();
-        if !self.seen.begins(&front) {
-            return Err(HubFault::Busy);
-        }
-        let found = prepare(self.alloc, guard.site(), view, selection);
-        drop(guard);
-        self.seen = front;
-        match found {
-            Ok(found) => Ok(found),
-            Err(_refused) => Err(HubFault::Memory),
-        }
+        self.look(&Preparing { view, selection })
     }
 
     /// Those of some digests that are not held, in the order given.
@@ -148,20 +116,7 @@ impl<H: HubName> Pass<H> {
         ensures fault { IfErr result IsLookFault }
         ensures busy { result ≡ Err HubFault.Busy → self.new ≡ self.old }
     {
-        let Some(guard) = self.reader.enter() else {
-            return Err(HubFault::Busy);
-        };
-        let front = guard.front();
-        if !self.seen.begins(&front) {
-            return Err(HubFault::Busy);
-        }
-        let missing = missing_in(self.alloc, guard.site(), digests);
-        drop(guard);
-        self.seen = front;
-        match missing {
-            Ok(missing) => Ok(missing),
-            Err(_refused) => Err(HubFault::Memory),
-        }
+        self.look(&Missing { digests })
     }
 
     /// The digests of all operations, ascending.
@@ -172,20 +127,7 @@ impl<H: HubName> Pass<H> {
         ensures fault { IfErr result IsLookFault }
         ensures busy { result ≡ Err HubFault.Busy → self.new ≡ self.old }
     {
-        let Some(guard) = self.reader.enter() else {
-            return Err(HubFault::Busy);
-        };
-        let front = guard.front();
-        if !self.seen.begins(&front) {
-            return Err(HubFault::Busy);
-        }
-        let digests = guard.site().digests(self.alloc);
-        drop(guard);
-        self.seen = front;
-        match digests {
-            Ok(digests) => Ok(digests),
-            Err(_refused) => Err(HubFault::Memory),
-        }
+        self.look(&AllDigests)
     }
 
     /// A second owner of the operation of a digest.
@@ -196,38 +138,6 @@ impl<H: HubName> Pass<H> {
         ensures fault { IfErr result IsLookFault }
         ensures busy { result ≡ Err HubFault.Busy → self.new ≡ self.old }
     {
-        let Some(guard) = self.reader.enter() else {
-            return Err(HubFault::Busy);
-        };
-        let front = guard.front();
-        if !self.seen.begins(&front) {
-            return Err(HubFault::Busy);
-        }
-        let found = copy_of(self.alloc, guard.site().op(digest));
-        drop(guard);
-        self.seen = front;
-        found
-    }
-}
-
-/// Those of some digests that a site does not hold.
-#[tactic(auto, unfolding(crate::specs::History::missing_from))]
-fn missing_in(alloc: Global, site: &Site, digests: &[Digest]) -> Result<Vec<Digest>, AllocError>
-    ensures { IfOk result (λ missing. missing.items ≡ missing_from site.now digests.now) }
-{
-    site.missing(alloc, digests)
-}
-
-/// A copy of an operation, if there is one.
-fn copy_of(alloc: Global, op: Option<&Op>) -> Result<Option<Op>, HubFault>
-    ensures ok { IfOk result (λ copy. copy ≡ option_copied op.entry) }
-    ensures memory { IfErr result (λ fault. fault ≡ HubFault.Memory) }
-{
-    match op {
-        None => Ok(None),
-        Some(op) => match op.copy(alloc) {
-            Ok(op) => Ok(Some(op)),
-            Err(_refused) => Err(HubFault::Memory),
-        },
+        self.look(&OpOf { digest })
     }
 }

@@ -1,0 +1,116 @@
+//! What passes ask of a site, each in one look.
+ghost use Rattle.std.specs.Prelude.{◌≡◌, IfOk};
+ghost use Rattle.std.specs.Option.{option_copied};
+ghost use Rattle.site_state.specs.Site.{ops_of, held_at, digests_of};
+ghost use Rattle.query_model.specs.Rows.{rows_of};
+ghost use Rattle.retrieve_model.specs.Preparing.{prepared_of};
+ghost use Rattle.retrieve_model.specs.Sending.{Gets};
+ghost use Rattle.site_hub.specs.History.{missing_from};
+
+use crate::looking::Question;
+use archive_model::View;
+use archive_query::{Answers, Query, find};
+use archive_retrieve::{Accepts, Prepared, Selection, Sending, get, prepare};
+use operation::{Digest, Op};
+use site_state::Site;
+use std::alloc::{AllocError, Global};
+
+/// Asks for the rows of a C-FIND.
+#[derive(Clone, Copy)]
+pub(crate) struct Finding<'a> {
+    pub view: View,
+    pub called: &'a [u8],
+    pub query: &'a Query,
+}
+
+impl<'a> Question<Answers> for Finding<'a> {
+    ghost answers = { λ q set rows. rows ≡ rows_of q.view q.called.now q.query.now (ops_of set) };
+
+    fn answer(&self, alloc: Global, site: &Site) -> Result<Answers, AllocError> {
+        find(alloc, site, self.view, self.called, self.query)
+    }
+}
+
+/// Asks for what a C-GET sends.
+#[derive(Clone, Copy)]
+pub(crate) struct Getting<'a> {
+    pub view: View,
+    pub selection: &'a Selection,
+    pub accepts: &'a Accepts,
+}
+
+impl<'a> Question<Vec<Sending>> for Getting<'a> {
+    ghost answers = { λ q set found.
+        Gets q.view q.selection.now q.accepts.now (ops_of set) found.items };
+
+    fn answer(&self, alloc: Global, site: &Site) -> Result<Vec<Sending>, AllocError> {
+        get(alloc, site, self.view, self.selection, self.accepts)
+    }
+}
+
+/// Asks for what a C-GET is to send.
+#[derive(Clone, Copy)]
+pub(crate) struct Preparing<'a> {
+    pub view: View,
+    pub selection: &'a Selection,
+}
+
+impl<'a> Question<Vec<Prepared>> for Preparing<'a> {
+    ghost answers = { λ q set found.
+        found.items ≡ prepared_of q.view q.selection.now (ops_of set) };
+
+    fn answer(&self, alloc: Global, site: &Site) -> Result<Vec<Prepared>, AllocError> {
+        prepare(alloc, site, self.view, self.selection)
+    }
+}
+
+/// Asks which of some digests are not held.
+#[derive(Clone, Copy)]
+pub(crate) struct Missing<'a> {
+    pub digests: &'a [Digest],
+}
+
+impl<'a> Question<Vec<Digest>> for Missing<'a> {
+    ghost answers = { λ q set missing. missing.items ≡ missing_from set q.digests.now };
+
+    #[tactic(auto, unfolding(crate::specs::History::missing_from))]
+    fn answer(&self, alloc: Global, site: &Site) -> Result<Vec<Digest>, AllocError> {
+        site.missing(alloc, self.digests)
+    }
+}
+
+/// Asks for the digests of all operations.
+#[derive(Clone, Copy)]
+pub(crate) struct AllDigests;
+
+impl Question<Vec<Digest>> for AllDigests {
+    ghost answers = { λ q set digests. digests.items ≡ digests_of set };
+
+    fn answer(&self, alloc: Global, site: &Site) -> Result<Vec<Digest>, AllocError> {
+        site.digests(alloc)
+    }
+}
+
+/// Asks for a second owner of the operation of a digest.
+#[derive(Clone, Copy)]
+pub(crate) struct OpOf<'a> {
+    pub digest: &'a Digest,
+}
+
+impl<'a> Question<Option<Op>> for OpOf<'a> {
+    ghost answers = { λ q set op. op ≡ held_at set q.digest.now };
+
+    fn answer(&self, alloc: Global, site: &Site) -> Result<Option<Op>, AllocError> {
+        copy_of(alloc, site.op(self.digest))
+    }
+}
+
+/// A copy of an operation, if there is one.
+fn copy_of(alloc: Global, op: Option<&Op>) -> Result<Option<Op>, AllocError>
+    ensures { IfOk result (λ copy. copy ≡ option_copied op.entry) }
+{
+    match op {
+        None => Ok(None),
+        Some(op) => Ok(Some(op.copy(alloc)?)),
+    }
+}
