@@ -3,7 +3,9 @@
 use crate::sets::put_note;
 use crate::words::{octets_of, parted, syntax_of, tag_of, target_of};
 use bytes::Bytes;
-use operation::{Digested, Op, OpFault, Stamp, content_of, correction_of, decode, digest, encode};
+use operation::{
+    Content, Digested, Op, OpFault, Stamp, content_of, correction_of, decode, digest, encode,
+};
 use row_text::{RowFault, bytes_of, number_of, put_bytes};
 use std::alloc::{AllocError, Global};
 
@@ -75,37 +77,71 @@ fn told_of_op(alloc: Global, op: Op, text: &[u8]) -> Result<String, AllocError> 
     Ok(out)
 }
 
-/// `content CLASS INSTANCE SYNTAX BYTES`: the content of a data set.
-pub fn told_of_content(alloc: Global, words: &str) -> Result<String, RowFault> {
+/// The words before the bytes of a data set.
+#[derive(Clone, Copy)]
+struct Head<'a> {
+    class: &'a str,
+    instance: &'a str,
+    syntax: &'a str,
+}
+
+/// The head of a row, and the words behind it.
+fn headed<'a>(words: &'a str) -> (Head<'a>, &'a str) {
     let (class, words) = parted(words);
     let (instance, words) = parted(words);
     let (syntax, words) = parted(words);
-    let class = octets_of(alloc, class)?;
-    let instance = octets_of(alloc, instance)?;
-    let body = Bytes::copy_from_slice(alloc, bytes_of(alloc, words)?.as_slice())?;
-    match content_of(alloc, class, instance, syntax_of(syntax), body) {
+    let head = Head {
+        class,
+        instance,
+        syntax,
+    };
+    (head, words)
+}
+
+/// What comes of a data set as a content.
+fn made(alloc: Global, head: Head<'_>, set: &[u8]) -> Result<Result<Content, OpFault>, RowFault> {
+    let class = octets_of(alloc, head.class)?;
+    let instance = octets_of(alloc, head.instance)?;
+    let body = Bytes::copy_from_slice(alloc, set)?;
+    Ok(content_of(alloc, class, instance, syntax_of(head.syntax), body))
+}
+
+/// `content CLASS INSTANCE SYNTAX BYTES`: the content of a data set.
+pub fn told_of_content(alloc: Global, words: &str) -> Result<String, RowFault> {
+    let (head, words) = headed(words);
+    match made(alloc, head, bytes_of(alloc, words)?.as_slice())? {
         Ok(content) => Ok(told_of_op(alloc, Op::Content(content), &[])?),
         Err(fault) => Ok(told_of_fault(alloc, fault)?),
     }
 }
 
+/// Why a data set is no content.
+fn fault_in(alloc: Global, head: Head<'_>, set: &[u8]) -> Result<Option<OpFault>, RowFault> {
+    Ok(made(alloc, head, set)?.err())
+}
+
+/// Puts what comes of a front as a content, but for one that is no data set.
+fn put_front(out: &mut String, end: usize, fault: Option<OpFault>) -> Result<(), AllocError> {
+    match fault {
+        Some(OpFault::BadSet) => Ok(()),
+        Some(OpFault::NoUid) => write!(out, " {end}"),
+        Some(fault) => write!(out, " ({end}: {fault})"),
+        None => write!(out, " ({end}: a content)"),
+    }
+}
+
 /// `cuts CLASS INSTANCE SYNTAX BYTES`: what comes of each front of a data set as a content.
 pub fn told_of_cuts(alloc: Global, words: &str) -> Result<String, RowFault> {
-    let (class, words) = parted(words);
-    let (instance, words) = parted(words);
-    let (syntax, words) = parted(words);
+    let (head, words) = headed(words);
     let text = bytes_of(alloc, words)?;
     let mut out = String::from_str(alloc, "without a UID are the fronts of")?;
     let mut faulty = 0u64;
     for end in 0..text.len() {
-        let body = Bytes::copy_from_slice(alloc, &text[..end])?;
-        let (class, instance) = (octets_of(alloc, class)?, octets_of(alloc, instance)?);
-        match content_of(alloc, class, instance, syntax_of(syntax), body) {
-            Err(OpFault::NoUid) => write!(out, " {end}")?,
-            Err(OpFault::BadSet) => faulty = faulty.saturating_add(1),
-            Err(fault) => write!(out, " ({end}: {fault})")?,
-            Ok(_) => write!(out, " ({end}: a content)")?,
+        let fault = fault_in(alloc, head, &text[..end])?;
+        if fault == Some(OpFault::BadSet) {
+            faulty = faulty.saturating_add(1);
         }
+        put_front(&mut out, end, fault)?;
     }
     write!(out, " bytes, and {faulty} are no data sets")?;
     Ok(out)
