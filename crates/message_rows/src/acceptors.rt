@@ -5,7 +5,7 @@ ghost use Rattle.std.specs.Prelude.{IfOk, IfSome, All};
 ghost use Rattle.ul_state.specs.Acceptor.{CanBeWritten, HasLawfulPdu};
 
 use octets::{ListOf, Octets};
-use pdu::{Context, Pdu, PduFault, Request, Step, read_pdu, write_pdu};
+use pdu::{Accept, Context, Pdu, PduFault, Reject, Request, Step, read_pdu, write_pdu};
 use row_text::put_bytes;
 use std::alloc::{AllocError, Global};
 use ul_state::{Acceptor, Action, Decision, Event, Title, Titles, negotiate};
@@ -62,25 +62,40 @@ fn put_contexts(out: &mut String, contexts: &[Context]) -> Result<(), AllocError
     Ok(())
 }
 
+fn told_of_accepted(
+    alloc: Global,
+    accept: Accept,
+    contexts: &[Context],
+    value: u8,
+) -> Result<String, AllocError>
+    requires { IsPdu (Pdu.AssociateAc accept) }
+{
+    let mut out = format!(in alloc; "accepted for title {value}")?;
+    put_contexts(&mut out, contexts)?;
+    out.push_str("\n  written ")?;
+    put_written(alloc, &mut out, &Pdu::AssociateAc(accept))?;
+    Ok(out)
+}
+
+fn told_of_rejected(alloc: Global, reject: Reject) -> Result<String, AllocError>
+    requires { IsPdu (Pdu.AssociateRj reject) }
+{
+    let mut out = format!(in alloc; "rejected\n  written ")?;
+    put_written(alloc, &mut out, &Pdu::AssociateRj(reject))?;
+    Ok(out)
+}
+
 /// What is decided on a request, and what is written of that.
 pub fn told_of_request(alloc: Global, request: &Request) -> Result<String, AllocError>
     requires { IsPdu (Pdu.AssociateRq request.now) }
 {
     let titles = titles_of(alloc)?;
-    let mut out = String::new(alloc);
     match negotiate(alloc, request, &titles)? {
         Decision::Accepted(accept, contexts, value) => {
-            write!(out, "accepted for title {value}")?;
-            put_contexts(&mut out, contexts.as_slice())?;
-            out.push_str("\n  written ")?;
-            put_written(alloc, &mut out, &Pdu::AssociateAc(accept))?;
+            told_of_accepted(alloc, accept, contexts.as_slice(), value)
         }
-        Decision::Rejected(reject) => {
-            out.push_str("rejected\n  written ")?;
-            put_written(alloc, &mut out, &Pdu::AssociateRj(reject))?;
-        }
+        Decision::Rejected(reject) => told_of_rejected(alloc, reject),
     }
-    Ok(out)
 }
 
 fn put_action(alloc: Global, out: &mut String, action: &Action) -> Result<(), AllocError>

@@ -111,18 +111,18 @@ fn put_message(alloc: Global, out: &mut String, message: &Message) -> Result<(),
 /// What a fragment ends.
 pub fn told_of_fed(
     alloc: Global,
-    fed: Result<Option<Message>, DimseFault>,
+    fed: &Result<Option<Message>, DimseFault>,
 ) -> Result<String, AllocError>
-    requires { IfOk fed (λ message. IfSome message IsWhole) }
+    requires { IfOk fed.now (λ message. IfSome message IsWhole) }
 {
     match fed {
         Ok(None) => format!(in alloc; "no message yet"),
         Ok(Some(message)) => {
             let mut out = String::new(alloc);
-            put_message(alloc, &mut out, &message)?;
+            put_message(alloc, &mut out, message)?;
             Ok(out)
         }
-        Err(fault) => told_of_fault(alloc, fault),
+        Err(fault) => told_of_fault(alloc, *fault),
     }
 }
 
@@ -144,7 +144,7 @@ pub fn told_of_pieces(
             fragment: Bytes::copy_from_slice(alloc, piece)?,
         });
         if left == 0 || !matches!(fed, Ok(None)) {
-            let told = told_of_fed(alloc, fed)?;
+            let told = told_of_fed(alloc, &fed)?;
             return format!(in alloc; "{left} bytes left: {told}");
         }
     }
@@ -168,7 +168,7 @@ pub fn told_of_many(
             fragment: piece.clone()?,
         });
         if !matches!(fed, Ok(None)) {
-            let told = told_of_fed(alloc, fed)?;
+            let told = told_of_fed(alloc, &fed)?;
             return format!(in alloc; "at {place}: {told}");
         }
     }
@@ -178,7 +178,7 @@ pub fn told_of_many(
         last: is_ended,
         fragment: piece,
     });
-    told_of_fed(alloc, fed)
+    told_of_fed(alloc, &fed)
 }
 
 /// The PDUs of a command set and a data set on context 1.

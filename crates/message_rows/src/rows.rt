@@ -1,5 +1,6 @@
 //! The kinds of rows.
 
+ghost use Rattle.pdu.specs.Spelling.{IsPdu};
 ghost use Rattle.ul_state.specs.Acceptor.{HasLawfulPdu};
 
 use crate::acceptors::{
@@ -65,7 +66,7 @@ impl Rows {
             last: place == "last",
             fragment: Bytes::copy_from_slice(self.alloc, fragment.as_slice())?,
         };
-        Ok(told_of_fed(self.alloc, self.assembler.feed(pdv))?)
+        Ok(told_of_fed(self.alloc, &self.assembler.feed(pdv))?)
     }
 
     /// `pieces SIZE command|data BYTES`: a text in pieces; `many COUNT SIZE more|last`: equal ones.
@@ -97,12 +98,20 @@ impl Rows {
     fn told_of_got(&mut self, decides: bool, words: &str) -> Result<String, RowFault> {
         let bytes = bytes_of(self.alloc, words)?;
         match pdu_of(self.alloc, bytes.as_slice()) {
-            Ok(Pdu::AssociateRq(request)) if decides => {
-                Ok(told_of_request(self.alloc, &request)?)
-            }
-            Ok(pdu) => Ok(told_of_event(self.alloc, &mut self.acceptor, Event::Got(pdu))?),
+            Ok(pdu) => self.told_of_pdu(decides, pdu),
             Err(fault) => Ok(format!(in self.alloc; "no PDU: {fault}")?),
         }
+    }
+
+    fn told_of_pdu(&mut self, decides: bool, pdu: Pdu) -> Result<String, RowFault>
+        requires { IsPdu pdu }
+    {
+        if decides {
+            if let Pdu::AssociateRq(request) = &pdu {
+                return Ok(told_of_request(self.alloc, request)?);
+            }
+        }
+        self.told_of_other(Event::Got(pdu))
     }
 
     fn told_of_other(&mut self, event: Event) -> Result<String, RowFault>
