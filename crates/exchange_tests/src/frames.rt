@@ -1,6 +1,6 @@
 //! Frames from outside.
 
-use assertions::{equal, holds};
+use assertions::equal;
 use bytes::Bytes;
 use exchange::*;
 use std::alloc::{AllocError, Global};
@@ -46,13 +46,17 @@ fn read(alloc: Global, text: &[u8]) -> Result<Frame, FrameFault> {
     read_frame_body(alloc, &header, Bytes::copy_from_slice(alloc, body)?)
 }
 
-/// A text is read, where the number wanted is 0, or has the fault of this number.
-fn is_read(alloc: Global, text: &[u8], wanted: u8, why: &str) -> Result<(), Fail> {
-    let number = match read(alloc, text) {
+/// 0 where a text is read, or the number of its fault.
+fn number_of(alloc: Global, text: &[u8]) -> u8 {
+    match read(alloc, text) {
         Ok(_frame) => 0,
         Err(fault) => fault.number(),
-    };
-    equal(number, wanted, why)
+    }
+}
+
+/// A text is read, where the number wanted is 0, or has the fault of this number.
+fn is_read(alloc: Global, text: &[u8], wanted: u8, why: &str) -> Result<(), Fail> {
+    equal(number_of(alloc, text), wanted, why)
 }
 
 /// A text of a frame, 0 or the number of its fault, and what it is.
@@ -174,10 +178,27 @@ fn a_count_is_that_of_the_digests(rt: HostRuntime) -> Result<(), Fail> {
     is_read(rt.alloc(), text.as_slice(), 1, "01.. twice")
 }
 
+/// The kind of a HELLO, with its version, and of an END. Others have none here.
+fn said(frame: &Frame) -> (u8, u16) {
+    match frame {
+        Frame::Hello(version) => (0x07, *version),
+        Frame::End => (0x04, 0),
+        _ => (0, 0),
+    }
+}
+
+fn read_as(alloc: Global, text: &[u8]) -> (u8, u16) {
+    match read(alloc, text) {
+        Ok(frame) => said(&frame),
+        Err(_fault) => (0, 0),
+    }
+}
+
 #[test]
 fn a_frame_says_what_was_read(rt: HostRuntime) -> Result<(), Fail> {
-    let hello = read(rt.alloc(), b"\x07\x00\x00\x00\x02\x00\x02");
-    holds(matches!(hello, Ok(Frame::Hello(2))), "version 2")?;
-    let end = read(rt.alloc(), b"\x04\x00\x00\x00\x00");
-    holds(matches!(end, Ok(Frame::End)), "END")
+    let (hello, version) = read_as(rt.alloc(), b"\x07\x00\x00\x00\x02\x00\x02");
+    equal(hello, 0x07, "HELLO")?;
+    equal(version, 2, "version 2")?;
+    let (end, _) = read_as(rt.alloc(), b"\x04\x00\x00\x00\x00");
+    equal(end, 0x04, "END")
 }

@@ -11,3 +11,5 @@ mod numbered;
 mod rounds;
 #[cfg(test)]
 mod runs;
+#[cfg(test)]
+mod sites;

@@ -1,12 +1,14 @@
 //! An exchange of two sites that hold much and differ in little.
 
-use crate::runs::run;
+use crate::runs::finishes;
+use crate::sites::{
+    buckets, on_buckets, on_differ, on_give, on_have, on_want, op, operations, take_op,
+};
 use assertions::{equal, holds};
-use bytes::Bytes;
 use exchange::*;
 use exchange_run::*;
-use octets::ListOf;
-use operation::{Digest, Op, decode, digest};
+use octets::{ListOf, Octets};
+use operation::{Op, digest};
 use site_state::Site;
 use std::alloc::{AllocError, Global};
 use std::test::Fail;
@@ -27,37 +29,46 @@ const SMALLEST: usize = (5 + 2) + (5 + 256 * 32) + (5 + 4) + 5 + (5 + 2) + (5 + 
 // What is more where 10 operations of 31 bytes are given, and 10 are asked for.
 const TEN_EACH_WAY: usize = 10 * (5 + 31) + 10 * 32;
 
-/// The correction of this counter and this site.
-fn numbered(alloc: Global, counter: u64, site: u16) -> Result<Op, Fail> {
+/// The text of the correction of this counter and this site.
+fn text_of(alloc: Global, counter: u64, site: u16) -> Result<Vec<u8>, AllocError> {
     let mut text = Vec::new(alloc);
     text.extend_from_slice(UNSTAMPED)?;
     text.extend_from_slice(&counter.to_be_bytes())?;
     text.extend_from_slice(&site.to_be_bytes())?;
-    Ok(decode(alloc, Bytes::from_vec(text)?)?)
+    Ok(text)
+}
+
+/// The correction of this counter and this site.
+fn numbered(alloc: Global, counter: u64, site: u16) -> Result<Op, Fail> {
+    let text = text_of(alloc, counter, site)?;
+    op(alloc, text.as_slice())
 }
 
 /// Hands a site the corrections of these counters.
 fn take_all(alloc: Global, to: &mut Site, first: u64, last: u64, site: u16) -> Result<(), Fail> {
     for counter in first..=last {
-        to.take(numbered(alloc, counter, site)?)?;
+        take_op(to, numbered(alloc, counter, site)?)?;
     }
     Ok(())
 }
 
-/// Two sites of 2,000 operations, of which 1,990 are the same.
-fn two_sites(alloc: Global) -> Result<(Site, Site), Fail> {
-    let mut a = Site::new(alloc);
-    take_all(alloc, &mut a, 1, 1_990, 1)?;
-    let mut b = a.copy(alloc)?;
-    take_all(alloc, &mut a, 1_991, 2_000, 1)?;
-    take_all(alloc, &mut b, 1_991, 2_000, 2)?;
-    Ok((a, b))
+/// Hands two sites 2,000 operations each, of which 1,990 are the same.
+fn fill_both(alloc: Global, a: &mut Site, b: &mut Site) -> Result<(), Fail> {
+    take_all(alloc, a, 1, 2_000, 1)?;
+    take_all(alloc, b, 1, 1_990, 1)?;
+    take_all(alloc, b, 1_991, 2_000, 2)
+}
+
+/// The first byte of the digest of such a correction.
+fn place_of(alloc: Global, counter: u64, site: u16) -> Result<u8, Fail> {
+    let op = numbered(alloc, counter, site)?;
+    Ok(digest(&op).as_bytes()[0])
 }
 
 /// The first bytes of the 10 digests that one of the two sites alone has, put behind others.
 fn put_places(alloc: Global, site: u16, places: &mut Vec<u8>) -> Result<(), Fail> {
     for counter in 1_991..=2_000 {
-        let place = digest(&numbered(alloc, counter, site)?).as_bytes()[0];
+        let place = place_of(alloc, counter, site)?;
         if !places.contains(&place) {
             places.push(place)?;
         }
@@ -67,13 +78,13 @@ fn put_places(alloc: Global, site: u16, places: &mut Vec<u8>) -> Result<(), Fail
 
 /// How many of a site's digests begin with one of these bytes.
 fn digests_in(alloc: Global, site: &Site, places: &[u8]) -> Result<usize, AllocError> {
-    let mut found: Vec<Digest> = Vec::new(alloc);
+    let mut found: usize = 0;
     for digest in site.digests(alloc)? {
         if places.contains(&digest.as_bytes()[0]) {
-            found.push(digest)?;
+            found = found.saturating_add(1);
         }
     }
-    Ok(found.len())
+    Ok(found)
 }
 
 /// The bytes that a side writes that gives 10 operations and asks for 10, says so many places in
@@ -84,33 +95,91 @@ fn bytes_for(places: usize, digests: usize) -> usize {
         .saturating_add(digests.saturating_mul(32))
 }
 
-/// Puts a frame behind others.
-fn put(alloc: Global, text: &mut Vec<u8>, frame: &Frame) -> Result<(), Fail> {
-    let written = write_frame(alloc, frame)?;
+fn put_text(text: &mut Vec<u8>, written: &FrameText) -> Result<(), AllocError> {
     let (head, rest) = written.parts();
     text.extend_from_slice(head)?;
-    text.extend_from_slice(rest)?;
+    text.extend_from_slice(rest)
+}
+
+fn put_frame(alloc: Global, text: &mut Vec<u8>, frame: &Frame) -> Result<(), Fail> {
+    let written = write_frame(alloc, frame)?;
+    put_text(text, &written)?;
     Ok(())
 }
 
-/// What one site says of its buckets and another answers, and the digests where they differ.
-fn put_places_of(
+/// Puts a frame behind others.
+fn put(alloc: Global, text: &mut Vec<u8>, frame: Frame) -> Result<(), Fail> {
+    put_frame(alloc, text, &frame)
+}
+
+/// Puts the BUCKETS of one site. The places in which another one differs are handed back.
+fn put_buckets(
     alloc: Global,
+    round: &Round,
     from: &mut Site,
     to: &mut Site,
     says: &mut Vec<u8>,
+) -> Result<Octets, Fail> {
+    let buckets = buckets(alloc, round, from)?;
+    let places = on_buckets(alloc, round, to, buckets.as_slice())?;
+    put(alloc, says, Frame::Buckets(buckets))?;
+    Ok(places)
+}
+
+/// Puts a DIFFER. The digests in its places are handed back.
+fn put_differ(
+    alloc: Global,
+    round: &Round,
+    from: &mut Site,
+    places: Octets,
     answers: &mut Vec<u8>,
 ) -> Result<Digests, Fail> {
-    let round = Round::new(alloc, Version::Two);
-    let buckets = round.buckets(alloc, from)?;
-    let places = round.on_buckets(alloc, to, buckets.as_slice())?;
-    put(alloc, says, &Frame::Buckets(buckets))?;
-    let have = round.on_differ(alloc, from, places.as_slice())?;
-    put(alloc, answers, &Frame::Differ(places))?;
+    let have = on_differ(alloc, round, from, places.as_slice())?;
+    put(alloc, answers, Frame::Differ(places))?;
     Ok(have)
 }
 
-/// Puts a GIVE of each operation, and END. The other site takes them.
+/// Puts a HAVE. What the other site lacks of it is handed back.
+fn put_have(
+    alloc: Global,
+    round: &mut Round,
+    to: &mut Site,
+    have: Digests,
+    says: &mut Vec<u8>,
+) -> Result<Digests, Fail> {
+    let want = on_have(alloc, round, to, &have)?;
+    put(alloc, says, Frame::Have(have))?;
+    Ok(want)
+}
+
+/// Puts a WANT. The operations that it asks for are handed back.
+fn put_want(
+    alloc: Global,
+    round: &Round,
+    from: &mut Site,
+    want: Digests,
+    answers: &mut Vec<u8>,
+) -> Result<ListOf<Op>, Fail> {
+    let ops = on_want(alloc, round, from, &want)?;
+    put(alloc, answers, Frame::Want(want))?;
+    Ok(ops)
+}
+
+/// Puts a GIVE of an operation. The other site takes it.
+fn put_gift(
+    alloc: Global,
+    round: &mut Round,
+    to: &mut Site,
+    op: Op,
+    says: &mut Vec<u8>,
+) -> Result<(), Fail> {
+    let copy = op.copy(alloc)?;
+    put(alloc, says, Frame::Give(copy))?;
+    on_give(round, to, op)?;
+    Ok(())
+}
+
+/// Puts a GIVE of each operation, and END.
 fn put_gifts(
     alloc: Global,
     round: &mut Round,
@@ -119,14 +188,28 @@ fn put_gifts(
     says: &mut Vec<u8>,
 ) -> Result<(), Fail> {
     for op in ops.into_vec() {
-        put(alloc, says, &Frame::Give(op.copy(alloc)?))?;
-        round.on_give(to, op)?;
+        put_gift(alloc, round, to, op, says)?;
     }
-    put(alloc, says, &Frame::End)
+    put(alloc, says, Frame::End)
 }
 
 /// A round from one site to another, which takes what it lacks: what the one says, and what the
 /// other answers, each behind what it said before.
+fn put_frames(
+    alloc: Global,
+    round: &mut Round,
+    from: &mut Site,
+    to: &mut Site,
+    says: &mut Vec<u8>,
+    answers: &mut Vec<u8>,
+) -> Result<(), Fail> {
+    let places = put_buckets(alloc, round, from, to, says)?;
+    let have = put_differ(alloc, round, from, places, answers)?;
+    let want = put_have(alloc, round, to, have, says)?;
+    let ops = put_want(alloc, round, from, want, answers)?;
+    put_gifts(alloc, round, to, ops, says)
+}
+
 fn put_round(
     alloc: Global,
     from: &mut Site,
@@ -134,13 +217,8 @@ fn put_round(
     says: &mut Vec<u8>,
     answers: &mut Vec<u8>,
 ) -> Result<(), Fail> {
-    let have = put_places_of(alloc, from, to, says, answers)?;
     let mut round = Round::new(alloc, Version::Two);
-    let want = round.on_have(alloc, to, &have)?;
-    put(alloc, says, &Frame::Have(have))?;
-    let ops = round.on_want(alloc, from, &want)?;
-    put(alloc, answers, &Frame::Want(want))?;
-    put_gifts(alloc, &mut round, to, ops, says)
+    put_frames(alloc, &mut round, from, to, says, answers)
 }
 
 /// What both sides of an exchange say, the caller's first. Each site takes what it lacks.
@@ -161,60 +239,109 @@ fn texts_between(alloc: Global, a: &Site, b: &Site) -> Result<(Vec<u8>, Vec<u8>)
     both_texts(alloc, &mut caller, &mut callee)
 }
 
+/// Two sites exchange what the texts of both say, as a caller and as a callee.
+fn become_equal(alloc: Global, a: &mut Site, b: &mut Site) -> Result<(), Fail> {
+    fill_both(alloc, a, b)?;
+    let (caller, callee) = texts_between(alloc, a, b)?;
+    let (caller, callee) = (caller.as_slice(), callee.as_slice());
+    let ten = (10, 10);
+    finishes(
+        alloc,
+        Role::Caller,
+        a,
+        (callee, caller),
+        4096,
+        ten,
+        "the caller",
+    )?;
+    holds(!a.same(b), "before the callee took anything")?;
+    finishes(
+        alloc,
+        Role::Callee,
+        b,
+        (caller, callee),
+        4096,
+        ten,
+        "the callee",
+    )?;
+    holds(a.same(b), "both sites")?;
+    equal(operations(a), 2_010, "what each holds")
+}
+
 #[test]
 fn large_sites_that_differ_in_little_become_equal(rt: HostRuntime) -> Result<(), Fail> {
-    let (mut a, mut b) = two_sites(rt.alloc())?;
-    let (caller, callee) = texts_between(rt.alloc(), &a, &b)?;
-    let ten = Ended {
-        given: 10,
-        taken: 10,
-        finished: true,
-    };
-    let (out, ended) = run(rt.alloc(), Role::Caller, &mut a, callee.as_slice(), 4096)?;
-    equal(ended, Ok(ten), "the caller")?;
-    holds(out.as_slice() == caller.as_slice(), "what it writes")?;
-    holds(!a.same(&b), "before the callee took anything")?;
-    let (out, ended) = run(rt.alloc(), Role::Callee, &mut b, caller.as_slice(), 4096)?;
-    equal(ended, Ok(ten), "the callee")?;
-    holds(out.as_slice() == callee.as_slice(), "what it writes")?;
-    holds(a.same(&b), "both sites")?;
-    equal(a.counts().operations, 2_010, "what each holds")
+    let mut a = Site::new(rt.alloc());
+    let mut b = Site::new(rt.alloc());
+    become_equal(rt.alloc(), &mut a, &mut b)
+}
+
+/// The first bytes of the digests that each of these sites alone has, each byte once.
+fn places_of(alloc: Global, sites: &[u16]) -> Result<Vec<u8>, Fail> {
+    let mut places = Vec::new(alloc);
+    for site in sites {
+        put_places(alloc, *site, &mut places)?;
+    }
+    Ok(places)
+}
+
+fn is_short(bytes: usize, wanted: usize, what: &str) -> Result<(), Fail> {
+    equal(bytes, wanted, what)?;
+    holds(wanted < FULL_HAVE, "a full HAVE is longer")
+}
+
+fn write_by_places(alloc: Global, a: &mut Site, b: &mut Site) -> Result<(), Fail> {
+    fill_both(alloc, a, b)?;
+    let of_b = places_of(alloc, &[2])?;
+    let places = places_of(alloc, &[2, 1])?;
+    let offered_by_a = digests_in(alloc, a, places.as_slice())?;
+    let (caller, callee) = both_texts(alloc, a, b)?;
+
+    // What a had the callee has taken, so the second round is of what b had.
+    let offered_by_b = digests_in(alloc, b, of_b.as_slice())?;
+    let wanted = bytes_for(of_b.len(), offered_by_a);
+    is_short(caller.len(), wanted, "what the caller writes")?;
+    let wanted = bytes_for(places.len(), offered_by_b);
+    is_short(callee.len(), wanted, "what the callee writes")
 }
 
 #[test]
 fn what_is_written_goes_by_the_places_that_differ(rt: HostRuntime) -> Result<(), Fail> {
-    let (mut a, mut b) = two_sites(rt.alloc())?;
-    let mut places = Vec::new(rt.alloc());
-    put_places(rt.alloc(), 2, &mut places)?;
-    let of_b = places.clone()?;
-    put_places(rt.alloc(), 1, &mut places)?;
-    let offered_by_a = digests_in(rt.alloc(), &a, places.as_slice())?;
-    let (caller, callee) = both_texts(rt.alloc(), &mut a, &mut b)?;
+    let mut a = Site::new(rt.alloc());
+    let mut b = Site::new(rt.alloc());
+    write_by_places(rt.alloc(), &mut a, &mut b)
+}
 
-    // What a had the callee has taken, so the second round is of what b had.
-    let offered_by_b = digests_in(rt.alloc(), &b, of_b.as_slice())?;
-    let wanted = bytes_for(of_b.len(), offered_by_a);
-    equal(caller.len(), wanted, "what the caller writes")?;
-    holds(wanted < FULL_HAVE, "a full HAVE is longer")?;
-    let wanted = bytes_for(places.len(), offered_by_b);
-    equal(callee.len(), wanted, "what the callee writes")?;
-    holds(wanted < FULL_HAVE, "a full HAVE is longer")
+fn write_no_more(alloc: Global, a: &mut Site, b: &mut Site) -> Result<(), Fail> {
+    take_all(alloc, a, 1, 2_000, 1)?;
+    take_all(alloc, b, 1, 2_000, 1)?;
+    let (caller, callee) = both_texts(alloc, a, b)?;
+    equal(caller.len(), SMALLEST, "what the caller writes")?;
+    equal(callee.len(), SMALLEST, "what the callee writes")?;
+    let (caller, callee) = (caller.as_slice(), callee.as_slice());
+    let none = (0, 0);
+    finishes(
+        alloc,
+        Role::Caller,
+        a,
+        (callee, caller),
+        4096,
+        none,
+        "the caller",
+    )?;
+    finishes(
+        alloc,
+        Role::Callee,
+        b,
+        (caller, callee),
+        4096,
+        none,
+        "the callee",
+    )
 }
 
 #[test]
 fn large_sites_that_are_equal_write_8234_bytes_each(rt: HostRuntime) -> Result<(), Fail> {
-    let (mut a, _) = two_sites(rt.alloc())?;
-    let mut b = a.copy(rt.alloc())?;
-    let (caller, callee) = both_texts(rt.alloc(), &mut a, &mut b)?;
-    let nothing = Ended {
-        given: 0,
-        taken: 0,
-        finished: true,
-    };
-    let (out, ended) = run(rt.alloc(), Role::Caller, &mut a, callee.as_slice(), 4096)?;
-    equal(ended, Ok(nothing), "the caller")?;
-    equal(out.as_slice().len(), SMALLEST, "what it writes")?;
-    let (out, ended) = run(rt.alloc(), Role::Callee, &mut b, caller.as_slice(), 4096)?;
-    equal(ended, Ok(nothing), "the callee")?;
-    equal(out.as_slice().len(), SMALLEST, "what it writes")
+    let mut a = Site::new(rt.alloc());
+    let mut b = Site::new(rt.alloc());
+    write_no_more(rt.alloc(), &mut a, &mut b)
 }

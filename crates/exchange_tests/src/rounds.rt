@@ -1,98 +1,147 @@
 //! Rounds between two sites.
 
-use assertions::{equal, holds};
-use bytes::Bytes;
+use crate::sites::{
+    OF_SERIES, OF_STUDY, buckets, digest_of, offer, on_buckets, on_differ, on_give, on_have,
+    on_want, op, operations, take,
+};
+use assertions::{equal, holds, holds_at};
 use exchange::*;
-use operation::{Digest, Op, Taken, decode, digest};
+use octets::ListOf;
+use operation::{Digest, Op, Taken};
 use site_state::Site;
-use std::alloc::Global;
+use std::alloc::{AllocError, Global};
 use std::test::Fail;
-
-// The corrections of study 1.2.1 by which (0010,0010) is ROE^ANN, and of series 1.2.1.1 by which
-// (0008,103E) is HEAD, each of counter 1 and site 1.
-const OF_STUDY: &[u8] =
-    b"\x02\x01\x051.2.1\x00\x10\x00\x10\x00\x07ROE^ANN\x00\x00\x00\x00\x00\x00\x00\x01\x00\x01";
-
-const OF_SERIES: &[u8] =
-    b"\x03\x071.2.1.1\x00\x08\x10\x3e\x00\x04HEAD\x00\x00\x00\x00\x00\x00\x00\x01\x00\x01";
 
 // SHA-256 of no bytes.
 const OF_NOTHING: &str = "e3b0c44298fc1c149afbf4c8996fb92427ae41e4649b934ca495991b7852b855";
 
-fn op(alloc: Global, text: &[u8]) -> Result<Op, Fail> {
-    Ok(decode(alloc, Bytes::copy_from_slice(alloc, text)?)?)
-}
-
-fn digest_of(alloc: Global, text: &[u8]) -> Result<Digest, Fail> {
-    Ok(digest(&op(alloc, text)?))
+fn digests_of(alloc: Global, digest: &Digest) -> Result<Digests, AllocError> {
+    let mut digests = DigestsMut::with_capacity(alloc, 1)?;
+    digests.push(digest)?;
+    digests.freeze()
 }
 
 /// The digest of one operation alone.
 fn one(alloc: Global, text: &[u8]) -> Result<Digests, Fail> {
-    let mut digests = DigestsMut::with_capacity(alloc, 1)?;
-    digests.push(&digest_of(alloc, text)?)?;
-    Ok(digests.freeze()?)
-}
-
-/// A site that holds one operation.
-fn site_of(alloc: Global, text: &[u8]) -> Result<Site, Fail> {
-    let mut site = Site::new(alloc);
-    site.take(op(alloc, text)?)?;
-    Ok(site)
+    let digest = digest_of(alloc, text)?;
+    Ok(digests_of(alloc, &digest)?)
 }
 
 /// How many operations are asked for where one is offered.
 fn asked(alloc: Global, round: &mut Round, site: &mut Site, text: &[u8]) -> Result<usize, Fail> {
-    Ok(round.on_have(alloc, site, &one(alloc, text)?)?.len())
+    let have = one(alloc, text)?;
+    let want = on_have(alloc, round, site, &have)?;
+    Ok(want.len())
 }
 
 /// 0 where an operation that is given is new, 10 where it is known, or the fault's number.
-fn given(alloc: Global, round: &mut Round, site: &mut Site, text: &[u8]) -> Result<u8, Fail> {
-    match round.on_give(site, op(alloc, text)?) {
-        Ok(Taken::New) => Ok(0),
-        Ok(Taken::Known) => Ok(10),
-        Err(fault) => Ok(fault.number()),
+fn number_of(given: Result<Taken, ExchangeFault>) -> usize {
+    match given {
+        Ok(Taken::New) => 0,
+        Ok(Taken::Known) => 10,
+        Err(fault) => fault.number() as usize,
     }
 }
 
+fn given(alloc: Global, round: &mut Round, site: &mut Site, text: &[u8]) -> Result<usize, Fail> {
+    let op = op(alloc, text)?;
+    Ok(number_of(on_give(round, site, op)))
+}
+
+fn offered_in(alloc: Global, round: &Round, site: &mut Site) -> Result<usize, Fail> {
+    let have = offer(alloc, round, site)?;
+    Ok(have.len())
+}
+
+/// How many operations are offered in a round of a version.
 fn offered(alloc: Global, version: Version, site: &mut Site) -> Result<usize, Fail> {
-    Ok(Round::new(alloc, version).offer(alloc, site)?.len())
+    let round = Round::new(alloc, version);
+    offered_in(alloc, &round, site)
+}
+
+fn wanted_in(alloc: Global, round: &Round, site: &mut Site, text: &[u8]) -> Result<usize, Fail> {
+    let want = one(alloc, text)?;
+    let ops = on_want(alloc, round, site, &want)?;
+    Ok(ops.len())
 }
 
 /// How many operations are given for the WANT of one.
 fn wanted(alloc: Global, version: Version, site: &mut Site, text: &[u8]) -> Result<usize, Fail> {
-    let want = one(alloc, text)?;
-    Ok(
-        Round::new(alloc, version)
-            .on_want(alloc, site, &want)?
-            .len(),
-    )
+    let round = Round::new(alloc, version);
+    wanted_in(alloc, &round, site, text)
+}
+
+fn differing_in(
+    alloc: Global,
+    round: &Round,
+    from: &mut Site,
+    to: &mut Site,
+) -> Result<Digests, HolderFault> {
+    let buckets = buckets(alloc, round, from)?;
+    let places = on_buckets(alloc, round, to, buckets.as_slice())?;
+    on_differ(alloc, round, from, places.as_slice())
 }
 
 /// The digests in the places in which two sites differ.
-fn differing(alloc: Global, from: &mut Site, to: &mut Site) -> Result<Digests, Fail> {
+fn differing(alloc: Global, from: &mut Site, to: &mut Site) -> Result<Digests, HolderFault> {
     let round = Round::new(alloc, Version::Two);
-    let buckets = round.buckets(alloc, from)?;
-    let places = round.on_buckets(alloc, to, buckets.as_slice())?;
-    Ok(round.on_differ(alloc, from, places.as_slice())?)
+    differing_in(alloc, &round, from, to)
+}
+
+/// What one site is given for what it asks of another.
+fn gifts(
+    alloc: Global,
+    round: &mut Round,
+    from: &mut Site,
+    to: &mut Site,
+    have: &Digests,
+) -> Result<ListOf<Op>, HolderFault> {
+    let want = on_have(alloc, round, to, have)?;
+    on_want(alloc, round, from, &want)
+}
+
+fn take_gifts_in(
+    alloc: Global,
+    round: &mut Round,
+    from: &mut Site,
+    to: &mut Site,
+    have: &Digests,
+) -> Result<(), HolderFault> {
+    let ops = gifts(alloc, round, from, to, have)?;
+    for op in ops.into_vec() {
+        let _ = on_give(round, to, op);
+    }
+    Ok(())
+}
+
+/// A site takes what it lacks of a HAVE.
+fn take_gifts(
+    alloc: Global,
+    from: &mut Site,
+    to: &mut Site,
+    have: &Digests,
+) -> Result<(), HolderFault> {
+    let mut round = Round::new(alloc, Version::Two);
+    take_gifts_in(alloc, &mut round, from, to, have)
 }
 
 /// A round by buckets, and how many digests were in its HAVE.
-fn run(alloc: Global, from: &mut Site, to: &mut Site) -> Result<usize, Fail> {
+fn run(alloc: Global, from: &mut Site, to: &mut Site) -> Result<usize, HolderFault> {
     let have = differing(alloc, from, to)?;
-    let mut round = Round::new(alloc, Version::Two);
-    let want = round.on_have(alloc, to, &have)?;
-    let ops = round.on_want(alloc, from, &want)?;
-    for op in ops.into_vec() {
-        let _ = round.on_give(to, op);
-    }
+    take_gifts(alloc, from, to, &have)?;
     Ok(have.len())
+}
+
+/// The buckets of a site that holds nothing.
+fn buckets_of_none(alloc: Global) -> Result<ListOf<Digest>, HolderFault> {
+    let mut site = Site::new(alloc);
+    let round = Round::new(alloc, Version::Two);
+    buckets(alloc, &round, &mut site)
 }
 
 #[test]
 fn buckets_of_no_digests_are_those_of_no_bytes(rt: HostRuntime) -> Result<(), Fail> {
-    let mut site = Site::new(rt.alloc());
-    let buckets = Round::new(rt.alloc(), Version::Two).buckets(rt.alloc(), &mut site)?;
+    let buckets = buckets_of_none(rt.alloc())?;
     equal(buckets.len(), 256, "buckets")?;
     for bucket in buckets.as_slice() {
         let text = bucket.text(rt.alloc())?;
@@ -101,68 +150,103 @@ fn buckets_of_no_digests_are_those_of_no_bytes(rt: HostRuntime) -> Result<(), Fa
     Ok(())
 }
 
+/// Two rounds from a site with an operation to another one: so many digests are offered in each.
+fn become_equal(alloc: Global, a: &mut Site, b: &mut Site) -> Result<(), Fail> {
+    take(alloc, a, OF_STUDY)?;
+    equal(run(alloc, a, b)?, 1, "digests where they differ")?;
+    holds(a.same(b), "both sites")?;
+    equal(run(alloc, a, b)?, 0, "digests where they differ then")
+}
+
 #[test]
 fn a_round_by_buckets_makes_sites_equal(rt: HostRuntime) -> Result<(), Fail> {
-    let mut a = site_of(rt.alloc(), OF_STUDY)?;
+    let mut a = Site::new(rt.alloc());
     let mut b = Site::new(rt.alloc());
-    equal(
-        run(rt.alloc(), &mut a, &mut b)?,
-        1,
-        "digests where they differ",
-    )?;
-    holds(a.same(&b), "both sites")?;
-    equal(
-        run(rt.alloc(), &mut a, &mut b)?,
-        0,
-        "digests where they differ then",
-    )
+    become_equal(rt.alloc(), &mut a, &mut b)
+}
+
+/// What a peer does in a round.
+#[derive(Clone, Copy)]
+enum Step {
+    /// It offers an operation. What is told is how many are asked for.
+    Offers,
+    /// It gives an operation. What is told is `number_of`.
+    Gives,
+}
+
+/// A step with this operation: what is told then, whether the round is finished, and what it is.
+type Row = (Step, &'static [u8], usize, bool, &'static str);
+
+fn told(
+    alloc: Global,
+    round: &mut Round,
+    site: &mut Site,
+    step: Step,
+    text: &[u8],
+) -> Result<usize, Fail> {
+    match step {
+        Step::Offers => asked(alloc, round, site, text),
+        Step::Gives => given(alloc, round, site, text),
+    }
+}
+
+fn are_told(
+    alloc: Global,
+    round: &mut Round,
+    site: &mut Site,
+    rows: &[Row],
+    held: usize,
+) -> Result<(), Fail> {
+    for (step, text, wanted, finished, what) in rows.iter().copied() {
+        equal(told(alloc, round, site, step, text)?, wanted, what)?;
+        holds_at(round.finished() == finished, "whether it is finished", what)?;
+    }
+    equal(operations(site), held, "what is held")
+}
+
+/// A round of some steps, and how many operations the site holds then.
+fn round_of(
+    alloc: Global,
+    version: Version,
+    site: &mut Site,
+    rows: &[Row],
+    held: usize,
+) -> Result<(), Fail> {
+    let mut round = Round::new(alloc, version);
+    are_told(alloc, &mut round, site, rows, held)
+}
+
+/// Such a round of a site that holds nothing.
+fn first_round(alloc: Global, version: Version, rows: &[Row], held: usize) -> Result<(), Fail> {
+    let mut site = Site::new(alloc);
+    round_of(alloc, version, &mut site, rows, held)
 }
 
 #[test]
 fn a_stranger_is_not_taken(rt: HostRuntime) -> Result<(), Fail> {
-    let mut site = Site::new(rt.alloc());
-    let mut round = Round::new(rt.alloc(), Version::Two);
-    equal(
-        given(rt.alloc(), &mut round, &mut site, OF_STUDY)?,
-        3,
-        "unasked",
-    )?;
-    equal(site.counts().operations, 0, "what is held")
+    let rows: [Row; 1] = [(Step::Gives, OF_STUDY, 3, true, "unasked")];
+    first_round(rt.alloc(), Version::Two, &rows, 0)
 }
 
 #[test]
 fn a_give_that_comes_twice_is_known(rt: HostRuntime) -> Result<(), Fail> {
-    let mut site = Site::new(rt.alloc());
-    let mut round = Round::new(rt.alloc(), Version::Two);
-    equal(
-        asked(rt.alloc(), &mut round, &mut site, OF_STUDY)?,
-        1,
-        "asked for",
-    )?;
-    holds(!round.finished(), "before the GIVE")?;
-    equal(
-        given(rt.alloc(), &mut round, &mut site, OF_STUDY)?,
-        0,
-        "the first",
-    )?;
-    equal(
-        given(rt.alloc(), &mut round, &mut site, OF_STUDY)?,
-        10,
-        "the second",
-    )?;
-    holds(round.finished(), "after it")
+    let rows: [Row; 3] = [
+        (Step::Offers, OF_STUDY, 1, false, "asked for"),
+        (Step::Gives, OF_STUDY, 0, true, "the first"),
+        (Step::Gives, OF_STUDY, 10, true, "the second"),
+    ];
+    first_round(rt.alloc(), Version::Two, &rows, 1)
 }
 
 /// Two offers in one round, and what is given for both in the same order.
-fn offered_in_turn(alloc: Global, first: &[u8], second: &[u8]) -> Result<(), Fail> {
-    let mut site = Site::new(alloc);
-    let mut round = Round::new(alloc, Version::Two);
-    equal(asked(alloc, &mut round, &mut site, first)?, 1, "the first")?;
-    equal(asked(alloc, &mut round, &mut site, second)?, 1, "behind it")?;
-    equal(given(alloc, &mut round, &mut site, first)?, 0, "given")?;
-    holds(!round.finished(), "before the other is given")?;
-    equal(given(alloc, &mut round, &mut site, second)?, 0, "the other")?;
-    holds(round.finished(), "after both")
+fn offered_in_turn(alloc: Global, first: &'static [u8], second: &'static [u8]) -> Result<(), Fail> {
+    let rows: [Row; 4] = [
+        (Step::Offers, first, 1, false, "the first"),
+        (Step::Offers, second, 1, false, "behind it"),
+        (Step::Gives, first, 0, false, "given"),
+        (Step::Gives, second, 0, true, "the other"),
+    ];
+    first_round(alloc, Version::Two, &rows, 2)
 }
 
 #[test]
@@ -172,62 +256,52 @@ fn a_second_offer_adds_to_what_is_asked_for(rt: HostRuntime) -> Result<(), Fail>
     offered_in_turn(rt.alloc(), OF_SERIES, OF_STUDY)
 }
 
-#[test]
-fn what_is_held_is_not_asked_for(rt: HostRuntime) -> Result<(), Fail> {
-    let mut site = site_of(rt.alloc(), OF_STUDY)?;
-    let mut round = Round::new(rt.alloc(), Version::Two);
-    equal(
-        asked(rt.alloc(), &mut round, &mut site, OF_STUDY)?,
-        0,
-        "held",
-    )?;
-    equal(
-        asked(rt.alloc(), &mut round, &mut site, OF_SERIES)?,
-        1,
-        "lacked",
-    )
+/// A round of a site that holds one operation, and still holds it alone then.
+fn round_behind(alloc: Global, site: &mut Site, text: &[u8], rows: &[Row]) -> Result<(), Fail> {
+    take(alloc, site, text)?;
+    round_of(alloc, Version::Two, site, rows, 1)
 }
 
 #[test]
-fn version_one_knows_no_corrections_of_series(rt: HostRuntime) -> Result<(), Fail> {
-    let mut site = site_of(rt.alloc(), OF_SERIES)?;
+fn what_is_held_is_not_asked_for(rt: HostRuntime) -> Result<(), Fail> {
+    let rows: [Row; 2] = [
+        (Step::Offers, OF_STUDY, 0, true, "held"),
+        (Step::Offers, OF_SERIES, 1, false, "lacked"),
+    ];
+    let mut site = Site::new(rt.alloc());
+    round_behind(rt.alloc(), &mut site, OF_STUDY, &rows)
+}
+
+/// A correction of a series is offered and given at version 2 alone.
+fn is_of_version_two(alloc: Global, site: &mut Site) -> Result<(), Fail> {
+    take(alloc, site, OF_SERIES)?;
+    equal(offered(alloc, Version::One, site)?, 0, "offered at 1")?;
+    equal(offered(alloc, Version::Two, site)?, 1, "offered at 2")?;
     equal(
-        offered(rt.alloc(), Version::One, &mut site)?,
-        0,
-        "offered at 1",
-    )?;
-    equal(
-        offered(rt.alloc(), Version::Two, &mut site)?,
-        1,
-        "offered at 2",
-    )?;
-    equal(
-        wanted(rt.alloc(), Version::One, &mut site, OF_SERIES)?,
+        wanted(alloc, Version::One, site, OF_SERIES)?,
         0,
         "given at 1",
     )?;
     equal(
-        wanted(rt.alloc(), Version::Two, &mut site, OF_SERIES)?,
+        wanted(alloc, Version::Two, site, OF_SERIES)?,
         1,
         "given at 2",
     )
 }
 
 #[test]
-fn a_series_correction_is_no_frame_of_version_one(rt: HostRuntime) -> Result<(), Fail> {
+fn version_one_knows_no_corrections_of_series(rt: HostRuntime) -> Result<(), Fail> {
     let mut site = Site::new(rt.alloc());
-    let mut round = Round::new(rt.alloc(), Version::One);
-    equal(
-        asked(rt.alloc(), &mut round, &mut site, OF_SERIES)?,
-        1,
-        "asked for",
-    )?;
-    equal(
-        given(rt.alloc(), &mut round, &mut site, OF_SERIES)?,
-        1,
-        "of version 2",
-    )?;
-    equal(site.counts().operations, 0, "what is held")
+    is_of_version_two(rt.alloc(), &mut site)
+}
+
+#[test]
+fn a_series_correction_is_no_frame_of_version_one(rt: HostRuntime) -> Result<(), Fail> {
+    let rows: [Row; 2] = [
+        (Step::Offers, OF_SERIES, 1, false, "asked for"),
+        (Step::Gives, OF_SERIES, 1, false, "of version 2"),
+    ];
+    first_round(rt.alloc(), Version::One, &rows, 0)
 }
 
 #[test]
