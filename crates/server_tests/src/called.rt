@@ -3,11 +3,10 @@
 ghost use Rattle.std.specs.Prelude.{◌≡◌, length, vec_len};
 
 use crate::client::{Answered, Asked};
-use crate::exchanged::{in_memory, opened_again, with_correction};
-use crate::served::{UNENDED, connected, hears_all, open_to_all, titles};
-use archive_server::{Peer, serve_on};
-use assertions::{equal, holds};
-use association_run::OpenGate;
+use crate::exchanged::{hold_the_same, in_memory, with_correction};
+use crate::serving::{Service, UNENDED, accepted, connected, hears_all, open_to_all, serve};
+use archive_server::Peer;
+use assertions::equal;
 use bytes::Bytes;
 use data_set::Syntax;
 use devices::Counted;
@@ -84,43 +83,49 @@ struct Called<'a> {
     shelf: &'a mut Shelf<MemStore>,
 }
 
-/// A client stores an image at the server, which then calls both sites, each more than once: an
-/// offer that was made before the other had answered lacks what that one gave. In the end a client
-/// asks the server for studies. Whoever still calls then hears that nobody answers.
+/// Both sites answer three calls each, in turn: an offer that was made before the other had answered
+/// lacks what that one gave.
+fn answer_both(alloc: Global, here: Called<'_>, there: Called<'_>) -> Result<(), Fail> {
+    let Called {
+        listener,
+        mut site,
+        shelf,
+    } = here;
+    let Called {
+        listener: other_listener,
+        site: mut other,
+        shelf: other_shelf,
+    } = there;
+    for _ in 0..3 {
+        site = answer(alloc, &listener, site, shelf)?;
+        other = answer(alloc, &other_listener, other, other_shelf)?;
+    }
+    Ok(())
+}
+
+/// Each association is answered as it is wanted.
+fn hears(alloc: Global, streams: &[TcpStream], rows: &[(Asked, Answered)]) -> Result<(), Fail> {
+    if hears_all(alloc, streams, rows)? {
+        return Ok(());
+    }
+    Err(Fail::from("an association was answered otherwise"))
+}
+
+/// A client stores an image at the server, which then calls both sites. In the end a client asks
+/// the server for studies, of which it finds none. Whoever still calls then hears that nobody
+/// answers.
 fn answer_all(
     alloc: Global,
     streams: &[TcpStream],
     here: Called<'_>,
     there: Called<'_>,
 ) -> Result<(), Fail> {
-    let Called {
-        listener,
-        site,
-        shelf,
-    } = here;
-    let Called {
-        listener: other_listener,
-        site: other,
-        shelf: other_shelf,
-    } = there;
-    let rows = [
-        (Asked::Store, Answered::Stored),
-        (Asked::Find, Answered::NoRow),
-    ];
     let (storing, asking) = (streams.get(..1), streams.get(1..));
-    if !hears_all(alloc, storing.unwrap_or(&[]), rows.get(..1).unwrap_or(&[]))? {
-        return Err(Fail::from("the image is not stored"));
-    }
-    let mut site = answer(alloc, &listener, site, shelf)?;
-    let mut other = answer(alloc, &other_listener, other, other_shelf)?;
-    for _ in 0..2 {
-        site = answer(alloc, &listener, site, shelf)?;
-        other = answer(alloc, &other_listener, other, other_shelf)?;
-    }
-    if !hears_all(alloc, asking.unwrap_or(&[]), rows.get(1..).unwrap_or(&[]))? {
-        return Err(Fail::from("the rejected image is found"));
-    }
-    Ok(())
+    let stored = [(Asked::Store, Answered::Stored)];
+    hears(alloc, storing.unwrap_or(&[]), stored.as_slice())?;
+    answer_both(alloc, here, there)?;
+    let none = [(Asked::Find, Answered::NoRow)];
+    hears(alloc, asking.unwrap_or(&[]), none.as_slice())
 }
 
 /// Serves with one worker, and calls two peers. It says how many associations were accepted, if
@@ -140,26 +145,19 @@ fn serve_calling<
     requires peers { length peers.now ≡ 2 }
     requires passes { vec_len passes ≡ 3 }
 {
-    let titles = titles(alloc).ok()?;
-    let gates = Vec::from_array(alloc, [OpenGate]).ok()?;
-    let served = serve_on(
-        rt,
-        alloc,
-        open_to_all(listener),
-        None,
-        peers,
-        &titles,
-        gates,
-        2,
-        keeper,
-        passes,
-        shelf,
-        UNENDED,
-    );
-    match served.fault {
-        None => Some(served.accepted),
-        Some(_fault) => None,
-    }
+    let service = Service {
+        entrance: open_to_all(listener),
+        workers: 1,
+        each: 2,
+        manner: UNENDED,
+    };
+    accepted(serve(rt, alloc, service, None, peers, keeper, passes, shelf))
+}
+
+/// Where both sites are called.
+fn addresses(alloc: Global, here: &Called<'_>, there: &Called<'_>) -> Result<[String; 2], Fail> {
+    let (to, also) = (here.listener.local_addr()?, there.listener.local_addr()?);
+    Ok([format!(in alloc; "{to}")?, format!(in alloc; "{also}")?])
 }
 
 /// Serves meanwhile, and calls both sites.
@@ -181,6 +179,7 @@ fn meet<
     requires opening { opened.opening ≡ H.opening }
     requires passes { opened.passes ≡ H.passes }
 {
+    let addresses = addresses(alloc, &here, &there)?;
     let Ok((keeper, passes)) = opened.named::<H>() else {
         return Err(Fail::from("no hub"));
     };
@@ -189,8 +188,6 @@ fn meet<
         return Err(Fail::from("no three passes"));
     }
     let every = Duration::from_millis(1);
-    let (to, also) = (here.listener.local_addr()?, there.listener.local_addr()?);
-    let addresses = [format!(in alloc; "{to}")?, format!(in alloc; "{also}")?];
     let [one, other] = &addresses;
     let peers = [
         Peer {
@@ -213,38 +210,43 @@ fn meet<
     Ok(accepted)
 }
 
+/// A server with this shelf calls two sites, one with a correction and the other with a note, while
+/// a client stores an image. It says how many associations were accepted, if there was no fault.
+fn calls_both<
+    R: Net<Listener = TcpListener, Stream = TcpStream> + Threads + Wait + Clock + Log + Sync,
+>(
+    rt: &R,
+    alloc: Global,
+    ours: &mut Shelf<MemStore>,
+    correcting: &mut Shelf<MemStore>,
+    rejecting: &mut Shelf<MemStore>,
+) -> Result<Option<u64>, Fail> {
+    let listener = TcpListener::bind(rt, "127.0.0.1:0")?;
+    let streams = connected(rt, alloc, &listener, 2)?;
+    let here = Called {
+        listener: TcpListener::bind(rt, "127.0.0.1:0")?,
+        site: with_correction(alloc, correcting)?,
+        shelf: correcting,
+    };
+    let there = Called {
+        listener: TcpListener::bind(rt, "127.0.0.1:0")?,
+        site: with_note(alloc, rejecting)?,
+        shelf: rejecting,
+    };
+    let opened = open(alloc, rt, Site::new(alloc), 1, 3)?;
+    let streams = streams.as_slice();
+    meet::<Brand, R>(rt, alloc, opened, &listener, ours, streams, here, there)
+}
+
 /// An image that is stored at a server, a correction and a rejection note of two sites that it
 /// calls reach all three, and the server then shows the image no more.
 #[test]
 fn a_server_and_the_sites_that_it_calls_have_the_same(rt: HostRuntime) -> Result<(), Fail> {
     let alloc = rt.alloc();
-    let listener = TcpListener::bind(&rt, "127.0.0.1:0")?;
-    let streams = connected(&rt, alloc, &listener, 2)?;
     let mut ours = in_memory(alloc)?;
     let mut correcting = in_memory(alloc)?;
     let mut rejecting = in_memory(alloc)?;
-    let here = Called {
-        listener: TcpListener::bind(&rt, "127.0.0.1:0")?,
-        site: with_correction(alloc, &mut correcting)?,
-        shelf: &mut correcting,
-    };
-    let there = Called {
-        listener: TcpListener::bind(&rt, "127.0.0.1:0")?,
-        site: with_note(alloc, &mut rejecting)?,
-        shelf: &mut rejecting,
-    };
-    let opened = open(alloc, &rt, Site::new(alloc), 1, 3)?;
-    let streams = streams.as_slice();
-    let accepted = meet::<Brand, _>(
-        &rt, alloc, opened, &listener, &mut ours, streams, here, there,
-    )?;
-    equal(accepted, Some(2), "how many were accepted")?;
-    let ours = opened_again(alloc, ours)?;
-    let correcting = opened_again(alloc, correcting)?;
-    let rejecting = opened_again(alloc, rejecting)?;
-    equal(ours.counts().operations, 3, "on the server's shelf")?;
-    holds(
-        ours.same(&correcting) && ours.same(&rejecting),
-        "the shelves hold the same",
-    )
+    let accepted = calls_both(&rt, alloc, &mut ours, &mut correcting, &mut rejecting)?;
+    hold_the_same(alloc, ours, correcting, rejecting, 3)?;
+    equal(accepted, Some(2), "how many were accepted")
 }

@@ -3,10 +3,9 @@
 ghost use Rattle.std.specs.Prelude.{◌≡◌, vec_len};
 
 use crate::client::{Answered, Asked};
-use crate::served::{UNENDED, connected, hears_all, open_to_all, titles};
-use archive_server::{Exchanging, serve_on};
+use crate::serving::{Service, UNENDED, accepted, connected, hears_all, open_to_all, serve};
+use archive_server::Exchanging;
 use assertions::{equal, holds};
-use association_run::OpenGate;
 use bytes::Bytes;
 use devices::Counted;
 use exchange_run::{Ended, Role};
@@ -35,7 +34,7 @@ pub(crate) fn in_memory(alloc: Global) -> Result<Shelf<MemStore>, Fail> {
 }
 
 /// The site that a shelf makes when it is opened again.
-pub(crate) fn opened_again(alloc: Global, shelf: Shelf<MemStore>) -> Result<Site, Fail> {
+fn opened_again(alloc: Global, shelf: Shelf<MemStore>) -> Result<Site, Fail> {
     let mut shelf = Shelf::adopt(alloc, shelf.into_connection())?;
     let mut site = Site::new(alloc);
     for op in shelf.all()? {
@@ -90,7 +89,7 @@ struct Server<'a> {
 }
 
 /// Serves with one worker. It says how many associations were accepted, if there was no fault.
-fn serve<
+fn serve_one<
     H: HubName + Send + Sync,
     R: Net<Listener = TcpListener, Stream = TcpStream> + Threads + Wait + Clock + Log + Sync,
 >(
@@ -103,32 +102,14 @@ fn serve<
 ) -> Option<u64>
     requires two { vec_len passes ≡ 2 }
 {
-    let titles = titles(alloc).ok()?;
-    let gates = Vec::from_array(alloc, [OpenGate]).ok()?;
-    let Server {
-        associations,
-        exchanging,
-        each,
-    } = server;
-    let exchange = Some(exchanging);
-    let served = serve_on(
-        rt,
-        alloc,
-        open_to_all(associations),
-        exchange,
-        &[],
-        &titles,
-        gates,
-        each,
-        keeper,
-        passes,
-        shelf,
-        UNENDED,
-    );
-    match served.fault {
-        None => Some(served.accepted),
-        Some(_fault) => None,
-    }
+    let service = Service {
+        entrance: open_to_all(server.associations),
+        workers: 1,
+        each: server.each,
+        manner: UNENDED,
+    };
+    let exchange = Some(server.exchanging);
+    accepted(serve(rt, alloc, service, exchange, &[], keeper, passes, shelf))
 }
 
 /// A client stores at a server, and then a site exchanges with it twice.
@@ -182,7 +163,7 @@ fn met<
         || stored_and_exchanged(rt, alloc, streams, rows, to, site, theirs),
         || -> Option<u64>
             requires { vec_len passes ≡ 2 }
-        { serve(rt, alloc, server, &keeper, passes, ours) },
+        { serve_one(rt, alloc, server, &keeper, passes, ours) },
     );
     let came = came?;
     Ok((came, accepted))
@@ -197,41 +178,59 @@ pub(crate) fn with_correction(alloc: Global, shelf: &mut Shelf<MemStore>) -> Res
     Ok(site)
 }
 
+/// A server with this shelf takes an image, and exchanges with a site that has a correction. It
+/// says how the exchanges ended, and how many associations were accepted.
+fn exchanges<
+    R: Net<Listener = TcpListener, Stream = TcpStream> + Threads + Wait + Clock + Log + Sync,
+>(
+    rt: &R,
+    alloc: Global,
+    ours: &mut Shelf<MemStore>,
+    theirs: &mut Shelf<MemStore>,
+) -> Result<((Ended, Ended), Option<u64>), Fail> {
+    let listener = TcpListener::bind(rt, "127.0.0.1:0")?;
+    let exchanges = TcpListener::bind(rt, "127.0.0.1:0")?;
+    let streams = connected(rt, alloc, &listener, 1)?;
+    let server = serving(&listener, &exchanges, 1, 2);
+    let rows = [(Asked::Store, Answered::Stored)];
+    let site = with_correction(alloc, theirs)?;
+    let opened = open(alloc, rt, Site::new(alloc), 1, 2)?;
+    met::<Brand, R>(
+        rt,
+        alloc,
+        opened,
+        server,
+        ours,
+        streams.as_slice(),
+        rows.as_slice(),
+        site,
+        theirs,
+    )
+}
+
+/// Whether a shelf that is opened again makes a site that holds the same as another.
+fn makes(alloc: Global, shelf: Shelf<MemStore>, site: &Site) -> Result<bool, Fail> {
+    Ok(site.same(&opened_again(alloc, shelf)?))
+}
+
 /// A server has an image, and a site a correction: afterwards both have both, also on their
 /// shelves.
 #[test]
 fn a_site_that_exchanges_with_a_server_has_what_it_has(rt: HostRuntime) -> Result<(), Fail> {
     let alloc = rt.alloc();
-    let listener = TcpListener::bind(&rt, "127.0.0.1:0")?;
-    let exchanges = TcpListener::bind(&rt, "127.0.0.1:0")?;
-    let streams = connected(&rt, alloc, &listener, 1)?;
     let mut ours = in_memory(alloc)?;
     let mut theirs = in_memory(alloc)?;
-    let site = with_correction(alloc, &mut theirs)?;
-    let server = serving(&listener, &exchanges, 1, 2);
-    let opened = open(alloc, &rt, Site::new(alloc), 1, 2)?;
-    let rows = [(Asked::Store, Answered::Stored)];
-    let came = met::<Brand, _>(
-        &rt,
-        alloc,
-        opened,
-        server,
-        &mut ours,
-        streams.as_slice(),
-        rows.as_slice(),
-        site,
-        &mut theirs,
-    )?;
+    let came = exchanges(&rt, alloc, &mut ours, &mut theirs)?;
+    let ours = opened_again(alloc, ours)?;
+    let is_same = makes(alloc, theirs, &ours)?;
     let all = ((ended(1, 1), ended(0, 0)), Some(1));
     equal(
         came,
         all,
         "the exchanges, and how many associations were accepted",
     )?;
-    let ours = opened_again(alloc, ours)?;
-    let theirs = opened_again(alloc, theirs)?;
     equal(ours.counts().operations, 2, "on the server's shelf")?;
-    holds(ours.same(&theirs), "the shelves hold the same")
+    holds(is_same, "the shelves hold the same")
 }
 
 /// What an exchange comes to that gives so many operations and takes so many, and is finished.
@@ -337,10 +336,10 @@ fn with_both<
                 rt,
                 || -> Option<u64>
                     requires { vec_len passes ≡ 2 }
-                { serve(rt, alloc, first, keeper, passes, shelf) },
+                { serve_one(rt, alloc, first, keeper, passes, shelf) },
                 || -> Option<u64>
                     requires { vec_len others ≡ 2 }
-                { serve(rt, alloc, second, &other_keeper, others, other_shelf) },
+                { serve_one(rt, alloc, second, &other_keeper, others, other_shelf) },
             )
         },
     );
@@ -387,43 +386,61 @@ fn visited<
     )
 }
 
-/// Two servers that take stores while a site exchanges with both: in the end all three have all.
-#[test]
-fn servers_that_exchange_while_they_take_stores_have_the_same(rt: HostRuntime) -> Result<(), Fail> {
-    let alloc = rt.alloc();
-    let here = TcpListener::bind(&rt, "127.0.0.1:0")?;
-    let there = TcpListener::bind(&rt, "127.0.0.1:0")?;
-    let first = TcpListener::bind(&rt, "127.0.0.1:0")?;
-    let second = TcpListener::bind(&rt, "127.0.0.1:0")?;
-    let at_first = connected(&rt, alloc, &here, 2)?;
-    let at_second = connected(&rt, alloc, &there, 2)?;
-    let mut one = in_memory(alloc)?;
-    let mut other = in_memory(alloc)?;
-    let mut relay = in_memory(alloc)?;
+/// Two servers take stores while a site exchanges with both. It says how many operations were new
+/// to the site, and how many associations each server accepted.
+fn visits<R: Net<Listener = TcpListener, Stream = TcpStream> + Threads + Wait + Clock + Log + Sync>(
+    rt: &R,
+    alloc: Global,
+    relay: &mut Shelf<MemStore>,
+    one: &mut Shelf<MemStore>,
+    other: &mut Shelf<MemStore>,
+) -> Result<(u64, (Option<u64>, Option<u64>)), Fail> {
+    let here = TcpListener::bind(rt, "127.0.0.1:0")?;
+    let there = TcpListener::bind(rt, "127.0.0.1:0")?;
+    let first = TcpListener::bind(rt, "127.0.0.1:0")?;
+    let second = TcpListener::bind(rt, "127.0.0.1:0")?;
+    let at_first = connected(rt, alloc, &here, 2)?;
+    let at_second = connected(rt, alloc, &there, 2)?;
     let visit = Visit {
         first: serving(&here, &first, 2, 3),
         second: serving(&there, &second, 2, 2),
         here: at_first.as_slice(),
         there: at_second.as_slice(),
     };
-    let opened = open(alloc, &rt, Site::new(alloc), 1, 2)?;
-    let also = open(alloc, &rt, Site::new(alloc), 2, 2)?;
-    let taken = visited::<Brand, _>(
-        &rt, alloc, visit, &mut relay, opened, &mut one, also, &mut other,
-    )?;
+    let opened = open(alloc, rt, Site::new(alloc), 1, 2)?;
+    let also = open(alloc, rt, Site::new(alloc), 2, 2)?;
+    visited::<Brand, R>(rt, alloc, visit, relay, opened, one, also, other)
+}
+
+/// Three shelves make sites that hold the same, so many operations.
+pub(crate) fn hold_the_same(
+    alloc: Global,
+    ours: Shelf<MemStore>,
+    one: Shelf<MemStore>,
+    other: Shelf<MemStore>,
+    count: usize,
+) -> Result<(), Fail> {
+    let ours = opened_again(alloc, ours)?;
+    let is_one = makes(alloc, one, &ours)?;
+    let is_other = makes(alloc, other, &ours)?;
+    equal(ours.counts().operations, count, "on a server's shelf")?;
+    holds(is_one && is_other, "the shelves hold the same")
+}
+
+/// Two servers that take stores while a site exchanges with both: in the end all three have all.
+#[test]
+fn servers_that_exchange_while_they_take_stores_have_the_same(rt: HostRuntime) -> Result<(), Fail> {
+    let alloc = rt.alloc();
+    let mut one = in_memory(alloc)?;
+    let mut other = in_memory(alloc)?;
+    let mut relay = in_memory(alloc)?;
+    let taken = visits(&rt, alloc, &mut relay, &mut one, &mut other)?;
+    hold_the_same(alloc, one, other, relay, 2)?;
     let all = (2, (Some(2), Some(2)));
     equal(
         taken,
         all,
         "what was new to the relay, and how many were accepted",
-    )?;
-    let one = opened_again(alloc, one)?;
-    let other = opened_again(alloc, other)?;
-    let relay = opened_again(alloc, relay)?;
-    equal(one.counts().operations, 2, "on a server's shelf")?;
-    holds(
-        one.same(&other) && one.same(&relay),
-        "the shelves hold the same",
     )
 }
 

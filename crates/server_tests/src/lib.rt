@@ -14,4 +14,6 @@ mod held;
 #[cfg(test)]
 mod served;
 #[cfg(test)]
+mod serving;
+#[cfg(test)]
 mod shelves;

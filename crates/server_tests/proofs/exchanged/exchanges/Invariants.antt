@@ -1,4 +1,4 @@
-use Rattle.server_tests.proofs.exchanged.a_site_that_exchanges_with_a_server_has_what_it_has.Given as goal
+use Rattle.server_tests.proofs.exchanged.exchanges.Given as goal
 
 -- the hub that was just opened
 abbrev pub ghosts-met : goal.ghosts-met

@@ -1,4 +1,4 @@
-use Rattle.server_tests.proofs.exchanged.servers_that_exchange_while_they_take_stores_have_the_same.Given as goal
+use Rattle.server_tests.proofs.exchanged.visits.Given as goal
 
 -- the hub that was just opened
 abbrev pub ghosts-visited : goal.ghosts-visited

@@ -1,4 +1,4 @@
-use Rattle.server_tests.proofs.served.a_peer_from_elsewhere_is_turned_away.Given as goal
+use Rattle.server_tests.proofs.serving.served.Given as goal
 
 -- the hub that was just opened
 abbrev pub ghosts-run : goal.ghosts-run

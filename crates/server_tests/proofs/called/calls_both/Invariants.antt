@@ -1,4 +1,4 @@
-use Rattle.server_tests.proofs.called.a_server_and_the_sites_that_it_calls_have_the_same.Given as goal
+use Rattle.server_tests.proofs.called.calls_both.Given as goal
 
 -- the hub that was just opened
 abbrev pub ghosts-meet : goal.ghosts-meet
