@@ -1,4 +1,4 @@
-//! Tests of texts, data sets and operations.
+//! Tests of texts, data sets and operations, and of the shelves that keep operations on disk.
 //!
 //! They stand in a crate of their own, so that no crate is proved once more with its tests.
 #![tactic(auto)]
@@ -9,5 +9,7 @@ mod asserted;
 mod data_sets;
 #[cfg(test)]
 mod operations;
+#[cfg(test)]
+mod shelf;
 #[cfg(test)]
 mod texts;

@@ -1,6 +1,6 @@
 //! Databases with the table that a shelf had first, and with others.
 
-use crate::made::{OLDER, all, count, counters, put_older, run};
+use crate::shelf::made::{OLDER, all, count, counters, put_older, run};
 use assertions::{equal, equal_at};
 use op_shelf::{Shelf, ShelfFault, make_ready};
 use sqlite::{Connection, MemStore};

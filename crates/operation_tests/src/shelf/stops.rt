@@ -1,6 +1,6 @@
 //! Shelves over disks that stop at some call, opened again.
 
-use crate::made::{OLDER, counters, keep, op, put, put_older, run};
+use crate::shelf::made::{OLDER, counters, keep, op, put, put_older, run};
 use assertions::holds_at;
 use op_shelf::{Shelf, make_ready};
 use sqlite::{Alter, Connection, FileStore, Files, Options};

@@ -1,6 +1,6 @@
 //! Shelves in memory.
 
-use crate::made::{all, count, op, put, run};
+use crate::shelf::made::{all, count, op, put, run};
 use assertions::{equal, equal_at, holds, holds_at};
 use op_shelf::{Keep, Kept, Shelf, ShelfFault};
 use operation::{Digested, digest};

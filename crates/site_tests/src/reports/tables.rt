@@ -1,6 +1,6 @@
 //! The tables of a small site, and of one that holds nothing.
 
-use crate::made::{site_of, told};
+use crate::reports::made::{site_of, told};
 use assertions::{equal, equal_at};
 use site_state::Site;
 use site_tables::Table;
