@@ -83,8 +83,8 @@ struct Called<'a> {
     shelf: &'a mut Shelf<MemStore>,
 }
 
-/// Both sites answer three calls each, in turn: an offer that was made before the other had answered
-/// lacks what that one gave.
+/// Both sites answer three calls each, in turn: an offer that was made before the other had
+/// answered lacks what that one gave.
 fn answer_both(alloc: Global, here: Called<'_>, there: Called<'_>) -> Result<(), Fail> {
     let Called {
         listener,
