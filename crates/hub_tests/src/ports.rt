@@ -17,7 +17,6 @@ use operation::{Target, digest};
 use site_hub::{HubName, Keeper, Pass, Snapshot, correct};
 use std::alloc::Global;
 use std::marker::Brand;
-use std::process::Abort;
 use std::sync::atomic::{AtomicU64, Ordering};
 use std::sync::{Mutex, Wait};
 use std::test::*;
@@ -173,7 +172,17 @@ impl<'a, 'k, H: HubName, R: Wait> Gate for Rename<'a, 'k, H, R> {
 
 /// An image is stored, found under its name, found and sent under the name that its study is given
 /// between, all in one association.
-pub fn renames<H: HubName, R: Wait + Abort>(
+pub fn renames<H: HubName, R: Wait>(
+    rt: &R,
+    alloc: Global,
+    keeper: Shared<'_, H, R>,
+    one: Pass<H>,
+    mut two: Pass<H>,
+) -> Result<(), Fail> {
+    is_renamed(rt, alloc, &keeper, one, &mut two)
+}
+
+fn is_renamed<H: HubName, R: Wait>(
     rt: &R,
     alloc: Global,
     keeper: &Shared<'_, H, R>,
@@ -200,7 +209,17 @@ pub fn renames<H: HubName, R: Wait + Abort>(
 }
 
 /// Two hundred images are stored and looked for in one association, while another pass looks.
-pub fn associates<H: HubName, R: Wait + Abort>(
+pub fn associates<H: HubName, R: Wait>(
+    rt: &R,
+    alloc: Global,
+    keeper: Shared<'_, H, R>,
+    one: Pass<H>,
+    mut two: Pass<H>,
+) -> Result<(), Fail> {
+    is_associated(rt, alloc, &keeper, one, &mut two)
+}
+
+fn is_associated<H: HubName, R: Wait>(
     rt: &R,
     alloc: Global,
     keeper: &Shared<'_, H, R>,
@@ -233,7 +252,17 @@ pub fn associates<H: HubName, R: Wait + Abort>(
 }
 
 /// An image of 33 MiB is stored whole by one association, which finds it, as another pass does.
-pub fn stores_large<H: HubName, R: Wait + Abort>(
+pub fn stores_large<H: HubName, R: Wait>(
+    rt: &R,
+    alloc: Global,
+    keeper: Shared<'_, H, R>,
+    one: Pass<H>,
+    mut two: Pass<H>,
+) -> Result<(), Fail> {
+    is_stored_whole(rt, alloc, &keeper, one, &mut two)
+}
+
+fn is_stored_whole<H: HubName, R: Wait>(
     rt: &R,
     alloc: Global,
     keeper: &Shared<'_, H, R>,
@@ -263,15 +292,18 @@ pub fn stores_large<H: HubName, R: Wait + Abort>(
     holds(one.missing(&[digest])?.is_empty(), "all its bytes are held")
 }
 
-/// An association is held within its store; a second one stores and finds; then the first goes on.
-/// The entry of the second stands before that of the first in the log of the closed hub.
-pub fn is_held<H: HubName + Send + Sync, R: Threads + Wait + Abort + Sync>(
+/// What comes of an association: its pass, how it ended, and its line.
+type Associated<H> = (Pass<H>, Option<End>, Line);
+
+/// Two associations, each of which stores an image and looks for all. The first is held within its
+/// store until the find of the second is answered.
+fn both<H: HubName + Send + Sync, R: Threads + Wait + Sync>(
     rt: &R,
     alloc: Global,
-    keeper: Shared<'_, H, R>,
+    keeper: &Shared<'_, H, R>,
     one: Pass<H>,
     two: Pass<H>,
-) -> Result<(), Fail> {
+) -> Result<(Associated<H>, Associated<H>), Fail> {
     let word = AtomicU64::new(0);
     let mut later = line_of(alloc, asked(alloc, 1, 1)?.as_slice())?;
     let mut sooner = line_of(alloc, asked(alloc, 2, 1)?.as_slice())?;
@@ -285,11 +317,14 @@ pub fn is_held<H: HubName + Send + Sync, R: Threads + Wait + Abort + Sync>(
     };
     let (first, second) = join(
         rt,
-        || serve(rt, alloc, &keeper, one, &mut later, &mut held),
-        || serve(rt, alloc, &keeper, two, &mut sooner, &mut frees),
+        || serve(rt, alloc, keeper, one, &mut later, &mut held),
+        || serve(rt, alloc, keeper, two, &mut sooner, &mut frees),
     );
-    equal(first.1, Some(End::Released), "the end of the first")?;
-    equal(second.1, Some(End::Released), "the end of the second")?;
+    Ok(((first.0, first.1, later), (second.0, second.1, sooner)))
+}
+
+/// The second of two associations found its own image alone, and the first both.
+fn hear_both(alloc: Global, later: &Line, sooner: &Line) -> Result<(), Fail> {
     let wanted = answered(alloc, 2, 1, 0)?;
     equal(
         sooner.store.as_slice(),
@@ -301,8 +336,23 @@ pub fn is_held<H: HubName + Send + Sync, R: Threads + Wait + Abort + Sync>(
         later.store.as_slice(),
         wanted.as_slice(),
         "the first finds both",
-    )?;
-    let (_site, log) = closed(keeper, vec![in alloc; first.0, second.0]?)?;
+    )
+}
+
+/// An association is held within its store; a second one stores and finds; then the first goes on.
+/// The entry of the second stands before that of the first in the log of the closed hub.
+pub fn is_held<H: HubName + Send + Sync, R: Threads + Wait + Sync>(
+    rt: &R,
+    alloc: Global,
+    keeper: Shared<'_, H, R>,
+    one: Pass<H>,
+    two: Pass<H>,
+) -> Result<(), Fail> {
+    let ((one, first, later), (two, second, sooner)) = both(rt, alloc, &keeper, one, two)?;
+    let (_, log) = closed(keeper, vec![in alloc; one, two]?)?;
+    hear_both(alloc, &later, &sooner)?;
+    let released = Some(End::Released);
+    equal((first, second), (released, released), "how both end")?;
     let [sooner, later] = log.as_slice() else {
         return Err(Fail::from("two entries"));
     };

@@ -1,4 +1,4 @@
-use Rattle.hub_tests.proofs.refusals.a_counter_that_is_pending_is_not_used_again.Given as goal
+use Rattle.hub_tests.proofs.hubs.tried.Given as goal
 
 -- the hub that was just opened
 abbrev pub ghosts-run : goal.ghosts-run
