@@ -182,6 +182,7 @@ pub fn renames<H: HubName, R: Wait>(
     is_renamed(rt, alloc, &keeper, one, &mut two)
 }
 
+/// The same with a hub and a second pass that are lent.
 fn is_renamed<H: HubName, R: Wait>(
     rt: &R,
     alloc: Global,
@@ -219,6 +220,7 @@ pub fn associates<H: HubName, R: Wait>(
     is_associated(rt, alloc, &keeper, one, &mut two)
 }
 
+/// The same with a hub and a second pass that are lent.
 fn is_associated<H: HubName, R: Wait>(
     rt: &R,
     alloc: Global,
@@ -262,6 +264,7 @@ pub fn stores_large<H: HubName, R: Wait>(
     is_stored_whole(rt, alloc, &keeper, one, &mut two)
 }
 
+/// The same with a hub and a second pass that are lent.
 fn is_stored_whole<H: HubName, R: Wait>(
     rt: &R,
     alloc: Global,
