@@ -4,7 +4,6 @@ use Rattle.std.proofs.Common.{Err, refl, sym, ap, subst, ◌∙◌, ◌⊎◌, i
 use Rattle.std.specs.Prelude.{not, if◌then◌else◌}
 use Rattle.std.specs.Coded.{Coded-set}
 use Rattle.std.proofs.Math.Logic.{∥∥₁_elim}
-use Rattle.dictionary.specs.declared.elements.TheConstants.{SOP_CLASS_UID, SOP_INSTANCE_UID}
 use Rattle.octets.specs.Gives.{Tells, Told, Gives}
 use Rattle.octets.proofs.ByteLaws.{tells_map}
 use Rattle.data_set.specs.Tree.{Tree}
@@ -20,9 +19,9 @@ use Rattle.operation.specs.declared.fault.OpFault.TheVariants.{NoUid, Mismatch, 
 use Rattle.operation.specs.declared.fault.OpFault.TheVariants.{UnknownKind, Memory, Shape}
 use Rattle.operation.specs.Code.{content_code}
 use Rattle.operation.specs.Fault.{is_memory, fault_of_note}
-use Rattle.operation.specs.Parts.{ContentParts, value_at, value_or_empty}
+use Rattle.operation.specs.Parts.{ContentParts}
 use Rattle.operation.specs.Contents.{offence, has_uids, names_itself, note_offence, Describes, IsContent, IsRefused}
-use Rattle.operation.specs.Contents.{IsShort, IsOutcome, SpellsNothing, Offends, values_in, draft_of, longest}
+use Rattle.operation.specs.Contents.{IsShort, IsOutcome, SpellsNothing, Offends, values_in, draft_of, kept_of, longest}
 use Rattle.operation.proofs.KeyValueLaws.{kept_names}
 
 -- ---- what offends
@@ -78,17 +77,6 @@ made c elements short spelled uids names said values =
         note = said;
       },
     ) ∣₁
-
--- what is kept of a draft: its class and its instance are among the values
-abbrev pub kept_of : Draft → List (ℕ × List ℕ) → Option Note → ContentParts
-kept_of draft values note = record {
-  class = value_or_empty (value_at SOP_CLASS_UID values);
-  instance = value_or_empty (value_at SOP_INSTANCE_UID values);
-  syntax = draft.syntax;
-  body = draft.body;
-  values = values;
-  note = note;
-}
 
 -- What is kept of a draft whose elements, as they were seen, passed each test is its outcome.
 pub kept_is_outcome : (draft : Draft) (elements seen : List Tree) (values : List (ℕ × List ℕ)) (note : Option Note)

@@ -22,7 +22,7 @@ use Rattle.rejection_note.specs.Notes.{note_in}
 use Rattle.operation.specs.declared.draft.Draft.{Draft}
 use Rattle.operation.specs.declared.fault.OpFault.{OpFault}
 use Rattle.operation.specs.declared.fault.OpFault.TheVariants.{NoUid, Mismatch, BadSet, BadNote, TooLong}
-use Rattle.operation.specs.Parts.{ContentParts}
+use Rattle.operation.specs.Parts.{ContentParts, value_at, value_or_empty}
 
 -- the most bytes of a data set
 abbrev pub longest : ℕ
@@ -85,6 +85,17 @@ offence draft elements =
 
 abbrev pub draft_of : ContentParts → Draft
 draft_of c = record { class = c.class; instance = c.instance; syntax = c.syntax; body = c.body }
+
+-- what is kept of a draft: its class and its instance are among the values
+abbrev pub kept_of : Draft → List (ℕ × List ℕ) → Option Note → ContentParts
+kept_of draft values note = record {
+  class = value_or_empty (value_at SOP_CLASS_UID values);
+  instance = value_or_empty (value_at SOP_INSTANCE_UID values);
+  syntax = draft.syntax;
+  body = draft.body;
+  values = values;
+  note = note;
+}
 
 -- These are the elements of a content.
 pub record Describes (elements : List Tree) (content : ContentParts) : Type 0 where

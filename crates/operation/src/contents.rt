@@ -4,19 +4,20 @@ ghost use Rattle.std.specs.Prelude.{◌≡◌, Ok, Err, IfOk, IfErr};
 ghost use Rattle.octets.specs.Gives.{Tells, Told, Gives};
 ghost use Rattle.octets.specs.Padding.{without_padding};
 ghost use Rattle.data_set.specs.Lengths.{FitsTrees};
+ghost use Rattle.data_set.specs.Texts.{Spells};
 ghost use Rattle.data_set.specs.Tree.{trees_of};
 ghost use Rattle.data_set.specs.Values.{value_in};
 ghost use Rattle.operation.specs.declared.fault.OpFault.{OpFault};
 ghost use Rattle.operation.specs.Fault.{is_memory};
 ghost use Rattle.operation.specs.Parts.{ContentParts};
-ghost use Rattle.operation.specs.Contents.{has_uids, names_itself, is_uid_value, is_value, values_in, IsOutcome, IsContent, IsRefused, draft_of, drafted};
+ghost use Rattle.operation.specs.Contents.{has_uids, names_itself, is_uid_value, is_value, values_in, IsOutcome, IsContent, IsRefused, IsShort, draft_of, drafted, kept_of};
 
 use crate::content::{Content, Stored};
 use crate::draft::Draft;
 use crate::fault::OpFault;
 use crate::key_values::{KeyValues, values_under};
 use bytes::Bytes;
-use data_set::{Element, Syntax, read, value_of};
+use data_set::{DataSet, Element, Syntax, read, value_of};
 use dictionary::{
     ACCESSION_NUMBER, INSTANCE_NUMBER, MODALITY, PATIENT_BIRTH_DATE, PATIENT_ID, PATIENT_NAME,
     PATIENT_SEX, REFERRING_PHYSICIAN_NAME, SERIES_DESCRIPTION, SERIES_INSTANCE_UID, SERIES_NUMBER,
@@ -24,7 +25,7 @@ use dictionary::{
     STUDY_ID, STUDY_INSTANCE_UID, STUDY_TIME,
 };
 use octets::{LONGEST_DATA_SET, Octets, is_uid, without_padding};
-use rejection_note::note_of;
+use rejection_note::{Note, note_of};
 use std::alloc::{AllocError, Global};
 use std::sync::Arc;
 
@@ -95,23 +96,44 @@ fn is_named_so(draft: &Draft, elements: &[Element]) -> bool
         && has_value(elements, SOP_INSTANCE_UID, draft.instance.as_slice())
 }
 
-/// The content of a draft. Its data set is read once.
-pub fn content_from(alloc: Global, draft: Draft) -> Result<Content, OpFault>
-    ensures { Tells is_memory (λ content. content) result (IsOutcome draft) }
+/// What a content keeps of the elements of a draft's data set, where nothing in them offends.
+fn kept_of_set(
+    alloc: Global,
+    draft: &Draft,
+    set: &DataSet,
+) -> Result<(KeyValues, Option<Note>), OpFault>
+    requires short { IsShort draft.now }
+    requires spelled { Spells draft.now.syntax draft.now.body set.now.elements }
+    ensures { Tells is_memory (λ x. kept_of draft.now x.0 x.1) result (IsOutcome draft.now) }
+{
+    let elements = set.elements();
+    if !has_all_uids(draft, elements) {
+        return Err(OpFault::NoUid);
+    }
+    if !is_named_so(draft, elements) {
+        return Err(OpFault::Mismatch);
+    }
+    let note = note_of(alloc, draft.class.as_slice(), set)?;
+    let values = key_values(alloc, elements)?;
+    Ok((values, note))
+}
+
+/// The same of a draft. Its data set is read once.
+fn kept_of_draft(alloc: Global, draft: &Draft) -> Result<(KeyValues, Option<Note>), OpFault>
+    ensures { Tells is_memory (λ x. kept_of draft.now x.0 x.1) result (IsOutcome draft.now) }
 {
     if draft.body.len() > LONGEST_DATA_SET {
         return Err(OpFault::TooLong);
     }
     let set = read(alloc, draft.syntax, draft.body.as_slice())?;
-    let elements = set.elements();
-    if !has_all_uids(&draft, elements) {
-        return Err(OpFault::NoUid);
-    }
-    if !is_named_so(&draft, elements) {
-        return Err(OpFault::Mismatch);
-    }
-    let note = note_of(alloc, draft.class.as_slice(), &set)?;
-    let values = key_values(alloc, elements)?;
+    kept_of_set(alloc, draft, &set)
+}
+
+/// The content of a draft.
+pub fn content_from(alloc: Global, draft: Draft) -> Result<Content, OpFault>
+    ensures { Tells is_memory (λ content. content) result (IsOutcome draft) }
+{
+    let (values, note) = kept_of_draft(alloc, &draft)?;
     let Draft { syntax, body, .. } = draft;
     let stored = Stored {
         syntax,

@@ -130,6 +130,14 @@ fn draft_of(alloc: Global, mut text: Bytes) -> Result<Draft, OpFault>
     })
 }
 
+/// A key, copied.
+fn key_from(alloc: Global, text: &[u8]) -> Result<(Octets, &[u8]), OpFault>
+    ensures { Gives is_memory (λ x. (x.0, x.1.now)) result (short_at text.now) }
+{
+    let (key, rest) = short_of(text)?;
+    Ok((Octets::from_slice(alloc, key)?, rest))
+}
+
 /// The kind of a correction, and its target.
 #[tactic(auto, unfolding(crate::specs::Reading::target_at))]
 fn target_of(alloc: Global, text: &[u8]) -> Result<(Target, &[u8]), OpFault>
@@ -137,16 +145,16 @@ fn target_of(alloc: Global, text: &[u8]) -> Result<(Target, &[u8]), OpFault>
 {
     match text {
         [2, 1, rest @ ..] => {
-            let (key, rest) = short_of(rest)?;
-            Ok((Target::Study(Octets::from_slice(alloc, key)?), rest))
+            let (key, rest) = key_from(alloc, rest)?;
+            Ok((Target::Study(key), rest))
         }
         [2, 2, rest @ ..] => {
-            let (key, rest) = short_of(rest)?;
-            Ok((Target::Patient(Octets::from_slice(alloc, key)?), rest))
+            let (key, rest) = key_from(alloc, rest)?;
+            Ok((Target::Patient(key), rest))
         }
         [3, rest @ ..] => {
-            let (key, rest) = short_of(rest)?;
-            Ok((Target::Series(Octets::from_slice(alloc, key)?), rest))
+            let (key, rest) = key_from(alloc, rest)?;
+            Ok((Target::Series(key), rest))
         }
         _ => Err(OpFault::Shape),
     }
