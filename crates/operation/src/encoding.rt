@@ -23,8 +23,7 @@ fn put_short(out: &mut Vec<u8>, bytes: &[u8]) -> Result<(), AllocError>
     ensures { OnOk result (out.new.items ≡ out.old.items ++ short_text bytes.now) }
 {
     out.push(bytes.len() as u8)?;
-    out.extend_from_slice(bytes)?;
-    Ok(())
+    out.extend_from_slice(bytes)
 }
 
 fn put_content(out: &mut Vec<u8>, content: &Content) -> Result<(), AllocError>
@@ -40,8 +39,16 @@ fn put_content(out: &mut Vec<u8>, content: &Content) -> Result<(), AllocError>
     put_short(out, content.instance())?;
     out.push(syntax)?;
     out.extend_from_slice(&(body.len() as u32).to_be_bytes())?;
-    out.extend_from_slice(body)?;
-    Ok(())
+    out.extend_from_slice(body)
+}
+
+/// A key behind what tells its kind.
+fn put_under(out: &mut Vec<u8>, kind: &[u8], key: &[u8]) -> Result<(), AllocError>
+    requires { length key.now ≤ 64 }
+    ensures { OnOk result (out.new.items ≡ out.old.items ++ (kind.now ++ short_text key.now)) }
+{
+    out.extend_from_slice(kind)?;
+    put_short(out, key)
 }
 
 /// The kind of a correction, and its target.
@@ -50,18 +57,9 @@ fn put_target(out: &mut Vec<u8>, target: &Target) -> Result<(), AllocError>
     ensures { OnOk result (out.new.items ≡ out.old.items ++ target_text target.now) }
 {
     match target {
-        Target::Study(key) => {
-            out.extend_from_slice(&[2, 1])?;
-            put_short(out, key.as_slice())
-        }
-        Target::Patient(key) => {
-            out.extend_from_slice(&[2, 2])?;
-            put_short(out, key.as_slice())
-        }
-        Target::Series(key) => {
-            out.push(3)?;
-            put_short(out, key.as_slice())
-        }
+        Target::Study(key) => put_under(out, &[2, 1], key.as_slice()),
+        Target::Patient(key) => put_under(out, &[2, 2], key.as_slice()),
+        Target::Series(key) => put_under(out, &[3], key.as_slice()),
     }
 }
 
@@ -77,8 +75,7 @@ fn put_correction(out: &mut Vec<u8>, correction: &Correction) -> Result<(), Allo
     out.extend_from_slice(&(value.len() as u16).to_be_bytes())?;
     out.extend_from_slice(value)?;
     out.extend_from_slice(&stamp.counter.to_be_bytes())?;
-    out.extend_from_slice(&stamp.site.to_be_bytes())?;
-    Ok(())
+    out.extend_from_slice(&stamp.site.to_be_bytes())
 }
 
 /// The bytes of an operation, the same at every site. Those of a data set are copied.
