@@ -24,15 +24,13 @@ fn put_pair(out: &mut Vec<u8>, a: u8, b: u8, size: u32) -> Result<(), AllocError
     ensures { OnOk result (out.new.items ≡
         out.old.items ++ head_of (Some (a ∷ b ∷ [])) size) }
 {
-    out.push(a)?;
-    out.push(b)?;
     if has_short_length(a, b) {
-        out.extend_from_slice(&(size as u16).to_le_bytes())?;
+        let [c, d] = (size as u16).to_le_bytes();
+        out.extend_from_slice(&[a, b, c, d])
     } else {
-        out.extend_from_slice(&[0x00, 0x00])?;
-        out.extend_from_slice(&size.to_le_bytes())?;
+        let [c, d, e, f] = size.to_le_bytes();
+        out.extend_from_slice(&[a, b, 0x00, 0x00, c, d, e, f])
     }
-    Ok(())
 }
 
 /// Puts what stands between a tag and a value at the end.
