@@ -17,14 +17,30 @@ use dictionary::{
 use octets::Octets;
 use std::alloc::{AllocError, Global};
 
+/// Appends bytes.
+fn put(out: &mut Vec<u8>, bytes: &[u8]) -> Result<(), AllocError>
+    ensures { OnOk result (out.new.items ≡ out.old.items ++ bytes.now) }
+{
+    out.extend_from_slice(bytes)
+}
+
 /// Appends what stands before the value of an element.
 fn put_header(out: &mut Vec<u8>, tag: u32, size: u32) -> Result<(), AllocError>
     ensures { OnOk result (out.new.items
         ≡ out.old.items ++ (tag_text tag ++ to_le_bytes w32 size)) }
 {
     put_tag(out, tag)?;
-    out.extend_from_slice(&size.to_le_bytes())?;
-    Ok(())
+    put(out, &size.to_le_bytes())
+}
+
+/// Appends an element.
+fn put_element(out: &mut Vec<u8>, tag: u32, value: &[u8]) -> Result<(), AllocError>
+    requires { length value.now < 2 ^ 32 }
+    ensures { OnOk result (out.new.items
+        ≡ out.old.items ++ text_of (field_elements tag (Some value.now))) }
+{
+    put_header(out, tag, value.len() as u32)?;
+    put(out, value)
 }
 
 /// Appends the element of a number, where there is one.
@@ -33,12 +49,10 @@ fn put_number(out: &mut Vec<u8>, tag: u32, number: Option<u16>) -> Result<(), Al
         ≡ out.old.items ++ text_of (field_elements tag (number_field number))) }
     ensures fits { IfSome number (λ n. n < 2 ^ 16) }
 {
-    let Some(number) = number else {
-        return Ok(());
-    };
-    put_header(out, tag, 2)?;
-    out.extend_from_slice(&number.to_le_bytes())?;
-    Ok(())
+    match number {
+        None => Ok(()),
+        Some(number) => put_element(out, tag, &number.to_le_bytes()),
+    }
 }
 
 /// Appends the element of a UID, with a 00 behind it where its length is odd.
@@ -48,14 +62,11 @@ fn put_padded(out: &mut Vec<u8>, tag: u32, uid: &[u8]) -> Result<(), AllocError>
         ≡ out.old.items ++ text_of (field_elements tag (Some (padded uid.now)))) }
 {
     if uid.len() % 2 == 0 {
-        put_header(out, tag, uid.len() as u32)?;
-        out.extend_from_slice(uid)?;
-        return Ok(());
+        return put_element(out, tag, uid);
     }
     put_header(out, tag, (uid.len() + 1) as u32)?;
-    out.extend_from_slice(uid)?;
-    out.push(0)?;
-    Ok(())
+    put(out, uid)?;
+    put(out, &[0])
 }
 
 /// Appends the element of a UID, where there is one.
@@ -101,9 +112,9 @@ fn spell(alloc: Global, command: &Command) -> Result<Vec<u8>, AllocError>
     put_fields(&mut fields, command)?;
     let counted = fields.as_slice();
     let mut text = Vec::new(alloc);
-    put_header(&mut text, COMMAND_GROUP_LENGTH, 4)?;
-    text.extend_from_slice(&(counted.len() as u32).to_le_bytes())?;
-    text.extend_from_slice(counted)?;
+    let size = (counted.len() as u32).to_le_bytes();
+    put_element(&mut text, COMMAND_GROUP_LENGTH, &size)?;
+    put(&mut text, counted)?;
     Ok(text)
 }
 
