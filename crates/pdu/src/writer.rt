@@ -25,16 +25,21 @@ use crate::value::Pdu;
 use octets::Octets;
 use std::alloc::{AllocError, Global};
 
+/// Appends bytes.
+fn put(out: &mut Vec<u8>, bytes: &[u8]) -> Result<(), AllocError>
+    ensures { OnOk result (out.new.items ≡ out.old.items ++ bytes.now) }
+{
+    out.extend_from_slice(bytes)
+}
+
 /// Appends an item.
 fn put_item(out: &mut Vec<u8>, kind: u8, content: &[u8]) -> Result<(), AllocError>
     requires { length content.now < 2 ^ 16 }
     ensures { OnOk result (out.new.items ≡ out.old.items ++ item_text (item_of kind content.now)) }
 {
-    out.push(kind)?;
-    out.push(0)?;
-    out.extend_from_slice(&(content.len() as u16).to_be_bytes())?;
-    out.extend_from_slice(content)?;
-    Ok(())
+    let [high, low] = (content.len() as u16).to_be_bytes();
+    put(out, &[kind, 0, high, low])?;
+    put(out, content)
 }
 
 fn put_role(alloc: Global, out: &mut Vec<u8>, role: &Role) -> Result<(), AllocError>
@@ -43,10 +48,9 @@ fn put_role(alloc: Global, out: &mut Vec<u8>, role: &Role) -> Result<(), AllocEr
 {
     let class = role.class.as_slice();
     let mut content = Vec::new(alloc);
-    content.extend_from_slice(&(class.len() as u16).to_be_bytes())?;
-    content.extend_from_slice(class)?;
-    content.push(role.scu)?;
-    content.push(role.scp)?;
+    put(&mut content, &(class.len() as u16).to_be_bytes())?;
+    put(&mut content, class)?;
+    put(&mut content, &[role.scu, role.scp])?;
     put_item(out, ROLE_SELECTION, content.as_slice())
 }
 
@@ -112,7 +116,7 @@ fn put_proposal(
     ensures { OnOk result (out.new.items ≡ out.old.items ++ item_text (proposal_item context.now)) }
 {
     let mut content = Vec::new(alloc);
-    content.extend_from_slice(&[context.id, 0, 0, 0])?;
+    put(&mut content, &[context.id, 0, 0, 0])?;
     put_item(
         &mut content,
         ABSTRACT_SYNTAX,
@@ -128,7 +132,7 @@ fn put_answer(alloc: Global, out: &mut Vec<u8>, context: &AnsweredContext) -> Re
     ensures { OnOk result (out.new.items ≡ out.old.items ++ item_text (answer_item context.now)) }
 {
     let mut content = Vec::new(alloc);
-    content.extend_from_slice(&[context.id, 0, context.result, 0])?;
+    put(&mut content, &[context.id, 0, context.result, 0])?;
     put_item(
         &mut content,
         TRANSFER_SYNTAX,
@@ -140,12 +144,11 @@ fn put_answer(alloc: Global, out: &mut Vec<u8>, context: &AnsweredContext) -> Re
 fn put_opening(out: &mut Vec<u8>, opening: &Opening) -> Result<(), AllocError>
     ensures { OnOk result (out.new.items ≡ out.old.items ++ opening_text opening.now) }
 {
-    out.extend_from_slice(&opening.version.to_be_bytes())?;
-    out.extend_from_slice(&[0, 0])?;
-    out.extend_from_slice(&opening.called)?;
-    out.extend_from_slice(&opening.calling)?;
-    out.extend_from_slice(&opening.reserved)?;
-    Ok(())
+    let [high, low] = opening.version.to_be_bytes();
+    put(out, &[high, low, 0, 0])?;
+    put(out, &opening.called)?;
+    put(out, &opening.calling)?;
+    put(out, &opening.reserved)
 }
 
 fn put_proposals(
@@ -246,9 +249,8 @@ fn put_pdv(out: &mut Vec<u8>, value: &Pdv) -> Result<(), AllocError>
     requires { length (pdv_text value.now) ≤ LONGEST_BODY }
     ensures { OnOk result (out.new.items ≡ out.old.items ++ pdv_text value.now) }
 {
-    out.extend_from_slice(&head_of_pdv(value))?;
-    out.extend_from_slice(value.fragment.as_slice())?;
-    Ok(())
+    put(out, &head_of_pdv(value))?;
+    put(out, value.fragment.as_slice())
 }
 
 fn put_pdvs(out: &mut Vec<u8>, values: &[Pdv]) -> Result<(), AllocError>
@@ -286,9 +288,8 @@ fn header(alloc: Global, code: u8, size: u32) -> Result<Vec<u8>, AllocError>
     ensures { IfOk result (λ v. v.items ≡ code ∷ 0 ∷ to_be_bytes w32 size) }
 {
     let mut out = Vec::with_capacity(alloc, size as usize + 6)?;
-    out.push(code)?;
-    out.push(0)?;
-    out.extend_from_slice(&size.to_be_bytes())?;
+    let [a, b, c, d] = size.to_be_bytes();
+    put(&mut out, &[code, 0, a, b, c, d])?;
     Ok(out)
 }
 
@@ -299,7 +300,7 @@ fn with_body(alloc: Global, code: u8, body: &[u8]) -> Result<Vec<u8>, AllocError
         ≡ code ∷ 0 ∷ (to_be_bytes w32 (length body.now) ++ body.now)) }
 {
     let mut out = header(alloc, code, body.len() as u32)?;
-    out.extend_from_slice(body)?;
+    put(&mut out, body)?;
     Ok(out)
 }
 
