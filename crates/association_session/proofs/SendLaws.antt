@@ -15,13 +15,15 @@ use Rattle.ul_state.specs.declared.table.State.TheVariants.{Sta6}
 use Rattle.ul_state.specs.declared.titles.Title.{Title}
 use Rattle.association_services.specs.declared.counts.Outcome.{Outcome}
 use Rattle.association_session.specs.declared.deed.Deed.{Deed}
-use Rattle.association_services.specs.declared.call.Call.TheVariants.{Store, Find}
+use Rattle.association_services.specs.declared.call.Call.TheVariants.{Store, Find, Get}
 use Rattle.association_session.specs.declared.deed.Deed.TheVariants.{Send, Reach, Ask}
 use Rattle.association_services.specs.declared.call.Finding.{Finding}
+use Rattle.association_services.specs.declared.call.Getting.{Getting}
+use Rattle.data_set.specs.declared.syntax.Syntax.{Syntax}
 use Rattle.association_session.specs.declared.deed.Moment.TheVariants.{InStore}
 use Rattle.association_services.specs.declared.service.RowKind.{RowKind}
 use Rattle.association_services.specs.declared.service.Service.{Service}
-use Rattle.association_services.specs.declared.service.Service.TheVariants.{Asked, Queried}
+use Rattle.association_services.specs.declared.service.Service.TheVariants.{Asked, Queried, Fetched}
 use Rattle.association_services.specs.Context.{context_in}
 use Rattle.association_services.specs.Service.{ServesOn}
 use Rattle.operation.specs.Parts.{ContentParts}
@@ -404,6 +406,34 @@ answered_find titles now new m finding kind service settled contexts limit deeds
       sub = now.sub;
       stage = now.stage;
       awaited = Some (dues.Find (record { context = m.context; limit = n; command = m.command }) kind);
+      queue = now.queue;
+    }) lim) se cs
+    (subst (λ (s : Service). ServesOn settled (context_in contexts m.context) m.command m.body s) of serves) asks
+    (refl, tt) (λ s. refl) tt (λ abort gets gone rs rest owed. (rest, refl, owed))
+
+-- a C-GET that is asked
+pub answered_get : (titles : List (Title View)) (now new : AssociationState) (m : Message) (getting : Getting)
+    (syntax : Syntax) (service : Service) (settled : Option (Settled View)) (contexts : List Context) (limit : ℕ)
+    (deeds : List Deed) → now.within.state ≡ Sta6 → now.awaited ≡ None → now.sub ≡ None
+    → new ≡ record {
+      within = now.within;
+      sub = now.sub;
+      stage = now.stage;
+      awaited = Some (dues.Get (record { context = m.context; limit = limit; command = m.command }) syntax);
+      queue = now.queue;
+    }
+    → settled ≡ now.within.settled → contexts ≡ now.within.link.contexts → limit ≡ now.within.link.limit
+    → service ≡ Fetched getting syntax → ServesOn settled (context_in contexts m.context) m.command m.body service
+    → deeds ≡ Ask (Get getting) ∷ [] → Answered titles now m deeds new
+answered_get titles now new m getting syntax service settled contexts limit deeds opened idle none is se cs lim of
+    serves asks =
+    answered_asked titles now new m (Fetched getting syntax) [] (Get getting) (dues.Get (awaiting now.within.link m)
+    syntax) settled contexts deeds opened idle none
+    (is ∙ ap (λ (n : ℕ). record {
+      within = now.within;
+      sub = now.sub;
+      stage = now.stage;
+      awaited = Some (dues.Get (record { context = m.context; limit = n; command = m.command }) syntax);
       queue = now.queue;
     }) lim) se cs
     (subst (λ (s : Service). ServesOn settled (context_in contexts m.context) m.command m.body s) of serves) asks

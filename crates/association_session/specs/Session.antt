@@ -189,6 +189,16 @@ entered titles s event = record {
   queue = handed_on titles s.within.state event;
 }
 
+-- Of a request that was served this is still to be told.
+abbrev pub owing : AssociationState → Due → AssociationState
+owing s due = record {
+  within = s.within;
+  sub = s.sub;
+  stage = s.stage;
+  awaited = Some due;
+  queue = s.queue;
+}
+
 abbrev pub started : List (Title View) → AssociationState → SessionEvent → AssociationState
 started titles s (inputs.Heard event) = entered titles s event
 started titles s (inputs.Replied reply) = record {
@@ -267,6 +277,12 @@ pub record TellsSome (awaited : Awaited) (kind : RowKind) (rows left : List Set)
 abbrev pub IsEnd : Awaited → Status → List Deed → List Deed → Type 0
 IsEnd awaited status old new = (response : List Pdu) × Responds awaited status response
     × (new ≡ old ++ (map Send response ++ Reach FindAnswered ∷ []))
+
+-- Some rows are told, and where that is said the last one and behind it their end.
+abbrev pub TellsTurn : Awaited → RowKind → Status → List Set → List Set → Bool → List Deed → Type 0
+TellsTurn awaited kind status rows left true deeds =
+    (mid : List Deed) × TellsSome awaited kind rows left [] mid × IsEnd awaited status mid deeds × (length left ≡ 0)
+TellsTurn awaited kind status rows left false deeds = TellsSome awaited kind rows left [] deeds
 
 -- the deeds that respond to a request
 abbrev pub IsTold : Awaited → Status → List Deed → Type 0

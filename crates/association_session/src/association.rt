@@ -18,7 +18,7 @@ ghost use Rattle.association_session.specs.Row.{action_on, agreed_by, limit_in, 
 ghost use Rattle.association_services.specs.declared.reply.Reply.TheVariants.{Stored, Found, Gotten};
 ghost use Rattle.association_session.specs.Due.{tells_rows, has_rows, is_sending};
 ghost use Rattle.association_services.specs.Find.{RespondsRow};
-ghost use Rattle.association_session.specs.Session.{start, closed, is_left, is_in_turn, stage_by, IsTold, Answered, Turned, entered, IsWritable, IsSound, IsFewer, TellsSome, IsEnd};
+ghost use Rattle.association_session.specs.Session.{start, closed, is_left, is_in_turn, stage_by, owing, IsTold, Answered, Turned, entered, IsWritable, IsSound, IsFewer, TellsSome, TellsTurn, IsEnd};
 ghost use Rattle.archive_model.specs.declared.view.View.{View};
 
 use crate::deed::{Deed, Moment};
@@ -233,6 +233,27 @@ fn put_end(
     Ok(())
 }
 
+/// The deeds that tell the next rows, and behind the last one their end, and whether it is told.
+fn tell(
+    alloc: Global,
+    awaited: &Awaited,
+    kind: RowKind,
+    rows: &mut Answers,
+    status: Status,
+) -> Result<(Deeds, bool), AllocError>
+    ensures told { IfOk result (λ x. TellsTurn awaited.now kind status rows.old rows.new x.1 x.0) }
+    ensures fewer { IfOk result (λ x. x.1 ≡ false → length rows.new < length rows.old) }
+    ensures writable { IfOk result (λ x. All IsWritable x.0) }
+{
+    let mut deeds = Deeds::new(alloc);
+    let ended = put_rows(alloc, &mut deeds, awaited, kind, rows)?;
+    if ended {
+        put_end(alloc, &mut deeds, awaited, status)?;
+        return Ok((deeds, true));
+    }
+    Ok((deeds, false))
+}
+
 /// What a row's action does, and the values that it hands on.
 fn parted(alloc: Global, action: Option<Action>) -> Result<(Deeds, ListOf<Pdv>), AllocError>
     ensures deeds { IfOk result (λ x. x.0 ≡ deeds_of action) }
@@ -340,6 +361,13 @@ impl Association {
         self.meet(titles, Event::LocalAbort)
     }
 
+    /// Leaves this to be told of the request that was served.
+    fn owe(&mut self, due: Due)
+        ensures { self.new ≡ owing self.old due }
+    {
+        self.awaited = Some(due);
+    }
+
     /// Answers a message, while no sub-operation is awaited.
     fn answer(&mut self, titles: &Titles<View>, message: Message) -> Result<Deeds, AllocError>
         requires established { self.old.within.state ≡ Sta6 }
@@ -375,19 +403,16 @@ impl Association {
             Service::Broken => self.abort(titles),
             Service::Responded(status) => respond(self.alloc, &awaited, status),
             Service::Asked(content) => {
-                let deeds = asks(self.alloc, content)?;
-                self.awaited = Some(Due::Store(awaited));
-                Ok(deeds)
+                self.owe(Due::Store(awaited));
+                asks(self.alloc, content)
             }
             Service::Queried(finding, kind) => {
-                let deeds = one(self.alloc, Deed::Ask(Call::Find(finding)))?;
-                self.awaited = Some(Due::Find(awaited, kind));
-                Ok(deeds)
+                self.owe(Due::Find(awaited, kind));
+                one(self.alloc, Deed::Ask(Call::Find(finding)))
             }
             Service::Fetched(getting, syntax) => {
-                let deeds = one(self.alloc, Deed::Ask(Call::Get(getting)))?;
-                self.awaited = Some(Due::Get(awaited, syntax));
-                Ok(deeds)
+                self.owe(Due::Get(awaited, syntax));
+                one(self.alloc, Deed::Ask(Call::Get(getting)))
             }
         }
     }
@@ -466,8 +491,12 @@ impl Association {
         ensures left { OnOk result (self.new.queue ≡ self.old.queue) }
         ensures writable { IfOk result (All IsWritable) }
     {
-        let Some(Due::Store(awaited)) = self.awaited.take() else {
-            return Ok(Deeds::new(self.alloc));
+        let awaited = match self.awaited.take() {
+            Some(Due::Store(awaited)) => awaited,
+            other => {
+                drop(other);
+                return Ok(Deeds::new(self.alloc));
+            }
         };
         respond(self.alloc, &awaited, status_for(reply))
     }
@@ -480,12 +509,16 @@ impl Association {
         ensures left { OnOk result (self.new.queue ≡ self.old.queue) }
         ensures writable { IfOk result (All IsWritable) }
     {
-        let Some(Due::Find(awaited, kind)) = self.awaited.take() else {
-            return Ok(Deeds::new(self.alloc));
+        let (awaited, kind) = match self.awaited.take() {
+            Some(Due::Find(awaited, kind)) => (awaited, kind),
+            other => {
+                drop(other);
+                return Ok(Deeds::new(self.alloc));
+            }
         };
         awaited.see_room();
         let (rows, status) = found(self.alloc, reply);
-        self.awaited = Some(Due::Rows(Telling {
+        self.owe(Due::Rows(Telling {
             awaited,
             kind,
             rows,
@@ -505,15 +538,19 @@ impl Association {
         ensures left { OnOk result (self.new.queue ≡ self.old.queue) }
         ensures writable { IfOk result (All IsWritable) }
     {
-        let Some(Due::Get(awaited, syntax)) = self.awaited.take() else {
-            return Ok(Deeds::new(self.alloc));
+        let (awaited, syntax) = match self.awaited.take() {
+            Some(Due::Get(awaited, syntax)) => (awaited, syntax),
+            other => {
+                drop(other);
+                return Ok(Deeds::new(self.alloc));
+            }
         };
         awaited.see_room();
         let Some(prepared) = few(reply) else {
             return respond(self.alloc, &awaited, Status::UnableToPerformSubOperations);
         };
         let retrieval = Retrieval::of(self.alloc, awaited, syntax, prepared);
-        self.awaited = Some(Due::Sending(retrieval));
+        self.owe(Due::Sending(retrieval));
         Ok(Deeds::new(self.alloc))
     }
 
@@ -540,8 +577,12 @@ impl Association {
         ensures fewer { OnOk result (IsFewer GoesOn self.old self.new) }
         ensures writable { IfOk result (All IsWritable) }
     {
-        let Some(Due::Sending(retrieval)) = self.awaited.take() else {
-            return Ok(Deeds::new(self.alloc));
+        let retrieval = match self.awaited.take() {
+            Some(Due::Sending(retrieval)) => retrieval,
+            other => {
+                drop(other);
+                return Ok(Deeds::new(self.alloc));
+            }
         };
         retrieval.progress.awaited.see_room();
         match retrieval.begin(self.alloc, self.link.contexts())? {
@@ -554,7 +595,7 @@ impl Association {
                 sends(self.alloc, pdus)
             }
             Begun::Unsent(pdus, retrieval) => {
-                self.awaited = Some(Due::Sending(retrieval));
+                self.owe(Due::Sending(retrieval));
                 sends(self.alloc, pdus)
             }
         }
@@ -568,9 +609,12 @@ impl Association {
         ensures fewer { OnOk result (IsFewer GoesOn self.old self.new) }
         ensures writable { IfOk result (All IsWritable) }
     {
-        let mut deeds = Deeds::new(self.alloc);
-        let Some(Due::Rows(telling)) = self.awaited.take() else {
-            return Ok(deeds);
+        let telling = match self.awaited.take() {
+            Some(Due::Rows(telling)) => telling,
+            other => {
+                drop(other);
+                return Ok(Deeds::new(self.alloc));
+            }
         };
         let Telling {
             awaited,
@@ -578,18 +622,28 @@ impl Association {
             mut rows,
             status,
         } = telling;
-        let ended = put_rows(self.alloc, &mut deeds, &awaited, kind, &mut rows)?;
-        if ended {
-            put_end(self.alloc, &mut deeds, &awaited, status)?;
-            return Ok(deeds);
+        awaited.see_room();
+        match tell(self.alloc, &awaited, kind, &mut rows, status) {
+            Ok((deeds, false)) => {
+                self.owe(Due::Rows(Telling {
+                    awaited,
+                    kind,
+                    rows,
+                    status,
+                }));
+                Ok(deeds)
+            }
+            Ok((deeds, true)) => {
+                drop(awaited);
+                drop(rows);
+                Ok(deeds)
+            }
+            Err(fault) => {
+                drop(awaited);
+                drop(rows);
+                Err(fault)
+            }
         }
-        self.awaited = Some(Due::Rows(Telling {
-            awaited,
-            kind,
-            rows,
-            status,
-        }));
-        Ok(deeds)
     }
 
     /// Tells the rows that are left, begins the sub-operations that are left, or hears the values

@@ -1,9 +1,9 @@
-use Rattle.std.proofs.Common.{◌∙◌, refl, sym, subst, Some}
+use Rattle.std.proofs.Common.{◌∙◌, refl, sym, subst}
 use Rattle.association_session.specs.declared.due.Due.TheVariants as dues
 use Rattle.association_session.proofs.HearLaws.{ok_map, answered_told, at_contexts, at_limit, at_place, at_stage}
 use Rattle.association_session.proofs.HearLaws.{at_queue}
 use Rattle.association_session.proofs.HearLaws.{at_sub}
-use Rattle.association_session.proofs.SendLaws.{answered_store, answered_find, state_is}
+use Rattle.association_session.proofs.SendLaws.{answered_store, answered_find, answered_get}
 use Rattle.association_services.proofs.ServiceLaws.{IsServed, can_respond}
 use Rattle.association_session.proofs.association.Association.answer.Goals as goal
 
@@ -21,38 +21,43 @@ returns-in-Responded-clause-answered c =
     c.respond.ensures.told
 
 -- The port is asked to store a content.
-pub returns-in_ok-deeds-in-Asked-clause-answered : goal.returns-in_ok-deeds-in-Asked-clause-answered
-returns-in_ok-deeds-in-Asked-clause-answered c =
-    answered_store c.args.titles.now.list c.args.self.now _ c.args.message c.in-Asked.content
-    c.in_ok-service.service _ c.contexts.result.now c.limit-limit.result c.in_ok-deeds-in-Asked.deeds
+pub returns-in-Asked-clause-answered : goal.returns-in-Asked-clause-answered
+returns-in-Asked-clause-answered c =
+    ok_map c.asks.result _ _
+    (λ deeds asked. answered_store c.args.titles.now.list c.args.self.now _ c.args.message c.in-Asked.content
+    c.in_ok-service.service _ c.contexts.result.now c.limit-limit.result deeds
     c.requires.established c.requires.idle c.requires.none
-    (state_is _ c.args.self.now c.args.self.now.sub (Some (dues.Store (record {
-      context = c.args.message.context;
-      limit = c.limit-limit.result;
-      command = c.args.message.command;
-    })))
-    (at_place _ _ c.self.view_is) (at_stage _ _ c.self.view_is) (at_queue _ _ c.self.view_is)
-    (at_sub _ _ c.self.view_is) refl) c.settled.ensures
+    c.owe.ensures c.settled.ensures
     (c.contexts.ensures ∙ at_contexts _ _ c.self.view_is)
     (c.limit-limit.ensures.limit ∙ at_limit _ _ c.self.view_is) c.in-Asked.is c.in_ok-service.ensures
-    c.in_ok-deeds-in-Asked.ensures
+    asked)
+    c.asks.ensures
 
 -- The port is asked for rows.
-pub returns-in_ok-deeds-in-Queried-clause-answered : goal.returns-in_ok-deeds-in-Queried-clause-answered
-returns-in_ok-deeds-in-Queried-clause-answered c =
-    answered_find c.args.titles.now.list c.args.self.now _ c.args.message c.in-Queried.finding c.in-Queried.kind
-    c.in_ok-service.service _ c.contexts.result.now c.limit-limit.result c.in_ok-deeds-in-Queried.deeds
+pub returns-in-Queried-clause-answered : goal.returns-in-Queried-clause-answered
+returns-in-Queried-clause-answered c =
+    ok_map c.one.result _ _
+    (λ deeds asked. answered_find c.args.titles.now.list c.args.self.now _ c.args.message c.in-Queried.finding
+    c.in-Queried.kind c.in_ok-service.service _ c.contexts.result.now c.limit-limit.result deeds
     c.requires.established c.requires.idle c.requires.none
-    (state_is _ c.args.self.now c.args.self.now.sub (Some (dues.Find (record {
-      context = c.args.message.context;
-      limit = c.limit-limit.result;
-      command = c.args.message.command;
-    }) c.in-Queried.kind))
-    (at_place _ _ c.self.view_is) (at_stage _ _ c.self.view_is) (at_queue _ _ c.self.view_is)
-    (at_sub _ _ c.self.view_is) refl) c.settled.ensures
+    c.owe-in-Queried.ensures c.settled.ensures
     (c.contexts.ensures ∙ at_contexts _ _ c.self.view_is)
     (c.limit-limit.ensures.limit ∙ at_limit _ _ c.self.view_is) c.in-Queried.is c.in_ok-service.ensures
-    c.in_ok-deeds-in-Queried.ensures
+    asked)
+    c.one.ensures
+
+-- The port is asked for what is to be sent.
+pub returns-in-Fetched-clause-answered : goal.returns-in-Fetched-clause-answered
+returns-in-Fetched-clause-answered c =
+    ok_map c.one-in-Fetched.result _ _
+    (λ deeds asked. answered_get c.args.titles.now.list c.args.self.now _ c.args.message c.in-Fetched.getting
+    c.in-Fetched.syntax c.in_ok-service.service _ c.contexts.result.now c.limit-limit.result deeds
+    c.requires.established c.requires.idle c.requires.none
+    c.owe-in-Fetched.ensures c.settled.ensures
+    (c.contexts.ensures ∙ at_contexts _ _ c.self.view_is)
+    (c.limit-limit.ensures.limit ∙ at_limit _ _ c.self.view_is) c.in-Fetched.is c.in_ok-service.ensures
+    asked)
+    c.one-in-Fetched.ensures
 
 -- Its service is no response's and no C-CANCEL's.
 pub invariant_of-awaited-in-Asked : goal.invariant_of-awaited-in-Asked

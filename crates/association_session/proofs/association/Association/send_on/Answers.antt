@@ -68,8 +68,10 @@ returns-in-Unsent-clause-turned c = λ titles.
     (λ deeds sent. unsent_turn titles c.args.self.now _ c.in-Some-Sending.retrieval c.contexts.result.now
     is.0 is.1 c.in-Unsent.pdus c.in-Unsent.retrieval deeds has
     (state_is _ c.args.self.now c.args.self.now.sub (Some (dues.Sending c.in-Unsent.retrieval))
-    (at_place _ _ c.self.view_is) (at_stage _ _ c.self.view_is) (at_queue _ _ c.self.view_is)
-    (at_sub _ _ c.self.view_is) refl) sent (c.contexts.ensures ∙ at_contexts _ _ c.self.view_is) is.2 is.3 is.4 is.5
+    (at_place _ _ c.owe.ensures ∙ at_place _ _ c.self.view_is)
+    (at_stage _ _ c.owe.ensures ∙ at_stage _ _ c.self.view_is)
+    (at_queue _ _ c.owe.ensures ∙ at_queue _ _ c.self.view_is) (at_sub _ _ c.owe.ensures ∙ at_sub _ _ c.self.view_is)
+    (at_awaited _ _ c.owe.ensures)) sent (c.contexts.ensures ∙ at_contexts _ _ c.self.view_is) is.2 is.3 is.4 is.5
     (subst (λ (r : Retrieval). FitsLimit r.progress.awaited.limit) c.retrieval.view_is c.see_room.ensures))
     c.sends-in-Unsent.ensures
 

@@ -1,4 +1,4 @@
-use Rattle.std.proofs.Common.{Some, refl, ◌∙◌, sym, ap}
+use Rattle.std.proofs.Common.{Some, ◌∙◌, sym, ap}
 use Rattle.association_session.specs.declared.due.Due.{Due}
 use Rattle.association_session.proofs.HearLaws.{ok_map, gotten_none, gotten_left, at_awaited, at_place, at_sub}
 use Rattle.association_session.proofs.HearLaws.{at_stage}
@@ -23,6 +23,7 @@ returns-clause-turned c = λ titles.
     c.of-retrieval.result c.new-2.result
     (sym (at_awaited _ _ c.self.view_is) ∙ sym c.take.ensures.value ∙ c.in-Some-Get.is
     ∙ ap (λ (d : Due). Some d) c.in-Some-Get.field-0-is)
-    (at_place _ _ c.self.view_is) (at_sub _ _ c.self.view_is) (at_stage _ _ c.self.view_is) refl
-    (at_queue _ _ c.self.view_is) (sym c.few.ensures.few ∙ c.in-Some.is) c.of-retrieval.ensures c.see_room.ensures
-    c.new-2.ensures
+    (at_place _ _ c.owe.ensures ∙ at_place _ _ c.self.view_is) (at_sub _ _ c.owe.ensures ∙ at_sub _ _ c.self.view_is)
+    (at_stage _ _ c.owe.ensures ∙ at_stage _ _ c.self.view_is) (at_awaited _ _ c.owe.ensures)
+    (at_queue _ _ c.owe.ensures ∙ at_queue _ _ c.self.view_is) (sym c.few.ensures.few ∙ c.in-Some.is)
+    c.of-retrieval.ensures c.see_room.ensures c.new-2.ensures
