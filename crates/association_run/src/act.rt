@@ -61,21 +61,21 @@ fn ask<P: Port>(port: &mut P, call: Call) -> Reply
 /// another are written together; none is held back once the gate or the port is reached.
 fn act<W: Sink, P: Port, G: Gate>(
     alloc: Global,
-    mut deeds: Deeds,
+    deeds: &mut Deeds,
     outbox: &mut Outbox,
     writer: &mut W,
     port: &mut P,
     gate: &mut G,
 ) -> Result<Option<Reply>, RunFault>
-    requires writable { All IsWritable deeds }
-    requires halts { Halts deeds }
+    requires writable { All IsWritable deeds.old }
+    requires halts { Halts deeds.old }
     ensures ok { IfOk result (λ pending. Performs P.ops P.own
         (sides port.old (W.contents writer.old) (G.reached gate.old))
-        (sides port.new (W.contents writer.new) (G.reached gate.new)) deeds []
+        (sides port.new (W.contents writer.new) (G.reached gate.new)) deeds.old []
         (option_to_list pending)) }
     ensures err { OnErr result (BreaksOff P.ops P.own
         (sides port.old (W.contents writer.old) (G.reached gate.old))
-        (sides port.new (W.contents writer.new) (G.reached gate.new)) deeds) }
+        (sides port.new (W.contents writer.new) (G.reached gate.new)) deeds.old) }
     ensures read { tells_read result ≡ false }
     ensures write { CountedWhere (tells_write result) (W.failures writer.old)
         (W.failures writer.new) }
@@ -128,8 +128,8 @@ fn tell<W: Sink, P: Port, G: Gate>(
         (W.failures writer.new) }
     ensures going { tells_turns result ≡ false }
 {
-    let deeds = session.on(titles, event)?;
-    act(alloc, deeds, outbox, writer, port, gate)
+    let mut deeds = session.on(titles, event)?;
+    act(alloc, &mut deeds, outbox, writer, port, gate)
 }
 
 /// What the session is told next: the reply of the port, and else that it goes on.
@@ -171,7 +171,7 @@ fn tell_rows<W: Sink, P: Port, G: Gate>(
     ensures going { tells_turns result ≡ false }
 {
     while session.is_telling() {
-        let _reply = tell(
+        let reply = tell(
             alloc,
             session,
             titles,
@@ -181,6 +181,7 @@ fn tell_rows<W: Sink, P: Port, G: Gate>(
             port,
             gate,
         )?;
+        drop(reply);
     }
     Ok(())
 }

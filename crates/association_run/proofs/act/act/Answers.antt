@@ -8,9 +8,9 @@ use Rattle.association_run.proofs.DeedLaws.{acting_broke, acting_broke_at, actin
 use Rattle.association_run.proofs.act.act.Goals as goal
 
 -- Nothing was done yet.
-pub loop-deeds-init : goal.loop-deeds-init
-loop-deeds-init g c = record {
-  did = acting_start g.P.Port.ops g.P.Port.own _ _ _ c.clear.new.self c.args.deeds _ c.clear.ensures refl
+pub loop-deed-init : goal.loop-deed-init
+loop-deed-init g c = record {
+  did = acting_start g.P.Port.ops g.P.Port.own _ _ _ c.clear.new.self c.args.deeds.now _ c.clear.ensures refl
       c.requires.halts;
   writable = c.requires.writable;
   write = refl;
@@ -20,14 +20,14 @@ loop-deeds-init g c = record {
 pub returns-in_err-deed-clause-err : goal.returns-in_err-deed-clause-err
 returns-in_err-deed-clause-err g c =
     let e = err_from_is_err_and c.from_residual.result c.from_residual.ensures.1 in
-    rw e.1 (acting_stopped g.P.Port.ops g.P.Port.own _ _ _ _ c.loop-deeds.outbox c.args.deeds _
-    c.loop-deeds.invariant.did)
+    rw e.1 (acting_stopped g.P.Port.ops g.P.Port.own _ _ _ _ c.loop-deed.outbox c.args.deeds.now _
+    c.loop-deed.invariant.did)
 
 -- The next deed is one of those that can be written.
 pub send-requires : goal.send-requires
-send-requires g c = first_writable c.loop-deeds.deeds c.next.new.self c.in-Some.deed
-    c.in-Send.pdu (next_is c.loop-deeds.deeds c.next.new.self c.in_ok-deed.field-0 c.in-Some.deed
-    c.in_ok-deed.ensures.parts c.in-Some.is) c.in-Send.is c.loop-deeds.invariant.writable
+send-requires g c = first_writable c.loop-deed.deeds c.next.new.self c.in-Some.deed
+    c.in-Send.pdu (next_is c.loop-deed.deeds c.next.new.self c.in_ok-deed.field-0 c.in-Some.deed
+    c.in_ok-deed.ensures.parts c.in-Some.is) c.in-Send.is c.loop-deed.invariant.writable
 
 -- The writer failed, or memory was refused: the deeds before this one are done but for what was held, of which and of
 -- its bytes a front was written.
@@ -35,20 +35,20 @@ pub returns-in_err-send-in-Send-clause-err : goal.returns-in_err-send-in-Send-cl
 returns-in_err-send-in-Send-clause-err g c =
     let e = err_from_is_err_and c.from_residual-in_err-send-in-Send.result
     c.from_residual-in_err-send-in-Send.ensures.1 in
-    rw e.1 (acting_broke_at g.P.Port.ops g.P.Port.own _ _ _ _ _ c.loop-deeds.outbox c.args.deeds _ c.in-Some.deed
-    c.in-Send.pdu _ (next_is _ _ _ _ c.in_ok-deed.ensures.parts c.in-Some.is) c.in-Send.is c.loop-deeds.invariant.did
+    rw e.1 (acting_broke_at g.P.Port.ops g.P.Port.own _ _ _ _ _ c.loop-deed.outbox c.args.deeds.now _ c.in-Some.deed
+    c.in-Send.pdu _ (next_is _ _ _ _ c.in_ok-deed.ensures.parts c.in-Some.is) c.in-Send.is c.loop-deed.invariant.did
     c.in_err-send-in-Send.ensures.err)
 
 -- A PDU more is sent, and the others end as before.
-pub loop-deeds-preserved-in-Continue-branch-3 : goal.loop-deeds-preserved-in-Continue-branch-3
-loop-deeds-preserved-in-Continue-branch-3 g c = record {
-  did = acting_send g.P.Port.ops g.P.Port.own _ _ _ _ _ c.loop-deeds.outbox c.send.new.outbox c.args.deeds _
+pub loop-deed-preserved-in-Continue-branch-3 : goal.loop-deed-preserved-in-Continue-branch-3
+loop-deed-preserved-in-Continue-branch-3 g c = record {
+  did = acting_send g.P.Port.ops g.P.Port.own _ _ _ _ _ c.loop-deed.outbox c.send.new.outbox c.args.deeds.now _
       c.in-Some.deed c.in-Send.pdu _ (next_is _ _ _ _ c.in_ok-deed.ensures.parts c.in-Some.is)
-      c.in-Send.is c.loop-deeds.invariant.did
+      c.in-Send.is c.loop-deed.invariant.did
       c.in_ok-send-in-Send.ensures.ok;
-  writable = All-rest IsWritable c.in-Some.deed c.next.new.self c.loop-deeds.deeds
-      (next_is _ _ _ _ c.in_ok-deed.ensures.parts c.in-Some.is) c.loop-deeds.invariant.writable;
-  write = c.in_ok-send-in-Send.ensures.write ∙ c.loop-deeds.invariant.write;
+  writable = All-rest IsWritable c.in-Some.deed c.next.new.self c.loop-deed.deeds
+      (next_is _ _ _ _ c.in_ok-deed.ensures.parts c.in-Some.is) c.loop-deed.invariant.writable;
+  write = c.in_ok-send-in-Send.ensures.write ∙ c.loop-deed.invariant.write;
 }
 
 -- Of what was held a front was written.
@@ -56,19 +56,19 @@ pub returns-in_err-flush-in-Reach-clause-err : goal.returns-in_err-flush-in-Reac
 returns-in_err-flush-in-Reach-clause-err g c =
     let e = err_from_is_err_and c.from_residual-in_err-flush-in-Reach.result
     c.from_residual-in_err-flush-in-Reach.ensures.1 in
-    rw e.1 (acting_broke g.P.Port.ops g.P.Port.own _ _ _ _ _ c.loop-deeds.outbox c.args.deeds _ [] (no_front _)
-    c.loop-deeds.invariant.did c.in_err-flush-in-Reach.ensures.err)
+    rw e.1 (acting_broke g.P.Port.ops g.P.Port.own _ _ _ _ _ c.loop-deed.outbox c.args.deeds.now _ [] (no_front _)
+    c.loop-deed.invariant.did c.in_err-flush-in-Reach.ensures.err)
 
 -- The gate is reached, and the others end as before.
-pub loop-deeds-preserved : goal.loop-deeds-preserved
-loop-deeds-preserved g c = record {
-  did = acting_reach g.P.Port.ops g.P.Port.own _ _ _ _ _ _ c.loop-deeds.outbox c.flush.new.self c.args.deeds _
+pub loop-deed-preserved : goal.loop-deed-preserved
+loop-deed-preserved g c = record {
+  did = acting_reach g.P.Port.ops g.P.Port.own _ _ _ _ _ _ c.loop-deed.outbox c.flush.new.self c.args.deeds.now _
       c.in-Some.deed c.in-Reach.moment _ (next_is _ _ _ _ c.in_ok-deed.ensures.parts c.in-Some.is)
-      c.in-Reach.is c.loop-deeds.invariant.did
+      c.in-Reach.is c.loop-deed.invariant.did
       c.in_ok-flush-in-Reach.ensures.ok c.in_ok-flush-in-Reach.ensures.empty c.reach.ensures;
-  writable = All-rest IsWritable c.in-Some.deed c.next.new.self c.loop-deeds.deeds
-      (next_is _ _ _ _ c.in_ok-deed.ensures.parts c.in-Some.is) c.loop-deeds.invariant.writable;
-  write = c.in_ok-flush-in-Reach.ensures.write ∙ c.loop-deeds.invariant.write;
+  writable = All-rest IsWritable c.in-Some.deed c.next.new.self c.loop-deed.deeds
+      (next_is _ _ _ _ c.in_ok-deed.ensures.parts c.in-Some.is) c.loop-deed.invariant.writable;
+  write = c.in_ok-flush-in-Reach.ensures.write ∙ c.loop-deed.invariant.write;
 }
 
 -- Of what was held a front was written.
@@ -76,14 +76,14 @@ pub returns-in_err-flush-in-Ask-clause-err : goal.returns-in_err-flush-in-Ask-cl
 returns-in_err-flush-in-Ask-clause-err g c =
     let e = err_from_is_err_and c.from_residual-in_err-flush-in-Ask.result c.from_residual-in_err-flush-in-Ask.ensures.1
     in
-    rw e.1 (acting_broke g.P.Port.ops g.P.Port.own _ _ _ _ _ c.loop-deeds.outbox c.args.deeds _ [] (no_front _)
-    c.loop-deeds.invariant.did c.in_err-flush-in-Ask.ensures.err)
+    rw e.1 (acting_broke g.P.Port.ops g.P.Port.own _ _ _ _ _ c.loop-deed.outbox c.args.deeds.now _ [] (no_front _)
+    c.loop-deed.invariant.did c.in_err-flush-in-Ask.ensures.err)
 
 -- The call was the last deed.
 pub returns-in-Ask-clause-ok : goal.returns-in-Ask-clause-ok
 returns-in-Ask-clause-ok g c =
-    acted_ask g.P.Port.ops g.P.Port.own _ _ _ _ _ _ c.loop-deeds.outbox c.args.deeds _ c.in-Some.deed c.in-Ask.call
-    c.ask.result _ (next_is _ _ _ _ c.in_ok-deed.ensures.parts c.in-Some.is) c.in-Ask.is c.loop-deeds.invariant.did
+    acted_ask g.P.Port.ops g.P.Port.own _ _ _ _ _ _ c.loop-deed.outbox c.args.deeds.now _ c.in-Some.deed c.in-Ask.call
+    c.ask.result _ (next_is _ _ _ _ c.in_ok-deed.ensures.parts c.in-Some.is) c.in-Ask.is c.loop-deed.invariant.did
     c.in_ok-flush-in-Ask.ensures.ok
     c.ask.ensures
 
@@ -92,25 +92,25 @@ pub returns-in_err-flush-in-Close-clause-err : goal.returns-in_err-flush-in-Clos
 returns-in_err-flush-in-Close-clause-err g c =
     let e = err_from_is_err_and c.from_residual-in_err-flush-in-Close.result
     c.from_residual-in_err-flush-in-Close.ensures.1 in
-    rw e.1 (acting_broke g.P.Port.ops g.P.Port.own _ _ _ _ _ c.loop-deeds.outbox c.args.deeds _ [] (no_front _)
-    c.loop-deeds.invariant.did c.in_err-flush-in-Close.ensures.err)
+    rw e.1 (acting_broke g.P.Port.ops g.P.Port.own _ _ _ _ _ c.loop-deed.outbox c.args.deeds.now _ [] (no_front _)
+    c.loop-deed.invariant.did c.in_err-flush-in-Close.ensures.err)
 
 -- So was the close.
 pub returns-in-Close-clause-ok : goal.returns-in-Close-clause-ok
 returns-in-Close-clause-ok g c =
-    acted_close g.P.Port.ops g.P.Port.own _ _ _ _ _ c.loop-deeds.outbox c.args.deeds _ c.in-Some.deed _
-    (next_is _ _ _ _ c.in_ok-deed.ensures.parts c.in-Some.is) c.in-Close.is c.loop-deeds.invariant.did
+    acted_close g.P.Port.ops g.P.Port.own _ _ _ _ _ c.loop-deed.outbox c.args.deeds.now _ c.in-Some.deed _
+    (next_is _ _ _ _ c.in_ok-deed.ensures.parts c.in-Some.is) c.in-Close.is c.loop-deed.invariant.did
     c.in_ok-flush-in-Close.ensures.ok
 
 -- Of what was held a front was written.
 pub returns-in_err-flush-clause-err : goal.returns-in_err-flush-clause-err
 returns-in_err-flush-clause-err g c =
     let e = err_from_is_err_and c.from_residual-in_err-flush.result c.from_residual-in_err-flush.ensures.1 in
-    rw e.1 (acting_broke g.P.Port.ops g.P.Port.own _ _ _ _ _ c.loop-deeds.outbox c.args.deeds _ [] (no_front _)
-    c.loop-deeds.invariant.did c.in_err-flush.ensures.err)
+    rw e.1 (acting_broke g.P.Port.ops g.P.Port.own _ _ _ _ _ c.loop-deed.outbox c.args.deeds.now _ [] (no_front _)
+    c.loop-deed.invariant.did c.in_err-flush.ensures.err)
 
 -- No deed is left, and no byte is held.
 pub returns-clause-ok : goal.returns-clause-ok
-returns-clause-ok g c = acted_all g.P.Port.ops g.P.Port.own _ _ _ _ _ c.loop-deeds.outbox c.args.deeds
-    _ (c.in_ok-deed.ensures.none (ap (λ next. Ok next) c.in_default.is)) c.loop-deeds.invariant.did
+returns-clause-ok g c = acted_all g.P.Port.ops g.P.Port.own _ _ _ _ _ c.loop-deed.outbox c.args.deeds.now
+    _ (c.in_ok-deed.ensures.none (ap (λ next. Ok next) c.in_default.is)) c.loop-deed.invariant.did
     c.in_ok-flush.ensures.ok

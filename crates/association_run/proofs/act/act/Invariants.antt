@@ -6,8 +6,8 @@ use Rattle.association_run.proofs.DeedLaws.{Acting}
 use Rattle.association_run.proofs.act.act.Given as goal
 
 -- The deeds so far are done but for the bytes that are held, none of them a call, and the others are left.
-abbrev pub invariant-loop-deeds : goal.invariant-loop-deeds
-invariant-loop-deeds g l = record {
+abbrev pub invariant-loop-deed : goal.invariant-loop-deed
+invariant-loop-deed g l = record {
   did : Acting g.P.Port.ops g.P.Port.own (sides l.fn.port (g.W.Sink.contents l.fn.writer)
       (g.G.Gate.reached l.fn.gate)) (sides l.port (g.W.Sink.contents l.writer) (g.G.Gate.reached l.gate)) l.outbox
       l.fn.deeds l.deeds;
@@ -16,5 +16,5 @@ invariant-loop-deeds g l = record {
 }
 
 -- With each deed fewer are left.
-abbrev pub decreases-loop-deeds : goal.decreases-loop-deeds
-decreases-loop-deeds g l = length l.deeds
+abbrev pub decreases-loop-deed : goal.decreases-loop-deed
+decreases-loop-deed g l = length l.deeds

@@ -15,11 +15,11 @@ pub loop-alloc-init : goal.loop-alloc-init
 loop-alloc-init g c = record { goes = λ old from event pending h. h; left = refl; write = refl }
 
 -- Of the deeds for some rows a front was done.
-pub returns-in_err-_reply-clause-err : goal.returns-in_err-_reply-clause-err
-returns-in_err-_reply-clause-err g c =
+pub returns-in_err-reply-clause-err : goal.returns-in_err-reply-clause-err
+returns-in_err-reply-clause-err g c =
     let e = err_from_is_err_and c.from_residual.result c.from_residual.ensures.1 in
     rw e.1 (tells_broke g.P.Port.ops g.P.Port.own c.args.titles.now.list _ _ _ c.args.session.now c.loop-alloc.session
-    c.loop-alloc.invariant.goes (sym c.is_telling.ensures ∙ c.loop-alloc-test.true) c.in_err-_reply.ensures.err)
+    c.loop-alloc.invariant.goes (sym c.is_telling.ensures ∙ c.loop-alloc-test.true) c.in_err-reply.ensures.err)
 
 -- Some rows more are told.
 pub loop-alloc-preserved : goal.loop-alloc-preserved
@@ -27,70 +27,15 @@ loop-alloc-preserved g c =
     let telling = sym c.is_telling.ensures ∙ c.loop-alloc-test.true in
     record {
       goes = tells_on g.P.Port.ops g.P.Port.own c.args.titles.now.list _ _ _ c.args.session.now c.loop-alloc.session
-          c.in_ok-_reply._reply c.tell.new.session c.loop-alloc.invariant.goes telling c.in_ok-_reply.ensures.ok;
-      left = (rows_fewer _ _ telling c.in_ok-_reply.ensures.ok.fewer).0 ∙ c.loop-alloc.invariant.left;
-      write = c.in_ok-_reply.ensures.write ∙ c.loop-alloc.invariant.write;
-    }
-
--- The same, where a value of the reply is let go.
-pub loop-alloc-preserved-in_ok-_reply : goal.loop-alloc-preserved-in_ok-_reply
-loop-alloc-preserved-in_ok-_reply g c =
-    let telling = sym c.is_telling.ensures ∙ c.loop-alloc-test.true in
-    record {
-      goes = tells_on g.P.Port.ops g.P.Port.own c.args.titles.now.list _ _ _ c.args.session.now c.loop-alloc.session
-          c.in_ok-_reply._reply c.tell.new.session c.loop-alloc.invariant.goes telling c.in_ok-_reply.ensures.ok;
-      left = (rows_fewer _ _ telling c.in_ok-_reply.ensures.ok.fewer).0 ∙ c.loop-alloc.invariant.left;
-      write = c.in_ok-_reply.ensures.write ∙ c.loop-alloc.invariant.write;
-    }
-
--- The same, where a reply is let go.
-pub loop-alloc-preserved-in_ok-_reply-2 : goal.loop-alloc-preserved-in_ok-_reply-2
-loop-alloc-preserved-in_ok-_reply-2 g c =
-    let telling = sym c.is_telling.ensures ∙ c.loop-alloc-test.true in
-    record {
-      goes = tells_on g.P.Port.ops g.P.Port.own c.args.titles.now.list _ _ _ c.args.session.now c.loop-alloc.session
-          c.in_ok-_reply._reply c.tell.new.session c.loop-alloc.invariant.goes telling c.in_ok-_reply.ensures.ok;
-      left = (rows_fewer _ _ telling c.in_ok-_reply.ensures.ok.fewer).0 ∙ c.loop-alloc.invariant.left;
-      write = c.in_ok-_reply.ensures.write ∙ c.loop-alloc.invariant.write;
-    }
-
--- The same, where rows are let go.
-pub loop-alloc-preserved-in_ok-_reply-3 : goal.loop-alloc-preserved-in_ok-_reply-3
-loop-alloc-preserved-in_ok-_reply-3 g c =
-    let telling = sym c.is_telling.ensures ∙ c.loop-alloc-test.true in
-    record {
-      goes = tells_on g.P.Port.ops g.P.Port.own c.args.titles.now.list _ _ _ c.args.session.now c.loop-alloc.session
-          c.in_ok-_reply._reply c.tell.new.session c.loop-alloc.invariant.goes telling c.in_ok-_reply.ensures.ok;
-      left = (rows_fewer _ _ telling c.in_ok-_reply.ensures.ok.fewer).0 ∙ c.loop-alloc.invariant.left;
-      write = c.in_ok-_reply.ensures.write ∙ c.loop-alloc.invariant.write;
-    }
-
--- The same, where what is to be sent is let go.
-pub loop-alloc-preserved-in_ok-_reply-4 : goal.loop-alloc-preserved-in_ok-_reply-4
-loop-alloc-preserved-in_ok-_reply-4 g c =
-    let telling = sym c.is_telling.ensures ∙ c.loop-alloc-test.true in
-    record {
-      goes = tells_on g.P.Port.ops g.P.Port.own c.args.titles.now.list _ _ _ c.args.session.now c.loop-alloc.session
-          c.in_ok-_reply._reply c.tell.new.session c.loop-alloc.invariant.goes telling c.in_ok-_reply.ensures.ok;
-      left = (rows_fewer _ _ telling c.in_ok-_reply.ensures.ok.fewer).0 ∙ c.loop-alloc.invariant.left;
-      write = c.in_ok-_reply.ensures.write ∙ c.loop-alloc.invariant.write;
-    }
-
--- The same, where a fault of a get is let go.
-pub loop-alloc-preserved-in_ok-_reply-5 : goal.loop-alloc-preserved-in_ok-_reply-5
-loop-alloc-preserved-in_ok-_reply-5 g c =
-    let telling = sym c.is_telling.ensures ∙ c.loop-alloc-test.true in
-    record {
-      goes = tells_on g.P.Port.ops g.P.Port.own c.args.titles.now.list _ _ _ c.args.session.now c.loop-alloc.session
-          c.in_ok-_reply._reply c.tell.new.session c.loop-alloc.invariant.goes telling c.in_ok-_reply.ensures.ok;
-      left = (rows_fewer _ _ telling c.in_ok-_reply.ensures.ok.fewer).0 ∙ c.loop-alloc.invariant.left;
-      write = c.in_ok-_reply.ensures.write ∙ c.loop-alloc.invariant.write;
+          c.in_ok-reply.reply c.tell.new.session c.loop-alloc.invariant.goes telling c.in_ok-reply.ensures.ok;
+      left = (rows_fewer _ _ telling c.in_ok-reply.ensures.ok.fewer).0 ∙ c.loop-alloc.invariant.left;
+      write = c.in_ok-reply.ensures.write ∙ c.loop-alloc.invariant.write;
     }
 
 -- The responses that are left become fewer.
 pub loop-alloc-smaller : goal.loop-alloc-smaller
 loop-alloc-smaller g c =
-    (rows_fewer _ _ (sym c.is_telling.ensures ∙ c.loop-alloc-test.true) c.in_ok-_reply.ensures.ok.fewer).1
+    (rows_fewer _ _ (sym c.is_telling.ensures ∙ c.loop-alloc-test.true) c.in_ok-reply.ensures.ok.fewer).1
 
 -- No row is left.
 pub returns-clause-quiet : goal.returns-clause-quiet
