@@ -1,10 +1,8 @@
-//! Tests of frames and of rounds of an exchange.
+//! Tests of rounds of an exchange, and of whole ones over devices in memory.
 //!
 //! They stand in a crate of their own, so that no crate is proved once more with its tests.
 #![tactic(auto)]
 
-#[cfg(test)]
-mod frames;
 #[cfg(test)]
 mod numbered;
 #[cfg(test)]

@@ -59,16 +59,12 @@ fn fill_both(alloc: Global, a: &mut Site, b: &mut Site) -> Result<(), Fail> {
     take_all(alloc, b, 1_991, 2_000, 2)
 }
 
-/// The first byte of the digest of such a correction.
-fn place_of(alloc: Global, counter: u64, site: u16) -> Result<u8, Fail> {
-    let op = numbered(alloc, counter, site)?;
-    Ok(digest(&op).as_bytes()[0])
-}
-
 /// The first bytes of the 10 digests that one of the two sites alone has, put behind others.
 fn put_places(alloc: Global, site: u16, places: &mut Vec<u8>) -> Result<(), Fail> {
     for counter in 1_991..=2_000 {
-        let place = place_of(alloc, counter, site)?;
+        let op = numbered(alloc, counter, site)?;
+        let place = digest(&op).as_bytes()[0];
+        drop(op);
         if !places.contains(&place) {
             places.push(place)?;
         }
@@ -101,15 +97,11 @@ fn put_text(text: &mut Vec<u8>, written: &FrameText) -> Result<(), AllocError> {
     text.extend_from_slice(rest)
 }
 
-fn put_frame(alloc: Global, text: &mut Vec<u8>, frame: &Frame) -> Result<(), Fail> {
-    let written = write_frame(alloc, frame)?;
-    put_text(text, &written)?;
-    Ok(())
-}
-
 /// Puts a frame behind others.
 fn put(alloc: Global, text: &mut Vec<u8>, frame: Frame) -> Result<(), Fail> {
-    put_frame(alloc, text, &frame)
+    let written = write_frame(alloc, &frame);
+    drop(frame);
+    Ok(put_text(text, &written?)?)
 }
 
 /// Puts the BUCKETS of one site. The places in which another one differs are handed back.
@@ -284,11 +276,6 @@ fn places_of(alloc: Global, sites: &[u16]) -> Result<Vec<u8>, Fail> {
     Ok(places)
 }
 
-fn is_short(bytes: usize, wanted: usize, what: &str) -> Result<(), Fail> {
-    equal(bytes, wanted, what)?;
-    holds(wanted < FULL_HAVE, "a full HAVE is longer")
-}
-
 fn write_by_places(alloc: Global, a: &mut Site, b: &mut Site) -> Result<(), Fail> {
     fill_both(alloc, a, b)?;
     let of_b = places_of(alloc, &[2])?;
@@ -299,9 +286,11 @@ fn write_by_places(alloc: Global, a: &mut Site, b: &mut Site) -> Result<(), Fail
     // What a had the callee has taken, so the second round is of what b had.
     let offered_by_b = digests_in(alloc, b, of_b.as_slice())?;
     let wanted = bytes_for(of_b.len(), offered_by_a);
-    is_short(caller.len(), wanted, "what the caller writes")?;
+    equal(caller.len(), wanted, "what the caller writes")?;
+    holds(wanted < FULL_HAVE, "a full HAVE is longer")?;
     let wanted = bytes_for(places.len(), offered_by_b);
-    is_short(callee.len(), wanted, "what the callee writes")
+    equal(callee.len(), wanted, "what the callee writes")?;
+    holds(wanted < FULL_HAVE, "a full HAVE is longer")
 }
 
 #[test]

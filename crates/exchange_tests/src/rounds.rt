@@ -7,24 +7,20 @@ use crate::sites::{
 use assertions::{equal, holds, holds_at};
 use exchange::*;
 use octets::ListOf;
-use operation::{Digest, Op, Taken};
+use operation::{Digest, Taken};
 use site_state::Site;
-use std::alloc::{AllocError, Global};
+use std::alloc::Global;
 use std::test::Fail;
 
 // SHA-256 of no bytes.
 const OF_NOTHING: &str = "e3b0c44298fc1c149afbf4c8996fb92427ae41e4649b934ca495991b7852b855";
 
-fn digests_of(alloc: Global, digest: &Digest) -> Result<Digests, AllocError> {
-    let mut digests = DigestsMut::with_capacity(alloc, 1)?;
-    digests.push(digest)?;
-    digests.freeze()
-}
-
 /// The digest of one operation alone.
 fn one(alloc: Global, text: &[u8]) -> Result<Digests, Fail> {
     let digest = digest_of(alloc, text)?;
-    Ok(digests_of(alloc, &digest)?)
+    let mut digests = DigestsMut::with_capacity(alloc, 1)?;
+    digests.push(&digest)?;
+    Ok(digests.freeze()?)
 }
 
 /// How many operations are asked for where one is offered.
@@ -48,27 +44,19 @@ fn given(alloc: Global, round: &mut Round, site: &mut Site, text: &[u8]) -> Resu
     Ok(number_of(on_give(round, site, op)))
 }
 
-fn offered_in(alloc: Global, round: &Round, site: &mut Site) -> Result<usize, Fail> {
-    let have = offer(alloc, round, site)?;
-    Ok(have.len())
-}
-
 /// How many operations are offered in a round of a version.
 fn offered(alloc: Global, version: Version, site: &mut Site) -> Result<usize, Fail> {
     let round = Round::new(alloc, version);
-    offered_in(alloc, &round, site)
-}
-
-fn wanted_in(alloc: Global, round: &Round, site: &mut Site, text: &[u8]) -> Result<usize, Fail> {
-    let want = one(alloc, text)?;
-    let ops = on_want(alloc, round, site, &want)?;
-    Ok(ops.len())
+    let have = offer(alloc, &round, site)?;
+    Ok(have.len())
 }
 
 /// How many operations are given for the WANT of one.
 fn wanted(alloc: Global, version: Version, site: &mut Site, text: &[u8]) -> Result<usize, Fail> {
+    let want = one(alloc, text)?;
     let round = Round::new(alloc, version);
-    wanted_in(alloc, &round, site, text)
+    let ops = on_want(alloc, &round, site, &want)?;
+    Ok(ops.len())
 }
 
 fn differing_in(
@@ -88,18 +76,6 @@ fn differing(alloc: Global, from: &mut Site, to: &mut Site) -> Result<Digests, H
     differing_in(alloc, &round, from, to)
 }
 
-/// What one site is given for what it asks of another.
-fn gifts(
-    alloc: Global,
-    round: &mut Round,
-    from: &mut Site,
-    to: &mut Site,
-    have: &Digests,
-) -> Result<ListOf<Op>, HolderFault> {
-    let want = on_have(alloc, round, to, have)?;
-    on_want(alloc, round, from, &want)
-}
-
 fn take_gifts_in(
     alloc: Global,
     round: &mut Round,
@@ -107,7 +83,8 @@ fn take_gifts_in(
     to: &mut Site,
     have: &Digests,
 ) -> Result<(), HolderFault> {
-    let ops = gifts(alloc, round, from, to, have)?;
+    let want = on_have(alloc, round, to, have)?;
+    let ops = on_want(alloc, round, from, &want)?;
     for op in ops.into_vec() {
         let _ = on_give(round, to, op);
     }

@@ -29,53 +29,42 @@ fn no_buckets(alloc: Global) -> Result<Vec<u8>, AllocError> {
     Ok(text)
 }
 
-/// Some texts, with the BUCKETS of no digests between the first and the second.
-fn around(alloc: Global, before: &[u8], behind: &[u8]) -> Result<Vec<u8>, AllocError> {
+/// What a peer with nothing says to a side with nothing, before its BUCKETS of no digests and
+/// behind them.
+type Said = (&'static [u8], &'static [u8]);
+
+const EMPTY_CALLEE: Said = (
+    b"\x07\x00\x00\x00\x02\x00\x02\x06\x00\x00\x00\x02\x00\x00\x02\x00\x00\x00\x04\x00\x00\x00\x00",
+    b"\x01\x00\x00\x00\x04\x00\x00\x00\x00\x04\x00\x00\x00\x00",
+);
+
+const EMPTY_CALLER: Said = (
+    HELLO,
+    b"\x01\x00\x00\x00\x04\x00\x00\x00\x00\x04\x00\x00\x00\x00\
+    \x06\x00\x00\x00\x02\x00\x00\x02\x00\x00\x00\x04\x00\x00\x00\x00",
+);
+
+// At version 1.
+const OLD_CALLEE: Said = (
+    b"\x06\x00\x00\x00\x02\x00\x00\x02\x00\x00\x00\x04\x00\x00\x00\x00",
+    b"\x01\x00\x00\x00\x04\x00\x00\x00\x00\x04\x00\x00\x00\x00",
+);
+
+const OLD_CALLER: Said = (
+    b"",
+    b"\x01\x00\x00\x00\x04\x00\x00\x00\x00\x04\x00\x00\x00\x00\
+    \x06\x00\x00\x00\x02\x00\x00\x02\x00\x00\x00\x04\x00\x00\x00\x00",
+);
+
+/// A text with the BUCKETS of no digests between these.
+fn around(alloc: Global, said: Said) -> Result<Vec<u8>, AllocError> {
+    let (before, behind) = said;
     let mut text = Vec::new(alloc);
     text.extend_from_slice(before)?;
     let buckets = no_buckets(alloc)?;
     text.extend_from_slice(buckets.as_slice())?;
     text.extend_from_slice(behind)?;
     Ok(text)
-}
-
-/// What a side with nothing reads from a peer with nothing, where it calls.
-fn of_empty_callee(alloc: Global) -> Result<Vec<u8>, AllocError> {
-    around(
-        alloc,
-        b"\x07\x00\x00\x00\x02\x00\x02\x06\x00\x00\x00\x02\x00\x00\x02\x00\x00\x00\x04\x00\x00\x00\
-        \x00",
-        b"\x01\x00\x00\x00\x04\x00\x00\x00\x00\x04\x00\x00\x00\x00",
-    )
-}
-
-/// And where it is called.
-fn of_empty_caller(alloc: Global) -> Result<Vec<u8>, AllocError> {
-    around(
-        alloc,
-        HELLO,
-        b"\x01\x00\x00\x00\x04\x00\x00\x00\x00\x04\x00\x00\x00\x00\
-        \x06\x00\x00\x00\x02\x00\x00\x02\x00\x00\x00\x04\x00\x00\x00\x00",
-    )
-}
-
-/// What such a side reads at version 1, where it calls.
-fn of_old_callee(alloc: Global) -> Result<Vec<u8>, AllocError> {
-    around(
-        alloc,
-        b"\x06\x00\x00\x00\x02\x00\x00\x02\x00\x00\x00\x04\x00\x00\x00\x00",
-        b"\x01\x00\x00\x00\x04\x00\x00\x00\x00\x04\x00\x00\x00\x00",
-    )
-}
-
-/// And where it is called.
-fn of_old_caller(alloc: Global) -> Result<Vec<u8>, AllocError> {
-    around(
-        alloc,
-        b"",
-        b"\x01\x00\x00\x00\x04\x00\x00\x00\x00\x04\x00\x00\x00\x00\
-        \x06\x00\x00\x00\x02\x00\x00\x02\x00\x00\x00\x04\x00\x00\x00\x00",
-    )
 }
 
 /// How the exchange of a side ended, and what it wrote where there was room for so many bytes.
@@ -157,8 +146,8 @@ fn says_nothing(alloc: Global, site: &mut Site, caller: &[u8], callee: &[u8]) ->
 
 #[test]
 fn two_empty_sites_write_8234_bytes_each(rt: HostRuntime) -> Result<(), Fail> {
-    let caller = of_empty_caller(rt.alloc())?;
-    let callee = of_empty_callee(rt.alloc())?;
+    let caller = around(rt.alloc(), EMPTY_CALLER)?;
+    let callee = around(rt.alloc(), EMPTY_CALLEE)?;
     equal(caller.len(), 8234, "a caller's bytes")?;
     let mut site = Site::new(rt.alloc());
     says_nothing(rt.alloc(), &mut site, caller.as_slice(), callee.as_slice())
@@ -205,8 +194,8 @@ fn fronts_are_no_exchange(
 
 #[test]
 fn a_stream_that_ends_too_soon_is_no_exchange(rt: HostRuntime) -> Result<(), Fail> {
-    let caller = of_empty_caller(rt.alloc())?;
-    let callee = of_empty_callee(rt.alloc())?;
+    let caller = around(rt.alloc(), EMPTY_CALLER)?;
+    let callee = around(rt.alloc(), EMPTY_CALLEE)?;
     let mut site = Site::new(rt.alloc());
     fronts_are_no_exchange(rt.alloc(), &mut site, caller.as_slice(), callee.as_slice())
 }
@@ -236,55 +225,31 @@ fn end_too_soon(
     )
 }
 
-fn ends_too_soon(alloc: Global, role: Role, input: &[u8], output: &[u8]) -> Result<(), Fail> {
+fn ends_too_soon(alloc: Global, role: Role, input: Said, output: Said) -> Result<(), Fail> {
+    let input = around(alloc, input)?;
+    let output = around(alloc, output)?;
     let mut site = Site::new(alloc);
-    end_too_soon(alloc, role, &mut site, input, output)
+    end_too_soon(alloc, role, &mut site, input.as_slice(), output.as_slice())
 }
 
-#[test]
-fn a_callee_that_ends_too_soon_is_no_exchange(rt: HostRuntime) -> Result<(), Fail> {
-    let caller = of_empty_caller(rt.alloc())?;
-    let callee = of_empty_callee(rt.alloc())?;
-    ends_too_soon(
-        rt.alloc(),
-        Role::Caller,
-        callee.as_slice(),
-        caller.as_slice(),
-    )
-}
+/// A side, what it reads and what it writes.
+const PEERS: [(Role, Said, Said); 3] = [
+    (Role::Caller, EMPTY_CALLEE, EMPTY_CALLER),
+    (Role::OldCaller, OLD_CALLEE, OLD_CALLER),
+    (Role::Callee, OLD_CALLER, OLD_CALLEE),
+];
 
 #[test]
-fn an_old_callee_that_ends_too_soon_is_no_exchange(rt: HostRuntime) -> Result<(), Fail> {
-    let caller = of_old_caller(rt.alloc())?;
-    let callee = of_old_callee(rt.alloc())?;
-    ends_too_soon(
-        rt.alloc(),
-        Role::OldCaller,
-        callee.as_slice(),
-        caller.as_slice(),
-    )
-}
-
-#[test]
-fn an_old_caller_that_ends_too_soon_is_no_exchange(rt: HostRuntime) -> Result<(), Fail> {
-    let caller = of_old_caller(rt.alloc())?;
-    let callee = of_old_callee(rt.alloc())?;
-    ends_too_soon(
-        rt.alloc(),
-        Role::Callee,
-        caller.as_slice(),
-        callee.as_slice(),
-    )
+fn a_peer_that_ends_too_soon_is_no_exchange(rt: HostRuntime) -> Result<(), Fail> {
+    for (role, input, output) in PEERS {
+        ends_too_soon(rt.alloc(), role, input, output)?;
+    }
+    Ok(())
 }
 
 /// What a callee with nothing says to a caller with nothing, but for a GIVE in the place of END.
 fn unasked(alloc: Global) -> Result<Vec<u8>, AllocError> {
-    let mut input = around(
-        alloc,
-        b"\x07\x00\x00\x00\x02\x00\x02\x06\x00\x00\x00\x02\x00\x00\x02\x00\x00\x00\x04\x00\x00\x00\
-        \x00",
-        NO_HAVE,
-    )?;
+    let mut input = around(alloc, (EMPTY_CALLEE.0, NO_HAVE))?;
     input.extend_from_slice(b"\x03\x00\x00\x00\x1f")?;
     input.extend_from_slice(OF_STUDY)?;
     Ok(input)
@@ -417,7 +382,7 @@ fn an_old_caller_is_given_what_it_knows(rt: HostRuntime) -> Result<(), Fail> {
 /// What a caller with one operation says to a callee that asks for it, but for the GIVE.
 fn without_gift(alloc: Global) -> Result<Vec<u8>, Fail> {
     let have = digest_of(alloc, OF_STUDY)?;
-    let mut input = around(alloc, HELLO, b"\x01\x00\x00\x00\x24\x00\x00\x00\x01")?;
+    let mut input = around(alloc, (HELLO, b"\x01\x00\x00\x00\x24\x00\x00\x00\x01"))?;
     input.extend_from_slice(have.as_bytes())?;
     input.extend_from_slice(b"\x04\x00\x00\x00\x00\x06\x00\x00\x00\x02\x00\x00")?;
     input.extend_from_slice(b"\x02\x00\x00\x00\x04\x00\x00\x00\x00")?;
@@ -450,7 +415,7 @@ fn fails(
     room: usize,
     what: &str,
 ) -> Result<usize, Fail> {
-    let reader = Supply::new(Octets::of(of_empty_callee(alloc)?), 9000, read);
+    let reader = Supply::new(Octets::of(around(alloc, EMPTY_CALLEE)?), 9000, read);
     let (out, ended) = run_over(alloc, Role::Caller, site, reader, room);
     equal(fault_of(ended), 4, what)?;
     Ok(out.as_slice().len())

@@ -19,13 +19,10 @@ pub(crate) const OF_STUDY: &[u8] =
 pub(crate) const OF_SERIES: &[u8] =
     b"\x03\x071.2.1.1\x00\x08\x10\x3e\x00\x04HEAD\x00\x00\x00\x00\x00\x00\x00\x01\x00\x01";
 
-fn op_of(alloc: Global, body: Bytes) -> Result<Op, Fail> {
-    Ok(decode(alloc, body)?)
-}
-
 /// The operation that a text spells.
 pub(crate) fn op(alloc: Global, text: &[u8]) -> Result<Op, Fail> {
-    op_of(alloc, Bytes::copy_from_slice(alloc, text)?)
+    let body = Bytes::copy_from_slice(alloc, text)?;
+    Ok(decode(alloc, body)?)
 }
 
 pub(crate) fn digest_of(alloc: Global, text: &[u8]) -> Result<Digest, Fail> {
