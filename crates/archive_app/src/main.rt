@@ -1,8 +1,18 @@
-//! The program `archive`.
+//! The program `archive`: a file for each command, and what they share.
 #![tactic(auto)]
 
+mod answering;
+mod correct;
+mod ending;
+mod exchanging;
+mod file;
+mod progress;
+mod report;
+mod serve;
+mod simulate;
+
+use crate::answering::{Answered, answer};
 use anyhow::Result;
-use archive_commands::{Answered, answer};
 use command_line::{is_want_of_memory, read_words};
 use command_output::{ending_of, status_of_refusal};
 use log::Log;

@@ -55,6 +55,31 @@ impl<H: HubName, K: Keep> Promise<Done<H>> for Begun<H, K> {
 
 type Started<H, K> = Result<PromisedHandle<Done<H>, Begun<H, K>>, Done<H>>;
 
+/// Starts a thread for a job, whose results keep a promise. A thread that is refused is noted by
+/// its place, and its job, which then accepts nothing, is done here.
+fn begin<'s, E, P: Promise<T> + Drop, F: FnOnce() -> T + Send + 's, T: Send + Drop + 's>(
+    scope: &Scope<'s, E>,
+    refused: &AtomicU64,
+    place: u64,
+    promise: P,
+    job: F,
+) -> Result<PromisedHandle<T, P>, T>
+    requires runs { F.pre job }
+    requires keeps { (result : T) → F.post job result → P.kept_by promise result }
+    ensures { MatchResult result (λ thread. thread.promise ≡ promise) (P.kept_by promise) }
+{
+    match Stack::new()
+        .stack_size(STACK)
+        .spawn_scoped_with(scope, promise, job)
+    {
+        Ok(thread) => Ok(thread),
+        Err(back) => {
+            refused.store(place, Ordering::SeqCst);
+            Err((back.value)())
+        }
+    }
+}
+
 /// Starts a worker's thread. One that is refused accepts nothing.
 fn start<
     's,
@@ -93,16 +118,7 @@ fn start<
             (is_some hall.entry.now.manner.ending) hall.entry.now.each result.accepted
             result.fault }
     { work(place, hall, desk, gate, pass) };
-    match Stack::new()
-        .stack_size(STACK)
-        .spawn_scoped_with(scope, begun, job)
-    {
-        Ok(thread) => Ok(thread),
-        Err(back) => {
-            hall.refused.store(place, Ordering::SeqCst);
-            Err((back.value)())
-        }
-    }
+    begin(scope, &hall.refused, place, begun, job)
 }
 
 /// Starts the thread of exchanges. One that is refused accepts nothing.
@@ -142,16 +158,7 @@ fn start_exchanges<
         ensures { HasServed K.is_up K.holds K.lasts pass result.pass
             (is_some hall.entry.now.manner.ending) rounds result.accepted result.fault }
     { exchange_all(place, hall, entrance, rounds, desk, pass) };
-    match Stack::new()
-        .stack_size(STACK)
-        .spawn_scoped_with(scope, begun, job)
-    {
-        Ok(thread) => Ok(thread),
-        Err(back) => {
-            hall.refused.store(place, Ordering::SeqCst);
-            Err((back.value)())
-        }
-    }
+    begin(scope, &hall.refused, place, begun, job)
 }
 
 /// Starts the thread that calls a peer. One that is refused calls nobody.
@@ -191,16 +198,7 @@ fn start_meeting<
         ensures { HasServed K.is_up K.holds K.lasts pass result.pass false 0 result.accepted
             result.fault }
     { meet_all(place, hall, peer, to, ended, pass) };
-    match Stack::new()
-        .stack_size(STACK)
-        .spawn_scoped_with(scope, begun, job)
-    {
-        Ok(thread) => Ok(thread),
-        Err(back) => {
-            hall.refused.store(place, Ordering::SeqCst);
-            Err((back.value)())
-        }
-    }
+    begin(scope, &hall.refused, place, begun, job)
 }
 
 /// What a thread came back with.

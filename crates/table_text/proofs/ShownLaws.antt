@@ -1,19 +1,21 @@
--- Texts of characters that a terminal shows, one behind the other.
-use Rattle.std.proofs.Common.{◌≡◌, ℕ, ◌+◌, List, [], ◌∷◌, ◌++◌, false, refl, sym, ap, ◌∙◌, append-nil}
-use Rattle.std.proofs.Common.{length-append, subst}
-use Rattle.std.specs.Prelude.{not, ◌&&◌, Bool, true}
+-- What is shown of a table are lines of characters, none of which is a control character.
+use Rattle.std.proofs.Common.{◌≡◌, ℕ, zero, suc, ◌+◌, List, [], ◌∷◌, ◌++◌, refl, sym, ap, ◌∙◌, map, length, replicate}
+use Rattle.std.proofs.Common.{Bool, true, false, if◌then◌else◌, ◌||◌, ◌==◌, arith}
+use Rattle.std.specs.Prelude.{not, ◌&&◌}
 use Rattle.std.specs.Char.{is_control, encode_utf8}
 use Rattle.std.specs.List.{flat_map, list_all}
 use Rattle.std.proofs.lemmas.Grind.{flat_map-append}
-use Rattle.std.proofs.lemmas.List.{append_assoc}
-use Rattle.std.proofs.lemmas.List.Elements.{All-nil, All-push}
-use Rattle.std.proofs.lemmas.List.Folds.{list_all-append}
-use Rattle.table_text.specs.Shown.{IsShown, AddsShown, AddsLine, AreLines}
+use Rattle.std.proofs.lemmas.List.{length-map}
+use Rattle.std.proofs.lemmas.List.Elements.{All-map}
+use Rattle.std.proofs.lemmas.List.Folds.{list_all-append, flat_map-map}
+use Rattle.bstr.specs.Utf8.{lossy_chars}
+use Rattle.table_text.specs.Aligned.{shown_char, shown_text, gap, cells_from, widths, aligned}
+use Rattle.table_text.specs.Shown.{IsShown, AreLines}
 
-pub none_shown : IsShown []
+none_shown : IsShown []
 none_shown = record { chars = []; plain = refl; spelled = refl }
 
-pub space_shown : IsShown (32 ∷ [])
+space_shown : IsShown (32 ∷ [])
 unfolding encode_utf8
 space_shown = record { chars = 32 ∷ []; plain = refl; spelled = refl }
 
@@ -23,7 +25,7 @@ both_plain true false p q = q
 both_plain false b p q = p
 
 -- one behind the other
-pub both_shown : (a b : List ℕ) → IsShown a → IsShown b → IsShown (a ++ b)
+both_shown : (a b : List ℕ) → IsShown a → IsShown b → IsShown (a ++ b)
 both_shown a b p q = record {
   chars = p.chars ++ q.chars;
   plain = list_all-append (λ c. not (is_control c)) p.chars q.chars
@@ -33,56 +35,52 @@ both_shown a b p q = record {
       ∙ sym (flat_map-append encode_utf8 p.chars q.chars);
 }
 
-char_plain : (c : ℕ) → is_control c ≡ false → (not (is_control c) && true) ≡ true
-char_plain c e = rw e refl
+-- a question mark stands for each control character
+plain_or : (c : ℕ) (is other : Bool) → is_control c ≡ is → not (is_control (if is || other then 63 else c)) ≡ true
+plain_or c true other said = refl
+plain_or c false true said = refl
+plain_or c false false said = ap not said
 
--- a character that is none of control
-pub char_shown : (c : ℕ) → is_control c ≡ false → IsShown (encode_utf8 c)
-char_shown c e = record {
-  chars = c ∷ [];
-  plain = char_plain c e;
-  spelled = sym (append-nil (encode_utf8 c));
+all_plain : (cs : List ℕ) → list_all (λ c. not (is_control c)) (map shown_char cs) ≡ true
+all_plain [] = refl
+all_plain (c ∷ cs) = both_plain (not (is_control (shown_char c)))
+    (list_all (λ c. not (is_control c)) (map shown_char cs)) (plain_or c (is_control c) (c == 65533) refl)
+    (all_plain cs)
+
+text_shown : (text : List ℕ) → IsShown (shown_text text)
+unfolding shown_text
+text_shown text = record {
+  chars = map shown_char (lossy_chars text);
+  plain = all_plain (lossy_chars text);
+  spelled = refl;
 }
 
-pub more_shown : (text more : List ℕ) (c : ℕ) → IsShown text → is_control c ≡ false → more ≡ text ++ encode_utf8 c
-    → IsShown more
-more_shown text more c p e is = subst IsShown (sym is) (both_shown text (encode_utf8 c) p (char_shown c e))
+spaces_shown : (count : ℕ) → IsShown (replicate count 32)
+spaces_shown zero = none_shown
+spaces_shown (suc count) = both_shown (32 ∷ []) (replicate count 32) space_shown (spaces_shown count)
 
--- ---- behind what was put before
+gap_shown : (wide : ℕ) (cell : List ℕ) → IsShown (gap wide cell)
+gap_shown wide cell = both_shown _ (32 ∷ 32 ∷ []) (spaces_shown _)
+    (both_shown (32 ∷ []) (32 ∷ []) space_shown space_shown)
 
-pub adds_none : (text : List ℕ) → AddsShown text text
-adds_none text = record { part = []; shown = none_shown; joined = sym (append-nil text) }
+-- the cells of a line
+cells_shown : (sizes : List ℕ) (column : ℕ) (row : List (List ℕ))
+    → IsShown (cells_from sizes column (map shown_text row))
+cells_shown sizes column [] = none_shown
+cells_shown sizes column (cell ∷ []) = text_shown cell
+cells_shown sizes column (cell ∷ next ∷ cells) = both_shown _ _
+    (both_shown (shown_text cell) _ (text_shown cell) (gap_shown _ (shown_text cell)))
+    (cells_shown sizes (column + 1) (next ∷ cells))
 
-pub adds_more : (old mid new part : List ℕ) → AddsShown old mid → IsShown part → new ≡ mid ++ part → AddsShown old new
-adds_more old mid new part a p is = record {
-  part = a.part ++ part;
-  shown = both_shown a.part part a.shown p;
-  joined = is ∙ ap (λ (t : List ℕ). t ++ part) a.joined ∙ append_assoc old a.part part;
-}
-
-pub adds_then : (old mid new : List ℕ) → AddsShown old mid → AddsShown mid new → AddsShown old new
-adds_then old mid new a b = adds_more old mid new b.part a b.shown b.joined
-
--- a line feed ends the line
-pub adds_line : (old mid new : List ℕ) → AddsShown old mid → new ≡ mid ++ 10 ∷ [] → AddsLine old new
-adds_line old mid new a is = record {
-  line = a.part;
-  shown = a.shown;
-  joined = is ∙ ap (λ (t : List ℕ). t ++ 10 ∷ []) a.joined ∙ append_assoc old a.part (10 ∷ []);
-}
-
--- ---- lines
-
-pub no_lines : AreLines 0 []
-no_lines = record { lines = []; counted = refl; shown = All-nil IsShown; joined = refl }
-
-pub one_line_more : (count : ℕ) (old new : List ℕ) → AreLines count old → AddsLine old new → AreLines (count + 1) new
-one_line_more count old new are a = record {
-  lines = are.lines ++ a.line ∷ [];
-  counted = length-append are.lines (a.line ∷ []) ∙ ap (λ (n : ℕ). n + 1) are.counted;
-  shown = All-push IsShown are.lines a.line are.shown a.shown;
-  joined = a.joined ∙ ap (λ (t : List ℕ). t ++ (a.line ++ 10 ∷ [])) are.joined
-      ∙ ap (λ (t : List ℕ). flat_map (λ line. line ++ 10 ∷ []) are.lines ++ t)
-      (sym (append-nil (a.line ++ 10 ∷ [])))
-      ∙ sym (flat_map-append (λ line. line ++ 10 ∷ []) are.lines (a.line ∷ []));
-}
+-- a line for the heading and one for each row
+pub lines_shown : (heading : List (List ℕ)) (rows : List (List (List ℕ)))
+    → AreLines (1 + length rows) (aligned heading rows)
+lines_shown heading rows =
+    let table = heading ∷ rows in let sizes = widths (length heading) (map (map shown_text) table) in
+    let line = λ (row : List (List ℕ)). cells_from sizes 0 (map shown_text row) in record {
+      lines = map line table;
+      counted = omega (arith, length-map table line);
+      shown = All-map IsShown line table (λ k d within. cells_shown sizes 0 _);
+      joined = flat_map-map (λ row. cells_from sizes 0 row ++ 10 ∷ []) (map shown_text) table
+          ∙ sym (flat_map-map (λ line. line ++ 10 ∷ []) line table);
+    }

@@ -1,1 +1,3 @@
+pub mod Aligned
+pub mod Separated
 pub mod Shown

@@ -9,18 +9,6 @@ pub record IsShown (text : List ℕ) : Type 0 where
   pub plain : list_all (λ c. not (is_control c)) chars ≡ true
   pub spelled : text ≡ flat_map encode_utf8 chars
 
--- Behind the old text stands such a text.
-pub record AddsShown (old new : List ℕ) : Type 0 where
-  pub part : List ℕ
-  pub shown : IsShown part
-  pub joined : new ≡ old ++ part
-
--- Behind the old text stands a line: such a text with a line feed behind it.
-pub record AddsLine (old new : List ℕ) : Type 0 where
-  pub line : List ℕ
-  pub shown : IsShown line
-  pub joined : new ≡ old ++ (line ++ 10 ∷ [])
-
 -- so many lines
 pub record AreLines (count : ℕ) (text : List ℕ) : Type 0 where
   pub lines : List (List ℕ)

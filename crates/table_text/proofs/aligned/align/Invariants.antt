@@ -1,14 +1,19 @@
-use Rattle.std.proofs.Common.{◌≡◌, ◌+◌, length, All}
+use Rattle.std.proofs.Common.{◌≡◌, ◌++◌, ◌∷◌, [], map, take}
+use Rattle.std.specs.List.{flat_map}
 use Rattle.std.specs.String.{string_bytes}
-use Rattle.table_text.specs.Shown.{IsShown, AreLines}
+use Rattle.table_text.specs.Aligned.{shown_text, widths, cells_from}
 use Rattle.table_text.proofs.aligned.align.Given as goal
 
--- The heading and the rows so far are lines of cells that are shown.
+-- The heading and the rows so far, as they are shown.
 abbrev pub invariant-loop-row : goal.invariant-loop-row
-invariant-loop-row l =
-    All (λ cells. All (λ cell. IsShown (string_bytes cell)) cells.items) l.lines.items
-    × (length l.lines.items ≡ 1 + l.row-index)
+invariant-loop-row l = map (λ row. map string_bytes row.items) l.lines.items
+    ≡ map (λ cell. shown_text cell.now) l.heading ∷ map (map shown_text) (take l.row-index l.rows)
 
--- So many lines were put as lines of cells were passed.
+-- The widths of the columns so far.
+abbrev pub invariant-loop-column : goal.invariant-loop-column
+invariant-loop-column l = l.widths.items ≡ widths l.column (map (λ row. map string_bytes row.items) l.table)
+
+-- The lines so far were put.
 abbrev pub invariant-loop-line : goal.invariant-loop-line
-invariant-loop-line l = AreLines l.line-index l.out.items
+invariant-loop-line l = l.out.items ≡ flat_map (λ row. cells_from l.widths.items 0 row ++ 10 ∷ [])
+    (map (λ row. map string_bytes row.items) (take l.line-index l.table))

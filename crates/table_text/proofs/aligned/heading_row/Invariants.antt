@@ -1,8 +1,8 @@
-use Rattle.std.proofs.Common.{All}
+use Rattle.std.proofs.Common.{◌≡◌, map, take}
 use Rattle.std.specs.String.{string_bytes}
-use Rattle.table_text.specs.Shown.{IsShown}
+use Rattle.table_text.specs.Aligned.{shown_text}
 use Rattle.table_text.proofs.aligned.heading_row.Given as goal
 
--- Each cell so far is shown.
+-- The cells so far, as they are shown.
 abbrev pub invariant-loop-cell : goal.invariant-loop-cell
-invariant-loop-cell l = All (λ cell. IsShown (string_bytes cell)) l.cells.items
+invariant-loop-cell l = map string_bytes l.cells.items ≡ map (λ cell. shown_text cell.now) (take l.cell-index l.heading)

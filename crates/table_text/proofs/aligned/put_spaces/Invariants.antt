@@ -1,6 +1,6 @@
-use Rattle.table_text.specs.Shown.{AddsShown}
+use Rattle.std.proofs.Common.{◌≡◌, ◌++◌, replicate}
 use Rattle.table_text.proofs.aligned.put_spaces.Given as goal
 
--- Spaces were put, and nothing else.
+-- So many spaces stand behind what was there.
 abbrev pub invariant-loop : goal.invariant-loop
-invariant-loop l = AddsShown l.fn.out.items l.out.items
+invariant-loop l = l.out.items ≡ l.fn.out.items ++ replicate l.counter 32

@@ -1,8 +1,15 @@
+use Rattle.std.proofs.Common.{rules, ◌≡◌, ◌∙◌, ◌++◌, [], sym, ap, map, append-nil}
+use Rattle.std.specs.Char.{encode_utf8}
+use Rattle.std.specs.List.{flat_map}
 use Rattle.std.specs.String.{string_bytes}
-use Rattle.table_text.proofs.ShownLaws.{more_shown}
+use Rattle.table_text.specs.Aligned.{shown_char, shown_text}
 use Rattle.table_text.proofs.aligned.shown.Goals as goal
 
--- One character more, which is none of control.
-pub loop-c-preserved : goal.loop-c-preserved
-loop-c-preserved c = more_shown (string_bytes c.loop-c.out) (string_bytes c.push.new.self) c.shown_char.result
-    c.loop-c.invariant c.shown_char.ensures c.in_ok-push.ensures.bytes
+-- No character is left.
+pub returns : goal.returns
+unfolding shown_text
+returns c =
+    let gone : c.loop-c.c-iterator ≡ [] = search rules in
+    sym (append-nil (string_bytes c.loop-c.out))
+    ∙ ap (λ cs. string_bytes c.loop-c.out ++ flat_map encode_utf8 (map shown_char cs)) (sym gone)
+    ∙ c.loop-c.invariant

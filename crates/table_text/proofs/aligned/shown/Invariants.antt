@@ -1,7 +1,12 @@
+use Rattle.std.proofs.Common.{◌≡◌, ◌++◌, map}
+use Rattle.std.specs.Char.{encode_utf8}
+use Rattle.std.specs.List.{flat_map}
 use Rattle.std.specs.String.{string_bytes}
-use Rattle.table_text.specs.Shown.{IsShown}
+use Rattle.bstr.specs.Utf8.{lossy_chars}
+use Rattle.table_text.specs.Aligned.{shown_char}
 use Rattle.table_text.proofs.aligned.shown.Given as goal
 
--- What was put so far is shown.
+-- With what is shown of the characters that are left the text is whole.
 abbrev pub invariant-loop-c : goal.invariant-loop-c
-invariant-loop-c l = IsShown (string_bytes l.out)
+invariant-loop-c l = string_bytes l.out ++ flat_map encode_utf8 (map shown_char l.c-iterator)
+    ≡ flat_map encode_utf8 (map shown_char (lossy_chars l.fn.text))

@@ -1,4 +1,4 @@
-use Rattle.archive_commands.proofs.serve.serve_site.Given as goal
+use Rattle.archive_app.proofs.serve.serve_site.Given as goal
 
 -- the hub that was just opened
 abbrev pub ghosts-serve_hub : goal.ghosts-serve_hub
