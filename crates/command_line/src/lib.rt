@@ -73,85 +73,6 @@ fn word<'a>(alloc: Global, name: &'a str, help: &'a str) -> Arg<'a> {
     Arg::new(alloc, name).required(true).help(help)
 }
 
-/// An option that names a table.
-fn table_of<'a>(alloc: Global, name: &'a str, help: &'a str) -> Arg<'a> {
-    Arg::new(alloc, name)
-        .long(name)
-        .action(ArgAction::SetTrue)
-        .help(help)
-}
-
-/// The options that name tables, of which one may be given.
-fn tables_of<'a>(alloc: Global) -> Result<ArgGroup<'a>, AllocError> {
-    ArgGroup::new(alloc, "table")
-        .arg("conflicts")?
-        .arg("rejected")?
-        .arg("corrections")?
-        .arg("studies")
-}
-
-fn report_command<'a>(alloc: Global) -> Result<Command<'a>, AllocError> {
-    let separated = Arg::new(alloc, "tsv")
-        .long("tsv")
-        .action(ArgAction::SetTrue)
-        .requires_arg("table")?
-        .help("Parts the cells of the table by tabs");
-    Command::new(alloc, "report")
-        .about(REPORT)
-        .arg(word(alloc, "FILE", "The file with the operations"))?
-        .arg(table_of(
-            alloc,
-            "conflicts",
-            "The contents of each SOP Instance UID that has two or more, and which is picked",
-        ))?
-        .arg(table_of(
-            alloc,
-            "rejected",
-            "The UIDs that rejection notes name, with the titles of the notes and the notes",
-        ))?
-        .arg(table_of(
-            alloc,
-            "corrections",
-            "The corrections, and which of them count",
-        ))?
-        .arg(table_of(
-            alloc,
-            "studies",
-            "The studies that ARCHIVE shows, corrected",
-        ))?
-        .arg(separated)?
-        .group(tables_of(alloc)?)
-}
-
-fn correct_command<'a>(alloc: Global) -> Result<Command<'a>, AllocError> {
-    let site = word(alloc, "site", "The number of the site, from 1 to 65535")
-        .long("site")
-        .value_name("N")
-        .value_parser(value_parser!(u16).range(1..));
-    let key = "The Study Instance UID, Patient ID or Series Instance UID";
-    Command::new(alloc, "correct")
-        .about(CORRECT)
-        .arg(word(alloc, "FILE", "The file with the operations"))?
-        .arg(site)?
-        .arg(word(alloc, "TARGET", "study, patient or series"))?
-        .arg(word(alloc, "KEY", key))?
-        .arg(word(alloc, "TAG", "The attribute, in eight hexadecimal digits"))?
-        .arg(word(
-            alloc,
-            "VALUE",
-            "Its new value, behind -- where it begins with -",
-        ))
-}
-
-/// An option that names networks.
-fn networks_of<'a>(alloc: Global, name: &'a str, help: &'a str) -> Arg<'a> {
-    Arg::new(alloc, name)
-        .long(name)
-        .value_name("NETWORK")
-        .action(ArgAction::Append)
-        .help(help)
-}
-
 /// An option without a value.
 fn flag<'a>(alloc: Global, name: &'a str, help: &'a str) -> Arg<'a> {
     Arg::new(alloc, name)
@@ -160,109 +81,169 @@ fn flag<'a>(alloc: Global, name: &'a str, help: &'a str) -> Arg<'a> {
         .help(help)
 }
 
-/// With the options of the exchanges that a server serves, and of the sites that it calls.
+/// An option with a value.
+fn option<'a>(alloc: Global, name: &'a str, value: &'a str, help: &'a str) -> Arg<'a> {
+    Arg::new(alloc, name)
+        .long(name)
+        .value_name(value)
+        .help(help)
+}
+
+/// An option with a value, which has to be there.
+fn needed<'a>(alloc: Global, name: &'a str, value: &'a str, help: &'a str) -> Arg<'a> {
+    option(alloc, name, value, help).required(true)
+}
+
+/// An option that may be given again and again.
+fn options<'a>(alloc: Global, name: &'a str, value: &'a str, help: &'a str) -> Arg<'a> {
+    option(alloc, name, value, help).action(ArgAction::Append)
+}
+
+/// A command with one word or option more.
+fn with<'a>(command: Command<'a>, arg: Arg<'a>) -> Result<Command<'a>, AllocError> {
+    command.arg(arg)
+}
+
+/// A command with an option that wants another one beside it.
+fn with_wanting<'a>(
+    command: Command<'a>,
+    arg: Arg<'a>,
+    wanted: &'a str,
+) -> Result<Command<'a>, AllocError> {
+    command.arg(arg.requires_arg(wanted)?)
+}
+
+/// A command of a file.
+fn command_of<'a>(alloc: Global, name: &'a str, about: &'a str) -> Result<Command<'a>, AllocError> {
+    let file = word(alloc, "FILE", "The file with the operations");
+    with(Command::new(alloc, name).about(about), file)
+}
+
+/// With the options that name tables, of which one may be given.
+fn with_tables<'a>(alloc: Global, command: Command<'a>) -> Result<Command<'a>, AllocError> {
+    let conflicts =
+        "The contents of each SOP Instance UID that has two or more, and which is picked";
+    let rejected = "The UIDs that rejection notes name, with the titles of the notes and the notes";
+    let corrections = "The corrections, and which of them count";
+    let studies = "The studies that ARCHIVE shows, corrected";
+    let command = with(command, flag(alloc, "conflicts", conflicts))?;
+    let command = with(command, flag(alloc, "rejected", rejected))?;
+    let command = with(command, flag(alloc, "corrections", corrections))?;
+    with(command, flag(alloc, "studies", studies))
+}
+
+/// A group with one option more.
+fn beside<'a>(group: ArgGroup<'a>, name: &'a str) -> Result<ArgGroup<'a>, AllocError> {
+    group.arg(name)
+}
+
+/// The options that name tables, of which one may be given.
+fn tables_of<'a>(alloc: Global) -> Result<ArgGroup<'a>, AllocError> {
+    let group = beside(ArgGroup::new(alloc, "table"), "conflicts")?;
+    let group = beside(group, "rejected")?;
+    let group = beside(group, "corrections")?;
+    beside(group, "studies")
+}
+
+fn report_command<'a>(alloc: Global) -> Result<Command<'a>, AllocError> {
+    let tables = tables_of(alloc)?;
+    let separated = "Parts the cells of the table by tabs";
+    let command = with_tables(alloc, command_of(alloc, "report", REPORT)?)?;
+    let command = with_wanting(command, flag(alloc, "tsv", separated), "table")?;
+    command.group(tables)
+}
+
+fn correct_command<'a>(alloc: Global) -> Result<Command<'a>, AllocError> {
+    let site = needed(
+        alloc,
+        "site",
+        "N",
+        "The number of the site, from 1 to 65535",
+    )
+    .value_parser(value_parser!(u16).range(1..));
+    let key = "The Study Instance UID, Patient ID or Series Instance UID";
+    let tag = "The attribute, in eight hexadecimal digits";
+    let value = "Its new value, behind -- where it begins with -";
+    let command = with(command_of(alloc, "correct", CORRECT)?, site)?;
+    let command = with(command, word(alloc, "TARGET", "study, patient or series"))?;
+    let command = with(command, word(alloc, "KEY", key))?;
+    let command = with(command, word(alloc, "TAG", tag))?;
+    with(command, word(alloc, "VALUE", value))
+}
+
+/// With the options of the exchanges that a server serves.
 fn with_exchanges<'a>(alloc: Global, command: Command<'a>) -> Result<Command<'a>, AllocError> {
-    let exchange = Arg::new(alloc, "exchange")
-        .long("exchange")
-        .value_name("ADDR")
-        .requires_arg("rounds")?
-        .help("The IPv4 address and port to listen at for exchanges");
-    let rounds = Arg::new(alloc, "rounds")
-        .long("rounds")
-        .value_name("N")
-        .value_parser(value_parser!(u32))
-        .requires_arg("exchange")?
-        .help("How many exchanges are served");
-    let peer = Arg::new(alloc, "peer")
-        .long("peer")
-        .value_name("ADDR")
-        .action(ArgAction::Append)
-        .help("The IPv4 address and port of a site that is called again and again, at most 31");
-    let every = Arg::new(alloc, "every")
-        .long("every")
-        .value_name("SECONDS")
-        .value_parser(value_parser!(u32).range(1..))
-        .requires_arg("peer")?
-        .help("How long it waits before it calls a peer again, 60 where it is left out");
-    command.arg(exchange)?.arg(rounds)?.arg(peer)?.arg(every)
+    let listen = "The IPv4 address and port to listen at for exchanges";
+    let exchange = option(alloc, "exchange", "ADDR", listen);
+    let rounds = option(alloc, "rounds", "N", "How many exchanges are served").value_parser(
+        value_parser!(u32),
+    );
+    let command = with_wanting(command, exchange, "rounds")?;
+    with_wanting(command, rounds, "exchange")
+}
+
+/// With the options of the sites that a server calls.
+fn with_peers<'a>(alloc: Global, command: Command<'a>) -> Result<Command<'a>, AllocError> {
+    let peer = "The IPv4 address and port of a site that is called again and again, at most 31";
+    let every = "How long it waits before it calls a peer again, 60 where it is left out";
+    let command = with(command, options(alloc, "peer", "ADDR", peer))?;
+    let every = option(alloc, "every", "SECONDS", every).value_parser(value_parser!(u32).range(
+        1..,
+    ));
+    with_wanting(command, every, "peer")
 }
 
 /// With the options of who may come.
 fn with_callers<'a>(alloc: Global, command: Command<'a>) -> Result<Command<'a>, AllocError> {
-    let allow = networks_of(
-        alloc,
-        "allow",
-        "A network from which associations may come, else from anywhere",
-    );
-    let exchange_allow = networks_of(
-        alloc,
-        "exchange-allow",
-        "A network from which exchanges may come, else from anywhere",
-    );
-    let calling = Arg::new(alloc, "calling")
-        .long("calling")
-        .value_name("TITLE")
-        .action(ArgAction::Append)
-        .help("A calling title that may ask for an association, else any may");
-    command.arg(allow)?.arg(exchange_allow)?.arg(calling)
+    let allow = "A network from which associations may come, else from anywhere";
+    let exchange_allow = "A network from which exchanges may come, else from anywhere";
+    let calling = "A calling title that may ask for an association, else any may";
+    let command = with(command, options(alloc, "allow", "NETWORK", allow))?;
+    let exchange_allow = options(alloc, "exchange-allow", "NETWORK", exchange_allow);
+    let command = with(command, exchange_allow)?;
+    with(command, options(alloc, "calling", "TITLE", calling))
 }
 
 /// With the options of how a server ends and what it tells.
 fn with_manner<'a>(alloc: Global, command: Command<'a>) -> Result<Command<'a>, AllocError> {
-    let until = flag(
-        alloc,
-        "until-end-of-input",
-        "Ends once its standard input does",
-    );
-    let verbose = flag(
-        alloc,
-        "verbose",
-        "Tells each association and each exchange on standard error",
-    );
-    command.arg(until)?.arg(verbose)
+    let until = "Ends once its standard input does";
+    let verbose = "Tells each association and each exchange on standard error";
+    let command = with(command, flag(alloc, "until-end-of-input", until))?;
+    with(command, flag(alloc, "verbose", verbose))
+}
+
+/// With the options of where a server listens and how much it serves.
+fn with_workers<'a>(alloc: Global, command: Command<'a>) -> Result<Command<'a>, AllocError> {
+    let listen = "The IPv4 address and port to listen at";
+    let workers = "How many associations are served at once, 1 to 32";
+    let each = "How many associations each worker accepts";
+    let command = with(command, needed(alloc, "listen", "ADDR", listen))?;
+    let workers = needed(alloc, "workers", "N", workers).value_parser(value_parser!(u16).range(
+        1..=32,
+    ));
+    let command = with(command, workers)?;
+    let each = needed(alloc, "each", "N", each).value_parser(value_parser!(u32));
+    with(command, each)
 }
 
 fn serve_command<'a>(alloc: Global) -> Result<Command<'a>, AllocError> {
-    let listen = word(alloc, "listen", "The IPv4 address and port to listen at")
-        .long("listen")
-        .value_name("ADDR");
-    let workers = word(
-        alloc,
-        "workers",
-        "How many associations are served at once, 1 to 32",
-    )
-    .long("workers")
-    .value_name("N")
-    .value_parser(value_parser!(u16).range(1..=32));
-    let each = word(alloc, "each", "How many associations each worker accepts")
-        .long("each")
-        .value_name("N")
-        .value_parser(value_parser!(u32));
-    let command = Command::new(alloc, "serve")
-        .about(SERVE)
-        .arg(word(alloc, "FILE", "The file with the operations"))?
-        .arg(listen)?
-        .arg(workers)?
-        .arg(each)?;
+    let command = command_of(alloc, "serve", SERVE)?;
+    let command = with_workers(alloc, command)?;
     let command = with_exchanges(alloc, command)?;
+    let command = with_peers(alloc, command)?;
     let command = with_callers(alloc, command)?;
     with_manner(alloc, command)
 }
 
 fn exchange_command<'a>(alloc: Global) -> Result<Command<'a>, AllocError> {
-    let peer = word(alloc, "peer", "The IPv4 address and port of the other site")
-        .long("peer")
-        .value_name("ADDR");
-    let version = Arg::new(alloc, "peer-version")
-        .long("peer-version")
-        .value_name("N")
-        .value_parser(value_parser!(u16).range(1..=2))
-        .help("The version that the other site speaks: 1 for one that knows no HELLO, else 2");
-    Command::new(alloc, "exchange")
-        .about(EXCHANGE)
-        .arg(word(alloc, "FILE", "The file with the operations"))?
-        .arg(peer)?
-        .arg(version)
+    let peer = "The IPv4 address and port of the other site";
+    let known = "The version that the other site speaks: 1 for one that knows no HELLO, else 2";
+    let command = command_of(alloc, "exchange", EXCHANGE)?;
+    let command = with(command, needed(alloc, "peer", "ADDR", peer))?;
+    let version = option(alloc, "peer-version", "N", known).value_parser(value_parser!(u16).range(
+        1..=2,
+    ));
+    with(command, version)
 }
 
 fn archive_command<'a>(alloc: Global) -> Result<Command<'a>, AllocError> {
