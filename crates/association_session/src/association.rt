@@ -44,7 +44,6 @@ use std::marker::Model;
 use ul_state::{Acceptor, Action, Event, Settled, State, Titles};
 
 /// An association without its reader, its writer and its port.
-#[derive(Drop)]
 pub(crate) struct Association {
     alloc: Global,
     /// `None` once memory was refused.
@@ -56,6 +55,20 @@ pub(crate) struct Association {
     awaited: Option<Due>,
     /// The values of the last P-DATA-TF that are not heard yet.
     queue: VecDeque<Pdv>,
+}
+
+// It is written out, so that a caller does not prove again how each part is dropped.
+impl Drop for Association {
+    fn drop(self) {
+        let Association {
+            alloc: _,
+            acceptor: _,
+            link: _,
+            sub: _,
+            awaited: _,
+            queue: _,
+        } = self;
+    }
 }
 
 impl Model for Association {

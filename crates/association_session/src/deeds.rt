@@ -25,11 +25,20 @@ enum Part {
 }
 
 /// Deeds that are still to be done, in order.
-#[derive(Drop)]
 pub struct Deeds {
     /// What is left to be sent of a message, before all parts.
     sending: Fragments,
     parts: VecDeque<Part>,
+}
+
+// It is written out, so that a caller does not prove again how each part is dropped.
+impl Drop for Deeds {
+    fn drop(self) {
+        let Deeds {
+            sending: _,
+            parts: _,
+        } = self;
+    }
 }
 
 impl Model for Deeds {

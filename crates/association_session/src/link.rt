@@ -20,10 +20,19 @@ use ul_state::Settled;
 
 /// The accepted presentation contexts with the fragments since the last message, and how long what
 /// is sent may be.
-#[derive(Drop)]
 pub(crate) struct Link {
     pub(crate) assembler: Assembler,
     pub(crate) limit: u32,
+}
+
+// It is written out, so that a caller does not prove again how each part is dropped.
+impl Drop for Link {
+    fn drop(self) {
+        let Link {
+            assembler: _,
+            limit: _,
+        } = self;
+    }
 }
 
 impl Model for Link {

@@ -18,12 +18,23 @@ use ul_state::{Event, State, Titles};
 ///
 /// It asks the port for one thing at a time, and takes the reply before anything else. Rows are
 /// told some at a time, and before anything else is heard.
-#[derive(Drop)]
 pub struct Session {
     alloc: Global,
     association: Association,
     aborted: bool,
     released: bool,
+}
+
+// It is written out, so that a caller does not prove again how each part is dropped.
+impl Drop for Session {
+    fn drop(self) {
+        let Session {
+            alloc: _,
+            association: _,
+            aborted: _,
+            released: _,
+        } = self;
+    }
 }
 
 impl Model for Session {

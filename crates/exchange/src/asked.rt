@@ -17,12 +17,22 @@ use std::marker::Model;
 
 /// The digests of operations that were asked for, each with whether its operation was given. What
 /// was asked for last stands first. Contracts see the list of these pairs.
-#[derive(Drop)]
 pub(crate) struct Asked {
     digests: Digests,
     flags: Vec<bool>,
     /// Whether the digests ascend, so that one is found by halves.
     ascend: bool,
+}
+
+// It is written out, so that a caller does not prove again how each part is dropped.
+impl Drop for Asked {
+    fn drop(self) {
+        let Asked {
+            digests: _,
+            flags: _,
+            ascend: _,
+        } = self;
+    }
 }
 
 impl Model for Asked {

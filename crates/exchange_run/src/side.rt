@@ -28,13 +28,25 @@ pub(crate) enum Said {
 }
 
 /// A side, and where it is in its exchange.
-#[derive(Drop)]
 pub(crate) struct Side {
     role: Role,
     awaited: Awaited,
     round: Round,
     given: u64,
     taken: u64,
+}
+
+// It is written out, so that a caller does not prove again how each part is dropped.
+impl Drop for Side {
+    fn drop(self) {
+        let Side {
+            role: _,
+            awaited: _,
+            round: _,
+            given: _,
+            taken: _,
+        } = self;
+    }
 }
 
 /// What is awaited first. Where it is a greeting, the peer's version is not known yet.

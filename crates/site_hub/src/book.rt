@@ -134,7 +134,6 @@ pub struct Book<H: HubName> {
 }
 
 /// A beginning of a hub's history that was reached. Contracts see it as its entries.
-#[derive(Drop)]
 pub struct Front<H: HubName> {
     entries: u64,
     seen: Seen<Entry, u64, Law>,
@@ -152,6 +151,17 @@ impl<H: HubName> Model for Front<H> {
 
     ghost invariant = { λ f. (f.entries ≡ length f.seen.log) × (f.seen.book ≡ H.book)
         × IsHistory H.opening f.seen.log };
+}
+
+// It is written out, so that a caller does not prove again how each part is dropped.
+impl<H: HubName> Drop for Front<H> {
+    fn drop(self) {
+        let Front {
+            entries: _,
+            seen: _,
+            of: _,
+        } = self;
+    }
 }
 
 impl<H: HubName> Front<H> {

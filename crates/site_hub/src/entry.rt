@@ -4,10 +4,17 @@ use octets::ListOf;
 use operation::{Digest, Digested};
 
 /// An operation that was taken for a pass, with its digest.
-#[derive(Debug, Drop)]
+#[derive(Debug)]
 pub struct Entry {
     pub pass: u64,
     pub op: Digested,
+}
+
+// It is written out, so that a caller does not prove again how each part is dropped.
+impl Drop for Entry {
+    fn drop(self) {
+        let Entry { pass: _, op: _ } = self;
+    }
 }
 
 /// An entry, by the digest of its operation.

@@ -15,7 +15,6 @@ use std::marker::Model;
 use std::sync::Wait;
 
 /// A hub that no type names yet: a site in two copies, over a history that has no entry.
-#[derive(Drop)]
 pub struct Opened<R: Wait + Drop> {
     blank: Blank,
     first: Site,
@@ -42,6 +41,21 @@ impl<R: Wait + Drop> Model for Opened<R> {
     } };
 
     ghost invariant = { λ o. (o.second ≡ o.first) × (1 ≤ o.passes) × (o.passes ≤ 64) };
+}
+
+// It is written out, so that a caller does not prove again how each part is dropped.
+impl<R: Wait + Drop> Drop for Opened<R> {
+    fn drop(self) {
+        let Opened {
+            blank: _,
+            first: _,
+            second: _,
+            number: _,
+            passes: _,
+            alloc: _,
+            rt: _,
+        } = self;
+    }
 }
 
 /// Opens a hub over a site, which has this number, for so many passes.

@@ -27,7 +27,6 @@ use std::marker::Model;
 /// Each look answers over a history that begins with all that the pass had seen, and which is seen
 /// from then on, also where memory was refused for the answer. A look is `Busy`, and changes
 /// nothing, where the copy that is published is older than that, or no copy can be entered.
-#[derive(Drop)]
 pub struct Pass<H: HubName> {
     pub(crate) reader: ReadHandle<Snapshot<H>>,
     pub(crate) number: u64,
@@ -42,6 +41,19 @@ impl<H: HubName> Model for Pass<H> {
     ghost Value = { Seat };
 
     ghost view = { λ p. record { number = p.number; seen = p.seen; mine = p.mine.items } };
+}
+
+// It is written out, so that a caller does not prove again how each part is dropped.
+impl<H: HubName> Drop for Pass<H> {
+    fn drop(self) {
+        let Pass {
+            reader: _,
+            number: _,
+            seen: _,
+            mine: _,
+            alloc: _,
+        } = self;
+    }
 }
 
 impl<H: HubName> Pass<H> {

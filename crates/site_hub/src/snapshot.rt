@@ -12,7 +12,6 @@ use std::alloc::{AllocError, Global};
 use std::marker::Model;
 
 /// A copy of a hub's site. Contracts see the history that it stands for.
-#[derive(Drop)]
 pub struct Snapshot<H: HubName> {
     site: Site,
     front: Front<H>,
@@ -29,6 +28,17 @@ impl<H: HubName> Model for Snapshot<H> {
     ghost view = { λ s. s.front };
 
     ghost invariant = { λ s. s.site ≡ set_of H.opening s.front };
+}
+
+// It is written out, so that a caller does not prove again how each part is dropped.
+impl<H: HubName> Drop for Snapshot<H> {
+    fn drop(self) {
+        let Snapshot {
+            site: _,
+            front: _,
+            alloc: _,
+        } = self;
+    }
 }
 
 impl<H: HubName> Snapshot<H> {
@@ -68,7 +78,6 @@ impl<H: HubName> Snapshot<H> {
 }
 
 /// An entry with the history that it ends.
-#[derive(Drop)]
 pub struct Item<H: HubName> {
     entry: Entry,
     front: Front<H>,
@@ -84,6 +93,13 @@ impl<H: HubName> Model for Item<H> {
     ghost view = { λ i. i.front };
 
     ghost invariant = { λ i. EndsWith i.front i.entry };
+}
+
+// It is written out, so that a caller does not prove again how each part is dropped.
+impl<H: HubName> Drop for Item<H> {
+    fn drop(self) {
+        let Item { entry: _, front: _ } = self;
+    }
 }
 
 impl<H: HubName> Item<H> {

@@ -7,7 +7,6 @@ use std::marker::Model;
 
 /// That an operation was taken. It names the history reached, so a pass that learns it looks at
 /// nothing older.
-#[derive(Drop)]
 pub struct Told<H: HubName> {
     pub(crate) front: Front<H>,
     pub(crate) taken: Taken,
@@ -19,6 +18,13 @@ impl<H: HubName> Model for Told<H> {
     ghost Value = { News };
 
     ghost view = { λ t. record { reached = t.front; taken = t.taken } };
+}
+
+// It is written out, so that a caller does not prove again how each part is dropped.
+impl<H: HubName> Drop for Told<H> {
+    fn drop(self) {
+        let Told { front: _, taken: _ } = self;
+    }
 }
 
 impl<H: HubName> Told<H> {

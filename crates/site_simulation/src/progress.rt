@@ -51,12 +51,23 @@ impl<T: Drop> From<AllocFailed<T>> for LineFault {
 }
 
 /// What a script has made, the front of the line in hand, and how many lines ended.
-#[derive(Drop)]
 pub struct Progress {
     script: Script,
     front: Vec<u8>,
     lines: u64,
     text: Vec<u8>,
+}
+
+// It is written out, so that a caller does not prove again how each part is dropped.
+impl Drop for Progress {
+    fn drop(self) {
+        let Progress {
+            script: _,
+            front: _,
+            lines: _,
+            text: _,
+        } = self;
+    }
 }
 
 impl Model for Progress {

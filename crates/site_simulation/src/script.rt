@@ -57,11 +57,21 @@ pub enum Move {
 }
 
 /// What a script has made so far.
-#[derive(Drop)]
 pub struct Script {
     names: Vec<Octets>,
     world: World,
     alloc: Global,
+}
+
+// It is written out, so that a caller does not prove again how each part is dropped.
+impl Drop for Script {
+    fn drop(self) {
+        let Script {
+            names: _,
+            world: _,
+            alloc: _,
+        } = self;
+    }
 }
 
 impl Model for Script {

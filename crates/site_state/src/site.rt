@@ -33,7 +33,6 @@ mod lending;
 
 /// The operations of a site, each under its digest, with their index and the greatest counter of
 /// its corrections.
-#[derive(Drop)]
 pub struct Site {
     operations: BTreeMap<Digest, Op>,
     index: Index,
@@ -57,6 +56,18 @@ impl Model for Site {
         × HasTop (finmap.from_entries s.operations.entries) s.top
         × HasIndex (finmap.from_entries s.operations.entries) s.index
         × HasLawful (finmap.from_entries s.operations.entries) };
+}
+
+// It is written out, so that a caller does not prove again how each part is dropped.
+impl Drop for Site {
+    fn drop(self) {
+        let Site {
+            operations: _,
+            index: _,
+            top: _,
+            alloc: _,
+        } = self;
+    }
 }
 
 /// The counter of a correction, and 0 of a content.

@@ -37,12 +37,23 @@ pub const MOST_SITES: usize = 16;
 
 /// Several sites, at most 16, every message that was sent between them, and which of the sites know
 /// no corrections of series.
-#[derive(Drop)]
 pub struct World {
     sites: Vec<Site>,
     sent: Vec<Message>,
     aged: Vec<usize>,
     alloc: Global,
+}
+
+// It is written out, so that a caller does not prove again how each part is dropped.
+impl Drop for World {
+    fn drop(self) {
+        let World {
+            sites: _,
+            sent: _,
+            aged: _,
+            alloc: _,
+        } = self;
+    }
 }
 
 impl Model for World {
