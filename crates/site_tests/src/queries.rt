@@ -1,5 +1,0 @@
-//! Tests of queries and rows.
-
-mod levels;
-mod made;
-mod many;

@@ -1,4 +1,0 @@
-//! What small sites send.
-
-mod made;
-mod many;
