@@ -1,14 +1,11 @@
 //! The figures, each a line on standard output.
-ghost use Rattle.std.specs.Prelude.{◌≡◌};
-
 use crate::made::{IMAGE_LENGTH, images, queries};
-use crate::running::{MOST_READERS, Work, run};
+use crate::running::{Looks, MOST_READERS, Work, worked};
 use anyhow::{Result, anyhow};
 use operation::Digested;
 use site_hub::open;
 use site_state::Site;
 use std::alloc::Global;
-use std::marker::Brand;
 use std::rt::HostRuntime;
 use std::sync::Wait;
 use std::thread::Threads;
@@ -32,8 +29,17 @@ fn a_second(count: u64, time: Duration) -> u128 {
     u128::from(count).saturating_mul(1_000_000) / micros
 }
 
+/// How many looks were answered.
+fn answered(looks: [Looks; 4]) -> u64 {
+    let mut answered = 0u64;
+    for look in looks {
+        answered = answered.saturating_add(look.answered);
+    }
+    answered
+}
+
 /// The number of a word.
-fn number(words: &[String], place: usize) -> Result<u64> {
+pub fn number(words: &[String], place: usize) -> Result<u64> {
     match words.get(place) {
         Some(word) => Ok(word.as_str().parse::<u64>()?),
         None => Err(anyhow!("a number is missing")),
@@ -53,14 +59,14 @@ pub fn published<R: Threads + Wait + Sync>(
         images: images(alloc, count)?,
         queries: queries(alloc, 1)?,
         readers,
-        looks: u64::MAX,
+        most: u64::MAX,
     };
     let opened = open(alloc, host, Site::new(alloc), 1, 5)?;
     let begin = Instant::now(rt)?;
-    let looks = run::<Brand, _>(host, opened, work)?;
+    let looks = worked(host, opened, work)?;
     let time = begin.elapsed(rt)?;
     let publishes = a_second(count, time);
-    let answered = a_second(looks, time);
+    let answered = a_second(answered(looks), time);
     println!(rt; "{publishes} published a second, {answered} looks a second by {readers}")?;
     Ok(())
 }
@@ -79,13 +85,13 @@ pub fn looked<R: Threads + Wait + Sync>(
         images: Vec::new(alloc),
         queries: queries(alloc, count)?,
         readers,
-        looks: number(words, 4)?,
+        most: number(words, 4)?,
     };
     let opened = open(alloc, host, site, 1, 5)?;
     let begin = Instant::now(rt)?;
-    let looks = run::<Brand, _>(host, opened, work)?;
+    let looks = worked(host, opened, work)?;
     let time = begin.elapsed(rt)?;
-    let answered = a_second(looks, time);
+    let answered = a_second(answered(looks), time);
     println!(rt; "{answered} looks a second by {readers}")?;
     Ok(())
 }

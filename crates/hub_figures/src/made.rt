@@ -1,12 +1,13 @@
 //! The images that are published, and the query that is asked.
 
 use anyhow::Result;
-use archive_query::Query;
+use archive_query::{Level, Query};
+use archive_retrieve::{Accepted, Accepts, Selection};
 use bytes::Bytes;
 use data_set::{Syntax, read};
-use octets::Octets;
-use operation::{Digested, Op, content_of};
-use std::alloc::Global;
+use octets::{ListOf, Octets};
+use operation::{Digested, Op, Stamp, Target, content_of, correction_of};
+use std::alloc::{AllocError, Global};
 
 /// How many bytes the data set of an image has.
 pub const IMAGE_LENGTH: usize = 1_966;
@@ -15,24 +16,25 @@ pub const IMAGE_LENGTH: usize = 1_966;
 const CT: &[u8] = b"1.2.840.10008.5.1.4.1.1.2";
 
 /// An element in Implicit VR Little Endian, which a byte pads to even length.
-fn put(bytes: &mut Vec<u8>, tag: [u8; 4], value: &[u8], pad: u8) -> Result<()> {
-    let size = u32::try_from(value.len())?;
+fn put(bytes: &mut Vec<u8>, tag: [u8; 4], value: &[u8], pad: u8) -> Result<(), AllocError> {
+    let odd = value.len() % 2;
+    let [a, b, c, d, ..] = (value.len().saturating_add(odd) as u64).to_le_bytes();
     bytes.extend_from_slice(tag.as_slice())?;
-    bytes.extend_from_slice(size.saturating_add(size % 2).to_le_bytes().as_slice())?;
+    bytes.extend_from_slice(&[a, b, c, d])?;
     bytes.extend_from_slice(value)?;
-    if size % 2 == 1 {
-        bytes.push(pad)?;
+    if odd == 1 {
+        bytes.extend_from_slice(&[pad])?;
     }
     Ok(())
 }
 
 /// The UID of study k.
-fn study(alloc: Global, k: u64) -> Result<String> {
-    Ok(format!(in alloc; "1.2.826.0.1.3680043.2.1143.{k}")?)
+fn study(alloc: Global, k: u64) -> Result<String, AllocError> {
+    format!(in alloc; "1.2.826.0.1.3680043.2.1143.{k}")
 }
 
 /// The data set of the only image of study k.
-fn image_set(alloc: Global, k: u64) -> Result<Vec<u8>> {
+fn image_set(alloc: Global, k: u64) -> Result<Vec<u8>, AllocError> {
     let study = study(alloc, k)?;
     let series = format!(in alloc; "{study}.1")?;
     let uid = format!(in alloc; "{study}.1.1")?;
@@ -73,7 +75,7 @@ fn image_set(alloc: Global, k: u64) -> Result<Vec<u8>> {
 }
 
 /// The only image of study k, with its digest.
-fn image(alloc: Global, k: u64) -> Result<Digested> {
+pub fn image(alloc: Global, k: u64) -> Result<Digested> {
     let bytes = image_set(alloc, k)?;
     let uid = format!(in alloc; "{study}.1.1", study = study(alloc, k)?)?;
     let class = Octets::from_slice(alloc, CT)?;
@@ -81,6 +83,51 @@ fn image(alloc: Global, k: u64) -> Result<Digested> {
     let body = Bytes::from_vec(bytes)?;
     let content = content_of(alloc, class, instance, Syntax::Implicit, body)?;
     Ok(Digested::of(Op::Content(content)))
+}
+
+/// (0010,0010) Patient's Name
+pub const NAME: u32 = 0x0010_0010;
+
+/// The first study.
+pub fn target(alloc: Global) -> Result<Target> {
+    let study = study(alloc, 0)?;
+    Ok(Target::Study(Octets::from_slice(alloc, study.as_bytes())?))
+}
+
+/// A name that its patient is given.
+pub fn name_given(alloc: Global) -> Result<Octets> {
+    Ok(Octets::from_slice(alloc, b"ROE^ANN")?)
+}
+
+/// The correction of that name by site 1, with this counter.
+pub fn correction(alloc: Global, counter: u64) -> Result<Op> {
+    let stamp = Stamp { counter, site: 1 };
+    let made = correction_of(target(alloc)?, NAME, name_given(alloc)?, stamp)?;
+    Ok(Op::Correction(made))
+}
+
+/// All of the first study, at the level of studies.
+pub fn selection(alloc: Global) -> Result<Selection> {
+    let study = study(alloc, 0)?;
+    let uid = Octets::from_slice(alloc, study.as_bytes())?;
+    Ok(Selection {
+        level: Level::Study,
+        study: Octets::from_slice(alloc, study.as_bytes())?,
+        series: Octets::from_slice(alloc, b"")?,
+        uids: ListOf::of(vec![in alloc; uid]?),
+    })
+}
+
+/// CT images in the implicit syntax alone.
+pub fn accepts(alloc: Global) -> Result<Accepts> {
+    let accepted = Accepted {
+        class: Octets::from_slice(alloc, CT)?,
+        implicit: true,
+        explicit: false,
+    };
+    Ok(Accepts {
+        list: ListOf::of(vec![in alloc; accepted]?),
+    })
 }
 
 /// So many images, each of a study of its own.
@@ -92,8 +139,8 @@ pub fn images(alloc: Global, count: u64) -> Result<Vec<Digested>> {
     Ok(images)
 }
 
-/// A query by the UID of study k, with four keys more.
-fn query(alloc: Global, k: u64) -> Result<Query> {
+/// The identifier of a query by the UID of study k, with four keys more.
+fn identifier(alloc: Global, k: u64) -> Result<Vec<u8>, AllocError> {
     let study = study(alloc, k)?;
     let mut bytes = Vec::new(alloc);
     put(&mut bytes, [0x08, 0x00, 0x20, 0x00], b"", b' ')?;
@@ -102,6 +149,12 @@ fn query(alloc: Global, k: u64) -> Result<Query> {
     put(&mut bytes, [0x10, 0x00, 0x10, 0x00], b"", b' ')?;
     put(&mut bytes, [0x10, 0x00, 0x20, 0x00], b"", b' ')?;
     put(&mut bytes, [0x20, 0x00, 0x0d, 0x00], study.as_bytes(), 0)?;
+    Ok(bytes)
+}
+
+/// That query.
+fn query(alloc: Global, k: u64) -> Result<Query> {
+    let bytes = identifier(alloc, k)?;
     let set = read(alloc, Syntax::Implicit, &bytes)?;
     Ok(Query::read(alloc, &set)?)
 }

@@ -1,90 +1,237 @@
-//! Servers of two workers.
+//! Servers, and what comes to them.
 
-use crate::client::{Answered, Asked};
-use crate::serving::{Client, Service, UNENDED, connected, open_to_all, served};
-use crate::shelves::Counting;
-use archive_server::Entrance;
-use assertions::equal;
-use ipv4_networks::Network;
+use crate::messages::Step;
+use crate::serving::{Service, Told, open_to_all, served};
+use crate::visitors::{EXCHANGES, Partner, Visitors};
+use archive_server::{Exchanging, Peer};
+use assertions::{equal, equal_at, holds};
 use log::Log;
 use std::alloc::Global;
-use std::net::{Ipv4Addr, Net, TcpListener, TcpStream};
+use std::io;
+use std::net::{Net, TcpListener, TcpStream};
 use std::sync::Wait;
 use std::test::Fail;
 use std::thread::Threads;
-use std::time::Clock;
+use std::time::{Clock, Duration};
 
-/// Serves rows with two workers and a shelf of so much room, each worker half of the rows. It says
-/// whether clients heard what they wanted, how many associations were accepted, and what the shelf
-/// was asked.
-fn by_two<R: Net<Listener = TcpListener, Stream = TcpStream> + Threads + Wait + Clock + Log + Sync>(
+/// Connects so many times. What listens need not have accepted.
+fn connected<R: Net<Listener = TcpListener, Stream = TcpStream>>(
     rt: &R,
     alloc: Global,
-    entrance: Entrance<'_>,
-    room: u64,
-    rows: &[(Asked, Answered)],
-) -> Result<(bool, u64, u64), Fail> {
-    let streams = connected(rt, alloc, entrance.listener, rows.len())?;
-    let mut shelf = Counting { asked: 0, room };
+    listener: &TcpListener,
+    count: usize,
+) -> io::Result<Vec<TcpStream>> {
+    let to = listener.local_addr()?;
+    let mut streams = Vec::new(alloc);
+    for _ in 0..count {
+        streams.push(TcpStream::connect(rt, to)?)?;
+    }
+    Ok(streams)
+}
+
+/// How many workers a server has, and how many associations each takes; how many peers come first
+/// and say nothing, or stop behind a byte or two; what is asked while these hold their workers, and
+/// what once they are let go.
+#[derive(Clone, Copy)]
+struct Plan<'a> {
+    workers: usize,
+    each: u64,
+    silent: usize,
+    meanwhile: &'a [Step],
+    last: &'a [Step],
+}
+
+/// Those of a plan that come to a listener.
+fn visitors_of<'a, R: Net<Listener = TcpListener, Stream = TcpStream>>(
+    rt: &R,
+    alloc: Global,
+    listener: &TcpListener,
+    plan: Plan<'a>,
+    partner: Partner,
+) -> io::Result<Visitors<'a>> {
+    Ok(Visitors {
+        holding: connected(rt, alloc, listener, plan.silent)?,
+        meanwhile: (
+            connected(rt, alloc, listener, plan.meanwhile.len())?,
+            plan.meanwhile,
+        ),
+        partner,
+        last: (connected(rt, alloc, listener, plan.last.len())?, plan.last),
+    })
+}
+
+/// What comes of a plan at a server that exchanges with nobody.
+fn planned<
+    R: Net<Listener = TcpListener, Stream = TcpStream> + Threads + Wait + Clock + Log + Sync,
+>(rt: &R, alloc: Global, room: u64, plan: Plan<'_>) -> Result<Told, Fail> {
+    let listener = TcpListener::bind(rt, "127.0.0.1:0")?;
+    let visitors = visitors_of(rt, alloc, &listener, plan, Partner::Nobody)?;
     let service = Service {
-        entrance,
-        workers: 2,
-        each: (rows.len() / 2) as u64,
-        manner: UNENDED,
+        entrance: open_to_all(&listener),
+        workers: plan.workers,
+        each: plan.each,
+        exchange: None,
+        peers: &[],
     };
-    let client = Client::Asks(streams.as_slice(), rows);
-    let (heard, told) = served(rt, alloc, service, &mut shelf, client)?;
-    Ok((heard, told.accepted, shelf.asked))
+    served(rt, alloc, service, room, visitors)
 }
 
 /// With two associations each worker serves one: the second sees what the first stored.
 #[test]
 fn an_image_stored_at_one_worker_is_found_at_the_other(rt: HostRuntime) -> Result<(), Fail> {
-    let listener = TcpListener::bind(&rt, "127.0.0.1:0")?;
-    let rows = [
-        (Asked::Store, Answered::Stored),
-        (Asked::Find, Answered::Row),
-    ];
-    let came = by_two(&rt, rt.alloc(), open_to_all(&listener), 1, rows.as_slice())?;
-    equal(came, (true, 2, 1), "heard, accepted, put")
+    let plan = Plan {
+        workers: 2,
+        each: 1,
+        silent: 0,
+        meanwhile: &[Step::Stored(101), Step::Found(1)],
+        last: &[],
+    };
+    let all = Told {
+        held: 1,
+        accepted: Some(2),
+        asked: 1,
+    };
+    equal(planned(&rt, rt.alloc(), 1, plan)?, all, "what came of it")
 }
 
 /// An image that the shelf refuses is answered A700H and is in no row.
 #[test]
 fn an_image_that_the_shelf_refuses_is_not_found(rt: HostRuntime) -> Result<(), Fail> {
-    let listener = TcpListener::bind(&rt, "127.0.0.1:0")?;
-    let rows = [
-        (Asked::Echo, Answered::Echoed),
-        (Asked::Store, Answered::Refused),
-        (Asked::Find, Answered::NoRow),
-        (Asked::Find, Answered::NoRow),
-    ];
-    let came = by_two(&rt, rt.alloc(), open_to_all(&listener), 0, rows.as_slice())?;
-    equal(came, (true, 4, 1), "heard, accepted, put")
+    let plan = Plan {
+        workers: 2,
+        each: 2,
+        silent: 0,
+        meanwhile: &[
+            Step::Refused(101),
+            Step::Found(0),
+            Step::Found(0),
+            Step::Found(0),
+        ],
+        last: &[],
+    };
+    let all = Told {
+        held: 1,
+        accepted: Some(4),
+        asked: 1,
+    };
+    equal(planned(&rt, rt.alloc(), 0, plan)?, all, "what came of it")
 }
 
-/// A peer from elsewhere than the networks that are allowed hears nothing, and counts.
+/// Peers that say nothing, or stop in their first PDU, hold their own workers and no other.
 #[test]
-fn a_peer_from_elsewhere_is_turned_away(rt: HostRuntime) -> Result<(), Fail> {
+fn silent_peers_hold_no_other_worker(rt: HostRuntime) -> Result<(), Fail> {
+    let found = [Step::Found(1); 3];
+    for workers in [2usize, 4] {
+        let silent = workers.saturating_sub(1);
+        let plan = Plan {
+            workers,
+            each: 2,
+            silent,
+            meanwhile: &[Step::Stored(101), Step::Found(1)],
+            last: found.get(..silent).unwrap_or(&[]),
+        };
+        let all = Told {
+            held: 1,
+            accepted: Some(2 * workers as u64),
+            asked: 1,
+        };
+        equal_at(
+            planned(&rt, rt.alloc(), 1, plan)?,
+            all,
+            "what came of it",
+            workers,
+        )?;
+    }
+    Ok(())
+}
+
+// An image is stored at a server of one worker, then a site exchanges with it, and then the image
+// is found.
+const MET: Plan<'static> = Plan {
+    workers: 1,
+    each: 2,
+    silent: 0,
+    meanwhile: &[Step::Stored(101)],
+    last: &[Step::Found(1)],
+};
+
+// The site has its correction and the image, and the server's shelf was asked to keep both.
+const BOTH: Told = Told {
+    held: 2,
+    accepted: Some(2),
+    asked: 2,
+};
+
+/// A server has an image, and a site that calls it a correction: afterwards both have both.
+#[test]
+fn a_site_that_exchanges_with_a_server_has_what_it_has(rt: HostRuntime) -> Result<(), Fail> {
+    let alloc = rt.alloc();
     let listener = TcpListener::bind(&rt, "127.0.0.1:0")?;
-    let allowed = [
-        Network {
-            address: Ipv4Addr::new(10, 0, 0, 0),
-            bits: 8,
-        },
-        Network {
-            address: Ipv4Addr::new(127, 0, 0, 2),
-            bits: 32,
-        },
-    ];
-    let entrance = Entrance {
-        listener: &listener,
-        allowed: allowed.as_slice(),
+    let exchanges = TcpListener::bind(&rt, "127.0.0.1:0")?;
+    let partner = Partner::Calls(exchanges.local_addr()?);
+    let visitors = visitors_of(&rt, alloc, &listener, MET, partner)?;
+    let service = Service {
+        entrance: open_to_all(&listener),
+        workers: MET.workers,
+        each: MET.each,
+        exchange: Some(Exchanging {
+            entrance: open_to_all(&exchanges),
+            rounds: EXCHANGES,
+            workers: 2,
+        }),
+        peers: &[],
     };
-    let rows = [
-        (Asked::Nothing, Answered::Nothing),
-        (Asked::Nothing, Answered::Nothing),
+    equal(
+        served(&rt, alloc, service, 2, visitors)?,
+        BOTH,
+        "what came of it",
+    )
+}
+
+/// The address of a listener, in words.
+fn address_of(alloc: Global, listener: &TcpListener) -> Result<String, Fail> {
+    let to = listener.local_addr()?;
+    Ok(format!(in alloc; "{to}")?)
+}
+
+/// The same of a site that the server calls at two addresses.
+#[test]
+fn a_site_that_a_server_calls_has_what_it_has(rt: HostRuntime) -> Result<(), Fail> {
+    let alloc = rt.alloc();
+    let listener = TcpListener::bind(&rt, "127.0.0.1:0")?;
+    let here = TcpListener::bind(&rt, "127.0.0.1:0")?;
+    let there = TcpListener::bind(&rt, "127.0.0.1:0")?;
+    let addresses = [address_of(alloc, &here)?, address_of(alloc, &there)?];
+    let visitors = visitors_of(&rt, alloc, &listener, MET, Partner::IsCalled(here, there))?;
+    let every = Duration::from_millis(1);
+    let [one, other] = &addresses;
+    let peers = [
+        Peer {
+            address: one.as_str(),
+            every,
+        },
+        Peer {
+            address: other.as_str(),
+            every,
+        },
     ];
-    let came = by_two(&rt, rt.alloc(), entrance, 0, rows.as_slice())?;
-    equal(came, (true, 2, 0), "heard, accepted, put")
+    let service = Service {
+        entrance: open_to_all(&listener),
+        workers: MET.workers,
+        each: MET.each,
+        exchange: None,
+        peers: &peers,
+    };
+    let told = served(&rt, alloc, service, 3, visitors)?;
+    // The second thread may be given the correction before the first one has taken it.
+    holds(
+        (2..=3).contains(&told.asked),
+        "the shelf was asked to keep both",
+    )?;
+    let all = (BOTH.held, BOTH.accepted);
+    equal(
+        (told.held, told.accepted),
+        all,
+        "what the site has, and how many were accepted",
+    )
 }

@@ -1,4 +1,4 @@
-use Rattle.hub_tests.proofs.ports.serve.Given as goal
+use Rattle.server_tests.proofs.hubs.serve.Given as goal
 
 -- what the pass is when its association begins
 abbrev pub ghosts-associate : goal.ghosts-associate

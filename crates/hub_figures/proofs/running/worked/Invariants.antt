@@ -1,8 +1,8 @@
-use Rattle.server_tests.proofs.exchanged.exchanges.Given as goal
+use Rattle.hub_figures.proofs.running.worked.Given as goal
 
 -- the hub that was just opened
-abbrev pub ghosts-met : goal.ghosts-met
-ghosts-met g a = record {
+abbrev pub ghosts-run : goal.ghosts-run
+ghosts-run g a = record {
   book = a.opened.book;
   number = a.opened.number;
   opening = a.opened.opening;
