@@ -1,4 +1,4 @@
-//! Tests of texts, data sets and operations, and of the shelves that keep operations on disk.
+//! Tests of what an assertion says, and of the shelves that keep operations on disk.
 //!
 //! They stand in a crate of their own, so that no crate is proved once more with its tests.
 #![tactic(auto)]
@@ -6,10 +6,4 @@
 #[cfg(test)]
 mod asserted;
 #[cfg(test)]
-mod data_sets;
-#[cfg(test)]
-mod operations;
-#[cfg(test)]
 mod shelf;
-#[cfg(test)]
-mod texts;

@@ -1,7 +1,4 @@
-//! Tests of shelves: over memory, over disks that stop, and over files.
+//! Tests of shelves over disks that stop.
 
-mod files;
 mod made;
-mod memory;
-mod migrations;
 mod stops;

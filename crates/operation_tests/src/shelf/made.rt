@@ -1,5 +1,5 @@
-//! What several tests make. Nothing here has a clause, so that the proof of a test does not carry
-//! the state of each call.
+//! What the tests of shelves make. Nothing here has a clause, so that the proof of a test does not
+//! carry the state of each call.
 
 use octets::Octets;
 use op_shelf::{Kept, Shelf, ShelfFault};
@@ -19,24 +19,12 @@ pub(crate) fn op(alloc: Global, counter: u64) -> Result<Op, Fail> {
     Ok(Op::Correction(correction_of(target, 0x0010_0010, value, stamp)?))
 }
 
-pub(crate) fn put<S: Alter>(
-    shelf: &mut Shelf<S>,
-    alloc: Global,
-    counter: u64,
-) -> Result<Kept, Fail> {
-    Ok(keep(shelf, &op(alloc, counter)?)?)
-}
-
 pub(crate) fn keep<S: Alter>(shelf: &mut Shelf<S>, op: &Op) -> Result<Kept, ShelfFault> {
     shelf.put(op)
 }
 
-pub(crate) fn all<S: Alter>(shelf: &mut Shelf<S>) -> Result<Vec<Digested>, ShelfFault> {
+fn all<S: Alter>(shelf: &mut Shelf<S>) -> Result<Vec<Digested>, ShelfFault> {
     shelf.all()
-}
-
-pub(crate) fn count<S: Alter>(shelf: &mut Shelf<S>, kind: u8) -> Result<u64, ShelfFault> {
-    shelf.count_kind(kind)
 }
 
 pub(crate) fn run<S: Alter>(database: &mut Connection<S>, text: &str) -> Result<(), Fail> {

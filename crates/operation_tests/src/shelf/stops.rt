@@ -1,12 +1,35 @@
 //! Shelves over disks that stop at some call, opened again.
+//!
+//! All is generic in the disk, and what can be is in the store: only tests name one.
 
-use crate::shelf::made::{OLDER, counters, keep, op, put, put_older, run};
+use crate::shelf::made::{OLDER, counters, keep, op, put_older, run};
 use assertions::holds_at;
 use op_shelf::{Shelf, make_ready};
 use sqlite::{Alter, Connection, FileStore, Files, Options};
 use sqlite_disk::{Crash, Disk, Fuse, Memory};
 use std::alloc::Global;
 use std::test::Fail;
+
+/// A disk that is frozen after so many calls.
+trait Stops: Crash + Drop {
+    /// One that holds these bytes, which are synced.
+    fn holding(alloc: Global, bytes: &[u8], calls: u64) -> Result<Self, Fail>;
+
+    fn bytes(&self) -> &[u8];
+}
+
+impl Stops for Fuse<Memory> {
+    fn holding(alloc: Global, bytes: &[u8], calls: u64) -> Result<Fuse<Memory>, Fail> {
+        let mut disk = Memory::new(alloc);
+        disk.write_at(0, bytes)?;
+        disk.sync()?;
+        Ok(Fuse::new(disk, calls))
+    }
+
+    fn bytes(&self) -> &[u8] {
+        self.inner().bytes()
+    }
+}
 
 /// What the two files of a database hold.
 #[derive(Drop)]
@@ -15,19 +38,59 @@ struct Images {
     db: Vec<u8>,
 }
 
-fn held_by(alloc: Global, files: &Files<Memory>) -> Result<Images, Fail> {
+fn held_by<D: Stops>(alloc: Global, files: &Files<D>) -> Result<Images, Fail> {
     Ok(Images {
         log: files.log.bytes().to_vec(alloc)?,
         db: files.db.bytes().to_vec(alloc)?,
     })
 }
 
-/// A disk that holds these bytes, which are synced.
-fn disk(alloc: Global, bytes: &[u8]) -> Result<Memory, Fail> {
-    let mut disk = Memory::new(alloc);
-    disk.write_at(0, bytes)?;
-    disk.sync()?;
-    Ok(disk)
+/// What is done to a database.
+#[derive(Clone, Copy)]
+enum Deed {
+    /// It is opened as a shelf.
+    Open,
+    /// The operation of a counter is put into it.
+    Put(u64),
+    /// It gets the older table, with three operations.
+    MakeOlder,
+}
+
+fn make_older<S: Alter>(alloc: Global, database: &mut Connection<S>) -> Result<(), Fail> {
+    run(database, OLDER)?;
+    for counter in 1..4 {
+        put_older(database, alloc, counter)?;
+    }
+    Ok(())
+}
+
+/// Puts the operation of a counter into a shelf: whether that was done, and the database.
+fn put_in<S: Alter + Drop>(
+    alloc: Global,
+    database: Connection<S>,
+    counter: u64,
+) -> Result<(bool, Connection<S>), Fail> {
+    let mut shelf = Shelf::adopt(alloc, database)?;
+    let is_kept = keep(&mut shelf, &op(alloc, counter)?).is_ok();
+    Ok((is_kept, shelf.into_connection()))
+}
+
+/// Whether a deed was done, and the database.
+fn done<S: Alter + Drop>(
+    alloc: Global,
+    database: Connection<S>,
+    deed: Deed,
+) -> Result<(bool, Connection<S>), Fail> {
+    let mut database = database;
+    if let Deed::MakeOlder = deed {
+        make_older(alloc, &mut database)?;
+        return Ok((true, database));
+    }
+    let is_ready = make_ready(&mut database, alloc).is_ok();
+    match deed {
+        Deed::Put(counter) if is_ready => put_in(alloc, database, counter),
+        _ => Ok((is_ready, database)),
+    }
 }
 
 /// The database in two files, or what is left of them.
@@ -51,17 +114,59 @@ fn opened<D: Disk + Drop>(
     }
 }
 
-/// The database that two images are.
-fn opened_over(
+fn files_of<D: Disk + Drop>(database: Connection<FileStore<D>>) -> Files<D> {
+    database.into_store().close()
+}
+
+fn done_over<D: Disk + Drop>(
     alloc: Global,
-    log: &[u8],
-    db: &[u8],
-) -> Result<Connection<FileStore<Memory>>, Fail> {
+    database: Connection<FileStore<D>>,
+    deed: Deed,
+) -> Result<(bool, Files<D>), Fail> {
+    let (is_done, database) = done(alloc, database, deed)?;
+    Ok((is_done, files_of(database)))
+}
+
+/// Whether a deed was done to the database in two files, and the files.
+fn done_in<D: Disk + Drop>(
+    alloc: Global,
+    files: Files<D>,
+    deed: Deed,
+) -> Result<(bool, Files<D>), Fail> {
+    match opened(alloc, files) {
+        Ok(database) => done_over(alloc, database, deed),
+        Err(left) => Ok((false, left)),
+    }
+}
+
+/// The database that two images are, on disks that do not stop.
+fn opened_over<D: Stops>(alloc: Global, images: &Images) -> Result<Connection<FileStore<D>>, Fail> {
     let files = Files {
-        log: disk(alloc, log)?,
-        db: disk(alloc, db)?,
+        log: D::holding(alloc, &images.log, u64::MAX)?,
+        db: D::holding(alloc, &images.db, u64::MAX)?,
     };
     Ok(opened(alloc, files).ok().ok_or("the files open again")?)
+}
+
+/// The counters that a database has as a shelf.
+fn counters_of<S: Alter + Drop>(alloc: Global, database: Connection<S>) -> Result<Vec<u64>, Fail> {
+    let mut shelf = Shelf::adopt(alloc, database)?;
+    counters(&mut shelf, alloc)
+}
+
+/// The counters that a shelf has over what two files hold.
+fn found<D: Stops>(alloc: Global, files: &Files<D>) -> Result<Vec<u64>, Fail> {
+    let images = held_by(alloc, files)?;
+    counters_of(alloc, opened_over::<D>(alloc, &images)?)
+}
+
+/// What is stopped, and what may then stand in the files.
+#[derive(Drop)]
+struct Case {
+    start: Images,
+    deed: Deed,
+    before: &'static [u64],
+    after: &'static [u64],
 }
 
 /// What a stop let be done, and what stands in the files after it.
@@ -72,50 +177,19 @@ struct Stop {
     crashed: Vec<u64>,
 }
 
-/// Opens two files as a shelf and puts the operation of a counter, if there is one: whether all of
-/// it was done, and the files.
-fn done<D: Disk + Drop>(
-    alloc: Global,
-    files: Files<D>,
-    counter: Option<u64>,
-) -> Result<(bool, Files<D>), Fail> {
-    let mut database = match opened(alloc, files) {
-        Ok(database) => database,
-        Err(left) => return Ok((false, left)),
-    };
-    if make_ready(&mut database, alloc).is_err() {
-        return Ok((false, database.into_store().close()));
-    }
-    let mut shelf = Shelf::adopt(alloc, database)?;
-    let is_done = match counter {
-        Some(counter) => keep(&mut shelf, &op(alloc, counter)?).is_ok(),
-        None => true,
-    };
-    Ok((is_done, shelf.into_connection().into_store().close()))
-}
-
-/// The counters that a shelf has over two images.
-fn found(alloc: Global, files: &Files<Fuse<Memory>>) -> Result<Vec<u64>, Fail> {
-    let log = files.log.inner().bytes();
-    let database = opened_over(alloc, log, files.db.inner().bytes())?;
-    let mut shelf = Shelf::adopt(alloc, database)?;
-    counters(&mut shelf, alloc)
-}
-
-/// The same over disks that are frozen after so many calls: then the process dies, or the machine
+/// A case over disks that are frozen after so many calls: then the process dies, or the machine
 /// crashes and what was not synced is lost.
-fn stopped(
+fn stopped<D: Stops>(
     alloc: Global,
-    start: &Images,
+    case: &Case,
     log_calls: u64,
     db_calls: u64,
-    counter: Option<u64>,
 ) -> Result<Stop, Fail> {
     let files = Files {
-        log: Fuse::new(disk(alloc, &start.log)?, log_calls),
-        db: Fuse::new(disk(alloc, &start.db)?, db_calls),
+        log: D::holding(alloc, &case.start.log, log_calls)?,
+        db: D::holding(alloc, &case.start.db, db_calls)?,
     };
-    let (is_done, mut left) = done(alloc, files, counter)?;
+    let (is_done, mut left) = done_in(alloc, files, case.deed)?;
     let died = found(alloc, &left)?;
     left.log.crash();
     left.db.crash();
@@ -127,15 +201,6 @@ fn stopped(
     })
 }
 
-/// What is stopped, and what then stands in the files.
-#[derive(Drop)]
-struct Case {
-    start: Images,
-    counter: Option<u64>,
-    before: &'static [u64],
-    after: &'static [u64],
-}
-
 /// Whether these counters may stand in the files: what was there before or after, and after
 /// what was done only the latter.
 fn may_be(case: &Case, is_done: bool, found: &[u64]) -> bool {
@@ -144,14 +209,14 @@ fn may_be(case: &Case, is_done: bool, found: &[u64]) -> bool {
 
 /// Stops one disk after each number of calls, until all is done before it stops: that number, and
 /// whether each stop left what it may.
-fn each_stop(alloc: Global, case: &Case, of_log: bool) -> Result<(u64, bool), Fail> {
+fn each_stop<D: Stops>(alloc: Global, case: &Case, of_log: bool) -> Result<(u64, bool), Fail> {
     for calls in 0..64 {
         let (log_calls, db_calls) = if of_log {
             (calls, u64::MAX)
         } else {
             (u64::MAX, calls)
         };
-        let stop = stopped(alloc, &case.start, log_calls, db_calls, case.counter)?;
+        let stop = stopped::<D>(alloc, case, log_calls, db_calls)?;
         if !may_be(case, stop.is_done, &stop.died) || !may_be(case, stop.is_done, &stop.crashed) {
             return Ok((calls, false));
         }
@@ -162,90 +227,101 @@ fn each_stop(alloc: Global, case: &Case, of_log: bool) -> Result<(u64, bool), Fa
     Ok((64, false))
 }
 
-fn new_file(alloc: Global) -> Case {
-    Case {
-        start: Images {
-            log: Vec::new(alloc),
-            db: Vec::new(alloc),
-        },
-        counter: None,
-        before: &[],
-        after: &[],
+/// Each stop of a case is well, of either disk, and there are some.
+fn is_safe<D: Stops>(alloc: Global, case: &Case) -> Result<(), Fail> {
+    for of_log in [true, false] {
+        let (calls, is_well) = each_stop::<D>(alloc, case, of_log)?;
+        holds_at(
+            is_well,
+            "well at each stop, where the log is stopped",
+            of_log,
+        )?;
+        holds_at(calls > 2, "some stops", calls)?;
+    }
+    Ok(())
+}
+
+fn nothing(alloc: Global) -> Images {
+    Images {
+        log: Vec::new(alloc),
+        db: Vec::new(alloc),
     }
 }
 
-/// A put of a second operation, where the first is in the log or, after a close, in the database.
-fn put_case(alloc: Global, is_closed: bool) -> Result<Case, Fail> {
-    let mut shelf = Shelf::adopt(alloc, opened_over(alloc, &[], &[])?)?;
-    let _kept = put(&mut shelf, alloc, 1)?;
-    let start = left_by(alloc, shelf.into_connection(), is_closed)?;
-    Ok(Case {
-        start,
-        counter: Some(2),
-        before: &[1],
-        after: &[1, 2],
+/// What a deed makes of new files. The log has all of it.
+fn made_by<D: Stops>(alloc: Global, deed: Deed) -> Result<Images, Fail> {
+    let (_is_done, files) = done_in(alloc, files_of_nothing::<D>(alloc)?, deed)?;
+    held_by(alloc, &files)
+}
+
+fn files_of_nothing<D: Stops>(alloc: Global) -> Result<Files<D>, Fail> {
+    Ok(Files {
+        log: D::holding(alloc, &[], u64::MAX)?,
+        db: D::holding(alloc, &[], u64::MAX)?,
     })
 }
 
-fn left_by(
-    alloc: Global,
-    database: Connection<FileStore<Memory>>,
-    is_closed: bool,
-) -> Result<Images, Fail> {
-    if !is_closed {
-        return held_by(alloc, &database.into_store().close());
-    }
+/// The same database once it was closed, which puts the log into it.
+fn closed<D: Stops>(alloc: Global, images: &Images) -> Result<Images, Fail> {
+    let database = opened_over::<D>(alloc, images)?;
     let files = database.close_files().ok().ok_or("the files close")?;
     held_by(alloc, &files)
 }
 
-/// A migration of three rows.
-fn migration(alloc: Global) -> Result<Case, Fail> {
-    let mut database = opened_over(alloc, &[], &[])?;
-    run(&mut database, OLDER)?;
-    for counter in 1..4 {
-        put_older(&mut database, alloc, counter)?;
-    }
-    Ok(Case {
-        start: left_by(alloc, database, true)?,
-        counter: None,
-        before: &[1, 2, 3],
-        after: &[1, 2, 3],
-    })
+fn opens<D: Stops>(alloc: Global) -> Result<(), Fail> {
+    let case = Case {
+        start: nothing(alloc),
+        deed: Deed::Open,
+        before: &[],
+        after: &[],
+    };
+    is_safe::<D>(alloc, &case)
 }
 
-/// Each stop of a case is well, and there are some.
-fn is_safe(alloc: Global, case: &Case, of_log: bool) -> Result<(), Fail> {
-    let (calls, is_well) = each_stop(alloc, case, of_log)?;
-    holds_at(
-        is_well,
-        "well at each stop, where the log is stopped",
-        of_log,
-    )?;
-    holds_at(calls > 2, "some stops", calls)
+/// A put of a second operation, where the first is in these files.
+fn puts_into<D: Stops>(alloc: Global, start: Images) -> Result<(), Fail> {
+    let case = Case {
+        start,
+        deed: Deed::Put(2),
+        before: &[1],
+        after: &[1, 2],
+    };
+    is_safe::<D>(alloc, &case)
 }
+
+/// The first operation is in the log or, after a close, in the database.
+fn puts<D: Stops>(alloc: Global) -> Result<(), Fail> {
+    let start = made_by::<D>(alloc, Deed::Put(1))?;
+    let after_close = closed::<D>(alloc, &start)?;
+    puts_into::<D>(alloc, start)?;
+    puts_into::<D>(alloc, after_close)
+}
+
+fn migrates<D: Stops>(alloc: Global) -> Result<(), Fail> {
+    let older = made_by::<D>(alloc, Deed::MakeOlder)?;
+    let case = Case {
+        start: closed::<D>(alloc, &older)?,
+        deed: Deed::Open,
+        before: &[1, 2, 3],
+        after: &[1, 2, 3],
+    };
+    is_safe::<D>(alloc, &case)
+}
+
+// A table that is made in two transactions fails the first test, a put that is answered before its
+// commit is synced the second, and rows that are moved in a transaction each the third.
 
 #[test]
 fn a_stop_of_an_open_of_a_new_file_leaves_it_empty(rt: HostRuntime) -> Result<(), Fail> {
-    for of_log in [true, false] {
-        is_safe(rt.alloc(), &new_file(rt.alloc()), of_log)?;
-    }
-    Ok(())
+    opens::<Fuse<Memory>>(rt.alloc())
 }
 
 #[test]
 fn a_stop_of_a_put_loses_nothing(rt: HostRuntime) -> Result<(), Fail> {
-    for (is_closed, of_log) in [(false, true), (false, false), (true, true), (true, false)] {
-        let case = put_case(rt.alloc(), is_closed)?;
-        is_safe(rt.alloc(), &case, of_log)?;
-    }
-    Ok(())
+    puts::<Fuse<Memory>>(rt.alloc())
 }
 
 #[test]
 fn a_stop_of_a_migration_leaves_the_same_operations(rt: HostRuntime) -> Result<(), Fail> {
-    for of_log in [true, false] {
-        is_safe(rt.alloc(), &migration(rt.alloc())?, of_log)?;
-    }
-    Ok(())
+    migrates::<Fuse<Memory>>(rt.alloc())
 }
