@@ -2,13 +2,13 @@
 _archive() {
     local word=${COMP_WORDS[COMP_CWORD]} before=${COMP_WORDS[COMP_CWORD - 1]} words=
     if [ "$COMP_CWORD" -eq 1 ]; then
-        words="serve exchange correct report simulate help --help"
+        words="serve exchange correct report simulate help --help --version"
     else
         case "${COMP_WORDS[1]} $before" in
-            *\ --listen | *\ --exchange | *\ --peer | *\ --every | *\ --allow | *\ --exchange-allow | *\ --calling | *\ --workers | *\ --each | *\ --rounds | *\ --site) return ;;
+            *\ --listen | *\ --exchange | *\ --peer | *\ --every | *\ --allow | *\ --exchange-allow | *\ --calling | *\ --quality-calling | *\ --audit-calling | *\ --idle | *\ --exchange-workers | *\ --workers | *\ --each | *\ --rounds | *\ --site) return ;;
             *\ --peer-version) words="1 2" ;;
-            serve\ *) words="--listen --workers --each --exchange --rounds --peer --every --allow --exchange-allow --calling --until-end-of-input --verbose --help" ;;
-            exchange\ *) words="--peer --peer-version --help" ;;
+            serve\ *) words="--listen --workers --each --exchange --rounds --exchange-workers --peer --every --allow --exchange-allow --calling --quality-calling --audit-calling --idle --until-end-of-input --verbose --help" ;;
+            exchange\ *) words="--peer --peer-version --idle --help" ;;
             correct\ *) words="--site study patient series --help" ;;
             report\ *) words="--conflicts --rejected --corrections --studies --tsv --help" ;;
             help\ help) words="serve exchange correct report simulate" ;;

@@ -71,7 +71,7 @@ class Refusals:
         """The status of a command line, what it printed and what it wrote on standard error."""
         done = subprocess.run(
             [self.program, *words], stdin=subprocess.DEVNULL, stdout=subprocess.PIPE, stderr=subprocess.PIPE,
-            timeout=60, check=False, **user)
+            timeout=300, check=False, **user)
         return done.returncode, done.stdout.decode(), done.stderr.decode()
 
     def refused(self, what, words, status, line, user=NOBODY):
@@ -92,9 +92,11 @@ class Refusals:
 
 def try_words(refusals):
     """Words of another form: status 2."""
-    for more in (["--workers", "0", "--each", "1"], ["--workers", "33", "--each", "1"],
+    for more in (["--workers", "0", "--each", "1"], ["--workers", "65", "--each", "1"],
                  ["--workers", "1", "--each", "4294967296"], ["--workers", "1", "--each", "-1"],
-                 ["--workers", "one", "--each", "1"], ["--workers", "1"], [*SERVED, "--rounds", "4294967296"],
+                 ["--workers", "one", "--each", "1"], [*SERVED, "--rounds", "4294967296"],
+                 [*SERVED, "--idle", "86401"], [*SERVED, "--idle", "-1"], [*SERVED, "--exchange-workers", "2"],
+                 ["--workers", "63", "--each", "1", "--exchange", f"127.0.0.1:{free_port()}", "--rounds", "1"],
                  [*SERVED, "--rounds", "1"], [*SERVED, "--exchange", f"127.0.0.1:{free_port()}"],
                  [*SERVED, "--every", "1"]):
         refusals.refused("serve " + " ".join(more), refusals.serve(refusals.new(), "", *more), 2, None)
@@ -110,9 +112,9 @@ def try_words(refusals):
         for option in ("--allow", "--exchange-allow"):
             refusals.refused(f"serve {option} {network!r}", refusals.serve(
                 refusals.new(), "", *SERVED, option, network), 2, None)
-    many = [w for port in range(1, 33) for w in ("--peer", f"127.0.0.1:{port}")]
-    refusals.refused("serve with 32 peers", refusals.serve(refusals.new(), "", *SERVED, *many), 2, None)
-    for words in ([], ["nothing"], ["serve"], ["report"], ["exchange", refusals.new()],
+    many = [w for port in range(1, 65) for w in ("--peer", f"127.0.0.1:{port}")]
+    refusals.refused("serve with a worker and 64 peers", refusals.serve(refusals.new(), "", *SERVED, *many), 2, None)
+    for words in ([], ["nothing"], ["report"], ["exchange", refusals.new()],
                   ["report", refusals.new(), "--tsv"], ["report", refusals.new(), "--studies", "--rejected"],
                   ["correct", refusals.new(), "--site", "0", "patient", "P1", "00100010", "A"],
                   ["correct", refusals.new(), "--site", "65536", "patient", "P1", "00100010", "A"],
@@ -214,10 +216,22 @@ def try_served(refusals, archive):
         archive.find("ARCHIVE", "0008,0052=STUDY", "0020,000d"), before))
 
 
+def try_script(refusals):
+    """A script with a line of 65,537 bytes: it is answered up to that line."""
+    script = "site A\nsite B\n#" + "x" * 65536 + "\nsite C\n"
+    done = subprocess.run(
+        [refusals.program, "simulate"], input=script.encode(), stdout=subprocess.PIPE, stderr=subprocess.PIPE,
+        timeout=300, check=False)
+    told("simulate of a line of 65,537 bytes is refused behind the lines before it", same(
+        (done.returncode, done.stdout.decode(), done.stderr.decode()),
+        (1, "site A 1\nsite B 2\n", "fault simulate 3\n")))
+
+
 def try_commands(archive, folder):
     """All of them, beside an archive that serves and holds something."""
     refusals = Refusals(archive.program, folder)
     try_words(refusals)
+    try_script(refusals)
     try_addresses(refusals, archive)
     try_served(refusals, archive)
     try_files(refusals)

@@ -1,22 +1,60 @@
 //! `archive exchange`: exchanges the operations in a file with another site.
 
-use crate::file::{is_new, open_shelf};
+use crate::file::{OnShelf, is_new, on_file};
 use crate::progress::{Progress, Reading, Writing, site_on};
-use archive_server::NetFault;
+use crate::serve::wait_of;
+use archive_server::{NetFault, Wire};
 use command_output::{CommandFault, lines_of_exchange};
 use command_words::Exchanging;
 use devices::Counted;
+use op_shelf::Shelf;
 use shelved_exchange::exchange_on;
+use sqlite::Alter;
 use std::net::{Net, TcpListener, TcpStream};
 use std::rt::HostRuntime;
 
 fn connect_to<R: Net<Listener = TcpListener, Stream = TcpStream>>(
     net: &R,
-    peer: &str,
-) -> Result<TcpStream, CommandFault> {
-    match TcpStream::connect(net, peer) {
-        Ok(stream) => Ok(stream),
+    exchanging: Exchanging<'_>,
+) -> Result<Wire, CommandFault> {
+    match Wire::to(net, exchanging.peer, wait_of(exchanging.idle)) {
+        Ok(wire) => Ok(wire),
         Err(_refused) => Err(CommandFault::Net(NetFault::Connect)),
+    }
+}
+
+/// An exchange with the site at an address, over a connection if it is made already.
+#[derive(Drop)]
+struct Meeting<'a, R: Net<Listener = TcpListener, Stream = TcpStream>> {
+    rt: &'a HostRuntime,
+    net: &'a R,
+    exchanging: Exchanging<'a>,
+    connected: Option<Wire>,
+}
+
+impl<R: Net<Listener = TcpListener, Stream = TcpStream>> OnShelf for Meeting<'_, R> {
+    type Told = Result<Vec<u8>, CommandFault>;
+
+    fn on<S: Alter + Send>(self, shelf: &mut Shelf<S>) -> Result<Vec<u8>, CommandFault> {
+        let Meeting {
+            rt,
+            net,
+            exchanging,
+            connected,
+        } = self;
+        let alloc = rt.alloc();
+        let site = site_on(rt, exchanging.file, shelf)?;
+        let wire = match connected {
+            Some(wire) => wire,
+            None => connect_to(net, exchanging)?,
+        };
+        let progress = Progress::of(rt);
+        let mut reader = Reading::new(Counted::new(&wire), progress);
+        let mut writer = Writing::new(Counted::new(&wire), progress);
+        let role = exchanging.role;
+        let (_site, ended) = exchange_on(alloc, role, &mut reader, &mut writer, site, shelf);
+        wire.part(rt);
+        Ok(lines_of_exchange(alloc, ended?)?)
     }
 }
 
@@ -31,23 +69,16 @@ pub fn exchange<R: Net<Listener = TcpListener, Stream = TcpStream>>(
     net: &R,
     exchanging: Exchanging<'_>,
 ) -> Result<Vec<u8>, CommandFault> {
-    let alloc = rt.alloc();
-    let Exchanging { file, peer, role } = exchanging;
+    let file = exchanging.file;
     let connected = match is_new(rt, file) {
-        true => Some(connect_to(net, peer)?),
+        true => Some(connect_to(net, exchanging)?),
         false => None,
     };
-    let mut shelf = open_shelf(rt, file)?;
-    let site = site_on(rt, file, &mut shelf)?;
-    let stream = match connected {
-        Some(stream) => stream,
-        None => connect_to(net, peer)?,
+    let meeting = Meeting {
+        rt,
+        net,
+        exchanging,
+        connected,
     };
-    // A stream that refuses this serves as well.
-    let _ = stream.set_nodelay(true);
-    let progress = Progress::of(rt);
-    let mut reader = Reading::new(Counted::new(&stream), progress);
-    let mut writer = Writing::new(Counted::new(&stream), progress);
-    let (_site, ended) = exchange_on(alloc, role, &mut reader, &mut writer, site, &mut shelf);
-    Ok(lines_of_exchange(alloc, ended?)?)
+    on_file(rt, file, meeting)?
 }

@@ -6,6 +6,7 @@ mod correct;
 mod ending;
 mod exchanging;
 mod file;
+mod listening;
 mod progress;
 mod report;
 mod serve;

@@ -4,11 +4,12 @@
 
 ghost use Rattle.std.specs.Prelude.{◌≡◌};
 
-use crate::file::FileShelf;
 use command_output::CommandFault;
 use devices::{DeviceFault, Sink, Source};
+use op_shelf::Shelf;
 use shelved_site::site_of;
 use site_state::Site;
+use sqlite::Alter;
 use std::io::IsTerminal;
 use std::rt::HostRuntime;
 
@@ -53,7 +54,11 @@ impl<'a> Progress<'a> {
 }
 
 /// The site whose operations stand on a shelf, told while it is made.
-pub fn site_on(rt: &HostRuntime, file: &str, shelf: &mut FileShelf) -> Result<Site, CommandFault> {
+pub fn site_on<S: Alter>(
+    rt: &HostRuntime,
+    file: &str,
+    shelf: &mut Shelf<S>,
+) -> Result<Site, CommandFault> {
     let progress = Progress::of(rt);
     progress.begins(file);
     let ops = shelf.all()?;

@@ -1,11 +1,13 @@
 //! `archive report`: counts the operations in a file, or tells a table of its site.
 
-use crate::file::{is_new, open_shelf};
+use crate::file::{OnShelf, is_new, on_file};
 use command_output::{CommandFault, lines_of};
 use command_words::Reporting;
-use shelved_site::{Report, report_of, report_on, table_on};
+use op_shelf::Shelf;
+use shelved_site::{Report, ShelvedFault, report_of, report_on, table_on};
 use site_state::Site;
 use site_tables::{Row, Table};
+use sqlite::Alter;
 use std::alloc::Global;
 use std::rt::HostRuntime;
 use table_text::{align, separate};
@@ -16,9 +18,22 @@ fn report_of_none(alloc: Global) -> Result<Report, CommandFault> {
     Ok(report)
 }
 
+/// The report of a shelf.
+#[derive(Drop)]
+struct Counting {
+    alloc: Global,
+}
+
+impl OnShelf for Counting {
+    type Told = Result<Report, ShelvedFault>;
+
+    fn on<S: Alter + Send>(self, shelf: &mut Shelf<S>) -> Result<Report, ShelvedFault> {
+        report_on(self.alloc, shelf)
+    }
+}
+
 fn report_in(rt: &HostRuntime, file: &str) -> Result<Report, CommandFault> {
-    let mut shelf = open_shelf(rt, file)?;
-    let report = report_on(rt.alloc(), &mut shelf)?;
+    let report = on_file(rt, file, Counting { alloc: rt.alloc() })??;
     Ok(report)
 }
 
@@ -33,12 +48,27 @@ fn counts(rt: &HostRuntime, file: &str) -> Result<Vec<u8>, CommandFault> {
     Ok(lines_of(alloc, &report)?)
 }
 
-fn rows_in(rt: &HostRuntime, file: &str, table: Table) -> Result<Vec<Row>, CommandFault> {
-    if is_new(rt, file) {
-        return Ok(Vec::new(rt.alloc()));
+/// A table of a shelf.
+#[derive(Drop)]
+struct Telling {
+    alloc: Global,
+    table: Table,
+}
+
+impl OnShelf for Telling {
+    type Told = Result<Vec<Row>, ShelvedFault>;
+
+    fn on<S: Alter + Send>(self, shelf: &mut Shelf<S>) -> Result<Vec<Row>, ShelvedFault> {
+        table_on(self.alloc, shelf, self.table)
     }
-    let mut shelf = open_shelf(rt, file)?;
-    let rows = table_on(rt.alloc(), &mut shelf, table)?;
+}
+
+fn rows_in(rt: &HostRuntime, file: &str, table: Table) -> Result<Vec<Row>, CommandFault> {
+    let alloc = rt.alloc();
+    if is_new(rt, file) {
+        return Ok(Vec::new(alloc));
+    }
+    let rows = on_file(rt, file, Telling { alloc, table })??;
     Ok(rows)
 }
 

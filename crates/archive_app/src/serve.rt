@@ -1,21 +1,24 @@
 //! `archive serve`: serves the operations in a file to DICOM clients (PS3.8, section 9.1).
 
 ghost use Rattle.std.specs.Prelude.{◌≡◌, ◌≤◌, ◌<◌, ◌+◌, not, ◌==◌, vec_len};
-ghost use Rattle.archive_server.specs.Serving.{places_for};
+ghost use Rattle.archive_server.specs.Serving.{places_for, serving_in};
 ghost use Rattle.command_words.specs.Words.{HasPlaces};
 
 use crate::ending::ended_with_input;
-use crate::file::{FileShelf, is_new, open_shelf};
+use crate::file::open_shelf;
+use crate::listening::{Listening, exchanging_of, listen_first, listen_to, say_where};
 use crate::progress::site_on;
 use anyhow::Result as Printed;
 use archive_model::View;
-use archive_server::{Entrance, Exchanging, Manner, NetFault, Peer, ServeFault, Served, serve_on};
+use archive_server::{Entrance, Exchanging, Manner, Peer, ServeFault, Served, serve_on};
 use association_run::OpenGate;
 use command_output::CommandFault;
 use command_words::Serving;
 use log::Log;
 use octets::{ListOf, Octets};
+use op_shelf::Shelf;
 use site_hub::{CloseFault, HubFault, HubName, Keeper, Opened, Pass, Snapshot, close, open};
+use sqlite::Alter;
 use std::alloc::{AllocError, Global};
 use std::io::Print;
 use std::marker::Brand;
@@ -30,15 +33,15 @@ use ul_state::{Title, Titles};
 /// The number of the site of a server, which makes no correction.
 const SITE: u16 = 1;
 
-/// A called title that these calling titles may call, or any where none is named.
+/// A called title, which those may call that are named for it.
 fn title(
     alloc: Global,
     text: &[u8],
     value: View,
-    callers: &[&str],
+    serving: &Serving<'_>,
 ) -> Result<Title<View>, AllocError> {
     let mut named = ListOf::new(alloc);
-    for caller in callers {
+    for caller in serving.callers_of(value) {
         named.push(Octets::from_slice(alloc, caller.as_bytes())?)?;
     }
     Ok(Title {
@@ -49,11 +52,11 @@ fn title(
 }
 
 /// The called titles, a view for each.
-fn titles(alloc: Global, callers: &[&str]) -> Result<Titles<View>, AllocError> {
+fn titles(alloc: Global, serving: &Serving<'_>) -> Result<Titles<View>, AllocError> {
     let mut list = ListOf::new(alloc);
-    list.push(title(alloc, b"ARCHIVE", View::Archive, callers)?)?;
-    list.push(title(alloc, b"QUALITY", View::Quality, callers)?)?;
-    list.push(title(alloc, b"AUDIT", View::Audit, callers)?)?;
+    list.push(title(alloc, b"ARCHIVE", View::Archive, serving)?)?;
+    list.push(title(alloc, b"QUALITY", View::Quality, serving)?)?;
+    list.push(title(alloc, b"AUDIT", View::Audit, serving)?)?;
     Ok(Titles { list })
 }
 
@@ -70,13 +73,6 @@ fn first_of(fault: Option<ServeFault>, closed: Option<HubFault>) -> Result<(), C
 struct Count {
     accepted: u64,
     ended: Result<(), CommandFault>,
-}
-
-/// Where associations come in, and exchanges.
-#[derive(Drop)]
-struct Listening {
-    associations: TcpListener,
-    exchanges: Option<TcpListener>,
 }
 
 /// Closes a hub. A keeper that is not closed is dropped by a lock, which holds it.
@@ -115,20 +111,6 @@ fn closed_behind<H: HubName, R: Wait>(
     }
 }
 
-/// Where exchanges come in, and how many are served.
-fn exchanging_of<'a>(listening: &'a Listening, serving: &'a Serving<'_>) -> Option<Exchanging<'a>> {
-    match &listening.exchanges {
-        None => None,
-        Some(listener) => Some(Exchanging {
-            entrance: Entrance {
-                listener,
-                allowed: serving.exchange_allowed.as_slice(),
-            },
-            rounds: serving.rounds as u64,
-        }),
-    }
-}
-
 /// The peers, each called after so many seconds.
 fn peers_of<'a>(alloc: Global, serving: &'a Serving<'_>) -> Result<Vec<Peer<'a>>, AllocError> {
     let every = Duration::from_secs(serving.every as u64);
@@ -142,15 +124,36 @@ fn peers_of<'a>(alloc: Global, serving: &'a Serving<'_>) -> Result<Vec<Peer<'a>>
     Ok(peers)
 }
 
-/// How many passes are left for workers, where one serves exchanges and one calls each peer.
-fn workers_of(passes: usize, exchanges: bool, peers: usize) -> usize
+/// How many passes are left for workers, where some serve exchanges and one calls each peer.
+fn workers_of(passes: usize, exchanges: usize, peers: usize) -> usize
     ensures { 0 < result → passes ≡ places_for result exchanges peers }
 {
-    let rest = passes.saturating_sub(peers);
-    if exchanges {
-        rest.saturating_sub(1)
-    } else {
-        rest
+    passes.saturating_sub(peers).saturating_sub(exchanges)
+}
+
+/// How many passes serve exchanges.
+fn serving_of(exchange: Option<Exchanging<'_>>) -> usize
+    ensures { result ≡ serving_in exchange.entry }
+{
+    match exchange {
+        None => 0,
+        Some(exchanging) => exchanging.workers as usize,
+    }
+}
+
+/// How many associations a worker accepts: with no number more than it can.
+fn each_of(serving: &Serving<'_>) -> u64 {
+    match serving.each {
+        Some(each) => each as u64,
+        None => u64::MAX,
+    }
+}
+
+/// How long a wait for a peer lasts at most.
+pub fn wait_of(seconds: u32) -> Option<Duration> {
+    match seconds {
+        0 => None,
+        _ => Some(Duration::from_secs(seconds as u64)),
     }
 }
 
@@ -159,10 +162,11 @@ fn workers_of(passes: usize, exchanges: bool, peers: usize) -> usize
 fn serve_hub<
     H: HubName + Send + Sync,
     R: Net<Listener = TcpListener, Stream = TcpStream> + Threads + Wait + Clock + Log + Sync,
+    S: Alter + Send,
 >(
     rt: &R,
     alloc: Global,
-    shelf: &mut FileShelf,
+    shelf: &mut Shelf<S>,
     opened: Opened<&R>,
     listening: &Listening,
     serving: &Serving<'_>,
@@ -173,13 +177,13 @@ fn serve_hub<
     requires opening { opened.opening ≡ H.opening }
     requires passes { opened.passes ≡ H.passes }
 {
-    let titles = titles(alloc, serving.callers.as_slice())?;
+    let titles = titles(alloc, serving)?;
     let entrance = Entrance {
         listener: &listening.associations,
         allowed: serving.allowed.as_slice(),
     };
     let exchange = exchanging_of(listening, serving);
-    let each = serving.each as u64;
+    let each = each_of(serving);
     let peers = peers_of(alloc, serving)?;
     let (keeper, passes) = match opened.named::<H>() {
         Ok(hub) => hub,
@@ -187,7 +191,7 @@ fn serve_hub<
     };
     // A keeper is dropped by the lock that holds it.
     let keeper = Mutex::new(keeper);
-    let workers = workers_of(passes.len(), exchange.is_some(), peers.len());
+    let workers = workers_of(passes.len(), serving_of(exchange), peers.len());
     if workers == 0 {
         return Err(CommandFault::Hub(HubFault::Torn));
     }
@@ -210,11 +214,11 @@ fn serve_hub<
 }
 
 /// The hub of a site whose operations stand on a shelf, with so many passes.
-fn hub_of<'r, R: Wait>(
+fn hub_of<'r, R: Wait, S: Alter>(
     host: &HostRuntime,
     rt: &'r R,
     file: &str,
-    shelf: &mut FileShelf,
+    shelf: &mut Shelf<S>,
     passes: usize,
 ) -> Result<Opened<&'r R>, CommandFault>
     requires passes { (1 ≤ passes) × (passes ≤ 64) }
@@ -224,87 +228,31 @@ fn hub_of<'r, R: Wait>(
     Ok(opened)
 }
 
-/// The listener of exchanges, where some are to be served.
-fn listener_of<R: Net<Listener = TcpListener, Stream = TcpStream>>(
-    rt: &R,
-    exchange: &str,
-    rounds: u32,
-) -> Result<Option<TcpListener>, CommandFault> {
-    if rounds == 0 {
-        return Ok(None);
-    }
-    match TcpListener::bind(rt, exchange) {
-        Ok(listener) => Ok(Some(listener)),
-        Err(_refused) => Err(CommandFault::Net(NetFault::Listen)),
-    }
-}
-
-/// Listens, first for associations.
-fn listen_to<R: Net<Listener = TcpListener, Stream = TcpStream>>(
-    rt: &R,
-    serving: &Serving<'_>,
-) -> Result<Listening, CommandFault> {
-    let Ok(associations) = TcpListener::bind(rt, serving.listen) else {
-        return Err(CommandFault::Net(NetFault::Listen));
-    };
-    Ok(Listening {
-        associations,
-        exchanges: listener_of(rt, serving.exchange, serving.rounds)?,
-    })
-}
-
-/// A pass for each worker, one for exchanges where some are to be served, and one for each peer.
+/// A pass for each worker, for each worker of exchanges, and for each peer.
 fn passes_for(serving: &Serving<'_>) -> usize
     requires places { HasPlaces serving.now }
     ensures { (1 ≤ result) × (result ≤ 64) }
 {
-    let workers = serving.workers as usize + serving.peers.len();
-    if serving.rounds == 0 {
-        workers
-    } else {
-        workers + 1
-    }
+    serving.workers as usize + serving.exchange_workers as usize + serving.peers.len()
 }
 
-/// Prints at which address a listener accepts, which is the one that was named, with a port of the
-/// system's choice where port 0 was.
-fn say_address<R: Print>(rt: &R, word: &str, listener: &TcpListener, named: &str) -> Printed<()> {
-    match listener.local_addr() {
-        Ok(address) => println!(rt; "{word} {address}")?,
-        Err(_unknown) => println!(rt; "{word} {named}")?,
-    }
-    Ok(())
-}
-
-/// Prints where the program listens.
-fn say_where<R: Print>(rt: &R, listening: &Listening, serving: &Serving<'_>) -> Printed<()> {
-    say_address(rt, "listening", &listening.associations, serving.listen)?;
-    match &listening.exchanges {
-        None => Ok(()),
-        Some(listener) => say_address(rt, "exchanging", listener, serving.exchange),
-    }
-}
-
-/// Opens a site's shelf and hub, and listens. Where the file is not there listening comes first, so
-/// that no file is made where nobody can listen.
-fn open_site<'r, R: Net<Listener = TcpListener, Stream = TcpStream> + Wait>(
+/// Opens the hub of a site on a shelf, and listens where nobody does yet.
+fn open_site<'r, R: Net<Listener = TcpListener, Stream = TcpStream> + Wait, S: Alter>(
     host: &HostRuntime,
     rt: &'r R,
     serving: &Serving<'_>,
-) -> Result<(FileShelf, Opened<&'r R>, Listening), CommandFault>
-    requires places { HasPlaces serving.now }
+    shelf: &mut Shelf<S>,
+    passes: usize,
+    listening: Option<Listening>,
+) -> Result<(Opened<&'r R>, Listening), CommandFault>
+    requires passes { (1 ≤ passes) × (passes ≤ 64) }
 {
-    let listening = match is_new(host, serving.file) {
-        true => Some(listen_to(rt, serving)?),
-        false => None,
-    };
-    let mut shelf = open_shelf(host, serving.file)?;
-    let opened = hub_of(host, rt, serving.file, &mut shelf, passes_for(serving))?;
+    let opened = hub_of(host, rt, serving.file, shelf, passes)?;
     let listening = match listening {
         Some(listening) => listening,
         None => listen_to(rt, serving)?,
     };
-    Ok((shelf, opened, listening))
+    Ok((opened, listening))
 }
 
 /// What ends a server before its time, where something does.
@@ -324,27 +272,73 @@ fn ending_of<T: Threads>(
 /// Serves a site that is open, in a manner that lasts as long.
 fn serve_site<
     R: Net<Listener = TcpListener, Stream = TcpStream> + Threads + Wait + Clock + Log + Sync,
+    S: Alter + Send,
 >(
     host: &HostRuntime,
     rt: &R,
-    site: (FileShelf, Opened<&R>, Listening),
+    shelf: &mut Shelf<S>,
+    site: (Opened<&R>, Listening),
     serving: &Serving<'_>,
 ) -> Result<Count, CommandFault> {
-    let (mut shelf, opened, listening) = site;
+    let (opened, listening) = site;
     let ended = ending_of(host, rt, &listening, serving)?;
     let manner = Manner {
         ending: ended.as_deref(),
+        idle: wait_of(serving.idle),
         is_verbose: serving.is_verbose,
     };
-    serve_hub::<Brand, R>(
-        rt,
-        host.alloc(),
-        &mut shelf,
-        opened,
-        &listening,
-        serving,
-        manner,
-    )
+    serve_hub::<Brand, R, S>(rt, host.alloc(), shelf, opened, &listening, serving, manner)
+}
+
+/// Serves the site on a shelf, once it listens and says so.
+fn serve_shelf<
+    R: Net<Listener = TcpListener, Stream = TcpStream>
+        + Threads
+        + Wait
+        + Clock
+        + Print
+        + Log
+        + Sync,
+    S: Alter + Send,
+>(
+    host: &HostRuntime,
+    rt: &R,
+    serving: &Serving<'_>,
+    shelf: &mut Shelf<S>,
+    listening: Option<Listening>,
+) -> Printed<Result<Count, CommandFault>>
+    requires places { HasPlaces serving.now }
+{
+    let passes = passes_for(serving);
+    let site = match open_site(host, rt, serving, shelf, passes, listening) {
+        Ok(site) => site,
+        Err(fault) => return Ok(Err(fault)),
+    };
+    let (_, listening) = &site;
+    say_where(rt, listening, serving)?;
+    Ok(serve_site(host, rt, shelf, site, serving))
+}
+
+/// What was served of the operations in a file.
+fn serve_file<
+    R: Net<Listener = TcpListener, Stream = TcpStream>
+        + Threads
+        + Wait
+        + Clock
+        + Print
+        + Log
+        + Sync,
+>(host: &HostRuntime, rt: &R, serving: &Serving<'_>) -> Printed<Result<Count, CommandFault>>
+    requires places { HasPlaces serving.now }
+{
+    let listening = match listen_first(host, rt, serving) {
+        Ok(listening) => listening,
+        Err(fault) => return Ok(Err(fault)),
+    };
+    match open_shelf(host, serving.file) {
+        Ok(mut shelf) => serve_shelf(host, rt, serving, &mut shelf, listening),
+        Err(fault) => Ok(Err(fault)),
+    }
 }
 
 /// Serves the operations in a file, until each worker has accepted what it may and each exchange
@@ -366,13 +360,7 @@ pub fn serve<
 >(host: &HostRuntime, rt: &R, serving: &Serving<'_>) -> Printed<Result<(), CommandFault>>
     requires places { HasPlaces serving.now }
 {
-    let site = match open_site(host, rt, serving) {
-        Ok(site) => site,
-        Err(fault) => return Ok(Err(fault)),
-    };
-    let (_, _, listening) = &site;
-    say_where(rt, listening, serving)?;
-    match serve_site(host, rt, site, serving) {
+    match serve_file(host, rt, serving)? {
         Ok(Count { accepted, ended }) => {
             println!(rt; "served {accepted}")?;
             Ok(ended)

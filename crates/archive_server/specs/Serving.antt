@@ -1,8 +1,9 @@
 -- What passes gain while they serve, and how many passes a server takes.
-use Rattle.std.specs.Prelude.{ℕ, ◌+◌, min, ◌≤◌, ◌≡◌, ◌⊎◌, suc, List, [], ◌∷◌, Bool, true, false, IsTrue, Option, IsSome}
+use Rattle.std.specs.Prelude.{ℕ, ◌+◌, min, ◌≤◌, ◌≡◌, ◌⊎◌, List, [], ◌∷◌, Bool, IsTrue, Option, Some, None, IsSome}
 use Rattle.operation.specs.declared.op.Op.{Op}
 use Rattle.site_hub.specs.Hub.{Seat}
 use Rattle.archive_server.specs.declared.fault.ServeFault.{ServeFault}
+use Rattle.archive_server.specs.declared.exchanging.Exchanging.{Exchanging}
 pub use Rattle.shelved_exchange.specs.Putting.{WasPut, WerePut}
 pub use Rattle.hub_exchange.specs.Onward.{IsOnward}
 
@@ -31,7 +32,11 @@ pub record HaveServed {K : Type 0} (is_up : K → Type 0) (holds lasts : K → O
   pub most : accepted ≤ limit
   pub all : IsTrue ends ⊎ IsSome fault ⊎ (accepted ≡ min limit 18446744073709551615)
 
--- a pass for each gate, one more where exchanges are served, and one for each peer
-abbrev pub places_for : ℕ → Bool → ℕ → ℕ
-places_for gates false peers = gates + peers
-places_for gates true peers = suc gates + peers
+-- how many threads serve exchanges
+abbrev pub serving_in : Option Exchanging → ℕ
+serving_in None = 0
+serving_in (Some exchanging) = exchanging.workers
+
+-- a pass for each gate, for each thread that serves exchanges, and for each peer
+abbrev pub places_for : ℕ → ℕ → ℕ → ℕ
+places_for gates exchanges peers = gates + (exchanges + peers)

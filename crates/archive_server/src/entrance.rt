@@ -5,6 +5,7 @@ ghost use Rattle.archive_server.specs.Entering.{stream_of};
 
 use crate::journal::tell_turned_away;
 use crate::manner::Manner;
+use crate::wire::Wire;
 use ipv4_networks::{Network, is_allowed};
 use log::Log;
 use std::io;
@@ -29,16 +30,18 @@ fn let_in(allowed: &[Network], stream: TcpStream, peer: SocketAddr) -> Option<Tc
     }
 }
 
-/// Accepts once: the stream of a peer that may come, or nothing where it may not.
+/// Accepts once: the connection of a peer that may come, or nothing where it may not.
 pub(crate) fn accept_from<S: Clock + Log>(
     rt: &S,
     manner: Manner<'_>,
     entrance: Entrance<'_>,
-) -> io::Result<Option<TcpStream>> {
+) -> io::Result<Option<Wire>> {
     let (stream, peer) = entrance.listener.accept()?;
-    let stream = let_in(entrance.allowed, stream, peer);
-    if stream.is_none() {
-        tell_turned_away(rt, manner, peer);
+    match let_in(entrance.allowed, stream, peer) {
+        Some(stream) => Ok(Some(Wire::new(stream, manner.idle)?)),
+        None => {
+            tell_turned_away(rt, manner, peer);
+            Ok(None)
+        }
     }
-    Ok(stream)
 }

@@ -1,13 +1,14 @@
-//! The thread of exchanges: it accepts so many on a listener of its own, with the last pass.
+//! The threads of exchanges: they accept so many on a listener of their own.
 
-ghost use Rattle.std.specs.Prelude.{◌≡◌, ◌+◌, ◌-◌, ◌<◌, ◌^◌, ◌⊎◌, Some, IfSome, IsSome, is_some};
-ghost use Rattle.archive_server.specs.Serving.{IsOnward, HasServed};
+ghost use Rattle.std.specs.Prelude.{◌≡◌, ◌+◌, ◌-◌, ◌<◌, ◌≤◌, ◌^◌, ◌⊎◌, Some, IfSome, IsSome};
+ghost use Rattle.archive_server.specs.Serving.{IsOnward};
 
 use crate::entrance::{Entrance, accept_from};
 use crate::fault::ServeFault;
 use crate::journal::{Whence, tell_exchange};
 use crate::keeping::Asking;
 use crate::message::{Desk, Request};
+use crate::wire::Wire;
 use crate::worker::{Done, Hall, idle, turned_away, with_none};
 use association_worker::AtEntry;
 use crossbeam_channel::Sender;
@@ -19,33 +20,35 @@ use log::Log;
 use op_shelf::Keep;
 use site_hub::{HubName, Pass, Snapshot as Shown};
 use std::marker::Brand;
-use std::net::TcpStream;
 use std::sync::Wait;
 use std::sync::atomic::Ordering;
 use std::time::Clock;
 
-/// Where exchanges come in, and how many connections are served.
+/// Where exchanges come in, and how many connections are served, by all workers of exchanges
+/// together.
 #[derive(Clone, Copy)]
 pub struct Exchanging<'a> {
     pub entrance: Entrance<'a>,
     pub rounds: u64,
+    /// How many are served at once, each with a pass of its own.
+    pub workers: u16,
 }
 
 /// The holder of an exchange of a server.
 type Held<'a, 'b, H, R, S, K, E> = HubHolder<'a, 'b, H, Shown<H>, R, S, K, Asking<'a, K, S>, E>;
 
-/// The exchange of a holder with the peer behind a stream.
+/// The exchange of a holder with the peer of a connection.
 fn converse<E: AtEntry, H: HubName, R: Wait + Drop, S: Wait + Clock + Log, K: Keep>(
     hall: &Hall<'_, H, Shown<H>, R, S>,
-    stream: &TcpStream,
+    wire: &Wire,
     role: Role,
     holder: &mut Held<'_, '_, H, R, S, K, E>,
 ) -> Option<ServeFault> {
-    let peer = Whence::of(stream);
-    let mut reader = Counted::new(stream);
-    let mut writer = Counted::new(stream);
+    let peer = Whence::of(wire);
+    let mut reader = Counted::new(wire);
+    let mut writer = Counted::new(wire);
     let ended = run_exchange(hall.alloc, role, &mut reader, &mut writer, holder);
-    tell_exchange(hall.rt, hall.manner, peer, role, ended);
+    tell_exchange(hall.rt, hall.manner, peer, wire, role, ended);
     match ended {
         Ok(_ended) => None,
         Err(fault) => Some(ServeFault::Exchange(fault)),
@@ -56,7 +59,7 @@ fn converse<E: AtEntry, H: HubName, R: Wait + Drop, S: Wait + Clock + Log, K: Ke
 fn exchange<'x, E: AtEntry, H: HubName, R: Wait + Drop, S: Wait + Clock + Log, K: Keep>(
     hall: &'x Hall<'x, H, Shown<H>, R, S>,
     to: &'x Sender<Request<K>>,
-    stream: &TcpStream,
+    wire: &Wire,
     role: Role,
     place: &mut Option<Pass<H>>,
 ) -> Option<ServeFault>
@@ -69,25 +72,24 @@ fn exchange<'x, E: AtEntry, H: HubName, R: Wait + Drop, S: Wait + Clock + Log, K
     };
     let shelf = Asking::new(hall.rt, hall.alloc, to);
     let mut holder = Held::<H, R, S, K, E>::new(hall.rt, hall.keeper, &shelf, pass);
-    let fault = converse(hall, stream, role, &mut holder);
+    let fault = converse(hall, wire, role, &mut holder);
     *place = Some(holder.into_pass());
     fault
 }
 
-/// One exchange. Its frames are sent at once, as they are written.
+/// One exchange. Behind it the peer may read what was sent last.
 pub(crate) fn exchange_over<H: HubName, R: Wait + Drop, S: Wait + Clock + Log, K: Keep>(
     hall: &Hall<'_, H, Shown<H>, R, S>,
     to: &Sender<Request<K>>,
-    stream: TcpStream,
+    wire: &Wire,
     role: Role,
     pass: Pass<H>,
 ) -> (Pass<H>, Option<ServeFault>)
     ensures onward { IsOnward K.is_up K.holds K.lasts pass result.0 }
 {
-    // A stream that refuses this serves as well.
-    let _ = stream.set_nodelay(true);
     let mut place = Some(pass);
-    let fault = exchange::<Brand, H, R, S, K>(hall, to, &stream, role, &mut place);
+    let fault = exchange::<Brand, H, R, S, K>(hall, to, wire, role, &mut place);
+    wire.part(hall.rt);
     match place {
         Some(pass) => (pass, fault),
         None => unreachable!(),
@@ -98,7 +100,7 @@ pub(crate) fn exchange_over<H: HubName, R: Wait + Drop, S: Wait + Clock + Log, K
 fn with_exchange<H: HubName, R: Wait + Drop, S: Wait + Clock + Log, K: Keep>(
     hall: &Hall<'_, H, Shown<H>, R, S>,
     to: &Sender<Request<K>>,
-    stream: TcpStream,
+    wire: Wire,
     done: Done<H>,
 ) -> Done<H>
     requires room { done.accepted + done.failed < 2 ^ 64 - 1 }
@@ -113,7 +115,7 @@ fn with_exchange<H: HubName, R: Wait + Drop, S: Wait + Clock + Log, K: Keep>(
         failed,
         fault,
     } = done;
-    let (pass, broken) = exchange_over(hall, to, stream, Role::Callee, pass);
+    let (pass, broken) = exchange_over(hall, to, &wire, Role::Callee, pass);
     Done {
         pass,
         accepted: accepted + 1,
@@ -136,34 +138,34 @@ fn next_exchange<H: HubName, R: Wait + Drop, S: Wait + Clock + Log, K: Keep>(
         → IsSome hall.now.manner.ending ⊎ IsSome result.fault ⊎ (result.failed ≡ 0) }
 {
     match accept_from(hall.rt, hall.manner, entrance) {
-        Ok(Some(stream)) => with_exchange(hall, to, stream, done),
+        Ok(Some(wire)) => with_exchange(hall, to, wire, done),
         Ok(None) => turned_away(done),
         Err(_error) => with_none(hall.manner.is_ended(), done),
     }
 }
 
-/// Accepts so many times as there are rounds, or until the server is ended, unless the thread of
-/// this place was refused.
+/// Accepts until all rounds were begun, by whichever thread of exchanges, or until the server is
+/// ended, unless the thread of this place was refused.
 pub(crate) fn exchange_all<H: HubName, R: Wait + Drop, S: Wait + Clock + Log, K: Keep>(
     place: u64,
     hall: &Hall<'_, H, Shown<H>, R, S>,
-    entrance: Entrance<'_>,
-    rounds: u64,
+    exchanging: Exchanging<'_>,
     desk: Desk<K>,
     pass: Pass<H>,
 ) -> Done<H>
-    ensures served { HasServed K.is_up K.holds K.lasts pass result.pass
-        (is_some hall.now.manner.ending) rounds result.accepted result.fault }
+    ensures onward { IsOnward K.is_up K.holds K.lasts pass result.pass }
+    ensures most { result.accepted ≤ exchanging.entry.rounds }
 {
     if hall.refused.load(Ordering::SeqCst) == place {
         return idle(pass, Some(ServeFault::Exchange(ExchangeFault::Memory)));
     }
     let mut done = idle(pass, None);
-    for _ in 0..rounds {
-        if hall.manner.is_ended() {
+    for _ in 0..exchanging.rounds {
+        let is_left = hall.begun.fetch_add(1, Ordering::SeqCst) < exchanging.rounds;
+        if !is_left || hall.manner.is_ended() {
             return done;
         }
-        done = next_exchange(hall, entrance, &desk.to, done);
+        done = next_exchange(hall, exchanging.entrance, &desk.to, done);
     }
     done
 }

@@ -9,6 +9,7 @@ ghost use Rattle.archive_server.specs.Journal.{IsPlain};
 use crate::heard::Front;
 use crate::manner::Manner;
 use crate::tally::Tally;
+use crate::wire::Wire;
 use association_run::{End, RunFault};
 use exchange::ExchangeFault;
 use exchange_run::{Ended, Role};
@@ -16,7 +17,7 @@ use jiff::Timestamp;
 use log::{Log, info};
 use std::fmt;
 use std::fmt::{Display, Formatter};
-use std::net::{SocketAddr, TcpStream};
+use std::net::SocketAddr;
 use std::time::Clock;
 
 /// What a line has for a byte of a title.
@@ -71,8 +72,8 @@ impl Display for Moment {
 pub(crate) struct Whence(Option<SocketAddr>);
 
 impl Whence {
-    pub fn of(stream: &TcpStream) -> Whence {
-        Whence(stream.peer_addr().ok())
+    pub fn of(wire: &Wire) -> Whence {
+        Whence(wire.stream().peer_addr().ok())
     }
 }
 
@@ -124,11 +125,32 @@ impl Display for Finish {
     }
 }
 
+/// Whether a wait for the peer was cut off, as it lasted as long as it may.
+#[derive(Clone, Copy)]
+struct Silence(bool);
+
+impl Silence {
+    fn of(wire: &Wire) -> Silence {
+        Silence(wire.is_silent())
+    }
+}
+
+impl Display for Silence {
+    fn fmt<W: fmt::Write>(&self, f: &mut Formatter<W>) -> fmt::Result {
+        if self.0 {
+            f.write_str(" silent")
+        } else {
+            Ok(())
+        }
+    }
+}
+
 /// Tells an association that has ended, where lines are asked for.
 pub(crate) fn tell_association<S: Clock + Log>(
     rt: &S,
     manner: Manner<'_>,
     peer: Whence,
+    wire: &Wire,
     front: &Front,
     tally: Tally,
     ended: Result<End, RunFault>,
@@ -138,10 +160,10 @@ pub(crate) fn tell_association<S: Clock + Log>(
     }
     let (moment, finish) = (Moment::now(rt), Finish(ended));
     let (calling, called) = (Shown(front.calling()), Shown(front.called()));
-    let asked = Asked(tally);
+    let (asked, silence) = (Asked(tally), Silence::of(wire));
     info!(
         rt; target: "association",
-        "{moment} from {peer} calling \"{calling}\" called \"{called}\" {asked} {finish}"
+        "{moment} from {peer} calling \"{calling}\" called \"{called}\" {asked} {finish}{silence}"
     );
 }
 
@@ -175,27 +197,34 @@ pub(crate) fn tell_exchange<S: Clock + Log>(
     rt: &S,
     manner: Manner<'_>,
     peer: Whence,
+    wire: &Wire,
     role: Role,
     ended: Result<Ended, ExchangeFault>,
 ) {
     if !manner.is_verbose {
         return;
     }
-    let (moment, outcome) = (Moment::now(rt), Outcome(ended));
+    let (moment, outcome, silence) = (Moment::now(rt), Outcome(ended), Silence::of(wire));
     let way = match role {
         Role::Callee => "from",
         Role::Caller | Role::OldCaller => "to",
     };
-    info!(rt; target: "exchange", "{moment} {way} {peer} {outcome}");
+    info!(rt; target: "exchange", "{moment} {way} {peer} {outcome}{silence}");
 }
 
-/// Tells that a peer that was called is not reached, likewise.
-pub(crate) fn tell_unreached<S: Clock + Log>(rt: &S, manner: Manner<'_>, address: &str) {
+/// Tells that a peer that was called is not reached, or did not answer in time, likewise.
+pub(crate) fn tell_unreached<S: Clock + Log>(
+    rt: &S,
+    manner: Manner<'_>,
+    address: &str,
+    is_silent: bool,
+) {
     if !manner.is_verbose {
         return;
     }
     let moment = Moment::now(rt);
-    info!(rt; target: "exchange", "{moment} to {address} not reached");
+    let silence = Silence(is_silent);
+    info!(rt; target: "exchange", "{moment} to {address} not reached{silence}");
 }
 
 /// Tells that a peer was turned away before a byte of it was read, likewise.

@@ -3,11 +3,13 @@
 //! Each worker has a thread, a gate and a pass of the hub, and serves associations that it accepts
 //! on a listener that all share. The thread that calls keeps the shelf. A content that an
 //! association stores is put on the shelf, then taken by the hub, then answered; and so is what a
-//! peer gives in an exchange: for those that peers call there is a listener, a thread and a pass,
-//! and for each peer that the server calls again and again a thread and a pass. Who serves may name
-//! a word by which somebody ends the server, and ask for a line on each association and exchange.
+//! peer gives in an exchange: for those that peers call there is a listener, and some threads with a
+//! pass each, and for each peer that the server calls again and again a thread and a pass. Who
+//! serves may say how long the server waits for a peer at most, name a word by which somebody ends
+//! the server, and ask for a line on each association and exchange.
 #![tactic(auto)]
 
+mod beside;
 mod entrance;
 mod exchanging;
 mod fault;
@@ -20,6 +22,7 @@ mod message;
 mod port;
 mod serve;
 mod tally;
+mod wire;
 mod worker;
 
 pub use entrance::Entrance;
@@ -30,3 +33,4 @@ pub use meeting::Peer;
 pub use message::Shelved;
 pub use port::ServerPort;
 pub use serve::{Served, serve_on};
+pub use wire::Wire;

@@ -3,13 +3,18 @@
 ghost use Rattle.std.specs.Prelude.{IsTrue, IsSome};
 
 use std::sync::atomic::{AtomicBool, Ordering};
+use std::time::Duration;
 
-/// How a server runs: by whom it may be ended, and whether it tells what it serves.
+/// How a server runs: by whom it may be ended, how long it waits for a peer, and whether it tells
+/// what it serves.
 #[derive(Clone, Copy)]
 pub struct Manner<'a> {
     /// Set once the server is to end: then nobody accepts any more, and an accept that fails is no
     /// fault. Who waits in an accept must be woken. Where there is none, nobody may end it.
     pub ending: Option<&'a AtomicBool>,
+    /// How long each wait for a peer lasts at most: to be connected, for a byte to come, or for room
+    /// to write one. Time runs only while the server waits. Where there is none, a wait has no end.
+    pub idle: Option<Duration>,
     /// Whether each association and each exchange is a line on standard error.
     pub is_verbose: bool,
 }

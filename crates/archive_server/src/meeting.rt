@@ -1,12 +1,12 @@
 //! The threads that call peers: each exchanges with one, again and again, with a pass of its own.
 
-ghost use Rattle.std.specs.Prelude.{◌≡◌, false};
-ghost use Rattle.archive_server.specs.Serving.{IsOnward, HasServed};
+ghost use Rattle.archive_server.specs.Serving.{IsOnward};
 
 use crate::exchanging::exchange_over;
 use crate::fault::ServeFault;
 use crate::journal::tell_unreached;
-use crate::message::Request;
+use crate::message::{Desk, Request};
+use crate::wire::Wire;
 use crate::worker::{Done, Hall, idle};
 use crossbeam_channel::{Receiver, RecvTimeoutError, Sender};
 use exchange::ExchangeFault;
@@ -14,6 +14,7 @@ use exchange_run::Role;
 use log::Log;
 use op_shelf::Keep;
 use site_hub::{HubName, Pass, Snapshot as Shown};
+use std::io::ErrorKind;
 use std::net::{Net, TcpListener, TcpStream};
 use std::sync::Wait;
 use std::sync::atomic::Ordering;
@@ -42,10 +43,11 @@ fn meet<
 ) -> Pass<H>
     ensures onward { IsOnward K.is_up K.holds K.lasts pass result }
 {
-    match TcpStream::connect(hall.rt, address) {
-        Ok(stream) => exchange_over(hall, to, stream, Role::Caller, pass).0,
-        Err(_refused) => {
-            tell_unreached(hall.rt, hall.manner, address);
+    match Wire::to(hall.rt, address, hall.manner.idle) {
+        Ok(wire) => exchange_over(hall, to, &wire, Role::Caller, pass).0,
+        Err(error) => {
+            let is_silent = error.kind() == ErrorKind::TimedOut;
+            tell_unreached(hall.rt, hall.manner, address, is_silent);
             pass
         }
     }
@@ -69,22 +71,21 @@ pub(crate) fn meet_all<
     place: u64,
     hall: &Hall<'_, H, Shown<H>, R, S>,
     peer: Peer<'_>,
-    to: Sender<Request<K>>,
+    desk: Desk<K>,
     ended: Receiver<()>,
     pass: Pass<H>,
 ) -> Done<H>
-    ensures served { HasServed K.is_up K.holds K.lasts pass result.pass false 0 result.accepted
-        result.fault }
+    ensures onward { IsOnward K.is_up K.holds K.lasts pass result.pass }
 {
     if hall.refused.load(Ordering::SeqCst) == place {
         return idle(pass, Some(ServeFault::Exchange(ExchangeFault::Memory)));
     }
-    let mut onward = meet(hall, peer.address, &to, pass);
+    let mut onward = meet(hall, peer.address, &desk.to, pass);
     for _ in hall.rt.forever() {
         if !is_served(hall.rt, &ended, peer.every) {
             break;
         }
-        onward = meet(hall, peer.address, &to, onward);
+        onward = meet(hall, peer.address, &desk.to, onward);
     }
     idle(onward, None)
 }

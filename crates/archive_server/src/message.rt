@@ -19,20 +19,24 @@ pub(crate) struct Reply<K: Keep> {
     pub kept: Result<Shelved<K>, ShelfFault>,
 }
 
-/// What a thread holds that accepts: the way to the shelf, and what tells by its being there that
-/// somebody still accepts. Nothing is ever sent on it.
+/// What a thread holds: the way to the shelf, and where it accepts, what tells by its being there
+/// that somebody still does. Nothing is ever sent on that.
 #[derive(Drop)]
 pub(crate) struct Desk<K: Keep> {
     pub to: Sender<Request<K>>,
-    pub still: Sender<()>,
+    pub still: Option<Sender<()>>,
 }
 
 impl<K: Keep> Desk<K> {
-    /// One more of it, for one more thread.
-    pub fn another(&self) -> Result<Desk<K>, AllocError> {
-        Ok(Desk {
-            to: self.to.clone()?,
-            still: self.still.clone()?,
-        })
+    /// One more of it, for one more thread, which accepts or does not.
+    pub fn another(&self, accepts: bool) -> Result<Desk<K>, AllocError> {
+        let to = self.to.clone()?;
+        match &self.still {
+            Some(still) if accepts => Ok(Desk {
+                to,
+                still: Some(still.clone()?),
+            }),
+            _ => Ok(Desk { to, still: None }),
+        }
     }
 }

@@ -1,16 +1,17 @@
-//! The server: a thread for each worker, one for exchanges and one for each peer, and the shelf in
-//! the thread that called.
+//! The server: a thread for each worker, for each worker of exchanges and for each peer, and the
+//! shelf in the thread that called.
 
-ghost use Rattle.std.specs.Prelude.{◌≡◌, ◌+◌, ◌*◌, ◌<◌, ◌≤◌, ◌⊎◌, MatchResult, min, length, is_some, false, true, IsSome, vec_len, vec_capacity};
+ghost use Rattle.std.specs.Prelude.{◌≡◌, ◌+◌, ◌*◌, ◌<◌, ◌≤◌, ◌⊎◌, MatchResult, IfOk, min, length, is_some, false, IsSome, vec_len, vec_capacity};
 ghost use Rattle.std.specs.Option.{option_or};
-ghost use Rattle.archive_server.specs.Serving.{AllOnward, HasServed, HaveServed, places_for};
+ghost use Rattle.archive_server.specs.Serving.{AllOnward, HasServed, HaveServed, places_for, serving_in};
 
+use crate::beside::{Beside, attend};
 use crate::entrance::Entrance;
-use crate::exchanging::{Exchanging, exchange_all};
+use crate::exchanging::Exchanging;
 use crate::fault::ServeFault;
 use crate::keeping::keep_all;
 use crate::manner::Manner;
-use crate::meeting::{Peer, meet_all};
+use crate::meeting::Peer;
 use crate::message::{Desk, Request};
 use crate::worker::{Done, Hall, idle, work};
 use archive_model::View;
@@ -21,7 +22,7 @@ use exchange::ExchangeFault;
 use log::Log;
 use op_shelf::Keep;
 use site_hub::{HubName, Keeper, Pass, Snapshot as Shown};
-use std::alloc::Global;
+use std::alloc::{AllocError, Global};
 use std::marker::PhantomData;
 use std::net::{Net, TcpListener, TcpStream};
 use std::snapshot::Snapshot;
@@ -104,7 +105,7 @@ fn start<
         (λ done. HasServed K.is_up K.holds K.lasts pass done.pass
         (is_some hall.now.manner.ending) hall.now.each done.accepted done.fault) }
 {
-    let Ok(desk) = desk.another() else {
+    let Ok(desk) = desk.another(true) else {
         return Err(idle(pass, Some(ServeFault::Run(RunFault::Memory))));
     };
     let begun = Begun {
@@ -121,48 +122,8 @@ fn start<
     begin(scope, &hall.refused, place, begun, job)
 }
 
-/// Starts the thread of exchanges. One that is refused accepts nothing.
-fn start_exchanges<
-    's,
-    E,
-    H: HubName + Send + Sync + 's,
-    R: Wait + Drop + Send + 's,
-    S: Wait + Clock + Log + Sync + 's,
-    K: Keep + Send + 's,
->(
-    scope: &Scope<'s, E>,
-    hall: &'s Hall<'s, H, Shown<H>, R, S>,
-    exchanging: Exchanging<'s>,
-    desk: &Desk<K>,
-    place: u64,
-    pass: Pass<H>,
-) -> Started<H, K>
-    ensures { MatchResult result
-        (λ thread. (thread.promise.was.value ≡ pass)
-        × (thread.promise.ends ≡ is_some hall.now.manner.ending)
-        × (thread.promise.most ≡ exchanging.entry.rounds))
-        (λ done. HasServed K.is_up K.holds K.lasts pass done.pass
-        (is_some hall.now.manner.ending) exchanging.entry.rounds done.accepted done.fault) }
-{
-    let Ok(desk) = desk.another() else {
-        return Err(idle(pass, Some(ServeFault::Exchange(ExchangeFault::Memory))));
-    };
-    let Exchanging { entrance, rounds } = exchanging;
-    let begun = Begun {
-        was: Snapshot::of(&pass),
-        ends: hall.manner.ending.is_some(),
-        most: rounds,
-        of: PhantomData,
-    };
-    let job = move || -> Done<H>
-        ensures { HasServed K.is_up K.holds K.lasts pass result.pass
-            (is_some hall.entry.now.manner.ending) rounds result.accepted result.fault }
-    { exchange_all(place, hall, entrance, rounds, desk, pass) };
-    begin(scope, &hall.refused, place, begun, job)
-}
-
-/// Starts the thread that calls a peer. One that is refused calls nobody.
-fn start_meeting<
+/// Starts a thread beside the workers. One that is refused does nothing.
+fn start_beside<
     's,
     E,
     H: HubName + Send + Sync + 's,
@@ -172,8 +133,8 @@ fn start_meeting<
 >(
     scope: &Scope<'s, E>,
     hall: &'s Hall<'s, H, Shown<H>, R, S>,
-    peer: Peer<'s>,
-    to: &Sender<Request<K>>,
+    job: Beside<'s>,
+    desk: &Desk<K>,
     ended: &Receiver<()>,
     place: u64,
     pass: Pass<H>,
@@ -184,8 +145,8 @@ fn start_meeting<
         (λ done. HasServed K.is_up K.holds K.lasts pass done.pass false 0 done.accepted
         done.fault) }
 {
-    let (to, ended): (Result<_, _>, Result<_, _>) = (to.clone(), ended.clone());
-    let (Ok(to), Ok(ended)) = (to, ended) else {
+    let (desk, ended): (Result<_, _>, Result<_, _>) = (desk.another(job.accepts()), ended.clone());
+    let (Ok(desk), Ok(ended)) = (desk, ended) else {
         return Err(idle(pass, Some(ServeFault::Exchange(ExchangeFault::Memory))));
     };
     let begun = Begun {
@@ -197,7 +158,7 @@ fn start_meeting<
     let job = move || -> Done<H>
         ensures { HasServed K.is_up K.holds K.lasts pass result.pass false 0 result.accepted
             result.fault }
-    { meet_all(place, hall, peer, to, ended, pass) };
+    { attend(place, hall, job, desk, ended, pass) };
     begin(scope, &hall.refused, place, begun, job)
 }
 
@@ -297,57 +258,9 @@ fn serve_rest<
     with_worker(before, accepted, fault)
 }
 
-/// Serves exchanges with the last pass, beside the workers, whose faults come first.
+/// Does each of these with a pass of its own, the last passes, beside the workers, whose faults come
+/// first.
 fn serve_beside<
-    's,
-    E,
-    H: HubName + Send + Sync + 's,
-    R: Wait + Drop + Send + 's,
-    S: Threads + Wait + Clock + Log + Sync + 's,
-    K: Keep + Send + 's,
-    G: Gate + Send + Drop + 's,
->(
-    scope: &Scope<'s, E>,
-    hall: &'s Hall<'s, H, Shown<H>, R, S>,
-    exchanging: Exchanging<'s>,
-    desk: Desk<K>,
-    requests: Receiver<Request<K>>,
-    shelf: &mut K,
-    gates: &mut Vec<G>,
-    passes: &mut Vec<Pass<H>>,
-) -> Total
-    requires places { vec_len passes.old ≡ places_for (vec_len gates.old) true 0 }
-    ensures served { HaveServed K.is_up K.holds K.lasts passes.old.items passes.new.items
-        (is_some hall.now.manner.ending) (vec_len gates.old * hall.now.each) result.accepted
-        result.fault }
-    ensures len { vec_len passes.new ≡ vec_len passes.old }
-    ensures room { vec_capacity passes.new ≡ vec_capacity passes.old }
-{
-    let Some(pass) = passes.pop() else {
-        unreachable!()
-    };
-    let was = Snapshot::of(&pass);
-    let started = start_exchanges(scope, hall, exchanging, &desk, passes.len() as u64, pass);
-    let before = serve_rest(scope, hall, desk, requests, shelf, gates, passes);
-    let done = finish(
-        hall.rt,
-        was,
-        hall.manner.ending.is_some(),
-        exchanging.rounds,
-        started,
-    );
-    let Done {
-        pass: last,
-        accepted: _,
-        failed: _,
-        fault,
-    } = done;
-    passes.push_reserved(last);
-    with_worker(before, 0, fault)
-}
-
-/// Calls each peer with a pass of its own, the last passes, beside all else.
-fn serve_meeting<
     's,
     E,
     H: HubName + Send + Sync + 's,
@@ -358,8 +271,7 @@ fn serve_meeting<
 >(
     scope: &Scope<'s, E>,
     hall: &'s Hall<'s, H, Shown<H>, R, S>,
-    peers: &[Peer<'s>],
-    exchange: Option<Exchanging<'s>>,
+    jobs: &mut Vec<Beside<'s>>,
     ended: &Receiver<()>,
     desk: Desk<K>,
     requests: Receiver<Request<K>>,
@@ -367,41 +279,32 @@ fn serve_meeting<
     gates: &mut Vec<G>,
     passes: &mut Vec<Pass<H>>,
 ) -> Total
-    requires places { vec_len passes.old
-        ≡ places_for (vec_len gates.old) (is_some exchange) (length peers.now) }
+    requires places { vec_len passes.old ≡ vec_len gates.old + vec_len jobs.old }
     ensures served { HaveServed K.is_up K.holds K.lasts passes.old.items passes.new.items
         (is_some hall.now.manner.ending) (vec_len gates.old * hall.now.each) result.accepted
         result.fault }
     ensures len { vec_len passes.new ≡ vec_len passes.old }
     ensures room { vec_capacity passes.new ≡ vec_capacity passes.old }
 {
-    let Some((peer, others)) = peers.split_first() else {
-        return match exchange {
-            None => serve_rest(scope, hall, desk, requests, shelf, gates, passes),
-            Some(exchanging) => {
-                serve_beside(
-                    scope, hall, exchanging, desk, requests, shelf, gates, passes,
-                )
-            }
-        };
+    let Some(job) = jobs.pop() else {
+        return serve_rest(scope, hall, desk, requests, shelf, gates, passes);
     };
     let Some(pass) = passes.pop() else {
         unreachable!()
     };
     let was = Snapshot::of(&pass);
-    let place = passes.len() as u64;
-    let started = start_meeting(scope, hall, *peer, &desk.to, ended, place, pass);
-    let before = serve_meeting(
-        scope, hall, others, exchange, ended, desk, requests, shelf, gates, passes,
+    let started = start_beside(scope, hall, job, &desk, ended, passes.len() as u64, pass);
+    let before = serve_beside(
+        scope, hall, jobs, ended, desk, requests, shelf, gates, passes,
     );
     let done = finish(hall.rt, was, false, 0, started);
     let Done {
-        pass: met,
+        pass: last,
         accepted: _,
         failed: _,
         fault,
     } = done;
-    passes.push_reserved(met);
+    passes.push_reserved(last);
     with_worker(before, 0, fault)
 }
 
@@ -419,9 +322,9 @@ pub struct Served<H: HubName> {
 }
 
 /// Serves associations that come in at an entrance, `each` in a thread for each gate, with the pass
-/// of its place; with `exchange` so many exchanges, in a thread of their own with the next pass;
-/// and meanwhile calls each peer again and again, in a thread for each, with the passes behind. The
-/// thread that calls keeps the shelf. Whoever may end it in this manner ends it early.
+/// of its place; with `exchange` so many exchanges in all, in as many threads as it says, with the
+/// next passes; and meanwhile calls each peer again and again, in a thread for each, with the passes
+/// behind. The thread that calls keeps the shelf. Whoever may end it in this manner ends it early.
 pub fn serve_on<
     'x,
     H: HubName + Send + Sync,
@@ -445,14 +348,17 @@ pub fn serve_on<
 ) -> Served<H>
     requires some { 0 < vec_len gates }
     requires places { vec_len passes
-        ≡ places_for (vec_len gates) (is_some exchange) (length peers.now) }
+        ≡ places_for (vec_len gates) (serving_in exchange) (length peers.now) }
     ensures back { AllOnward K.is_up K.holds K.lasts passes.items result.passes.items }
     ensures most { result.accepted ≤ vec_len gates * each }
     ensures all { IsSome manner.entry.ending ⊎ IsSome result.fault
         ⊎ (result.accepted ≡ min (vec_len gates * each) 18446744073709551615) }
 {
-    let (Ok((to, requests)), Ok((still, ended))) = (bounded(alloc, WAITING), bounded(alloc, 1))
-    else {
+    let (Ok((to, requests)), Ok((still, ended)), Ok(jobs)) = (
+        bounded(alloc, WAITING),
+        bounded(alloc, 1),
+        jobs_of(alloc, exchange, peers),
+    ) else {
         return Served {
             accepted: 0,
             passes,
@@ -468,10 +374,14 @@ pub fn serve_on<
         keeper,
         manner,
         refused: AtomicU64::new(u64::MAX),
+        begun: AtomicU64::new(0),
     };
     let hall = &hall;
     let channels = Channels {
-        desk: Desk { to, still },
+        desk: Desk {
+            to,
+            still: Some(still),
+        },
         ended,
         requests,
     };
@@ -479,13 +389,37 @@ pub fn serve_on<
         thread::scope_env(),
         rt,
         |scope| -> Served<H>
-            requires { vec_len passes
-                ≡ places_for (vec_len gates) (is_some exchange) (length peers.now) }
+            requires { vec_len passes ≡ vec_len gates + vec_len jobs }
             ensures { HaveServed K.is_up K.holds K.lasts passes.items result.passes.items
                 (is_some hall.entry.now.manner.ending) (vec_len gates * hall.entry.now.each)
                 result.accepted result.fault }
-        { serve_all(scope, hall, peers, exchange, channels, shelf, gates, passes) },
+        { serve_all(scope, hall, jobs, channels, shelf, gates, passes) },
     )
+}
+
+/// What is done beside the workers: exchanges are served, and each peer is called.
+fn jobs_of<'x>(
+    alloc: Global,
+    exchange: Option<Exchanging<'x>>,
+    peers: &[Peer<'x>],
+) -> Result<Vec<Beside<'x>>, AllocError>
+    ensures { IfOk result (λ jobs.
+        vec_len jobs ≡ serving_in exchange.entry + length peers.now) }
+{
+    let mut jobs = match exchange {
+        Some(exchanging) => {
+            Vec::from_elem(
+                alloc,
+                Beside::Serves(exchanging),
+                exchanging.workers as usize,
+            )?
+        }
+        None => Vec::new(alloc),
+    };
+    for peer in peers {
+        jobs.push(Beside::Calls(*peer))?;
+    }
+    Ok(jobs)
 }
 
 /// The channels of a server.
@@ -508,15 +442,13 @@ fn serve_all<
 >(
     scope: &Scope<'s, E>,
     hall: &'s Hall<'s, H, Shown<H>, R, S>,
-    peers: &'s [Peer<'s>],
-    exchange: Option<Exchanging<'s>>,
+    mut jobs: Vec<Beside<'s>>,
     channels: Channels<K>,
     shelf: &mut K,
     mut gates: Vec<G>,
     mut passes: Vec<Pass<H>>,
 ) -> Served<H>
-    requires places { vec_len passes
-        ≡ places_for (vec_len gates) (is_some exchange) (length peers.now) }
+    requires places { vec_len passes ≡ vec_len gates + vec_len jobs }
     ensures served { HaveServed K.is_up K.holds K.lasts passes.items result.passes.items
         (is_some hall.now.manner.ending) (vec_len gates * hall.now.each) result.accepted
         result.fault }
@@ -526,11 +458,10 @@ fn serve_all<
         ended,
         requests,
     } = channels;
-    let Total { accepted, fault } = serve_meeting(
+    let Total { accepted, fault } = serve_beside(
         scope,
         hall,
-        peers,
-        exchange,
+        &mut jobs,
         &ended,
         desk,
         requests,

@@ -11,6 +11,7 @@ use crate::journal::{Whence, tell_association};
 use crate::manner::Manner;
 use crate::message::{Desk, Request};
 use crate::port::ServerPort;
+use crate::wire::Wire;
 use archive_model::View;
 use association_run::{Gate, Outbox, RunFault, run_association};
 use association_worker::AtEntry;
@@ -21,7 +22,6 @@ use op_shelf::Keep;
 use site_hub::{HubName, Keeper, Pass, Shows};
 use std::alloc::Global;
 use std::marker::Brand;
-use std::net::TcpStream;
 use std::sync::atomic::{AtomicU64, Ordering};
 use std::sync::{Mutex, Wait};
 use std::time::Clock;
@@ -48,6 +48,8 @@ pub(crate) struct Hall<'a, H: HubName, T: Shows<H>, R: Wait + Drop, S: Wait> {
     pub manner: Manner<'a>,
     /// The place of a worker whose thread was refused.
     pub refused: AtomicU64,
+    /// How many exchanges were begun to be accepted.
+    pub begun: AtomicU64,
 }
 
 /// One association, for the pass that the caller named.
@@ -64,16 +66,16 @@ fn associate<
     to: &Sender<Request<K>>,
     gate: &mut G,
     outbox: &mut Outbox,
-    stream: TcpStream,
+    wire: &Wire,
     pass: Pass<H>,
 ) -> (Pass<H>, Option<ServeFault>)
     requires entry { pass ≡ E.seat }
     ensures onward { IsOnward K.is_up K.holds K.lasts E.seat result.0 }
 {
     let mut port = ServerPort::<H, T, R, S, K, E>::new(hall.alloc, hall.rt, hall.keeper, to, pass);
-    let peer = Whence::of(&stream);
-    let mut reader = Heard::new(Counted::new(&stream));
-    let mut writer = Counted::new(&stream);
+    let peer = Whence::of(wire);
+    let mut reader = Heard::new(Counted::new(wire));
+    let mut writer = Counted::new(wire);
     let ended = run_association(
         hall.alloc,
         &mut reader,
@@ -84,7 +86,15 @@ fn associate<
         hall.titles,
     );
     let front = reader.front();
-    tell_association(hall.rt, hall.manner, peer, &front, port.tally(), ended);
+    tell_association(
+        hall.rt,
+        hall.manner,
+        peer,
+        wire,
+        &front,
+        port.tally(),
+        ended,
+    );
     let fault = match ended {
         Ok(_end) => None,
         Err(fault) => Some(ServeFault::Run(fault)),
@@ -92,20 +102,20 @@ fn associate<
     (port.into_pass(), fault)
 }
 
-/// One association. Its responses are sent at once, as they are written.
+/// One association. Behind it the peer may read what was sent last.
 fn serve_one<H: HubName, T: Shows<H>, R: Wait + Drop, S: Wait + Clock + Log, K: Keep, G: Gate>(
     hall: &Hall<'_, H, T, R, S>,
     to: &Sender<Request<K>>,
     gate: &mut G,
     outbox: &mut Outbox,
-    stream: TcpStream,
+    wire: &Wire,
     pass: Pass<H>,
 ) -> (Pass<H>, Option<ServeFault>)
     ensures onward { IsOnward K.is_up K.holds K.lasts pass result.0 }
 {
-    // A stream that refuses this serves as well.
-    let _ = stream.set_nodelay(true);
-    associate::<Brand, H, T, R, S, K, G>(hall, to, gate, outbox, stream, pass)
+    let served = associate::<Brand, H, T, R, S, K, G>(hall, to, gate, outbox, wire, pass);
+    wire.part(hall.rt);
+    served
 }
 
 /// What a worker has done, and one association more.
@@ -114,7 +124,7 @@ fn with_one<H: HubName, T: Shows<H>, R: Wait + Drop, S: Wait + Clock + Log, K: K
     to: &Sender<Request<K>>,
     gate: &mut G,
     outbox: &mut Outbox,
-    stream: TcpStream,
+    wire: Wire,
     done: Done<H>,
 ) -> Done<H>
     requires room { done.accepted + done.failed < 2 ^ 64 - 1 }
@@ -129,7 +139,7 @@ fn with_one<H: HubName, T: Shows<H>, R: Wait + Drop, S: Wait + Clock + Log, K: K
         failed,
         fault,
     } = done;
-    let (pass, broken) = serve_one(hall, to, gate, outbox, stream, pass);
+    let (pass, broken) = serve_one(hall, to, gate, outbox, &wire, pass);
     Done {
         pass,
         accepted: accepted + 1,
@@ -181,7 +191,7 @@ fn next<H: HubName, T: Shows<H>, R: Wait + Drop, S: Wait + Clock + Log, K: Keep,
         → IsSome hall.now.manner.ending ⊎ IsSome result.fault ⊎ (result.failed ≡ 0) }
 {
     match accept_from(hall.rt, hall.manner, hall.entrance) {
-        Ok(Some(stream)) => with_one(hall, to, gate, outbox, stream, done),
+        Ok(Some(wire)) => with_one(hall, to, gate, outbox, wire, done),
         Ok(None) => turned_away(done),
         Err(_error) => with_none(hall.manner.is_ended(), done),
     }

@@ -1,5 +1,7 @@
 -- What the words of a command line ask for.
-use Rattle.std.specs.Prelude.{ℕ, ◌≤◌, List, Option, Some, None, vec_len}
+use Rattle.std.specs.Prelude.{ℕ, ◌≤◌, ◌+◌, List, [], ◌∷◌, Option, Some, None, vec_len}
+use Rattle.archive_model.specs.declared.view.View.{View}
+use Rattle.archive_model.specs.declared.view.View.TheVariants.{Archive, Quality, Audit}
 use Rattle.operation.specs.declared.target.Target.{Target}
 use Rattle.site_script.specs.Commands.{target_in}
 use Rattle.site_script.specs.Names.{tag_in}
@@ -21,9 +23,21 @@ change_in kind key tag value = change_for (target_in kind key) (tag_in tag) valu
 abbrev pub HasSite : Correcting → Type 0
 HasSite correcting = 1 ≤ correcting.site
 
--- the workers of a server are 1 to 32, and it calls at most 31 peers
+-- a server has a worker, and its workers, those of exchanges and its peers are 64 at most
 abbrev pub HasPlaces : Serving → Type 0
-HasPlaces serving = (1 ≤ serving.workers) × (serving.workers ≤ 32) × (vec_len serving.peers ≤ 31)
+HasPlaces serving = (1 ≤ serving.workers)
+    × (serving.workers + serving.exchange_workers + vec_len serving.peers ≤ 64)
+
+-- those who are named, or else these
+abbrev pub named_or : {A : Type 0} → List A → List A → List A
+named_or [] others = others
+named_or (first ∷ rest) others = first ∷ rest
+
+-- who may call the title of a view: of those who are named for all, for QUALITY and for AUDIT
+abbrev pub callers_for : {A : Type 0} → View → List A → List A → List A → List A
+callers_for Archive all quality audit = all
+callers_for Quality all quality audit = named_or quality all
+callers_for Audit all quality audit = named_or audit all
 
 -- the numbers that a command names are in their ranges
 abbrev pub IsInRange : Asked → Type 0

@@ -2,8 +2,9 @@
 #![tactic(auto)]
 
 ghost use Rattle.std.specs.Prelude.{◌≡◌, IfOk};
-ghost use Rattle.command_words.specs.Words.{change_in as change_in_words};
+ghost use Rattle.command_words.specs.Words.{change_in as change_in_words, callers_for};
 
+use archive_model::View;
 use exchange_run::Role;
 use ipv4_networks::Network;
 use octets::Octets;
@@ -28,18 +29,20 @@ pub struct Correcting<'a> {
     pub change: Change,
 }
 
-/// The operations in a file, served at an address by so many workers, each of which accepts so many
-/// associations.
+/// The operations in a file, served at an address by so many workers.
 #[derive(Debug, Drop)]
 pub struct Serving<'a> {
     pub file: &'a str,
     pub listen: &'a str,
     pub workers: u16,
-    pub each: u32,
+    /// How many associations each of them accepts. Where it is left out they go on for ever.
+    pub each: Option<u32>,
     /// Where exchanges come in.
     pub exchange: &'a str,
     /// How many are served. Where none is, nothing is listened for them.
     pub rounds: u32,
+    /// How many are served at once: 0 where none is served.
+    pub exchange_workers: u16,
     /// The sites that are called for an exchange, again and again.
     pub peers: Vec<&'a str>,
     /// The seconds between an exchange with one of them and the next.
@@ -50,6 +53,11 @@ pub struct Serving<'a> {
     pub exchange_allowed: Vec<Network>,
     /// The calling titles that may ask for an association. Where none is named any may.
     pub callers: Vec<&'a str>,
+    /// Those that may call QUALITY, and AUDIT. Where none is named those above may.
+    pub quality_callers: Vec<&'a str>,
+    pub audit_callers: Vec<&'a str>,
+    /// The seconds that a wait for a peer lasts at most. With 0 it has no end.
+    pub idle: u32,
     /// Whether the end of standard input ends it.
     pub ends_with_input: bool,
     /// Whether each association and each exchange is a line on standard error.
@@ -63,6 +71,8 @@ pub struct Exchanging<'a> {
     pub peer: &'a str,
     /// Which side of the exchange the command takes.
     pub role: Role,
+    /// The seconds that a wait for it lasts at most. With 0 it has no end.
+    pub idle: u32,
 }
 
 /// A report on the shelf in a file.
@@ -88,6 +98,24 @@ pub enum Asked<'a> {
     Serve(Serving<'a>),
     /// Exchanges operations with another site.
     Exchange(Exchanging<'a>),
+}
+
+impl<'a> Serving<'a> {
+    /// The calling titles that may call the title of a view. Where none is named any may.
+    pub fn callers_of(&self, view: View) -> &[&'a str]
+        ensures { result.now ≡ callers_for view self.now.callers.items
+            self.now.quality_callers.items self.now.audit_callers.items }
+    {
+        let named = match view {
+            View::Archive => return self.callers.as_slice(),
+            View::Quality => self.quality_callers.as_slice(),
+            View::Audit => self.audit_callers.as_slice(),
+        };
+        if named.is_empty() {
+            return self.callers.as_slice();
+        }
+        named
+    }
 }
 
 /// The change that four words ask for, or `None` where the first names no kind of target or the

@@ -1,37 +1,27 @@
-use Rattle.std.proofs.Common.{rules, ◌≡◌, ◌+◌, refl, ap, ◌∙◌, inr}
+use Rattle.std.proofs.Common.{rules, ◌≡◌, ◌+◌, ◌≤◌, refl, ap, ◌∙◌, subst}
+use Rattle.std.proofs.Math.Nat.{le-add_right, le_trans}
 use Rattle.archive_server.proofs.OnwardLaws.{onward_self, onward_trans}
-use Rattle.archive_server.proofs.CountLaws.{served_by_all, told_alone}
+use Rattle.archive_server.proofs.CountLaws.{none_most}
 use Rattle.archive_server.proofs.exchanging.exchange_all.Goals as goal
 
--- A thread of exchanges that was refused gives its pass back as it came, and tells it.
+-- A thread of exchanges that was refused gives its pass back as it came, and accepted nothing.
 pub returns-then-load-place : goal.returns-then-load-place
 returns-then-load-place g c = record {
-  served = rw (c.idle.ensures.pass, c.idle.ensures.none.0, c.idle.ensures.fault)
-      (told_alone g.K.Keep.is_up g.K.Keep.holds g.K.Keep.lasts _ _ _ _);
+  onward = rw c.idle.ensures.pass (onward_self g.K.Keep.is_up g.K.Keep.holds g.K.Keep.lasts _);
+  most = rw c.idle.ensures.none.0 (none_most _);
 }
 
 -- Before the first accept of an exchange nothing is used up.
 pub loop-init : goal.loop-init
 loop-init g c = (
   let none = c.idle-done.ensures.none in rw (none.0, none.1) refl,
-  inr (inr c.idle-done.ensures.none.1),
   rw c.idle-done.ensures.pass (onward_self g.K.Keep.is_up g.K.Keep.holds g.K.Keep.lasts _),
 )
 
--- Each accept uses up one, and one that fails is told.
+-- Each accept uses up one.
 pub loop-preserved : goal.loop-preserved
 loop-preserved g c = (
   c.next_exchange-done.ensures.used ∙ ap (λ n. n + 1) c.loop.invariant.0,
-  c.next_exchange-done.ensures.told c.loop.invariant.1,
-  onward_trans g.K.Keep.is_up g.K.Keep.holds g.K.Keep.lasts _ _ _ c.loop.invariant.2
+  onward_trans g.K.Keep.is_up g.K.Keep.holds g.K.Keep.lasts _ _ _ c.loop.invariant.1
       c.next_exchange-done.ensures.onward,
 )
-
--- So all that may be accepted was, or a fault is told.
-pub returns : goal.returns
-returns g c =
-    let ended : c.loop.counter ≡ c.args.rounds = search rules in
-    record {
-      served = served_by_all g.K.Keep.is_up g.K.Keep.holds g.K.Keep.lasts _ _ _ _ _ _ _ (c.loop.invariant.0 ∙ ended)
-          c.loop.invariant.1 c.loop.invariant.2;
-    }

@@ -2,8 +2,7 @@ use Rattle.std.specs.Prelude.{◌≡◌, ◌+◌, ◌⊎◌, IsSome}
 use Rattle.archive_server.specs.Serving.{IsOnward}
 use Rattle.archive_server.proofs.exchanging.exchange_all.Given as goal
 
--- each turn is used up, a failed one is told where nobody may end the server, and the pass went on
+-- each turn is used up, and the pass went on
 abbrev pub invariant-loop : goal.invariant-loop
 invariant-loop g l = (l.done.accepted + l.done.failed ≡ l.counter)
-    × (IsSome l.hall.manner.ending ⊎ IsSome l.done.fault ⊎ (l.done.failed ≡ 0))
     × IsOnward g.K.Keep.is_up g.K.Keep.holds g.K.Keep.lasts l.fn.pass l.done.pass

@@ -1,5 +1,5 @@
 use Rattle.archive_server.proofs.CountLaws.{told_alone}
-use Rattle.archive_server.proofs.serve.start_meeting.Goals as goal
+use Rattle.archive_server.proofs.serve.start_beside.Goals as goal
 
 -- With no way to the shelf the pass stays, and want of memory is told.
 pub returns-in_default : goal.returns-in_default

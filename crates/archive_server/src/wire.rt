@@ -1,0 +1,128 @@
+//! The connection of a peer. Each wait for the peer has an end.
+
+ghost use Rattle.std.specs.Prelude.{◌≡◌};
+
+use std::io;
+use std::io::{ErrorKind, Read, Write};
+use std::net::{Net, Shutdown, SocketAddr, TcpListener, TcpStream};
+use std::sync::atomic::{AtomicBool, Ordering};
+use std::time::{Clock, Duration, Instant};
+
+/// The seconds for which is read what a peer still sends, once nothing is sent to it any more.
+const PARTING: u64 = 5;
+
+/// How many bytes of that are read at once.
+const PIECE: usize = 16_384;
+
+/// How many such pieces are read at most: 128 MiB.
+const PIECES: usize = 8_192;
+
+/// A connection, and whether a wait for its peer was cut off.
+#[derive(Drop)]
+pub struct Wire {
+    stream: TcpStream,
+    silent: AtomicBool,
+}
+
+/// What a read or a write is cut off by, once it has waited as long as it may.
+fn is_cut_off(error: &io::Error) -> bool {
+    matches!(error.kind(), ErrorKind::WouldBlock | ErrorKind::TimedOut)
+}
+
+impl Wire {
+    /// A connection on which each read and each write waits for the peer so long at most, or as
+    /// long as it takes. What is written is sent at once.
+    pub fn new(stream: TcpStream, idle: Option<Duration>) -> io::Result<Wire> {
+        // A stream that refuses this serves as well.
+        let _ = stream.set_nodelay(true);
+        stream.set_read_timeout(idle)?;
+        stream.set_write_timeout(idle)?;
+        Ok(Wire {
+            stream,
+            silent: AtomicBool::new(false),
+        })
+    }
+
+    /// A connection to a peer, which has so long to answer, or as long as it takes.
+    pub fn to<S: Net<Listener = TcpListener, Stream = TcpStream>>(
+        net: &S,
+        address: &str,
+        idle: Option<Duration>,
+    ) -> io::Result<Wire> {
+        let stream = match (idle, address.parse::<SocketAddr>()) {
+            (Some(idle), Ok(address)) => TcpStream::connect_timeout(net, &address, idle)?,
+            _ => TcpStream::connect(net, address)?,
+        };
+        Wire::new(stream, idle)
+    }
+
+    pub(crate) fn stream(&self) -> &TcpStream {
+        &self.stream
+    }
+
+    /// Whether a wait for the peer was cut off.
+    pub fn is_silent(&self) -> bool {
+        self.silent.load(Ordering::SeqCst)
+    }
+
+    /// Notes that a wait was cut off.
+    fn noted(&self, done: io::Result<usize>) -> io::Result<usize>
+        ensures { result ≡ done }
+    {
+        if let Err(error) = &done {
+            if is_cut_off(error) {
+                self.silent.store(true, Ordering::SeqCst);
+            }
+        }
+        done
+    }
+
+    /// Reads and drops what comes next, for so long at most. It says whether more may come.
+    fn drops_more(&self, buffer: &mut [u8], most: Duration) -> bool {
+        if self.stream.set_read_timeout(Some(most)).is_err() {
+            return false;
+        }
+        let mut stream = &self.stream;
+        !matches!(stream.read(buffer), Ok(0) | Err(_))
+    }
+
+    /// Sends nothing any more, and reads and drops what the peer still sends until it closes, for 5
+    /// seconds and 128 MiB at most. A connection that is closed while bytes come is reset by the
+    /// system, and then the peer may lose the last that was written to it.
+    pub fn part<S: Clock>(&self, clock: &S) {
+        let Ok(begun) = Instant::now(clock) else {
+            return;
+        };
+        if self.is_silent() || self.stream.shutdown(Shutdown::Write).is_err() {
+            return;
+        }
+        let mut buffer = [0; PIECE];
+        for _ in 0..PIECES {
+            let Ok(gone) = begun.elapsed(clock) else {
+                return;
+            };
+            let left = Duration::from_secs(PARTING).saturating_sub(gone);
+            if left.is_zero() || !self.drops_more(&mut buffer, left) {
+                return;
+            }
+        }
+    }
+}
+
+impl Read for &Wire {
+    fn read(&mut self, buffer: &mut [u8]) -> io::Result<usize> {
+        let mut stream = &self.stream;
+        self.noted(stream.read(buffer))
+    }
+}
+
+impl Write for &Wire {
+    fn write(&mut self, bytes: &[u8]) -> io::Result<usize> {
+        let mut stream = &self.stream;
+        self.noted(stream.write(bytes))
+    }
+
+    fn flush(&mut self) -> io::Result<()> {
+        Ok(())
+    }
+}
