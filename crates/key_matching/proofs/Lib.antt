@@ -1,2 +1,3 @@
 pub mod WildCards
+pub mod Runs
 pub mod Parts

@@ -39,7 +39,7 @@ stuck_here folds (suc n) (k ∷ key) (v ∷ value) h g e = stuck_here folds n ke
 
 -- ---- tests
 
-or_cases : (a b : Bool) → (a || b) ≡ true → (a ≡ true) ⊎ (b ≡ true)
+pub or_cases : (a b : Bool) → (a || b) ≡ true → (a ≡ true) ⊎ (b ≡ true)
 or_cases true b h = inl refl
 or_cases false b h = inr h
 
@@ -51,11 +51,11 @@ or_right : (a b : Bool) → b ≡ true → (a || b) ≡ true
 or_right true b h = refl
 or_right false b h = h
 
-or_false : (a b : Bool) → a ≡ false → (a || b) ≡ b
+pub or_false : (a b : Bool) → a ≡ false → (a || b) ≡ b
 or_false true b h = cc
 or_false false b h = refl
 
-and_right : (a b : Bool) → (a && b) ≡ true → b ≡ true
+pub and_right : (a b : Bool) → (a && b) ≡ true → b ≡ true
 and_right true b h = h
 and_right false b h = cc
 
@@ -112,7 +112,7 @@ greedy folds n key rest (w ∷ value) v s h at m =
     ]
 
 -- a value that is shorter than a front is not matched
-too_short : (folds : Bool) (n : ℕ) (key value : List ℕ) → IsStarless n key → n ≤ length key → length value < n
+pub too_short : (folds : Bool) (n : ℕ) (key value : List ℕ) → IsStarless n key → n ≤ length key → length value < n
     → is_wild_match folds (star ∷ key) value ≡ true → ⊥
 too_short folds n key [] s h few m = let r : n ≤ length {A = ℕ} [] = (front_of folds n key [] s h m).0 in
     omega (arith, r)
@@ -122,19 +122,22 @@ too_short folds n key (v ∷ value) s h few m =
       | inr later ↦ too_short folds n key value s h (omega arith) later
     ]
 
--- ---- the three steps behind a `*`
+-- ---- a front behind a `*`
 
-and_false : (a b : Bool) → not a ≡ true → (a && b) ≡ false
+pub and_false : (a b : Bool) → not a ≡ true → (a && b) ≡ false
 and_false true b h = cc
 and_false false b h = refl
 
-pub at_star : (folds : Bool) (n : ℕ) (key value : List ℕ) → IsStarless n key → n < length key → n < length value
+star_at : (n : ℕ) (key : List ℕ) → n < length key → (get_or key n 0 == star) ≡ true
+    → drop n key ≡ star ∷ drop (suc n) key
+star_at n key h e = drop-cons key n 0 h ∙ ap (λ k. k ∷ drop (suc n) key) (eqb-true (get_or key n 0) star e)
+
+pub at_star : (folds : Bool) (n : ℕ) (key value : List ℕ) → IsStarless n key → n < length key
     → (get_or key n 0 == star) ≡ true → is_wild_match folds key value ≡ is_wild_match folds (drop n key) (drop n value)
     → is_wild_match folds (star ∷ key) value ≡ is_wild_match folds (star ∷ drop (suc n) key) (drop n value)
-at_star folds n key [] s h g e d = absurd (omega arith)
-at_star folds n key (v ∷ value) s h g e d =
-    let at : drop n key ≡ star ∷ drop (suc n) key = drop-cons key n 0 h ∙ ap (λ k. k ∷ drop (suc n) key)
-    (eqb-true (get_or key n 0) star e) in
+at_star folds n key [] s h e d = d ∙ ap (λ k. is_wild_match folds k (drop n [])) (star_at n key h e)
+at_star folds n key (v ∷ value) s h e d =
+    let at : drop n key ≡ star ∷ drop (suc n) key = star_at n key h e in
     let here : is_wild_match folds key (v ∷ value) ≡ is_wild_match folds (star ∷ drop (suc n) key)
     (drop n (v ∷ value)) = d ∙ ap (λ k. is_wild_match folds k (drop n (v ∷ value))) at in
     both (is_wild_match folds (star ∷ key) (v ∷ value)) (is_wild_match folds (star ∷ drop (suc n) key)
@@ -153,31 +156,6 @@ unmatched folds (k ∷ key) (v ∷ value) stuck h other =
     let e : (k == star) ≡ false = other (omega arith) in
     let f : not (is_byte_match folds k v) ≡ true = rw e at stuck in
     rw e (and_false (is_byte_match folds k v) (is_wild_match folds key value) f)
-
-pub at_other : (folds : Bool) (n : ℕ) (key value : List ℕ) → n < length value → IsStuck folds (drop n key)
-    (drop n value) → (n < length key → (get_or key n 0 == star) ≡ false) → is_wild_match folds key value ≡ is_wild_match
-    folds (drop n key) (drop n value) → is_wild_match folds (star ∷ key) value ≡ is_wild_match folds (star ∷ key)
-    (drop 1 value)
-at_other folds n key [] g stuck other d = absurd (omega arith)
-at_other folds n key (v ∷ value) g stuck other d =
-    or_false (is_wild_match folds key (v ∷ value)) (is_wild_match folds (star ∷ key) value)
-    (d ∙ unmatched folds (drop n key) (drop n (v ∷ value)) stuck (omega (arith, length-drop n (v ∷ value)))
-    (λ h. ap (λ k. k == star) (get_or-drop n key 0 0 ∙ ap (λ m. get_or key m 0) (add-zero n))
-    ∙ other (omega (arith, length-drop n key))))
-
-pub at_end : (folds : Bool) (n : ℕ) (key value : List ℕ) → IsStarless n key → n ≤ length key → length value ≤ n
-    → is_wild_match folds key value ≡ is_wild_match folds (drop n key) (drop n value) → is_wild_match folds (star ∷ key)
-    value ≡ is_wild_match folds (drop n key) []
-at_end folds n key [] s h e d = d ∙ ap (is_wild_match folds (drop n key)) (drop-nil n)
-at_end folds n key (v ∷ value) s h e d =
-    let here : is_wild_match folds key (v ∷ value) ≡ is_wild_match folds (drop n key) [] = d
-    ∙ ap (is_wild_match folds (drop n key)) (drop_all n (v ∷ value) (omega arith)) in
-    both (is_wild_match folds (star ∷ key) (v ∷ value)) (is_wild_match folds (drop n key) [])
-    (λ m. elim (or_cases (is_wild_match folds key (v ∷ value)) (is_wild_match folds (star ∷ key) value) m) [
-      | inl now ↦ sym here ∙ now
-      | inr later ↦ absurd (too_short folds n key value s h (omega arith) later)
-    ])
-    (λ m. or_left (is_wild_match folds key (v ∷ value)) (is_wild_match folds (star ∷ key) value) (here ∙ m))
 
 -- ---- with no `*` in between
 

@@ -1,34 +1,33 @@
-use Rattle.std.proofs.Common.{arith, add-one, ◌≡◌, ◌<◌, ◌∙◌, sym, ap, ◌∷◌, refl, rules, length, drop, suc, subst}
+use Rattle.std.proofs.Common.{arith, add-one, ◌≡◌, ◌<◌, ◌≤◌, ◌+◌, ◌∙◌, sym, ap, subst, ◌∷◌, length, take, drop, suc, Some, None}
+use Rattle.std.proofs.Common.{length-take-le, length-drop}
 use Rattle.key_matching.specs.WildCard.{star, is_wild_match}
-use Rattle.key_matching.proofs.WildCards.{at_star, at_other, at_end}
+use Rattle.key_matching.specs.WildCardFront.{IsFirstPlace}
+use Rattle.key_matching.proofs.Runs.{at_place, at_no_place}
 use Rattle.key_matching.proofs.wild_card.is_match_behind_star.Goals as goal
 
--- The value ended within the front of the key: what is left of the key must match nothing.
-pub returns-then-value-n : goal.returns-then-value-n
-returns-then-value-n c =
-    c.is_empty_match.ensures ∙ ap (λ k. is_wild_match c.args.folds k _) c.behind.ensures
-    ∙ sym (at_end c.args.folds c.matching_front-n.result c.loop-value.key.now c.loop-value.value.now
-    c.matching_front-n.ensures.starless c.matching_front-n.ensures.within_key (omega arith)
-    c.matching_front-n.ensures.rest)
-    ∙ c.loop-value.invariant
+-- The run stands nowhere.
+pub returns-in_default : goal.returns-in_default
+returns-in_default c =
+    let n = c.run_length-n.result in
+    let key = c.loop-key.key.now in
+    let value = c.loop-key.value.now in
+    sym (at_no_place c.args.folds n key value c.run_length-n.ensures.starless c.run_length-n.ensures.within
+    (subst (λ run. IsFirstPlace c.args.folds run value None) c.front.ensures c.in_default.ensures.first))
+    ∙ c.loop-key.invariant
 
--- The front matched up to the next star, and the rest is behind that.
-pub loop-value-preserved-then-is_star_at : goal.loop-value-preserved-then-is_star_at
-loop-value-preserved-then-is_star_at c =
-    let star_at = c.if-is_star_at.ensures.star refl in
-    let key_is : c.after-key.result.now ≡ drop (suc c.matching_front-n.result) c.loop-value.key.now = rw (← add-one)
-    c.after-key.ensures in
+-- Behind the first place of the run the next `*` begins.
+pub loop-key-preserved : goal.loop-key-preserved
+loop-key-preserved c =
+    let n = c.run_length-n.result in
+    let at = c.in-Some.at in
+    let key = c.loop-key.key.now in
+    let value = c.loop-key.value.now in
+    let more : n < length key = omega arith in
+    let key_is : c.after-key.result.now ≡ drop (suc n) key = rw (← add-one) c.after-key.ensures in
     ap (λ k. is_wild_match c.args.folds (star ∷ k) c.behind-value.result.now) key_is
-    ∙ ap (λ v. is_wild_match c.args.folds (star ∷ drop (suc c.matching_front-n.result) c.loop-value.key.now) v)
-    c.behind-value.ensures
-    ∙ sym (at_star c.args.folds c.matching_front-n.result c.loop-value.key.now c.loop-value.value.now
-    c.matching_front-n.ensures.starless star_at.0 (omega arith) star_at.1 c.matching_front-n.ensures.rest)
-    ∙ c.loop-value.invariant
-
--- The front did not match here, so the star takes one more byte.
-pub loop-value-preserved : goal.loop-value-preserved
-loop-value-preserved c =
-    ap (λ v. is_wild_match c.args.folds (star ∷ c.loop-value.key.now) v) c.after-value.ensures
-    ∙ sym (at_other c.args.folds c.matching_front-n.result c.loop-value.key.now c.loop-value.value.now (omega arith)
-    c.matching_front-n.ensures.stuck (c.if-is_star_at.ensures.other refl) c.matching_front-n.ensures.rest)
-    ∙ c.loop-value.invariant
+    ∙ ap (λ v. is_wild_match c.args.folds (star ∷ drop (suc n) key) v)
+    (c.behind-value.ensures ∙ ap (drop n) c.behind.ensures)
+    ∙ sym (at_place c.args.folds n at key value c.run_length-n.ensures.starless more
+    (c.run_length-n.ensures.star more)
+    (subst (λ run. IsFirstPlace c.args.folds run value (Some at)) c.front.ensures c.in-Some.ensures.first))
+    ∙ c.loop-key.invariant
