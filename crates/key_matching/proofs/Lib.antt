@@ -1,3 +1,4 @@
 pub mod WildCards
 pub mod Runs
 pub mod Parts
+pub mod Listed

@@ -5,9 +5,11 @@
 #![tactic(auto)]
 
 mod matching;
+mod prepared;
 mod range;
 mod value_match;
 mod wild_card;
 
 pub use matching::Matching;
+pub use prepared::PreparedKey;
 pub use value_match::{is_of_form, is_universal, matches, members_of};
