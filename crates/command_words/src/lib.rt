@@ -4,11 +4,14 @@
 ghost use Rattle.std.specs.Prelude.{◌≡◌, IfOk};
 ghost use Rattle.command_words.specs.Words.{change_in as change_in_words, callers_for};
 
+mod parts;
+
 use archive_model::View;
 use exchange_run::Role;
 use ipv4_networks::Network;
 use octets::Octets;
 use operation::Target;
+pub use parts::{Part, bad_part, unmatched};
 use site_script::{tag_in, target_in};
 use site_tables::Table;
 use std::alloc::{AllocError, Global};
