@@ -179,10 +179,15 @@ impl Display for Outcome {
                     given,
                     taken,
                     finished,
+                    agreed,
                 },
             ) => {
                 let finished = if finished { "yes" } else { "no" };
-                write!(f, "given {given} taken {taken} finished {finished}")
+                let agree = if agreed { "yes" } else { "no" };
+                write!(
+                    f,
+                    "given {given} taken {taken} finished {finished} agree {agree}"
+                )
             }
             Err(fault) => {
                 let number = fault.number();

@@ -11,7 +11,7 @@ use Rattle.std.specs.Cmp.Lexicographic.{nat_list_cmp_total}
 use Rattle.std.specs.FinMap.{entries}
 use Rattle.sha2.specs.Sha256.{sha256, digest_bytes}
 use Rattle.octets.specs.Members.{Has}
-use Rattle.archive_model.proofs.ModelLaws.{same_is}
+use Rattle.archive_model.proofs.ModelLaws.{same_is, same_itself}
 use Rattle.archive_model.proofs.MemberLaws.{has_any, has_filter, filter_has}
 use Rattle.operation.specs.declared.op.Op.{Op}
 use Rattle.operation.specs.Spelling.{digest_of}
@@ -22,7 +22,7 @@ use Rattle.exchange_frames.specs.declared.reader.TheConstants.{BUCKET_COUNT}
 use Rattle.exchange.specs.declared.version.Version.{Version}
 use Rattle.exchange.specs.Held.{is_spoken, place_of, is_in, spoken_of, offered}
 use Rattle.exchange.specs.Buckets.{bucket_of, bucket_list, is_unequal, unequal}
-use Rattle.exchange.specs.Laws.{RoundByBucketsGivesAll}
+use Rattle.exchange.specs.Laws.{RoundByBucketsGivesAll, EqualDigestsTell, EqualPlacesTell, NoPlaceIsEqual}
 use Rattle.exchange.proofs.Rounds.{offered_has, own_digest, had_is_held}
 
 -- ---- places
@@ -124,8 +124,61 @@ round_by_buckets_gives_all version offering showing giving comparing asking afte
         ∙ bucket_at (offered version offering) place small in
         let offers = has_filter (λ x. place_of x == place) (offered version offering)
         d (offered_has version offering d op there spoken) (eqb_itself place) in
-        let shared = subst (λ xs. Has xs d) (sym (tell place equal)) offers in
+        let shared = subst (λ xs. Has xs d) (sym (tell place small equal)) offers in
         let found = offered_held version comparing d (filter_has (λ x. place_of x == place) (offered version comparing)
         d shared).0 in
         let kept = answered.grown d found.0 (to_asking d found.0 found.1) in
         kept ∙ ap Some (sym (agree d op found.0 there kept))
+
+-- ---- what meets the premise
+
+pub equal_digests_tell : EqualDigestsTell
+equal_digests_tell digests place small equal = refl
+
+pub equal_places_tell : EqualPlacesTell
+equal_places_tell own theirs same place small equal = same place small
+
+-- ---- buckets that differ nowhere
+
+-- what passes no test passes it nowhere
+none_passes : (f : ℕ → Bool) (xs : List ℕ) → filter f xs ≡ [] → (p : ℕ) → Has xs p → f p ≡ false
+none_passes f xs none p h = by (f p) refl
+  where
+    by : (b : Bool) → f p ≡ b → f p ≡ false
+    by false e = e
+    by true e = absurd (subst (λ (l : List ℕ). Has l p) none (has_filter f xs p h e))
+
+none_passed : (f : ℕ → Bool) (xs : List ℕ) → ((p : ℕ) → f p ≡ false) → filter f xs ≡ []
+none_passed f [] fails = refl
+none_passed f (x ∷ xs) fails =
+    ap (λ b. cond b (x ∷ filter f xs) (filter f xs)) (fails x) ∙ none_passed f xs fails
+
+same_map : (f g : ℕ → List ℕ) (xs : List ℕ) → ((p : ℕ) → Has xs p → f p ≡ g p) → map f xs ≡ map g xs
+same_map f g [] same = refl
+same_map f g (x ∷ xs) same =
+    ap (λ y. y ∷ map f xs) (same x (inl refl)) ∙ ap (λ ys. g x ∷ ys) (same_map f g xs (λ p h. same p (inr h)))
+
+in_range : (n a p : ℕ) → Has (range_with_len a n) p → p < a + n
+in_range zero a p h = absurd h
+in_range (suc n) a p (inl e) = omega (arith, e)
+in_range (suc n) a p (inr h) = let last = in_range n (a + 1) p h in omega (arith, last)
+
+module _ (own theirs : List (List ℕ)) where
+  nowhere_equal : unequal (bucket_list own) (bucket_list theirs) ≡ [] → bucket_list own ≡ bucket_list theirs
+  unfolding unequal bucket_list
+  nowhere_equal none = same_map (bucket_of own) (bucket_of theirs) (range_with_len 0 BUCKET_COUNT) at
+    where
+      at : (p : ℕ) → Has (range_with_len 0 BUCKET_COUNT) p → bucket_of own p ≡ bucket_of theirs p
+      at p h =
+          let small = in_range BUCKET_COUNT 0 p h in
+          let passes = none_passes (is_unequal (bucket_list own) (bucket_list theirs)) (range_with_len 0 BUCKET_COUNT)
+          none p h in
+          sym (bucket_at own p small) ∙ same_is _ _ (negated _ passes) ∙ bucket_at theirs p small
+
+  equal_nowhere : bucket_list own ≡ bucket_list theirs → unequal (bucket_list own) (bucket_list theirs) ≡ []
+  unfolding unequal
+  equal_nowhere equal = none_passed (is_unequal (bucket_list own) (bucket_list theirs)) (range_with_len 0 BUCKET_COUNT)
+      (λ p. ap not (same_itself _ _ (ap (λ (l : List (List ℕ)). get_or l p []) equal)))
+
+pub no_place_is_equal : NoPlaceIsEqual
+no_place_is_equal own theirs = (nowhere_equal own theirs, equal_nowhere own theirs)

@@ -1,12 +1,12 @@
 -- What a round between two sites comes to.
-use Rattle.std.specs.Prelude.{◌≡◌, ◌⊎◌, ◌≤◌, ℕ, List, filter, length, Some, true, ◌==◌}
+use Rattle.std.specs.Prelude.{◌≡◌, ◌⊎◌, ◌≤◌, ◌<◌, ◌↔◌, ℕ, List, [], filter, length, Some, true, ◌==◌}
 use Rattle.octets.specs.Members.{Has}
 use Rattle.operation.specs.declared.op.Op.{Op}
 use Rattle.operation.specs.Spelling.{digest_of}
 use Rattle.site_state.specs.Site.{Map, IsSite, held_at}
 use Rattle.site_state.specs.Union.{Agree}
 use Rattle.exchange_frames.specs.declared.frame.Frame.TheVariants.{Have, Want, Buckets, Differ}
-use Rattle.exchange_frames.specs.declared.reader.TheConstants.{MOST_DIGESTS}
+use Rattle.exchange_frames.specs.declared.reader.TheConstants.{MOST_DIGESTS, BUCKET_COUNT}
 use Rattle.exchange_frames.specs.Spelling.{IsFrame}
 use Rattle.exchange.specs.declared.version.Version.{Version}
 use Rattle.exchange.specs.declared.version.Version.TheVariants.{Two}
@@ -52,10 +52,30 @@ RoundsMakeEqual =
     (a b a_after b_after : Map) → IsSite a → IsSite b_after → IsSite a_after → Agree a b_after → Agree b_after a_after
     → IsRound a b b_after → IsRound b_after a a_after → a_after ≡ b_after
 
--- in each place unequal digests have unequal buckets
+-- those of some digests that begin with a byte
+abbrev pub digests_at : ℕ → List (List ℕ) → List (List ℕ)
+digests_at place digests = filter (λ d. place_of d == place) digests
+
+-- in each of the 256 places unequal digests have unequal buckets: of so many pairs of lists it is asked
 abbrev pub BucketsTell : List (List ℕ) → List (List ℕ) → Type 0
-BucketsTell own theirs = (place : ℕ) → bucket_of own place ≡ bucket_of theirs place → filter (λ d. place_of d == place)
-    own ≡ filter (λ d. place_of d == place) theirs
+BucketsTell own theirs = (place : ℕ) → place < BUCKET_COUNT → bucket_of own place ≡ bucket_of theirs place
+    → digests_at place own ≡ digests_at place theirs
+
+-- So it is of one list with itself, however long it is, and of any two that are equal in each place.
+abbrev pub EqualDigestsTell : Type 0
+EqualDigestsTell = (digests : List (List ℕ)) → BucketsTell digests digests
+
+abbrev pub EqualPlacesTell : Type 0
+EqualPlacesTell =
+    (own theirs : List (List ℕ))
+    → ((place : ℕ) → place < BUCKET_COUNT → digests_at place own ≡ digests_at place theirs)
+    → BucketsTell own theirs
+
+-- The lists of the buckets of two sets of digests are unequal in no place exactly where they are equal.
+abbrev pub NoPlaceIsEqual : Type 0
+NoPlaceIsEqual =
+    (own theirs : List (List ℕ))
+    → (unequal (bucket_list own) (bucket_list theirs) ≡ []) ↔ (bucket_list own ≡ bucket_list theirs)
 
 -- So it does where BUCKETS were told first, and the HAVE is of the places in which they differ, if unequal digests have
 -- unequal buckets.

@@ -1,6 +1,7 @@
 //! What rounds come to: laws, said as contracts of functions with nothing to do.
 
 ghost use Rattle.exchange.specs.Laws.{RoundGivesAll, RoundByBucketsGivesAll, RoundsMakeEqual, RoundSaysFrames};
+ghost use Rattle.exchange.specs.Laws.{EqualDigestsTell, EqualPlacesTell, NoPlaceIsEqual};
 
 /// After a round in which each operation that was given was taken, the one side holds all that the
 /// other held at its offer, of what the version speaks of: the sending of a HAVE of all digests.
@@ -12,6 +13,18 @@ pub fn a_round_gives_all()
 /// have unequal buckets.
 pub fn a_round_by_buckets_gives_all()
     ensures { RoundByBucketsGivesAll }
+{}
+
+/// Two sets of digests that are equal, or equal in each place, meet that premise, however many
+/// they are.
+pub fn equal_digests_meet_the_premise_of_buckets()
+    ensures equal { EqualDigestsTell }
+    ensures places { EqualPlacesTell }
+{}
+
+/// The buckets of two sets differ in no place exactly where their lists are equal.
+pub fn buckets_that_differ_nowhere_are_equal()
+    ensures { NoPlaceIsEqual }
 {}
 
 /// After a round each way, with nothing in between that changes either side, both hold the same.

@@ -24,7 +24,8 @@ pub use exchange_frames::{
 pub use fault::{ExchangeFault, HolderFault};
 pub use holder::Holder;
 pub use laws::{
-    a_round_by_buckets_gives_all, a_round_gives_all, rounds_each_way_make_sites_equal,
+    a_round_by_buckets_gives_all, a_round_gives_all, buckets_that_differ_nowhere_are_equal,
+    equal_digests_meet_the_premise_of_buckets, rounds_each_way_make_sites_equal,
     what_a_round_says_is_a_frame,
 };
 pub use round::Round;

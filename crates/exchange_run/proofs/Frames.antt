@@ -56,7 +56,8 @@ told_frames holds alone (tasks.Begin v) s h frame more t k fit lawful d sayable 
     one_frame _ more d.1.answers (round_says_frames.buckets _)
 told_frames holds alone (tasks.Meet v) s h frame more t k fit lawful d sayable = one_frame _ more d.1 (omega arith)
 told_frames holds alone (tasks.Compare b) s h frame more t k fit lawful d sayable =
-    one_frame _ more d.1.answers (round_says_frames.differ _ b)
+    one_frame (Differ d.places) more d.says (subst (λ (p : List ℕ). IsFrame (Differ p)) (sym d.looks.answers)
+    (round_says_frames.differ _ b))
 told_frames holds alone (tasks.Offer p) s h frame more t k fit lawful d sayable =
     one_frame _ more d.1.answers (round_says_frames.offer_in s.round.version p d.1.had d.1.was_had.own
     (few_of _ more d.1.answers sayable))

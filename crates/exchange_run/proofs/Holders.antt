@@ -1,12 +1,14 @@
 -- What a holder keeps where it refuses.
-use Rattle.std.proofs.Common.{◌≡◌, ◌≢◌, Option, Some, None, Result, Ok, Err, refl, sym, subst, ◌∙◌}
+use Rattle.std.proofs.Common.{◌≡◌, ◌≢◌, Option, Some, None, Result, Ok, Err, refl, sym, ap, subst, ◌∙◌}
 use Rattle.operation.specs.declared.op.Op.{Op}
 use Rattle.operation.specs.declared.taken.Taken.{Taken}
-use Rattle.site_state.specs.Site.{Map}
+use Rattle.site_state.specs.Site.{Map, held_at}
+use Rattle.site_state.proofs.Maps.{same_sites}
 use Rattle.exchange.specs.declared.fault.ExchangeFault.{ExchangeFault}
 use Rattle.exchange.specs.declared.fault.HolderFault.{HolderFault}
-use Rattle.exchange.specs.Held.{Looks, TakesIn}
+use Rattle.exchange.specs.Held.{HasGrown, Looks, TakesIn}
 use Rattle.exchange.specs.Round.{RoundState, refusal_of, by_holder, TakesAsked}
+use Rattle.exchange.proofs.Rounds.{same_option}
 use Rattle.exchange_run.specs.Course.{Idles}
 
 -- who only looks changes nothing
@@ -16,6 +18,18 @@ idles_of look = record {
   grown = λ digest op e. look.was_had.until digest op (look.was_had.since digest op e);
   stays = look.stays;
 }
+
+-- two sets that each have what the other has are one
+pub grown_both : (m n : Map) → HasGrown m n → HasGrown n m → m ≡ n
+grown_both m n there back = same_sites m n
+    (λ d. same_option (held_at m d) (held_at n d) (λ op e. there d op e) (λ op e. back d op e))
+
+-- A holder that nobody else changes tells of what it held.
+pub looked_same : {H : Type 0} {holds : H → Map} {alone : H → Type 0} {before after : H} {P : Map → Type 0}
+    → (look : Looks holds alone before after P) → alone before → look.had ≡ holds before
+looked_same {holds = holds} {before = before} look lone =
+    grown_both look.had (holds before)
+    (λ d op e. ap (λ (m : Map). held_at m d) (sym (look.stays lone).1) ∙ look.was_had.until d op e) look.was_had.since
 
 pub idles_same : {H : Type 0} (holds : H → Map) (alone : H → Type 0) (before after : H) → after ≡ before
     → Idles holds alone before after

@@ -1,7 +1,7 @@
 -- What two sides hold in the end, where each heard what the other said.
 use Rattle.std.proofs.Common.{inl, inr, ◌≡◌, ◌<◌, ℕ, List, [], ◌∷◌, ◌++◌, Bool, true, false, Option, Some, None, refl}
 use Rattle.std.proofs.Common.{sym, ap, subst, ◌∙◌, append_assoc}
-use Rattle.std.specs.Prelude.{◌⊎◌, IsTrue}
+use Rattle.std.specs.Prelude.{◌⊎◌, ◌↔◌, IsTrue}
 use Rattle.octets.specs.Members.{Has}
 use Rattle.archive_model.proofs.MemberLaws.{has_filter}
 use Rattle.operation.specs.declared.op.Op.{Op}
@@ -15,10 +15,11 @@ use Rattle.exchange.specs.declared.version.Version.{Version}
 use Rattle.exchange.specs.declared.version.Version.TheVariants.{Two}
 use Rattle.exchange.specs.Held.{place_of, is_in, offered, offered_in, HasGrown}
 use Rattle.exchange.specs.Buckets.{bucket_list}
-use Rattle.exchange.proofs.Bucketed.{offered_held, place_small}
+use Rattle.exchange.specs.Laws.{BucketsTell}
+use Rattle.exchange.proofs.Bucketed.{offered_held, place_small, no_place_is_equal}
 use Rattle.exchange.proofs.Rounds.{offered_has, own_digest, same_option}
 use Rattle.exchange_run.specs.declared.role.Role.{Role}
-use Rattle.exchange_run.specs.declared.role.Role.TheVariants.{Caller, Callee}
+use Rattle.exchange_run.specs.declared.role.Role.TheVariants.{Caller, Callee, OldCaller}
 use Rattle.exchange_run.specs.declared.role.Ended.{Ended}
 use Rattle.exchange_run.specs.declared.side.Side.{Side}
 use Rattle.exchange_run.specs.declared.task.Awaited.{Awaited}
@@ -26,11 +27,13 @@ use Rattle.exchange_run.specs.declared.task.Awaited.TheVariants as awaits
 use Rattle.exchange_run.specs.declared.task.Task.{Task}
 use Rattle.exchange_run.specs.declared.task.Task.TheVariants as tasks
 use Rattle.exchange_run.specs.Tasks.{task_for}
-use Rattle.exchange_run.specs.Course.{Does, DoesAll, Talks, start_of}
-use Rattle.exchange_run.specs.Laws.{BeginWithBytes, OffersWhereTheyDiffer, HoldsAll, HoldsWhatWasShown, WasAsked}
+use Rattle.exchange_run.specs.Course.{Does, DoesAll, SetsOut, Talks, start_of}
+use Rattle.exchange_run.specs.Laws.{BeginWithBytes, OffersWhereTheyDiffer, HoldsAll, WasAsked, WasCompared}
+use Rattle.exchange_run.specs.Laws.{HoldsWhatWasShown}
 use Rattle.exchange_run.specs.Run.{Ends, Exchanged}
-use Rattle.exchange_run.specs.Joined.{AreJoined, WasGained, SetsTell, ExchangeGivesAll, ExchangeMakesEqual}
+use Rattle.exchange_run.specs.Joined.{AreJoined, WasGained, lone_offer, ExchangeGivesAll, ExchangeMakesEqual}
 use Rattle.exchange_run.proofs.Once.{texts_once}
+use Rattle.exchange_run.proofs.Turns.{later_of}
 use Rattle.exchange_run.proofs.Goings.{is_met, has_shown, Goes, goes}
 use Rattle.exchange_run.proofs.Offers.{IsShown, Offering, offering_talk}
 
@@ -47,7 +50,7 @@ settled_on holds alone tasks.Refuse s h told t k went met d = absurd d
 settled_on holds alone (tasks.Begin v) s h told t k went met d = absurd (unmet s.awaited met went)
 settled_on holds alone (tasks.Meet v) s h told t k went met d = absurd (unmet s.awaited met went.0)
 settled_on holds alone (tasks.Compare b) s h told t k went met d =
-    (ap (λ (x : Side). x.round.version) d.0, ap (λ (x : Side). is_met x.awaited) d.0)
+    (ap (λ (x : Side). x.round.version) d.same, ap (λ (x : Side). is_met x.awaited) d.same)
 settled_on holds alone (tasks.Offer p) s h told t k went met d =
     (ap (λ (x : Side). x.round.version) d.0, ap (λ (x : Side). is_met x.awaited) d.0)
 settled_on holds alone (tasks.Ask a) s h told t k went met d = (d.version, ap (λ (x : Side). is_met x.awaited) d.same)
@@ -67,6 +70,39 @@ settled_all holds alone s h [] told t k met d = ap (λ (x : Side). x.round.versi
 settled_all holds alone s h (f ∷ heard) told t k met d =
     let one = settled_on holds alone (task_for s.awaited f s.role) s h d.0 d.2 d.3 (goes s.awaited f s.role) met d.4 in
     settled_all holds alone d.2 d.3 heard d.1 t k one.1 d.5 ∙ one.0
+
+-- the role of a side stays
+role_on : {H : Type 0} (holds : H → Map) (alone : H → Type 0) (task : Task) (s : Side) (h : H) (told : List Frame)
+    (t : Side) (k : H) → Does holds alone task s h told t k → t.role ≡ s.role
+role_on holds alone tasks.Refuse s h told t k d = absurd d
+role_on holds alone (tasks.Begin v) s h told t k d = ap (λ (x : Side). x.role) d.0
+role_on holds alone (tasks.Meet v) s h told t k d = ap (λ (x : Side). x.role) d.0
+role_on holds alone (tasks.Compare b) s h told t k d = ap (λ (x : Side). x.role) d.same
+role_on holds alone (tasks.Offer p) s h told t k d = ap (λ (x : Side). x.role) d.0
+role_on holds alone (tasks.Ask a) s h told t k d = ap (λ (x : Side). x.role) d.same
+role_on holds alone (tasks.Give w) s h told t k d = ap (λ (x : Side). x.role) d.same
+role_on holds alone (tasks.Take op) s h told t k d = ap (λ (x : Side). x.role) d.same
+role_on holds alone tasks.Show s h told t k d = ap (λ (x : Side). x.role) d.0
+role_on holds alone tasks.Rest s h told t k d = ap (λ (x : Side). x.role) d.0
+
+role_all : {H : Type 0} (holds : H → Map) (alone : H → Type 0) (s : Side) (h : H) (heard told : List Frame)
+    (t : Side) (k : H) → DoesAll holds alone s h heard told t k → t.role ≡ s.role
+role_all holds alone s h [] told t k d = ap (λ (x : Side). x.role) d.1
+role_all holds alone s h (f ∷ heard) told t k d =
+    role_all holds alone d.2 d.3 heard d.1 t k d.5
+    ∙ role_on holds alone (task_for s.awaited f s.role) s h d.0 d.2 d.3 d.4
+
+role_first : {H : Type 0} (holds : H → Map) (alone : H → Type 0) (role : Role) (h : H) (told : List Frame) (s : Side)
+    (k : H) → SetsOut holds alone role h told s k → s.role ≡ role
+role_first holds alone Caller h told s k d = ap (λ (x : Side). x.role) d.0
+role_first holds alone Callee h told s k d = ap (λ (x : Side). x.role) d.0
+role_first holds alone OldCaller h told s k d = ap (λ (x : Side). x.role) d.0
+
+role_talk : {H : Type 0} (holds : H → Map) (alone : H → Type 0) (role : Role) (before : H) (heard told : List Frame)
+    (t : Side) (k : H) → Talks holds alone role before heard told t k → t.role ≡ role
+role_talk holds alone role before heard told t k talk =
+    role_all holds alone talk.from talk.mid heard talk.rest t k talk.goes_on
+    ∙ role_first holds alone role before talk.first talk.from talk.mid talk.sets_out
 
 -- A callee that hears HELLO first says it first, and speaks version 2.
 callee_meets : {H : Type 0} (holds : H → Map) (alone : H → Type 0) (before : H) (rest told : List Frame) (t : Side)
@@ -115,12 +151,25 @@ module _ {X Y : Type 0} (holds_x : X → Map) (alone_x : X → Type 0) (role_x :
     (y : Exchanged holds_y alone_y role_y from_y to_y ended_y) (there : x.told ≡ y.heard) (back : y.told ≡ x.heard)
     (version_x : x.side.round.version ≡ Two) (version_y : y.side.round.version ≡ Two)
     (agree : Agree (holds_y to_y.holder) (holds_x to_x.holder)) where
-  offering : Offering holds_y from_y.holder y.heard y.told y.side to_y.holder
+  offering : Offering holds_y alone_y from_y.holder y.heard y.told y.side to_y.holder
   offering = offering_talk holds_y alone_y role_y from_y.holder y.heard y.told y.side to_y.holder y.talk
 
-  shown : IsShown Two (holds_y from_y.holder) y.heard y.told (holds_y to_y.holder)
-  shown = subst (λ (v : Version). IsShown v (holds_y from_y.holder) y.heard y.told (holds_y to_y.holder)) version_y
-      (offering.some (ap (λ (a : Awaited). has_shown y.side.role a) y.over))
+  shown : IsShown Two role_y (alone_y from_y.holder) (holds_y from_y.holder) y.heard y.told (holds_y to_y.holder)
+  shown = subst (λ (r : Role). IsShown Two r (alone_y from_y.holder) (holds_y from_y.holder) y.heard y.told
+      (holds_y to_y.holder)) (role_talk holds_y alone_y role_y from_y.holder y.heard y.told y.side to_y.holder y.talk)
+      (subst (λ (v : Version). IsShown v y.side.role (alone_y from_y.holder) (holds_y from_y.holder) y.heard y.told
+      (holds_y to_y.holder)) version_y (offering.some (ap (λ (a : Awaited). has_shown y.side.role a) y.over)))
+
+  -- what nobody else changes was offered as it began, or as it ended
+  lone : alone_y from_y.holder → shown.had ≡ lone_offer role_y (holds_y from_y.holder) (holds_y to_y.holder)
+  lone here = by role_y (λ turn. shown.first here turn) (λ turn. shown.last here turn)
+    where
+      by : (r : Role) → (later_of r ≡ true → shown.had ≡ holds_y from_y.holder)
+          → (later_of r ≡ false → shown.had ≡ holds_y to_y.holder)
+          → shown.had ≡ lone_offer r (holds_y from_y.holder) (holds_y to_y.holder)
+      by Caller first last = first refl
+      by Callee first last = last refl
+      by OldCaller first last = first refl
 
   begin : BeginWithBytes (offered Two shown.had)
   begin d h =
@@ -137,35 +186,65 @@ module _ {X Y : Type 0} (holds_x : X → Map) (alone_x : X → Type 0) (role_x :
         has_filter (is_in places) (offered Two n.0) d (offered_has Two n.0 d op.0 (n.1 d op.0 op.1) refl) in_places,
       )
 
+  -- what was compared with it
+  against : (compared : Map) × WasCompared holds_x alone_x Two (offered Two shown.had) from_x.holder x.told to_x.holder
+      compared × (IsTrue ended_x.finished → BeginWithBytes (offered Two shown.had)
+      → OffersWhereTheyDiffer x.heard x.told (offered Two shown.had)
+      → BucketsTell (offered Two compared) (offered Two shown.had)
+      → HoldsAll (holds_x to_x.holder) (offered Two shown.had))
+  against = subst (λ (v : Version). HoldsWhatWasShown holds_x alone_x v (IsTrue ended_x.finished) from_x.holder x.heard
+      x.told to_x.holder) version_x x.shown (offered Two shown.had) (subst (λ (l : List Frame).
+      Has l (Buckets (bucket_list (offered Two shown.had)))) back shown.said)
+
   -- what was shown is held
-  gained : IsTrue ended_x.finished → SetsTell (holds_x to_x.holder) (holds_y to_y.holder)
+  gained : IsTrue ended_x.finished → BucketsTell (offered Two against.0) (offered Two shown.had)
       → HasGrown shown.had (holds_x to_x.holder)
   gained finished tell d op e =
-      let all = subst (λ (v : Version). HoldsWhatWasShown v (holds_x to_x.holder) x.heard x.told) version_x
-      (x.shown finished) in
-      let found = all (offered Two shown.had) (subst (λ (l : List Frame).
-      Has l (Buckets (bucket_list (offered Two shown.had)))) back shown.said) begin offers
-      (λ had grown. tell had shown.had grown shown.until) d (offered_has Two shown.had d op e refl) in
+      let found = against.2 finished begin offers tell d (offered_has Two shown.had d op e refl) in
       found.1 ∙ ap Some (sym (agree d op found.0 (shown.until d op e) found.1))
 
-  pub was_gained : IsTrue ended_x.finished → SetsTell (holds_x to_x.holder) (holds_y to_y.holder)
-      → WasGained holds_x to_x holds_y from_y to_y y.told
-  was_gained finished tell = record {
+  pub was_gained : WasGained holds_x alone_x from_x to_x ended_x x.told holds_y alone_y role_y from_y to_y y.told
+  was_gained = record {
     offer = shown.had;
-    was_offered = record { own = shown.own; since = shown.since; until = shown.until; said = shown.said };
-    gained = gained finished tell;
+    was_offered = record {
+      own = shown.own;
+      since = shown.since;
+      until = shown.until;
+      said = shown.said;
+      lone = lone;
+    };
+    compared = against.0;
+    was_compared = against.1;
+    gained = gained;
+    agreed = λ is. (no_place_is_equal (offered Two against.0) (offered Two shown.had)).0
+        ((x.agreed.0 is).here _ against.1.said);
   }
 
+  -- where one side agrees the other does
+  pub agrees_too : IsTrue ended_x.agreed → IsTrue ended_y.agreed
+  agrees_too is = y.agreed.1 (record {
+    here = λ p h. (x.agreed.0 is).there p (subst (λ (l : List Frame). Has l (Differ p)) back h);
+    there = λ p h. (x.agreed.0 is).here p (subst (λ (l : List Frame). Has l (Differ p)) (sym there) h);
+  })
+
   -- what the other side has in the end it has from its begin, or was given it
-  pub has_theirs : IsSite (holds_y to_y.holder) → alone_y from_y.holder → IsTrue ended_x.finished
-      → SetsTell (holds_x to_x.holder) (holds_y to_y.holder)
+  pub has_theirs : IsSite (holds_y to_y.holder) → alone_y from_y.holder → alone_x from_x.holder
+      → IsTrue ended_x.finished
+      → BucketsTell (offered Two (holds_x from_x.holder))
+      (offered Two (lone_offer role_y (holds_y from_y.holder) (holds_y to_y.holder)))
       → ((op : Op) → Has x.told (Give op) → held_at (holds_x to_x.holder) (digest_of op) ≡ Some op)
       → HasGrown (holds_y to_y.holder) (holds_x to_x.holder)
-  has_theirs own here finished tell gave d op e = by (y.comes_to.only here d op e)
+  has_theirs own here here_x finished tell gave d op e = by (y.comes_to.only here d op e)
     where
+      tells : BucketsTell (offered Two against.0) (offered Two shown.had)
+      tells = subst (λ (m : Map). BucketsTell (offered Two m) (offered Two shown.had))
+          (sym (against.1.at_begin here_x))
+          (subst (λ (m : Map). BucketsTell (offered Two (holds_x from_x.holder)) (offered Two m)) (sym (lone here))
+          tell)
+
       by : (held_at (holds_y from_y.holder) d ≡ Some op) ⊎ (Has y.heard (Give op) × WasAsked
           y.told (digest_of op)) → held_at (holds_x to_x.holder) d ≡ Some op
-      by (inl was) = gained finished tell d op (shown.since d op was)
+      by (inl was) = gained finished tells d op (shown.since d op was)
       by (inr p) =
           let given = gave op (subst (λ (l : List Frame). Has l (Give op)) (sym there) p.0) in
           ap (held_at (holds_x to_x.holder)) (own_digest (holds_y to_y.holder) own d op e) ∙ given
@@ -205,15 +284,22 @@ module _ {A B : Type 0} (holds_a : A → Map) (alone_a : A → Type 0) (holds_b 
   agree_too : Agree (holds_a to_a.holder) (holds_b to_b.holder)
   agree_too = agree_back (holds_b to_b.holder) (holds_a to_a.holder) agree
 
-  gives_a : IsTrue ended_a.finished → SetsTell (holds_a to_a.holder) (holds_b to_b.holder)
-      → WasGained holds_a to_a holds_b from_b to_b b.told
+  gives_a : WasGained holds_a alone_a from_a to_a ended_a a.told holds_b alone_b Callee from_b to_b b.told
   gives_a = was_gained holds_a alone_a Caller from_a to_a ended_a a holds_b alone_b Callee from_b to_b ended_b b there
       back version_a meets.0 agree
 
-  gives_b : IsTrue ended_b.finished → SetsTell (holds_b to_b.holder) (holds_a to_a.holder)
-      → WasGained holds_b to_b holds_a from_a to_a a.told
+  gives_b : WasGained holds_b alone_b from_b to_b ended_b b.told holds_a alone_a Caller from_a to_a a.told
   gives_b = was_gained holds_b alone_b Callee from_b to_b ended_b b holds_a alone_a Caller from_a to_a ended_a a back
       there meets.0 version_a agree_too
+
+  -- Both agree, or neither does.
+  both_agree : IsTrue ended_a.agreed ↔ IsTrue ended_b.agreed
+  both_agree = (
+    agrees_too holds_a alone_a Caller from_a to_a ended_a a holds_b alone_b Callee from_b to_b ended_b b there back
+        version_a meets.0 agree,
+    agrees_too holds_b alone_b Callee from_b to_b ended_b b holds_a alone_a Caller from_a to_a ended_a a back there
+        meets.0 version_a agree_too,
+  )
 
   -- what a side was given the other side has
   gave_a : (op : Op) → Has a.told (Give op) → held_at (holds_a to_a.holder) (digest_of op) ≡ Some op
@@ -223,13 +309,15 @@ module _ {A B : Type 0} (holds_a : A → Map) (alone_a : A → Type 0) (holds_b 
   gave_b = (offering_talk holds_b alone_b Callee from_b.holder b.heard b.told b.side to_b.holder b.talk).gave
 
   equal : IsSite (holds_a to_a.holder) → IsSite (holds_b to_b.holder) → alone_a from_a.holder → alone_b from_b.holder
-      → IsTrue ended_a.finished → IsTrue ended_b.finished → SetsTell (holds_a to_a.holder) (holds_b to_b.holder)
-      → SetsTell (holds_b to_b.holder) (holds_a to_a.holder) → holds_a to_a.holder ≡ holds_b to_b.holder
-  equal own_a own_b here_a here_b finished_a finished_b tell_a tell_b =
+      → IsTrue ended_a.finished → IsTrue ended_b.finished
+      → BucketsTell (offered Two (holds_b from_b.holder)) (offered Two (holds_a from_a.holder))
+      → BucketsTell (offered Two (holds_a from_a.holder)) (offered Two (holds_b to_b.holder))
+      → holds_a to_a.holder ≡ holds_b to_b.holder
+  equal own_a own_b here_a here_b finished_a finished_b tell_b tell_a =
       let to_b_all = has_theirs holds_b alone_b Callee from_b to_b ended_b b holds_a alone_a Caller from_a to_a ended_a
-      a back there meets.0 version_a agree_too own_a here_a finished_b tell_b gave_b in
+      a back there meets.0 version_a agree_too own_a here_a here_b finished_b tell_b gave_b in
       let to_a_all = has_theirs holds_a alone_a Caller from_a to_a ended_a a holds_b alone_b Callee from_b to_b ended_b
-      b there back version_a meets.0 agree own_b here_b finished_a tell_a gave_a in
+      b there back version_a meets.0 agree own_b here_b here_a finished_a tell_a gave_a in
       same_sites (holds_a to_a.holder) (holds_b to_b.holder)
       (λ d. same_option (held_at (holds_a to_a.holder) d) (held_at (holds_b to_b.holder) d) (to_b_all d) (to_a_all d))
 
@@ -238,6 +326,7 @@ pub exchange_gives_all : {A B : Type 0} (holds_a : A → Map) (alone_a : A → T
 exchange_gives_all holds_a alone_a holds_b alone_b from_a to_a ended_a from_b to_b ended_b run agree = (
   gives_a holds_a alone_a holds_b alone_b from_a to_a ended_a from_b to_b ended_b run agree,
   gives_b holds_a alone_a holds_b alone_b from_a to_a ended_a from_b to_b ended_b run agree,
+  both_agree holds_a alone_a holds_b alone_b from_a to_a ended_a from_b to_b ended_b run agree,
 )
 
 pub exchange_makes_equal : {A B : Type 0} (holds_a : A → Map) (alone_a : A → Type 0) (holds_b : B → Map)

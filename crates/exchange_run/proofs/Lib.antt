@@ -1,4 +1,5 @@
 pub mod Holders
+pub mod Agreed
 pub mod Outcomes
 pub mod Readings
 pub mod Runs
@@ -7,5 +8,6 @@ pub mod Writings
 pub mod Frames
 pub mod Goings
 pub mod Offers
+pub mod Orders
 pub mod Once
 pub mod Joins

@@ -22,13 +22,16 @@ use Rattle.exchange_run.specs.declared.task.Task.{Task}
 use Rattle.exchange_run.specs.declared.task.Task.TheVariants as tasks
 use Rattle.exchange_run.specs.Tasks.{task_for}
 use Rattle.exchange_run.specs.Course.{gifts_of, Shows, Does, DoesAll, SetsOut, Talks, start_of}
-use Rattle.exchange_run.proofs.Holders.{idles_of, idles_same}
-use Rattle.exchange_run.proofs.Turns.{later_of, Fits, fits}
+use Rattle.exchange_run.specs.Course.{Idles}
+use Rattle.exchange_run.proofs.Holders.{idles_of, idles_same, looked_same}
+use Rattle.exchange_run.proofs.Turns.{later_of, later, Fits, fits}
 use Rattle.exchange_run.proofs.Goings.{is_met, has_shown, Goes, goes}
 use Rattle.exchange_run.proofs.Outcomes.{has_left, has_right, has_split, other_has, one_is, none_has_one}
 
--- BUCKETS were said of a set, and each DIFFER that was heard was answered over one that holds it.
-pub record IsShown (version : Version) (start : Map) (heard told : List Frame) (now : Map) : Type 0 where
+-- BUCKETS were said of a set, and each DIFFER that was heard was answered over one that holds it. What nobody else
+-- changes was shown as it began, or as it is now.
+pub record IsShown (version : Version) (role : Role) (lone : Type 0) (start : Map) (heard told : List Frame) (now : Map)
+    : Type 0 where
   pub had : Map
   pub own : IsSite had
   pub since : HasGrown start had
@@ -36,13 +39,19 @@ pub record IsShown (version : Version) (start : Map) (heard told : List Frame) (
   pub said : Has told (Buckets (bucket_list (offered version had)))
   pub offers : (places : List ℕ) → Has heard (Differ places) → (n : Map) × HasGrown had n
       × Has told (Have (offered_in version places n))
+  pub first : lone → later_of role ≡ true → had ≡ start
+  pub last : lone → later_of role ≡ false → had ≡ now
 
 -- what a side has offered and given so far
-pub record Offering {H : Type 0} (holds : H → Map) (start : H) (heard told : List Frame) (t : Side) (k : H) : Type 0
+pub record Offering {H : Type 0} (holds : H → Map) (alone : H → Type 0) (start : H) (heard told : List Frame)
+    (t : Side) (k : H) : Type 0
   where
+    pub here : alone start → alone k
+    pub early : alone start → later t.role t.awaited ≡ true → holds k ≡ holds start
     pub grown : HasGrown (holds start) (holds k)
     pub none : has_shown t.role t.awaited ≡ false → (places : List ℕ) → Has heard (Differ places) → ⊥
-    pub some : has_shown t.role t.awaited ≡ true → IsShown t.round.version (holds start) heard told (holds k)
+    pub some : has_shown t.role t.awaited ≡ true
+        → IsShown t.round.version t.role (alone start) (holds start) heard told (holds k)
     pub gave : (op : Op) → Has told (Give op) → held_at (holds k) (digest_of op) ≡ Some op
 
 true_or_false : (b c : Bool) → b ≡ c → b ≡ true → c ≡ false → ⊥
@@ -85,11 +94,26 @@ given_held version want m own op h =
 -- ---- a frame more
 
 module _ {H : Type 0} (holds : H → Map) (alone : H → Type 0) (start : H) (heard told : List Frame) (s : Side) (h : H)
-    (know : Offering holds start heard told s h) (frame : Frame) (more : List Frame) (t : Side) (k : H) where
+    (know : Offering holds alone start heard told s h) (frame : Frame) (more : List Frame) (t : Side) (k : H) where
+  -- where the holder idles, what nobody else changes stays
+  idle_here : Idles holds alone h k → alone start → alone k
+  idle_here idle lone = (idle.stays (know.here lone)).0
+
+  idle_early : Idles holds alone h k → (later t.role t.awaited ≡ true → later s.role s.awaited ≡ true) → alone start
+      → later t.role t.awaited ≡ true → holds k ≡ holds start
+  idle_early idle back lone l = (idle.stays (know.here lone)).1 ∙ know.early lone (back l)
+
+  idle_same : Idles holds alone h k → alone start → has_shown s.role s.awaited ≡ true → later_of s.role ≡ false
+      → holds h ≡ holds k
+  idle_same idle lone shown turn = sym (idle.stays (know.here lone)).1
+
   shown_on : (version : Version) → HasGrown (holds h) (holds k) → ((places : List ℕ) → Differ places ≡ frame → ⊥)
-      → IsShown version (holds start) heard told (holds h)
-      → IsShown version (holds start) (heard ++ frame ∷ []) (told ++ more) (holds k)
-  shown_on version grown other was = record {
+      → (alone start → later_of s.role ≡ false → holds h ≡ holds k)
+      → IsShown version s.role (alone start) (holds start) heard told (holds h)
+      → IsShown version s.role (alone start) (holds start) (heard ++ frame ∷ []) (told ++ more) (holds k)
+  shown_on version grown other same was = record {
+    first = was.first;
+    last = λ lone turn. was.last lone turn ∙ same lone turn;
     had = was.had;
     own = was.own;
     since = was.since;
@@ -110,27 +134,42 @@ module _ {H : Type 0} (holds : H → Map) (alone : H → Type 0) (start : H) (he
       by (inr r) = absurd (none op r)
 
   -- what neither shows, offers nor gives leaves what is known
-  on : t.round.version ≡ s.round.version → has_shown t.role t.awaited ≡ has_shown s.role s.awaited
+  on : t.round.version ≡ s.round.version → t.role ≡ s.role → has_shown t.role t.awaited ≡ has_shown s.role s.awaited
       → HasGrown (holds h) (holds k) → ((places : List ℕ) → Differ places ≡ frame → ⊥)
-      → ((op : Op) → Has more (Give op) → ⊥) → Offering holds start (heard ++ frame ∷ []) (told ++ more) t k
-  on version same grown other no_give = record {
+      → ((op : Op) → Has more (Give op) → ⊥) → (alone start → alone k)
+      → (alone start → later t.role t.awaited ≡ true → holds k ≡ holds start)
+      → (alone start → has_shown s.role s.awaited ≡ true → later_of s.role ≡ false → holds h ≡ holds k)
+      → Offering holds alone start (heard ++ frame ∷ []) (told ++ more) t k
+  on version role same grown other no_give here early still = record {
+    here = here;
+    early = early;
     grown = λ d op e. grown d op (know.grown d op e);
     none = λ e places p. know.none (sym same ∙ e) places (other_has heard frame (Differ places) (other places) p);
-    some = λ e. subst (λ (v : Version). IsShown v (holds start) (heard ++ frame ∷ []) (told ++ more) (holds k))
-        (sym version) (shown_on s.round.version grown other (know.some (sym same ∙ e)));
+    some = λ e. subst (λ (r : Role). IsShown t.round.version r (alone start) (holds start) (heard ++ frame ∷ [])
+        (told ++ more) (holds k)) (sym role)
+        (subst (λ (v : Version). IsShown v s.role (alone start) (holds start) (heard ++ frame ∷ []) (told ++ more)
+        (holds k)) (sym version) (shown_on s.round.version grown other
+        (λ lone turn. still lone (sym same ∙ e) turn) (know.some (sym same ∙ e))));
     gave = λ op p. grown (digest_of op) op (know.gave op (old_gift no_give op p));
   }
 
   -- BUCKETS are said.
   shows : (u : Side) → has_shown s.role s.awaited ≡ false → ((places : List ℕ) → Differ places ≡ frame → ⊥)
-      → Shows holds alone u h more t k → Offering holds start (heard ++ frame ∷ []) (told ++ more) t k
-  shows u before other does = record {
+      → (alone start → later_of u.role ≡ true → holds h ≡ holds start)
+      → (later t.role t.awaited ≡ true → later s.role s.awaited ≡ true)
+      → Shows holds alone u h more t k → Offering holds alone start (heard ++ frame ∷ []) (told ++ more) t k
+  shows u before other begins back does = record {
+    here = idle_here (idles_of does.1);
+    early = idle_early (idles_of does.1) back;
     grown = λ d op e. (idles_of does.1).grown d op (know.grown d op e);
     none = λ e. absurd (let clash : true ≡ false = sym (ap (λ (x : Side). has_shown x.role x.awaited) does.0)
         ∙ e in cc);
-    some = λ _. subst (λ (v : Version). IsShown v (holds start) (heard ++ frame ∷ []) (told ++ more) (holds k))
-        (sym (ap (λ (x : Side). x.round.version) does.0)) (record {
+    some = λ _. subst (λ (x : Side). IsShown x.round.version x.role (alone start) (holds start) (heard ++ frame ∷ [])
+        (told ++ more) (holds k))
+        (sym does.0) (record {
           had = does.1.had;
+          first = λ lone turn. looked_same does.1 (know.here lone) ∙ begins lone turn;
+          last = λ lone turn. looked_same does.1 (know.here lone) ∙ sym (does.1.stays (know.here lone)).1;
           own = does.1.was_had.own;
           since = λ d op e. does.1.was_had.since d op (know.grown d op e);
           until = does.1.was_had.until;
@@ -145,15 +184,21 @@ module _ {H : Type 0} (holds : H → Map) (alone : H → Type 0) (start : H) (he
 
   -- HAVE is said.
   offers_next : (places : List ℕ) → frame ≡ Differ places → s.awaited ≡ awaits.Differ
+      → (later t.role t.awaited ≡ true → later s.role s.awaited ≡ true)
       → Does holds alone (tasks.Offer places) s h more t k
-      → Offering holds start (heard ++ frame ∷ []) (told ++ more) t k
-  offers_next places is awaited does = record {
+      → Offering holds alone start (heard ++ frame ∷ []) (told ++ more) t k
+  offers_next places is awaited back does = record {
+    here = idle_here (idles_of does.1);
+    early = idle_early (idles_of does.1) back;
     grown = λ d op e. (idles_of does.1).grown d op (know.grown d op e);
     none = λ e. absurd (let clash : true ≡ false = sym (ap (λ (x : Side). has_shown x.role x.awaited) does.0)
         ∙ e in cc);
-    some = λ _. subst (λ (v : Version). IsShown v (holds start) (heard ++ frame ∷ []) (told ++ more) (holds k))
-        (sym (ap (λ (x : Side). x.round.version) does.0)) (record {
+    some = λ _. subst (λ (x : Side). IsShown x.round.version x.role (alone start) (holds start) (heard ++ frame ∷ [])
+        (told ++ more) (holds k))
+        (sym does.0) (record {
           had = was.had;
+          first = was.first;
+          last = λ lone turn. was.last lone turn ∙ sym (does.1.stays (know.here lone)).1;
           own = was.own;
           since = was.since;
           until = λ d op e. (idles_of does.1).grown d op (was.until d op e);
@@ -164,7 +209,7 @@ module _ {H : Type 0} (holds : H → Map) (alone : H → Type 0) (start : H) (he
         (λ o e. let clash : Give o ≡ Have _ = e in absurd cc)) op p));
   }
     where
-      was : IsShown s.round.version (holds start) heard told (holds h)
+      was : IsShown s.round.version s.role (alone start) (holds start) heard told (holds h)
       was = know.some (ap (λ (a : Awaited). has_shown s.role a) awaited)
 
       by : (p : List ℕ) → Has heard (Differ p) ⊎ Has (frame ∷ []) (Differ p) → (n : Map) × HasGrown was.had n
@@ -181,15 +226,20 @@ module _ {H : Type 0} (holds : H → Map) (alone : H → Type 0) (start : H) (he
 
   -- GIVEs are said.
   gives_next : (want : List (List ℕ)) → frame ≡ Want want → Goes s.role s.awaited (tasks.Give want)
+      → (later t.role t.awaited ≡ true → later s.role s.awaited ≡ true)
       → Does holds alone (tasks.Give want) s h more t k
-      → Offering holds start (heard ++ frame ∷ []) (told ++ more) t k
-  gives_next want is went does = record {
+      → Offering holds alone start (heard ++ frame ∷ []) (told ++ more) t k
+  gives_next want is went back does = record {
+    here = idle_here (idles_of does.looks);
+    early = idle_early (idles_of does.looks) back;
     grown = λ d op e. (idles_of does.looks).grown d op (know.grown d op e);
     none = λ e. absurd (let clash : true ≡ false = sym after ∙ e in cc);
-    some = λ _. subst (λ (v : Version). IsShown v (holds start) (heard ++ frame ∷ []) (told ++ more) (holds k))
-        (sym (ap (λ (x : Side). x.round.version) does.same))
+    some = λ _. subst (λ (x : Side). IsShown x.round.version x.role (alone start) (holds start) (heard ++ frame ∷ [])
+        (told ++ more) (holds k))
+        (sym does.same)
         (shown_on s.round.version (idles_of does.looks).grown
         (λ places e. let clash : Differ places ≡ Want want = e ∙ is in absurd cc)
+        (λ lone turn. sym (does.looks.stays (know.here lone)).1)
         (know.some (ap (λ (a : Awaited). has_shown s.role a) went.0)));
     gave = λ op p. by op (has_split told more (Give op) p);
   }
@@ -205,12 +255,15 @@ module _ {H : Type 0} (holds : H → Map) (alone : H → Type 0) (start : H) (he
           does.looks.was_had.own op (subst (λ (l : List Op). Has l op) does.looks.answers mine))
 
   next : (task : Task) → Fits s.role s.awaited task frame → Goes s.role s.awaited task
-      → Does holds alone task s h more t k → Offering holds start (heard ++ frame ∷ []) (told ++ more) t k
+      → Does holds alone task s h more t k → Offering holds alone start (heard ++ frame ∷ []) (told ++ more) t k
   next tasks.Refuse fit went does = absurd does
   next (tasks.Begin version) fit went does = shows (record s { round = record { version = version; asked = [] } })
       (ap (λ (a : Awaited). has_shown s.role a) went)
-      (λ places e. let clash : Differ places ≡ Hello fit.0 = e ∙ fit.1 in absurd cc) does
+      (λ places e. let clash : Differ places ≡ Hello fit.0 = e ∙ fit.1 in absurd cc)
+      (λ lone turn. know.early lone fit.2) (λ l. fit.2) does
   next (tasks.Meet version) fit went does = record {
+    here = idle_here (idles_same holds alone h k does.2);
+    early = idle_early (idles_same holds alone h k does.2) (λ l. fit.2);
     grown = λ d op e. same_grown d op (know.grown d op e);
     none = λ e places p. know.none (ap (λ (a : Awaited). has_shown s.role a) went.0) places
         (other_has heard frame (Differ places)
@@ -223,55 +276,76 @@ module _ {H : Type 0} (holds : H → Map) (alone : H → Type 0) (start : H) (he
     where
       same_grown : HasGrown (holds h) (holds k)
       same_grown = (idles_same holds alone h k does.2).grown
-  next (tasks.Compare buckets) fit went does = on (ap (λ (x : Side). x.round.version) does.0)
-      (ap (λ (x : Side). has_shown x.role x.awaited) does.0 ∙ went) (idles_of does.1).grown
+  next (tasks.Compare buckets) fit went does = on (ap (λ (x : Side). x.round.version) does.same)
+      (ap (λ (x : Side). x.role) does.same)
+      (ap (λ (x : Side). has_shown x.role x.awaited) does.same ∙ went) (idles_of does.looks).grown
       (λ places e. let clash : Differ places ≡ Buckets buckets = e ∙ fit.0 in absurd cc)
-      (no_gift _ more does.1.answers (λ o e. let clash : Give o ≡ Differ _ = e in absurd cc))
-  next (tasks.Offer places) fit went does = offers_next places fit.0 went does
-  next (tasks.Ask have) fit went does = on does.version
+      (no_gift _ more does.says (λ o e. let clash : Give o ≡ Differ _ = e in absurd cc))
+      (idle_here (idles_of does.looks)) (idle_early (idles_of does.looks) (λ l. fit.1))
+      (idle_same (idles_of does.looks))
+  next (tasks.Offer places) fit went does = offers_next places fit.0 went
+      (λ l. fit.1 ∙ sym (ap (λ (x : Side). later x.role x.awaited) does.0) ∙ l) does
+  next (tasks.Ask have) fit went does = on does.version (ap (λ (x : Side). x.role) does.same)
       (ap (λ (x : Side). has_shown x.role x.awaited) does.same
       ∙ sym (ap (λ (a : Awaited). has_shown s.role a) went)) (idles_of does.looks).grown
       (λ places e. let clash : Differ places ≡ Have have = e ∙ fit in absurd cc)
       (no_gift _ more does.says (λ o e. let clash : Give o ≡ Want _ = e in absurd cc))
-  next (tasks.Give want) fit went does = gives_next want fit.0 went does
+      (idle_here (idles_of does.looks))
+      (λ lone l. let clash : false ≡ true = sym (ap (λ (x : Side). later x.role x.awaited) does.same) ∙ l in absurd cc)
+      (idle_same (idles_of does.looks))
+  next (tasks.Give want) fit went does = gives_next want fit.0 went
+      (λ l. fit.1 (sym (ap (λ (x : Side). later x.role x.awaited) does.same) ∙ l)) does
   next (tasks.Take op) fit went does = on (ap (λ (x : Side). x.round.version) does.same)
+      (ap (λ (x : Side). x.role) does.same)
       (ap (λ (x : Side). has_shown x.role x.awaited) does.same) does.takes.takes.grown
       (λ places e. let clash : Differ places ≡ Give op = e ∙ fit.0 in absurd cc)
       (λ o p. none_has_one (Give o) more does.says p)
+      (λ lone. (does.takes.takes.stays (know.here lone)).0)
+      (λ lone l. let clash : false ≡ true = sym fit.1 ∙ sym (ap (λ (x : Side). later x.role x.awaited) does.same) ∙ l
+      in absurd cc)
+      (λ lone shown turn. let clash : true ≡ false = sym shown ∙ ap (λ (a : Awaited). has_shown s.role a) went ∙ turn
+      in absurd cc)
   next tasks.Show fit went does = shows s (ap (λ (a : Awaited). has_shown s.role a) went.0 ∙ went.1)
-      (λ places e. let clash : Differ places ≡ End = e ∙ fit.0 in absurd cc) does
-  next tasks.Rest fit went does = on (ap (λ (x : Side). x.round.version) does.0)
+      (λ places e. let clash : Differ places ≡ End = e ∙ fit.0 in absurd cc)
+      (λ lone turn. let clash : false ≡ true = sym fit.1 ∙ turn in absurd cc)
+      (λ l. let clash : false ≡ true = sym fit.1 ∙ sym (ap (λ (x : Side). later x.role x.awaited) does.0) ∙ l in
+      absurd cc) does
+  next tasks.Rest fit went does = on (ap (λ (x : Side). x.round.version) does.0) (ap (λ (x : Side). x.role) does.0)
       (ap (λ (x : Side). has_shown x.role x.awaited) does.0 ∙ sym went.1
       ∙ sym (ap (λ (a : Awaited). has_shown s.role a) went.0)) (idles_same holds alone h k does.2).grown
       (λ places e. let clash : Differ places ≡ End = e ∙ fit in absurd cc)
-      (λ o p. none_has_one (Give o) more does.1 p)
+      (λ o p. none_has_one (Give o) more does.1 p) (idle_here (idles_same holds alone h k does.2))
+      (λ lone l. let clash : false ≡ true = sym (ap (λ (x : Side). later x.role x.awaited) does.0) ∙ l in absurd cc)
+      (idle_same (idles_same holds alone h k does.2))
 
 -- ---- all of it
 
 offering_all : {H : Type 0} (holds : H → Map) (alone : H → Type 0) (start : H) (before said : List Frame) (s : Side)
-    (h : H) → Offering holds start before said s h → (heard told : List Frame) (t : Side) (k : H)
-    → DoesAll holds alone s h heard told t k → Offering holds start (before ++ heard) (said ++ told) t k
+    (h : H) → Offering holds alone start before said s h → (heard told : List Frame) (t : Side) (k : H)
+    → DoesAll holds alone s h heard told t k → Offering holds alone start (before ++ heard) (said ++ told) t k
 offering_all {H = H} holds alone start before said s h know [] told t k d =
-    let a = subst (λ (l : List Frame). Offering holds start l said s h) (sym (append-nil before)) know in
-    let b = subst (λ (l : List Frame). Offering holds start (before ++ []) l s h) (sym (append-nil said)
+    let a = subst (λ (l : List Frame). Offering holds alone start l said s h) (sym (append-nil before)) know in
+    let b = subst (λ (l : List Frame). Offering holds alone start (before ++ []) l s h) (sym (append-nil said)
     ∙ ap (λ (l : List Frame). said ++ l) (sym d.0)) a in
-    let c = subst (λ (x : Side). Offering holds start (before ++ []) (said ++ told) x h) (sym d.1) b in
-    subst (λ (x : H). Offering holds start (before ++ []) (said ++ told) t x) (sym d.2) c
+    let c = subst (λ (x : Side). Offering holds alone start (before ++ []) (said ++ told) x h) (sym d.1) b in
+    subst (λ (x : H). Offering holds alone start (before ++ []) (said ++ told) t x) (sym d.2) c
 offering_all holds alone start before said s h know (f ∷ heard) told t k d =
     let one = next holds alone start before said s h know f d.0 d.2 d.3 (task_for s.awaited f s.role)
     (fits s.awaited f s.role) (goes s.awaited f s.role) d.4 in
     let rest = offering_all holds alone start (before ++ f ∷ []) (said ++ d.0) d.2 d.3 one heard d.1 t k d.5 in
-    let a = subst (λ (l : List Frame). Offering holds start l ((said ++ d.0) ++ d.1) t k)
+    let a = subst (λ (l : List Frame). Offering holds alone start l ((said ++ d.0) ++ d.1) t k)
     (append_assoc before (f ∷ []) heard) rest in
-    subst (λ (l : List Frame). Offering holds start (before ++ f ∷ heard) l t k) (append_assoc said d.0 d.1
+    subst (λ (l : List Frame). Offering holds alone start (before ++ f ∷ heard) l t k) (append_assoc said d.0 d.1
     ∙ ap (λ (l : List Frame). said ++ l) (sym d.6)) a
 
 -- ---- the first words
 
 -- nothing was shown yet
 not_yet : {H : Type 0} (holds : H → Map) (alone : H → Type 0) (h k : H) (told : List Frame) (s : Side) → k ≡ h
-    → has_shown s.role s.awaited ≡ false → ((op : Op) → Has told (Give op) → ⊥) → Offering holds h [] told s k
+    → has_shown s.role s.awaited ≡ false → ((op : Op) → Has told (Give op) → ⊥) → Offering holds alone h [] told s k
 not_yet holds alone h k told s same none no_give = record {
+  here = λ lone. ((idles_same holds alone h k same).stays lone).0;
+  early = λ lone l. ((idles_same holds alone h k same).stays lone).1;
   grown = (idles_same holds alone h k same).grown;
   none = λ e places p. p;
   some = λ e. absurd (true_or_false (has_shown s.role s.awaited) (has_shown s.role s.awaited) refl e none);
@@ -279,18 +353,22 @@ not_yet holds alone h k told s same none no_give = record {
 }
 
 offering_start : {H : Type 0} (holds : H → Map) (alone : H → Type 0) (role : Role) (h : H) (told : List Frame)
-    (s : Side) (k : H) → SetsOut holds alone role h told s k → Offering holds h [] told s k
+    (s : Side) (k : H) → SetsOut holds alone role h told s k → Offering holds alone h [] told s k
 offering_start holds alone Caller h told s k d = not_yet holds alone h k told s d.2
     (ap (λ (x : Side). has_shown x.role x.awaited) d.0)
     (no_gift _ told d.1 (λ o e. let clash : Give o ≡ Hello _ = e in absurd cc))
 offering_start holds alone Callee h told s k d = not_yet holds alone h k told s d.2
     (ap (λ (x : Side). has_shown x.role x.awaited) d.0) (λ o p. none_has_one (Give o) told d.1 p)
 offering_start holds alone OldCaller h told s k d = record {
+  here = λ lone. (d.1.stays lone).0;
+  early = λ lone l. (d.1.stays lone).1;
   grown = (idles_of d.1).grown;
   none = λ e places p. p;
-  some = λ _. subst (λ (v : Version). IsShown v (holds h) [] told (holds k))
-      (sym (ap (λ (x : Side). x.round.version) d.0)) (record {
+  some = λ _. subst (λ (x : Side). IsShown x.round.version x.role (alone h) (holds h) [] told (holds k))
+      (sym d.0) (record {
         had = d.1.had;
+        first = λ lone turn. looked_same d.1 lone;
+        last = λ lone turn. let clash : true ≡ false = turn in absurd cc;
         own = d.1.was_had.own;
         since = d.1.was_had.since;
         until = d.1.was_had.until;
@@ -303,8 +381,8 @@ offering_start holds alone OldCaller h told s k d = record {
 
 pub offering_talk : {H : Type 0} (holds : H → Map) (alone : H → Type 0) (role : Role) (before : H)
     (heard told : List Frame) (t : Side) (k : H) → Talks holds alone role before heard told t k
-    → Offering holds before heard told t k
+    → Offering holds alone before heard told t k
 offering_talk holds alone role before heard told t k talk =
-    subst (λ (l : List Frame). Offering holds before heard l t k) (sym talk.told_is)
+    subst (λ (l : List Frame). Offering holds alone before heard l t k) (sym talk.told_is)
     (offering_all holds alone before [] talk.first talk.from talk.mid (offering_start holds alone role before talk.first
     talk.from talk.mid talk.sets_out) heard talk.rest t k talk.goes_on)

@@ -25,8 +25,9 @@ use Rattle.exchange_frames.specs.declared.frame.Frame.TheVariants.{Have, Want, G
 use Rattle.exchange.specs.declared.fault.ExchangeFault.TheVariants.{BadFrame, Stranger}
 use Rattle.exchange.specs.declared.fault.HolderFault.{HolderFault}
 use Rattle.exchange.specs.declared.version.Version.{Version}
-use Rattle.exchange.specs.Held.{offered, place_of, is_lacking, is_spoken, HasGrown, TakesIn, TakesAlone}
+use Rattle.exchange.specs.Held.{offered, place_of, is_lacking, is_spoken, HasGrown, WasHad, TakesIn, TakesAlone}
 use Rattle.exchange.specs.Buckets.{bucket_list, is_unequal, unequal}
+use Rattle.exchange.specs.Laws.{BucketsTell}
 use Rattle.exchange.specs.Round.{RoundState, asked_at, asked_in, is_among, by_holder, IsFinished}
 use Rattle.exchange.proofs.Bucketed.{bucket_at, offered_held}
 use Rattle.exchange_run.specs.declared.role.Role.{Role}
@@ -36,9 +37,10 @@ use Rattle.exchange_run.specs.declared.task.Task.{Task}
 use Rattle.exchange_run.specs.declared.task.Task.TheVariants as tasks
 use Rattle.exchange_run.specs.Tasks.{task_for}
 use Rattle.exchange_run.specs.Course.{gifts_of, Does, DoesAll, SetsOut, Talks, Idles}
-use Rattle.exchange_run.specs.Laws.{WasAsked, WasGiven, IsGivenAll, IsHeld, HoldsWhatWasOffered}
-use Rattle.exchange_run.specs.Laws.{HoldsWhatWasShown, GainsOnlyGiven, Outcome}
-use Rattle.exchange_run.proofs.Holders.{idles_of, idles_same}
+use Rattle.exchange_run.specs.Laws.{WasAsked, WasGiven, IsGivenAll, IsHeld, HoldsAll, HoldsWhatWasOffered}
+use Rattle.exchange_run.specs.Laws.{BeginWithBytes, OffersWhereTheyDiffer}
+use Rattle.exchange_run.specs.Laws.{WasCompared, HoldsWhatWasShown, GainsOnlyGiven, Outcome}
+use Rattle.exchange_run.proofs.Holders.{idles_of, idles_same, grown_both, looked_same}
 use Rattle.exchange_run.proofs.Turns.{later, Fits, fits}
 
 -- ---- members
@@ -98,9 +100,13 @@ record Fresh (heard told : List Frame) : Type 0 where
   no_give : (op : Op) → Has heard (Give op) → ⊥
   no_want : (w : List (List ℕ)) → Has told (Want w) → ⊥
 
-abbrev pub Compared : Version → Map → List (List ℕ) → List ℕ → Type 0
-Compared version after buckets places =
-    (m : Map) × HasGrown m after × (places ≡ unequal (bucket_list (offered version m)) buckets)
+-- a set that a holder had since it began, and the places in which it has other buckets
+record Compared {H : Type 0} (holds : H → Map) (alone : H → Type 0) (start : H) (version : Version) (after : H)
+    (buckets : List (List ℕ)) (places : List ℕ) : Type 0 where
+  m : Map
+  had : WasHad (holds start) m (holds after)
+  at_begin : alone start → m ≡ holds start
+  places_are : places ≡ unequal (bucket_list (offered version m)) buckets
 
 record Knows {H : Type 0} (holds : H → Map) (alone : H → Type 0) (start : H) (heard told : List Frame) (t : Side)
     (k : H) : Type 0 where
@@ -113,7 +119,7 @@ record Knows {H : Type 0} (holds : H → Map) (alone : H → Type 0) (start : H)
   held : (op : Op) → Has heard (Give op) → held_at (holds k) (digest_of op) ≡ Some op
   have : (x : List (List ℕ)) (d : List ℕ) → Has heard (Have x) → Has x d → IsHeld (holds k) d ⊎ WasAsked told d
   shown : (b : List (List ℕ)) → Has heard (Buckets b) → (p : List ℕ) × Has told (Differ p)
-      × Compared t.round.version (holds k) b p
+      × Compared holds alone start t.round.version k b p
   fresh : later t.role t.awaited ≡ true → Fresh heard told
 
 asked_more : (told more : List Frame) (d : List ℕ) → WasAsked told d → WasAsked (told ++ more) d
@@ -138,7 +144,7 @@ module _ {H : Type 0} (holds : H → Map) (alone : H → Type 0) (start : H) (he
       → ((x : List (List ℕ)) → frame ≡ Have x → ⊥) → ((w : List (List ℕ)) → Has more (Want w) → ⊥)
       → Idles holds alone h k
       → ((b : List (List ℕ)) → Has (heard ++ frame ∷ []) (Buckets b) → (p : List ℕ) × Has (told ++ more) (Differ p)
-      × Compared t.round.version (holds k) b p)
+      × Compared holds alone start t.round.version k b p)
       → (later t.role t.awaited ≡ true → Fresh (heard ++ frame ∷ []) (told ++ more))
       → Knows holds alone start (heard ++ frame ∷ []) (told ++ more) t k
   quiet same no_give no_have no_want idle shown fresh = record {
@@ -183,17 +189,33 @@ module _ {H : Type 0} (holds : H → Map) (alone : H → Type 0) (start : H) (he
   -- what was compared stays so, where no BUCKETS are heard
   shown_still : t.round.version ≡ s.round.version → HasGrown (holds h) (holds k)
       → ((b : List (List ℕ)) → frame ≡ Buckets b → ⊥) → (b : List (List ℕ)) → Has (heard ++ frame ∷ []) (Buckets b)
-      → (p : List ℕ) × Has (told ++ more) (Differ p) × Compared t.round.version (holds k) b p
+      → (p : List ℕ) × Has (told ++ more) (Differ p) × Compared holds alone start t.round.version k b p
   shown_still version grown no_buckets b has_b =
       let was = know.shown b (other_has heard frame (Buckets b) (λ e. no_buckets b (sym e)) has_b) in (
         was.0,
         has_left told more (Differ was.0) was.1,
-        (
-          was.2.0,
-          λ d op e. grown d op (was.2.1 d op e),
-          was.2.2 ∙ ap (λ (v : Version). unequal (bucket_list (offered v was.2.0)) b) (sym version),
-        ),
+        record {
+          m = was.2.m;
+          had = record {
+            since = was.2.had.since;
+            until = λ d op e. grown d op (was.2.had.until d op e);
+            own = was.2.had.own;
+          };
+          at_begin = was.2.at_begin;
+          places_are = was.2.places_are
+              ∙ ap (λ (v : Version). unequal (bucket_list (offered v was.2.m)) b) (sym version);
+        },
       )
+
+  -- what a holder that nobody else changes has before BUCKETS are heard it had as it began
+  early : alone start → later s.role s.awaited ≡ true → holds h ≡ holds start
+  early lone l =
+      grown_both (holds h) (holds start) (λ d op e. by d op ((know.only lone).1 d op e)) know.grown
+    where
+      by : (d : List ℕ) (op : Op) → (held_at (holds start) d ≡ Some op) ⊎ (Has heard (Give op) × WasAsked told
+          (digest_of op)) → held_at (holds start) d ≡ Some op
+      by d op (inl e) = e
+      by d op (inr p) = absurd ((know.fresh l).no_give op p.0)
 
   -- nothing was compared, asked for or given yet
   fresh_still : Fresh heard told → ((b : List (List ℕ)) → frame ≡ Buckets b → ⊥) → ((op : Op) → frame ≡ Give op → ⊥)
@@ -294,33 +316,38 @@ module _ {H : Type 0} (holds : H → Map) (alone : H → Type 0) (start : H) (he
       → Knows holds alone start (heard ++ frame ∷ []) (told ++ more) t k
   knows_compare buckets fit does =
       quiet holds alone start heard told s h know frame more t k
-      (λ d. ap (λ (x : Side). asked_at d x.round) does.0)
+      (λ d. ap (λ (x : Side). asked_at d x.round) does.same)
       (λ op e. let c : Buckets buckets ≡ Give op = sym fit.0 ∙ e in absurd cc)
       (λ x e. let c : Buckets buckets ≡ Have x = sym fit.0 ∙ e in absurd cc)
-      (λ w q. let c : Want w ≡ Differ _ = one_is _ (Want w) more does.1.answers q in absurd cc)
-      (idles_of does.1)
+      (λ w q. let c : Want w ≡ Differ _ = one_is _ (Want w) more does.says q in absurd cc)
+      (idles_of does.looks)
       (λ b has_b. compared b (has_split heard (frame ∷ []) (Buckets b) has_b))
-      (λ l. let c : false ≡ true = sym (ap (λ (x : Side). later x.role x.awaited) does.0) ∙ l in absurd cc)
+      (λ l. let c : false ≡ true = sym (ap (λ (x : Side). later x.role x.awaited) does.same) ∙ l in absurd cc)
     where
-      places : List ℕ
-      places = unequal (bucket_list (offered s.round.version does.1.had)) buckets
-
       compared : (b : List (List ℕ)) → Has heard (Buckets b) ⊎ Has (frame ∷ []) (Buckets b)
-          → (p : List ℕ) × Has (told ++ more) (Differ p) × Compared t.round.version (holds k) b p
+          → (p : List ℕ) × Has (told ++ more) (Differ p) × Compared holds alone start t.round.version k b p
       compared b (inl l) = absurd ((know.fresh fit.1).no_buckets b l)
       compared b (inr n) =
           let one : Buckets b ≡ Buckets buckets = one_is frame (Buckets b) (frame ∷ []) refl n ∙ fit.0 in
           let is : b ≡ buckets = cc in (
-            places,
-            has_right told more (Differ places) (subst (λ (l : List Frame). Has l (Differ places)) (sym does.1.answers)
-                (inl refl)),
-            (
-              does.1.had,
-              does.1.was_had.until,
-              ap (λ (v : Version). unequal (bucket_list (offered v does.1.had)) buckets)
-                  (sym (ap (λ (x : Side). x.round.version) does.0))
-                  ∙ ap (λ (x : List (List ℕ)). unequal (bucket_list (offered t.round.version does.1.had)) x) (sym is),
-            ),
+            does.places,
+            has_right told more (Differ does.places) (subst (λ (l : List Frame). Has l (Differ does.places))
+                (sym does.says) (inl refl)),
+            record {
+              m = does.looks.had;
+              had = record {
+                since = λ d op e. does.looks.was_had.since d op (know.grown d op e);
+                until = does.looks.was_had.until;
+                own = does.looks.was_had.own;
+              };
+              at_begin = λ lone. looked_same does.looks (know.only lone).0
+                  ∙ early holds alone start heard told s h know frame more t k lone fit.1;
+              places_are = does.looks.answers
+                  ∙ ap (λ (v : Version). unequal (bucket_list (offered v does.looks.had)) buckets)
+                  (sym (ap (λ (x : Side). x.round.version) does.same))
+                  ∙ ap (λ (x : List (List ℕ)). unequal (bucket_list (offered t.round.version does.looks.had)) x)
+                  (sym is);
+            },
           )
 
   knows_offer : (places : List ℕ) → Fits s.role s.awaited (tasks.Offer places) frame
@@ -744,17 +771,27 @@ module _ {H : Type 0} (holds : H → Map) (alone : H → Type 0) (before : H) (h
   had_all : IsFinished side.round → HoldsWhatWasOffered (holds k) heard
   had_all finished x there d has = had_or d finished (know.have x d there has)
 
-  shown_all : IsFinished side.round → HoldsWhatWasShown side.round.version (holds k) heard told
+  -- what was compared with BUCKETS that were heard
+  was_compared : (theirs : List (List ℕ)) → Has heard (Buckets (bucket_list theirs)) → (m : Map)
+      × WasCompared holds alone side.round.version theirs before told k m
+  was_compared theirs shown =
+      let was = know.shown (bucket_list theirs) shown in (
+        was.2.m,
+        record {
+          had = was.2.had;
+          said = subst (λ (p : List ℕ). Has told (Differ p)) was.2.places_are was.1;
+          at_begin = was.2.at_begin;
+        },
+      )
+
+  shown_all : (theirs : List (List ℕ)) → (m : Map)
+      → WasCompared holds alone side.round.version theirs before told k m → IsFinished side.round
+      → BeginWithBytes theirs → OffersWhereTheyDiffer heard told theirs
+      → BucketsTell (offered side.round.version m) theirs → HoldsAll (holds k) theirs
   unfolding unequal
-  shown_all finished theirs shown bytes offers tell d has = by (is_unequal (bucket_list (offered side.round.version m))
+  shown_all theirs m was finished bytes offers tell d has = by (is_unequal (bucket_list (offered side.round.version m))
       (bucket_list theirs) place) refl
     where
-      was : (p : List ℕ) × Has told (Differ p) × Compared side.round.version (holds k) (bucket_list theirs) p
-      was = know.shown (bucket_list theirs) shown
-
-      m : Map
-      m = was.2.0
-
       place : ℕ
       place = place_of d
 
@@ -764,19 +801,17 @@ module _ {H : Type 0} (holds : H → Map) (alone : H → Type 0) (before : H) (h
           let there = has_filter (is_unequal (bucket_list (offered side.round.version m)) (bucket_list theirs))
           (range_with_len 0 256) place (places_has 256 0 place (omega arith)
           (omega (arith, bytes d has))) e in
-          let in_places = has_any (λ q. q == place) was.0 place (subst (λ (l : List ℕ). Has l place) (sym was.2.2)
-          there)
-          (eqb_itself place) in
-          let offer = offers was.0 was.1 d has in_places in
+          let in_places = has_any (λ q. q == place) _ place there (eqb_itself place) in
+          let offer = offers _ was.said d has in_places in
           had_all finished offer.0 offer.1 d offer.2
       by false e =
           let equal = sym (bucket_at (offered side.round.version m) place (bytes d has)) ∙ same_is _ _ (negated _ e)
           ∙ bucket_at theirs place (bytes d has) in
-          let mine = subst (λ (xs : List (List ℕ)). Has xs d) (sym (tell m was.2.1 place equal))
+          let mine = subst (λ (xs : List (List ℕ)). Has xs d) (sym (tell place (bytes d has) equal))
           (has_filter (λ x. place_of x == place) theirs d has (eqb_itself place)) in
           let found = offered_held side.round.version m d (filter_has (λ x. place_of x == place)
           (offered side.round.version m) d mine).0 in
-          (found.0, was.2.1 d found.0 found.1)
+          (found.0, was.had.until d found.0 found.1)
 
   outcome : Outcome holds alone before heard told side k
   outcome = record {
@@ -785,7 +820,7 @@ module _ {H : Type 0} (holds : H → Map) (alone : H → Type 0) (before : H) (h
     given = know.held;
     finished = (given_all, finished_all);
     have = had_all;
-    shown = shown_all;
+    shown = λ theirs shown. let was = was_compared theirs shown in (was.0, was.1, shown_all theirs was.0 was.1);
   }
 
 pub outcome_of : {H : Type 0} (holds : H → Map) (alone : H → Type 0) (role : Role) (before : H)

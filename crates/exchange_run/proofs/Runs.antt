@@ -36,6 +36,7 @@ use Rattle.exchange_run.specs.Hearing.{texts, is_io, Heard, Unheard, Fails}
 use Rattle.exchange_run.specs.Saying.{WroteFront, WhyUnsaid, AreSayable}
 use Rattle.exchange_run.specs.Run.{Ends, ends, NoneFailed, CountsFailures, Exchanged, EndsEarly}
 use Rattle.exchange_run.specs.Run.{Progress, Turned}
+use Rattle.exchange_run.proofs.Agreed.{agreed_ends}
 use Rattle.exchange_run.proofs.Frames.{frames_more, told_frames, first_frames}
 use Rattle.exchange_run.proofs.Holders.{idles_same}
 use Rattle.exchange_run.proofs.Outcomes.{outcome_of}
@@ -99,7 +100,7 @@ taken_after : {H : Type 0} (holds : H → Map) (alone : H → Type 0) (task : Ta
 taken_after holds alone tasks.Refuse s h told t k d = absurd d
 taken_after holds alone (tasks.Begin v) s h told t k d = omega (arith, ap (λ (x : Side). x.taken) d.0)
 taken_after holds alone (tasks.Meet v) s h told t k d = omega (arith, ap (λ (x : Side). x.taken) d.0)
-taken_after holds alone (tasks.Compare b) s h told t k d = omega (arith, ap (λ (x : Side). x.taken) d.0)
+taken_after holds alone (tasks.Compare b) s h told t k d = omega (arith, ap (λ (x : Side). x.taken) d.same)
 taken_after holds alone (tasks.Offer p) s h told t k d = omega (arith, ap (λ (x : Side). x.taken) d.0)
 taken_after holds alone (tasks.Ask a) s h told t k d = omega (arith, ap (λ (x : Side). x.taken) d.same)
 taken_after holds alone (tasks.Give w) s h told t k d = omega (arith, ap (λ (x : Side). x.taken) d.same)
@@ -418,8 +419,9 @@ err_begun (Err e) A P Q old new a p f to = to e a p f
 pub ended : {H : Type 0} (holds : H → Map) (alone : H → Type 0) (role : Role) (from to : Ends H) (side : Side)
     (reads n : ℕ) (e : Ended) → Progress holds alone role from to side reads n → side.awaited ≡ awaits.Nothing
     → e.given ≡ side.given → e.taken ≡ side.taken → (IsTrue e.finished ↔ IsFinished side.round)
+    → e.agreed ≡ side.agreed
     → Exchanged holds alone role from to e
-ended holds alone role from to side reads n e so over given taken finished =
+ended holds alone role from to side reads n e so over given taken finished agreed =
     let comes_to = outcome_of holds alone role from.holder so.heard so.told side to.holder so.talk in
     record {
       heard = so.heard;
@@ -436,7 +438,8 @@ ended holds alone role from to side reads n e so over given taken finished =
       taken = taken;
       finished = (λ is. comes_to.finished.0 (finished.0 is), λ all. finished.1 (comes_to.finished.1 all));
       have = λ is. comes_to.have (finished.0 is);
-      shown = λ is. comes_to.shown (finished.0 is);
+      shown = λ theirs heard. let was = comes_to.shown theirs heard in (was.0, was.1, λ is. was.2 (finished.0 is));
+      agreed = agreed_ends holds alone role from.holder so.heard so.told side to.holder so.talk e.agreed agreed;
       failed = so.failed;
     }
 

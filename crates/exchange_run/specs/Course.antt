@@ -1,6 +1,6 @@
 -- What a side says for the frames that it hears, each over a set that its holder has then.
 use Rattle.std.specs.Prelude.{◌≡◌, ◌⊎◌, ℕ, ◌+◌, List, [], ◌∷◌, ◌++◌, map, length, Some, None, Result, Ok, Err}
-use Rattle.std.specs.Prelude.{false, cond}
+use Rattle.std.specs.Prelude.{Bool, true, false, cond, ◌&&◌, ◌==◌}
 use Rattle.operation.specs.declared.op.Op.{Op}
 use Rattle.operation.specs.declared.taken.Taken.{Taken}
 use Rattle.operation.specs.declared.taken.Taken.TheVariants.{New, Known}
@@ -48,6 +48,7 @@ start_of role = record {
   round = new_round version_one;
   given = 0;
   taken = 0;
+  agreed = true;
 }
 
 -- a side that settled a version
@@ -70,6 +71,10 @@ frames_of says.Nothing = []
 frames_of (says.One frame) = frame ∷ []
 frames_of (says.Gifts ops) = gifts_of ops
 
+-- whether no place differed, where it did not before, and buckets differ in these
+abbrev pub agreed_with : Bool → List ℕ → Bool
+agreed_with agreed places = agreed && (length places == 0)
+
 -- how many operations are new
 abbrev pub news : Taken → ℕ
 news New = 1
@@ -89,17 +94,18 @@ Shows holds alone s before told t after =
     × Looks holds alone before after (λ m. told ≡ Buckets (bucket_list (offered s.round.version m)) ∷ [])
 
 -- DIFFER with the places in which a set that is held has other buckets
-abbrev pub Compares : {H : Type 0} → (H → Map) → (H → Type 0) → List (List ℕ) → Side → H → List Frame → Side → H
-    → Type 0
-Compares holds alone buckets s before told t after =
-    (t ≡ record s { awaited = awaits.Have })
-    × Looks holds alone before after (λ m. told ≡ Differ (unequal (bucket_list (offered s.round.version m)) buckets)
-    ∷ [])
+pub record Compares {H : Type 0} (holds : H → Map) (alone : H → Type 0) (buckets : List (List ℕ)) (s : Side)
+    (before : H) (told : List Frame) (t : Side) (after : H) : Type 0 where
+  pub places : List ℕ
+  pub looks : Looks holds alone before after (λ m. places
+      ≡ unequal (bucket_list (offered s.round.version m)) buckets)
+  pub says : told ≡ Differ places ∷ []
+  pub same : t ≡ record s { awaited = awaits.Have; agreed = agreed_with s.agreed places }
 
 -- HAVE of what is held in these places
 abbrev pub Offers : {H : Type 0} → (H → Map) → (H → Type 0) → List ℕ → Side → H → List Frame → Side → H → Type 0
 Offers holds alone places s before told t after =
-    (t ≡ record s { awaited = awaits.Want })
+    (t ≡ record s { awaited = awaits.Want; agreed = agreed_with s.agreed places })
     × Looks holds alone before after (λ m. told ≡ Have (offered_in s.round.version places m) ∷ [])
 
 -- WANT of what is not held of a HAVE, which is asked for from then on

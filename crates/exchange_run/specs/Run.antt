@@ -16,7 +16,7 @@ use Rattle.exchange_run.specs.declared.task.Awaited.TheVariants as awaits
 use Rattle.exchange_run.specs.Tasks.{task_for}
 use Rattle.exchange_run.specs.Course.{Talks, Idles, IsOfHolder, Why}
 use Rattle.exchange_run.specs.Hearing.{texts, AreFrames, WhyUnheard}
-use Rattle.exchange_run.specs.Laws.{Outcome, IsGivenAll, HoldsWhatWasOffered, HoldsWhatWasShown}
+use Rattle.exchange_run.specs.Laws.{Outcome, IsGivenAll, HoldsWhatWasOffered, HoldsWhatWasShown, NoPlaceDiffers}
 use Rattle.exchange_run.specs.Saying.{IsFront, WhyUnsaid}
 
 -- the holder, what the reader has left, what the writer holds, and how often each of the devices failed
@@ -71,7 +71,8 @@ pub record Exchanged {H : Type 0} (holds : H → Map) (alone : H → Type 0) (ro
   pub taken : ended.taken ≡ side.taken
   pub finished : IsTrue ended.finished ↔ IsGivenAll heard told
   pub have : IsTrue ended.finished → HoldsWhatWasOffered (holds to.holder) heard
-  pub shown : IsTrue ended.finished → HoldsWhatWasShown side.round.version (holds to.holder) heard told
+  pub shown : HoldsWhatWasShown holds alone side.round.version (IsTrue ended.finished) from.holder heard told to.holder
+  pub agreed : IsTrue ended.agreed ↔ NoPlaceDiffers heard told
   pub failed : NoneFailed from to
 
 -- ---- an exchange that was broken off

@@ -14,7 +14,9 @@ mod saying;
 mod side;
 mod task;
 
-pub use laws::{an_exchange_gives_all, an_exchange_makes_holders_equal};
+pub use laws::{
+    a_side_says_its_frames_in_order, an_exchange_gives_all, an_exchange_makes_holders_equal,
+};
 pub use numbers::numbers_are_these;
 pub use role::{Ended, Role};
 pub use run::run_exchange;

@@ -21,4 +21,7 @@ pub struct Ended {
     pub taken: u64,
     /// Whether all the operations that this side asked for were given to it.
     pub finished: bool,
+    /// Whether the lists of buckets were equal, those that this side compared and those that the
+    /// peer did: each told of what its side held then, of what the version that was spoken knows.
+    pub agreed: bool,
 }

@@ -6,6 +6,7 @@ ghost use Rattle.exchange_run.specs.declared.task.Awaited.TheVariants as awaits;
 ghost use Rattle.exchange_run.specs.declared.task.Task.TheVariants as tasks;
 ghost use Rattle.exchange_run.specs.Tasks.{task_for};
 ghost use Rattle.exchange_run.specs.Course.{Performs, SetOut, Why, IsOfHolder, frames_of, next_after_gifts, news, settled, start_of};
+ghost use Rattle.exchange_run.specs.Course.{agreed_with as agreed_in};
 ghost use Rattle.exchange.specs.Round.{IsFinished};
 
 use crate::role::{Ended, Role};
@@ -34,6 +35,7 @@ pub(crate) struct Side {
     round: Round,
     given: u64,
     taken: u64,
+    agreed: bool,
 }
 
 // It is written out, so that a caller does not prove again how each part is dropped.
@@ -45,6 +47,7 @@ impl Drop for Side {
             round: _,
             given: _,
             taken: _,
+            agreed: _,
         } = self;
     }
 }
@@ -69,6 +72,13 @@ fn after_gifts(role: Role) -> Awaited
     }
 }
 
+/// Whether no place differed, where buckets differ in these.
+fn agreed_with(agreed: bool, places: &[u8]) -> bool
+    ensures { result ≡ agreed_in agreed places.now }
+{
+    agreed && places.is_empty()
+}
+
 /// How many operations are new.
 fn count_of(taken: Taken) -> u64
     ensures value { result ≡ news taken }
@@ -90,6 +100,7 @@ impl Side {
             round: Round::new(alloc, Version::One),
             given: 0,
             taken: 0,
+            agreed: true,
         }
     }
 
@@ -105,11 +116,13 @@ impl Side {
         ensures given { result.given ≡ self.now.given }
         ensures taken { result.taken ≡ self.now.taken }
         ensures finished { IsTrue result.finished ↔ IsFinished self.now.round }
+        ensures agreed { result.agreed ≡ self.now.agreed }
     {
         Ended {
             given: self.given,
             taken: self.taken,
             finished: self.round.finished(),
+            agreed: self.agreed,
         }
     }
 
@@ -220,6 +233,7 @@ impl Side {
         ensures why { IfErr result IsOfHolder }
     {
         let places = self.round.on_buckets(alloc, holder, buckets)?;
+        self.agreed = agreed_with(self.agreed, places.as_slice());
         self.awaited = Awaited::Have;
         Ok(Said::One(Frame::Differ(places)))
     }
@@ -236,6 +250,7 @@ impl Side {
         ensures why { IfErr result IsOfHolder }
     {
         let have = self.round.on_differ(alloc, holder, places)?;
+        self.agreed = agreed_with(self.agreed, places);
         self.awaited = Awaited::Want;
         Ok(Said::One(Frame::Have(have)))
     }

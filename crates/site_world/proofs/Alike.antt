@@ -1,6 +1,6 @@
 -- Sites at which the same operations were taken are alike.
 use Rattle.std.proofs.Common.{◌≡◌, ℕ, suc, zero, List, [], ◌∷◌, ◌++◌, Option, Some, None, Ok, Result, refl, sym, ap}
-use Rattle.std.proofs.Common.{subst, ◌∙◌, inl, inr, ◌⊎◌, take, drop, length}
+use Rattle.std.proofs.Common.{subst, ◌∙◌, inl, inr, ◌⊎◌, ◌+◌, take, drop, length, arith}
 use Rattle.std.specs.Prelude.{replicate}
 use Rattle.std.specs.List.{slice_get}
 use Rattle.std.specs.Option.{option_map}
@@ -74,6 +74,27 @@ before old new (s ∷ steps) (a ∷ answers) (suc i) step answer (mid, first, re
       behind = later.behind;
       sent = later.sent;
     }
+
+-- The steps before one, that step and k steps behind it are the first of the run.
+pub run_upto : (i k : ℕ) (old mid next late : WorldState) (steps : List Step) (answers : List (Result Seen WorldFault))
+    (step : Step) (answer : Result Seen WorldFault)
+    → Run old (take i steps) (take i answers) mid → slice_get steps i ≡ Some step → slice_get answers i ≡ Some answer
+    → Happens mid step answer next → Run next (take k (drop (suc i) steps)) (take k (drop (suc i) answers)) late
+    → Run old (take (suc (i + k)) steps) (take (suc (i + k)) answers) late
+run_upto i k old mid next late [] answers step answer run at told happens rest = absurd cc
+run_upto i k old mid next late (s ∷ steps) [] step answer run at told happens rest = absurd cc
+run_upto zero k old mid next late (s ∷ steps) (a ∷ answers) step answer run at told happens rest =
+    let none : k ≡ 0 + k = omega arith in
+    subst (λ n. Run old (take (suc n) (s ∷ steps)) (take (suc n) (a ∷ answers)) late) none (
+      next,
+      subst (λ x. Happens old x a next) (sym (some_is s step at)) (subst (λ x. Happens old step x next)
+          (sym (some_is a answer told)) (subst (λ w. Happens w step answer next) run happens)),
+      rest,
+    )
+run_upto (suc i) k old mid next late (s ∷ steps) (a ∷ answers) step answer (one, first, run) at told happens rest =
+    let more : suc (i + k) ≡ suc i + k = omega arith in
+    subst (λ n. Run old (take (suc n) (s ∷ steps)) (take (suc n) (a ∷ answers)) late) more
+    (one, first, run_upto i k one mid next late steps answers step answer run at told happens rest)
 
 ok_is : (x y : Seen) (r : Result Seen WorldFault) → Ok x ≡ r → r ≡ Ok y → x ≡ y
 ok_is x y r e f = let g = e ∙ f in cc

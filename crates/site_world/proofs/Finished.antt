@@ -1,6 +1,6 @@
 -- What finished rounds come to in a run of a new world.
 use Rattle.std.proofs.Common.{◌≡◌, ℕ, suc, zero, List, [], ◌∷◌, ◌++◌, Option, Some, None, Ok, Err, Result, Bool}
-use Rattle.std.proofs.Common.{take, drop, true, false, cond, refl, sym, ap, subst, ◌∙◌, inl, inr, ◌⊎◌, ◌==◌}
+use Rattle.std.proofs.Common.{take, drop, true, false, cond, refl, sym, ap, subst, ◌∙◌, inl, inr, ◌⊎◌, ◌==◌, ◌+◌}
 use Rattle.std.specs.Prelude.{replicate}
 use Rattle.std.specs.List.{slice_get}
 use Rattle.std.specs.Option.{option_map}
@@ -39,15 +39,15 @@ use Rattle.site_world.specs.Messages.{WorldState, new_world, message_at, message
 use Rattle.site_world.specs.Messages.{has_met, is_old, version_at, version_between}
 use Rattle.site_world.specs.Steps.{site_at, site_of, told_at, told_of_taking, on_site, absent, Happens, taken_in}
 use Rattle.site_world.specs.Steps.{taken_by, answer_to, told_of_message}
-use Rattle.site_world.specs.Runs.{Run, taken_before, took, if_took, if_stamped}
+use Rattle.site_world.specs.Runs.{Run, taken_at, taken_before, took, if_took, if_stamped}
 use Rattle.site_world.specs.Same.{same_op}
 use Rattle.site_world.specs.Finished.{TwoSites, held_before, HasRound, FinishedRoundsGiveAll, is_change, IsDeliveryFrom}
 use Rattle.site_world.specs.Finished.{AreChangesFrom, RoundsEachWayTellAll, RoundsEachWayMakeEqual}
 use Rattle.site_world.proofs.Codes.{same_op-is}
-use Rattle.site_world.proofs.Taken.{Front, message_stays, step_took}
+use Rattle.site_world.proofs.Taken.{Front, front_itself, message_stays, step_took, run_took}
 use Rattle.site_world.proofs.Rounds.{Later, later_later, step_later, run_later, offer_did, buckets_did, any_last}
 use Rattle.site_world.proofs.Rounds.{is_from, is_to, grew, speak, rounds_give_all, rounds_by_buckets, versions_turned}
-use Rattle.site_world.proofs.Alike.{Stands, before, by_site, new_holds, answer_alike}
+use Rattle.site_world.proofs.Alike.{Stands, before, run_upto, by_site, new_holds, answer_alike}
 use Rattle.site_world.proofs.Knowing.{run_knows}
 use Rattle.site_world.proofs.Given.{Honest, HoldsIt, held_later, step_honest, run_honest, new_honest}
 
@@ -100,7 +100,22 @@ module _ (steps : List Step) (answers : List (Result Seen WorldFault)) (new : Wo
         λ d o p e f. two.agree d o p (grew here.mid new a was m (behind_later step seen here) now two.first d o e) f,
       )
 
-  round_gives : HasRound steps answers new i a b n → HasAllSpoken (version_between new.aged a b) was n
+  -- the second site was there at step i
+  second_had : (step : Step) (seen : Seen) (here : Stands start new steps answers i step (Ok seen))
+      → (x : Map) × (site_at here.mid.sites b ≡ Some x)
+  second_had step seen here = by (site_at here.mid.sites b) refl
+    where
+      to_end : site_at new.sites b ≡ option_map (λ m. holding m (taken_at new.sent b (step ∷ drop (suc i) steps)
+          (Ok seen ∷ drop (suc i) answers))) (site_at here.mid.sites b)
+      to_end = run_took here.mid new (step ∷ drop (suc i) steps) (Ok seen ∷ drop (suc i) answers) new.sent
+          (here.next, here.happens, here.behind) (front_itself new.sent) b
+
+      by : (r : Option Map) → site_at here.mid.sites b ≡ r → (x : Map) × (site_at here.mid.sites b ≡ Some x)
+      by None at = absurd (let e = sym two.second ∙ to_end ∙ ap (option_map (λ m. holding m (taken_at new.sent b
+          (step ∷ drop (suc i) steps) (Ok seen ∷ drop (suc i) answers)))) at in cc)
+      by (Some x) at = (x, at)
+
+  round_gives : HasRound steps answers new i a b → HasAllSpoken (version_between new.aged a b) was n
   round_gives (inl (have, is, told_so, done)) =
       let here = before start new steps answers i (Offer a b) (Ok (Offered have)) two.run is told_so in
       let there = offering (Offer a b) (Offered have) here refl in
@@ -113,20 +128,36 @@ module _ (steps : List Step) (answers : List (Result Seen WorldFault)) (new : Wo
         here.happens,
         here.behind,
       ) done there.0 two.second (taken_is_site (taken_before new.sent i a steps answers)) there.1)
-  round_gives (inr ((number, is, told_so, done), tell)) =
+  round_gives (inr (k, (number, is, told_so, (differ, have, (at, told_at, done))), tell)) =
       let here = before start new steps answers i (Buckets a b) (Ok (Offered number)) two.run is told_so in
       let there = offering (Buckets a b) (Offered number) here refl in
       let did = buckets_did here.mid here.next a b number was here.happens there.0 in
       let kept = opened_speak here.mid here.next new a b (says_buckets (bucket_list (offered (version_between
       here.mid.aged a b) was))) did.1 did.2 (run_later here.next new (drop (suc i) steps) (drop (suc i) answers)
       here.behind) in
+      let had = second_had (Buckets a b) (Offered number) here in
+      let later = before here.next new (drop (suc i) steps) (drop (suc i) answers) k (Deliver number) (Ok (Differs
+      differ)) here.behind at told_at in
+      let ops = taken_at new.sent b (Buckets a b ∷ take k (drop (suc i) steps)) (Ok (Offered number)
+      ∷ take k (drop (suc i) answers)) in
+      let at_mid = run_took here.mid later.mid (Buckets a b ∷ take k (drop (suc i) steps)) (Ok (Offered number)
+      ∷ take k (drop (suc i) answers)) new.sent (here.next, here.happens, later.run) later.sent b
+      ∙ ap (option_map (λ x. holding x ops)) had.1 in
+      let whole = run_upto i k start here.mid here.next later.mid steps answers (Buckets a b) (Ok (Offered number))
+      here.run is told_so here.happens later.run in
+      let held = by_site start later.mid (take (suc (i + k)) steps) (take (suc (i + k)) answers) new.sent b
+      (holding had.0 ops) _ (new_holds two.count b) refl whole later.sent at_mid in
       subst (λ v. HasAllSpoken v was n) (sym kept)
-      (rounds_by_buckets here.mid new a b number (drop (suc i) steps) (drop (suc i) answers) was n (
+      (rounds_by_buckets here.mid new a b number k (drop (suc i) steps) (drop (suc i) answers) was had.0 n (
         here.next,
         here.happens,
         here.behind,
-      ) done there.0 two.second (taken_is_site (taken_before new.sent i a steps answers)) there.1
-      (λ k grown. subst (λ v. BucketsTell (offered v k) (offered v was)) kept (tell k grown)))
+      ) (differ, have, (at, told_at, done)) there.0 had.1 two.second
+      (taken_is_site (taken_before new.sent i a steps answers)) there.1
+      (subst (λ x. BucketsTell (offered (version_between here.mid.aged a b) x)
+      (offered (version_between here.mid.aged a b) was)) (sym held.0)
+      (subst (λ v. BucketsTell (offered v (held_before new.sent (suc (i + k)) b steps answers)) (offered v was)) kept
+      tell)))
 
 pub finished_rounds : FinishedRoundsGiveAll
 finished_rounds steps answers new i a b m n two round = round_gives steps answers new a b m n two i round
@@ -404,15 +435,15 @@ module _ (steps : List Step) (answers : List (Result Seen WorldFault)) (new : Wo
         only,
       ) offer.0 two.first d op there
 
-  round_opened : HasRound steps answers new i a b n
+  round_opened : HasRound steps answers new i a b
       → AreChangesFrom new.sent b a (drop (suc i) steps) (drop (suc i) answers) → (d : List ℕ) (op : Op)
       → held_at m d ≡ Some op
       → (held_at (held_before new.sent i a steps answers) d ≡ Some op) ⊎ (held_at n d ≡ Some op)
   round_opened (inl (have, is, told_so, done)) only = opened (Offer a b) have (λ sent. refl) is told_so only
-  round_opened (inr ((number, is, told_so, done), tell)) only =
+  round_opened (inr (k, (number, is, told_so, done), tell)) only =
       opened (Buckets a b) number (λ sent. refl) is told_so only
 
-  one_way : HasRound steps answers new i a b n
+  one_way : HasRound steps answers new i a b
       → AreChangesFrom new.sent b a (drop (suc i) steps) (drop (suc i) answers)
       → HasAllSpoken (version_between new.aged a b) m n
   one_way round only d op there spoken = elim (round_opened round only d op there) [

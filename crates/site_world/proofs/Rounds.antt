@@ -1,6 +1,6 @@
 -- What a round comes to whose steps lie in a run.
 use Rattle.std.proofs.Common.{◌≡◌, ℕ, suc, ◌+◌, List, [], ◌∷◌, ◌++◌, Option, Some, None, Ok, Err, Result, Bool}
-use Rattle.std.proofs.Common.{true, false, cond, refl, sym, ap, subst, ◌∙◌, inl, inr, ◌==◌, length}
+use Rattle.std.proofs.Common.{true, false, cond, refl, sym, ap, subst, ◌∙◌, inl, inr, ◌==◌, length, take, drop}
 use Rattle.std.specs.Prelude.{MatchBool, not, ◌||◌, ⊤}
 use Rattle.std.specs.List.{slice_get, list_any, range_with_len}
 use Rattle.std.specs.Option.{option_map}
@@ -16,7 +16,7 @@ use Rattle.site_state.specs.Laws.{holding}
 use Rattle.exchange.specs.declared.version.Version.{Version}
 use Rattle.exchange.specs.declared.version.Version.TheVariants.{One, Two}
 use Rattle.exchange.specs.Held.{offered, lacked, given, HasGrown}
-use Rattle.exchange.specs.Laws.{IsAnswered}
+use Rattle.exchange.specs.Laws.{IsAnswered, BucketsTell}
 use Rattle.exchange.proofs.Rounds.{round_gives_all}
 use Rattle.exchange.proofs.Bucketed.{round_by_buckets_gives_all}
 use Rattle.exchange.specs.Held.{offered_in}
@@ -37,9 +37,11 @@ use Rattle.site_world.specs.Steps.{Told, only, is_refused_memory, site_at, site_
 use Rattle.site_world.specs.Steps.{told, told_at, on_site, absent, seen_by}
 use Rattle.site_world.specs.Steps.{brought, sent_also, aged_also, after, Happens, told_of_taking, taken_in}
 use Rattle.site_world.specs.Steps.{told_of_message, told_of_reaction, told_of_sending, made_at}
-use Rattle.site_world.specs.Runs.{Run}
+use Rattle.site_world.specs.Runs.{Run, taken_at}
 use Rattle.site_world.specs.Rounds.{Somewhere, AreTaken, IsFinished, RoundsGiveAll, RoundsByBucketsGiveAll}
 use Rattle.site_world.proofs.Taken.{these, one_brought, Front, front_itself, front_front, also_front, message_stays}
+use Rattle.site_world.proofs.Taken.{run_took}
+use Rattle.site_world.proofs.Alike.{before}
 use Rattle.site_world.proofs.Fitting.{Fits, free_grows, held_now, told_fits}
 use Rattle.site_world.proofs.Worlds.{plain_taking, plain_correcting}
 
@@ -639,8 +641,8 @@ differ_did w v a b number have places did at = by (site_at w.sites a) refl
         }
 
 pub rounds_by_buckets : RoundsByBucketsGiveAll
-rounds_by_buckets w new a b buckets steps answers m n (w1, first, run) (differ, have, finished) at there own agree
-    tell =
+rounds_by_buckets w new a b buckets k steps answers m was n (w1, first, run) (differ, have, (is, told_so, finished)) at
+    at_b there own agree tell =
     let version = version_between w.aged a b in
     let theirs = bucket_list (offered version m) in
     let one = message a b (says_buckets theirs) in
@@ -652,23 +654,23 @@ rounds_by_buckets w new a b buckets steps answers m n (w1, first, run) (differ, 
     theirs)) in
     let kept : version_between w1.aged a b ≡ version = ap (λ (t : List ℕ). version_between t a b) offer.2 in
     let first_on = step_later w w1 (Buckets a b) (Ok (Offered buckets)) first in
-    let deliver = found w1 new steps answers (Deliver buckets) (Differs differ) (λ rest others. Somewhere rest others
-    (Deliver differ) (has_told have) (IsFinished have)) run finished in
+    let deliver = before w1 new steps answers k (Deliver buckets) (Ok (Differs differ)) run is told_so in
+    let since = run_later w1 deliver.mid (take k steps) (take k answers) deliver.run in
     let compared = compare_did deliver.mid deliver.next a b buckets differ theirs deliver.happens (message_stays w1.sent
-    deliver.mid.sent buckets one deliver.since.sent one_at) in
-    let spoken : version_between deliver.mid.aged a b ≡ version = speak w1 deliver.mid a b deliver.since met_a met_b
+    deliver.mid.sent buckets one since.sent one_at) in
+    let spoken : version_between deliver.mid.aged a b ≡ version = speak w1 deliver.mid a b since met_a met_b
     ∙ kept in
     let places = unequal (bucket_list (offered (version_between deliver.mid.aged a b) compared.at)) theirs in
     let two = message b a (Differ places) in
     let two_at = ap (λ (t : List Message). message_at t differ) compared.sent ∙ sent_last deliver.mid.sent two [] differ
     compared.number in
     let on = step_later deliver.mid deliver.next (Deliver buckets) (Ok (Differs differ)) deliver.happens in
-    let answer = found deliver.next new deliver.steps deliver.answers (Deliver differ) (has_told have) (IsFinished have)
-    deliver.run deliver.behind in
+    let answer = found deliver.next new (drop (suc k) steps) (drop (suc k) answers) (Deliver differ) (has_told have)
+    (IsFinished have) deliver.behind finished in
     let showed = differ_did answer.mid answer.next a b differ have places answer.happens (message_stays
     deliver.next.sent
     answer.mid.sent differ two answer.since.sent two_at) in
-    let to_showing = later_later w1 deliver.mid answer.mid deliver.since (later_later deliver.mid deliver.next
+    let to_showing = later_later w1 deliver.mid answer.mid since (later_later deliver.mid deliver.next
     answer.mid
     on answer.since) in
     let spoken_again : version_between answer.mid.aged b a ≡ version = versions_turned answer.mid.aged a b
@@ -686,13 +688,18 @@ rounds_by_buckets w new a b buckets steps answers m n (w1, first, run) (differ, 
     let comparing = (later_later deliver.mid deliver.next answer.next on (later_later deliver.next answer.mid
     answer.next
     answer.since on_again)).grown b compared.at compared.here in
-    let whole = later_later deliver.mid deliver.next new on (run_later deliver.next new deliver.steps deliver.answers
-    deliver.run) in
+    let ops = taken_at new.sent b (Buckets a b ∷ take k steps) (Ok (Offered buckets) ∷ take k answers) in
+    let held = run_took w deliver.mid (Buckets a b ∷ take k steps) (Ok (Offered buckets) ∷ take k answers) new.sent (
+      w1,
+      first,
+      deliver.run,
+    ) deliver.sent b ∙ ap (option_map (λ x. holding x ops)) at_b in
+    let is_held = same_some compared.at (holding was ops) (sym compared.here ∙ held) in
     round_by_buckets_gives_all version m showed.at ex.giving compared.at ex.asking n own
     (grew w answer.mid a m showed.at (later_later w w1 answer.mid first_on to_showing) at showed.here)
     (λ d op held. ex.gave shown.0 shown.1 d op (shown.2 d op held))
     (λ d op held. ex.asked comparing.0 comparing.1 d op (comparing.2 d op held)) agree
-    (tell compared.at (grew deliver.mid new b compared.at n whole compared.here there))
+    (subst (λ x. BucketsTell (offered version x) (offered version m)) (sym is_held) tell)
     (subst (λ v. IsAnswered version (offered_in v (unequal (bucket_list (offered version compared.at)) theirs)
     showed.at)
     ex.asking ex.giving n) spoken_again

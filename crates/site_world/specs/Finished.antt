@@ -1,5 +1,5 @@
 -- What finished rounds come to in a run of a new world, from its steps and answers alone.
-use Rattle.std.specs.Prelude.{◌≡◌, ◌⊎◌, ℕ, suc, List, [], ◌∷◌, Some, Ok, Result, Bool, true, false, ⊤}
+use Rattle.std.specs.Prelude.{◌≡◌, ◌⊎◌, ◌+◌, ℕ, suc, List, [], ◌∷◌, Some, Ok, Result, Bool, true, false, ⊤}
 use Rattle.std.specs.Prelude.{replicate, drop}
 use Rattle.std.specs.List.{slice_get}
 use Rattle.std.specs.Option.{option_map}
@@ -9,7 +9,7 @@ use Rattle.site_state.specs.Site.{Map}
 use Rattle.site_state.specs.Union.{Agree}
 use Rattle.site_state.specs.Laws.{after_taking}
 use Rattle.exchange.specs.declared.version.Version.{Version}
-use Rattle.exchange.specs.Held.{offered, HasGrown}
+use Rattle.exchange.specs.Held.{offered}
 use Rattle.exchange.specs.Laws.{HasAllSpoken, BucketsTell}
 use Rattle.site_world.specs.declared.fault.WorldFault.{WorldFault}
 use Rattle.site_world.specs.declared.step.Step.{Step}
@@ -47,26 +47,29 @@ Opens steps answers i step Behind =
     (number : ℕ) × (slice_get steps i ≡ Some step) × (slice_get answers i ≡ Some (Ok (Offered number)))
     × Behind number (drop (suc i) steps) (drop (suc i) answers)
 
--- Whenever what the second site held before the end is compared with what the first held at its offer, their buckets
--- are unequal in a place where their digests are.
-abbrev pub BucketsTellThem : Version → Map → Map → Type 0
-BucketsTellThem version m n = (k : Map) → HasGrown k n → BucketsTell (offered version k) (offered version m)
+-- What site b held before step j and what site a held before step i have unequal buckets where their digests, of what
+-- both speak of, are unequal.
+abbrev pub BucketsTellThem
+    : List Step → List (Result Seen WorldFault) → WorldState → ℕ → ℕ → ℕ → ℕ → Type 0
+BucketsTellThem steps answers new j b i a =
+    BucketsTell (offered (version_between new.aged a b) (held_before new.sent j b steps answers))
+    (offered (version_between new.aged a b) (held_before new.sent i a steps answers))
 
 -- At step i site a began a round to site b, and behind that step it was finished: it offered all that it held, or told
--- its buckets first. Site b holds n in the end.
+-- its buckets first, which were delivered k steps later; what was compared then tells.
 abbrev pub HasRound
-    : List Step → List (Result Seen WorldFault) → WorldState → ℕ → ℕ → ℕ → Map → Type 0
-HasRound steps answers new i a b n =
+    : List Step → List (Result Seen WorldFault) → WorldState → ℕ → ℕ → ℕ → Type 0
+HasRound steps answers new i a b =
     Opens steps answers i (Offer a b) IsFinished
-    ⊎ (Opens steps answers i (Buckets a b) IsFinishedByBuckets
-    × BucketsTellThem (version_between new.aged a b) (held_before new.sent i a steps answers) n)
+    ⊎ ((k : ℕ) × Opens steps answers i (Buckets a b) (IsFinishedByBuckets k)
+    × BucketsTellThem steps answers new (suc (i + k)) b i a)
 
 -- After a finished round the second site holds all that the first held at its offer, of what both speak of, whatever
 -- stands before the steps of the round, between them and behind them.
 abbrev pub FinishedRoundsGiveAll : Type 0
 FinishedRoundsGiveAll =
     (steps : List Step) (answers : List (Result Seen WorldFault)) (new : WorldState) (i a b : ℕ) (m n : Map)
-    → TwoSites steps answers new a b m n → HasRound steps answers new i a b n
+    → TwoSites steps answers new a b m n → HasRound steps answers new i a b
     → HasAllSpoken (version_between new.aged a b) (held_before new.sent i a steps answers) n
 
 -- ---- a round each way
@@ -95,10 +98,10 @@ pub record IsEachWay
     (steps : List Step) (answers : List (Result Seen WorldFault)) (new : WorldState) (a b : ℕ) (m n : Map)
     : Type 0 where
   pub i : ℕ
-  pub there : HasRound steps answers new i a b n
+  pub there : HasRound steps answers new i a b
   pub first : AreChangesFrom new.sent b a (drop (suc i) steps) (drop (suc i) answers)
   pub j : ℕ
-  pub back : HasRound steps answers new j b a m
+  pub back : HasRound steps answers new j b a
   pub second : AreChangesFrom new.sent a b (drop (suc j) steps) (drop (suc j) answers)
 
 -- After that both hold the same of what both speak of, whatever else stands in the run, and in whatever order the steps

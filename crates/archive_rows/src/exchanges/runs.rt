@@ -98,9 +98,11 @@ fn put_ended(out: &mut String, ended: Ended) -> Result<(), AllocError> {
         given,
         taken,
         finished,
+        agreed,
     } = ended;
     out.push_str(if finished { "finished" } else { "unfinished" })?;
-    write!(out, ", {given} given, {taken} taken")
+    let agree = if agreed { "" } else { "dis" };
+    write!(out, ", {given} given, {taken} taken, {agree}agreed")
 }
 
 impl Ran {
