@@ -1,0 +1,56 @@
+-- The walk from group to group.
+use Rattle.std.proofs.Common.{◌≡◌, ◌≢◌, ◌+◌, ◌≤◌, ◌<◌, ◌^◌, ◌∷◌, [], ℕ, List, length, slice_index, sym, ◌∙◌, arith, subst, ap, refl}
+use Rattle.std.specs.Int.{w64, to_le_bytes}
+use Rattle.sqlite_disk.specs.Disk.{Holds}
+use Rattle.head_log.specs.Groups.{IsGroupAt, Laid}
+use Rattle.head_log.proofs.Laying.{laid_up}
+use Rattle.head_log.proofs.Texts.{said, sized, summed, same_group, front, behind}
+use Rattle.sha2.specs.Sha256.{sha256}
+use Rattle.sha2.proofs.Facts256.{length-sha256}
+
+-- groups that are left of a file, from an offset on
+abbrev pub AreLeft : List ℕ → ℕ → ℕ → Type 0
+AreLeft file at end = (rest : List (List ℕ)) × Laid file at rest end
+
+-- behind an open gate lies a group, and behind it the others
+pub next_left : (file : List ℕ) (at n end : ℕ) → n < 2 ^ 64 → AreLeft file at end → slice_index file end ≢ 1
+    → slice_index file at ≡ 1 → Holds file (at + 1) (to_le_bytes w64 n) → AreLeft file (at + n + 41) end
+next_left file at n end fits ([], laid) shut gate says =
+    absurd (shut (ap (slice_index file) (sym laid) ∙ gate))
+next_left file at n end fits (group ∷ rest, both) shut gate says =
+    let size = said file at n group fits both.0.short both.0.text says in
+    let here : at + 41 + length group ≡ at + n + 41 = omega (arith, size) in
+    (rest, subst (λ (m : ℕ). Laid file m rest end) here both.1)
+
+-- a gate that is not open ends them
+pub none_left : (file : List ℕ) (at end : ℕ) → AreLeft file at end → slice_index file at ≢ 1 → at ≡ end
+none_left file at end ([], laid) shut = laid
+none_left file at end (group ∷ rest, both) shut = absurd (shut both.0.gate)
+
+pub left_up : (file : List ℕ) (at end : ℕ) → AreLeft file at end → at ≤ end
+left_up file at end (rest, laid) = laid_up file at rest end laid
+
+-- at one offset stands one group
+pub one_group : (file : List ℕ) (at : ℕ) (a b : List ℕ) → IsGroupAt file at a → IsGroupAt file at b → a ≡ b
+one_group file at a b h k =
+    let many = said file at (length b) a (omega (arith, k.short)) h.short h.text (sized file at b k.text) in
+    let there = summed file at b k.text in
+    let width = length-sha256 b in
+    let place : at + 9 + length (sha256 b) ≡ at + 9 + 32 = omega (arith, width) in
+    sym (same_group file (at + 9) (sha256 b) b a width many (front file (at + 9) (sha256 b) b there)
+    (subst (λ (m : ℕ). Holds file m b) place (behind file (at + 9) (sha256 b) b there)) (summed file at a h.text)).1
+
+-- and it is the first of those that lie from there
+pub in_order : (file : List ℕ) (at end : ℕ) (groups : List (List ℕ)) (group : List ℕ) → Laid file at groups end → at < end
+    → IsGroupAt file at group → (rest : List (List ℕ)) × (groups ≡ group ∷ rest) × Laid file (at + 41 + length group) rest end
+in_order file at end [] group laid low it = absurd (omega (arith, laid, low))
+in_order file at end (first ∷ rest) group (was, laid) low it =
+    let same = one_group file at first group was it in
+    (rest, ap (λ (g : List ℕ). g ∷ rest) same, subst (λ (g : List ℕ). Laid file (at + 41 + length g) rest end) same laid)
+
+-- none lies behind the last
+pub no_more : (file : List ℕ) (at end : ℕ) (groups : List (List ℕ)) → Laid file at groups end → end ≤ at → groups ≡ []
+no_more file at end [] laid low = refl
+no_more file at end (first ∷ rest) (was, laid) low =
+    let up = laid_up file (at + 41 + length first) rest end laid in
+    absurd (omega (arith, up, low))

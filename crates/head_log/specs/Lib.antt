@@ -1,0 +1,4 @@
+pub mod Fault
+pub mod Groups
+pub mod Log
+pub mod Reads

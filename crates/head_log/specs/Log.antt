@@ -1,0 +1,23 @@
+-- What a log shows.
+use Rattle.std.specs.Prelude.{◌≡◌, ◌&&◌, Bool, ℕ}
+use Rattle.sqlite_disk.specs.declared.Disk.{Ghosts}
+use Rattle.head_log.specs.declared.log.HeadLog.{HeadLog}
+use Rattle.head_log.specs.Reads.{OnlyReads}
+
+-- the file
+abbrev pub disk_of : {D : Type 0} → HeadLog D → D
+disk_of log = log.disk
+
+-- where the next group goes
+abbrev pub end_of : {D : Type 0} → HeadLog D → ℕ
+end_of log = log.end
+
+-- a group can be added: no sync has failed, and the gate at the end is shut
+abbrev pub is_up : {D : Type 0} → Ghosts D → HeadLog D → Bool
+is_up g log = log.is_open && g.is_usable log.disk
+
+-- a call only read
+pub record Looks {D : Type 0} (g : Ghosts D) (old new : HeadLog D) : Type 0 where
+  pub disk : OnlyReads g old.disk new.disk
+  pub same : new.end ≡ old.end
+  pub stays : new.is_open ≡ old.is_open

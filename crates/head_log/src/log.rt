@@ -1,0 +1,163 @@
+//! A file of groups.
+
+ghost use Rattle.std.specs.Prelude.{◌≡◌, ◌++◌, ◌∷◌, ◌<◌, ◌≤◌, ◌+◌, ◌^◌, ◌↔◌, [], List, ℕ, false, length, Ok, None, IfOk, IfSome, IsTrue, IsErrOf, OnOk, OnErr};
+ghost use Rattle.head_log.specs.Groups.{IsGroupAt, IsReady, LeavesEither, StandsFor};
+
+use crate::fault::HeadFault;
+use crate::gate::{begin, open, stage};
+use crate::reading::group_at;
+use crate::text::shut;
+use crate::walk::end_at;
+use sqlite_disk::Disk;
+use std::alloc::Global;
+
+/// A file of groups, up to its shut gate. After a refusal that may have opened the gate it is
+/// closed, and has to be opened anew.
+pub struct HeadLog<D: Disk> {
+    disk: D,
+    end: usize,
+    is_open: bool,
+    alloc: Global,
+}
+
+// It is written out, so that a caller does not prove again how each part is dropped.
+impl<D: Disk + Drop> Drop for HeadLog<D> {
+    fn drop(self) {
+        let HeadLog {
+            disk: _,
+            end: _,
+            is_open: _,
+            alloc: _,
+        } = self;
+    }
+}
+
+/// Where the groups of a file end, which is synced first. A file that is none yet is begun.
+fn start<D: Disk>(disk: &mut D) -> Result<usize, HeadFault>
+    requires usable { IsTrue (D.Disk.is_usable disk.old) }
+    ensures found { IfOk result (λ end. IsTrue (D.Disk.is_clean disk.new)
+        → (groups : List (List ℕ)) → StandsFor (D.Disk.seen disk.old) groups
+        → IsReady D.Disk disk.new end groups) }
+    ensures usable { OnOk result (IsTrue (D.Disk.is_usable disk.new)) }
+    ensures clean { IsTrue (D.Disk.is_clean disk.new) → IsTrue (D.Disk.is_clean disk.old) }
+{
+    disk.sync()?;
+    let len = disk.len()?;
+    if len > 1 {
+        return end_at(disk, len);
+    }
+    begin(disk)?;
+    Ok(0)
+}
+
+impl<D: Disk + Drop> HeadLog<D> {
+    ghost use Rattle.head_log.specs.Log.{disk_of, end_of, is_up};
+
+    /// The log of a file: it is at the end of its groups, and every crash leaves them. A file of no
+    /// byte, or of one, is begun.
+    pub fn over(alloc: Global, disk: D) -> Result<HeadLog<D>, HeadFault>
+        requires usable { IsTrue (D.Disk.is_usable disk) }
+        ensures found { IfOk result (λ log. IsTrue (D.Disk.is_clean (disk_of log))
+            → (groups : List (List ℕ)) → StandsFor (D.Disk.seen disk) groups
+            → IsReady D.Disk (disk_of log) (end_of log) groups) }
+        ensures up { IfOk result (λ log. IsTrue (is_up D.Disk log)) }
+        ensures clean { IfOk result (λ log. IsTrue (D.Disk.is_clean (disk_of log))
+            → IsTrue (D.Disk.is_clean disk)) }
+    {
+        let mut disk = disk;
+        let end = start(&mut disk)?;
+        Ok(HeadLog {
+            disk,
+            end,
+            is_open: true,
+            alloc,
+        })
+    }
+}
+
+impl<D: Disk> HeadLog<D> {
+    ghost use Rattle.head_log.specs.Log.{disk_of, end_of, is_up, Looks};
+
+    /// Where the next group goes.
+    pub fn end(&self) -> usize
+        ensures { result ≡ end_of self.now }
+    {
+        self.end
+    }
+
+    /// Whether a group can be added: where not, the file has to be opened anew.
+    pub fn is_up(&self) -> bool
+        ensures { result ≡ is_up D.Disk self.now }
+    {
+        self.is_open && self.disk.may_be_used()
+    }
+
+    /// Adds a group, all or none. After `Ok` every crash leaves it.
+    pub fn add(&mut self, group: &[u8]) -> Result<(), HeadFault>
+        requires some { 0 < length group.now }
+        // After Ok the groups are those from before and this one, whatever a crash leaves.
+        ensures added { OnOk result ((groups : List (List ℕ))
+            → IsReady D.Disk (disk_of self.old) (end_of self.old) groups
+            → IsReady D.Disk (disk_of self.new) (end_of self.new) (groups ++ group.now ∷ [])) }
+        ensures end { OnOk result (end_of self.new ≡ end_of self.old + 41 + length group.now) }
+        // Whatever is answered, a crash leaves those from before, with this one or without.
+        ensures crash { (groups : List (List ℕ))
+            → IsReady D.Disk (disk_of self.old) (end_of self.old) groups
+            → LeavesEither D.Disk (disk_of self.new) groups group.now }
+        // A refusal changes nothing, or closes the log.
+        ensures refused { OnErr result (IsTrue (is_up D.Disk self.new)
+            → (end_of self.new ≡ end_of self.old) × ((groups : List (List ℕ))
+            → IsReady D.Disk (disk_of self.old) (end_of self.old) groups
+            → IsReady D.Disk (disk_of self.new) (end_of self.new) groups)) }
+        ensures closed { IsErrOf result HeadFault.Closed ↔ (is_up D.Disk self.old ≡ false) }
+        ensures clean { IsTrue (D.Disk.is_clean (disk_of self.new))
+            → IsTrue (D.Disk.is_clean (disk_of self.old)) }
+    {
+        if !self.is_up() {
+            return Err(HeadFault::Closed);
+        }
+        let end = self.end;
+        if group.len() >= 1 << 40 || end > 1 << 60 {
+            return Err(HeadFault::TooLong);
+        }
+        let text = shut(self.alloc, group)?;
+        stage(&mut self.disk, end, &text)?;
+        self.is_open = false;
+        open(&mut self.disk, end, group)?;
+        self.is_open = true;
+        self.end = end + 41 + group.len();
+        Ok(())
+    }
+
+    /// The group at an offset, and where the next one stands; `None` at the end of the groups. They
+    /// begin at offset 0.
+    pub fn group(&mut self, at: usize) -> Result<Option<(Vec<u8>, usize)>, HeadFault>
+        // The group that stands there, as long as the disk returns what was written.
+        ensures group { IfOk result (λ found. IfSome found (λ it.
+            IsTrue (D.Disk.is_clean (disk_of self.new))
+            → IsGroupAt (D.Disk.seen (disk_of self.old)) at it.0.items)) }
+        ensures next { IfOk result (λ found. IfSome found (λ it.
+            (it.1 ≡ at + 41 + length it.0.items) × (it.1 ≤ end_of self.old))) }
+        ensures none { result ≡ Ok None → end_of self.old ≤ at }
+        ensures same { Looks D.Disk self.old self.new }
+
+        // Each fault, only where it is.
+        ensures closed { IsErrOf result HeadFault.Closed
+            ↔ (D.Disk.is_usable (disk_of self.old) ≡ false) }
+        ensures place { (n : ℕ) → IsErrOf result (HeadFault.Damaged n) → n ≡ at }
+        ensures damaged { IsErrOf result (HeadFault.Damaged at)
+            → IsTrue (D.Disk.is_clean (disk_of self.new)) → (group : List ℕ)
+            → at + 41 + length group ≤ end_of self.old
+            → ¬ IsGroupAt (D.Disk.seen (disk_of self.old)) at group }
+    {
+        if !self.disk.may_be_used() {
+            return Err(HeadFault::Closed);
+        }
+        if at >= self.end {
+            return Ok(None);
+        }
+        let group = group_at(self.alloc, &mut self.disk, at, self.end)?;
+        let next = at + 41 + group.len();
+        Ok(Some((group, next)))
+    }
+}
