@@ -3,4 +3,5 @@ pub mod AscendingLaws
 pub mod GroupingLaws
 pub mod GroupMaps
 pub mod RowLaws
+pub mod FoundLaws
 pub mod CandidateLaws

@@ -1,3 +1,4 @@
 pub mod Grouping
 pub mod Laws
 pub mod Candidates
+pub mod Found

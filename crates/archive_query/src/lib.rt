@@ -7,13 +7,16 @@ mod candidates;
 mod cell;
 mod column;
 mod finding;
+mod fixes;
 mod grouping;
 mod groups;
+mod keys;
 mod laws;
 mod rows;
 
 pub use candidates::{put_some_series, put_studies, shown_of};
-pub use finding::find;
+pub use finding::{Found, find, rows_found, take};
+pub use fixes::Fixes;
 pub use groups::uid_at;
 pub use laws::same_sites_answer_alike;
 pub use query_model::{

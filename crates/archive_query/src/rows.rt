@@ -2,50 +2,35 @@
 
 ghost use Rattle.std.specs.Prelude.{◌≡◌, ◌++◌, ◌∷◌, [], IfOk, OnOk, map, option_to_list};
 ghost use Rattle.std.specs.Option.{option_map};
-ghost use Rattle.std.specs.List.{filter_map};
+ghost use Rattle.std.specs.List.{filter_map, list_all};
 ghost use Rattle.operation.specs.Parts.{value_at};
-ghost use Rattle.site_state.specs.Site.{ops_of};
+ghost use Rattle.archive_query.specs.Found.{value_by};
 ghost use Rattle.query_model.specs.Column.{columns as columns_of};
 ghost use Rattle.query_model.specs.Cell.{cell as cell_in};
-ghost use Rattle.query_model.specs.Rows.{is_key_match as is_key_match_in, is_match as is_match_in, is_unique_key as is_unique_key_in, is_asked as is_asked_in, asked_value, value_in_row, cell_in_row as cell_in_row_of, row as row_in, row_of as row_of_in, rows_among as rows_among_in};
+ghost use Rattle.query_model.specs.Rows.{is_key_match_with, is_unique_key as is_unique_key_in, is_asked as is_asked_in, asked_value, value_in_row, cell_in_row as cell_in_row_of, row_with, row_of_with, rows_with};
 
 use crate::cell::cell;
 use crate::column::columns;
+use crate::fixes::Fixes;
 use crate::grouping::{by_uid, groups_of};
 use crate::groups::{count_series, modalities_of};
+use crate::keys::{Key, is_key_match, keys_of};
 use data_set::{DataSet, Element, Syntax};
 use dictionary::{
     MODALITIES_IN_STUDY, NUMBER_OF_SERIES_RELATED_INSTANCES, NUMBER_OF_STUDY_RELATED_INSTANCES,
     NUMBER_OF_STUDY_RELATED_SERIES, QUERY_RETRIEVE_LEVEL, RETRIEVE_AE_TITLE, SERIES_INSTANCE_UID,
     SOP_INSTANCE_UID, SPECIFIC_CHARACTER_SET, STUDY_INSTANCE_UID,
 };
-use key_matching::matches;
 use octets::{Octets, digits, joined};
 use operation::Content;
-use query_model::{Answers, AnswersMut, Asked, Query};
-use site_state::Site;
+use query_model::{Answers, AnswersMut, Query};
 use std::alloc::{AllocError, Global};
 
-/// Whether a key matches an attribute of a representative, corrected.
-fn is_key_match(site: &Site, content: &Content, asked: &Asked) -> bool
-    ensures { result ≡ is_key_match_in (ops_of site.now) content.now asked.now }
+/// Whether every key matches a representative.
+fn is_match(fixes: &Fixes, keys: &[Key], content: &Content) -> bool
+    ensures { result ≡ list_all (is_key_match_with (value_by fixes.now) content.now) keys.now }
 {
-    matches(
-        asked.matching,
-        asked.key.as_slice(),
-        site.attribute(content, asked.tag),
-    )
-}
-
-/// Whether every key does.
-fn is_match(site: &Site, query: &Query, content: &Content) -> bool
-    ensures { result ≡ is_match_in (ops_of site.now) query.now content.now }
-{
-    query
-        .asked
-        .as_slice()
-        .iter()
-        .all(|asked| is_key_match(site, content, asked))
+    keys.iter().all(|key| is_key_match(fixes, content, key))
 }
 
 fn is_unique_key(tag: u32) -> bool
@@ -63,14 +48,14 @@ fn is_asked(query: &Query, tag: u32) -> bool
 /// The element of a row that is asked.
 fn asked_cell(
     alloc: Global,
-    site: &Site,
+    fixes: &Fixes,
     contents: &[&Content],
     first: &Content,
     tag: u32,
 ) -> Result<Element, AllocError>
     ensures { IfOk result (λ element. element ≡
         cell_in tag
-        (asked_value (ops_of site.now) (map (λ c. c.now) contents.now) first.now
+        (asked_value (value_by fixes.now) (map (λ c. c.now) contents.now) first.now
         tag)) }
 {
     if tag == MODALITIES_IN_STUDY {
@@ -86,7 +71,7 @@ fn asked_cell(
         let text = digits(alloc, contents.len() as u64)?;
         return cell(alloc, tag, text.as_slice());
     }
-    cell(alloc, tag, site.attribute(first, tag))
+    cell(alloc, tag, fixes.attribute(first, tag))
 }
 
 /// The character set of a row's representative, where it has one.
@@ -107,7 +92,7 @@ fn character_set_cell(
 /// The element of a row with a tag, if it has one.
 fn cell_in_row(
     alloc: Global,
-    site: &Site,
+    fixes: &Fixes,
     called: &[u8],
     query: &Query,
     contents: &[&Content],
@@ -115,7 +100,7 @@ fn cell_in_row(
     tag: u32,
 ) -> Result<Option<Element>, AllocError>
     ensures { IfOk result (λ element. element ≡
-        cell_in_row_of (ops_of site.now) called.now query.now
+        cell_in_row_of (value_by fixes.now) called.now query.now
         (map (λ c. c.now) contents.now) first.now tag) }
 {
     if tag == SPECIFIC_CHARACTER_SET {
@@ -133,25 +118,25 @@ fn cell_in_row(
     if !is_asked(query, tag) {
         return Ok(None);
     }
-    Ok(Some(asked_cell(alloc, site, contents, first, tag)?))
+    Ok(Some(asked_cell(alloc, fixes, contents, first, tag)?))
 }
 
 /// The elements of a row.
 fn cells(
     alloc: Global,
-    site: &Site,
+    fixes: &Fixes,
     called: &[u8],
     query: &Query,
     contents: &[&Content],
     first: &Content,
 ) -> Result<Vec<Element>, AllocError>
     ensures { IfOk result (λ cells. cells.items ≡
-        (row_in (ops_of site.now) called.now query.now (map (λ c. c.now) contents.now)
+        (row_with (value_by fixes.now) called.now query.now (map (λ c. c.now) contents.now)
         first.now).elements) }
 {
     let mut cells = Vec::new(alloc);
     for tag in columns(query.level) {
-        let cell = cell_in_row(alloc, site, called, query, contents, first, *tag)?;
+        let cell = cell_in_row(alloc, fixes, called, query, contents, first, *tag)?;
         if let Some(cell) = cell {
             cells.push(cell)?;
         }
@@ -163,17 +148,17 @@ fn cells(
 fn put_row(
     alloc: Global,
     rows: &mut AnswersMut,
-    site: &Site,
+    fixes: &Fixes,
     called: &[u8],
     query: &Query,
     contents: &[&Content],
     first: &Content,
 ) -> Result<(), AllocError>
     ensures { OnOk result (rows.new ≡ rows.old ++
-        row_in (ops_of site.now) called.now query.now (map (λ c. c.now) contents.now)
+        row_with (value_by fixes.now) called.now query.now (map (λ c. c.now) contents.now)
         first.now ∷ []) }
 {
-    let cells = cells(alloc, site, called, query, contents, first)?;
+    let cells = cells(alloc, fixes, called, query, contents, first)?;
     let set = DataSet::of(Syntax::Explicit, cells);
     rows.push(&set)
 }
@@ -182,21 +167,23 @@ fn put_row(
 fn put_row_of(
     alloc: Global,
     rows: &mut AnswersMut,
-    site: &Site,
+    fixes: &Fixes,
     called: &[u8],
     query: &Query,
+    keys: &[Key],
     contents: &[&Content],
 ) -> Result<(), AllocError>
+    requires { keys.now ≡ query.now.asked }
     ensures { OnOk result (rows.new ≡ rows.old ++ option_to_list
-        (row_of_in (ops_of site.now) called.now query.now (map (λ c. c.now) contents.now))) }
+        (row_of_with (value_by fixes.now) called.now query.now (map (λ c. c.now) contents.now))) }
 {
     match contents {
         [] => Ok(()),
         [first, ..] => {
-            if !is_match(site, query, first) {
+            if !is_match(fixes, keys, first) {
                 return Ok(());
             }
-            put_row(alloc, rows, site, called, query, contents, first)
+            put_row(alloc, rows, fixes, called, query, contents, first)
         }
     }
 }
@@ -204,18 +191,19 @@ fn put_row_of(
 /// The rows of some groups of contents.
 fn rows_of_groups(
     alloc: Global,
-    site: &Site,
+    fixes: &Fixes,
     called: &[u8],
     query: &Query,
     groups: &[&[&Content]],
 ) -> Result<Answers, AllocError>
     ensures { IfOk result (λ rows. rows ≡
-        filter_map (row_of_in (ops_of site.now) called.now query.now)
+        filter_map (row_of_with (value_by fixes.now) called.now query.now)
         (map (λ g. map (λ c. c.now) g.now) groups.now)) }
 {
+    let keys = keys_of(alloc, query)?;
     let mut rows = AnswersMut::new(alloc);
     for group in groups {
-        put_row_of(alloc, &mut rows, site, called, query, group)?;
+        put_row_of(alloc, &mut rows, fixes, called, query, &keys, group)?;
     }
     rows.freeze()
 }
@@ -223,17 +211,17 @@ fn rows_of_groups(
 /// The rows of some contents: one sort, and a row for each run of one UID.
 pub(crate) fn rows_among(
     alloc: Global,
-    site: &Site,
+    fixes: &Fixes,
     called: &[u8],
     query: &Query,
     contents: Vec<&Content>,
 ) -> Result<Answers, AllocError>
     ensures { IfOk result (λ rows. rows ≡
-        rows_among_in (ops_of site.now) called.now query.now
+        rows_with (value_by fixes.now) called.now query.now
         (map (λ c. c.now) contents.entry.items)) }
 {
     let sorted = by_uid(query.level, contents)?;
     let groups = groups_of(alloc, query.level, &sorted)?;
-    let rows = rows_of_groups(alloc, site, called, query, &groups)?;
+    let rows = rows_of_groups(alloc, fixes, called, query, &groups)?;
     Ok(rows)
 }

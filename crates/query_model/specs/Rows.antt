@@ -58,15 +58,15 @@ is_at level uid c = same (uid_at level c) uid
 abbrev pub contents_at : Level → List ℕ → List ContentParts → List ContentParts
 contents_at level uid cs = filter (is_at level uid) cs
 
--- ---- which rows match
+-- ---- which rows match, by what gives each attribute of a content its value
 
--- whether a key matches an attribute of a representative, corrected
-abbrev pub is_key_match : List Op → ContentParts → Asked → Bool
-is_key_match ops c asked = matches asked.matching asked.key (attribute ops c asked.tag)
+-- whether a key matches an attribute of a representative
+abbrev pub is_key_match_with : (ContentParts → ℕ → List ℕ) → ContentParts → Asked → Bool
+is_key_match_with value c asked = matches asked.matching asked.key (value c asked.tag)
 
 -- whether every key does
-abbrev pub is_match : List Op → Query → ContentParts → Bool
-is_match ops q c = list_all (is_key_match ops c) q.asked
+abbrev pub is_match_with : (ContentParts → ℕ → List ℕ) → Query → ContentParts → Bool
+is_match_with value q c = list_all (is_key_match_with value c) q.asked
 
 -- ---- what a row answers
 
@@ -76,14 +76,14 @@ modalities_of cs = ascending (filter (λ m. not (length m == 0)) (map modality_o
 
 -- (0008,0061) Modalities in Study, parted by backslashes; (0020,1206) Number of Study Related
 -- Series; (0020,1208) Number of Study Related Instances and (0020,1209) Number of Series Related
--- Instances; any other: the attribute of the representative, corrected
-abbrev pub asked_value : List Op → List ContentParts → ContentParts → ℕ → List ℕ
-asked_value ops cs c tag =
+-- Instances; any other: the attribute of the representative
+abbrev pub asked_value : (ContentParts → ℕ → List ℕ) → List ContentParts → ContentParts → ℕ → List ℕ
+asked_value value cs c tag =
     if tag == MODALITIES_IN_STUDY then join_with_byte 0x5c (modalities_of cs)
     else if tag == NUMBER_OF_STUDY_RELATED_SERIES then decimal (length (ascending (map series_of cs)))
     else if tag == NUMBER_OF_STUDY_RELATED_INSTANCES || tag == NUMBER_OF_SERIES_RELATED_INSTANCES then decimal
     (length cs)
-    else attribute ops c tag
+    else value c tag
 
 -- (0020,000D) Study Instance UID, (0020,000E) Series Instance UID, (0008,0018) SOP Instance UID
 abbrev pub is_unique_key : ℕ → Bool
@@ -95,41 +95,60 @@ is_asked q tag = list_any (λ asked. asked.tag == tag) q.asked
 -- the value that a row has in a column: the representative's character set where it has one, the
 -- level as asked, the called title, a unique key, or what is asked
 abbrev pub value_in_row
-    : List Op → List ℕ → Query → List ContentParts → ContentParts → ℕ → Option (List ℕ)
-value_in_row ops called q cs c tag =
+    : (ContentParts → ℕ → List ℕ) → List ℕ → Query → List ContentParts → ContentParts → ℕ → Option (List ℕ)
+value_in_row value called q cs c tag =
     if tag == SPECIFIC_CHARACTER_SET then value_at tag c.values
     else if tag == QUERY_RETRIEVE_LEVEL then Some (word_of q.level)
     else if tag == RETRIEVE_AE_TITLE then Some called
     else if is_unique_key tag then Some (own_value c tag)
-    else if is_asked q tag then Some (asked_value ops cs c tag)
+    else if is_asked q tag then Some (asked_value value cs c tag)
     else None
 
 abbrev pub cell_in_row
-    : List Op → List ℕ → Query → List ContentParts → ContentParts → ℕ → Option Tree
-cell_in_row ops called q cs c tag =
-    option_map (cell tag) (value_in_row ops called q cs c tag)
+    : (ContentParts → ℕ → List ℕ) → List ℕ → Query → List ContentParts → ContentParts → ℕ → Option Tree
+cell_in_row value called q cs c tag =
+    option_map (cell tag) (value_in_row value called q cs c tag)
 
 -- the data set of a row
-abbrev pub row : List Op → List ℕ → Query → List ContentParts → ContentParts → Set
-row ops called q cs c =
-    record { syntax = Explicit; elements = filter_map (cell_in_row ops called q cs c) (columns q.level) }
+abbrev pub row_with : (ContentParts → ℕ → List ℕ) → List ℕ → Query → List ContentParts → ContentParts → Set
+row_with value called q cs c =
+    record { syntax = Explicit; elements = filter_map (cell_in_row value called q cs c) (columns q.level) }
 
 -- ---- all rows
 
 -- the row of some contents, where the first of them matches
+abbrev pub row_of_with : (ContentParts → ℕ → List ℕ) → List ℕ → Query → List ContentParts → Option Set
+row_of_with value called q [] = None
+row_of_with value called q (c ∷ cs) =
+    if is_match_with value q c then Some (row_with value called q (c ∷ cs) c) else None
+
+abbrev pub row_at_with
+    : (ContentParts → ℕ → List ℕ) → List ℕ → Query → List ContentParts → List ℕ → Option Set
+row_at_with value called q cs uid = row_of_with value called q (contents_at q.level uid cs)
+
+-- the rows of the UIDs of the level
+abbrev pub rows_with : (ContentParts → ℕ → List ℕ) → List ℕ → Query → List ContentParts → List Set
+rows_with value called q cs = filter_map (row_at_with value called q cs) (uids_at q.level cs)
+
+-- ---- over a set, whose corrections give the values
+
+abbrev pub is_key_match : List Op → ContentParts → Asked → Bool
+is_key_match ops = is_key_match_with (attribute ops)
+
+abbrev pub is_match : List Op → Query → ContentParts → Bool
+is_match ops = is_match_with (attribute ops)
+
+abbrev pub row : List Op → List ℕ → Query → List ContentParts → ContentParts → Set
+row ops = row_with (attribute ops)
+
 abbrev pub row_of : List Op → List ℕ → Query → List ContentParts → Option Set
-row_of ops called q [] = None
-row_of ops called q (c ∷ cs) = if is_match ops q c then Some (row ops called q (c ∷ cs) c) else None
+row_of ops = row_of_with (attribute ops)
 
 abbrev pub row_at : List Op → List ℕ → Query → List ContentParts → List ℕ → Option Set
-row_at ops called q cs uid = row_of ops called q (contents_at q.level uid cs)
-
--- the rows of these UIDs
-abbrev pub rows_at : List Op → List ℕ → Query → List ContentParts → List (List ℕ) → List Set
-rows_at ops called q cs uids = filter_map (row_at ops called q cs) uids
+row_at ops = row_at_with (attribute ops)
 
 abbrev pub rows_among : List Op → List ℕ → Query → List ContentParts → List Set
-rows_among ops called q cs = rows_at ops called q cs (uids_at q.level cs)
+rows_among ops = rows_with (attribute ops)
 
 -- what a C-FIND answers: the distinct UIDs of the level among what is shown, within the study and the
 -- series that the query names, ascending, where every key matches

@@ -15,7 +15,7 @@ use crate::questions::{AllDigests, Finding, Getting, Missing, OpOf, Preparing};
 use crate::snapshot::Snapshot;
 use crate::told::Told;
 use archive_model::View;
-use archive_query::{Answers, Query};
+use archive_query::{Answers, Query, rows_found};
 use archive_retrieve::{Accepts, Prepared, Selection, Sending};
 use left_right::ReadHandle;
 use operation::{Digest, Op};
@@ -73,7 +73,8 @@ impl<H: HubName> Pass<H> {
         self.seen = self.seen.longer(&told.front);
     }
 
-    /// The rows of a C-FIND (PS3.4, section C.4.1).
+    /// The rows of a C-FIND (PS3.4, section C.4.1). One look takes what they are made of; keys are
+    /// matched, and rows made, behind it.
     pub fn find(&mut self, view: View, called: &[u8], query: &Query) -> Result<Answers, HubFault>
         ensures rows { IfOk result (λ rows. rows ≡
             rows_of view called.now query.now (ops_of (set_of H.opening self.new.seen))) }
@@ -81,11 +82,11 @@ impl<H: HubName> Pass<H> {
         ensures fault { IfErr result IsLookFault }
         ensures busy { result ≡ Err HubFault.Busy → self.new ≡ self.old }
     {
-        self.look(&Finding {
-            view,
-            called,
-            query,
-        })
+        let found = self.look(&Finding { view, query })?;
+        match rows_found(self.alloc, &found, called, query) {
+            Ok(rows) => Ok(rows),
+            Err(_refused) => Err(HubFault::Memory),
+        }
     }
 
     /// What a C-GET sends (PS3.4, section C.4.3).

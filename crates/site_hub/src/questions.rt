@@ -1,33 +1,34 @@
 //! What passes ask of a site, each in one look.
-ghost use Rattle.std.specs.Prelude.{◌≡◌, IfOk};
+ghost use Rattle.std.specs.Prelude.{◌≡◌, List, ℕ, IfOk};
 ghost use Rattle.std.specs.Option.{option_copied};
 ghost use Rattle.site_state.specs.Site.{ops_of, held_at, digests_of};
 ghost use Rattle.query_model.specs.Rows.{rows_of};
+ghost use Rattle.archive_query.specs.Found.{rows_found};
 ghost use Rattle.retrieve_model.specs.Preparing.{prepared_of};
 ghost use Rattle.retrieve_model.specs.Sending.{Gets};
 ghost use Rattle.site_hub.specs.History.{missing_from};
 
 use crate::looking::Question;
 use archive_model::View;
-use archive_query::{Answers, Query, find};
+use archive_query::{Found, Query, take};
 use archive_retrieve::{Accepts, Prepared, Selection, Sending, get, prepare};
 use operation::{Digest, Op};
 use site_state::Site;
 use std::alloc::{AllocError, Global};
 
-/// Asks for the rows of a C-FIND.
+/// Asks for what the rows of a C-FIND are made of.
 #[derive(Clone, Copy)]
 pub(crate) struct Finding<'a> {
     pub view: View,
-    pub called: &'a [u8],
     pub query: &'a Query,
 }
 
-impl<'a> Question<Answers> for Finding<'a> {
-    ghost answers = { λ q set rows. rows ≡ rows_of q.view q.called.now q.query.now (ops_of set) };
+impl<'a> Question<Found> for Finding<'a> {
+    ghost answers = { λ q set found. (called : List ℕ) →
+        rows_found called q.query.now found ≡ rows_of q.view called q.query.now (ops_of set) };
 
-    fn answer(&self, alloc: Global, site: &Site) -> Result<Answers, AllocError> {
-        find(alloc, site, self.view, self.called, self.query)
+    fn answer(&self, alloc: Global, site: &Site) -> Result<Found, AllocError> {
+        take(alloc, site, self.view, self.query)
     }
 }
 
