@@ -98,11 +98,10 @@ fn put_ended(out: &mut String, ended: Ended) -> Result<(), AllocError> {
         given,
         taken,
         finished,
-        agreed,
+        agreed: _,
     } = ended;
     out.push_str(if finished { "finished" } else { "unfinished" })?;
-    let agree = if agreed { "" } else { "dis" };
-    write!(out, ", {given} given, {taken} taken, {agree}agreed")
+    write!(out, ", {given} given, {taken} taken")
 }
 
 impl Ran {
