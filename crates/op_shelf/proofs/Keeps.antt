@@ -1,6 +1,6 @@
 -- What a put makes of the operations that a shelf keeps.
 use Rattle.std.proofs.Common.{◌≡◌, ◌⊎◌, ◌↔◌, ◌<◌, inl, inr, zero, suc, List, [], ◌∷◌, Bool, true, false, cond}
-use Rattle.std.proofs.Common.{filter, length, Contains, Ok, Err, Result, OnOk, OnErr, refl, sym}
+use Rattle.std.proofs.Common.{All, IfOk, IsPermutation, filter, length, Contains, Ok, Err, Result, OnOk, OnErr, refl, sym}
 use Rattle.std.proofs.Common.{ap, subst, ◌∙◌, arith}
 use Rattle.std.specs.Ordering.{is_eq}
 use Rattle.std.proofs.lemmas.List.Sorted.{IsPermutation-sym, Contains-permutation}
@@ -17,8 +17,10 @@ use Rattle.op_shelf.specs.declared.kept.Kept.{Kept}
 use Rattle.op_shelf.specs.declared.kept.Kept.TheVariants.{New, Known}
 use Rattle.op_shelf.specs.declared.fault.ShelfFault.{ShelfFault}
 use Rattle.op_shelf.specs.Entries.{entries, entry_of, digest_text, Adds, Holds}
-use Rattle.op_shelf.specs.Keep.{AreSame, Gains, Finds}
-use Rattle.op_shelf.specs.States.{rows_of, rows_left, tree_in, under, IsPut, IsKnown, KeepsAll, IsUp, Lasts}
+use Rattle.op_shelf.specs.Keep.{AreSame, Gains, GainsAll, Finds, with_one}
+use Rattle.op_shelf.specs.Group.{PutsAll, IsPutAll, MayHaveAll}
+use Rattle.op_shelf.specs.States.{rows_of, rows_left, tree_in, among, under, IsPut, IsKnown, KeepsAll, IsUp, Lasts}
+use Rattle.op_shelf.proofs.Groups.{holds_on, all_held}
 use Rattle.op_shelf.proofs.Ops.{same_entry}
 
 -- what passes a test is among what it lets through
@@ -36,12 +38,15 @@ lets_through p (y ∷ ys) x passes (suc k, low, at) = step (p y) (lets_through p
     step false e = e
 
 -- an entry that is there is among those under its digest
-is_under : (rows : List Row) (op : Op) → under (digest_text op) rows ≡ [] → ¬ Holds rows op
-is_under rows op none held =
+absent : (all : List Row) (op : Op) → among (digest_text op) all ≡ [] → ¬ Contains all (entry_of op)
+absent all op none held =
     let test = λ (e : Row). is_eq (value_cmp (column e 0) (Text (digest_text op))) in
-    let some = lets_through test (entries rows) (entry_of op)
-    (ap is_eq (tied_itself value_cmp_total (Text (digest_text op)))) held in
+    let some = lets_through test all (entry_of op) (ap is_eq (tied_itself value_cmp_total (Text (digest_text op)))) held
+    in
     absurd (omega (arith, some, ap length none))
+
+is_under : (rows : List Row) (op : Op) → under (digest_text op) rows ≡ [] → ¬ Holds rows op
+is_under rows op none held = absent (entries rows) op none held
 
 -- operations of one entry are spelled alike
 alike : (a b : Op) → entry_of a ≡ entry_of b → spelling a ≡ spelling b
@@ -127,3 +132,81 @@ module _ (s t : State) (op : Op) where
         left;
   }
   lasts_put (Err e) put known left = tt
+
+-- entries of which these operations are held
+abbrev IsOf : (Op → Type 0) → List Row → Type 0
+IsOf held all = (other : Op) → held other ↔ Contains all (entry_of other)
+
+one_more_of : (held : Op → Type 0) (old new : List Row) (op : Op) → IsOf held old
+    → IsPermutation (entry_of op ∷ old) new → IsOf (with_one held op) new
+one_more_of held old new op is adds other = (
+  elim [
+    | inl was ↦
+        let there = (is other).0 was in
+        Contains-permutation (entry_of op ∷ old) new (entry_of other)
+        adds (suc there.0, omega (arith, there.1), there.2)
+    | inr same ↦ Contains-permutation (entry_of op ∷ old) new (entry_of other)
+        adds (0, omega arith, sym (same_entry other op same))
+  ],
+  λ held. elim (first_or_later (entry_of op) old (entry_of other)
+      (Contains-permutation new (entry_of op ∷ old) (entry_of other)
+      (IsPermutation-sym (entry_of op ∷ old) new adds) held)) [
+        | inl it ↦ inr (alike other op (sym it))
+        | inr later ↦ inl ((is other).1 later)
+      ],
+)
+
+-- what the puts of a group make of the operations
+gains_in : (held : Op → Type 0) (old new : List Row) (ops : List Op) (kepts : List Kept) → IsOf held old
+    → PutsAll old ops kepts new → GainsAll held (λ op. Contains new (entry_of op)) ops kepts
+gains_in held old new [] [] is put = λ other. (
+  λ was. subst (λ r. Contains r (entry_of other)) (sym put) ((is other).0 was),
+  λ there. (is other).1 (subst (λ r. Contains r (entry_of other)) put there),
+)
+gains_in held old new [] (k ∷ ks) is put = absurd put
+gains_in held old new (op ∷ ops) [] is put = absurd put
+gains_in held old new (op ∷ ops) (New ∷ ks) is put = (
+  λ was. absent old op put.1.0 ((is op).0 was),
+  gains_in (with_one held op) put.0 new ops ks (one_more_of held old put.0 op is put.1.1) put.2,
+)
+gains_in held old new (op ∷ ops) (Known ∷ ks) is put = (
+  (is op).1 put.1.0,
+  gains_in held put.0 new ops ks (subst (IsOf held) (sym put.1.2) is) put.2,
+)
+
+module _ (s t : State) (ops : List Op) where
+  pub gains_all : (kepts : List Kept) → IsPutAll s t ops kepts
+      → GainsAll (Holds (rows_of s)) (Holds (rows_of t)) ops kepts
+  gains_all kepts it = gains_in (Holds (rows_of s)) (entries (rows_of s)) (entries (rows_of t)) ops kepts
+      (λ other. (λ h. h, λ h. h)) it.rows
+
+  all_stay : {V : Type 0} (op : Op) (r : Result V ShelfFault) (items : V → List Kept) → IsUp t
+      → IfOk r (λ v. IsPutAll s t ops (items v)) → OnErr r (KeepsAll s t) → Stays s t op
+  all_stay op (Ok v) items up put refused = record {
+    schema = put.schema;
+    held = λ other was. holds_on (entries (rows_of s)) (entries (rows_of t)) ops (items v) put.rows (entry_of other) was;
+  }
+  all_stay op (Err e) items up put refused = stays_same s t op (refused up.is_open).1
+
+  -- what every crash left it leaves after a group
+  pub all_last : {V : Type 0} (r : Result V ShelfFault) (items : V → List Kept) → IsUp t
+      → IfOk r (λ v. IsPutAll s t ops (items v)) → OnErr r (KeepsAll s t)
+      → Survives s t (MayHaveAll s ops) → (other : Op) → Lasts s other → Lasts t other
+  all_last r items up put refused crash other was =
+      let it = all_stay other r items up put refused in
+      record {
+        held = it.held other was.held;
+        left = λ trees may. subst (λ n. Holds (trees n) other) (sym (ap tree_in it.schema))
+            (elim (crash.crash up.clean trees may) [
+              | inl before ↦ was.left trees before
+              | inr after ↦ holds_on (entries (rows_of s)) (entries (rows_left s trees)) ops after.0 after.1
+                  (entry_of other) was.held
+            ]);
+      }
+
+  pub all_put : {V : Type 0} (r : Result V ShelfFault) (items : V → List Kept) → IfOk r (λ v. IsPutAll s t ops (items v))
+      → OnOk r ((trees : Trees) → t.may_leave trees → All (Holds (rows_left t trees)) ops) → OnOk r (All (Lasts t) ops)
+  all_put (Ok v) items put left =
+      let held = all_held (entries (rows_of s)) (entries (rows_of t)) ops (items v) put.rows in
+      λ i op low. record { held = held i op low; left = λ trees may. left trees may i op low }
+  all_put (Err e) items put left = tt

@@ -1,6 +1,7 @@
 mod Back
 mod Changes
 mod Digits
+mod Groups
 mod Keeps
 mod Made
 mod Migrated

@@ -1,5 +1,6 @@
 -- A look and then an INSERT.
 use Rattle.std.proofs.Common.{◌≡◌, ◌<◌, inl, inr, ℕ, List, [], ◌∷◌, length, All, Contains, IsTrue, IsPermutation}
+use Rattle.std.proofs.Common.{Result, Ok, Err, OnOk}
 use Rattle.std.proofs.Common.{refl, sym, ap, subst, ◌∙◌, le_refl, arith}
 use Rattle.std.specs.Ordering.{is_eq}
 use Rattle.std.proofs.lemmas.List.Sorted.{IsPermutation-sym, Contains-permutation, All-permutation}
@@ -10,9 +11,9 @@ use Rattle.sqlite.specs.Effect.{Database}
 use Rattle.sqlite.specs.State.{State, HasCleanDisk, IsUnchanged, Survives}
 use Rattle.sqlite.proofs.StateLemmas.{survives_then, survives_weaker}
 use Rattle.op_shelf.specs.Entries.{entries, Adds}
-use Rattle.op_shelf.specs.States.{rows_of, rows_left, tree_in, under, IsAdded, IsBare, IsReady, IsKnown}
+use Rattle.op_shelf.specs.States.{rows_of, rows_left, tree_in, under, IsAdded, IsBare, IsMade, IsReady, IsKnown}
 use Rattle.op_shelf.specs.States.{KeepsAll, Spares, MayBecome}
-use Rattle.op_shelf.specs.Migration.{IsOlder, IsMigration}
+use Rattle.op_shelf.specs.Migration.{IsOlder, IsMigrated, IsMigration}
 use Rattle.op_shelf.specs.Table.{IsShelf}
 use Rattle.op_shelf.proofs.Ops.{first_is, kept_was}
 
@@ -38,6 +39,39 @@ ready_then s t ready same = record {
   alone = same.0.mode ∙ ready.alone;
   settled = λ up. same.0.now_is ∙ ready.settled same.0.was_open ∙ sym same.0.committed_is;
 }
+
+-- what is open afterwards is ready, as it was
+pub spares_ready : (s t : State) → IsReady s → Spares s t → IsTrue t.is_open → IsReady t
+spares_ready s t ready (inl same) up = ready_then s t ready same
+spares_ready s t ready (inr back) up =
+    let settled = ready.settled (back.was_open up) in
+    let now = (back.undone up).0 ∙ sym settled in
+    record {
+      shelf = subst (λ (d : Database). IsShelf d.schema) (sym now) ready.shelf;
+      alone = back.autocommit;
+      settled = λ _. (back.undone up).0 ∙ sym (back.undone up).1;
+    }
+
+pub added_ready : (s t : State) (entry : Row) → IsReady s → IsAdded s t entry → IsReady t
+added_ready s t entry ready added = record {
+  shelf = subst IsShelf (sym added.schema) ready.shelf;
+  alone = added.alone;
+  settled = λ _. sym added.committed;
+}
+
+pub made_ready : (s t : State) → IsMade s t → IsReady t
+made_ready s t made = record { shelf = made.shelf; alone = made.alone; settled = λ _. sym made.committed }
+
+pub migrated_ready : (s t : State) → IsMigrated s t → IsReady t
+migrated_ready s t it = record {
+  shelf = (2, inr refl, it.swapped.checks, it.swapped.shelf);
+  alone = it.swapped.alone;
+  settled = λ _. sym it.swapped.committed;
+}
+
+pub ready_after : {A E : Type 0} (s t : State) (r : Result A E) → OnOk r (IsMigrated s t) → OnOk r (IsReady t)
+ready_after s t (Ok a) it = migrated_ready s t it
+ready_after s t (Err e) it = tt
 
 pub keeps_then : (s m t : State) → IsUnchanged s m → KeepsAll m t → KeepsAll s t
 keeps_then s m t same keeps = λ up. (same.0.was_open, (keeps up).1 ∙ same.0.now_is)

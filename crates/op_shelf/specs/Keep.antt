@@ -1,7 +1,9 @@
 -- What a put makes of the operations that are kept.
-use Rattle.std.specs.Prelude.{◌≡◌, ◌⊎◌, ◌↔◌}
+use Rattle.std.specs.Prelude.{◌≡◌, ◌⊎◌, ◌↔◌, ◌∷◌, [], List}
 use Rattle.operation.specs.declared.op.Op.{Op}
 use Rattle.operation.specs.Spelling.{spelling}
+use Rattle.op_shelf.specs.declared.kept.Kept.{Kept}
+use Rattle.op_shelf.specs.declared.kept.Kept.TheVariants.{New, Known}
 
 -- the operations are the same
 abbrev pub AreSame : (Op → Type 0) → (Op → Type 0) → Type 0
@@ -16,3 +18,15 @@ pub record Gains (old new : Op → Type 0) (op : Op) : Type 0 where
 pub record Finds (old new : Op → Type 0) (op : Op) : Type 0 where
   pub there : old op
   pub same : AreSame old new
+
+-- some operations, and this one
+abbrev pub with_one : (Op → Type 0) → Op → Op → Type 0
+with_one old op other = old other ⊎ (spelling other ≡ spelling op)
+
+-- Of a group each operation, in its turn, was not there and is one more, or was there; and else nothing changed.
+abbrev pub GainsAll : (Op → Type 0) → (Op → Type 0) → List Op → List Kept → Type 0
+GainsAll old new [] [] = AreSame old new
+GainsAll old new [] (kept ∷ kepts) = ⊥
+GainsAll old new (op ∷ ops) [] = ⊥
+GainsAll old new (op ∷ ops) (New ∷ kepts) = (¬ old op) × GainsAll (with_one old op) new ops kepts
+GainsAll old new (op ∷ ops) (Known ∷ kepts) = old op × GainsAll old new ops kepts

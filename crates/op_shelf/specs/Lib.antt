@@ -1,5 +1,6 @@
 pub mod Entries
 pub mod Fault
+pub mod Group
 pub mod Keep
 pub mod Migration
 pub mod Older

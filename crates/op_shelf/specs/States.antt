@@ -45,9 +45,13 @@ IfClean g old new P = HasCleanDisk (state g new) → P (state g old) (state g ne
 abbrev pub Spares : State → State → Type 0
 Spares s t = IsUnchanged s t ⊎ IsRolledBack s t
 
--- the entries under a digest's text
+-- those of some entries that are under a digest's text
+abbrev pub among : List ℕ → List Row → List Row
+among digest all = filter (λ entry. is_eq (value_cmp (column entry 0) (Text digest))) all
+
+-- and of the entries of the table
 abbrev pub under : List ℕ → List Row → List Row
-under digest rows = filter (λ entry. is_eq (value_cmp (column entry 0) (Text digest))) (entries rows)
+under digest rows = among digest (entries rows)
 
 -- how many entries have the kind
 abbrev pub count_of : ℕ → List Row → ℕ
@@ -71,6 +75,10 @@ pub record IsReady (s : State) : Type 0 where
   pub shelf : IsShelf s.now.schema
   pub alone : s.in_transaction ≡ false
   pub settled : IsTrue s.is_open → s.now ≡ s.committed
+
+-- where it was ready, and is open, it is ready
+abbrev pub StaysReady : State → State → Type 0
+StaysReady s t = IsReady s → IsTrue t.is_open → IsReady t
 
 -- the digest was not there, and the entry was added
 pub record IsPut (s t : State) (digest : List ℕ) (entry : Row) : Type 0 where

@@ -1,10 +1,10 @@
 //! Where a server keeps operations.
 
-ghost use Rattle.std.specs.Prelude.{◌≡◌, Ok, OnOk, OnErr};
+ghost use Rattle.std.specs.Prelude.{◌≡◌, All, Ok, IfOk, OnOk, OnErr};
 ghost use Rattle.operation.specs.declared.op.Op.{Op as Operation};
 ghost use Rattle.sqlite.specs.Held.{state};
 ghost use Rattle.op_shelf.specs.Entries.{Holds};
-ghost use Rattle.op_shelf.specs.Keep.{AreSame, Gains, Finds};
+ghost use Rattle.op_shelf.specs.Keep.{AreSame, Gains, GainsAll, Finds};
 ghost use Rattle.op_shelf.specs.States.{rows_of, IsUp, Lasts};
 
 use crate::fault::ShelfFault;
@@ -53,6 +53,20 @@ pub trait Keep {
         ensures durable { is_up self.new → OnOk result (lasts self.new op.now) }
         ensures kept { is_up self.new → (other : Operation) → lasts self.old other
             → lasts self.new other };
+
+    /// Keeps a group of operations, one after another and all at once, and tells of each whether it
+    /// was kept before.
+    fn put_many(&mut self, ops: &[Digested]) -> Result<Vec<Kept>, ShelfFault>
+        // All of the group is kept, each in its turn, and a refusal changes nothing.
+        ensures put { is_up self.new → IfOk result (λ kepts.
+            GainsAll (holds self.old) (holds self.new) ops.now kepts.items) }
+        ensures refused { is_up self.new
+            → OnErr result (AreSame (holds self.old) (holds self.new)) }
+
+        // A crash leaves all of it after Ok, and always what it left before.
+        ensures durable { is_up self.new → OnOk result (All (lasts self.new) ops.now) }
+        ensures kept { is_up self.new → (other : Operation) → lasts self.old other
+            → lasts self.new other };
 }
 
 impl<S: Alter> Keep for Shelf<S> {
@@ -68,5 +82,9 @@ impl<S: Alter> Keep for Shelf<S> {
 
     fn put_digested(&mut self, op: &Digested) -> Result<Kept, ShelfFault> {
         Shelf::put_digested(self, op)
+    }
+
+    fn put_many(&mut self, ops: &[Digested]) -> Result<Vec<Kept>, ShelfFault> {
+        Shelf::put_many(self, ops)
     }
 }

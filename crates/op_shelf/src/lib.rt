@@ -6,6 +6,7 @@
 #![tactic(auto)]
 
 mod fault;
+mod group;
 mod keep;
 mod kept;
 mod migration;

@@ -2,7 +2,6 @@
 
 ghost use Rattle.std.specs.Prelude.{◌≡◌, ◌∷◌, [], pos, map, false, All, List, IfErr, IsErrOf, OnOk, OnErr};
 ghost use Rattle.sqlite.specs.declared.types.Value.TheVariants.{Int, Text, Blob};
-ghost use Rattle.sqlite_value.specs.Value.{owned};
 ghost use Rattle.sqlite.specs.Held.{state};
 ghost use Rattle.sqlite.specs.Order.{Row as Values};
 ghost use Rattle.sqlite.specs.State.{HasCleanDisk, KeepsCommit, Survives};
@@ -11,9 +10,9 @@ ghost use Rattle.op_shelf.specs.Older.{IsPair, moved};
 ghost use Rattle.op_shelf.specs.States.{IfClean, KeepsAll, IsNotMigrated};
 
 use crate::fault::ShelfFault;
-use crate::rows::{are_pairs, blob_at, kind_of, text_at};
+use crate::rows::{are_pairs, blob_at, kind_of, kind_value, text_at};
 use crate::statements::older_rows;
-use sqlite::types::{ToSql, ValueRef};
+use sqlite::types::ValueRef;
 use sqlite::{Alter, Connection, Error, Row, Transaction};
 use std::alloc::Global;
 
@@ -35,13 +34,6 @@ fn make_beside<S: Alter>(part: &mut Transaction<'_, S>) -> Result<usize, Error>
         "CREATE TABLE ops2 (digest TEXT PRIMARY KEY, kind INTEGER NOT NULL, body BLOB NOT NULL)",
         &[],
     )
-}
-
-/// A kind as the database takes it.
-fn kind_value<'a>(kind: u8) -> ValueRef<'a>
-    ensures { owned result ≡ Int (pos kind) }
-{
-    u32::from(kind).to_sql()
 }
 
 /// Adds an entry to the newer table.

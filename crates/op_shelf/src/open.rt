@@ -7,7 +7,7 @@ ghost use Rattle.sqlite.specs.State.{HasCleanDisk, Survives};
 ghost use Rattle.sqlite.specs.WalFiles.{image_at};
 ghost use Rattle.op_shelf.specs.Opened.{IsFound, IsRefused};
 ghost use Rattle.op_shelf.specs.Migration.{IsOlder, HasBadPair};
-ghost use Rattle.op_shelf.specs.States.{IfClean, StandsFor, MayBecome, KeepsAll, IsNotOpened, IsGivenUp};
+ghost use Rattle.op_shelf.specs.States.{IfClean, IsReady, StandsFor, MayBecome, KeepsAll, IsNotOpened, IsGivenUp};
 
 use crate::fault::ShelfFault;
 use crate::migration::migrate;
@@ -20,10 +20,12 @@ use std::rt::HostRuntime;
 
 /// Makes a connection one that `Shelf::adopt` takes as it is: makes the table where the database is
 /// empty, and moves the older one. A caller that keeps the connection learns why it is refused.
-#[tactic(auto, using(crate::proofs::Puts::survives_bare, crate::proofs::Puts::survives_older, crate::proofs::Puts::survives_none, crate::proofs::Puts::bare_keeps))]
+#[tactic(auto, using(crate::proofs::Puts::survives_bare, crate::proofs::Puts::survives_older, crate::proofs::Puts::survives_none, crate::proofs::Puts::bare_keeps, crate::proofs::Puts::made_ready))]
 pub fn make_ready<S: Alter>(database: &mut Connection<S>, alloc: Global) -> Result<(), ShelfFault>
     ensures stands { IfClean S.Store database.old database.new (λ s t.
         OnOk result (StandsFor s t)) }
+    ensures ready { IfClean S.Store database.old database.new (λ s t.
+        OnOk result (IsReady t)) }
     ensures refused { IfClean S.Store database.old database.new (λ s t.
         OnErr result (KeepsAll s t)) }
     ensures store { IfClean S.Store database.old database.new (λ s t.
@@ -55,6 +57,8 @@ impl<S: Alter + Drop> Shelf<S> {
     pub fn adopt(alloc: Global, connection: Connection<S>) -> Result<Shelf<S>, ShelfFault>
         ensures stands { IfOk result (λ shelf. HasCleanDisk (state S.Store shelf)
             → StandsFor (state S.Store connection) (state S.Store shelf)) }
+        ensures ready { IfOk result (λ shelf. HasCleanDisk (state S.Store shelf)
+            → IsReady (state S.Store shelf)) }
         ensures bad_row { IsErrOf result ShelfFault.BadRow
             → IsOlder (state S.Store connection) }
         ensures given_up { IfErr result (λ e. (last : Held S)

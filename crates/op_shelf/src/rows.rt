@@ -2,6 +2,7 @@
 
 ghost use Rattle.std.specs.Prelude.{◌≡◌, ◌≢◌, ◌↔◌, ◌<◌, ◌⊎◌, [], true, false, pos, length, map, All, Any, IfOk, IfErr, OnOk, IfSome, IsNone, IsTrue, IsErrOf, Ok, Err, List, ℕ};
 ghost use Rattle.sqlite.specs.declared.types.Value.TheVariants.{Int, Text, Blob};
+ghost use Rattle.sqlite_value.specs.Value.{owned};
 ghost use Rattle.sqlite.specs.Order.{column};
 ghost use Rattle.operation.specs.Reading.{IsOp};
 ghost use Rattle.operation.specs.Spelling.{spelling};
@@ -13,7 +14,7 @@ use crate::fault::ShelfFault;
 use bytes::Bytes;
 use operation::{Digested, Op, decode, digest};
 use sqlite::Row;
-use sqlite::types::ValueRef;
+use sqlite::types::{ToSql, ValueRef};
 use std::alloc::Global;
 
 /// The kind of the operation that bytes spell: the first of them.
@@ -24,6 +25,13 @@ pub(crate) fn kind_of(body: &[u8]) -> u8
         [] => 0,
         [kind, ..] => *kind,
     }
+}
+
+/// A kind as the database takes it.
+pub(crate) fn kind_value<'a>(kind: u8) -> ValueRef<'a>
+    ensures { owned result ≡ Int (pos kind) }
+{
+    u32::from(kind).to_sql()
 }
 
 fn has_text(entry: &Row, at: usize, text: &[u8]) -> bool

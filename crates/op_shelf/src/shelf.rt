@@ -1,15 +1,17 @@
 //! Shelves.
 
-ghost use Rattle.std.specs.Prelude.{◌≡◌, ◌⊎◌, ◌∷◌, [], pos, map, Ok, Err, IfOk, IsErrOf, OnOk, OnErr, IsSorted};
+ghost use Rattle.std.specs.Prelude.{◌≡◌, ◌⊎◌, ◌∷◌, [], pos, map, All, Ok, Err, IfOk, IsErrOf, OnOk, OnErr, IsSorted};
 ghost use Rattle.sqlite.specs.declared.types.Value.TheVariants.{Int};
 ghost use Rattle.sqlite.specs.Held.{Held, held_code, state};
 ghost use Rattle.sqlite.specs.State.{IsUnchanged, Survives};
 ghost use Rattle.sqlite.specs.Tree.{Trees};
 ghost use Rattle.op_shelf.specs.Entries.{Adds, Holds, Lists, HasBadRow, entry_of, digest_text};
-ghost use Rattle.op_shelf.specs.States.{IfClean, IsReady, IsKnown, IsPut, HasOther, KeepsAll, IsNotShown, IsNotKept, rows_of, rows_left, count_of, digest_cmp};
+ghost use Rattle.op_shelf.specs.Group.{IsPutAll, MayHaveAll, FindsOther, IsNotPut};
+ghost use Rattle.op_shelf.specs.States.{IfClean, IsReady, IsKnown, IsPut, HasOther, KeepsAll, StaysReady, IsNotShown, IsNotKept, rows_of, rows_left, count_of, digest_cmp};
 ghost use Rattle.op_shelf.specs.Texts.{all_text, kind_text};
 
 use crate::fault::ShelfFault;
+use crate::group::put_group;
 use crate::kept::Kept;
 use crate::statements::kind_rows;
 use crate::table::{is_ready, put_entry};
@@ -58,11 +60,13 @@ impl<S: Alter> Shelf<S> {
     /// `put_digested` does.
     pub fn put(&mut self, op: &Op) -> Result<Kept, ShelfFault>
         // New adds exactly that operation, Known finds it there, and a refusal changes nothing.
+        // A shelf that was ready, and is open, is ready.
         ensures new { IfClean S.Store self.old self.new (λ s t.
             result ≡ Ok Kept.New → IsPut s t (digest_text op.now) (entry_of op.now)) }
         ensures known { IfClean S.Store self.old self.new (λ s t.
             result ≡ Ok Kept.Known → IsKnown s t (digest_text op.now) (entry_of op.now)) }
         ensures refused { IfClean S.Store self.old self.new (λ s t. OnErr result (KeepsAll s t)) }
+        ensures ready { IfClean S.Store self.old self.new StaysReady }
 
         // Each fault, only where it is.
         ensures bad_row { IfClean S.Store self.old self.new (λ s t. IsErrOf result ShelfFault.BadRow
@@ -85,11 +89,13 @@ impl<S: Alter> Shelf<S> {
     /// hashed. The data set is copied once, into the spelling that is stored.
     pub fn put_digested(&mut self, op: &Digested) -> Result<Kept, ShelfFault>
         // New adds exactly that operation, Known finds it there, and a refusal changes nothing.
+        // A shelf that was ready, and is open, is ready.
         ensures new { IfClean S.Store self.old self.new (λ s t.
             result ≡ Ok Kept.New → IsPut s t (digest_text op.now) (entry_of op.now)) }
         ensures known { IfClean S.Store self.old self.new (λ s t.
             result ≡ Ok Kept.Known → IsKnown s t (digest_text op.now) (entry_of op.now)) }
         ensures refused { IfClean S.Store self.old self.new (λ s t. OnErr result (KeepsAll s t)) }
+        ensures ready { IfClean S.Store self.old self.new StaysReady }
 
         // Each fault, only where it is.
         ensures bad_row { IfClean S.Store self.old self.new (λ s t. IsErrOf result ShelfFault.BadRow
@@ -107,6 +113,35 @@ impl<S: Alter> Shelf<S> {
         let name = op.digest().text(self.alloc)?;
         let body = encode(self.alloc, op.op())?;
         put_entry(&mut self.database, name.as_str(), &body)
+    }
+
+    /// Puts a group of operations on the shelf, one after another, in one transaction, and syncs it
+    /// once. It tells of each whether it was there. Nothing is hashed, and one spelling at a time
+    /// is in memory.
+    pub fn put_many(&mut self, ops: &[Digested]) -> Result<Vec<Kept>, ShelfFault>
+        // All of the group is put, each in its turn, and a refusal changes nothing.
+        // A shelf that was ready, and is open, is ready.
+        ensures put { IfClean S.Store self.old self.new (λ s t.
+            IfOk result (λ kepts. IsPutAll s t ops.now kepts.items)) }
+        ensures refused { IfClean S.Store self.old self.new (λ s t. OnErr result (KeepsAll s t)) }
+        ensures ready { IfClean S.Store self.old self.new StaysReady }
+
+        // Each fault, only where it is.
+        ensures bad_row { IfClean S.Store self.old self.new (λ s t.
+            IsErrOf result ShelfFault.BadRow → FindsOther s ops.now) }
+        ensures store { IfClean S.Store self.old self.new (λ s t. IsErrOf result ShelfFault.Store
+            → IsNotPut S.Store self.old self.new ops.now) }
+
+        // A crash finds the operations from before, or those and all of the group; after Ok these.
+        ensures crash { Survives (state S.Store self.old) (state S.Store self.new)
+            (MayHaveAll (state S.Store self.old) ops.now) }
+        ensures durable { IfClean S.Store self.old self.new (λ s t. OnOk result
+            ((trees : Trees) → t.may_leave trees → All (Holds (rows_left t trees)) ops.now)) }
+    {
+        if !is_ready(&self.database) {
+            return Err(ShelfFault::Store);
+        }
+        put_group(&mut self.database, self.alloc, ops)
     }
 
     /// The operations of the shelf, ascending by digest. Each is hashed once, to test its row, and

@@ -7,7 +7,7 @@ ghost use Rattle.sqlite.specs.State.{HasCleanDisk, IsUnchanged, Survives};
 ghost use Rattle.sqlite.specs.Tree.{Trees};
 ghost use Rattle.op_shelf.specs.Entries.{entries, entry_by, Adds};
 ghost use Rattle.op_shelf.specs.Migration.{IsOlder};
-ghost use Rattle.op_shelf.specs.States.{IfClean, IsReady, IsKnown, IsPut, HasOther, KeepsAll, Spares, IsNotShown, IsNotDone, IsNotKept, IsAdded, IsBare, under, rows_of, rows_left};
+ghost use Rattle.op_shelf.specs.States.{IfClean, IsReady, IsKnown, IsPut, HasOther, KeepsAll, Spares, StaysReady, IsNotShown, IsNotDone, IsNotKept, IsAdded, IsBare, under, rows_of, rows_left};
 ghost use Rattle.op_shelf.specs.Table.{IsShelf};
 ghost use Rattle.op_shelf.specs.Texts.{held_text, insert_text};
 
@@ -100,6 +100,7 @@ pub(crate) fn put_entry<S: Alter>(
         → IsKnown s t digest.now (entry_by digest.now body.now)) }
     ensures refused { IfClean S.Store database.old database.new (λ s t.
         OnErr result (KeepsAll s t)) }
+    ensures ready { IfClean S.Store database.old database.new StaysReady }
 
     // Each fault, only where it is.
     ensures bad_row { IfClean S.Store database.old database.new (λ s t.

@@ -1,11 +1,17 @@
 use Rattle.sqlite.specs.Held.{state}
-use Rattle.op_shelf.proofs.Keeps.{gains, lasts_on}
+use Rattle.op_shelf.proofs.Keeps.{gains, finds_known, lasts_on}
 use Rattle.op_shelf.proofs.keep.ShelfKeep.put.Goals as goal
 
 -- The entry that was put is that of one operation more.
 pub returns-clause-new : goal.returns-clause-new
 returns-clause-new g c up new = gains (state g.S.Store c.args.self.now) (state g.S.Store c.put.new.self) c.args.op.now
     (c.put.ensures.new up.clean new)
+
+-- What was found is there, and nothing changed.
+pub returns-clause-known : goal.returns-clause-known
+returns-clause-known g c up known =
+    finds_known (state g.S.Store c.args.self.now) (state g.S.Store c.put.new.self) c.args.op.now
+    (c.put.ensures.known up.clean known)
 
 -- A crash leaves what it left before, or that and the entry.
 pub returns-clause-kept : goal.returns-clause-kept
