@@ -1,1 +1,2 @@
+pub mod KnownLaws
 pub mod Takings

@@ -8,6 +8,7 @@ ghost use Rattle.shelved_site.specs.declared.fault.ShelvedFault.TheVariants.{Hub
 ghost use Rattle.shelved_site.specs.Corrections.{IsCorrected, IsSpent};
 
 use crate::fault::ShelvedFault;
+use crate::known::is_known;
 use crate::taking::site_of;
 use octets::Octets;
 use op_shelf::Shelf;
@@ -94,8 +95,16 @@ pub fn next_correction<R: Wait>(
     correction_in::<Brand, R>(opened, target, tag, value)
 }
 
-/// Corrects an attribute at the site of a number, whose operations stand on a shelf. The stamp is
-/// that of the correction which the shelf then has.
+/// A correction that was made.
+#[derive(Clone, Copy, Debug, PartialEq, Eq)]
+pub struct Corrected {
+    /// That of the correction which the shelf then has.
+    pub stamp: Stamp,
+    /// Whether the site has a content of its target.
+    pub is_known: bool,
+}
+
+/// Corrects an attribute at the site of a number, whose operations stand on a shelf.
 pub fn correct_on<S: Alter, R: Wait>(
     alloc: Global,
     rt: &R,
@@ -104,7 +113,7 @@ pub fn correct_on<S: Alter, R: Wait>(
     target: Target,
     tag: u32,
     value: Octets,
-) -> Result<Stamp, ShelvedFault>
+) -> Result<Corrected, ShelvedFault>
     requires number { 1 ≤ number }
     ensures corrected { IfClean S.Store shelf.old shelf.new (λ s t.
         IfOk result (IsCorrected s t number target tag value)) }
@@ -117,8 +126,9 @@ pub fn correct_on<S: Alter, R: Wait>(
         result ≡ Err (Hub HubFault.StampsSpent) → IsSpent s) }
 {
     let site = site_of(alloc, shelf.all()?)?;
+    let is_known = is_known(alloc, &site, &target)?;
     let made = next_correction(alloc, rt, site, number, target, tag, value)?;
     let stamp = made.stamp();
     let _kept = shelf.put(&Op::Correction(made))?;
-    Ok(stamp)
+    Ok(Corrected { stamp, is_known })
 }

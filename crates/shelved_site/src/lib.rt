@@ -6,10 +6,11 @@
 
 mod correcting;
 mod fault;
+mod known;
 mod reporting;
 mod taking;
 
-pub use correcting::{correct_on, next_correction};
+pub use correcting::{Corrected, correct_on, next_correction};
 pub use fault::ShelvedFault;
 pub use reporting::{Report, report_of, report_on, table_on};
 pub use taking::site_of;

@@ -1,0 +1,47 @@
+//! Whether a site has something of a correction's target.
+
+ghost use Rattle.std.specs.Prelude.{◌≡◌, IfOk};
+ghost use Rattle.std.specs.List.{list_any};
+ghost use Rattle.site_state.specs.Site.{ops_of};
+ghost use Rattle.archive_model.specs.Attributes.{is_target_of};
+ghost use Rattle.shelved_site.specs.Corrections.{is_of, is_known as is_known_in};
+
+use archive_model::{patient, series, study};
+use operation::{Content, Op, Target};
+use site_state::{Site, SiteFault};
+use std::alloc::Global;
+
+/// Whether a content is one of a target.
+fn is_content_of(content: &Content, target: &Target) -> bool
+    ensures { result ≡ is_target_of content.now target.now }
+{
+    match target {
+        Target::Study(key) => study(content) == key.as_slice(),
+        Target::Patient(key) => patient(content) == key.as_slice(),
+        Target::Series(key) => series(content) == key.as_slice(),
+    }
+}
+
+fn is_of_target(op: &Op, target: &Target) -> bool
+    ensures { result ≡ is_of target.now op.now }
+{
+    match op {
+        Op::Content(content) => is_content_of(content, target),
+        Op::Correction(_) => false,
+    }
+}
+
+/// Whether one of some operations is a content of a target.
+fn has_one(ops: &[&Op], target: &Target) -> bool
+    ensures { result ≡ list_any (λ o. is_of target.now o.now) ops.now }
+{
+    ops.iter().any(|op| is_of_target(op, target))
+}
+
+/// Whether a site has a content of a target.
+pub(crate) fn is_known(alloc: Global, site: &Site, target: &Target) -> Result<bool, SiteFault>
+    ensures { IfOk result (λ known. known ≡ is_known_in target.now (ops_of site.now)) }
+{
+    let ops = site.operations(alloc)?;
+    Ok(has_one(ops.as_slice(), target))
+}
