@@ -10,7 +10,7 @@ _archive() {
             serve\ *) words="--listen --workers --each --exchange --rounds --exchange-workers --peer --every --allow --exchange-allow --calling --quality-calling --audit-calling --idle --until-end-of-input --verbose --help" ;;
             exchange\ *) words="--peer --peer-version --idle --help" ;;
             correct\ *) words="--site study patient series --help" ;;
-            report\ *) words="--conflicts --rejected --corrections --studies --tsv --help" ;;
+            report\ *) words="--fingerprint --conflicts --rejected --corrections --studies --tsv --help" ;;
             help\ help) words="serve exchange correct report simulate" ;;
             *) return ;;
         esac

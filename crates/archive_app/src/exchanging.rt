@@ -7,6 +7,7 @@ use archive_server::{NetFault, Wire};
 use command_output::{CommandFault, lines_of_exchange};
 use command_words::Exchanging;
 use devices::Counted;
+use exchange_run::Ended;
 use op_shelf::Shelf;
 use shelved_exchange::exchange_on;
 use sqlite::Alter;
@@ -21,6 +22,12 @@ fn connect_to<R: Net<Listener = TcpListener, Stream = TcpStream>>(
         Ok(wire) => Ok(wire),
         Err(_refused) => Err(CommandFault::Net(NetFault::Connect)),
     }
+}
+
+/// Says on standard error whether both sides agreed. A line that it refuses is dropped.
+fn say_agreement(rt: &HostRuntime, ended: Ended) {
+    let agree = if ended.agreed { "yes" } else { "no" };
+    let _ = eprintln!(rt; "agree {agree}");
 }
 
 /// An exchange with the site at an address, over a connection if it is made already.
@@ -54,7 +61,9 @@ impl<R: Net<Listener = TcpListener, Stream = TcpStream>> OnShelf for Meeting<'_,
         let role = exchanging.role;
         let (_site, ended) = exchange_on(alloc, role, &mut reader, &mut writer, site, shelf);
         wire.part(rt);
-        Ok(lines_of_exchange(alloc, ended?)?)
+        let ended = ended?;
+        say_agreement(rt, ended);
+        Ok(lines_of_exchange(alloc, ended)?)
     }
 }
 
@@ -63,7 +72,8 @@ impl<R: Net<Listener = TcpListener, Stream = TcpStream>> OnShelf for Meeting<'_,
 /// What is taken is on the shelf before it counts as given, and stays there whatever comes after.
 /// Refusals come in this order: the shelf, the site, the connection, the exchange. Where the file
 /// is not there the connection comes first, so that no file is made where nobody answers. At a
-/// terminal it says meanwhile how far it is.
+/// terminal it says meanwhile how far it is. On standard error it says in the end whether both
+/// sides agreed.
 pub fn exchange<R: Net<Listener = TcpListener, Stream = TcpStream>>(
     rt: &HostRuntime,
     net: &R,

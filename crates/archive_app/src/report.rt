@@ -38,14 +38,14 @@ fn report_in(rt: &HostRuntime, file: &str) -> Result<Report, CommandFault> {
 }
 
 /// The counts of the operations in a file.
-fn counts(rt: &HostRuntime, file: &str) -> Result<Vec<u8>, CommandFault> {
+fn counts(rt: &HostRuntime, file: &str, is_fingerprinted: bool) -> Result<Vec<u8>, CommandFault> {
     let alloc = rt.alloc();
     let report = if is_new(rt, file) {
         report_of_none(alloc)?
     } else {
         report_in(rt, file)?
     };
-    Ok(lines_of(alloc, &report)?)
+    Ok(lines_of(alloc, &report, is_fingerprinted)?)
 }
 
 /// A table of a shelf.
@@ -93,9 +93,10 @@ pub fn report(rt: &HostRuntime, reporting: Reporting<'_>) -> Result<Vec<u8>, Com
         file,
         table,
         separated,
+        fingerprint,
     } = reporting;
     match table {
-        None => counts(rt, file),
+        None => counts(rt, file, fingerprint),
         Some(table) => told(rt, file, table, separated),
     }
 }

@@ -129,11 +129,19 @@ fn tables_of<'a>(alloc: Global) -> Result<ArgGroup<'a>, AllocError> {
     beside(group, "studies")
 }
 
+/// With the option of one number for all operations, which no table has.
+fn with_fingerprint<'a>(alloc: Global, command: Command<'a>) -> Result<Command<'a>, AllocError> {
+    let help = "One number for all operations, which sites that hold the same have alike";
+    let option = flag(alloc, "fingerprint", help).conflicts_with("table")?;
+    with(command, option)
+}
+
 fn report_command<'a>(alloc: Global) -> Result<Command<'a>, AllocError> {
     let tables = tables_of(alloc)?;
     let separated = "Parts the cells of the table by tabs";
     let command = with_tables(alloc, command_of(alloc, "report", REPORT)?)?;
     let command = with_wanting(command, flag(alloc, "tsv", separated), "table")?;
+    let command = with_fingerprint(alloc, command)?;
     command.group(tables)
 }
 

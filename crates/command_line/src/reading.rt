@@ -39,6 +39,7 @@ fn read_report<'a>(found: &ArgMatches<'a>) -> Reporting<'a> {
         file: text(found, "FILE"),
         table: table_in(found),
         separated: found.get_flag("tsv"),
+        fingerprint: found.get_flag("fingerprint"),
     }
 }
 

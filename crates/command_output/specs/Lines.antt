@@ -2,6 +2,7 @@
 use Rattle.std.specs.Prelude.{ℕ, List, [], ◌++◌, ◌∷◌, length, codes, Bool, true, false}
 use Rattle.std.specs.Fmt.{decimal}
 use Rattle.std.specs.List.{flat_map}
+use Rattle.hex.specs.Hex.{encode_lower}
 use Rattle.site_simulation.specs.Texts.{line, end_line, message_line}
 use Rattle.exchange_run.specs.declared.role.Ended.{Ended}
 use Rattle.shelved_site.specs.declared.reporting.Report.{Report}
@@ -18,9 +19,20 @@ count_lines report =
     ++ (message_line (codes "corrections") report.counts.corrections
     ++ message_line (codes "series") report.series))
 
--- the counts, the flagged UIDs, and how many these are
-abbrev pub report_lines : Report → List ℕ
-report_lines report = count_lines report ++ (flat_map flagged_line report.flagged ++ end_line (length report.flagged))
+-- the number of all that is held, in hexadecimal digits
+abbrev pub fingerprint_line : List ℕ → List ℕ
+fingerprint_line fingerprint = line (codes "fingerprint " ++ encode_lower fingerprint)
+
+-- where it is asked for
+abbrev pub fingerprint_lines : Bool → List ℕ → List ℕ
+fingerprint_lines true fingerprint = fingerprint_line fingerprint
+fingerprint_lines false fingerprint = []
+
+-- the counts, the number of all that is held where it is asked for, the flagged UIDs, and how many these are
+abbrev pub report_lines : Report → Bool → List ℕ
+report_lines report is_fingerprinted =
+    count_lines report ++ (fingerprint_lines is_fingerprinted report.fingerprint
+    ++ (flat_map flagged_line report.flagged ++ end_line (length report.flagged)))
 
 -- whether all came that was asked for
 abbrev pub finished_line : Bool → List ℕ

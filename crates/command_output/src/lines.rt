@@ -4,10 +4,11 @@ ghost use Rattle.std.specs.Prelude.{◌≡◌, ◌++◌, [], OnOk, IfOk};
 ghost use Rattle.std.specs.List.{flat_map};
 ghost use Rattle.site_simulation.specs.Texts.{line, end_line, message_line, stamp_line};
 ghost use Rattle.command_output.specs.Lines.{count_lines, exchange_lines, finished_line, flagged_line, report_lines};
+ghost use Rattle.command_output.specs.Lines.{fingerprint_line, fingerprint_lines};
 
 use exchange_run::Ended;
 use octets::{Octets, put_digits};
-use operation::Stamp;
+use operation::{Digest, Stamp};
 use shelved_site::Report;
 use std::alloc::{AllocError, Global};
 
@@ -49,13 +50,43 @@ fn put_all_flagged(out: &mut Vec<u8>, uids: &[Octets]) -> Result<(), AllocError>
     Ok(())
 }
 
-/// The lines of a report: how many operations there are of each kind, each flagged UID, and how
-/// many of these there are.
-pub fn lines_of(alloc: Global, report: &Report) -> Result<Vec<u8>, AllocError>
-    ensures { IfOk result (λ text. text.items ≡ report_lines report.now) }
+fn put_fingerprint(alloc: Global, out: &mut Vec<u8>, fingerprint: &Digest) -> Result<(), AllocError>
+    ensures { OnOk result (out.new.items ≡ out.old.items ++ fingerprint_line fingerprint.now) }
+{
+    let text = fingerprint.text(alloc)?;
+    out.extend_from_slice(b"fingerprint ")?;
+    out.extend_from_slice(text.as_bytes())?;
+    out.push(b'\n')?;
+    Ok(())
+}
+
+fn put_fingerprint_if(
+    alloc: Global,
+    out: &mut Vec<u8>,
+    is_asked_for: bool,
+    fingerprint: &Digest,
+) -> Result<(), AllocError>
+    ensures { OnOk result (out.new.items ≡ out.old.items
+        ++ fingerprint_lines is_asked_for fingerprint.now) }
+{
+    if !is_asked_for {
+        return Ok(());
+    }
+    put_fingerprint(alloc, out, fingerprint)
+}
+
+/// The lines of a report: how many operations there are of each kind, the fingerprint where it is
+/// asked for, each flagged UID, and how many of these there are.
+pub fn lines_of(
+    alloc: Global,
+    report: &Report,
+    is_fingerprinted: bool,
+) -> Result<Vec<u8>, AllocError>
+    ensures { IfOk result (λ text. text.items ≡ report_lines report.now is_fingerprinted) }
 {
     let mut out = Vec::new(alloc);
     put_counts(alloc, &mut out, report)?;
+    put_fingerprint_if(alloc, &mut out, is_fingerprinted, &report.fingerprint)?;
     put_all_flagged(&mut out, report.flagged.as_slice())?;
     put_count(alloc, &mut out, b"end", report.flagged.len() as u64)?;
     Ok(out)

@@ -86,6 +86,8 @@ pub struct Reporting<'a> {
     pub table: Option<Table>,
     /// Whether the table is told as tab-separated values.
     pub separated: bool,
+    /// Whether the counts have one number for all operations beside them.
+    pub fingerprint: bool,
 }
 
 /// What a command line asks for.

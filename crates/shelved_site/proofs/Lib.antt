@@ -1,2 +1,3 @@
+pub mod Hashed
 pub mod KnownLaws
 pub mod Takings

@@ -1,2 +1,3 @@
 pub mod Corrections
+pub mod Fingerprints
 pub mod Reports

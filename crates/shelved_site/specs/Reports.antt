@@ -3,17 +3,23 @@ use Rattle.std.specs.Prelude.{◌≡◌, ℕ, List}
 use Rattle.sqlite.specs.State.{State}
 use Rattle.operation.specs.declared.op.Op.{Op}
 use Rattle.archive_model.specs.Contents.{flagged}
-use Rattle.site_state.specs.Site.{ops_of, counts_of}
+use Rattle.site_state.specs.Site.{Map, ops_of, counts_of}
 use Rattle.site_state.specs.Laws.{after_taking}
 use Rattle.site_tables.specs.declared.table.Table.{Table}
 use Rattle.site_tables.specs.Tables.{IsTable}
 use Rattle.op_shelf.specs.Entries.{Lists}
 use Rattle.op_shelf.specs.States.{rows_of, count_of}
+use Rattle.shelved_site.specs.Fingerprints.{fingerprint_of}
 use Rattle.shelved_site.specs.declared.reporting.Report.{Report}
 
--- the report of the operations of a site, so many of which are corrections of series
-abbrev pub reported : List Op → ℕ → Report
-reported ops series = record { counts = counts_of ops; series = series; flagged = flagged ops }
+-- the report of a site, of so many of whose operations are corrections of series
+abbrev pub reported : Map → ℕ → Report
+reported m series = record {
+  counts = counts_of (ops_of m);
+  series = series;
+  flagged = flagged (ops_of m);
+  fingerprint = fingerprint_of m;
+}
 
 -- the kind of a correction of a series
 abbrev pub SERIES_KIND : ℕ
@@ -23,7 +29,7 @@ SERIES_KIND = 3
 pub record IsReport (s : State) (report : Report) : Type 0 where
   pub ops : List Op
   pub listed : Lists (rows_of s) ops
-  pub told : report ≡ reported (ops_of (after_taking ops)) (count_of SERIES_KIND (rows_of s))
+  pub told : report ≡ reported (after_taking ops) (count_of SERIES_KIND (rows_of s))
 
 -- the rows of a table are those of the site which took all operations of the table of the shelf
 pub record IsTableOf (s : State) (table : Table) (rows : List (List (List ℕ))) : Type 0 where

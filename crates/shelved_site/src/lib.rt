@@ -6,11 +6,13 @@
 
 mod correcting;
 mod fault;
+mod fingerprinting;
 mod known;
 mod reporting;
 mod taking;
 
 pub use correcting::{Corrected, correct_on, next_correction};
 pub use fault::ShelvedFault;
+pub use fingerprinting::{equal_sets_have_equal_fingerprints, fingerprint};
 pub use reporting::{Report, report_of, report_on, table_on};
 pub use taking::site_of;

@@ -8,9 +8,11 @@ ghost use Rattle.site_tables.specs.Tables.{IsTable};
 ghost use Rattle.shelved_site.specs.Reports.{reported, IsReport, IsTableOf};
 
 use crate::fault::ShelvedFault;
+use crate::fingerprinting::fingerprint;
 use crate::taking::site_of;
 use octets::{ListOf, Octets};
 use op_shelf::Shelf;
+use operation::Digest;
 use site_state::{Counts, Site, SiteFault};
 use site_tables::{Row, Table, rows_of_table};
 use sqlite::Alter;
@@ -19,8 +21,8 @@ use std::alloc::Global;
 /// The kind of a correction of a series, as the shelf counts it.
 const SERIES: u8 = 3;
 
-/// How many operations there are of each kind, and which SOP Instance UIDs have two contents or
-/// more.
+/// How many operations there are of each kind, which SOP Instance UIDs have two contents or more,
+/// and one number for them all.
 #[derive(Debug, Drop)]
 pub struct Report {
     pub counts: Counts,
@@ -28,16 +30,18 @@ pub struct Report {
     pub series: u64,
     /// Ascending.
     pub flagged: ListOf<Octets>,
+    pub fingerprint: Digest,
 }
 
 /// The report of a site whose shelf counts so many corrections of series.
 pub fn report_of(alloc: Global, site: &Site, series: u64) -> Result<Report, SiteFault>
-    ensures report { IfOk result (λ report. report ≡ reported (ops_of site.now) series) }
+    ensures report { IfOk result (λ report. report ≡ reported site.now series) }
 {
     Ok(Report {
         counts: site.counts(),
         series,
         flagged: ListOf::of(site.flagged(alloc)?),
+        fingerprint: fingerprint(site),
     })
 }
 
