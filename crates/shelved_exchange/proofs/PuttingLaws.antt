@@ -1,7 +1,8 @@
 -- What was put on a shelf.
 use Rattle.std.proofs.Common.{◌≡◌, ◌⊎◌, ℕ, List, [], ◌∷◌, ◌++◌, length, drop, refl, ap, sym, subst, ◌∙◌, inl, inr}
-use Rattle.std.proofs.Common.{Result, Ok, append_assoc}
+use Rattle.std.proofs.Common.{Result, Ok, All, get_or, arith, append_assoc}
 use Rattle.std.proofs.Math.Seq.{drop-append_seam, drop-length}
+use Rattle.std.proofs.lemmas.List.Elements.{All-cons}
 use mathlib.Core.List.{IsPrefix}
 use Rattle.octets.specs.Members.{Has}
 use Rattle.operation.specs.declared.op.Op.{Op}
@@ -9,7 +10,7 @@ use Rattle.operation.specs.Spelling.{digest_of}
 use Rattle.op_shelf.specs.declared.fault.ShelfFault.{ShelfFault}
 use Rattle.op_shelf.specs.declared.kept.Kept.{Kept}
 use Rattle.op_shelf.specs.declared.kept.Kept.TheVariants as kinds
-use Rattle.op_shelf.specs.Keep.{Gains, Finds}
+use Rattle.op_shelf.specs.Keep.{Gains, GainsAll, Finds, with_one}
 use Rattle.shelved_exchange.specs.Putting.{WasPut, WerePut}
 
 -- what stands behind the beginning of a beginning
@@ -57,6 +58,25 @@ there_now : {K : Type 0} (holds : K → Op → Type 0) (old new : K) (op : Op) (
 there_now holds old new op kinds.New gains finds = ((gains refl).only op).1 (inr refl)
 there_now holds old new op kinds.Known gains finds = let found = finds refl in (found.same op).0 found.there
 
+-- what is there stays while a group is put, and all of the group is there
+stays_there : (old new : Op → Type 0) (ops : List Op) (kepts : List Kept) → GainsAll old new ops kepts → (other : Op)
+    → old other → new other
+stays_there old new [] [] same other was = (same other).0 was
+stays_there old new [] (k ∷ ks) gains other was = absurd gains
+stays_there old new (op ∷ ops) [] gains other was = absurd gains
+stays_there old new (op ∷ ops) (kinds.New ∷ ks) gains other was =
+    stays_there (with_one old op) new ops ks gains.1 other (inl was)
+stays_there old new (op ∷ ops) (kinds.Known ∷ ks) gains other was = stays_there old new ops ks gains.1 other was
+
+all_there : (old new : Op → Type 0) (ops : List Op) (kepts : List Kept) → GainsAll old new ops kepts → All new ops
+all_there old new [] [] same = λ i op low. absurd (omega (arith, low))
+all_there old new [] (k ∷ ks) gains = absurd gains
+all_there old new (op ∷ ops) [] gains = absurd gains
+all_there old new (op ∷ ops) (kinds.New ∷ ks) gains = All-cons new op ops
+    (stays_there (with_one old op) new ops ks gains.1 op (inr refl)) (all_there (with_one old op) new ops ks gains.1)
+all_there old new (op ∷ ops) (kinds.Known ∷ ks) gains = All-cons new op ops
+    (stays_there old new ops ks gains.1 op gains.0) (all_there old new ops ks gains.1)
+
 -- an answer to a put shows that the operation was put
 pub shown_put : {K : Type 0} (up : K → Type 0) (holds lasts : K → Op → Type 0) (old new : K) (op : Op) (kept : Kept)
     (reply : Result Kept ShelfFault) (digest : List ℕ) → reply ≡ Ok kept → digest ≡ digest_of op
@@ -76,3 +96,19 @@ shown_put up holds lasts old new op kept reply digest is named gains finds durab
     ),
   ),
 ) ∣₁
+
+-- an answer to a put of a group shows that each of it was put
+pub group_put : {K : Type 0} (up : K → Type 0) (holds lasts : K → Op → Type 0) (old new : K) (ops : List Op)
+    (kepts : List Kept) → (up new → GainsAll (holds old) (holds new) ops kepts) → (up new → All (lasts new) ops)
+    → All (λ op. WasPut up holds lasts (digest_of op)) ops
+group_put up holds lasts old new ops kepts gains durable = λ i op low.
+    ∣ (
+      new,
+      (
+        get_or ops i op,
+        (
+          refl,
+          λ now. (all_there (holds old) (holds new) ops kepts (gains now) i op low, durable now i op low),
+        ),
+      ),
+    ) ∣₁

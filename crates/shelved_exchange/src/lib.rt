@@ -11,4 +11,4 @@ mod putting;
 
 pub use exchanging::exchange_on;
 pub use holder::{AtOpening, ShelvedHolder};
-pub use putting::{Direct, Put, Shelved, put_shown, refusal_of_shelf};
+pub use putting::{Direct, Put, Shelved, put_all, put_shown, refusal_of_shelf, shown};

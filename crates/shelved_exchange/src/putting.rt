@@ -1,6 +1,6 @@
 //! How operations come on a shelf, and what shows that they did.
 
-ghost use Rattle.std.specs.Prelude.{◌≡◌, IfOk};
+ghost use Rattle.std.specs.Prelude.{◌≡◌, All, IfOk, OnOk};
 ghost use Rattle.operation.specs.Spelling.{digest_of};
 ghost use Rattle.shelved_exchange.specs.Putting.{WasPut, refusal_of};
 
@@ -26,6 +26,25 @@ pub fn put_shown<K: Keep>(shelf: &mut K, op: &Digested) -> Result<Shelved<K>, Sh
         digest: *op.digest(),
         of: PhantomData,
     })
+}
+
+/// Puts a group of operations on a shelf, one after another and all at once.
+pub fn put_all<K: Keep>(shelf: &mut K, ops: &[Digested]) -> Result<(), ShelfFault>
+    ensures { OnOk result (All (λ op. WasPut K.is_up K.holds K.lasts (digest_of op)) ops.now) }
+{
+    shelf.put_many(ops)?;
+    Ok(())
+}
+
+/// The digest of an operation that was put.
+pub fn shown<K: Keep>(op: &Digested) -> Shelved<K>
+    requires { WasPut K.is_up K.holds K.lasts (digest_of op.now) }
+    ensures { result.digest ≡ digest_of op.now }
+{
+    Shelved {
+        digest: *op.digest(),
+        of: PhantomData,
+    }
 }
 
 /// A way to a shelf of a type.
