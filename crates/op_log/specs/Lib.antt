@@ -1,0 +1,5 @@
+pub mod Fault
+pub mod Heads
+pub mod Kept
+pub mod Log
+pub mod Staged

@@ -1,0 +1,16 @@
+//! Operations in two files that only grow, which a crash does not part.
+//!
+//! The data sets of contents lie in one file, and what else operations are spelled with lies in the
+//! other, in groups. A data set is on the disk before the group that leads to it. What the clauses
+//! say of values that are read they say if nobody else writes the files and the disk returns what
+//! was written.
+#![tactic(auto)]
+
+mod fault;
+mod head;
+mod loading;
+mod log;
+mod staging;
+
+pub use fault::LogFault;
+pub use log::OpLog;
