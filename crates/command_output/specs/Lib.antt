@@ -1,2 +1,4 @@
+pub mod Causes
 pub mod Ending
 pub mod Lines
+pub mod Notes

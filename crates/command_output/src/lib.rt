@@ -1,8 +1,15 @@
 //! What the commands of the program `archive` print, and how they end.
 #![tactic(auto)]
 
+mod cause;
 mod ending;
 mod lines;
+mod notes;
 
+pub use cause::{
+    Cause, FileCause, NetCause, file_cause_in_error, file_cause_of, listen_cause_of,
+    reach_cause_of, words_of,
+};
 pub use ending::{CommandFault, Ending, ending_of, status_of_refusal};
 pub use lines::{line_of_stamp, lines_of, lines_of_exchange};
+pub use notes::{Note, is_other, lacks_log, words_of_note};
