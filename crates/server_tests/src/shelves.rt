@@ -28,4 +28,9 @@ impl Keep for Counting {
     fn put_digested(&mut self, op: &Digested) -> Result<Kept, ShelfFault> {
         self.put(op.op())
     }
+
+    // It takes no group, so each of one comes alone.
+    fn put_many(&mut self, _ops: &[Digested]) -> Result<Vec<Kept>, ShelfFault> {
+        Err(ShelfFault::Store)
+    }
 }
