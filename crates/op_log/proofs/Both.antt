@@ -1,11 +1,9 @@
 -- What both files keep through what is written behind it.
-use Rattle.std.proofs.Common.{◌≡◌, ◌⊎◌, inl, inr, ◌+◌, ◌≤◌, ◌<◌, ℕ, List, [], ◌∷◌, ◌++◌, length, map, All, IsTrue, arith, subst, sym, ap, refl, ◌∙◌}
+use Rattle.std.proofs.Common.{◌≡◌, inl, inr, ◌+◌, ◌<◌, ℕ, List, [], ◌∷◌, ◌++◌, length, map, All, arith, subst, sym, ap, refl, ◌∙◌}
 use Rattle.std.proofs.lemmas.List.{map-append, append-nil, append_assoc}
 use Rattle.std.proofs.lemmas.List.Elements.{All-append, All-weaker}
-use Rattle.sqlite_disk.specs.Disk.{Holds}
 use Rattle.sqlite_disk.specs.declared.Disk.{Ghosts}
 use Rattle.body_log.specs.declared.log.BodyLog.{BodyLog}
-use Rattle.body_log.specs.Lasts.{Lasts, Spares, Settles}
 use Rattle.body_log.specs.Log.{disk_of, end_of}
 use Rattle.body_log.proofs.Holding.{lasting}
 use Rattle.head_log.specs.Groups.{IsGroupAt, IsReady, Laid, LeavesEither}
@@ -13,7 +11,7 @@ use Rattle.head_log.proofs.Walking.{one_group}
 use Rattle.head_log.specs.Groups.{StandsFor as HasGroups}
 use Rattle.operation.specs.declared.op.Op.{Op}
 use Rattle.op_log.specs.Heads.{Entry, body_of, head_text, group_text, IsFirst}
-use Rattle.op_log.specs.Kept.{HasBody, IsLasting, Keeps, StandsFor, LeavesAllOrNone, ops_of}
+use Rattle.op_log.specs.Kept.{HasBody, IsLasting, Keeps, LeavesAllOrNone, ops_of}
 use Rattle.op_log.proofs.Heads.{single, groups_joined}
 use Rattle.op_log.specs.Staged.{IsHeld, Grows, AreStaged, AreSettled}
 

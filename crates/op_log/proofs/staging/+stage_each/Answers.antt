@@ -1,4 +1,4 @@
-use Rattle.std.proofs.Common.{◌≡◌, ◌++◌, ◌∷◌, [], ◌-◌, List, ℕ, length, take, drop, subst}
+use Rattle.std.proofs.Common.{◌∷◌, [], ◌-◌, List, length, take, drop, subst}
 use Rattle.std.proofs.lemmas.Result.{on_ok_weaker}
 use Rattle.operation.specs.declared.op.Op.{Op}
 use Rattle.op_log.specs.Staged.{AreStaged}

@@ -1,4 +1,4 @@
-use Rattle.std.proofs.Common.{◌≡◌, ◌++◌, List, ℕ, arith, sym, ap, ◌∙◌}
+use Rattle.std.proofs.Common.{◌++◌, List, ℕ, arith, sym, ap, ◌∙◌}
 use Rattle.op_log.specs.Heads.{body_of}
 use Rattle.op_log.specs.Log.{heads_in, heads_end}
 use Rattle.op_log.proofs.Both.{kept_on}

@@ -1,4 +1,4 @@
-use Rattle.std.proofs.Common.{◌≡◌, ◌+◌, ◌≤◌, ℕ, List, length, map, All, arith}
+use Rattle.std.proofs.Common.{map, All, arith}
 use Rattle.std.proofs.lemmas.List.Elements.{All-weaker}
 use Rattle.body_log.specs.Log.{disk_of, end_of}
 use Rattle.op_log.specs.Heads.{body_of, group_text}

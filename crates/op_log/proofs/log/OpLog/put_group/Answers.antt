@@ -1,4 +1,4 @@
-use Rattle.std.proofs.Common.{◌≡◌, List, ℕ, map, sym, subst}
+use Rattle.std.proofs.Common.{List, ℕ, map, sym, subst}
 use Rattle.body_log.specs.Log.{disk_of}
 use Rattle.body_log.specs.Log.{end_of as bodies_end}
 use Rattle.head_log.specs.Log.{end_of}
