@@ -21,7 +21,7 @@ count_lines report =
 
 -- the number of all that is held, in hexadecimal digits
 abbrev pub fingerprint_line : List ℕ → List ℕ
-fingerprint_line fingerprint = line (codes "fingerprint " ++ encode_lower fingerprint)
+fingerprint_line fingerprint = line (codes "fingerprint" ++ 32 ∷ encode_lower fingerprint)
 
 -- where it is asked for
 abbrev pub fingerprint_lines : Bool → List ℕ → List ℕ

@@ -1,7 +1,8 @@
 //! The lines that commands print on standard output.
 
-ghost use Rattle.std.specs.Prelude.{◌≡◌, ◌++◌, [], OnOk, IfOk};
+ghost use Rattle.std.specs.Prelude.{◌≡◌, ◌++◌, ◌∷◌, [], OnOk, IfOk};
 ghost use Rattle.std.specs.List.{flat_map};
+ghost use Rattle.hex.specs.Hex.{encode_lower};
 ghost use Rattle.site_simulation.specs.Texts.{line, end_line, message_line, stamp_line};
 ghost use Rattle.command_output.specs.Lines.{count_lines, exchange_lines, finished_line, flagged_line, report_lines};
 ghost use Rattle.command_output.specs.Lines.{fingerprint_line, fingerprint_lines};
@@ -50,14 +51,30 @@ fn put_all_flagged(out: &mut Vec<u8>, uids: &[Octets]) -> Result<(), AllocError>
     Ok(())
 }
 
+/// A digest in hexadecimal digits.
+fn hex_digits(alloc: Global, digest: &Digest) -> Result<Octets, AllocError>
+    ensures { IfOk result (λ text. text ≡ encode_lower digest.now) }
+{
+    let text = digest.text(alloc)?;
+    Octets::from_slice(alloc, text.as_bytes())
+}
+
+/// A line of a word and a text.
+fn put_text(out: &mut Vec<u8>, word: &[u8], text: &[u8]) -> Result<(), AllocError>
+    ensures { OnOk result (out.new.items ≡ out.old.items ++ line (word.now ++ 32 ∷ text.now)) }
+{
+    out.extend_from_slice(word)?;
+    out.push(b' ')?;
+    out.extend_from_slice(text)?;
+    out.push(b'\n')?;
+    Ok(())
+}
+
 fn put_fingerprint(alloc: Global, out: &mut Vec<u8>, fingerprint: &Digest) -> Result<(), AllocError>
     ensures { OnOk result (out.new.items ≡ out.old.items ++ fingerprint_line fingerprint.now) }
 {
-    let text = fingerprint.text(alloc)?;
-    out.extend_from_slice(b"fingerprint ")?;
-    out.extend_from_slice(text.as_bytes())?;
-    out.push(b'\n')?;
-    Ok(())
+    let digits = hex_digits(alloc, fingerprint)?;
+    put_text(out, b"fingerprint", digits.as_slice())
 }
 
 fn put_fingerprint_if(
