@@ -4,4 +4,5 @@ pub mod GroupingLaws
 pub mod GroupMaps
 pub mod RowLaws
 pub mod FoundLaws
+pub mod DistinctLaws
 pub mod CandidateLaws

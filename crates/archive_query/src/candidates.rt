@@ -16,7 +16,7 @@ use archive_model::View;
 use dictionary::{SERIES_INSTANCE_UID, STUDY_INSTANCE_UID};
 use key_matching::{Matching, is_universal, members_of};
 use live_picks::ShortText;
-use octets::Octets;
+use octets::{Octets, ascending};
 use operation::Content;
 use query_model::{Asked, Level, Query};
 use site_state::Site;
@@ -73,7 +73,7 @@ pub fn put_studies(
     Ok(())
 }
 
-/// Puts in what is of the studies that a key lists, or of one without a name.
+/// Puts in what is of the studies that a key lists, each looked up once, or of one without a name.
 fn put_listed(
     alloc: Global,
     index: &Index,
@@ -83,7 +83,7 @@ fn put_listed(
     ensures { OnOk result ((uid : List ℕ) → has text_cmp uids.new.keys uid ≡
         (has text_cmp uids.old.keys uid || is_listed key.now (pick_at uid index.now.1.1.1))) }
 {
-    let studies = members_of(alloc, key)?;
+    let studies = ascending(members_of(alloc, key)?);
     index.put_study(&ShortText::empty(), uids)?;
     put_studies(index, &studies, uids)?;
     Ok(())
@@ -107,7 +107,7 @@ pub fn put_some_series(
     Ok(())
 }
 
-/// Puts in what is of the series that a key lists, or of one without a name.
+/// Puts in what is of the series that a key lists, each looked up once, or of one without a name.
 fn put_listed_series(
     alloc: Global,
     index: &Index,
@@ -119,7 +119,7 @@ fn put_listed_series(
         (has text_cmp uids.old.keys uid
         || is_listed_series study.now key.now (pick_at uid index.now.1.1.1))) }
 {
-    let series = members_of(alloc, key)?;
+    let series = ascending(members_of(alloc, key)?);
     index.put_series(study, &ShortText::empty(), uids)?;
     put_some_series(index, study, &series, uids)?;
     Ok(())
