@@ -1,5 +1,5 @@
 -- What a look takes is enough for the rows: the values that corrections give to what is shown.
-use Rattle.std.proofs.Common.{◌≡◌, ℕ, zero, suc, drop, Bool, true, false, cond, List, [], ◌∷◌, ◌++◌, map, length, Option, Some, None, refl}
+use Rattle.std.proofs.Common.{◌≡◌, ℕ, zero, suc, drop, Bool, true, false, cond, List, [], ◌∷◌, length, Option, Some, None, refl}
 use Rattle.std.proofs.Common.{sym, ap, subst, ◌∙◌, inl, inr, ◌⊎◌, arith}
 use Rattle.std.specs.Prelude.{◌==◌, ◌||◌, if◌then◌else◌}
 use Rattle.std.proofs.lemmas.Bool.{false≢true, eqb-true}
@@ -23,8 +23,8 @@ use Rattle.live_picks.specs.Proved.Picks.{text_exact}
 use Rattle.live_picks.proofs.KeyLaws.{same_key}
 use Rattle.query_model.specs.declared.asked.Asked.{Asked}
 use Rattle.query_model.specs.declared.query.Query.{Query}
-use Rattle.query_model.specs.Rows.{is_asked, is_named, named, rows_with, rows_among}
-use Rattle.archive_query.specs.Found.{fix_at, fixes_of, value_among, these_or_none, fixes_under, fixes_put, value_by}
+use Rattle.query_model.specs.Rows.{is_named, named, rows_among}
+use Rattle.archive_query.specs.Found.{fixes_of, value_among, these_or_none, fixes_under, fixes_put, value_by}
 use Rattle.archive_query.specs.Found.{AreFixes, rows_found}
 use Rattle.archive_query.proofs.RowLaws.{rows_agree}
 

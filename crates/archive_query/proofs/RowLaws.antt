@@ -1,8 +1,8 @@
 -- The rows need of a set what is shown, and the values that its corrections give to that.
 use Rattle.std.proofs.Common.{◌≡◌, ℕ, Bool, true, false, ◌&&◌, ◌||◌, cond, List, [], ◌∷◌, map, length, Option, Some}
-use Rattle.std.proofs.Common.{None, refl, sym, ap, subst, ◌∙◌, inl, inr}
+use Rattle.std.proofs.Common.{None, refl, ap, ◌∙◌, inl, inr}
 use Rattle.std.specs.Prelude.{◌==◌, if◌then◌else◌}
-use Rattle.std.specs.List.{filter, filter_map, cons_option, list_all, list_any, join_with_byte}
+use Rattle.std.specs.List.{filter, filter_map, cons_option, list_all, join_with_byte}
 use Rattle.std.specs.Option.{option_map}
 use Rattle.std.specs.Fmt.{decimal}
 use Rattle.std.proofs.lemmas.Bool.{eq-eqb}

@@ -3,7 +3,6 @@
 ghost use Rattle.std.specs.Prelude.{◌≡◌, IfOk};
 ghost use Rattle.archive_query.specs.Found.{value_by};
 ghost use Rattle.query_model.specs.Rows.{is_key_match_with};
-ghost use Rattle.query_model.specs.declared.asked.Asked.{Asked as asked_parts};
 
 use crate::fixes::Fixes;
 use key_matching::PreparedKey;

@@ -1,6 +1,7 @@
 //! Answers to C-FIND over a site (PS3.4, section C.4.1).
 //!
-//! The rows are `rows_of` of `query_model`, found by walking the site's index.
+//! The rows are `rows_of` of `query_model`. `take` takes what they are made of, found by walking the
+//! site's index, and `rows_found` makes them of that, without the site.
 #![tactic(auto)]
 
 mod candidates;

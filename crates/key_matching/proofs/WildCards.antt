@@ -1,5 +1,5 @@
 -- What a `*` matches, and the greedy step: the last `*` alone need be tried again.
-use Rattle.std.proofs.Common.{◌≡◌, ◌≢◌, ◌<◌, ◌≤◌, ◌+◌, ℕ, zero, suc, List, [], ◌∷◌, length, drop, get_or, Bool, true}
+use Rattle.std.proofs.Common.{◌≡◌, ◌<◌, ◌≤◌, ℕ, zero, suc, List, [], ◌∷◌, length, drop, get_or, Bool, true}
 use Rattle.std.proofs.Common.{false, not, ◌&&◌, ◌||◌, ◌==◌, refl, sym, ap, ◌∙◌, arith, ◌⊎◌, inl, inr, drop-cons}
 use Rattle.std.proofs.Common.{length-drop, add-zero}
 use Rattle.std.proofs.lemmas.Bool.{eqb-true}

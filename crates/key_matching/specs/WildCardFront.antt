@@ -1,5 +1,5 @@
 -- What one front of a key and a value that match leaves, and where a run of a key without `*` matches.
-use Rattle.std.specs.Prelude.{◌≡◌, ◌≢◌, ℕ, zero, suc, ◌<◌, ◌≤◌, List, [], ◌∷◌, length, drop, Bool, true, false, ◌&&◌, ◌||◌}
+use Rattle.std.specs.Prelude.{◌≡◌, ℕ, zero, suc, ◌<◌, ◌≤◌, List, [], ◌∷◌, length, drop, Bool, true, false, ◌&&◌, ◌||◌}
 use Rattle.std.specs.Prelude.{◌==◌, not, Option, Some, None}
 use Rattle.key_matching.specs.WildCard.{star, question_mark, is_byte_match}
 

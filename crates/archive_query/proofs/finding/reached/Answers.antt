@@ -1,4 +1,4 @@
-use Rattle.std.proofs.Common.{List, map, ap, subst, sym, ◌∙◌, Bor}
+use Rattle.std.proofs.Common.{List, map, ap, subst, ◌∙◌, Bor}
 use Rattle.operation.specs.Parts.{ContentParts}
 use Rattle.operation.specs.declared.content.Content.{Content}
 use Rattle.octets.specs.Members.{Has}

@@ -1,6 +1,5 @@
-use Rattle.std.proofs.Common.{◌≡◌, List, map, ap, sym, ◌∙◌, refl, Bor}
+use Rattle.std.proofs.Common.{List, map, ap, sym, ◌∙◌, refl, Bor}
 use Rattle.std.specs.List.{filter_map}
-use Rattle.operation.specs.Parts.{ContentParts}
 use Rattle.operation.specs.declared.content.Content.{Content}
 use Rattle.archive_query.specs.Grouping.{under, groups_by}
 use Rattle.query_model.specs.Rows.{uid_at, row_of_with, row_at_with, uids_at}

@@ -1,4 +1,4 @@
-use Rattle.std.proofs.Common.{rules, ◌∙◌, ◌≡◌, List, ℕ}
+use Rattle.std.proofs.Common.{rules, ◌∙◌}
 use Rattle.std.proofs.lemmas.Fn.{always_returns_same}
 use Rattle.octets.specs.Texts.{text_cmp}
 use Rattle.key_matching.proofs.Listed.{found_by_halves}

@@ -1,4 +1,4 @@
-use Rattle.std.proofs.Common.{arith, ◌∙◌, ◌≡◌, ◌-◌, length, drop, ap, sym}
+use Rattle.std.proofs.Common.{arith, ◌∙◌, ap, sym}
 use Rattle.key_matching.specs.WildCardFront.{is_front}
 use Rattle.key_matching.proofs.Runs.{too_few, at_end}
 use Rattle.key_matching.proofs.wild_card.is_end.Goals as goal

@@ -1,5 +1,5 @@
-use Rattle.std.proofs.Common.{arith, add-one, ◌∙◌, sym}
-use Rattle.key_matching.proofs.Runs.{front_too_long, front_other, front_byte, front_end}
+use Rattle.std.proofs.Common.{arith, sym}
+use Rattle.key_matching.proofs.Runs.{front_too_long}
 use Rattle.key_matching.proofs.wild_card.is_front.Goals as goal
 
 -- A run that is longer than the value is no front of it.

@@ -1,5 +1,4 @@
-use Rattle.std.proofs.Common.{arith, add-one, ◌≡◌, ◌<◌, ◌≤◌, ◌+◌, ◌∙◌, sym, ap, subst, ◌∷◌, length, take, drop, suc, Some, None}
-use Rattle.std.proofs.Common.{length-take-le, length-drop}
+use Rattle.std.proofs.Common.{arith, add-one, ◌≡◌, ◌<◌, ◌∙◌, sym, ap, subst, ◌∷◌, length, drop, suc, Some, None}
 use Rattle.key_matching.specs.WildCard.{star, is_wild_match}
 use Rattle.key_matching.specs.WildCardFront.{IsFirstPlace}
 use Rattle.key_matching.proofs.Runs.{at_place, at_no_place}

@@ -1,4 +1,4 @@
-use Rattle.std.proofs.Common.{◌≡◌, ◌+◌, ◌∷◌, length}
+use Rattle.std.proofs.Common.{◌≡◌, ◌∷◌, length}
 use Rattle.key_matching.specs.WildCard.{star, is_wild_match}
 use Rattle.key_matching.proofs.wild_card.is_match_behind_star.Given as goal
 

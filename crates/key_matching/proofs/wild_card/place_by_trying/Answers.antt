@@ -1,4 +1,4 @@
-use Rattle.std.proofs.Common.{arith, ◌∙◌, ◌≡◌, ap, sym}
+use Rattle.std.proofs.Common.{arith, ◌∙◌, ap, sym}
 use Rattle.key_matching.specs.WildCardFront.{is_front}
 use Rattle.key_matching.proofs.Runs.{front_fits}
 use Rattle.key_matching.proofs.wild_card.place_by_trying.Goals as goal

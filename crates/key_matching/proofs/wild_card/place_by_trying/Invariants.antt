@@ -1,4 +1,4 @@
-use Rattle.std.proofs.Common.{◌≡◌, ◌<◌, ◌≤◌, ◌+◌, ◌-◌, ℕ, length, drop, false}
+use Rattle.std.proofs.Common.{◌≡◌, ◌<◌, ◌+◌, ◌-◌, ℕ, length, drop, false}
 use Rattle.key_matching.specs.WildCardFront.{is_front}
 use Rattle.key_matching.proofs.wild_card.place_by_trying.Given as goal
 

@@ -1,5 +1,4 @@
-use Rattle.std.proofs.Common.{Option}
-use Rattle.key_matching.proofs.Runs.{found_first, found_within}
+use Rattle.key_matching.proofs.Runs.{found_first}
 use Rattle.key_matching.proofs.wild_card.place_of_literal.Goals as goal
 
 -- The first place of the bytes is the first at which the run matches.

@@ -1,6 +1,5 @@
-use Rattle.std.proofs.Common.{◌≡◌, ◌+◌, ◌∷◌, List, map, drop, suc, ap, subst, sym, ◌∙◌, Bor, arith, add-one, drop-cons}
+use Rattle.std.proofs.Common.{◌≡◌, ◌+◌, ◌∷◌, map, drop, suc, ap, subst, sym, ◌∙◌, Bor, arith, add-one, drop-cons}
 use Rattle.std.proofs.lemmas.List.{drop_all}
-use Rattle.octets.specs.Members.{Has}
 use Rattle.operation.specs.declared.content.Content.{Content}
 use Rattle.archive_model.proofs.MemberLaws.{has_map}
 use Rattle.site_state.specs.declared.counts.Counts.{Counts}
