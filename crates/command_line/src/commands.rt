@@ -8,24 +8,39 @@ const ABOUT: &str = "A DICOM archive of several sites";
 /// The version that `--version` tells.
 const VERSION: &str = "1.0";
 
-const SIMULATE: &str = "Answers the script on standard input, in which sites take images, \
-    corrections and rejection notes and exchange them
+const SIMULATE: &str = "Answers a script, in which several sites exchange";
+
+const SIMULATE_LONG: &str = "\
+Answers the script on standard input, in which sites take images, corrections
+and rejection notes and exchange them.
 
 Example: archive simulate < rejected.script";
 
-const REPORT: &str = "Counts the operations in FILE, and tells the SOP Instance UIDs of which it \
-    has two contents or more. With one of --conflicts, --rejected, --corrections and --studies it \
-    tells a table instead, aligned for reading, and with --tsv parted by tabs
+const REPORT: &str = "Counts the operations in FILE, or tells a table of its site";
+
+const REPORT_LONG: &str = "\
+Counts the operations in FILE, and tells the SOP Instance UIDs of which it has
+two contents or more. With one of --conflicts, --rejected, --corrections and
+--studies it tells a table instead, aligned for reading, and with --tsv parted
+by tabs. FILE is only read; one that is not there is told as one that has
+nothing.
 
 Example: archive report ops.db --studies";
 
-const CORRECT: &str =
-    "Corrects an attribute of a study, a patient or a series in FILE, which is made \
-    where it is not there, and prints the correction's stamp once it is stored
+const CORRECT: &str = "Corrects an attribute of a study, a patient or a series";
+
+const CORRECT_LONG: &str = "\
+Corrects an attribute of a study, a patient or a series in FILE, which is made
+where it is not there, and prints the correction's stamp once it is stored. It
+warns of a date or a time that no query matches, and of a target of which FILE
+has nothing.
 
 Example: archive correct ops.db --site 1 study 1.2.1 00100010 ROE^ANN";
 
-const SERVE: &str = "Serves the operations in FILE, which is made where it is not there, to C-ECHO,
+const SERVE: &str = "Serves FILE to DICOM clients, and exchanges with other sites";
+
+const SERVE_LONG: &str = "\
+Serves the operations in FILE, which is made where it is not there, to C-ECHO,
 C-STORE, C-FIND and C-GET under the called titles ARCHIVE, QUALITY and AUDIT,
 for ever, or with --each until each worker has accepted so many associations.
 
@@ -38,16 +53,87 @@ With --allow only peers of these networks may come, such as 10.1.0.0/16; a
 connection from elsewhere is closed unread. With --calling only requestors that
 call themselves so are answered; others are rejected.
 
-Example: archive serve site.db --listen 127.0.0.1:11112 \
-    --exchange 127.0.0.1:11113 --rounds 1000 --peer 127.0.0.1:11115 --every 30";
+Example: archive serve site.db --listen 127.0.0.1:11112 \\
+             --exchange 127.0.0.1:11113 --rounds 1000 \\
+             --peer 127.0.0.1:11115 --every 30";
 
-const EXCHANGE: &str =
-    "Exchanges operations with the site that serves exchanges at ADDR: it is given what it lacks \
-    of those in FILE, and FILE, which is made where it is not there, takes what the site has. \
-    Prints how many were given, how many taken that were new, and whether all came that were asked \
-    for
+const EXCHANGE: &str = "Exchanges operations with another site, once";
+
+const EXCHANGE_LONG: &str = "\
+Exchanges operations with the site that serves exchanges at ADDR: it is given
+what it lacks of those in FILE, and FILE, which is made where it is not there,
+takes what the site has. Prints how many were given, how many taken that were
+new, and whether all came that were asked for.
 
 Example: archive exchange ops.db --peer 127.0.0.1:11113";
+
+/// The headings of the options of a server.
+const LISTENING: &str = "Listening";
+
+const OTHERS: &str = "Other sites";
+
+const WHO: &str = "Who may come";
+
+const ENDING: &str = "Ending and telling";
+
+const EXCHANGES_AT_ONCE: Help<'static> = Help {
+    line: "How many of them at once, 1 to 64 [default: 2]",
+    whole: "How many exchanges are served at once, 1 to 64{n}{n}[default: 2]",
+};
+
+const IDLE: Help<'static> = Help {
+    line: "How long a peer may be silent [default: 60]",
+    whole: "How long a peer may say nothing, or take nothing, before it is let \
+        go,{n}0 to 86400 seconds, 0 for ever{n}{n}[default: 60]",
+};
+
+const EVERY: Help<'static> = Help {
+    line: "The wait before a peer is called again [default: 60]",
+    whole: "How long it waits before it calls a peer again, from 1 second \
+        on{n}{n}[default: 60]",
+};
+
+const ALLOW: Help<'static> = Help {
+    line: "A network of associations [default: any]",
+    whole: "A network from which associations may come, which can be given \
+        again{n}{n}[default: any]",
+};
+
+const EXCHANGE_ALLOW: Help<'static> = Help {
+    line: "A network of exchanges [default: any]",
+    whole: "A network from which exchanges may come, which can be given \
+        again{n}{n}[default: any]",
+};
+
+const CALLING: Help<'static> = Help {
+    line: "A title that may call [default: any]",
+    whole: "A calling title that may ask for an association, which can be \
+        given{n}again{n}{n}[default: any]",
+};
+
+const QUALITY_CALLING: Help<'static> = Help {
+    line: "A title that may call QUALITY [default: see --calling]",
+    whole: "A calling title that may call QUALITY, which can be given \
+        again{n}{n}[default: those of --calling]",
+};
+
+const AUDIT_CALLING: Help<'static> = Help {
+    line: "A title that may call AUDIT [default: see --calling]",
+    whole: "A calling title that may call AUDIT, which can be given \
+        again{n}{n}[default: those of --calling]",
+};
+
+const EACH: Help<'static> = Help {
+    line: "How many each worker accepts [default: no end]",
+    whole: "How many associations each worker accepts before it \
+        ends{n}{n}[default: no end]",
+};
+
+const PEER_VERSION: Help<'static> = Help {
+    line: "The version of the other site [default: 2]",
+    whole: "The version that the other site speaks: 1 for one that knows no \
+        HELLO{n}{n}[default: 2]",
+};
 
 /// The longest that a wait for a peer may last, in seconds: a day.
 const LONGEST_IDLE: i64 = 86_400;
@@ -73,14 +159,26 @@ fn option<'a>(alloc: Global, name: &'a str, value: &'a str, help: &'a str) -> Ar
         .help(help)
 }
 
+/// What is said of an option in a line, and in whole.
+#[derive(Clone, Copy)]
+struct Help<'a> {
+    line: &'a str,
+    whole: &'a str,
+}
+
+/// An option with a value, of which more is said in whole: what holds where it is left out.
+fn told<'a>(alloc: Global, name: &'a str, value: &'a str, help: Help<'a>) -> Arg<'a> {
+    option(alloc, name, value, help.line).long_help(help.whole)
+}
+
 /// An option with a value, which has to be there.
 fn needed<'a>(alloc: Global, name: &'a str, value: &'a str, help: &'a str) -> Arg<'a> {
     option(alloc, name, value, help).required(true)
 }
 
 /// An option that may be given again and again.
-fn options<'a>(alloc: Global, name: &'a str, value: &'a str, help: &'a str) -> Arg<'a> {
-    option(alloc, name, value, help).action(ArgAction::Append)
+fn all(option: Arg<'_>) -> Arg<'_> {
+    option.action(ArgAction::Append)
 }
 
 /// A command with one word or option more.
@@ -97,17 +195,26 @@ fn with_wanting<'a>(
     command.arg(arg.requires_arg(wanted)?)
 }
 
+/// A command, with what is said of it in a line and in whole.
+fn told_of<'a>(alloc: Global, name: &'a str, about: &'a str, whole: &'a str) -> Command<'a> {
+    Command::new(alloc, name).about(about).long_about(whole)
+}
+
 /// A command of a file.
-fn command_of<'a>(alloc: Global, name: &'a str, about: &'a str) -> Result<Command<'a>, AllocError> {
+fn command_of<'a>(
+    alloc: Global,
+    name: &'a str,
+    about: &'a str,
+    whole: &'a str,
+) -> Result<Command<'a>, AllocError> {
     let file = word(alloc, "FILE", "The file with the operations");
-    with(Command::new(alloc, name).about(about), file)
+    with(told_of(alloc, name, about, whole), file)
 }
 
 /// With the options that name tables, of which one may be given.
 fn with_tables<'a>(alloc: Global, command: Command<'a>) -> Result<Command<'a>, AllocError> {
-    let conflicts =
-        "The contents of each SOP Instance UID that has two or more, and which is picked";
-    let rejected = "The UIDs that rejection notes name, with the titles of the notes and the notes";
+    let conflicts = "The contents of UIDs that have two or more";
+    let rejected = "The UIDs that rejection notes name";
     let corrections = "The corrections, and which of them count";
     let studies = "The studies that ARCHIVE shows, corrected";
     let command = with(command, flag(alloc, "conflicts", conflicts))?;
@@ -139,24 +246,21 @@ fn with_fingerprint<'a>(alloc: Global, command: Command<'a>) -> Result<Command<'
 fn report_command<'a>(alloc: Global) -> Result<Command<'a>, AllocError> {
     let tables = tables_of(alloc)?;
     let separated = "Parts the cells of the table by tabs";
-    let command = with_tables(alloc, command_of(alloc, "report", REPORT)?)?;
+    let command = with_tables(alloc, command_of(alloc, "report", REPORT, REPORT_LONG)?)?;
     let command = with_wanting(command, flag(alloc, "tsv", separated), "table")?;
     let command = with_fingerprint(alloc, command)?;
     command.group(tables)
 }
 
 fn correct_command<'a>(alloc: Global) -> Result<Command<'a>, AllocError> {
-    let site = needed(
-        alloc,
-        "site",
-        "N",
-        "The number of the site, from 1 to 65535",
-    )
-    .value_parser(value_parser!(u16).range(1..));
-    let key = "The Study Instance UID, Patient ID or Series Instance UID";
+    let site = needed(alloc, "site", "N", "The number of the site, 1 to 65535").value_parser(
+        value_parser!(u16).range(1..),
+    );
+    let key = "Its Study Instance UID, Patient ID or Series Instance UID";
     let tag = "The attribute, in eight hexadecimal digits";
     let value = "Its new value, behind -- where it begins with -";
-    let command = with(command_of(alloc, "correct", CORRECT)?, site)?;
+    let command = command_of(alloc, "correct", CORRECT, CORRECT_LONG)?;
+    let command = with(command, site)?;
     let command = with(command, word(alloc, "TARGET", "study, patient or series"))?;
     let command = with(command, word(alloc, "KEY", key))?;
     let command = with(command, word(alloc, "TAG", tag))?;
@@ -165,15 +269,14 @@ fn correct_command<'a>(alloc: Global) -> Result<Command<'a>, AllocError> {
 
 /// With the options of the exchanges that a server serves.
 fn with_exchanges<'a>(alloc: Global, command: Command<'a>) -> Result<Command<'a>, AllocError> {
-    let listen = "The IPv4 address and port to listen at for exchanges";
+    let listen = "Where exchanges come in";
     let exchange = option(alloc, "exchange", "ADDR", listen);
     let rounds = option(alloc, "rounds", "N", "How many exchanges are served").value_parser(
         value_parser!(u32),
     );
-    let at_once = "How many exchanges are served at once, 2 where it is left out";
-    let workers = option(alloc, "exchange-workers", "N", at_once).value_parser(value_parser!(
-        u16
-    ).range(1..=64));
+    let workers = told(alloc, "exchange-workers", "N", EXCHANGES_AT_ONCE).value_parser(
+        value_parser!(u16).range(1..=64),
+    );
     let command = with_wanting(command, exchange, "rounds")?;
     let command = with_wanting(command, rounds, "exchange")?;
     with_wanting(command, workers, "exchange")
@@ -181,40 +284,36 @@ fn with_exchanges<'a>(alloc: Global, command: Command<'a>) -> Result<Command<'a>
 
 /// The longest that a wait for a peer lasts.
 fn idle_option<'a>(alloc: Global) -> Arg<'a> {
-    let idle = "How long a peer may say nothing, 60 where it is left out, 0 for ever";
-    option(alloc, "idle", "SECONDS", idle).value_parser(value_parser!(u32).range(0..=LONGEST_IDLE))
+    told(alloc, "idle", "SECONDS", IDLE).value_parser(value_parser!(u32).range(0..=LONGEST_IDLE))
 }
 
 /// With the options of the sites that a server calls.
 fn with_peers<'a>(alloc: Global, command: Command<'a>) -> Result<Command<'a>, AllocError> {
-    let peer = "The IPv4 address and port of a site that is called again and again";
-    let every = "How long it waits before it calls a peer again, 60 where it is left out";
-    let command = with(command, options(alloc, "peer", "ADDR", peer))?;
-    let every = option(alloc, "every", "SECONDS", every).value_parser(value_parser!(u32).range(
-        1..,
-    ));
+    let peer = "A site that is called again and again";
+    let command = command.next_help_heading(OTHERS);
+    let command = with(command, all(option(alloc, "peer", "ADDR", peer)))?;
+    let every = told(alloc, "every", "SECONDS", EVERY).value_parser(value_parser!(u32).range(1..));
     with_wanting(command, every, "peer")
 }
 
 /// With the options of who may come.
 fn with_callers<'a>(alloc: Global, command: Command<'a>) -> Result<Command<'a>, AllocError> {
-    let allow = "A network from which associations may come, else from anywhere";
-    let exchange_allow = "A network from which exchanges may come, else from anywhere";
-    let calling = "A calling title that may ask for an association, else any may";
-    let command = with(command, options(alloc, "allow", "NETWORK", allow))?;
-    let exchange_allow = options(alloc, "exchange-allow", "NETWORK", exchange_allow);
-    let command = with(command, exchange_allow)?;
-    let quality = "One that may call QUALITY, else those of --calling";
-    let audit = "One that may call AUDIT, else those of --calling";
-    let command = with(command, options(alloc, "calling", "TITLE", calling))?;
-    let command = with(command, options(alloc, "quality-calling", "TITLE", quality))?;
-    with(command, options(alloc, "audit-calling", "TITLE", audit))
+    let command = command.next_help_heading(WHO);
+    let command = with(command, all(told(alloc, "allow", "NETWORK", ALLOW)))?;
+    let exchange_allow = told(alloc, "exchange-allow", "NETWORK", EXCHANGE_ALLOW);
+    let command = with(command, all(exchange_allow))?;
+    let command = with(command, all(told(alloc, "calling", "TITLE", CALLING)))?;
+    let quality = told(alloc, "quality-calling", "TITLE", QUALITY_CALLING);
+    let command = with(command, all(quality))?;
+    let audit = told(alloc, "audit-calling", "TITLE", AUDIT_CALLING);
+    with(command, all(audit))
 }
 
 /// With the options of how a server ends and what it tells.
 fn with_manner<'a>(alloc: Global, command: Command<'a>) -> Result<Command<'a>, AllocError> {
     let until = "Ends once its standard input does";
-    let verbose = "Tells each association and each exchange on standard error";
+    let verbose = "Tells what it serves on standard error";
+    let command = command.next_help_heading(ENDING);
     let command = with(command, idle_option(alloc))?;
     let command = with(command, flag(alloc, "until-end-of-input", until))?;
     with(command, flag(alloc, "verbose", verbose))
@@ -222,23 +321,23 @@ fn with_manner<'a>(alloc: Global, command: Command<'a>) -> Result<Command<'a>, A
 
 /// With the options of where a server listens and how much it serves.
 fn with_workers<'a>(alloc: Global, command: Command<'a>) -> Result<Command<'a>, AllocError> {
-    let listen = "The IPv4 address and port to listen at";
-    let workers = "How many associations are served at once, 1 to 64";
-    let each = "How many associations each worker accepts, else it goes on for ever";
+    let listen = "Where associations come in";
+    let workers = "How many of them at once, 1 to 64";
+    let command = command.next_help_heading(LISTENING);
     let listen = option(alloc, "listen", "ADDR", listen).default_value("127.0.0.1:11112");
     let command = with(command, listen)?;
     let workers = option(alloc, "workers", "N", workers)
         .value_parser(value_parser!(u16).range(1..=64))
         .default_value("8");
     let command = with(command, workers)?;
-    let each = option(alloc, "each", "N", each).value_parser(value_parser!(u32));
+    let each = told(alloc, "each", "N", EACH).value_parser(value_parser!(u32));
     with(command, each)
 }
 
 fn serve_command<'a>(alloc: Global) -> Result<Command<'a>, AllocError> {
     let file = "The file with the operations";
     let file = Arg::new(alloc, "FILE").help(file).default_value("site.db");
-    let command = with(Command::new(alloc, "serve").about(SERVE), file)?;
+    let command = with(told_of(alloc, "serve", SERVE, SERVE_LONG), file)?;
     let command = with_workers(alloc, command)?;
     let command = with_exchanges(alloc, command)?;
     let command = with_peers(alloc, command)?;
@@ -247,13 +346,12 @@ fn serve_command<'a>(alloc: Global) -> Result<Command<'a>, AllocError> {
 }
 
 fn exchange_command<'a>(alloc: Global) -> Result<Command<'a>, AllocError> {
-    let peer = "The IPv4 address and port of the other site";
-    let known = "The version that the other site speaks: 1 for one that knows no HELLO, else 2";
-    let command = command_of(alloc, "exchange", EXCHANGE)?;
+    let peer = "Where the other site serves exchanges";
+    let command = command_of(alloc, "exchange", EXCHANGE, EXCHANGE_LONG)?;
     let command = with(command, needed(alloc, "peer", "ADDR", peer))?;
-    let version = option(alloc, "peer-version", "N", known).value_parser(value_parser!(u16).range(
-        1..=2,
-    ));
+    let version = told(alloc, "peer-version", "N", PEER_VERSION).value_parser(value_parser!(
+        u16
+    ).range(1..=2));
     let command = with(command, version)?;
     with(command, idle_option(alloc))
 }
@@ -263,7 +361,7 @@ pub(crate) fn archive_command<'a>(alloc: Global) -> Result<Command<'a>, AllocErr
         .about(ABOUT)
         .version(VERSION)
         .subcommand_required(true)
-        .subcommand(Command::new(alloc, "simulate").about(SIMULATE))?
+        .subcommand(told_of(alloc, "simulate", SIMULATE, SIMULATE_LONG))?
         .subcommand(report_command(alloc)?)?
         .subcommand(correct_command(alloc)?)?
         .subcommand(serve_command(alloc)?)?
