@@ -45,6 +45,8 @@ use Rattle.study_index.specs.Index.{fix_of, index_of, fix_at}
 use Rattle.study_index.specs.Definition.{IsIndexOf}
 use Rattle.study_index.specs.Proved.Indexes.{copy_total, copy_exact, naming_total, naming_exact, fix_key_total}
 use Rattle.study_index.specs.Proved.Indexes.{fix_key_exact, fix_exact, index_laws, index_summary_laws}
+use Rattle.study_index.specs.Leads.{Lead, lead_cmp, leads_of, is_lead}
+use Rattle.study_index.specs.Proved.Leads.{lead_total, lead_exact}
 use Rattle.live_picks.proofs.KeyLaws.{or_none, at_either}
 use Rattle.live_picks.proofs.Trees.{pick_at-joined}
 
@@ -89,19 +91,30 @@ one_copy : (b : Bool) (uid digest : Text) (op : Op) (ops : List Op) → is_conte
 one_copy true uid digest op ops e = refl
 one_copy false uid digest op ops e = refl
 
-pub has_copy : (ops : List Op) (uid digest : Text) → has copy_cmp (value ops).0 (uid, digest) ≡ has text_cmp
+pub has_copy : (ops : List Op) (uid digest : Text) → has copy_cmp (value ops).0.0 (uid, digest) ≡ has text_cmp
     (copies uid ops) digest
 has_copy [] uid digest = refl
 has_copy (a_content c ∷ ops) uid digest =
-    has-union copy_total copy_exact (uid, digest) (value ops).0 ((c.instance, digest_of (a_content c)) ∷ [])
-    ∙ ap (λ b. (b || false) || has copy_cmp (value ops).0 (uid, digest))
+    has-union copy_total copy_exact (uid, digest) (value ops).0.0 ((c.instance, digest_of (a_content c)) ∷ [])
+    ∙ ap (λ b. (b || false) || has copy_cmp (value ops).0.0 (uid, digest))
     (at_copy uid digest c.instance (digest_of (a_content c)))
-    ∙ ap (λ b. b || has copy_cmp (value ops).0 (uid, digest)) (or_none _)
+    ∙ ap (λ b. b || has copy_cmp (value ops).0.0 (uid, digest)) (or_none _)
     ∙ ap (λ b. (same c.instance uid && is_at (text_cmp digest) (digest_of (a_content c))) || b)
     (has_copy ops uid digest)
     ∙ one_copy (same c.instance uid) uid digest (a_content c) ops refl
-has_copy (a_correction k ∷ ops) uid digest = has-union copy_total copy_exact (uid, digest) (value ops).0 []
+has_copy (a_correction k ∷ ops) uid digest = has-union copy_total copy_exact (uid, digest) (value ops).0.0 []
     ∙ has_copy ops uid digest
+
+-- ---- leads
+
+has_lead : (ops : List Op) (lead : Lead) → has lead_cmp (value ops).0.1 lead ≡ is_lead ops lead
+has_lead [] lead = refl
+has_lead (a_content c ∷ ops) lead =
+    has-union lead_total lead_exact lead (value ops).0.1 (leads_of (a_content c))
+    ∙ ap (λ b. has lead_cmp (leads_of (a_content c)) lead || b) (has_lead ops lead)
+has_lead (a_correction k ∷ ops) lead =
+    has-union lead_total lead_exact lead (value ops).0.1 (leads_of (a_correction k))
+    ∙ ap (λ b. has lead_cmp (leads_of (a_correction k)) lead || b) (has_lead ops lead)
 
 -- ---- titles
 
@@ -379,6 +392,7 @@ pub is_index : (ops : List Op) → Ascend ops → IsIndexOf ops (value ops)
 is_index ops up = record {
   picks = has_pick ops up;
   copies = has_copy ops;
+  leads = has_lead ops;
   titles = has_title ops;
   fixes = has_fix ops;
 }

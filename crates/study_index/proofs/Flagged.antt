@@ -114,15 +114,15 @@ as_many uid (a_content c ∷ ops) = by (same c.instance uid) (as_many uid ops)
 as_many uid (a_correction k ∷ ops) = as_many uid ops
 
 module _ (ops : List Op) (up : Ascend ops) (index : IndexValue) (is : IsIndexOf ops index)
-    (sorted : IsStrictlySortedBy copy_cmp index.0) where
+    (sorted : IsStrictlySortedBy copy_cmp index.0.0) where
   -- two copies of a UID are two contents of it
-  doubled : (uid : Text) → is_doubled index.0 uid ≡ is_flagged ops uid
+  doubled : (uid : Text) → is_doubled index.0.0 uid ≡ is_flagged ops uid
   doubled uid =
       ap (nat_lt 1) (
-      sym (length-map (filter (is_copy_of uid) index.0) (λ c. c.1))
-      ∙ ap length (same_keys nat_list_cmp_total text_exact (digests uid index.0) (copies uid ops)
-      (digests_ascend uid index.0 sorted) (kept_ascend (is_content_of uid) ops up)
-      (λ digest. has_digest uid digest index.0 ∙ is.copies uid digest))
+      sym (length-map (filter (is_copy_of uid) index.0.0) (λ c. c.1))
+      ∙ ap length (same_keys nat_list_cmp_total text_exact (digests uid index.0.0) (copies uid ops)
+      (digests_ascend uid index.0.0 sorted) (kept_ascend (is_content_of uid) ops up)
+      (λ digest. has_digest uid digest index.0.0 ∙ is.copies uid digest))
       ∙ as_many uid ops)
 
   has_flagged : (uid : Text) → is_flagged ops uid ≡ has text_cmp (flagged ops) uid
@@ -146,7 +146,7 @@ module _ (ops : List Op) (up : Ascend ops) (index : IndexValue) (is : IsIndexOf 
 
   -- UIDs that ascend and are those of two copies are the flagged ones
   pub flagged_are : (uids : List Text) → IsStrictlySortedBy text_cmp uids
-      → ((uid : Text) → has text_cmp uids uid ≡ is_doubled index.0 uid) → uids ≡ flagged ops
+      → ((uid : Text) → has text_cmp uids uid ≡ is_doubled index.0.0 uid) → uids ≡ flagged ops
   flagged_are uids rise two =
       same_keys nat_list_cmp_total text_exact uids (flagged ops)
       rise (IsStrictlySortedBy-filter text_cmp (is_flagged ops) (instances ops)
@@ -172,18 +172,18 @@ none_below x [] all = refl
 none_below x (t ∷ ts) all = ap (λ o. is_eq o || has text_cmp ts x) all.0 ∙ none_below x ts all.1
 
 -- each content is a copy of its own
-pub contents_counted : (ops : List Op) → Ascend ops → length (index_value ops).0 ≡ length (contents ops)
+pub contents_counted : (ops : List Op) → Ascend ops → length (index_value ops).0.0 ≡ length (contents ops)
 unfolding IsStrictlySortedBy
 contents_counted [] up = refl
 contents_counted (a_content c ∷ ops) up =
     let digest = digest_of (a_content c) in
     let own : Copy = (c.instance, digest) in
-    ap length ((set_laws copy_total copy_exact).commutative (only own) (index_value ops).0 (tt, tt) (held ops).0)
-    ∙ one_more copy_cmp own (index_value ops).0 (has_copy ops c.instance digest
+    ap length ((set_laws copy_total copy_exact).commutative (only own) (index_value ops).0.0 (tt, tt) (held ops).0.0)
+    ∙ one_more copy_cmp own (index_value ops).0.0 (has_copy ops c.instance digest
     ∙ none_below digest (copies c.instance ops) (below_kept digest (is_content_of c.instance) ops up.0))
     ∙ ap suc (contents_counted ops up.1)
 contents_counted (a_correction k ∷ ops) up = ap length ((set_laws copy_total copy_exact).commutative []
-    (index_value ops).0 tt (held ops).0) ∙ contents_counted ops up.1
+    (index_value ops).0.0 tt (held ops).0.0) ∙ contents_counted ops up.1
 
 -- what is no content is a correction
 pub kinds_counted : (ops : List Op) → length (contents ops) + length (corrections ops) ≡ length ops

@@ -3,3 +3,5 @@ pub mod Definitions
 pub mod Doubles
 pub mod Flagged
 pub mod Visits
+pub mod LeadLaws
+mod Folded

@@ -22,6 +22,7 @@ use Rattle.join_laws.specs.GrowSet.{union_of, only}
 use Rattle.join_laws.specs.MapOf.{IsMapOf, map_joined, entry}
 use Rattle.join_laws.specs.PairOf.{pair_joined}
 use Rattle.live_picks.specs.Live.{Text, Pick, picks_joined, flat}
+use Rattle.study_index.specs.Leads.{lead_cmp, leads_of}
 
 -- the SOP Instance UID of a content, and its digest
 abbrev pub Copy : Type 0
@@ -42,9 +43,9 @@ Fix = ℕ × (ℕ × Text)
 abbrev pub Fixes : Type 0
 Fixes = List (FixKey × Option Fix)
 
--- the copies, who is named under which titles, the greatest corrections, and the picks
+-- the copies and the leads, who is named under which titles, the greatest corrections, and the picks
 abbrev pub IndexValue : Type 0
-IndexValue = List (Text × Text) × (List (Text × ℕ) × (List ((ℕ × (Text × ℕ)) × Option (ℕ × (ℕ × Text)))
+IndexValue = (List (Text × Text) × List (ℕ × (Text × (ℕ × Text)))) × (List (Text × ℕ) × (List ((ℕ × (Text × ℕ)) × Option (ℕ × (ℕ × Text)))
     × List (Text × Option (Text × (Text × Text)))))
 
 -- ---- orders, part after part
@@ -68,16 +69,16 @@ fixes_joined = map_joined fix_key_cmp (greatest_of fix_cmp)
 
 abbrev pub IsIndex : IndexValue → Type 0
 IsIndex a =
-    IsStrictlySortedBy copy_cmp a.0
+    (IsStrictlySortedBy copy_cmp a.0.0 × IsStrictlySortedBy lead_cmp a.0.1)
     × (IsStrictlySortedBy naming_cmp a.1.0 × (IsMapOf {K = FixKey} {J = Option Fix} fix_key_cmp (λ _. Unit {0}) a.1.1.0
     × IsMapOf {K = Text} {J = Option Pick} text_cmp (λ _. Unit {0}) a.1.1.1))
 
 abbrev pub index_joined : IndexValue → IndexValue → IndexValue
-index_joined = pair_joined (union_of copy_cmp)
+index_joined = pair_joined (pair_joined (union_of copy_cmp) (union_of lead_cmp))
     (pair_joined (union_of naming_cmp) (pair_joined fixes_joined picks_joined))
 
 abbrev pub nothing : IndexValue
-nothing = ([], ([], ([], [])))
+nothing = (([], []), ([], ([], [])))
 
 -- ---- the index of one operation
 
@@ -119,10 +120,17 @@ fix_of k = (k.stamp.counter, (k.stamp.site, k.value))
 
 abbrev pub index_of : Op → IndexValue
 index_of (a_content c) = (
-  only (c.instance, digest_of (a_content c)),
+  (only (c.instance, digest_of (a_content c)), leads_of (a_content c)),
   (titles_of c.note, ([], entry c.instance (Some (pick_of c)))),
 )
-index_of (a_correction k) = ([], ([], (entry (fix_key k.target k.tag) (Some (fix_of k)), [])))
+index_of (a_correction k) = (([], leads_of (a_correction k)), ([], (entry (fix_key k.target k.tag) (Some (fix_of k)), [])))
+
+-- an index with a content more, but for what it names as a note
+abbrev pub with_content : IndexValue → ContentParts → IndexValue
+with_content a c = (
+  (union_of copy_cmp a.0.0 (index_of (a_content c)).0.0, union_of lead_cmp a.0.1 (leads_of (a_content c))),
+  (a.1.0, (a.1.1.0, picks_joined a.1.1.1 (index_of (a_content c)).1.1.1)),
+)
 
 -- ---- what is read off an index
 

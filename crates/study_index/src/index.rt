@@ -12,13 +12,16 @@ ghost use Rattle.join_laws.specs.GrowSet.{union_of};
 ghost use Rattle.study_index.specs.Copies.{is_doubled};
 ghost use Rattle.live_picks.specs.Keys.{has};
 ghost use Rattle.live_picks.specs.Live.{pick_at, HasStudy, HasSeries, HasInstance, IsNext, picks_joined, is_of_study, is_of_series};
-ghost use Rattle.study_index.specs.Index.{IsIndex, index_joined, index_of, nothing, fixes_joined, titles_of, naming_cmp, copy_cmp, fix_key, fix_at, short_fix_at, latest_at, keys_of, named};
+ghost use Rattle.study_index.specs.Index.{IsIndex, index_joined, index_of, nothing, fixes_joined, titles_of, naming_cmp, copy_cmp, fix_key, fix_at, short_fix_at, latest_at, keys_of, named, with_content};
+ghost use Rattle.study_index.specs.Leads.{lead_cmp, is_between, is_led};
 ghost use Rattle.study_index.specs.Proved.Indexes.{index_laws, index_summary_laws};
 
 use crate::copies::put_doubled;
 use crate::entries::{ContentCopy, Naming};
 use crate::fixes::{Fix, FixKey, fix_in, fix_key_of, key_of, later};
 use crate::keys::Keys;
+use crate::leads::Lead;
+use crate::walk::{given_by, put_led, stored_by};
 use archive_model::{patient, series, study, title_code};
 use join_laws::{Greatest, GrowSet, Join, MapOf, Summary, Undoes};
 use live_picks::{LivePicks, Pick, ShortText};
@@ -36,6 +39,7 @@ use std::marker::Model;
 #[derive(Drop)]
 pub struct Index {
     copies: GrowSet<ContentCopy>,
+    leads: GrowSet<Lead>,
     titles: GrowSet<Naming>,
     fixes: MapOf<FixKey, Greatest<Fix>>,
     live: LivePicks,
@@ -47,7 +51,7 @@ impl Model for Index {
 
     ghost Value = { IndexValue };
 
-    ghost view = { λ a. (a.copies, (a.titles, (a.fixes, a.live))) };
+    ghost view = { λ a. ((a.copies, a.leads), (a.titles, (a.fixes, a.live))) };
 }
 
 // Takes in a UID that a note names, unless it has more than 64 bytes.
@@ -107,7 +111,7 @@ fn add_content(
 ) -> Result<(), AllocError>
     requires { digest ≡ digest_of (a_content content.now) }
     ensures copies { OnOk result (copies.new ≡
-        union_of copy_cmp copies.old (index_of (a_content content.now)).0) }
+        union_of copy_cmp copies.old (index_of (a_content content.now)).0.0) }
     ensures picks { OnOk result (live.new ≡
         picks_joined live.old (index_of (a_content content.now)).1.1.1) }
     ensures copies_kept { OnErr result (copies.new ≡ copies.old) }
@@ -144,7 +148,7 @@ fn join_live(
     Ok(())
 }
 
-// Takes in what another index has beside its copies.
+// Takes in what another index has beside its copies and its leads.
 fn join_others(
     titles: &mut GrowSet<Naming>,
     fixes: &mut MapOf<FixKey, Greatest<Fix>>,
@@ -166,6 +170,31 @@ fn join_others(
     Ok(())
 }
 
+// Takes in what another index has beside its copies.
+fn join_led(
+    leads: &mut GrowSet<Lead>,
+    titles: &mut GrowSet<Naming>,
+    fixes: &mut MapOf<FixKey, Greatest<Fix>>,
+    live: &mut LivePicks,
+    other: &Index,
+) -> Result<(), AllocError>
+    ensures leads { OnOk result (leads.new ≡ union_of lead_cmp leads.old other.now.0.1) }
+    ensures titles { OnOk result (titles.new ≡ union_of naming_cmp titles.old other.now.1.0) }
+    ensures fixes { OnOk result (fixes.new ≡ fixes_joined fixes.old other.now.1.1.0) }
+    ensures picks { OnOk result (live.new ≡ picks_joined live.old other.now.1.1.1) }
+    ensures leads_kept { OnErr result (leads.new ≡ leads.old) }
+    ensures titles_kept { OnErr result (titles.new ≡ titles.old) }
+    ensures fixes_kept { OnErr result (fixes.new ≡ fixes.old) }
+    ensures picks_kept { OnErr result (live.new ≡ live.old) }
+{
+    let led = leads.join_noted(&other.leads)?;
+    if let Err(refused) = join_others(titles, fixes, live, other) {
+        leads.take_out(led);
+        return Err(refused);
+    }
+    Ok(())
+}
+
 impl Join for Index {
     ghost IsHeld = { IsIndex };
 
@@ -175,6 +204,7 @@ impl Join for Index {
 
     fn held(&self) {
         self.copies.held();
+        self.leads.held();
         self.titles.held();
         self.fixes.held();
         self.live.held();
@@ -182,7 +212,8 @@ impl Join for Index {
 
     fn join_with(&mut self, other: &Index) -> Result<(), AllocError> {
         let added = self.copies.join_noted(&other.copies)?;
-        if let Err(refused) = join_others(
+        if let Err(refused) = join_led(
+            &mut self.leads,
             &mut self.titles,
             &mut self.fixes,
             &mut self.live,
@@ -218,6 +249,7 @@ impl Index {
     {
         Index {
             copies: GrowSet::empty(alloc),
+            leads: GrowSet::empty(alloc),
             titles: GrowSet::empty(alloc),
             fixes: MapOf::empty(alloc),
             live: LivePicks::empty(alloc),
@@ -232,7 +264,29 @@ impl Index {
         ensures refused { OnErr result (self.new ≡ self.old) }
     {
         let key = fix_key_of(correction.target(), correction.tag());
-        self.fixes.add(&(key, fix_in(correction)))
+        let given = given_by(self.alloc, correction)?;
+        let led = self.leads.join_noted(&given)?;
+        if let Err(refused) = self.fixes.add(&(key, fix_in(correction))) {
+            self.leads.take_out(led);
+            return Err(refused);
+        }
+        Ok(())
+    }
+
+    // Takes in the copy, the leads and the pick of a content. Its leads are taken out again where
+    // the others are refused.
+    fn add_led(&mut self, digest: Digest, content: &Content) -> Result<(), AllocError>
+        requires { digest ≡ digest_of (a_content content.now) }
+        ensures ok { OnOk result (self.new ≡ with_content self.old content.now) }
+        ensures refused { OnErr result (self.new ≡ self.old) }
+    {
+        let stored = stored_by(self.alloc, content)?;
+        let led = self.leads.join_noted(&stored)?;
+        if let Err(refused) = add_content(&mut self.copies, &mut self.live, digest, content) {
+            self.leads.take_out(led);
+            return Err(refused);
+        }
+        Ok(())
     }
 
     // Takes in a content that is a note. Its titles are taken out again where the content is
@@ -246,7 +300,7 @@ impl Index {
     {
         let named = titles_in(self.alloc, note)?;
         let added = self.titles.join_noted(&named)?;
-        if let Err(refused) = add_content(&mut self.copies, &mut self.live, digest, content) {
+        if let Err(refused) = self.add_led(digest, content) {
             self.titles.take_out(added);
             return Err(refused);
         }
@@ -261,7 +315,7 @@ impl Index {
             index_joined self.old (index_of (a_content content.now))) }
         ensures refused { OnErr result (self.new ≡ self.old) }
     {
-        add_content(&mut self.copies, &mut self.live, digest, content)
+        self.add_led(digest, content)
     }
 
     /// Takes in an operation under its digest. Where memory is refused, the index stays as it was.
@@ -288,7 +342,7 @@ impl Index {
 
     /// Whether a digest is that of a content of a SOP Instance UID.
     pub fn is_copy(&self, uid: &ShortText, digest: &Digest) -> bool
-        ensures { result ≡ has copy_cmp self.now.0 (uid.now, digest.now) }
+        ensures { result ≡ has copy_cmp self.now.0.0 (uid.now, digest.now) }
     {
         let copy = ContentCopy {
             uid: uid.duplicate(),
@@ -350,7 +404,7 @@ impl Index {
 
     /// How many contents were taken in.
     pub fn content_count(&self) -> usize
-        ensures { result ≡ length self.now.0 }
+        ensures { result ≡ length self.now.0.0 }
     {
         self.copies.get().len()
     }
@@ -359,9 +413,24 @@ impl Index {
     /// What was put in before memory was refused stays.
     pub fn put_flagged(&self, uids: &mut BTreeSet<ShortText>) -> Result<(), AllocError>
         ensures { OnOk result ((uid : List ℕ) → has text_cmp uids.new.keys uid
-            ≡ (has text_cmp uids.old.keys uid || is_doubled self.now.0 uid)) }
+            ≡ (has text_cmp uids.old.keys uid || is_doubled self.now.0.0 uid)) }
     {
         put_doubled(self.copies.get(), uids)
+    }
+
+    /// Puts the studies into a set that the leads from a front on and before an end come to. What
+    /// was put in before memory was refused stays.
+    pub fn put_led(
+        &self,
+        front: Lead,
+        end: Lead,
+        studies: &mut BTreeSet<ShortText>,
+    ) -> Result<(), AllocError>
+        ensures { OnOk result ((study : List ℕ) → has text_cmp studies.new.keys study ≡
+            (has text_cmp studies.old.keys study
+            || is_led (is_between front end) self.now.0.1 study)) }
+    {
+        put_led(self.leads.get(), front, end, studies)
     }
 
     /// Puts the SOP Instance UIDs of the picks of a study into a set. What was put in before memory

@@ -11,8 +11,11 @@ mod fixes;
 mod index;
 mod keys;
 mod laws;
+mod leads;
+mod walk;
 
 pub use fixes::Fix;
 pub use index::Index;
 pub use keys::Keys;
 pub use laws::a_walk_comes_to_all_places;
+pub use leads::{Lead, led};

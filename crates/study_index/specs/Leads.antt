@@ -1,0 +1,112 @@
+-- From values to studies: what leads from a value of an attribute to a study.
+use Rattle.std.specs.Prelude.{◌≡◌, ◌⊎◌, ℕ, List, [], ◌∷◌, ◌++◌, map, take, Bool, true, ◌||◌, ◌==◌, if◌then◌else◌}
+use Rattle.std.specs.List.{filter, list_any}
+use Rattle.std.specs.Ordering.{nat_cmp, ordering_then}
+use Rattle.std.specs.declared.cmp.Ordering.{Ordering}
+use Rattle.std.specs.declared.cmp.Ordering.TheVariants.{Less}
+use Rattle.std.specs.BTreeMap.{is_at}
+use Rattle.std.specs.BTreeMap.Range.{range_contains}
+use Rattle.std.specs.declared.ops.Bound.TheVariants.{Included, Excluded}
+use Rattle.std.specs.Char.{to_ascii_uppercase}
+use Rattle.dictionary.specs.declared.elements.TheConstants.{ACCESSION_NUMBER, PATIENT_ID, PATIENT_NAME, STUDY_DATE}
+use Rattle.dictionary.specs.declared.elements.TheConstants.{STUDY_ID}
+use Rattle.operation.specs.declared.op.Op.{Op}
+use Rattle.operation.specs.declared.op.Op.TheVariants.{Content as a_content, Correction as a_correction}
+use Rattle.operation.specs.declared.target.Target.{Target}
+use Rattle.operation.specs.declared.target.Target.TheVariants.{Study, Patient, Series}
+use Rattle.operation.specs.Parts.{ContentParts, own_value}
+use Rattle.octets.specs.Texts.{text_cmp}
+use Rattle.archive_model.specs.Contents.{study_of}
+use Rattle.join_laws.specs.GrowSet.{union_of, only}
+
+abbrev pub Text : Type 0
+Text = List ℕ
+
+-- a tag and a value, and the kind and the key of what it leads to: 1 for a study, 2 for the studies of a stored Patient
+-- ID; 0 and 3 are before and behind all that a value leads to
+abbrev pub Lead : Type 0
+Lead = ℕ × (Text × (ℕ × Text))
+
+-- part after part
+abbrev pub lead_cmp : ℕ × (Text × (ℕ × Text)) → ℕ × (Text × (ℕ × Text)) → Ordering
+lead_cmp x y = ordering_then (nat_cmp x.0 y.0) (ordering_then (text_cmp x.1.0 y.1.0)
+    (ordering_then (nat_cmp x.1.1.0 y.1.1.0) (text_cmp x.1.1.1 y.1.1.1)))
+
+-- ---- values
+
+-- the attributes from whose values studies are found
+abbrev pub led_tags : List ℕ
+led_tags = STUDY_DATE ∷ ACCESSION_NUMBER ∷ PATIENT_NAME ∷ PATIENT_ID ∷ STUDY_ID ∷ []
+
+-- a name is led from without its case
+abbrev pub is_folded : ℕ → Bool
+is_folded tag = tag == PATIENT_NAME
+
+abbrev pub led_byte : Bool → ℕ → ℕ
+led_byte folds byte = if folds then to_ascii_uppercase byte else byte
+
+-- a value as it is led from: 64 bytes of it at most
+abbrev pub as_led : ℕ → List ℕ → Text
+as_led tag value = map (led_byte (is_folded tag)) (take 64 value)
+
+-- ---- the leads of one operation, and of a set
+
+-- a content's own value leads to its study
+abbrev pub stored_lead : ContentParts → ℕ → Lead
+stored_lead c tag = (tag, (as_led tag (own_value c tag), (1, take 64 (study_of c))))
+
+-- a correction's value leads to its study, or to the studies of its patient; no attribute of a study is one of a series
+abbrev pub given_leads : Target → ℕ → Text → List Lead
+given_leads (Study key) tag value = only (tag, (as_led tag value, (1, take 64 key)))
+given_leads (Patient key) tag value = only (tag, (as_led tag value, (2, take 64 key)))
+given_leads (Series key) tag value = []
+
+abbrev pub leads_of : Op → List Lead
+leads_of (a_content c) = union_of lead_cmp [] (map (stored_lead c) led_tags)
+leads_of (a_correction k) = given_leads k.target k.tag k.value
+
+-- whether some operation gives a lead
+abbrev pub is_lead : List Op → Lead → Bool
+is_lead ops lead = list_any (λ op. list_any (is_at (lead_cmp lead)) (leads_of op)) ops
+
+-- ---- what they lead to
+
+abbrev pub is_between : ℕ × (Text × (ℕ × Text)) → ℕ × (Text × (ℕ × Text)) → ℕ × (Text × (ℕ × Text)) → Bool
+is_between front end lead = range_contains lead_cmp (Included front) (Excluded end) lead
+
+-- a value's front and end
+abbrev pub value_front : ℕ → Text → Lead
+value_front tag value = (tag, (value, (0, [])))
+
+abbrev pub value_end : ℕ → Text → Lead
+value_end tag value = (tag, (value, (3, [])))
+
+-- the studies of a stored Patient ID stand side by side
+abbrev pub home_front : Text → Lead
+home_front patient = (PATIENT_ID, (patient, (1, [])))
+
+abbrev pub home_end : Text → Lead
+home_end patient = (PATIENT_ID, (patient, (2, [])))
+
+abbrev pub is_key : Text → Lead → Bool
+is_key s lead = is_at (text_cmp s) lead.1.1.1
+
+abbrev pub is_homed : List (ℕ × (Text × (ℕ × Text))) → Text → Text → Bool
+is_homed leads s patient = list_any (is_key s) (filter (is_between (home_front patient) (home_end patient)) leads)
+
+abbrev pub leads_to : List (ℕ × (Text × (ℕ × Text))) → Text → Lead → Bool
+leads_to leads s lead = if lead.1.1.0 == 2 then is_homed leads s lead.1.1.1 else is_key s lead
+
+-- whether the leads that pass a test come to a study
+abbrev pub is_led : (ℕ × (Text × (ℕ × Text)) → Bool) → List (ℕ × (Text × (ℕ × Text))) → Text → Bool
+is_led passes leads s = list_any (leads_to leads s) (filter passes leads)
+
+-- whatever a value of a tag leads to passes a test of leads
+abbrev pub IsWithin : (ℕ × (Text × (ℕ × Text)) → Bool) → ℕ → Text → Type 0
+IsWithin passes tag value = (kind : ℕ) (key : Text) → (kind ≡ 1) ⊎ (kind ≡ 2)
+    → passes (tag, (as_led tag value, (kind, key))) ≡ true
+
+-- whatever a value that begins with a text leads to is before a lead
+abbrev pub IsBehind : ℕ → Text → ℕ × (Text × (ℕ × Text)) → Type 0
+IsBehind tag text end = (rest : Text) (kind : ℕ) (key : Text)
+    → lead_cmp (tag, (text ++ rest, (kind, key))) end ≡ Less

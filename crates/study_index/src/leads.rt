@@ -1,0 +1,284 @@
+//! From a value to a study: the leads of contents and of corrections, in one order.
+ghost use Rattle.std.specs.Prelude.{◌≡◌, ◌<◌, ◌≤◌, ◌++◌, ◌∷◌, [], take, map, length, refl, Some, IfOk};
+ghost use Rattle.std.specs.Ordering.{eq_by_cmp, nat_cmp, ordering_then};
+ghost use Rattle.std.specs.Cmp.{partial_equiv_from_equiv, eq_by_cmp_equiv, partial_order_from_total};
+ghost use Rattle.std.specs.Char.{to_ascii_uppercase};
+ghost use Rattle.octets.specs.Texts.{text_cmp};
+ghost use Rattle.study_index.specs.Leads.{lead_cmp, as_led, stored_lead, IsBehind};
+ghost use Rattle.study_index.specs.Proved.Leads.{lead_total, lead_exact};
+
+use archive_model::study;
+use dictionary::PATIENT_NAME;
+use join_laws::{Copies, Exact};
+use live_picks::ShortText;
+use operation::Content;
+use std::alloc::{AllocError, Global};
+use std::cmp::Ordering;
+use std::marker::Model;
+use std::sync::Arc;
+
+/// A value as it is led from, and the kind and the key of what it leads to.
+#[derive(Drop)]
+pub struct Named {
+    value: ShortText,
+    kind: u8,
+    key: ShortText,
+}
+
+impl Model for Named {
+    ghost use Rattle.std.specs.Prelude.{ℕ};
+    ghost use Rattle.study_index.specs.Leads.{Text};
+
+    ghost Value = { Text × (ℕ × Text) };
+
+    ghost view = { λ n. (n.value, (n.kind, n.key)) };
+}
+
+/// Where the value and the key of a lead stand.
+#[derive(Drop)]
+pub enum Source {
+    /// In a content, which is shared: its own value leads to its study.
+    Stored(Content),
+    /// In a text, for a correction, or for an end of a walk.
+    Given(Arc<Named, Global>),
+}
+
+/// What leads from a value of an attribute to a study, or to the studies of a stored Patient ID.
+///
+/// One of a content takes 16 bytes and shares the content.
+pub struct Lead {
+    tag: u32,
+    source: Source,
+    alloc: Global,
+}
+
+impl Model for Lead {
+    ghost use Rattle.study_index.specs.Leads.{Lead};
+
+    ghost Value = { Lead };
+
+    ghost use Rattle.study_index.specs.LeadView.{lead_view};
+
+    ghost view = { λ l. lead_view l.tag l.source };
+}
+
+// It is written out, so that a caller does not prove again how each part is dropped.
+impl Drop for Lead {
+    fn drop(self) {
+        let Lead {
+            tag: _,
+            source: _,
+            alloc: _,
+        } = self;
+    }
+}
+
+fn fold(text: &mut [u8])
+    ensures { text.new ≡ map to_ascii_uppercase text.old }
+{
+    for i in 0..text.len() {
+        let byte = text[i];
+        text[i] = byte.to_ascii_uppercase();
+    }
+}
+
+// A text of at most 64 bytes in capitals.
+fn folded(text: &ShortText) -> ShortText
+    ensures { result ≡ map to_ascii_uppercase text.now }
+{
+    let mut bytes = [0; 64];
+    let text = text.as_slice();
+    bytes[..text.len()].copy_from_slice(text);
+    fold(&mut bytes[..text.len()]);
+    ShortText::whole(&bytes[..text.len()])
+}
+
+/// A value as it is led from.
+pub fn led(tag: u32, value: &[u8]) -> ShortText
+    ensures { result ≡ as_led tag value.now }
+{
+    let text = ShortText::cut(value);
+    if tag == PATIENT_NAME {
+        folded(&text)
+    } else {
+        text
+    }
+}
+
+// A text with a byte behind it.
+fn ended(text: &[u8], byte: u8) -> ShortText
+    requires { length text.now < 64 }
+    ensures { result ≡ text.now ++ byte ∷ [] }
+{
+    let mut bytes = [0; 64];
+    bytes[..text.len()].copy_from_slice(text);
+    bytes[text.len()] = byte;
+    ShortText::whole(&bytes[..text.len() + 1])
+}
+
+impl Lead {
+    /// What leads from a content's own value to its study.
+    pub fn stored(alloc: Global, tag: u32, content: &Content) -> Result<Lead, AllocError>
+        ensures { IfOk result (λ lead. lead ≡ stored_lead content.now tag) }
+    {
+        Ok(Lead {
+            tag,
+            source: Source::Stored(content.copy(alloc)?),
+            alloc,
+        })
+    }
+
+    /// What leads from a value, which is as it is led from, to what has a key. Kind 1 is a study, 2
+    /// the studies of a stored Patient ID; 0 and 3 are for the ends of a walk.
+    pub fn given(
+        alloc: Global,
+        tag: u32,
+        value: ShortText,
+        kind: u8,
+        key: ShortText,
+    ) -> Result<Lead, AllocError>
+        ensures { IfOk result (λ lead. lead ≡ (tag, (value, (kind, key)))) }
+    {
+        let named = Arc::new(alloc, Named { value, kind, key })?;
+        Ok(Lead {
+            tag,
+            source: Source::Given(named),
+            alloc,
+        })
+    }
+
+    /// What stands behind all that begins with a text, which is as it is led from.
+    pub fn behind(alloc: Global, tag: u32, text: &ShortText) -> Result<Lead, AllocError>
+        requires { tag < 4294967295 }
+        ensures { IfOk result (λ end. IsBehind tag text.now end) }
+    {
+        let bytes = text.as_slice();
+        let length = bytes.len();
+        if length == 0 || bytes[length - 1] == 255 {
+            let end = Lead::given(alloc, tag + 1, ShortText::empty(), 0, ShortText::empty())?;
+            return Ok(end);
+        }
+        let raised = ended(&bytes[..length - 1], bytes[length - 1] + 1);
+        let end = Lead::given(alloc, tag, raised, 0, ShortText::empty())?;
+        Ok(end)
+    }
+
+    pub(crate) fn alloc(&self) -> Global {
+        self.alloc
+    }
+
+    // The value, as it is led from.
+    fn value(&self) -> ShortText
+        ensures { result ≡ self.now.1.0 }
+    {
+        match &self.source {
+            Source::Stored(content) => led(self.tag, content.own_value(self.tag)),
+            Source::Given(named) => named.value.duplicate(),
+        }
+    }
+
+    /// 1 where it leads to a study, 2 where it leads to the studies of a stored Patient ID.
+    pub fn kind(&self) -> u8
+        ensures { result ≡ self.now.1.1.0 }
+    {
+        match &self.source {
+            Source::Stored(_) => 1,
+            Source::Given(named) => named.kind,
+        }
+    }
+
+    /// The study, or the Patient ID, of which an index knows 64 bytes.
+    pub fn key(&self) -> ShortText
+        ensures { result ≡ self.now.1.1.1 }
+    {
+        match &self.source {
+            Source::Stored(content) => ShortText::cut(study(content)),
+            Source::Given(named) => named.key.duplicate(),
+        }
+    }
+
+    // The order of leads of one tag and one value.
+    fn by_key(&self, other: &Lead) -> Ordering
+        ensures { result ≡ ordering_then (nat_cmp self.now.1.1.0 other.now.1.1.0)
+            (text_cmp self.now.1.1.1 other.now.1.1.1) }
+    {
+        match self.kind().cmp(&other.kind()) {
+            Ordering::Less => Ordering::Less,
+            Ordering::Equal => self.key().cmp(&other.key()),
+            Ordering::Greater => Ordering::Greater,
+        }
+    }
+
+    // The order of leads of one tag.
+    fn by_value(&self, other: &Lead) -> Ordering
+        ensures { result ≡ ordering_then (text_cmp self.now.1.0 other.now.1.0)
+            (ordering_then (nat_cmp self.now.1.1.0 other.now.1.1.0)
+            (text_cmp self.now.1.1.1 other.now.1.1.1)) }
+    {
+        match self.value().cmp(&other.value()) {
+            Ordering::Less => Ordering::Less,
+            Ordering::Equal => self.by_key(other),
+            Ordering::Greater => Ordering::Greater,
+        }
+    }
+}
+
+impl PartialEq for Lead {
+    ghost eq = { eq_by_cmp lead_cmp };
+
+    ghost laws = { partial_equiv_from_equiv (eq_by_cmp_equiv lead_total) };
+
+    fn eq(&self, other: &Lead) -> bool {
+        self.cmp(other).is_eq()
+    }
+}
+
+impl Eq for Lead {
+    ghost laws = { eq_by_cmp_equiv lead_total };
+}
+
+impl PartialOrd for Lead {
+    ghost partial_cmp = { λ x y. Some (lead_cmp x y) };
+
+    ghost laws = { partial_order_from_total lead_total };
+
+    fn partial_cmp(&self, other: &Lead) -> Option<Ordering> {
+        Some(self.cmp(other))
+    }
+}
+
+impl Ord for Lead {
+    ghost cmp = { lead_cmp };
+
+    ghost total = { lead_total };
+
+    ghost matches_partial_cmp = { λ x y. refl };
+
+    ghost matches_eq = { λ x y. refl };
+
+    fn cmp(&self, other: &Lead) -> Ordering {
+        match self.tag.cmp(&other.tag) {
+            Ordering::Less => Ordering::Less,
+            Ordering::Equal => self.by_value(other),
+            Ordering::Greater => Ordering::Greater,
+        }
+    }
+}
+
+impl Copies for Lead {
+    fn copy(&self) -> Result<Lead, AllocError> {
+        let source = match &self.source {
+            Source::Stored(content) => Source::Stored(content.copy(self.alloc)?),
+            Source::Given(named) => Source::Given(Arc::try_clone(named)?),
+        };
+        Ok(Lead {
+            tag: self.tag,
+            source,
+            alloc: self.alloc,
+        })
+    }
+}
+
+impl Exact for Lead {
+    ghost exact = { lead_exact };
+}

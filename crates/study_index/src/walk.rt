@@ -1,0 +1,149 @@
+//! From values to studies: what operations give, and where a walk comes to.
+ghost use Rattle.std.specs.Prelude.{◌≡◌, ◌||◌, List, ℕ, OnOk, IfOk, map};
+ghost use Rattle.std.specs.BTreeMap.{is_at};
+ghost use Rattle.octets.specs.Texts.{text_cmp};
+ghost use Rattle.operation.specs.declared.op.Op.TheVariants.{Content as a_content, Correction as a_correction};
+ghost use Rattle.join_laws.specs.GrowSet.{union_of};
+ghost use Rattle.live_picks.specs.Keys.{has};
+ghost use Rattle.study_index.specs.Leads.{lead_cmp, leads_of, stored_lead, is_between, is_led, is_homed, leads_to, home_front as home_front_in, home_end as home_end_in};
+
+use crate::leads::{Lead, led};
+use dictionary::{ACCESSION_NUMBER, PATIENT_ID, PATIENT_NAME, STUDY_DATE, STUDY_ID};
+use join_laws::{GrowSet, Summary};
+use live_picks::ShortText;
+use operation::{Content, Correction, Target};
+use std::alloc::{AllocError, Global};
+use std::collections::BTreeSet;
+use std::ops::Bound;
+
+// Puts in what leads from the values of some attributes.
+fn add_stored(
+    alloc: Global,
+    leads: &mut GrowSet<Lead>,
+    content: &Content,
+    tags: &[u32],
+) -> Result<(), AllocError>
+    ensures { OnOk result (leads.new ≡
+        union_of lead_cmp leads.old (map (stored_lead content.now) tags.now)) }
+{
+    for tag in tags {
+        leads.add(&Lead::stored(alloc, *tag, content)?)?;
+    }
+    Ok(())
+}
+
+/// What a content gives: its values lead to its study.
+pub fn stored_by(alloc: Global, content: &Content) -> Result<GrowSet<Lead>, AllocError>
+    ensures { IfOk result (λ leads. leads ≡ leads_of (a_content content.now)) }
+{
+    let mut leads = GrowSet::empty(alloc);
+    let tags = [
+        STUDY_DATE,
+        ACCESSION_NUMBER,
+        PATIENT_NAME,
+        PATIENT_ID,
+        STUDY_ID,
+    ];
+    add_stored(alloc, &mut leads, content, &tags)?;
+    Ok(leads)
+}
+
+/// What a correction gives: its value leads to its study, or to the studies of its patient.
+pub fn given_by(alloc: Global, correction: &Correction) -> Result<GrowSet<Lead>, AllocError>
+    ensures { IfOk result (λ leads. leads ≡ leads_of (a_correction correction.now)) }
+{
+    let tag = correction.tag();
+    let value = led(tag, correction.value());
+    let (kind, key) = match correction.target() {
+        Target::Study(key) => (1, ShortText::cut(key.as_slice())),
+        Target::Patient(key) => (2, ShortText::cut(key.as_slice())),
+        Target::Series(_) => return Ok(GrowSet::empty(alloc)),
+    };
+    GrowSet::of(alloc, Lead::given(alloc, tag, value, kind, key)?)
+}
+
+// Puts in a study.
+fn put(studies: &mut BTreeSet<ShortText>, study: ShortText) -> Result<(), AllocError>
+    ensures { OnOk result ((s : List ℕ) → has text_cmp studies.new.keys s ≡
+        (has text_cmp studies.old.keys s || is_at (text_cmp s) study)) }
+{
+    studies.insert(study)?;
+    Ok(())
+}
+
+fn home_front(alloc: Global, patient: &ShortText) -> Result<Lead, AllocError>
+    ensures { IfOk result (λ front. front ≡ home_front_in patient.now) }
+{
+    Lead::given(
+        alloc,
+        PATIENT_ID,
+        patient.duplicate(),
+        1,
+        ShortText::empty(),
+    )
+}
+
+fn home_end(alloc: Global, patient: &ShortText) -> Result<Lead, AllocError>
+    ensures { IfOk result (λ end. end ≡ home_end_in patient.now) }
+{
+    Lead::given(
+        alloc,
+        PATIENT_ID,
+        patient.duplicate(),
+        2,
+        ShortText::empty(),
+    )
+}
+
+// Puts in the studies of a patient, by the ID that is stored.
+fn put_homes(
+    alloc: Global,
+    leads: &BTreeSet<Lead>,
+    patient: &ShortText,
+    studies: &mut BTreeSet<ShortText>,
+) -> Result<(), AllocError>
+    ensures { OnOk result ((s : List ℕ) → has text_cmp studies.new.keys s ≡
+        (has text_cmp studies.old.keys s || is_homed leads.now.keys s patient.now)) }
+{
+    let front = home_front(alloc, patient)?;
+    let end = home_end(alloc, patient)?;
+    for lead in leads.range((Bound::Included(front), Bound::Excluded(end))) {
+        put(studies, lead.key())?;
+    }
+    Ok(())
+}
+
+// Puts in what a lead leads to.
+fn put_target(
+    leads: &BTreeSet<Lead>,
+    lead: &Lead,
+    studies: &mut BTreeSet<ShortText>,
+) -> Result<(), AllocError>
+    ensures { OnOk result ((s : List ℕ) → has text_cmp studies.new.keys s ≡
+        (has text_cmp studies.old.keys s || leads_to leads.now.keys s lead.now)) }
+{
+    let key = lead.key();
+    if lead.kind() == 2 {
+        return put_homes(lead.alloc(), leads, &key, studies);
+    }
+    put(studies, key)
+}
+
+/// Puts in the studies that the leads from a front on and before an end come to.
+pub fn put_led(
+    leads: &BTreeSet<Lead>,
+    front: Lead,
+    end: Lead,
+    studies: &mut BTreeSet<ShortText>,
+) -> Result<(), AllocError>
+    ensures { OnOk result ((s : List ℕ) → has text_cmp studies.new.keys s ≡
+        (has text_cmp studies.old.keys s || is_led (is_between front end) leads.now.keys s)) }
+{
+    if front.cmp(&end).is_gt() {
+        return Ok(());
+    }
+    for lead in leads.range((Bound::Included(front), Bound::Excluded(end))) {
+        put_target(leads, lead, studies)?;
+    }
+    Ok(())
+}
