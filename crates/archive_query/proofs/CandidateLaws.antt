@@ -22,19 +22,18 @@ use Rattle.archive_model.specs.Covered.{is_covered, is_hiding}
 use Rattle.archive_model.specs.Shown.{shown, shown_at, unless_hiding}
 use Rattle.archive_model.specs.Attributes.{attribute, corrected}
 use Rattle.archive_model.proofs.MemberLaws.{has_filter, filter_has, has_any, any_has, has_map, map_has, found_has}
-use Rattle.archive_model.proofs.MemberLaws.{has_all}
+use Rattle.archive_model.proofs.MemberLaws.{has_all, filter_map_has}
 use Rattle.archive_model.proofs.ModelLaws.{same_is, same_itself as same_equal, pick_is_content}
 use Rattle.key_matching.specs.declared.matching.Matching.{Matching}
 use Rattle.key_matching.specs.declared.matching.Matching.TheVariants.{Dates, Times, WildCard, Name, Uids, Single}
 use Rattle.key_matching.specs.declared.matching.Matching.TheVariants.{Answered}
-use Rattle.key_matching.specs.Matches.{is_universal, parts, matches, is_same_part}
+use Rattle.key_matching.specs.Matches.{is_universal, parts, matches, is_match_by, is_same_part}
 use Rattle.live_picks.specs.Keys.{has}
 use Rattle.live_picks.specs.Live.{pick_at, is_of_study, is_of_series}
 use Rattle.study_index.specs.Index.{IndexValue, pick_of}
 use Rattle.study_index.specs.Definition.{IsIndexOf, AreLawful}
 use Rattle.live_picks.specs.Proved.Picks.{text_exact}
 use Rattle.live_picks.proofs.KeyLaws.{same_key}
-use Rattle.live_picks.proofs.Studies.{pick_listed}
 use Rattle.study_index.proofs.Corrected.{not_corrected}
 use Rattle.query_model.specs.declared.asked.Asked.{Asked}
 use Rattle.query_model.specs.declared.query.Query.{Query}
@@ -43,8 +42,11 @@ use Rattle.query_model.specs.declared.key.Level.TheVariants.{Study, Series, Imag
 use Rattle.query_model.specs.Key.{has_study_above, has_series_above}
 use Rattle.query_model.specs.Rows.{uid_at, is_named, named, uids_at, is_at as is_at_uid, contents_at, is_key_match}
 use Rattle.query_model.specs.Rows.{is_match, row, row_of, row_at, rows_among, rows_of}
-use Rattle.archive_query.specs.Candidates.{is_uids, is_list_of, is_listed, is_reached_by, is_reached}
-use Rattle.archive_query.specs.Candidates.{is_listed_series, is_reached_in, is_reached_at}
+use Rattle.archive_query.specs.Candidates.{is_uids, is_list_of, is_listed, IsReachedBy, IsReached, AreEnough}
+use Rattle.archive_query.specs.Candidates.{is_listed_series, is_reached_in, IsReachedAt}
+use Rattle.archive_query.specs.Leads.{IsLedBy, IsLedTo, IsWalkFor, is_candidate, is_of_none}
+use Rattle.archive_query.proofs.LeadEnough.{leads_enough, value_within}
+use Rattle.study_index.specs.Leads.{as_led, is_between}
 use Rattle.archive_query.proofs.AscendingLaws.{Text, Has, Below, Rises, one_rising, ascending_rises, ascending_has}
 use Rattle.archive_query.proofs.AscendingLaws.{has_ascending}
 
@@ -192,24 +194,28 @@ enough view ops keep us up has_all_kept =
 
 -- ---- what a query asks for
 
--- at STUDY: what the key that lists studies matches
-abbrev kept_by : Option Asked → ContentParts → Bool
-kept_by None c = true
-kept_by (Some asked) c = matches Uids asked.key (study_of c)
+-- whether every key matches some content of a study
+abbrev is_study_match : List Op → Query → Text → Bool
+is_study_match ops q study = list_any (λ d. same (study_of d) study && is_match ops q d) (contents ops)
+
+-- at STUDY: what the key that lists studies matches, or else what is of a study that every key matches
+abbrev kept_by : Option Asked → List Op → Query → ContentParts → Bool
+kept_by None ops q c = is_study_match ops q (study_of c)
+kept_by (Some asked) ops q c = matches Uids asked.key (study_of c)
 
 -- at SERIES: what is of the study that is named, and what the key that lists series matches
 abbrev kept_in : Option Asked → Query → ContentParts → Bool
 kept_in None q c = is_named q c
 kept_in (Some asked) q c = is_named q c && matches Uids asked.key (series_of c)
 
-abbrev kept_at : Level → Query → ContentParts → Bool
-kept_at Study q c = kept_by (find (is_list_of STUDY_INSTANCE_UID) q.asked) c
-kept_at Series q c = kept_in (find (is_list_of SERIES_INSTANCE_UID) q.asked) q c
-kept_at Image q c = is_named q c
+abbrev kept_at : Level → List Op → Query → ContentParts → Bool
+kept_at Study ops q c = kept_by (find (is_list_of STUDY_INSTANCE_UID) q.asked) ops q c
+kept_at Series ops q c = kept_in (find (is_list_of SERIES_INSTANCE_UID) q.asked) q c
+kept_at Image ops q c = is_named q c
 
 -- a content is of what is named above the level, and of what a key matches
-abbrev pub is_kept : Query → ContentParts → Bool
-is_kept q c = kept_at q.level q c
+abbrev pub is_kept : List Op → Query → ContentParts → Bool
+is_kept ops q c = kept_at q.level ops q c
 
 and_both : (a b : Bool) → (a && b) ≡ true → (a ≡ true) × (b ≡ true)
 and_both true b e = (refl, e)
@@ -286,16 +292,39 @@ named_series : (q : Query) (c : ContentParts) → has_series_above q.level ≡ t
 named_series q c l k = same_is (series_of c) q.series (sym (ap (λ b. not b || same (series_of c) q.series) l)
     ∙ (and_both _ _ k).1)
 
-module _ (ops : List Op) (index : IndexValue) (is : IsIndexOf ops index) where
+module _ (ops : List Op) (index : IndexValue) (is : IsIndexOf ops index) (lawful : AreLawful ops) where
+  -- each walk of a key that matches some content of the set comes to the content's study
+  led_by : (d : ContentParts) → IsOne (contents ops) d → (asked : Asked) → is_key_match ops d asked ≡ true
+      → IsLedBy asked index.0.1 (take 64 (study_of d))
+  led_by d h asked e walk for_it =
+      either_of (is_universal asked.key || length (attribute ops d asked.tag) == 0)
+      (is_match_by asked.matching asked.key (attribute ops d asked.tag)) e
+      (λ u. either_of (is_universal asked.key) (length (attribute ops d asked.tag) == 0) u
+      (λ all. absurd (false≢true (sym for_it.some ∙ all)))
+      (λ none. or_first _ _ (leads_enough ops index is lawful (is_of_none asked.tag) asked.tag for_it.tag d h
+      (value_within asked.tag (attribute ops d asked.tag) []
+      (ap (as_led asked.tag) (none_long (attribute ops d asked.tag) none))))))
+      (λ m. or_second _ _ (leads_enough ops index is lawful (is_between walk.0 walk.1) asked.tag for_it.tag d h
+      (for_it.passes (attribute ops d asked.tag) m)))
+
   pick_there : (uid : Text) (c : ContentParts) → pick uid ops ≡ Some c → pick_at uid index.1.1.1 ≡ Some (pick_of c)
   pick_there uid c e = is.picks uid ∙ ap (option_map pick_of) e
 
-  reached_by : (r : Option Asked) (asked : List Asked) → find (is_list_of STUDY_INSTANCE_UID) asked ≡ r
+  reached_by : (r : Option Asked) (q : Query) → find (is_list_of STUDY_INSTANCE_UID) q.asked ≡ r
       → (uid : Text) (c : ContentParts)
-      → pick uid ops ≡ Some c → kept_by r c ≡ true → is_reached_by r index.1.1.1 uid ≡ true
-  reached_by None asked f uid c e k = pick_listed index.1.1.1 uid (pick_of c) (pick_there uid c e)
-  reached_by (Some a) asked f uid c e k =
-      let key = (found_has (is_list_of STUDY_INSTANCE_UID) asked a f).1 in
+      → pick uid ops ≡ Some c → kept_by r ops q c ≡ true → IsReachedBy r q index uid
+  reached_by None q f uid c e k =
+      let at = any_has (λ d. same (study_of d) (study_of c) && is_match ops q d) (contents ops) k in
+      let parts_of = and_both _ _ at.2 in
+      record {
+        picked = pick_of c;
+        here = pick_there uid c e;
+        led = λ asked one walk for_it. ap (λ (t : Text). is_candidate asked.tag (is_between walk.0 walk.1) index.0.1
+            (take 64 t)) (sym (same_is (study_of at.0) (study_of c) parts_of.0))
+            ∙ led_by at.0 at.1 asked (has_all (is_key_match ops at.0) q.asked asked parts_of.1 one) walk for_it;
+      }
+  reached_by (Some a) q f uid c e k =
+      let key = (found_has (is_list_of STUDY_INSTANCE_UID) q.asked a f).1 in
       let some = not_true (is_universal a.key) (and_both _ _ key).1 in
       ap (is_listed a.key) (pick_there uid c e) ∙ listed_by a.key c some k
 
@@ -313,9 +342,9 @@ module _ (ops : List Op) (index : IndexValue) (is : IsIndexOf ops index) where
       ∙ listed_in q.study a.key c (named_study q c (ap has_study_above l) both.0) some both.1
 
   reached_at : (level : Level) (q : Query) → q.level ≡ level → (uid : Text) (c : ContentParts) → pick uid ops ≡ Some c
-      → kept_at level q c ≡ true → is_reached_at level q index.1.1.1 uid ≡ true
+      → kept_at level ops q c ≡ true → IsReachedAt level q index uid
   reached_at Study q l uid c e k =
-      reached_by (find (is_list_of STUDY_INSTANCE_UID) q.asked) q.asked refl uid c e k
+      reached_by (find (is_list_of STUDY_INSTANCE_UID) q.asked) q refl uid c e k
   reached_at Series q l uid c e k = reached_in (find (is_list_of SERIES_INSTANCE_UID) q.asked) q refl l uid c e k
   reached_at Image q l uid c e k =
       ap (is_of_series (take 64 q.study) (take 64 q.series)) (pick_there uid c e)
@@ -323,8 +352,8 @@ module _ (ops : List Op) (index : IndexValue) (is : IsIndexOf ops index) where
       (named_series q c (ap has_series_above l) k)
 
   -- what is kept is reached
-  pub reached : (q : Query) (uid : Text) (c : ContentParts) → pick uid ops ≡ Some c → is_kept q c ≡ true
-      → is_reached q index.1.1.1 uid ≡ true
+  pub reached : (q : Query) (uid : Text) (c : ContentParts) → pick uid ops ≡ Some c → is_kept ops q c ≡ true
+      → IsReached q index uid
   reached q uid c e k = reached_at q.level q refl uid c e k
 
 -- ---- rows without what no row is of
@@ -380,19 +409,26 @@ not_if : {Y : Type 0} (b : Bool) (y : Y) → b ≡ false → (if b then Some y e
 not_if true y e = absurd (false≢true (sym e))
 not_if false y e = refl
 
+-- contents of the set
+abbrev AreOf : List Op → List ContentParts → Type 0
+AreOf ops cs = (c : ContentParts) → IsOne cs c → IsOne (contents ops) c
+
 module _ (ops : List Op) (called : List ℕ) (q : Query) (k : Text → Bool) (fails : (c : ContentParts)
-    → k (uid_at q.level c) ≡ false → is_match ops q c ≡ false) where
-  no_row : (cs : List ContentParts) (uid : Text) → k uid ≡ false → row_at ops called q cs uid ≡ None
-  no_row cs uid out = by (contents_at q.level uid cs) refl
+    → IsOne (contents ops) c → k (uid_at q.level c) ≡ false → is_match ops q c ≡ false) where
+  no_row : (cs : List ContentParts) → AreOf ops cs → (uid : Text) → k uid ≡ false → row_at ops called q cs uid ≡ None
+  no_row cs among uid out = by (contents_at q.level uid cs) refl
     where
-      first_is : (c : ContentParts) (ds : List ContentParts) → contents_at q.level uid cs ≡ c ∷ ds
-          → uid_at q.level c ≡ uid
-      first_is c ds e = same_is (uid_at q.level c) uid (filter_has (is_at_uid q.level uid) cs
-          c (subst (λ (xs : List ContentParts). IsOne xs c) (sym e) (inl refl))).1
+      found : (c : ContentParts) (ds : List ContentParts) → contents_at q.level uid cs ≡ c ∷ ds
+          → IsOne cs c × (is_at_uid q.level uid c ≡ true)
+      found c ds e = filter_has (is_at_uid q.level uid) cs
+          c (subst (λ (xs : List ContentParts). IsOne xs c) (sym e) (inl refl))
 
       by : (ds : List ContentParts) → contents_at q.level uid cs ≡ ds → row_of ops called q ds ≡ None
       by [] e = refl
-      by (c ∷ ds) e = not_if (is_match ops q c) (row ops called q (c ∷ ds) c) (fails c (ap k (first_is c ds e) ∙ out))
+      by (c ∷ ds) e =
+          let first = found c ds e in
+          not_if (is_match ops q c) (row ops called q (c ∷ ds) c)
+          (fails c (among c first.0) (ap k (same_is (uid_at q.level c) uid first.1) ∙ out))
 
   same_row : (cs : List ContentParts) (uid : Text) → k uid ≡ true → row_at ops called
       q (filter (λ c. k (uid_at q.level c)) cs) uid ≡ row_at ops called q cs uid
@@ -443,10 +479,10 @@ module _ (ops : List Op) (called : List ℕ) (q : Query) (k : Text → Bool) (fa
           u (one_has (all cs) u (subst (IsOne (all cs)) (sym from.2) (has_map (uid_at q.level) cs from.0 at.0)))))
           (ap k from.2 ∙ at.1))
 
-  rows_kept : (cs : List ContentParts) → rows_among ops called q cs ≡ rows_among ops called
+  rows_kept : (cs : List ContentParts) → AreOf ops cs → rows_among ops called q cs ≡ rows_among ops called
       q (filter (λ c. k (uid_at q.level c)) cs)
-  rows_kept cs =
-      sym (given_passing (row_at ops called q cs) k (no_row cs) (uids_at q.level cs))
+  rows_kept cs among =
+      sym (given_passing (row_at ops called q cs) k (no_row cs among) (uids_at q.level cs))
       ∙ each_row cs (uids_at q.level cs)
       ∙ ap (filter_map (row_at ops called q (filter (λ c. k (uid_at q.level c)) cs))) (uids_kept cs)
 
@@ -484,56 +520,93 @@ module _ (ops : List Op) (lawful : AreLawful ops) (called : List ℕ) (q : Query
   of_named cs = ap (rows_among ops called q) (sym (filter_twice (is_named q) (is_named q) cs (λ c e. e)))
 
   -- what has no row is left out among what is named
-  of_matching : (k : Text → Bool) → ((c : ContentParts) → k (uid_at q.level c) ≡ false → is_match ops q c ≡ false)
-      → (cs : List ContentParts) → IsEnough (λ c. is_named q c && k (uid_at q.level c)) cs
-  of_matching k fails cs =
-      rows_kept ops called q k fails (named q cs)
+  of_matching : (k : Text → Bool)
+      → ((c : ContentParts) → IsOne (contents ops) c → k (uid_at q.level c) ≡ false → is_match ops q c ≡ false)
+      → (cs : List ContentParts) → AreOf ops cs → IsEnough (λ c. is_named q c && k (uid_at q.level c)) cs
+  of_matching k fails cs among =
+      rows_kept ops called q k fails (named q cs) (λ c h. among c (filter_has (is_named q) cs c h).0)
       ∙ ap (rows_among ops called q) (filter_and (is_named q) (λ c. k (uid_at q.level c)) cs)
 
-  by_study : (r : Option Asked) → q.level ≡ Study → find (is_list_of STUDY_INSTANCE_UID) q.asked ≡ r
-      → (cs : List ContentParts) → IsEnough (kept_by r) cs
-  by_study None l f cs = ap (λ xs. rows_among ops called q (named q xs)) (sym (filter_all (λ c. true) (λ c. refl) cs))
-  by_study (Some a) l f cs =
-      of_matching (matches Uids a.key)
-      (λ c e. unmatched STUDY_INSTANCE_UID refl a f c (ap (matches Uids a.key) (sym (study_is c)) ∙ e)) cs
-      ∙ ap (λ (xs : List ContentParts). rows_among ops called q (named q xs)) (filter_alike _ _ all_named cs)
+  -- a study that no content of matches has no row
+  no_match : (c : ContentParts) → IsOne (contents ops) c → is_study_match ops q (study_of c) ≡ false
+      → is_match ops q c ≡ false
+  no_match c h e = by (is_match ops q c) refl
     where
-      study_is : (c : ContentParts) → uid_at q.level c ≡ study_of c
-      study_is c = ap (λ x. uid_at x c) l
+      by : (b : Bool) → is_match ops q c ≡ b → b ≡ false
+      by true m = absurd (false≢true (sym e
+          ∙ has_any (λ d. same (study_of d) (study_of c) && is_match ops q d) (contents ops) c h
+          (ap (λ b. b && is_match ops q c) (same_equal (study_of c) (study_of c) refl) ∙ m)))
+      by false m = refl
 
-      all_named : (c : ContentParts) → (is_named q c && matches Uids a.key (uid_at q.level c)) ≡ matches
-          Uids a.key (study_of c)
-      all_named c = ap (λ x. ((not (has_study_above x) || same (study_of c) q.study) &&
-          (not (has_series_above x) || same (series_of c) q.series)) && matches Uids a.key (uid_at x c)) l
+  at_study : q.level ≡ Study → (k : Text → Bool) (c : ContentParts)
+      → (is_named q c && k (uid_at q.level c)) ≡ k (study_of c)
+  at_study l k c = ap (λ x. ((not (has_study_above x) || same (study_of c) q.study) &&
+      (not (has_series_above x) || same (series_of c) q.series)) && k (uid_at x c)) l
+
+  study_is : q.level ≡ Study → (c : ContentParts) → uid_at q.level c ≡ study_of c
+  study_is l c = ap (λ x. uid_at x c) l
+
+  by_study : (r : Option Asked) → q.level ≡ Study → find (is_list_of STUDY_INSTANCE_UID) q.asked ≡ r
+      → (cs : List ContentParts) → AreOf ops cs → IsEnough (kept_by r ops q) cs
+  by_study None l f cs among =
+      of_matching (is_study_match ops q)
+      (λ c h e. no_match c h (ap (is_study_match ops q) (sym (study_is l c)) ∙ e)) cs among
+      ∙ ap (λ (xs : List ContentParts). rows_among ops called q (named q xs))
+      (filter_alike _ _ (at_study l (is_study_match ops q)) cs)
+  by_study (Some a) l f cs among =
+      of_matching (matches Uids a.key)
+      (λ c h e. unmatched STUDY_INSTANCE_UID refl a f c (ap (matches Uids a.key) (sym (study_is l c)) ∙ e)) cs among
+      ∙ ap (λ (xs : List ContentParts). rows_among ops called q (named q xs))
+      (filter_alike _ _ (at_study l (matches Uids a.key)) cs)
 
   by_series : (r : Option Asked) → q.level ≡ Series → find (is_list_of SERIES_INSTANCE_UID) q.asked ≡ r
-      → (cs : List ContentParts) → IsEnough (kept_in r q) cs
-  by_series None l f cs = of_named cs
-  by_series (Some a) l f cs =
+      → (cs : List ContentParts) → AreOf ops cs → IsEnough (kept_in r q) cs
+  by_series None l f cs among = of_named cs
+  by_series (Some a) l f cs among =
       of_matching (matches Uids a.key)
-      (λ c e. unmatched SERIES_INSTANCE_UID refl a f c (ap (matches Uids a.key) (sym (series_is c)) ∙ e)) cs
+      (λ c h e. unmatched SERIES_INSTANCE_UID refl a f c (ap (matches Uids a.key) (sym (series_is c)) ∙ e)) cs among
       ∙ ap (λ x. rows_among ops called q (named q (filter (λ c. is_named q c && matches Uids a.key (uid_at x c)) cs))) l
     where
       series_is : (c : ContentParts) → uid_at q.level c ≡ series_of c
       series_is c = ap (λ x. uid_at x c) l
 
-  by_level : (level : Level) → q.level ≡ level → (cs : List ContentParts) → IsEnough (kept_at level q) cs
-  by_level Study l cs = by_study (find (is_list_of STUDY_INSTANCE_UID) q.asked) l refl cs
-  by_level Series l cs = by_series (find (is_list_of SERIES_INSTANCE_UID) q.asked) l refl cs
-  by_level Image l cs = of_named cs
+  by_level : (level : Level) → q.level ≡ level → (cs : List ContentParts) → AreOf ops cs
+      → IsEnough (kept_at level ops q) cs
+  by_level Study l cs among = by_study (find (is_list_of STUDY_INSTANCE_UID) q.asked) l refl cs among
+  by_level Series l cs among = by_series (find (is_list_of SERIES_INSTANCE_UID) q.asked) l refl cs among
+  by_level Image l cs among = of_named cs
 
   -- what is not kept has no row
-  pub rows_of_kept : (cs : List ContentParts) → IsEnough (is_kept q) cs
-  rows_of_kept cs = by_level q.level refl cs
+  pub rows_of_kept : (cs : List ContentParts) → AreOf ops cs → IsEnough (is_kept ops q) cs
+  rows_of_kept cs among = by_level q.level refl cs among
+
+-- what is shown is the pick of its instance, and so a content of the set
+shown_pick : (view : View) (ops : List Op) (uid : Text) (c : ContentParts) → shown_at view ops uid ≡ Some c
+    → pick uid ops ≡ Some c
+shown_pick view ops uid c e = by (is_covered view ops uid) (pick uid ops) e
+  where
+    kept : (h : Bool) (x : ContentParts) → (if h then None else Some x) ≡ Some c → Some x ≡ Some c
+    kept true x e = absurd cc
+    kept false x e = e
+
+    by : (covered : Bool) (r : Option ContentParts)
+        → (if covered then None else unless_hiding view r) ≡ Some c → r ≡ Some c
+    by true r e = absurd cc
+    by false None e = absurd cc
+    by false (Some x) e = kept (is_hiding view x.note) x e
+
+shown_of_set : (view : View) (ops : List Op) (us : List Text) → AreOf ops (filter_map (shown_at view ops) us)
+shown_of_set view ops us c h =
+    let at = filter_map_has (shown_at view ops) us c h in
+    (pick_is_content at.0 ops c (shown_pick view ops at.0 c at.2)).0
 
 -- the rows of what is shown of the candidates are all rows
 pub rows_enough : (view : View) (called : List ℕ) (q : Query) (ops : List Op) (index : IndexValue) → IsIndexOf ops index
-    → AreLawful ops → (us : List Text) → IsStrictlySortedBy text_cmp us
-    → ((uid : Text) → has text_cmp us uid ≡ is_reached q index.1.1.1 uid) → rows_among ops called
-    q (named q (filter_map (shown_at view ops) us)) ≡ rows_of view called q ops
+    → AreLawful ops → (us : List Text) → IsStrictlySortedBy text_cmp us → AreEnough q index us
+    → rows_among ops called q (named q (filter_map (shown_at view ops) us)) ≡ rows_of view called q ops
 unfolding rows_of
-rows_enough view called q ops index is lawful us up members =
-    rows_of_kept ops lawful called q (filter_map (shown_at view ops) us)
-    ∙ ap (λ xs. rows_among ops called q (named q xs)) (enough view ops (is_kept q) us (sorted_rises us up)
-    (λ uid c e k. listed_one us uid (members uid ∙ reached ops index is q uid c e k)))
-    ∙ sym (rows_of_kept ops lawful called q (shown view ops))
+rows_enough view called q ops index is lawful us up all_in =
+    rows_of_kept ops lawful called q (filter_map (shown_at view ops) us) (shown_of_set view ops us)
+    ∙ ap (λ xs. rows_among ops called q (named q xs)) (enough view ops (is_kept ops q) us (sorted_rises us up)
+    (λ uid c e k. listed_one us uid (all_in uid (reached ops index is lawful q uid c e k))))
+    ∙ sym (rows_of_kept ops lawful called q (shown view ops) (shown_of_set view ops (instances ops)))

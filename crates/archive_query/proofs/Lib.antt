@@ -5,4 +5,7 @@ pub mod GroupMaps
 pub mod RowLaws
 pub mod FoundLaws
 pub mod DistinctLaws
+pub mod LeadEnough
+pub mod TextLeads
+pub mod PutIn
 pub mod CandidateLaws

@@ -1,7 +1,6 @@
 -- Among which SOP Instance UIDs the contents are that a query asks for, by the picks of an index.
-use Rattle.std.specs.Prelude.{ℕ, List, [], take, map, Bool, true, false, not, ◌&&◌, ◌||◌, ◌==◌, Option, Some, None}
+use Rattle.std.specs.Prelude.{◌≡◌, ℕ, List, [], take, map, Bool, true, false, not, ◌&&◌, ◌||◌, ◌==◌, Option, Some, None}
 use Rattle.std.specs.List.{find, list_any}
-use Rattle.std.specs.Map.{keys_of}
 use Rattle.dictionary.specs.declared.elements.TheConstants.{STUDY_INSTANCE_UID, SERIES_INSTANCE_UID}
 use Rattle.octets.specs.Padding.{trimmed}
 use Rattle.octets.specs.Texts.{text_cmp}
@@ -15,6 +14,8 @@ use Rattle.query_model.specs.declared.asked.Asked.{Asked}
 use Rattle.query_model.specs.declared.key.Level.{Level}
 use Rattle.query_model.specs.declared.key.Level.TheVariants.{Study, Series, Image}
 use Rattle.query_model.specs.declared.query.Query.{Query}
+use Rattle.study_index.specs.Index.{IndexValue}
+use Rattle.archive_query.specs.Leads.{IsLedTo}
 
 abbrev pub is_uids : Matching → Bool
 is_uids Dates = false
@@ -37,10 +38,10 @@ is_of_some studies pick = list_any (λ study. is_of_study (take 64 study) pick) 
 abbrev pub is_listed : List ℕ → Option Pick → Bool
 is_listed key pick = is_of_study [] pick || is_of_some (map trimmed (parts key)) pick
 
--- at STUDY: where no key lists studies, each instance that has a pick
-abbrev pub is_reached_by : Option Asked → List (Text × Option Pick) → List ℕ → Bool
-is_reached_by None picks uid = has text_cmp (keys_of picks) uid
-is_reached_by (Some asked) picks uid = is_listed asked.key (pick_at uid picks)
+-- at STUDY: where no key lists studies, each instance of a study that each walk of each key comes to
+abbrev pub IsReachedBy : Option Asked → Query → IndexValue → List ℕ → Type 0
+IsReachedBy None q index uid = IsLedTo q index uid
+IsReachedBy (Some asked) q index uid = is_listed asked.key (pick_at uid index.1.1.1) ≡ true
 
 -- whether the pick of an instance is of one of these series of a study
 abbrev pub is_of_some_series : List ℕ → List (List ℕ) → Option Pick → Bool
@@ -57,12 +58,17 @@ is_reached_in None study pick = is_of_study study pick
 is_reached_in (Some asked) study pick = is_listed_series study asked.key pick
 
 -- at each level; at IMAGE what is of the series that is named
-abbrev pub is_reached_at : Level → Query → List (Text × Option Pick) → List ℕ → Bool
-is_reached_at Study q picks uid = is_reached_by (find (is_list_of STUDY_INSTANCE_UID) q.asked) picks uid
-is_reached_at Series q picks uid =
-    is_reached_in (find (is_list_of SERIES_INSTANCE_UID) q.asked) (take 64 q.study) (pick_at uid picks)
-is_reached_at Image q picks uid = is_of_series (take 64 q.study) (take 64 q.series) (pick_at uid picks)
+abbrev pub IsReachedAt : Level → Query → IndexValue → List ℕ → Type 0
+IsReachedAt Study q index uid = IsReachedBy (find (is_list_of STUDY_INSTANCE_UID) q.asked) q index uid
+IsReachedAt Series q index uid =
+    is_reached_in (find (is_list_of SERIES_INSTANCE_UID) q.asked) (take 64 q.study) (pick_at uid index.1.1.1) ≡ true
+IsReachedAt Image q index uid = is_of_series (take 64 q.study) (take 64 q.series) (pick_at uid index.1.1.1) ≡ true
 
--- whether an instance is a candidate: its pick is of what the query names above its level, and of what a key lists
-abbrev pub is_reached : Query → List (Text × Option Pick) → List ℕ → Bool
-is_reached q picks uid = is_reached_at q.level q picks uid
+-- whether an instance is among the candidates: its pick is of what the query names above its level, of what a key lists,
+-- and of a study that the walks of the other keys come to
+abbrev pub IsReached : Query → IndexValue → List ℕ → Type 0
+IsReached q index uid = IsReachedAt q.level q index uid
+
+-- some instances are enough: each that is reached is one of them
+abbrev pub AreEnough : Query → IndexValue → List (List ℕ) → Type 0
+AreEnough q index uids = (uid : List ℕ) → IsReached q index uid → has text_cmp uids uid ≡ true

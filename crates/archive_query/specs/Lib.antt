@@ -2,3 +2,4 @@ pub mod Grouping
 pub mod Laws
 pub mod Candidates
 pub mod Found
+pub mod Leads

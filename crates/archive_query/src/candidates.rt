@@ -1,17 +1,19 @@
 //! Among which contents the answers to a query are: where it names studies or series, only what the
 //! index has of them is walked.
 
-ghost use Rattle.std.specs.Prelude.{◌≡◌, ◌||◌, List, ℕ, IfOk, OnOk, map};
-ghost use Rattle.std.specs.List.{find, filter_map};
+ghost use Rattle.std.specs.Prelude.{◌≡◌, ◌||◌, true, List, ℕ, IfOk, OnOk, map};
+ghost use Rattle.std.specs.List.{find, filter_map, list_any};
 ghost use Rattle.std.specs.List.Sorted.{IsStrictlySortedBy};
 ghost use Rattle.std.specs.Option.{option_map};
 ghost use Rattle.octets.specs.Texts.{text_cmp};
 ghost use Rattle.archive_model.specs.Shown.{shown_at};
 ghost use Rattle.live_picks.specs.Keys.{has};
-ghost use Rattle.live_picks.specs.Live.{pick_at};
+ghost use Rattle.live_picks.specs.Live.{pick_at, is_of_study};
 ghost use Rattle.site_state.specs.Site.{ops_of};
-ghost use Rattle.archive_query.specs.Candidates.{is_uids as is_uids_in, is_list_of as is_list_in, is_of_some, is_listed, is_reached_by, is_of_some_series, is_listed_series, is_reached_in, is_reached};
+ghost use Rattle.archive_query.specs.Candidates.{is_uids as is_uids_in, is_list_of as is_list_in, is_of_some, is_listed, is_of_some_series, is_listed_series, is_reached_in, IsReachedBy, AreEnough};
+ghost use Rattle.archive_query.specs.Leads.{IsLedTo};
 
+use crate::walks::{chosen, led_studies};
 use archive_model::View;
 use dictionary::{SERIES_INSTANCE_UID, STUDY_INSTANCE_UID};
 use key_matching::{Matching, is_universal, members_of};
@@ -125,20 +127,63 @@ fn put_listed_series(
     Ok(())
 }
 
-/// Puts in the candidates at STUDY, by the key that lists studies, if there is one.
-fn put_at_study(
-    alloc: Global,
+/// Puts in what is of some studies, of each of which an index knows 64 bytes.
+fn put_each(
     index: &Index,
-    list: Option<&Asked>,
+    studies: &BTreeSet<ShortText>,
     uids: &mut BTreeSet<ShortText>,
 ) -> Result<(), AllocError>
     ensures { OnOk result ((uid : List ℕ) → has text_cmp uids.new.keys uid ≡
-        (has text_cmp uids.old.keys uid
-        || is_reached_by (option_map (λ asked. asked.now) list.entry) index.now.1.1.1 uid)) }
+        (has text_cmp uids.old.keys uid || list_any
+        (λ study. is_of_study study (pick_at uid index.now.1.1.1)) studies.now.keys)) }
+{
+    for study in studies.iter() {
+        index.put_study(study, uids)?;
+    }
+    Ok(())
+}
+
+/// Puts in what the keys of a query whose values are led from come to, or all where there is none.
+fn put_valued(
+    alloc: Global,
+    index: &Index,
+    query: &Query,
+    uids: &mut BTreeSet<ShortText>,
+) -> Result<(), AllocError>
+    ensures { OnOk result ((uid : List ℕ) → IsLedTo query.now index.now uid
+        → has text_cmp uids.new.keys uid ≡ true) }
+{
+    match chosen(alloc, query)? {
+        None => {
+            index.put_all(uids)?;
+            Ok(())
+        }
+        Some((tag, (front, end))) => {
+            let studies = led_studies(alloc, index, tag, front, end)?;
+            put_each(index, &studies, uids)?;
+            Ok(())
+        }
+    }
+}
+
+/// Puts in the candidates at STUDY, by the key that lists studies, or else by another.
+fn put_at_study(
+    alloc: Global,
+    index: &Index,
+    query: &Query,
+    list: Option<&Asked>,
+    uids: &mut BTreeSet<ShortText>,
+) -> Result<(), AllocError>
+    ensures { OnOk result ((uid : List ℕ) → IsReachedBy
+        (option_map (λ asked. asked.now) list.entry) query.now index.now uid
+        → has text_cmp uids.new.keys uid ≡ true) }
 {
     match list {
-        None => index.put_all(uids),
-        Some(asked) => put_listed(alloc, index, asked.key.as_slice(), uids),
+        None => put_valued(alloc, index, query, uids),
+        Some(asked) => {
+            put_listed(alloc, index, asked.key.as_slice(), uids)?;
+            Ok(())
+        }
     }
 }
 
@@ -167,18 +212,30 @@ fn put_reached(
     query: &Query,
     uids: &mut BTreeSet<ShortText>,
 ) -> Result<(), AllocError>
-    ensures { OnOk result ((uid : List ℕ) → has text_cmp uids.new.keys uid ≡
-        (has text_cmp uids.old.keys uid || is_reached query.now index.now.1.1.1 uid)) }
+    ensures { OnOk result (AreEnough query.now index.now uids.new.keys) }
 {
     let study = ShortText::cut(query.study.as_slice());
     let series = ShortText::cut(query.series.as_slice());
     match query.level {
-        Level::Study => put_at_study(alloc, index, list_of(query, STUDY_INSTANCE_UID), uids),
+        Level::Study => {
+            put_at_study(
+                alloc,
+                index,
+                query,
+                list_of(query, STUDY_INSTANCE_UID),
+                uids,
+            )?;
+            Ok(())
+        }
         Level::Series => {
             let list = list_of(query, SERIES_INSTANCE_UID);
-            put_at_series(alloc, index, &study, list, uids)
+            put_at_series(alloc, index, &study, list, uids)?;
+            Ok(())
         }
-        Level::Image => index.put_series(&study, &series, uids),
+        Level::Image => {
+            index.put_series(&study, &series, uids)?;
+            Ok(())
+        }
     }
 }
 
@@ -188,8 +245,7 @@ pub(crate) fn candidates(
     index: &Index,
     query: &Query,
 ) -> Result<BTreeSet<ShortText>, AllocError>
-    ensures { IfOk result (λ uids. (uid : List ℕ) → has text_cmp uids.keys uid
-        ≡ is_reached query.now index.now.1.1.1 uid) }
+    ensures { IfOk result (λ uids. AreEnough query.now index.now uids.keys) }
 {
     let mut uids = BTreeSet::new(alloc);
     put_reached(alloc, index, query, &mut uids)?;

@@ -14,6 +14,7 @@ mod groups;
 mod keys;
 mod laws;
 mod rows;
+mod walks;
 
 pub use candidates::{put_some_series, put_studies, shown_of};
 pub use finding::{Found, find, rows_found, take};
