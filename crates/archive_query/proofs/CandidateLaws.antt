@@ -44,7 +44,7 @@ use Rattle.query_model.specs.Rows.{uid_at, is_named, named, uids_at, is_at as is
 use Rattle.query_model.specs.Rows.{is_match, row, row_of, row_at, rows_among, rows_of}
 use Rattle.archive_query.specs.Candidates.{is_uids, is_list_of, is_listed, IsReachedBy, IsReached, AreEnough}
 use Rattle.archive_query.specs.Candidates.{is_listed_series, is_reached_in, IsReachedAt}
-use Rattle.archive_query.specs.Leads.{IsLedBy, IsLedTo, IsWalkFor, is_candidate, is_of_none}
+use Rattle.archive_query.specs.Leads.{IsLedBy, is_candidate, is_of_none}
 use Rattle.archive_query.proofs.LeadEnough.{leads_enough, value_within}
 use Rattle.study_index.specs.Leads.{as_led, is_between}
 use Rattle.archive_query.proofs.AscendingLaws.{Text, Has, Below, Rises, one_rising, ascending_rises, ascending_has}

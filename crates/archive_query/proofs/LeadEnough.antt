@@ -1,11 +1,11 @@
 -- The leads are enough: where a walk passes what leads from the value of an attribute of a content, it comes to the
 -- content's study, whatever is picked or hidden.
-use Rattle.std.proofs.Common.{◌≡◌, ℕ, Bool, true, false, List, [], ◌∷◌, map, take, length, Option, Some, None, inl, inr}
-use Rattle.std.proofs.Common.{refl, sym, ap, subst, ◌∙◌, ◌⊎◌, arith}
-use Rattle.std.specs.Prelude.{◌&&◌, ◌||◌, ◌==◌, not, IsTrue}
+use Rattle.std.proofs.Common.{◌≡◌, ℕ, Bool, true, false, List, [], ◌∷◌, map, take, Option, Some, None, inl, inr}
+use Rattle.std.proofs.Common.{refl, sym, ap, subst, ◌∙◌}
+use Rattle.std.specs.Prelude.{◌&&◌, ◌||◌, ◌==◌, not}
 use Rattle.std.proofs.lemmas.Bool.{eqb-true, false≢true}
 use Rattle.std.specs.List.{filter, list_any}
-use Rattle.std.specs.Ordering.{nat_cmp, is_eq, is_le, ordering_then}
+use Rattle.std.specs.Ordering.{is_eq, is_le, ordering_then}
 use Rattle.std.specs.declared.cmp.Ordering.TheVariants.{Less, Equal, Greater}
 use Rattle.std.specs.Cmp.Lexicographic.{nat_list_cmp_total}
 use Rattle.std.specs.BTreeMap.{is_at}
@@ -18,10 +18,10 @@ use Rattle.operation.specs.declared.target.Target.TheVariants.{Study, Patient, S
 use Rattle.operation.specs.Corrections.{is_corrected, is_of_series, is_tag_for}
 use Rattle.operation.specs.Parts.{ContentParts, CorrectionParts, own_value}
 use Rattle.octets.specs.Members.{Has}
-use Rattle.octets.specs.Texts.{same, text_cmp}
+use Rattle.octets.specs.Texts.{text_cmp}
 use Rattle.archive_model.specs.Contents.{contents, study_of, patient_of}
 use Rattle.archive_model.specs.Attributes.{attribute, corrected, corrections, corrects, correction_for, correction_in}
-use Rattle.archive_model.specs.Attributes.{greatest, is_last, is_target_of}
+use Rattle.archive_model.specs.Attributes.{is_last, is_target_of}
 use Rattle.archive_model.proofs.MemberLaws.{has_filter, filter_has, has_any, any_has, has_map, found_has, filter_map_has}
 use Rattle.archive_model.proofs.ModelLaws.{same_is, same_itself, content_has}
 use Rattle.std.specs.Map.{keys_of}
@@ -34,7 +34,7 @@ use Rattle.live_picks.specs.Live.{Text, pick_at, is_of_study}
 use Rattle.live_picks.proofs.KeyLaws.{at_itself, same_key}
 use Rattle.study_index.specs.Index.{IndexValue}
 use Rattle.study_index.specs.Definition.{IsIndexOf, AreLawful}
-use Rattle.study_index.specs.Leads.{Lead, lead_cmp, led_tags, led_byte, as_led, stored_lead, given_leads, leads_of, is_lead}
+use Rattle.study_index.specs.Leads.{Lead, lead_cmp, led_tags, led_byte, as_led, stored_lead, given_leads, leads_of}
 use Rattle.study_index.specs.Leads.{is_between, home_front, home_end, is_key, is_homed, leads_to, is_led, IsWithin}
 use Rattle.study_index.specs.Leads.{value_front, value_end}
 use Rattle.study_index.specs.Proved.Leads.{lead_total, lead_exact}

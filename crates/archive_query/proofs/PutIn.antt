@@ -1,5 +1,5 @@
 -- What is reached is put in.
-use Rattle.std.proofs.Common.{◌≡◌, ℕ, Bool, true, List, [], take, Option, Some, sym, ap, subst, ◌∙◌}
+use Rattle.std.proofs.Common.{◌≡◌, true, List, take, Option, Some, sym, ap, subst, ◌∙◌}
 use Rattle.std.specs.Prelude.{◌||◌, IfSome}
 use Rattle.std.specs.List.{find}
 use Rattle.dictionary.specs.declared.elements.TheConstants.{STUDY_INSTANCE_UID, SERIES_INSTANCE_UID}

@@ -9,7 +9,7 @@ use Rattle.key_matching.specs.declared.matching.Matching.TheVariants.{Dates, Tim
 use Rattle.key_matching.specs.declared.matching.Matching.TheVariants.{Answered}
 use Rattle.key_matching.specs.Matches.{is_universal, parts}
 use Rattle.live_picks.specs.Keys.{has}
-use Rattle.live_picks.specs.Live.{Text, Pick, pick_at, is_of_study, is_of_series}
+use Rattle.live_picks.specs.Live.{Pick, pick_at, is_of_study, is_of_series}
 use Rattle.query_model.specs.declared.asked.Asked.{Asked}
 use Rattle.query_model.specs.declared.key.Level.{Level}
 use Rattle.query_model.specs.declared.key.Level.TheVariants.{Study, Series, Image}

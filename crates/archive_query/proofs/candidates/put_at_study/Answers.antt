@@ -1,4 +1,4 @@
-use Rattle.std.proofs.Common.{ap, map}
+use Rattle.std.proofs.Common.{ap}
 use Rattle.std.specs.Option.{option_map}
 use Rattle.archive_query.proofs.PutIn.{listed_in}
 use Rattle.archive_query.proofs.candidates.put_at_study.Goals as goal
