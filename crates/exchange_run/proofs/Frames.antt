@@ -1,15 +1,13 @@
 -- What is heard and said are frames.
-use Rattle.std.proofs.Common.{◌≡◌, ◌≤◌, ◌<◌, ℕ, List, [], ◌∷◌, ◌++◌, Bool, true, false, length}
-use Rattle.std.proofs.Common.{arith, refl, sym, ap, subst}
-use Rattle.std.specs.List.{AllByRecursion}
+use Rattle.std.proofs.Common.{◌≡◌, ◌≤◌, ℕ, List, [], ◌∷◌, ◌++◌, length}
+use Rattle.std.proofs.Common.{arith, sym, subst}
 use Rattle.std.proofs.lemmas.Bool.{ltb-false}
 use Rattle.operation.specs.declared.op.Op.{Op}
 use Rattle.site_state.specs.Site.{Map}
 use Rattle.exchange_frames.specs.declared.frame.Frame.{Frame}
-use Rattle.exchange_frames.specs.declared.frame.Frame.TheVariants.{Have, Want, Give, End, Buckets, Differ, Hello}
+use Rattle.exchange_frames.specs.declared.frame.Frame.TheVariants.{Have, Want, Differ}
 use Rattle.exchange_frames.specs.declared.reader.TheConstants.{MOST_DIGESTS}
 use Rattle.exchange_frames.specs.Spelling.{IsFrame}
-use Rattle.exchange_frames.specs.Writing.{is_too_long}
 use Rattle.exchange.specs.Held.{lacked}
 use Rattle.exchange.proofs.Said.{round_says_frames}
 use Rattle.exchange_run.specs.declared.role.Role.{Role}

@@ -25,7 +25,7 @@ use Rattle.exchange_run.specs.Course.{gifts_of, Shows, Does, DoesAll, SetsOut, T
 use Rattle.exchange_run.specs.Course.{Idles}
 use Rattle.exchange_run.proofs.Holders.{idles_of, idles_same, looked_same}
 use Rattle.exchange_run.proofs.Turns.{later_of, later, Fits, fits}
-use Rattle.exchange_run.proofs.Goings.{is_met, has_shown, Goes, goes}
+use Rattle.exchange_run.proofs.Goings.{has_shown, Goes, goes}
 use Rattle.exchange_run.proofs.Outcomes.{has_left, has_right, has_split, other_has, one_is, none_has_one}
 
 -- BUCKETS were said of a set, and each DIFFER that was heard was answered over one that holds it. What nobody else

@@ -1,7 +1,6 @@
 -- A stream spells one list of frames.
-use Rattle.std.proofs.Common.{inl, inr, ◌≡◌, ◌≤◌, ◌+◌, ◌^◌, ℕ, List, [], ◌∷◌, ◌++◌, length, take, drop, Result, Ok, Err}
-use Rattle.std.proofs.Common.{refl, sym, ap, subst, ◌∙◌, arith}
-use Rattle.std.specs.List.{AllByRecursion}
+use Rattle.std.proofs.Common.{◌≡◌, ◌≤◌, ◌+◌, ℕ, List, [], ◌∷◌, ◌++◌, length, take, drop, Result, Ok}
+use Rattle.std.proofs.Common.{refl, sym, ap, ◌∙◌, arith}
 use Rattle.std.proofs.Math.Seq.{take-append_seam, drop-append_seam}
 use Rattle.std.proofs.lemmas.List.{length-append, length-take-le, take-append-drop}
 use Rattle.std.proofs.lemmas.List.Concat.{flat_map-cons}
@@ -9,7 +8,6 @@ use Rattle.exchange_frames.specs.declared.fault.FrameFault.{FrameFault}
 use Rattle.exchange_frames.specs.declared.frame.Frame.{Frame}
 use Rattle.exchange_frames.specs.Header.{HeaderParts, header_at}
 use Rattle.exchange_frames.specs.Spelling.{text_of, IsFrame}
-use Rattle.exchange_frames.specs.Writing.{IsWrittenAgain}
 use Rattle.exchange_frames.proofs.Outcomes.{one_text}
 use Rattle.exchange_frames.proofs.Writings.{written_again}
 use Rattle.exchange_run.specs.Hearing.{texts, AreFrames}

@@ -1,5 +1,5 @@
 -- In which order a side says its frames.
-use Rattle.std.proofs.Common.{inl, inr, ◌≡◌, ℕ, List, [], ◌∷◌, ◌++◌, Bool, true, false, Option, Some, None, refl, sym}
+use Rattle.std.proofs.Common.{inl, inr, ◌≡◌, ℕ, List, [], ◌∷◌, ◌++◌, Option, Some, None, refl, sym}
 use Rattle.std.proofs.Common.{ap, subst, ◌∙◌, append-nil}
 use Rattle.std.specs.Prelude.{◌⊎◌, ⊤}
 use Rattle.operation.specs.declared.op.Op.{Op}
@@ -18,7 +18,7 @@ use Rattle.exchange_run.specs.declared.task.Awaited.TheVariants as awaits
 use Rattle.exchange_run.specs.declared.task.Task.{Task}
 use Rattle.exchange_run.specs.declared.task.Task.TheVariants as tasks
 use Rattle.exchange_run.specs.Tasks.{task_for, greeted_by, opened_by, ended_by}
-use Rattle.exchange_run.specs.Course.{gifts_of, next_after_gifts, start_of, Does, DoesAll, SetsOut}
+use Rattle.exchange_run.specs.Course.{gifts_of, next_after_gifts, Does, DoesAll, SetsOut}
 use Rattle.exchange_run.specs.Order.{IsOffer, IsAsking, Then, InOrder, SaysInOrder}
 use Rattle.exchange_run.proofs.Turns.{Fits, fits}
 

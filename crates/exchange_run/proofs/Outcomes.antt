@@ -39,7 +39,7 @@ use Rattle.exchange_run.specs.Tasks.{task_for}
 use Rattle.exchange_run.specs.Course.{gifts_of, Does, DoesAll, SetsOut, Talks, Idles}
 use Rattle.exchange_run.specs.Laws.{WasAsked, WasGiven, IsGivenAll, IsHeld, HoldsAll, HoldsWhatWasOffered}
 use Rattle.exchange_run.specs.Laws.{BeginWithBytes, OffersWhereTheyDiffer}
-use Rattle.exchange_run.specs.Laws.{WasCompared, HoldsWhatWasShown, GainsOnlyGiven, Outcome}
+use Rattle.exchange_run.specs.Laws.{WasCompared, GainsOnlyGiven, Outcome}
 use Rattle.exchange_run.proofs.Holders.{idles_of, idles_same, grown_both, looked_same}
 use Rattle.exchange_run.proofs.Turns.{later, Fits, fits}
 

@@ -1,5 +1,5 @@
 -- What two sides of one exchange hold in the end, where each heard what the other said.
-use Rattle.std.specs.Prelude.{◌≡◌, ◌↔◌, List, true, IsTrue}
+use Rattle.std.specs.Prelude.{◌≡◌, ◌↔◌, List, IsTrue}
 use Rattle.octets.specs.Members.{Has}
 use Rattle.site_state.specs.Site.{Map, IsSite}
 use Rattle.site_state.specs.Union.{Agree}

@@ -8,7 +8,6 @@ use Rattle.operation.specs.declared.taken.Taken.TheVariants.{New}
 use Rattle.site_state.specs.Site.{Map}
 use Rattle.site_state.specs.Union.{Agree}
 use Rattle.site_state.specs.Laws.{after_taking}
-use Rattle.exchange.specs.declared.version.Version.{Version}
 use Rattle.exchange.specs.Held.{offered}
 use Rattle.exchange.specs.Laws.{HasAllSpoken, BucketsTell}
 use Rattle.site_world.specs.declared.fault.WorldFault.{WorldFault}
