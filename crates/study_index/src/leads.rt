@@ -45,7 +45,7 @@ pub enum Source {
 
 /// What leads from a value of an attribute to a study, or to the studies of a stored Patient ID.
 ///
-/// One of a content takes 16 bytes and shares the content.
+/// One of a content shares the content, and keeps no text of its own.
 pub struct Lead {
     tag: u32,
     source: Source,
