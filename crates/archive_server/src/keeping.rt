@@ -1,25 +1,165 @@
 //! The thread that keeps the shelf, and how workers reach it.
 
-ghost use Rattle.std.specs.Prelude.{◌≡◌, IfOk};
+ghost use Rattle.std.specs.Prelude.{◌≡◌, ◌++◌, ◌∷◌, [], All, IfOk, IsNone};
 ghost use Rattle.operation.specs.Spelling.{digest_of};
+ghost use Rattle.shelved_exchange.specs.Putting.{WasPut};
 
 use crate::message::{Reply, Request, Shelved};
 use crossbeam_channel::{Receiver, Sender, bounded};
 use op_shelf::{Keep, ShelfFault};
-use operation::{Digest, Digested};
-use shelved_exchange::{Put, put_shown};
+use operation::{Digest, Digested, Op};
+use shelved_exchange::{Put, put_all, put_shown, shown};
 use std::alloc::{AllocError, Global};
 use std::sync::Wait;
 
-/// Serves puts, one after another, until each sender is gone.
-pub(crate) fn keep_all<K: Keep, S: Wait>(rt: &S, shelf: &mut K, requests: Receiver<Request<K>>) {
-    for _ in rt.forever() {
-        let Ok(request) = requests.recv(rt) else {
+/// How many requests are put as one group, at most.
+const GROUP: usize = 16;
+
+/// No request joins a group whose data sets have so many bytes.
+const GROUP_BYTES: usize = 8 << 20;
+
+/// Requests that are put at once: the operations, and in the same places where each is answered.
+#[derive(Drop)]
+struct Group<K: Keep> {
+    ops: Vec<Digested>,
+    replies: Vec<Sender<Reply<K>>>,
+    bytes: usize,
+}
+
+impl<K: Keep> Group<K> {
+    /// One with no request, and with room for `GROUP`, or for none where memory is refused.
+    fn new(alloc: Global) -> Group<K> {
+        Group {
+            ops: Vec::with_capacity(alloc, GROUP).unwrap_or(Vec::new(alloc)),
+            replies: Vec::with_capacity(alloc, GROUP).unwrap_or(Vec::new(alloc)),
+            bytes: 0,
+        }
+    }
+
+    /// Takes a request in, or hands it back where there is no room.
+    fn take(&mut self, request: Request<K>) -> Option<Request<K>>
+        ensures op { IsNone result → self.new.ops.items ≡ self.old.ops.items ++ request.op ∷ [] }
+        ensures reply { IsNone result
+            → self.new.replies.items ≡ self.old.replies.items ++ request.reply ∷ [] }
+    {
+        let is_full = self.ops.len() >= self.ops.capacity();
+        if is_full || self.replies.len() >= self.replies.capacity() || self.bytes >= GROUP_BYTES {
+            return Some(request);
+        }
+        let Request { op, reply } = request;
+        self.bytes = self.bytes.saturating_add(body_len(&op));
+        // There is room, so neither is refused.
+        let Ok(()) = self.ops.push(op) else {
+            unreachable!()
+        };
+        let Ok(()) = self.replies.push(reply) else {
+            unreachable!()
+        };
+        None
+    }
+
+    /// Lets go of what was answered.
+    fn clear(&mut self) {
+        self.ops.clear();
+        self.replies.clear();
+        self.bytes = 0;
+    }
+}
+
+/// How long the data set of an operation is, in bytes.
+fn body_len(op: &Digested) -> usize {
+    match op.op() {
+        Op::Content(content) => content.body().len(),
+        Op::Correction(_) => 0,
+    }
+}
+
+/// Answers a request with what the shelf answered for its operation.
+fn answer<K: Keep, S: Wait>(
+    rt: &S,
+    op: &Digested,
+    to: &Sender<Reply<K>>,
+    kept: Result<Shelved<K>, ShelfFault>,
+)
+    requires own { IfOk kept (λ shelved. shelved.digest ≡ digest_of op.now) }
+{
+    let _ = to.send(rt, Reply { kept });
+}
+
+/// Puts an operation alone, and answers.
+fn keep_one<K: Keep, S: Wait>(rt: &S, shelf: &mut K, op: &Digested, to: &Sender<Reply<K>>) {
+    let kept = put_shown(shelf, op);
+    answer(rt, op, to, kept);
+}
+
+/// Answers each of a group that the shelf has.
+fn answer_all<K: Keep, S: Wait>(rt: &S, ops: &[Digested], replies: &[Sender<Reply<K>>])
+    requires put { All (λ op. WasPut K.is_up K.holds K.lasts (digest_of op)) ops.now }
+{
+    let mut rest = replies.iter();
+    for op in ops {
+        let Some(to) = rest.next() else {
             break;
         };
-        let Request { op, reply } = request;
-        let kept = put_shown(shelf, &op);
-        let _ = reply.send(rt, Reply { kept });
+        answer(rt, op, to, Ok(shown(op)));
+    }
+}
+
+/// Puts a group at once, and then answers each. One that is refused is put one by one, so that each
+/// has its own answer.
+fn keep_group<K: Keep, S: Wait>(rt: &S, shelf: &mut K, group: &Group<K>) {
+    let ops = group.ops.as_slice();
+    if ops.len() > 1 {
+        if let Ok(()) = put_all(shelf, ops) {
+            answer_all(rt, ops, &group.replies);
+            return;
+        }
+    }
+    for (op, to) in ops.iter().zip(&group.replies) {
+        keep_one(rt, shelf, op, to);
+    }
+}
+
+/// Takes in a request and those that wait behind it, and answers one that finds no room. It waits
+/// for nobody. While a request is just being sent the channel may seem empty, or else: then that
+/// one is in the next group.
+fn gather<K: Keep, S: Wait>(
+    rt: &S,
+    requests: &Receiver<Request<K>>,
+    first: Request<K>,
+    group: &mut Group<K>,
+) -> Option<Request<K>> {
+    let mut next = first;
+    for _ in 0..GROUP {
+        if let Some(over) = group.take(next) {
+            return Some(over);
+        }
+        let Ok(request) = requests.try_recv(rt) else {
+            return None;
+        };
+        next = request;
+    }
+    Some(next)
+}
+
+/// Serves puts until each sender is gone: what waits is one group, with one sync.
+pub(crate) fn keep_all<K: Keep, S: Wait>(
+    rt: &S,
+    alloc: Global,
+    shelf: &mut K,
+    requests: Receiver<Request<K>>,
+) {
+    let mut group = Group::new(alloc);
+    for _ in rt.forever() {
+        let Ok(first) = requests.recv(rt) else {
+            break;
+        };
+        let over = gather(rt, &requests, first, &mut group);
+        keep_group(rt, shelf, &group);
+        group.clear();
+        if let Some(Request { op, reply }) = over {
+            keep_one(rt, shelf, &op, &reply);
+        }
     }
 }
 

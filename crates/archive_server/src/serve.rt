@@ -229,7 +229,7 @@ fn serve_rest<
 {
     let Some(pass) = passes.pop() else {
         drop(desk);
-        keep_all(hall.rt, shelf, requests);
+        keep_all(hall.rt, hall.alloc, shelf, requests);
         return Total {
             accepted: 0,
             fault: None,
