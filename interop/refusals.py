@@ -75,7 +75,7 @@ class Refusals:
         return done.returncode, done.stdout.decode(), done.stderr.decode()
 
     def refused(self, what, words, status, line, user=NOBODY):
-        """A command line that has to end so: with this whole line, or, where it is None, with some."""
+        """A command line that has to end so: with these whole lines, or, where they are None, with some."""
         before = below(self.folder)
         ended, out, err = self.run(words, user)
         fault = same((ended, out), (status, ""))
@@ -83,8 +83,13 @@ class Refusals:
             fault = fault or ("" if err.strip() else "nothing stands on standard error")
         else:
             fault = fault or same(err, line + "\n")
-        told(f"{what}: status {status}" + (f", {line}" if line else ""), fault)
+        told(f"{what}: status {status}" + (f", {line.splitlines()[0]}" if line else ""), fault)
         told(f"{what}: nothing is made or changed", changes(before, below(self.folder)))
+
+    def said(self, words):
+        """The status of a command line, and what it wrote on standard error."""
+        status, _, err = self.run(words, NOBODY)
+        return status, err
 
     def serve(self, file, address="", *more):
         return ["serve", self.path(file), "--listen", address or f"127.0.0.1:{free_port()}", *(more or SERVED)]
@@ -121,6 +126,17 @@ def try_words(refusals):
                   ["correct", refusals.new(), "--site", "1", "image", "P1", "00100010", "A"],
                   ["correct", refusals.new(), "--site", "1", "patient", "P1", "0010001", "A"]):
         refusals.refused("archive " + " ".join(os.path.basename(w) for w in words), words, 2, None)
+
+
+def lines(fault, about, why):
+    """The two lines of a fault: its number, and in words what it is about and why."""
+    return f"{fault}\narchive: {about}: {why}"
+
+
+RIGHTS = "no right to read and write it, or to make files in its folder"
+DAMAGED = "it is damaged, or no archive's file"
+OTHER = "it is no archive's file"
+WITHOUT_LOG = "its -wal is not beside it: without it what came last is missing, unless sqlite3 closed it"
 
 
 def on_file(refusals, file):
@@ -168,13 +184,23 @@ def make_files(refusals):
 
 def try_files(refusals):
     make_files(refusals)
-    for file in ("a folder", "a text", "one octet", "zeros", "the head alone", "noise", "another database", "cut off"):
+    for file, why in (("a folder", "it is a folder"), ("a text", OTHER), ("one octet", OTHER), ("zeros", OTHER),
+                      ("the head alone", DAMAGED), ("noise", DAMAGED), ("cut off", DAMAGED),
+                      ("another database", "it is another program's database")):
         for command, words in on_file(refusals, file):
-            refusals.refused(f"{command} of a FILE that is {file}", words, 1, "fault shelf 1")
+            refusals.refused(f"{command} of a FILE that is {file}", words, 1,
+                             lines("fault shelf 1", refusals.path(file), why))
     for command, words in on_file(refusals, "an operation changed"):
-        refusals.refused(f"{command} of a FILE with an operation changed", words, 1, "fault shelf 2")
+        refusals.refused(f"{command} of a FILE with an operation changed", words, 1, lines(
+            "fault shelf 2", refusals.path("an operation changed"), "an operation in it is not what its digest says"))
     for command, words in on_file(refusals, "a folder that is not there/new")[:1]:
-        refusals.refused(f"{command} of a FILE in no folder", words, 1, "fault shelf 1")
+        refusals.refused(f"{command} of a FILE in no folder", words, 1, lines(
+            "fault shelf 1", refusals.path("a folder that is not there/new"), "its folder is not there"))
+    os.link(refusals.path("whole"), refusals.path("a second name"))
+    for command, words in on_file(refusals, "a second name")[2:]:
+        refusals.refused(f"{command} of a FILE with two names", words, 1, lines(
+            "fault shelf 1", refusals.path("a second name"), "it is no plain file, or has a second name"))
+    os.remove(refusals.path("a second name"))
     shutil.copy(refusals.path("whole"), refusals.path("unreadable"))
     os.chmod(refusals.path("unreadable"), 0)
     shutil.copy(refusals.path("whole"), refusals.path("unwritable"))
@@ -182,10 +208,65 @@ def try_files(refusals):
     os.mkdir(refusals.path("closed"), 0o555)
     for file in ("unreadable", "unwritable", "closed/new"):
         for command, words in on_file(refusals, file):
+            fault = lines("fault shelf 1", refusals.path(file), RIGHTS)
             # A file that is not there is made once the peer answers, and nobody does here.
-            line = "fault net 3" if (command, file) == ("exchange", "closed/new") else "fault shelf 1"
-            if (command, file) != ("report", "closed/new"):
-                refusals.refused(f"{command} of a FILE without rights, {file}", words, 1, line)
+            if (command, file) == ("exchange", "closed/new"):
+                fault = lines("fault net 3", words[3], "nobody listens there")
+            # A report only reads.
+            if command != "report" or file == "unreadable":
+                refusals.refused(f"{command} of a FILE without rights, {file}", words, 1, fault)
+    try_reports(refusals)
+
+
+def try_reports(refusals):
+    """Reports of files that can't be written, lack their log or are not there: nothing is made, and that is said."""
+    before = below(refusals.folder)
+    plain = refusals.run(["report", refusals.path("unwritable")], NOBODY)
+    told("report of a FILE that may not be written", same(plain, (
+        0, "operations 2\ncontents 0\ncorrections 2\nseries 0\nend 0\n", "")))
+    absent = refusals.new()
+    told("report of a FILE that is not there says so", same(refusals.said(["report", absent]), (
+        0, f"archive: {absent}: it is not there, and is told as one that has nothing\n")))
+    told("reports make nothing", changes(before, below(refusals.folder)))
+    with_log, alone = refusals.path("with a log"), refusals.path("without its log")
+    refusals.run(["correct", with_log, "--site", "1", "patient", "P1", "00100010", "ROE^ANN"], NOBODY)
+    told("report of a FILE beside its log says nothing", same(refusals.said(["report", with_log]), (0, "")))
+    shutil.copy(with_log, alone)
+    before = below(refusals.folder)
+    told("report of a FILE that was copied without its log says so", same(refusals.said(["report", alone]), (
+        0, f"archive: {alone}: {WITHOUT_LOG}\n")))
+    told("it makes no log", changes(before, below(refusals.folder)))
+
+
+def try_corrections(refusals):
+    """Corrections that are refused for a part, and those that are stamped with a warning."""
+    for words, why in ((("study", "1.2.x", "00100010", "A"), "KEY is no UID, or no Patient ID, that a target can have"),
+                       (("patient", "", "00100010", "A"), "KEY is no UID, or no Patient ID, that a target can have"),
+                       (("patient", "P1", "00080018", "1.2"),
+                        "TAG is no attribute of this target that can be corrected"),
+                       (("series", "1.2", "00100010", "A"),
+                        "TAG is no attribute of this target that can be corrected"),
+                       (("patient", "P1", "00100010", "A" * 65),
+                        "VALUE is longer than 64, or has a byte or an outer space that it may not have"),
+                       (("patient", "P1", "00100010", "A\\B"),
+                        "VALUE is longer than 64, or has a byte or an outer space that it may not have")):
+        file = refusals.new()
+        refusals.refused(f"correct {' '.join(words)[:40]}", ["correct", file, "--site", "1", *words], 1,
+                         lines("fault hub 7", file, why))
+    file = refusals.path("warned")
+    nobody = {"study": "it has nothing of this study, or not yet", "patient": "it has nothing of this patient, or not yet",
+              "series": "it has nothing of this series, or not yet"}
+    date = "VALUE is no date that a query matches, such as 20240229"
+    time = "VALUE is no time that a query matches, such as 101530"
+    for words, why in ((("study", "1.2", "00080020", "2024-02-29"), date), (("study", "1.2", "00080020", "20240229"), ""),
+                       (("study", "1.2", "00080020", "20240101-20240229"), date),
+                       (("study", "1.2", "00080020", ""), ""), (("patient", "P1", "00100030", "1970"), date),
+                       (("study", "1.2", "00080030", "10:15"), time), (("study", "1.2", "00080030", "101530.5"), ""),
+                       (("series", "1.2.3", "0008103e", "AXIAL"), "")):
+        wanted = [w for w in (why, nobody[words[0]]) if w]
+        told(f"correct {' '.join(words)} warns, and stamps", same(
+            refusals.said(["correct", file, "--site", "1", *words]),
+            (0, "".join(f"archive: {file}: warning: {w}\n" for w in wanted))))
 
 
 def try_addresses(refusals, archive):
@@ -194,24 +275,26 @@ def try_addresses(refusals, archive):
         other.bind(("127.0.0.1", 0))
         other.listen()
         used = "127.0.0.1:%d" % other.getsockname()[1]
-        refusals.refused("serve on a port in use", refusals.serve(refusals.new(), used), 1, "fault net 1")
+        in_use = lines("fault net 1", used, "the port is in use")
+        refusals.refused("serve on a port in use", refusals.serve(refusals.new(), used), 1, in_use)
         refusals.refused("serve --exchange on a port in use", refusals.serve(
-            refusals.new(), "", *SERVED, "--exchange", used, "--rounds", "1"), 1, "fault net 1")
-    refusals.refused("serve on a port of the archive", refusals.serve(refusals.new(), ":".join(archive.at())), 1,
-                     "fault net 1")
+            refusals.new(), "", *SERVED, "--exchange", used, "--rounds", "1"), 1, in_use)
+    taken = ":".join(archive.at())
+    refusals.refused("serve on a port of the archive", refusals.serve(refusals.new(), taken), 1,
+                     lines("fault net 1", taken, "the port is in use"))
     refusals.refused("serve at an address of another machine", refusals.serve(refusals.new(), "192.0.2.1:11112"), 1,
-                     "fault net 1")
-    refusals.refused("exchange with nobody", [
-        "exchange", refusals.new(), "--peer", f"127.0.0.1:{free_port()}"], 1, "fault net 3")
-    refusals.refused("correct of an attribute that may not be corrected", [
-        "correct", refusals.new(), "--site", "1", "patient", "P1", "00080018", "1.2"], 1, "fault hub 7")
+                     lines("fault net 1", "192.0.2.1:11112", "it is no address of this machine"))
+    nobody = f"127.0.0.1:{free_port()}"
+    refusals.refused("exchange with nobody", ["exchange", refusals.new(), "--peer", nobody], 1,
+                     lines("fault net 3", nobody, "nobody listens there"))
 
 
 def try_served(refusals, archive):
     """A file that another program serves: refused, and that one is as it was."""
     before = archive.find("ARCHIVE", "0008,0052=STUDY", "0020,000d")
     for command, words in on_file(refusals, archive.path):
-        refusals.refused(f"{command} of a FILE that is served", words, 1, "fault shelf 1", {})
+        refusals.refused(f"{command} of a FILE that is served", words, 1, lines(
+            "fault shelf 1", archive.path, "another program has it open"), {})
     told("the site that serves it answers as before", same(
         archive.find("ARCHIVE", "0008,0052=STUDY", "0020,000d"), before))
 
@@ -224,7 +307,7 @@ def try_script(refusals):
         timeout=300, check=False)
     told("simulate of a line of 65,537 bytes is refused behind the lines before it", same(
         (done.returncode, done.stdout.decode(), done.stderr.decode()),
-        (1, "site A 1\nsite B 2\n", "fault simulate 3\n")))
+        (1, "site A 1\nsite B 2\n", "fault simulate 3\narchive: a line is longer than 65,536 bytes\n")))
 
 
 def try_commands(archive, folder):
@@ -234,4 +317,5 @@ def try_commands(archive, folder):
     try_script(refusals)
     try_addresses(refusals, archive)
     try_served(refusals, archive)
+    try_corrections(refusals)
     try_files(refusals)

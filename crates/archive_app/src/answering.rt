@@ -4,11 +4,11 @@ ghost use Rattle.command_words.specs.Words.{IsInRange};
 
 use crate::correct::correct;
 use crate::exchanging::exchange;
+use crate::refused::{Refused, about};
 use crate::report::report;
 use crate::serve::serve;
 use crate::simulate::answer_script;
 use anyhow::Result;
-use command_output::CommandFault;
 use command_words::Asked;
 use log::Log;
 use std::alloc::Global;
@@ -19,22 +19,20 @@ use std::sync::Wait;
 use std::thread::Threads;
 use std::time::Clock;
 
-/// What is left to print on standard output, or a fault.
-pub type Answered = std::result::Result<Vec<u8>, CommandFault>;
+/// What is left to print on standard output, or why there is nothing.
+pub type Answered<'a> = std::result::Result<Vec<u8>, Refused<'a>>;
 
 /// A command that has printed what it has to.
-fn printed<T: Drop, E: Into<CommandFault> + Drop>(
-    alloc: Global,
-    ended: std::result::Result<T, E>,
-) -> Answered {
+fn printed<'a, T: Drop>(alloc: Global, ended: std::result::Result<T, Refused<'a>>) -> Answered<'a> {
     match ended {
         Ok(_) => Ok(Vec::new(alloc)),
-        Err(fault) => Err(fault.into()),
+        Err(refused) => Err(refused),
     }
 }
 
 /// Does what a command line asks for. It fails where standard output does.
 pub fn answer<
+    'a,
     R: Net<Listener = TcpListener, Stream = TcpStream>
         + Threads
         + Wait
@@ -42,11 +40,11 @@ pub fn answer<
         + Print
         + Log
         + Sync,
->(rt: &HostRuntime, host: &R, asked: Asked<'_>) -> Result<Answered>
+>(rt: &HostRuntime, host: &R, asked: Asked<'a>) -> Result<Answered<'a>>
     requires ranges { IsInRange asked }
 {
     match asked {
-        Asked::Simulate => Ok(printed(rt.alloc(), answer_script(rt))),
+        Asked::Simulate => Ok(printed(rt.alloc(), about("", answer_script(rt)))),
         Asked::Report(reporting) => Ok(report(rt, reporting)),
         Asked::Correct(correcting) => Ok(correct(rt, host, correcting)),
         Asked::Exchange(exchanging) => Ok(exchange(rt, host, exchanging)),

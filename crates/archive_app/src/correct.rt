@@ -4,10 +4,14 @@ ghost use Rattle.std.specs.Prelude.{◌≤◌};
 ghost use Rattle.command_words.specs.Words.{HasSite};
 
 use crate::file::{OnShelf, is_new, on_file};
-use command_output::{CommandFault, line_of_stamp};
-use command_words::{Change, Correcting};
+use crate::refused::{Refused, about, note};
+use command_output::{Cause, CommandFault, Note, line_of_stamp};
+use command_words::{Change, Correcting, Part, bad_part, unmatched};
+use key_matching::Matching;
 use op_shelf::Shelf;
-use shelved_site::{correct_on, next_correction};
+use operation::Target;
+use shelved_site::{Corrected, correct_on, next_correction};
+use site_hub::HubFault;
 use site_state::Site;
 use sqlite::Alter;
 use std::alloc::Global;
@@ -36,9 +40,27 @@ fn refuse_first(
     Ok(())
 }
 
+/// What a correction says beside its stamp, of its value.
+fn note_of_value(change: &Change) -> Option<Note> {
+    match unmatched(change.tag, change.value.as_slice()) {
+        Some(Matching::Dates) => Some(Note::NoDate),
+        Some(_times) => Some(Note::NoTime),
+        None => None,
+    }
+}
+
+/// What it says of its target, where the site has nothing of it.
+fn note_of_target(target: &Target) -> Note {
+    match target {
+        Target::Study(_) => Note::UnknownStudy,
+        Target::Patient(_) => Note::UnknownPatient,
+        Target::Series(_) => Note::UnknownSeries,
+    }
+}
+
 /// A correction that a site makes.
 #[derive(Drop)]
-struct Made<'a, W: Wait> {
+struct Making<'a, W: Wait> {
     alloc: Global,
     wait: &'a W,
     site: u16,
@@ -46,40 +68,77 @@ struct Made<'a, W: Wait> {
     ghost numbered: { 1 ≤ site },
 }
 
-impl<W: Wait> OnShelf for Made<'_, W> {
-    type Told = Result<Vec<u8>, CommandFault>;
+impl<W: Wait> OnShelf for Making<'_, W> {
+    type Told = Result<Corrected, CommandFault>;
 
-    fn on<S: Alter + Send>(self, shelf: &mut Shelf<S>) -> Result<Vec<u8>, CommandFault> {
-        let Made {
+    fn on<S: Alter + Send>(self, shelf: &mut Shelf<S>) -> Result<Corrected, CommandFault> {
+        let Making {
             alloc,
             wait,
             site,
             change,
         } = self;
         let Change { target, tag, value } = change;
-        let stamp = correct_on(alloc, wait, shelf, site, target, tag, value)?;
-        Ok(line_of_stamp(alloc, stamp)?)
+        let made = correct_on(alloc, wait, shelf, site, target, tag, value)?;
+        Ok(made)
     }
 }
 
-/// Makes a correction, and says its stamp once the file has it. Where the file is not there, what
-/// may not be corrected is refused before one is made.
-pub fn correct(
+/// Makes a correction in a file. Where the file is not there, what may not be corrected is refused
+/// before one is made.
+fn made<'a>(
     rt: &HostRuntime,
     wait: &impl Wait,
-    correcting: Correcting<'_>,
-) -> Result<Vec<u8>, CommandFault>
-    requires site { HasSite correcting }
+    file: &'a str,
+    site: u16,
+    change: Change,
+) -> Result<Corrected, Refused<'a>>
+    requires site { 1 ≤ site }
 {
-    let Correcting { file, site, change } = correcting;
     if is_new(rt, file) {
-        refuse_first(rt.alloc(), wait, site, &change)?;
+        about(file, refuse_first(rt.alloc(), wait, site, &change))?;
     }
-    let made = Made {
+    let making = Making {
         alloc: rt.alloc(),
         wait,
         site,
         change,
     };
-    on_file(rt, file, made)?
+    about(file, on_file(rt, file, making)?)
+}
+
+/// Why a correction is refused: the part of it that may not be, where it is for one.
+fn with_part<'a>(refused: Refused<'a>, bad: Option<Part>) -> Refused<'a> {
+    match (refused.fault, bad) {
+        (CommandFault::Hub(HubFault::BadCorrection), Some(part)) => Refused {
+            cause: Cause::Part(part),
+            ..refused
+        },
+        _ => refused,
+    }
+}
+
+/// Makes a correction, and says its stamp once the file has it. It warns of a value that no query
+/// matches, and of a target of which the site has nothing.
+pub fn correct<'a>(
+    rt: &HostRuntime,
+    wait: &impl Wait,
+    correcting: Correcting<'a>,
+) -> Result<Vec<u8>, Refused<'a>>
+    requires site { HasSite correcting }
+{
+    let Correcting { file, site, change } = correcting;
+    let (of_value, of_target) = (note_of_value(&change), note_of_target(&change.target));
+    let bad = about(file, bad_part(rt.alloc(), &change))?;
+    let made = match made(rt, wait, file, site, change) {
+        Ok(made) => made,
+        Err(refused) => return Err(with_part(refused, bad)),
+    };
+    if let Some(of_value) = of_value {
+        note(rt, file, of_value);
+    }
+    if !made.is_known {
+        note(rt, file, of_target);
+    }
+    about(file, line_of_stamp(rt.alloc(), made.stamp))
 }

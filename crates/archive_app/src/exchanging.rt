@@ -2,11 +2,13 @@
 
 use crate::file::{OnShelf, is_new, on_file};
 use crate::progress::{Progress, Reading, Writing, site_on};
+use crate::refused::{Refused, about};
 use crate::serve::wait_of;
 use archive_server::{NetFault, Wire};
-use command_output::{CommandFault, lines_of_exchange};
+use command_output::{CommandFault, NetCause, lines_of_exchange, reach_cause_of};
 use command_words::Exchanging;
 use devices::Counted;
+use exchange::ExchangeFault;
 use exchange_run::Ended;
 use op_shelf::Shelf;
 use shelved_exchange::exchange_on;
@@ -14,13 +16,33 @@ use sqlite::Alter;
 use std::net::{Net, TcpListener, TcpStream};
 use std::rt::HostRuntime;
 
-fn connect_to<R: Net<Listener = TcpListener, Stream = TcpStream>>(
+fn connect_to<'a, R: Net<Listener = TcpListener, Stream = TcpStream>>(
     net: &R,
-    exchanging: Exchanging<'_>,
-) -> Result<Wire, CommandFault> {
+    exchanging: Exchanging<'a>,
+) -> Result<Wire, Refused<'a>> {
     match Wire::to(net, exchanging.peer, wait_of(exchanging.idle)) {
         Ok(wire) => Ok(wire),
-        Err(_refused) => Err(CommandFault::Net(NetFault::Connect)),
+        Err(error) => {
+            let fault = CommandFault::Net(NetFault::Connect);
+            let cause = reach_cause_of(error.kind());
+            Err(Refused::net(exchanging.peer, fault, cause))
+        }
+    }
+}
+
+/// What came of an exchange with a peer, which is told where it said nothing.
+fn told_of<'a>(
+    peer: &'a str,
+    is_silent: bool,
+    ended: Result<Ended, ExchangeFault>,
+) -> Result<Ended, Refused<'a>> {
+    match ended {
+        Ok(ended) => Ok(ended),
+        Err(fault) if is_silent => {
+            let fault = CommandFault::Exchange(fault);
+            Err(Refused::net(peer, fault, NetCause::Silent))
+        }
+        Err(fault) => Err(Refused::of(peer, CommandFault::Exchange(fault))),
     }
 }
 
@@ -32,17 +54,17 @@ fn say_agreement(rt: &HostRuntime, ended: Ended) {
 
 /// An exchange with the site at an address, over a connection if it is made already.
 #[derive(Drop)]
-struct Meeting<'a, R: Net<Listener = TcpListener, Stream = TcpStream>> {
-    rt: &'a HostRuntime,
-    net: &'a R,
+struct Meeting<'h, 'a, R: Net<Listener = TcpListener, Stream = TcpStream>> {
+    rt: &'h HostRuntime,
+    net: &'h R,
     exchanging: Exchanging<'a>,
     connected: Option<Wire>,
 }
 
-impl<R: Net<Listener = TcpListener, Stream = TcpStream>> OnShelf for Meeting<'_, R> {
-    type Told = Result<Vec<u8>, CommandFault>;
+impl<'h, 'a, R: Net<Listener = TcpListener, Stream = TcpStream>> OnShelf for Meeting<'h, 'a, R> {
+    type Told = Result<Ended, Refused<'a>>;
 
-    fn on<S: Alter + Send>(self, shelf: &mut Shelf<S>) -> Result<Vec<u8>, CommandFault> {
+    fn on<S: Alter + Send>(self, shelf: &mut Shelf<S>) -> Result<Ended, Refused<'a>> {
         let Meeting {
             rt,
             net,
@@ -50,7 +72,7 @@ impl<R: Net<Listener = TcpListener, Stream = TcpStream>> OnShelf for Meeting<'_,
             connected,
         } = self;
         let alloc = rt.alloc();
-        let site = site_on(rt, exchanging.file, shelf)?;
+        let site = about(exchanging.file, site_on(rt, exchanging.file, shelf))?;
         let wire = match connected {
             Some(wire) => wire,
             None => connect_to(net, exchanging)?,
@@ -61,9 +83,7 @@ impl<R: Net<Listener = TcpListener, Stream = TcpStream>> OnShelf for Meeting<'_,
         let role = exchanging.role;
         let (_site, ended) = exchange_on(alloc, role, &mut reader, &mut writer, site, shelf);
         wire.part(rt);
-        let ended = ended?;
-        say_agreement(rt, ended);
-        Ok(lines_of_exchange(alloc, ended)?)
+        told_of(exchanging.peer, wire.is_silent(), ended)
     }
 }
 
@@ -74,11 +94,11 @@ impl<R: Net<Listener = TcpListener, Stream = TcpStream>> OnShelf for Meeting<'_,
 /// is not there the connection comes first, so that no file is made where nobody answers. At a
 /// terminal it says meanwhile how far it is. On standard error it says in the end whether both
 /// sides agreed.
-pub fn exchange<R: Net<Listener = TcpListener, Stream = TcpStream>>(
+pub fn exchange<'a, R: Net<Listener = TcpListener, Stream = TcpStream>>(
     rt: &HostRuntime,
     net: &R,
-    exchanging: Exchanging<'_>,
-) -> Result<Vec<u8>, CommandFault> {
+    exchanging: Exchanging<'a>,
+) -> Result<Vec<u8>, Refused<'a>> {
     let file = exchanging.file;
     let connected = match is_new(rt, file) {
         true => Some(connect_to(net, exchanging)?),
@@ -90,5 +110,7 @@ pub fn exchange<R: Net<Listener = TcpListener, Stream = TcpStream>>(
         exchanging,
         connected,
     };
-    on_file(rt, file, meeting)?
+    let ended = on_file(rt, file, meeting)??;
+    say_agreement(rt, ended);
+    about(file, lines_of_exchange(rt.alloc(), ended))
 }

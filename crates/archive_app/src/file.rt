@@ -1,12 +1,20 @@
 //! The file of a site's shelf.
 
-use command_output::CommandFault;
-use op_shelf::{Shelf, ShelfFault};
-use sqlite::{Alter, FileFrom, FileStore, Wary};
+use crate::refused::{Refused, note};
+use command_output::{
+    CommandFault, FileCause, Note, file_cause_in_error, file_cause_of, is_other, lacks_log,
+};
+use op_shelf::{Shelf, ShelfFault, make_ready};
+use sqlite::{Alter, Connection, Error, FileFrom, FileStore, Start, Wary};
+use std::alloc::AllocError;
 use std::fs;
-use std::fs::File;
-use std::io::Read;
+use std::fs::{File, OpenOptions};
+use std::io::{ErrorKind, Read};
+use std::os::unix::fs::MetadataExt;
 use std::rt::HostRuntime;
+
+/// How many bytes of a file tell what it holds.
+const FRONT: u64 = 20;
 
 /// A shelf in a file.
 pub type FileShelf = Shelf<FileStore<FileFrom<Wary>>>;
@@ -19,19 +27,21 @@ pub trait OnShelf {
     fn on<S: Alter + Send>(self, shelf: &mut Shelf<S>) -> Self::Told;
 }
 
-/// What the file of a SQLite database begins with.
-const HEAD: &[u8] = b"SQLite format 3\0";
-
-/// Whether a file holds no database: it can be read, is not empty and begins otherwise.
-fn is_other(rt: &HostRuntime, file: &str) -> bool {
+/// The first bytes of a file, where it can be read.
+pub fn front_of(rt: &HostRuntime, file: &str) -> Option<Vec<u8>> {
     let Ok(opened) = File::open(rt, file) else {
-        return false;
+        return None;
     };
-    let mut head = Vec::new(rt.alloc());
-    match opened.take(16).read_to_end(&mut head) {
-        Ok(_) => !head.is_empty() && head.as_slice() != HEAD,
-        Err(_unread) => false,
+    let mut front = Vec::new(rt.alloc());
+    match opened.take(FRONT).read_to_end(&mut front) {
+        Ok(_) => Some(front),
+        Err(_unread) => None,
     }
+}
+
+/// The path of a file beside another one, whose name goes on so.
+pub fn beside(rt: &HostRuntime, file: &str, more: &str) -> Result<String, AllocError> {
+    format!(in rt.alloc(); "{file}{more}")
 }
 
 /// Whether a file is not there, so that opening its shelf makes it.
@@ -39,21 +49,140 @@ pub fn is_new(rt: &HostRuntime, file: &str) -> bool {
     matches!(fs::exists(rt, file), Ok(false))
 }
 
+/// Says where a file that is there may lack its log.
+pub fn note_log(rt: &HostRuntime, file: &str) {
+    let (Some(front), Ok(log)) = (front_of(rt, file), beside(rt, file, "-wal")) else {
+        return;
+    };
+    if lacks_log(front.as_slice(), !is_new(rt, log.as_str())) {
+        note(rt, file, Note::WithoutLog);
+    }
+}
+
+/// Why a file that is not there can't be made: its folder is not there, or there is no right to it.
+fn cause_of_absence(rt: &HostRuntime, file: &str) -> FileCause {
+    let folder = match file.rsplit_once('/') {
+        None => ".",
+        Some(("", _)) => "/",
+        Some((folder, _)) => folder,
+    };
+    if is_new(rt, folder) {
+        return FileCause::NoFolder;
+    }
+    FileCause::NoRights
+}
+
+/// Why an open file can't be a site's, where its kind or its names tell.
+fn cause_of_kind(opened: &File) -> Option<FileCause> {
+    match opened.metadata() {
+        Ok(found) if found.is_file() && found.nlink() == 1 => None,
+        _ => Some(FileCause::NotPlain),
+    }
+}
+
+/// Why a file can't be opened to be read and written, where that is so.
+fn cause_of_open(rt: &HostRuntime, file: &str) -> Option<FileCause> {
+    match OpenOptions::new().read(true).write(true).open(rt, file) {
+        Ok(opened) => cause_of_kind(&opened),
+        Err(error) if error.kind() == ErrorKind::NotFound => Some(cause_of_absence(rt, file)),
+        Err(error) => Some(file_cause_of(error.kind())),
+    }
+}
+
+/// Why a file that can be opened has none beside it that can: a journal that is there, or no right
+/// to make a log.
+fn cause_beside(rt: &HostRuntime, file: &str) -> FileCause {
+    let (Ok(journal), Ok(log)) = (beside(rt, file, "-journal"), beside(rt, file, "-wal")) else {
+        return FileCause::Unopened;
+    };
+    if !is_new(rt, journal.as_str()) {
+        return FileCause::Journal;
+    }
+    match OpenOptions::new()
+        .read(true)
+        .write(true)
+        .open(rt, log.as_str())
+    {
+        Ok(_opened) => FileCause::NotPlain,
+        Err(error) if error.kind() == ErrorKind::NotFound => FileCause::NoRights,
+        Err(error) => file_cause_of(error.kind()),
+    }
+}
+
+/// Why a file is not opened, as the system and its error tell.
+fn cause_of(rt: &HostRuntime, file: &str, error: Error) -> FileCause {
+    if let Some(cause) = file_cause_in_error(error) {
+        return cause;
+    }
+    match cause_of_open(rt, file) {
+        Some(cause) => cause,
+        None => cause_beside(rt, file),
+    }
+}
+
+/// A shelf over a connection, or why there is none: a database that has a table is another
+/// program's.
+pub fn adopted<'a, S: Alter + Drop>(
+    rt: &HostRuntime,
+    file: &'a str,
+    mut database: Connection<S>,
+) -> Result<Shelf<S>, Refused<'a>> {
+    match make_ready(&mut database, rt.alloc()) {
+        Ok(()) => {}
+        Err(ShelfFault::Store) if !database.schema().tables.is_empty() => {
+            let fault = CommandFault::Shelf(ShelfFault::Store);
+            return Err(Refused::file(file, fault, FileCause::OtherDatabase));
+        }
+        Err(fault) => return Err(Refused::of(file, CommandFault::Shelf(fault))),
+    }
+    match Shelf::adopt(rt.alloc(), database) {
+        Ok(shelf) => Ok(shelf),
+        Err(fault) => Err(Refused::of(file, CommandFault::Shelf(fault))),
+    }
+}
+
+/// The fault of a database that is not opened.
+pub fn refused<'a>(rt: &HostRuntime, file: &'a str, error: Error) -> Refused<'a> {
+    match ShelfFault::from(error) {
+        ShelfFault::Store => {
+            let fault = CommandFault::Shelf(ShelfFault::Store);
+            Refused::file(file, fault, cause_of(rt, file, error))
+        }
+        fault => Refused::of(file, CommandFault::Shelf(fault)),
+    }
+}
+
+/// The shelf in the files at a path, of which so much is supposed.
+fn shelf_in<'a, S: Start>(
+    rt: &HostRuntime,
+    file: &'a str,
+    start: S,
+) -> Result<Shelf<FileStore<FileFrom<S>>>, Refused<'a>> {
+    match Connection::open_from(rt, file, false, start) {
+        Ok(database) => adopted(rt, file, database),
+        Err((error, _left)) => Err(refused(rt, file, error)),
+    }
+}
+
 /// Opens the shelf in a file, of which nothing is supposed. The file is made where it is not there;
 /// one of another kind is refused before anything is made beside it.
-pub fn open_shelf(rt: &HostRuntime, file: &str) -> Result<FileShelf, CommandFault> {
-    if is_other(rt, file) {
-        return Err(CommandFault::Shelf(ShelfFault::Store));
+pub fn open_shelf<'a>(rt: &HostRuntime, file: &'a str) -> Result<FileShelf, Refused<'a>> {
+    if let Some(front) = front_of(rt, file) {
+        if is_other(front.as_slice()) {
+            let fault = CommandFault::Shelf(ShelfFault::Store);
+            return Err(Refused::file(file, fault, FileCause::OtherKind));
+        }
+        note_log(rt, file);
     }
-    Ok(Shelf::open(rt, file, Wary)?)
+    shelf_in(rt, file, Wary)
 }
 
 /// Does a command's work on the shelf in a file.
-pub fn on_file<W: OnShelf + Drop>(
+pub fn on_file<'a, W: OnShelf + Drop>(
     rt: &HostRuntime,
-    file: &str,
+    file: &'a str,
     work: W,
-) -> Result<W::Told, CommandFault> {
+) -> Result<W::Told, Refused<'a>> {
     let mut shelf = open_shelf(rt, file)?;
     Ok(work.on(&mut shelf))
 }

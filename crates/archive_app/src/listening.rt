@@ -1,9 +1,10 @@
 //! Where a server listens.
 
 use crate::file::is_new;
+use crate::refused::Refused;
 use anyhow::Result as Printed;
 use archive_server::{Entrance, Exchanging, NetFault};
-use command_output::CommandFault;
+use command_output::{CommandFault, listen_cause_of};
 use command_words::Serving;
 use std::io::Print;
 use std::net::{Net, TcpListener, TcpStream};
@@ -34,29 +35,38 @@ pub fn exchanging_of<'a>(
     }
 }
 
-/// The listener of exchanges, where some are to be served.
-fn listener_of<R: Net<Listener = TcpListener, Stream = TcpStream>>(
+/// A listener at an address.
+fn bound<'a, R: Net<Listener = TcpListener, Stream = TcpStream>>(
     rt: &R,
-    exchange: &str,
-    rounds: u32,
-) -> Result<Option<TcpListener>, CommandFault> {
-    if rounds == 0 {
-        return Ok(None);
-    }
-    match TcpListener::bind(rt, exchange) {
-        Ok(listener) => Ok(Some(listener)),
-        Err(_refused) => Err(CommandFault::Net(NetFault::Listen)),
+    address: &'a str,
+) -> Result<TcpListener, Refused<'a>> {
+    match TcpListener::bind(rt, address) {
+        Ok(listener) => Ok(listener),
+        Err(error) => {
+            let fault = CommandFault::Net(NetFault::Listen);
+            Err(Refused::net(address, fault, listen_cause_of(error.kind())))
+        }
     }
 }
 
-/// Listens, first for associations.
-pub fn listen_to<R: Net<Listener = TcpListener, Stream = TcpStream>>(
+/// The listener of exchanges, where some are to be served.
+fn listener_of<'a, R: Net<Listener = TcpListener, Stream = TcpStream>>(
     rt: &R,
-    serving: &Serving<'_>,
-) -> Result<Listening, CommandFault> {
-    let Ok(associations) = TcpListener::bind(rt, serving.listen) else {
-        return Err(CommandFault::Net(NetFault::Listen));
-    };
+    exchange: &'a str,
+    rounds: u32,
+) -> Result<Option<TcpListener>, Refused<'a>> {
+    if rounds == 0 {
+        return Ok(None);
+    }
+    Ok(Some(bound(rt, exchange)?))
+}
+
+/// Listens, first for associations.
+pub fn listen_to<'a, R: Net<Listener = TcpListener, Stream = TcpStream>>(
+    rt: &R,
+    serving: &Serving<'a>,
+) -> Result<Listening, Refused<'a>> {
+    let associations = bound(rt, serving.listen)?;
     Ok(Listening {
         associations,
         exchanges: listener_of(rt, serving.exchange, serving.rounds)?,
@@ -64,11 +74,11 @@ pub fn listen_to<R: Net<Listener = TcpListener, Stream = TcpStream>>(
 }
 
 /// Listens where the file is not there, so that no file is made where nobody can listen.
-pub fn listen_first<R: Net<Listener = TcpListener, Stream = TcpStream>>(
+pub fn listen_first<'a, R: Net<Listener = TcpListener, Stream = TcpStream>>(
     host: &HostRuntime,
     rt: &R,
-    serving: &Serving<'_>,
-) -> Result<Option<Listening>, CommandFault> {
+    serving: &Serving<'a>,
+) -> Result<Option<Listening>, Refused<'a>> {
     match is_new(host, serving.file) {
         true => Ok(Some(listen_to(rt, serving)?)),
         false => Ok(None),

@@ -8,11 +8,14 @@ mod exchanging;
 mod file;
 mod listening;
 mod progress;
+mod refused;
 mod report;
 mod serve;
 mod simulate;
+mod viewing;
 
 use crate::answering::{Answered, answer};
+use crate::refused::Refused;
 use anyhow::Result;
 use command_line::{is_want_of_memory, read_words};
 use command_output::{ending_of, status_of_refusal};
@@ -26,20 +29,24 @@ use std::thread::Threads;
 use std::time::Clock;
 use std::{env, io};
 
-/// Prints an answer, or the line of its fault. It says the status.
-fn told(rt: &HostRuntime, answered: Answered) -> Result<u8> {
-    let ending = match answered {
+/// Prints the line of a fault, and behind it what it is about and why. It says the status.
+fn told_refused(rt: &HostRuntime, refused: Refused<'_>) -> Result<u8> {
+    let ending = ending_of(Err(refused.fault));
+    let line = ending.line;
+    eprintln!(rt; "{line}")?;
+    refused.tell(rt);
+    Ok(ending.status)
+}
+
+/// Prints an answer, or the lines of its fault. It says the status.
+fn told(rt: &HostRuntime, answered: Answered<'_>) -> Result<u8> {
+    match answered {
         Ok(text) => {
             io::writer(rt).write_all(text.as_slice())?;
-            ending_of(Ok(()))
+            Ok(ending_of(Ok(())).status)
         }
-        Err(fault) => ending_of(Err(fault)),
-    };
-    let line = ending.line;
-    if !line.is_empty() {
-        eprintln!(rt; "{line}")?;
+        Err(refused) => told_refused(rt, refused),
     }
-    Ok(ending.status)
 }
 
 fn run<

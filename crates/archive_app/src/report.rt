@@ -1,7 +1,9 @@
 //! `archive report`: counts the operations in a file, or tells a table of its site.
 
-use crate::file::{OnShelf, is_new, on_file};
-use command_output::{CommandFault, lines_of};
+use crate::file::{OnShelf, is_new};
+use crate::refused::{Refused, about, note};
+use crate::viewing::view_file;
+use command_output::{CommandFault, Note, lines_of};
 use command_words::Reporting;
 use op_shelf::Shelf;
 use shelved_site::{Report, ShelvedFault, report_of, report_on, table_on};
@@ -32,20 +34,24 @@ impl OnShelf for Counting {
     }
 }
 
-fn report_in(rt: &HostRuntime, file: &str) -> Result<Report, CommandFault> {
-    let report = on_file(rt, file, Counting { alloc: rt.alloc() })??;
-    Ok(report)
+fn report_in<'a>(rt: &HostRuntime, file: &'a str) -> Result<Report, Refused<'a>> {
+    about(file, view_file(rt, file, Counting { alloc: rt.alloc() })?)
 }
 
 /// The counts of the operations in a file.
-fn counts(rt: &HostRuntime, file: &str, is_fingerprinted: bool) -> Result<Vec<u8>, CommandFault> {
+fn counts<'a>(
+    rt: &HostRuntime,
+    file: &'a str,
+    is_absent: bool,
+    is_fingerprinted: bool,
+) -> Result<Vec<u8>, Refused<'a>> {
     let alloc = rt.alloc();
-    let report = if is_new(rt, file) {
-        report_of_none(alloc)?
+    let report = if is_absent {
+        about(file, report_of_none(alloc))?
     } else {
         report_in(rt, file)?
     };
-    Ok(lines_of(alloc, &report, is_fingerprinted)?)
+    about(file, lines_of(alloc, &report, is_fingerprinted))
 }
 
 /// A table of a shelf.
@@ -63,40 +69,50 @@ impl OnShelf for Telling {
     }
 }
 
-fn rows_in(rt: &HostRuntime, file: &str, table: Table) -> Result<Vec<Row>, CommandFault> {
+fn rows_in<'a>(
+    rt: &HostRuntime,
+    file: &'a str,
+    is_absent: bool,
+    table: Table,
+) -> Result<Vec<Row>, Refused<'a>> {
     let alloc = rt.alloc();
-    if is_new(rt, file) {
+    if is_absent {
         return Ok(Vec::new(alloc));
     }
-    let rows = on_file(rt, file, Telling { alloc, table })??;
-    Ok(rows)
+    about(file, view_file(rt, file, Telling { alloc, table })?)
 }
 
 /// A table of the site whose operations are in a file.
-fn told(
+fn told<'a>(
     rt: &HostRuntime,
-    file: &str,
+    file: &'a str,
+    is_absent: bool,
     table: Table,
     is_separated: bool,
-) -> Result<Vec<u8>, CommandFault> {
-    let rows = rows_in(rt, file, table)?;
+) -> Result<Vec<u8>, Refused<'a>> {
+    let rows = rows_in(rt, file, is_absent, table)?;
     let heading = table.heading();
     if is_separated {
-        return Ok(separate(rt.alloc(), heading, rows.as_slice())?);
+        return about(file, separate(rt.alloc(), heading, rows.as_slice()));
     }
-    Ok(align(rt.alloc(), heading, rows.as_slice())?)
+    about(file, align(rt.alloc(), heading, rows.as_slice()))
 }
 
-/// The report of the operations in a file. One that is not there has none, and is not made.
-pub fn report(rt: &HostRuntime, reporting: Reporting<'_>) -> Result<Vec<u8>, CommandFault> {
+/// The report of the operations in a file, of which nothing is changed. One that is not there has
+/// none, which is said, and is not made.
+pub fn report<'a>(rt: &HostRuntime, reporting: Reporting<'a>) -> Result<Vec<u8>, Refused<'a>> {
     let Reporting {
         file,
         table,
         separated,
         fingerprint,
     } = reporting;
+    let is_absent = is_new(rt, file);
+    if is_absent {
+        note(rt, file, Note::Absent);
+    }
     match table {
-        None => counts(rt, file, fingerprint),
-        Some(table) => told(rt, file, table, separated),
+        None => counts(rt, file, is_absent, fingerprint),
+        Some(table) => told(rt, file, is_absent, table, separated),
     }
 }

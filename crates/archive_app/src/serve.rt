@@ -8,6 +8,7 @@ use crate::ending::ended_with_input;
 use crate::file::open_shelf;
 use crate::listening::{Listening, exchanging_of, listen_first, listen_to, say_where};
 use crate::progress::site_on;
+use crate::refused::{Refused, about};
 use anyhow::Result as Printed;
 use archive_model::View;
 use archive_server::{Entrance, Exchanging, Manner, Peer, ServeFault, Served, serve_on};
@@ -237,17 +238,20 @@ fn passes_for(serving: &Serving<'_>) -> usize
 }
 
 /// Opens the hub of a site on a shelf, and listens where nobody does yet.
-fn open_site<'r, R: Net<Listener = TcpListener, Stream = TcpStream> + Wait, S: Alter>(
+fn open_site<'a, 'r, R: Net<Listener = TcpListener, Stream = TcpStream> + Wait, S: Alter>(
     host: &HostRuntime,
     rt: &'r R,
-    serving: &Serving<'_>,
+    serving: &Serving<'a>,
     shelf: &mut Shelf<S>,
     passes: usize,
     listening: Option<Listening>,
-) -> Result<(Opened<&'r R>, Listening), CommandFault>
+) -> Result<(Opened<&'r R>, Listening), Refused<'a>>
     requires passes { (1 ≤ passes) × (passes ≤ 64) }
 {
-    let opened = hub_of(host, rt, serving.file, shelf, passes)?;
+    let opened = match hub_of(host, rt, serving.file, shelf, passes) {
+        Ok(opened) => opened,
+        Err(fault) => return Err(Refused::of(serving.file, fault)),
+    };
     let listening = match listening {
         Some(listening) => listening,
         None => listen_to(rt, serving)?,
@@ -292,6 +296,7 @@ fn serve_site<
 
 /// Serves the site on a shelf, once it listens and says so.
 fn serve_shelf<
+    'a,
     R: Net<Listener = TcpListener, Stream = TcpStream>
         + Threads
         + Wait
@@ -303,10 +308,10 @@ fn serve_shelf<
 >(
     host: &HostRuntime,
     rt: &R,
-    serving: &Serving<'_>,
+    serving: &Serving<'a>,
     shelf: &mut Shelf<S>,
     listening: Option<Listening>,
-) -> Printed<Result<Count, CommandFault>>
+) -> Printed<Result<Count, Refused<'a>>>
     requires places { HasPlaces serving.now }
 {
     let passes = passes_for(serving);
@@ -316,11 +321,12 @@ fn serve_shelf<
     };
     let (_, listening) = &site;
     say_where(rt, listening, serving)?;
-    Ok(serve_site(host, rt, shelf, site, serving))
+    Ok(about(serving.file, serve_site(host, rt, shelf, site, serving)))
 }
 
 /// What was served of the operations in a file.
 fn serve_file<
+    'a,
     R: Net<Listener = TcpListener, Stream = TcpStream>
         + Threads
         + Wait
@@ -328,7 +334,7 @@ fn serve_file<
         + Print
         + Log
         + Sync,
->(host: &HostRuntime, rt: &R, serving: &Serving<'_>) -> Printed<Result<Count, CommandFault>>
+>(host: &HostRuntime, rt: &R, serving: &Serving<'a>) -> Printed<Result<Count, Refused<'a>>>
     requires places { HasPlaces serving.now }
 {
     let listening = match listen_first(host, rt, serving) {
@@ -341,6 +347,16 @@ fn serve_file<
     }
 }
 
+/// How serving ended: what its first fault is about.
+fn ended_of<'a>(serving: &Serving<'a>, ended: Result<(), CommandFault>) -> Result<(), Refused<'a>> {
+    let what = match ended {
+        Err(CommandFault::Run(_) | CommandFault::Net(_)) => serving.listen,
+        Err(CommandFault::Exchange(_)) => serving.exchange,
+        _ => serving.file,
+    };
+    about(what, ended)
+}
+
 /// Serves the operations in a file, until each worker has accepted what it may and each exchange
 /// was served, or until standard input ends where that is asked for. Meanwhile it calls its peers.
 ///
@@ -350,6 +366,7 @@ fn serve_file<
 /// listeners come first. The thread that waits for the end of standard input comes behind what is
 /// printed.
 pub fn serve<
+    'a,
     R: Net<Listener = TcpListener, Stream = TcpStream>
         + Threads
         + Wait
@@ -357,13 +374,13 @@ pub fn serve<
         + Print
         + Log
         + Sync,
->(host: &HostRuntime, rt: &R, serving: &Serving<'_>) -> Printed<Result<(), CommandFault>>
+>(host: &HostRuntime, rt: &R, serving: &Serving<'a>) -> Printed<Result<(), Refused<'a>>>
     requires places { HasPlaces serving.now }
 {
     match serve_file(host, rt, serving)? {
         Ok(Count { accepted, ended }) => {
             println!(rt; "served {accepted}")?;
-            Ok(ended)
+            Ok(ended_of(serving, ended))
         }
         Err(fault) => Ok(Err(fault)),
     }

@@ -1,5 +1,5 @@
 -- The parts of a correction: which of them may not be, and a value that no query matches.
-use Rattle.std.specs.Prelude.{ℕ, List, length, Bool, true, false, not, ◌&&◌, ◌||◌, ◌==◌, Option, Some, None}
+use Rattle.std.specs.Prelude.{ℕ, List, length, Bool, not, ◌&&◌, ◌||◌, ◌==◌, Option, Some, None}
 use Rattle.std.specs.Prelude.{if◌then◌else◌}
 use Rattle.std.specs.List.{list_any}
 use Rattle.dictionary.specs.declared.elements.TheConstants.{STUDY_DATE, STUDY_TIME, PATIENT_BIRTH_DATE, PATIENT_NAME}

@@ -1,0 +1,148 @@
+//! The file of a site's shelf, where it is only read: without a right to write, and without making
+//! a log beside it.
+
+ghost use Rattle.std.specs.Prelude.{IfOk, IsTrue};
+ghost use Rattle.sqlite_disk.specs.Memory.{memory_is_usable};
+
+use crate::file::{OnShelf, adopted, beside, front_of, is_new, note_log, on_file, refused};
+use crate::refused::Refused;
+use command_output::{CommandFault, FileCause, file_cause_of, is_other};
+use op_shelf::{Shelf, ShelfFault};
+use os::RangeLock;
+use sqlite::{Connection, FileStore, Files, Options};
+use sqlite_disk::{Disk, Memory as InMemory};
+use std::alloc::Global;
+use std::fs::{File, OpenOptions};
+use std::hash::{BuildHasher, RandomState};
+use std::io;
+use std::io::{ErrorKind, Read};
+use std::os::fd::AsRawFd;
+use std::rt::HostRuntime;
+
+/// Where SQLite's locks begin, and how many bytes they are: a program that has the file open holds
+/// one of them.
+const LOCKS: u64 = 1_073_741_824;
+
+const LOCKED: u64 = 512;
+
+/// A file in memory that has these bytes.
+fn memory_of(alloc: Global, bytes: &[u8]) -> io::Result<InMemory>
+    ensures { IfOk result (λ memory. IsTrue (memory_is_usable memory)) }
+{
+    let mut memory = InMemory::new(alloc);
+    if !bytes.is_empty() {
+        memory.write_at(0, bytes)?;
+    }
+    Ok(memory)
+}
+
+/// The bytes of an open file.
+fn bytes_of(alloc: Global, mut file: &File) -> io::Result<Vec<u8>> {
+    let mut bytes = Vec::new(alloc);
+    file.read_to_end(&mut bytes)?;
+    Ok(bytes)
+}
+
+/// The bytes of the log of a file, which has none where it is not there.
+fn log_of(rt: &HostRuntime, file: &str) -> io::Result<Vec<u8>> {
+    let log = beside(rt, file, "-wal")?;
+    match File::open(rt, log.as_str()) {
+        Ok(log) => bytes_of(rt.alloc(), &log),
+        Err(error) if error.kind() == ErrorKind::NotFound => Ok(Vec::new(rt.alloc())),
+        Err(error) => Err(error),
+    }
+}
+
+/// Whether a journal is beside a file which only SQLite can play back.
+fn has_journal(rt: &HostRuntime, file: &str) -> io::Result<bool> {
+    let journal = beside(rt, file, "-journal")?;
+    match front_of(rt, journal.as_str()) {
+        None => Ok(false),
+        Some(front) => Ok(front.first().copied().unwrap_or(0) != 0),
+    }
+}
+
+/// A file and its log, copied while no program that writes it has it open.
+fn copied(rt: &HostRuntime, file: &str) -> io::Result<Files<InMemory>>
+    ensures log { IfOk result (λ files. IsTrue (memory_is_usable files.log)) }
+    ensures db { IfOk result (λ files. IsTrue (memory_is_usable files.db)) }
+{
+    let opened = File::open(rt, file)?;
+    if os::try_lock_range(opened.as_raw_fd(), RangeLock::Shared, LOCKS, LOCKED) != 0 {
+        return Err(ErrorKind::ResourceBusy.into());
+    }
+    if has_journal(rt, file)? {
+        return Err(ErrorKind::AlreadyExists.into());
+    }
+    let (db, log) = (bytes_of(rt.alloc(), &opened)?, log_of(rt, file)?);
+    if is_other(db.as_slice()) {
+        return Err(ErrorKind::InvalidData.into());
+    }
+    Ok(Files {
+        log: memory_of(rt.alloc(), log.as_slice())?,
+        db: memory_of(rt.alloc(), db.as_slice())?,
+    })
+}
+
+/// Why a file is not read.
+fn unread<'a>(file: &'a str, kind: ErrorKind) -> Refused<'a> {
+    let fault = CommandFault::Shelf(ShelfFault::Store);
+    match kind {
+        ErrorKind::OutOfMemory => Refused::of(file, CommandFault::Shelf(ShelfFault::Memory)),
+        ErrorKind::ResourceBusy => Refused::file(file, fault, FileCause::InUse),
+        ErrorKind::AlreadyExists => Refused::file(file, fault, FileCause::Journal),
+        ErrorKind::InvalidData => Refused::file(file, fault, FileCause::OtherKind),
+        kind => Refused::file(file, fault, file_cause_of(kind)),
+    }
+}
+
+/// The shelf in a copy of a file.
+fn shelf_of<'a>(
+    rt: &HostRuntime,
+    file: &'a str,
+) -> Result<Shelf<FileStore<InMemory>>, Refused<'a>> {
+    let files = match copied(rt, file) {
+        Ok(files) => files,
+        Err(error) => return Err(unread(file, error.kind())),
+    };
+    let Ok(seed) = RandomState::new(rt) else {
+        return Err(unread(file, ErrorKind::Other));
+    };
+    let options = Options::new(seed.hash_one(&0u8));
+    match Connection::open_files(rt.alloc(), files, options) {
+        Ok(database) => adopted(rt, file, database),
+        Err((error, _left)) => Err(refused(rt, file, error)),
+    }
+}
+
+/// Whether a file can be opened to be read and written, as it stands.
+fn is_open_to(rt: &HostRuntime, file: &str) -> bool {
+    OpenOptions::new()
+        .read(true)
+        .write(true)
+        .open(rt, file)
+        .is_ok()
+}
+
+/// Whether opening a file makes none: its log is beside it, and both may be written.
+fn has_both(rt: &HostRuntime, file: &str) -> bool {
+    let Ok(log) = beside(rt, file, "-wal") else {
+        return false;
+    };
+    !is_new(rt, log.as_str()) && is_open_to(rt, log.as_str()) && is_open_to(rt, file)
+}
+
+/// Does a command's work on the shelf in a file, of which nothing is changed. Where opening it would
+/// make a file, or there is no right to write it, the work is done on a copy in memory.
+pub fn view_file<'a, W: OnShelf + Drop>(
+    rt: &HostRuntime,
+    file: &'a str,
+    work: W,
+) -> Result<W::Told, Refused<'a>> {
+    if has_both(rt, file) {
+        return on_file(rt, file, work);
+    }
+    note_log(rt, file);
+    let mut shelf = shelf_of(rt, file)?;
+    Ok(work.on(&mut shelf))
+}
