@@ -1,8 +1,9 @@
-//! The titles of an association, read off the first bytes of its stream.
+//! The titles of an association, and what ended it early, read off the bytes of both ways.
 
 ghost use Rattle.std.specs.Prelude.{◌≡◌};
 
-use devices::{DeviceFault, Source};
+use crate::ends::{Abort, Ends, Rejection};
+use devices::{DeviceFault, Sink, Source};
 
 /// How many bytes an A-ASSOCIATE-RQ has up to the end of its titles (PS3.8, section 9.3.2).
 const FRONT: usize = 42;
@@ -65,6 +66,7 @@ impl Front {
 pub(crate) struct Heard<R: Source> {
     source: R,
     front: Front,
+    ends: Ends,
 }
 
 impl<R: Source> Heard<R> {
@@ -72,12 +74,18 @@ impl<R: Source> Heard<R> {
         Heard {
             source,
             front: Front::new(),
+            ends: Ends::new(),
         }
     }
 
     /// What was read first.
     pub fn front(&self) -> Front {
         self.front
+    }
+
+    /// The peer's abort, if one came.
+    pub fn abort(&self) -> Option<Abort> {
+        self.ends.abort()
     }
 }
 
@@ -89,6 +97,45 @@ impl<R: Source> Source for Heard<R> {
     fn read(&mut self, buffer: &mut [u8]) -> Result<usize, DeviceFault> {
         let count = self.source.read(buffer)?;
         self.front.keep(&buffer[..count]);
+        self.ends.take(&buffer[..count]);
+        Ok(count)
+    }
+}
+
+/// A writer whose rejections and aborts are noted. Contracts see the writer.
+#[derive(Drop)]
+pub(crate) struct Said<W: Sink> {
+    sink: W,
+    ends: Ends,
+}
+
+impl<W: Sink> Said<W> {
+    pub fn new(sink: W) -> Said<W> {
+        Said {
+            sink,
+            ends: Ends::new(),
+        }
+    }
+
+    /// The rejection that was sent, if one was.
+    pub fn rejection(&self) -> Option<Rejection> {
+        self.ends.rejection()
+    }
+
+    /// The abort that was sent, likewise.
+    pub fn abort(&self) -> Option<Abort> {
+        self.ends.abort()
+    }
+}
+
+impl<W: Sink> Sink for Said<W> {
+    ghost contents = { λ s. W.contents s.sink };
+
+    ghost failures = { λ s. W.failures s.sink };
+
+    fn write(&mut self, bytes: &[u8]) -> Result<usize, DeviceFault> {
+        let count = self.sink.write(bytes)?;
+        self.ends.take(&bytes[..count]);
         Ok(count)
     }
 }

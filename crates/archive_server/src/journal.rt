@@ -1,4 +1,5 @@
-//! The lines of a server on standard error: one for each association and each exchange.
+//! The lines of a server on standard error: one for each association and each exchange where they
+//! are asked for, and always one for what the archive itself lacked or refused.
 //!
 //! What a peer sent is shown as printable ASCII, so that no peer makes a line of its own. A line
 //! that standard error refuses is dropped.
@@ -6,19 +7,21 @@
 ghost use Rattle.std.specs.Prelude.{◌≡◌};
 ghost use Rattle.archive_server.specs.Journal.{IsPlain};
 
+use crate::ends::{Abort, Rejection};
 use crate::heard::Front;
 use crate::manner::Manner;
 use crate::tally::Tally;
 use crate::wire::Wire;
 use association_run::{End, RunFault};
+use association_session::PortFault;
 use exchange::ExchangeFault;
 use exchange_run::{Ended, Role};
 use jiff::Timestamp;
-use log::{Log, info};
-use std::fmt;
+use log::{Log, error, info};
 use std::fmt::{Display, Formatter};
 use std::net::SocketAddr;
 use std::time::Clock;
+use std::{fmt, io};
 
 /// What a line has for a byte of a title.
 fn plain_of(byte: u8) -> u8
@@ -106,20 +109,74 @@ impl Display for Asked {
     }
 }
 
-/// How an association ended.
+/// How an association ended, and by which rejection or abort: one that was sent, or came.
 #[derive(Clone, Copy)]
-struct Finish(Result<End, RunFault>);
+pub(crate) struct Finish {
+    pub ended: Result<End, RunFault>,
+    pub rejection: Option<Rejection>,
+    pub sent: Option<Abort>,
+    pub came: Option<Abort>,
+}
+
+/// By whom it was aborted, and why.
+#[derive(Clone, Copy)]
+struct Aborted {
+    sent: Option<Abort>,
+    came: Option<Abort>,
+}
+
+impl Display for Aborted {
+    fn fmt<W: fmt::Write>(&self, f: &mut Formatter<W>) -> fmt::Result {
+        if let Some(abort) = self.came {
+            return write!(f, "aborted by the peer {abort}");
+        }
+        match self.sent {
+            Some(abort) => write!(f, "aborted by the archive {abort}"),
+            None => f.write_str("aborted"),
+        }
+    }
+}
+
+/// How it ended without a fault.
+#[derive(Clone, Copy)]
+struct Over {
+    end: End,
+    rejection: Option<Rejection>,
+    aborted: Aborted,
+}
+
+impl Display for Over {
+    fn fmt<W: fmt::Write>(&self, f: &mut Formatter<W>) -> fmt::Result {
+        if let Some(rejection) = self.rejection {
+            return write!(f, "rejected {rejection}");
+        }
+        let aborted = self.aborted;
+        match self.end {
+            End::Released => f.write_str("released"),
+            End::Aborted => write!(f, "{aborted}"),
+            End::Closed => f.write_str("closed"),
+            End::Dropped => f.write_str("dropped: the peer did not close"),
+        }
+    }
+}
 
 impl Display for Finish {
     fn fmt<W: fmt::Write>(&self, f: &mut Formatter<W>) -> fmt::Result {
-        match self.0 {
-            Ok(End::Released) => f.write_str("released"),
-            Ok(End::Aborted) => f.write_str("aborted"),
-            Ok(End::Closed) => f.write_str("closed"),
-            Ok(End::Dropped) => f.write_str("dropped"),
+        match self.ended {
+            Ok(end) => {
+                let over = Over {
+                    end,
+                    rejection: self.rejection,
+                    aborted: Aborted {
+                        sent: self.sent,
+                        came: self.came,
+                    },
+                };
+                write!(f, "{over}")
+            }
             Err(fault) => {
                 let number = fault.number();
-                write!(f, "fault run {number}")
+                write!(f, "fault run {number}: {fault}")
             }
         }
     }
@@ -145,7 +202,7 @@ impl Display for Silence {
     }
 }
 
-/// Tells an association that has ended, where lines are asked for.
+/// Tells an association that has ended, where lines are asked for, or where it wanted memory.
 pub(crate) fn tell_association<S: Clock + Log>(
     rt: &S,
     manner: Manner<'_>,
@@ -153,12 +210,12 @@ pub(crate) fn tell_association<S: Clock + Log>(
     wire: &Wire,
     front: &Front,
     tally: Tally,
-    ended: Result<End, RunFault>,
+    finish: Finish,
 ) {
-    if !manner.is_verbose {
+    if !manner.is_verbose && !matches!(finish.ended, Err(RunFault::Memory)) {
         return;
     }
-    let (moment, finish) = (Moment::now(rt), Finish(ended));
+    let moment = Moment::now(rt);
     let (calling, called) = (Shown(front.calling()), Shown(front.called()));
     let (asked, silence) = (Asked(tally), Silence::of(wire));
     info!(
@@ -191,13 +248,18 @@ impl Display for Outcome {
             }
             Err(fault) => {
                 let number = fault.number();
-                write!(f, "fault exchange {number}")
+                write!(f, "fault exchange {number}: {fault}")
             }
         }
     }
 }
 
-/// Tells an exchange that has ended, likewise.
+/// Whether an exchange ended by what the archive itself lacked or refused.
+fn is_own(ended: &Result<Ended, ExchangeFault>) -> bool {
+    matches!(ended, Err(ExchangeFault::Memory | ExchangeFault::Refused))
+}
+
+/// Tells an exchange that has ended, where lines are asked for, or where it ended by the archive.
 pub(crate) fn tell_exchange<S: Clock + Log>(
     rt: &S,
     manner: Manner<'_>,
@@ -206,7 +268,7 @@ pub(crate) fn tell_exchange<S: Clock + Log>(
     role: Role,
     ended: Result<Ended, ExchangeFault>,
 ) {
-    if !manner.is_verbose {
+    if !manner.is_verbose && !is_own(&ended) {
         return;
     }
     let (moment, outcome, silence) = (Moment::now(rt), Outcome(ended), Silence::of(wire));
@@ -239,4 +301,47 @@ pub(crate) fn tell_turned_away<S: Clock + Log>(rt: &S, manner: Manner<'_>, peer:
     }
     let moment = Moment::now(rt);
     info!(rt; target: "entrance", "{moment} from {peer} turned away");
+}
+
+/// Tells always that an accept failed, unless the server was ended.
+pub(crate) fn tell_not_accepted<S: Clock + Log>(rt: &S, manner: Manner<'_>, error: &io::Error) {
+    if manner.is_ended() {
+        return;
+    }
+    let moment = Moment::now(rt);
+    error!(rt; target: "entrance", "{moment} a connection was not accepted: {error}");
+}
+
+/// What a request is answered that the archive itself refuses, as a line has it (PS3.4, sections
+/// B.2.3, C.4.1.1.4 and C.4.3.1.4).
+fn status_of(fault: PortFault) -> &'static str {
+    match fault {
+        PortFault::Collision => "C000",
+        PortFault::Memory | PortFault::Busy | PortFault::Shelf => "A700",
+    }
+}
+
+/// Why, in words.
+fn words_of(fault: PortFault) -> &'static str {
+    match fault {
+        PortFault::Memory => "memory was refused",
+        PortFault::Busy => "another worker has the site",
+        PortFault::Collision => "another operation has its digest",
+        PortFault::Shelf => "it could not be kept: the disk is full, or failed",
+    }
+}
+
+/// Tells always what the archive refused to a request, and hands its reply on.
+pub(crate) fn told<S: Clock + Log, T>(
+    rt: &S,
+    request: &str,
+    reply: Result<T, PortFault>,
+) -> Result<T, PortFault>
+    ensures { result ≡ reply }
+{
+    if let Err(fault) = &reply {
+        let (moment, status, words) = (Moment::now(rt), status_of(*fault), words_of(*fault));
+        error!(rt; target: "archive", "{moment} {request} refused {status}: {words}");
+    }
+    reply
 }

@@ -10,6 +10,7 @@
 #![tactic(auto)]
 
 mod beside;
+mod ends;
 mod entrance;
 mod exchanging;
 mod fault;

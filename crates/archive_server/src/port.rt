@@ -10,6 +10,7 @@ ghost use Rattle.association_run.specs.Port.{Stores, Finds, Gets};
 ghost use Rattle.archive_server.specs.Serving.{IsOnward};
 ghost use Rattle.archive_server.specs.Fault.{port_fault_of};
 
+use crate::journal::told;
 use crate::keeping::ask;
 use crate::message::{Request, Shelved};
 use crate::tally::Tally;
@@ -18,6 +19,7 @@ use association_run::Port;
 use association_session::PortFault;
 use association_worker::{AtEntry, HubPort};
 use crossbeam_channel::Sender;
+use log::Log;
 use octets::ListOf;
 use op_shelf::{Keep, ShelfFault};
 use operation::{Content, Digested, Op, Taken};
@@ -27,6 +29,7 @@ use site_hub::{HubName, Keeper, Pass, Shows};
 use std::alloc::Global;
 use std::marker::Model;
 use std::sync::{Mutex, Wait};
+use std::time::Clock;
 
 /// A pass with the shared keeper, and the way to the shelf. The pass goes on from what it was when
 /// its association began, and what it stores since is on the shelf. Contracts see the pass.
@@ -124,7 +127,7 @@ impl<'a, H: HubName, T: Shows<H>, R: Wait + Drop, S: Wait, K: Keep, E: AtEntry> 
     }
 }
 
-impl<'a, H: HubName, T: Shows<H>, R: Wait + Drop, S: Wait, K: Keep, E: AtEntry> Port
+impl<'a, H: HubName, T: Shows<H>, R: Wait + Drop, S: Wait + Clock + Log, K: Keep, E: AtEntry> Port
     for ServerPort<'a, H, T, R, S, K, E> {
     ghost ops = { λ p. ops_of (set_of H.opening p.seen) };
 
@@ -137,8 +140,14 @@ impl<'a, H: HubName, T: Shows<H>, R: Wait + Drop, S: Wait, K: Keep, E: AtEntry> 
     {
         let op = Digested::of(Op::Content(content));
         match ask(self.rt, self.alloc, self.to, &op) {
-            Ok(shelved) => self.tally.stored(publish(&mut self.hub, op, &shelved)),
-            Err(fault) => self.tally.stored(Err(fault_of_shelf(fault))),
+            Ok(shelved) => {
+                let taken = publish(&mut self.hub, op, &shelved);
+                self.tally.stored(told(self.rt, "store", taken))
+            }
+            Err(fault) => {
+                let refused = Err(fault_of_shelf(fault));
+                self.tally.stored(told(self.rt, "store", refused))
+            }
         }
     }
 
@@ -149,7 +158,8 @@ impl<'a, H: HubName, T: Shows<H>, R: Wait + Drop, S: Wait, K: Keep, E: AtEntry> 
         ensures later { IsLater self.old self.new }
     {
         self.tally.finds = self.tally.finds.saturating_add(1);
-        self.hub.rows(called, view, query)
+        let rows = self.hub.rows(called, view, query);
+        told(self.rt, "find", rows)
     }
 
     fn get(&mut self, view: View, selection: &Selection) -> Result<ListOf<Prepared>, PortFault>
@@ -159,6 +169,7 @@ impl<'a, H: HubName, T: Shows<H>, R: Wait + Drop, S: Wait, K: Keep, E: AtEntry> 
         ensures later { IsLater self.old self.new }
     {
         self.tally.gets = self.tally.gets.saturating_add(1);
-        self.hub.prepared(view, selection)
+        let prepared = self.hub.prepared(view, selection);
+        told(self.rt, "get", prepared)
     }
 }

@@ -6,8 +6,8 @@ ghost use Rattle.archive_server.specs.Serving.{IsOnward, HasServed};
 
 use crate::entrance::{Entrance, accept_from};
 use crate::fault::{NetFault, ServeFault};
-use crate::heard::Heard;
-use crate::journal::{Whence, tell_association};
+use crate::heard::{Heard, Said};
+use crate::journal::{Finish, Whence, tell_association, tell_not_accepted};
 use crate::manner::Manner;
 use crate::message::{Desk, Request};
 use crate::port::ServerPort;
@@ -75,7 +75,7 @@ fn associate<
     let mut port = ServerPort::<H, T, R, S, K, E>::new(hall.alloc, hall.rt, hall.keeper, to, pass);
     let peer = Whence::of(wire);
     let mut reader = Heard::new(Counted::new(wire));
-    let mut writer = Counted::new(wire);
+    let mut writer = Said::new(Counted::new(wire));
     let ended = run_association(
         hall.alloc,
         &mut reader,
@@ -86,6 +86,12 @@ fn associate<
         hall.titles,
     );
     let front = reader.front();
+    let finish = Finish {
+        ended,
+        rejection: writer.rejection(),
+        sent: writer.abort(),
+        came: reader.abort(),
+    };
     tell_association(
         hall.rt,
         hall.manner,
@@ -93,7 +99,7 @@ fn associate<
         wire,
         &front,
         port.tally(),
-        ended,
+        finish,
     );
     let fault = match ended {
         Ok(_end) => None,
@@ -193,7 +199,10 @@ fn next<H: HubName, T: Shows<H>, R: Wait + Drop, S: Wait + Clock + Log, K: Keep,
     match accept_from(hall.rt, hall.manner, hall.entrance) {
         Ok(Some(wire)) => with_one(hall, to, gate, outbox, wire, done),
         Ok(None) => turned_away(done),
-        Err(_error) => with_none(hall.manner.is_ended(), done),
+        Err(error) => {
+            tell_not_accepted(hall.rt, hall.manner, &error);
+            with_none(hall.manner.is_ended(), done)
+        }
     }
 }
 
