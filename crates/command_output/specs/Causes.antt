@@ -108,7 +108,7 @@ file_cause_of kind.ReadOnlyFilesystem = file.ReadOnly
 file_cause_of kind.StorageFull = file.Full
 file_cause_of kind.QuotaExceeded = file.Full
 file_cause_of kind.Unsupported = file.NotPlain
-file_cause_of other = file.Unopened
+file_cause_of _ = file.Unopened
 
 -- why a file is refused, by the database's error, where that says it
 abbrev pub file_cause_in_error : Error → Option FileCause
@@ -117,14 +117,14 @@ file_cause_in_error (SqliteFailure code.NotADatabase) = Some file.Damaged
 file_cause_in_error (SqliteFailure code.DatabaseCorrupt) = Some file.Damaged
 file_cause_in_error (SqliteFailure code.DiskFull) = Some file.Full
 file_cause_in_error (SqliteFailure code.SystemIoFailure) = Some file.Failed
-file_cause_in_error other = None
+file_cause_in_error _ = None
 
 -- why nothing can listen at an address, likewise
 abbrev pub listen_cause_of : ErrorKind → NetCause
 listen_cause_of kind.AddrInUse = at.InUse
 listen_cause_of kind.AddrNotAvailable = at.NotHere
 listen_cause_of kind.PermissionDenied = at.NoRights
-listen_cause_of other = at.Unheard
+listen_cause_of _ = at.Unheard
 
 -- why a peer is not reached, likewise
 abbrev pub reach_cause_of : ErrorKind → NetCause
@@ -133,4 +133,4 @@ reach_cause_of kind.TimedOut = at.NoAnswer
 reach_cause_of kind.WouldBlock = at.NoAnswer
 reach_cause_of kind.HostUnreachable = at.NoWay
 reach_cause_of kind.NetworkUnreachable = at.NoWay
-reach_cause_of other = at.Unreached
+reach_cause_of _ = at.Unreached
