@@ -13,8 +13,8 @@ use Rattle.ul_state.specs.declared.table.State.TheVariants.{Sta1, Sta2, Sta6, St
 use Rattle.ul_state.specs.declared.table.Kind.{Kind}
 use Rattle.ul_state.specs.declared.table.Kind.TheVariants.{AcceptableRq, OtherRq, PData, ReleaseRq, Abort, OtherPdu}
 use Rattle.ul_state.specs.declared.table.Kind.TheVariants.{UnknownPdu, FaultyPdu, StreamEnd, LocalAbort}
-use Rattle.ul_state.specs.declared.table.Does.{Does}
-use Rattle.ul_state.specs.declared.table.Does.TheVariants as rows
+use Rattle.ul_state.specs.declared.table.ActionKind.{ActionKind}
+use Rattle.ul_state.specs.declared.table.ActionKind.TheVariants as rows
 use Rattle.ul_state.specs.declared.titles.Title.{Title}
 use Rattle.ul_state.specs.Decision.{value_for}
 use Rattle.ul_state.specs.Table.{action_of, state_after}
@@ -51,7 +51,7 @@ handed_data (events.Got (pdus.PData others)) values e = ap (λ (vs : List Pdv). 
 handed_data _ values e = absurd cc
 
 -- Only the row that hands on does so, and then the event's own values.
-handed : {V : Type 0} (does : Does) (kind : Kind) (titles : List (Title V)) (event : Event) (values : List Pdv)
+handed : {V : Type 0} (does : ActionKind) (kind : Kind) (titles : List (Title V)) (event : Event) (values : List Pdv)
     → HandsOn (action_for does kind titles event) values → (does ≡ rows.HandOn)
     × (event ≡ events.Got (pdus.PData values))
 handed rows.Nothing kind titles event values e = absurd cc

@@ -5,7 +5,7 @@ use Rattle.ul_state.specs.declared.table.State.TheVariants.{Sta1, Sta2, Sta6, St
 use Rattle.ul_state.specs.declared.table.Kind.{Kind}
 use Rattle.ul_state.specs.declared.table.Kind.TheVariants.{AcceptableRq, OtherRq, PData, ReleaseRq, Abort, OtherPdu}
 use Rattle.ul_state.specs.declared.table.Kind.TheVariants.{UnknownPdu, FaultyPdu, StreamEnd, LocalAbort}
-use Rattle.ul_state.specs.declared.table.Does.TheVariants.{HandOn, SendAccept}
+use Rattle.ul_state.specs.declared.table.ActionKind.TheVariants.{HandOn, SendAccept}
 
 -- ---- nothing is handed on once goodbye was said
 

@@ -14,8 +14,8 @@ use Rattle.ul_state.specs.declared.event.Action.TheVariants as actions
 use Rattle.ul_state.specs.declared.table.State.{State}
 use Rattle.ul_state.specs.declared.table.Kind.{Kind}
 use Rattle.ul_state.specs.declared.table.Kind.TheVariants as kinds
-use Rattle.ul_state.specs.declared.table.Does.{Does}
-use Rattle.ul_state.specs.declared.table.Does.TheVariants as does
+use Rattle.ul_state.specs.declared.table.ActionKind.{ActionKind}
+use Rattle.ul_state.specs.declared.table.ActionKind.TheVariants as does
 use Rattle.ul_state.specs.declared.titles.Title.{Title}
 use Rattle.ul_state.specs.declared.acceptor.Settled.{Settled}
 use Rattle.ul_state.specs.Titles.{without_spaces}
@@ -69,7 +69,7 @@ abbrev pub hand_for : Event → Option Action
 hand_for (events.Got (pdus.PData values)) = Some (actions.Hand values)
 hand_for _ = None
 
-abbrev pub action_for : {V : Type 0} → Does → Kind → List (Title V) → Event → Option Action
+abbrev pub action_for : {V : Type 0} → ActionKind → Kind → List (Title V) → Event → Option Action
 action_for does.Nothing kind titles event = None
 action_for does.SendAccept kind titles event = acceptance_for event
 action_for does.SendReject kind titles event = rejection_for titles event
@@ -126,7 +126,7 @@ settled_for titles (events.Got (pdus.AssociateRq request)) = settled_with reques
 settled_for titles _ = None
 
 -- an acceptance settles anew, and nothing else does
-abbrev pub settled_on : {S : Type 0} → Does → Option S → Option S → Option S
+abbrev pub settled_on : {S : Type 0} → ActionKind → Option S → Option S → Option S
 settled_on does.SendAccept new old = new
 settled_on does.Nothing new old = old
 settled_on does.SendReject new old = old

@@ -5,12 +5,12 @@ use Rattle.ul_state.specs.declared.table.State.TheVariants.{Sta1, Sta2, Sta6, St
 use Rattle.ul_state.specs.declared.table.Kind.{Kind}
 use Rattle.ul_state.specs.declared.table.Kind.TheVariants.{AcceptableRq, OtherRq, PData, ReleaseRq, Abort, OtherPdu}
 use Rattle.ul_state.specs.declared.table.Kind.TheVariants.{UnknownPdu, FaultyPdu, StreamEnd, LocalAbort}
-use Rattle.ul_state.specs.declared.table.Does.{Does}
-use Rattle.ul_state.specs.declared.table.Does.TheVariants.{Nothing, SendAccept, SendReject, SendReleaseRp, AbortAsUser}
-use Rattle.ul_state.specs.declared.table.Does.TheVariants.{AbortAsProvider, HandOn, Close}
+use Rattle.ul_state.specs.declared.table.ActionKind.{ActionKind}
+use Rattle.ul_state.specs.declared.table.ActionKind.TheVariants.{Nothing, SendAccept, SendReject, SendReleaseRp, AbortAsUser}
+use Rattle.ul_state.specs.declared.table.ActionKind.TheVariants.{AbortAsProvider, HandOn, Close}
 
 -- what the machine does
-abbrev pub action_of : State → Kind → Does
+abbrev pub action_of : State → Kind → ActionKind
 action_of Sta1 kind = Nothing
 action_of Sta2 AcceptableRq = SendAccept
 action_of Sta2 OtherRq = SendReject
@@ -44,7 +44,7 @@ action_of Sta13 OtherPdu = Nothing
 action_of Sta13 LocalAbort = Nothing
 
 -- where it leads: what says goodbye waits for the peer to close, and a close ends in Sta1
-abbrev pub state_from : State → Does → State
+abbrev pub state_from : State → ActionKind → State
 state_from state Nothing = state
 state_from state HandOn = state
 state_from state SendAccept = Sta6
@@ -93,7 +93,7 @@ abbrev pub state_after : State → List Kind → State
 state_after state [] = state
 state_after state (kind ∷ kinds) = state_after (next_of state kind) kinds
 
-abbrev pub is_acceptance : Does → ℕ
+abbrev pub is_acceptance : ActionKind → ℕ
 is_acceptance SendAccept = 1
 is_acceptance SendReject = 0
 is_acceptance SendReleaseRp = 0
@@ -104,7 +104,7 @@ is_acceptance Close = 0
 is_acceptance Nothing = 0
 
 -- an acceptance or a rejection
-abbrev pub is_answer : Does → ℕ
+abbrev pub is_answer : ActionKind → ℕ
 is_answer SendAccept = 1
 is_answer SendReject = 1
 is_answer SendReleaseRp = 0

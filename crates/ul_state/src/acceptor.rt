@@ -4,14 +4,14 @@ ghost use Rattle.std.specs.Prelude.{◌≡◌, ◌≢◌, IfOk, IfSome, OnOk, On
 ghost use Rattle.std.specs.Option.{option_copied};
 ghost use Rattle.pdu.specs.declared.value.Pdu.TheVariants.{Abort};
 ghost use Rattle.ul_state.specs.declared.event.Action.TheVariants.{Send};
-ghost use Rattle.ul_state.specs.declared.table.Does.TheVariants.{HandOn};
+ghost use Rattle.ul_state.specs.declared.table.ActionKind.TheVariants.{HandOn};
 ghost use Rattle.ul_state.specs.declared.table.State.TheVariants.{Sta2};
 ghost use Rattle.ul_state.specs.Acceptor.{kind_for, kind_for_pdu, acceptance_for, rejection_for, hand_for, action_for, actions_for, state_on, settled_for, settled_by, HasLawfulPdu, CanBeWritten};
 
 use crate::answer::{accept_of, contexts_of};
 use crate::decision::admission;
 use crate::event::{Action, Event};
-use crate::table::{Does, Kind, State, reason_of, row};
+use crate::table::{ActionKind, Kind, State, reason_of, row};
 use crate::titles::{Titles, trimmed};
 use octets::{ListOf, Octets};
 use pdu::{Contexts, Pdu, PduFault};
@@ -77,11 +77,11 @@ impl<V: Copy> Acceptor<V> {
         let kind = kind_of(titles, &event);
         let (does, next) = row(self.state, kind);
         let settled = match does {
-            Does::SendAccept => settle(self.alloc, titles, &event)?,
+            ActionKind::SendAccept => settle(self.alloc, titles, &event)?,
             _ => None,
         };
         let actions = listed(self.alloc, action(self.alloc, titles, does, kind, event)?)?;
-        if does == Does::SendAccept {
+        if does == ActionKind::SendAccept {
             self.settled = settled;
         }
         self.state = next;
@@ -154,14 +154,14 @@ fn settle<V: Copy>(
 fn action<V: Copy>(
     alloc: Global,
     titles: &Titles<V>,
-    does: Does,
+    does: ActionKind,
     kind: Kind,
     event: Event,
 ) -> Result<Option<Action>, AllocError>
     ensures exact { IfOk result (λ action. action ≡ action_for does kind titles.now.list event) }
     ensures lawful { HasLawfulPdu event → IfOk result (λ action. IfSome action CanBeWritten) }
 {
-    if does == Does::HandOn {
+    if does == ActionKind::HandOn {
         return Ok(handed_on(event));
     }
     answer(alloc, titles, does, kind, &event)
@@ -171,7 +171,7 @@ fn action<V: Copy>(
 fn answer<V: Copy>(
     alloc: Global,
     titles: &Titles<V>,
-    does: Does,
+    does: ActionKind,
     kind: Kind,
     event: &Event,
 ) -> Result<Option<Action>, AllocError>
@@ -181,13 +181,13 @@ fn answer<V: Copy>(
         IfOk result (λ action. IfSome action CanBeWritten) }
 {
     match does {
-        Does::Nothing | Does::HandOn => Ok(None),
-        Does::SendAccept => acceptance(alloc, event),
-        Does::SendReject => Ok(rejection(titles, event)),
-        Does::SendReleaseRp => Ok(Some(Action::Send(Pdu::ReleaseRp))),
-        Does::AbortAsUser => Ok(Some(abort(0, 0))),
-        Does::AbortAsProvider => Ok(Some(abort(2, reason_of(kind)))),
-        Does::Close => Ok(Some(Action::Close)),
+        ActionKind::Nothing | ActionKind::HandOn => Ok(None),
+        ActionKind::SendAccept => acceptance(alloc, event),
+        ActionKind::SendReject => Ok(rejection(titles, event)),
+        ActionKind::SendReleaseRp => Ok(Some(Action::Send(Pdu::ReleaseRp))),
+        ActionKind::AbortAsUser => Ok(Some(abort(0, 0))),
+        ActionKind::AbortAsProvider => Ok(Some(abort(2, reason_of(kind)))),
+        ActionKind::Close => Ok(Some(Action::Close)),
     }
 }
 

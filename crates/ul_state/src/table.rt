@@ -4,7 +4,7 @@ ghost use Rattle.std.specs.Prelude.{◌≡◌, ◌≢◌, ◌≤◌, List};
 ghost use Rattle.ul_state.specs.Table.{action_of, next_of, state_after, acceptances_in, answers_in, provider_reason};
 ghost use Rattle.ul_state.specs.declared.table.State.TheVariants.{Sta2, Sta6, Sta13};
 ghost use Rattle.ul_state.specs.declared.table.Kind.{Kind};
-ghost use Rattle.ul_state.specs.declared.table.Does.TheVariants.{HandOn, SendAccept};
+ghost use Rattle.ul_state.specs.declared.table.ActionKind.TheVariants.{HandOn, SendAccept};
 
 /// A state of the machine, by the standard's number.
 #[derive(Clone, Copy, Debug, PartialEq, Eq, Hash)]
@@ -38,9 +38,9 @@ pub(crate) enum Kind {
     LocalAbort,
 }
 
-/// What the machine does.
+/// What the machine does: the actions of the standard's tables 9-6 to 9-9, without their timers.
 #[derive(Clone, Copy, Debug, PartialEq, Eq, Hash)]
-pub(crate) enum Does {
+pub(crate) enum ActionKind {
     Nothing,
     SendAccept,
     SendReject,
@@ -54,11 +54,11 @@ pub(crate) enum Does {
 }
 
 /// Table 9-10 of the standard, in this archive's states: a line for a row, a block for a state.
-pub(crate) fn row(state: State, kind: Kind) -> (Does, State)
+pub(crate) fn row(state: State, kind: Kind) -> (ActionKind, State)
     ensures does { result.0 ≡ action_of state kind }
     ensures next { result.1 ≡ next_of state kind }
 {
-    use Does::{
+    use ActionKind::{
         AbortAsProvider, AbortAsUser, Close, HandOn, Nothing, SendAccept, SendReject, SendReleaseRp,
     };
     use Kind::{
@@ -70,22 +70,22 @@ pub(crate) fn row(state: State, kind: Kind) -> (Does, State)
     match (state, kind) {
         (Sta1, _) => (Nothing, Sta1),
 
-        (Sta2, AcceptableRq) => (SendAccept, Sta6),
-        (Sta2, OtherRq) => (SendReject, Sta13),
-        (Sta2, Abort | StreamEnd) => (Close, Sta1),
-        (Sta2, PData | ReleaseRq | OtherPdu | UnknownPdu | FaultyPdu) => (AbortAsUser, Sta13),
+        (Sta2, AcceptableRq) => (SendAccept, Sta6), // AE-6, AE-7
+        (Sta2, OtherRq) => (SendReject, Sta13), // AE-6, AE-8
+        (Sta2, Abort | StreamEnd) => (Close, Sta1), // AA-2, AA-5
+        (Sta2, PData | ReleaseRq | OtherPdu | UnknownPdu | FaultyPdu) => (AbortAsUser, Sta13), // AA-1
         (Sta2, LocalAbort) => (Nothing, Sta2),
 
-        (Sta6, PData) => (HandOn, Sta6),
-        (Sta6, ReleaseRq) => (SendReleaseRp, Sta13),
-        (Sta6, Abort | StreamEnd) => (Close, Sta1),
-        (Sta6, AcceptableRq | OtherRq | OtherPdu) => (AbortAsProvider, Sta13),
-        (Sta6, UnknownPdu | FaultyPdu) => (AbortAsProvider, Sta13),
-        (Sta6, LocalAbort) => (AbortAsUser, Sta13),
+        (Sta6, PData) => (HandOn, Sta6), // DT-2
+        (Sta6, ReleaseRq) => (SendReleaseRp, Sta13), // AR-2, AR-4
+        (Sta6, Abort | StreamEnd) => (Close, Sta1), // AA-3, AA-4
+        (Sta6, AcceptableRq | OtherRq | OtherPdu) => (AbortAsProvider, Sta13), // AA-8
+        (Sta6, UnknownPdu | FaultyPdu) => (AbortAsProvider, Sta13), // AA-8
+        (Sta6, LocalAbort) => (AbortAsUser, Sta13), // AA-1
 
-        (Sta13, AcceptableRq | OtherRq | UnknownPdu | FaultyPdu) => (AbortAsProvider, Sta13),
-        (Sta13, Abort | StreamEnd) => (Close, Sta1),
-        (Sta13, PData | ReleaseRq | OtherPdu | LocalAbort) => (Nothing, Sta13),
+        (Sta13, AcceptableRq | OtherRq | UnknownPdu | FaultyPdu) => (AbortAsProvider, Sta13), // AA-7
+        (Sta13, Abort | StreamEnd) => (Close, Sta1), // AA-2, AR-5
+        (Sta13, PData | ReleaseRq | OtherPdu | LocalAbort) => (Nothing, Sta13), // AA-6
     }
 }
 
