@@ -1,5 +1,6 @@
 //! Associations that are held, and those that another pass looks at.
 
+use crate::doors::comes_to;
 use crate::hubs::{Line, Row, Shared, order_of, serve, tried};
 use crate::messages::Step;
 use assertions::equal;
@@ -37,18 +38,9 @@ impl<'a> Gate for Hold<'a> {
     fn reach(&mut self, moment: Moment) {
         if moment == self.moment {
             match moment {
-                Moment::InStore => is_set(self.word),
+                Moment::InStore => comes_to(self.word, 1),
                 Moment::FindAnswered => self.word.store(1, Ordering::SeqCst),
             }
-        }
-    }
-}
-
-/// Returns once the word is set, or after 1,000,000,000 turns.
-fn is_set(word: &AtomicU64) {
-    for _ in 0..1_000_000_000u64 {
-        if word.load(Ordering::SeqCst) != 0 {
-            break;
         }
     }
 }

@@ -3,6 +3,8 @@
 #![tactic(auto)]
 
 #[cfg(test)]
+mod doors;
+#[cfg(test)]
 mod held;
 #[cfg(test)]
 mod hubs;

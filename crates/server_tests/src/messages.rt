@@ -88,6 +88,8 @@ pub(crate) enum Step {
     Refused(u64),
     /// The study has so many instances, or is not found where there are none.
     Found(u64),
+    /// Image 1.2.1.1.k is stored, and then the study has so many instances.
+    Seen(u64, u64),
 }
 
 /// Texts, one behind the other.
@@ -162,13 +164,28 @@ fn put_row(alloc: Global, out: &mut Vec<u8>, count: u64) -> Result<(), AllocErro
     put_value(alloc, out, 3, 2, &[ROW, &[a, b, c, d], digits.as_bytes()])
 }
 
+/// Puts a C-FIND.
+fn put_find(alloc: Global, out: &mut Vec<u8>) -> Result<(), AllocError> {
+    put_value(alloc, out, 3, 3, &[FIND])?;
+    put_value(alloc, out, 3, 2, &[IDENTIFIER])
+}
+
+/// Puts the responses to it, where the study has so many instances.
+fn put_found(alloc: Global, out: &mut Vec<u8>, count: u64) -> Result<(), AllocError> {
+    if count > 0 {
+        put_row(alloc, out, count)?;
+    }
+    put_value(alloc, out, 3, 3, &[FOUND])
+}
+
 /// Puts what is said at a step.
 fn put_said(alloc: Global, out: &mut Vec<u8>, step: Step) -> Result<(), AllocError> {
     match step {
         Step::Stored(k) | Step::Refused(k) => put_store(alloc, out, k),
-        Step::Found(_) => {
-            put_value(alloc, out, 3, 3, &[FIND])?;
-            put_value(alloc, out, 3, 2, &[IDENTIFIER])
+        Step::Found(_) => put_find(alloc, out),
+        Step::Seen(k, _) => {
+            put_store(alloc, out, k)?;
+            put_find(alloc, out)
         }
     }
 }
@@ -178,11 +195,10 @@ fn put_heard(alloc: Global, out: &mut Vec<u8>, step: Step) -> Result<(), AllocEr
     match step {
         Step::Stored(k) => put_status(alloc, out, k, b"\x00\x00"),
         Step::Refused(k) => put_status(alloc, out, k, b"\x00\xa7"),
-        Step::Found(count) => {
-            if count > 0 {
-                put_row(alloc, out, count)?;
-            }
-            put_value(alloc, out, 3, 3, &[FOUND])
+        Step::Found(count) => put_found(alloc, out, count),
+        Step::Seen(k, count) => {
+            put_status(alloc, out, k, b"\x00\x00")?;
+            put_found(alloc, out, count)
         }
     }
 }

@@ -1,5 +1,6 @@
 //! Servers, and what comes to them.
 
+use crate::doors::Doors;
 use crate::messages::Step;
 use crate::serving::{Service, Told, open_to_all, served};
 use crate::visitors::{EXCHANGES, Partner, Visitors};
@@ -30,13 +31,12 @@ fn connected<R: Net<Listener = TcpListener, Stream = TcpStream>>(
 }
 
 /// How many workers a server has, and how many associations each takes; how many peers come first
-/// and say nothing, or stop behind a byte or two; what is asked while these hold their workers, and
-/// what once they are let go.
+/// and hold their workers; what is asked meanwhile, and what once they are let go.
 #[derive(Clone, Copy)]
 struct Plan<'a> {
     workers: usize,
     each: u64,
-    silent: usize,
+    holding: usize,
     meanwhile: &'a [Step],
     last: &'a [Step],
 }
@@ -47,10 +47,12 @@ fn visitors_of<'a, R: Net<Listener = TcpListener, Stream = TcpStream>>(
     alloc: Global,
     listener: &TcpListener,
     plan: Plan<'a>,
+    doors: &'a Doors,
     partner: Partner,
 ) -> io::Result<Visitors<'a>> {
     Ok(Visitors {
-        holding: connected(rt, alloc, listener, plan.silent)?,
+        doors,
+        holding: connected(rt, alloc, listener, plan.holding)?,
         meanwhile: (
             connected(rt, alloc, listener, plan.meanwhile.len())?,
             plan.meanwhile,
@@ -60,16 +62,18 @@ fn visitors_of<'a, R: Net<Listener = TcpListener, Stream = TcpStream>>(
     })
 }
 
-/// What comes of a plan at a server that exchanges with nobody.
+/// What comes of a plan at a server that exchanges with nobody, at whose doors so many wait.
 fn planned<
     R: Net<Listener = TcpListener, Stream = TcpStream> + Threads + Wait + Clock + Log + Sync,
->(rt: &R, alloc: Global, room: u64, plan: Plan<'_>) -> Result<Told, Fail> {
+>(rt: &R, alloc: Global, room: u64, plan: Plan<'_>, waiting: usize) -> Result<Told, Fail> {
     let listener = TcpListener::bind(rt, "127.0.0.1:0")?;
-    let visitors = visitors_of(rt, alloc, &listener, plan, Partner::Nobody)?;
+    let doors = Doors::new(waiting as u64);
+    let visitors = visitors_of(rt, alloc, &listener, plan, &doors, Partner::Nobody)?;
     let service = Service {
         entrance: open_to_all(&listener),
         workers: plan.workers,
         each: plan.each,
+        doors: &doors,
         exchange: None,
         peers: &[],
     };
@@ -82,7 +86,7 @@ fn an_image_stored_at_one_worker_is_found_at_the_other(rt: HostRuntime) -> Resul
     let plan = Plan {
         workers: 2,
         each: 1,
-        silent: 0,
+        holding: 0,
         meanwhile: &[Step::Stored(101), Step::Found(1)],
         last: &[],
     };
@@ -91,7 +95,11 @@ fn an_image_stored_at_one_worker_is_found_at_the_other(rt: HostRuntime) -> Resul
         accepted: Some(2),
         asked: 1,
     };
-    equal(planned(&rt, rt.alloc(), 1, plan)?, all, "what came of it")
+    equal(
+        planned(&rt, rt.alloc(), 1, plan, 0)?,
+        all,
+        "what came of it",
+    )
 }
 
 /// An image that the shelf refuses is answered A700H and is in no row.
@@ -100,7 +108,7 @@ fn an_image_that_the_shelf_refuses_is_not_found(rt: HostRuntime) -> Result<(), F
     let plan = Plan {
         workers: 2,
         each: 2,
-        silent: 0,
+        holding: 0,
         meanwhile: &[
             Step::Refused(101),
             Step::Found(0),
@@ -114,7 +122,11 @@ fn an_image_that_the_shelf_refuses_is_not_found(rt: HostRuntime) -> Result<(), F
         accepted: Some(4),
         asked: 1,
     };
-    equal(planned(&rt, rt.alloc(), 0, plan)?, all, "what came of it")
+    equal(
+        planned(&rt, rt.alloc(), 0, plan, 0)?,
+        all,
+        "what came of it",
+    )
 }
 
 /// Peers that say nothing, or stop in their first PDU, hold their own workers and no other.
@@ -126,7 +138,7 @@ fn silent_peers_hold_no_other_worker(rt: HostRuntime) -> Result<(), Fail> {
         let plan = Plan {
             workers,
             each: 2,
-            silent,
+            holding: silent,
             meanwhile: &[Step::Stored(101), Step::Found(1)],
             last: found.get(..silent).unwrap_or(&[]),
         };
@@ -136,7 +148,37 @@ fn silent_peers_hold_no_other_worker(rt: HostRuntime) -> Result<(), Fail> {
             asked: 1,
         };
         equal_at(
-            planned(&rt, rt.alloc(), 1, plan)?,
+            planned(&rt, rt.alloc(), 1, plan, 0)?,
+            all,
+            "what came of it",
+            workers,
+        )?;
+    }
+    Ok(())
+}
+
+/// Associations that wait within their store, the first that reach it, hold their own workers and
+/// no other: at the last one an image is stored and found alone, and then they go on.
+#[test]
+fn stores_that_wait_hold_no_other_worker(rt: HostRuntime) -> Result<(), Fail> {
+    for workers in [2usize, 4] {
+        let count = workers as u64;
+        let waiting = workers.saturating_sub(1);
+        let found = [Step::Found(count); 4];
+        let plan = Plan {
+            workers,
+            each: 2,
+            holding: waiting,
+            meanwhile: &[Step::Seen(101, 1)],
+            last: found.get(..workers).unwrap_or(&[]),
+        };
+        let all = Told {
+            held: 1,
+            accepted: Some(2 * count),
+            asked: count,
+        };
+        equal_at(
+            planned(&rt, rt.alloc(), count, plan, waiting)?,
             all,
             "what came of it",
             workers,
@@ -150,7 +192,7 @@ fn silent_peers_hold_no_other_worker(rt: HostRuntime) -> Result<(), Fail> {
 const MET: Plan<'static> = Plan {
     workers: 1,
     each: 2,
-    silent: 0,
+    holding: 0,
     meanwhile: &[Step::Stored(101)],
     last: &[Step::Found(1)],
 };
@@ -168,12 +210,14 @@ fn a_site_that_exchanges_with_a_server_has_what_it_has(rt: HostRuntime) -> Resul
     let alloc = rt.alloc();
     let listener = TcpListener::bind(&rt, "127.0.0.1:0")?;
     let exchanges = TcpListener::bind(&rt, "127.0.0.1:0")?;
+    let doors = Doors::new(0);
     let partner = Partner::Calls(exchanges.local_addr()?);
-    let visitors = visitors_of(&rt, alloc, &listener, MET, partner)?;
+    let visitors = visitors_of(&rt, alloc, &listener, MET, &doors, partner)?;
     let service = Service {
         entrance: open_to_all(&listener),
         workers: MET.workers,
         each: MET.each,
+        doors: &doors,
         exchange: Some(Exchanging {
             entrance: open_to_all(&exchanges),
             rounds: EXCHANGES,
@@ -202,7 +246,9 @@ fn a_site_that_a_server_calls_has_what_it_has(rt: HostRuntime) -> Result<(), Fai
     let here = TcpListener::bind(&rt, "127.0.0.1:0")?;
     let there = TcpListener::bind(&rt, "127.0.0.1:0")?;
     let addresses = [address_of(alloc, &here)?, address_of(alloc, &there)?];
-    let visitors = visitors_of(&rt, alloc, &listener, MET, Partner::IsCalled(here, there))?;
+    let doors = Doors::new(0);
+    let partner = Partner::IsCalled(here, there);
+    let visitors = visitors_of(&rt, alloc, &listener, MET, &doors, partner)?;
     let every = Duration::from_millis(1);
     let [one, other] = &addresses;
     let peers = [
@@ -219,6 +265,7 @@ fn a_site_that_a_server_calls_has_what_it_has(rt: HostRuntime) -> Result<(), Fai
         entrance: open_to_all(&listener),
         workers: MET.workers,
         each: MET.each,
+        doors: &doors,
         exchange: None,
         peers: &peers,
     };

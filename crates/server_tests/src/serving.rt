@@ -3,11 +3,11 @@
 ghost use Rattle.std.specs.Prelude.{◌≡◌, ◌<◌, ◌≤◌, IsTrue, IfSome, length, vec_len};
 ghost use Rattle.archive_server.specs.Serving.{places_for, serving_in};
 
+use crate::doors::{Door, Doors};
 use crate::hubs::{Shared, titles_of};
 use crate::shelves::Counting;
 use crate::visitors::{Visitors, visit};
 use archive_server::{Entrance, Exchanging, Manner, Peer, serve_on};
-use association_run::OpenGate;
 use log::Log;
 use site_hub::{HubName, Opened, Pass, open};
 use site_state::Site;
@@ -20,12 +20,13 @@ use std::thread::{Threads, join};
 use std::time::Clock;
 
 /// Where associations come in, how many workers take them, and how many each takes; where exchanges
-/// come in; and whom the server calls.
+/// come in; whom the server calls; and where its associations may be held.
 #[derive(Clone, Copy)]
 pub(crate) struct Service<'a> {
     pub entrance: Entrance<'a>,
     pub workers: usize,
     pub each: u64,
+    pub doors: &'a Doors,
     pub exchange: Option<Exchanging<'a>>,
     pub peers: &'a [Peer<'a>],
 }
@@ -104,7 +105,10 @@ fn serve<
         (length service.peers.now) }
 {
     let titles = titles_of(alloc).ok()?;
-    let gates = vec![in alloc; OpenGate; service.workers].ok()?;
+    let door = Door {
+        doors: service.doors,
+    };
+    let gates = vec![in alloc; door; service.workers].ok()?;
     let manner = Manner {
         ending: None,
         idle: None,

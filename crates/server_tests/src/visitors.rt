@@ -1,5 +1,6 @@
 //! What comes to a server: peers that say nothing, associations, and a site that exchanges with it.
 
+use crate::doors::Doors;
 use crate::messages::{RELEASE, Step, heard, said};
 use crate::shelves::Counting;
 use bytes::Bytes;
@@ -32,26 +33,67 @@ pub(crate) enum Partner {
 }
 
 /// Connections in the order in which they were made, and what each does: first those that hold
-/// their workers; then those that are answered meanwhile; then a site; then those that are answered
+/// their workers, by silence, or where there are doors by a store that waits there; then those that are answered meanwhile; then a site; then those that are answered
 /// once all workers are let go.
 #[derive(Drop)]
 pub(crate) struct Visitors<'a> {
+    pub doors: &'a Doors,
     pub holding: Vec<TcpStream>,
     pub meanwhile: (Vec<TcpStream>, &'a [Step]),
     pub partner: Partner,
     pub last: (Vec<TcpStream>, &'a [Step]),
 }
 
-/// An association of one step: the peer says all and then hears all. Whether it heard what it is to
-/// hear.
-fn is_answered(alloc: Global, mut stream: &TcpStream, step: Step) -> io::Result<bool> {
+/// A peer says all of an association of one step.
+fn say(alloc: Global, mut stream: &TcpStream, step: Step) -> io::Result<()> {
     let said = said(alloc, &[step])?;
     stream.write_all(said.as_slice())?;
-    stream.shutdown(Shutdown::Write)?;
+    stream.shutdown(Shutdown::Write)
+}
+
+/// It hears all, and whether this is what it is to hear.
+fn is_heard(alloc: Global, mut stream: &TcpStream, step: Step) -> io::Result<bool> {
     let mut answer = Vec::new(alloc);
     stream.read_to_end(&mut answer)?;
     let heard = heard(alloc, &[step])?;
     Ok(answer.as_slice() == heard.as_slice())
+}
+
+/// An association of one step: the peer says all and then hears all. Whether it heard what it is to
+/// hear.
+fn is_answered(alloc: Global, stream: &TcpStream, step: Step) -> io::Result<bool> {
+    say(alloc, stream, step)?;
+    is_heard(alloc, stream, step)
+}
+
+/// What is stored by the association that holds a worker, of those that come first the one in this
+/// place.
+fn step_at(place: usize) -> Step {
+    Step::Stored((place as u64).saturating_add(201))
+}
+
+/// Peers hold their workers: the first says nothing, the others each an octet more of a release; or
+/// each stores an image, and all wait at the doors once this returns.
+fn hold(alloc: Global, streams: &[TcpStream], doors: &Doors) -> io::Result<()> {
+    for (place, mut peer) in streams.iter().enumerate() {
+        if doors.are_open() {
+            peer.write_all(RELEASE.get(..place).unwrap_or(&[]))?;
+        } else {
+            say(alloc, peer, step_at(place))?;
+        }
+    }
+    doors.await_all();
+    Ok(())
+}
+
+/// Whether each of them was answered, once it was let go. One that was silent is not.
+fn are_let_go(alloc: Global, streams: &[TcpStream], doors: &Doors) -> io::Result<bool> {
+    for (place, stream) in streams.iter().enumerate() {
+        if !doors.are_open() && !is_heard(alloc, stream, step_at(place))? {
+            return Ok(false);
+        }
+    }
+    Ok(true)
 }
 
 /// The same of associations, one after another.
@@ -135,15 +177,15 @@ pub(crate) fn visit<R: Net<Listener = TcpListener, Stream = TcpStream>>(
     visitors: Visitors<'_>,
 ) -> Result<usize, Fail> {
     let Visitors {
+        doors,
         holding,
         meanwhile,
         partner,
         last,
     } = visitors;
-    for (said, mut peer) in holding.iter().enumerate() {
-        peer.write_all(RELEASE.get(..said).unwrap_or(&[]))?;
-    }
-    let first = are_answered(alloc, meanwhile.0.as_slice(), meanwhile.1)?;
+    hold(alloc, holding.as_slice(), doors)?;
+    let meanwhile = are_answered(alloc, meanwhile.0.as_slice(), meanwhile.1)?;
+    let first = meanwhile && are_let_go(alloc, holding.as_slice(), doors)?;
     drop(holding);
     let held = exchange_all(rt, alloc, partner)?;
     if first && are_answered(alloc, last.0.as_slice(), last.1)? {
