@@ -5,3 +5,4 @@ pub mod ResponseLaws
 pub mod ServiceLaws
 pub mod StatusLaws
 pub mod UidLaws
+pub mod WayLaws

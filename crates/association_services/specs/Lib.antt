@@ -1,3 +1,4 @@
+pub mod Accepted
 pub mod Context
 pub mod Echo
 pub mod Find

@@ -1,0 +1,94 @@
+-- What presentation contexts accept in the requestor's SCP role, and what a C-GET's sub-operations carry on them
+-- (PS3.7, D.3.3.4; PS3.4, C.4.3).
+use Rattle.std.specs.Prelude.{◌≡◌, ℕ, Bool, true, false, List, map, Option, Some, is_some}
+use Rattle.std.specs.List.{list_any, filter}
+use Rattle.std.specs.Option.{option_map}
+use Rattle.octets.specs.Members.{Has}
+use Rattle.data_set.specs.declared.syntax.Syntax.{Syntax}
+use Rattle.data_set.specs.declared.syntax.Syntax.TheVariants.{Implicit, Explicit}
+use Rattle.dictionary.specs.declared.commands.TheConstants.{C_STORE_RQ}
+use Rattle.dimse.specs.declared.message.Message.{Message}
+use Rattle.pdu.specs.declared.context.Context.{Context}
+use Rattle.operation.specs.declared.op.Op.{Op}
+use Rattle.archive_model.specs.declared.view.View.{View}
+use Rattle.retrieve_model.specs.declared.accepts.Accepted.{Accepted}
+use Rattle.retrieve_model.specs.declared.accepts.Accepts.{Accepts}
+use Rattle.retrieve_model.specs.declared.prepared.Prepared.{Prepared}
+use Rattle.retrieve_model.specs.declared.selection.Selection.{Selection}
+use Rattle.retrieve_model.specs.declared.sending.Sending.{Sending}
+use Rattle.retrieve_model.specs.Accepts.{form_for, syntax_of}
+use Rattle.retrieve_model.specs.Prepared.{made}
+use Rattle.retrieve_model.specs.Preparing.{prepared_of}
+use Rattle.retrieve_model.specs.Sending.{sendings_of}
+use Rattle.association_services.specs.declared.way.Way.{Way}
+use Rattle.association_services.specs.Get.{takes_class, way_of}
+
+-- ---- what contexts accept
+
+-- whether one of these contexts takes data sets of this class, in this syntax
+abbrev pub takes_any : List Context → List ℕ → Bool → Bool
+takes_any contexts class explicit = list_any (takes_class class explicit) contexts
+
+-- what contexts accept of the class of one of them
+abbrev pub accepted_on : List Context → Context → Accepted
+accepted_on contexts context = record {
+  class = context.abstract_syntax;
+  implicit = takes_any contexts context.abstract_syntax false;
+  explicit = takes_any contexts context.abstract_syntax true;
+}
+
+-- what they accept of each class
+abbrev pub accepts_of : List Context → Accepts
+accepts_of contexts = record { list = map (accepted_on contexts) contexts }
+
+-- A content goes out in the form in which it is sent where just that is accepted which its contexts accept.
+abbrev pub FormIsAccepted : Type 0
+FormIsAccepted = (contexts : List Context) (class : List ℕ) (syntax : Syntax)
+    → option_map (λ (way : Way). way.form) (way_of contexts class syntax)
+    ≡ form_for (accepts_of contexts).list class syntax
+
+abbrev pub is_explicit : Syntax → Bool
+is_explicit Implicit = false
+is_explicit Explicit = true
+
+-- a context of this ID takes data sets of this class, in this syntax
+pub record IsOn (contexts : List Context) (class : List ℕ) (explicit : Bool) (id : ℕ) : Type 0 where
+  pub context : Context
+  pub there : Has contexts context
+  pub takes : takes_class class explicit context ≡ true
+  pub is : context.id ≡ id
+
+-- A content goes out on a context that takes its class, in the transfer syntax in which it is sent.
+abbrev pub WayIsOn : Type 0
+WayIsOn = (contexts : List Context) (class : List ℕ) (syntax : Syntax) (way : Way)
+    → way_of contexts class syntax ≡ Some way
+    → IsOn contexts class (is_explicit (syntax_of way.form syntax)) way.context
+
+-- ---- what sub-operations carry
+
+-- an accepted transfer syntax serves
+abbrev pub is_carried : Sending → Bool
+is_carried sending = is_some sending.body
+
+-- what is carried of prepared instances on these contexts, in order: those that no accepted transfer syntax serves are
+-- not
+abbrev pub carried_of : List Context → List Prepared → List Sending
+carried_of contexts prepared = filter is_carried (map (made (accepts_of contexts)) prepared)
+
+-- A C-STORE carries an instance, on a context that takes it.
+pub record Carries (contexts : List Context) (sending : Sending) (m : Message) : Type 0 where
+  pub syntax : Syntax
+  pub text : List ℕ
+  pub body : sending.body ≡ Some (syntax, text)
+  pub request : m.command.field ≡ C_STORE_RQ
+  pub class : m.command.affected_class ≡ Some sending.class
+  pub instance : m.command.affected_instance ≡ Some sending.instance
+  pub data_set : m.body ≡ Some text
+  pub context : IsOn contexts sending.class (is_explicit syntax) m.context
+
+-- What is carried of the instances that a set prepares is what a C-GET over it sends, where just that is accepted which
+-- the contexts accept.
+abbrev pub CarriedIsSent : Type 0
+CarriedIsSent = (contexts : List Context) (view : View) (selection : Selection) (ops : List Op)
+    → carried_of contexts (prepared_of view selection ops)
+    ≡ filter is_carried (sendings_of view selection (accepts_of contexts) ops)
