@@ -1,7 +1,7 @@
 -- Each request has one response, in order.
 use Rattle.std.proofs.Common.{◌≡◌, ◌⊎◌, ℕ, Bool, true, false, List, [], ◌∷◌, ◌++◌, map, length, Option, Some, None}
 use Rattle.std.proofs.Common.{Result, Ok, Err, inl, inr, refl, sym, ap, subst, ◌∙◌, append_assoc, append-nil}
-use Rattle.std.specs.Prelude.{IfSome}
+use Rattle.std.specs.Prelude.{IfSome, ⊤}
 use Rattle.pdu.specs.declared.request.Request.{Request}
 use Rattle.pdu.specs.declared.reject.Reject.{Reject}
 use Rattle.pdu.specs.declared.value.Pdu.TheVariants as pdus
@@ -55,16 +55,21 @@ use Rattle.dimse.specs.Response.{response_of}
 use Rattle.dimse.specs.Sending.{IsSending}
 use Rattle.pdu.specs.declared.context.Context.{Context}
 use Rattle.retrieve_model.specs.declared.prepared.Prepared.{Prepared}
-use Rattle.ul_state.specs.Acceptor.{kind_for}
-use Rattle.ul_state.specs.Table.{next_of}
+use Rattle.retrieve_model.specs.declared.sending.Sending.{Sending}
+use Rattle.retrieve_model.specs.Prepared.{made}
+use Rattle.ul_state.specs.Acceptor.{kind_for, settled_by}
+use Rattle.ul_state.specs.Table.{next_of, opens}
+use Rattle.ul_state.specs.declared.acceptor.Settled.{Settled}
 use Rattle.association_services.proofs.DataLaws.{AreData, sending_data, rows_data, sends_on_data, responds_by_data}
 use Rattle.association_session.proofs.OrderLaws.{orderly}
 use Rattle.association_session.proofs.SelectedLaws.{selected_in, counts_add_up, starts_with_all, unsent_keeps_all}
 use Rattle.association_session.proofs.SelectedLaws.{sent_keeps_all, performed_keeps_all}
 use Rattle.association_services.proofs.StatusLaws.{stored_final, found_final, counts_final}
 use Rattle.association_session.proofs.StatusLaws.{served_final, served_pending, served_get}
+use Rattle.association_services.specs.Accepted.{accepts_of, carried_of, Carries}
 use Rattle.association_services.specs.Response.{Awaited, is_pending, response_to, response_with}
-use Rattle.association_session.specs.Row.{Within, row, met}
+use Rattle.association_services.proofs.WayLaws.{carried_next, carried_not, sub_carries}
+use Rattle.association_session.specs.Row.{Link, Within, row, met, agreed_by, limit_in}
 use Rattle.association_session.specs.Selected.{selected_by, remaining_in, TellsNoCounts}
 use Rattle.association_services.specs.Store.{status_of_reply}
 use Rattle.association_session.specs.Talks.{Heard, Met, Said, Goes, GoesBy, Then, Tells, TellsRows, FollowsStore}
@@ -159,7 +164,7 @@ no_counts_with : (a : Awaited) (status : Status) (text : List ℕ) → TellsNoCo
 unfolding response_of
 no_counts_with a status text = record { remaining = refl; completed = refl; failed = refl; warning = refl }
 
-response_to_is : (a : Awaited) (status : Status) (b : Bool) → is_pending status ≡ b → RespondsTo (plain a) b
+response_to_is : (a : Awaited) (status : Status) (b : Bool) → is_pending status ≡ b → RespondsTo a None b
     (response_to a status)
 unfolding response_of
 response_to_is a status b e = record {
@@ -172,7 +177,7 @@ response_to_is a status b e = record {
 }
 
 response_with_is : (a : Awaited) (status : Status) (text : List ℕ) (b : Bool) → is_pending status ≡ b
-    → RespondsTo (plain a) b (response_with a status text)
+    → RespondsTo a None b (response_with a status text)
 unfolding response_of
 response_with_is a status text b e = record {
   context = refl;
@@ -183,13 +188,22 @@ response_with_is a status text b e = record {
   counts = no_counts_with a status text;
 }
 
+-- a request that selected so many, and is to carry these
+abbrev requesting : List Context → Awaited → ℕ → List Sending → Requested
+requesting contexts a selected carried = record {
+  awaited = a;
+  selected = Some selected;
+  contexts = contexts;
+  carried = carried;
+}
+
 -- but those of a C-GET, which add up to what it selected.
-abbrev request_in : Progress → List Prepared → Requested
-request_in g left = selecting g.awaited (selected_in g left)
+abbrev request_in : List Context → Progress → List Prepared → Requested
+request_in contexts g left = selecting contexts g.awaited (selected_in g left) left
 
 counting_is : (g : Progress) (left : List Prepared) (status : Status) (remaining : Option ℕ) (body : Option (List ℕ))
     (b : Bool) → is_pending status ≡ b → remaining_in remaining ≡ length left
-    → RespondsTo (request_in g left) b (counting g status remaining body)
+    → RespondsTo g.awaited (Some (selected_in g left)) b (counting g status remaining body)
 unfolding response_of
 counting_is g left status remaining body b e told = record {
   context = refl;
@@ -200,29 +214,78 @@ counting_is g left status remaining body b e told = record {
   counts = counts_add_up g left status remaining body told;
 }
 
--- It selected as many when one failed unsent, was sent, or has its response.
-unsent_same : (g : Progress) (x : Prepared) (left : List Prepared) → request_in (failing g x) left
-    ≡ request_in g (x ∷ left)
-unsent_same g x left = ap (λ (n : ℕ). selecting g.awaited n) (unsent_keeps_all g x left)
+-- What it selected stays when one fails unsent, and what it is to carry;
+unsent_same : (contexts : List Context) (g : Progress) (x : Prepared) (left : List Prepared)
+    → way_for contexts x ≡ None → request_in contexts (failing g x) left ≡ request_in contexts g (x ∷ left)
+unsent_same contexts g x left none =
+    ap (λ (n : ℕ). selecting contexts g.awaited n left) (unsent_keeps_all g x left)
+    ∙ ap (λ (carried : List Sending). requesting contexts g.awaited (selected_in g (x ∷ left)) carried)
+    (sym (carried_not contexts x left none))
 
-sent_same : (g : Progress) (x : Prepared) (left : List Prepared)
-    → selecting g.awaited (selected_by (sending g x left)) ≡ request_in g (x ∷ left)
-sent_same g x left = ap (λ (n : ℕ). selecting g.awaited n) (sent_keeps_all g x left)
+-- when one is sent, it was the next to be carried;
+sent_same : (contexts : List Context) (g : Progress) (x : Prepared) (left : List Prepared) (way : Way)
+    → way_for contexts x ≡ Some way
+    → requesting contexts g.awaited (selected_by (sending g x left)) (made (accepts_of contexts) x ∷ carried_of contexts
+    left) ≡ request_in contexts g (x ∷ left)
+sent_same contexts g x left way is =
+    ap (λ (n : ℕ). requesting contexts g.awaited n (made (accepts_of contexts) x ∷ carried_of contexts left))
+    (sent_keeps_all g x left)
+    ∙ ap (λ (carried : List Sending). requesting contexts g.awaited (selected_in g (x ∷ left)) carried)
+    (sym (carried_next contexts x left way is))
 
-performed_same : (sub : SubOperation) (outcome : Outcome) → request_in (performed sub outcome) sub.left
-    ≡ selecting sub.progress.awaited (selected_by sub)
-performed_same sub outcome = ap (λ (n : ℕ). selecting sub.progress.awaited n) (performed_keeps_all sub outcome)
+-- and it stays when that has its response.
+performed_same : (contexts : List Context) (sub : SubOperation) (outcome : Outcome)
+    → request_in contexts (performed sub outcome) sub.left
+    ≡ selecting contexts sub.progress.awaited (selected_by sub) sub.left
+performed_same contexts sub outcome =
+    ap (λ (n : ℕ). selecting contexts sub.progress.awaited n sub.left) (performed_keeps_all sub outcome)
 
 module _ (Open : Awaited → Type 0) where
-  -- one message more on the way
-  way_more : (r : Requested) (m : Message) (requests : List Requested) (first rest : List Pdu) → IsOnTheWay r m
-      → IsSending m r.awaited.limit first → AreResponded Open (r ∷ requests) rest
-      → AreResponded Open (r ∷ requests) (first ++ rest)
-  way_more r m requests first rest is sent p = (m ∷ p.0, (is, first, rest, sent, p.1, refl))
+  -- one pending response more on the way
+  way_more : (r : Requested) (m : Message) (requests : List Requested) (first rest : List Pdu)
+      → RespondsTo r.awaited r.selected true m → IsSending m r.awaited.limit first
+      → AreResponded Open (r ∷ requests) rest → AreResponded Open (r ∷ requests) (first ++ rest)
+  way_more r m requests first rest is sent p = (m ∷ p.0, (r.carried, inl (is, refl), first, rest, sent, p.1, refl))
+
+  -- the same messages on the way to a request that is as selective, whatever is carried behind them
+  way_of_same : (contexts : List Context) (a : Awaited) (n : ℕ) (less more carried : List Sending) (ms : List Message)
+      (Behind : List Pdu → Type 0) (pdus : List Pdu)
+      → SendsOnTheWay (requesting contexts a n less) carried ms Behind pdus
+      → SendsOnTheWay (requesting contexts a n more) carried ms Behind pdus
+  way_of_same contexts a n less more carried [] Behind pdus p = p
+  way_of_same contexts a n less more carried (m ∷ ms) Behind pdus p = (
+    p.0,
+    p.1,
+    p.2,
+    p.3,
+    p.4,
+    way_of_same contexts a n less more p.0 ms Behind p.3 p.5,
+    p.6,
+  )
+
+  -- one sub-operation more on the way, which carries the next of what is carried
+  way_carries : (contexts : List Context) (a : Awaited) (n : ℕ) (first_of : Sending) (carried : List Sending)
+      (m : Message) (requests : List Requested) (first rest : List Pdu) → Carries contexts first_of m
+      → IsSending m a.limit first → AreResponded Open (requesting contexts a n carried ∷ requests) rest
+      → AreResponded Open (requesting contexts a n (first_of ∷ carried) ∷ requests) (first ++ rest)
+  way_carries contexts a n first_of carried m requests first rest is sent p = (
+    m ∷ p.0,
+    (
+      carried,
+      inr (first_of, refl, is),
+      first,
+      rest,
+      sent,
+      way_of_same contexts a n carried (first_of ∷ carried) carried p.0
+          (λ qs. SendsLast (requesting contexts a n carried) (AreResponded Open requests) qs
+          ⊎ ((requests ≡ []) × (qs ≡ []) × Open a)) rest p.1,
+      refl,
+    ),
+  )
 
   -- the last response
-  way_last : (r : Requested) (m : Message) (requests : List Requested) (first rest : List Pdu) → RespondsTo r false m
-      → IsSending m r.awaited.limit first → AreResponded Open requests rest
+  way_last : (r : Requested) (m : Message) (requests : List Requested) (first rest : List Pdu)
+      → RespondsTo r.awaited r.selected false m → IsSending m r.awaited.limit first → AreResponded Open requests rest
       → AreResponded Open (r ∷ requests) (first ++ rest)
   way_last r m requests first rest is sent p = ([], inl (m, is, first, rest, sent, p, refl))
 
@@ -239,47 +302,48 @@ module _ (Open : Awaited → Type 0) where
       subst (λ (t : List Pdu). AreResponded Open (plain a ∷ requests) t)
       (sym (append_assoc are.0 are.1 rest) ∙ ap (λ (t : List Pdu). t ++ rest) (sym are.4))
       (way_more (plain a) (response_with a kind.status (row_text kind.syntax r)) requests are.0 (are.1 ++ rest)
-      (inl (response_with_is a kind.status (row_text kind.syntax r) true pending)) are.2
+      (response_with_is a kind.status (row_text kind.syntax r) true pending) are.2
       (rows_way a kind rows requests are.1 rest pending are.3 p))
 
-  left_way : (g : Progress) (left : List Prepared) (requests : List Requested) (ps rest : List Pdu)
-      → RespondsIfLeft g left ps → AreResponded Open (request_in g left ∷ requests) rest
-      → AreResponded Open (request_in g left ∷ requests) (ps ++ rest)
-  left_way g [] requests ps rest none p =
-      subst (λ (t : List Pdu). AreResponded Open (request_in g [] ∷ requests) (t ++ rest)) (sym none) p
-  left_way g (x ∷ left) requests ps rest sent p = way_more (request_in g (x ∷ left)) (counting g Pending
-      (Some (length (x ∷ left))) None) requests ps rest (inl (counting_is g (x ∷ left) Pending
-      (Some (length (x ∷ left))) None true refl refl)) sent p
+  left_way : (contexts : List Context) (g : Progress) (left : List Prepared) (requests : List Requested)
+      (ps rest : List Pdu) → RespondsIfLeft g left ps → AreResponded Open (request_in contexts g left ∷ requests) rest
+      → AreResponded Open (request_in contexts g left ∷ requests) (ps ++ rest)
+  left_way contexts g [] requests ps rest none p =
+      subst (λ (t : List Pdu). AreResponded Open (request_in contexts g [] ∷ requests) (t ++ rest)) (sym none) p
+  left_way contexts g (x ∷ left) requests ps rest sent p = way_more (request_in contexts g (x ∷ left)) (counting g
+      Pending (Some (length (x ∷ left))) None) requests ps rest (counting_is g (x ∷ left) Pending
+      (Some (length (x ∷ left))) None true refl refl) sent p
 
   begun_by_way : (way : Option Way) (contexts : List Context) (g : Progress) (x : Prepared) (left : List Prepared)
-      (requests : List Requested) (ps rest : List Pdu)
+      (requests : List Requested) (ps rest : List Pdu) → way_for contexts x ≡ way
       → ((qs : List Pdu) → SendsOn contexts (failing g x) left qs
-      → AreResponded Open (open_in (begun contexts (failing g x) left) requests) rest
-      → AreResponded Open (request_in (failing g x) left ∷ requests) (qs ++ rest))
+      → AreResponded Open (open_in contexts (begun contexts (failing g x) left) requests) rest
+      → AreResponded Open (request_in contexts (failing g x) left ∷ requests) (qs ++ rest))
       → ByWay way (λ k. IsSending (sub_operation g k x) g.awaited.limit)
       (Both (RespondsIfLeft (failing g x) left) (SendsOn contexts (failing g x) left)) ps
-      → AreResponded Open (open_in (begun_by way (sending g x left) (begun contexts (failing g x) left)) requests) rest
-      → AreResponded Open (request_in g (x ∷ left) ∷ requests) (ps ++ rest)
-  begun_by_way None contexts g x left requests ps rest goes sent p =
-      subst (λ (r : Requested). AreResponded Open (r ∷ requests) (ps ++ rest)) (unsent_same g x left)
-      (subst (λ (t : List Pdu). AreResponded Open (request_in (failing g x) left ∷ requests) t)
+      → AreResponded Open (open_in contexts (begun_by way (sending g x left) (begun contexts (failing g x) left))
+      requests) rest
+      → AreResponded Open (request_in contexts g (x ∷ left) ∷ requests) (ps ++ rest)
+  begun_by_way None contexts g x left requests ps rest is goes sent p =
+      subst (λ (r : Requested). AreResponded Open (r ∷ requests) (ps ++ rest)) (unsent_same contexts g x left is)
+      (subst (λ (t : List Pdu). AreResponded Open (request_in contexts (failing g x) left ∷ requests) t)
       (sym (append_assoc sent.0 sent.1 rest) ∙ ap (λ (t : List Pdu). t ++ rest) (sym sent.4))
-      (left_way (failing g x) left requests sent.0 (sent.1 ++ rest) sent.2 (goes sent.1 sent.3 p)))
-  begun_by_way (Some way) contexts g x left requests ps rest goes sent p =
-      subst (λ (r : Requested). AreResponded Open (r ∷ requests) (ps ++ rest)) (sent_same g x left)
-      (way_more (selecting g.awaited (selected_by (sending g x left))) (sub_operation g way x) requests ps rest
-      (inr refl) sent p)
+      (left_way contexts (failing g x) left requests sent.0 (sent.1 ++ rest) sent.2 (goes sent.1 sent.3 p)))
+  begun_by_way (Some way) contexts g x left requests ps rest is goes sent p =
+      subst (λ (r : Requested). AreResponded Open (r ∷ requests) (ps ++ rest)) (sent_same contexts g x left way is)
+      (way_carries contexts g.awaited (selected_by (sending g x left)) (made (accepts_of contexts) x)
+      (carried_of contexts left) (sub_operation g way x) requests ps rest (sub_carries contexts g x way is) sent p)
 
   -- Sub-operations are begun, and behind them stands what is responded then.
   begun_way : (contexts : List Context) (g : Progress) (left : List Prepared) (requests : List Requested)
       (ps rest : List Pdu) → SendsOn contexts g left ps
-      → AreResponded Open (open_in (begun contexts g left) requests) rest
-      → AreResponded Open (request_in g left ∷ requests) (ps ++ rest)
-  begun_way contexts g [] requests ps rest sent p = way_last (request_in g []) (counting g (final_status g.counts) None
-      (failed_set g.syntax g.counts.failed)) requests ps rest (counting_is g [] (final_status g.counts) None (failed_set
-      g.syntax g.counts.failed) false (counts_final g.counts) refl) sent p
+      → AreResponded Open (open_in contexts (begun contexts g left) requests) rest
+      → AreResponded Open (request_in contexts g left ∷ requests) (ps ++ rest)
+  begun_way contexts g [] requests ps rest sent p = way_last (request_in contexts g []) (counting g (final_status
+      g.counts) None (failed_set g.syntax g.counts.failed)) requests ps rest (counting_is g [] (final_status g.counts)
+      None (failed_set g.syntax g.counts.failed) false (counts_final g.counts) refl) sent p
   begun_way contexts g (x ∷ left) requests ps rest sent p = begun_by_way (way_for contexts x) contexts g x left
-      requests ps rest (λ qs. begun_way contexts (failing g x) left requests qs rest) sent p
+      requests ps rest refl (λ qs. begun_way contexts (failing g x) left requests qs rest) sent p
 
 -- What is open stays so behind other deeds.
 last_map : (Open Wide : Awaited → Type 0) (r : Requested) (requests : List Requested) (rest : List Pdu)
@@ -290,21 +354,23 @@ last_map : (Open Wide : Awaited → Type 0) (r : Requested) (requests : List Req
 last_map Open Wide r requests rest to goes (inl q) = inl (q.0, q.1, q.2, q.3, q.4, goes q.3 q.5, q.6)
 last_map Open Wide r requests rest to goes (inr q) = inr (q.0, q.1, to r.awaited q.2)
 
-way_map : (Open Wide : Awaited → Type 0) (r : Requested) (requests : List Requested) (ms : List Message) (qs : List Pdu)
+way_map : (Open Wide : Awaited → Type 0) (r : Requested) (requests : List Requested) (carried : List Sending)
+    (ms : List Message) (qs : List Pdu)
     → ((a : Awaited) → Open a → Wide a)
     → ((qs : List Pdu) → AreResponded Open requests qs → AreResponded Wide requests qs)
-    → SendsOnTheWay r ms (λ rest. SendsLast r (AreResponded Open requests) rest
+    → SendsOnTheWay r carried ms (λ rest. SendsLast r (AreResponded Open requests) rest
     ⊎ ((requests ≡ []) × (rest ≡ []) × Open r.awaited)) qs
-    → SendsOnTheWay r ms (λ rest. SendsLast r (AreResponded Wide requests) rest
+    → SendsOnTheWay r carried ms (λ rest. SendsLast r (AreResponded Wide requests) rest
     ⊎ ((requests ≡ []) × (rest ≡ []) × Wide r.awaited)) qs
-way_map Open Wide r requests [] qs to goes q = last_map Open Wide r requests qs to goes q
-way_map Open Wide r requests (m ∷ ms) qs to goes q = (
+way_map Open Wide r requests carried [] qs to goes q = last_map Open Wide r requests qs to goes q
+way_map Open Wide r requests carried (m ∷ ms) qs to goes q = (
   q.0,
   q.1,
   q.2,
   q.3,
-  way_map Open Wide r requests ms q.2 to goes q.4,
-  q.5,
+  q.4,
+  way_map Open Wide r requests q.0 ms q.3 to goes q.5,
+  q.6,
 )
 
 responded_map : (Open Wide : Awaited → Type 0) (requests : List Requested) (ps : List Pdu)
@@ -312,7 +378,7 @@ responded_map : (Open Wide : Awaited → Type 0) (requests : List Requested) (ps
 responded_map Open Wide [] ps to p = p
 responded_map Open Wide (r ∷ requests) ps to p = (
   p.0,
-  way_map Open Wide r requests p.0 ps to (λ qs. responded_map Open Wide requests qs to) p.1,
+  way_map Open Wide r requests r.carried p.0 ps to (λ qs. responded_map Open Wide requests qs to) p.1,
 )
 
 call_behind : (now ds : List Deed) → EndsInCall ds → EndsInCall (now ++ ds)
@@ -329,14 +395,24 @@ open_behind now ds a (inr p) = inr p
 
 -- ---- what a talk has
 
+-- The association was established, and what was agreed stays.
+abbrev IsSettled : State → Type 0
+IsSettled Sta1 = ⊤
+IsSettled Sta2 = ⊥
+IsSettled Sta6 = ⊤
+IsSettled Sta13 = ⊤
+
 -- It is a C-GET whose sub-operation is awaited.
+abbrev IsGetIn : State → Option SubOperation → Type 0
+IsGetIn state sub = IfSome sub (λ s. (s.progress.awaited.command.field ≡ C_GET_RQ) × IsSettled state)
+
 abbrev IsGetOf : Option SubOperation → Type 0
-IsGetOf sub = IfSome sub (λ s. s.progress.awaited.command.field ≡ C_GET_RQ)
+IsGetOf sub = IsGetIn Sta6 sub
 
 begun_by_get : (way : Option Way) (sub : SubOperation) (others : Option SubOperation)
     → sub.progress.awaited.command.field ≡ C_GET_RQ → IsGetOf others → IsGetOf (begun_by way sub others)
 begun_by_get None sub others is more = more
-begun_by_get (Some way) sub others is more = is
+begun_by_get (Some way) sub others is more = (is, tt)
 
 begun_get : (contexts : List Context) (g : Progress) (left : List Prepared) → g.awaited.command.field ≡ C_GET_RQ
     → IsGetOf (begun contexts g left)
@@ -345,46 +421,49 @@ begun_get contexts g (x ∷ left) is = begun_by_get (way_for contexts x) (sendin
     left) is (begun_get contexts (failing g x) left is)
 
 -- of these deeds each of these requests, behind that of the sub-operation that is awaited, has its responses
-abbrev Have : Option SubOperation → List Deed → List Requested → Type 0
-Have sub ds requests = AreResponded (IsOpen ds) (open_in sub requests) (data_in ds)
+abbrev Have : List Context → Option SubOperation → List Deed → List Requested → Type 0
+Have contexts sub ds requests = AreResponded (IsOpen ds) (open_in contexts sub requests) (data_in ds)
 
 -- the same behind deeds that send no P-DATA-TF
-have_before : (sub : Option SubOperation) (now ds : List Deed) (requests : List Requested)
-    → data_in (now ++ ds) ≡ data_in ds → Have sub ds requests → Have sub (now ++ ds) requests
-have_before sub now ds requests quiet p =
-    subst (λ (t : List Pdu). AreResponded (IsOpen (now ++ ds)) (open_in sub requests) t) (sym quiet)
-    (responded_map (IsOpen ds) (IsOpen (now ++ ds)) (open_in sub requests) (data_in ds) (open_behind now ds) p)
+have_before : (contexts : List Context) (sub : Option SubOperation) (now ds : List Deed) (requests : List Requested)
+    → data_in (now ++ ds) ≡ data_in ds → Have contexts sub ds requests → Have contexts sub (now ++ ds) requests
+have_before contexts sub now ds requests quiet p =
+    subst (λ (t : List Pdu). AreResponded (IsOpen (now ++ ds)) (open_in contexts sub requests) t) (sym quiet)
+    (responded_map (IsOpen ds) (IsOpen (now ++ ds)) (open_in contexts sub requests) (data_in ds) (open_behind now ds)
+    p)
 
 -- what has its responses, for what is replied
-abbrev HaveAll : Option SubOperation → (List Reply → List Requested → Type 0) → Goes → Type 0
-HaveAll sub Asks R = (rs : List Reply) (x : List Deed) → R rs x → (requests : List Requested) × Asks rs requests
-    × Have sub x requests
+abbrev HaveAll : List Context → Option SubOperation → (List Reply → List Requested → Type 0) → Goes → Type 0
+HaveAll contexts sub Asks R = (rs : List Reply) (x : List Deed) → R rs x → (requests : List Requested)
+    × Asks rs requests × Have contexts sub x requests
 
-abbrev HaveBy : RequestsBy → GoesBy → Type 0
-HaveBy Asks R = (next : Option SubOperation) → IsGetOf next → HaveAll next (Asks next) (R next)
+abbrev HaveBy : State → List Context → RequestsBy → GoesBy → Type 0
+HaveBy state contexts Asks R =
+    (next : Option SubOperation) → IsGetIn state next → HaveAll contexts next (Asks next) (R next)
 
 -- messages of a C-GET behind which it goes on
-sent_have : (r : Requested) (next : Option SubOperation) (pdus : List Pdu) (rest : List Deed)
-    (requests : List Requested) → AreData pdus → Have next rest requests
-    → ((Open : Awaited → Type 0) → AreResponded Open (open_in next requests) (data_in rest)
+sent_have : (contexts : List Context) (r : Requested) (next : Option SubOperation) (pdus : List Pdu) (rest : List Deed)
+    (requests : List Requested) → AreData pdus → Have contexts next rest requests
+    → ((Open : Awaited → Type 0) → AreResponded Open (open_in contexts next requests) (data_in rest)
     → AreResponded Open (r ∷ requests) (pdus ++ data_in rest))
     → AreResponded (IsOpen (map Send pdus ++ rest)) (r ∷ requests) (data_in (map Send pdus ++ rest))
-sent_have r next pdus rest requests are_data p goes =
+sent_have contexts r next pdus rest requests are_data p goes =
     subst (λ (t : List Pdu). AreResponded (IsOpen (map Send pdus ++ rest)) (r ∷ requests) t)
     (sym (data_behind pdus rest are_data))
     (goes (IsOpen (map Send pdus ++ rest)) (responded_map (IsOpen rest) (IsOpen (map Send pdus ++ rest))
-    (open_in next requests) (data_in rest) (open_behind (map Send pdus) rest) p))
+    (open_in contexts next requests) (data_in rest) (open_behind (map Send pdus) rest) p))
 
 tells_have : (a : Awaited) (status : Status) (Asks : List Requested → Type 0) (R : List Deed → Type 0) (ds : List Deed)
     → is_pending status ≡ false
-    → ((x : List Deed) → R x → (requests : List Requested) × Asks requests × Have None x requests) → Tells a status R ds
-    → (requests : List Requested) × Asks requests × Have None ds (plain a ∷ requests)
+    → ((x : List Deed) → R x → (requests : List Requested) × Asks requests × Have [] None x requests)
+    → Tells a status R ds
+    → (requests : List Requested) × Asks requests × Have [] None ds (plain a ∷ requests)
 tells_have a status Asks R ds final goes p =
     let q = goes p.2.0 p.2.2 in (
       q.0,
       q.1,
-      subst (λ (t : List Deed). Have None t (plain a ∷ q.0)) (sym p.2.1)
-          (sent_have (plain a) None p.0 p.2.0 q.0 (sending_data _ _ p.0 p.1) q.2
+      subst (λ (t : List Deed). Have [] None t (plain a ∷ q.0)) (sym p.2.1)
+          (sent_have [] (plain a) None p.0 p.2.0 q.0 (sending_data _ _ p.0 p.1) q.2
           (λ Open x. way_last Open (plain a) (response_to a status) q.0 p.0 (data_in p.2.0)
           (response_to_is a status false final)
           p.1 x)),
@@ -392,20 +471,20 @@ tells_have a status Asks R ds final goes p =
 
 rows_have : (a : Awaited) (kind : RowKind) (rows : List Set) (status : Status) (Asks : List Requested → Type 0)
     (R : List Deed → Type 0) (ds : List Deed) → is_pending kind.status ≡ true → is_pending status ≡ false
-    → ((x : List Deed) → R x → (requests : List Requested) × Asks requests × Have None x requests)
+    → ((x : List Deed) → R x → (requests : List Requested) × Asks requests × Have [] None x requests)
     → TellsRows a kind rows status R ds
-    → (requests : List Requested) × Asks requests × Have None ds (plain a ∷ requests)
+    → (requests : List Requested) × Asks requests × Have [] None ds (plain a ∷ requests)
 rows_have a kind rows status Asks R ds pending final goes p =
     let q = tells_have a status Asks (Then (Reach FindAnswered ∷ []) R) p.2.0 final
     (λ x r. let s = goes r.0 r.2 in (
       s.0,
       s.1,
-      subst (λ (t : List Deed). Have None t s.0) (sym r.1)
-          (have_before None (Reach FindAnswered ∷ []) r.0 s.0 refl s.2),
+      subst (λ (t : List Deed). Have [] None t s.0) (sym r.1)
+          (have_before [] None (Reach FindAnswered ∷ []) r.0 s.0 refl s.2),
     )) p.2.2 in (
       q.0,
       q.1,
-      subst (λ (t : List Deed). Have None t (plain a ∷ q.0)) (sym p.2.1)
+      subst (λ (t : List Deed). Have [] None t (plain a ∷ q.0)) (sym p.2.1)
           (subst (λ (t : List Pdu). AreResponded (IsOpen (map Send p.0 ++ p.2.0)) (plain a ∷ q.0) t)
           (sym (data_behind p.0 p.2.0 (rows_data a kind rows p.0 p.1)))
           (rows_way (IsOpen (map Send p.0 ++ p.2.0)) a kind rows q.0 p.0 (data_in p.2.0) pending p.1
@@ -417,50 +496,52 @@ begins_have : (contexts : List Context) (g : Progress) (left : List Prepared)
     (Asks : Option SubOperation → List Requested → Type 0) (R : Option SubOperation → List Deed → Type 0)
     (ds : List Deed) → g.awaited.command.field ≡ C_GET_RQ
     → ((next : Option SubOperation) → IsGetOf next → (x : List Deed) → R next x → (requests : List Requested)
-    × Asks next requests × Have next x requests)
+    × Asks next requests × Have contexts next x requests)
     → Begins contexts g left R ds
-    → (requests : List Requested) × Asks (begun contexts g left) requests × Have None ds (request_in g left ∷ requests)
+    → (requests : List Requested) × Asks (begun contexts g left) requests
+    × Have [] None ds (request_in contexts g left ∷ requests)
 begins_have contexts g left Asks R ds is goes p =
     let next = begun contexts g left in
     let q = goes next (begun_get contexts g left is) p.2.0 p.2.2 in (
       q.0,
       q.1,
-      subst (λ (t : List Deed). Have None t (request_in g left ∷ q.0)) (sym p.2.1)
-          (sent_have (request_in g left) next p.0 p.2.0 q.0 (sends_on_data contexts g left p.0 p.1) q.2
+      subst (λ (t : List Deed). Have [] None t (request_in contexts g left ∷ q.0)) (sym p.2.1)
+          (sent_have contexts (request_in contexts g left) next p.0 p.2.0 q.0 (sends_on_data contexts g left p.0 p.1)
+          q.2
           (λ Open x. begun_way Open contexts g left q.0 p.0 (data_in p.2.0) p.1 x)),
     )
 
 -- a request whose call has no reply yet
 unreplied : (a : Awaited) (now : List Deed) (call : Call) (rest : List Deed) → data_in (now ++ Ask call ∷ []) ≡ []
-    → rest ≡ [] → Have None ((now ++ Ask call ∷ []) ++ rest) (plain a ∷ [])
+    → rest ≡ [] → Have [] None ((now ++ Ask call ∷ []) ++ rest) (plain a ∷ [])
 unreplied a now call rest quiet none =
     let whole : (now ++ Ask call ∷ []) ++ rest ≡ now ++ Ask call ∷ [] = ap (λ (t : List Deed). (now ++ Ask call ∷ [])
     ++ t) none ∙ append-nil (now ++ Ask call ∷ []) in
-    subst (λ (t : List Deed). Have None t (plain a ∷ [])) (sym whole)
+    subst (λ (t : List Deed). Have [] None t (plain a ∷ [])) (sym whole)
     (subst (λ (t : List Pdu). AreResponded (IsOpen (now ++ Ask call ∷ [])) (plain a ∷ []) t) (sym quiet)
     (way_open (IsOpen (now ++ Ask call ∷ [])) (plain a) (inl (now, call, refl))))
 
 asked_have : (a : Awaited) (content : ContentParts) (Asks : List Reply → List Requested → Type 0) (R : Goes)
-    (rs : List Reply) (rest : List Deed) → HaveAll None Asks R → FollowsStore a R rs rest
+    (rs : List Reply) (rest : List Deed) → HaveAll [] None Asks R → FollowsStore a R rs rest
     → (requests : List Requested) × Replied Asks rs requests
-    × Have None (Reach InStore ∷ Ask (Store content) ∷ rest) (plain a ∷ requests)
+    × Have [] None (Reach InStore ∷ Ask (Store content) ∷ rest) (plain a ∷ requests)
 asked_have a content Asks R [] rest goes p = ([], refl, unreplied a (Reach InStore ∷ []) (Store content) rest refl p)
 asked_have a content Asks R (Stored reply ∷ rs) rest goes p =
     let q = tells_have a (status_of_reply reply) (Asks rs) (R rs) rest (stored_final reply) (goes rs) p in
-    (q.0, q.1, have_before None (Reach InStore ∷ Ask (Store content) ∷ []) rest (plain a ∷ q.0) refl q.2)
+    (q.0, q.1, have_before [] None (Reach InStore ∷ Ask (Store content) ∷ []) rest (plain a ∷ q.0) refl q.2)
 asked_have a content Asks R (Found reply ∷ rs) rest goes p = absurd p
 asked_have a content Asks R (Gotten reply ∷ rs) rest goes p = absurd p
 
 queried_have : (a : Awaited) (finding : Finding) (kind : RowKind) (Asks : List Reply → List Requested → Type 0)
-    (R : Goes) (rs : List Reply) (rest : List Deed) → is_pending kind.status ≡ true → HaveAll None Asks R
+    (R : Goes) (rs : List Reply) (rest : List Deed) → is_pending kind.status ≡ true → HaveAll [] None Asks R
     → FollowsFind a kind R rs rest
     → (requests : List Requested) × Replied Asks rs requests
-    × Have None (Ask (Find finding) ∷ rest) (plain a ∷ requests)
+    × Have [] None (Ask (Find finding) ∷ rest) (plain a ∷ requests)
 queried_have a finding kind Asks R [] rest pending goes p = ([], refl, unreplied a [] (Find finding) rest refl p)
 queried_have a finding kind Asks R (Found reply ∷ rs) rest pending goes p =
     let q = rows_have a kind (rows_in reply) (status_of_found reply) (Asks rs) (R rs) rest pending (found_final reply)
     (goes rs) p in
-    (q.0, q.1, have_before None (Ask (Find finding) ∷ []) rest (plain a ∷ q.0) refl q.2)
+    (q.0, q.1, have_before [] None (Ask (Find finding) ∷ []) rest (plain a ∷ q.0) refl q.2)
 queried_have a finding kind Asks R (Stored reply ∷ rs) rest pending goes p = absurd p
 queried_have a finding kind Asks R (Gotten reply ∷ rs) rest pending goes p = absurd p
 
@@ -468,31 +549,31 @@ few_have : (few : Option (List Prepared)) (contexts : List Context) (a : Awaited
     (Asks : Option SubOperation → List Requested → Type 0) (R : Option SubOperation → List Deed → Type 0)
     (rest : List Deed) → a.command.field ≡ C_GET_RQ
     → ((next : Option SubOperation) → IsGetOf next → (x : List Deed) → R next x → (requests : List Requested)
-    × Asks next requests × Have next x requests)
+    × Asks next requests × Have contexts next x requests)
     → BeginsFew contexts a syntax few R (R None) rest
-    → (requests : List Requested) × FewRequests few contexts a syntax Asks requests × Have None rest requests
+    → (requests : List Requested) × FewRequests few contexts a syntax Asks requests × Have [] None rest requests
 few_have None contexts a syntax Asks R rest is goes p =
     let q = tells_have a UnableToPerformSubOperations (Asks None) (R None) rest refl (goes None tt) p in
     (plain a ∷ q.0, (q.0, refl, q.1), q.2)
 few_have (Some prepared) contexts a syntax Asks R rest is goes p =
     let q = begins_have contexts (setting_out a syntax) prepared Asks R rest is goes p in (
-      selecting a (length prepared) ∷ q.0,
+      selecting contexts a (length prepared) prepared ∷ q.0,
       (q.0, refl, q.1),
-      subst (λ (r : Requested). Have None rest (r ∷ q.0))
-          (ap (λ (n : ℕ). selecting a n) (starts_with_all a syntax prepared)) q.2,
+      subst (λ (r : Requested). Have [] None rest (r ∷ q.0))
+          (ap (λ (n : ℕ). selecting contexts a n prepared) (starts_with_all a syntax prepared)) q.2,
     )
 
 fetched_have : (contexts : List Context) (a : Awaited) (getting : Getting) (syntax : Syntax) (Asks : RequestsBy)
-    (R : GoesBy) (rs : List Reply) (rest : List Deed) → a.command.field ≡ C_GET_RQ → HaveBy Asks R
-    → FollowsGet contexts a syntax R (R None) rs rest
+    (R : GoesBy) (rs : List Reply) (rest : List Deed) → a.command.field ≡ C_GET_RQ
+    → HaveBy Sta6 contexts Asks R → FollowsGet contexts a syntax R (R None) rs rest
     → (requests : List Requested) × RepliedGet contexts a syntax Asks rs requests
-    × Have None (Ask (Get getting) ∷ rest) requests
+    × Have [] None (Ask (Get getting) ∷ rest) requests
 fetched_have contexts a getting syntax Asks R [] rest is goes p =
     (plain a ∷ [], refl, unreplied a [] (Get getting) rest refl p)
 fetched_have contexts a getting syntax Asks R (Gotten reply ∷ rs) rest is goes p =
     let q = few_have (few_in reply) contexts a syntax (λ next. Asks next rs) (λ next. R next rs) rest is
     (λ next get. goes next get rs) p in
-    (q.0, q.1, have_before None (Ask (Get getting) ∷ []) rest q.0 refl q.2)
+    (q.0, q.1, have_before [] None (Ask (Get getting) ∷ []) rest q.0 refl q.2)
 fetched_have contexts a getting syntax Asks R (Stored reply ∷ rs) rest is goes p = absurd p
 fetched_have contexts a getting syntax Asks R (Found reply ∷ rs) rest is goes p = absurd p
 
@@ -524,27 +605,27 @@ module _ (titles : List (Title View)) where
 
   -- one request more
   more : (ds now rest : List Deed) (a : Awaited) (Asks : List Requested → Type 0) → ds ≡ now ++ rest
-      → (requests : List Requested) × Asks requests × Have None (now ++ rest) (plain a ∷ requests)
-      → (requests : List Requested) × Precedes (plain a) Asks requests × Have None ds requests
+      → (requests : List Requested) × Asks requests × Have [] None (now ++ rest) (plain a ∷ requests)
+      → (requests : List Requested) × Precedes (plain a) Asks requests × Have [] None ds requests
   more ds now rest a Asks is q = (
     plain a ∷ q.0,
     (q.0, refl, q.1),
-    subst (λ (t : List Deed). Have None t (plain a ∷ q.0)) (sym is)
+    subst (λ (t : List Deed). Have [] None t (plain a ∷ q.0)) (sym is)
         q.2,
   )
 
   does_have : (w : Within) (m : Message) (service : Service) (Asks : RequestsBy)
       (Gone : List Reply → List Requested → Type 0) (R : GoesBy) (R' : Goes) (rs : List Reply) (ds : List Deed)
-      → Serves w m service → HaveBy Asks R → HaveAll None Gone R'
+      → Serves w m service → HaveBy Sta6 w.link.contexts Asks R → HaveAll [] None Gone R'
       → Does service w.link.contexts (awaiting w.link m) (row titles w.state events.LocalAbort) R R' rs ds
       → (requests : List Requested) × RequestFor service w.link.contexts (awaiting w.link m) Asks Gone rs requests
-      × Have None ds requests
+      × Have [] None ds requests
   does_have w m Ignored Asks Gone R R' rs ds serves goes gone p = goes None tt rs ds p
   does_have w m Broken Asks Gone R R' rs ds serves goes gone p =
       let q = gone rs p.0 p.2 in (
         q.0,
         q.1,
-        subst (λ (t : List Deed). Have None t q.0) (sym p.1) (have_before None (row titles w.state
+        subst (λ (t : List Deed). Have [] None t q.0) (sym p.1) (have_before [] None (row titles w.state
             events.LocalAbort) p.0 q.0 (row_quiet titles w.state events.LocalAbort p.0) q.2),
       )
   does_have w m (Responded status) Asks Gone R R' rs ds serves goes gone p =
@@ -560,22 +641,22 @@ module _ (titles : List (Title View)) where
   does_have w m (Fetched getting syntax) Asks Gone R R' rs ds serves goes gone p =
       let q = fetched_have w.link.contexts (awaiting w.link m) getting syntax Asks R rs p.0
       (served_get w m getting syntax serves) goes p.2 in
-      (q.0, q.1, subst (λ (t : List Deed). Have None t q.0) (sym p.1) q.2)
+      (q.0, q.1, subst (λ (t : List Deed). Have [] None t q.0) (sym p.1) q.2)
 
   by_have : (cancelled : Bool) (contexts : List Context) (g : Progress) (left : List Prepared) (pdus : List Pdu)
       (next : Option Retrieval) (Asks : RequestsBy) (R : GoesBy) (rs : List Reply) (ds : List Deed)
-      → g.awaited.command.field ≡ C_GET_RQ → RespondsBy cancelled g left pdus next → HaveBy Asks R
+      → g.awaited.command.field ≡ C_GET_RQ → RespondsBy cancelled g left pdus next → HaveBy Sta6 contexts Asks R
       → Then (map Send pdus) (GoesOnBy next contexts R rs) ds
       → (requests : List Requested) × Asks (next_of_get cancelled contexts g left) rs requests
-      × Have None ds (request_in g left ∷ requests)
+      × Have [] None ds (request_in contexts g left ∷ requests)
   by_have true contexts g left pdus next Asks R rs ds is told goes p =
       let body = failed_set g.syntax g.counts.failed in
       let q = goes None tt rs p.0 (subst (λ (n : Option Retrieval). GoesOnBy n contexts R rs p.0) told.1 p.2) in (
         q.0,
         q.1,
-        subst (λ (t : List Deed). Have None t (request_in g left ∷ q.0)) (sym p.1)
-            (sent_have (request_in g left) None pdus p.0 q.0 (sending_data _ _ pdus told.0) q.2
-            (λ Open x. way_last Open (request_in g left) (counting g Cancel (Some (length left)) body) q.0 pdus
+        subst (λ (t : List Deed). Have [] None t (request_in contexts g left ∷ q.0)) (sym p.1)
+            (sent_have [] (request_in contexts g left) None pdus p.0 q.0 (sending_data _ _ pdus told.0) q.2
+            (λ Open x. way_last Open (request_in contexts g left) (counting g Cancel (Some (length left)) body) q.0 pdus
             (data_in p.0) (counting_is g left Cancel (Some (length left)) body false refl refl) told.0 x)),
       )
   by_have false contexts g left pdus next Asks R rs ds is told goes p =
@@ -583,44 +664,48 @@ module _ (titles : List (Title View)) where
       (subst (λ (n : Option Retrieval). GoesOnBy n contexts R rs p.0) told.1 p.2) in (
         q.0,
         q.1,
-        subst (λ (t : List Deed). Have None t (request_in g left ∷ q.0)) (sym p.1)
-            (subst (λ (t : List Pdu). AreResponded (IsOpen (map Send pdus ++ p.0)) (request_in g left ∷ q.0) t)
-            (sym (data_behind pdus p.0 (responds_by_data false g left pdus next told)))
-            (left_way (IsOpen (map Send pdus ++ p.0)) g left q.0 pdus (data_in p.0) told.0
-            (responded_map (IsOpen p.0) (IsOpen (map Send pdus ++ p.0)) (request_in g left ∷ q.0) (data_in p.0)
+        subst (λ (t : List Deed). Have [] None t (request_in contexts g left ∷ q.0)) (sym p.1)
+            (subst (λ (t : List Pdu). AreResponded (IsOpen (map Send pdus ++ p.0)) (request_in contexts g left ∷ q.0)
+            t) (sym (data_behind pdus p.0 (responds_by_data false g left pdus next told)))
+            (left_way (IsOpen (map Send pdus ++ p.0)) contexts g left q.0 pdus (data_in p.0) told.0
+            (responded_map (IsOpen p.0) (IsOpen (map Send pdus ++ p.0)) (request_in contexts g left ∷ q.0) (data_in p.0)
             (open_behind (map Send pdus) p.0) q.2))),
       )
 
   performs_have : (w : Within) (meaning : Meaning) (sub : SubOperation) (Asks : RequestsBy)
       (Gone : List Reply → List Requested → Type 0) (R : GoesBy) (R' : Goes) (rs : List Reply) (ds : List Deed)
-      → IsGetOf (Some sub) → HaveBy Asks R → HaveAll None Gone R'
+      → IsGetOf (Some sub) → HaveBy Sta6 w.link.contexts Asks R → HaveAll [] None Gone R'
       → ((rs : List Reply) (x : List Deed) → R' rs x → data_in x ≡ [])
       → Performs meaning sub w.link.contexts (row titles w.state events.LocalAbort) R R' rs ds
       → (requests : List Requested) × RequestWithin meaning sub w.link.contexts Asks Gone rs requests
-      × Have (Some sub) ds requests
+      × Have w.link.contexts (Some sub) ds requests
   performs_have w Cancelled sub Asks Gone R R' rs ds is goes gone quiet p = goes (Some (cancelling sub)) is rs ds p
   performs_have w Unawaited sub Asks Gone R R' rs ds is goes gone quiet p =
       let no_data : data_in ds ≡ [] = ap data_in p.1 ∙ row_quiet titles w.state events.LocalAbort p.0
       ∙ quiet rs p.0 p.2 in (
         [],
         refl,
-        subst (λ (t : List Pdu). AreResponded (IsOpen ds) (selecting sub.progress.awaited (selected_by sub) ∷ []) t)
-            (sym no_data) (way_open (IsOpen ds) (selecting sub.progress.awaited (selected_by sub)) (inr is)),
+        subst (λ (t : List Pdu). AreResponded (IsOpen ds) (open_in w.link.contexts (Some sub) []) t)
+            (sym no_data) (way_open (IsOpen ds) (selecting w.link.contexts sub.progress.awaited (selected_by sub)
+            sub.left) (inr is.0)),
       )
   performs_have w (Performed outcome) sub Asks Gone R R' rs ds is goes gone quiet p =
-      let q = by_have sub.cancelled w.link.contexts (performed sub outcome) sub.left p.0 p.1 Asks R rs ds is p.2 goes
-      p.3 in
-      (q.0, q.1, subst (λ (r : Requested). Have None ds (r ∷ q.0)) (performed_same sub outcome) q.2)
+      let q = by_have sub.cancelled w.link.contexts (performed sub outcome) sub.left p.0 p.1 Asks R rs ds is.0 p.2
+      goes p.3 in (
+        q.0,
+        q.1,
+        subst (λ (r : Requested). Have [] None ds (r ∷ q.0)) (performed_same w.link.contexts sub outcome) q.2,
+      )
 
   attends_have : (sub : Option SubOperation) (w : Within) (m : Message) (us : List Heard) (rs : List Reply)
       (ds : List Deed) → w.state ≡ Sta6 → IsGetOf sub
-      → HaveBy (λ next. Requests titles w next us) (λ next. Talks titles w next us)
-      → HaveAll None (Requests titles (met titles w events.LocalAbort) None us)
+      → HaveBy Sta6 w.link.contexts (λ next. Requests titles w next us) (λ next. Talks titles w next us)
+      → HaveAll [] None (Requests titles (met titles w events.LocalAbort) None us)
       (Talks titles (met titles w events.LocalAbort) None us)
       → Attends sub w m (row titles w.state events.LocalAbort) (λ next. Talks titles w next us)
       (Talks titles (met titles w events.LocalAbort) None us) rs ds
       → (requests : List Requested) × RequestOf sub w m (λ next. Requests titles w next us)
-      (Requests titles (met titles w events.LocalAbort) None us) rs requests × Have sub ds requests
+      (Requests titles (met titles w events.LocalAbort) None us) rs requests × Have w.link.contexts sub ds requests
   attends_have None w m us rs ds opened is goes gone p =
       let q = does_have w m p.0 (λ next. Requests titles w next us) (Requests titles (met titles w events.LocalAbort)
       None us) (λ next. Talks titles w next us) (Talks titles (met titles w events.LocalAbort) None us) rs ds p.1 goes
@@ -633,33 +718,103 @@ module _ (titles : List (Title View)) where
       (λ rs' x. broken_quiet w us rs' x opened) p
 
   said_have : (s : State) (sub : Option SubOperation) (w : Within) (m : Message) (us : List Heard) (rs : List Reply)
-      (ds : List Deed) → w.state ≡ s → IsGetOf sub
-      → HaveBy (λ next. Requests titles w next us) (λ next. Talks titles w next us)
-      → HaveAll None (Requests titles (met titles w events.LocalAbort) None us)
+      (ds : List Deed) → w.state ≡ s → IsGetIn s sub
+      → HaveBy s w.link.contexts (λ next. Requests titles w next us) (λ next. Talks titles w next us)
+      → HaveAll [] None (Requests titles (met titles w events.LocalAbort) None us)
       (Talks titles (met titles w events.LocalAbort) None us)
       → InState s (Attends sub w m (row titles w.state events.LocalAbort) (λ next. Talks titles w next us)
       (Talks titles (met titles w events.LocalAbort) None us)) (Talks titles w sub us) rs ds
       → (requests : List Requested) × RequestIn s (RequestOf sub w m (λ next. Requests titles w next us)
       (Requests titles (met titles w events.LocalAbort) None us)) (Requests titles w sub us) rs requests
-      × Have sub ds requests
+      × Have w.link.contexts sub ds requests
   said_have Sta1 sub w m us rs ds opened is goes gone p = goes sub is rs ds p
   said_have Sta2 sub w m us rs ds opened is goes gone p = goes sub is rs ds p
   said_have Sta6 sub w m us rs ds opened is goes gone p = attends_have sub w m us rs ds opened is goes gone p
   said_have Sta13 sub w m us rs ds opened is goes gone p = goes sub is rs ds p
 
-  none_have : (sub : Option SubOperation) → IsGetOf sub → Have sub [] []
-  none_have None is = refl
-  none_have (Some sub) is = way_open (IsOpen []) (selecting sub.progress.awaited (selected_by sub)) (inr is)
+  none_have : (state : State) (contexts : List Context) (sub : Option SubOperation) → IsGetIn state sub
+      → Have contexts sub [] []
+  none_have state contexts None is = refl
+  none_have state contexts (Some sub) is =
+      way_open (IsOpen []) (selecting contexts sub.progress.awaited (selected_by sub) sub.left) (inr is.0)
+
+  -- What was agreed stays,
+  still_asked : (state : State) (request : Request) (r : Result View Reject) → value_for titles request ≡ r
+      → IsSettled state → IsSettled (next_of state (kind_for titles (events.Got (pdus.AssociateRq request))))
+  still_asked Sta1 request r e is = tt
+  still_asked Sta2 request r e is = absurd is
+  still_asked Sta6 request (Ok v) e is = rw e tt
+  still_asked Sta6 request (Err reject) e is = rw e tt
+  still_asked Sta13 request (Ok v) e is = rw e tt
+  still_asked Sta13 request (Err reject) e is = rw e tt
+
+  still_settled : (state : State) (event : Event) → IsSettled state → IsSettled (next_of state (kind_for titles event))
+  still_settled Sta1 event is = tt
+  still_settled Sta2 event is = absurd is
+  still_settled Sta6 (events.Got (pdus.AssociateRq request)) is =
+      still_asked Sta6 request (value_for titles request) refl is
+  still_settled Sta6 (events.Got (pdus.AssociateAc accept)) is = tt
+  still_settled Sta6 (events.Got (pdus.AssociateRj reject)) is = tt
+  still_settled Sta6 (events.Got (pdus.PData values)) is = tt
+  still_settled Sta6 (events.Got pdus.ReleaseRq) is = tt
+  still_settled Sta6 (events.Got pdus.ReleaseRp) is = tt
+  still_settled Sta6 (events.Got (pdus.Abort source reason)) is = tt
+  still_settled Sta6 (events.Bad faults.UnknownType) is = tt
+  still_settled Sta6 (events.Bad faults.BadLength) is = tt
+  still_settled Sta6 (events.Bad faults.BadItem) is = tt
+  still_settled Sta6 (events.Bad faults.TooLong) is = tt
+  still_settled Sta6 (events.Bad faults.Memory) is = tt
+  still_settled Sta6 events.Ended is = tt
+  still_settled Sta6 events.LocalAbort is = tt
+  still_settled Sta13 (events.Got (pdus.AssociateRq request)) is =
+      still_asked Sta13 request (value_for titles request) refl is
+  still_settled Sta13 (events.Got (pdus.AssociateAc accept)) is = tt
+  still_settled Sta13 (events.Got (pdus.AssociateRj reject)) is = tt
+  still_settled Sta13 (events.Got (pdus.PData values)) is = tt
+  still_settled Sta13 (events.Got pdus.ReleaseRq) is = tt
+  still_settled Sta13 (events.Got pdus.ReleaseRp) is = tt
+  still_settled Sta13 (events.Got (pdus.Abort source reason)) is = tt
+  still_settled Sta13 (events.Bad faults.UnknownType) is = tt
+  still_settled Sta13 (events.Bad faults.BadLength) is = tt
+  still_settled Sta13 (events.Bad faults.BadItem) is = tt
+  still_settled Sta13 (events.Bad faults.TooLong) is = tt
+  still_settled Sta13 (events.Bad faults.Memory) is = tt
+  still_settled Sta13 events.Ended is = tt
+  still_settled Sta13 events.LocalAbort is = tt
+
+  agreed_before : (state later : State) (limit : ℕ) (settled : Option (Settled View)) (link : Link)
+      → IsSettled state → agreed_by (opens state later) limit settled link ≡ link
+  agreed_before Sta1 later limit settled link is = refl
+  agreed_before Sta2 later limit settled link is = absurd is
+  agreed_before Sta6 later limit settled link is = refl
+  agreed_before Sta13 later limit settled link is = refl
+
+  -- also where a sub-operation is awaited.
+  get_met : (w : Within) (event : Event) (sub : Option SubOperation) → IsGetIn w.state sub
+      → IsGetIn (met titles w event).state sub
+  get_met w event None is = tt
+  get_met w event (Some sub) is = (is.0, still_settled w.state event is.1)
+
+  have_met : (w : Within) (event : Event) (sub : Option SubOperation) (ds : List Deed) (requests : List Requested)
+      → IsGetIn w.state sub → Have (met titles w event).link.contexts sub ds requests
+      → Have w.link.contexts sub ds requests
+  have_met w event None ds requests is p = p
+  have_met w event (Some sub) ds requests is p =
+      subst (λ (l : Link). Have l.contexts (Some sub) ds requests) (agreed_before w.state (next_of w.state (kind_for
+      titles event)) (limit_in event) (settled_by w.state titles event w.settled) w.link is.1) p
 
   pub responded : (us : List Heard) (w : Within) (sub : Option SubOperation) (rs : List Reply) (ds : List Deed)
-      → IsGetOf sub → Talks titles w sub us rs ds → HasResponses titles w sub us rs ds
-  responded [] w sub rs ds is p = ([], refl, subst (λ (t : List Deed). Have sub t []) (sym p) (none_have sub is))
+      → IsGetIn w.state sub → Talks titles w sub us rs ds → HasResponses titles w sub us rs ds
+  responded [] w sub rs ds is p =
+      ([], refl, subst (λ (t : List Deed). Have w.link.contexts sub t []) (sym p) (none_have w.state w.link.contexts sub
+      is))
   responded (Met event ∷ us) w sub rs ds is p =
-      let q = responded us (met titles w event) sub rs p.0 is p.2 in (
+      let q = responded us (met titles w event) sub rs p.0 (get_met w event sub is) p.2 in (
         q.0,
         q.1,
-        subst (λ (t : List Deed). Have sub t q.0) (sym p.1) (have_before sub (row titles w.state event) p.0 q.0
-            (row_quiet titles w.state event p.0) q.2),
+        subst (λ (t : List Deed). Have w.link.contexts sub t q.0) (sym p.1) (have_before w.link.contexts sub
+            (row titles w.state event) p.0 q.0 (row_quiet titles w.state event p.0)
+            (have_met w event sub p.0 q.0 is q.2)),
       )
   responded (Said m ∷ us) w sub rs ds is p = said_have w.state sub w m us rs ds refl is
       (λ next get rs' x. responded us w next rs' x get)

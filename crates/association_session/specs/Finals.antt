@@ -8,12 +8,13 @@ use Rattle.ul_state.specs.declared.table.State.{State}
 use Rattle.ul_state.specs.declared.table.State.TheVariants.{Sta1, Sta2, Sta6, Sta13}
 use Rattle.ul_state.specs.declared.titles.Title.{Title}
 use Rattle.data_set.specs.declared.syntax.Syntax.{Syntax}
-use Rattle.dictionary.specs.declared.commands.TheConstants.{C_GET_RQ, C_STORE_RQ}
+use Rattle.dictionary.specs.declared.commands.TheConstants.{C_GET_RQ}
 use Rattle.dimse.specs.declared.message.Message.{Message}
 use Rattle.dimse.specs.Sending.{IsSending}
 use Rattle.dimse.specs.Status.{status_code}
 use Rattle.pdu.specs.declared.context.Context.{Context}
 use Rattle.retrieve_model.specs.declared.prepared.Prepared.{Prepared}
+use Rattle.retrieve_model.specs.declared.sending.Sending.{Sending}
 use Rattle.dimse.specs.declared.status.Status.{Status}
 use Rattle.association_services.specs.declared.call.Call.{Call}
 use Rattle.association_session.specs.declared.deed.Deed.{Deed}
@@ -26,6 +27,7 @@ use Rattle.association_session.specs.declared.deed.Deed.TheVariants.{Send, Reach
 use Rattle.association_services.specs.declared.service.Service.{Service}
 use Rattle.association_services.specs.declared.service.Service.TheVariants.{Ignored, Broken, Responded, Asked}
 use Rattle.association_services.specs.declared.service.Service.TheVariants.{Queried, Fetched}
+use Rattle.association_services.specs.Accepted.{carried_of, Carries}
 use Rattle.association_services.specs.Response.{Awaited, is_pending}
 use Rattle.association_services.specs.SubOperation.{SubOperation}
 use Rattle.association_services.specs.Retrieval.{few_in, setting_out, begun, meaning_of, performed}
@@ -50,48 +52,58 @@ data_in (Ask call ∷ ds) = data_in ds
 data_in (Close ∷ ds) = data_in ds
 
 -- a request that awaits its responses, and how many instances it selected, where it is a C-GET whose sub-operations are
--- performed
+-- performed; and what these are still to carry, in order, on which contexts
 pub record Requested : Type 0 where
   pub awaited : Awaited
   pub selected : Option ℕ
+  pub contexts : List Context
+  pub carried : List Sending
 
 -- one without sub-operations
 abbrev pub plain : Awaited → Requested
-plain a = record { awaited = a; selected = None }
+plain a = record { awaited = a; selected = None; contexts = []; carried = [] }
 
--- one that selected so many
-abbrev pub selecting : Awaited → ℕ → Requested
-selecting a selected = record { awaited = a; selected = Some selected }
+-- one that selected so many, of which these are left
+abbrev pub selecting : List Context → Awaited → ℕ → List Prepared → Requested
+selecting contexts a selected left = record {
+  awaited = a;
+  selected = Some selected;
+  contexts = contexts;
+  carried = carried_of contexts left;
+}
 
 -- a response to a request, on its context: a pending one, or the last; its counts add up to what was selected
-pub record RespondsTo (r : Requested) (pending : Bool) (m : Message) : Type 0 where
-  pub context : m.context ≡ r.awaited.context
-  pub id : m.command.responded_to ≡ r.awaited.command.message_id
+pub record RespondsTo (a : Awaited) (selected : Option ℕ) (pending : Bool) (m : Message) : Type 0 where
+  pub context : m.context ≡ a.context
+  pub id : m.command.responded_to ≡ a.command.message_id
   pub status : Status
   pub is : m.command.status ≡ Some (status_code status)
   pub kind : is_pending status ≡ pending
-  pub counts : CountsFor r.selected m
+  pub counts : CountsFor selected m
 
--- a pending response to a request, or a C-STORE that it brings
-abbrev pub IsOnTheWay : Requested → Message → Type 0
-IsOnTheWay r m = RespondsTo r true m ⊎ (m.command.field ≡ C_STORE_RQ)
+-- a pending response to a request; or a C-STORE, which carries the next of what its sub-operations carry
+abbrev pub IsOnTheWay : Requested → List Sending → Message → List Sending → Type 0
+IsOnTheWay r carried m left =
+    (RespondsTo r.awaited r.selected true m × (left ≡ carried))
+    ⊎ ((sending : Sending) × (carried ≡ sending ∷ left) × Carries r.contexts sending m)
 
 -- These messages are sent on the way to the last response, and then others behind them.
-abbrev pub SendsOnTheWay : Requested → List Message → (List Pdu → Type 0) → List Pdu → Type 0
-SendsOnTheWay r [] Behind pdus = Behind pdus
-SendsOnTheWay r (m ∷ ms) Behind pdus = IsOnTheWay r m × (first rest : List Pdu) × IsSending m r.awaited.limit first
-    × SendsOnTheWay r ms Behind rest × (pdus ≡ first ++ rest)
+abbrev pub SendsOnTheWay : Requested → List Sending → List Message → (List Pdu → Type 0) → List Pdu → Type 0
+SendsOnTheWay r carried [] Behind pdus = Behind pdus
+SendsOnTheWay r carried (m ∷ ms) Behind pdus = (left : List Sending) × IsOnTheWay r carried m left
+    × (first rest : List Pdu) × IsSending m r.awaited.limit first × SendsOnTheWay r left ms Behind rest
+    × (pdus ≡ first ++ rest)
 
 -- The last response is sent, and then others behind it.
 abbrev pub SendsLast : Requested → (List Pdu → Type 0) → List Pdu → Type 0
-SendsLast r Behind pdus = (m : Message) × RespondsTo r false m × (first rest : List Pdu)
+SendsLast r Behind pdus = (m : Message) × RespondsTo r.awaited r.selected false m × (first rest : List Pdu)
     × IsSending m r.awaited.limit first × Behind rest × (pdus ≡ first ++ rest)
 
 -- Each of these requests has one last response, in order, behind what is on the way to it, and nothing else is sent; to
 -- the last of them it may be open.
 abbrev pub AreResponded : (Awaited → Type 0) → List Requested → List Pdu → Type 0
 AreResponded Open [] pdus = pdus ≡ []
-AreResponded Open (r ∷ requests) pdus = (ms : List Message) × SendsOnTheWay r ms
+AreResponded Open (r ∷ requests) pdus = (ms : List Message) × SendsOnTheWay r r.carried ms
     (λ rest. SendsLast r (AreResponded Open requests) rest ⊎ ((requests ≡ []) × (rest ≡ []) × Open r.awaited)) pdus
 
 -- ---- the requests
@@ -109,11 +121,12 @@ abbrev pub Replied : (List Reply → List Requested → Type 0) → List Reply �
 Replied Goes [] requests = requests ≡ []
 Replied Goes (r ∷ rs) requests = Goes rs requests
 
--- a C-GET selected all that the port replied, and where these are no few nothing
+-- a C-GET selected all that the port replied, and where these are no few nothing; what it is to carry is made of them
 abbrev pub FewRequests : Option (List Prepared) → List Context → Awaited → Syntax → (Option SubOperation
     → List Requested → Type 0) → List Requested → Type 0
 FewRequests None contexts a syntax Goes requests = Precedes (plain a) (Goes None) requests
-FewRequests (Some prepared) contexts a syntax Goes requests = Precedes (selecting a (length prepared))
+FewRequests (Some prepared) contexts a syntax Goes requests =
+    Precedes (selecting contexts a (length prepared) prepared)
     (Goes (begun contexts (setting_out a syntax) prepared)) requests
 
 abbrev pub RepliedGet : List Context → Awaited → Syntax → RequestsBy → List Reply → List Requested → Type 0
@@ -173,9 +186,10 @@ Requests titles w sub (Said m ∷ us) rs requests =
     (Requests titles w sub us) rs requests
 
 -- the C-GET whose sub-operation is awaited, and then these
-abbrev pub open_in : Option SubOperation → List Requested → List Requested
-open_in None requests = requests
-open_in (Some sub) requests = selecting sub.progress.awaited (selected_by sub) ∷ requests
+abbrev pub open_in : List Context → Option SubOperation → List Requested → List Requested
+open_in contexts None requests = requests
+open_in contexts (Some sub) requests =
+    selecting contexts sub.progress.awaited (selected_by sub) sub.left ∷ requests
 
 -- A call is the last deed.
 abbrev pub EndsInCall : List Deed → Type 0
@@ -190,4 +204,4 @@ IsOpen ds a = EndsInCall ds ⊎ (a.command.field ≡ C_GET_RQ)
 abbrev pub HasResponses : List (Title View) → Within → Option SubOperation → List Heard → List Reply → List Deed
     → Type 0
 HasResponses titles w sub us rs ds = (requests : List Requested) × Requests titles w sub us rs requests
-    × AreResponded (IsOpen ds) (open_in sub requests) (data_in ds)
+    × AreResponded (IsOpen ds) (open_in w.link.contexts sub requests) (data_in ds)

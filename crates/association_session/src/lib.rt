@@ -11,11 +11,15 @@ mod deed;
 mod deeds;
 mod due;
 mod event;
+mod hearing;
 mod laws;
 mod limit;
 mod link;
 mod numbers;
+mod replies;
+mod row;
 mod session;
+mod telling;
 
 pub use association_services::{Call, Finding, Getting, PortFault, Reply};
 pub use deed::{Deed, Moment};

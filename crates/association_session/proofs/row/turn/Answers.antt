@@ -2,7 +2,7 @@ use Rattle.std.proofs.Common.{◌≡◌, ℕ, true, sym, subst}
 use Rattle.ul_state.specs.Table.{opens}
 use Rattle.association_services.specs.Response.{FitsLimit}
 use Rattle.association_session.proofs.TurnLaws.{agreed_fits, some_same}
-use Rattle.association_session.proofs.association.turn.Goals as goal
+use Rattle.association_session.proofs.row.turn.Goals as goal
 
 -- What is admitted takes a fragment.
 pub agree-requires : goal.agree-requires

@@ -1,5 +1,5 @@
 use Rattle.association_session.proofs.TellLaws.{all_put}
-use Rattle.association_session.proofs.association.put_row.Goals as goal
+use Rattle.association_session.proofs.telling.put_row.Goals as goal
 
 -- Each PDU of the response can be written.
 pub returns-clause-writable : goal.returns-clause-writable

@@ -1,6 +1,6 @@
 use Rattle.std.proofs.Common.{inr}
 use Rattle.association_session.proofs.TellLaws.{tells_more, fewer_more}
-use Rattle.association_session.proofs.association.put_rows.Goals as goal
+use Rattle.association_session.proofs.telling.put_rows.Goals as goal
 
 -- A row more is told.
 pub loop-spelled-preserved : goal.loop-spelled-preserved

@@ -1,5 +1,5 @@
 use Rattle.association_session.proofs.HearLaws.{ok_map, all_is}
-use Rattle.association_session.proofs.association.respond.Goals as goal
+use Rattle.association_session.proofs.telling.respond.Goals as goal
 
 -- Each PDU of a response can be written, and so can the deed that sends it.
 pub returns-clause-writable : goal.returns-clause-writable

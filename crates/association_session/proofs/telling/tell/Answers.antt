@@ -1,7 +1,7 @@
 use Rattle.std.proofs.Common.{List, subst}
 use Rattle.association_session.specs.declared.deed.Deed.{Deed}
 use Rattle.association_session.specs.Session.{TellsSome}
-use Rattle.association_session.proofs.association.tell.Goals as goal
+use Rattle.association_session.proofs.telling.tell.Goals as goal
 
 -- The last rows are told, and their end.
 pub returns-then-ended-clause-told : goal.returns-then-ended-clause-told
