@@ -17,6 +17,7 @@ pub record Spares {D : Type 0} (g : Ghosts D) (end : ℕ) (old new : D) : Type 0
   pub kept : KeepsBelow end (g.seen old) (g.seen new)
   pub left : (c : List ℕ) → g.may_leave new c → (d : List ℕ) × g.may_leave old d × KeepsBelow end d c
   pub clean : IsTrue (g.is_clean new) → IsTrue (g.is_clean old)
+  pub longer : length (g.seen old) ≤ length (g.seen new)
 
 -- what a file has lasts
 abbrev pub Settles : {D : Type 0} → Ghosts D → D → D → Type 0

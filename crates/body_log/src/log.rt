@@ -32,6 +32,7 @@ impl<D: Disk + Drop> BodyLog<D> {
             → end_of log ≡ length (D.Disk.seen disk)) }
         ensures clean { IfOk result (λ log. IsTrue (D.Disk.is_clean (disk_of log))
             → IsTrue (D.Disk.is_clean disk)) }
+        ensures usable { IfOk result (λ log. IsTrue (D.Disk.is_usable (disk_of log))) }
         ensures fault { IfErr result (λ fault. fault ≡ BodyFault.Disk) }
     {
         let mut disk = disk;
@@ -62,6 +63,8 @@ impl<D: Disk> BodyLog<D> {
         // Whatever is answered, no body that was there is touched.
         ensures spared { Spares D.Disk (end_of self.old) (disk_of self.old) (disk_of self.new) }
         ensures refused { OnErr result (end_of self.new ≡ end_of self.old) }
+        ensures usable { D.Disk.is_usable (disk_of self.new)
+            ≡ D.Disk.is_usable (disk_of self.old) }
 
         // Each fault, only where it is.
         ensures closed { IsErrOf result BodyFault.Closed
@@ -86,6 +89,8 @@ impl<D: Disk> BodyLog<D> {
     /// Syncs. After `Ok` every crash leaves each body that was added.
     pub fn settle(&mut self) -> Result<(), BodyFault>
         ensures settled { OnOk result (Settles D.Disk (disk_of self.old) (disk_of self.new)) }
+        ensures seen { D.Disk.seen (disk_of self.new) ≡ D.Disk.seen (disk_of self.old) }
+        ensures usable { OnOk result (IsTrue (D.Disk.is_usable (disk_of self.new))) }
         ensures end { end_of self.new ≡ end_of self.old }
         ensures spared { Spares D.Disk (end_of self.old) (disk_of self.old) (disk_of self.new) }
 
@@ -108,8 +113,12 @@ impl<D: Disk> BodyLog<D> {
         // What comes is what was added, as long as the disk returns what was written.
         ensures exact { OnOk result (IsTrue (D.Disk.is_clean (disk_of self.new))
             → IsExact (D.Disk.seen (disk_of self.old)) at body.new) }
+        ensures held { OnOk result (IsTrue (D.Disk.is_clean (disk_of self.new))
+            → 0 < length body.old → Holds (D.Disk.seen (disk_of self.new)) at body.new) }
         ensures end { end_of self.new ≡ end_of self.old }
         ensures spared { Spares D.Disk (end_of self.old) (disk_of self.old) (disk_of self.new) }
+        ensures usable { D.Disk.is_usable (disk_of self.new)
+            ≡ D.Disk.is_usable (disk_of self.old) }
 
         // Each fault, only where it is.
         ensures closed { IsErrOf result BodyFault.Closed

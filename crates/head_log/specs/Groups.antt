@@ -39,6 +39,12 @@ StandsFor file groups = ((end : ℕ) × Ready file end groups) ⊎ ((length file
 abbrev pub IsReady : {D : Type 0} → Ghosts D → D → ℕ → List (List ℕ) → Type 0
 IsReady g disk end groups = (c : List ℕ) → g.may_leave disk c → Ready c end groups
 
+-- a gate that is not open stands at an offset of a file that a crash leaves as it is
+pub record IsEnded {D : Type 0} (g : Ghosts D) (disk : D) (end : ℕ) : Type 0 where
+  pub settled : Only (g.seen disk) (g.may_leave disk)
+  pub within : end < length (g.seen disk)
+  pub shut : slice_index (g.seen disk) end ≢ 1
+
 -- a text stands behind the gate, and every crash leaves it so
 pub record IsStaged {D : Type 0} (g : Ghosts D) (disk : D) (end : ℕ) (text : List ℕ) : Type 0 where
   pub there : Holds (g.seen disk) (end + 1) text

@@ -1,7 +1,7 @@
 //! The two halves of adding a group: it is written behind a shut gate, and then the gate is opened.
 
 ghost use Rattle.std.specs.Prelude.{◌≡◌, ◌+◌, ◌<◌, ◌≤◌, ◌++◌, ◌∷◌, ◌^◌, [], List, ℕ, length, IsTrue, OnOk};
-ghost use Rattle.head_log.specs.Groups.{IsReady, IsStaged, LeavesEither, StandsFor, shut_text};
+ghost use Rattle.head_log.specs.Groups.{IsEnded, IsReady, IsStaged, LeavesEither, StandsFor, shut_text};
 
 use sqlite_disk::Disk;
 use std::io;
@@ -10,6 +10,7 @@ use std::io;
 pub(crate) fn begin<D: Disk>(disk: &mut D) -> io::Result<()>
     requires usable { IsTrue (D.Disk.is_usable disk.old) }
     ensures ready { OnOk result (IsReady D.Disk disk.new 0 []) }
+    ensures ended { OnOk result (IsEnded D.Disk disk.new 0) }
     ensures usable { OnOk result (IsTrue (D.Disk.is_usable disk.new)) }
     ensures clean { IsTrue (D.Disk.is_clean disk.new) → IsTrue (D.Disk.is_clean disk.old) }
     ensures crash { ((c : List ℕ) → D.Disk.may_leave disk.old c → length c ≤ 1)

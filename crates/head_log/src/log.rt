@@ -1,7 +1,7 @@
 //! A file of groups.
 
-ghost use Rattle.std.specs.Prelude.{◌≡◌, ◌++◌, ◌∷◌, ◌<◌, ◌≤◌, ◌+◌, ◌^◌, ◌↔◌, [], List, ℕ, false, length, Ok, None, IfOk, IfSome, IsTrue, IsErrOf, OnOk, OnErr};
-ghost use Rattle.head_log.specs.Groups.{IsGroupAt, IsReady, LeavesEither, StandsFor};
+ghost use Rattle.std.specs.Prelude.{◌≡◌, ◌++◌, ◌∷◌, ◌<◌, ◌≤◌, ◌+◌, ◌^◌, ◌↔◌, ◌⊎◌, [], List, ℕ, false, length, Ok, None, IfOk, IfSome, IsTrue, IsErrOf, OnOk, OnErr};
+ghost use Rattle.head_log.specs.Groups.{IsEnded, IsGroupAt, IsReady, LeavesEither, StandsFor};
 
 use crate::fault::HeadFault;
 use crate::gate::{begin, open, stage};
@@ -38,6 +38,8 @@ fn start<D: Disk>(disk: &mut D) -> Result<usize, HeadFault>
     ensures found { IfOk result (λ end. IsTrue (D.Disk.is_clean disk.new)
         → (groups : List (List ℕ)) → StandsFor (D.Disk.seen disk.old) groups
         → IsReady D.Disk disk.new end groups) }
+    ensures ended { IfOk result (λ end. IsTrue (D.Disk.is_clean disk.new)
+        → IsEnded D.Disk disk.new end) }
     ensures usable { OnOk result (IsTrue (D.Disk.is_usable disk.new)) }
     ensures clean { IsTrue (D.Disk.is_clean disk.new) → IsTrue (D.Disk.is_clean disk.old) }
 {
@@ -60,6 +62,9 @@ impl<D: Disk + Drop> HeadLog<D> {
         ensures found { IfOk result (λ log. IsTrue (D.Disk.is_clean (disk_of log))
             → (groups : List (List ℕ)) → StandsFor (D.Disk.seen disk) groups
             → IsReady D.Disk (disk_of log) (end_of log) groups) }
+        // Whatever the file is, what lies before its end has reached the disk.
+        ensures ended { IfOk result (λ log. IsTrue (D.Disk.is_clean (disk_of log))
+            → IsEnded D.Disk (disk_of log) (end_of log)) }
         ensures up { IfOk result (λ log. IsTrue (is_up D.Disk log)) }
         ensures clean { IfOk result (λ log. IsTrue (D.Disk.is_clean (disk_of log))
             → IsTrue (D.Disk.is_clean disk)) }
@@ -109,7 +114,10 @@ impl<D: Disk> HeadLog<D> {
             → (end_of self.new ≡ end_of self.old) × ((groups : List (List ℕ))
             → IsReady D.Disk (disk_of self.old) (end_of self.old) groups
             → IsReady D.Disk (disk_of self.new) (end_of self.new) groups)) }
+        // Each fault, exactly where it is.
         ensures closed { IsErrOf result HeadFault.Closed ↔ (is_up D.Disk self.old ≡ false) }
+        ensures too_long { IsErrOf result HeadFault.TooLong ↔ (IsTrue (is_up D.Disk self.old)
+            × ((2 ^ 40 ≤ length group.now) ⊎ (2 ^ 60 < end_of self.old))) }
         ensures clean { IsTrue (D.Disk.is_clean (disk_of self.new))
             → IsTrue (D.Disk.is_clean (disk_of self.old)) }
     {
@@ -144,7 +152,8 @@ impl<D: Disk> HeadLog<D> {
         // Each fault, only where it is.
         ensures closed { IsErrOf result HeadFault.Closed
             ↔ (D.Disk.is_usable (disk_of self.old) ≡ false) }
-        ensures place { (n : ℕ) → IsErrOf result (HeadFault.Damaged n) → n ≡ at }
+        ensures place { (n : ℕ) → IsErrOf result (HeadFault.Damaged n)
+            → (n ≡ at) × (at < end_of self.old) }
         ensures damaged { IsErrOf result (HeadFault.Damaged at)
             → IsTrue (D.Disk.is_clean (disk_of self.new)) → (group : List ℕ)
             → at + 41 + length group ≤ end_of self.old

@@ -40,6 +40,8 @@ pub(crate) fn end_at<D: Disk>(disk: &mut D, len: usize) -> Result<usize, HeadFau
     ensures found { IfOk result (λ at. IsTrue (D.Disk.is_clean disk.new)
         → (groups : List (List ℕ)) (end : ℕ) → Ready (D.Disk.seen disk.old) end groups
         → at ≡ end) }
+    ensures ended { IfOk result (λ at. IsTrue (D.Disk.is_clean disk.new)
+        → (at < length (D.Disk.seen disk.old)) × (slice_index (D.Disk.seen disk.old) at ≢ 1)) }
     ensures same { OnlyReads D.Disk disk.old disk.new }
 {
     let mut at = 0;
