@@ -1,6 +1,6 @@
 -- What a pass of a running site is as a holder.
 use Rattle.std.proofs.Common.{◌≡◌, ◌⊎◌, inl, inr, ◌++◌, ◌∷◌, [], ℕ, List, Option, Some, None, Result, Ok, Err}
-use Rattle.std.proofs.Common.{IfOk, IfErr, OnOk, refl, sym, ap, subst, ◌∙◌}
+use Rattle.std.proofs.Common.{IfOk, IfErr, OnOk, OnErr, refl, sym, ap, subst, ◌∙◌}
 use mathlib.Core.List.{IsPrefix}
 use Rattle.operation.specs.declared.op.Op.{Op}
 use Rattle.operation.specs.Spelling.{digest_of}
@@ -85,6 +85,22 @@ pass_takes opening before later op (Err fault) reply is history onward taken =
       new = λ e. absurd cc;
       stays = λ none. elim none [ ];
     })
+
+-- Where a take is told as refused, what the pass has seen stays.
+pub refused_sees : (before later : Seat) (op : Op) (told : Result News HubFault)
+    (reply : Result Taken HolderFault) → reply ≡ reply_to told
+    → IfErr told (λ e. e ≡ hub.Pending
+    → (later.mine ≡ before.mine ++ digest_of op ∷ []) × (later.seen ≡ before.seen))
+    → IfErr told (λ e. (e ≡ hub.Pending) ⊎ (later ≡ before))
+    → OnErr reply (later.seen ≡ before.seen)
+refused_sees before later op (Ok told) reply is pending kept =
+    subst (λ (r : Result Taken HolderFault). OnErr r (later.seen ≡ before.seen)) (sym is) tt
+refused_sees before later op (Err fault) reply is pending kept =
+    subst (λ (r : Result Taken HolderFault). OnErr r (later.seen ≡ before.seen)) (sym is)
+    (elim kept as (λ _. later.seen ≡ before.seen) [
+      | inl pends ↦ (pending pends).1
+      | inr same ↦ ap (λ (s : Seat). s.seen) same
+    ])
 
 put_so : {K : Type 0} (up : K → Type 0) (holds lasts : K → Op → Type 0) (before later : Seat) (op : Op)
     (told : Result News HubFault) → WasPut up holds lasts (digest_of op)

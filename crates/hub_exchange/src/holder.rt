@@ -1,6 +1,6 @@
 //! A pass of a running site as a holder.
 
-ghost use Rattle.std.specs.Prelude.{◌≡◌, IfOk};
+ghost use Rattle.std.specs.Prelude.{◌≡◌, IfOk, OnErr};
 ghost use Rattle.operation.specs.Spelling.{digest_of};
 ghost use Rattle.site_hub.specs.History.{set_of};
 ghost use Rattle.site_hub.specs.Hub.{Seat, HasLooked};
@@ -84,6 +84,7 @@ fn publish<H: HubName, T: Shows<H>, R: Wait + Drop, S: Wait, K: Keep>(
     requires { shelved.now.digest ≡ digest_of op }
     ensures takes { TakesIn (λ (s : Seat). set_of H.opening s.seen) (λ _. ⊥) pass.old op result
         pass.new }
+    ensures refused { OnErr result (pass.new.seen ≡ pass.old.seen) }
     ensures onward { IsOnward K.is_up K.holds K.lasts pass.old pass.new }
 {
     let _ = &shelved.digest;
@@ -201,7 +202,12 @@ impl<
         look(&mut self.pass, &Wanted { version, digests })
     }
 
-    fn take(&mut self, op: Digested) -> Result<Taken, HolderFault> {
+    fn take(&mut self, op: Digested) -> Result<Taken, HolderFault>
+        ensures takes { TakesIn (λ (s : Seat). set_of H.opening s.seen) (λ _. ⊥) self.old op result
+            self.new }
+        // What the pass has seen published is told as taken.
+        ensures refused { OnErr result (self.new.seen ≡ self.old.seen) }
+    {
         let mut shelf = *self.shelf;
         match shelf.put(&op) {
             Ok(shelved) => publish(self.rt, self.keeper, &mut self.pass, op, &shelved),

@@ -1,7 +1,7 @@
-use Rattle.hub_exchange.proofs.HolderLaws.{pass_takes, pass_onward}
+use Rattle.hub_exchange.proofs.HolderLaws.{pass_takes, pass_onward, refused_sees}
 use Rattle.hub_exchange.proofs.holder.publish.Goals as goal
 
--- What the keeper takes for the pass the holder takes, and its digest is the one that was put.
+-- What the keeper takes for the pass the holder takes, and its digest is the one that was put; a refusal shows nothing.
 pub returns : goal.returns
 returns g c =
     let told = c.store_digested-told.ensures in let op = c.args.op in
@@ -9,6 +9,8 @@ returns g c =
     record {
       takes = pass_takes g.H.HubName.opening before later op c.store_digested-told.result c.reply.result c.reply.ensures
           c.see_history.ensures told.later told.taken;
+      refused = refused_sees before later op c.store_digested-told.result c.reply.result c.reply.ensures told.pending
+          told.kept;
       onward = pass_onward g.K.Keep.is_up g.K.Keep.holds g.K.Keep.lasts before later op c.store_digested-told.result
           c.args.shelved.now.digest c.args.shelved.now.put c.requires told.later told.mine told.pending told.kept;
     }
