@@ -32,6 +32,8 @@ impl<D: Disk + Drop> BodyLog<D> {
             → end_of log ≡ length (D.Disk.seen disk)) }
         ensures clean { IfOk result (λ log. IsTrue (D.Disk.is_clean (disk_of log))
             → IsTrue (D.Disk.is_clean disk)) }
+        ensures reach { IfOk result (λ log. IsTrue (D.Disk.is_clean (disk_of log))
+            → end_of log ≤ length (D.Disk.seen (disk_of log))) }
         ensures usable { IfOk result (λ log. IsTrue (D.Disk.is_usable (disk_of log))) }
         ensures fault { IfErr result (λ fault. fault ≡ BodyFault.Disk) }
     {
@@ -39,6 +41,14 @@ impl<D: Disk + Drop> BodyLog<D> {
         disk.sync()?;
         let end = disk.len()?;
         Ok(BodyLog { disk, end })
+    }
+
+    /// The file.
+    pub fn into_disk(self) -> D
+        ensures { result ≡ disk_of self }
+    {
+        let BodyLog { disk, end: _ } = self;
+        disk
     }
 }
 
@@ -50,6 +60,13 @@ impl<D: Disk> BodyLog<D> {
         ensures { result ≡ end_of self.now }
     {
         self.end
+    }
+
+    /// Whether no sync has failed.
+    pub fn is_usable(&self) -> bool
+        ensures { result ≡ D.Disk.is_usable (disk_of self.now) }
+    {
+        self.disk.may_be_used()
     }
 
     /// Adds a body behind the others, and answers its place. A crash may lose it until `settle`.

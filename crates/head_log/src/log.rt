@@ -78,6 +78,19 @@ impl<D: Disk + Drop> HeadLog<D> {
             alloc,
         })
     }
+
+    /// The file.
+    pub fn into_disk(self) -> D
+        ensures { result ≡ disk_of self }
+    {
+        let HeadLog {
+            disk,
+            end: _,
+            is_open: _,
+            alloc: _,
+        } = self;
+        disk
+    }
 }
 
 impl<D: Disk> HeadLog<D> {

@@ -1,6 +1,6 @@
 -- The two parts of an operation's spelling, and its head.
-use Rattle.std.specs.Prelude.{◌≡◌, ◌-◌, ℕ, List, [], ◌∷◌, ◌++◌, length, take, drop, map}
-use Rattle.head_log.specs.Groups.{Laid}
+use Rattle.std.specs.Prelude.{◌≡◌, ◌-◌, ◌<◌, ◌^◌, ℕ, List, [], ◌∷◌, ◌++◌, length, take, drop, refl}
+use Rattle.std.specs.Coded.{Coded, code_by, coded×, coded_ℕ, coded_list}
 use Rattle.std.specs.Int.{w64, to_le_bytes}
 use Rattle.operation.specs.declared.op.Op.{Op}
 use Rattle.operation.specs.declared.op.Op.TheVariants.{Content as a_content, Correction as a_correction}
@@ -23,26 +23,42 @@ body_of op = drop (length (spelling op) - size_of op) (spelling op)
 abbrev pub Entry : Type 0
 Entry = Op × ℕ
 
+-- a head: the digest of an operation, its spelling without the data set, where that lies, and how long it is
+pub record Head : Type 0 where
+  pub digest : List ℕ
+  pub front : List ℕ
+  pub at : ℕ
+  pub size : ℕ
+
+-- a head is stored as its parts
+abbrev pub head_code : Coded Head
+head_code =
+    code_by (List ℕ × (List ℕ × (ℕ × ℕ))) (coded× (coded_list coded_ℕ) (coded× (coded_list coded_ℕ) (coded× coded_ℕ coded_ℕ)))
+    (λ h. (h.digest, (h.front, (h.at, h.size)))) (λ p. record { digest = p.0; front = p.1.0; at = p.1.1.0; size = p.1.1.1 })
+    (λ _. refl)
+
+-- the head of an entry
+abbrev pub head_of : Entry → Head
+head_of e = record { digest = digest_of e.0; front = front_of e.0; at = e.1; size = length (body_of e.0) }
+
 -- a number in eight bytes, low byte first
 unfoldable pub number_text : ℕ → List ℕ
 number_text n = to_le_bytes w64 n
 
 -- a head: how long the front of the spelling is, where the data set lies and how long that is, the digest, and
 -- the front
-unfoldable pub head_text : Entry → List ℕ
-head_text e =
-    number_text (length (front_of e.0)) ++ (number_text e.1
-    ++ (number_text (length (body_of e.0)) ++ (digest_of e.0 ++ front_of e.0)))
+unfoldable pub head_text : Head → List ℕ
+head_text h =
+    number_text (length h.front) ++ (number_text h.at ++ (number_text h.size ++ (h.digest ++ h.front)))
 
 -- a group: its heads, one behind the other
-abbrev pub group_text : List Entry → List ℕ
+abbrev pub group_text : List Head → List ℕ
 group_text [] = []
-group_text (e ∷ entries) = head_text e ++ group_text entries
+group_text (h ∷ heads) = head_text h ++ group_text heads
 
--- a text is the first of the groups that lie from there, and the others lie from an offset on
-pub record IsFirst (file : List ℕ) (end : ℕ) (groups : List (List Entry)) (text : List ℕ) (next : ℕ) : Type 0 where
-  pub entries : List Entry
-  pub rest : List (List Entry)
-  pub are : groups ≡ entries ∷ rest
-  pub text_is : text ≡ group_text entries
-  pub laid : Laid file next (map group_text rest) end
+-- a head has a digest of 32 bytes, and numbers of eight
+pub record IsSpelled (h : Head) : Type 0 where
+  pub digest : length h.digest ≡ 32
+  pub front : length h.front < 2 ^ 64
+  pub at : h.at < 2 ^ 64
+  pub size : h.size < 2 ^ 64

@@ -1,39 +1,61 @@
--- What two files keep of operations, in groups.
-use Rattle.std.specs.Prelude.{◌≡◌, ◌⊎◌, ◌+◌, ◌≤◌, ◌<◌, ℕ, List, [], ◌∷◌, ◌++◌, length, map, All}
+-- What two files keep of operations: one has their heads, in groups, and the other their data sets.
+use Rattle.std.specs.Prelude.{◌≡◌, ◌+◌, ◌≤◌, ◌<◌, ℕ, List, [], ◌∷◌, length, map, All, Option, Some, None, if◌then◌else◌, nat_eq}
+use Rattle.std.specs.List.{flat_map}
+use Rattle.std.specs.Cmp.Lexicographic.{pointwise}
 use Rattle.sqlite_disk.specs.Disk.{Holds}
 use Rattle.sqlite_disk.specs.declared.Disk.{Ghosts}
 use Rattle.body_log.specs.Lasts.{Lasts}
 use Rattle.head_log.specs.Groups.{IsReady}
 use Rattle.head_log.specs.Groups.{StandsFor as HasGroups}
 use Rattle.operation.specs.declared.op.Op.{Op}
-use Rattle.op_log.specs.Heads.{Entry, body_of, group_text}
+use Rattle.operation.specs.Spelling.{digest_of}
+use Rattle.op_log.specs.Heads.{Entry, Head, body_of, head_of, group_text, IsSpelled}
+
+-- the first head with a digest
+abbrev pub first_under : List ℕ → List Head → Option Head
+first_under digest [] = None
+first_under digest (h ∷ heads) = if pointwise nat_eq digest h.digest then Some h else first_under digest heads
+
+-- the heads of some groups, in order
+abbrev pub joined : List (List Head) → List Head
+joined groups = flat_map (λ group. group) groups
+
+-- a file of groups stands for these heads, in this order
+pub record StandsFor (file : List ℕ) (heads : List Head) : Type 0 where
+  pub groups : List (List Head)
+  pub are : joined groups ≡ heads
+  pub laid : HasGroups file (map group_text groups)
+  pub spelled : All IsSpelled heads
+
+-- and so does whatever a crash leaves of it
+pub record IsKept {H : Type 0} (g : Ghosts H) (disk : H) (end : ℕ) (heads : List Head) : Type 0 where
+  pub groups : List (List Head)
+  pub are : joined groups ≡ heads
+  pub ready : IsReady g disk end (map group_text groups)
+  pub spelled : All IsSpelled heads
 
 -- the data set of an entry lies where the entry says
 abbrev pub HasBody : List ℕ → Entry → Type 0
 HasBody file e = 0 < length (body_of e.0) → Holds file e.1 (body_of e.0)
 
--- two files stand for groups of operations: one has the groups, the other the data sets
-pub record StandsFor (heads bodies : List ℕ) (groups : List (List Entry)) : Type 0 where
-  pub heads_are : HasGroups heads (map group_text groups)
-  pub bodies_are : All (All (HasBody bodies)) groups
+-- the data set lies there, below an offset
+abbrev pub IsHeld : {B : Type 0} → Ghosts B → B → ℕ → Entry → Type 0
+IsHeld g disk end e = 0 < length (body_of e.0) → Holds (g.seen disk) e.1 (body_of e.0) × (e.1 + length (body_of e.0) ≤ end)
 
--- the data set lies there below an offset, whatever a crash leaves
+-- and does so, whatever a crash leaves
 abbrev pub IsLasting : {B : Type 0} → Ghosts B → B → ℕ → Entry → Type 0
 IsLasting g disk end e =
     0 < length (body_of e.0) → Lasts g disk e.1 (body_of e.0) × (e.1 + length (body_of e.0) ≤ end)
 
--- the operations of an entry each
-abbrev pub ops_of : List Entry → List Op
-ops_of = map (λ e. e.0)
+-- a data set lies below an offset
+abbrev pub IsBelow : ℕ → Head → Type 0
+IsBelow end h = h.at + h.size ≤ end
 
--- two disks keep the groups, whatever a crash leaves of each
-pub record Keeps {H B : Type 0} (gh : Ghosts H) (gb : Ghosts B) (heads : H) (heads_end : ℕ) (bodies : B) (bodies_end : ℕ)
-    (groups : List (List Entry)) : Type 0 where
-  pub heads_are : IsReady gh heads heads_end (map group_text groups)
-  pub bodies_are : All (All (IsLasting gb bodies bodies_end)) groups
+-- the first head with the digest of an operation is its own, and its data set lies where that says
+abbrev pub Has : {B : Type 0} → Ghosts B → B → ℕ → List Head → Op → Type 0
+Has g disk end heads op =
+    (at : ℕ) × (first_under (digest_of op) heads ≡ Some (head_of (op, at))) × IsHeld g disk end (op, at)
 
--- what a crash leaves of both stands for the groups, or for these and one more, of the operations that were put
-abbrev pub LeavesAllOrNone : {H B : Type 0} → Ghosts H → Ghosts B → H → B → List (List Entry) → List Op → Type 0
-LeavesAllOrNone gh gb heads bodies groups ops =
-    (h b : List ℕ) → gh.may_leave heads h → gb.may_leave bodies b
-    → StandsFor h b groups ⊎ ((entries : List Entry) × (ops_of entries ≡ ops) × StandsFor h b (groups ++ entries ∷ []))
+-- the same of two files
+abbrev pub AreOf : List Head → List ℕ → Op → Type 0
+AreOf heads bodies op = (at : ℕ) × (first_under (digest_of op) heads ≡ Some (head_of (op, at))) × HasBody bodies (op, at)

@@ -1,5 +1,12 @@
+pub mod Cut
 pub mod Fault
+pub mod Filling
 pub mod Heads
 pub mod Kept
+pub mod Loaded
 pub mod Log
+pub mod Places
+pub mod Puts
+pub mod Spelled
 pub mod Staged
+pub mod Walking

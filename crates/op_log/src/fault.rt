@@ -2,11 +2,10 @@
 
 ghost use Rattle.std.specs.Prelude.{◌≡◌};
 ghost use Rattle.op_log.specs.declared.fault.LogFault.TheVariants.{Memory};
-ghost use Rattle.op_log.specs.Fault.{number_of, fault_of_heads, fault_of_bodies, fault_of_op};
+ghost use Rattle.op_log.specs.Fault.{number_of, fault_of_heads, fault_of_bodies};
 
 use body_log::BodyFault;
 use head_log::HeadFault;
-use operation::OpFault;
 use std::alloc::{AllocError, AllocFailed};
 use thiserror::Error;
 
@@ -22,9 +21,15 @@ pub enum LogFault {
     /// A group or a file would be longer than is written.
     #[error("the group or a file is too long")]
     TooLong,
-    /// What was read is none of what was put.
-    #[error("what was read is damaged")]
-    Damaged,
+    /// At this byte of their file the heads are none that a log writes.
+    #[error("the heads at byte {0} are damaged")]
+    DamagedHeads(usize),
+    /// The data set at this byte of its file is none of the operation.
+    #[error("the data set at byte {0} is damaged")]
+    DamagedBody(usize),
+    /// Another operation has the digest.
+    #[error("another operation has the digest")]
+    Collision,
     /// Memory was refused.
     #[error("memory was refused")]
     Memory,
@@ -39,8 +44,10 @@ impl LogFault {
             LogFault::Disk => 1,
             LogFault::Closed => 2,
             LogFault::TooLong => 3,
-            LogFault::Damaged => 4,
-            LogFault::Memory => 5,
+            LogFault::DamagedHeads(_) => 4,
+            LogFault::DamagedBody(_) => 5,
+            LogFault::Collision => 6,
+            LogFault::Memory => 7,
         }
     }
 }
@@ -69,7 +76,7 @@ impl From<HeadFault> for LogFault {
             HeadFault::Disk => LogFault::Disk,
             HeadFault::Closed => LogFault::Closed,
             HeadFault::TooLong => LogFault::TooLong,
-            HeadFault::Damaged(_) => LogFault::Damaged,
+            HeadFault::Damaged(at) => LogFault::DamagedHeads(at),
             HeadFault::Memory => LogFault::Memory,
         }
     }
@@ -83,17 +90,6 @@ impl From<BodyFault> for LogFault {
             BodyFault::Disk => LogFault::Disk,
             BodyFault::Closed => LogFault::Closed,
             BodyFault::TooLong => LogFault::TooLong,
-        }
-    }
-}
-
-impl From<OpFault> for LogFault {
-    ghost from_gives = { λ fault told. told ≡ fault_of_op fault };
-
-    fn from(fault: OpFault) -> LogFault {
-        match fault {
-            OpFault::Memory => LogFault::Memory,
-            _ => LogFault::Damaged,
         }
     }
 }

@@ -6,11 +6,20 @@
 //! was written.
 #![tactic(auto)]
 
+mod cut;
 mod fault;
+mod filling;
+mod group;
 mod head;
+mod kept;
 mod loading;
 mod log;
+mod place;
+mod places;
+mod putting;
 mod staging;
+mod walking;
 
 pub use fault::LogFault;
+pub use kept::Kept;
 pub use log::OpLog;

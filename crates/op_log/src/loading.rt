@@ -1,21 +1,28 @@
-//! Reads an operation again.
+//! Reads data sets again.
 
-ghost use Rattle.std.specs.Prelude.{◌≡◌, ◌↔◌, ◌++◌, ◌<◌, List, ℕ, length, IfOk, IsTrue};
+ghost use Rattle.std.specs.Prelude.{◌≡◌, ◌≢◌, ◌↔◌, ◌++◌, ◌<◌, List, ℕ, Ok, true, false, length, IfOk, IsTrue, IsErrOf};
 ghost use Rattle.sqlite_disk.specs.Disk.{Holds};
 ghost use Rattle.body_log.specs.Log.{disk_of};
+ghost use Rattle.operation.specs.declared.op.Op.{Op as Operation};
 ghost use Rattle.operation.specs.Reading.{IsOp};
 ghost use Rattle.operation.specs.Spelling.{digest_of, spelling};
-ghost use Rattle.op_log.specs.Staged.{Grows};
+ghost use Rattle.op_log.specs.Heads.{body_of, head_of};
+ghost use Rattle.op_log.specs.Kept.{HasBody};
+ghost use Rattle.op_log.specs.Loaded.{AreParts};
+ghost use Rattle.op_log.specs.Places.{head_by};
+ghost use Rattle.op_log.specs.Staged.{Grows, Uses};
 
 use crate::fault::LogFault;
+use crate::head::Spelled;
+use crate::place::Place;
 use body_log::BodyLog;
 use bytes::Bytes;
-use operation::{Digest, Digested, decode};
+use operation::{Digest, Digested, OpFault, decode};
 use sqlite_disk::Disk;
 use std::alloc::Global;
 
 /// The data set that lies at an offset.
-fn body_at<B: Disk>(
+pub(crate) fn body_at<B: Disk>(
     alloc: Global,
     bodies: &mut BodyLog<B>,
     at: usize,
@@ -24,7 +31,12 @@ fn body_at<B: Disk>(
     ensures read { IfOk result (λ read. IsTrue (B.Disk.is_clean (disk_of bodies.new))
         → (body : List ℕ) → length body ≡ size
         → (0 < size → Holds (B.Disk.seen (disk_of bodies.old)) at body) → read.items ≡ body) }
+    ensures held { IfOk result (λ read. IsTrue (B.Disk.is_clean (disk_of bodies.new))
+        → 0 < size → Holds (B.Disk.seen (disk_of bodies.new)) at read.items) }
+    ensures size { IfOk result (λ read. length read.items ≡ size) }
+    ensures whole { (n : ℕ) → ¬ IsErrOf result (LogFault.DamagedBody n) }
     ensures grows { Grows B.Disk bodies.old bodies.new }
+    ensures uses { Uses B.Disk bodies.old bodies.new result }
 {
     let mut body = Vec::new(alloc);
     if size == 0 {
@@ -35,39 +47,95 @@ fn body_at<B: Disk>(
     Ok(body)
 }
 
-/// The front of a spelling, and behind it the data set that lies at an offset.
-pub(crate) fn text_at<B: Disk>(
+/// Whether the operation that lies at a place is the one of these parts.
+pub(crate) fn lies_at<B: Disk>(
     alloc: Global,
     bodies: &mut BodyLog<B>,
-    front: &[u8],
-    at: usize,
-    size: usize,
+    place: &Place,
+    spelled: &Spelled<'_>,
+) -> Result<bool, LogFault>
+    ensures same { result ≡ Ok true → IsTrue (B.Disk.is_clean (disk_of bodies.new))
+        → AreParts (B.Disk.seen (disk_of bodies.new)) place.now spelled.now }
+    ensures other { result ≡ Ok false → IsTrue (B.Disk.is_clean (disk_of bodies.new))
+        → AreParts (B.Disk.seen (disk_of bodies.old)) place.now spelled.now → ⊥ }
+    ensures grows { Grows B.Disk bodies.old bodies.new }
+    ensures uses { Uses B.Disk bodies.old bodies.new result }
+{
+    if place.front.as_slice() != spelled.front || place.size != spelled.body.len() {
+        return Ok(false);
+    }
+    let body = body_at(alloc, bodies, place.at, place.size)?;
+    Ok(body.as_slice() == spelled.body)
+}
+
+/// The front of a spelling, and behind it the data set that lies at an offset.
+fn text_at<B: Disk>(
+    alloc: Global,
+    bodies: &mut BodyLog<B>,
+    place: &Place,
 ) -> Result<Vec<u8>, LogFault>
     ensures read { IfOk result (λ read. IsTrue (B.Disk.is_clean (disk_of bodies.new))
-        → (body : List ℕ) → length body ≡ size
-        → (0 < size → Holds (B.Disk.seen (disk_of bodies.old)) at body)
-        → read.items ≡ front.now ++ body) }
+        → (body : List ℕ) → length body ≡ place.now.size
+        → (0 < place.now.size → Holds (B.Disk.seen (disk_of bodies.old)) place.now.at body)
+        → read.items ≡ place.now.front ++ body) }
+    ensures whole { (n : ℕ) → ¬ IsErrOf result (LogFault.DamagedBody n) }
     ensures grows { Grows B.Disk bodies.old bodies.new }
+    ensures uses { Uses B.Disk bodies.old bodies.new result }
 {
-    let body = body_at(alloc, bodies, at, size)?;
-    let mut text = Vec::new(alloc);
-    text.extend_from_slice(front)?;
+    let body = body_at(alloc, bodies, place.at, place.size)?;
+    let mut text = Vec::with_capacity(alloc, place.front.len().saturating_add(body.len()))?;
+    text.extend_from_slice(place.front.as_slice())?;
     text.extend_from_slice(&body)?;
     Ok(text)
 }
 
-/// The operation that a text spells.
-pub(crate) fn decoded(alloc: Global, text: Vec<u8>) -> Result<Digested, LogFault>
+/// The operation that a text spells, whose data set lies at an offset.
+fn decoded(alloc: Global, text: Vec<u8>, at: usize) -> Result<Digested, LogFault>
     ensures found { IfOk result (λ op. text.items ≡ spelling op) }
     ensures lawful { IfOk result IsOp }
+    ensures damaged { (n : ℕ) → IsErrOf result (LogFault.DamagedBody n) → (op : Operation)
+        → IsOp op → text.items ≢ spelling op }
+    ensures open { ¬ IsErrOf result LogFault.Closed }
 {
-    let op = decode(alloc, Bytes::from_vec(text)?)?;
-    Ok(Digested::of(op))
+    match decode(alloc, Bytes::from_vec(text)?) {
+        Ok(op) => Ok(Digested::of(op)),
+        Err(OpFault::Memory) => Err(LogFault::Memory),
+        Err(_) => Err(LogFault::DamagedBody(at)),
+    }
 }
 
 /// Whether an operation has a digest.
-pub(crate) fn has_digest(op: &Digested, digest: &Digest) -> bool
+fn has_digest(op: &Digested, digest: &Digest) -> bool
     ensures { IsTrue result ↔ (digest_of op.now ≡ digest.now) }
 {
     op.digest().as_bytes().as_slice() == digest.as_bytes().as_slice()
+}
+
+/// The operation with a digest that lies at a place. Whatever the disk returns, no other is
+/// answered.
+pub(crate) fn load_at<B: Disk>(
+    alloc: Global,
+    bodies: &mut BodyLog<B>,
+    digest: &Digest,
+    place: &Place,
+) -> Result<Digested, LogFault>
+    ensures told { IfOk result (λ op. digest_of op ≡ digest.now) }
+    // The very operation, as long as the disk returns what was written.
+    ensures exact { IsTrue (B.Disk.is_clean (disk_of bodies.new)) → (op : Operation) → IsOp op
+        → head_by digest.now place.now ≡ head_of (op, place.now.at)
+        → HasBody (B.Disk.seen (disk_of bodies.old)) (op, place.now.at)
+        → IfOk result (λ loaded. loaded ≡ op) }
+    ensures damaged { IsTrue (B.Disk.is_clean (disk_of bodies.new)) → (op : Operation) → IsOp op
+        → head_by digest.now place.now ≡ head_of (op, place.now.at)
+        → HasBody (B.Disk.seen (disk_of bodies.old)) (op, place.now.at)
+        → (n : ℕ) → ¬ IsErrOf result (LogFault.DamagedBody n) }
+    ensures grows { Grows B.Disk bodies.old bodies.new }
+    ensures uses { Uses B.Disk bodies.old bodies.new result }
+{
+    let text = text_at(alloc, bodies, place)?;
+    let op = decoded(alloc, text, place.at)?;
+    if !has_digest(&op, digest) {
+        return Err(LogFault::DamagedBody(place.at));
+    }
+    Ok(op)
 }

@@ -1,31 +1,49 @@
 //! A log of operations.
 
-ghost use Rattle.std.specs.Prelude.{◌≡◌, ◌++◌, ◌∷◌, ◌≤◌, ◌<◌, [], List, ℕ, Ok, None, length, map, IfOk, IfSome, IsTrue, OnOk, OnErr};
-ghost use Rattle.head_log.specs.Groups.{Laid};
+ghost use Rattle.std.specs.Prelude.{◌≡◌, ◌&&◌, ◌≤◌, ◌<◌, ◌↔◌, List, ℕ, Ok, None, Some, All, false, length, IfOk, IfSome, IsTrue, IsErrOf, OnOk, OnErr};
 ghost use Rattle.operation.specs.declared.op.Op.{Op as Operation};
 ghost use Rattle.operation.specs.Reading.{IsOp};
 ghost use Rattle.operation.specs.Spelling.{digest_of};
-ghost use Rattle.op_log.specs.Heads.{Entry, body_of, front_of, group_text, IsFirst};
-ghost use Rattle.op_log.specs.Kept.{HasBody, LeavesAllOrNone, StandsFor, ops_of};
+ghost use Rattle.op_log.specs.Heads.{Entry, Head};
+ghost use Rattle.op_log.specs.Kept.{Has, HasBody, IsHeld, IsKept, IsLasting, StandsFor, first_under};
+ghost use Rattle.op_log.specs.Log.{GoesOn, IsSound, Looks};
+ghost use Rattle.op_log.specs.Puts.{LeavesAllOrNone, PutsAll};
 
 use crate::fault::LogFault;
-use crate::loading::{decoded, has_digest, text_at};
-use crate::staging::stage;
+use crate::kept::Kept;
+use crate::loading::load_at;
+use crate::places::Places;
+use crate::putting::put_group;
+use crate::walking::walk;
 use body_log::BodyLog;
 use head_log::HeadLog;
 use operation::{Digest, Digested};
 use sqlite_disk::Disk;
 use std::alloc::Global;
+use std::marker::Model;
 
 /// The most operations of a group.
 const MOST_OF_A_GROUP: usize = 1024;
 
-/// Operations in two files, each of which only grows. A refusal that may have been half of a put
-/// closes the log: it has to be opened anew.
+/// Operations in two files, each of which only grows, and their heads in memory. A refusal that may
+/// have been half of a put closes the log: it has to be opened anew.
 pub struct OpLog<H: Disk, B: Disk> {
     heads: HeadLog<H>,
     bodies: BodyLog<B>,
-    alloc: Global,
+    places: Places,
+}
+
+impl<H: Disk, B: Disk> Model for OpLog<H, B> {
+    ghost use Rattle.op_log.specs.Log.{Opened, opened, opened_code, IsSound};
+
+    ghost Value = { Opened H B };
+
+    ghost coded = { opened_code H.code B.code };
+
+    ghost view = { λ s. opened H.Disk B.Disk s.heads s.bodies s.places };
+
+    ghost invariant = { λ s.
+        IsSound H.Disk B.Disk (opened H.Disk B.Disk s.heads s.bodies s.places) };
 }
 
 // It is written out, so that a caller does not prove again how each part is dropped.
@@ -34,59 +52,82 @@ impl<H: Disk + Drop, B: Disk + Drop> Drop for OpLog<H, B> {
         let OpLog {
             heads: _,
             bodies: _,
-            alloc: _,
+            places: _,
         } = self;
     }
 }
 
 impl<H: Disk + Drop, B: Disk + Drop> OpLog<H, B> {
-    ghost use Rattle.op_log.specs.Log.{heads_in, bodies_in, is_open, IsKept};
-
-    /// The log of two files: what they stand for is kept. Files of no byte are begun.
+    /// The log of two files: the heads of one are walked, group by group, and no data set is read.
+    /// Files of no byte are begun.
     pub fn open(alloc: Global, heads: H, bodies: B) -> Result<OpLog<H, B>, LogFault>
         requires heads { IsTrue (H.Disk.is_usable heads) }
         requires bodies { IsTrue (B.Disk.is_usable bodies) }
-        ensures found { IfOk result (λ log. IsTrue (H.Disk.is_clean (heads_in log))
-            → IsTrue (B.Disk.is_clean (bodies_in log)) → (groups : List (List Entry))
-            → StandsFor (H.Disk.seen heads) (B.Disk.seen bodies) groups
-            → IsKept H.Disk B.Disk log groups) }
-        ensures up { IfOk result (λ log. IsTrue (is_open H.Disk log)) }
+        // All that the files stood for, in order, and it lasts.
+        ensures found { IfOk result (λ log. IsTrue (H.Disk.is_clean log.heads) → (them : List Head)
+            → StandsFor (H.Disk.seen heads) them → log.places ≡ them) }
+        ensures lasting { IfOk result (λ log. IsTrue (B.Disk.is_clean log.bodies) → (e : Entry)
+            → HasBody (B.Disk.seen bodies) e
+            → IsLasting B.Disk log.bodies log.bodies_end e) }
+        ensures sound { IfOk result (IsSound H.Disk B.Disk) }
+        ensures open { IfOk result (λ log. IsTrue log.is_open) }
     {
-        let heads = HeadLog::over(alloc, heads)?;
+        let mut heads = HeadLog::over(alloc, heads)?;
         let bodies = BodyLog::over(bodies)?;
+        let places = walk(alloc, &mut heads, bodies.end())?;
         Ok(OpLog {
             heads,
             bodies,
-            alloc,
+            places,
         })
+    }
+
+    /// The two files, of heads and of data sets.
+    pub fn into_files(self) -> (H, B)
+        ensures heads { result.0 ≡ self.heads }
+        ensures bodies { result.1 ≡ self.bodies }
+    {
+        let OpLog {
+            heads,
+            bodies,
+            places: _,
+        } = self;
+        (heads.into_disk(), bodies.into_disk())
     }
 }
 
 impl<H: Disk, B: Disk> OpLog<H, B> {
-    ghost use Rattle.op_log.specs.Log.{heads_in, bodies_in, heads_end, is_open, IsKept};
-
     /// Whether operations can be put: where not, the files have to be opened anew.
     pub fn is_open(&self) -> bool
-        ensures { result ≡ is_open H.Disk self.now }
+        ensures { result ≡ self.now.is_open }
     {
-        self.heads.is_up()
+        self.heads.is_up() && self.bodies.is_usable()
     }
 
-    /// Puts operations, all or none. After `Ok` every crash leaves all of them.
-    pub fn put_group(&mut self, ops: &[Digested]) -> Result<(), LogFault>
-        requires some { 0 < length ops.now }
-        // After Ok the groups are those from before and this one, whatever a crash leaves.
-        ensures durable { OnOk result ((groups : List (List Entry))
-            → IsKept H.Disk B.Disk self.old groups → (entries : List Entry)
-            × (ops_of entries ≡ ops.now)
-            × IsKept H.Disk B.Disk self.new (groups ++ entries ∷ [])) }
-        // Whatever is answered, a crash leaves those from before, with all of this one or none.
-        ensures crash { (groups : List (List Entry)) → IsKept H.Disk B.Disk self.old groups
-            → LeavesAllOrNone H.Disk B.Disk (heads_in self.new) (bodies_in self.new) groups ops.now }
-        // A refusal changes nothing, or closes the log.
-        ensures refused { OnErr result (IsTrue (is_open H.Disk self.new)
-            → (groups : List (List Entry)) → IsKept H.Disk B.Disk self.old groups
-            → IsKept H.Disk B.Disk self.new groups) }
+    /// How many operations there are.
+    pub fn len(&self) -> usize
+        ensures { result ≡ length self.now.places }
+    {
+        self.places.len()
+    }
+
+    /// Puts operations one after another, all or none, and tells of each whether it was there. What
+    /// is there is not written again.
+    pub fn put_many(&mut self, ops: &[Digested]) -> Result<Vec<Kept>, LogFault>
+        // Each is put in its turn, and after Ok lasts; a refusal forgets all.
+        ensures put { IfOk result (λ kepts. PutsAll B.Disk self.new.bodies self.new.bodies_end
+            self.old.places ops.now kepts.items self.new.places) }
+        ensures lasting { OnOk result ((e : Entry)
+            → IsHeld B.Disk self.new.bodies self.new.bodies_end e
+            → IsLasting B.Disk self.new.bodies self.new.bodies_end e) }
+        ensures refused { OnErr result (self.new.places ≡ self.old.places) }
+        // A crash leaves the heads from before, or all that was put; and what lasted still does.
+        ensures crash { IsKept H.Disk self.old.heads self.old.heads_end self.old.places
+            → LeavesAllOrNone H.Disk B.Disk self.new.heads self.new.bodies self.new.bodies_end
+            self.old.places ops.now }
+        ensures goes_on { GoesOn H.Disk B.Disk self.old self.new }
+        // Closed, exactly where it is.
+        ensures closed { IsErrOf result LogFault.Closed ↔ (self.old.is_open ≡ false) }
     {
         if !self.is_open() {
             return Err(LogFault::Closed);
@@ -94,49 +135,36 @@ impl<H: Disk, B: Disk> OpLog<H, B> {
         if ops.len() > MOST_OF_A_GROUP {
             return Err(LogFault::TooLong);
         }
-        let group = stage(self.alloc, &mut self.bodies, ops)?;
-        self.heads.add(&group)?;
-        Ok(())
-    }
-    /// The heads of the group at an offset, and where the next group stands; `None` at the end of
-    /// the groups. They begin at offset 0, and no data set is read.
-    pub fn heads(&mut self, at: usize) -> Result<Option<(Vec<u8>, usize)>, LogFault>
-        // The first of the groups that are left, as long as the disk returns what was written.
-        ensures first { IfOk result (λ found. IfSome found (λ it.
-            IsTrue (H.Disk.is_clean (heads_in self.new)) → (end : ℕ) → at < end
-            → (groups : List (List Entry))
-            → Laid (H.Disk.seen (heads_in self.old)) at (map group_text groups) end
-            → IsFirst (H.Disk.seen (heads_in self.old)) end groups it.0.items it.1)) }
-        ensures none { result ≡ Ok None → heads_end self.old ≤ at }
-        ensures kept { (groups : List (List Entry)) → IsKept H.Disk B.Disk self.old groups
-            → IsKept H.Disk B.Disk self.new groups }
-    {
-        Ok(self.heads.group(at)?)
+        let before = self.places.len();
+        match put_group(&mut self.heads, &mut self.bodies, &mut self.places, ops) {
+            Ok(kepts) => Ok(kepts),
+            Err(fault) => {
+                self.places.truncate(before);
+                Err(fault)
+            }
+        }
     }
 
-    /// The operation with this digest, of which the front of the spelling is given, and where the
-    /// data set lies. Whatever the disk returns, no other is answered.
-    pub fn load(
-        &mut self,
-        digest: &Digest,
-        front: &[u8],
-        at: usize,
-        size: usize,
-    ) -> Result<Digested, LogFault>
-        ensures told { IfOk result (λ op. digest_of op ≡ digest.now) }
+    /// The operation with a digest. Whatever the disk returns, no other is answered.
+    pub fn load(&mut self, digest: &Digest) -> Result<Option<Digested>, LogFault>
+        ensures none { result ≡ Ok None ↔ (first_under digest.now self.old.places ≡ None) }
+        ensures told { IfOk result (λ found. IfSome found (λ op. digest_of op ≡ digest.now)) }
         // The very operation that was put, as long as the disk returns what was written.
-        ensures exact { IsTrue (B.Disk.is_clean (bodies_in self.new)) → (op : Operation) → IsOp op
-            → front.now ≡ front_of op → size ≡ length (body_of op)
-            → HasBody (B.Disk.seen (bodies_in self.old)) (op, at)
-            → IfOk result (λ loaded. loaded ≡ op) }
-        ensures kept { (groups : List (List Entry)) → IsKept H.Disk B.Disk self.old groups
-            → IsKept H.Disk B.Disk self.new groups }
+        ensures exact { IsTrue (B.Disk.is_clean self.new.bodies) → (op : Operation) → IsOp op
+            → digest_of op ≡ digest.now
+            → Has B.Disk self.old.bodies self.old.bodies_end self.old.places op
+            → IfOk result (λ found. found ≡ Some op) }
+        ensures damaged { IsTrue (B.Disk.is_clean self.new.bodies) → (op : Operation) → IsOp op
+            → digest_of op ≡ digest.now
+            → Has B.Disk self.old.bodies self.old.bodies_end self.old.places op
+            → (n : ℕ) → ¬ IsErrOf result (LogFault.DamagedBody n) }
+        ensures looks { Looks self.old self.new }
+        ensures goes_on { GoesOn H.Disk B.Disk self.old self.new }
     {
-        let text = text_at(self.alloc, &mut self.bodies, front, at, size)?;
-        let op = decoded(self.alloc, text)?;
-        if !has_digest(&op, digest) {
-            return Err(LogFault::Damaged);
-        }
-        Ok(op)
+        let Some(place) = self.places.find(digest) else {
+            return Ok(None);
+        };
+        let op = load_at(self.places.alloc(), &mut self.bodies, digest, place)?;
+        Ok(Some(op))
     }
 }

@@ -1,25 +1,34 @@
 //! Writes the data sets of operations, and gathers their heads.
 
-ghost use Rattle.std.specs.Prelude.{◌≡◌, ◌++◌, ◌<◌, ◌≤◌, ◌+◌, OnOk, IfOk, length};
+ghost use Rattle.std.specs.Prelude.{◌≡◌, ◌++◌, ◌∷◌, [], ◌<◌, ◌≤◌, ◌+◌, None, OnOk, IfOk, OnErr, IsErrOf, All, List, false, length, IsTrue};
 ghost use Rattle.sqlite_disk.specs.Disk.{Holds};
 ghost use Rattle.body_log.specs.Log.{disk_of, end_of};
-ghost use Rattle.op_log.specs.Heads.{head_text};
-ghost use Rattle.op_log.specs.Staged.{AreSettled, AreStaged, Grows, IsHeld};
+ghost use Rattle.op_log.specs.Heads.{Head, IsSpelled, group_text, head_text};
+ghost use Rattle.op_log.specs.Kept.{IsBelow, first_under};
+ghost use Rattle.op_log.specs.Puts.{Puts};
+ghost use Rattle.op_log.specs.Spelled.{head_spelled};
+ghost use Rattle.op_log.specs.Staged.{AreSettled, AreStaged, Grows, HasHeads, IsStaged, KeepsPlaces, Uses};
 
 use crate::fault::LogFault;
-use crate::head::{put_head, size_of};
+use crate::group::Group;
+use crate::head::{Spelled, put_head, size_of};
+use crate::kept::Kept;
+use crate::loading::lies_at;
+use crate::place::Place;
+use crate::places::Places;
 use body_log::BodyLog;
+use octets::Octets;
 use operation::{Digested, encode};
 use sqlite_disk::Disk;
-use std::alloc::Global;
 
 /// Adds a data set, if there is one, and answers where it lies.
 fn add_body<B: Disk>(bodies: &mut BodyLog<B>, body: &[u8]) -> Result<usize, LogFault>
     ensures place { IfOk result (λ at. at ≡ end_of bodies.old) }
+    ensures end { IfOk result (λ at. at + length body.now ≤ end_of bodies.new) }
     ensures held { IfOk result (λ at. 0 < length body.now
-        → Holds (B.Disk.seen (disk_of bodies.new)) at body.now
-        × (at + length body.now ≤ end_of bodies.new)) }
+        → Holds (B.Disk.seen (disk_of bodies.new)) at body.now) }
     ensures grows { Grows B.Disk bodies.old bodies.new }
+    ensures uses { Uses B.Disk bodies.old bodies.new result }
 {
     if body.is_empty() {
         return Ok(bodies.end());
@@ -27,59 +36,143 @@ fn add_body<B: Disk>(bodies: &mut BodyLog<B>, body: &[u8]) -> Result<usize, LogF
     Ok(bodies.add(body)?)
 }
 
-/// Adds the data set of an operation, and writes its head behind others.
-#[tactic(auto, unfolding(crate::specs::Heads::head_text, crate::specs::Heads::front_of, crate::specs::Heads::body_of))]
-fn stage_one<B: Disk>(
-    alloc: Global,
+/// Adds the data set of an operation whose digest has no head, and its head behind others.
+fn add_new<B: Disk>(
     bodies: &mut BodyLog<B>,
-    group: &mut Vec<u8>,
-    op: &Digested,
+    places: &mut Places,
+    group: &mut Group,
+    spelled: &Spelled<'_>,
 ) -> Result<(), LogFault>
-    ensures head { OnOk result (group.new.items
-        ≡ group.old.items ++ head_text (op.now, end_of bodies.old)) }
-    ensures held { OnOk result (IsHeld B.Disk bodies.new (op.now, end_of bodies.old)) }
+    requires other { first_under spelled.now.digest.now places.old ≡ None }
+    requires digest { length spelled.now.digest.now ≡ 32 }
+    ensures added { OnOk result (places.new
+        ≡ places.old ++ head_spelled spelled.now (end_of bodies.old) ∷ []) }
+    ensures text { OnOk result (group.new.text.items
+        ≡ group.old.text.items ++ head_text (head_spelled spelled.now (end_of bodies.old))) }
+    ensures held { OnOk result (0 < length spelled.now.body.now
+        → Holds (B.Disk.seen (disk_of bodies.new)) (end_of bodies.old) spelled.now.body.now) }
+    ensures end { OnOk result (end_of bodies.old + length spelled.now.body.now
+        ≤ end_of bodies.new) }
+    ensures lawful { OnOk result (IsSpelled (head_spelled spelled.now (end_of bodies.old))) }
+    ensures refused { OnErr result (places.new ≡ places.old) }
+    ensures kepts { group.new.kepts.items ≡ group.old.kepts.items }
     ensures grows { Grows B.Disk bodies.old bodies.new }
+    ensures uses { Uses B.Disk bodies.old bodies.new result }
 {
-    let text = encode(alloc, op.op())?;
+    let at = add_body(bodies, spelled.body)?;
+    put_head(&mut group.text, spelled, at)?;
+    let place = Place {
+        front: Octets::from_slice(group.alloc, spelled.front)?,
+        at,
+        size: spelled.body.len(),
+    };
+    places.add(spelled.digest, place)?;
+    Ok(())
+}
+
+/// Finds the operation of these parts, or adds it.
+fn stage_parts<B: Disk>(
+    bodies: &mut BodyLog<B>,
+    places: &mut Places,
+    group: &mut Group,
+    spelled: &Spelled<'_>,
+) -> Result<Kept, LogFault>
+    requires below { All (IsBelow (end_of bodies.old)) places.old }
+    requires digest { length spelled.now.digest.now ≡ 32 }
+    ensures staged { IfOk result (λ kept. IsStaged B.Disk bodies.new spelled.now kept
+        places.old places.new) }
+    ensures text { OnOk result (HasHeads places.old places.new group.old.text.items
+        group.new.text.items) }
+    ensures places { KeepsPlaces B.Disk bodies.old bodies.new places.old places.new }
+    ensures kepts { group.new.kepts.items ≡ group.old.kepts.items }
+    ensures grows { Grows B.Disk bodies.old bodies.new }
+    ensures uses { Uses B.Disk bodies.old bodies.new result }
+{
+    let Some(place) = places.find(spelled.digest) else {
+        add_new(bodies, places, group, spelled)?;
+        return Ok(Kept::New);
+    };
+    if !lies_at(group.alloc, bodies, place, spelled)? {
+        return Err(LogFault::Collision);
+    }
+    Ok(Kept::Known)
+}
+
+/// Finds an operation, or adds it.
+#[tactic(auto, unfolding(crate::specs::Heads::front_of, crate::specs::Heads::body_of))]
+fn stage_one<B: Disk>(
+    bodies: &mut BodyLog<B>,
+    places: &mut Places,
+    group: &mut Group,
+    op: &Digested,
+) -> Result<Kept, LogFault>
+    requires below { All (IsBelow (end_of bodies.old)) places.old }
+    ensures put { IfOk result (λ kept. Puts B.Disk (disk_of bodies.new) (end_of bodies.new)
+        places.old op.now kept places.new) }
+    ensures text { OnOk result (HasHeads places.old places.new group.old.text.items
+        group.new.text.items) }
+    ensures places { KeepsPlaces B.Disk bodies.old bodies.new places.old places.new }
+    ensures kepts { group.new.kepts.items ≡ group.old.kepts.items }
+    ensures grows { Grows B.Disk bodies.old bodies.new }
+    ensures uses { Uses B.Disk bodies.old bodies.new result }
+{
+    let text = encode(group.alloc, op.op())?;
     let cut = text.len().saturating_sub(size_of(op.op()));
     let (front, body) = text.split_at(cut);
-    let at = add_body(bodies, body)?;
-    put_head(group, op.digest(), front, at, body.len())?;
-    Ok(())
+    let spelled = Spelled {
+        digest: op.digest(),
+        front,
+        body,
+    };
+    stage_parts(bodies, places, group, &spelled)
 }
 
 /// The same of each operation.
 fn stage_each<B: Disk>(
-    alloc: Global,
     bodies: &mut BodyLog<B>,
-    group: &mut Vec<u8>,
+    places: &mut Places,
+    group: &mut Group,
     ops: &[Digested],
 ) -> Result<(), LogFault>
-    ensures staged { OnOk result
-        (AreStaged B.Disk bodies.new ops.now group.old.items group.new.items) }
+    requires below { All (IsBelow (end_of bodies.old)) places.old }
+    ensures staged { OnOk result (AreStaged B.Disk bodies.new places.old places.new
+        group.old group.new ops.now) }
+    ensures places { KeepsPlaces B.Disk bodies.old bodies.new places.old places.new }
     ensures grows { Grows B.Disk bodies.old bodies.new }
+    ensures uses { Uses B.Disk bodies.old bodies.new result }
 {
     match ops {
         [] => Ok(()),
         [op, rest @ ..] => {
-            stage_one(alloc, bodies, group, op)?;
-            stage_each(alloc, bodies, group, rest)
+            let kept = stage_one(bodies, places, group, op)?;
+            group.kepts.push(kept)?;
+            stage_each(bodies, places, group, rest)
         }
     }
 }
 
-/// Writes and syncs the data sets of operations, and answers their heads.
+/// Writes and syncs the data sets of what is new among some operations, and answers their heads.
 pub(crate) fn stage<B: Disk>(
-    alloc: Global,
     bodies: &mut BodyLog<B>,
+    places: &mut Places,
     ops: &[Digested],
-) -> Result<Vec<u8>, LogFault>
-    ensures settled { IfOk result (λ group. AreSettled B.Disk bodies.new ops.now group.items) }
-    ensures some { IfOk result (λ group. 0 < length ops.now → 0 < length group.items) }
+) -> Result<Group, LogFault>
+    requires below { All (IsBelow (end_of bodies.old)) places.old }
+    ensures settled { IfOk result (λ group. AreSettled B.Disk bodies.new places.old places.new
+        group ops.now) }
+    ensures places { KeepsPlaces B.Disk bodies.old bodies.new places.old places.new }
     ensures grows { Grows B.Disk bodies.old bodies.new }
+    ensures closed { IsErrOf result LogFault.Closed
+        → B.Disk.is_usable (disk_of bodies.old) ≡ false }
+    ensures usable { OnOk result (IsTrue (B.Disk.is_usable (disk_of bodies.new))) }
 {
-    let mut group = Vec::new(alloc);
-    stage_each(alloc, bodies, &mut group, ops)?;
+    let alloc = places.alloc();
+    let mut group = Group {
+        text: Vec::new(alloc),
+        kepts: Vec::new(alloc),
+        alloc,
+    };
+    stage_each(bodies, places, &mut group, ops)?;
     bodies.settle()?;
     Ok(group)
 }

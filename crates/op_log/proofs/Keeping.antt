@@ -1,0 +1,91 @@
+-- What a file of heads keeps through a group that is added.
+use Rattle.std.proofs.Common.{◌≡◌, inl, inr, ℕ, List, [], ◌∷◌, ◌++◌, length, map, All, refl, sym, ◌∙◌, ap, subst, arith}
+use Rattle.std.proofs.lemmas.List.{append-nil, map-append}
+use Rattle.std.proofs.Common.{Result, Ok, Err, OnErr, OnOk}
+use Rattle.sqlite_disk.specs.declared.Disk.{Ghosts}
+use Rattle.head_log.specs.Groups.{IsReady}
+use Rattle.head_log.specs.Groups.{LeavesEither as LeavesGroups, StandsFor as HasGroups}
+use Rattle.op_log.specs.Heads.{Head, IsSpelled, group_text}
+use Rattle.op_log.specs.Kept.{IsKept, StandsFor}
+use Rattle.op_log.specs.Puts.{LeavesEither}
+use Rattle.op_log.specs.Staged.{HasHeads}
+use Rattle.op_log.proofs.Fitting.{some_head}
+use Rattle.op_log.proofs.Walks.{joined_more}
+
+-- a text of no byte is that of no head
+pub no_heads : (heads : List Head) → group_text heads ≡ [] → heads ≡ []
+no_heads [] is = refl
+no_heads (h ∷ heads) is =
+    let some = some_head h (group_text heads) in
+    let none = ap length is in
+    absurd (omega (arith, some, none))
+
+pub same_heads : (old new : List Head) (text : List ℕ) → HasHeads old new [] text → length text ≡ 0 → new ≡ old
+same_heads old new text it none =
+    let empty = no_heads it.heads (no_bytes (group_text it.heads) (ap length (sym it.text_is) ∙ none)) in
+    it.new_is ∙ ap (λ (hs : List Head). old ++ hs) empty ∙ append-nil old
+  where
+    no_bytes : (xs : List ℕ) → length xs ≡ 0 → xs ≡ []
+    no_bytes [] is = refl
+    no_bytes (x ∷ xs) is = absurd (omega (arith, is))
+
+-- the groups with one more, as texts
+pub texts_more : (groups : List (List Head)) (heads : List Head) (text : List ℕ) → text ≡ group_text heads
+    → map group_text groups ++ text ∷ [] ≡ map group_text (groups ++ heads ∷ [])
+texts_more groups heads text is =
+    ap (λ (t : List ℕ). map group_text groups ++ t ∷ []) is ∙ sym (map-append group_text groups (heads ∷ []))
+
+module _ {H : Type 0} (g : Ghosts H) where
+  -- a file that is kept stays so where nothing more is in memory
+  pub kept_same : (disk : H) (end : ℕ) (old new : List Head) → new ≡ old → IsKept g disk end old → IsKept g disk end new
+  kept_same disk end old new same kept = subst (λ (hs : List Head). IsKept g disk end hs) (sym same) kept
+
+  -- and once a group is there, it is kept
+  pub kept_more : (disk disk' : H) (end end' : ℕ) (old new : List Head) (text : List ℕ) → HasHeads old new [] text → All IsSpelled new
+      → ((groups : List (List ℕ)) → IsReady g disk end groups → IsReady g disk' end' (groups ++ text ∷ []))
+      → IsKept g disk end old → IsKept g disk' end' new
+  kept_more disk disk' end end' old new text it spelled ready kept =
+      record {
+        groups = kept.groups ++ it.heads ∷ [];
+        are = joined_more kept.groups it.heads ∙ ap (λ (hs : List Head). hs ++ it.heads) kept.are ∙ sym it.new_is;
+        ready = subst (λ (gs : List (List ℕ)). IsReady g disk' end' gs) (texts_more kept.groups it.heads text it.text_is)
+            (ready (map group_text kept.groups) kept.ready);
+        spelled = spelled;
+      }
+
+  -- a refusal that leaves the file open leaves it so
+  pub kept_on : (disk disk' : H) (end end' : ℕ) (heads : List Head)
+      → ((groups : List (List ℕ)) → IsReady g disk end groups → IsReady g disk' end' groups) → IsKept g disk end heads → IsKept g disk' end' heads
+  kept_on disk disk' end end' heads ready kept =
+      record { groups = kept.groups; are = kept.are; ready = ready (map group_text kept.groups) kept.ready; spelled = kept.spelled }
+
+  -- a crash leaves what is kept
+  pub stands : (disk : H) (end : ℕ) (heads : List Head) (c : List ℕ) → IsKept g disk end heads → g.may_leave disk c → StandsFor c heads
+  stands disk end heads c kept may =
+      record { groups = kept.groups; are = kept.are; laid = inl (end, kept.ready c may); spelled = kept.spelled }
+
+  -- or it with a group
+  pub leaves_either : (disk disk' : H) (end : ℕ) (old new : List Head) (text : List ℕ) → HasHeads old new [] text → All IsSpelled new
+      → ((groups : List (List ℕ)) → IsReady g disk end groups → LeavesGroups g disk' groups text)
+      → IsKept g disk end old → LeavesEither g disk' old new
+  leaves_either disk disk' end old new text it spelled leaves kept c may =
+      elim (leaves (map group_text kept.groups) kept.ready c may) [
+        | inl without ↦ inl (record { groups = kept.groups; are = kept.are; laid = without; spelled = kept.spelled })
+        | inr with ↦ inr (
+            record {
+              groups = kept.groups ++ it.heads ∷ [];
+              are = joined_more kept.groups it.heads ∙ ap (λ (hs : List Head). hs ++ it.heads) kept.are ∙ sym it.new_is;
+              laid = subst (λ (gs : List (List ℕ)). HasGroups c gs) (texts_more kept.groups it.heads text it.text_is) with;
+              spelled = spelled;
+            }
+            )
+      ]
+
+-- what holds anyway holds on a refusal
+pub on_err : {T E P : Type 0} (r : Result T E) → P → OnErr r P
+on_err (Ok x) p = tt
+on_err (Err e) p = p
+
+pub on_ok : {T E P : Type 0} (r : Result T E) → P → OnOk r P
+on_ok (Ok x) p = p
+on_ok (Err e) p = tt

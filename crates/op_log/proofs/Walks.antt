@@ -1,0 +1,137 @@
+-- The walk from group to group.
+use Rattle.std.proofs.Common.{◌≡◌, ◌+◌, ◌<◌, ◌≤◌, ℕ, List, [], ◌∷◌, ◌++◌, length, map, All, refl, sym, ◌∙◌, ap, subst, arith}
+use Rattle.std.proofs.lemmas.List.{append_assoc, append-nil, map-append}
+use Rattle.std.proofs.lemmas.List.Concat.{flat_map-append}
+use Rattle.std.proofs.Common.{Result, Ok, Err, IsErrOf}
+use Rattle.std.specs.Result.{IsErrAnd}
+use Rattle.sqlite_disk.specs.declared.Disk.{Ghosts}
+use Rattle.head_log.specs.declared.fault.HeadFault.{HeadFault}
+use Rattle.head_log.specs.declared.fault.HeadFault.TheVariants as of_heads
+use Rattle.head_log.specs.declared.log.HeadLog.{HeadLog}
+use Rattle.head_log.specs.Log.{Looks}
+use Rattle.head_log.specs.Groups.{IsGroupAt, Laid}
+use Rattle.op_log.specs.declared.fault.LogFault.{LogFault}
+use Rattle.op_log.specs.declared.fault.LogFault.TheVariants.{Disk, Closed, TooLong, DamagedHeads, Memory}
+use Rattle.op_log.specs.Fault.{fault_of_heads}
+use Rattle.head_log.proofs.Laying.{laid_more, laid_up}
+use Rattle.head_log.proofs.Walking.{one_group as one_text}
+use Rattle.op_log.specs.Filling.{AreFit, AreTaken}
+use Rattle.op_log.specs.Heads.{Head, IsSpelled, group_text}
+use Rattle.op_log.specs.Kept.{joined}
+use Rattle.op_log.specs.Walking.{AreLaid}
+use Rattle.op_log.proofs.Fitting.{all_front, all_behind, fit_all, fit_behind, fit_front, fit_joined, one_group}
+
+-- one group more
+pub joined_more : (groups : List (List Head)) (heads : List Head) → joined (groups ++ heads ∷ []) ≡ joined groups ++ heads
+joined_more groups heads =
+    flat_map-append (λ (g : List Head). g) groups (heads ∷ []) ∙ ap (λ (hs : List Head). joined groups ++ hs) (append-nil heads)
+
+pub walked_more : (file : List ℕ) (at end next : ℕ) (old new : List Head) (text : List ℕ) → AreLaid file at end old
+    → IsGroupAt file at text → next ≡ at + 41 + length text → AreTaken end old new text [] → AreLaid file next end new
+walked_more file at end next old new text done it is taken =
+    let text_is = taken.text_is ∙ append-nil (group_text taken.heads) in
+    let here = subst (λ (t : List ℕ). IsGroupAt file at t) text_is it in
+    let place : at + 41 + length (group_text taken.heads) ≡ next = ap (λ (t : List ℕ). at + 41 + length t) (sym text_is) ∙ sym is in
+    record {
+      groups = done.groups ++ taken.heads ∷ [];
+      are = joined_more done.groups taken.heads ∙ ap (λ (hs : List Head). hs ++ taken.heads) done.are ∙ sym taken.new_is;
+      laid = subst (λ (n : ℕ). Laid file 0 (map group_text (done.groups ++ taken.heads ∷ [])) n) place
+          (subst (λ (ts : List (List ℕ)). Laid file 0 ts (at + 41 + length (group_text taken.heads))) (sym (map-append group_text done.groups (taken.heads ∷ [])))
+          (laid_more file 0 (map group_text done.groups) at (group_text taken.heads) done.laid here));
+      fit = subst (λ (hs : List Head). AreFit end [] hs) (sym taken.new_is) (fit_joined end [] old taken.heads done.fit taken.fit);
+    }
+
+-- heads that fit are spelled
+pub spelled_of : (end : ℕ) (old xs : List Head) → AreFit end old xs → All IsSpelled xs
+spelled_of end old xs fit = fit_all IsSpelled end old xs (λ h heads it. it.spelled) fit
+
+-- Behind groups that were walked stands the next of all that lie there.
+pub record Next (file : List ℕ) (at end last : ℕ) (old : List Head) : Type 0 where
+  pub heads : List Head
+  pub here : IsGroupAt file at (group_text heads)
+  pub within : at + 41 + length (group_text heads) ≤ last
+  pub fit : AreFit end old heads
+
+pub next_of : (file : List ℕ) (from at end last : ℕ) (old : List Head) (groups others : List (List Head))
+    → Laid file from (map group_text groups) at → AreFit end old (joined groups) → Laid file from (map group_text others) last
+    → AreFit end old (joined others) → at < last → Next file at end last (old ++ joined groups)
+next_of file from at end last old [] [] laid fit laid' fit' low = absurd (omega (arith, laid, laid', low))
+next_of file from at end last old [] (k ∷ others) laid fit (here, rest) fit' low =
+    record {
+      heads = k;
+      here = subst (λ (n : ℕ). IsGroupAt file n (group_text k)) laid here;
+      within = omega (arith, laid, laid_up file (from + 41 + length (group_text k)) (map group_text others) last rest);
+      fit = subst (λ (hs : List Head). AreFit end hs k) (sym (append-nil old)) (fit_front end old k (joined others) fit');
+    }
+next_of file from at end last old (g ∷ groups) [] (here, rest) fit laid' fit' low =
+    let up = laid_up file (from + 41 + length (group_text g)) (map group_text groups) at rest in
+    absurd (omega (arith, up, laid', low))
+next_of file from at end last old (g ∷ groups) (k ∷ others) (here, rest) fit (here', rest') fit' low =
+    let same_text = one_text file from (group_text g) (group_text k) here here' in
+    let same = one_group g k (spelled_of end old g (fit_front end old g (joined groups) fit)) (spelled_of end old k (fit_front end old k (joined others) fit')) same_text in
+    let next = next_of file (from + 41 + length (group_text g)) at end last (old ++ g) groups others rest (fit_behind end old g (joined groups) fit)
+    (subst (λ (n : ℕ). Laid file n (map group_text others) last) (ap (λ (t : List ℕ). from + 41 + length t) (sym same_text)) rest')
+    (subst (λ (hs : List Head). AreFit end (old ++ hs) (joined others)) (sym same) (fit_behind end old k (joined others) fit')) low in
+    subst (λ (hs : List Head). Next file at end last hs) (append_assoc old g (joined groups)) next
+
+-- groups that lie between two offsets are these
+pub laid_once : (file : List ℕ) (from end : ℕ) (xs ys : List (List ℕ)) → Laid file from xs end → Laid file from ys end → xs ≡ ys
+laid_once file from end [] [] laid laid' = refl
+laid_once file from end [] (y ∷ ys) laid (here, rest) =
+    absurd (omega (arith, laid, laid_up file (from + 41 + length y) ys end rest))
+laid_once file from end (x ∷ xs) [] (here, rest) laid' =
+    absurd (omega (arith, laid', laid_up file (from + 41 + length x) xs end rest))
+laid_once file from end (x ∷ xs) (y ∷ ys) (here, rest) (here', rest') =
+    let same = one_text file from x y here here' in
+    let others = laid_once file (from + 41 + length x) end xs ys rest
+    (subst (λ (n : ℕ). Laid file n ys end) (ap (λ (t : List ℕ). from + 41 + length t) (sym same)) rest') in
+    ap (λ (t : List ℕ). t ∷ xs) same ∙ ap (λ (ts : List (List ℕ)). y ∷ ts) others
+
+-- and so are their heads
+pub heads_once : (xs ys : List (List Head)) → All IsSpelled (joined xs) → All IsSpelled (joined ys)
+    → map group_text xs ≡ map group_text ys → joined xs ≡ joined ys
+heads_once [] [] all all' is = refl
+heads_once [] (y ∷ ys) all all' is = absurd cc
+heads_once (x ∷ xs) [] all all' is = absurd cc
+heads_once (x ∷ xs) (y ∷ ys) all all' is =
+    let first : group_text x ≡ group_text y = cc in
+    let rest : map group_text xs ≡ map group_text ys = cc in
+    let same = one_group x y (all_front IsSpelled x (joined xs) all) (all_front IsSpelled y (joined ys) all') first in
+    let others = heads_once xs ys (all_behind IsSpelled x (joined xs) all) (all_behind IsSpelled y (joined ys) all') rest in
+    ap (λ (hs : List Head). hs ++ joined xs) same ∙ ap (λ (hs : List Head). y ++ hs) others
+
+-- two looks are one
+pub looks_twice : {H : Type 0} (g : Ghosts H) (a b c : HeadLog H) → Looks g a b → Looks g b c → Looks g a c
+looks_twice g a b c first second =
+    record {
+      disk = record {
+        seen = second.disk.seen ∙ first.disk.seen;
+        clean = λ h. first.disk.clean (second.disk.clean h);
+        usable = second.disk.usable ∙ first.disk.usable;
+        crash = λ left may. first.disk.crash left (second.disk.crash left may);
+      };
+      same = second.same ∙ first.same;
+      stays = second.stays ∙ first.stays;
+    }
+
+-- behind what was walked stands the next of all heads that lie there
+pub next_in : (file : List ℕ) (at end last : ℕ) (heads them : List Head) → AreLaid file at end heads → AreLaid file last end them
+    → at < last → Next file at end last heads
+next_in file at end last heads them done all low =
+    subst (λ (hs : List Head). Next file at end last hs) done.are
+    (next_of file 0 at end last [] done.groups all.groups done.laid (subst (λ (hs : List Head). AreFit end [] hs) (sym done.are) done.fit) all.laid
+    (subst (λ (hs : List Head). AreFit end [] hs) (sym all.are) all.fit) low)
+
+-- what is told of a damaged group
+pub told_of : {T : Type 0} (r : Result T LogFault) (f : HeadFault) (n : ℕ) → IsErrAnd r (λ told. told ≡ fault_of_heads f)
+    → IsErrOf r (DamagedHeads n) → f ≡ of_heads.Damaged n
+told_of (Ok x) f n is told = absurd is
+told_of (Err e) of_heads.Disk n is told = let same : e ≡ DamagedHeads n = cc in let no : DamagedHeads n ≡ Disk = sym same ∙ is in absurd cc
+told_of (Err e) of_heads.Closed n is told = let same : e ≡ DamagedHeads n = cc in let no : DamagedHeads n ≡ Closed = sym same ∙ is in absurd cc
+told_of (Err e) of_heads.TooLong n is told = let same : e ≡ DamagedHeads n = cc in let no : DamagedHeads n ≡ TooLong = sym same ∙ is in absurd cc
+told_of (Err e) (of_heads.Damaged at) n is told =
+    let same : e ≡ DamagedHeads n = cc in
+    let places : DamagedHeads n ≡ DamagedHeads at = sym same ∙ is in
+    let place : n ≡ at = cc in
+    ap of_heads.Damaged (sym place)
+told_of (Err e) of_heads.Memory n is told = let same : e ≡ DamagedHeads n = cc in let no : DamagedHeads n ≡ Memory = sym same ∙ is in absurd cc

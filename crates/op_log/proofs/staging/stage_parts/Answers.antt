@@ -1,0 +1,23 @@
+use Rattle.std.proofs.Common.{rules, ◌≡◌, Ok, Some, true, refl, ◌∙◌, arith}
+use Rattle.body_log.specs.Log.{end_of}
+use Rattle.op_log.specs.Kept.{IsBelow}
+use Rattle.op_log.specs.Places.{head_by}
+use Rattle.op_log.proofs.Lookups.{among}
+use Rattle.op_log.proofs.staging.stage_parts.Goals as goal
+
+-- The operation lies where the first head with its digest says.
+pub returns-clause-staged : goal.returns-clause-staged
+returns-clause-staged g c = (
+  λ clean.
+      let s = c.args.spelled.now in
+      let place = c.in-Some.place.now in
+      let yes : c.lies_at.result ≡ Ok true = search rules in
+      let parts = c.lies_at.ensures.same yes clean in
+      let found = c.in-Some.ensures.found in
+      let low = among (IsBelow (end_of c.args.bodies.now)) c.args.places.now s.digest.now (head_by s.digest.now place) found c.requires.below in (
+        place.at,
+        found ∙ λ i. Some (record { digest = s.digest.now; front = parts.front i; at = place.at; size = parts.size i }),
+        λ some. (parts.held (omega (arith, some, parts.size)), omega (arith, low, parts.size, c.lies_at.ensures.grows.longer)),
+      ),
+  refl,
+)

@@ -1,0 +1,57 @@
+-- What puts make of the heads.
+use Rattle.std.specs.Prelude.{◌≡◌, ◌+◌, ◌<◌, ◌≤◌, ℕ, List, [], ◌∷◌, ◌++◌, ◌⊎◌, length, Some, None, IsTrue}
+use Rattle.sqlite_disk.specs.Disk.{Holds}
+use Rattle.sqlite_disk.specs.declared.Disk.{Ghosts}
+use Rattle.operation.specs.declared.op.Op.{Op}
+use Rattle.operation.specs.Spelling.{digest_of}
+use Rattle.op_log.specs.declared.kept.Kept.{Kept}
+use Rattle.op_log.specs.declared.kept.Kept.TheVariants.{New, Known}
+use Rattle.op_log.specs.Heads.{Entry, Head, body_of, front_of, IsSpelled}
+use Rattle.op_log.specs.Kept.{HasBody, IsHeld, StandsFor, first_under}
+
+-- the head of a digest, a front and a data set that lies at an offset
+abbrev pub head_from : List ℕ → List ℕ → List ℕ → ℕ → Head
+head_from digest front body at = record { digest = digest; front = front; at = at; size = length body }
+
+module _ {B : Type 0} (g : Ghosts B) (disk : B) (end : ℕ) where
+  -- a data set lies at an offset of the file, below another
+  abbrev pub LiesAt : ℕ → List ℕ → Type 0
+  LiesAt at body = 0 < length body → Holds (g.seen disk) at body × (at + length body ≤ end)
+
+  -- A put makes one head more, where none has the digest; or it finds the operation, as long as the disk returns what was
+  -- written, and makes none.
+  abbrev pub PutsParts : List ℕ → List ℕ → List ℕ → List Head → Kept → List Head → Type 0
+  PutsParts digest front body old New new = (first_under digest old ≡ None)
+      × ((at : ℕ) × (new ≡ old ++ head_from digest front body at ∷ []) × IsSpelled (head_from digest front body at) × LiesAt at body)
+  PutsParts digest front body old Known new =
+      (IsTrue (g.is_clean disk) → (at : ℕ) × (first_under digest old ≡ Some (head_from digest front body at)) × LiesAt at body)
+      × (new ≡ old)
+
+  -- the same of an operation
+  abbrev pub Puts : List Head → Op → Kept → List Head → Type 0
+  Puts old op kept new = PutsParts (digest_of op) (front_of op) (body_of op) old kept new
+
+  -- one put after another
+  abbrev pub PutsAll : List Head → List Op → List Kept → List Head → Type 0
+  PutsAll old [] [] new = new ≡ old
+  PutsAll old [] (kept ∷ kepts) new = ⊥
+  PutsAll old (op ∷ ops) [] new = ⊥
+  PutsAll old (op ∷ ops) (kept ∷ kepts) new = (mid : List Head) × Puts old op kept mid × PutsAll mid ops kepts new
+
+-- a crash leaves the heads from before, or those afterwards
+abbrev pub LeavesEither : {H : Type 0} → Ghosts H → H → List Head → List Head → Type 0
+LeavesEither g disk old new = (c : List ℕ) → g.may_leave disk c → StandsFor c old ⊎ StandsFor c new
+
+-- what a crash left of two files stands for all that puts make, and has each data set that was in the file
+pub record LeavesAllOf {B : Type 0} (g : Ghosts B) (bodies : B) (end : ℕ) (old : List Head) (ops : List Op) (h b : List ℕ) : Type 0
+  where
+    pub kepts : List Kept
+    pub heads : List Head
+    pub put : PutsAll g bodies end old ops kepts heads
+    pub stands : StandsFor h heads
+    pub bodies_are : (e : Entry) → IsHeld g bodies end e → HasBody b e
+
+-- whatever a crash leaves of both files stands for the heads from before, or for all that puts make
+abbrev pub LeavesAllOrNone : {H B : Type 0} → Ghosts H → Ghosts B → H → B → ℕ → List Head → List Op → Type 0
+LeavesAllOrNone gh gb heads bodies end old ops =
+    (h b : List ℕ) → gh.may_leave heads h → gb.may_leave bodies b → StandsFor h old ⊎ LeavesAllOf gb bodies end old ops h b

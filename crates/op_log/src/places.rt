@@ -1,0 +1,87 @@
+//! The places of operations, in memory, each under its digest.
+
+ghost use Rattle.std.specs.Prelude.{◌≡◌, ◌++◌, ◌∷◌, [], None, Some, take, length, slice_get, IfSome, OnOk, OnErr};
+ghost use Rattle.std.specs.Option.{option_map};
+ghost use Rattle.op_log.specs.Kept.{first_under};
+ghost use Rattle.op_log.specs.Places.{head_by};
+
+use crate::place::Place;
+use indexmap::IndexMap;
+use operation::Digest;
+use std::alloc::{AllocError, Global};
+use std::marker::Model;
+
+/// Places in the order in which they came. Contracts see them as heads.
+pub(crate) struct Places {
+    table: IndexMap<[u8; 32], Place>,
+    alloc: Global,
+}
+
+impl Model for Places {
+    ghost use Rattle.std.specs.Prelude.{List, map};
+    ghost use Rattle.std.specs.Coded.{coded_list};
+    ghost use Rattle.op_log.specs.Heads.{Head, head_code};
+    ghost use Rattle.op_log.specs.Places.{head_at};
+
+    ghost Value = { List Head };
+
+    ghost coded = { coded_list head_code };
+
+    ghost view = { λ p. map head_at p.table.entries };
+}
+
+// It is written out, so that a caller does not prove again how each part is dropped.
+impl Drop for Places {
+    fn drop(self) {
+        let Places { table, alloc: _ } = self;
+        drop(table);
+    }
+}
+
+impl Places {
+    pub(crate) fn new(alloc: Global) -> Places
+        ensures { result ≡ [] }
+    {
+        Places {
+            table: IndexMap::new(alloc),
+            alloc,
+        }
+    }
+
+    /// Where memory for places is taken.
+    pub(crate) fn alloc(&self) -> Global {
+        self.alloc
+    }
+
+    pub(crate) fn len(&self) -> usize
+        ensures { result ≡ length self.now }
+    {
+        self.table.len()
+    }
+
+    /// The place under a digest.
+    pub(crate) fn find(&self, digest: &Digest) -> Option<&Place>
+        ensures found { IfSome result (λ place. first_under digest.now self.now
+            ≡ Some (head_by digest.now place.now)) }
+        ensures none { result ≡ None → first_under digest.now self.now ≡ None }
+    {
+        self.table.get(digest.as_bytes())
+    }
+
+    /// Adds a place under a digest that has none.
+    pub(crate) fn add(&mut self, digest: &Digest, place: Place) -> Result<(), AllocError>
+        requires { first_under digest.now self.old ≡ None }
+        ensures added { OnOk result (self.new ≡ self.old ++ head_by digest.now place ∷ []) }
+        ensures refused { OnErr result (self.new ≡ self.old) }
+    {
+        self.table.insert(*digest.as_bytes(), place)?;
+        Ok(())
+    }
+
+    /// Forgets all behind the first ones. This takes no memory.
+    pub(crate) fn truncate(&mut self, len: usize)
+        ensures { self.new ≡ take len self.old }
+    {
+        self.table.truncate(len);
+    }
+}

@@ -1,0 +1,78 @@
+//! Puts a group into both files.
+
+ghost use Rattle.std.specs.Prelude.{◌≡◌, ◌&&◌, [], All, List, false, IfOk, IsTrue, IsErrOf, OnOk, OnErr};
+ghost use Rattle.body_log.specs.Log.{disk_of, end_of};
+ghost use Rattle.head_log.specs.Log.{is_up};
+ghost use Rattle.head_log.specs.Log.{disk_of as heads_of, end_of as heads_end};
+ghost use Rattle.op_log.specs.Heads.{Entry, Head, IsSpelled};
+ghost use Rattle.op_log.specs.Kept.{IsBelow, IsHeld, IsKept, IsLasting};
+ghost use Rattle.op_log.specs.Puts.{LeavesAllOrNone, LeavesEither, PutsAll};
+ghost use Rattle.op_log.specs.Staged.{Grows, HasHeads, KeepsPlaces};
+
+use crate::fault::LogFault;
+use crate::kept::Kept;
+use crate::places::Places;
+use crate::staging::stage;
+use body_log::BodyLog;
+use head_log::HeadLog;
+use operation::Digested;
+use sqlite_disk::Disk;
+
+/// Adds heads as a group, if there are any.
+fn add_heads<H: Disk>(heads: &mut HeadLog<H>, text: &[u8]) -> Result<(), LogFault>
+    // After Ok every crash leaves them.
+    ensures kept { OnOk result ((old new : List Head) → HasHeads old new [] text.now → All IsSpelled new
+        → IsKept H.Disk (heads_of heads.old) (heads_end heads.old) old
+        → IsKept H.Disk (heads_of heads.new) (heads_end heads.new) new) }
+    // Whatever is answered, a crash leaves those from before, with these or without.
+    ensures crash { (old new : List Head) → HasHeads old new [] text.now → All IsSpelled new
+        → IsKept H.Disk (heads_of heads.old) (heads_end heads.old) old
+        → LeavesEither H.Disk (heads_of heads.new) old new }
+    // A refusal changes nothing, or closes the file.
+    ensures refused { OnErr result (IsTrue (is_up H.Disk heads.new) → (old : List Head)
+        → IsKept H.Disk (heads_of heads.old) (heads_end heads.old) old
+        → IsKept H.Disk (heads_of heads.new) (heads_end heads.new) old) }
+    ensures closed { IsErrOf result LogFault.Closed → is_up H.Disk heads.old ≡ false }
+    ensures clean { IsTrue (H.Disk.is_clean (heads_of heads.new))
+        → IsTrue (H.Disk.is_clean (heads_of heads.old)) }
+{
+    if text.is_empty() {
+        return Ok(());
+    }
+    heads.add(text)?;
+    Ok(())
+}
+
+/// Puts operations one after another: the data sets of what is new, and then, in one group, the
+/// heads. On a refusal heads in memory may be left behind those from before.
+pub(crate) fn put_group<H: Disk, B: Disk>(
+    heads: &mut HeadLog<H>,
+    bodies: &mut BodyLog<B>,
+    places: &mut Places,
+    ops: &[Digested],
+) -> Result<Vec<Kept>, LogFault>
+    requires below { All (IsBelow (end_of bodies.old)) places.old }
+    ensures put { IfOk result (λ kepts. PutsAll B.Disk (disk_of bodies.new) (end_of bodies.new)
+        places.old ops.now kepts.items places.new) }
+    ensures lasting { OnOk result ((e : Entry)
+        → IsHeld B.Disk (disk_of bodies.new) (end_of bodies.new) e
+        → IsLasting B.Disk (disk_of bodies.new) (end_of bodies.new) e) }
+    ensures kept { OnOk result (IsKept H.Disk (heads_of heads.old) (heads_end heads.old) places.old
+        → IsKept H.Disk (heads_of heads.new) (heads_end heads.new) places.new) }
+    ensures refused { OnErr result (IsTrue (is_up H.Disk heads.new)
+        → IsKept H.Disk (heads_of heads.old) (heads_end heads.old) places.old
+        → IsKept H.Disk (heads_of heads.new) (heads_end heads.new) places.old) }
+    ensures crash { IsKept H.Disk (heads_of heads.old) (heads_end heads.old) places.old
+        → LeavesAllOrNone H.Disk B.Disk (heads_of heads.new) (disk_of bodies.new)
+        (end_of bodies.new) places.old ops.now }
+    ensures places { KeepsPlaces B.Disk bodies.old bodies.new places.old places.new }
+    ensures grows { Grows B.Disk bodies.old bodies.new }
+    ensures closed { IsErrOf result LogFault.Closed → (is_up H.Disk heads.old
+        && B.Disk.is_usable (disk_of bodies.old)) ≡ false }
+    ensures clean { IsTrue (H.Disk.is_clean (heads_of heads.new))
+        → IsTrue (H.Disk.is_clean (heads_of heads.old)) }
+{
+    let group = stage(bodies, places, ops)?;
+    add_heads(heads, &group.text)?;
+    Ok(group.kepts)
+}

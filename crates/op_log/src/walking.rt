@@ -1,0 +1,42 @@
+//! Walks the heads of a file into memory.
+
+ghost use Rattle.std.specs.Prelude.{◌≡◌, List, ℕ, [], All, IfOk, IsErrOf, IsTrue};
+ghost use Rattle.head_log.specs.Log.{disk_of, end_of, Looks};
+ghost use Rattle.op_log.specs.Heads.{Head};
+ghost use Rattle.op_log.specs.Kept.{IsBelow};
+ghost use Rattle.op_log.specs.Walking.{AreLaid};
+
+use crate::fault::LogFault;
+use crate::filling::fill;
+use crate::places::Places;
+use head_log::HeadLog;
+use sqlite_disk::Disk;
+use std::alloc::Global;
+
+/// The places of all operations, in the order of their heads. One group at a time is in memory, and
+/// no data set is read.
+pub(crate) fn walk<H: Disk>(
+    alloc: Global,
+    heads: &mut HeadLog<H>,
+    end: usize,
+) -> Result<Places, LogFault>
+    // All of what lies in the file, in order, as long as the disk returns what was written.
+    ensures laid { IfOk result (λ places. IsTrue (H.Disk.is_clean (disk_of heads.new))
+        → AreLaid (H.Disk.seen (disk_of heads.old)) (end_of heads.old) end places) }
+    ensures below { IfOk result (All (IsBelow end)) }
+    ensures damaged { (n : ℕ) → IsErrOf result (LogFault.DamagedHeads n)
+        → IsTrue (H.Disk.is_clean (disk_of heads.new)) → (them : List Head)
+        → AreLaid (H.Disk.seen (disk_of heads.old)) (end_of heads.old) end them → ⊥ }
+    ensures same { Looks H.Disk heads.old heads.new }
+{
+    let mut places = Places::new(alloc);
+    let mut at = 0;
+    'groups: while at < heads.end() {
+        let Some((group, next)) = heads.group(at)? else {
+            return Ok(places);
+        };
+        fill(&mut places, &group, at, end)?;
+        at = next;
+    }
+    Ok(places)
+}
