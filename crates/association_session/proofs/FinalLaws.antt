@@ -805,9 +805,12 @@ module _ (titles : List (Title View)) where
 
   pub responded : (us : List Heard) (w : Within) (sub : Option SubOperation) (rs : List Reply) (ds : List Deed)
       → IsGetIn w.state sub → Talks titles w sub us rs ds → HasResponses titles w sub us rs ds
-  responded [] w sub rs ds is p =
-      ([], refl, subst (λ (t : List Deed). Have w.link.contexts sub t []) (sym p) (none_have w.state w.link.contexts sub
-      is))
+  responded [] w sub rs ds is p = (
+    [],
+    refl,
+    subst (λ (t : List Deed). Have w.link.contexts sub t []) (sym p) (none_have w.state w.link.contexts sub
+        is),
+  )
   responded (Met event ∷ us) w sub rs ds is p =
       let q = responded us (met titles w event) sub rs p.0 (get_met w event sub is) p.2 in (
         q.0,
