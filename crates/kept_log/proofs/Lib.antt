@@ -1,0 +1,4 @@
+pub mod Holding
+pub mod Keeps
+pub mod Logs
+pub mod Same

@@ -1,0 +1,18 @@
+use Rattle.std.proofs.Common.{◌≡◌, subst, rules}
+use Rattle.operation.specs.declared.op.Op.{Op}
+use Rattle.op_shelf.specs.Keep.{Finds, Gains}
+use Rattle.kept_log.specs.Keeping.{Holds, log_of}
+use Rattle.kept_log.proofs.keeping.KeptLogKeep.put.Goals as goal
+
+-- The copy is the operation.
+pub returns-clause-new : goal.returns-clause-new
+returns-clause-new g c up told =
+    let same : c.of-digested.result ≡ c.args.op.now = search rules in
+    subst (λ (op : Op). Gains (Holds g.B.Disk (log_of c.args.self.now)) (Holds g.B.Disk (log_of c.put_digested.new.self)) op)
+    same (c.put_digested.ensures.new up told)
+
+pub returns-clause-known : goal.returns-clause-known
+returns-clause-known g c up told =
+    let same : c.of-digested.result ≡ c.args.op.now = search rules in
+    subst (λ (op : Op). Finds (Holds g.B.Disk (log_of c.args.self.now)) (Holds g.B.Disk (log_of c.put_digested.new.self)) op)
+    same (c.put_digested.ensures.known up told)
