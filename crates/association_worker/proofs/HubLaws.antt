@@ -1,5 +1,5 @@
 -- What a pass of a running site is as a port.
-use Rattle.std.proofs.Common.{◌≡◌, ◌⊎◌, ◌++◌, ◌∷◌, [], ℕ, List, Result, Ok, Err, MatchResult, IfOk, IfErr, OnOk}
+use Rattle.std.proofs.Common.{◌≡◌, ◌⊎◌, ◌++◌, ◌∷◌, [], ℕ, List, Result, Ok, Err, MatchResult, IfOk, IfErr, OnOk, OnErr}
 use Rattle.std.proofs.Common.{inl, inr, refl, sym, ap, subst, ◌∙◌}
 use mathlib.Core.List.{IsPrefix}
 use Rattle.octets.specs.Members.{Has}
@@ -19,11 +19,14 @@ use Rattle.site_hub.specs.declared.fault.HubFault.{HubFault}
 use Rattle.site_hub.specs.declared.fault.HubFault.TheVariants as hub
 use Rattle.site_hub.specs.Fault.{IsLookFault}
 use Rattle.site_hub.specs.History.{set_of, entry_of, IsHistory}
-use Rattle.site_hub.specs.Hub.{Seat, News, WasHeld, IsTaken, IsClashed, IsLater, HasLooked}
+use Rattle.site_hub.specs.Hub.{Seat, News, WasHeld, IsTaken, IsClashed, IsLater, HasKept, HasLooked}
+use Rattle.site_hub.specs.Refused.{TellsFault, Tells}
 use Rattle.site_hub.proofs.Histories.{set_of_more, stays, history_is_site}
 use Rattle.association_services.specs.declared.call.Finding.{Finding}
 use Rattle.association_services.specs.declared.call.Getting.{Getting}
 use Rattle.association_services.specs.declared.reply.PortFault.{PortFault}
+use Rattle.association_services.specs.declared.reply.PortFault.TheVariants.{Busy}
+use Rattle.devices.specs.Failures.{Rose}
 use Rattle.association_run.specs.Port as port
 use Rattle.association_worker.specs.Port.{fault_of_hub, reply_to}
 use Rattle.association_worker.proofs.PortLaws.{leaves, holds_now, other_at_own, taken_at_turn}
@@ -50,13 +53,13 @@ at_turn opening before later op taken t =
 
 leaves_so : (before later : Seat) (op : Op) (fault : HubFault)
     → (fault ≡ hub.Pending → (later.mine ≡ before.mine ++ digest_of op ∷ []) × (later.seen ≡ before.seen))
-    → (fault ≡ hub.Pending) ⊎ (later ≡ before)
+    → (fault ≡ hub.Pending) ⊎ HasKept before later
     → port.Leaves (fault_of_hub fault) before.mine (digest_of op) later.mine
 leaves_so before later op fault pending (inl is) =
     subst (λ (f : HubFault). port.Leaves (fault_of_hub f) before.mine (digest_of op) later.mine) (sym is)
     (inr (pending is).0)
 leaves_so before later op fault pending (inr same) =
-    leaves (fault_of_hub fault) before.mine later.mine (digest_of op) (ap (λ (s : Seat). s.mine) same)
+    leaves (fault_of_hub fault) before.mine later.mine (digest_of op) same.mine
 
 clashed : (opening : Map) (before : Seat) (op : Op) → IsClashed opening before op
     → port.IsClashed (ops_of (set_of opening before.seen)) op
@@ -86,7 +89,7 @@ pub pass_stores : (opening : Map) (before later : Seat) (op : Op) (told : Result
     → IfErr told (λ e. e ≡ hub.Pending
     → (later.mine ≡ before.mine ++ digest_of op ∷ []) × (later.seen ≡ before.seen))
     → (told ≡ Err hub.Collision → IsClashed opening before op)
-    → IfErr told (λ e. (e ≡ hub.Pending) ⊎ (later ≡ before))
+    → IfErr told (λ e. (e ≡ hub.Pending) ⊎ HasKept before later)
     → port.Stores (λ (s : Seat). ops_of (set_of opening s.seen)) (λ (s : Seat). s.mine) before op reply later
 pass_stores opening before later op (Ok told) reply is history onward taken mine pending clash kept =
     subst (λ (r : Result Taken PortFault). port.Stores (λ (s : Seat). ops_of (set_of opening s.seen))
@@ -108,6 +111,51 @@ pass_stores opening before later op (Err fault) reply is history onward taken mi
       replied = leaves_so before later op fault pending kept;
       turn = comes_so opening before op fault (λ same. clash (ap (λ (f : HubFault). Err f) same));
     })
+
+not_seen : (before later : Seat) (digest : List ℕ) (fault : HubFault)
+    → (fault ≡ hub.Pending → (later.mine ≡ before.mine ++ digest ∷ []) × (later.seen ≡ before.seen))
+    → (fault ≡ hub.Pending) ⊎ HasKept before later → later.seen ≡ before.seen
+not_seen before later digest fault pending (inl is) = (pending is).1
+not_seen before later digest fault pending (inr same) = same.seen
+
+-- What is refused to a pass it has not seen.
+pub refused_unseen : (before later : Seat) (digest : List ℕ) (told : Result News HubFault)
+    (reply : Result Taken PortFault) → reply ≡ reply_to told
+    → IfErr told (λ e. e ≡ hub.Pending → (later.mine ≡ before.mine ++ digest ∷ []) × (later.seen ≡ before.seen))
+    → IfErr told (λ e. (e ≡ hub.Pending) ⊎ HasKept before later) → OnErr reply (later.seen ≡ before.seen)
+refused_unseen before later digest (Ok news) reply is pending kept =
+    subst (λ (r : Result Taken PortFault). OnErr r (later.seen ≡ before.seen)) (sym is) tt
+refused_unseen before later digest (Err fault) reply is pending kept =
+    subst (λ (r : Result Taken PortFault). OnErr r (later.seen ≡ before.seen)) (sym is)
+    (not_seen before later digest fault pending kept)
+
+-- A port is busy only where something was refused to its pass:
+busy_fault : (old new : ℕ) (fault : HubFault) → TellsFault old new fault → fault_of_hub fault ≡ Busy → Rose old new
+busy_fault old new hub.Busy tells is = tells
+busy_fault old new hub.Collision tells is = absurd cc
+busy_fault old new hub.Memory tells is = absurd cc
+busy_fault old new hub.StampsSpent tells is = absurd cc
+busy_fault old new hub.Torn tells is = absurd cc
+busy_fault old new hub.Pending tells is = absurd cc
+busy_fault old new hub.BadCorrection tells is = absurd cc
+
+same_fault : {X : Type 0} (x y : PortFault) (reply : Result X PortFault) → reply ≡ Err x → reply ≡ Err y → x ≡ y
+same_fault x y reply p q = cc
+
+-- in a look,
+pub busy_look : {X Y : Type 0} (items : X → Y) (old new : ℕ) (found : Result X HubFault) (reply : Result Y PortFault)
+    → IfOk found (λ x. reply ≡ Ok (items x)) → IfErr found (λ fault. reply ≡ Err (fault_of_hub fault))
+    → Tells found old new → reply ≡ Err Busy → Rose old new
+busy_look items old new (Ok x) reply ok err tells is = absurd cc
+busy_look items old new (Err fault) reply ok err tells is =
+    busy_fault old new fault tells (same_fault (fault_of_hub fault) Busy reply err is)
+
+-- and in a store.
+pub busy_take : (old new : ℕ) (told : Result News HubFault) (reply : Result Taken PortFault) → reply ≡ reply_to told
+    → Tells told old new → reply ≡ Err Busy → Rose old new
+busy_take old new (Ok news) reply to tells is = absurd cc
+busy_take old new (Err fault) reply to tells is =
+    busy_fault old new fault tells (same_fault (fault_of_hub fault) Busy reply to is)
 
 find_fault : (fault : HubFault) → IsLookFault fault → port.IsFindFault (fault_of_hub fault)
 find_fault fault (inl is) = inr (ap fault_of_hub is)

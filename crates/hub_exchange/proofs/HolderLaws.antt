@@ -11,7 +11,7 @@ use Rattle.site_hub.specs.declared.entry.Entry.{Entry}
 use Rattle.site_hub.specs.declared.fault.HubFault.{HubFault}
 use Rattle.site_hub.specs.declared.fault.HubFault.TheVariants as hub
 use Rattle.site_hub.specs.History.{set_of, entry_of, IsHistory}
-use Rattle.site_hub.specs.Hub.{Seat, News, WasHeld, IsTaken, IsLater, HasLooked}
+use Rattle.site_hub.specs.Hub.{Seat, News, WasHeld, IsTaken, IsLater, HasLooked, HasKept}
 use Rattle.site_hub.proofs.Histories.{set_of_more, stays, history_is_site}
 use Rattle.exchange.specs.declared.fault.HolderFault.{HolderFault}
 use Rattle.exchange.specs.Held.{Looks, TakesIn}
@@ -107,14 +107,14 @@ put_so : {K : Type 0} (up : K → Type 0) (holds lasts : K → Op → Type 0) (b
     → OnOk told (later.mine ≡ before.mine ++ digest_of op ∷ [])
     → IfErr told (λ e. e ≡ hub.Pending
     → (later.mine ≡ before.mine ++ digest_of op ∷ []) × (later.seen ≡ before.seen))
-    → IfErr told (λ e. (e ≡ hub.Pending) ⊎ (later ≡ before))
+    → IfErr told (λ e. (e ≡ hub.Pending) ⊎ HasKept before later)
     → WerePut up holds lasts before.mine later.mine
 put_so up holds lasts before later op (Ok told) put mine pending kept =
     put_one up holds lasts before.mine later.mine (digest_of op) put mine
 put_so up holds lasts before later op (Err fault) put mine pending kept =
     elim kept as (λ _. WerePut up holds lasts before.mine later.mine) [
       | inl is ↦ put_one up holds lasts before.mine later.mine (digest_of op) put (pending is).0
-      | inr same ↦ put_none up holds lasts before.mine later.mine (ap (λ (s : Seat). s.mine) same)
+      | inr same ↦ put_none up holds lasts before.mine later.mine same.mine
     ]
 
 -- What became the pass's own was put.
@@ -123,7 +123,7 @@ pub pass_onward : {K : Type 0} (up : K → Type 0) (holds lasts : K → Op → T
     → IsLater before later → OnOk told (later.mine ≡ before.mine ++ digest_of op ∷ [])
     → IfErr told (λ e. e ≡ hub.Pending
     → (later.mine ≡ before.mine ++ digest_of op ∷ []) × (later.seen ≡ before.seen))
-    → IfErr told (λ e. (e ≡ hub.Pending) ⊎ (later ≡ before))
+    → IfErr told (λ e. (e ≡ hub.Pending) ⊎ HasKept before later)
     → IsOnward up holds lasts before later
 pass_onward up holds lasts before later op told digest put named onward mine pending kept = record {
   later = onward;

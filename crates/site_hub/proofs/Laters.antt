@@ -22,6 +22,14 @@ later_same s t same = record {
   mine = subst (IsPrefix s.mine) (sym (ap (λ (x : Seat). x.mine) same)) (prefix_self s.mine);
 }
 
+-- as it was, but for what was refused
+pub later_kept : (s t : Seat) → t.number ≡ s.number → t.seen ≡ s.seen → t.mine ≡ s.mine → IsLater s t
+later_kept s t number seen mine = record {
+  number = number;
+  seen = subst (IsPrefix s.seen) (sym seen) (prefix_self s.seen);
+  mine = subst (IsPrefix s.mine) (sym mine) (prefix_self s.mine);
+}
+
 -- one digest more, and what was seen or what goes on from it
 pub later_by : (s t : Seat) (digest : List ℕ) → t.number ≡ s.number → IsPrefix s.seen t.seen
     → t.mine ≡ s.mine ++ digest ∷ []

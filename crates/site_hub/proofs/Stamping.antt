@@ -162,7 +162,7 @@ has_still opening xs ys history pre o has =
 
 -- what comes next at a pass's turn has a greater counter than each that the pass had seen
 pub turn_rises : (number : ℕ) (opening : Map) (before : Seat) (turn : List Entry) (target : Target) (tag : ℕ)
-    (value : List ℕ) (made : CorrectionParts) → IsTurn opening before turn
+    (value : List ℕ) (made : CorrectionParts) → IsTurn opening before.seen turn
     → next_correction number (set_of opening turn) target tag value ≡ Ok made
     → HasLesser (set_of opening before.seen) made.stamp.counter
 turn_rises number opening before turn target tag value made comes next held has =

@@ -18,11 +18,13 @@ pub record Desk : Type 0 where
   pub published : List Entry
   pub all : List Entry
 
--- a pass: its number, the beginning of the history that it has seen, and the digests of its own entries
+-- a pass: its number, the beginning of the history that it has seen, the digests of its own entries, and how often
+-- something was refused to it
 pub record Seat : Type 0 where
   pub number : ℕ
   pub seen : List Entry
   pub mine : List (List ℕ)
+  pub refused : ℕ
 
 -- a token: the history reached, and whether the operation was held before
 pub record News : Type 0 where
@@ -45,7 +47,7 @@ unnamed_code = code_by (Book × (ℕ × (Map × ℕ)))
 
 -- a pass that has seen and stored nothing
 abbrev pub new_seat : ℕ → Seat
-new_seat number = record { number = number; seen = []; mine = [] }
+new_seat number = record { number = number; seen = []; mine = []; refused = 0 }
 
 -- so many new passes, numbered from 1
 abbrev pub new_seats : ℕ → List Seat
@@ -57,22 +59,22 @@ abbrev pub WasHeld : Map → Op → Taken → Type 0
 WasHeld m op New = held_at m (digest_of op) ≡ None
 WasHeld m op Known = held_at m (digest_of op) ≡ Some op
 
--- the history at a pass's turn: with what is pending, it begins with what the pass had seen
-pub record IsTurn (opening : Map) (before : Seat) (turn : List Entry) : Type 0 where
+-- the history at the turn of a pass that has seen this: with what is pending, it begins with that
+pub record IsTurn (opening : Map) (before turn : List Entry) : Type 0 where
   pub history : IsHistory opening turn
-  pub seen : IsPrefix before.seen turn
+  pub seen : IsPrefix before turn
 
 -- An operation was taken for a pass: at its turn it was new where it was not held, and its entry comes next.
 pub record IsTaken (opening : Map) (before : Seat) (op : Op) (taken : Taken) (later : Seat) : Type 0 where
   pub turn : List Entry
-  pub comes : IsTurn opening before turn
+  pub comes : IsTurn opening before.seen turn
   pub held : WasHeld (set_of opening turn) op taken
   pub seen : later.seen ≡ turn ++ entry_of before.number op ∷ []
 
 -- An operation was not taken for a pass: at its turn another one of its digest was held.
 pub record IsClashed (opening : Map) (before : Seat) (op : Op) : Type 0 where
   pub turn : List Entry
-  pub comes : IsTurn opening before turn
+  pub comes : IsTurn opening before.seen turn
   pub clash : IsClash (set_of opening turn) op
 
 -- a pass afterwards: the same one, which has seen no less and has all of its own
@@ -80,6 +82,12 @@ pub record IsLater (before later : Seat) : Type 0 where
   pub number : later.number ≡ before.number
   pub seen : IsPrefix before.seen later.seen
   pub mine : IsPrefix before.mine later.mine
+
+-- a pass as it was, but for how often something was refused to it
+pub record HasKept (before later : Seat) : Type 0 where
+  pub number : later.number ≡ before.number
+  pub seen : later.seen ≡ before.seen
+  pub mine : later.mine ≡ before.mine
 
 -- a pass after a look: nothing is its own that was not
 pub record HasLooked (before later : Seat) : Type 0 where

@@ -1,4 +1,5 @@
 pub mod Fault
+pub mod Refused
 pub mod History
 pub mod Hub
 pub mod Stamps

@@ -47,14 +47,14 @@ HasLesser m counter = (held : CorrectionParts) → Has (ops_of m) (a_correction 
 pub record IsNext (number : ℕ) (opening : Map) (before : Seat) (target : Target) (tag : ℕ) (value : List ℕ)
     (outcome : Result CorrectionParts HubFault) : Type 0 where
   pub turn : List Entry
-  pub comes : IsTurn opening before turn
+  pub comes : IsTurn opening before.seen turn
   pub next : next_correction number (set_of opening turn) target tag value ≡ outcome
 
 -- A correction was made for a pass: it came next at its turn, and its entry comes next.
 pub record IsMade (number : ℕ) (opening : Map) (before : Seat) (target : Target) (tag : ℕ) (value : List ℕ)
     (made : CorrectionParts) (later : Seat) : Type 0 where
   pub turn : List Entry
-  pub comes : IsTurn opening before turn
+  pub comes : IsTurn opening before.seen turn
   pub next : next_correction number (set_of opening turn) target tag value ≡ Ok made
   pub seen : later.seen ≡ turn ++ entry_of before.number (a_correction made) ∷ []
 
@@ -63,7 +63,7 @@ pub record IsBarred (number : ℕ) (opening : Map) (before : Seat) (target : Tar
     0 where
   pub turn : List Entry
   pub made : CorrectionParts
-  pub comes : IsTurn opening before turn
+  pub comes : IsTurn opening before.seen turn
   pub next : next_correction number (set_of opening turn) target tag value ≡ Ok made
   pub clash : IsClash (set_of opening turn) (a_correction made)
 

@@ -12,6 +12,7 @@ use crate::fault::HubFault;
 use crate::keeper::Keeper;
 use crate::pair::Shows;
 use crate::pass::Pass;
+use crate::refusals::Refusals;
 use crate::snapshot::Snapshot;
 use operation::Digest;
 use site_state::Site;
@@ -103,7 +104,8 @@ impl<H: HubName, T: Shows<H>, R: Wait + Drop> Keeper<H, T, R> {
         ensures stayed { HasStayed self.old self.new }
         ensures fault { IfErr result (λ e. (e ≡ HubFault.Torn) ⊎ (e ≡ HubFault.Memory)) }
     {
-        if !self.flush() {
+        let mut refusals = Refusals::new();
+        if !self.flush(&mut refusals) {
             return Err(HubFault::Memory);
         }
         if !agree(self.passes, self.log.as_slice(), passes) {

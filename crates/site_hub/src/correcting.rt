@@ -7,14 +7,16 @@ ghost use Rattle.operation.specs.Spelling.{digest_of};
 ghost use Rattle.site_state.specs.Site.{IsClash};
 ghost use Rattle.site_hub.specs.Fault.{IsTurnFault};
 ghost use Rattle.site_hub.specs.History.{set_of, entry_of};
-ghost use Rattle.site_hub.specs.Hub.{HasStayed, IsTurn, IsLater};
+ghost use Rattle.site_hub.specs.Hub.{HasStayed, HasKept, IsTurn, IsLater};
+ghost use Rattle.site_hub.specs.Refused.{Tells};
 ghost use Rattle.site_hub.specs.Stamps.{next_correction as next_correction_in, HasLesser};
 
-use crate::book::HubName;
+use crate::book::{Front, HubName};
 use crate::fault::HubFault;
 use crate::keeper::Keeper;
 use crate::pair::Shows;
 use crate::pass::Pass;
+use crate::refusals::Refusals;
 use crate::told::Told;
 use octets::Octets;
 use operation::{Correction, Digested, Op, Stamp, Target, correction_of};
@@ -49,7 +51,8 @@ impl<H: HubName, T: Shows<H>, R: Wait + Drop> Keeper<H, T, R> {
     /// that it may not have is told first.
     fn prepared(
         &mut self,
-        pass: &Pass<H>,
+        seen: &Front<H>,
+        refusals: &mut Refusals,
         target: Target,
         tag: u32,
         value: Octets,
@@ -59,8 +62,8 @@ impl<H: HubName, T: Shows<H>, R: Wait + Drop> Keeper<H, T, R> {
         ensures shown { OnOk result (self.new.published ≡ self.new.all) }
         ensures made { IfOk result (λ made. Ok made ≡
             next_correction_in H.number (set_of H.opening self.old.all) target tag value) }
-        ensures turn { MatchResult result (λ _. IsTurn H.opening pass.now self.old.all)
-            (λ e. e ≡ HubFault.StampsSpent → IsTurn H.opening pass.now self.old.all) }
+        ensures turn { MatchResult result (λ _. IsTurn H.opening seen.now self.old.all)
+            (λ e. e ≡ HubFault.StampsSpent → IsTurn H.opening seen.now self.old.all) }
         ensures bad_correction { (result ≡ Err HubFault.BadCorrection) ↔
             (next_correction_in H.number (set_of H.opening self.old.all) target tag value
             ≡ Err HubFault.BadCorrection) }
@@ -69,9 +72,10 @@ impl<H: HubName, T: Shows<H>, R: Wait + Drop> Keeper<H, T, R> {
             ≡ Err HubFault.StampsSpent }
         ensures fault { IfErr result (λ e. (e ≡ HubFault.BadCorrection)
             ⊎ (e ≡ HubFault.StampsSpent) ⊎ (e ≡ HubFault.Busy) ⊎ (e ≡ HubFault.Memory)) }
+        ensures counted { Tells result refusals.old.count refusals.new.count }
     {
-        let is_shown = self.flush();
-        let is_turn = self.is_turn(pass);
+        let is_shown = self.flush(refusals);
+        let is_turn = self.is_turn(seen, refusals);
         let made = self.next_correction(target, tag, value);
         if is_shown && is_turn {
             return made;
@@ -109,15 +113,16 @@ impl<H: HubName, T: Shows<H>, R: Wait + Drop> Keeper<H, T, R> {
         ensures collision { result ≡ Err HubFault.Collision →
             IsClash (set_of H.opening self.old.all) (a_correction made) }
         ensures kept { IfErr result (λ e. (e ≡ HubFault.Pending)
-            ⊎ ((self.new ≡ self.old) × (pass.new ≡ pass.old))) }
+            ⊎ ((self.new ≡ self.old) × HasKept pass.old pass.new)) }
         ensures fault { IfErr result (λ e. (e ≡ HubFault.Busy) ⊎ (e ≡ HubFault.Collision)
             ⊎ (e ≡ HubFault.Memory) ⊎ (e ≡ HubFault.Pending)) }
+        ensures counted { Tells result pass.old.refused pass.new.refused }
     {
         let Ok(kept) = made.copy(pass.alloc) else {
             return Err(HubFault::Memory);
         };
         let op = Digested::of(Op::Correction(made));
-        let taken = self.check(pass, &op)?;
+        let taken = self.check(&pass.seen, &mut pass.refusals, &op)?;
         let told = self.add(pass, op, taken)?;
         Ok((kept, told))
     }
@@ -140,8 +145,8 @@ impl<H: HubName, T: Shows<H>, R: Wait + Drop> Keeper<H, T, R> {
             next_correction_in H.number (set_of H.opening self.old.all) target tag value) }
         ensures counter { IfOk result (λ both.
             HasLesser (set_of H.opening pass.old.seen) both.0.stamp.counter) }
-        ensures turn { MatchResult result (λ _. IsTurn H.opening pass.old self.old.all)
-            (λ e. IsTurnFault e → IsTurn H.opening pass.old self.old.all) }
+        ensures turn { MatchResult result (λ _. IsTurn H.opening pass.old.seen self.old.all)
+            (λ e. IsTurnFault e → IsTurn H.opening pass.old.seen self.old.all) }
         ensures told { IfOk result (λ both. both.1.reached ≡ self.new.all) }
         ensures history { IfOk result (λ both. self.new.all
             ≡ self.old.all ++ entry_of pass.old.number (a_correction both.0) ∷ []) }
@@ -173,12 +178,13 @@ impl<H: HubName, T: Shows<H>, R: Wait + Drop> Keeper<H, T, R> {
             × (next_correction_in H.number (set_of H.opening self.old.all) target tag value
             ≡ Ok made) × IsClash (set_of H.opening self.old.all) (a_correction made) }
         ensures kept { IfErr result (λ e. (e ≡ HubFault.Pending)
-            ⊎ (HasStayed self.old self.new × (pass.new ≡ pass.old))) }
+            ⊎ (HasStayed self.old self.new × HasKept pass.old pass.new)) }
         ensures fault { IfErr result (λ e. (e ≡ HubFault.BadCorrection)
             ⊎ (e ≡ HubFault.StampsSpent) ⊎ (e ≡ HubFault.Busy) ⊎ (e ≡ HubFault.Collision)
             ⊎ (e ≡ HubFault.Memory) ⊎ (e ≡ HubFault.Pending)) }
+        ensures counted { Tells result pass.old.refused pass.new.refused }
     {
-        let made = self.prepared(pass, target, tag, value)?;
+        let made = self.prepared(&pass.seen, &mut pass.refusals, target, tag, value)?;
         let both = self.take_made(pass, made)?;
         Ok(both)
     }

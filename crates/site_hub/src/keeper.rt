@@ -1,16 +1,18 @@
 //! The one writer of a hub.
-ghost use Rattle.std.specs.Prelude.{◌≡◌, ◌≢◌, ◌⊎◌, ◌∷◌, ◌++◌, [], Ok, Err, IfOk, IfErr, OnOk, MatchResult, true, false};
+ghost use Rattle.std.specs.Prelude.{◌≡◌, ◌≢◌, ◌<◌, ◌⊎◌, ◌∷◌, ◌++◌, [], Ok, Err, IfOk, IfErr, OnOk, MatchResult, length, true, false};
 ghost use mathlib.Core.List.{IsPrefix};
 ghost use Rattle.operation.specs.Spelling.{digest_of};
 ghost use Rattle.site_state.specs.Site.{IsClash};
 ghost use Rattle.site_hub.specs.History.{set_of, entry_of, logged_of};
-ghost use Rattle.site_hub.specs.Hub.{WasHeld, HasStayed, IsTurn, IsLater};
+ghost use Rattle.site_hub.specs.Hub.{WasHeld, HasStayed, HasKept, IsTurn, IsLater};
+ghost use Rattle.site_hub.specs.Refused.{CountsUnless, Tells};
 
 use crate::book::{Book, Front, HubName};
 use crate::entry::{Entry, Log, Logged};
 use crate::fault::HubFault;
 use crate::pair::{Pair, Shows};
 use crate::pass::Pass;
+use crate::refusals::Refusals;
 use crate::snapshot::{Item, Snapshot};
 use crate::told::Told;
 use octets::ListOf;
@@ -18,9 +20,6 @@ use operation::{Digested, Taken};
 use site_state::Site;
 use std::marker::Model;
 use std::sync::Wait;
-
-/// More entries than a history ever has.
-const MOST: u64 = 1 << 61;
 
 /// Contracts see what is published, and the whole history with what is pending behind it.
 pub struct Keeper<H: HubName, T: Shows<H>, R: Wait + Drop> {
@@ -63,39 +62,48 @@ impl<H: HubName, T: Shows<H>, R: Wait + Drop> Model for Keeper<H, T, R> {
 
 impl<H: HubName, T: Shows<H>, R: Wait + Drop> Keeper<H, T, R> {
     /// Publishes all. False where memory ran out: then what is published stays.
-    pub(crate) fn flush(&mut self) -> bool
+    pub(crate) fn flush(&mut self, refusals: &mut Refusals) -> bool
         ensures all { self.new.all ≡ self.old.all }
         ensures shown { result ≡ true → self.new.published ≡ self.new.all }
         ensures kept { result ≡ false → self.new.published ≡ self.old.published }
+        ensures counted { CountsUnless result refusals.old.count refusals.new.count }
     {
         if let Some(item) = self.late.take() {
-            if let Err(item) = self.pair.append(item) {
+            if let Err(item) = refusals.append(&mut self.pair, item) {
                 self.late = Some(item);
                 return false;
             }
         }
-        self.pair.publish()
+        refusals.publish(&mut self.pair)
     }
 
-    /// Whether a pass's turn has come: the history goes on from all that it had seen.
-    pub(crate) fn is_turn(&self, pass: &Pass<H>) -> bool
-        ensures { result ≡ true → IsTurn H.opening pass.now self.now.all }
+    /// Whether the turn has come of a pass that has seen this: the history goes on from it.
+    pub(crate) fn is_turn(&self, seen: &Front<H>, refusals: &mut Refusals) -> bool
+        ensures turn { result ≡ true → IsTurn H.opening seen.now self.now.all }
+        ensures shorter { result ≡ false → length self.now.all < length seen.now }
+        ensures counted { CountsUnless result refusals.old.count refusals.new.count }
     {
         self.front.see_history();
-        pass.seen.begins(&self.front)
+        refusals.begins(seen, &self.front)
     }
 
     /// Whether an operation is held at a pass's turn, or `Collision` where its digest is held with
     /// another.
     #[tactic(auto, using(crate::proofs::Histories::clash))]
-    pub(crate) fn check(&self, pass: &Pass<H>, op: &Digested) -> Result<Taken, HubFault>
+    pub(crate) fn check(
+        &self,
+        seen: &Front<H>,
+        refusals: &mut Refusals,
+        op: &Digested,
+    ) -> Result<Taken, HubFault>
         requires { self.now.published ≡ self.now.all }
         ensures held { MatchResult result (WasHeld (set_of H.opening self.now.all) op.now)
             (λ e. (e ≡ HubFault.Busy)
             ⊎ ((e ≡ HubFault.Collision) × IsClash (set_of H.opening self.now.all) op.now)) }
-        ensures turn { result ≢ Err HubFault.Busy → IsTurn H.opening pass.now self.now.all }
+        ensures turn { result ≢ Err HubFault.Busy → IsTurn H.opening seen.now self.now.all }
+        ensures counted { Tells result refusals.old.count refusals.new.count }
     {
-        if !self.is_turn(pass) {
+        if !self.is_turn(seen, refusals) {
             return Err(HubFault::Busy);
         }
         match self.pair.site().op(op.digest()) {
@@ -117,7 +125,7 @@ impl<H: HubName, T: Shows<H>, R: Wait + Drop> Keeper<H, T, R> {
         taken: Taken,
     ) -> Result<Told<H>, HubFault>
         requires shown { self.old.published ≡ self.old.all }
-        requires turn { IsTurn H.opening pass.old self.old.all }
+        requires turn { IsTurn H.opening pass.old.seen self.old.all }
         requires held { WasHeld (set_of H.opening self.old.all) op taken }
         ensures told { IfOk result (λ told.
             told ≡ record { reached = self.new.all; taken = taken }) }
@@ -136,22 +144,20 @@ impl<H: HubName, T: Shows<H>, R: Wait + Drop> Keeper<H, T, R> {
             × (pass.new.mine ≡ pass.old.mine ++ digest_of op ∷ [])
             × (pass.new.seen ≡ pass.old.seen)) }
         ensures kept { IfErr result (λ e. (e ≡ HubFault.Pending)
-            ⊎ ((self.new ≡ self.old) × (pass.new ≡ pass.old))) }
+            ⊎ ((self.new ≡ self.old) × HasKept pass.old pass.new)) }
         ensures fault { IfErr result (λ e.
             (e ≡ HubFault.Busy) ⊎ (e ≡ HubFault.Memory) ⊎ (e ≡ HubFault.Pending)) }
+        ensures counted { Tells result pass.old.refused pass.new.refused }
     {
         let digest = *op.digest();
         if pass.mine.reserve(1).is_err() || self.log.reserve(1).is_err() {
             return Err(HubFault::Memory);
         }
-        if self.front.len() > MOST {
-            return Err(HubFault::Busy);
-        }
         let entry = Entry {
             pass: pass.number,
             op,
         };
-        let Some(front) = self.front.again().add(&self.book, &entry) else {
+        let Some(front) = pass.refusals.add(self.front.again(), &self.book, &entry) else {
             return Err(HubFault::Busy);
         };
         pass.mine.push_reserved(digest);
@@ -161,7 +167,7 @@ impl<H: HubName, T: Shows<H>, R: Wait + Drop> Keeper<H, T, R> {
         });
         self.late = Some(Item::new(entry, front.again()));
         self.front = front;
-        if !self.flush() {
+        if !self.flush(&mut pass.refusals) {
             return Err(HubFault::Pending);
         }
         pass.seen = self.front.again();
@@ -181,7 +187,7 @@ impl<H: HubName, T: Shows<H>, R: Wait + Drop> Keeper<H, T, R> {
         ensures told { IfOk result (λ told. told.reached ≡ self.new.all) }
         ensures taken { IfOk result (λ told.
             WasHeld (set_of H.opening self.old.all) op told.taken) }
-        ensures turn { OnOk result (IsTurn H.opening pass.old self.old.all) }
+        ensures turn { OnOk result (IsTurn H.opening pass.old.seen self.old.all) }
         ensures history { OnOk result (self.new.all
             ≡ self.old.all ++ entry_of pass.old.number op ∷ []) }
         ensures published { OnOk result (self.new.published ≡ self.new.all) }
@@ -200,16 +206,18 @@ impl<H: HubName, T: Shows<H>, R: Wait + Drop> Keeper<H, T, R> {
             × (pass.new.seen ≡ pass.old.seen)) }
         ensures unpublished { result ≡ Err HubFault.Pending → self.new.published ≡ self.old.all }
         ensures collision { result ≡ Err HubFault.Collision →
-            IsTurn H.opening pass.old self.old.all × IsClash (set_of H.opening self.old.all) op }
+            IsTurn H.opening pass.old.seen self.old.all
+            × IsClash (set_of H.opening self.old.all) op }
         ensures kept { IfErr result (λ e. (e ≡ HubFault.Pending)
-            ⊎ (HasStayed self.old self.new × (pass.new ≡ pass.old))) }
+            ⊎ (HasStayed self.old self.new × HasKept pass.old pass.new)) }
         ensures fault { IfErr result (λ e. (e ≡ HubFault.Busy) ⊎ (e ≡ HubFault.Collision)
             ⊎ (e ≡ HubFault.Memory) ⊎ (e ≡ HubFault.Pending)) }
+        ensures counted { Tells result pass.old.refused pass.new.refused }
     {
-        if !self.flush() {
+        if !self.flush(&mut pass.refusals) {
             return Err(HubFault::Memory);
         }
-        let taken = self.check(pass, &op)?;
+        let taken = self.check(&pass.seen, &mut pass.refusals, &op)?;
         self.add(pass, op, taken)
     }
 }

@@ -3,7 +3,8 @@ ghost use Rattle.std.specs.Prelude.{◌≡◌, Err, IfOk, IfErr};
 ghost use Rattle.site_state.specs.Site.{Map};
 ghost use Rattle.site_hub.specs.Fault.{IsLookFault};
 ghost use Rattle.site_hub.specs.History.{set_of};
-ghost use Rattle.site_hub.specs.Hub.{HasLooked};
+ghost use Rattle.site_hub.specs.Hub.{HasKept, HasLooked};
+ghost use Rattle.site_hub.specs.Refused.{Tells};
 
 use crate::book::HubName;
 use crate::fault::HubFault;
@@ -27,13 +28,14 @@ impl<H: HubName> Pass<H> {
             Q.answers question.now (set_of H.opening self.new.seen) answer) }
         ensures looked { HasLooked self.old self.new }
         ensures fault { IfErr result IsLookFault }
-        ensures busy { result ≡ Err HubFault.Busy → self.new ≡ self.old }
+        ensures busy { result ≡ Err HubFault.Busy → HasKept self.old self.new }
+        ensures counted { Tells result self.old.refused self.new.refused }
     {
-        let Some(guard) = self.reader.enter() else {
+        let Some(guard) = self.refusals.enter(&mut self.reader) else {
             return Err(HubFault::Busy);
         };
         let front = guard.front();
-        if !self.seen.begins(&front) {
+        if !self.refusals.begins(&self.seen, &front) {
             return Err(HubFault::Busy);
         }
         let answer = question.answer(self.alloc, guard.site());

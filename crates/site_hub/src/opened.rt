@@ -7,6 +7,7 @@ use crate::fault::HubFault;
 use crate::keeper::Keeper;
 use crate::pair::Pair;
 use crate::pass::Pass;
+use crate::refusals::Refusals;
 use crate::snapshot::{Item, Snapshot};
 use left_right::WriteHandle;
 use site_state::Site;
@@ -105,6 +106,7 @@ fn pass_of<H: HubName, R: Wait + Drop>(
         number,
         seen,
         mine: Vec::new(alloc),
+        refusals: Refusals::new(),
         alloc,
     })
 }

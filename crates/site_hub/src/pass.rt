@@ -7,11 +7,13 @@ ghost use Rattle.retrieve_model.specs.Preparing.{prepared_of};
 ghost use Rattle.retrieve_model.specs.Sending.{Gets};
 ghost use Rattle.site_hub.specs.Fault.{IsLookFault};
 ghost use Rattle.site_hub.specs.History.{set_of, missing_from, IsHistory};
-ghost use Rattle.site_hub.specs.Hub.{HasLooked};
+ghost use Rattle.site_hub.specs.Hub.{HasKept, HasLooked};
+ghost use Rattle.site_hub.specs.Refused.{Tells};
 
 use crate::book::{Front, HubName};
 use crate::fault::HubFault;
 use crate::questions::{AllDigests, Finding, Getting, Missing, OpOf, Preparing};
+use crate::refusals::Refusals;
 use crate::snapshot::Snapshot;
 use crate::told::Told;
 use archive_model::View;
@@ -26,12 +28,14 @@ use std::marker::Model;
 ///
 /// Each look answers over a history that begins with all that the pass had seen, and which is seen
 /// from then on, also where memory was refused for the answer. A look is `Busy`, and changes
-/// nothing, where the copy that is published is older than that, or no copy can be entered.
+/// nothing but the count of refusals, where the copy that is published is older than that, or no
+/// copy can be entered, and nowhere else.
 pub struct Pass<H: HubName> {
     pub(crate) reader: ReadHandle<Snapshot<H>>,
     pub(crate) number: u64,
     pub(crate) seen: Front<H>,
     pub(crate) mine: Vec<Digest>,
+    pub(crate) refusals: Refusals,
     pub(crate) alloc: Global,
 }
 
@@ -40,7 +44,12 @@ impl<H: HubName> Model for Pass<H> {
 
     ghost Value = { Seat };
 
-    ghost view = { λ p. record { number = p.number; seen = p.seen; mine = p.mine.items } };
+    ghost view = { λ p. record {
+      number = p.number;
+      seen = p.seen;
+      mine = p.mine.items;
+      refused = p.refusals.count;
+    } };
 }
 
 // It is written out, so that a caller does not prove again how each part is dropped.
@@ -51,6 +60,7 @@ impl<H: HubName> Drop for Pass<H> {
             number: _,
             seen: _,
             mine: _,
+            refusals: _,
             alloc: _,
         } = self;
     }
@@ -80,7 +90,8 @@ impl<H: HubName> Pass<H> {
             rows_of view called.now query.now (ops_of (set_of H.opening self.new.seen))) }
         ensures looked { HasLooked self.old self.new }
         ensures fault { IfErr result IsLookFault }
-        ensures busy { result ≡ Err HubFault.Busy → self.new ≡ self.old }
+        ensures busy { result ≡ Err HubFault.Busy → HasKept self.old self.new }
+        ensures counted { Tells result self.old.refused self.new.refused }
     {
         let found = self.look(&Finding { view, query })?;
         match rows_found(self.alloc, &found, called, query) {
@@ -100,7 +111,8 @@ impl<H: HubName> Pass<H> {
             (ops_of (set_of H.opening self.new.seen)) found.items) }
         ensures looked { HasLooked self.old self.new }
         ensures fault { IfErr result IsLookFault }
-        ensures busy { result ≡ Err HubFault.Busy → self.new ≡ self.old }
+        ensures busy { result ≡ Err HubFault.Busy → HasKept self.old self.new }
+        ensures counted { Tells result self.old.refused self.new.refused }
     {
         self.look(&Getting {
             view,
@@ -116,7 +128,8 @@ impl<H: HubName> Pass<H> {
             (ops_of (set_of H.opening self.new.seen))) }
         ensures looked { HasLooked self.old self.new }
         ensures fault { IfErr result IsLookFault }
-        ensures busy { result ≡ Err HubFault.Busy → self.new ≡ self.old }
+        ensures busy { result ≡ Err HubFault.Busy → HasKept self.old self.new }
+        ensures counted { Tells result self.old.refused self.new.refused }
     {
         self.look(&Preparing { view, selection })
     }
@@ -127,7 +140,8 @@ impl<H: HubName> Pass<H> {
             missing_from (set_of H.opening self.new.seen) digests.now) }
         ensures looked { HasLooked self.old self.new }
         ensures fault { IfErr result IsLookFault }
-        ensures busy { result ≡ Err HubFault.Busy → self.new ≡ self.old }
+        ensures busy { result ≡ Err HubFault.Busy → HasKept self.old self.new }
+        ensures counted { Tells result self.old.refused self.new.refused }
     {
         self.look(&Missing { digests })
     }
@@ -138,7 +152,8 @@ impl<H: HubName> Pass<H> {
             digests_of (set_of H.opening self.new.seen)) }
         ensures looked { HasLooked self.old self.new }
         ensures fault { IfErr result IsLookFault }
-        ensures busy { result ≡ Err HubFault.Busy → self.new ≡ self.old }
+        ensures busy { result ≡ Err HubFault.Busy → HasKept self.old self.new }
+        ensures counted { Tells result self.old.refused self.new.refused }
     {
         self.look(&AllDigests)
     }
@@ -149,7 +164,8 @@ impl<H: HubName> Pass<H> {
             held_at (set_of H.opening self.new.seen) digest.now) }
         ensures looked { HasLooked self.old self.new }
         ensures fault { IfErr result IsLookFault }
-        ensures busy { result ≡ Err HubFault.Busy → self.new ≡ self.old }
+        ensures busy { result ≡ Err HubFault.Busy → HasKept self.old self.new }
+        ensures counted { Tells result self.old.refused self.new.refused }
     {
         self.look(&OpOf { digest })
     }

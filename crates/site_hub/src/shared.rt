@@ -4,7 +4,8 @@ ghost use Rattle.operation.specs.declared.op.Op.TheVariants.{Correction as a_cor
 ghost use Rattle.operation.specs.Parts.{CorrectionParts};
 ghost use Rattle.operation.specs.Spelling.{digest_of};
 ghost use Rattle.site_hub.specs.History.{set_of, entry_of, EndsWith};
-ghost use Rattle.site_hub.specs.Hub.{IsTaken, IsClashed, IsLater};
+ghost use Rattle.site_hub.specs.Hub.{IsTaken, IsClashed, HasKept, IsLater};
+ghost use Rattle.site_hub.specs.Refused.{Tells};
 ghost use Rattle.site_hub.specs.Stamps.{may_be_made, HasLesser, IsMade, IsNext, IsBarred};
 ghost use mathlib.Core.List.{IsPrefix};
 
@@ -40,7 +41,8 @@ pub fn store<H: HubName, T: Shows<H>, R: Wait + Drop>(
     ensures pending { IfErr result (λ e. e ≡ HubFault.Pending →
         (pass.new.mine ≡ pass.old.mine ++ digest_of op ∷ []) × (pass.new.seen ≡ pass.old.seen)) }
     ensures collision { result ≡ Err HubFault.Collision → IsClashed H.opening pass.old op }
-    ensures kept { IfErr result (λ e. (e ≡ HubFault.Pending) ⊎ (pass.new ≡ pass.old)) }
+    ensures kept { IfErr result (λ e. (e ≡ HubFault.Pending) ⊎ HasKept pass.old pass.new) }
+    ensures counted { Tells result pass.old.refused pass.new.refused }
     ensures fault { IfErr result (λ e. (e ≡ HubFault.Busy) ⊎ (e ≡ HubFault.Collision)
         ⊎ (e ≡ HubFault.Memory) ⊎ (e ≡ HubFault.Pending)) }
 {
@@ -69,7 +71,8 @@ pub fn store_digested<H: HubName, T: Shows<H>, R: Wait + Drop>(
     ensures pending { IfErr result (λ e. e ≡ HubFault.Pending →
         (pass.new.mine ≡ pass.old.mine ++ digest_of op ∷ []) × (pass.new.seen ≡ pass.old.seen)) }
     ensures collision { result ≡ Err HubFault.Collision → IsClashed H.opening pass.old op }
-    ensures kept { IfErr result (λ e. (e ≡ HubFault.Pending) ⊎ (pass.new ≡ pass.old)) }
+    ensures kept { IfErr result (λ e. (e ≡ HubFault.Pending) ⊎ HasKept pass.old pass.new) }
+    ensures counted { Tells result pass.old.refused pass.new.refused }
     ensures fault { IfErr result (λ e. (e ≡ HubFault.Busy) ⊎ (e ≡ HubFault.Collision)
         ⊎ (e ≡ HubFault.Memory) ⊎ (e ≡ HubFault.Pending)) }
 {
@@ -114,7 +117,8 @@ pub fn correct<H: HubName, T: Shows<H>, R: Wait + Drop>(
         × (pass.new.seen ≡ pass.old.seen)) }
     ensures collision { result ≡ Err HubFault.Collision →
         IsBarred H.number H.opening pass.old target tag value }
-    ensures kept { IfErr result (λ e. (e ≡ HubFault.Pending) ⊎ (pass.new ≡ pass.old)) }
+    ensures kept { IfErr result (λ e. (e ≡ HubFault.Pending) ⊎ HasKept pass.old pass.new) }
+    ensures counted { Tells result pass.old.refused pass.new.refused }
     ensures fault { IfErr result (λ e. (e ≡ HubFault.BadCorrection)
         ⊎ (e ≡ HubFault.StampsSpent) ⊎ (e ≡ HubFault.Busy) ⊎ (e ≡ HubFault.Collision)
         ⊎ (e ≡ HubFault.Memory) ⊎ (e ≡ HubFault.Pending)) }

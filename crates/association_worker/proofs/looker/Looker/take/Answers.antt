@@ -1,5 +1,6 @@
-use Rattle.association_worker.proofs.HubLaws.{pass_stores}
-use Rattle.association_worker.proofs.hub_port.HubPort.take.Goals as goal
+use Rattle.operation.specs.Spelling.{digest_of}
+use Rattle.association_worker.proofs.HubLaws.{pass_stores, refused_unseen, busy_take}
+use Rattle.association_worker.proofs.looker.Looker.take.Goals as goal
 
 -- What the keeper takes for the pass is stored at the port.
 pub returns-clause-stores : goal.returns-clause-stores
@@ -9,3 +10,17 @@ returns-clause-stores g c =
     c.store_digested-told.result c.reply.result c.reply.ensures c.see_history.ensures
     (rw (← c.self.view_is) told.later) (rw (← c.self.view_is) told.taken) (rw (← c.self.view_is) told.mine)
     (rw (← c.self.view_is) told.pending) (rw (← c.self.view_is) told.collision) (rw (← c.self.view_is) told.kept)
+
+-- What is refused was not published.
+pub returns-clause-refused : goal.returns-clause-refused
+returns-clause-refused g c =
+    let told = c.store_digested-told.ensures in
+    refused_unseen c.args.self.now c.store_digested-told.new.pass (digest_of c.args.op) c.store_digested-told.result
+    c.reply.result c.reply.ensures (rw (← c.self.view_is) told.pending) (rw (← c.self.view_is) told.kept)
+
+-- It is busy where the keeper was.
+pub returns-clause-busy : goal.returns-clause-busy
+returns-clause-busy g c =
+    let told = c.store_digested-told.ensures in
+    busy_take c.args.self.now.refused c.store_digested-told.new.pass.refused c.store_digested-told.result
+    c.reply.result c.reply.ensures (rw (← c.self.view_is) told.counted)

@@ -2,7 +2,7 @@ use Rattle.std.proofs.Common.{rules, ◌≡◌, ◌∷◌, ◌++◌, [], sym}
 use Rattle.site_hub.proofs.Fronts.{prefix_trans}
 use Rattle.operation.specs.Spelling.{digest_of}
 use Rattle.site_hub.specs.History.{entry_of}
-use Rattle.site_hub.proofs.Laters.{later_same, later_by, later_pending}
+use Rattle.site_hub.proofs.Laters.{later_same, later_kept, later_by, later_pending}
 use Rattle.site_hub.proofs.keeper.Keeper.add.Goals as goal
 
 -- What the pass had seen begins the history before, which begins the history after.
@@ -17,9 +17,9 @@ returns-clause-older g c =
 pub returns-then-is_err-clause-later : goal.returns-then-is_err-clause-later
 returns-then-is_err-clause-later g c = later_same _ _ (search rules)
 
--- There is room for one digest more, and the pass is as it was.
+-- There is room for one digest more, and the pass is as it was, but for the refusal.
 pub returns-in_default-clause-later : goal.returns-in_default-clause-later
-returns-in_default-clause-later g c = later_same _ _ (search rules)
+returns-in_default-clause-later g c = later_kept _ _ (search rules) (search rules) (search rules)
 
 -- The digest is the pass's own, and it has seen nothing yet.
 pub returns-then-not-flush-clause-later : goal.returns-then-not-flush-clause-later
