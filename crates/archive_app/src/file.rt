@@ -4,7 +4,7 @@ use crate::refused::{Refused, note};
 use command_output::{
     CommandFault, FileCause, Note, file_cause_in_error, file_cause_of, is_other, lacks_log,
 };
-use op_shelf::{Shelf, ShelfFault, make_ready};
+use op_shelf::{Shelf, ShelfFault, StoreCause, make_ready};
 use sqlite::{Alter, Connection, Error, FileFrom, FileStore, Start, Wary};
 use std::alloc::AllocError;
 use std::fs;
@@ -129,8 +129,8 @@ pub fn adopted<'a, S: Alter + Drop>(
 ) -> Result<Shelf<S>, Refused<'a>> {
     match make_ready(&mut database, rt.alloc()) {
         Ok(()) => {}
-        Err(ShelfFault::Store) if !database.schema().tables.is_empty() => {
-            let fault = CommandFault::Shelf(ShelfFault::Store);
+        Err(ShelfFault::Store(StoreCause::Other)) if !database.schema().tables.is_empty() => {
+            let fault = CommandFault::Shelf(ShelfFault::Store(StoreCause::Other));
             return Err(Refused::file(file, fault, FileCause::OtherDatabase));
         }
         Err(fault) => return Err(Refused::of(file, CommandFault::Shelf(fault))),
@@ -144,8 +144,8 @@ pub fn adopted<'a, S: Alter + Drop>(
 /// The fault of a database that is not opened.
 pub fn refused<'a>(rt: &HostRuntime, file: &'a str, error: Error) -> Refused<'a> {
     match ShelfFault::from(error) {
-        ShelfFault::Store => {
-            let fault = CommandFault::Shelf(ShelfFault::Store);
+        ShelfFault::Store(why) => {
+            let fault = CommandFault::Shelf(ShelfFault::Store(why));
             Refused::file(file, fault, cause_of(rt, file, error))
         }
         fault => Refused::of(file, CommandFault::Shelf(fault)),
@@ -169,7 +169,7 @@ fn shelf_in<'a, S: Start>(
 pub fn open_shelf<'a>(rt: &HostRuntime, file: &'a str) -> Result<FileShelf, Refused<'a>> {
     if let Some(front) = front_of(rt, file) {
         if is_other(front.as_slice()) {
-            let fault = CommandFault::Shelf(ShelfFault::Store);
+            let fault = CommandFault::Shelf(ShelfFault::Store(StoreCause::Other));
             return Err(Refused::file(file, fault, FileCause::OtherKind));
         }
         note_log(rt, file);

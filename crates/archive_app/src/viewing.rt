@@ -7,7 +7,7 @@ ghost use Rattle.sqlite_disk.specs.Memory.{memory_is_usable};
 use crate::file::{OnShelf, adopted, beside, front_of, is_new, note_log, on_file, refused};
 use crate::refused::Refused;
 use command_output::{CommandFault, FileCause, file_cause_of, is_other};
-use op_shelf::{Shelf, ShelfFault};
+use op_shelf::{Shelf, ShelfFault, StoreCause};
 use os::RangeLock;
 use sqlite::{Connection, FileStore, Files, Options};
 use sqlite_disk::{Disk, Memory as InMemory};
@@ -86,7 +86,7 @@ fn copied(rt: &HostRuntime, file: &str) -> io::Result<Files<InMemory>>
 
 /// Why a file is not read.
 fn unread<'a>(file: &'a str, kind: ErrorKind) -> Refused<'a> {
-    let fault = CommandFault::Shelf(ShelfFault::Store);
+    let fault = CommandFault::Shelf(ShelfFault::Store(StoreCause::Other));
     match kind {
         ErrorKind::OutOfMemory => Refused::of(file, CommandFault::Shelf(ShelfFault::Memory)),
         ErrorKind::ResourceBusy => Refused::file(file, fault, FileCause::InUse),

@@ -53,7 +53,7 @@ all_behind up holds lasts (a ∷ xs) (b ∷ ys) x y all one = (all.0, all_behind
 -- where the shelf refused, all stays
 pub refused_as : {P : Type 0} (ops : P → List Op) (own : P → List (List ℕ)) (before : P) (op : Op) (fault : ShelfFault)
     → Stores ops own before op (Err (port_fault_of fault)) before
-refused_as ops own before op shelf_faults.Store = record { kept = λ o held. held; replied = refl; turn = tt }
+refused_as ops own before op (shelf_faults.Store _) = record { kept = λ o held. held; replied = refl; turn = tt }
 refused_as ops own before op shelf_faults.BadRow = record { kept = λ o held. held; replied = refl; turn = tt }
 refused_as ops own before op shelf_faults.Memory = record { kept = λ o held. held; replied = inl refl; turn = tt }
 

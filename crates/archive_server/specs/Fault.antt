@@ -9,7 +9,7 @@ use Rattle.archive_server.specs.declared.fault.NetFault.TheVariants as net_fault
 
 -- what a fault of the shelf is to an association
 abbrev pub port_fault_of : ShelfFault → PortFault
-port_fault_of shelf_faults.Store = Shelf
+port_fault_of (shelf_faults.Store _) = Shelf
 port_fault_of shelf_faults.BadRow = Shelf
 port_fault_of shelf_faults.Memory = Memory
 

@@ -6,7 +6,7 @@ ghost use Rattle.shelved_exchange.specs.Putting.{WasPut};
 
 use crate::message::{Reply, Request, Shelved};
 use crossbeam_channel::{Receiver, Sender, bounded};
-use op_shelf::{Keep, ShelfFault};
+use op_shelf::{Keep, ShelfFault, StoreCause};
 use operation::{Digest, Digested, Op};
 use shelved_exchange::{Put, put_all, put_shown, shown};
 use std::alloc::{AllocError, Global};
@@ -174,7 +174,7 @@ fn of_this<K: Keep>(
     if shelved.digest.as_bytes().as_slice() == digest.as_bytes().as_slice() {
         return Ok(shelved);
     }
-    Err(ShelfFault::Store)
+    Err(ShelfFault::Store(StoreCause::Other))
 }
 
 /// Asks for a put, and waits for the answer. Nothing is hashed, and the bytes of a data set are
@@ -193,10 +193,10 @@ pub(crate) fn ask<K: Keep, S: Wait>(
         reply,
     };
     if to.send(rt, request).is_err() {
-        return Err(ShelfFault::Store);
+        return Err(ShelfFault::Store(StoreCause::Other));
     }
     let Ok(Reply { kept }) = answer.recv(rt) else {
-        return Err(ShelfFault::Store);
+        return Err(ShelfFault::Store(StoreCause::Other));
     };
     of_this(op.digest(), kept)
 }

@@ -59,7 +59,7 @@ fn fault_of_shelf(fault: ShelfFault) -> PortFault
 {
     match fault {
         ShelfFault::Memory => PortFault::Memory,
-        ShelfFault::Store | ShelfFault::BadRow => PortFault::Shelf,
+        ShelfFault::Store(_) | ShelfFault::BadRow => PortFault::Shelf,
     }
 }
 

@@ -1,5 +1,5 @@
 -- Why a command is refused, in words.
-use Rattle.std.specs.Prelude.{ℕ, List, codes, Option, Some, None}
+use Rattle.std.specs.Prelude.{ℕ, ◌≡◌, ◌↔◌, List, codes, Option, Some, None}
 use Rattle.std.specs.declared.io.ErrorKind.{ErrorKind}
 use Rattle.std.specs.declared.io.ErrorKind.TheVariants as kind
 use Rattle.sqlite.specs.declared.error.Error.{Error}
@@ -8,7 +8,10 @@ use Rattle.sqlite.specs.declared.error.ErrorCode.TheVariants as code
 use Rattle.command_words.specs.declared.parts.Part.{Part}
 use Rattle.command_words.specs.declared.parts.Part.TheVariants as part
 use Rattle.site_simulation.specs.declared.run.SimFault.TheVariants as sim
+use Rattle.op_shelf.specs.Fault.{fault_of}
 use Rattle.op_shelf.specs.declared.fault.ShelfFault.TheVariants as shelf
+use Rattle.op_shelf.specs.declared.fault.StoreCause.{StoreCause}
+use Rattle.op_shelf.specs.declared.fault.StoreCause.TheVariants as why
 use Rattle.site_state.specs.declared.fault.SiteFault.TheVariants as site
 use Rattle.site_hub.specs.declared.fault.HubFault.TheVariants as hub
 use Rattle.association_run.specs.declared.fault.RunFault.TheVariants as run
@@ -36,7 +39,7 @@ words_of_file file.OtherDatabase = codes "it is another program's database"
 words_of_file file.Damaged = codes "it is damaged, or no archive's file"
 words_of_file file.Journal = codes "a rollback journal is beside it: open it with sqlite3 first"
 words_of_file file.Full = codes "the disk is full"
-words_of_file file.Failed = codes "the disk is full, or failed"
+words_of_file file.Failed = codes "the disk failed"
 words_of_file file.Unopened = codes "it could not be opened"
 
 -- what an address refuses for
@@ -57,6 +60,14 @@ words_of_part part.Key = codes "KEY is no UID, or no Patient ID, that a target c
 words_of_part part.Tag = codes "TAG is no attribute of this target that can be corrected"
 words_of_part part.Value = codes "VALUE is longer than 64, or has a byte or an outer space that it may not have"
 
+-- what the database of a shelf refuses for
+abbrev pub words_of_store : StoreCause → List ℕ
+words_of_store why.Full = codes "the disk is full"
+words_of_store why.Failed = codes "the disk failed"
+words_of_store why.Closed = codes "the disk failed before, and it was closed"
+words_of_store why.Damaged = codes "it is damaged"
+words_of_store why.Other = codes "its database refused"
+
 -- what a fault alone says
 abbrev pub words_of_fault : CommandFault → List ℕ
 words_of_fault (fault.Simulate sim.Read) = codes "standard input could not be read"
@@ -64,7 +75,7 @@ words_of_fault (fault.Simulate sim.Write) = codes "standard output could not be 
 words_of_fault (fault.Simulate sim.LongLine) = codes "a line is longer than 65,536 bytes"
 words_of_fault (fault.Simulate sim.Memory) = codes "memory was refused"
 words_of_fault (fault.Simulate sim.Turns) = codes "the script does not end"
-words_of_fault (fault.Shelf shelf.Store) = codes "the disk is full, or failed"
+words_of_fault (fault.Shelf (shelf.Store cause)) = words_of_store cause
 words_of_fault (fault.Shelf shelf.BadRow) = codes "an operation in it is not what its digest says"
 words_of_fault (fault.Shelf shelf.Memory) = codes "memory was refused"
 words_of_fault (fault.Site site.Collision) = codes "two different operations have one digest"
@@ -90,6 +101,12 @@ words_of_fault (fault.Exchange exchange.Refused) = codes "an operation was refus
 words_of_fault (fault.Net net.Listen) = codes "nothing can listen there"
 words_of_fault (fault.Net net.Accept) = codes "a connection could not be accepted"
 words_of_fault (fault.Net net.Connect) = codes "it could not be reached"
+
+-- Of a shelf it is said that the disk is full exactly where its database said that there is no room.
+abbrev pub SaysFullOfAFullDisk : Type 0
+SaysFullOfAFullDisk =
+    (error : Error) → (words_of_fault (fault.Shelf (fault_of error)) ≡ codes "the disk is full")
+    ↔ (error ≡ SqliteFailure code.DiskFull)
 
 -- a cause in words
 abbrev pub words_of : Cause → List ℕ

@@ -1,14 +1,14 @@
 //! Why a command is refused, in words: the second line on standard error.
 
 ghost use Rattle.std.specs.Prelude.{◌≡◌};
-ghost use Rattle.command_output.specs.Causes.{words_of_file, words_of_net, words_of_part, words_of_fault, words_of as words_in, file_cause_of as file_cause_in, file_cause_in_error, listen_cause_of as listen_cause_in, reach_cause_of as reach_cause_in};
+ghost use Rattle.command_output.specs.Causes.{SaysFullOfAFullDisk, words_of_file, words_of_net, words_of_part, words_of_store, words_of_fault, words_of as words_in, file_cause_of as file_cause_in, file_cause_in_error, listen_cause_of as listen_cause_in, reach_cause_of as reach_cause_in};
 
 use crate::ending::CommandFault;
 use archive_server::NetFault;
 use association_run::RunFault;
 use command_words::Part;
 use exchange::ExchangeFault;
-use op_shelf::ShelfFault;
+use op_shelf::{ShelfFault, StoreCause};
 use site_hub::HubFault;
 use site_simulation::SimFault;
 use site_state::SiteFault;
@@ -30,7 +30,7 @@ pub enum FileCause {
     Damaged,
     Journal,
     Full,
-    /// The disk refused, and did not say more.
+    /// The disk failed, for another cause than want of room.
     Failed,
     /// It was not opened, and no more is known.
     Unopened,
@@ -136,7 +136,7 @@ fn words_of_file(cause: FileCause) -> &'static str
         FileCause::Damaged => "it is damaged, or no archive's file",
         FileCause::Journal => "a rollback journal is beside it: open it with sqlite3 first",
         FileCause::Full => "the disk is full",
-        FileCause::Failed => "the disk is full, or failed",
+        FileCause::Failed => "the disk failed",
         FileCause::Unopened => "it could not be opened",
     }
 }
@@ -180,11 +180,23 @@ fn words_of_script(fault: SimFault) -> &'static str
     }
 }
 
+fn words_of_store(cause: StoreCause) -> &'static str
+    ensures { result.now ≡ words_of_store cause }
+{
+    match cause {
+        StoreCause::Full => "the disk is full",
+        StoreCause::Failed => "the disk failed",
+        StoreCause::Closed => "the disk failed before, and it was closed",
+        StoreCause::Damaged => "it is damaged",
+        StoreCause::Other => "its database refused",
+    }
+}
+
 fn words_of_shelf(fault: ShelfFault) -> &'static str
     ensures { result.now ≡ words_of_fault (CommandFault.Shelf fault) }
 {
     match fault {
-        ShelfFault::Store => "the disk is full, or failed",
+        ShelfFault::Store(cause) => words_of_store(cause),
         ShelfFault::BadRow => "an operation in it is not what its digest says",
         ShelfFault::Memory => "memory was refused",
     }
@@ -261,6 +273,12 @@ fn words_of_fault(fault: CommandFault) -> &'static str
         CommandFault::Net(fault) => words_of_refused(fault),
     }
 }
+
+/// Of a shelf that refused a command says that the disk is full exactly where the database said that
+/// there is no room: a law, said as the contract of a function with nothing to do.
+pub fn a_full_disk_is_told_as_one()
+    ensures { SaysFullOfAFullDisk }
+{}
 
 /// A cause in words. It takes no memory.
 pub fn words_of(cause: Cause) -> &'static str

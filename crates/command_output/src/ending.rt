@@ -147,7 +147,7 @@ fn line_of_shelf(fault: ShelfFault) -> &'static str
     ensures { result.now ≡ fault_line (codes "shelf") (number_of_shelf fault) }
 {
     match fault {
-        ShelfFault::Store => "fault shelf 1",
+        ShelfFault::Store(_) => "fault shelf 1",
         ShelfFault::BadRow => "fault shelf 2",
         ShelfFault::Memory => "fault shelf 3",
     }

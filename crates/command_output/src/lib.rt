@@ -7,8 +7,8 @@ mod lines;
 mod notes;
 
 pub use cause::{
-    Cause, FileCause, NetCause, file_cause_in_error, file_cause_of, listen_cause_of,
-    reach_cause_of, words_of,
+    Cause, FileCause, NetCause, a_full_disk_is_told_as_one, file_cause_in_error, file_cause_of,
+    listen_cause_of, reach_cause_of, words_of,
 };
 pub use ending::{CommandFault, Ending, ending_of, status_of_refusal};
 pub use lines::{line_of_stamp, lines_of, lines_of_exchange};

@@ -1,6 +1,6 @@
 -- What a put makes of the operations that a shelf keeps.
 use Rattle.std.proofs.Common.{◌≡◌, ◌⊎◌, ◌↔◌, ◌<◌, inl, inr, zero, suc, List, [], ◌∷◌, Bool, true, false, cond}
-use Rattle.std.proofs.Common.{All, IfOk, IsPermutation, filter, length, Contains, Ok, Err, Result, OnOk, OnErr, refl, sym}
+use Rattle.std.proofs.Common.{All, IfOk, IsTrue, IsPermutation, filter, length, Contains, Ok, Err, Result, OnOk, OnErr, refl, sym}
 use Rattle.std.proofs.Common.{ap, subst, ◌∙◌, arith}
 use Rattle.std.specs.Ordering.{is_eq}
 use Rattle.std.proofs.lemmas.List.Sorted.{IsPermutation-sym, Contains-permutation}
@@ -106,6 +106,21 @@ module _ (s t : State) (op : Op) where
   stays (Ok Known) up put known refused = stays_same (known refl).same.0.now_is
   stays (Err e) up put known refused = stays_same (refused up.is_open).1
 
+  was_open : (r : Result Kept ShelfFault) → IsUp t → (r ≡ Ok New → IsPut s t (digest_text op) (entry_of op))
+      → (r ≡ Ok Known → IsKnown s t (digest_text op) (entry_of op)) → OnErr r (KeepsAll s t) → IsTrue s.is_open
+  was_open (Ok New) up put known refused = (put refl).added.was_open
+  was_open (Ok Known) up put known refused = (known refl).same.0.was_open
+  was_open (Err e) up put known refused = (refused up.is_open).0
+
+  -- what is up afterwards was up
+  pub was_up : (r : Result Kept ShelfFault) → IsUp t → (r ≡ Ok New → IsPut s t (digest_text op) (entry_of op))
+      → (r ≡ Ok Known → IsKnown s t (digest_text op) (entry_of op)) → OnErr r (KeepsAll s t)
+      → Survives s t (λ trees. Adds (rows_of s) (rows_left s trees) (entry_of op)) → IsUp s
+  was_up r up put known refused crash = record {
+    clean = omega (arith, crash.clean, up.clean);
+    is_open = was_open r up put known refused;
+  }
+
   -- what every crash left it leaves afterwards
   pub lasts_on : (r : Result Kept ShelfFault) → IsUp t → (r ≡ Ok New → IsPut s t (digest_text op) (entry_of op))
       → (r ≡ Ok Known → IsKnown s t (digest_text op) (entry_of op)) → OnErr r (KeepsAll s t)
@@ -187,6 +202,19 @@ module _ (s t : State) (ops : List Op) where
     held = λ other was. holds_on (entries (rows_of s)) (entries (rows_of t)) ops (items v) put.rows (entry_of other) was;
   }
   all_stay op (Err e) items up put refused = stays_same s t op (refused up.is_open).1
+
+  all_open : {V : Type 0} (r : Result V ShelfFault) (items : V → List Kept) → IsUp t
+      → IfOk r (λ v. IsPutAll s t ops (items v)) → OnErr r (KeepsAll s t) → IsTrue s.is_open
+  all_open (Ok v) items up put refused = put.was_open
+  all_open (Err e) items up put refused = (refused up.is_open).0
+
+  -- what is up after a group was up
+  pub all_up : {V : Type 0} (r : Result V ShelfFault) (items : V → List Kept) → IsUp t
+      → IfOk r (λ v. IsPutAll s t ops (items v)) → OnErr r (KeepsAll s t) → Survives s t (MayHaveAll s ops) → IsUp s
+  all_up r items up put refused crash = record {
+    clean = omega (arith, crash.clean, up.clean);
+    is_open = all_open r items up put refused;
+  }
 
   -- what every crash left it leaves after a group
   pub all_last : {V : Type 0} (r : Result V ShelfFault) (items : V → List Kept) → IsUp t

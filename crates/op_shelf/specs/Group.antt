@@ -12,9 +12,10 @@ use Rattle.operation.specs.declared.op.Op.{Op}
 use Rattle.op_shelf.specs.declared.kept.Kept.{Kept}
 use Rattle.op_shelf.specs.declared.kept.Kept.TheVariants.{New, Known}
 use Rattle.op_shelf.specs.declared.fault.ShelfFault.TheVariants.{Store}
+use Rattle.op_shelf.specs.declared.fault.StoreCause.{StoreCause}
 use Rattle.op_shelf.specs.Fault.{fault_of}
 use Rattle.op_shelf.specs.Entries.{entries, entry_of, digest_text, Adds}
-use Rattle.op_shelf.specs.States.{among, rows_of, rows_left, IsReady, IsNotShown}
+use Rattle.op_shelf.specs.States.{among, rows_of, rows_left, IsUnready, IsNotShown}
 use Rattle.op_shelf.specs.Table.{IsShelf}
 use Rattle.op_shelf.specs.Texts.{held_text, insert_text}
 
@@ -72,16 +73,16 @@ pub record FindsOther (s : State) (ops : List Op) : Type 0 where
   pub put : PutsAll (entries (rows_of s)) before kepts held
   pub other : Any (λ e. e ≢ entry_of op) (among (digest_text op) held)
 
--- Within a transaction the database refused to look for a digest, or to insert its entry, for another cause than memory.
-abbrev pub IsStuck : {S : Type 0} → Ghosts S → Held S → List ℕ → Row → Type 0
-IsStuck {S} g end digest entry = (mid : Held S) × IsFilling (state g mid)
-    × (IsNotShown held_text (Text digest ∷ []) (state g mid) (state g end)
-    ⊎ ((e : Error) × (fault_of e ≡ Store) × ExecutesInside 0 insert_text entry (state g mid) (state g end) (Err e)))
+-- Within a transaction the database refused to look for a digest, or to insert its entry, for this cause.
+abbrev pub IsStuck : {S : Type 0} → Ghosts S → StoreCause → Held S → List ℕ → Row → Type 0
+IsStuck {S} g why end digest entry = (mid : Held S) × IsFilling (state g mid)
+    × (IsNotShown why held_text (Text digest ∷ []) (state g mid) (state g end)
+    ⊎ ((e : Error) × (fault_of e ≡ Store why) × ExecutesInside 0 insert_text entry (state g mid) (state g end) (Err e)))
 
 -- A group was refused: the table does not stand alone, or the database refused one of it, or then to commit.
-abbrev pub IsNotPut : {S : Type 0} → Ghosts S → Held S → Held S → List Op → Type 0
-IsNotPut {S} g old new ops =
-    (¬ IsReady (state g old)) ⊎ (((op : Op) × Contains ops op × (end : Held S)
-    × IsStuck g end (digest_text op) (entry_of op))
-    ⊎ ((mid : Held S) × (e : Error) × (fault_of e ≡ Store)
+abbrev pub IsNotPut : {S : Type 0} → Ghosts S → StoreCause → Held S → Held S → List Op → Type 0
+IsNotPut {S} g why old new ops =
+    IsUnready why (state g old) ⊎ (((op : Op) × Contains ops op × (end : Held S)
+    × IsStuck g why end (digest_text op) (entry_of op))
+    ⊎ ((mid : Held S) × (e : Error) × (fault_of e ≡ Store why)
     × FailsToCommit (state g mid) (state g new) e))

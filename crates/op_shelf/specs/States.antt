@@ -13,6 +13,8 @@ use Rattle.sqlite.specs.State.{State, HasCleanDisk, IsUnchanged, IsRolledBack, F
 use Rattle.sqlite.specs.declared.error.Error.{Error}
 use Rattle.op_shelf.specs.declared.fault.ShelfFault.{ShelfFault}
 use Rattle.op_shelf.specs.declared.fault.ShelfFault.TheVariants.{Store, BadRow}
+use Rattle.op_shelf.specs.declared.fault.StoreCause.{StoreCause}
+use Rattle.op_shelf.specs.declared.fault.StoreCause.TheVariants.{Other}
 use Rattle.op_shelf.specs.Fault.{fault_of}
 use Rattle.op_shelf.specs.Migration.{IsOlder, IsMigrated, IsMigration, IsNotSwapped, HasBadPair}
 use Rattle.op_shelf.specs.Table.{IsShelf, no_schema}
@@ -99,19 +101,23 @@ HasOther rows digest entry = Any (λ e. e ≢ entry) (under digest rows)
 abbrev pub KeepsAll : State → State → Type 0
 KeepsAll s t = IsTrue t.is_open → IsTrue s.is_open × (t.now ≡ s.now)
 
--- the database refused to show the rows of a text, for another cause than memory
-abbrev pub IsNotShown : List ℕ → Row → State → State → Type 0
-IsNotShown text params s t = (e : Error) × (fault_of e ≡ Store) × FailsToQuery text params s t e
+-- the database refused to show the rows of a text, for this cause
+abbrev pub IsNotShown : StoreCause → List ℕ → Row → State → State → Type 0
+IsNotShown why text params s t = (e : Error) × (fault_of e ≡ Store why) × FailsToQuery text params s t e
 
 -- or to run a text
-abbrev pub IsNotDone : List ℕ → Row → State → State → Type 0
-IsNotDone text params s t = (e : Error) × (fault_of e ≡ Store) × Executes text params s t (Err e)
+abbrev pub IsNotDone : StoreCause → List ℕ → Row → State → State → Type 0
+IsNotDone why text params s t = (e : Error) × (fault_of e ≡ Store why) × Executes text params s t (Err e)
+
+-- the table does not stand alone, of which no more is told
+abbrev pub IsUnready : StoreCause → State → Type 0
+IsUnready why s = (why ≡ Other) × (¬ IsReady s)
 
 -- a put was refused: the table does not stand alone, or the database refused to look, or to insert after that
-abbrev pub IsNotKept : {S : Type 0} → Ghosts S → Held S → Held S → List ℕ → Row → Type 0
-IsNotKept {S} g old new digest entry =
-    (¬ IsReady (state g old)) ⊎ (IsNotShown held_text (Text digest ∷ []) (state g old) (state g new)
-    ⊎ ((mid : Held S) × IsUnchanged (state g old) (state g mid) × IsNotDone insert_text entry (state g mid)
+abbrev pub IsNotKept : {S : Type 0} → Ghosts S → StoreCause → Held S → Held S → List ℕ → Row → Type 0
+IsNotKept {S} g why old new digest entry =
+    IsUnready why (state g old) ⊎ (IsNotShown why held_text (Text digest ∷ []) (state g old) (state g new)
+    ⊎ ((mid : Held S) × IsUnchanged (state g old) (state g mid) × IsNotDone why insert_text entry (state g mid)
     (state g new)))
 
 -- no table is there, and no transaction is open
@@ -148,23 +154,22 @@ pub record Lasts (s : State) (op : Op) : Type 0 where
 abbrev pub MayBecome : State → Trees → Type 0
 MayBecome s trees = (IsBare s × (trees 0 ≡ [])) ⊎ (IsOlder s × IsMigration s trees)
 
--- a migration was refused: the database did not show the older table, or refused what was to move it, for another cause
--- than memory
-abbrev pub IsNotMigrated : {S : Type 0} → Ghosts S → Held S → Held S → Type 0
-IsNotMigrated {S} g old new = IsNotShown older_text [] (state g old) (state g new) ⊎ ((e : Error) × (fault_of e ≡ Store)
-    × IsNotSwapped g new e)
+-- a migration was refused: the database did not show the older table, or refused what was to move it, for this cause
+abbrev pub IsNotMigrated : {S : Type 0} → Ghosts S → StoreCause → Held S → Held S → Type 0
+IsNotMigrated {S} g why old new =
+    IsNotShown why older_text [] (state g old) (state g new)
+    ⊎ ((e : Error) × (fault_of e ≡ Store why) × IsNotSwapped g new e)
 
--- the database refused to make the table, or to move the older one, for another cause than memory, or is that of no
--- shelf
-abbrev pub IsNotOpened : {S : Type 0} → Ghosts S → Held S → Held S → Type 0
-IsNotOpened {S} g old new =
-    IsNotDone create_text [] (state g old) (state g new)
-    ⊎ (((¬ IsReady (state g old)) × (¬ IsBare (state g old)) × (¬ IsOlder (state g old)))
-    ⊎ (IsOlder (state g old) × IsNotMigrated g old new))
+-- the database refused to make the table, or to move the older one, for this cause, or is that of no shelf
+abbrev pub IsNotOpened : {S : Type 0} → Ghosts S → StoreCause → Held S → Held S → Type 0
+IsNotOpened {S} g why old new =
+    IsNotDone why create_text [] (state g old) (state g new)
+    ⊎ (((why ≡ Other) × (¬ IsReady (state g old)) × (¬ IsBare (state g old)) × (¬ IsOlder (state g old)))
+    ⊎ (IsOlder (state g old) × IsNotMigrated g why old new))
 
 -- A connection was given up, and what it showed at last is as it was; each fault, only where it is.
 pub record IsGivenUp {S : Type 0} (g : Ghosts S) (old last : Held S) (e : ShelfFault) : Type 0 where
   pub kept : HasCleanDisk (state g last) → KeepsAll (state g old) (state g last)
   pub bad_row : HasCleanDisk (state g last) → e ≡ BadRow → HasBadPair (state g old)
-  pub store : HasCleanDisk (state g last) → e ≡ Store → IsNotOpened g old last
+  pub store : HasCleanDisk (state g last) → (why : StoreCause) → e ≡ Store why → IsNotOpened g why old last
   pub crash : Survives (state g old) (state g last) (MayBecome (state g old))

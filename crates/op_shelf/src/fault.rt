@@ -2,19 +2,34 @@
 
 ghost use Rattle.std.specs.Prelude.{◌≡◌};
 ghost use Rattle.op_shelf.specs.declared.fault.ShelfFault.TheVariants.{Memory};
-ghost use Rattle.op_shelf.specs.Fault.{number_of, fault_of, fault_of_op};
+ghost use Rattle.op_shelf.specs.Fault.{number_of, cause_of, fault_of, fault_of_op};
 
 use operation::OpFault;
 use sqlite::{Error, ErrorCode};
 use std::alloc::{AllocError, AllocFailed};
 use thiserror::Error as Fault;
 
+/// Why the database refused.
+#[derive(Clone, Copy, Debug, PartialEq, Eq, Hash)]
+pub enum StoreCause {
+    /// There is no room on the disk, or in the file.
+    Full,
+    /// The disk failed.
+    Failed,
+    /// The disk failed before, which closed the database.
+    Closed,
+    /// What the file holds is no database, or not what was written.
+    Damaged,
+    /// It is another one, or the file is no shelf.
+    Other,
+}
+
 /// Why a shelf did not do what it was asked for.
 #[derive(Clone, Copy, Debug, PartialEq, Eq, Hash, Fault)]
 pub enum ShelfFault {
     /// The database refused, for another cause than memory, or the file is no shelf.
     #[error("the database refused")]
-    Store,
+    Store(StoreCause),
     /// A row is none of an operation under its digest.
     #[error("a row is none of an operation under its digest")]
     BadRow,
@@ -29,7 +44,7 @@ impl ShelfFault {
         ensures { result ≡ number_of self }
     {
         match self {
-            ShelfFault::Store => 1,
+            ShelfFault::Store(_) => 1,
             ShelfFault::BadRow => 2,
             ShelfFault::Memory => 3,
         }
@@ -52,13 +67,28 @@ impl<T: Drop> From<AllocFailed<T>> for ShelfFault {
     }
 }
 
+/// Why the database refused, by its code.
+fn cause_of(code: ErrorCode) -> StoreCause
+    ensures { result ≡ cause_of code }
+{
+    match code {
+        ErrorCode::DiskFull => StoreCause::Full,
+        ErrorCode::SystemIoFailure => StoreCause::Failed,
+        ErrorCode::Closed => StoreCause::Closed,
+        ErrorCode::DatabaseCorrupt => StoreCause::Damaged,
+        ErrorCode::NotADatabase => StoreCause::Damaged,
+        _ => StoreCause::Other,
+    }
+}
+
 impl From<Error> for ShelfFault {
     ghost from_gives = { λ error e. e ≡ fault_of error };
 
     fn from(error: Error) -> ShelfFault {
         match error {
             Error::SqliteFailure(ErrorCode::OutOfMemory) => ShelfFault::Memory,
-            _ => ShelfFault::Store,
+            Error::SqliteFailure(code) => ShelfFault::Store(cause_of(code)),
+            _ => ShelfFault::Store(StoreCause::Other),
         }
     }
 }

@@ -7,6 +7,7 @@ ghost use Rattle.sqlite.specs.State.{HasCleanDisk, IsUnchanged, KeepsCommit, Fai
 ghost use Rattle.sqlite.specs.Tree.{Trees};
 ghost use Rattle.operation.specs.declared.op.Op.{Op as Operation};
 ghost use Rattle.op_shelf.specs.Entries.{entry_by, entry_of, digest_text};
+ghost use Rattle.op_shelf.specs.Fault.{IfStore};
 ghost use Rattle.op_shelf.specs.Group.{IsPutAll, MayHaveAll, IsFilling, HasAdded, HasPut, FindsOther, IsStuck, IsNotPut};
 ghost use Rattle.op_shelf.specs.States.{IfClean, IsReady, IsKnown, KeepsAll, StaysReady, HasOther, IsNotShown, rows_of, under};
 ghost use Rattle.op_shelf.specs.Texts.{held_text, insert_text};
@@ -69,8 +70,8 @@ fn find_within<S: Alter>(
         → IsErrOf result ShelfFault.BadRow → HasOther (rows_of (state S.Store part.old.conn.now))
         digest.now (entry_by digest.now body.now) }
     ensures store { HasCleanDisk (state S.Store part.new.conn.now)
-        → IsErrOf result ShelfFault.Store → IsNotShown held_text (Text digest.now ∷ [])
-        (state S.Store part.old.conn.now) (state S.Store part.new.conn.now) }
+        → IfStore result (λ why. IsNotShown why held_text (Text digest.now ∷ [])
+        (state S.Store part.old.conn.now) (state S.Store part.new.conn.now)) }
     ensures crash { Survives (state S.Store part.old.conn.now) (state S.Store part.new.conn.now)
         (λ _. ⊥) }
 {
@@ -132,8 +133,8 @@ fn put_entry_within<S: Alter>(
         → IsErrOf result ShelfFault.BadRow → HasOther (rows_of (state S.Store part.old.conn.now))
         digest.now (entry_by digest.now body.now) }
     ensures store { HasCleanDisk (state S.Store part.new.conn.now)
-        → IsErrOf result ShelfFault.Store → IsStuck S.Store part.new.conn.now digest.now
-        (entry_by digest.now body.now) }
+        → IfStore result (λ why. IsStuck S.Store why part.new.conn.now digest.now
+        (entry_by digest.now body.now)) }
     ensures crash { Survives (state S.Store part.old.conn.now) (state S.Store part.new.conn.now)
         (λ _. ⊥) }
 {
@@ -164,8 +165,8 @@ fn put_within<S: Alter>(
         → IsErrOf result ShelfFault.BadRow → HasOther (rows_of (state S.Store part.old.conn.now))
         (digest_text op.now) (entry_of op.now) }
     ensures store { HasCleanDisk (state S.Store part.new.conn.now)
-        → IsErrOf result ShelfFault.Store
-        → IsStuck S.Store part.new.conn.now (digest_text op.now) (entry_of op.now) }
+        → IfStore result (λ why.
+        IsStuck S.Store why part.new.conn.now (digest_text op.now) (entry_of op.now)) }
     ensures crash { Survives (state S.Store part.old.conn.now) (state S.Store part.new.conn.now)
         (λ _. ⊥) }
 {
@@ -194,8 +195,8 @@ fn put_each<S: Alter>(
         → IsErrOf result ShelfFault.BadRow
         → FindsOther (state S.Store part.old.conn.now) ops.now }
     ensures store { HasCleanDisk (state S.Store part.new.conn.now)
-        → IsErrOf result ShelfFault.Store → (op : Operation) × Contains ops.now op
-        × IsStuck S.Store part.new.conn.now (digest_text op) (entry_of op) }
+        → IfStore result (λ why. (op : Operation) × Contains ops.now op
+        × IsStuck S.Store why part.new.conn.now (digest_text op) (entry_of op)) }
     ensures crash { Survives (state S.Store part.old.conn.now) (state S.Store part.new.conn.now)
         (λ _. ⊥) }
 {
@@ -224,8 +225,7 @@ pub(crate) fn put_group<S: Alter>(
     ensures bad_row { IfClean S.Store database.old database.new (λ s t.
         IsErrOf result ShelfFault.BadRow → FindsOther s ops.now) }
     ensures store { IfClean S.Store database.old database.new (λ s t.
-        IsErrOf result ShelfFault.Store
-        → IsNotPut S.Store database.old database.new ops.now) }
+        IfStore result (λ why. IsNotPut S.Store why database.old database.new ops.now)) }
 
     // A crash finds the entries from before, or those and all of the group.
     ensures crash { Survives (state S.Store database.old) (state S.Store database.new)

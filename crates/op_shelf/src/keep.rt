@@ -33,6 +33,7 @@ pub trait Keep {
             → Finds (holds self.old) (holds self.new) op.now }
         ensures refused { is_up self.new
             → OnErr result (AreSame (holds self.old) (holds self.new)) }
+        ensures up { is_up self.new → is_up self.old }
 
         // A crash leaves it after Ok, and always what it left before.
         ensures durable { is_up self.new → OnOk result (lasts self.new op.now) }
@@ -48,6 +49,7 @@ pub trait Keep {
             → Finds (holds self.old) (holds self.new) op.now }
         ensures refused { is_up self.new
             → OnErr result (AreSame (holds self.old) (holds self.new)) }
+        ensures up { is_up self.new → is_up self.old }
 
         // A crash leaves it after Ok, and always what it left before.
         ensures durable { is_up self.new → OnOk result (lasts self.new op.now) }
@@ -62,6 +64,7 @@ pub trait Keep {
             GainsAll (holds self.old) (holds self.new) ops.now kepts.items) }
         ensures refused { is_up self.new
             → OnErr result (AreSame (holds self.old) (holds self.new)) }
+        ensures up { is_up self.new → is_up self.old }
 
         // A crash leaves all of it after Ok, and always what it left before.
         ensures durable { is_up self.new → OnOk result (All (lasts self.new) ops.now) }

@@ -19,8 +19,9 @@ mod statements;
 mod table;
 mod walk;
 
-pub use fault::ShelfFault;
+pub use fault::{ShelfFault, StoreCause};
 pub use keep::Keep;
 pub use kept::Kept;
 pub use open::make_ready;
 pub use shelf::Shelf;
+pub use walk::limits_are_these;

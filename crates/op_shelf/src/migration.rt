@@ -5,6 +5,7 @@ ghost use Rattle.sqlite.specs.declared.types.Value.TheVariants.{Int, Text, Blob}
 ghost use Rattle.sqlite.specs.Held.{state};
 ghost use Rattle.sqlite.specs.Order.{Row as Values};
 ghost use Rattle.sqlite.specs.State.{HasCleanDisk, KeepsCommit, Survives};
+ghost use Rattle.op_shelf.specs.Fault.{IfStore};
 ghost use Rattle.op_shelf.specs.Migration.{IsOlder, IsStarted, IsMoving, IsMoved, IsSwapped, IsSwap, IsMigrated, IsMigration, HasBadPair, IsHalted, IsNotSwapped};
 ghost use Rattle.op_shelf.specs.Older.{IsPair, moved};
 ghost use Rattle.op_shelf.specs.States.{IfClean, KeepsAll, IsNotMigrated};
@@ -186,7 +187,7 @@ pub(crate) fn migrate<S: Alter>(
     ensures bad_row { IfClean S.Store database.old database.new (λ s t.
         IsErrOf result ShelfFault.BadRow → HasBadPair s) }
     ensures store { IfClean S.Store database.old database.new (λ s t.
-        IsErrOf result ShelfFault.Store → IsNotMigrated S.Store database.old database.new) }
+        IfStore result (λ why. IsNotMigrated S.Store why database.old database.new)) }
     ensures crash { Survives (state S.Store database.old) (state S.Store database.new)
         (IsMigration (state S.Store database.old)) }
 {

@@ -5,11 +5,12 @@ ghost use Rattle.sqlite.specs.Files.{file_state};
 ghost use Rattle.sqlite.specs.Held.{Held, state};
 ghost use Rattle.sqlite.specs.State.{HasCleanDisk, Survives};
 ghost use Rattle.sqlite.specs.WalFiles.{image_at};
+ghost use Rattle.op_shelf.specs.Fault.{IfStore};
 ghost use Rattle.op_shelf.specs.Opened.{IsFound, IsRefused};
 ghost use Rattle.op_shelf.specs.Migration.{IsOlder, HasBadPair};
 ghost use Rattle.op_shelf.specs.States.{IfClean, IsReady, StandsFor, MayBecome, KeepsAll, IsNotOpened, IsGivenUp};
 
-use crate::fault::ShelfFault;
+use crate::fault::{ShelfFault, StoreCause};
 use crate::migration::migrate;
 use crate::shelf::Shelf;
 use crate::statements::create;
@@ -29,7 +30,7 @@ pub fn make_ready<S: Alter>(database: &mut Connection<S>, alloc: Global) -> Resu
     ensures refused { IfClean S.Store database.old database.new (λ s t.
         OnErr result (KeepsAll s t)) }
     ensures store { IfClean S.Store database.old database.new (λ s t.
-        IsErrOf result ShelfFault.Store → IsNotOpened S.Store database.old database.new) }
+        IfStore result (λ why. IsNotOpened S.Store why database.old database.new)) }
     ensures bad_row { IfClean S.Store database.old database.new (λ s t.
         IsErrOf result ShelfFault.BadRow → HasBadPair s) }
     ensures only { IsErrOf result ShelfFault.BadRow → IsOlder (state S.Store database.old) }
@@ -43,7 +44,7 @@ pub fn make_ready<S: Alter>(database: &mut Connection<S>, alloc: Global) -> Resu
         return migrate(database, alloc);
     }
     if !is_blank(database) {
-        return Err(ShelfFault::Store);
+        return Err(ShelfFault::Store(StoreCause::Other));
     }
     create(database)?;
     Ok(())

@@ -8,6 +8,7 @@ ghost use Rattle.operation.specs.Reading.{IsOp};
 ghost use Rattle.operation.specs.Spelling.{spelling};
 ghost use Rattle.operation.specs.declared.op.Op.{Op};
 ghost use Rattle.op_shelf.specs.Entries.{kind_in, entry_by, entry_of, IsEntry};
+ghost use Rattle.op_shelf.specs.Fault.{IsNoStore};
 ghost use Rattle.op_shelf.specs.Older.{IsPair};
 
 use crate::fault::ShelfFault;
@@ -95,7 +96,7 @@ pub(crate) fn find_in(rows: &[Row], digest: &[u8], body: &[u8]) -> Result<bool, 
     ensures alone { result ≡ Ok true → All (λ e. e ≡ entry_by digest.now body.now) rows.now }
     ensures other { IsErrOf result ShelfFault.BadRow
         → Any (λ e. e ≢ entry_by digest.now body.now) rows.now }
-    ensures only { IfErr result (λ e. e ≢ ShelfFault.Store) }
+    ensures only { IfErr result IsNoStore }
 {
     for row in rows {
         if !is_entry(row, digest, body) {
@@ -120,7 +121,7 @@ fn decoded(alloc: Global, body: &[u8]) -> Result<Op, ShelfFault>
     ensures found { IfOk result (λ op. body.now ≡ spelling op) }
     ensures lawful { IfOk result IsOp }
     ensures bad { IsErrOf result ShelfFault.BadRow → (op : Op) → IsOp op → body.now ≢ spelling op }
-    ensures only { IfErr result (λ e. e ≢ ShelfFault.Store) }
+    ensures only { IfErr result IsNoStore }
 {
     let op = decode(alloc, Bytes::copy_from_slice(alloc, body)?)?;
     Ok(op)
@@ -131,7 +132,7 @@ pub(crate) fn op_of(alloc: Global, entry: &Row) -> Result<Digested, ShelfFault>
     ensures found { IfOk result (λ op. entry.now ≡ entry_of op) }
     ensures lawful { IfOk result IsOp }
     ensures bad { IsErrOf result ShelfFault.BadRow → ¬ IsEntry entry.now }
-    ensures only { IfErr result (λ e. e ≢ ShelfFault.Store) }
+    ensures only { IfErr result IsNoStore }
 {
     let Some(body) = body_in(entry) else {
         return Err(ShelfFault::BadRow);
@@ -173,7 +174,7 @@ pub(crate) fn blob_at(row: &Row, at: usize) -> Option<&[u8]>
 fn is_pair(alloc: Global, pair: &Row) -> Result<(), ShelfFault>
     ensures found { OnOk result (IsPair pair.now) }
     ensures bad { IsErrOf result ShelfFault.BadRow → ¬ IsPair pair.now }
-    ensures only { IfErr result (λ e. e ≢ ShelfFault.Store) }
+    ensures only { IfErr result IsNoStore }
 {
     if pair.column_count() != 2 {
         return Err(ShelfFault::BadRow);
@@ -193,7 +194,7 @@ fn is_pair(alloc: Global, pair: &Row) -> Result<(), ShelfFault>
 pub(crate) fn are_pairs(alloc: Global, pairs: &[Row]) -> Result<(), ShelfFault>
     ensures all { OnOk result (All IsPair pairs.now) }
     ensures bad { IsErrOf result ShelfFault.BadRow → Any (λ p. ¬ IsPair p) pairs.now }
-    ensures only { IfErr result (λ e. e ≢ ShelfFault.Store) }
+    ensures only { IfErr result IsNoStore }
 {
     for pair in pairs {
         is_pair(alloc, pair)?;

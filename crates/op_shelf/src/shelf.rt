@@ -6,11 +6,12 @@ ghost use Rattle.sqlite.specs.Held.{Held, held_code, state};
 ghost use Rattle.sqlite.specs.State.{IsUnchanged, Survives};
 ghost use Rattle.sqlite.specs.Tree.{Trees};
 ghost use Rattle.op_shelf.specs.Entries.{Adds, Holds, Lists, HasBadRow, entry_of, digest_text};
+ghost use Rattle.op_shelf.specs.Fault.{IfStore};
 ghost use Rattle.op_shelf.specs.Group.{IsPutAll, MayHaveAll, FindsOther, IsNotPut};
-ghost use Rattle.op_shelf.specs.States.{IfClean, IsReady, IsKnown, IsPut, HasOther, KeepsAll, StaysReady, IsNotShown, IsNotKept, rows_of, rows_left, count_of, digest_cmp};
+ghost use Rattle.op_shelf.specs.States.{IfClean, IsUnready, IsKnown, IsPut, HasOther, KeepsAll, StaysReady, IsNotShown, IsNotKept, rows_of, rows_left, count_of, digest_cmp};
 ghost use Rattle.op_shelf.specs.Texts.{all_text, kind_text};
 
-use crate::fault::ShelfFault;
+use crate::fault::{ShelfFault, StoreCause};
 use crate::group::put_group;
 use crate::kept::Kept;
 use crate::statements::kind_rows;
@@ -71,8 +72,8 @@ impl<S: Alter> Shelf<S> {
         // Each fault, only where it is.
         ensures bad_row { IfClean S.Store self.old self.new (λ s t. IsErrOf result ShelfFault.BadRow
             → HasOther (rows_of s) (digest_text op.now) (entry_of op.now)) }
-        ensures store { IfClean S.Store self.old self.new (λ s t. IsErrOf result ShelfFault.Store
-            → IsNotKept S.Store self.old self.new (digest_text op.now) (entry_of op.now)) }
+        ensures store { IfClean S.Store self.old self.new (λ s t. IfStore result (λ why.
+            IsNotKept S.Store why self.old self.new (digest_text op.now) (entry_of op.now))) }
 
         // A crash finds the operations from before, with this one or without; after Ok with it.
         ensures crash { Survives (state S.Store self.old) (state S.Store self.new) (λ trees.
@@ -100,8 +101,8 @@ impl<S: Alter> Shelf<S> {
         // Each fault, only where it is.
         ensures bad_row { IfClean S.Store self.old self.new (λ s t. IsErrOf result ShelfFault.BadRow
             → HasOther (rows_of s) (digest_text op.now) (entry_of op.now)) }
-        ensures store { IfClean S.Store self.old self.new (λ s t. IsErrOf result ShelfFault.Store
-            → IsNotKept S.Store self.old self.new (digest_text op.now) (entry_of op.now)) }
+        ensures store { IfClean S.Store self.old self.new (λ s t. IfStore result (λ why.
+            IsNotKept S.Store why self.old self.new (digest_text op.now) (entry_of op.now))) }
 
         // A crash finds the operations from before, with this one or without; after Ok with it.
         ensures crash { Survives (state S.Store self.old) (state S.Store self.new) (λ trees.
@@ -129,8 +130,8 @@ impl<S: Alter> Shelf<S> {
         // Each fault, only where it is.
         ensures bad_row { IfClean S.Store self.old self.new (λ s t.
             IsErrOf result ShelfFault.BadRow → FindsOther s ops.now) }
-        ensures store { IfClean S.Store self.old self.new (λ s t. IsErrOf result ShelfFault.Store
-            → IsNotPut S.Store self.old self.new ops.now) }
+        ensures store { IfClean S.Store self.old self.new (λ s t.
+            IfStore result (λ why. IsNotPut S.Store why self.old self.new ops.now)) }
 
         // A crash finds the operations from before, or those and all of the group; after Ok these.
         ensures crash { Survives (state S.Store self.old) (state S.Store self.new)
@@ -139,7 +140,7 @@ impl<S: Alter> Shelf<S> {
             ((trees : Trees) → t.may_leave trees → All (Holds (rows_left t trees)) ops.now)) }
     {
         if !is_ready(&self.database) {
-            return Err(ShelfFault::Store);
+            return Err(ShelfFault::Store(StoreCause::Other));
         }
         put_group(&mut self.database, self.alloc, ops)
     }
@@ -157,12 +158,12 @@ impl<S: Alter> Shelf<S> {
         // Each fault, only where it is.
         ensures bad_row { IfClean S.Store self.old self.new (λ s t.
             IsErrOf result ShelfFault.BadRow → HasBadRow (rows_of s)) }
-        ensures store { IfClean S.Store self.old self.new (λ s t. IsErrOf result ShelfFault.Store
-            → (¬ IsReady s) ⊎ IsNotShown all_text [] s t) }
+        ensures store { IfClean S.Store self.old self.new (λ s t. IfStore result (λ why.
+            IsUnready why s ⊎ IsNotShown why all_text [] s t)) }
         ensures crash { Survives (state S.Store self.old) (state S.Store self.new) (λ _. ⊥) }
     {
         if !is_ready(&self.database) {
-            return Err(ShelfFault::Store);
+            return Err(ShelfFault::Store(StoreCause::Other));
         }
         all_ops(&mut self.database, self.alloc)
     }
@@ -173,12 +174,12 @@ impl<S: Alter> Shelf<S> {
             IfOk result (λ count. count ≡ count_of kind (rows_of s))) }
         ensures same { IfClean S.Store self.old self.new (λ s t. OnOk result (IsUnchanged s t)) }
         ensures refused { IfClean S.Store self.old self.new (λ s t. OnErr result (KeepsAll s t)) }
-        ensures store { IfClean S.Store self.old self.new (λ s t. IsErrOf result ShelfFault.Store
-            → (¬ IsReady s) ⊎ IsNotShown kind_text (Int (pos kind) ∷ []) s t) }
+        ensures store { IfClean S.Store self.old self.new (λ s t. IfStore result (λ why.
+            IsUnready why s ⊎ IsNotShown why kind_text (Int (pos kind) ∷ []) s t)) }
         ensures crash { Survives (state S.Store self.old) (state S.Store self.new) (λ _. ⊥) }
     {
         if !is_ready(&self.database) {
-            return Err(ShelfFault::Store);
+            return Err(ShelfFault::Store(StoreCause::Other));
         }
         let entries = kind_rows(&mut self.database, kind)?;
         Ok(entries.len() as u64)

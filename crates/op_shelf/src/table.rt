@@ -6,12 +6,13 @@ ghost use Rattle.sqlite.specs.Held.{state};
 ghost use Rattle.sqlite.specs.State.{HasCleanDisk, IsUnchanged, Survives};
 ghost use Rattle.sqlite.specs.Tree.{Trees};
 ghost use Rattle.op_shelf.specs.Entries.{entries, entry_by, Adds};
+ghost use Rattle.op_shelf.specs.Fault.{IfStore};
 ghost use Rattle.op_shelf.specs.Migration.{IsOlder};
 ghost use Rattle.op_shelf.specs.States.{IfClean, IsReady, IsKnown, IsPut, HasOther, KeepsAll, Spares, StaysReady, IsNotShown, IsNotDone, IsNotKept, IsAdded, IsBare, under, rows_of, rows_left};
 ghost use Rattle.op_shelf.specs.Table.{IsShelf};
 ghost use Rattle.op_shelf.specs.Texts.{held_text, insert_text};
 
-use crate::fault::ShelfFault;
+use crate::fault::{ShelfFault, StoreCause};
 use crate::kept::Kept;
 use crate::rows::{find_in, kind_of};
 use crate::schema::{is_bare, is_older, is_shelf};
@@ -58,8 +59,7 @@ fn find<S: Alter>(
         OnOk result (IsUnchanged s t)) }
     ensures refused { IfClean S.Store database.old database.new (λ s t. OnErr result (Spares s t)) }
     ensures store { IfClean S.Store database.old database.new (λ s t.
-        IsErrOf result ShelfFault.Store
-        → IsNotShown held_text (Text digest.now ∷ []) s t) }
+        IfStore result (λ why. IsNotShown why held_text (Text digest.now ∷ []) s t)) }
     ensures crash { Survives (state S.Store database.old) (state S.Store database.new) (λ _. ⊥) }
 {
     let held = held_rows(database, digest)?;
@@ -76,8 +76,7 @@ fn add<S: Alter>(database: &mut Connection<S>, digest: &str, body: &[u8]) -> Res
         OnOk result (IsAdded s t (entry_by digest.now body.now))) }
     ensures refused { IfClean S.Store database.old database.new (λ s t. OnErr result (Spares s t)) }
     ensures store { IfClean S.Store database.old database.new (λ s t.
-        IsErrOf result ShelfFault.Store
-        → IsNotDone insert_text (entry_by digest.now body.now) s t) }
+        IfStore result (λ why. IsNotDone why insert_text (entry_by digest.now body.now) s t)) }
     ensures only { IfErr result (λ e. e ≢ ShelfFault.BadRow) }
     ensures crash { Survives (state S.Store database.old) (state S.Store database.new) (λ trees.
         Adds (rows_of (state S.Store database.old)) (rows_left (state S.Store database.old) trees)
@@ -107,9 +106,8 @@ pub(crate) fn put_entry<S: Alter>(
         IsErrOf result ShelfFault.BadRow
         → HasOther (rows_of s) digest.now (entry_by digest.now body.now)) }
     ensures store { IfClean S.Store database.old database.new (λ s t.
-        IsErrOf result ShelfFault.Store
-        → IsNotKept S.Store database.old database.new digest.now
-        (entry_by digest.now body.now)) }
+        IfStore result (λ why. IsNotKept S.Store why database.old database.new digest.now
+        (entry_by digest.now body.now))) }
 
     // A crash finds the entries from before, with this one or without, and after Ok with it.
     ensures crash { Survives (state S.Store database.old) (state S.Store database.new) (λ trees.
@@ -120,7 +118,7 @@ pub(crate) fn put_entry<S: Alter>(
         → Contains (entries (rows_left t trees)) (entry_by digest.now body.now))) }
 {
     if !is_ready(database) {
-        return Err(ShelfFault::Store);
+        return Err(ShelfFault::Store(StoreCause::Other));
     }
     if find(database, digest, body)? {
         return Ok(Kept::Known);

@@ -1,19 +1,41 @@
 //! The walk over all entries, a row at a time.
 
-ghost use Rattle.std.specs.Prelude.{map, [], IfOk, IsErrOf, OnOk, OnErr, IsSorted};
+ghost use Rattle.std.specs.Prelude.{◌≡◌, ◌++◌, ◌∷◌, map, [], IfOk, IfErr, IsErrOf, OnOk, OnErr, IsSorted};
 ghost use Rattle.sqlite.specs.Held.{state};
 ghost use Rattle.sqlite.specs.State.{IsUnchanged, Survives};
-ghost use Rattle.op_shelf.specs.Entries.{Lists, HasBadRow, entry_of};
+ghost use Rattle.op_shelf.specs.Entries.{Lists, HasBadRow, IsEntry, entry_of};
+ghost use Rattle.op_shelf.specs.Fault.{IfStore, IsNoStore};
 ghost use Rattle.op_shelf.specs.States.{IfClean, Spares, IsNotShown, rows_of, digest_cmp};
 ghost use Rattle.op_shelf.specs.Table.{IsShelf};
 ghost use Rattle.op_shelf.specs.Texts.{all_text};
+ghost use Rattle.op_shelf.specs.declared.walk.TheConstants.{MOST_ROWS};
 
 use crate::fault::ShelfFault;
 use crate::order::put_in_order;
 use crate::rows::op_of;
 use operation::Digested;
-use sqlite::{Alter, Connection};
+use sqlite::{Alter, Connection, Row};
 use std::alloc::Global;
+
+/// How many rows are read, at most.
+const MOST_ROWS: u64 = 18_446_744_073_709_551_615;
+
+/// How many rows are read, at most: as many as a number of 64 bits counts.
+pub fn limits_are_these()
+    ensures rows { MOST_ROWS ≡ 18446744073709551615 }
+{}
+
+/// Adds the operation of an entry to those so far.
+fn add_op(alloc: Global, entry: &Row, ops: &mut Vec<Digested>) -> Result<(), ShelfFault>
+    ensures added { OnOk result (map entry_of ops.new.items
+        ≡ map entry_of ops.old.items ++ entry.now ∷ []) }
+    ensures bad { IsErrOf result ShelfFault.BadRow → ¬ IsEntry entry.now }
+    ensures only { IfErr result IsNoStore }
+{
+    let op = op_of(alloc, entry)?;
+    ops.push(op)?;
+    Ok(())
+}
 
 /// The operations of the entries with their digests, in the order of the table. Each row is let go
 /// before the next is read.
@@ -30,17 +52,17 @@ fn read_ops<S: Alter>(
     ensures bad_row { IfClean S.Store database.old database.new (λ s t.
         IsErrOf result ShelfFault.BadRow → HasBadRow (rows_of s)) }
     ensures store { IfClean S.Store database.old database.new (λ s t.
-        IsErrOf result ShelfFault.Store → IsNotShown all_text [] s t) }
+        IfStore result (λ why. IsNotShown why all_text [] s t)) }
     ensures crash { Survives (state S.Store database.old) (state S.Store database.new) (λ _. ⊥) }
 {
     let mut ops = Vec::new(alloc);
     let mut rows = database.query("SELECT digest, kind, body FROM ops2", &[])?;
-    'rows: for _ in 0..u64::MAX {
+    'rows: for _ in 0..MOST_ROWS {
         rows.advance()?;
         let Some(row) = rows.get() else {
             return Ok(ops);
         };
-        ops.push(op_of(alloc, row)?)?;
+        add_op(alloc, row, &mut ops)?;
     }
     Err(ShelfFault::Memory)
 }
@@ -62,7 +84,7 @@ pub(crate) fn all_ops<S: Alter>(
     ensures bad_row { IfClean S.Store database.old database.new (λ s t.
         IsErrOf result ShelfFault.BadRow → HasBadRow (rows_of s)) }
     ensures store { IfClean S.Store database.old database.new (λ s t.
-        IsErrOf result ShelfFault.Store → IsNotShown all_text [] s t) }
+        IfStore result (λ why. IsNotShown why all_text [] s t)) }
     ensures crash { Survives (state S.Store database.old) (state S.Store database.new) (λ _. ⊥) }
 {
     match read_ops(database, alloc) {

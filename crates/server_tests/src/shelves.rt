@@ -1,6 +1,6 @@
 //! Shelves that tell nothing of what they hold.
 
-use op_shelf::{Keep, Kept, ShelfFault};
+use op_shelf::{Keep, Kept, ShelfFault, StoreCause};
 use operation::{Digested, Op};
 
 /// A shelf that counts what it is asked to keep, and takes so many of it.
@@ -22,7 +22,7 @@ impl Keep for Counting {
         if self.asked <= self.room {
             return Ok(Kept::New);
         }
-        Err(ShelfFault::Store)
+        Err(ShelfFault::Store(StoreCause::Other))
     }
 
     fn put_digested(&mut self, op: &Digested) -> Result<Kept, ShelfFault> {
@@ -31,6 +31,6 @@ impl Keep for Counting {
 
     // It takes no group, so each of one comes alone.
     fn put_many(&mut self, _ops: &[Digested]) -> Result<Vec<Kept>, ShelfFault> {
-        Err(ShelfFault::Store)
+        Err(ShelfFault::Store(StoreCause::Other))
     }
 }

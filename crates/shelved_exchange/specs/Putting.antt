@@ -28,6 +28,6 @@ GainsWhatWasPut is_up holds lasts before after = (digest : List ℕ) (op : Op) �
 
 -- what a fault of the shelf is to a round
 abbrev pub refusal_of : ShelfFault → HolderFault
-refusal_of shelf_faults.Store = Refused
+refusal_of (shelf_faults.Store _) = Refused
 refusal_of shelf_faults.BadRow = Refused
 refusal_of shelf_faults.Memory = Memory

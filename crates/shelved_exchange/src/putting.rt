@@ -78,6 +78,6 @@ pub fn refusal_of_shelf(fault: ShelfFault) -> HolderFault
 {
     match fault {
         ShelfFault::Memory => HolderFault::Memory,
-        ShelfFault::Store | ShelfFault::BadRow => HolderFault::Refused,
+        ShelfFault::Store(_) | ShelfFault::BadRow => HolderFault::Refused,
     }
 }

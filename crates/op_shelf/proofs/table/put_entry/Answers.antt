@@ -9,11 +9,11 @@ use Rattle.op_shelf.proofs.table.put_entry.Goals as goal
 
 -- The look changed nothing, and then the INSERT was refused.
 pub returns-in_err-add-clause-store : goal.returns-in_err-add-clause-store
-returns-in_err-add-clause-store g c clean bad =
+returns-in_err-add-clause-store g c clean why bad =
     let early : HasCleanDisk (state g.S.Store c.find.new.database) = omega (arith, c.add.ensures.crash.clean, clean) in
     let entry = entry_by c.args.digest.now c.args.body.now in
-    let refused : IsNotDone insert_text entry (state g.S.Store c.find.new.database) (state g.S.Store c.add.new.database)
-    = search (c.in_err-add.ensures.store clean, bad, rules) in
+    let refused : IsNotDone why insert_text entry (state g.S.Store c.find.new.database) (state g.S.Store c.add.new.database)
+    = search (c.in_err-add.ensures.store clean why, bad, rules) in
     inr (inr (c.find.new.database, c.in_ok-find.ensures.same early, refused))
 
 -- What was added is committed, and every crash leaves it.

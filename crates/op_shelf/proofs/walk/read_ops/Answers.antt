@@ -9,7 +9,6 @@ use Rattle.op_shelf.specs.declared.fault.ShelfFault.TheVariants.{Store}
 use Rattle.op_shelf.specs.Entries.{IsEntry, entry_of}
 use Rattle.op_shelf.specs.Texts.{all_text}
 use Rattle.op_shelf.proofs.Back.{query_spares}
-use Rattle.op_shelf.proofs.Ops.{entries_more}
 use Rattle.op_shelf.proofs.Queries.{plain_all}
 use Rattle.op_shelf.proofs.Walks.{walked, bad_stands, refused_since}
 use Rattle.op_shelf.proofs.walk.read_ops.Goals as goal
@@ -28,7 +27,7 @@ returns-in_err-rows-clause-refused g c clean =
 
 -- It names its cause.
 pub returns-in_err-rows-clause-store : goal.returns-in_err-rows-clause-store
-returns-in_err-rows-clause-store g c clean bad =
+returns-in_err-rows-clause-store g c clean why bad =
     let old = state g.S.Store c.args.database.now in
     let new = state g.S.Store c.query.follows.lender-at-none in
     let held = c.query.follows.holds-at-none in
@@ -36,7 +35,7 @@ returns-in_err-rows-clause-store g c clean bad =
     c.query.follows.lender-at-none = rw c.in_err-rows.was at held in
     let told : FailsToQuery all_text [] old new c.in_err-rows.field-0.0 = refused.err clean in
     let out = err_from_is_err_and c.from_residual.result c.from_residual.ensures.1 in
-    let is : out.0 ≡ Store = (let both = sym out.1 ∙ bad in cc) in
+    let is : out.0 ≡ Store why = (let both = sym out.1 ∙ bad in cc) in
     (c.in_err-rows.field-0.0, sym out.2 ∙ is, told)
 
 -- It commits nothing.
@@ -62,7 +61,7 @@ rows-init g c =
 
 -- What is refused at a row is refused as the whole query.
 pub returns-in_err-advance-clause-store : goal.returns-in_err-advance-clause-store
-returns-in_err-advance-clause-store g c clean bad =
+returns-in_err-advance-clause-store g c clean why bad =
     let first = state g.S.Store c.args.database.now in
     let mid = state g.S.Store c.rows.rows.conn.now in
     let end = c.advance.new.self.conn.now in
@@ -75,7 +74,7 @@ returns-in_err-advance-clause-store g c clean bad =
     let told = refused_since first mid c.requires.shelf (was.2 early).1 was.1.counts was.1.limit (state g.S.Store end) e
     refused in
     let out = err_from_is_err_and c.from_residual-in_err-advance.result c.from_residual-in_err-advance.ensures.1 in
-    let is : out.0 ≡ Store = (let both = sym out.1 ∙ bad in cc) in
+    let is : out.0 ≡ Store why = (let both = sym out.1 ∙ bad in cc) in
     (e, sym out.2 ∙ is, subst (λ h. FailsToQuery all_text [] first (state g.S.Store h) e) same told)
 
 -- Past the last row, those that were given are the entries of the table.
@@ -94,8 +93,8 @@ returns-in_default-clause-all g c clean =
     walked first mid c.requires.shelf was.1 (state g.S.Store end) given shown
 
 -- A row that is none of an operation stands in the table.
-pub returns-in_err-op_of-clause-bad_row : goal.returns-in_err-op_of-clause-bad_row
-returns-in_err-op_of-clause-bad_row g c clean bad =
+pub returns-in_err-add_op-clause-bad_row : goal.returns-in_err-add_op-clause-bad_row
+returns-in_err-add_op-clause-bad_row g c clean bad =
     let first = state g.S.Store c.args.database.now in
     let mid = state g.S.Store c.rows.rows.conn.now in
     let end = c.advance.new.self.conn.now in
@@ -130,9 +129,8 @@ rows-preserved g c =
           let here : row_if c.advance.new.self.has_row end ≡ Some row = search rules in
           let more : HasGiven g.S.Store all_text [] end (map entry_of ops ++ row ∷ []) = subst
           (GivesOn g.S.Store all_text [] c.rows.rows.conn.now end (map entry_of ops)) here
-          (moved.ok late all_text [] (map entry_of ops) (was.2 early).0) in
-          let is = entries_more ops c.in_ok-op_of.field-0 (map entry_of ops) row refl c.in_ok-op_of.ensures.found in (
-            rw c.in_ok-push.ensures.items (subst (HasGiven g.S.Store all_text [] end) (sym is) more),
+          (moved.ok late all_text [] (map entry_of ops) (was.2 early).0) in (
+            subst (HasGiven g.S.Store all_text [] end) (sym c.in_ok-add_op.ensures.added) more,
             unchanged_then first mid (state g.S.Store end) (was.2 early).1 (moved.same late),
           ),
     )

@@ -1,5 +1,5 @@
 use Rattle.sqlite.specs.Held.{state}
-use Rattle.op_shelf.proofs.Keeps.{gains, finds_known, lasts_on}
+use Rattle.op_shelf.proofs.Keeps.{gains, finds_known, was_up, lasts_on}
 use Rattle.op_shelf.proofs.keep.ShelfKeep.put.Goals as goal
 
 -- The entry that was put is that of one operation more.
@@ -19,3 +19,10 @@ returns-clause-kept g c up other was =
     lasts_on (state g.S.Store c.args.self.now) (state g.S.Store c.put.new.self) c.args.op.now c.put.result
     up (c.put.ensures.new up.clean) (c.put.ensures.known up.clean) (c.put.ensures.refused up.clean)
     c.put.ensures.crash other was
+
+-- What is up afterwards was up.
+pub returns-clause-up : goal.returns-clause-up
+returns-clause-up g c up =
+    was_up (state g.S.Store c.args.self.now) (state g.S.Store c.put.new.self) c.args.op.now c.put.result
+    up (c.put.ensures.new up.clean) (c.put.ensures.known up.clean) (c.put.ensures.refused up.clean)
+    c.put.ensures.crash

@@ -1,5 +1,5 @@
 use Rattle.sqlite.specs.Held.{state}
-use Rattle.op_shelf.proofs.Keeps.{gains, finds_known, lasts_on}
+use Rattle.op_shelf.proofs.Keeps.{gains, finds_known, was_up, lasts_on}
 use Rattle.op_shelf.proofs.keep.ShelfKeep.put_digested.Goals as goal
 
 -- The entry that was put is that of one operation more.
@@ -20,3 +20,10 @@ returns-clause-kept g c up other was =
     c.put_digested.result up (c.put_digested.ensures.new up.clean) (c.put_digested.ensures.known up.clean)
     (c.put_digested.ensures.refused up.clean)
     c.put_digested.ensures.crash other was
+
+-- What is up afterwards was up.
+pub returns-clause-up : goal.returns-clause-up
+returns-clause-up g c up =
+    was_up (state g.S.Store c.args.self.now) (state g.S.Store c.put_digested.new.self) c.args.op.now c.put_digested.result
+    up (c.put_digested.ensures.new up.clean) (c.put_digested.ensures.known up.clean) (c.put_digested.ensures.refused up.clean)
+    c.put_digested.ensures.crash

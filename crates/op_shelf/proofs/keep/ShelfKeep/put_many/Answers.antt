@@ -1,6 +1,6 @@
 use Rattle.std.proofs.lemmas.Result.{IfOk-weaker}
 use Rattle.sqlite.specs.Held.{state}
-use Rattle.op_shelf.proofs.Keeps.{gains_all, all_last, all_put}
+use Rattle.op_shelf.proofs.Keeps.{gains_all, all_up, all_last, all_put}
 use Rattle.op_shelf.proofs.keep.ShelfKeep.put_many.Goals as goal
 
 -- The entries that were put are those of the group.
@@ -19,3 +19,9 @@ returns-clause-kept g c up other was =
     all_last (state g.S.Store c.args.self.now) (state g.S.Store c.put_many.new.self) c.args.ops.now c.put_many.result
     (λ v. v.items) up (c.put_many.ensures.put up.clean) (c.put_many.ensures.refused up.clean) c.put_many.ensures.crash
     other was
+
+-- What is up afterwards was up.
+pub returns-clause-up : goal.returns-clause-up
+returns-clause-up g c up =
+    all_up (state g.S.Store c.args.self.now) (state g.S.Store c.put_many.new.self) c.args.ops.now c.put_many.result
+    (λ v. v.items) up (c.put_many.ensures.put up.clean) (c.put_many.ensures.refused up.clean) c.put_many.ensures.crash

@@ -8,7 +8,7 @@ returns-in-Err-clause-given_up g c = (
   record {
     kept = c.in-Err.ensures.refused;
     bad_row = λ clean is. c.in-Err.ensures.bad_row clean (ap (λ e. Err e) is);
-    store = λ clean is. c.in-Err.ensures.store clean (ap (λ e. Err e) is);
+    store = λ clean why is. c.in-Err.ensures.store clean why (ap (λ e. Err e) is);
     crash = c.make_ready.ensures.crash;
   },
 )
