@@ -1,7 +1,7 @@
 //! `archive exchange`: exchanges the operations in a file with another site.
 
 use crate::file::{OnShelf, is_new, on_file};
-use crate::progress::{Progress, Reading, Writing, site_on};
+use crate::progress::{Progress, Reading, Writing};
 use crate::refused::{Refused, about};
 use crate::serve::wait_of;
 use archive_server::{NetFault, Wire};
@@ -12,6 +12,7 @@ use exchange::ExchangeFault;
 use exchange_run::Ended;
 use op_shelf::Shelf;
 use shelved_exchange::exchange_on;
+use shelved_site::site_on;
 use sqlite::Alter;
 use std::net::{Net, TcpListener, TcpStream};
 use std::rt::HostRuntime;
@@ -72,12 +73,13 @@ impl<'h, 'a, R: Net<Listener = TcpListener, Stream = TcpStream>> OnShelf for Mee
             connected,
         } = self;
         let alloc = rt.alloc();
-        let site = about(exchanging.file, site_on(rt, exchanging.file, shelf))?;
+        let progress = Progress::of(rt);
+        progress.begins(exchanging.file);
+        let site = about(exchanging.file, site_on(alloc, shelf, &progress))?;
         let wire = match connected {
             Some(wire) => wire,
             None => connect_to(net, exchanging)?,
         };
-        let progress = Progress::of(rt);
         let mut reader = Reading::new(Counted::new(&wire), progress);
         let mut writer = Writing::new(Counted::new(&wire), progress);
         let role = exchanging.role;

@@ -4,12 +4,8 @@
 
 ghost use Rattle.std.specs.Prelude.{◌≡◌};
 
-use command_output::CommandFault;
 use devices::{DeviceFault, Sink, Source};
-use op_shelf::Shelf;
-use shelved_site::site_of;
-use site_state::Site;
-use sqlite::Alter;
+use shelved_site::Hearing;
 use std::io::IsTerminal;
 use std::rt::HostRuntime;
 
@@ -33,15 +29,10 @@ impl<'a> Progress<'a> {
         Progress { reader }
     }
 
-    fn begins(self, file: &str) {
+    /// The operations in a file are read.
+    pub fn begins(self, file: &str) {
         if let Some(rt) = self.reader {
             let _ = eprintln!(rt; "reading {file}");
-        }
-    }
-
-    fn has_read(self, operations: usize) {
-        if let Some(rt) = self.reader {
-            let _ = eprintln!(rt; "taking {operations} operations");
         }
     }
 
@@ -53,18 +44,12 @@ impl<'a> Progress<'a> {
     }
 }
 
-/// The site whose operations stand on a shelf, told while it is made.
-pub fn site_on<S: Alter>(
-    rt: &HostRuntime,
-    file: &str,
-    shelf: &mut Shelf<S>,
-) -> Result<Site, CommandFault> {
-    let progress = Progress::of(rt);
-    progress.begins(file);
-    let ops = shelf.all()?;
-    progress.has_read(ops.len());
-    let site = site_of(rt.alloc(), ops)?;
-    Ok(site)
+impl Hearing for Progress<'_> {
+    fn has_read(&self, operations: usize) {
+        if let Some(rt) = self.reader {
+            let _ = eprintln!(rt; "taking {operations} operations");
+        }
+    }
 }
 
 /// The bytes that went one way.

@@ -1,13 +1,16 @@
 //! `archive serve`: serves the operations in a file to DICOM clients (PS3.8, section 9.1).
 
-ghost use Rattle.std.specs.Prelude.{◌≡◌, ◌≤◌, ◌<◌, ◌+◌, not, ◌==◌, vec_len};
+ghost use Rattle.std.specs.Prelude.{◌≡◌, ◌≤◌, ◌<◌, ◌+◌, not, ◌==◌, vec_len, IfOk};
+ghost use Rattle.sqlite.specs.Held.{state};
+ghost use Rattle.sqlite.specs.State.{HasCleanDisk};
 ghost use Rattle.archive_server.specs.Serving.{places_for, serving_in};
 ghost use Rattle.command_words.specs.Words.{HasPlaces};
+ghost use Rattle.shelved_site.specs.Sites.{IsSiteOf};
 
 use crate::ending::ended_with_input;
 use crate::file::open_shelf;
 use crate::listening::{Listening, exchanging_of, listen_first, listen_to, say_where};
-use crate::progress::site_on;
+use crate::progress::Progress;
 use crate::refused::{Refused, about};
 use anyhow::Result as Printed;
 use archive_model::View;
@@ -18,7 +21,8 @@ use command_words::Serving;
 use log::Log;
 use octets::{ListOf, Octets};
 use op_shelf::Shelf;
-use site_hub::{CloseFault, HubFault, HubName, Keeper, Opened, Pass, Snapshot, close, open};
+use shelved_site::hub_on;
+use site_hub::{CloseFault, HubFault, HubName, Keeper, Opened, Pass, Snapshot, close};
 use sqlite::Alter;
 use std::alloc::{AllocError, Global};
 use std::io::Print;
@@ -177,6 +181,8 @@ fn serve_hub<
     requires number { opened.number ≡ H.number }
     requires opening { opened.opening ≡ H.opening }
     requires passes { opened.passes ≡ H.passes }
+    requires site { HasCleanDisk (state S.Store shelf.old) →
+        IsSiteOf (state S.Store shelf.old) H.opening }
 {
     let titles = titles(alloc, serving)?;
     let entrance = Entrance {
@@ -223,9 +229,12 @@ fn hub_of<'r, R: Wait, S: Alter>(
     passes: usize,
 ) -> Result<Opened<&'r R>, CommandFault>
     requires passes { (1 ≤ passes) × (passes ≤ 64) }
+    ensures site { HasCleanDisk (state S.Store shelf.new) → IfOk result (λ opened.
+        IsSiteOf (state S.Store shelf.new) opened.opening) }
 {
-    let site = site_on(host, file, shelf)?;
-    let opened = open(host.alloc(), rt, site, SITE, passes)?;
+    let progress = Progress::of(host);
+    progress.begins(file);
+    let opened = hub_on(host.alloc(), rt, shelf, SITE, passes, &progress)?;
     Ok(opened)
 }
 
@@ -247,6 +256,8 @@ fn open_site<'a, 'r, R: Net<Listener = TcpListener, Stream = TcpStream> + Wait, 
     listening: Option<Listening>,
 ) -> Result<(Opened<&'r R>, Listening), Refused<'a>>
     requires passes { (1 ≤ passes) × (passes ≤ 64) }
+    ensures site { HasCleanDisk (state S.Store shelf.new) → IfOk result (λ both.
+        IsSiteOf (state S.Store shelf.new) both.0.opening) }
 {
     let opened = match hub_of(host, rt, serving.file, shelf, passes) {
         Ok(opened) => opened,
@@ -283,7 +294,10 @@ fn serve_site<
     shelf: &mut Shelf<S>,
     site: (Opened<&R>, Listening),
     serving: &Serving<'_>,
-) -> Result<Count, CommandFault> {
+) -> Result<Count, CommandFault>
+    requires site { HasCleanDisk (state S.Store shelf.old) →
+        IsSiteOf (state S.Store shelf.old) site.0.opening }
+{
     let (opened, listening) = site;
     let ended = ending_of(host, rt, &listening, serving)?;
     let manner = Manner {

@@ -1,3 +1,5 @@
 pub mod Hashed
 pub mod KnownLaws
+pub mod Sites
 pub mod Takings
+pub mod Unmade

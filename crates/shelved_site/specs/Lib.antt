@@ -1,3 +1,4 @@
 pub mod Corrections
 pub mod Fingerprints
 pub mod Reports
+pub mod Sites

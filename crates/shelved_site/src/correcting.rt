@@ -1,15 +1,15 @@
 //! Corrections of a site on a shelf.
 
-ghost use Rattle.std.specs.Prelude.{◌≡◌, ◌≤◌, ◌↔◌, Ok, Err, IfOk, IsErrOf, OnOk, OnErr, true, false};
+ghost use Rattle.std.specs.Prelude.{◌≡◌, ◌≤◌, ◌↔◌, Ok, Err, IfOk, IfErr, IsErrOf, OnOk, OnErr, true, false};
 ghost use Rattle.op_shelf.specs.States.{IfClean, KeepsAll};
 ghost use Rattle.site_hub.specs.History.{set_of};
 ghost use Rattle.site_hub.specs.Stamps.{next_correction as next_correction_in, may_be_made};
 ghost use Rattle.shelved_site.specs.declared.fault.ShelvedFault.TheVariants.{Hub};
-ghost use Rattle.shelved_site.specs.Corrections.{IsCorrected, IsSpent};
+ghost use Rattle.shelved_site.specs.Corrections.{IsCorrected, IsSpent, IsUnmade, IsUncorrected};
 
 use crate::fault::ShelvedFault;
 use crate::known::is_known;
-use crate::taking::site_of;
+use crate::taking::{Silence, site_on};
 use octets::Octets;
 use op_shelf::Shelf;
 use operation::{Correction, Op, Stamp, Target};
@@ -36,6 +36,8 @@ fn correction_by<H: HubName, R: Wait>(
     ensures stamps_spent { result ≡ Err HubFault.StampsSpent →
         next_correction_in H.number (set_of H.opening keeper.old.all) target tag value
         ≡ Err HubFault.StampsSpent }
+    ensures unmade { IfErr result
+        (IsUnmade H.number (set_of H.opening keeper.old.all) target tag value) }
 {
     let (made, _told) = keeper.correct(pass, target, tag, value)?;
     Ok(made)
@@ -52,12 +54,14 @@ fn correction_in<H: HubName, R: Wait>(
     requires number { opened.number ≡ H.number }
     requires opening { opened.opening ≡ H.opening }
     requires passes { opened.passes ≡ H.passes }
+    requires one { opened.passes ≡ 1 }
     ensures made { IfOk result (λ made. Ok made ≡
         next_correction_in H.number H.opening target tag value) }
     ensures bad_correction { result ≡ Err HubFault.BadCorrection →
         next_correction_in H.number H.opening target tag value ≡ Err HubFault.BadCorrection }
     ensures stamps_spent { result ≡ Err HubFault.StampsSpent →
         next_correction_in H.number H.opening target tag value ≡ Err HubFault.StampsSpent }
+    ensures unmade { IfErr result (IsUnmade H.number H.opening target tag value) }
 {
     let (mut keeper, mut passes) = match opened.named::<H>() {
         Ok(hub) => hub,
@@ -66,7 +70,7 @@ fn correction_in<H: HubName, R: Wait>(
     };
     let made = match passes.as_mut_slice() {
         [pass] => correction_by(&mut keeper, pass, target, tag, value),
-        _ => Err(HubFault::Torn),
+        _ => unreachable!(),
     };
     // A keeper is dropped by the lock that holds it.
     let _locked = Mutex::new(keeper);
@@ -90,6 +94,7 @@ pub fn next_correction<R: Wait>(
         next_correction_in number site target tag value ≡ Err HubFault.BadCorrection }
     ensures stamps_spent { result ≡ Err HubFault.StampsSpent →
         next_correction_in number site target tag value ≡ Err HubFault.StampsSpent }
+    ensures unmade { IfErr result (IsUnmade number site target tag value) }
 {
     let opened = open(alloc, rt, site, number, 1)?;
     correction_in::<Brand, R>(opened, target, tag, value)
@@ -119,13 +124,16 @@ pub fn correct_on<S: Alter, R: Wait>(
         IfOk result (IsCorrected s t number target tag value)) }
     ensures refused { IfClean S.Store shelf.old shelf.new (λ s t. OnErr result (KeepsAll s t)) }
 
-    // Each fault of the hub.
+    // Each fault of the hub, only where it is. What may not be made is told so, unless memory or the
+    // shelf is what refuses.
+    ensures unmade { IfClean S.Store shelf.old shelf.new (λ s t.
+        IfErr result (IsUncorrected s number target tag value)) }
     ensures bad_correction { result ≡ Err (Hub HubFault.BadCorrection) →
         may_be_made number target tag value ≡ false }
     ensures stamps_spent { IfClean S.Store shelf.old shelf.new (λ s t.
         result ≡ Err (Hub HubFault.StampsSpent) → IsSpent s) }
 {
-    let site = site_of(alloc, shelf.all()?)?;
+    let site = site_on(alloc, shelf, &Silence)?;
     let is_known = is_known(alloc, &site, &target)?;
     let made = next_correction(alloc, rt, site, number, target, tag, value)?;
     let stamp = made.stamp();

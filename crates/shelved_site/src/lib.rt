@@ -15,4 +15,4 @@ pub use correcting::{Corrected, correct_on, next_correction};
 pub use fault::ShelvedFault;
 pub use fingerprinting::{equal_sets_have_equal_fingerprints, fingerprint};
 pub use reporting::{Report, report_of, report_on, table_on};
-pub use taking::site_of;
+pub use taking::{Hearing, Silence, hub_on, site_of, site_on};

@@ -9,7 +9,7 @@ ghost use Rattle.shelved_site.specs.Reports.{reported, IsReport, IsTableOf};
 
 use crate::fault::ShelvedFault;
 use crate::fingerprinting::fingerprint;
-use crate::taking::site_of;
+use crate::taking::{Silence, site_on};
 use octets::{ListOf, Octets};
 use op_shelf::Shelf;
 use operation::Digest;
@@ -51,7 +51,7 @@ pub fn report_on<S: Alter>(alloc: Global, shelf: &mut Shelf<S>) -> Result<Report
     ensures same { IfClean S.Store shelf.old shelf.new (λ s t. OnOk result (IsUnchanged s t)) }
     ensures refused { IfClean S.Store shelf.old shelf.new (λ s t. OnErr result (KeepsAll s t)) }
 {
-    let site = site_of(alloc, shelf.all()?)?;
+    let site = site_on(alloc, shelf, &Silence)?;
     let series = shelf.count_kind(SERIES)?;
     let report = report_of(alloc, &site, series)?;
     Ok(report)
@@ -76,7 +76,7 @@ pub fn table_on<S: Alter>(
     ensures same { IfClean S.Store shelf.old shelf.new (λ s t. OnOk result (IsUnchanged s t)) }
     ensures refused { IfClean S.Store shelf.old shelf.new (λ s t. OnErr result (KeepsAll s t)) }
 {
-    let site = site_of(alloc, shelf.all()?)?;
+    let site = site_on(alloc, shelf, &Silence)?;
     let rows = rows_in(alloc, &site, table)?;
     Ok(rows)
 }
