@@ -71,7 +71,7 @@ struct Making<'a, W: Wait> {
 impl<W: Wait> OnShelf for Making<'_, W> {
     type Told = Result<Corrected, CommandFault>;
 
-    fn on<S: Alter + Send>(self, shelf: &mut Shelf<S>) -> Result<Corrected, CommandFault> {
+    fn on<S: Alter + Drop + Send>(self, mut shelf: Shelf<S>) -> Result<Corrected, CommandFault> {
         let Making {
             alloc,
             wait,
@@ -79,7 +79,7 @@ impl<W: Wait> OnShelf for Making<'_, W> {
             change,
         } = self;
         let Change { target, tag, value } = change;
-        let made = correct_on(alloc, wait, shelf, site, target, tag, value)?;
+        let made = correct_on(alloc, wait, &mut shelf, site, target, tag, value)?;
         Ok(made)
     }
 }

@@ -11,7 +11,7 @@ use devices::Counted;
 use exchange::ExchangeFault;
 use exchange_run::Ended;
 use op_shelf::Shelf;
-use shelved_exchange::exchange_on;
+use shelved_exchange::{Behind, exchange_on};
 use shelved_site::site_on;
 use sqlite::Alter;
 use std::net::{Net, TcpListener, TcpStream};
@@ -65,7 +65,7 @@ struct Meeting<'h, 'a, R: Net<Listener = TcpListener, Stream = TcpStream>> {
 impl<'h, 'a, R: Net<Listener = TcpListener, Stream = TcpStream>> OnShelf for Meeting<'h, 'a, R> {
     type Told = Result<Ended, Refused<'a>>;
 
-    fn on<S: Alter + Send>(self, shelf: &mut Shelf<S>) -> Result<Ended, Refused<'a>> {
+    fn on<S: Alter + Drop + Send>(self, mut shelf: Shelf<S>) -> Result<Ended, Refused<'a>> {
         let Meeting {
             rt,
             net,
@@ -75,7 +75,7 @@ impl<'h, 'a, R: Net<Listener = TcpListener, Stream = TcpStream>> OnShelf for Mee
         let alloc = rt.alloc();
         let progress = Progress::of(rt);
         progress.begins(exchanging.file);
-        let site = about(exchanging.file, site_on(alloc, shelf, &progress))?;
+        let site = about(exchanging.file, site_on(alloc, &mut shelf, &progress))?;
         let wire = match connected {
             Some(wire) => wire,
             None => connect_to(net, exchanging)?,
@@ -83,7 +83,11 @@ impl<'h, 'a, R: Net<Listener = TcpListener, Stream = TcpStream>> OnShelf for Mee
         let mut reader = Reading::new(Counted::new(&wire), progress);
         let mut writer = Writing::new(Counted::new(&wire), progress);
         let role = exchanging.role;
-        let (_site, ended) = exchange_on(alloc, role, &mut reader, &mut writer, site, shelf);
+        let Behind {
+            site: _,
+            shelf: _,
+            ended,
+        } = exchange_on(alloc, role, &mut reader, &mut writer, site, shelf);
         wire.part(rt);
         told_of(exchanging.peer, wire.is_silent(), ended)
     }

@@ -24,7 +24,7 @@ pub type FileShelf = Shelf<FileStore<FileFrom<Wary>>>;
 pub trait OnShelf {
     type Told;
 
-    fn on<S: Alter + Send>(self, shelf: &mut Shelf<S>) -> Self::Told;
+    fn on<S: Alter + Drop + Send>(self, shelf: Shelf<S>) -> Self::Told;
 }
 
 /// The first bytes of a file, where it can be read.
@@ -183,6 +183,6 @@ pub fn on_file<'a, W: OnShelf + Drop>(
     file: &'a str,
     work: W,
 ) -> Result<W::Told, Refused<'a>> {
-    let mut shelf = open_shelf(rt, file)?;
-    Ok(work.on(&mut shelf))
+    let shelf = open_shelf(rt, file)?;
+    Ok(work.on(shelf))
 }

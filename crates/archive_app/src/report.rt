@@ -29,8 +29,8 @@ struct Counting {
 impl OnShelf for Counting {
     type Told = Result<Report, ShelvedFault>;
 
-    fn on<S: Alter + Send>(self, shelf: &mut Shelf<S>) -> Result<Report, ShelvedFault> {
-        report_on(self.alloc, shelf)
+    fn on<S: Alter + Drop + Send>(self, mut shelf: Shelf<S>) -> Result<Report, ShelvedFault> {
+        report_on(self.alloc, &mut shelf)
     }
 }
 
@@ -64,8 +64,8 @@ struct Telling {
 impl OnShelf for Telling {
     type Told = Result<Vec<Row>, ShelvedFault>;
 
-    fn on<S: Alter + Send>(self, shelf: &mut Shelf<S>) -> Result<Vec<Row>, ShelvedFault> {
-        table_on(self.alloc, shelf, self.table)
+    fn on<S: Alter + Drop + Send>(self, mut shelf: Shelf<S>) -> Result<Vec<Row>, ShelvedFault> {
+        table_on(self.alloc, &mut shelf, self.table)
     }
 }
 

@@ -143,6 +143,6 @@ pub fn view_file<'a, W: OnShelf + Drop>(
         return on_file(rt, file, work);
     }
     note_log(rt, file);
-    let mut shelf = shelf_of(rt, file)?;
-    Ok(work.on(&mut shelf))
+    let shelf = shelf_of(rt, file)?;
+    Ok(work.on(shelf))
 }

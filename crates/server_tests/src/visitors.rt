@@ -7,7 +7,7 @@ use bytes::Bytes;
 use devices::Counted;
 use exchange_run::Role;
 use operation::decode;
-use shelved_exchange::exchange_on;
+use shelved_exchange::{Behind, exchange_on};
 use site_state::Site;
 use std::alloc::Global;
 use std::io;
@@ -120,14 +120,15 @@ fn exchange_over(
     role: Role,
     stream: &TcpStream,
     site: Site,
-    shelf: &mut Counting,
-) -> (Site, bool) {
+    shelf: Counting,
+) -> (Site, Counting, bool) {
     let mut reader = Counted::new(stream);
     let mut writer = Counted::new(stream);
-    let (site, ended) = exchange_on(alloc, role, &mut reader, &mut writer, site, shelf);
+    let Behind { site, shelf, ended } =
+        exchange_on(alloc, role, &mut reader, &mut writer, site, shelf);
     match ended {
-        Ok(ended) => (site, ended.finished),
-        Err(_fault) => (site, false),
+        Ok(ended) => (site, shelf, ended.finished),
+        Err(_fault) => (site, shelf, false),
     }
 }
 
@@ -161,8 +162,8 @@ fn exchange_all<R: Net<Listener = TcpListener, Stream = TcpStream>>(
             break;
         };
         stream.set_nodelay(true)?;
-        let (after, is_finished) = exchange_over(alloc, role, &stream, site, &mut shelf);
-        site = after;
+        let (after, kept, is_finished) = exchange_over(alloc, role, &stream, site, shelf);
+        (site, shelf) = (after, kept);
         if !is_finished {
             return Err(Fail::from("not all came that was asked for"));
         }

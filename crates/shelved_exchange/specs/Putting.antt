@@ -21,10 +21,17 @@ abbrev pub WerePut : {K : Type 0} → (K → Type 0) → (K → Op → Type 0) �
 WerePut is_up holds lasts first all = (digest : List ℕ) → Has (drop (length first) all) digest
     → WasPut is_up holds lasts digest
 
--- Each operation that a site has gained was put on the shelf.
-abbrev pub GainsWhatWasPut : {K : Type 0} → (K → Type 0) → (K → Op → Type 0) → (K → Op → Type 0) → Map → Map → Type 0
-GainsWhatWasPut is_up holds lasts before after = (digest : List ℕ) (op : Op) → held_at after digest ≡ Some op
-    → (held_at before digest ≡ Some op) ⊎ WasPut is_up holds lasts (digest_of op)
+-- each operation that a site has gained is one of these
+abbrev pub GainsOnly : (Op → Type 0) → Map → Map → Type 0
+GainsOnly these before after = (digest : List ℕ) (op : Op) → held_at after digest ≡ Some op
+    → (held_at before digest ≡ Some op) ⊎ these op
+
+-- A shelf and its site have gone on: while the shelf is up, what lasted on it lasts, and so does each operation that the
+-- site has gained.
+pub record HaveGoneOn {K : Type 0} (is_up : K → Type 0) (lasts : K → Op → Type 0) (lasted : Op → Type 0)
+    (before after : Map) (shelf : K) : Type 0 where
+  pub kept : is_up shelf → (op : Op) → lasted op → lasts shelf op
+  pub gains : is_up shelf → GainsOnly (lasts shelf) before after
 
 -- what a fault of the shelf is to a round
 abbrev pub refusal_of : ShelfFault → HolderFault

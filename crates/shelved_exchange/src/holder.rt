@@ -2,12 +2,11 @@
 
 ghost use Rattle.std.specs.Prelude.{◌≡◌, ⊤};
 ghost use Rattle.std.specs.FinMap as finmap;
-ghost use Rattle.operation.specs.Spelling.{digest_of};
+ghost use Rattle.operation.specs.declared.op.Op.{Op as Operation};
 ghost use Rattle.site_state.specs.Site.{Map};
-ghost use Rattle.exchange.specs.Held.{TakesIn};
-ghost use Rattle.shelved_exchange.specs.Putting.{GainsWhatWasPut};
+ghost use Rattle.shelved_exchange.specs.Putting.{HaveGoneOn};
 
-use crate::putting::{Put, Shelved, refusal_of_shelf};
+use crate::putting::refusal_of_shelf;
 use exchange::{Digests, Holder, HolderFault, Version};
 use octets::ListOf;
 use op_shelf::Keep;
@@ -16,29 +15,34 @@ use site_state::Site;
 use std::alloc::Global;
 use std::marker::{Brand, Model, PhantomData};
 
-/// What a site held when its exchange began. Each call of a program picks it.
+/// What a site held, and what lasted on its shelf, when its exchange began. Each call of a program
+/// picks them.
 pub trait AtOpening {
     ghost opening: { Map };
+
+    ghost lasted: { Operation → Type 0 };
 }
 
 impl AtOpening for Brand {
     ghost opening = { finmap.empty };
+
+    ghost lasted = { λ _. ⊥ };
 }
 
-/// A site with the way to its shelf. What it has gained since its exchange began is on the shelf.
-/// Contracts see the site.
-pub struct ShelvedHolder<K: Keep, P: Put<K> + Drop, E: AtOpening> {
+/// A site with its shelf. What it has gained since its exchange began lasts on the shelf, and so does
+/// what lasted there then. Contracts see the site.
+pub struct ShelvedHolder<K: Keep + Drop, E: AtOpening> {
     site: Site,
-    shelf: P,
-    of: PhantomData<(K, E)>,
+    shelf: K,
+    of: PhantomData<E>,
 }
 
-impl<K: Keep, P: Put<K> + Drop, E: AtOpening> Model for ShelvedHolder<K, P, E> {
+impl<K: Keep + Drop, E: AtOpening> Model for ShelvedHolder<K, E> {
     ghost use Rattle.std.specs.FinMap as finmap;
     ghost use Rattle.std.specs.Coded.{coded_list, coded_ℕ};
     ghost use Rattle.operation.specs.OpCode.{op_code};
     ghost use Rattle.site_state.specs.Site.{Map};
-    ghost use Rattle.shelved_exchange.specs.Putting.{GainsWhatWasPut};
+    ghost use Rattle.shelved_exchange.specs.Putting.{HaveGoneOn};
 
     ghost Value = { Map };
 
@@ -46,27 +50,14 @@ impl<K: Keep, P: Put<K> + Drop, E: AtOpening> Model for ShelvedHolder<K, P, E> {
 
     ghost view = { λ h. h.site };
 
-    ghost invariant = { λ h. GainsWhatWasPut K.is_up K.holds K.lasts E.opening h.site };
+    ghost invariant = { λ h. HaveGoneOn K.is_up K.lasts E.lasted E.opening h.site h.shelf };
 }
 
-/// Lets the site take what the shelf keeps.
-fn take_shelved<K: Keep>(
-    site: &mut Site,
-    op: Digested,
-    shelved: &Shelved<K>,
-) -> Result<Taken, HolderFault>
-    requires { shelved.now.digest ≡ digest_of op }
-    ensures takes { TakesIn (λ s. s) (λ _. ⊤) site.old op result site.new }
-    ensures gains { GainsWhatWasPut K.is_up K.holds K.lasts site.old site.new }
-{
-    let _ = &shelved.digest;
-    Holder::take(site, op)
-}
-
-impl<K: Keep, P: Put<K> + Drop, E: AtOpening> ShelvedHolder<K, P, E> {
-    /// The holder of an exchange that begins with this site.
-    pub fn new(site: Site, shelf: P) -> ShelvedHolder<K, P, E>
+impl<K: Keep + Drop, E: AtOpening> ShelvedHolder<K, E> {
+    /// The holder of an exchange that begins with this site and this shelf.
+    pub fn new(site: Site, shelf: K) -> ShelvedHolder<K, E>
         requires opening { site ≡ E.opening }
+        requires lasted { (op : Operation) → E.lasted op → K.lasts shelf op }
         ensures { result ≡ site }
     {
         ShelvedHolder {
@@ -76,22 +67,18 @@ impl<K: Keep, P: Put<K> + Drop, E: AtOpening> ShelvedHolder<K, P, E> {
         }
     }
 
-    /// Gives the site back.
-    pub fn into_site(self) -> Site
-        ensures same { result ≡ self }
-        ensures gains { GainsWhatWasPut K.is_up K.holds K.lasts E.opening result }
+    /// Gives the site and the shelf back.
+    pub fn into_parts(self) -> (Site, K)
+        ensures same { result.0 ≡ self }
+        ensures gone_on { HaveGoneOn K.is_up K.lasts E.lasted E.opening result.0 result.1 }
     {
-        let ShelvedHolder {
-            site,
-            shelf: _,
-            of: _,
-        } = self;
-        site
+        let ShelvedHolder { site, shelf, of: _ } = self;
+        (site, shelf)
     }
 }
 
 /// Nobody else changes the site.
-impl<K: Keep, P: Put<K> + Drop, E: AtOpening> Holder for ShelvedHolder<K, P, E> {
+impl<K: Keep + Drop, E: AtOpening> Holder for ShelvedHolder<K, E> {
     ghost holds = { λ s. s };
 
     ghost alone = { λ _. ⊤ };
@@ -127,8 +114,8 @@ impl<K: Keep, P: Put<K> + Drop, E: AtOpening> Holder for ShelvedHolder<K, P, E> 
     }
 
     fn take(&mut self, op: Digested) -> Result<Taken, HolderFault> {
-        match self.shelf.put(&op) {
-            Ok(shelved) => take_shelved(&mut self.site, op, &shelved),
+        match self.shelf.put_digested(&op) {
+            Ok(_kept) => Holder::take(&mut self.site, op),
             Err(fault) => Err(refusal_of_shelf(fault)),
         }
     }

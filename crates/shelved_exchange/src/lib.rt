@@ -9,6 +9,6 @@ mod exchanging;
 mod holder;
 mod putting;
 
-pub use exchanging::exchange_on;
+pub use exchanging::{Behind, exchange_on};
 pub use holder::{AtOpening, ShelvedHolder};
-pub use putting::{Direct, Put, Shelved, put_all, put_shown, refusal_of_shelf, shown};
+pub use putting::{Put, Shelved, put_all, put_shown, refusal_of_shelf, shown};

@@ -54,24 +54,6 @@ pub trait Put<K: Keep> {
         ensures { IfOk result (λ shelved. shelved.digest ≡ digest_of op.now) };
 }
 
-/// The way to a shelf in the same thread.
-#[derive(Drop)]
-pub struct Direct<'a, K: Keep> {
-    shelf: &'a mut K,
-}
-
-impl<'a, K: Keep> Direct<'a, K> {
-    pub fn new(shelf: &'a mut K) -> Direct<'a, K> {
-        Direct { shelf }
-    }
-}
-
-impl<'a, K: Keep> Put<K> for Direct<'a, K> {
-    fn put(&mut self, op: &Digested) -> Result<Shelved<K>, ShelfFault> {
-        put_shown(self.shelf, op)
-    }
-}
-
 /// What a fault of the shelf is to a round: want of memory, or a refusal.
 pub fn refusal_of_shelf(fault: ShelfFault) -> HolderFault
     ensures { result ≡ refusal_of fault }

@@ -1,12 +1,9 @@
-use Rattle.shelved_exchange.proofs.Gains.{gains_same, gains_trans}
+use Rattle.shelved_exchange.proofs.Gains.{looked}
 use Rattle.shelved_exchange.proofs.holder.ShelvedHolderHolder.digests_in.Goals as goal
 
 -- A look gains nothing.
 pub invariant_of-self : goal.invariant_of-self
-invariant_of-self g c =
-    let up = g.K.Keep.is_up in let holds = g.K.Keep.holds in let lasts = g.K.Keep.lasts in
-    gains_trans up holds lasts _ _ _ c.self.invariant
-    (gains_same up holds lasts _ _ ((c.digests_in.ensures.stays tt).1))
+invariant_of-self g c = looked g.K.Keep.is_up g.K.Keep.lasts _ _ _ _ _ (c.digests_in.ensures.stays tt).1 c.self.invariant
 
 -- What the site answers the holder answers.
 pub returns : goal.returns

@@ -1,7 +1,19 @@
-use Rattle.shelved_exchange.proofs.Gains.{gains_trans, refused_by}
+use Rattle.shelved_exchange.proofs.Gains.{asked, spared, gains_taken}
 use Rattle.shelved_exchange.proofs.holder.ShelvedHolderHolder.take.Goals as goal
 
--- The site goes on from what it was at the take, and so from what it held at its opening.
+-- What the site takes lasts on the shelf, which the shelf answered before.
 pub invariant_of-self : goal.invariant_of-self
-invariant_of-self g c = gains_trans g.K.Keep.is_up g.K.Keep.holds g.K.Keep.lasts _ _ _ c.self.invariant
-    c.take_shelved.ensures.gains
+invariant_of-self g c =
+    asked g.K.Keep.is_up g.K.Keep.lasts _ _ _ _ _ _ c.self.invariant c.put_digested.ensures.up
+    c.put_digested.ensures.kept
+    (λ now. gains_taken (g.K.Keep.lasts _) _ _ _ _ (c.take.ensures.takes.stays tt).1 (c.in-Ok.ensures.durable now))
+
+-- What the shelf refuses the site does not take.
+pub invariant_of-self-in-Err : goal.invariant_of-self-in-Err
+invariant_of-self-in-Err g c =
+    spared g.K.Keep.is_up g.K.Keep.lasts _ _ _ _ _ c.self.invariant c.put_digested.ensures.up c.put_digested.ensures.kept
+
+-- So it is where the fault is told.
+pub invariant_of-self-in-Err-2 : goal.invariant_of-self-in-Err-2
+invariant_of-self-in-Err-2 g c =
+    spared g.K.Keep.is_up g.K.Keep.lasts _ _ _ _ _ c.self.invariant c.put_digested.ensures.up c.put_digested.ensures.kept
