@@ -22,6 +22,10 @@ module _ {H B : Type 0} (gh : Ghosts H) (gb : Ghosts B) (old new : Opened H B) (
   was_clean : IsTrue (gb.is_clean old.bodies)
   was_clean = goes.spared.clean up.bodies
 
+  -- it was up
+  pub was_up : IsUp gh gb old
+  was_up = record { heads = goes.clean up.heads; bodies = was_clean; opens = goes.opens up.opens }
+
   -- under the heads from before the operations from before are had, and no others
   pub as_before : (other : Op) → Holds gb old other ↔ Have gb new.bodies new.bodies_end old.places other
   as_before other = (

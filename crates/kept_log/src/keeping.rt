@@ -61,7 +61,7 @@ impl<H: Disk, B: Disk> Keep for KeptLog<H, B> {
     fn put_digested(&mut self, op: &Digested) -> Result<Kept, ShelfFault> {
         match self.put_many(slice::from_ref(op))?.as_slice() {
             [kept, ..] => Ok(*kept),
-            [] => Err(ShelfFault::Store),
+            [] => unreachable!(),
         }
     }
 

@@ -5,7 +5,7 @@ ghost use Rattle.std.specs.Vec.{vec_capacity};
 ghost use Rattle.kept_log.specs.Telling.{kept_of, fault_of};
 
 use op_log::LogFault;
-use op_shelf::{Kept, ShelfFault};
+use op_shelf::{Kept, ShelfFault, StoreCause};
 
 /// What a log tells of an operation, as it is told of one that is kept.
 fn kept(told: op_log::Kept) -> Kept
@@ -35,7 +35,9 @@ pub(crate) fn fault(told: LogFault) -> ShelfFault
     ensures { result ≡ fault_of told }
 {
     match told {
-        LogFault::Disk | LogFault::Closed | LogFault::TooLong => ShelfFault::Store,
+        LogFault::Disk => ShelfFault::Store(StoreCause::Failed),
+        LogFault::Closed => ShelfFault::Store(StoreCause::Closed),
+        LogFault::TooLong => ShelfFault::Store(StoreCause::Other),
         LogFault::DamagedHeads(_) => ShelfFault::BadRow,
         LogFault::DamagedBody(_) | LogFault::Collision => ShelfFault::BadRow,
         LogFault::Memory => ShelfFault::Memory,

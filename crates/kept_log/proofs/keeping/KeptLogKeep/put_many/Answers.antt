@@ -5,7 +5,7 @@ use Rattle.op_shelf.specs.Keep.{GainsAll}
 use Rattle.kept_log.specs.Keeping.{Holds}
 use Rattle.kept_log.specs.Telling.{kept_of}
 use Rattle.kept_log.proofs.Keeps.{puts_more, same_length}
-use Rattle.kept_log.proofs.Logs.{all_last, gains_all, lasts_on, same_of}
+use Rattle.kept_log.proofs.Logs.{all_last, gains_all, lasts_on, same_of, was_up}
 use Rattle.kept_log.proofs.keeping.KeptLogKeep.put_many.Goals as goal
 
 -- Each of the group is told of.
@@ -49,3 +49,12 @@ pub returns-in-Err-clause-kept : goal.returns-in-Err-clause-kept
 returns-in-Err-clause-kept g c up other was =
     let old = c.args.self.now.log in
     lasts_on g.H.Disk g.B.Disk old c.put_many.new.self c.put_many.ensures.goes_on up _ (c.in-Err.ensures.refused ∙ sym (append-nil old.places)) other was
+
+-- What is up was up.
+pub returns-in-Ok-clause-up : goal.returns-in-Ok-clause-up
+returns-in-Ok-clause-up g c up =
+    was_up g.H.Disk g.B.Disk c.args.self.now.log c.put_many.new.self c.put_many.ensures.goes_on up
+
+pub returns-in-Err-clause-up : goal.returns-in-Err-clause-up
+returns-in-Err-clause-up g c up =
+    was_up g.H.Disk g.B.Disk c.args.self.now.log c.put_many.new.self c.put_many.ensures.goes_on up
