@@ -1,17 +1,27 @@
 -- The candidates of a query are enough: no row is lost.
 use Rattle.std.proofs.Common.{◌≡◌, ℕ, Bool, true, false, cond, List, [], ◌∷◌, map, take, length, Option, Some, None}
 use Rattle.std.proofs.Common.{refl, sym, ap, subst, ◌∙◌, inl, inr, arith}
-use Rattle.std.specs.Prelude.{◌&&◌, ◌||◌, ◌==◌, not, is_some, if◌then◌else◌}
+use Rattle.std.specs.Prelude.{◌&&◌, ◌||◌, ◌==◌, not, is_some, IfSome, if◌then◌else◌}
 use Rattle.std.proofs.lemmas.Bool.{eqb-true, false≢true}
 use Rattle.std.specs.List.{filter, filter_map, cons_option, find, list_any, list_all, AllByRecursion}
 use Rattle.std.specs.List.Sorted.{IsStrictlySortedBy}
 use Rattle.std.specs.Option.{option_map}
 use Rattle.std.specs.BTreeMap.{is_at}
 use Rattle.std.specs.declared.cmp.Ordering.TheVariants.{Less}
-use Rattle.dictionary.specs.declared.elements.TheConstants.{STUDY_INSTANCE_UID, SERIES_INSTANCE_UID}
+use Rattle.dictionary.specs.declared.elements.TheConstants.{SERIES_INSTANCE_UID, SOP_INSTANCE_UID, STUDY_INSTANCE_UID}
 use Rattle.data_set.specs.Set.{Set}
 use Rattle.operation.specs.declared.op.Op.{Op}
+use Rattle.operation.specs.declared.op.Op.TheVariants.{Content as a_content}
+use Rattle.operation.specs.Contents.{IsContent, Describes, offence, has_uids, names_itself, note_offence}
 use Rattle.operation.specs.Corrections.{is_corrected}
+use Rattle.operation.proofs.Bounds.{instance_short, passed}
+use Rattle.operation.proofs.KeyValueLaws.{kept_names}
+use Rattle.rejection_note.specs.Notes.{note_in}
+use Rattle.data_set.specs.Tree.{Tree}
+use Rattle.std.specs.Coded.{Coded-set, coded_list, coded_ℕ}
+use Rattle.std.proofs.Math.Logic.{∥∥₁_elim}
+use Rattle.std.proofs.lemmas.List.{take_all}
+use Rattle.join_laws.specs.GrowSet.{union_of}
 use Rattle.operation.specs.Parts.{ContentParts, own_value}
 use Rattle.octets.specs.Members.{Has as IsOne}
 use Rattle.octets.specs.Padding.{trimmed}
@@ -23,7 +33,7 @@ use Rattle.archive_model.specs.Shown.{shown, shown_at, unless_hiding}
 use Rattle.archive_model.specs.Attributes.{attribute, corrected}
 use Rattle.archive_model.proofs.MemberLaws.{has_filter, filter_has, has_any, any_has, has_map, map_has, found_has}
 use Rattle.archive_model.proofs.MemberLaws.{has_all, filter_map_has}
-use Rattle.archive_model.proofs.ModelLaws.{same_is, same_itself as same_equal, pick_is_content}
+use Rattle.archive_model.proofs.ModelLaws.{same_is, same_itself as same_equal, pick_is_content, content_has}
 use Rattle.key_matching.specs.declared.matching.Matching.{Matching}
 use Rattle.key_matching.specs.declared.matching.Matching.TheVariants.{Dates, Times, WildCard, Name, Uids, Single}
 use Rattle.key_matching.specs.declared.matching.Matching.TheVariants.{Answered}
@@ -33,7 +43,7 @@ use Rattle.live_picks.specs.Live.{pick_at, is_of_study, is_of_series}
 use Rattle.study_index.specs.Index.{IndexValue, pick_of}
 use Rattle.study_index.specs.Definition.{IsIndexOf, AreLawful}
 use Rattle.live_picks.specs.Proved.Picks.{text_exact}
-use Rattle.live_picks.proofs.KeyLaws.{same_key}
+use Rattle.live_picks.proofs.KeyLaws.{at_itself, same_key}
 use Rattle.study_index.proofs.Corrected.{not_corrected}
 use Rattle.query_model.specs.declared.asked.Asked.{Asked}
 use Rattle.query_model.specs.declared.query.Query.{Query}
@@ -42,27 +52,36 @@ use Rattle.query_model.specs.declared.key.Level.TheVariants.{Study, Series, Imag
 use Rattle.query_model.specs.Key.{has_study_above, has_series_above}
 use Rattle.query_model.specs.Rows.{uid_at, is_named, named, uids_at, is_at as is_at_uid, contents_at, is_key_match}
 use Rattle.query_model.specs.Rows.{is_match, row, row_of, row_at, rows_among, rows_of}
-use Rattle.archive_query.specs.Candidates.{is_uids, is_list_of, is_listed, IsReachedBy, IsReached, AreEnough}
-use Rattle.archive_query.specs.Candidates.{is_listed_series, is_reached_in, IsReachedAt}
-use Rattle.archive_query.specs.Leads.{IsLedBy, is_candidate, is_of_none}
+use Rattle.key_matching.specs.Prepared.{is_uids}
+use Rattle.archive_query.specs.Candidates.{is_list_of, is_listed_series, is_walked_at_series, is_walked_at_image, listed_tag}
+use Rattle.archive_query.specs.Candidates.{cut_texts, members_of, is_of_walked, AreStudiesOf, AreWalked, AreAt, AreCandidates}
+use Rattle.archive_query.specs.Found.{AreEnough}
+use Rattle.archive_query.specs.Leads.{IsLedBy, is_candidate, is_of_none, IsChosen}
+use Rattle.std.specs.Cmp.Lexicographic.{nat_list_cmp_total}
+use Rattle.join_laws.specs.Proved.Sets.{has-union}
+use Rattle.octets.proofs.TextLemmas.{in_ascending}
+use Rattle.archive_query.proofs.DistinctLaws.{any_ascending}
+use Rattle.live_picks.proofs.Studies.{pick_listed}
 use Rattle.archive_query.proofs.LeadEnough.{leads_enough, value_within}
-use Rattle.study_index.specs.Leads.{as_led, is_between}
+use Rattle.archive_query.proofs.TextLeads.{walked, none_stands}
+use Rattle.archive_query.specs.Leads.{value_walk}
+use Rattle.study_index.specs.Leads.{as_led, LeadWalk, is_walked}
 use Rattle.archive_query.proofs.AscendingLaws.{Text, Has, Below, Rises, one_rising, ascending_rises, ascending_has}
 use Rattle.archive_query.proofs.AscendingLaws.{has_ascending}
 
 -- ---- members
 
-one_has : (us : List Text) (u : Text) → IsOne us u → Has us u
+pub one_has : (us : List Text) (u : Text) → IsOne us u → Has us u
 one_has [] u h = h
 one_has (v ∷ us) u (inl e) = inl e
 one_has (v ∷ us) u (inr h) = inr (one_has us u h)
 
-has_one : (us : List Text) (u : Text) → Has us u → IsOne us u
+pub has_one : (us : List Text) (u : Text) → Has us u → IsOne us u
 has_one [] u h = h
 has_one (v ∷ us) u (inl e) = inl e
 has_one (v ∷ us) u (inr h) = inr (has_one us u h)
 
-listed_one : (us : List Text) (u : Text) → has text_cmp us u ≡ true → IsOne us u
+pub listed_one : (us : List Text) (u : Text) → has text_cmp us u ≡ true → IsOne us u
 listed_one us u h =
     let at = any_has (is_at (text_cmp u)) us h in
     subst (IsOne us) (sym (same_key text_exact u at.0 at.2)) at.1
@@ -192,14 +211,30 @@ enough view ops keep us up has_all_kept =
     back : (u : Text) → is_given view ops keep u ≡ true → IsOne (instances ops) u → IsOne us u
     back u passed h = let at = picked_if view ops keep u passed in has_all_kept u at.0 at.1 at.2
 
+-- ---- what each content keeps true
+
+content_lawful : (ops : List Op) → AreLawful ops → (c : ContentParts) → IsOne (contents ops) c → IsContent c
+content_lawful ops lawful c h = lawful (a_content c) (content_has ops c h)
+
+names_described : (c : ContentParts) (elements : List Tree) → Describes elements c
+    → names_itself c.class c.instance elements ≡ true
+unfolding offence
+names_described c elements d = (passed (has_uids c.class c.instance elements) (names_itself c.class c.instance elements)
+    (note_offence (note_in c.class elements)) d.faultless).1
+
+-- a content's SOP Instance UID is its value of that element
+own_instance : (c : ContentParts) → IsContent c → own_value c SOP_INSTANCE_UID ≡ c.instance
+own_instance c is = ∥∥₁_elim is (Coded-set (coded_list coded_ℕ) (own_value c SOP_INSTANCE_UID) c.instance)
+    (λ d. (kept_names c.class c.instance d.0 c.values d.1.values (names_described c d.0 d.1)).1)
+
 -- ---- what a query asks for
 
 -- whether every key matches some content of a study
-abbrev is_study_match : List Op → Query → Text → Bool
+abbrev pub is_study_match : List Op → Query → Text → Bool
 is_study_match ops q study = list_any (λ d. same (study_of d) study && is_match ops q d) (contents ops)
 
 -- at STUDY: what the key that lists studies matches, or else what is of a study that every key matches
-abbrev kept_by : Option Asked → List Op → Query → ContentParts → Bool
+abbrev pub kept_by : Option Asked → List Op → Query → ContentParts → Bool
 kept_by None ops q c = is_study_match ops q (study_of c)
 kept_by (Some asked) ops q c = matches Uids asked.key (study_of c)
 
@@ -208,10 +243,15 @@ abbrev kept_in : Option Asked → Query → ContentParts → Bool
 kept_in None q c = is_named q c
 kept_in (Some asked) q c = is_named q c && matches Uids asked.key (series_of c)
 
-abbrev kept_at : Level → List Op → Query → ContentParts → Bool
+-- at IMAGE: what is of the series that is named, and what the key that lists instances matches
+abbrev kept_of : Option Asked → Query → ContentParts → Bool
+kept_of None q c = is_named q c
+kept_of (Some asked) q c = is_named q c && matches Uids asked.key c.instance
+
+abbrev pub kept_at : Level → List Op → Query → ContentParts → Bool
 kept_at Study ops q c = kept_by (find (is_list_of STUDY_INSTANCE_UID) q.asked) ops q c
 kept_at Series ops q c = kept_in (find (is_list_of SERIES_INSTANCE_UID) q.asked) q c
-kept_at Image ops q c = is_named q c
+kept_at Image ops q c = kept_of (find (is_list_of SOP_INSTANCE_UID) q.asked) q c
 
 -- a content is of what is named above the level, and of what a key matches
 abbrev pub is_kept : List Op → Query → ContentParts → Bool
@@ -249,18 +289,23 @@ pub of_cut : (study : Text) (c : ContentParts) → study_of c ≡ study
     → is_of_study (take 64 study) (Some (pick_of c)) ≡ true
 of_cut study c e = same_equal (take 64 (study_of c)) (take 64 study) (ap (take 64) e)
 
--- a key that is not universal lists what it matches
-listed_by : (key : Text) (c : ContentParts) → is_universal key ≡ false → matches Uids key (study_of c) ≡ true
-    → is_listed key (Some (pick_of c)) ≡ true
-listed_by key c some e =
-    either_of (is_universal key || length (study_of c) == 0) (list_any (is_same_part (study_of c)) (parts key)) e
-    (λ h. either_of (is_universal key) (length (study_of c) == 0) h
+-- 64 bytes of what a key matches that is not universal are among those of what it lists
+listed_by : (asked : Asked) (text : Text) → is_universal asked.key ≡ false → matches Uids asked.key text ≡ true
+    → has text_cmp (cut_texts (members_of asked)) (take 64 text) ≡ true
+listed_by asked text some e =
+    let key = asked.key in
+    let s = take 64 text in
+    either_of (is_universal key || length text == 0) (list_any (is_same_part text) (parts key)) e
+    (λ h. either_of (is_universal key) (length text == 0) h
     (λ u. absurd (false≢true (sym some ∙ u)))
-    (λ none. or_first _ _ (of_cut [] c (none_long (study_of c) none))))
-    (λ h. or_second _ _ (let at = any_has (is_same_part (study_of c)) (parts key) h in
-    has_any (λ study. is_of_study (take 64 study) (Some (pick_of c))) (map trimmed (parts key)) (trimmed at.0)
-    (has_map trimmed (parts key) at.0 at.1) (of_cut (trimmed at.0)
-    c (sym (same_is (trimmed at.0) (study_of c) at.2)))))
+    (λ none. or_first _ _ (ap (λ (t : Text). is_at (text_cmp s) t) (sym (ap (take 64) (none_long text none)))
+    ∙ at_itself nat_list_cmp_total s)))
+    (λ h. or_second _ _ (let at = any_has (is_same_part text) (parts key) h in
+    let member : trimmed at.0 ≡ text = same_is (trimmed at.0) text at.2 in
+    has_any (is_at (text_cmp s)) (map (take 64) (members_of asked)) (take 64 (trimmed at.0))
+    (has_map (take 64) (members_of asked) (trimmed at.0)
+    (in_ascending (trimmed at.0) (map trimmed (parts key)) (has_map trimmed (parts key) at.0 at.1)))
+    (ap (λ (t : Text). is_at (text_cmp s) (take 64 t)) member ∙ at_itself nat_list_cmp_total s)))
 
 -- and of its series, likewise
 pub of_cut_series : (study series : Text) (c : ContentParts) → study_of c ≡ study → series_of c ≡ series
@@ -270,17 +315,20 @@ of_cut_series study series c e g =
     ∙ same_equal (take 64 (series_of c)) (take 64 series) (ap (take 64) g)
 
 -- the same of a key that lists series
-listed_in : (study key : Text) (c : ContentParts) → study_of c ≡ study → is_universal key ≡ false
-    → matches Uids key (series_of c) ≡ true → is_listed_series (take 64 study) key (Some (pick_of c)) ≡ true
-listed_in study key c of some e =
+listed_in : (study : Text) (asked : Asked) (c : ContentParts) → study_of c ≡ study → is_universal asked.key ≡ false
+    → matches Uids asked.key (series_of c) ≡ true
+    → is_listed_series (take 64 study) (members_of asked) (Some (pick_of c)) ≡ true
+listed_in study asked c of some e =
+    let key = asked.key in
+    let passes = λ (one : Text). is_of_series (take 64 study) (take 64 one) (Some (pick_of c)) in
     either_of (is_universal key || length (series_of c) == 0) (list_any (is_same_part (series_of c)) (parts key)) e
     (λ h. either_of (is_universal key) (length (series_of c) == 0) h
     (λ u. absurd (false≢true (sym some ∙ u)))
     (λ none. or_first _ _ (of_cut_series study [] c of (none_long (series_of c) none))))
-    (λ h. or_second _ _ (let at = any_has (is_same_part (series_of c)) (parts key) h in
-    has_any (λ one. is_of_series (take 64 study) (take 64 one) (Some (pick_of c))) (map trimmed (parts key))
-    (trimmed at.0) (has_map trimmed (parts key) at.0 at.1)
-    (of_cut_series study (trimmed at.0) c of (sym (same_is (trimmed at.0) (series_of c) at.2)))))
+    (λ h. or_second _ _ (any_ascending passes (map trimmed (parts key))
+    ∙ (let at = any_has (is_same_part (series_of c)) (parts key) h in
+    has_any passes (map trimmed (parts key)) (trimmed at.0) (has_map trimmed (parts key) at.0 at.1)
+    (of_cut_series study (trimmed at.0) c of (sym (same_is (trimmed at.0) (series_of c) at.2))))))
 
 named_study : (q : Query) (c : ContentParts) → has_study_above q.level ≡ true → is_named q c ≡ true
     → study_of c ≡ q.study
@@ -292,6 +340,11 @@ named_series : (q : Query) (c : ContentParts) → has_series_above q.level ≡ t
 named_series q c l k = same_is (series_of c) q.series (sym (ap (λ b. not b || same (series_of c) q.series) l)
     ∙ (and_both _ _ k).1)
 
+-- a study is among those that are walked, or all are
+abbrev pub is_walked_study : Option (List Text) → Text → Bool
+is_walked_study None s = true
+is_walked_study (Some studies) s = has text_cmp studies s
+
 module _ (ops : List Op) (index : IndexValue) (is : IsIndexOf ops index) (lawful : AreLawful ops) where
   -- each walk of a key that matches some content of the set comes to the content's study
   led_by : (d : ContentParts) → IsOne (contents ops) d → (asked : Asked) → is_key_match ops d asked ≡ true
@@ -302,35 +355,57 @@ module _ (ops : List Op) (index : IndexValue) (is : IsIndexOf ops index) (lawful
       (λ u. either_of (is_universal asked.key) (length (attribute ops d asked.tag) == 0) u
       (λ all. absurd (false≢true (sym for_it.some ∙ all)))
       (λ none. or_first _ _ (leads_enough ops index is lawful (is_of_none asked.tag) asked.tag for_it.tag d h
+      (walked (value_walk asked.tag []) asked.tag (attribute ops d asked.tag)
       (value_within asked.tag (attribute ops d asked.tag) []
-      (ap (as_led asked.tag) (none_long (attribute ops d asked.tag) none))))))
-      (λ m. or_second _ _ (leads_enough ops index is lawful (is_between walk.0 walk.1) asked.tag for_it.tag d h
+      (ap (as_led asked.tag) (none_long (attribute ops d asked.tag) none)))
+      (none_stands (as_led asked.tag (attribute ops d asked.tag)))))))
+      (λ m. or_second _ _ (leads_enough ops index is lawful (is_walked walk) asked.tag for_it.tag d h
       (for_it.passes (attribute ops d asked.tag) m)))
 
   pick_there : (uid : Text) (c : ContentParts) → pick uid ops ≡ Some c → pick_at uid index.1.1.1 ≡ Some (pick_of c)
   pick_there uid c e = is.picks uid ∙ ap (option_map pick_of) e
 
-  reached_by : (r : Option Asked) (q : Query) → find (is_list_of STUDY_INSTANCE_UID) q.asked ≡ r
-      → (uid : Text) (c : ContentParts)
-      → pick uid ops ≡ Some c → kept_by r ops q c ≡ true → IsReachedBy r q index uid
-  reached_by None q f uid c e k =
-      let at = any_has (λ d. same (study_of d) (study_of c) && is_match ops q d) (contents ops) k in
+  -- the walk of one key comes to what every key matches
+  led_to : (one : Option (ℕ × LeadWalk)) (studies : Option (List Text)) (q : Query) → AreStudiesOf one index studies
+      → IfSome one (IsChosen q) → (study : Text) → is_study_match ops q study ≡ true
+      → is_walked_study studies (take 64 study) ≡ true
+  led_to None studies q are chosen study k = ap (λ r. is_walked_study r (take 64 study)) are
+  led_to (Some walk) None q are chosen study k = absurd are
+  led_to (Some walk) (Some studies) q are chosen study k =
+      let at = any_has (λ d. same (study_of d) study && is_match ops q d) (contents ops) k in
       let parts_of = and_both _ _ at.2 in
-      record {
-        picked = pick_of c;
-        here = pick_there uid c e;
-        led = λ asked one walk for_it. ap (λ (t : Text). is_candidate asked.tag (is_between walk.0 walk.1) index.0.1
-            (take 64 t)) (sym (same_is (study_of at.0) (study_of c) parts_of.0))
-            ∙ led_by at.0 at.1 asked (has_all (is_key_match ops at.0) q.asked asked parts_of.1 one) walk for_it;
-      }
-  reached_by (Some a) q f uid c e k =
+      are (take 64 study)
+      ∙ ap (λ (t : Text). is_candidate walk.0 (is_walked walk.1) index.0.1 (take 64 t))
+      (sym (same_is (study_of at.0) study parts_of.0))
+      ∙ ap (λ n. is_candidate n (is_walked walk.1) index.0.1 (take 64 (study_of at.0))) (sym chosen.tag)
+      ∙ led_by at.0 at.1 chosen.asked (has_all (is_key_match ops at.0) q.asked chosen.asked parts_of.1 chosen.one)
+      walk.1 chosen.walk
+
+  -- what is kept is of a study that is walked
+  pub walked_to : (r : Option Asked) (q : Query) → find (is_list_of STUDY_INSTANCE_UID) q.asked ≡ r
+      → (studies : Option (List Text)) → AreWalked (option_map members_of r) q index studies → (c : ContentParts)
+      → kept_by r ops q c ≡ true → is_walked_study studies (take 64 (study_of c)) ≡ true
+  walked_to None q f studies are c k = led_to are.one studies q are.studies_are are.some (study_of c) k
+  walked_to (Some a) q f studies are c k =
       let key = (found_has (is_list_of STUDY_INSTANCE_UID) q.asked a f).1 in
       let some = not_true (is_universal a.key) (and_both _ _ key).1 in
-      ap (is_listed a.key) (pick_there uid c e) ∙ listed_by a.key c some k
+      ap (λ r. is_walked_study r (take 64 (study_of c))) are
+      ∙ has-union nat_list_cmp_total text_exact (take 64 (study_of c)) (cut_texts (members_of a)) []
+      ∙ listed_by a (study_of c) some k
+
+  -- whatever is put in of the studies that are walked has what is kept
+  put_to : (studies : Option (List Text)) (uid : Text) (c : ContentParts) → pick uid ops ≡ Some c
+      → is_walked_study studies (take 64 (study_of c)) ≡ true → is_of_walked studies index uid ≡ true
+  put_to None uid c e w = pick_listed index.1.1.1 uid (pick_of c) (pick_there uid c e)
+  put_to (Some studies) uid c e w =
+      let at = any_has (is_at (text_cmp (take 64 (study_of c)))) studies w in
+      has_any (λ study. is_of_study study (pick_at uid index.1.1.1)) studies at.0 at.1
+      (ap (is_of_study at.0) (pick_there uid c e)
+      ∙ same_equal (take 64 (study_of c)) at.0 (same_key text_exact (take 64 (study_of c)) at.0 at.2))
 
   reached_in : (r : Option Asked) (q : Query) → find (is_list_of SERIES_INSTANCE_UID) q.asked ≡ r → q.level ≡ Series
       → (uid : Text) (c : ContentParts) → pick uid ops ≡ Some c → kept_in r q c ≡ true
-      → is_reached_in r (take 64 q.study) (pick_at uid index.1.1.1) ≡ true
+      → is_walked_at_series (option_map members_of r) (take 64 q.study) (pick_at uid index.1.1.1) ≡ true
   reached_in None q f l uid c e k =
       ap (is_of_study (take 64 q.study)) (pick_there uid c e)
       ∙ of_cut q.study c (named_study q c (ap has_study_above l) k)
@@ -338,23 +413,53 @@ module _ (ops : List Op) (index : IndexValue) (is : IsIndexOf ops index) (lawful
       let both = and_both _ _ k in
       let key = (found_has (is_list_of SERIES_INSTANCE_UID) q.asked a f).1 in
       let some = not_true (is_universal a.key) (and_both _ _ key).1 in
-      ap (is_listed_series (take 64 q.study) a.key) (pick_there uid c e)
-      ∙ listed_in q.study a.key c (named_study q c (ap has_study_above l) both.0) some both.1
+      ap (is_listed_series (take 64 q.study) (members_of a)) (pick_there uid c e)
+      ∙ listed_in q.study a c (named_study q c (ap has_study_above l) both.0) some both.1
 
-  reached_at : (level : Level) (q : Query) → q.level ≡ level → (uid : Text) (c : ContentParts) → pick uid ops ≡ Some c
-      → kept_at level ops q c ≡ true → IsReachedAt level q index uid
-  reached_at Study q l uid c e k =
-      reached_by (find (is_list_of STUDY_INSTANCE_UID) q.asked) q refl uid c e k
-  reached_at Series q l uid c e k = reached_in (find (is_list_of SERIES_INSTANCE_UID) q.asked) q refl l uid c e k
-  reached_at Image q l uid c e k =
+  named_in_series : (q : Query) → q.level ≡ Image → (uid : Text) (c : ContentParts) → pick uid ops ≡ Some c
+      → is_named q c ≡ true → is_of_series (take 64 q.study) (take 64 q.series) (pick_at uid index.1.1.1) ≡ true
+  named_in_series q l uid c e k =
       ap (is_of_series (take 64 q.study) (take 64 q.series)) (pick_there uid c e)
       ∙ of_cut_series q.study q.series c (named_study q c (ap has_study_above l) k)
       (named_series q c (ap has_series_above l) k)
 
-  -- what is kept is reached
-  pub reached : (q : Query) (uid : Text) (c : ContentParts) → pick uid ops ≡ Some c → is_kept ops q c ≡ true
-      → IsReached q index uid
-  reached q uid c e k = reached_at q.level q refl uid c e k
+  reached_of : (r : Option Asked) (q : Query) → find (is_list_of SOP_INSTANCE_UID) q.asked ≡ r → q.level ≡ Image
+      → (uid : Text) (c : ContentParts) → pick uid ops ≡ Some c → kept_of r q c ≡ true
+      → is_walked_at_image (option_map members_of r) (take 64 q.study) (take 64 q.series) index uid ≡ true
+  reached_of None q f l uid c e k = named_in_series q l uid c e k
+  reached_of (Some a) q f l uid c e k =
+      let both = and_both (is_named q c) (matches Uids a.key c.instance) k in
+      let key = (found_has (is_list_of SOP_INSTANCE_UID) q.asked a f).1 in
+      let some = not_true (is_universal a.key) (and_both _ _ key).1 in
+      let here = pick_is_content uid ops c e in
+      let whole : take 64 c.instance ≡ c.instance =
+      take_all 64 c.instance (instance_short c (content_lawful ops lawful c here.0)) in
+      let listed_is = listed_by a c.instance some both.1 in
+      ap (λ b. b && has text_cmp (union_of text_cmp [] (cut_texts (members_of a))) uid)
+      (named_in_series q l uid c e both.0)
+      ∙ has-union nat_list_cmp_total text_exact uid (cut_texts (members_of a)) []
+      ∙ ap (has text_cmp (cut_texts (members_of a))) (sym here.1 ∙ sym whole) ∙ listed_is
+
+  abbrev listed_at : Level → Query → Option (List Text)
+  listed_at level q = option_map members_of (find (is_list_of (listed_tag level)) q.asked)
+
+  reached_at : (level : Level) (q : Query) → q.level ≡ level → (uids : List Text) → AreAt level q index [] uids
+      → (uid : Text) (c : ContentParts) → pick uid ops ≡ Some c → kept_at level ops q c ≡ true
+      → has text_cmp uids uid ≡ true
+  reached_at Study q l uids are uid c e k =
+      are.put uid ∙ put_to are.studies uid c e (walked_to (find (is_list_of STUDY_INSTANCE_UID) q.asked) q refl
+      are.studies (subst (λ x. AreWalked (listed_at x q) q index are.studies) l are.walked) c k)
+  reached_at Series q l uids are uid c e k =
+      are uid ∙ ap (λ x. is_walked_at_series (listed_at x q) (take 64 q.study) (pick_at uid index.1.1.1)) l
+      ∙ reached_in (find (is_list_of SERIES_INSTANCE_UID) q.asked) q refl l uid c e k
+  reached_at Image q l uids are uid c e k =
+      are uid ∙ ap (λ x. is_walked_at_image (listed_at x q) (take 64 q.study) (take 64 q.series) index uid) l
+      ∙ reached_of (find (is_list_of SOP_INSTANCE_UID) q.asked) q refl l uid c e k
+
+  -- what is kept is walked
+  pub reached : (q : Query) (uids : List Text) → AreCandidates q index uids → (uid : Text) (c : ContentParts)
+      → pick uid ops ≡ Some c → is_kept ops q c ≡ true → has text_cmp uids uid ≡ true
+  reached q uids are uid c e k = reached_at q.level q refl uids are uid c e k
 
 -- ---- rows without what no row is of
 
@@ -570,18 +675,30 @@ module _ (ops : List Op) (lawful : AreLawful ops) (called : List ℕ) (q : Query
       series_is : (c : ContentParts) → uid_at q.level c ≡ series_of c
       series_is c = ap (λ x. uid_at x c) l
 
+  by_image : (r : Option Asked) → q.level ≡ Image → find (is_list_of SOP_INSTANCE_UID) q.asked ≡ r
+      → (cs : List ContentParts) → AreOf ops cs → IsEnough (kept_of r q) cs
+  by_image None l f cs among = of_named cs
+  by_image (Some a) l f cs among =
+      of_matching (matches Uids a.key)
+      (λ c h e. unmatched SOP_INSTANCE_UID refl a f c (ap (matches Uids a.key)
+      (own_instance c (content_lawful ops lawful c h) ∙ sym (instance_is c)) ∙ e)) cs among
+      ∙ ap (λ x. rows_among ops called q (named q (filter (λ c. is_named q c && matches Uids a.key (uid_at x c)) cs))) l
+    where
+      instance_is : (c : ContentParts) → uid_at q.level c ≡ c.instance
+      instance_is c = ap (λ x. uid_at x c) l
+
   by_level : (level : Level) → q.level ≡ level → (cs : List ContentParts) → AreOf ops cs
       → IsEnough (kept_at level ops q) cs
   by_level Study l cs among = by_study (find (is_list_of STUDY_INSTANCE_UID) q.asked) l refl cs among
   by_level Series l cs among = by_series (find (is_list_of SERIES_INSTANCE_UID) q.asked) l refl cs among
-  by_level Image l cs among = of_named cs
+  by_level Image l cs among = by_image (find (is_list_of SOP_INSTANCE_UID) q.asked) l refl cs among
 
   -- what is not kept has no row
   pub rows_of_kept : (cs : List ContentParts) → AreOf ops cs → IsEnough (is_kept ops q) cs
   rows_of_kept cs among = by_level q.level refl cs among
 
 -- what is shown is the pick of its instance, and so a content of the set
-shown_pick : (view : View) (ops : List Op) (uid : Text) (c : ContentParts) → shown_at view ops uid ≡ Some c
+pub shown_pick : (view : View) (ops : List Op) (uid : Text) (c : ContentParts) → shown_at view ops uid ≡ Some c
     → pick uid ops ≡ Some c
 shown_pick view ops uid c e = by (is_covered view ops uid) (pick uid ops) e
   where
@@ -602,11 +719,22 @@ shown_of_set view ops us c h =
 
 -- the rows of what is shown of the candidates are all rows
 pub rows_enough : (view : View) (called : List ℕ) (q : Query) (ops : List Op) (index : IndexValue) → IsIndexOf ops index
-    → AreLawful ops → (us : List Text) → IsStrictlySortedBy text_cmp us → AreEnough q index us
+    → AreLawful ops → (us : List Text) → IsStrictlySortedBy text_cmp us → AreCandidates q index us
     → rows_among ops called q (named q (filter_map (shown_at view ops) us)) ≡ rows_of view called q ops
 unfolding rows_of
-rows_enough view called q ops index is lawful us up all_in =
+rows_enough view called q ops index is lawful us up are =
     rows_of_kept ops lawful called q (filter_map (shown_at view ops) us) (shown_of_set view ops us)
     ∙ ap (λ xs. rows_among ops called q (named q xs)) (enough view ops (is_kept ops q) us (sorted_rises us up)
-    (λ uid c e k. listed_one us uid (all_in uid (reached ops index is lawful q uid c e k))))
+    (λ uid c e k. listed_one us uid (reached ops index is lawful q us are uid c e k)))
     ∙ sym (rows_of_kept ops lawful called q (shown view ops) (shown_of_set view ops (instances ops)))
+
+-- what is shown of the candidates is enough
+pub all_enough : (view : View) (q : Query) (ops : List Op) (index : IndexValue) → IsIndexOf ops index → AreLawful ops
+    → (us : List Text) → IsStrictlySortedBy text_cmp us → AreCandidates q index us
+    → AreEnough view q ops (named q (filter_map (shown_at view ops) us))
+all_enough view q ops index is lawful us up are = record {
+  rows = λ called. rows_enough view called q ops index is lawful us up are;
+  shown = λ c h.
+      let at = filter_map_has (shown_at view ops) us c (filter_has (is_named q) (filter_map (shown_at view ops) us) c h).0 in
+      ap (shown_at view ops) (pick_is_content at.0 ops c (shown_pick view ops at.0 c at.2)).1 ∙ at.2;
+}

@@ -39,7 +39,7 @@ use Rattle.study_index.specs.Leads.{is_between, home_front, home_end, is_key, is
 use Rattle.study_index.specs.Leads.{value_front, value_end}
 use Rattle.study_index.specs.Proved.Leads.{lead_total, lead_exact}
 use Rattle.study_index.proofs.Corrected.{lawful_of, tag_is_for}
-use Rattle.archive_query.specs.Leads.{is_led_tag, is_candidate, IsLedTo, IsChosen}
+use Rattle.archive_query.specs.Leads.{is_led_tag}
 
 both : (a b : Bool) → (a && b) ≡ true → (a ≡ true) × (b ≡ true)
 both true b e = (refl, e)
@@ -59,7 +59,7 @@ listed leads p h =
     let at = any_has (is_at (lead_cmp p)) leads h in
     subst (Has leads) (sym (same_key lead_exact p at.0 at.2)) at.1
 
-le_none : (t : Text) → is_le (text_cmp [] t) ≡ true
+pub le_none : (t : Text) → is_le (text_cmp [] t) ≡ true
 le_none [] = refl
 le_none (x ∷ xs) = refl
 
@@ -69,7 +69,7 @@ between_homes patient s =
     ap (λ o. is_le (ordering_then o (text_cmp [] s)) && not (is_le (ordering_then o Greater))) (itself patient)
     ∙ ap (λ b. b && true) (le_none s)
 
-all_kept : (text : Text) → map (led_byte false) text ≡ text
+pub all_kept : (text : Text) → map (led_byte false) text ≡ text
 all_kept [] = refl
 all_kept (t ∷ text) = ap (λ (ts : Text). t ∷ ts) (all_kept text)
 
@@ -190,31 +190,3 @@ value_within tag value text e kind k (inr two) =
     ∙ ap (λ o. is_le (ordering_then o (ordering_then (text_cmp text text) Less)) &&
     not (is_le (ordering_then o (ordering_then (text_cmp text text) Greater)))) (tied_itself nat_cmp_total tag)
     ∙ ap (λ o. is_le (ordering_then o Less) && not (is_le (ordering_then o Greater))) (itself text)
-
--- ---- what is put in
-
-pub true_second : (a b new : Bool) → new ≡ (a || b) → b ≡ true → new ≡ true
-true_second true b new e t = e
-true_second false b new e t = e ∙ t
-
--- where all is put in, so is what is led to
-pub all_in : (q : Query) (index : IndexValue) (uid : Text) → IsLedTo q index uid → (old new : Bool)
-    → new ≡ (old || has text_cmp (keys_of index.1.1.1) uid) → new ≡ true
-all_in q index uid to old new e = true_second old (has text_cmp (keys_of index.1.1.1) uid) new e
-    (pick_listed index.1.1.1 uid to.picked to.here)
-
--- where what the candidates have is put in, so is what is led to
-pub led_in : (q : Query) (index : IndexValue) (uid : Text) → IsLedTo q index uid → (tag : ℕ) (front end : Lead)
-    → IsChosen q (tag, (front, end)) → (studies : List Text)
-    → ((s : Text) → has text_cmp studies s ≡ is_candidate tag (is_between front end) index.0.1 s) → (old new : Bool)
-    → new ≡ (old || list_any (λ study. is_of_study study (pick_at uid index.1.1.1)) studies) → new ≡ true
-led_in q index uid to tag front end chosen studies are old new e =
-    let s = to.picked.1.0 in
-    let there : has text_cmp studies s ≡ true = are s
-    ∙ ap (λ n. is_candidate n (is_between front end) index.0.1 s) (sym chosen.tag)
-    ∙ to.led chosen.asked chosen.one (front, end) chosen.walk in
-    let at = any_has (is_at (text_cmp s)) studies there in
-    let tie : s ≡ at.0 = same_key text_exact s at.0 at.2 in
-    true_second old (list_any (λ study. is_of_study study (pick_at uid index.1.1.1)) studies) new e
-    (has_any (λ study. is_of_study study (pick_at uid index.1.1.1)) studies at.0 at.1
-    (ap (is_of_study at.0) to.here ∙ same_itself s at.0 tie))

@@ -7,5 +7,10 @@ pub mod FoundLaws
 pub mod DistinctLaws
 pub mod LeadEnough
 pub mod TextLeads
+pub mod DateLeads
+pub mod WalkLaws
 pub mod PutIn
 pub mod CandidateLaws
+pub mod HeadLaws
+pub mod FirstLaws
+pub mod FirstRows

@@ -1,52 +1,77 @@
--- What is reached is put in.
-use Rattle.std.proofs.Common.{◌≡◌, true, List, take, Option, Some, sym, ap, subst, ◌∙◌}
-use Rattle.std.specs.Prelude.{◌||◌, IfSome}
-use Rattle.std.specs.List.{find}
-use Rattle.dictionary.specs.declared.elements.TheConstants.{STUDY_INSTANCE_UID, SERIES_INSTANCE_UID}
+-- What is walked, by the walk of one key, and members by their places.
+use Rattle.std.proofs.Common.{◌≡◌, ℕ, ◌<◌, List, [], ◌∷◌, length, get_or, Option, Some, None, zero, suc, inl, inr}
+use Rattle.std.proofs.Common.{Bool, true, false, refl, sym, ap, ◌∙◌, arith}
+use Rattle.std.specs.Prelude.{◌&&◌, ◌||◌, IfSome}
+use Rattle.std.specs.BTreeMap.{is_at}
+use Rattle.std.specs.BTreeSet.{insert_key}
+use Rattle.octets.specs.Members.{Has}
 use Rattle.octets.specs.Texts.{text_cmp}
 use Rattle.live_picks.specs.Keys.{has}
-use Rattle.live_picks.specs.Live.{Text, pick_at, is_of_series}
+use Rattle.live_picks.specs.Proved.Picks.{text_exact}
+use Rattle.live_picks.proofs.KeyLaws.{or_none, same_key}
+use Rattle.study_index.proofs.LeadLaws.{put_in}
+use Rattle.live_picks.specs.Live.{Text}
 use Rattle.study_index.specs.Index.{IndexValue}
-use Rattle.query_model.specs.declared.asked.Asked.{Asked}
+use Rattle.study_index.specs.Leads.{LeadWalk}
 use Rattle.query_model.specs.declared.query.Query.{Query}
-use Rattle.query_model.specs.declared.key.Level.TheVariants.{Study, Series, Image}
-use Rattle.archive_query.specs.Candidates.{is_list_of, is_listed, is_reached_in, IsReachedBy, IsReachedAt, IsReached}
-use Rattle.archive_query.proofs.LeadEnough.{true_second}
+use Rattle.archive_query.specs.Candidates.{AreByOne, AreChosen}
+use Rattle.archive_query.specs.Leads.{IsChosen, AreWalksOf, IsOneOf}
 
-pub given_some : {X : Type 0} (r : Option X) (P : X → Type 0) (x : X) → IfSome r P → r ≡ Some x → P x
-given_some r P x i e = subst (λ s. IfSome s P) e i
+-- a walk of one of a query's keys
+pub chosen_of : (q : Query) (index : IndexValue) (walks : List (ℕ × LeadWalk)) → AreWalksOf q walks
+    → (studies : Option (List Text)) → AreByOne walks index studies → AreChosen q index studies
+chosen_of q index walks are studies by_one = record {
+  one = by_one.one;
+  some = chosen by_one.one by_one.is.some;
+  none = λ e. are.none (by_one.is.none e);
+  studies_are = by_one.studies_are;
+}
+  where
+    chosen : (r : Option (ℕ × LeadWalk)) → IfSome r (Has walks) → IfSome r (IsChosen q)
+    chosen None i = i
+    chosen (Some walk) i = are.chosen walk i
 
-module _ (q : Query) (index : IndexValue) (uid : Text) (old new : List Text) where
-  pub listed_in : (list : Option Asked) (asked : Asked) (key : Text)
-      → has text_cmp new uid ≡ (has text_cmp old uid || is_listed key (pick_at uid index.1.1.1)) → key ≡ asked.key
-      → list ≡ Some asked → IsReachedBy list q index uid → has text_cmp new uid ≡ true
-  listed_in list asked key put same one to =
-      true_second (has text_cmp old uid) (is_listed key (pick_at uid index.1.1.1)) (has text_cmp new uid) put
-      (ap (λ (k : Text). is_listed k (pick_at uid index.1.1.1)) same ∙ subst (λ r. IsReachedBy r q index uid) one to)
+-- ---- members by their places
 
-  pub series_in : (list : Option Asked) (study : Text)
-      → has text_cmp new uid ≡ (has text_cmp old uid || is_reached_in list study (pick_at uid index.1.1.1))
-      → list ≡ find (is_list_of SERIES_INSTANCE_UID) q.asked → study ≡ take 64 q.study → q.level ≡ Series
-      → IsReached q index uid → has text_cmp new uid ≡ true
-  series_in list study put found named level to =
-      let p = pick_at uid index.1.1.1 in
-      true_second (has text_cmp old uid) (is_reached_in list study p) (has text_cmp new uid) put
-      (ap (λ r. is_reached_in r study p) found
-      ∙ ap (λ (s : Text). is_reached_in (find (is_list_of SERIES_INSTANCE_UID) q.asked) s p) named
-      ∙ subst (λ x. IsReachedAt x q index uid) level to)
+pub has_at : {X : Type 0} (xs : List X) (i : ℕ) (d : X) → i < length xs → Has xs (get_or xs i d)
+has_at [] i d within = absurd (omega arith)
+has_at (x ∷ xs) zero d within = inl refl
+has_at (x ∷ xs) (suc i) d within = inr (has_at xs i d (omega arith))
 
-  pub image_in : (study series : Text)
-      → has text_cmp new uid ≡ (has text_cmp old uid || is_of_series study series (pick_at uid index.1.1.1))
-      → study ≡ take 64 q.study → series ≡ take 64 q.series → q.level ≡ Image → IsReached q index uid
-      → has text_cmp new uid ≡ true
-  image_in study series put named within level to =
-      let p = pick_at uid index.1.1.1 in
-      true_second (has text_cmp old uid) (is_of_series study series p) (has text_cmp new uid) put
-      (ap (λ (s : Text). is_of_series s series p) named ∙ ap (λ (s : Text). is_of_series (take 64 q.study) s p) within
-      ∙ subst (λ x. IsReachedAt x q index uid) level to)
+-- ---- what is put in of some, where it passes a test
 
-pub study_in : (q : Query) (index : IndexValue) (uid : Text) (list : Option Asked)
-    → list ≡ find (is_list_of STUDY_INSTANCE_UID) q.asked → q.level ≡ Study → IsReached q index uid
-    → IsReachedBy list q index uid
-study_in q index uid list found level to = subst (λ r. IsReachedBy r q index uid) (sym found)
-    (subst (λ x. IsReachedAt x q index uid) level to)
+not_any : (b : Bool) → (b && false) ≡ false
+not_any true = refl
+not_any false = refl
+
+passes_none : (p : Text → Bool) (one : Text) → p one ≡ false → (u : Text) → (p u && is_at (text_cmp u) one) ≡ false
+passes_none p one out u = by (is_at (text_cmp u) one) refl
+  where
+    by : (b : Bool) → is_at (text_cmp u) one ≡ b → (p u && b) ≡ false
+    by true h = ap (λ b. b && true) (ap p (same_key text_exact u one h) ∙ out)
+    by false h = not_any (p u)
+
+passes_one : (p : Text → Bool) (one : Text) → p one ≡ true → (u : Text)
+    → (p u && is_at (text_cmp u) one) ≡ is_at (text_cmp u) one
+passes_one p one here u = by (is_at (text_cmp u) one) refl
+  where
+    by : (b : Bool) → is_at (text_cmp u) one ≡ b → (p u && b) ≡ b
+    by true h = ap (λ b. b && true) (ap p (same_key text_exact u one h) ∙ here)
+    by false h = not_any (p u)
+
+pub none_put : (p : Text → Bool) (one : Text) → p one ≡ false → (u : Text) (b : Bool)
+    → b ≡ (b || (p u && is_at (text_cmp u) one))
+none_put p one out u b = sym (ap (λ x. b || x) (passes_none p one out u) ∙ or_none b)
+
+pub one_put : (p : Text → Bool) (one : Text) → p one ≡ true → (us : List Text) (u : Text)
+    → has text_cmp (insert_key text_cmp us one) u ≡ (has text_cmp us u || (p u && is_at (text_cmp u) one))
+one_put p one here us u = put_in us one u ∙ ap (λ x. has text_cmp us u || x) (sym (passes_one p one here u))
+
+-- what one more and the rest bring
+pub one_more : (old b d rest : Bool) → ((old || (b && d)) || (b && rest)) ≡ (old || (b && (d || rest)))
+one_more true b d rest = refl
+one_more false true d rest = refl
+one_more false false d rest = refl
+
+pub no_more : (old b : Bool) → old ≡ (old || (b && false))
+no_more old b = sym (ap (λ x. old || x) (not_any b) ∙ or_none old)

@@ -36,7 +36,7 @@ list_all_each p q [] e = refl
 list_all_each p q (x ∷ xs) e = ap (λ (b : Bool). b && list_all p xs) (e x (inl refl)) ∙ ap (λ (b : Bool). q x && b)
     (list_all_each p q xs (λ y h. e y (inr h)))
 
-filter_map_each : {X Y : Type 0} (f g : X → Option Y) → ((x : X) → f x ≡ g x) → (xs : List X)
+pub filter_map_each : {X Y : Type 0} (f g : X → Option Y) → ((x : X) → f x ≡ g x) → (xs : List X)
     → filter_map f xs ≡ filter_map g xs
 filter_map_each f g e [] = refl
 filter_map_each {Y = Y} f g e (x ∷ xs) = ap (λ (o : Option Y). cons_option o (filter_map f xs)) (e x)

@@ -1,13 +1,15 @@
 -- Among which SOP Instance UIDs the contents are that a query asks for, by the picks of an index.
-use Rattle.std.specs.Prelude.{◌≡◌, ℕ, List, [], take, map, Bool, true, false, not, ◌&&◌, ◌||◌, ◌==◌, Option, Some, None}
+use Rattle.std.specs.Prelude.{◌≡◌, ℕ, List, [], ◌∷◌, take, map, Bool, false, not, ◌&&◌, ◌||◌, ◌==◌, Option, Some, None}
+use Rattle.std.specs.Prelude.{IfSome}
 use Rattle.std.specs.List.{find, list_any}
-use Rattle.dictionary.specs.declared.elements.TheConstants.{STUDY_INSTANCE_UID, SERIES_INSTANCE_UID}
+use Rattle.std.specs.Map.{keys_of}
+use Rattle.std.specs.Option.{option_map}
+use Rattle.dictionary.specs.declared.elements.TheConstants.{SERIES_INSTANCE_UID, SOP_INSTANCE_UID, STUDY_INSTANCE_UID}
 use Rattle.octets.specs.Padding.{trimmed}
-use Rattle.octets.specs.Texts.{text_cmp}
-use Rattle.key_matching.specs.declared.matching.Matching.{Matching}
-use Rattle.key_matching.specs.declared.matching.Matching.TheVariants.{Dates, Times, WildCard, Name, Uids, Single}
-use Rattle.key_matching.specs.declared.matching.Matching.TheVariants.{Answered}
+use Rattle.octets.specs.Texts.{ascending, text_cmp}
+use Rattle.join_laws.specs.GrowSet.{union_of}
 use Rattle.key_matching.specs.Matches.{is_universal, parts}
+use Rattle.key_matching.specs.Prepared.{is_uids}
 use Rattle.live_picks.specs.Keys.{has}
 use Rattle.live_picks.specs.Live.{Pick, pick_at, is_of_study, is_of_series}
 use Rattle.query_model.specs.declared.asked.Asked.{Asked}
@@ -15,16 +17,8 @@ use Rattle.query_model.specs.declared.key.Level.{Level}
 use Rattle.query_model.specs.declared.key.Level.TheVariants.{Study, Series, Image}
 use Rattle.query_model.specs.declared.query.Query.{Query}
 use Rattle.study_index.specs.Index.{IndexValue}
-use Rattle.archive_query.specs.Leads.{IsLedTo}
-
-abbrev pub is_uids : Matching → Bool
-is_uids Dates = false
-is_uids Times = false
-is_uids WildCard = false
-is_uids Name = false
-is_uids Uids = true
-is_uids Single = false
-is_uids Answered = false
+use Rattle.study_index.specs.Leads.{LeadWalk, is_walked}
+use Rattle.archive_query.specs.Leads.{is_candidate, is_walkable, IsChosen, IsOneOf, AreWalksOf}
 
 -- whether a key lists UIDs of an attribute
 abbrev pub is_list_of : ℕ → Asked → Bool
@@ -34,41 +28,96 @@ is_list_of tag asked = asked.tag == tag && is_uids asked.matching && not (is_uni
 abbrev pub is_of_some : List (List ℕ) → Option Pick → Bool
 is_of_some studies pick = list_any (λ study. is_of_study (take 64 study) pick) studies
 
--- the same of the studies that a key lists, and of the one without a name, which each key matches
-abbrev pub is_listed : List ℕ → Option Pick → Bool
-is_listed key pick = is_of_study [] pick || is_of_some (map trimmed (parts key)) pick
-
--- at STUDY: where no key lists studies, each instance of a study that each walk of each key comes to
-abbrev pub IsReachedBy : Option Asked → Query → IndexValue → List ℕ → Type 0
-IsReachedBy None q index uid = IsLedTo q index uid
-IsReachedBy (Some asked) q index uid = is_listed asked.key (pick_at uid index.1.1.1) ≡ true
-
 -- whether the pick of an instance is of one of these series of a study
 abbrev pub is_of_some_series : List ℕ → List (List ℕ) → Option Pick → Bool
 is_of_some_series study series pick = list_any (λ one. is_of_series study (take 64 one) pick) series
 
--- the same of the series that a key lists, and of the one without a name
-abbrev pub is_listed_series : List ℕ → List ℕ → Option Pick → Bool
-is_listed_series study key pick =
-    is_of_series study [] pick || is_of_some_series study (map trimmed (parts key)) pick
+-- the same of series that are listed, and of the one without a name
+abbrev pub is_listed_series : List ℕ → List (List ℕ) → Option Pick → Bool
+is_listed_series study series pick = is_of_series study [] pick || is_of_some_series study series pick
 
--- at SERIES, of the study that is named: where no key lists series, all that is of it
-abbrev pub is_reached_in : Option Asked → List ℕ → Option Pick → Bool
-is_reached_in None study pick = is_of_study study pick
-is_reached_in (Some asked) study pick = is_listed_series study asked.key pick
+-- ---- what a query lists at its level
 
--- at each level; at IMAGE what is of the series that is named
-abbrev pub IsReachedAt : Level → Query → IndexValue → List ℕ → Type 0
-IsReachedAt Study q index uid = IsReachedBy (find (is_list_of STUDY_INSTANCE_UID) q.asked) q index uid
-IsReachedAt Series q index uid =
-    is_reached_in (find (is_list_of SERIES_INSTANCE_UID) q.asked) (take 64 q.study) (pick_at uid index.1.1.1) ≡ true
-IsReachedAt Image q index uid = is_of_series (take 64 q.study) (take 64 q.series) (pick_at uid index.1.1.1) ≡ true
+-- the attribute of a level's UID
+abbrev pub listed_tag : Level → ℕ
+listed_tag Study = STUDY_INSTANCE_UID
+listed_tag Series = SERIES_INSTANCE_UID
+listed_tag Image = SOP_INSTANCE_UID
 
--- whether an instance is among the candidates: its pick is of what the query names above its level, of what a key lists,
--- and of a study that the walks of the other keys come to
-abbrev pub IsReached : Query → IndexValue → List ℕ → Type 0
-IsReached q index uid = IsReachedAt q.level q index uid
+-- the members of a key that lists UIDs, ascending, each once
+abbrev pub members_of : Asked → List (List ℕ)
+members_of asked = ascending (map trimmed (parts asked.key))
 
--- some instances are enough: each that is reached is one of them
-abbrev pub AreEnough : Query → IndexValue → List (List ℕ) → Type 0
-AreEnough q index uids = (uid : List ℕ) → IsReached q index uid → has text_cmp uids uid ≡ true
+-- the members of the key that lists UIDs of the level, if there is one
+abbrev pub listed_of : Query → Option (List (List ℕ))
+listed_of q = option_map members_of (find (is_list_of (listed_tag q.level)) q.asked)
+
+-- ---- what is walked
+
+-- at SERIES: of the study that is named what a key lists, or else all
+abbrev pub is_walked_at_series : Option (List (List ℕ)) → List ℕ → Option Pick → Bool
+is_walked_at_series None study pick = is_of_study study pick
+is_walked_at_series (Some series) study pick = is_listed_series study series pick
+
+-- 64 bytes of each of some texts, and the text of no bytes, which each key matches
+abbrev pub cut_texts : List (List ℕ) → List (List ℕ)
+cut_texts texts = [] ∷ map (take 64) texts
+
+-- at IMAGE: of the series that is named what a key lists, or else all
+abbrev pub is_walked_at_image : Option (List (List ℕ)) → List ℕ → List ℕ → IndexValue → List ℕ → Bool
+is_walked_at_image None study series index uid = is_of_series study series (pick_at uid index.1.1.1)
+is_walked_at_image (Some listed) study series index uid =
+    is_of_series study series (pick_at uid index.1.1.1) && has text_cmp (union_of text_cmp [] (cut_texts listed)) uid
+
+-- the studies that the walk of a key comes to, or all
+abbrev pub AreStudiesOf : Option (ℕ × LeadWalk) → IndexValue → Option (List (List ℕ)) → Type 0
+AreStudiesOf None index studies = studies ≡ None
+AreStudiesOf (Some walk) index None = ⊥
+AreStudiesOf (Some walk) index (Some studies) =
+    (s : List ℕ) → has text_cmp studies s ≡ is_candidate walk.0 (is_walked walk.1) index.0.1 s
+
+-- the studies that the walk of one of some keys comes to, or all, where no key has one
+pub record AreByOne (walks : List (ℕ × LeadWalk)) (index : IndexValue) (studies : Option (List (List ℕ))) : Type 0 where
+  pub one : Option (ℕ × LeadWalk)
+  pub is : IsOneOf walks one
+  pub studies_are : AreStudiesOf one index studies
+
+-- the same of a query's keys
+pub record AreChosen (q : Query) (index : IndexValue) (studies : Option (List (List ℕ))) : Type 0 where
+  pub one : Option (ℕ × LeadWalk)
+  pub some : IfSome one (IsChosen q)
+  pub none : one ≡ None → list_any is_walkable q.asked ≡ false
+  pub studies_are : AreStudiesOf one index studies
+
+-- the studies that are walked, of each of which an index knows 64 bytes: those that a key lists, or those of another key
+abbrev pub AreWalked : Option (List (List ℕ)) → Query → IndexValue → Option (List (List ℕ)) → Type 0
+AreWalked None q index studies = AreChosen q index studies
+AreWalked (Some listed) q index studies = studies ≡ Some (union_of text_cmp [] (cut_texts listed))
+
+-- whether an instance is of the studies that are walked
+abbrev pub is_of_walked : Option (List (List ℕ)) → IndexValue → List ℕ → Bool
+is_of_walked None index uid = has text_cmp (keys_of index.1.1.1) uid
+is_of_walked (Some studies) index uid = list_any (λ study. is_of_study study (pick_at uid index.1.1.1)) studies
+
+-- at STUDY: to some instances come those of the studies that are walked
+pub record AreAtStudy (q : Query) (index : IndexValue) (old new : List (List ℕ)) : Type 0 where
+  pub studies : Option (List (List ℕ))
+  pub walked : AreWalked (listed_of q) q index studies
+  pub put : (uid : List ℕ) → has text_cmp new uid ≡ (has text_cmp old uid || is_of_walked studies index uid)
+
+-- at each level
+abbrev pub AreAt : Level → Query → IndexValue → List (List ℕ) → List (List ℕ) → Type 0
+AreAt Study q index old new = AreAtStudy q index old new
+AreAt Series q index old new = (uid : List ℕ) → has text_cmp new uid
+    ≡ (has text_cmp old uid || is_walked_at_series (listed_of q) (take 64 q.study) (pick_at uid index.1.1.1))
+AreAt Image q index old new = (uid : List ℕ) → has text_cmp new uid
+    ≡ (has text_cmp old uid || is_walked_at_image (listed_of q) (take 64 q.study) (take 64 q.series) index uid)
+
+-- the instances that are walked for a query
+abbrev pub AreCandidates : Query → IndexValue → List (List ℕ) → Type 0
+AreCandidates q index uids = AreAt q.level q index [] uids
+
+-- what a prepared query keeps beside its query: the walks of its keys, and what it lists at its level
+pub record IsPrepared (q : Query) (walks : List (ℕ × LeadWalk)) (listed : Option (List (List ℕ))) : Type 0 where
+  pub walks_are : AreWalksOf q walks
+  pub listed_is : listed ≡ listed_of q

@@ -7,11 +7,13 @@ use Rattle.operation.specs.declared.op.Op.{Op}
 use Rattle.operation.specs.Parts.{ContentParts, own_value}
 use Rattle.octets.specs.Members.{Has}
 use Rattle.octets.specs.Texts.{same, text_cmp}
+use Rattle.archive_model.specs.declared.view.View.{View}
+use Rattle.archive_model.specs.Shown.{shown_at}
 use Rattle.archive_model.specs.Attributes.{attribute}
 use Rattle.data_set.specs.Set.{Set}
 use Rattle.query_model.specs.declared.asked.Asked.{Asked}
 use Rattle.query_model.specs.declared.query.Query.{Query}
-use Rattle.query_model.specs.Rows.{rows_with}
+use Rattle.query_model.specs.Rows.{rows_with, rows_among, rows_of}
 
 -- a tag and a value, where the corrected value of a key's attribute is not the content's own
 abbrev pub fix_at : List Op → ContentParts → Asked → Option (ℕ × List ℕ)
@@ -59,3 +61,8 @@ abbrev pub AreFixes : List Op → List Asked → List ContentParts → List (Lis
 AreFixes ops asked cs fixes = (told : List ℕ → List (ℕ × List ℕ))
     → ((c : ContentParts) → Has cs c → told c.instance ≡ fixes_of ops asked c)
     → (c : ContentParts) → Has cs c → fixes_under fixes c.instance ≡ fixes_of ops asked c
+
+-- some contents are enough for the rows of a query: theirs are all, and each is shown
+pub record AreEnough (view : View) (q : Query) (ops : List Op) (cs : List ContentParts) : Type 0 where
+  pub rows : (called : List ℕ) → rows_among ops called q cs ≡ rows_of view called q ops
+  pub shown : (c : ContentParts) → Has cs c → shown_at view ops c.instance ≡ Some c

@@ -3,3 +3,4 @@ pub mod Laws
 pub mod Candidates
 pub mod Found
 pub mod Leads
+pub mod Firsts

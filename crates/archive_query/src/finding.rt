@@ -1,21 +1,23 @@
 //! C-FIND over a site (PS3.4, section C.4.1): what is needed is taken from the site at once, and the
 //! rows are made of that.
 
-ghost use Rattle.std.specs.Prelude.{◌≡◌, List, ℕ, Some, IfOk, map};
-ghost use Rattle.octets.specs.Members.{Has};
-ghost use Rattle.operation.specs.Parts.{ContentParts};
-ghost use Rattle.archive_model.specs.Shown.{shown_at};
+ghost use Rattle.std.specs.Prelude.{◌≡◌, false, List, ℕ, IfOk, map};
 ghost use Rattle.site_state.specs.Site.{ops_of};
-ghost use Rattle.query_model.specs.Rows.{rows_of, rows_among as rows_among_in};
-ghost use Rattle.archive_query.specs.Found.{rows_found as rows_found_in};
+ghost use Rattle.query_model.specs.Rows.{rows_of};
+ghost use Rattle.archive_query.specs.Found.{rows_found as rows_found_in, AreEnough};
+ghost use Rattle.archive_query.specs.Firsts.{is_counted as is_counted_in};
 
-use crate::candidates::{candidates, shown_of};
+use crate::candidates::{candidates, lent, shown_of, walked_studies};
+use crate::firsts::{is_counted, of_studies};
 use crate::fixes::Fixes;
+use crate::grouping::sort_by_instance;
 use crate::groups::named;
+use crate::prepared::PreparedQuery;
 use crate::rows::rows_among;
 use archive_model::View;
+use join_laws::Join;
 use operation::Content;
-use query_model::{Answers, Query};
+use query_model::{Answers, Level, Query};
 use site_state::Site;
 use std::alloc::{AllocError, Global};
 use std::marker::Model;
@@ -38,24 +40,67 @@ impl Model for Found {
 
 /// What a view shows of the study and the series that a query names, among its candidates, which
 /// are let go here.
+fn reached_all<'a>(
+    alloc: Global,
+    site: &'a Site,
+    view: View,
+    prepared: &PreparedQuery,
+) -> Result<Vec<&'a Content>, AllocError>
+    ensures { IfOk result (λ found. AreEnough view prepared.now (ops_of site.now)
+        (map (λ c. c.now) found.items)) }
+{
+    site.see_lawful();
+    let uids = candidates(alloc, site.index(), prepared)?;
+    let shown = shown_of(alloc, site, view, &uids)?;
+    let named = named(alloc, prepared.query(), &shown)?;
+    Ok(named)
+}
+
+/// Of each series of the studies that are walked what is shown first, by ascending SOP Instance
+/// UID.
+fn reached_first<'a>(
+    alloc: Global,
+    site: &'a Site,
+    view: View,
+    prepared: &PreparedQuery,
+) -> Result<Vec<&'a Content>, AllocError>
+    requires counted { is_counted_in prepared.now ≡ false }
+    requires level { prepared.now.level ≡ Level.Study }
+    ensures { IfOk result (λ found. AreEnough view prepared.now (ops_of site.now)
+        (map (λ c. c.now) found.items)) }
+{
+    site.see_lawful();
+    let index = site.index();
+    index.held();
+    let studies = walked_studies(alloc, index, prepared)?;
+    let mut found = of_studies(alloc, site, index, view, lent(&studies))?;
+    sort_by_instance(&mut found)?;
+    let named = named(alloc, prepared.query(), &found)?;
+    Ok(named)
+}
+
+/// What is taken for the rows of a query. Where no count is asked at STUDY, only the first content
+/// of each series is.
 fn reached<'a>(
     alloc: Global,
     site: &'a Site,
     view: View,
-    query: &Query,
+    prepared: &PreparedQuery,
 ) -> Result<Vec<&'a Content>, AllocError>
-    ensures rows { IfOk result (λ found. (called : List ℕ) →
-        rows_among_in (ops_of site.now) called query.now (map (λ c. c.now) found.items)
-        ≡ rows_of view called query.now (ops_of site.now)) }
-    ensures shown { IfOk result (λ found. (c : ContentParts)
-        → Has (map (λ c. c.now) found.items) c
-        → shown_at view (ops_of site.now) c.instance ≡ Some c) }
+    ensures { IfOk result (λ found. AreEnough view prepared.now (ops_of site.now)
+        (map (λ c. c.now) found.items)) }
 {
-    site.see_lawful();
-    let uids = candidates(alloc, site.index(), query)?;
-    let shown = shown_of(alloc, site, view, &uids)?;
-    let named = named(alloc, query, &shown)?;
-    Ok(named)
+    let query = prepared.query();
+    match query.level {
+        Level::Study => {
+            if is_counted(query) {
+                return reached_all(alloc, site, view, prepared);
+            }
+            reached_first(alloc, site, view, prepared)
+        }
+        Level::Series => reached_all(alloc, site, view, prepared),
+        Level::Image => reached_all(alloc, site, view, prepared),
+    }
 }
 
 /// Second owners of some contents.
@@ -79,13 +124,19 @@ fn references<'a>(alloc: Global, contents: &'a [Content]) -> Result<Vec<&'a Cont
     Ok(found)
 }
 
-/// Takes from a site what the rows of a query are made of. No key is matched.
-pub fn take(alloc: Global, site: &Site, view: View, query: &Query) -> Result<Found, AllocError>
-    ensures { IfOk result (λ found. (called : List ℕ) → rows_found_in called query.now found
-        ≡ rows_of view called query.now (ops_of site.now)) }
+/// Takes from a site what the rows of a query are made of. No key is matched, and nothing goes by
+/// the length of one.
+pub fn take(
+    alloc: Global,
+    site: &Site,
+    view: View,
+    prepared: &PreparedQuery,
+) -> Result<Found, AllocError>
+    ensures { IfOk result (λ found. (called : List ℕ) → rows_found_in called prepared.now found
+        ≡ rows_of view called prepared.now (ops_of site.now)) }
 {
-    let contents = reached(alloc, site, view, query)?;
-    let fixes = Fixes::of(alloc, site, query, &contents)?;
+    let contents = reached(alloc, site, view, prepared)?;
+    let fixes = Fixes::of(alloc, site, prepared.query(), &contents)?;
     let contents = copies_of(alloc, &contents)?;
     Ok(Found { contents, fixes })
 }
@@ -118,6 +169,7 @@ pub fn find(
     ensures { IfOk result (λ rows. rows ≡
         rows_of view called.now query.now (ops_of site.now)) }
 {
-    let found = take(alloc, site, view, query)?;
+    let prepared = PreparedQuery::of(alloc, query)?;
+    let found = take(alloc, site, view, &prepared)?;
     rows_found(alloc, &found, called, query)
 }

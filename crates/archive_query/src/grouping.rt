@@ -47,7 +47,7 @@ fn sort_by_series(contents: &mut Vec<&Content>) -> Result<(), AllocError>
     Ok(())
 }
 
-fn sort_by_instance(contents: &mut Vec<&Content>) -> Result<(), AllocError>
+pub(crate) fn sort_by_instance(contents: &mut Vec<&Content>) -> Result<(), AllocError>
     ensures ascends { OnOk result (Ascends (λ c. uid_in Level.Image c.now) contents.new.items) }
     ensures groups { OnOk result (groups_by (λ c. uid_in Level.Image c.now) contents.new.items
         ≡ groups_by (λ c. uid_in Level.Image c.now) contents.old.items) }

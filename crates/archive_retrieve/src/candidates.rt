@@ -1,18 +1,64 @@
 //! Among which contents those of a selection are: what the index has of the studies or the series
 //! that it names, or the instances that it names.
 
-ghost use Rattle.std.specs.Prelude.{◌≡◌, true, take, IfOk, OnOk};
-ghost use Rattle.octets.specs.Texts.{text_cmp};
+ghost use Rattle.std.specs.Prelude.{◌≡◌, ◌||◌, true, take, List, ℕ, IfOk, OnOk};
+ghost use Rattle.octets.specs.Texts.{text_cmp, ascending as ascending_of};
 ghost use Rattle.join_laws.specs.GrowSet.{union_of};
+ghost use Rattle.live_picks.specs.Keys.{has};
+ghost use Rattle.live_picks.specs.Live.{pick_at};
+ghost use Rattle.archive_query.specs.Candidates.{is_of_some, is_of_some_series};
 ghost use Rattle.archive_retrieve.specs.Candidates.{ReachesAll};
 
 use archive_query::{Level, put_some_series, put_studies};
 use live_picks::ShortText;
-use octets::Octets;
+use octets::{Octets, ascending};
 use retrieve_model::Selection;
 use std::alloc::{AllocError, Global};
 use std::collections::BTreeSet;
 use study_index::Index;
+
+/// Some UIDs ascending, each once, so that none is looked up again.
+fn each_once(alloc: Global, uids: &[Octets]) -> Result<Vec<Octets>, AllocError>
+    ensures { IfOk result (λ found. found.items ≡ ascending_of uids.now) }
+{
+    let mut copies = Vec::with_capacity(alloc, uids.len())?;
+    for uid in uids {
+        copies.push(Octets::from_slice(alloc, uid.as_slice())?)?;
+    }
+    Ok(ascending(copies))
+}
+
+/// Puts in what is of the studies that are named.
+fn put_named_studies(
+    alloc: Global,
+    index: &Index,
+    named: &[Octets],
+    uids: &mut BTreeSet<ShortText>,
+) -> Result<(), AllocError>
+    ensures { OnOk result ((uid : List ℕ) → has text_cmp uids.new.keys uid ≡
+        (has text_cmp uids.old.keys uid || is_of_some named.now (pick_at uid index.now.1.1.1))) }
+{
+    let each = each_once(alloc, named)?;
+    put_studies(index, &each, uids)?;
+    Ok(())
+}
+
+/// Puts in what is of the series of a study that are named.
+fn put_named_series(
+    alloc: Global,
+    index: &Index,
+    study: &ShortText,
+    named: &[Octets],
+    uids: &mut BTreeSet<ShortText>,
+) -> Result<(), AllocError>
+    ensures { OnOk result ((uid : List ℕ) → has text_cmp uids.new.keys uid ≡
+        (has text_cmp uids.old.keys uid
+        || is_of_some_series study.now named.now (pick_at uid index.now.1.1.1))) }
+{
+    let each = each_once(alloc, named)?;
+    put_some_series(index, study, &each, uids)?;
+    Ok(())
+}
 
 /// Puts in some UIDs. False where one of them has more than 64 bytes, which no UID has (PS3.5,
 /// section 9.1).
@@ -45,6 +91,7 @@ fn put_series(
 
 /// Puts in the candidates of a selection.
 fn put_reached(
+    alloc: Global,
     index: &Index,
     selection: &Selection,
     uids: &mut BTreeSet<ShortText>,
@@ -54,8 +101,8 @@ fn put_reached(
     let named = selection.uids.as_slice();
     let study = ShortText::cut(selection.study.as_slice());
     match selection.level {
-        Level::Study => put_studies(index, named, uids),
-        Level::Series => put_some_series(index, &study, named, uids),
+        Level::Study => put_named_studies(alloc, index, named, uids),
+        Level::Series => put_named_series(alloc, index, &study, named, uids),
         Level::Image => {
             if put_instances(named, uids)? {
                 return Ok(());
@@ -74,6 +121,6 @@ pub fn candidates(
     ensures { IfOk result (λ uids. ReachesAll selection.now index.now.1.1.1 uids.keys) }
 {
     let mut uids = BTreeSet::new(alloc);
-    put_reached(index, selection, &mut uids)?;
+    put_reached(alloc, index, selection, &mut uids)?;
     Ok(uids)
 }

@@ -56,16 +56,16 @@ sorted (x ∷ xs) up (suc k) d low high =
     subst (λ n. is_lt (text_cmp (get_or (x ∷ xs) n d) (get_or xs k d)) ≡ false) next
     (sorted xs up.1 k d (omega arith) (omega (arith, high)))
 
-pub found_by_halves : (members : List (List ℕ)) (value : List ℕ) (r : Result ℕ ℕ)
-    → IsStrictlySortedBy text_cmp members → IsSearchInRange r (length members)
-    → IsBinarySearchResult (λ m. text_cmp m value) members r → is_ok r ≡ list_any (λ m. same m value) members
-found_by_halves members value (Ok i) up bound position =
-    sym (any_at (λ m. same m value) members i bound (λ d. texts_ties (get_or members i d) value
+-- of what ascends by some text of each: what is found by halves is there
+pub found_by_halves : {X : Type 0} (text : X → List ℕ) (xs : List X) (value : List ℕ) (r : Result ℕ ℕ)
+    → IsSortedBy (λ a b. is_lt (text_cmp (text a) (text b))) xs → IsSearchInRange r (length xs)
+    → IsBinarySearchResult (λ x. text_cmp (text x) value) xs r → is_ok r ≡ list_any (λ x. same (text x) value) xs
+found_by_halves text xs value (Ok i) up bound position =
+    sym (any_at (λ x. same (text x) value) xs i bound (λ d. texts_ties (text (get_or xs i d)) value
     ∙ ap is_eq (position d)))
-found_by_halves members value (Err i) up bound position =
-    let parts = position (searchable_from_sorted nat_list_cmp_total (λ (m : List ℕ). m) members value
-    (sorted members up)) in
-    sym (none_at (λ m. same m value) members (λ k d within. texts_ties (get_or members k d) value
+found_by_halves text xs value (Err i) up bound position =
+    let parts = position (searchable_from_sorted nat_list_cmp_total text xs value up) in
+    sym (none_at (λ x. same (text x) value) xs (λ k d within. texts_ties (text (get_or xs k d)) value
     ∙ elim (split k i) [
       | inl below ↦ ap is_eq (parts.0 k d (omega arith) below)
       | inr above ↦ ap is_eq (parts.1 k d above within)

@@ -7,6 +7,7 @@ use Rattle.key_matching.specs.declared.matching.Matching.TheVariants.{Dates, Tim
 use Rattle.key_matching.specs.declared.matching.Matching.TheVariants.{Answered}
 use Rattle.key_matching.specs.Matches.{parts}
 
+-- whether a key lists UIDs
 abbrev pub is_uids : Matching → Bool
 is_uids Uids = true
 is_uids Dates = false

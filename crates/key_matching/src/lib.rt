@@ -11,5 +11,6 @@ mod value_match;
 mod wild_card;
 
 pub use matching::Matching;
-pub use prepared::PreparedKey;
+pub use prepared::{PreparedKey, is_uids};
+pub use range::ends;
 pub use value_match::{is_of_form, is_universal, matches, members_of};

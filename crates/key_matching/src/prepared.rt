@@ -35,7 +35,8 @@ impl<'a> Model for PreparedKey<'a> {
     ghost invariant = { λ p. HasMembers p.matching p.key.now p.members.items };
 }
 
-fn is_uids(matching: Matching) -> bool
+/// Whether a key lists UIDs.
+pub fn is_uids(matching: Matching) -> bool
     ensures { result ≡ is_uids_in matching }
 {
     match matching {

@@ -86,8 +86,8 @@ fn dash(key: &[u8]) -> Option<usize>
     key.iter().position(|byte| *byte == b'-')
 }
 
-/// What stands before and behind the first dash; one date or time is both ends.
-fn ends(key: &[u8]) -> (&[u8], &[u8])
+/// What stands before and behind the first dash of a key; one date or time is both ends.
+pub fn ends(key: &[u8]) -> (&[u8], &[u8])
     ensures first { result.0.now ≡ first_end key.now }
     ensures last { result.1.now ≡ last_end key.now }
 {

@@ -67,7 +67,7 @@ of_between study q is h =
     (not_past (text_cmp study q.0) both.1))
 
 -- and what is of it lies there
-between_of : (study series instance : Text) → is_between (front_of study) (end_of study)
+pub between_of : (study series instance : Text) → is_between (front_of study) (end_of study)
     (study, (0, (series, (0, instance)))) ≡ true
 between_of study series instance =
     ap (λ o. is_le (ordering_then o (ordering_then (text_cmp [] series) (text_cmp [] instance))) &&

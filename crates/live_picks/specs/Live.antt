@@ -1,6 +1,7 @@
 -- The picks of a set, and the list of their places.
 use Rattle.std.specs.Prelude.{◌≡◌, ℕ, ◌&&◌, Bool, true, false, cond, not, List, [], ◌∷◌, ◌++◌, fold, Option, None, Some}
 use Rattle.std.specs.Prelude.{⊤}
+use Rattle.std.specs.List.{filter}
 use Rattle.std.specs.Map.{lookup}
 use Rattle.std.specs.Ordering.{nat_cmp, ordering_then, is_gt}
 use Rattle.std.specs.declared.cmp.Ordering.{Ordering}
@@ -158,3 +159,7 @@ end_of_series study series = (study, (0, (series, (1, []))))
 abbrev pub is_between : Text × (ℕ × (Text × (ℕ × Text))) → Text × (ℕ × (Text × (ℕ × Text))) → Text
     × (ℕ × (Text × (ℕ × Text))) → Bool
 is_between front end place = range_contains place_cmp (Included front) (Excluded end) place
+
+-- the places of a study's picks, ascending
+abbrev pub places_in_study : List ℕ → List (Text × Option Pick) → List Place
+places_in_study study picks = filter (is_between (front_of study) (end_of study)) (tree_of picks)

@@ -9,10 +9,12 @@
 mod live_picks;
 mod pick;
 mod place;
+mod places;
 mod short_text;
 mod tree;
 
 pub use live_picks::LivePicks;
 pub use pick::Pick;
+pub use place::Place;
 pub use short_text::ShortText;
 pub use tree::put_uid;

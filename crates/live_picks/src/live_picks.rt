@@ -33,9 +33,9 @@ pub type Picks = MapOf<ShortText, Least<Pick>>;
 /// of them.
 #[derive(Drop)]
 pub struct LivePicks {
-    picks: MapOf<ShortText, Least<Pick>>,
-    tree: BTreeSet<Place>,
-    alloc: Global,
+    pub(crate) picks: MapOf<ShortText, Least<Pick>>,
+    pub(crate) tree: BTreeSet<Place>,
+    pub(crate) alloc: Global,
 }
 
 impl Model for LivePicks {
@@ -219,7 +219,7 @@ fn series_start(study: &ShortText, after: Option<&ShortText>) -> Bound<Place>
 }
 
 // Where the places of a study begin.
-fn front_of(study: &ShortText) -> Place
+pub(crate) fn front_of(study: &ShortText) -> Place
     ensures { result ≡ front_of study.now }
 {
     Place {
@@ -232,7 +232,7 @@ fn front_of(study: &ShortText) -> Place
 }
 
 // Where they end.
-fn end_of(study: &ShortText) -> Place
+pub(crate) fn end_of(study: &ShortText) -> Place
     ensures { result ≡ end_of study.now }
 {
     Place {

@@ -47,6 +47,27 @@ impl Place {
         }
     }
 
+    /// The study.
+    pub fn study(&self) -> &ShortText
+        ensures { result.now ≡ self.now.0 }
+    {
+        &self.study
+    }
+
+    /// The series.
+    pub fn series(&self) -> &ShortText
+        ensures { result.now ≡ self.now.1.1.0 }
+    {
+        &self.series
+    }
+
+    /// The SOP Instance UID.
+    pub fn instance(&self) -> &ShortText
+        ensures { result.now ≡ self.now.1.1.1.1 }
+    {
+        &self.instance
+    }
+
     /// A second owner of the same place. It takes no memory.
     pub fn duplicate(&self) -> Place
         ensures { result ≡ self.now }

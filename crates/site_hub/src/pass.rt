@@ -17,7 +17,7 @@ use crate::refusals::Refusals;
 use crate::snapshot::Snapshot;
 use crate::told::Told;
 use archive_model::View;
-use archive_query::{Answers, Query, rows_found};
+use archive_query::{Answers, PreparedQuery, Query, rows_found};
 use archive_retrieve::{Accepts, Prepared, Selection, Sending};
 use left_right::ReadHandle;
 use operation::{Digest, Op};
@@ -66,6 +66,17 @@ impl<H: HubName> Drop for Pass<H> {
     }
 }
 
+// A query, made ready.
+fn prepared(alloc: Global, query: &Query) -> Result<PreparedQuery<'_>, HubFault>
+    ensures prepared { IfOk result (λ prepared. prepared ≡ query.now) }
+    ensures memory { IfErr result (λ fault. fault ≡ HubFault.Memory) }
+{
+    match PreparedQuery::of(alloc, query) {
+        Ok(prepared) => Ok(prepared),
+        Err(_refused) => Err(HubFault::Memory),
+    }
+}
+
 impl<H: HubName> Pass<H> {
     /// What every history keeps. Nothing is done: these are facts for callers.
     pub fn see_history(&self)
@@ -83,8 +94,8 @@ impl<H: HubName> Pass<H> {
         self.seen = self.seen.longer(&told.front);
     }
 
-    /// The rows of a C-FIND (PS3.4, section C.4.1). One look takes what they are made of; keys are
-    /// matched, and rows made, behind it.
+    /// The rows of a C-FIND (PS3.4, section C.4.1). Its keys are made ready; then one look takes what
+    /// the rows are made of; keys are matched, and rows made, behind it.
     pub fn find(&mut self, view: View, called: &[u8], query: &Query) -> Result<Answers, HubFault>
         ensures rows { IfOk result (λ rows. rows ≡
             rows_of view called.now query.now (ops_of (set_of H.opening self.new.seen))) }
@@ -93,7 +104,11 @@ impl<H: HubName> Pass<H> {
         ensures busy { result ≡ Err HubFault.Busy → HasKept self.old self.new }
         ensures counted { Tells result self.old.refused self.new.refused }
     {
-        let found = self.look(&Finding { view, query })?;
+        let prepared = prepared(self.alloc, query)?;
+        let found = self.look(&Finding {
+            view,
+            query: &prepared,
+        })?;
         match rows_found(self.alloc, &found, called, query) {
             Ok(rows) => Ok(rows),
             Err(_refused) => Err(HubFault::Memory),

@@ -10,7 +10,7 @@ ghost use Rattle.site_hub.specs.History.{missing_from};
 
 use crate::looking::Question;
 use archive_model::View;
-use archive_query::{Found, Query, take};
+use archive_query::{Found, PreparedQuery, take};
 use archive_retrieve::{Accepts, Prepared, Selection, Sending, get, prepare};
 use operation::{Digest, Op};
 use site_state::Site;
@@ -20,7 +20,7 @@ use std::alloc::{AllocError, Global};
 #[derive(Clone, Copy)]
 pub(crate) struct Finding<'a> {
     pub view: View,
-    pub query: &'a Query,
+    pub query: &'a PreparedQuery<'a>,
 }
 
 impl<'a> Question<Found> for Finding<'a> {

@@ -85,7 +85,9 @@ fn see_lawful(op: &Op)
     ensures { IsLawful op.now }
 {
     match op {
-        Op::Content(_) => {}
+        Op::Content(content) => {
+            let _ = content.body();
+        }
         Op::Correction(correction) => {
             let _ = correction.stamp();
         }

@@ -1,9 +1,9 @@
 -- Walks of leads: what is put in, and what stands between a front and an end.
 use Rattle.std.proofs.Common.{◌≡◌, ℕ, Bool, true, false, cond, List, [], ◌∷◌, ◌++◌, ◌+◌, refl, sym, ap, ◌∙◌, map, take, arith}
 use Rattle.std.specs.Prelude.{◌||◌, ◌&&◌, not, ◌-◌, ◌<◌, length}
-use Rattle.std.proofs.Common.{get_or}
+use Rattle.std.proofs.Common.{get_or, drop}
 use Rattle.std.proofs.lemmas.Bool.{eqb-true, false≢true}
-use Rattle.std.proofs.lemmas.List.{take_all, take_more}
+use Rattle.std.proofs.lemmas.List.{take_all, take_more, drop_more}
 use Rattle.dictionary.specs.declared.elements.TheConstants.{PATIENT_NAME}
 use Rattle.std.specs.List.{filter, list_any}
 use Rattle.std.specs.Cmp.{nat_cmp_is, alike_right}
@@ -23,7 +23,7 @@ use Rattle.live_picks.specs.Keys.{has}
 use Rattle.live_picks.specs.Proved.Picks.{text_exact}
 use Rattle.live_picks.proofs.KeyLaws.{or_none, or_assoc}
 use Rattle.study_index.specs.Leads.{Text, Lead, lead_cmp, is_between, is_led, leads_to, home_front, home_end, IsBehind}
-use Rattle.study_index.specs.Leads.{is_folded, led_byte, as_led}
+use Rattle.study_index.specs.Leads.{is_folded, led_byte, as_led, is_walked, walk_of, begins_with, has_run, may_have}
 use Rattle.study_index.specs.Proved.Leads.{lead_total}
 
 or_comm : (a b : Bool) → (a || b) ≡ (b || a)
@@ -80,12 +80,60 @@ turned Less e = absurd (false≢true e)
 turned Equal e = absurd (false≢true e)
 turned Greater e = refl
 
-pub none_led : (front end : Lead) (leads : List Lead) (s : Text) (b : Bool) → is_gt (lead_cmp front end) ≡ true
-    → b ≡ (b || is_led (is_between front end) leads s)
-none_led front end leads s b more =
-    let less : lead_cmp end front ≡ Less = lead_total.antisymm end front ∙ turned (lead_cmp front end) more in
+before_front : (front end : Lead) → is_gt (lead_cmp front end) ≡ true → lead_cmp end front ≡ Less
+before_front front end more = lead_total.antisymm end front ∙ turned (lead_cmp front end) more
+
+pub none_led : (front end : Lead) (needle : Text) (leads : List Lead) (s : Text) (b : Bool)
+    → is_gt (lead_cmp front end) ≡ true → b ≡ (b || is_led (is_walked (walk_of front end needle)) leads s)
+none_led front end needle leads s b more =
     sym (ap (λ ls. b || list_any (leads_to leads s) ls)
-    (none_filtered (is_between front end) leads (λ lead. none_between front end lead less)) ∙ or_none b)
+    (none_filtered (is_walked (walk_of front end needle)) leads
+    (λ lead. ap (λ x. x && may_have needle lead.1.0) (none_between front end lead (before_front front end more))))
+    ∙ or_none b)
+
+pub none_counted : (front end : Lead) (leads : List Lead) → is_gt (lead_cmp front end) ≡ true
+    → 0 ≡ length (filter (is_between front end) leads)
+none_counted front end leads more = sym (ap length (none_filtered (is_between front end) leads
+    (λ lead. none_between front end lead (before_front front end more))))
+
+-- ---- what passes a test besides
+
+-- of what passes one test some passes two more, if it does so at once
+pub any_and : {X : Type 0} (p r t : X → Bool) (xs : List X) → list_any (λ x. r x && t x) (filter p xs)
+    ≡ list_any t (filter (λ x. p x && r x) xs)
+any_and p r t [] = refl
+any_and {X} p r t (x ∷ xs) = by (p x) (r x) refl (any_and p r t xs)
+  where
+    by : (b d : Bool) → r x ≡ d → list_any (λ y. r y && t y) (filter p xs) ≡ list_any t (filter (λ y. p y && r y) xs)
+        → list_any (λ y. r y && t y) (cond b (x ∷ filter p xs) (filter p xs))
+        ≡ list_any t (cond (b && d) (x ∷ filter (λ y. p y && r y) xs) (filter (λ y. p y && r y) xs))
+    by true true k e = ap (λ d. (d && t x) || list_any (λ y. r y && t y) (filter p xs)) k ∙ ap (λ b. t x || b) e
+    by true false k e = ap (λ d. (d && t x) || list_any (λ y. r y && t y) (filter p xs)) k ∙ e
+    by false d k e = e
+
+-- ---- runs of bytes
+
+no_front : (run : List ℕ) (t : ℕ) (text : List ℕ) → begins_with run (t ∷ text) ≡ false
+    → has_run run (t ∷ text) ≡ has_run run text
+no_front run t text e = ap (λ b. b || has_run run text) e
+
+front_is : (run : List ℕ) (t : ℕ) (text : List ℕ) → begins_with run (t ∷ text) ≡ true → has_run run (t ∷ text) ≡ true
+front_is run t text e = ap (λ b. b || has_run run text) e
+
+-- a run that does not stand at a byte stands behind it, if it stands there at all
+pub run_behind : (run text : List ℕ) (at : ℕ) → at < length text → begins_with run (drop at text) ≡ false
+    → has_run run (drop at text) ≡ has_run run (drop (at + 1) text)
+run_behind run text at within e =
+    let step = drop_more text at 0 within in
+    ap (has_run run) step
+    ∙ no_front run (get_or text at 0) (drop (at + 1) text) (ap (begins_with run) (sym step) ∙ e)
+
+pub run_here : (run text : List ℕ) (at : ℕ) → at < length text → begins_with run (drop at text) ≡ true
+    → has_run run (drop at text) ≡ true
+run_here run text at within e =
+    let step = drop_more text at 0 within in
+    ap (has_run run) step
+    ∙ front_is run (get_or text at 0) (drop (at + 1) text) (ap (begins_with run) (sym step) ∙ e)
 
 -- ---- what stands behind a text
 

@@ -1,10 +1,11 @@
 -- What an index says of a set of operations, which is the list of its operations ascending by digest:
 -- the definition, without joins.
-use Rattle.std.specs.Prelude.{◌≡◌, ℕ, List, IsTrue, ⊤}
+use Rattle.std.specs.Prelude.{◌≡◌, ℕ, List, IsTrue}
 use Rattle.std.specs.Option.{option_map}
 use Rattle.rejection_note.specs.declared.title.NoteTitle.{NoteTitle}
 use Rattle.operation.specs.declared.op.Op.{Op}
 use Rattle.operation.specs.declared.op.Op.TheVariants.{Content as a_content, Correction as a_correction}
+use Rattle.operation.specs.Contents.{IsContent}
 use Rattle.operation.specs.Corrections.{is_correction}
 use Rattle.octets.specs.Members.{Has}
 use Rattle.operation.specs.declared.target.Target.{Target}
@@ -34,9 +35,9 @@ pub record IsIndexOf (ops : List Op) (index : IndexValue) : Type 0 where
 abbrev pub index_value : List Op → IndexValue
 index_value = summary_of index_joined nothing index_of
 
--- an operation that is a correction has what every correction keeps true of its parts
+-- an operation has what every content, and every correction, keeps true of its parts
 abbrev pub IsLawful : Op → Type 0
-IsLawful (a_content c) = ⊤
+IsLawful (a_content c) = IsContent c
 IsLawful (a_correction k) = IsTrue (is_correction k)
 
 -- each of some operations has

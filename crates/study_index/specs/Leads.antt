@@ -1,5 +1,6 @@
 -- From values to studies: what leads from a value of an attribute to a study.
-use Rattle.std.specs.Prelude.{◌≡◌, ◌⊎◌, ℕ, List, [], ◌∷◌, ◌++◌, map, take, Bool, true, ◌||◌, ◌==◌, if◌then◌else◌}
+use Rattle.std.specs.Prelude.{◌≡◌, ◌⊎◌, ℕ, nat_le, List, [], ◌∷◌, ◌++◌, map, length, take, Bool, true, ◌&&◌, ◌||◌, ◌==◌}
+use Rattle.std.specs.Prelude.{if◌then◌else◌}
 use Rattle.std.specs.List.{filter, list_any}
 use Rattle.std.specs.Ordering.{nat_cmp, ordering_then}
 use Rattle.std.specs.declared.cmp.Ordering.{Ordering}
@@ -15,7 +16,7 @@ use Rattle.operation.specs.declared.op.Op.TheVariants.{Content as a_content, Cor
 use Rattle.operation.specs.declared.target.Target.{Target}
 use Rattle.operation.specs.declared.target.Target.TheVariants.{Study, Patient, Series}
 use Rattle.operation.specs.Parts.{ContentParts, own_value}
-use Rattle.octets.specs.Texts.{text_cmp}
+use Rattle.octets.specs.Texts.{same, text_cmp}
 use Rattle.archive_model.specs.Contents.{study_of}
 use Rattle.join_laws.specs.GrowSet.{union_of, only}
 
@@ -100,6 +101,33 @@ leads_to leads s lead = if lead.1.1.0 == 2 then is_homed leads s lead.1.1.1 else
 -- whether the leads that pass a test come to a study
 abbrev pub is_led : (ℕ × (Text × (ℕ × Text)) → Bool) → List (ℕ × (Text × (ℕ × Text))) → Text → Bool
 is_led passes leads s = list_any (leads_to leads s) (filter passes leads)
+
+-- ---- walks
+
+-- whether a text begins with a run of bytes
+abbrev pub begins_with : List ℕ → List ℕ → Bool
+begins_with run text = same run (take (length run) text)
+
+-- whether a run of bytes stands in a text
+abbrev pub has_run : List ℕ → List ℕ → Bool
+has_run run [] = begins_with run []
+has_run run (t ∷ text) = begins_with run (t ∷ text) || has_run run text
+
+-- whether a run may stand in a value, of which 64 bytes at most are known
+abbrev pub may_have : Text → Text → Bool
+may_have run value = nat_le 64 (length value) || has_run run value
+
+-- a walk of leads: from a front on and before an end those from values in which a needle may stand
+pub record LeadWalk : Type 0 where
+  pub front : ℕ × (Text × (ℕ × Text))
+  pub end : ℕ × (Text × (ℕ × Text))
+  pub needle : Text
+
+abbrev pub walk_of : ℕ × (Text × (ℕ × Text)) → ℕ × (Text × (ℕ × Text)) → Text → LeadWalk
+walk_of front end needle = record { front = front; end = end; needle = needle }
+
+abbrev pub is_walked : LeadWalk → ℕ × (Text × (ℕ × Text)) → Bool
+is_walked walk lead = is_between walk.front walk.end lead && may_have walk.needle lead.1.0
 
 -- whatever a value of a tag leads to passes a test of leads
 abbrev pub IsWithin : (ℕ × (Text × (ℕ × Text)) → Bool) → ℕ → Text → Type 0

@@ -1,5 +1,6 @@
 //! The index of a set of operations.
-ghost use Rattle.std.specs.Prelude.{◌≡◌, ◌≤◌, ◌||◌, [], ◌∷◌, length, List, ℕ, OnOk, OnErr, IfOk, Option, None, Some, IfSome};
+ghost use Rattle.std.specs.Prelude.{◌≡◌, ◌<◌, ◌≤◌, ◌||◌, [], ◌∷◌, length, map, List, ℕ, OnOk, OnErr, IfOk, Option, None, Some, IfSome};
+ghost use Rattle.std.specs.List.{filter};
 ghost use Rattle.std.specs.Option.{option_copied, option_map};
 ghost use Rattle.std.specs.Map.{keys_of as uids_in};
 ghost use Rattle.octets.specs.Texts.{text_cmp};
@@ -11,20 +12,21 @@ ghost use Rattle.archive_model.specs.Index.{code_of};
 ghost use Rattle.join_laws.specs.GrowSet.{union_of};
 ghost use Rattle.study_index.specs.Copies.{is_doubled};
 ghost use Rattle.live_picks.specs.Keys.{has};
-ghost use Rattle.live_picks.specs.Live.{pick_at, HasStudy, HasSeries, HasInstance, IsNext, picks_joined, is_of_study, is_of_series};
-ghost use Rattle.study_index.specs.Index.{IsIndex, index_joined, index_of, nothing, fixes_joined, titles_of, naming_cmp, copy_cmp, fix_key, fix_at, short_fix_at, latest_at, keys_of, named, with_content};
-ghost use Rattle.study_index.specs.Leads.{lead_cmp, is_between, is_led};
+ghost use Rattle.live_picks.specs.Live.{pick_at, HasStudy, HasSeries, HasInstance, IsNext, picks_joined, is_of_study, is_of_series, tree_of, places_in_study};
+ghost use Rattle.study_index.specs.Index.{IsIndex, index_joined, index_of, nothing, fixes_joined, titles_of, naming_cmp, copy_cmp, fix_key, fix_at, short_fix_at, latest_at, named, with_content};
+ghost use Rattle.study_index.specs.Leads.{lead_cmp, is_between, is_led, is_walked};
 ghost use Rattle.study_index.specs.Proved.Indexes.{index_laws, index_summary_laws};
 
+use crate::adding::add_content;
 use crate::copies::put_doubled;
 use crate::entries::{ContentCopy, Naming};
 use crate::fixes::{Fix, FixKey, fix_in, fix_key_of, key_of, later};
-use crate::keys::Keys;
+use crate::lead_walk::LeadWalk;
 use crate::leads::Lead;
-use crate::walk::{given_by, put_led, stored_by};
+use crate::walk::{count_led, given_by, put_led, stored_by};
 use archive_model::{patient, series, study, title_code};
-use join_laws::{Greatest, GrowSet, Join, MapOf, Summary, Undoes};
-use live_picks::{LivePicks, Pick, ShortText};
+use join_laws::{Greatest, GrowSet, Join, MapOf, Summary};
+use live_picks::{LivePicks, Pick, Place, ShortText};
 use octets::Octets;
 use operation::{Content, Correction, Digest, Op, Target, digest};
 use rejection_note::{Note, NoteTitle};
@@ -77,54 +79,6 @@ fn titles_in(alloc: Global, note: &Note) -> Result<GrowSet<Naming>, AllocError>
         add_title(&mut titles, note.title, uid)?;
     }
     Ok(titles)
-}
-
-// The SOP Instance UID of a content, and its digest.
-fn copy_of(digest: Digest, content: &Content) -> ContentCopy
-    ensures { result ≡ (content.now.instance, digest) }
-{
-    ContentCopy {
-        uid: ShortText::whole(content.instance()),
-        digest,
-    }
-}
-
-// A content under its digest, with its keys.
-fn pick_in(digest: Digest, content: &Content) -> Pick
-    ensures { result ≡ (digest, keys_of content.now) }
-{
-    let keys = Keys::of(content);
-    Pick {
-        digest,
-        study: keys.study,
-        series: keys.series,
-    }
-}
-
-// Takes in the copy and the pick of a content. What can be taken back goes first, and the live
-// list, which cannot, goes last.
-fn add_content(
-    copies: &mut GrowSet<ContentCopy>,
-    live: &mut LivePicks,
-    digest: Digest,
-    content: &Content,
-) -> Result<(), AllocError>
-    requires { digest ≡ digest_of (a_content content.now) }
-    ensures copies { OnOk result (copies.new ≡
-        union_of copy_cmp copies.old (index_of (a_content content.now)).0.0) }
-    ensures picks { OnOk result (live.new ≡
-        picks_joined live.old (index_of (a_content content.now)).1.1.1) }
-    ensures copies_kept { OnErr result (copies.new ≡ copies.old) }
-    ensures picks_kept { OnErr result (live.new ≡ live.old) }
-{
-    let copy = copy_of(digest, content);
-    copies.held();
-    let undo = copies.add_with_undo(&copy)?;
-    if let Err(refused) = live.add(copy.uid.duplicate(), pick_in(digest, content)) {
-        copies.undo(&copy, undo);
-        return Err(refused);
-    }
-    Ok(())
 }
 
 // Takes in the corrections and the picks of another index. The live list, which cannot be taken
@@ -418,19 +372,27 @@ impl Index {
         put_doubled(self.copies.get(), uids)
     }
 
-    /// Puts the studies into a set that the leads from a front on and before an end come to. What
-    /// was put in before memory was refused stays.
+    /// Puts the studies into a set that the leads of a walk come to. What was put in before memory
+    /// was refused stays.
     pub fn put_led(
         &self,
-        front: Lead,
-        end: Lead,
+        walk: &LeadWalk,
         studies: &mut BTreeSet<ShortText>,
     ) -> Result<(), AllocError>
         ensures { OnOk result ((study : List ℕ) → has text_cmp studies.new.keys study ≡
             (has text_cmp studies.old.keys study
-            || is_led (is_between front end) self.now.0.1 study)) }
+            || is_led (is_walked walk.now) self.now.0.1 study)) }
     {
-        put_led(self.leads.get(), front, end, studies)
+        put_led(self.leads.get(), walk, studies)
+    }
+
+    /// How many leads stand from the front of a walk on and before its end, counted up to a limit.
+    pub fn count_led(&self, walk: &LeadWalk, most: usize) -> Result<usize, AllocError>
+        ensures most { IfOk result (λ count. count ≤ most) }
+        ensures counted { IfOk result (λ count. count < most → count ≡
+            length (filter (is_between walk.now.front walk.now.end) self.now.0.1)) }
+    {
+        count_led(self.leads.get(), walk, most)
     }
 
     /// Puts the SOP Instance UIDs of the picks of a study into a set. What was put in before memory
@@ -460,6 +422,21 @@ impl Index {
             || is_of_series study.now series.now (pick_at uid self.now.1.1.1))) }
     {
         self.live.put_series(study, series, uids)
+    }
+
+    /// The places of a study's picks, ascending.
+    pub fn places_in(&self, alloc: Global, study: &ShortText) -> Result<Vec<&Place>, AllocError>
+        ensures { IfOk result (λ found. map (λ p. p.now) found.items ≡
+            places_in_study study.now self.now.1.1.1) }
+    {
+        self.live.places_in(alloc, study)
+    }
+
+    /// The places of all picks, ascending.
+    pub fn places(&self, alloc: Global) -> Result<Vec<&Place>, AllocError>
+        ensures { IfOk result (λ found. map (λ p. p.now) found.items ≡ tree_of self.now.1.1.1) }
+    {
+        self.live.places(alloc)
     }
 
     /// Puts the SOP Instance UIDs of all picks into a set. What was put in before memory was

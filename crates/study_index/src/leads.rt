@@ -168,7 +168,7 @@ impl Lead {
     }
 
     // The value, as it is led from.
-    fn value(&self) -> ShortText
+    pub(crate) fn value(&self) -> ShortText
         ensures { result ≡ self.now.1.0 }
     {
         match &self.source {

@@ -5,12 +5,14 @@
 //! the places of these, are those of `live_picks`.
 #![tactic(auto)]
 
+mod adding;
 mod copies;
 mod entries;
 mod fixes;
 mod index;
 mod keys;
 mod laws;
+mod lead_walk;
 mod leads;
 mod walk;
 
@@ -18,4 +20,5 @@ pub use fixes::Fix;
 pub use index::Index;
 pub use keys::Keys;
 pub use laws::a_walk_comes_to_all_places;
+pub use lead_walk::LeadWalk;
 pub use leads::{Lead, led};

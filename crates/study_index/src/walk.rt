@@ -1,15 +1,17 @@
 //! From values to studies: what operations give, and where a walk comes to.
-ghost use Rattle.std.specs.Prelude.{◌≡◌, ◌||◌, List, ℕ, OnOk, IfOk, map};
+ghost use Rattle.std.specs.Prelude.{◌≡◌, ◌<◌, ◌≤◌, ◌&&◌, ◌||◌, List, ℕ, OnOk, IfOk, length, map};
+ghost use Rattle.std.specs.List.{filter};
 ghost use Rattle.std.specs.BTreeMap.{is_at};
 ghost use Rattle.octets.specs.Texts.{text_cmp};
 ghost use Rattle.operation.specs.declared.op.Op.TheVariants.{Content as a_content, Correction as a_correction};
 ghost use Rattle.join_laws.specs.GrowSet.{union_of};
 ghost use Rattle.live_picks.specs.Keys.{has};
-ghost use Rattle.study_index.specs.Leads.{lead_cmp, leads_of, stored_lead, is_between, is_led, is_homed, leads_to, home_front as home_front_in, home_end as home_end_in};
+ghost use Rattle.study_index.specs.Leads.{lead_cmp, leads_of, stored_lead, is_between, is_led, is_walked, walk_of, may_have as may_have_in, is_homed, leads_to, home_front as home_front_in, home_end as home_end_in};
 
+use crate::lead_walk::{LeadWalk, may_have};
 use crate::leads::{Lead, led};
 use dictionary::{ACCESSION_NUMBER, PATIENT_ID, PATIENT_NAME, STUDY_DATE, STUDY_ID};
-use join_laws::{GrowSet, Summary};
+use join_laws::{Copies, GrowSet, Summary};
 use live_picks::ShortText;
 use operation::{Content, Correction, Target};
 use std::alloc::{AllocError, Global};
@@ -129,21 +131,85 @@ fn put_target(
     put(studies, key)
 }
 
-/// Puts in the studies that the leads from a front on and before an end come to.
-pub fn put_led(
+// Puts in what a lead leads to, where a needle may stand in its value.
+fn put_near(
     leads: &BTreeSet<Lead>,
-    front: Lead,
-    end: Lead,
+    lead: &Lead,
+    needle: &ShortText,
     studies: &mut BTreeSet<ShortText>,
 ) -> Result<(), AllocError>
     ensures { OnOk result ((s : List ℕ) → has text_cmp studies.new.keys s ≡
-        (has text_cmp studies.old.keys s || is_led (is_between front end) leads.now.keys s)) }
+        (has text_cmp studies.old.keys s
+        || (may_have_in needle.now lead.now.1.0 && leads_to leads.now.keys s lead.now))) }
+{
+    if !may_have(needle, &lead.value()) {
+        return Ok(());
+    }
+    put_target(leads, lead, studies)
+}
+
+// Puts in the studies that the leads of a walk come to.
+fn put_between(
+    leads: &BTreeSet<Lead>,
+    front: Lead,
+    end: Lead,
+    needle: &ShortText,
+    studies: &mut BTreeSet<ShortText>,
+) -> Result<(), AllocError>
+    ensures { OnOk result ((s : List ℕ) → has text_cmp studies.new.keys s ≡
+        (has text_cmp studies.old.keys s
+        || is_led (is_walked (walk_of front end needle.now)) leads.now.keys s)) }
 {
     if front.cmp(&end).is_gt() {
         return Ok(());
     }
     for lead in leads.range((Bound::Included(front), Bound::Excluded(end))) {
-        put_target(leads, lead, studies)?;
+        put_near(leads, lead, needle, studies)?;
     }
     Ok(())
+}
+
+/// Puts in the studies that the leads of a walk come to.
+pub fn put_led(
+    leads: &BTreeSet<Lead>,
+    walk: &LeadWalk,
+    studies: &mut BTreeSet<ShortText>,
+) -> Result<(), AllocError>
+    ensures { OnOk result ((s : List ℕ) → has text_cmp studies.new.keys s ≡
+        (has text_cmp studies.old.keys s || is_led (is_walked walk.now) leads.now.keys s)) }
+{
+    let front = walk.front.copy()?;
+    let end = walk.end.copy()?;
+    put_between(leads, front, end, &walk.needle, studies)?;
+    Ok(())
+}
+
+// How many leads stand from a front on and before an end, counted up to a limit.
+fn count_between(leads: &BTreeSet<Lead>, front: Lead, end: Lead, most: usize) -> usize
+    ensures most { result ≤ most }
+    ensures counted { result < most → result ≡
+        length (filter (is_between front end) leads.now.keys) }
+{
+    if front.cmp(&end).is_gt() {
+        return 0;
+    }
+    let mut count = 0;
+    for _ in leads.range((Bound::Included(front), Bound::Excluded(end))) {
+        if count == most {
+            return most;
+        }
+        count += 1;
+    }
+    count
+}
+
+/// How many leads stand from the front of a walk on and before its end, counted up to a limit.
+pub fn count_led(leads: &BTreeSet<Lead>, walk: &LeadWalk, most: usize) -> Result<usize, AllocError>
+    ensures most { IfOk result (λ count. count ≤ most) }
+    ensures counted { IfOk result (λ count. count < most → count ≡
+        length (filter (is_between walk.now.front walk.now.end) leads.now.keys)) }
+{
+    let front = walk.front.copy()?;
+    let end = walk.end.copy()?;
+    Ok(count_between(leads, front, end, most))
 }

@@ -1,27 +1,21 @@
-use Rattle.std.proofs.Common.{◌∙◌, ap, List, [], map, take}
+use Rattle.std.proofs.Common.{◌∙◌, ap, []}
 use Rattle.std.specs.Prelude.{◌||◌}
-use Rattle.octets.specs.Padding.{trimmed}
-use Rattle.octets.specs.Texts.{text_cmp, ascending}
-use Rattle.key_matching.specs.Matches.{parts}
+use Rattle.octets.specs.Texts.{text_cmp}
 use Rattle.live_picks.specs.Keys.{has}
 use Rattle.live_picks.specs.Live.{Text, pick_at, is_of_series}
 use Rattle.live_picks.proofs.KeyLaws.{or_assoc}
 use Rattle.archive_query.specs.Candidates.{is_of_some_series}
-use Rattle.archive_query.proofs.DistinctLaws.{any_ascending}
 use Rattle.archive_query.proofs.candidates.put_listed_series.Goals as goal
 
 -- First what is of the series without a name, then what is of those listed.
 pub returns : goal.returns
 returns c = λ uid.
     let study = c.args.study.now in
+    let series = c.args.series.now in
     let old = c.args.uids.now.keys in
     let pick = pick_at uid c.args.index.now.1.1.1 in
     c.in_ok-put_some_series.ensures uid
-    ∙ ap (λ b. b || is_of_some_series study c.deref.result.now pick) (c.in_ok-put_series.ensures uid)
-    ∙ ap (λ (t : Text). (has text_cmp old uid || is_of_series study t pick) || is_of_some_series
-    study c.deref.result.now pick) c.empty.ensures
-    ∙ ap (λ (ts : List Text). (has text_cmp old uid || is_of_series study [] pick) || is_of_some_series study ts pick)
-    (c.deref.ensures.value ∙ c.ascending-series.ensures ∙ ap ascending c.in_ok-members_of.ensures)
-    ∙ ap (λ b. (has text_cmp old uid || is_of_series study [] pick) || b)
-    (any_ascending (λ one. is_of_series study (take 64 one) pick) (map trimmed (parts c.args.key.now)))
-    ∙ or_assoc (has text_cmp old uid) (is_of_series study [] pick) (is_of_some_series study _ pick)
+    ∙ ap (λ b. b || is_of_some_series study series pick) (c.in_ok-put_series.ensures uid)
+    ∙ ap (λ (t : Text). (has text_cmp old uid || is_of_series study t pick) || is_of_some_series study series pick)
+    c.empty.ensures
+    ∙ or_assoc (has text_cmp old uid) (is_of_series study [] pick) (is_of_some_series study series pick)

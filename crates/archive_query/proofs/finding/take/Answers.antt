@@ -1,6 +1,7 @@
 use Rattle.std.proofs.Common.{List, map, ap, subst, ◌∙◌, Bor}
 use Rattle.operation.specs.Parts.{ContentParts}
 use Rattle.operation.specs.declared.content.Content.{Content}
+use Rattle.query_model.specs.declared.query.Query.{Query}
 use Rattle.site_state.specs.Site.{ops_of}
 use Rattle.archive_query.specs.Found.{AreFixes, rows_found}
 use Rattle.archive_query.proofs.FoundLaws.{enough_found}
@@ -10,7 +11,7 @@ use Rattle.archive_query.proofs.finding.take.Goals as goal
 pub returns : goal.returns
 returns c called =
     let now = λ (x : Bor Content). x.now in
-    let q = c.args.query.now in
+    let q = c.args.prepared.now in
     let ops = ops_of c.args.site.now in
     let cs = map now c.in_ok-contents.contents.items in
     let fixes = c.in_ok-fixes.fixes in
@@ -18,5 +19,6 @@ returns c called =
     ∙ ap (map now) c.deref-2.ensures.value)
     ∙ enough_found c.args.view ops called q cs fixes c.in_ok-contents.ensures.shown
     (subst (λ (xs : List (Bor Content)). AreFixes ops q.asked (map now xs) fixes) c.deref.ensures.value
-    c.in_ok-fixes.ensures)
+    (subst (λ (r : Query). AreFixes ops r.asked (map now c.deref.result.now) fixes) c.query.ensures
+    c.in_ok-fixes.ensures))
     ∙ c.in_ok-contents.ensures.rows called

@@ -1,0 +1,40 @@
+use Rattle.std.proofs.Common.{◌≡◌, List, map, ap, subst, sym, ◌∙◌, Bor}
+use Rattle.std.specs.Option.{option_map}
+use Rattle.operation.specs.Parts.{ContentParts}
+use Rattle.operation.specs.declared.content.Content.{Content}
+use Rattle.octets.specs.Members.{Has}
+use Rattle.archive_model.specs.Shown.{shown_at}
+use Rattle.site_state.specs.Site.{ops_of}
+use Rattle.query_model.specs.declared.key.Level.TheVariants.{Image}
+use Rattle.query_model.specs.Rows.{named, uid_at}
+use Rattle.archive_query.specs.Firsts.{firsts_of}
+use Rattle.archive_query.specs.Found.{AreEnough}
+use Rattle.archive_query.proofs.FirstRows.{first_enough, regrouped, ascends_map, mapped_members}
+use Rattle.archive_query.proofs.finding.reached_first.Goals as goal
+
+-- The firsts are enough, in whatever order they came.
+pub returns : goal.returns
+returns c =
+    let view = c.args.view in
+    let q = c.args.prepared.now in
+    let ops = ops_of c.args.site.now in
+    let index = c.index-index.result.now in
+    let content_of = λ (x : Bor Content). x.now in
+    let key = λ (x : Bor Content). uid_at Image x.now in
+    let found = c.in_ok-found.found.items in
+    let sorted = c.sort_by_instance.new.contents.items in
+    let studies = option_map (λ s. s.keys) c.in_ok-studies.studies in
+    let taken : map content_of found ≡ firsts_of (shown_at view ops) index.1.1.1 studies = c.in_ok-found.ensures
+    ∙ ap (firsts_of (shown_at view ops) index.1.1.1) c.lent.ensures in
+    let groups = c.in_ok-sort_by_instance.ensures.groups in
+    subst (AreEnough view q ops) (sym (
+    c.in_ok-named.ensures
+    ∙ ap (λ r. named r (map content_of c.deref.result.now)) c.query.ensures
+    ∙ ap (λ (xs : List (Bor Content)). named q (map content_of xs)) c.deref.ensures.value))
+    (first_enough view ops index c.index-index.ensures c.see_lawful.ensures.lawful c.held.ensures.1.1.1.0 q
+    c.requires.counted c.requires.level studies c.in_ok-studies.ensures (map content_of sorted)
+    (ascends_map (λ x. x.instance) content_of sorted c.in_ok-sort_by_instance.ensures.ascends)
+    (λ x h. mapped_members content_of found sorted (regrouped key found sorted (sym groups)) x
+    (subst (λ (cs : List ContentParts). Has cs x) (sym taken) h))
+    (λ x h. subst (λ (cs : List ContentParts). Has cs x) taken
+    (mapped_members content_of sorted found (regrouped key sorted found groups) x h)))
