@@ -132,6 +132,7 @@ impl<D: Disk> BodyLog<D> {
             → IsExact (D.Disk.seen (disk_of self.old)) at body.new) }
         ensures held { OnOk result (IsTrue (D.Disk.is_clean (disk_of self.new))
             → 0 < length body.old → Holds (D.Disk.seen (disk_of self.new)) at body.new) }
+        ensures seen { D.Disk.seen (disk_of self.new) ≡ D.Disk.seen (disk_of self.old) }
         ensures end { end_of self.new ≡ end_of self.old }
         ensures spared { Spares D.Disk (end_of self.old) (disk_of self.old) (disk_of self.new) }
         ensures usable { D.Disk.is_usable (disk_of self.new)

@@ -3,6 +3,7 @@ pub mod Fitting
 pub mod Growing
 pub mod Keeping
 pub mod Spellings
+pub mod TestedBodies
 pub mod Lookups
 pub mod Opening
 pub mod Walks

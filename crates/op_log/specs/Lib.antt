@@ -9,4 +9,5 @@ pub mod Places
 pub mod Puts
 pub mod Spelled
 pub mod Staged
+pub mod Verified
 pub mod Walking

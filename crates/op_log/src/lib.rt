@@ -18,6 +18,7 @@ mod place;
 mod places;
 mod putting;
 mod staging;
+mod verifying;
 mod walking;
 
 pub use fault::LogFault;

@@ -35,6 +35,7 @@ pub(crate) fn body_at<B: Disk>(
         → 0 < size → Holds (B.Disk.seen (disk_of bodies.new)) at read.items) }
     ensures size { IfOk result (λ read. length read.items ≡ size) }
     ensures whole { (n : ℕ) → ¬ IsErrOf result (LogFault.DamagedBody n) }
+    ensures seen { B.Disk.seen (disk_of bodies.new) ≡ B.Disk.seen (disk_of bodies.old) }
     ensures grows { Grows B.Disk bodies.old bodies.new }
     ensures uses { Uses B.Disk bodies.old bodies.new result }
 {

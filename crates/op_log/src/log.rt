@@ -8,12 +8,14 @@ ghost use Rattle.op_log.specs.Heads.{Entry, Head};
 ghost use Rattle.op_log.specs.Kept.{Has, HasBody, IsHeld, IsKept, IsLasting, StandsFor, first_under};
 ghost use Rattle.op_log.specs.Log.{GoesOn, IsSound, Looks};
 ghost use Rattle.op_log.specs.Puts.{LeavesAllOrNone, PutsAll};
+ghost use Rattle.op_log.specs.Verified.{damaged_in, digests_of};
 
 use crate::fault::LogFault;
 use crate::kept::Kept;
 use crate::loading::load_at;
 use crate::places::Places;
 use crate::putting::put_group;
+use crate::verifying::damaged;
 use crate::walking::walk;
 use body_log::BodyLog;
 use head_log::HeadLog;
@@ -166,5 +168,17 @@ impl<H: Disk, B: Disk> OpLog<H, B> {
         };
         let op = load_at(self.places.alloc(), &mut self.bodies, digest, place)?;
         Ok(Some(op))
+    }
+
+    /// The digests of the operations whose data sets are none of theirs, in the order of their
+    /// heads. Each is read and hashed.
+    pub fn verify(&mut self) -> Result<Vec<Digest>, LogFault>
+        ensures exact { IfOk result (λ damaged. IsTrue (B.Disk.is_clean self.new.bodies)
+            → damaged.items
+            ≡ digests_of (damaged_in (B.Disk.seen self.old.bodies) self.old.places)) }
+        ensures looks { Looks self.old self.new }
+        ensures goes_on { GoesOn H.Disk B.Disk self.old self.new }
+    {
+        damaged(&mut self.bodies, &self.places)
     }
 }

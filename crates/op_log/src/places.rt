@@ -1,6 +1,6 @@
 //! The places of operations, in memory, each under its digest.
 
-ghost use Rattle.std.specs.Prelude.{◌≡◌, ◌++◌, ◌∷◌, [], None, Some, take, length, slice_get, IfSome, OnOk, OnErr};
+ghost use Rattle.std.specs.Prelude.{◌≡◌, ◌++◌, ◌∷◌, [], None, Some, ◌≤◌, take, length, slice_get, IfSome, OnOk, OnErr};
 ghost use Rattle.std.specs.Option.{option_map};
 ghost use Rattle.op_log.specs.Kept.{first_under};
 ghost use Rattle.op_log.specs.Places.{head_by};
@@ -66,6 +66,15 @@ impl Places {
         ensures none { result ≡ None → first_under digest.now self.now ≡ None }
     {
         self.table.get(digest.as_bytes())
+    }
+
+    /// The digest and the place at an index.
+    pub(crate) fn at(&self, index: usize) -> Option<(&[u8; 32], &Place)>
+        ensures found { IfSome result (λ x. slice_get self.now index
+            ≡ Some (head_by x.0.now x.1.now)) }
+        ensures none { result ≡ None → length self.now ≤ index }
+    {
+        self.table.get_index(index)
     }
 
     /// Adds a place under a digest that has none.

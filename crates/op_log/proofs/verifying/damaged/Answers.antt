@@ -1,0 +1,50 @@
+use Rattle.std.proofs.Common.{◌≡◌, ◌++◌, ◌∷◌, [], List, ℕ, Bool, true, false, cond, take, sym, ap, ◌∙◌}
+use Rattle.std.proofs.lemmas.List.{append-nil}
+use Rattle.body_log.specs.Log.{disk_of}
+use Rattle.op_log.specs.Places.{head_by}
+use Rattle.op_log.specs.Verified.{damaged_in, digests_of, is_whole}
+use Rattle.op_log.proofs.Growing.{grows_twice}
+use Rattle.op_log.proofs.TestedBodies.{tested_more}
+use Rattle.op_log.proofs.verifying.damaged.Goals.{then-not-branch+in_ok-push, else-not-branch}
+use Rattle.op_log.proofs.verifying.damaged.Goals as goal
+
+-- A read writes nothing.
+pub returns-in_err-is_whole-clause-grows : goal.returns-in_err-is_whole-clause-grows
+returns-in_err-is_whole-clause-grows g c =
+    grows_twice g.B.Disk c.args.bodies.now c.places.bodies c.is_whole.new.bodies c.places.invariant.grows c.is_whole.ensures.grows
+
+pub returns-in_err-push-clause-grows : goal.returns-in_err-push-clause-grows
+returns-in_err-push-clause-grows g c =
+    grows_twice g.B.Disk c.args.bodies.now c.places.bodies c.is_whole.new.bodies c.places.invariant.grows c.is_whole.ensures.grows
+
+-- One head more was tested.
+pub places-preserved : goal.places-preserved
+places-preserved g c =
+    let inv = c.places.invariant in
+    let file = g.B.Disk.seen (disk_of c.args.bodies.now) in
+    let heads = c.args.places.now in
+    let place = c.in-Some.place.now in
+    let h = head_by c.in-Some.bytes.now place in
+    record {
+      grows = grows_twice g.B.Disk c.args.bodies.now c.places.bodies c.is_whole.new.bodies inv.grows c.is_whole.ensures.grows;
+      seen = c.is_whole.ensures.seen ∙ inv.seen;
+      usable = c.is_whole.ensures.uses.usable ∙ inv.usable;
+      tested = λ clean.
+          let before = inv.tested (c.is_whole.ensures.grows.spared.clean clean) in
+          let more = tested_more file heads c.places.index h c.in-Some.ensures.found in
+          let whole = c.in_ok-is_whole.ensures.exact clean
+          ∙ ap (λ (d : List ℕ). is_whole (g.B.Disk.seen (disk_of c.places.bodies)) (head_by d place)) c.of-digest.ensures
+          ∙ ap (λ (f : List ℕ). is_whole f h) inv.seen in
+          let so_far = digests_of (damaged_in file (take c.places.index heads)) in
+          elim c.if-not-branch.branch [
+            | then-not-branch+in_ok-push w ↦
+                let off = sym whole ∙ w.if-not-branch.true in
+                ap (λ v. v.items) w.damaged-is ∙ w.in_ok-push.ensures.items ∙ ap (λ (d : List ℕ). c.places.damaged.items ++ d ∷ []) c.of-digest.ensures
+                ∙ ap (λ (ds : List (List ℕ)). ds ++ h.digest ∷ []) before
+                ∙ sym (more ∙ ap (λ (b : Bool). so_far ++ cond b [] (h.digest ∷ [])) off)
+            | else-not-branch w ↦
+                let on = sym whole ∙ w.if-not-branch.false in
+                ap (λ v. v.items) w.damaged-is ∙ before
+                ∙ sym (more ∙ ap (λ (b : Bool). so_far ++ cond b [] (h.digest ∷ [])) on ∙ append-nil so_far)
+          ];
+    }
