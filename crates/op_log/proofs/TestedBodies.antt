@@ -1,5 +1,5 @@
 -- The bytes that a head leads to.
-use Rattle.std.proofs.Common.{◌≡◌, ◌+◌, ◌<◌, ◌≤◌, ℕ, zero, suc, List, [], ◌∷◌, ◌++◌, Bool, true, false, cond, not, filter, map, length, take, drop, slice_get, Some, refl, sym, ◌∙◌, ap, arith}
+use Rattle.std.proofs.Common.{◌≡◌, ◌+◌, ◌<◌, ◌≤◌, ℕ, zero, suc, List, [], ◌∷◌, ◌++◌, Bool, true, false, cond, not, map, length, take, drop, slice_get, Some, refl, sym, ◌∙◌, ap, arith}
 use Rattle.std.proofs.lemmas.List.{length-take-le, length-drop, get_or-take, get_or-drop}
 use Rattle.std.proofs.lemmas.Option.{slice_get-map}
 use Rattle.std.specs.Option.{option_map}
@@ -8,7 +8,7 @@ use Rattle.head_log.proofs.Texts.{once}
 use Rattle.op_log.specs.declared.place.Place.{Place}
 use Rattle.op_log.specs.Heads.{Head}
 use Rattle.op_log.specs.Places.{head_at}
-use Rattle.op_log.specs.Verified.{bytes_of, damaged_in, digests_of, is_whole}
+use Rattle.op_log.specs.Verified.{damaged_in, digests_of, is_whole}
 
 -- a file has, at an offset, the bytes that it has there
 pub own_bytes : (file : List ℕ) (at n : ℕ) → at + n ≤ length file → Holds file at (take n (drop at file))
