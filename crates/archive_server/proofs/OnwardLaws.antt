@@ -1,13 +1,12 @@
 -- Laws of passes that went on.
 use Rattle.std.proofs.Common.{◌≡◌, ◌⊎◌, ℕ, List, [], ◌∷◌, ◌++◌, refl, subst, inl, inr, Result, Ok, Err}
-use Rattle.std.proofs.Common.{Option, Some, None}
 use Rattle.operation.specs.declared.op.Op.{Op}
 use Rattle.operation.specs.declared.taken.Taken.{Taken}
 use Rattle.operation.specs.Spelling.{digest_of}
 use Rattle.association_services.specs.declared.reply.PortFault.{PortFault}
 use Rattle.association_services.specs.declared.reply.PortFault.TheVariants.{Memory, Busy, Collision, Shelf}
 use Rattle.association_run.specs.Port.{Stores, HasGrown}
-use Rattle.site_hub.specs.Hub.{Seat, IsLater, new_seat}
+use Rattle.site_hub.specs.Hub.{Seat, IsLater}
 use Rattle.op_shelf.specs.declared.fault.ShelfFault.{ShelfFault}
 use Rattle.op_shelf.specs.declared.fault.ShelfFault.TheVariants as shelf_faults
 use Rattle.shelved_exchange.proofs.PuttingLaws.{put_none, put_one}
@@ -66,8 +65,3 @@ onward_stored up holds lasts ops s t op reply digest put named later stores = re
   put = put_by up holds lasts ops (λ (seat : Seat). seat.mine) s t op reply stores
       (subst (WasPut up holds lasts) named put);
 }
-
--- the pass that is in its place
-abbrev pub seat_in : Option Seat → Seat
-seat_in None = new_seat 0
-seat_in (Some seat) = seat

@@ -1,10 +1,11 @@
 -- Who is let in.
-use Rattle.std.specs.Prelude.{if◌then◌else◌, List, Option, Some, None}
-use Rattle.std.specs.declared.net.socket_addr.SocketAddr.{SocketAddr}
-use Rattle.std.specs.declared.net.tcp.TcpStream.{TcpStream}
+use Rattle.std.specs.Prelude.{◌≡◌, List, true, false}
 use Rattle.ipv4_networks.specs.declared.Network.{Network}
 use Rattle.ipv4_networks.specs.Networks.{may_come}
+use Rattle.archive_server.specs.declared.entrance.Entered.{Entered}
+use Rattle.archive_server.specs.declared.entrance.Entered.TheVariants.{LetIn, TurnedAway}
 
--- the stream, where its peer may come
-abbrev pub stream_of : List Network → TcpStream → SocketAddr → Option TcpStream
-stream_of allowed stream peer = if may_come allowed peer then Some stream else None
+-- just who may come was let in
+abbrev pub IsAsAllowed : List Network → Entered → Type 0
+IsAsAllowed allowed (LetIn wire peer) = may_come allowed peer ≡ true
+IsAsAllowed allowed (TurnedAway peer) = may_come allowed peer ≡ false

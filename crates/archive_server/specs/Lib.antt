@@ -1,3 +1,6 @@
+pub mod Answers
+pub mod Calling
+pub mod Done
 pub mod Entering
 pub mod Fault
 pub mod Journal

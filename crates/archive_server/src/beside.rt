@@ -3,10 +3,11 @@
 ghost use Rattle.std.specs.Prelude.{false};
 ghost use Rattle.archive_server.specs.Serving.{IsOnward, HasServed};
 
+use crate::done::Done;
 use crate::exchanging::{Exchanging, exchange_all};
 use crate::meeting::{Peer, meet_all};
 use crate::message::Desk;
-use crate::worker::{Done, Hall, idle};
+use crate::worker::Hall;
 use crossbeam_channel::Receiver;
 use log::Log;
 use op_shelf::Keep;
@@ -70,11 +71,6 @@ pub(crate) fn attend<
     ensures served { HasServed K.is_up K.holds K.lasts pass result.pass false 0 result.accepted
         result.fault }
 {
-    let Done {
-        pass,
-        accepted: _,
-        failed: _,
-        fault,
-    } = done_of(place, hall, job, desk, ended, pass);
-    idle(pass, fault)
+    let (pass, _accepted, fault) = done_of(place, hall, job, desk, ended, pass).into_parts();
+    Done::nothing(pass, fault)
 }

@@ -1,5 +1,5 @@
 //! What ends an association before its time, read off the bytes of one way: A-ASSOCIATE-RJ and
-//! A-ABORT (PS3.8, sections 9.3.4 and 9.3.8).
+//! A-ABORT (PS3.8, sections 9.3.4 and 9.3.8). The bodies of P-DATA-TFs are handed on.
 
 ghost use Rattle.std.specs.Prelude.{◌<◌, ◌≤◌, length};
 
@@ -9,10 +9,28 @@ use std::fmt::{Display, Formatter};
 /// How many bytes of a PDU are kept: its header, and four of its body. No PDU has fewer.
 const KEPT: usize = 10;
 
-/// The types of A-ASSOCIATE-RJ and of A-ABORT.
+/// The types of A-ASSOCIATE-RJ, of P-DATA-TF and of A-ABORT.
 const REJECT: u8 = 3;
 
+const DATA: u8 = 4;
+
 const ABORT: u8 = 7;
+
+/// How many bytes a header has.
+const HEADER: usize = 6;
+
+/// What hears the bodies of the P-DATA-TFs that go one way, one behind another.
+pub(crate) trait Hears {
+    fn hear(&mut self, bytes: &[u8]);
+}
+
+/// Hears nothing.
+#[derive(Clone, Copy)]
+pub(crate) struct Deaf;
+
+impl Hears for Deaf {
+    fn hear(&mut self, _bytes: &[u8]) {}
+}
 
 /// Why an association was rejected, in the standard's numbers.
 #[derive(Clone, Copy)]
@@ -130,38 +148,49 @@ impl Ends {
         }
     }
 
-    fn keep(&mut self, byte: u8) {
+    /// Whether the PDU is a P-DATA-TF.
+    fn is_data(&self) -> bool {
+        self.head[0] == DATA
+    }
+
+    fn keep<L: Hears>(&mut self, byte: u8, listener: &mut L) {
         let at = self.count % KEPT;
         self.head[at] = byte;
         self.count = at + 1;
         if self.count == KEPT {
             self.left = self.rest();
             self.note();
+            if self.is_data() {
+                listener.hear(&self.head[HEADER..]);
+            }
         }
     }
 
     /// Takes some of the bytes that come next, and says how many.
-    fn step(&mut self, bytes: &[u8]) -> usize
+    fn step<L: Hears>(&mut self, bytes: &[u8], listener: &mut L) -> usize
         requires { 0 < length bytes.now }
         ensures { (0 < result) × (result ≤ length bytes.now) }
     {
         if self.left == 0 {
-            self.keep(bytes[0]);
+            self.keep(bytes[0], listener);
             return 1;
         }
         let count = self.left.min(bytes.len());
+        if self.is_data() {
+            listener.hear(&bytes[..count]);
+        }
         self.left -= count;
         count
     }
 
     /// Takes the bytes that come next.
-    pub fn take(&mut self, bytes: &[u8]) {
+    pub fn take<L: Hears>(&mut self, bytes: &[u8], listener: &mut L) {
         let mut at = 0;
         for _ in 0..bytes.len() {
             if bytes.len() <= at {
                 return;
             }
-            at += self.step(&bytes[at..]);
+            at += self.step(&bytes[at..], listener);
         }
     }
 }

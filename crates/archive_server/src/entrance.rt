@@ -1,16 +1,13 @@
 //! Where peers come in, and which may.
 
-ghost use Rattle.std.specs.Prelude.{◌≡◌};
-ghost use Rattle.archive_server.specs.Entering.{stream_of};
+ghost use Rattle.std.specs.Prelude.{IfOk};
+ghost use Rattle.archive_server.specs.Entering.{IsAsAllowed};
 
-use crate::journal::tell_turned_away;
-use crate::manner::Manner;
 use crate::wire::Wire;
 use ipv4_networks::{Network, is_allowed};
-use log::Log;
 use std::io;
-use std::net::{SocketAddr, TcpListener, TcpStream};
-use std::time::Clock;
+use std::net::{SocketAddr, TcpListener};
+use std::time::Duration;
 
 /// A listener, and the networks from which peers may come. A connection from elsewhere is closed
 /// before a byte of it is read. Where no network is named, each peer may come.
@@ -20,28 +17,22 @@ pub struct Entrance<'a> {
     pub allowed: &'a [Network],
 }
 
-fn let_in(allowed: &[Network], stream: TcpStream, peer: SocketAddr) -> Option<TcpStream>
-    ensures { result ≡ stream_of allowed.now stream peer }
-{
-    if is_allowed(allowed, peer) {
-        Some(stream)
-    } else {
-        None
-    }
+/// Who came in at an entrance.
+#[derive(Drop)]
+pub(crate) enum Entered {
+    /// A peer that may come, with its connection.
+    LetIn(Wire, SocketAddr),
+    /// One that may not, whose connection is closed.
+    TurnedAway(SocketAddr),
 }
 
-/// Accepts once: the connection of a peer that may come, or nothing where it may not.
-pub(crate) fn accept_from<S: Clock + Log>(
-    rt: &S,
-    manner: Manner<'_>,
-    entrance: Entrance<'_>,
-) -> io::Result<Option<Wire>> {
+/// Accepts once. A peer that is let in is waited for so long at most, or as long as it takes.
+pub(crate) fn accept_from(entrance: Entrance<'_>, idle: Option<Duration>) -> io::Result<Entered>
+    ensures ruled { IfOk result (IsAsAllowed entrance.entry.allowed.now) }
+{
     let (stream, peer) = entrance.listener.accept()?;
-    match let_in(entrance.allowed, stream, peer) {
-        Some(stream) => Ok(Some(Wire::new(stream, manner.idle)?)),
-        None => {
-            tell_turned_away(rt, manner, peer);
-            Ok(None)
-        }
+    if is_allowed(entrance.allowed, peer) {
+        return Ok(Entered::LetIn(Wire::new(stream, idle)?, peer));
     }
+    Ok(Entered::TurnedAway(peer))
 }

@@ -1,9 +1,13 @@
-//! The titles of an association, and what ended it early, read off the bytes of both ways.
+//! The titles of an association, what ended it early, and which stores it refused, read off the
+//! bytes of both ways.
 
 ghost use Rattle.std.specs.Prelude.{◌≡◌};
 
-use crate::ends::{Abort, Ends, Rejection};
+use crate::answers::Answers;
+use crate::ends::{Abort, Deaf, Ends, Rejection};
 use devices::{DeviceFault, Sink, Source};
+use log::Log;
+use std::time::Clock;
 
 /// How many bytes an A-ASSOCIATE-RQ has up to the end of its titles (PS3.8, section 9.3.2).
 const FRONT: usize = 42;
@@ -97,23 +101,26 @@ impl<R: Source> Source for Heard<R> {
     fn read(&mut self, buffer: &mut [u8]) -> Result<usize, DeviceFault> {
         let count = self.source.read(buffer)?;
         self.front.keep(&buffer[..count]);
-        self.ends.take(&buffer[..count]);
+        self.ends.take(&buffer[..count], &mut Deaf);
         Ok(count)
     }
 }
 
-/// A writer whose rejections and aborts are noted. Contracts see the writer.
+/// A writer whose rejections and aborts are noted, and whose refused stores are told. Contracts see
+/// the writer.
 #[derive(Drop)]
-pub(crate) struct Said<W: Sink> {
+pub(crate) struct Said<'a, W: Sink, S: Clock + Log> {
     sink: W,
     ends: Ends,
+    answers: Answers<'a, S>,
 }
 
-impl<W: Sink> Said<W> {
-    pub fn new(sink: W) -> Said<W> {
+impl<'a, W: Sink, S: Clock + Log> Said<'a, W, S> {
+    pub fn new(sink: W, answers: Answers<'a, S>) -> Said<'a, W, S> {
         Said {
             sink,
             ends: Ends::new(),
+            answers,
         }
     }
 
@@ -128,14 +135,14 @@ impl<W: Sink> Said<W> {
     }
 }
 
-impl<W: Sink> Sink for Said<W> {
+impl<'a, W: Sink, S: Clock + Log> Sink for Said<'a, W, S> {
     ghost contents = { λ s. W.contents s.sink };
 
     ghost failures = { λ s. W.failures s.sink };
 
     fn write(&mut self, bytes: &[u8]) -> Result<usize, DeviceFault> {
         let count = self.sink.write(bytes)?;
-        self.ends.take(&bytes[..count]);
+        self.ends.take(&bytes[..count], &mut self.answers);
         Ok(count)
     }
 }

@@ -7,6 +7,7 @@
 ghost use Rattle.std.specs.Prelude.{◌≡◌};
 ghost use Rattle.archive_server.specs.Journal.{IsPlain};
 
+use crate::answers::RefusedStore;
 use crate::ends::{Abort, Rejection};
 use crate::heard::Front;
 use crate::manner::Manner;
@@ -14,11 +15,16 @@ use crate::tally::Tally;
 use crate::wire::Wire;
 use association_run::{End, RunFault};
 use association_session::PortFault;
+use dictionary::{
+    STATUS_CANNOT_UNDERSTAND, STATUS_DATA_SET_DOES_NOT_MATCH, STATUS_OUT_OF_RESOURCES,
+    STATUS_SOP_CLASS_NOT_SUPPORTED, STATUS_UNRECOGNIZED_OPERATION,
+};
 use exchange::ExchangeFault;
 use exchange_run::{Ended, Role};
 use jiff::Timestamp;
 use log::{Log, error, info};
 use std::fmt::{Display, Formatter};
+use std::io::ErrorKind;
 use std::net::SocketAddr;
 use std::time::Clock;
 use std::{fmt, io};
@@ -77,6 +83,10 @@ pub(crate) struct Whence(Option<SocketAddr>);
 impl Whence {
     pub fn of(wire: &Wire) -> Whence {
         Whence(wire.stream().peer_addr().ok())
+    }
+
+    pub fn at(peer: SocketAddr) -> Whence {
+        Whence(Some(peer))
     }
 }
 
@@ -182,22 +192,31 @@ impl Display for Finish {
     }
 }
 
-/// Whether a wait for the peer was cut off, as it lasted as long as it may.
+/// Whether a wait for the peer was cut off, as it lasted as long as it may, and else which error
+/// the system told.
 #[derive(Clone, Copy)]
-struct Silence(bool);
+struct Break {
+    is_silent: bool,
+    error: Option<io::Error>,
+}
 
-impl Silence {
-    fn of(wire: &Wire) -> Silence {
-        Silence(wire.is_silent())
+impl Break {
+    fn of(wire: &Wire) -> Break {
+        Break {
+            is_silent: wire.is_silent(),
+            error: wire.error(),
+        }
     }
 }
 
-impl Display for Silence {
+impl Display for Break {
     fn fmt<W: fmt::Write>(&self, f: &mut Formatter<W>) -> fmt::Result {
-        if self.0 {
-            f.write_str(" silent")
-        } else {
-            Ok(())
+        if self.is_silent {
+            return f.write_str(" silent");
+        }
+        match self.error {
+            Some(error) => write!(f, ": {error}"),
+            None => Ok(()),
         }
     }
 }
@@ -217,10 +236,10 @@ pub(crate) fn tell_association<S: Clock + Log>(
     }
     let moment = Moment::now(rt);
     let (calling, called) = (Shown(front.calling()), Shown(front.called()));
-    let (asked, silence) = (Asked(tally), Silence::of(wire));
+    let (asked, broken) = (Asked(tally), Break::of(wire));
     info!(
         rt; target: "association",
-        "{moment} from {peer} calling \"{calling}\" called \"{called}\" {asked} {finish}{silence}"
+        "{moment} from {peer} calling \"{calling}\" called \"{called}\" {asked} {finish}{broken}"
     );
 }
 
@@ -271,12 +290,12 @@ pub(crate) fn tell_exchange<S: Clock + Log>(
     if !manner.is_verbose && !is_own(&ended) {
         return;
     }
-    let (moment, outcome, silence) = (Moment::now(rt), Outcome(ended), Silence::of(wire));
+    let (moment, outcome, broken) = (Moment::now(rt), Outcome(ended), Break::of(wire));
     let way = match role {
         Role::Callee => "from",
         Role::Caller | Role::OldCaller => "to",
     };
-    info!(rt; target: "exchange", "{moment} {way} {peer} {outcome}{silence}");
+    info!(rt; target: "exchange", "{moment} {way} {peer} {outcome}{broken}");
 }
 
 /// Tells that a peer that was called is not reached, or did not answer in time, likewise.
@@ -284,14 +303,17 @@ pub(crate) fn tell_unreached<S: Clock + Log>(
     rt: &S,
     manner: Manner<'_>,
     address: &str,
-    is_silent: bool,
+    error: io::Error,
 ) {
     if !manner.is_verbose {
         return;
     }
     let moment = Moment::now(rt);
-    let silence = Silence(is_silent);
-    info!(rt; target: "exchange", "{moment} to {address} not reached{silence}");
+    let broken = Break {
+        is_silent: error.kind() == ErrorKind::TimedOut,
+        error: Some(error),
+    };
+    info!(rt; target: "exchange", "{moment} to {address} not reached{broken}");
 }
 
 /// Tells that a peer was turned away before a byte of it was read, likewise.
@@ -310,6 +332,32 @@ pub(crate) fn tell_not_accepted<S: Clock + Log>(rt: &S, manner: Manner<'_>, erro
     }
     let moment = Moment::now(rt);
     error!(rt; target: "entrance", "{moment} a connection was not accepted: {error}");
+}
+
+/// What the status of a refused store says of it (PS3.4, section B.2.3; PS3.7, annex C).
+fn words_of_status(status: u16) -> &'static str {
+    match status {
+        STATUS_SOP_CLASS_NOT_SUPPORTED => "its SOP class is not that of its presentation context",
+        STATUS_UNRECOGNIZED_OPERATION => "its presentation context is of no storage class",
+        STATUS_OUT_OF_RESOURCES => "out of resources",
+        STATUS_DATA_SET_DOES_NOT_MATCH => "its data set names another SOP class or instance",
+        STATUS_CANNOT_UNDERSTAND => "its data set is none that can be kept",
+        _ => "it was refused",
+    }
+}
+
+/// Tells a store that was answered with a status which is none of success.
+pub(crate) fn tell_refused_store<S: Clock + Log>(rt: &S, peer: Whence, refused: &RefusedStore) {
+    let moment = Moment::now(rt);
+    let instance = match &refused.instance {
+        Some(instance) => Shown(instance.as_slice()),
+        None => Shown(&[]),
+    };
+    let (status, words) = (refused.status, words_of_status(refused.status));
+    info!(
+        rt; target: "association",
+        "{moment} from {peer} store of \"{instance}\" answered {status:04X}: {words}"
+    );
 }
 
 /// What a request is answered that the archive itself refuses, as a line has it (PS3.4, sections

@@ -1,6 +1,6 @@
 //! The thread that keeps the shelf, and how workers reach it.
 
-ghost use Rattle.std.specs.Prelude.{◌≡◌, ◌++◌, ◌∷◌, [], All, IfOk, IsNone};
+ghost use Rattle.std.specs.Prelude.{◌≡◌, ◌++◌, ◌∷◌, [], All, IfOk, IsNone, ⊤};
 ghost use Rattle.operation.specs.Spelling.{digest_of};
 ghost use Rattle.shelved_exchange.specs.Putting.{WasPut};
 
@@ -120,12 +120,42 @@ fn keep_group<K: Keep, S: Wait>(rt: &S, shelf: &mut K, group: &Group<K>) {
     }
 }
 
-/// Takes in a request and those that wait behind it, and answers one that finds no room. It waits
-/// for nobody. While a request is just being sent the channel may seem empty, or else: then that
-/// one is in the next group.
-fn gather<K: Keep, S: Wait>(
-    rt: &S,
-    requests: &Receiver<Request<K>>,
+/// Where requests come in.
+pub(crate) trait Requests<K: Keep> {
+    // That nobody can ask any more.
+    ghost is_over: { Self → Type 0 };
+
+    /// Waits for the next request: none comes once nobody can ask any more.
+    fn next(&mut self) -> Option<Request<K>>
+        ensures over { IsNone result → is_over self.new };
+
+    /// One that waits already. It waits for nobody.
+    fn waiting(&mut self) -> Option<Request<K>>;
+}
+
+/// The receiving end of the channel of all threads.
+#[derive(Drop)]
+pub(crate) struct Inbox<'a, K: Keep, S: Wait> {
+    pub rt: &'a S,
+    pub requests: Receiver<Request<K>>,
+}
+
+impl<'a, K: Keep, S: Wait> Requests<K> for Inbox<'a, K, S> {
+    ghost is_over = { λ _. ⊤ };
+
+    fn next(&mut self) -> Option<Request<K>> {
+        self.requests.recv(self.rt).ok()
+    }
+
+    /// While a request is just being sent the channel may seem empty, or else.
+    fn waiting(&mut self) -> Option<Request<K>> {
+        self.requests.try_recv(self.rt).ok()
+    }
+}
+
+/// Takes in a request and those that wait behind it, and hands back one that finds no room.
+fn gather<K: Keep, Q: Requests<K>>(
+    requests: &mut Q,
     first: Request<K>,
     group: &mut Group<K>,
 ) -> Option<Request<K>> {
@@ -134,7 +164,7 @@ fn gather<K: Keep, S: Wait>(
         if let Some(over) = group.take(next) {
             return Some(over);
         }
-        let Ok(request) = requests.try_recv(rt) else {
+        let Some(request) = requests.waiting() else {
             return None;
         };
         next = request;
@@ -142,25 +172,28 @@ fn gather<K: Keep, S: Wait>(
     Some(next)
 }
 
-/// Serves puts until each sender is gone: what waits is one group, with one sync.
-pub(crate) fn keep_all<K: Keep, S: Wait>(
+/// Serves puts until nobody can ask any more: what waits is one group, with one sync.
+pub(crate) fn keep_all<K: Keep, S: Wait, Q: Requests<K>>(
     rt: &S,
     alloc: Global,
     shelf: &mut K,
-    requests: Receiver<Request<K>>,
-) {
+    requests: &mut Q,
+)
+    ensures over { Q.is_over requests.new }
+{
     let mut group = Group::new(alloc);
     for _ in rt.forever() {
-        let Ok(first) = requests.recv(rt) else {
-            break;
+        let Some(first) = requests.next() else {
+            return;
         };
-        let over = gather(rt, &requests, first, &mut group);
+        let over = gather(requests, first, &mut group);
         keep_group(rt, shelf, &group);
         group.clear();
         if let Some(Request { op, reply }) = over {
             keep_one(rt, shelf, &op, &reply);
         }
     }
+    unreachable!()
 }
 
 /// An answer, where it is of the operation that was asked for.

@@ -9,7 +9,12 @@
 //! the server, and ask for a line on each association and exchange.
 #![tactic(auto)]
 
+mod answers;
+mod attending;
 mod beside;
+mod calling;
+mod conversing;
+mod done;
 mod ends;
 mod entrance;
 mod exchanging;
@@ -26,6 +31,8 @@ mod tally;
 mod wire;
 mod worker;
 
+pub use attending::{Archive, Attended, serve_association};
+pub use conversing::{Conversed, serve_exchange};
 pub use entrance::Entrance;
 pub use exchanging::Exchanging;
 pub use fault::{NetFault, ServeFault};
@@ -34,4 +41,5 @@ pub use meeting::Peer;
 pub use message::Shelved;
 pub use port::ServerPort;
 pub use serve::{Served, serve_on};
+pub use tally::Tally;
 pub use wire::Wire;

@@ -1,19 +1,24 @@
 //! The threads that call peers: each exchanges with one, again and again, with a pass of its own.
 
+ghost use Rattle.std.specs.Prelude.{None};
+ghost use Rattle.archive_server.specs.Calling.{CallsAgain};
 ghost use Rattle.archive_server.specs.Serving.{IsOnward};
 
+use crate::calling::{Called, Pauses, pause_behind};
+use crate::done::Done;
 use crate::exchanging::exchange_over;
 use crate::fault::ServeFault;
 use crate::journal::tell_unreached;
 use crate::message::{Desk, Request};
 use crate::wire::Wire;
-use crate::worker::{Done, Hall, idle};
+use crate::worker::Hall;
 use crossbeam_channel::{Receiver, RecvTimeoutError, Sender};
 use exchange::ExchangeFault;
-use exchange_run::Role;
+use exchange_run::Ended;
 use log::Log;
 use op_shelf::Keep;
-use site_hub::{HubName, Pass, Snapshot as Shown};
+use site_hub::{HubName, Pass, Shows};
+use std::io;
 use std::io::ErrorKind;
 use std::net::{Net, TcpListener, TcpStream};
 use std::sync::Wait;
@@ -28,48 +33,114 @@ pub struct Peer<'a> {
     pub every: Duration,
 }
 
+/// What came of a call that was answered.
+fn called_as(ended: Result<Ended, ExchangeFault>, wire: &Wire) -> Called {
+    match ended {
+        Ok(_ended) => Called::Met,
+        Err(_fault) if wire.is_silent() => Called::Hung,
+        Err(_fault) => Called::BrokenOff,
+    }
+}
+
+/// What came of one that was not.
+fn uncalled_as(error: &io::Error) -> Called {
+    if error.kind() == ErrorKind::TimedOut {
+        Called::Unanswered
+    } else {
+        Called::Refused
+    }
+}
+
 /// Calls a peer once. A call that is refused and an exchange that is broken off are made good by
 /// the next: what was taken stays.
 fn meet<
     H: HubName,
+    T: Shows<H>,
     R: Wait + Drop,
     S: Net<Listener = TcpListener, Stream = TcpStream> + Wait + Clock + Log,
     K: Keep,
 >(
-    hall: &Hall<'_, H, Shown<H>, R, S>,
+    hall: &Hall<'_, H, T, R, S>,
     address: &str,
     to: &Sender<Request<K>>,
     pass: Pass<H>,
-) -> Pass<H>
-    ensures onward { IsOnward K.is_up K.holds K.lasts pass result }
+) -> (Pass<H>, Called)
+    ensures onward { IsOnward K.is_up K.holds K.lasts pass result.0 }
 {
-    match Wire::to(hall.rt, address, hall.manner.idle) {
-        Ok(wire) => exchange_over(hall, to, &wire, Role::Caller, pass).0,
+    match Wire::to(hall.archive.rt, address, hall.manner.idle) {
+        Ok(wire) => {
+            let (pass, ended) = exchange_over(hall, to, &wire, pass);
+            (pass, called_as(ended, &wire))
+        }
         Err(error) => {
-            let is_silent = error.kind() == ErrorKind::TimedOut;
-            tell_unreached(hall.rt, hall.manner, address, is_silent);
-            pass
+            tell_unreached(hall.archive.rt, hall.manner, address, error);
+            (pass, uncalled_as(&error))
         }
     }
 }
 
-/// Whether somebody still accepts after so long a wait, which ends where nobody does.
-fn is_served<S: Wait + Clock>(rt: &S, ended: &Receiver<()>, every: Duration) -> bool {
-    match ended.recv_timeout(rt, every) {
-        Err(RecvTimeoutError::Timeout) => true,
-        Err(RecvTimeoutError::Disconnected) | Ok(()) => false,
+/// What tells by its end that nobody accepts any more.
+#[derive(Drop)]
+struct Still<'a, S: Wait + Clock> {
+    rt: &'a S,
+    ended: Receiver<()>,
+}
+
+impl<'a, S: Wait + Clock> Pauses for Still<'a, S> {
+    ghost turns = { λ _. None };
+
+    fn note(&mut self, _called: Called) {}
+
+    fn is_served_after(&mut self, time: Duration) -> bool {
+        match self.ended.recv_timeout(self.rt, time) {
+            Err(RecvTimeoutError::Timeout) => true,
+            Err(RecvTimeoutError::Disconnected) | Ok(()) => false,
+        }
     }
+}
+
+/// Calls a peer again and again, as long as somebody serves.
+fn call_again<
+    H: HubName,
+    T: Shows<H>,
+    R: Wait + Drop,
+    S: Net<Listener = TcpListener, Stream = TcpStream> + Wait + Clock + Log,
+    K: Keep,
+    C: Pauses,
+>(
+    hall: &Hall<'_, H, T, R, S>,
+    address: &str,
+    every: Duration,
+    to: &Sender<Request<K>>,
+    pauses: &mut C,
+    pass: Pass<H>,
+) -> Pass<H>
+    ensures onward { IsOnward K.is_up K.holds K.lasts pass result }
+    ensures again { CallsAgain every (C.turns pauses.old) (C.turns pauses.new) }
+{
+    let mut onward = pass;
+    for _ in hall.archive.rt.forever() {
+        let (next, called) = meet(hall, address, to, onward);
+        onward = next;
+        pauses.note(called);
+        let pause = pause_behind(called, every);
+        if !pauses.is_served_after(pause) {
+            return onward;
+        }
+    }
+    unreachable!()
 }
 
 /// Calls a peer until nobody accepts any more, unless the thread of this place was refused.
 pub(crate) fn meet_all<
     H: HubName,
+    T: Shows<H>,
     R: Wait + Drop,
     S: Net<Listener = TcpListener, Stream = TcpStream> + Wait + Clock + Log,
     K: Keep,
 >(
     place: u64,
-    hall: &Hall<'_, H, Shown<H>, R, S>,
+    hall: &Hall<'_, H, T, R, S>,
     peer: Peer<'_>,
     desk: Desk<K>,
     ended: Receiver<()>,
@@ -78,14 +149,10 @@ pub(crate) fn meet_all<
     ensures onward { IsOnward K.is_up K.holds K.lasts pass result.pass }
 {
     if hall.refused.load(Ordering::SeqCst) == place {
-        return idle(pass, Some(ServeFault::Exchange(ExchangeFault::Memory)));
+        return Done::nothing(pass, Some(ServeFault::Exchange(ExchangeFault::Memory)));
     }
-    let mut onward = meet(hall, peer.address, &desk.to, pass);
-    for _ in hall.rt.forever() {
-        if !is_served(hall.rt, &ended, peer.every) {
-            break;
-        }
-        onward = meet(hall, peer.address, &desk.to, onward);
-    }
-    idle(onward, None)
+    let rt = hall.archive.rt;
+    let mut still = Still { rt, ended };
+    let onward = call_again(hall, peer.address, peer.every, &desk.to, &mut still, pass);
+    Done::nothing(onward, None)
 }

@@ -11,38 +11,54 @@ ghost use Rattle.archive_server.specs.Serving.{IsOnward};
 ghost use Rattle.archive_server.specs.Fault.{port_fault_of};
 
 use crate::journal::told;
-use crate::keeping::ask;
-use crate::message::{Request, Shelved};
 use crate::tally::Tally;
 use archive_model::View;
 use association_run::Port;
 use association_session::PortFault;
 use association_worker::{AtEntry, HubPort};
-use crossbeam_channel::Sender;
 use log::Log;
 use octets::ListOf;
 use op_shelf::{Keep, ShelfFault};
 use operation::{Content, Digested, Op, Taken};
 use query_model::{Answers, Query};
 use retrieve_model::{Prepared, Selection};
+use shelved_exchange::{Put, Shelved};
 use site_hub::{HubName, Keeper, Pass, Shows};
-use std::alloc::Global;
-use std::marker::Model;
+use std::marker::{Model, PhantomData};
 use std::sync::{Mutex, Wait};
 use std::time::Clock;
 
 /// A pass with the shared keeper, and the way to the shelf. The pass goes on from what it was when
 /// its association began, and what it stores since is on the shelf. Contracts see the pass.
-pub struct ServerPort<'a, H: HubName, T: Shows<H>, R: Wait + Drop, S: Wait, K: Keep, E: AtEntry> {
-    alloc: Global,
+pub struct ServerPort<
+    'a,
+    'b,
+    H: HubName,
+    T: Shows<H>,
+    R: Wait + Drop,
+    S: Wait,
+    K: Keep,
+    P: Put<K> + Copy,
+    E: AtEntry,
+> {
     rt: &'a S,
-    to: &'a Sender<Request<K>>,
+    shelf: &'b P,
     hub: HubPort<'a, H, T, R, S, E>,
     tally: Tally,
+    of: PhantomData<K>,
 }
 
-impl<'a, H: HubName, T: Shows<H>, R: Wait + Drop, S: Wait, K: Keep, E: AtEntry> Model
-    for ServerPort<'a, H, T, R, S, K, E> {
+impl<
+    'a,
+    'b,
+    H: HubName,
+    T: Shows<H>,
+    R: Wait + Drop,
+    S: Wait,
+    K: Keep,
+    P: Put<K> + Copy,
+    E: AtEntry,
+> Model for ServerPort<'a, 'b, H, T, R, S, K, P, E> {
     ghost use Rattle.site_hub.specs.Hub.{Seat};
     ghost use Rattle.archive_server.specs.Serving.{IsOnward};
 
@@ -77,32 +93,33 @@ fn publish<H: HubName, T: Shows<H>, R: Wait + Drop, S: Wait, K: Keep, E: AtEntry
     hub.take(op)
 }
 
-impl<'a, H: HubName, T: Shows<H>, R: Wait + Drop, S: Wait, K: Keep, E: AtEntry> ServerPort<
+impl<
     'a,
-    H,
-    T,
-    R,
-    S,
-    K,
-    E,
-> {
+    'b,
+    H: HubName,
+    T: Shows<H>,
+    R: Wait + Drop,
+    S: Wait,
+    K: Keep,
+    P: Put<K> + Copy,
+    E: AtEntry,
+> ServerPort<'a, 'b, H, T, R, S, K, P, E> {
     /// The port of an association that begins with this pass.
     pub(crate) fn new(
-        alloc: Global,
         rt: &'a S,
         keeper: &'a Mutex<Keeper<H, T, R>>,
-        to: &'a Sender<Request<K>>,
+        shelf: &'b P,
         pass: Pass<H>,
-    ) -> ServerPort<'a, H, T, R, S, K, E>
+    ) -> ServerPort<'a, 'b, H, T, R, S, K, P, E>
         requires entry { pass ≡ E.seat }
         ensures { result ≡ pass }
     {
         ServerPort {
-            alloc,
             rt,
-            to,
+            shelf,
             hub: HubPort::new(rt, keeper, pass),
             tally: Tally::new(),
+            of: PhantomData,
         }
     }
 
@@ -117,18 +134,27 @@ impl<'a, H: HubName, T: Shows<H>, R: Wait + Drop, S: Wait, K: Keep, E: AtEntry> 
         ensures onward { IsOnward K.is_up K.holds K.lasts E.seat result }
     {
         let ServerPort {
-            alloc: _,
             rt: _,
-            to: _,
+            shelf: _,
             hub,
             tally: _,
+            of: _,
         } = self;
         hub.into_pass()
     }
 }
 
-impl<'a, H: HubName, T: Shows<H>, R: Wait + Drop, S: Wait + Clock + Log, K: Keep, E: AtEntry> Port
-    for ServerPort<'a, H, T, R, S, K, E> {
+impl<
+    'a,
+    'b,
+    H: HubName,
+    T: Shows<H>,
+    R: Wait + Drop,
+    S: Wait + Clock + Log,
+    K: Keep,
+    P: Put<K> + Copy,
+    E: AtEntry,
+> Port for ServerPort<'a, 'b, H, T, R, S, K, P, E> {
     ghost ops = { λ p. ops_of (set_of H.opening p.seen) };
 
     ghost own = { λ p. p.mine };
@@ -139,7 +165,8 @@ impl<'a, H: HubName, T: Shows<H>, R: Wait + Drop, S: Wait + Clock + Log, K: Keep
         ensures later { IsLater self.old self.new }
     {
         let op = Digested::of(Op::Content(content));
-        match ask(self.rt, self.alloc, self.to, &op) {
+        let mut shelf = *self.shelf;
+        match shelf.put(&op) {
             Ok(shelved) => {
                 let taken = publish(&mut self.hub, op, &shelved);
                 self.tally.stored(told(self.rt, "store", taken))

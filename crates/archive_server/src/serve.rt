@@ -5,15 +5,17 @@ ghost use Rattle.std.specs.Prelude.{◌≡◌, ◌+◌, ◌*◌, ◌<◌, ◌≤
 ghost use Rattle.std.specs.Option.{option_or};
 ghost use Rattle.archive_server.specs.Serving.{AllOnward, HasServed, HaveServed, places_for, serving_in};
 
+use crate::attending::Archive;
 use crate::beside::{Beside, attend};
+use crate::done::Done;
 use crate::entrance::Entrance;
 use crate::exchanging::Exchanging;
 use crate::fault::ServeFault;
-use crate::keeping::keep_all;
+use crate::keeping::{Inbox, keep_all};
 use crate::manner::Manner;
 use crate::meeting::Peer;
 use crate::message::{Desk, Request};
-use crate::worker::{Done, Hall, idle, work};
+use crate::worker::{Hall, work};
 use archive_model::View;
 use association_run::{Gate, RunFault};
 use core::thread::Stack;
@@ -106,7 +108,7 @@ fn start<
         (is_some hall.now.manner.ending) hall.now.each done.accepted done.fault) }
 {
     let Ok(desk) = desk.another(true) else {
-        return Err(idle(pass, Some(ServeFault::Run(RunFault::Memory))));
+        return Err(Done::nothing(pass, Some(ServeFault::Run(RunFault::Memory))));
     };
     let begun = Begun {
         was: Snapshot::of(&pass),
@@ -147,7 +149,7 @@ fn start_beside<
 {
     let (desk, ended): (Result<_, _>, Result<_, _>) = (desk.another(job.accepts()), ended.clone());
     let (Ok(desk), Ok(ended)) = (desk, ended) else {
-        return Err(idle(pass, Some(ServeFault::Exchange(ExchangeFault::Memory))));
+        return Err(Done::nothing(pass, Some(ServeFault::Exchange(ExchangeFault::Memory))));
     };
     let begun = Begun {
         was: Snapshot::of(&pass),
@@ -229,7 +231,9 @@ fn serve_rest<
 {
     let Some(pass) = passes.pop() else {
         drop(desk);
-        keep_all(hall.rt, hall.alloc, shelf, requests);
+        let rt = hall.archive.rt;
+        let mut inbox = Inbox { rt, requests };
+        keep_all(rt, hall.archive.alloc, shelf, &mut inbox);
         return Total {
             accepted: 0,
             fault: None,
@@ -242,18 +246,13 @@ fn serve_rest<
     let started = start(scope, hall, &desk, passes.len() as u64, gate, pass);
     let before = serve_rest(scope, hall, desk, requests, shelf, gates, passes);
     let done = finish(
-        hall.rt,
+        hall.archive.rt,
         was,
         hall.manner.ending.is_some(),
         hall.each,
         started,
     );
-    let Done {
-        pass,
-        accepted,
-        failed: _,
-        fault,
-    } = done;
+    let (pass, accepted, fault) = done.into_parts();
     passes.push_reserved(pass);
     with_worker(before, accepted, fault)
 }
@@ -297,13 +296,8 @@ fn serve_beside<
     let before = serve_beside(
         scope, hall, jobs, ended, desk, requests, shelf, gates, passes,
     );
-    let done = finish(hall.rt, was, false, 0, started);
-    let Done {
-        pass: last,
-        accepted: _,
-        failed: _,
-        fault,
-    } = done;
+    let done = finish(hall.archive.rt, was, false, 0, started);
+    let (last, _accepted, fault) = done.into_parts();
     passes.push_reserved(last);
     with_worker(before, 0, fault)
 }
@@ -366,12 +360,14 @@ pub fn serve_on<
         };
     };
     let hall = Hall {
-        rt,
-        alloc,
+        archive: Archive {
+            rt,
+            alloc,
+            keeper,
+            titles,
+        },
         entrance,
-        titles,
         each,
-        keeper,
         manner,
         refused: AtomicU64::new(u64::MAX),
         begun: AtomicU64::new(0),

@@ -7,7 +7,7 @@ use operation::Taken;
 
 /// How often a port was asked, and how its stores came out.
 #[derive(Clone, Copy, Debug)]
-pub(crate) struct Tally {
+pub struct Tally {
     pub new: u64,
     pub known: u64,
     pub refused: u64,
@@ -16,7 +16,7 @@ pub(crate) struct Tally {
 }
 
 impl Tally {
-    pub fn new() -> Tally {
+    pub(crate) fn new() -> Tally {
         Tally {
             new: 0,
             known: 0,
@@ -27,7 +27,7 @@ impl Tally {
     }
 
     /// Counts a store, and hands its reply on.
-    pub fn stored(&mut self, reply: Result<Taken, PortFault>) -> Result<Taken, PortFault>
+    pub(crate) fn stored(&mut self, reply: Result<Taken, PortFault>) -> Result<Taken, PortFault>
         ensures { result ≡ reply }
     {
         let counted = match reply {

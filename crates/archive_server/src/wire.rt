@@ -5,7 +5,7 @@ ghost use Rattle.std.specs.Prelude.{◌≡◌};
 use std::io;
 use std::io::{ErrorKind, Read, Write};
 use std::net::{Net, Shutdown, SocketAddr, TcpListener, TcpStream};
-use std::sync::atomic::{AtomicBool, Ordering};
+use std::sync::atomic::{AtomicBool, AtomicI32, Ordering};
 use std::time::{Clock, Duration, Instant};
 
 /// The seconds for which is read what a peer still sends, once nothing is sent to it any more.
@@ -17,11 +17,15 @@ const PIECE: usize = 16_384;
 /// How many such pieces are read at most: 128 MiB.
 const PIECES: usize = 8_192;
 
-/// A connection, and whether a wait for its peer was cut off.
+/// The number of no error of the system.
+const NO_ERROR: i32 = 0;
+
+/// A connection, whether a wait for its peer was cut off, and the system's error that broke it.
 #[derive(Drop)]
 pub struct Wire {
     stream: TcpStream,
     silent: AtomicBool,
+    error: AtomicI32,
 }
 
 /// What a read or a write is cut off by, once it has waited as long as it may.
@@ -40,6 +44,7 @@ impl Wire {
         Ok(Wire {
             stream,
             silent: AtomicBool::new(false),
+            error: AtomicI32::new(NO_ERROR),
         })
     }
 
@@ -65,14 +70,29 @@ impl Wire {
         self.silent.load(Ordering::SeqCst)
     }
 
-    /// Notes that a wait was cut off.
+    /// The system's error of the last read or write that failed, where it was not cut off.
+    pub fn error(&self) -> Option<io::Error> {
+        match self.error.load(Ordering::SeqCst) {
+            NO_ERROR => None,
+            number => Some(io::Error::from_raw_os_error(number)),
+        }
+    }
+
+    /// Notes that a wait was cut off, or else by which error of the system a call failed.
+    fn note(&self, error: &io::Error) {
+        if is_cut_off(error) {
+            self.silent.store(true, Ordering::SeqCst);
+        } else if let Some(number) = error.raw_os_error() {
+            self.error.store(number, Ordering::SeqCst);
+        }
+    }
+
+    /// Notes how a read or a write failed, where it did, and hands it on.
     fn noted(&self, done: io::Result<usize>) -> io::Result<usize>
         ensures { result ≡ done }
     {
         if let Err(error) = &done {
-            if is_cut_off(error) {
-                self.silent.store(true, Ordering::SeqCst);
-            }
+            self.note(error);
         }
         done
     }

@@ -1,4 +1,4 @@
-use Rattle.std.specs.Prelude.{◌≡◌, ◌+◌, ◌⊎◌, IsSome}
+use Rattle.std.specs.Prelude.{◌≡◌, ◌+◌}
 use Rattle.archive_server.specs.Serving.{IsOnward}
 use Rattle.archive_server.proofs.exchanging.exchange_all.Given as goal
 

@@ -7,6 +7,6 @@ returns-in-Err-clause-onward g c =
     rw c.with_none.ensures.pass (onward_self g.K.Keep.is_up g.K.Keep.holds g.K.Keep.lasts _)
 
 -- Whoever may not come leaves the pass as it is.
-pub returns-in-Ok-None-clause-onward : goal.returns-in-Ok-None-clause-onward
-returns-in-Ok-None-clause-onward g c = rw c.turned_away.ensures.pass
+pub returns-in-Ok-TurnedAway-clause-onward : goal.returns-in-Ok-TurnedAway-clause-onward
+returns-in-Ok-TurnedAway-clause-onward g c = rw c.with_turned_away.ensures.pass
     (onward_self g.K.Keep.is_up g.K.Keep.holds g.K.Keep.lasts _)

@@ -6,23 +6,23 @@ use Rattle.archive_server.proofs.worker.work.Goals as goal
 -- A worker whose thread was refused gives its pass back as it came, and tells it.
 pub returns-then-load-place : goal.returns-then-load-place
 returns-then-load-place g c = record {
-  served = rw (c.idle.ensures.pass, c.idle.ensures.none.0, c.idle.ensures.fault)
+  served = rw (c.nothing.ensures.pass, c.nothing.ensures.none.0, c.nothing.ensures.fault)
       (told_alone g.K.Keep.is_up g.K.Keep.holds g.K.Keep.lasts _ _ _ _);
 }
 
 -- So does one whose buffer was refused.
 pub returns-in_default : goal.returns-in_default
 returns-in_default g c = record {
-  served = rw (c.idle-in_default.ensures.pass, c.idle-in_default.ensures.none.0, c.idle-in_default.ensures.fault)
+  served = rw (c.nothing-in_default.ensures.pass, c.nothing-in_default.ensures.none.0, c.nothing-in_default.ensures.fault)
       (told_alone g.K.Keep.is_up g.K.Keep.holds g.K.Keep.lasts _ _ _ _);
 }
 
 -- Before the first accept nothing is used up.
 pub loop-init : goal.loop-init
 loop-init g c = (
-  let none = c.idle-done.ensures.none in rw (none.0, none.1) refl,
-  inr (inr c.idle-done.ensures.none.1),
-  rw c.idle-done.ensures.pass (onward_self g.K.Keep.is_up g.K.Keep.holds g.K.Keep.lasts _),
+  let none = c.nothing-done.ensures.none in rw (none.0, none.1) refl,
+  inr (inr c.nothing-done.ensures.none.1),
+  rw c.nothing-done.ensures.pass (onward_self g.K.Keep.is_up g.K.Keep.holds g.K.Keep.lasts _),
 )
 
 -- Each accept uses up one, and one that fails is told.

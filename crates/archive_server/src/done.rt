@@ -1,0 +1,246 @@
+//! What a thread has done: so many connections accepted, each of which was served or turned away.
+
+ghost use Rattle.std.specs.Prelude.{◌≡◌, ◌+◌, ◌-◌, ◌<◌, ◌^◌, if◌then◌else◌, Some, false};
+ghost use Rattle.std.specs.Option.{option_or};
+ghost use Rattle.association_run.specs.Parts.{sides};
+ghost use Rattle.exchange_run.specs.Run.{ends};
+ghost use Rattle.exchange_run.specs.declared.role.Role.TheVariants.{Callee};
+ghost use Rattle.ipv4_networks.specs.Networks.{may_come};
+ghost use Rattle.archive_server.specs.Done.{Attends, Converses, fault_of_run, fault_of_exchange};
+ghost use Rattle.archive_server.specs.Serving.{IsOnward};
+
+use crate::attending::{Archive, Attended, serve_association};
+use crate::conversing::{Conversed, serve_exchange};
+use crate::entrance::Entrance;
+use crate::fault::{NetFault, ServeFault};
+use crate::tally::Tally;
+use association_run::{End, Gate, Outbox, RunFault};
+use devices::{Sink, Source};
+use exchange::ExchangeFault;
+use exchange_run::{Ended, Role};
+use log::Log;
+use op_shelf::Keep;
+use shelved_exchange::Put;
+use site_hub::{HubName, Pass, Shows};
+use std::marker::Model;
+use std::net::SocketAddr;
+use std::sync::Wait;
+use std::time::Clock;
+
+/// What a thread comes back with. Only what is served, or turned away, counts as accepted.
+pub(crate) struct Done<H: HubName> {
+    pass: Pass<H>,
+    accepted: u64,
+    failed: u64,
+    fault: Option<ServeFault>,
+}
+
+impl<H: HubName> Drop for Done<H> {
+    fn drop(self) {
+        let Done {
+            pass: _,
+            accepted: _,
+            failed: _,
+            fault: _,
+        } = self;
+    }
+}
+
+impl<H: HubName> Model for Done<H> {
+    ghost use Rattle.archive_server.specs.Done.{Deeds};
+
+    ghost Value = { Deeds };
+
+    ghost view = { λ d. record {
+      pass = d.pass;
+      accepted = d.accepted;
+      failed = d.failed;
+      fault = d.fault;
+    } };
+}
+
+/// The fault of an association, where it has one.
+fn of_run(ended: Result<End, RunFault>) -> Option<ServeFault>
+    ensures { result ≡ fault_of_run ended }
+{
+    match ended {
+        Ok(_end) => None,
+        Err(fault) => Some(ServeFault::Run(fault)),
+    }
+}
+
+/// The fault of an exchange, likewise.
+fn of_exchange(ended: Result<Ended, ExchangeFault>) -> Option<ServeFault>
+    ensures { result ≡ fault_of_exchange ended }
+{
+    match ended {
+        Ok(_ended) => None,
+        Err(fault) => Some(ServeFault::Exchange(fault)),
+    }
+}
+
+impl<H: HubName> Done<H> {
+    /// Nothing was accepted.
+    pub fn nothing(pass: Pass<H>, fault: Option<ServeFault>) -> Done<H>
+        ensures pass { result.pass ≡ pass }
+        ensures none { (result.accepted ≡ 0) × (result.failed ≡ 0) }
+        ensures fault { result.fault ≡ fault }
+    {
+        Done {
+            pass,
+            accepted: 0,
+            failed: 0,
+            fault,
+        }
+    }
+
+    /// The pass, how many were accepted, and the first fault.
+    pub fn into_parts(self) -> (Pass<H>, u64, Option<ServeFault>)
+        ensures pass { result.0 ≡ self.pass }
+        ensures accepted { result.1 ≡ self.accepted }
+        ensures fault { result.2 ≡ self.fault }
+    {
+        let Done {
+            pass,
+            accepted,
+            failed: _,
+            fault,
+        } = self;
+        (pass, accepted, fault)
+    }
+
+    /// One connection more, after which this is the first fault.
+    fn with_one(pass: Pass<H>, accepted: u64, failed: u64, fault: Option<ServeFault>) -> Done<H>
+        requires room { accepted + failed < 2 ^ 64 - 1 }
+        ensures pass { result.pass ≡ pass }
+        ensures accepted { result.accepted ≡ accepted + 1 }
+        ensures failed { result.failed ≡ failed }
+        ensures fault { result.fault ≡ fault }
+    {
+        Done {
+            pass,
+            accepted: accepted + 1,
+            failed,
+            fault,
+        }
+    }
+
+    /// One association more, over any reader and writer. Its fault is told where none came before.
+    pub fn with_association<
+        T: Shows<H>,
+        R: Wait + Drop,
+        S: Wait + Clock + Log,
+        K: Keep,
+        P: Put<K> + Copy,
+        I: Source,
+        O: Sink,
+        G: Gate,
+    >(
+        self,
+        archive: &Archive<'_, H, T, R, S>,
+        shelf: &P,
+        outbox: &mut Outbox,
+        reader: &mut I,
+        writer: &mut O,
+        gate: &mut G,
+    ) -> (Done<H>, Result<End, RunFault>, Tally)
+        requires room { self.accepted + self.failed < 2 ^ 64 - 1 }
+        ensures onward { IsOnward K.is_up K.holds K.lasts self.pass result.0.pass }
+        ensures attends { Attends H.opening archive.now.titles.now.list (I.remaining reader.old)
+            (I.remaining reader.new)
+            (sides self.pass (O.contents writer.old) (G.reached gate.old))
+            (sides result.0.pass (O.contents writer.new) (G.reached gate.new)) result.1 }
+        ensures accepted { result.0.accepted ≡ self.accepted + 1 }
+        ensures failed { result.0.failed ≡ self.failed }
+        ensures fault { result.0.fault ≡ option_or self.fault (fault_of_run result.1) }
+    {
+        let Done {
+            pass,
+            accepted,
+            failed,
+            fault,
+        } = self;
+        let Attended { pass, ended, tally } = serve_association(
+            archive, shelf, outbox, reader, writer, gate, pass,
+        );
+        let fault = fault.or(of_run(ended));
+        let done = Done::with_one(pass, accepted, failed, fault);
+        (done, ended, tally)
+    }
+
+    /// One exchange more that a peer called for, over any reader and writer, likewise.
+    pub fn with_exchange<
+        T: Shows<H>,
+        R: Wait + Drop,
+        S: Wait,
+        K: Keep,
+        P: Put<K> + Copy,
+        I: Source,
+        O: Sink,
+    >(
+        self,
+        archive: &Archive<'_, H, T, R, S>,
+        shelf: &P,
+        reader: &mut I,
+        writer: &mut O,
+    ) -> (Done<H>, Result<Ended, ExchangeFault>)
+        requires room { self.accepted + self.failed < 2 ^ 64 - 1 }
+        ensures onward { IsOnward K.is_up K.holds K.lasts self.pass result.0.pass }
+        ensures converses { Converses H.opening Callee
+            (ends self.pass (I.remaining reader.old) (O.contents writer.old)
+            (I.failures reader.old) (O.failures writer.old))
+            (ends result.0.pass (I.remaining reader.new) (O.contents writer.new)
+            (I.failures reader.new) (O.failures writer.new)) result.1 }
+        ensures accepted { result.0.accepted ≡ self.accepted + 1 }
+        ensures failed { result.0.failed ≡ self.failed }
+        ensures fault { result.0.fault ≡ option_or self.fault (fault_of_exchange result.1) }
+    {
+        let Done {
+            pass,
+            accepted,
+            failed,
+            fault,
+        } = self;
+        let Conversed { pass, ended } = serve_exchange(
+            archive,
+            shelf,
+            Role::Callee,
+            reader,
+            writer,
+            pass,
+        );
+        let fault = fault.or(of_exchange(ended));
+        (Done::with_one(pass, accepted, failed, fault), ended)
+    }
+
+    /// One peer more that may not come in here. It counts as accepted.
+    pub fn with_turned_away(self, _entrance: Entrance<'_>, _peer: SocketAddr) -> Done<H>
+        requires room { self.accepted + self.failed < 2 ^ 64 - 1 }
+        requires barred { may_come _entrance.allowed.now _peer ≡ false }
+        ensures pass { result.pass ≡ self.pass }
+        ensures accepted { result.accepted ≡ self.accepted + 1 }
+        ensures failed { result.failed ≡ self.failed }
+        ensures fault { result.fault ≡ self.fault }
+    {
+        let mut done = self;
+        done.accepted += 1;
+        done
+    }
+
+    /// One accept more that failed: a fault, unless the server was ended.
+    pub fn with_none(self, is_ended: bool) -> Done<H>
+        requires room { self.accepted + self.failed < 2 ^ 64 - 1 }
+        ensures pass { result.pass ≡ self.pass }
+        ensures accepted { result.accepted ≡ self.accepted }
+        ensures failed { result.failed ≡ self.failed + 1 }
+        ensures fault { result.fault ≡ (if is_ended then self.fault
+            else option_or self.fault (Some (ServeFault.Net NetFault.Accept))) }
+    {
+        let mut done = self;
+        done.failed += 1;
+        if !is_ended {
+            done.fault = done.fault.or(Some(ServeFault::Net(NetFault::Accept)));
+        }
+        done
+    }
+}
