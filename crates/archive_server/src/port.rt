@@ -1,6 +1,6 @@
 //! The port of an association of a server.
 
-ghost use Rattle.std.specs.Prelude.{◌≡◌};
+ghost use Rattle.std.specs.Prelude.{◌≡◌, OnErr};
 ghost use Rattle.operation.specs.declared.op.Op.TheVariants.{Content as a_content};
 ghost use Rattle.operation.specs.Spelling.{digest_of};
 ghost use Rattle.site_state.specs.Site.{ops_of};
@@ -88,6 +88,7 @@ fn publish<H: HubName, T: Shows<H>, R: Wait + Drop, S: Wait, K: Keep, E: AtEntry
     requires { shelved.now.digest ≡ digest_of op }
     ensures stores { Stores (λ (s : Seat). ops_of (set_of H.opening s.seen))
         (λ (s : Seat). s.mine) hub.old op result hub.new }
+    ensures refused { OnErr result (hub.new.seen ≡ hub.old.seen) }
     ensures onward { IsOnward K.is_up K.holds K.lasts hub.old hub.new }
 {
     hub.take(op)
@@ -162,6 +163,8 @@ impl<
     fn store(&mut self, content: Content) -> Result<Taken, PortFault>
         ensures stores { Stores (λ (s : Seat). ops_of (set_of H.opening s.seen))
             (λ (s : Seat). s.mine) self.old (a_content content) result self.new }
+        // What the pass has seen published is told as taken.
+        ensures refused { OnErr result (self.new.seen ≡ self.old.seen) }
         ensures later { IsLater self.old self.new }
     {
         let op = Digested::of(Op::Content(content));

@@ -91,7 +91,7 @@ pub refused_sees : (before later : Seat) (op : Op) (told : Result News HubFault)
     (reply : Result Taken HolderFault) → reply ≡ reply_to told
     → IfErr told (λ e. e ≡ hub.Pending
     → (later.mine ≡ before.mine ++ digest_of op ∷ []) × (later.seen ≡ before.seen))
-    → IfErr told (λ e. (e ≡ hub.Pending) ⊎ (later ≡ before))
+    → IfErr told (λ e. (e ≡ hub.Pending) ⊎ HasKept before later)
     → OnErr reply (later.seen ≡ before.seen)
 refused_sees before later op (Ok told) reply is pending kept =
     subst (λ (r : Result Taken HolderFault). OnErr r (later.seen ≡ before.seen)) (sym is) tt
@@ -99,7 +99,7 @@ refused_sees before later op (Err fault) reply is pending kept =
     subst (λ (r : Result Taken HolderFault). OnErr r (later.seen ≡ before.seen)) (sym is)
     (elim kept as (λ _. later.seen ≡ before.seen) [
       | inl pends ↦ (pending pends).1
-      | inr same ↦ ap (λ (s : Seat). s.seen) same
+      | inr same ↦ same.seen
     ])
 
 put_so : {K : Type 0} (up : K → Type 0) (holds lasts : K → Op → Type 0) (before later : Seat) (op : Op)

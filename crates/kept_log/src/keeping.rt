@@ -4,7 +4,7 @@ ghost use Rattle.std.specs.Prelude.{◌≡◌};
 
 use crate::telling::{all_kept, fault};
 use op_log::OpLog;
-use op_shelf::{Keep, Kept, ShelfFault};
+use op_shelf::{Keep, Kept, ShelfFault, StoreCause};
 use operation::{Digested, Op};
 use sqlite_disk::Disk;
 use std::alloc::Global;
@@ -61,7 +61,7 @@ impl<H: Disk, B: Disk> Keep for KeptLog<H, B> {
     fn put_digested(&mut self, op: &Digested) -> Result<Kept, ShelfFault> {
         match self.put_many(slice::from_ref(op))?.as_slice() {
             [kept, ..] => Ok(*kept),
-            [] => unreachable!(),
+            [] => Err(ShelfFault::Store(StoreCause::Other)),
         }
     }
 

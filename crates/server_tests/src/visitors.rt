@@ -124,8 +124,14 @@ fn exchange_over(
 ) -> (Site, Counting, bool) {
     let mut reader = Counted::new(stream);
     let mut writer = Counted::new(stream);
-    let Behind { site, shelf, ended } =
-        exchange_on(alloc, role, &mut reader, &mut writer, site, shelf);
+    let Behind { site, shelf, ended } = exchange_on(
+        alloc,
+        role,
+        &mut reader,
+        &mut writer,
+        site,
+        shelf,
+    );
     match ended {
         Ok(ended) => (site, shelf, ended.finished),
         Err(_fault) => (site, shelf, false),

@@ -1,10 +1,11 @@
 use Rattle.archive_server.proofs.OnwardLaws.{onward_stored}
 use Rattle.archive_server.proofs.port.publish.Goals as goal
 
--- The operation has the digest that was put, and the hub's pass goes on with it or without.
+-- The operation has the digest that was put, and the hub's pass goes on with it or without; a refusal shows nothing.
 pub returns : goal.returns
 returns g c = record {
   stores = c.take.ensures.stores;
+  refused = c.take.ensures.refused;
   onward = onward_stored g.K.Keep.is_up g.K.Keep.holds g.K.Keep.lasts _ c.args.hub.now c.take.new.self c.args.op
       c.take.result c.args.shelved.now.digest c.args.shelved.now.put c.requires c.take.ensures.later
       c.take.ensures.stores;
