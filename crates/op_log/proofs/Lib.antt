@@ -2,6 +2,7 @@ pub mod Cutting
 pub mod Fitting
 pub mod Growing
 pub mod Keeping
+pub mod Lists
 pub mod Spellings
 pub mod TestedBodies
 pub mod Lookups

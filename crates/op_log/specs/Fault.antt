@@ -27,3 +27,13 @@ abbrev pub fault_of_bodies : BodyFault → LogFault
 fault_of_bodies of_bodies.Disk = Disk
 fault_of_bodies of_bodies.Closed = Closed
 fault_of_bodies of_bodies.TooLong = TooLong
+
+-- what a call that only reads data sets tells
+abbrev pub IsOfLook : LogFault → Type 0
+IsOfLook Disk = Unit {0}
+IsOfLook Closed = Unit {0}
+IsOfLook TooLong = ⊥
+IsOfLook (DamagedHeads at) = ⊥
+IsOfLook (DamagedBody at) = Unit {0}
+IsOfLook Collision = ⊥
+IsOfLook Memory = Unit {0}

@@ -1,4 +1,3 @@
-pub mod Cut
 pub mod Fault
 pub mod Filling
 pub mod Heads
@@ -7,6 +6,7 @@ pub mod Loaded
 pub mod Log
 pub mod Places
 pub mod Puts
+pub mod Records
 pub mod Spelled
 pub mod Staged
 pub mod Verified

@@ -1,19 +1,11 @@
 //! Cuts heads off the front of a text.
 
 ghost use Rattle.std.specs.Prelude.{◌≡◌, ◌≢◌, ◌++◌, ◌+◌, ◌<◌, ◌^◌, List, ℕ, None, length, IfSome};
-ghost use Rattle.op_log.specs.Cut.{head_cut};
+ghost use Rattle.op_log.specs.Records.{head_in};
 ghost use Rattle.op_log.specs.Heads.{Head, IsSpelled, head_text, number_text};
 
+use crate::record::Record;
 use operation::Digest;
-
-/// A head, as it lies in a text.
-#[derive(Drop)]
-pub(crate) struct Cut<'a> {
-    pub(crate) digest: Digest,
-    pub(crate) front: &'a [u8],
-    pub(crate) at: usize,
-    pub(crate) size: usize,
-}
 
 /// The number that eight bytes spell, low byte first.
 #[tactic(auto, unfolding(crate::specs::Heads::number_text))]
@@ -48,9 +40,9 @@ fn behind(text: &[u8], long: usize) -> Option<(&[u8; 32], &[u8], &[u8])>
 }
 
 /// The head at the front of a text, and what stands behind it.
-pub(crate) fn first_head(text: &[u8]) -> Option<(Cut<'_>, &[u8])>
-    ensures spelled { IfSome result (λ x. text.now ≡ head_text (head_cut x.0) ++ x.1.now) }
-    ensures lawful { IfSome result (λ x. IsSpelled (head_cut x.0)) }
+pub(crate) fn first_head(text: &[u8]) -> Option<(Record<'_>, &[u8])>
+    ensures spelled { IfSome result (λ x. text.now ≡ head_text (head_in x.0) ++ x.1.now) }
+    ensures lawful { IfSome result (λ x. IsSpelled (head_in x.0)) }
     ensures none { result ≡ None → (h : Head) (rest : List ℕ) → IsSpelled h
         → text.now ≢ head_text h ++ rest }
 {
@@ -58,7 +50,7 @@ pub(crate) fn first_head(text: &[u8]) -> Option<(Cut<'_>, &[u8])>
     let (at, rest) = number_of(rest)?;
     let (size, rest) = number_of(rest)?;
     let (digest, front, rest) = behind(rest, long)?;
-    let head = Cut {
+    let head = Record {
         digest: Digest::of(*digest),
         front,
         at,

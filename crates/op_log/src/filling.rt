@@ -1,21 +1,22 @@
 //! Takes the heads of a group into memory.
 
 ghost use Rattle.std.specs.Prelude.{◌≡◌, ◌≢◌, ◌++◌, ◌+◌, ◌≤◌, ◌<◌, [], List, ℕ, Ok, None, length, IfOk, IfSome, IsErrOf, IsTrue, OnOk, ◌↔◌, ◌∷◌};
-ghost use Rattle.op_log.specs.Cut.{head_cut};
+ghost use Rattle.op_log.specs.Records.{head_in};
 ghost use Rattle.op_log.specs.Filling.{AreFit, AreTaken, IsFit, IsTaken};
 ghost use Rattle.op_log.specs.Heads.{Head, IsSpelled, group_text, head_text};
 ghost use Rattle.op_log.specs.Kept.{IsBelow, first_under};
 
-use crate::cut::{Cut, first_head};
+use crate::cut::first_head;
 use crate::fault::LogFault;
 use crate::place::Place;
 use crate::places::Places;
+use crate::record::Record;
 use octets::Octets;
 use std::alloc::AllocError;
 
 /// Whether a head can be taken: its data set lies below an offset, and no other has its digest.
-fn is_fit(places: &Places, head: &Cut<'_>, end: usize) -> bool
-    ensures fit { IsTrue result ↔ (IsBelow end (head_cut head.now)
+fn is_fit(places: &Places, head: &Record<'_>, end: usize) -> bool
+    ensures fit { IsTrue result ↔ (IsBelow end (head_in head.now)
         × (first_under head.now.digest places.now ≡ None)) }
 {
     match head.at.checked_add(head.size) {

@@ -1,19 +1,20 @@
 //! Reads data sets again.
 
-ghost use Rattle.std.specs.Prelude.{◌≡◌, ◌≢◌, ◌↔◌, ◌++◌, ◌<◌, List, ℕ, Ok, true, false, length, IfOk, IsTrue, IsErrOf};
+ghost use Rattle.std.specs.Prelude.{◌≡◌, ◌≢◌, ◌↔◌, ◌++◌, ◌<◌, List, ℕ, Ok, true, false, length, ◌-◌, IfOk, IfErr, IsTrue, IsErrOf};
 ghost use Rattle.sqlite_disk.specs.Disk.{Holds};
 ghost use Rattle.body_log.specs.Log.{disk_of};
 ghost use Rattle.operation.specs.declared.op.Op.{Op as Operation};
 ghost use Rattle.operation.specs.Reading.{IsOp};
 ghost use Rattle.operation.specs.Spelling.{digest_of, spelling};
-ghost use Rattle.op_log.specs.Heads.{body_of, head_of};
+ghost use Rattle.op_log.specs.Fault.{IsOfLook};
+ghost use Rattle.op_log.specs.Heads.{body_of, head_of, size_of};
 ghost use Rattle.op_log.specs.Kept.{HasBody};
-ghost use Rattle.op_log.specs.Loaded.{AreParts};
+ghost use Rattle.op_log.specs.Loaded.{AreParts, IsFrontAnd, IsOf};
 ghost use Rattle.op_log.specs.Places.{head_by};
 ghost use Rattle.op_log.specs.Staged.{Grows, Uses};
 
 use crate::fault::LogFault;
-use crate::head::Spelled;
+use crate::head::{Spelled, size_of};
 use crate::place::Place;
 use body_log::BodyLog;
 use bytes::Bytes;
@@ -35,6 +36,7 @@ pub(crate) fn body_at<B: Disk>(
         → 0 < size → Holds (B.Disk.seen (disk_of bodies.new)) at read.items) }
     ensures size { IfOk result (λ read. length read.items ≡ size) }
     ensures whole { (n : ℕ) → ¬ IsErrOf result (LogFault.DamagedBody n) }
+    ensures only { IfErr result IsOfLook }
     ensures seen { B.Disk.seen (disk_of bodies.new) ≡ B.Disk.seen (disk_of bodies.old) }
     ensures grows { Grows B.Disk bodies.old bodies.new }
     ensures uses { Uses B.Disk bodies.old bodies.new result }
@@ -79,7 +81,11 @@ fn text_at<B: Disk>(
         → (body : List ℕ) → length body ≡ place.now.size
         → (0 < place.now.size → Holds (B.Disk.seen (disk_of bodies.old)) place.now.at body)
         → read.items ≡ place.now.front ++ body) }
+    ensures held { IfOk result (λ read. IsTrue (B.Disk.is_clean (disk_of bodies.new))
+        → IsFrontAnd (B.Disk.seen (disk_of bodies.old)) place.now read.items) }
     ensures whole { (n : ℕ) → ¬ IsErrOf result (LogFault.DamagedBody n) }
+    ensures only { IfErr result IsOfLook }
+    ensures seen { B.Disk.seen (disk_of bodies.new) ≡ B.Disk.seen (disk_of bodies.old) }
     ensures grows { Grows B.Disk bodies.old bodies.new }
     ensures uses { Uses B.Disk bodies.old bodies.new result }
 {
@@ -96,7 +102,9 @@ fn decoded(alloc: Global, text: Vec<u8>, at: usize) -> Result<Digested, LogFault
     ensures lawful { IfOk result IsOp }
     ensures damaged { (n : ℕ) → IsErrOf result (LogFault.DamagedBody n) → (op : Operation)
         → IsOp op → text.items ≢ spelling op }
+    ensures place { (n : ℕ) → IsErrOf result (LogFault.DamagedBody n) → n ≡ at }
     ensures open { ¬ IsErrOf result LogFault.Closed }
+    ensures only { IfErr result IsOfLook }
 {
     match decode(alloc, Bytes::from_vec(text)?) {
         Ok(op) => Ok(Digested::of(op)),
@@ -112,6 +120,13 @@ fn has_digest(op: &Digested, digest: &Digest) -> bool
     op.digest().as_bytes().as_slice() == digest.as_bytes().as_slice()
 }
 
+/// Whether the data set of an operation, whose spelling is so long, stands behind a front.
+fn is_behind(op: &Digested, long: usize, front: usize) -> bool
+    ensures { IsTrue result ↔ (long - size_of op.now ≡ front) }
+{
+    long.saturating_sub(size_of(op.op())) == front
+}
+
 /// The operation with a digest that lies at a place. Whatever the disk returns, no other is
 /// answered.
 pub(crate) fn load_at<B: Disk>(
@@ -121,6 +136,8 @@ pub(crate) fn load_at<B: Disk>(
     place: &Place,
 ) -> Result<Digested, LogFault>
     ensures told { IfOk result (λ op. digest_of op ≡ digest.now) }
+    ensures found { IfOk result (λ op. IsTrue (B.Disk.is_clean (disk_of bodies.new))
+        → IsOf (B.Disk.seen (disk_of bodies.old)) (head_by digest.now place.now) op) }
     // The very operation, as long as the disk returns what was written.
     ensures exact { IsTrue (B.Disk.is_clean (disk_of bodies.new)) → (op : Operation) → IsOp op
         → head_by digest.now place.now ≡ head_of (op, place.now.at)
@@ -130,12 +147,19 @@ pub(crate) fn load_at<B: Disk>(
         → head_by digest.now place.now ≡ head_of (op, place.now.at)
         → HasBody (B.Disk.seen (disk_of bodies.old)) (op, place.now.at)
         → (n : ℕ) → ¬ IsErrOf result (LogFault.DamagedBody n) }
+    ensures place { (n : ℕ) → IsErrOf result (LogFault.DamagedBody n) → n ≡ place.now.at }
+    ensures only { IfErr result IsOfLook }
+    ensures seen { B.Disk.seen (disk_of bodies.new) ≡ B.Disk.seen (disk_of bodies.old) }
     ensures grows { Grows B.Disk bodies.old bodies.new }
     ensures uses { Uses B.Disk bodies.old bodies.new result }
 {
     let text = text_at(alloc, bodies, place)?;
+    let long = text.len();
     let op = decoded(alloc, text, place.at)?;
     if !has_digest(&op, digest) {
+        return Err(LogFault::DamagedBody(place.at));
+    }
+    if !is_behind(&op, long, place.front.len()) {
         return Err(LogFault::DamagedBody(place.at));
     }
     Ok(op)

@@ -1,20 +1,25 @@
 //! A log of operations.
 
-ghost use Rattle.std.specs.Prelude.{◌≡◌, ◌&&◌, ◌≤◌, ◌<◌, ◌↔◌, List, ℕ, Ok, None, Some, All, false, length, IfOk, IfSome, IsTrue, IsErrOf, OnOk, OnErr};
+ghost use Rattle.std.specs.Prelude.{◌≡◌, ◌&&◌, ◌≤◌, ◌<◌, ◌↔◌, List, ℕ, Ok, None, Some, All, Contains, false, length, map, slice_get, IfOk, IfErr, IfSome, IsTrue, IsErrOf, OnOk, OnErr};
 ghost use Rattle.operation.specs.declared.op.Op.{Op as Operation};
 ghost use Rattle.operation.specs.Reading.{IsOp};
 ghost use Rattle.operation.specs.Spelling.{digest_of};
+ghost use Rattle.op_log.specs.Fault.{IsOfLook};
 ghost use Rattle.op_log.specs.Heads.{Entry, Head};
 ghost use Rattle.op_log.specs.Kept.{Has, HasBody, IsHeld, IsKept, IsLasting, StandsFor, first_under};
+ghost use Rattle.op_log.specs.Loaded.{HasBadHead, Lists};
 ghost use Rattle.op_log.specs.Log.{GoesOn, IsSound, Looks};
 ghost use Rattle.op_log.specs.Puts.{LeavesAllOrNone, PutsAll};
+ghost use Rattle.op_log.specs.Records.{head_in};
 ghost use Rattle.op_log.specs.Verified.{damaged_in, digests_of};
 
 use crate::fault::LogFault;
 use crate::kept::Kept;
+use crate::listing::all_ops;
 use crate::loading::load_at;
 use crate::places::Places;
 use crate::putting::put_group;
+use crate::record::Record;
 use crate::verifying::damaged;
 use crate::walking::walk;
 use body_log::BodyLog;
@@ -113,6 +118,20 @@ impl<H: Disk, B: Disk> OpLog<H, B> {
         self.places.len()
     }
 
+    /// What is kept in memory of the operation at an index, in the order in which they were put.
+    pub fn record(&self, index: usize) -> Option<Record<'_>>
+        ensures found { IfSome result (λ r. slice_get self.now.places index ≡ Some (head_in r)) }
+        ensures none { result ≡ None → length self.now.places ≤ index }
+    {
+        let (digest, place) = self.places.at(index)?;
+        Some(Record {
+            digest: Digest::of(*digest),
+            front: place.front.as_slice(),
+            at: place.at,
+            size: place.size,
+        })
+    }
+
     /// Puts operations one after another, all or none, and tells of each whether it was there. What
     /// is there is not written again.
     pub fn put_many(&mut self, ops: &[Digested]) -> Result<Vec<Kept>, LogFault>
@@ -168,6 +187,32 @@ impl<H: Disk, B: Disk> OpLog<H, B> {
         };
         let op = load_at(self.places.alloc(), &mut self.bodies, digest, place)?;
         Ok(Some(op))
+    }
+
+    /// All operations, in the order in which they were put. Each is hashed once, to test it, and
+    /// comes with its digest. Whatever the disk returns, no other is answered.
+    pub fn all(&mut self, alloc: Global) -> Result<Vec<Digested>, LogFault>
+        ensures told { IfOk result (λ ops. map digest_of ops.items
+            ≡ digests_of self.old.places) }
+        // The very operations that were put, as long as the disk returns what was written.
+        ensures all { IfOk result (λ ops. IsTrue (B.Disk.is_clean self.new.bodies)
+            → Lists (B.Disk.seen self.old.bodies) self.old.places ops.items) }
+        ensures exact { IfOk result (λ ops. IsTrue (B.Disk.is_clean self.new.bodies)
+            → (op : Operation) → IsOp op
+            → Has B.Disk self.old.bodies self.old.bodies_end self.old.places op
+            → Contains ops.items op) }
+        ensures looks { Looks self.old self.new }
+        ensures goes_on { GoesOn H.Disk B.Disk self.old self.new }
+
+        // Each fault, only where it is.
+        ensures damaged { IsTrue (B.Disk.is_clean self.new.bodies) → (n : ℕ)
+            → IsErrOf result (LogFault.DamagedBody n)
+            → HasBadHead (B.Disk.seen self.old.bodies) self.old.places n }
+        ensures closed { IsErrOf result LogFault.Closed
+            → B.Disk.is_usable self.old.bodies ≡ false }
+        ensures only { IfErr result IsOfLook }
+    {
+        all_ops(alloc, &mut self.bodies, &self.places)
     }
 
     /// The digests of the operations whose data sets are none of theirs, in the order of their

@@ -1,0 +1,61 @@
+use Rattle.std.proofs.Common.{rules, ◌≡◌, ◌++◌, ◌∷◌, [], ℕ, List, map, take, subst, sym, ap, ◌∙◌}
+use Rattle.body_log.specs.Log.{disk_of}
+use Rattle.operation.specs.declared.op.Op.{Op}
+use Rattle.operation.specs.Spelling.{digest_of}
+use Rattle.op_log.specs.Heads.{Head}
+use Rattle.op_log.specs.Kept.{HasBody}
+use Rattle.op_log.specs.Loaded.{IsOf, Lists}
+use Rattle.op_log.specs.Places.{head_by}
+use Rattle.op_log.specs.Verified.{digests_of}
+use Rattle.op_log.proofs.Growing.{grows_twice}
+use Rattle.op_log.proofs.Lists.{at_among, lists_more, told_more}
+use Rattle.op_log.proofs.TestedBodies.{take_more}
+use Rattle.op_log.proofs.listing.all_ops.Goals as goal
+
+-- No operation is that of the head.
+pub returns-in_err-op-clause-damaged : goal.returns-in_err-op-clause-damaged
+returns-in_err-op-clause-damaged g c clean n told =
+    let seen = c.places.invariant.seen in
+    let place = c.in-Some.place.now in
+    record {
+      head = head_by c.in-Some.bytes.now place;
+      among = at_among c.args.places.now c.places.index (head_by c.in-Some.bytes.now place) c.in-Some.ensures.found;
+      place = sym (c.load_at.ensures.place n (search rules));
+      none = λ op it. c.load_at.ensures.damaged clean op it.lawful (ap (λ (d : List ℕ). head_by d place) c.of.ensures ∙ it.head)
+          (subst (λ (f : List ℕ). HasBody f (op, place.at)) (sym seen) it.held) n (search rules);
+    }
+
+-- A read writes nothing.
+pub returns-in_err-op-clause-grows : goal.returns-in_err-op-clause-grows
+returns-in_err-op-clause-grows g c =
+    grows_twice g.B.Disk c.args.bodies.now c.places.bodies c.load_at.new.bodies c.places.invariant.grows c.load_at.ensures.grows
+
+pub returns-in_err-push-clause-grows : goal.returns-in_err-push-clause-grows
+returns-in_err-push-clause-grows g c =
+    grows_twice g.B.Disk c.args.bodies.now c.places.bodies c.load_at.new.bodies c.places.invariant.grows c.load_at.ensures.grows
+
+-- One operation more was loaded.
+pub places-preserved : goal.places-preserved
+places-preserved g c =
+    let inv = c.places.invariant in
+    let file = g.B.Disk.seen (disk_of c.args.bodies.now) in
+    let heads = c.args.places.now in
+    let place = c.in-Some.place.now in
+    let op = c.in_ok-op.op in
+    let h = head_by c.in-Some.bytes.now place in
+    let more = take_more heads c.places.index h c.in-Some.ensures.found in
+    let items = c.in_ok-push.ensures.items in
+    record {
+      grows = grows_twice g.B.Disk c.args.bodies.now c.places.bodies c.load_at.new.bodies inv.grows c.load_at.ensures.grows;
+      seen = c.load_at.ensures.seen ∙ inv.seen;
+      usable = c.load_at.ensures.uses.usable ∙ inv.usable;
+      told = ap (λ (ops : List Op). map digest_of ops) items
+          ∙ told_more (take c.places.index heads) c.places.ops.items h op inv.told (c.in_ok-op.ensures.told ∙ c.of.ensures)
+          ∙ ap digests_of (sym more);
+      all = λ clean.
+          let mine = subst (λ (d : List ℕ). IsOf (g.B.Disk.seen (disk_of c.places.bodies)) (head_by d place) op) c.of.ensures (c.in_ok-op.ensures.found clean) in
+          let listed = lists_more file (take c.places.index heads) c.places.ops.items h op
+          (inv.all (c.load_at.ensures.grows.spared.clean clean)) (subst (λ (f : List ℕ). IsOf f h op) inv.seen mine) in
+          subst (λ (hs : List Head). Lists file hs c.push.new.self.items) (sym more)
+          (subst (λ (ops : List Op). Lists file (take c.places.index heads ++ h ∷ []) ops) (sym items) listed);
+    }

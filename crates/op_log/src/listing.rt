@@ -1,0 +1,44 @@
+//! Loads all operations.
+
+ghost use Rattle.std.specs.Prelude.{◌≡◌, ℕ, map, IfOk, IfErr, IsTrue, IsErrOf};
+ghost use Rattle.body_log.specs.Log.{disk_of};
+ghost use Rattle.operation.specs.Spelling.{digest_of};
+ghost use Rattle.op_log.specs.Fault.{IsOfLook};
+ghost use Rattle.op_log.specs.Loaded.{HasBadHead, Lists};
+ghost use Rattle.op_log.specs.Staged.{Grows, Uses};
+ghost use Rattle.op_log.specs.Verified.{digests_of};
+
+use crate::fault::LogFault;
+use crate::loading::load_at;
+use crate::places::Places;
+use body_log::BodyLog;
+use operation::{Digest, Digested};
+use sqlite_disk::Disk;
+use std::alloc::Global;
+
+/// The operations of all heads, in their order. Whatever the disk returns, no other is answered.
+pub(crate) fn all_ops<B: Disk>(
+    alloc: Global,
+    bodies: &mut BodyLog<B>,
+    places: &Places,
+) -> Result<Vec<Digested>, LogFault>
+    ensures told { IfOk result (λ ops. map digest_of ops.items ≡ digests_of places.now) }
+    ensures all { IfOk result (λ ops. IsTrue (B.Disk.is_clean (disk_of bodies.new))
+        → Lists (B.Disk.seen (disk_of bodies.old)) places.now ops.items) }
+    ensures damaged { IsTrue (B.Disk.is_clean (disk_of bodies.new)) → (n : ℕ)
+        → IsErrOf result (LogFault.DamagedBody n)
+        → HasBadHead (B.Disk.seen (disk_of bodies.old)) places.now n }
+    ensures only { IfErr result IsOfLook }
+    ensures grows { Grows B.Disk bodies.old bodies.new }
+    ensures uses { Uses B.Disk bodies.old bodies.new result }
+{
+    let mut ops = Vec::with_capacity(alloc, places.len())?;
+    'places: for index in 0..places.len() {
+        let Some((bytes, place)) = places.at(index) else {
+            return Ok(ops);
+        };
+        let op = load_at(alloc, bodies, &Digest::of(*bytes), place)?;
+        ops.push(op)?;
+    }
+    Ok(ops)
+}
