@@ -1,5 +1,6 @@
 pub mod Fault
 pub mod Filling
+pub mod Folder
 pub mod Heads
 pub mod Kept
 pub mod Loaded

@@ -3,12 +3,14 @@
 //! The data sets of contents lie in one file, and what else operations are spelled with lies in the
 //! other, in groups. A data set is on the disk before the group that leads to it. What the clauses
 //! say of values that are read they say if nobody else writes the files and the disk returns what
-//! was written.
+//! was written. What a real file holds no clause says: `std::fs` has none of it.
 #![tactic(auto)]
 
 mod cut;
 mod fault;
 mod filling;
+mod folder;
+mod folder_fault;
 mod group;
 mod head;
 mod kept;
@@ -24,6 +26,8 @@ mod verifying;
 mod walking;
 
 pub use fault::LogFault;
+pub use folder::{FolderLog, log_in, open_folder};
+pub use folder_fault::FolderFault;
 pub use kept::Kept;
 pub use log::OpLog;
 pub use record::Record;

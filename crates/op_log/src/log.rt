@@ -147,8 +147,10 @@ impl<H: Disk, B: Disk> OpLog<H, B> {
             → LeavesAllOrNone H.Disk B.Disk self.new.heads self.new.bodies self.new.bodies_end
             self.old.places ops.now }
         ensures goes_on { GoesOn H.Disk B.Disk self.old self.new }
-        // Closed, exactly where it is.
+        // Closed, exactly where it is; and a longer group is not begun.
         ensures closed { IsErrOf result LogFault.Closed ↔ (self.old.is_open ≡ false) }
+        ensures many { IsTrue self.old.is_open → 1024 < length ops.now
+            → IsErrOf result LogFault.TooLong × (self.new ≡ self.old) }
     {
         if !self.is_open() {
             return Err(LogFault::Closed);
@@ -179,8 +181,19 @@ impl<H: Disk, B: Disk> OpLog<H, B> {
             → digest_of op ≡ digest.now
             → Has B.Disk self.old.bodies self.old.bodies_end self.old.places op
             → (n : ℕ) → ¬ IsErrOf result (LogFault.DamagedBody n) }
+        ensures found { IfOk result (λ found. IfSome found (λ op.
+            IsTrue (B.Disk.is_clean self.new.bodies)
+            → Has B.Disk self.old.bodies self.old.bodies_end self.old.places op)) }
         ensures looks { Looks self.old self.new }
         ensures goes_on { GoesOn H.Disk B.Disk self.old self.new }
+
+        // Each fault, only where it is.
+        ensures bad { IsTrue (B.Disk.is_clean self.new.bodies) → (n : ℕ)
+            → IsErrOf result (LogFault.DamagedBody n)
+            → HasBadHead (B.Disk.seen self.old.bodies) self.old.places n }
+        ensures closed { IsErrOf result LogFault.Closed
+            → B.Disk.is_usable self.old.bodies ≡ false }
+        ensures only { IfErr result IsOfLook }
     {
         let Some(place) = self.places.find(digest) else {
             return Ok(None);
@@ -223,6 +236,12 @@ impl<H: Disk, B: Disk> OpLog<H, B> {
             ≡ digests_of (damaged_in (B.Disk.seen self.old.bodies) self.old.places)) }
         ensures looks { Looks self.old self.new }
         ensures goes_on { GoesOn H.Disk B.Disk self.old self.new }
+
+        // Each fault, only where it is. A data set that is none is no fault here.
+        ensures closed { IsErrOf result LogFault.Closed
+            → B.Disk.is_usable self.old.bodies ≡ false }
+        ensures whole { (n : ℕ) → ¬ IsErrOf result (LogFault.DamagedBody n) }
+        ensures only { IfErr result IsOfLook }
     {
         damaged(&mut self.bodies, &self.places)
     }

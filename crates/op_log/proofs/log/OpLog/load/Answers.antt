@@ -1,0 +1,37 @@
+use Rattle.std.proofs.Common.{rules, Contains, ℕ, List, Some, subst, sym, ap, ◌∙◌, arith}
+use Rattle.std.proofs.lemmas.List.Elements.{All-contains_itself}
+use Rattle.body_log.specs.Log.{end_of}
+use Rattle.op_log.specs.Heads.{Head}
+use Rattle.op_log.specs.Kept.{Has, IsBelow, first_under}
+use Rattle.op_log.specs.Loaded.{HasBadHead}
+use Rattle.op_log.specs.Log.{Opened}
+use Rattle.op_log.specs.Places.{head_by}
+use Rattle.op_log.proofs.Lookups.{among}
+use Rattle.op_log.proofs.log.OpLog.load.Goals as goal
+
+-- No operation is that of the head.
+pub returns-in_err-op-clause-bad : goal.returns-in_err-op-clause-bad
+returns-in_err-op-clause-bad g c clean n told =
+    let places = c.self.inside.places in
+    let h = head_by c.args.digest.now c.in-Some.place.now in
+    let at = c.load_at.ensures.place n (search rules) in
+    let bad = c.load_at.ensures.damaged clean in
+    subst (λ (o : Opened g.row.H.Denot g.row.B.Denot). HasBadHead (g.B.Disk.seen o.bodies) o.places n) c.self.view_is
+    (record {
+      head = h;
+      among = among (Contains places) places c.args.digest.now h c.in-Some.ensures.found (All-contains_itself places);
+      place = sym at;
+      none = λ op it. bad op it.lawful it.head it.held n (search rules);
+    })
+
+-- What was read is the operation of the first head with the digest.
+pub returns-clause-found : goal.returns-clause-found
+returns-clause-found g c clean =
+    let it = c.in_ok-op.ensures.found clean in
+    let place = c.in-Some.place.now in
+    let places = c.self.inside.places in
+    let first = c.in-Some.ensures.found in
+    let low = among (IsBelow (end_of c.self.inside.bodies)) places c.args.digest.now (head_by c.args.digest.now place) first c.self.invariant.below in
+    let size = ap (λ (k : Head). k.size) it.head in
+    subst (λ (o : Opened g.row.H.Denot g.row.B.Denot). Has g.B.Disk o.bodies o.bodies_end o.places c.in_ok-op.op) c.self.view_is
+    (place.at, ap (λ (d : List ℕ). first_under d places) c.in_ok-op.ensures.told ∙ first ∙ ap Some it.head, λ some. (it.held some, omega (arith, low, size)))

@@ -1,0 +1,13 @@
+-- What a log in a folder is opened from.
+use Rattle.std.specs.Prelude.{Bool}
+use Rattle.sqlite_disk.specs.declared.modelled.Modelled.{Modelled}
+use Rattle.sqlite_disk.specs.declared.calls.Calls as calls
+use Rattle.sqlite_disk.specs.declared.start.Start.{Ghosts}
+use Rattle.sqlite_disk.specs.Modelled.{start_of}
+use Rattle.sqlite_disk.specs.Events.{replay}
+use Rattle.sqlite_std_file.specs.declared.host.Host.{Host}
+
+module _ {S : Type 0} {g : calls.Ghosts Host} where
+  -- a file has returned what was written
+  abbrev pub file_is_clean : (start : Ghosts S) → Modelled Host S g start → Bool
+  file_is_clean start f = (replay (start_of start f) f.calls.log.events).is_honest
