@@ -11,7 +11,7 @@ ghost use Rattle.std.specs.List.Sorted.{IsStrictlySortedBy};
 ghost use Rattle.octets.specs.Texts.{text_cmp};
 ghost use Rattle.operation.specs.Spelling.{digest_of};
 ghost use Rattle.site_state.specs.Site.{IsSite, Map, digests_of, is_missing as is_missing_in, ops_of, held_at, with_op, IsClash, Takes, counter_of as counter_of_op, top_counter_of, counts_of};
-ghost use Rattle.study_index.specs.Definition.{IsIndexOf, IsLawful, AreLawful};
+ghost use Rattle.study_index.specs.Definition.{IsIndexOf, index_value, IsLawful, AreLawful};
 ghost use Rattle.site_state.specs.Union.{union, DoClash, Agree};
 ghost use Rattle.site_state.specs.Hidden.{hides_under, is_hidden as is_hidden_in, content_held};
 
@@ -209,9 +209,11 @@ impl Site {
     }
 
     /// What queries look up in the operations: picks, copies, the titles under which UIDs are
-    /// named, the greatest corrections, and the walk by study, series and instance.
+    /// named, the greatest corrections, and the walk by study, series and instance. It has what the
+    /// operations put there and nothing else.
     pub fn index(&self) -> &Index
-        ensures { IsIndexOf (ops_of self.now) result.now }
+        ensures value { result.now ≡ index_value (ops_of self.now) }
+        ensures says { IsIndexOf (ops_of self.now) result.now }
     {
         &self.index
     }

@@ -18,5 +18,5 @@ returns c =
     ∙ ap (λ r. named r (map content_of c.deref.result.now)) c.query.ensures
     ∙ ap (λ (xs : List (Bor Content)). named q (map content_of xs)) c.deref.ensures.value
     ∙ ap (named q) c.in_ok-shown.ensures.found))
-    (all_enough c.args.view q ops c.index.result.now c.index.ensures c.see_lawful.ensures.lawful
+    (all_enough c.args.view q ops c.index.result.now c.index.ensures.says c.see_lawful.ensures.lawful
     c.in_ok-uids.uids.keys c.in_ok-shown.ensures.ordered c.in_ok-uids.ensures)

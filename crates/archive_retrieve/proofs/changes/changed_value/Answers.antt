@@ -16,7 +16,7 @@ returns-in-None-clause-value c =
     let ops = ops_of c.args.site.now in
     let content = c.args.content.now in
     unchanged ops content c.args.tag (sym (own_is (own_value content c.args.tag) (correction_for ops content c.args.tag)
-    (c.in-None.ensures ∙ latest_is ops c.index.result.now c.index.ensures c.see_lawful.ensures.lawful content
+    (c.in-None.ensures ∙ latest_is ops c.index.result.now c.index.ensures.says c.see_lawful.ensures.lawful content
     c.args.tag)))
 
 -- The correction that is found gives the content's own value.
@@ -28,7 +28,7 @@ returns-then-eq-clause-value c =
     c.as_slice-value.ensures.value
     ∙ ap (λ (f : Fix). f.1.1) c.fix.view_is
     ∙ value_is (own_value content c.args.tag) (correction_for ops content c.args.tag) c.in-Some.fix.now
-    (c.in-Some.ensures ∙ latest_is ops c.index.result.now c.index.ensures c.see_lawful.ensures.lawful content
+    (c.in-Some.ensures ∙ latest_is ops c.index.result.now c.index.ensures.says c.see_lawful.ensures.lawful content
     c.args.tag)
     in
     unchanged ops content c.args.tag (sym value ∙ same_is c.as_slice-value.result.now c.own_value.result.now
@@ -43,7 +43,7 @@ returns-else-eq-clause-value c =
     c.as_slice-value.ensures.value
     ∙ ap (λ (f : Fix). f.1.1) c.fix.view_is
     ∙ value_is (own_value content c.args.tag) (correction_for ops content c.args.tag) c.in-Some.fix.now
-    (c.in-Some.ensures ∙ latest_is ops c.index.result.now c.index.ensures c.see_lawful.ensures.lawful content
+    (c.in-Some.ensures ∙ latest_is ops c.index.result.now c.index.ensures.says c.see_lawful.ensures.lawful content
     c.args.tag)
     in
     changed ops content c.args.tag c.as_slice-value.result.now value

@@ -21,7 +21,7 @@ returns c =
     ∙ c.in_ok-selected.ensures
     ∙ ap (λ (xs : List (Bor Content)). selected s (map content_of xs)) c.deref.ensures.value
     ∙ ap (selected s) c.in_ok-shown.ensures.found
-    ∙ selected_enough view s ops c.index.result.now c.index.ensures c.in_ok-uids.uids.keys c.in_ok-shown.ensures.ordered
+    ∙ selected_enough view s ops c.index.result.now c.index.ensures.says c.in_ok-uids.uids.keys c.in_ok-shown.ensures.ordered
     c.in_ok-uids.ensures
     in
     record { prepared = c.in_ok-found.ensures ∙ ap (λ (cs : List ContentParts). map (prepared_for ops) cs) these }

@@ -15,7 +15,7 @@ returns-in-Some c =
     c.as_slice.ensures.value
     ∙ ap (λ (f : Fix). f.1.1) c.fix.view_is
     ∙ value_is (own_value content c.args.tag) (correction_for ops content c.args.tag) c.in-Some.fix.now
-    (c.in-Some.ensures ∙ latest_is ops c.index.result.now c.index.ensures c.see_lawful.ensures.lawful content
+    (c.in-Some.ensures ∙ latest_is ops c.index.result.now c.index.ensures.says c.see_lawful.ensures.lawful content
     c.args.tag)
 
 -- Where none is found, none counts.
@@ -25,4 +25,4 @@ returns-in-None c =
     let content = c.args.content.now in
     c.own_value.ensures
     ∙ own_is (own_value content c.args.tag) (correction_for ops content c.args.tag) (c.in-None.ensures
-    ∙ latest_is ops c.index.result.now c.index.ensures c.see_lawful.ensures.lawful content c.args.tag)
+    ∙ latest_is ops c.index.result.now c.index.ensures.says c.see_lawful.ensures.lawful content c.args.tag)

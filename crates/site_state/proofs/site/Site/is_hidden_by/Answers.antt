@@ -10,6 +10,6 @@ pub returns : goal.returns
 returns c =
     let short : length c.args.uid.now ≤ 64 = subst (λ t. length t ≤ 64) c.as_slice.ensures.value
     c.as_slice.ensures.short in
-    c.covered_by.ensures ∙ c.index.ensures.titles c.args.uid.now c.args.title (le_test (length c.args.uid.now) 64 short)
+    c.covered_by.ensures ∙ c.index.ensures.says.titles c.args.uid.now c.args.title (le_test (length c.args.uid.now) 64 short)
     ∙ sym (ap (λ b. b && is_titled (ops_of c.args.self.now) c.args.uid.now c.args.title) (sym c.hides.ensures
     ∙ c.if-not-hides.false))

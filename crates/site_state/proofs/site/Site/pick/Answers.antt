@@ -7,7 +7,7 @@ use Rattle.site_state.proofs.site.Site.pick.Goals as goal
 
 -- Where the index has no pick, there is none.
 pub returns-in-None : goal.returns-in-None
-returns-in-None c = none_picked c.args.self.now c.index.result.now c.see_lawful.ensures.own c.index.ensures
+returns-in-None c = none_picked c.args.self.now c.index.result.now c.see_lawful.ensures.own c.index.ensures.says
     c.args.uid.now c.in-None.ensures
 
 -- What is held under the digest that it has is the pick.
@@ -15,5 +15,5 @@ pub returns-in-Some : goal.returns-in-Some
 returns-in-Some c =
     c.content_under.ensures
     ∙ ap (λ (p : Pick). content_held (held_at c.args.self.now p.0)) c.picked.view_is
-    ∙ is_picked c.args.self.now c.index.result.now c.see_lawful.ensures.own c.index.ensures c.args.uid.now
+    ∙ is_picked c.args.self.now c.index.result.now c.see_lawful.ensures.own c.index.ensures.says c.args.uid.now
     c.in-Some.picked.now c.in-Some.ensures
