@@ -1,0 +1,2 @@
+pub mod CharacterLaws
+pub mod EscapingLaws

@@ -1,0 +1,4 @@
+pub mod Characters
+pub mod Escaping
+pub mod Tables
+pub mod Values
