@@ -18,6 +18,7 @@ use Rattle.retrieve_model.specs.Sending.{sendings_of}
 use Rattle.site_state.specs.Site.{Map, ops_of}
 use Rattle.site_state.specs.Laws.{holding}
 use Rattle.site_state.proofs.Same.{equal_maps}
+use Rattle.study_index.specs.Definition.{index_value}
 use Rattle.site_world.specs.declared.fault.WorldFault.{WorldFault}
 use Rattle.site_world.specs.declared.step.Step.{Step}
 use Rattle.site_world.specs.declared.step.Step.TheVariants.{Look, Get}
@@ -204,6 +205,7 @@ pub answer_alike : (a b : Map) → a ≡ b → AnswerAlike a b
 answer_alike a b e = record {
   rows = λ view called query. ap (λ m. rows_of view called query (ops_of m)) e;
   sendings = λ view selection accepts. ap (λ m. sendings_of view selection accepts (ops_of m)) e;
+  index = ap (λ m. index_value (ops_of m)) e;
 }
 
 -- ---- laws over runs

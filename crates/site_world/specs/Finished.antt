@@ -112,7 +112,7 @@ RoundsEachWayTellAll =
     → HasAllSpoken (version_between new.aged a b) m n × HasAllSpoken (version_between new.aged a b) n m
 
 -- Where both know corrections of series, or neither does, both hold the same, answer every query in every view alike,
--- and send the same of every selection.
+-- send the same of every selection, and have equal indexes.
 abbrev pub RoundsEachWayMakeEqual : Type 0
 RoundsEachWayMakeEqual =
     (steps : List Step) (answers : List (Result Seen WorldFault)) (new : WorldState) (a b : ℕ) (m n : Map)

@@ -27,7 +27,7 @@ pub record SiteOf (held : Map) (ops : List Op) : Type 0 where
 abbrev pub SameTakenSameMaps : Type 0
 SameTakenSameMaps = (a b : Map) (xs ys : List Op) → SiteOf a xs → SiteOf b ys → SameMembers xs ys → a ≡ b
 
--- And they answer every query in every view alike, and send the same of every selection.
+-- And they answer every query in every view alike, send the same of every selection, and have equal indexes.
 abbrev pub SameTakenSameAnswers : Type 0
 SameTakenSameAnswers = (a b : Map) (xs ys : List Op) → SiteOf a xs → SiteOf b ys → SameMembers xs ys → AnswerAlike a b
 

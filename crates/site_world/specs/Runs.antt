@@ -17,6 +17,7 @@ use Rattle.retrieve_model.specs.declared.sending.Sending.{Sending}
 use Rattle.retrieve_model.specs.Sending.{sendings_of}
 use Rattle.site_state.specs.Site.{Map, ops_of}
 use Rattle.site_state.specs.Laws.{holding}
+use Rattle.study_index.specs.Definition.{index_value}
 use Rattle.site_world.specs.declared.fault.WorldFault.{WorldFault}
 use Rattle.site_world.specs.declared.step.Step.{Step}
 use Rattle.site_world.specs.declared.step.Step.TheVariants.{Take, Correct, Offer, Buckets, Deliver, Old, Look, Get}
@@ -121,15 +122,17 @@ pub record Outcome (old : WorldState) (steps : List Step) (answers : List (Resul
 abbrev pub IsNew : WorldState → Type 0
 IsNew w = w ≡ new_world (replicate (length w.sites) finmap.empty)
 
--- Two sites answer every query in every view alike, and send the same of every selection in every view.
+-- Two sites answer every query in every view alike, send the same of every selection in every view, and their indexes
+-- have equal values.
 pub record AnswerAlike (a b : Map) : Type 0 where
   pub rows : (view : View) (called : List ℕ) (query : Query)
       → rows_of view called query (ops_of a) ≡ rows_of view called query (ops_of b)
   pub sendings : (view : View) (selection : Selection) (accepts : Accepts)
       → sendings_of view selection accepts (ops_of a) ≡ sendings_of view selection accepts (ops_of b)
+  pub index : index_value (ops_of a) ≡ index_value (ops_of b)
 
 -- Two sites at which the same operations were taken, in whatever order and however often, hold equal maps and answer
--- every query in every view alike, and send the same.
+-- every query in every view alike, send the same, and have equal indexes.
 abbrev pub SitesAreAlike : List Step → List (Result Seen WorldFault) → WorldState → Type 0
 SitesAreAlike steps answers new =
     (m n : ℕ) (a b : Map) → site_at new.sites m ≡ Some a → site_at new.sites n ≡ Some b

@@ -465,8 +465,8 @@ impl World {
     /// deliverable.
     ///
     /// The headline: in a new world, two sites at which the same operations were taken, in whatever
-    /// order and however often, hold the same, answer every query in every view alike, and send the
-    /// same of every selection in every view.
+    /// order and however often, hold the same, answer every query in every view alike, send the
+    /// same of every selection in every view, and have equal indexes.
     pub fn run(&mut self, steps: &[Step]) -> Result<Vec<Result<Seen, WorldFault>>, AllocError>
         ensures outcome { IfOk result (λ answers.
             Outcome self.old steps.now answers.items self.new) }
