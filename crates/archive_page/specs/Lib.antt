@@ -1,0 +1,4 @@
+pub mod Answers
+pub mod Pages
+pub mod Paths
+pub mod Subjects

@@ -1,0 +1,116 @@
+//! What a request asks for: its method and its path (RFC 9110, sections 7.1 and 9.3).
+
+ghost use Rattle.std.specs.Prelude.{◌≡◌};
+ghost use Rattle.octets.specs.Texts.{same};
+ghost use Rattle.archive_page.specs.Paths.{html_at, json_at, other_at, at};
+ghost use Rattle.archive_page.specs.Paths.{is_reading as is_reading_in, asked_of};
+
+use crate::subject::{Form, Subject};
+
+/// What a request asks for.
+#[derive(Clone, Copy, Debug, PartialEq, Eq)]
+pub enum Asked {
+    Page(Subject, Form),
+    Style,
+    Health,
+    /// Nothing has this path.
+    Nothing,
+    /// The method is neither GET nor HEAD.
+    Change,
+}
+
+/// Whether both have the same bytes.
+fn is(text: &[u8], word: &[u8]) -> bool
+    ensures { result ≡ same text.now word.now }
+{
+    text == word
+}
+
+/// The page in HTML that has this path.
+fn html(path: &[u8]) -> Option<Subject>
+    ensures { result ≡ html_at path.now }
+{
+    if is(path, b"/") {
+        return Some(Subject::Site);
+    }
+    if is(path, b"/studies") {
+        return Some(Subject::Studies);
+    }
+    if is(path, b"/rejected") {
+        return Some(Subject::Rejected);
+    }
+    if is(path, b"/conflicts") {
+        return Some(Subject::Conflicts);
+    }
+    if is(path, b"/corrections") {
+        return Some(Subject::Corrections);
+    }
+    None
+}
+
+/// The page in JSON that has this path.
+fn json(path: &[u8]) -> Option<Subject>
+    ensures { result ≡ json_at path.now }
+{
+    if is(path, b"/site.json") {
+        return Some(Subject::Site);
+    }
+    if is(path, b"/studies.json") {
+        return Some(Subject::Studies);
+    }
+    if is(path, b"/rejected.json") {
+        return Some(Subject::Rejected);
+    }
+    if is(path, b"/conflicts.json") {
+        return Some(Subject::Conflicts);
+    }
+    if is(path, b"/corrections.json") {
+        return Some(Subject::Corrections);
+    }
+    None
+}
+
+/// What else has this path.
+fn other(path: &[u8]) -> Asked
+    ensures { result ≡ other_at path.now }
+{
+    if is(path, b"/style.css") {
+        return Asked::Style;
+    }
+    if is(path, b"/health") {
+        return Asked::Health;
+    }
+    Asked::Nothing
+}
+
+/// What has this path.
+fn found(path: &[u8]) -> Asked
+    ensures { result ≡ at path.now }
+{
+    if let Some(subject) = html(path) {
+        return Asked::Page(subject, Form::Html);
+    }
+    if let Some(subject) = json(path) {
+        return Asked::Page(subject, Form::Json);
+    }
+    other(path)
+}
+
+/// Whether a method asks for what is there, and for no change (RFC 9110, sections 9.3.1 and 9.3.2).
+fn is_reading(method: &[u8]) -> bool
+    ensures { result ≡ is_reading_in method.now }
+{
+    is(method, b"GET") || is(method, b"HEAD")
+}
+
+impl Asked {
+    /// What a request asks for, by its method and the path of its target.
+    pub fn of(method: &[u8], path: &[u8]) -> Asked
+        ensures { result ≡ asked_of method.now path.now }
+    {
+        if !is_reading(method) {
+            return Asked::Change;
+        }
+        found(path)
+    }
+}

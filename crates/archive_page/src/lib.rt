@@ -1,0 +1,18 @@
+//! The pages of a site: what a request asks for, and what it is answered.
+//!
+//! Nothing here reads a socket or a site: a request is a method and a path, a page is a heading and
+//! rows, and an answer is a status, a media type and a text. No answer depends on anything else.
+#![tactic(auto)]
+
+mod answer;
+mod asked;
+mod frame;
+mod laws;
+mod pages;
+mod style;
+mod subject;
+
+pub use answer::{Answer, Media, Status, health_answer, page_answer, refusal, style_answer};
+pub use asked::Asked;
+pub use laws::each_path_leads_to_its_page;
+pub use subject::{Form, Subject};
