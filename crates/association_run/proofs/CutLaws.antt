@@ -1,10 +1,11 @@
 -- Pieces of a text: one piece more, and more bytes behind.
-use Rattle.std.proofs.Common.{◌≡◌, ℕ, ◌+◌, ◌≤◌, true, List, [], ◌∷◌, ◌++◌, length, drop, refl, sym, ap, subst, ◌∙◌}
+use Rattle.std.proofs.Common.{◌≡◌, ℕ, true, List, [], ◌∷◌, ◌++◌, length, drop, refl, sym, ap, subst, ◌∙◌}
 use Rattle.std.proofs.Common.{arith, length-append}
 use Rattle.std.proofs.lemmas.List.{take_all, drop_all, take-append-le, drop-append-le}
 use Rattle.association_run.specs.declared.piece.Piece.{Piece}
 use Rattle.association_run.specs.declared.piece.Piece.TheVariants.{Whole, Faulty}
-use Rattle.association_run.specs.Pieces.{IsPiece, Precedes, Cuts, is_cut, is_whole, size_of_piece}
+use Rattle.association_run.specs.Pieces.{IsPiece, Precedes, Cuts, is_cut, size_of_piece}
+use Rattle.association_run.specs.inner.Turns.{is_whole}
 
 precedes_more : (piece last : Piece) (pieces : List Piece) → is_cut (piece ∷ pieces) ≡ true → Precedes piece pieces
     → Precedes piece (pieces ++ last ∷ [])

@@ -1,5 +1,5 @@
 -- Deeds that were done, one after another.
-use Rattle.std.proofs.Common.{◌≡◌, ℕ, List, [], ◌∷◌, ◌++◌, length, map, Option, Some, inl, inr, refl, sym, ap, subst}
+use Rattle.std.proofs.Common.{◌≡◌, ℕ, List, [], ◌∷◌, ◌++◌, map, Option, Some, inl, inr, refl, sym, ap, subst}
 use Rattle.std.proofs.Common.{◌∙◌, append_assoc, append-nil, arith}
 use Rattle.std.specs.Prelude.{All, option_to_list}
 use Rattle.std.specs.List.{flat_map}
@@ -17,8 +17,9 @@ use Rattle.association_session.specs.Projections.{IsFront, sent_in, moments_in, 
 use Rattle.association_session.specs.Session.{IsWritable}
 use Rattle.association_run.specs.Port.{Replies, History}
 use Rattle.association_run.specs.Parts.{Passed, Sides, sides, bytes_in, Performs, next_bytes, Begins}
-use Rattle.association_run.specs.Outbox.{Puts, PutsFront}
-use Rattle.association_run.specs.Steps.{Halts, BreaksOff}
+use Rattle.association_run.specs.inner.Outbox.{Puts, PutsFront}
+use Rattle.association_run.specs.inner.Sides.{OnlyWrites, Asks, Reaches}
+use Rattle.association_run.specs.inner.Steps.{Halts, BreaksOff}
 use Rattle.association_run.proofs.Fronts.{further, nothing_written, no_front, all_front, front_behind, front_of_front}
 use Rattle.association_run.proofs.Fronts.{front_split, passed_none, passed_on}
 
@@ -222,7 +223,7 @@ module _ {P : Type 0} (ops : P → List Op) (own : P → List (List ℕ)) where
     pub appended : Appends written now.written out
     pub bytes : out ++ held ≡ flat_map text_of sent
 
-  pub acting_start : (port : P) (w : Option (List ℕ)) (m : Option (List Moment)) (held : List ℕ) (all items : List Deed)
+  acting_start : (port : P) (w : Option (List ℕ)) (m : Option (List Moment)) (held : List ℕ) (all items : List Deed)
       → held ≡ [] → items ≡ all → Halts all → Acting (sides port w m) (sides port w m) held all items
   acting_start port w m held all items none is halts = record {
     done = [];
@@ -247,7 +248,7 @@ module _ {P : Type 0} (ops : P → List Op) (own : P → List (List ℕ)) where
   next_parts done all d rest parts = parts ∙ sym (append_assoc done (d ∷ []) rest)
 
   -- A PDU more is sent.
-  pub acting_send : (a : Sides P) (port : P) (w0 w1 : Option (List ℕ)) (m : Option (List Moment)) (held left : List ℕ)
+  acting_send : (a : Sides P) (port : P) (w0 w1 : Option (List ℕ)) (m : Option (List Moment)) (held left : List ℕ)
       (all items : List Deed) (d : Deed) (pdu : Pdu) (rest : List Deed) → items ≡ d ∷ rest → d ≡ Send pdu
       → Acting a (sides port w0 m) held all items → Puts w0 held w1 left (text_of pdu) → Acting a (sides port w1 m) left
       all rest
@@ -297,7 +298,7 @@ module _ {P : Type 0} (ops : P → List Op) (own : P → List (List ℕ)) where
   }
 
   -- What was held is written, and the gate is reached.
-  pub acting_reach : (a : Sides P) (port : P) (w0 w1 : Option (List ℕ)) (m0 m1 : Option (List Moment))
+  acting_reach : (a : Sides P) (port : P) (w0 w1 : Option (List ℕ)) (m0 m1 : Option (List Moment))
       (held left : List ℕ) (all items : List Deed) (d : Deed) (moment : Moment) (rest : List Deed) → items ≡ d ∷ rest
       → d ≡ Reach moment
       → Acting a (sides port w0 m0) held all items → Appends w0 w1 held → left ≡ [] → Passed m0 m1 (moment ∷ [])
@@ -318,7 +319,7 @@ module _ {P : Type 0} (ops : P → List Op) (own : P → List (List ℕ)) where
       → all ≡ done ++ d ∷ []
   ends_with done all d rest parts none = parts ∙ ap (λ (t : List Deed). done ++ d ∷ t) none
 
-  pub acted_ask : (a : Sides P) (p0 p1 : P) (w0 w1 : Option (List ℕ)) (m : Option (List Moment)) (held : List ℕ)
+  acted_ask : (a : Sides P) (p0 p1 : P) (w0 w1 : Option (List ℕ)) (m : Option (List Moment)) (held : List ℕ)
       (all items : List Deed) (d : Deed) (call : Call) (reply : Reply) (rest : List Deed) → items ≡ d ∷ rest
       → d ≡ Ask call
       → Acting a (sides p0 w0 m) held all items → Appends w0 w1 held → Replies ops own p0 call reply p1
@@ -331,7 +332,7 @@ module _ {P : Type 0} (ops : P → List Op) (own : P → List (List ℕ)) where
       (did_then a (sides p0 w1 m) (sides p1 w1 m) at.done (Ask call ∷ []) [] [] (reply ∷ [])
       at.did (did_ask p0 p1 w1 m call reply q))
 
-  pub acted_close : (a : Sides P) (port : P) (w0 w1 : Option (List ℕ)) (m : Option (List Moment)) (held : List ℕ)
+  acted_close : (a : Sides P) (port : P) (w0 w1 : Option (List ℕ)) (m : Option (List Moment)) (held : List ℕ)
       (all items : List Deed) (d : Deed) (rest : List Deed) → items ≡ d ∷ rest → d ≡ Close
       → Acting a (sides port w0 m) held all items → Appends w0 w1 held → Performs ops own a (sides port w1 m) all [] []
   acted_close a port w0 w1 m held all items d rest parts is so p =
@@ -343,7 +344,7 @@ module _ {P : Type 0} (ops : P → List Op) (own : P → List (List ℕ)) where
       at.did (did_close (sides port w1 m)))
 
   -- No deed is left.
-  pub acted_all : (a : Sides P) (port : P) (w0 w1 : Option (List ℕ)) (m : Option (List Moment)) (held : List ℕ)
+  acted_all : (a : Sides P) (port : P) (w0 w1 : Option (List ℕ)) (m : Option (List Moment)) (held : List ℕ)
       (all items : List Deed) → items ≡ [] → Acting a (sides port w0 m) held all items → Appends w0 w1 held
       → Performs ops own a (sides port w1 m) all [] []
   acted_all a port w0 w1 m held all items none so p =
@@ -352,7 +353,7 @@ module _ {P : Type 0} (ops : P → List Op) (own : P → List (List ℕ)) where
       (sym (at.parts ∙ ap (λ (t : List Deed). at.done ++ t) none ∙ append-nil at.done)) at.did
 
   -- A front of what was held, and of these bytes of the next deed, was written.
-  pub acting_broke : (a : Sides P) (port : P) (w0 w1 : Option (List ℕ)) (m : Option (List Moment)) (held : List ℕ)
+  acting_broke : (a : Sides P) (port : P) (w0 w1 : Option (List ℕ)) (m : Option (List Moment)) (held : List ℕ)
       (all rest : List Deed) (text : List ℕ) → IsFront text (next_bytes rest)
       → Acting a (sides port w0 m) held all rest → PutsFront w0 held w1 text → BreaksOff ops own a (sides port w1 m)
       all
@@ -377,7 +378,7 @@ module _ {P : Type 0} (ops : P → List Op) (own : P → List (List ℕ)) where
       )
 
   -- a PDU of which a front was put
-  pub acting_broke_at : (a : Sides P) (port : P) (w0 w1 : Option (List ℕ)) (m : Option (List Moment)) (held : List ℕ)
+  acting_broke_at : (a : Sides P) (port : P) (w0 w1 : Option (List ℕ)) (m : Option (List Moment)) (held : List ℕ)
       (all items : List Deed) (d : Deed) (pdu : Pdu) (rest : List Deed) → items ≡ d ∷ rest → d ≡ Send pdu
       → Acting a (sides port w0 m) held all items → PutsFront w0 held w1 (text_of pdu) → BreaksOff ops own
       a (sides port w1 m) all
@@ -386,11 +387,80 @@ module _ {P : Type 0} (ops : P → List Op) (own : P → List (List ℕ)) where
       (acting_at a (sides port w0 m) held all items d (Send pdu) rest parts is so) p
 
   -- Nothing of what was held was written.
-  pub acting_stopped : (a : Sides P) (port : P) (w : Option (List ℕ)) (m : Option (List Moment)) (held : List ℕ)
+  acting_stopped : (a : Sides P) (port : P) (w : Option (List ℕ)) (m : Option (List Moment)) (held : List ℕ)
       (all rest : List Deed) → Acting a (sides port w m) held all rest → BreaksOff ops own a (sides port w m) all
   acting_stopped a port w m held all rest at =
       acting_broke a port w w m held all rest [] (no_front (next_bytes rest)) at
       ([], nothing_written w, no_front (held ++ []))
+
+  -- ---- the same, as the sides of a run say it
+
+  pub sides_start : (a b : Sides P) (held : List ℕ) (all items : List Deed) → b ≡ a → held ≡ [] → items ≡ all
+      → Halts all → Acting a b held all items
+  sides_start a b held all items same none is halts = subst (λ (k : Sides P). Acting a k held all items) (sym same)
+      (acting_start a.port a.written a.reached held all items none is halts)
+
+  -- A PDU more is sent.
+  pub sides_send : (a b c : Sides P) (held left : List ℕ) (all items : List Deed) (d : Deed) (pdu : Pdu)
+      (rest : List Deed) → items ≡ d ∷ rest → d ≡ Send pdu → Acting a b held all items → OnlyWrites b c
+      → Puts b.written held c.written left (text_of pdu) → Acting a c left all rest
+  sides_send a b c held left all items d pdu rest parts is so only p =
+      subst (λ (k : Sides P). Acting a k left all rest) (sym only)
+      (acting_send a b.port b.written c.written b.reached held left all items d pdu rest parts is so p)
+
+  -- What was held is written, and the gate is reached.
+  pub sides_reach : (a b m c : Sides P) (held left : List ℕ) (all items : List Deed) (d : Deed) (moment : Moment)
+      (rest : List Deed) → items ≡ d ∷ rest → d ≡ Reach moment → Acting a b held all items → OnlyWrites b m
+      → Appends b.written m.written held → left ≡ [] → Reaches m moment c → Acting a c left all rest
+  sides_reach a b m c held left all items d moment rest parts is so only p none reaches =
+      subst (λ (k : Sides P). Acting a k left all rest)
+      (sym (reaches.0 ∙ ap (λ (k : Sides P). sides k.port m.written c.reached) only))
+      (acting_reach a b.port b.written m.written b.reached c.reached held left all items d moment rest parts is so p
+      none (subst (λ (k : Sides P). Passed k.reached c.reached (moment ∷ [])) only reaches.1))
+
+  -- What was held is written, and the port replied.
+  pub sides_ask : (a b m c : Sides P) (held : List ℕ) (all items : List Deed) (d : Deed) (call : Call) (reply : Reply)
+      (rest : List Deed) → items ≡ d ∷ rest → d ≡ Ask call → Acting a b held all items → OnlyWrites b m
+      → Appends b.written m.written held → Asks ops own m call reply c → Performs ops own a c all [] (reply ∷ [])
+  sides_ask a b m c held all items d call reply rest parts is so only p asks =
+      subst (λ (k : Sides P). Performs ops own a k all [] (reply ∷ []))
+      (sym (asks.0 ∙ ap (λ (k : Sides P). sides c.port m.written k.reached) only))
+      (acted_ask a b.port c.port b.written m.written b.reached held all items d call reply rest parts is so p
+      (subst (λ (k : Sides P). Replies ops own k.port call reply c.port) only asks.1))
+
+  pub sides_close : (a b m : Sides P) (held : List ℕ) (all items : List Deed) (d : Deed) (rest : List Deed)
+      → items ≡ d ∷ rest → d ≡ Close → Acting a b held all items → OnlyWrites b m → Appends b.written m.written held
+      → Performs ops own a m all [] []
+  sides_close a b m held all items d rest parts is so only p =
+      subst (λ (k : Sides P). Performs ops own a k all [] []) (sym only)
+      (acted_close a b.port b.written m.written b.reached held all items d rest parts is so p)
+
+  -- No deed is left.
+  pub sides_all : (a b m : Sides P) (held : List ℕ) (all items : List Deed) → items ≡ [] → Acting a b held all items
+      → OnlyWrites b m → Appends b.written m.written held → Performs ops own a m all [] []
+  sides_all a b m held all items none so only p =
+      subst (λ (k : Sides P). Performs ops own a k all [] []) (sym only)
+      (acted_all a b.port b.written m.written b.reached held all items none so p)
+
+  -- A front of what was held was written.
+  pub sides_broke : (a b m : Sides P) (held : List ℕ) (all rest : List Deed) → Acting a b held all rest
+      → OnlyWrites b m → PutsFront b.written held m.written [] → BreaksOff ops own a m all
+  sides_broke a b m held all rest at only p =
+      subst (λ (k : Sides P). BreaksOff ops own a k all) (sym only)
+      (acting_broke a b.port b.written m.written b.reached held all rest [] (no_front (next_bytes rest)) at p)
+
+  -- So was one of the bytes of a PDU behind it.
+  pub sides_broke_at : (a b m : Sides P) (held : List ℕ) (all items : List Deed) (d : Deed) (pdu : Pdu)
+      (rest : List Deed) → items ≡ d ∷ rest → d ≡ Send pdu → Acting a b held all items → OnlyWrites b m
+      → PutsFront b.written held m.written (text_of pdu) → BreaksOff ops own a m all
+  sides_broke_at a b m held all items d pdu rest parts is so only p =
+      subst (λ (k : Sides P). BreaksOff ops own a k all) (sym only)
+      (acting_broke_at a b.port b.written m.written b.reached held all items d pdu rest parts is so p)
+
+  -- Nothing of it was written.
+  pub sides_stopped : (a b : Sides P) (held : List ℕ) (all rest : List Deed) → Acting a b held all rest
+      → BreaksOff ops own a b all
+  sides_stopped a b held all rest at = acting_stopped a b.port b.written b.reached held all rest at
 
 -- ---- fronts of deeds
 

@@ -5,7 +5,7 @@ use Rattle.std.proofs.Math.Seq.{take-add}
 use Rattle.std.proofs.Math.ListN.{get_or-append}
 use Rattle.std.proofs.lemmas.List.{take_all, take-append-le}
 use Rattle.pdu.specs.Grammar.{HasLawfulHeader, size_of}
-use Rattle.association_run.specs.Inbox.{Wants}
+use Rattle.association_run.specs.inner.Inbox.{Wants}
 
 -- the bytes so far, and those that were read behind them
 pub grown : (filled count : ℕ) (old mid new : List ℕ) → take filled mid ≡ take filled old → take filled new ≡ take

@@ -10,7 +10,7 @@ use Rattle.pdu.specs.declared.pdv.Pdv.{Pdv}
 use Rattle.pdu.specs.declared.value.Pdu.TheVariants.{PData}
 use Rattle.pdu.specs.Spelling.{data_head, pdv_text, text_of}
 use Rattle.association_session.specs.Projections.{IsFront}
-use Rattle.association_run.specs.Outbox.{Puts, PutsFront}
+use Rattle.association_run.specs.inner.Outbox.{Puts, PutsFront}
 use Rattle.association_run.proofs.Fronts.{further, front_behind, front_more}
 
 pub on_ok_map : {X E : Type 0} (r : Result X E) (A B : Type 0) → (A → B) → OnOk r A → OnOk r B

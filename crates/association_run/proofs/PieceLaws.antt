@@ -1,6 +1,7 @@
 -- What reading the bytes in hand tells of them.
 use Rattle.std.proofs.Common.{◌≡◌, ◌⊎◌, inl, inr, ℕ, ◌+◌, ◌≤◌, List, length, take, Option, Some, None, Result, Ok, Err}
-use Rattle.std.proofs.Common.{MatchResult, refl, sym, subst, ◌∙◌, arith}
+use Rattle.std.proofs.Common.{refl, sym, subst, ◌∙◌, arith}
+use Rattle.std.specs.Prelude.{IfOk}
 use Rattle.std.proofs.lemmas.List.{take_all}
 use Rattle.pdu.specs.declared.fault.PduFault.{PduFault}
 use Rattle.pdu.specs.declared.fault.PduFault.TheVariants.{UnknownType, BadLength, BadItem, TooLong, Memory}
@@ -10,17 +11,12 @@ use Rattle.pdu.specs.declared.value.Step.TheVariants.{Need, Done}
 use Rattle.pdu.specs.Grammar.{Spells, HasHeaderFault, HasLawfulHeader, HasBadBody, IsUnfinished, IfDone, size_of}
 use Rattle.pdu.specs.Spelling.{IsPdu}
 use Rattle.pdu.proofs.Fronts.{front}
-use Rattle.association_run.specs.declared.fault.RunFault.{RunFault}
-use Rattle.association_run.specs.declared.fault.RunFault.TheVariants as run
 use Rattle.association_run.specs.declared.piece.Piece.{Piece}
-use Rattle.association_run.specs.Inbox.{Finds, piece_in}
+use Rattle.association_run.specs.inner.Inbox.{Finds, IsPieceIn}
 
 -- a header, or a PDU whose header is lawful
 abbrev pub Ends : List ℕ → Type 0
 Ends text = (length text ≡ 6) ⊎ (HasLawfulHeader text × (length text ≡ size_of text + 6))
-
-abbrev pub FindsAll : List ℕ → Result (Option Piece) RunFault → Type 0
-FindsAll text result = MatchResult result (Finds text) (λ fault. fault ≡ run.Memory)
 
 abbrev pub IsErr : Result Step PduFault → PduFault → Type 0
 IsErr step fault = step ≡ Err fault
@@ -40,21 +36,30 @@ size_is : (text : List ℕ) → Ends text → HasBadBody text → length text �
 size_is text (inl six) bad = omega (arith, six, bad.1)
 size_is text (inr whole) bad = whole.1
 
-pub finds : (text : List ℕ) (step : Result Step PduFault) → Ends text
+pub finds : (text : List ℕ) (step : Result Step PduFault) (piece : Option Piece) → Ends text
     → IfDone step (λ p n. (n ≤ length text) × Spells p (take n text)) → IfDone step (λ p n. IsPdu p)
     → (step ≡ Ok Need → IsUnfinished text)
     → (IsErr step UnknownType → HasHeaderFault UnknownType text)
     → (IsErr step BadLength → HasHeaderFault BadLength text)
     → (IsErr step BadItem → HasBadBody text) → (IsErr step TooLong → HasHeaderFault TooLong text)
-    → FindsAll text (piece_in step (length text))
-finds text (Ok Need) ends done lawful need u l i t = need refl
-finds text (Ok (Done p n)) ends done lawful need u l i t =
-    let same = all_taken text p n ends done.0 done.1 in ((whole_is text p n same done.1, same), lawful)
-finds text (Err UnknownType) ends done lawful need u l i t = (
-  ((u refl, six_of text UnknownType ends (u refl)), refl),
-  tt,
-)
-finds text (Err BadLength) ends done lawful need u l i t = (((l refl, six_of text BadLength ends (l refl)), refl), tt)
-finds text (Err BadItem) ends done lawful need u l i t = (((i refl, size_is text ends (i refl)), refl), tt)
-finds text (Err TooLong) ends done lawful need u l i t = (((t refl, six_of text TooLong ends (t refl)), refl), tt)
-finds text (Err Memory) ends done lawful need u l i t = refl
+    → IsPieceIn step (length text) piece → Finds text piece
+finds text (Ok Need) piece ends done lawful need u l i t is =
+    subst (λ (o : Option Piece). Finds text o) (sym is) (need refl)
+finds text (Ok (Done p n)) piece ends done lawful need u l i t is =
+    let same = all_taken text p n ends done.0 done.1 in
+    subst (λ (o : Option Piece). Finds text o) (sym is) ((whole_is text p n same done.1, same), lawful)
+finds text (Err UnknownType) piece ends done lawful need u l i t is =
+    subst (λ (o : Option Piece). Finds text o) (sym is) (((u refl, six_of text UnknownType ends (u refl)), refl), tt)
+finds text (Err BadLength) piece ends done lawful need u l i t is =
+    subst (λ (o : Option Piece). Finds text o) (sym is) (((l refl, six_of text BadLength ends (l refl)), refl), tt)
+finds text (Err BadItem) piece ends done lawful need u l i t is =
+    subst (λ (o : Option Piece). Finds text o) (sym is) (((i refl, size_is text ends (i refl)), refl), tt)
+finds text (Err TooLong) piece ends done lawful need u l i t is =
+    subst (λ (o : Option Piece). Finds text o) (sym is) (((t refl, six_of text TooLong ends (t refl)), refl), tt)
+finds text (Err Memory) piece ends done lawful need u l i t is = absurd is
+
+-- the piece, in what a call answers
+pub if_ok : {E : Type 0} (r : Result (Option Piece) E) (A B : Option Piece → Type 0)
+    → ((piece : Option Piece) → A piece → B piece) → IfOk r A → IfOk r B
+if_ok (Ok piece) A B to p = to piece p
+if_ok (Err e) A B to p = tt

@@ -27,11 +27,11 @@ use Rattle.association_services.specs.declared.call.Call.TheVariants.{Store, Fin
 use Rattle.association_session.specs.declared.due.Due.{Due}
 use Rattle.association_session.specs.declared.due.Due.TheVariants as dues
 use Rattle.association_services.specs.declared.reply.Reply.TheVariants.{Stored, Found, Gotten}
-use Rattle.association_session.specs.Due.{IsQuiet, IsAnswered, Fits, left_of, tells_rows}
+use Rattle.association_session.specs.Due.{IsAnswered, Fits, left_of, tells_rows}
 use Rattle.association_session.specs.Session.{Awaits, IsToldBy, IsFewer, FewerFor}
 use Rattle.association_session.proofs.TellLaws.{rows_go}
 use Rattle.association_session.proofs.SendLaws.{begins_go}
-use Rattle.association_run.specs.Steps.{Hearing, GoesOnWith, BreaksWith}
+use Rattle.association_run.specs.inner.Steps.{IsQuiet, Hearing, GoesOnWith, BreaksWith}
 use Rattle.association_session.specs.Row.{Within, met}
 use Rattle.association_session.specs.Session.{AssociationState, SessionState, Turned, Takes, Owes, OwedAt, Stops}
 use Rattle.association_session.specs.Session.{heard_in, is_left, in_turn, is_in_turn, is_abort, is_release}
@@ -44,7 +44,7 @@ use Rattle.association_session.proofs.HearLaws.{none_answered, none_fits}
 use Rattle.association_run.specs.Hearing.{Place, Says, HearsSome}
 use Rattle.association_run.specs.Parts.{Sides, Performs}
 use Rattle.association_run.specs.Port.{Replies, History}
-use Rattle.association_run.specs.Steps.{Halts, Pends, IsNext, DidTurn, BrokeTurn, HeardWhole, HeardFront, place_of}
+use Rattle.association_run.specs.inner.Steps.{Halts, Pends, IsNext, DidTurn, BrokeTurn, HeardWhole, HeardFront, place_of}
 use Rattle.association_run.proofs.Fronts.{all_front}
 use Rattle.association_run.proofs.DeedLaws.{did_none, did_then, all_begun, begun_behind}
 use Rattle.archive_model.specs.declared.view.View.{View}

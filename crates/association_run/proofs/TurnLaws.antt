@@ -36,17 +36,19 @@ use Rattle.association_run.specs.declared.piece.Piece.TheVariants.{Whole, Faulty
 use Rattle.association_run.specs.declared.end.End.{End}
 use Rattle.association_run.specs.declared.run.Intake.{Intake}
 use Rattle.association_run.specs.declared.run.TheConstants.{MOST_DROPPED}
-use Rattle.association_run.specs.Inbox.{EMPTY, InHand}
-use Rattle.association_run.specs.Pieces.{IsPiece, Cuts, is_cut, is_whole, event_of, size_of_piece}
+use Rattle.association_run.specs.inner.Inbox.{EMPTY, InHand}
+use Rattle.association_run.specs.Pieces.{IsPiece, is_cut, event_of, size_of_piece}
+use Rattle.association_run.specs.inner.Turns.{is_whole}
 use Rattle.association_run.specs.Hearing.{Place, Course, SETTING_OUT, Says, Hears, HearsFront, TakesPiece, TakesPieces}
 use Rattle.association_run.specs.Hearing.{counts}
 use Rattle.association_run.specs.Parts.{Sides, Begins}
 use Rattle.association_run.specs.Port.{History}
-use Rattle.association_run.specs.Output.{Output, FrontOfOutput, IsOver, IsLeft, all_counted, end_in, is_over}
+use Rattle.association_run.specs.Output.{Output, FrontOfOutput, IsOver, IsLeft, all_counted, end_in}
+use Rattle.association_run.specs.inner.Turns.{is_over}
 use Rattle.association_run.specs.Output.{is_abort_piece, was_aborted, was_released}
-use Rattle.association_run.specs.Steps.{place_of, HearsPart, HeardFront}
-use Rattle.association_run.specs.Turns.{counted_in, NOTHING_READ, Adds, Drops, Reads, HearsPiece, TakesHand}
-use Rattle.association_run.specs.Turns.{TakingFails, IsInHand, IsDropped, IsReady, Progress}
+use Rattle.association_run.specs.inner.Steps.{place_of, HearsPart, HeardFront}
+use Rattle.association_run.specs.inner.Turns.{counted_in, NOTHING_READ, Adds, Drops, Reads, HearsPiece, TakesHand}
+use Rattle.association_run.specs.inner.Turns.{TakingFails, IsInHand, IsDropped, IsReady, Progress}
 use Rattle.association_run.proofs.CutLaws.{long_of, cuts_push, cuts_more, is_cut-push}
 use Rattle.association_run.proofs.Fronts.{read_further, nothing_read, all_front, front_behind}
 use Rattle.association_run.proofs.DeedLaws.{did_none, did_then, all_begun, begun_behind, begun_more}

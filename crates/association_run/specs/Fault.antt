@@ -20,10 +20,6 @@ abbrev pub tells_write : {A : Type 0} → Result A RunFault → Bool
 tells_write (Err Write) = true
 tells_write _ = false
 
-abbrev pub tells_turns : {A : Type 0} → Result A RunFault → Bool
-tells_turns (Err Turns) = true
-tells_turns _ = false
-
 -- the failures of a device were counted where one is told, and else there was none
 abbrev pub CountedWhere : Bool → ℕ → ℕ → Type 0
 CountedWhere told old new = MatchBool told (Rose old new) (new ≡ old)

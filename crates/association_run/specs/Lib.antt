@@ -1,10 +1,7 @@
 pub mod Fault
 pub mod Hearing
-pub mod Inbox
-pub mod Outbox
+pub mod inner
 pub mod Output
 pub mod Parts
 pub mod Pieces
 pub mod Port
-pub mod Steps
-pub mod Turns

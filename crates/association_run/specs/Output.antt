@@ -1,12 +1,11 @@
 -- What a whole run does, for what it read and what the port replied.
-use Rattle.std.specs.Prelude.{◌≡◌, ◌≤◌, ◌⊎◌, ℕ, ◌+◌, Bool, true, false, ◌||◌, List, [], ◌++◌, Option, None, length}
+use Rattle.std.specs.Prelude.{◌≡◌, ◌≤◌, ◌⊎◌, ℕ, ◌+◌, Bool, false, ◌||◌, List, [], ◌++◌, Option, None, length}
 use Rattle.std.specs.Prelude.{if◌then◌else◌, ◌==◌}
 use Rattle.std.specs.List.{list_any}
 use Rattle.std.specs.Io.KnownBytes.{Consumes, IsAtEnd}
 use Rattle.pdu.specs.Grammar.{IsUnfinished}
 use Rattle.operation.specs.declared.op.Op.{Op}
-use Rattle.ul_state.specs.declared.table.State.{State}
-use Rattle.ul_state.specs.declared.table.State.TheVariants.{Sta1, Sta2, Sta6, Sta13}
+use Rattle.ul_state.specs.declared.table.State.TheVariants.{Sta1}
 use Rattle.ul_state.specs.declared.titles.Title.{Title}
 use Rattle.association_session.specs.declared.deed.Deed.{Deed}
 use Rattle.association_session.specs.declared.event.SessionEvent.TheVariants as inputs
@@ -33,16 +32,6 @@ all_counted c rest = c.counted + counts c.place.within.state (length rest)
 -- All the bytes were read that are read once the peer is to close.
 abbrev pub IsFull : Course → List ℕ → Type 0
 IsFull c rest = all_counted c rest ≡ MOST_DROPPED
-
--- whether the connection is closed, or all was read that is read
-abbrev pub is_closed : State → Bool
-is_closed Sta1 = true
-is_closed Sta2 = false
-is_closed Sta6 = false
-is_closed Sta13 = false
-
-abbrev pub is_over : State → ℕ → Bool
-is_over state counted = is_closed state || counted == MOST_DROPPED
 
 -- an A-ABORT was read
 abbrev pub is_abort_piece : Piece → Bool

@@ -38,11 +38,6 @@ event_of (Faulty fault size) = Bad fault
 
 -- ---- pieces, one after another
 
--- whether the stream behind a piece is cut
-abbrev pub is_whole : Piece → Bool
-is_whole (Whole pdu size) = true
-is_whole (Faulty fault size) = false
-
 -- whether the stream behind these pieces is cut: there is no faulty one
 abbrev pub is_cut : List Piece → Bool
 is_cut [] = true

@@ -1,18 +1,21 @@
 //! The PDU that is being read (PS3.8, section 9.3).
 
-ghost use Rattle.std.specs.Prelude.{◌≡◌, ◌<◌, ◌≤◌, ◌+◌, ◌^◌, ◌++◌, ℕ, List, Option, [], length, take, drop, IfOk, OnErr, MatchResult, false};
+ghost use Rattle.std.specs.Prelude.{◌≡◌, ◌<◌, ◌≤◌, ◌+◌, ◌^◌, ◌++◌, ℕ, List, Option, [], length, take, drop, IfOk};
+ghost use Rattle.std.specs.Prelude.{OnErr};
 ghost use Rattle.std.specs.Io.KnownBytes.{Consumes, IsAtEnd, Keeps};
-ghost use Rattle.association_run.specs.Fault.{CountedWhere, tells_read, tells_write, tells_turns};
-ghost use Rattle.association_run.specs.Inbox.{EMPTY, ReadsOn, Takes, IsBodyWanted, Finds, piece_in};
+ghost use Rattle.devices.specs.Failures.{Counts};
+ghost use Rattle.association_run.specs.Fault.{CountedWhere};
+ghost use Rattle.association_run.specs.inner.Faults.{fails_read};
+ghost use Rattle.association_run.specs.inner.Inbox.{EMPTY, ReadsOn, Takes, IsBodyWanted, Finds, IsPieceIn};
 ghost use Rattle.pdu.specs.Grammar.{size_of, HasLawfulHeader};
 ghost use Rattle.pdu.specs.declared.header.TheConstants.{HEADER_LENGTH};
 
-use crate::fault::RunFault;
+use crate::fault::ReadFault;
 use crate::piece::Piece;
 use bytes::Bytes;
-use devices::Source;
+use devices::{DeviceFault, Source};
 use pdu::{HEADER_LENGTH, PduFault, Step, read_pdu, read_shared};
-use std::alloc::Global;
+use std::alloc::{AllocError, Global};
 use std::marker::Model;
 use std::mem;
 
@@ -31,7 +34,7 @@ pub(crate) struct Inbox {
 
 impl Model for Inbox {
     ghost use Rattle.std.specs.Prelude.{◌≤◌, take, length};
-    ghost use Rattle.association_run.specs.Inbox.{InHand, Wants};
+    ghost use Rattle.association_run.specs.inner.Inbox.{InHand, Wants};
 
     ghost Value = { InHand };
 
@@ -47,7 +50,7 @@ fn read_behind<R: Source>(
     bytes: &mut Vec<u8>,
     filled: usize,
     most: usize,
-) -> Result<usize, RunFault>
+) -> Result<usize, DeviceFault>
     requires room { filled < length bytes.old.items }
     requires some { 0 < most }
     ensures front { take filled bytes.new.items ≡ take filled bytes.old.items }
@@ -58,16 +61,10 @@ fn read_behind<R: Source>(
         (R.remaining reader.new) (take count (drop filled bytes.new.items))) }
     ensures end { IfOk result (λ count. count ≡ 0 → IsAtEnd (R.remaining reader.new)) }
     ensures kept { OnErr result (Keeps (R.remaining reader.old) (R.remaining reader.new)) }
-    ensures failed { CountedWhere (tells_read result) (R.failures reader.old)
-        (R.failures reader.new) }
-    ensures own { tells_write result ≡ false }
-    ensures going { tells_turns result ≡ false }
+    ensures failed { Counts (R.failures reader.old) (R.failures reader.new) result }
 {
     let end = filled + most.min(bytes.len() - filled);
-    match reader.read(&mut bytes.as_mut_slice()[filled..end]) {
-        Ok(count) => Ok(count),
-        Err(_failed) => Err(RunFault::Read),
-    }
+    reader.read(&mut bytes.as_mut_slice()[filled..end])
 }
 
 /// The length of a body, in its header.
@@ -80,30 +77,30 @@ fn body_length(header: &[u8]) -> usize
 }
 
 /// What reading `size` bytes comes to.
-fn piece_of(step: Result<Step, PduFault>, size: usize) -> Result<Option<Piece>, RunFault>
-    ensures { result ≡ piece_in step size }
+fn piece_of(step: Result<Step, PduFault>, size: usize) -> Result<Option<Piece>, AllocError>
+    ensures { IfOk result (IsPieceIn step size) }
 {
     match step {
         Ok(Step::Need) => Ok(None),
         Ok(Step::Done(pdu, size)) => Ok(Some(Piece::Whole(pdu, size))),
-        Err(PduFault::Memory) => Err(RunFault::Memory),
+        Err(PduFault::Memory) => Err(AllocError),
         Err(fault) => Ok(Some(Piece::Faulty(fault, size))),
     }
 }
 
 /// What a header tells.
-fn header_piece(alloc: Global, header: &[u8]) -> Result<Option<Piece>, RunFault>
+fn header_piece(alloc: Global, header: &[u8]) -> Result<Option<Piece>, AllocError>
     requires { length header.now ≡ HEADER_LENGTH }
-    ensures { MatchResult result (Finds header.now) (λ fault. fault ≡ RunFault.Memory) }
+    ensures { IfOk result (Finds header.now) }
 {
     piece_of(read_pdu(alloc, header), header.len())
 }
 
 /// What a whole PDU tells. Its bytes are shared, and not copied.
-fn whole_piece(alloc: Global, bytes: Vec<u8>) -> Result<Option<Piece>, RunFault>
+fn whole_piece(alloc: Global, bytes: Vec<u8>) -> Result<Option<Piece>, AllocError>
     requires lawful { HasLawfulHeader bytes.items }
     requires whole { length bytes.items ≡ size_of bytes.items + HEADER_LENGTH }
-    ensures { MatchResult result (Finds bytes.items) (λ fault. fault ≡ RunFault.Memory) }
+    ensures { IfOk result (Finds bytes.items) }
 {
     let size = bytes.len();
     let bytes = Bytes::from_vec(bytes)?;
@@ -135,16 +132,14 @@ impl Inbox {
         &mut self,
         reader: &mut R,
         most: usize,
-    ) -> Result<usize, RunFault>
+    ) -> Result<usize, ReadFault>
         requires wanted { length self.old.text < self.old.wanted }
         requires some { 0 < most }
         ensures read { IfOk result (λ count. ReadsOn (R.remaining reader.old)
             (R.remaining reader.new) self.old most count self.new) }
         ensures kept { OnErr result (Keeps (R.remaining reader.old) (R.remaining reader.new)) }
-        ensures failed { CountedWhere (tells_read result) (R.failures reader.old)
+        ensures failed { CountedWhere (fails_read result) (R.failures reader.old)
             (R.failures reader.new) }
-        ensures own { tells_write result ≡ false }
-        ensures going { tells_turns result ≡ false }
     {
         self.bytes.resize(self.wanted, 0)?;
         let count = read_behind(reader, &mut self.bytes, self.filled, most)?;
@@ -155,9 +150,8 @@ impl Inbox {
     /// Takes the piece in hand, once it is whole.
     ///
     /// A faulty header is one as soon as its six bytes are there.
-    pub(crate) fn take(&mut self) -> Result<Option<Piece>, RunFault>
-        ensures { MatchResult result (λ piece. Takes self.old piece self.new)
-            (λ fault. fault ≡ RunFault.Memory) }
+    pub(crate) fn take(&mut self) -> Result<Option<Piece>, AllocError>
+        ensures { IfOk result (λ piece. Takes self.old piece self.new) }
     {
         if self.filled < self.wanted {
             return Ok(None);
@@ -169,11 +163,10 @@ impl Inbox {
     }
 
     /// Takes what six bytes tell, and else says how many are wanted.
-    fn take_header(&mut self) -> Result<Option<Piece>, RunFault>
+    fn take_header(&mut self) -> Result<Option<Piece>, AllocError>
         requires whole { length self.old.text ≡ self.old.wanted }
         requires header { self.old.wanted ≡ HEADER_LENGTH }
-        ensures { MatchResult result (λ piece. Takes self.old piece self.new)
-            (λ fault. fault ≡ RunFault.Memory) }
+        ensures { IfOk result (λ piece. Takes self.old piece self.new) }
     {
         let piece = header_piece(self.alloc, self.bytes.as_slice())?;
         if piece.is_some() {
@@ -185,11 +178,10 @@ impl Inbox {
     }
 
     /// Takes a whole PDU.
-    fn take_whole(&mut self) -> Result<Option<Piece>, RunFault>
+    fn take_whole(&mut self) -> Result<Option<Piece>, AllocError>
         requires whole { length self.old.text ≡ self.old.wanted }
         requires lawful { IsBodyWanted self.old }
-        ensures { MatchResult result (λ piece. Takes self.old piece self.new)
-            (λ fault. fault ≡ RunFault.Memory) }
+        ensures { IfOk result (λ piece. Takes self.old piece self.new) }
     {
         let bytes = mem::replace(&mut self.bytes, Vec::new(self.alloc));
         *self = Inbox::new(self.alloc);

@@ -17,6 +17,7 @@ mod outbox;
 mod piece;
 mod port;
 mod run;
+mod sides;
 
 pub use end::End;
 pub use fault::RunFault;

@@ -1,15 +1,16 @@
 //! What is to be written, in one buffer for one association after another.
 
-ghost use Rattle.std.specs.Prelude.{◌≡◌, ◌≤◌, ℕ, List, [], length, IfOk, OnOk, OnErr, false};
+ghost use Rattle.std.specs.Prelude.{◌≡◌, ◌≤◌, ℕ, List, [], length, IfOk, OnOk, OnErr};
 ghost use Rattle.std.specs.List.{flat_map};
 ghost use Rattle.std.specs.Io.KnownBytes.{Appends};
 ghost use Rattle.pdu.specs.declared.header.TheConstants.{LONGEST_BODY};
 ghost use Rattle.pdu.specs.declared.value.Pdu.TheVariants.{PData};
 ghost use Rattle.pdu.specs.Spelling.{IsPdu, pdv_text, text_of};
-ghost use Rattle.association_run.specs.Fault.{CountedWhere, tells_read, tells_write, tells_turns};
-ghost use Rattle.association_run.specs.Outbox.{Puts, PutsFront};
+ghost use Rattle.association_run.specs.Fault.{CountedWhere};
+ghost use Rattle.association_run.specs.inner.Faults.{fails_write};
+ghost use Rattle.association_run.specs.inner.Outbox.{Puts, PutsFront};
 
-use crate::fault::RunFault;
+use crate::fault::WriteFault;
 use devices::{Sink, put_all};
 use pdu::{Pdu, Pdv, head_of_data, head_of_pdv, write_pdu};
 use std::alloc::{AllocError, Global};
@@ -37,18 +38,16 @@ impl Model for Outbox {
 }
 
 /// Writes the whole of some bytes.
-fn write<W: Sink>(writer: &mut W, bytes: &[u8]) -> Result<(), RunFault>
+fn write<W: Sink>(writer: &mut W, bytes: &[u8]) -> Result<(), WriteFault>
     ensures ok { OnOk result (Appends (W.contents writer.old) (W.contents writer.new) bytes.now) }
     ensures err { OnErr result (PutsFront (W.contents writer.old) [] (W.contents writer.new)
         bytes.now) }
-    ensures read { tells_read result ≡ false }
-    ensures write { CountedWhere (tells_write result) (W.failures writer.old)
+    ensures write { CountedWhere (fails_write result) (W.failures writer.old)
         (W.failures writer.new) }
-    ensures going { tells_turns result ≡ false }
 {
     match put_all(writer, bytes) {
         Ok(()) => Ok(()),
-        Err(_failed) => Err(RunFault::Write),
+        Err(_failed) => Err(WriteFault::Write),
     }
 }
 
@@ -70,16 +69,14 @@ impl Outbox {
     }
 
     /// Writes what is held.
-    pub(crate) fn flush<W: Sink>(&mut self, writer: &mut W) -> Result<(), RunFault>
+    pub(crate) fn flush<W: Sink>(&mut self, writer: &mut W) -> Result<(), WriteFault>
         ensures ok { OnOk result (Appends (W.contents writer.old) (W.contents writer.new)
             self.old) }
         ensures empty { OnOk result (self.new ≡ []) }
         ensures err { OnErr result (PutsFront (W.contents writer.old) self.old
             (W.contents writer.new) []) }
-        ensures read { tells_read result ≡ false }
-        ensures write { CountedWhere (tells_write result) (W.failures writer.old)
+        ensures write { CountedWhere (fails_write result) (W.failures writer.old)
             (W.failures writer.new) }
-        ensures going { tells_turns result ≡ false }
     {
         write(writer, self.bytes.as_slice())?;
         self.bytes.clear();
@@ -88,15 +85,13 @@ impl Outbox {
 
     /// Holds some bytes behind the others. What has no room is written; bytes for which even the
     /// empty buffer has none are written from the place where they are.
-    fn put<W: Sink>(&mut self, writer: &mut W, bytes: &[u8]) -> Result<(), RunFault>
+    fn put<W: Sink>(&mut self, writer: &mut W, bytes: &[u8]) -> Result<(), WriteFault>
         ensures ok { OnOk result (Puts (W.contents writer.old) self.old (W.contents writer.new)
             self.new bytes.now) }
         ensures err { OnErr result (PutsFront (W.contents writer.old) self.old
             (W.contents writer.new) bytes.now) }
-        ensures read { tells_read result ≡ false }
-        ensures write { CountedWhere (tells_write result) (W.failures writer.old)
+        ensures write { CountedWhere (fails_write result) (W.failures writer.old)
             (W.failures writer.new) }
-        ensures going { tells_turns result ≡ false }
     {
         if bytes.len() <= ROOM - self.bytes.len() {
             self.bytes.extend_from_slice(bytes)?;
@@ -110,31 +105,27 @@ impl Outbox {
         write(writer, bytes)
     }
 
-    fn put_pdv<W: Sink>(&mut self, writer: &mut W, value: &Pdv) -> Result<(), RunFault>
+    fn put_pdv<W: Sink>(&mut self, writer: &mut W, value: &Pdv) -> Result<(), WriteFault>
         requires { length (pdv_text value.now) ≤ LONGEST_BODY }
         ensures ok { OnOk result (Puts (W.contents writer.old) self.old (W.contents writer.new)
             self.new (pdv_text value.now)) }
         ensures err { OnErr result (PutsFront (W.contents writer.old) self.old
             (W.contents writer.new) (pdv_text value.now)) }
-        ensures read { tells_read result ≡ false }
-        ensures write { CountedWhere (tells_write result) (W.failures writer.old)
+        ensures write { CountedWhere (fails_write result) (W.failures writer.old)
             (W.failures writer.new) }
-        ensures going { tells_turns result ≡ false }
     {
         self.put(writer, &head_of_pdv(value))?;
         self.put(writer, value.fragment.as_slice())
     }
 
-    fn put_data<W: Sink>(&mut self, writer: &mut W, values: &[Pdv]) -> Result<(), RunFault>
+    fn put_data<W: Sink>(&mut self, writer: &mut W, values: &[Pdv]) -> Result<(), WriteFault>
         requires { length (flat_map pdv_text values.now) ≤ LONGEST_BODY }
         ensures ok { OnOk result (Puts (W.contents writer.old) self.old (W.contents writer.new)
             self.new (text_of (PData values.now))) }
         ensures err { OnErr result (PutsFront (W.contents writer.old) self.old
             (W.contents writer.new) (text_of (PData values.now))) }
-        ensures read { tells_read result ≡ false }
-        ensures write { CountedWhere (tells_write result) (W.failures writer.old)
+        ensures write { CountedWhere (fails_write result) (W.failures writer.old)
             (W.failures writer.new) }
-        ensures going { tells_turns result ≡ false }
     {
         self.put(writer, &head_of_data(values))?;
         for value in values {
@@ -149,16 +140,14 @@ impl Outbox {
         alloc: Global,
         writer: &mut W,
         pdu: &Pdu,
-    ) -> Result<(), RunFault>
+    ) -> Result<(), WriteFault>
         requires { IsPdu pdu.now }
         ensures ok { OnOk result (Puts (W.contents writer.old) self.old (W.contents writer.new)
             self.new (text_of pdu.now)) }
         ensures err { OnErr result (PutsFront (W.contents writer.old) self.old
             (W.contents writer.new) (text_of pdu.now)) }
-        ensures read { tells_read result ≡ false }
-        ensures write { CountedWhere (tells_write result) (W.failures writer.old)
+        ensures write { CountedWhere (fails_write result) (W.failures writer.old)
             (W.failures writer.new) }
-        ensures going { tells_turns result ≡ false }
     {
         if let Pdu::PData(values) = pdu {
             return self.put_data(writer, values.as_slice());

@@ -1,27 +1,32 @@
 //! An association from its first byte to its end (PS3.8, section 9.2).
 
-ghost use Rattle.std.specs.Prelude.{◌≡◌, ◌≢◌, ◌<◌, ◌≤◌, ◌+◌, List, ℕ, Option, OnOk, OnErr, IfOk, IsErrOf, None, false, length};
+ghost use Rattle.std.specs.Prelude.{◌≡◌, ◌<◌, ◌≤◌, ◌+◌, List, ℕ, Option, OnOk, OnErr, IfOk, IsErrOf, None, false};
+ghost use Rattle.std.specs.Prelude.{length};
 ghost use Rattle.std.specs.Io.KnownBytes.{Consumes, IsAtEnd, Keeps};
-ghost use Rattle.ul_state.specs.declared.table.State.TheVariants.{Sta1, Sta13};
-ghost use Rattle.association_session.specs.Session.{start, is_left};
+ghost use Rattle.ul_state.specs.declared.table.State.TheVariants.{Sta13};
 ghost use Rattle.association_run.specs.Hearing.{counts};
-ghost use Rattle.association_run.specs.Fault.{CountedWhere, tells_read, tells_write, tells_turns};
-ghost use Rattle.association_run.specs.Output.{Output, FrontOfOutput, ReadAtLeast, end_in, is_over as is_over_in};
+ghost use Rattle.devices.specs.Failures.{Counts};
+ghost use Rattle.association_run.specs.Fault.{CountedWhere, tells_read, tells_write};
+ghost use Rattle.association_run.specs.inner.Faults.{fails_read, fails_write, tells_turns};
+ghost use Rattle.association_run.specs.Output.{Output, FrontOfOutput, ReadAtLeast, end_in};
 ghost use Rattle.association_run.specs.Parts.{sides};
-ghost use Rattle.association_run.specs.Pieces.{event_of, size_of_piece, is_whole as is_whole_piece};
-ghost use Rattle.association_run.specs.Turns.{NOTHING_READ, counted_in, Reads, TakesHand, TakingFails, IsReady, Turns};
+ghost use Rattle.association_run.specs.Pieces.{event_of, size_of_piece};
+ghost use Rattle.association_run.specs.inner.Turns.{is_over as is_over_in, is_whole as is_whole_piece, NOTHING_READ};
+ghost use Rattle.association_run.specs.inner.Turns.{counted_in, Reads, CanTake, TakesHand, TakingFails, SetsOut};
+ghost use Rattle.association_run.specs.inner.Turns.{IsReady, Turns};
 
 use crate::act::hear;
 use crate::end::End;
-use crate::fault::RunFault;
+use crate::fault::{ReadFault, RunFault, WriteFault};
 use crate::gate::Gate;
 use crate::inbox::Inbox;
 use crate::outbox::Outbox;
 use crate::piece::Piece;
 use crate::port::Port;
+use crate::sides::{LentSides, Sided};
 use archive_model::View;
 use association_session::Session;
-use devices::{Sink, Source};
+use devices::{DeviceFault, Sink, Source};
 use std::alloc::Global;
 use ul_state::{Event, State, Titles};
 
@@ -45,23 +50,17 @@ pub(crate) struct Intake {
 }
 
 /// Reads some bytes, at most `most`, and drops them.
-fn drop_some<R: Source>(reader: &mut R, most: usize) -> Result<usize, RunFault>
+fn drop_some<R: Source>(reader: &mut R, most: usize) -> Result<usize, DeviceFault>
     requires { 0 < most }
     ensures read { IfOk result (λ count. (bytes : List ℕ) × Consumes (R.remaining reader.old)
         (R.remaining reader.new) bytes × (length bytes ≡ count) × (count ≤ most)) }
     ensures end { IfOk result (λ count. count ≡ 0 → IsAtEnd (R.remaining reader.new)) }
     ensures kept { OnErr result (Keeps (R.remaining reader.old) (R.remaining reader.new)) }
-    ensures failed { CountedWhere (tells_read result) (R.failures reader.old)
-        (R.failures reader.new) }
-    ensures own { tells_write result ≡ false }
-    ensures going { tells_turns result ≡ false }
+    ensures failed { Counts (R.failures reader.old) (R.failures reader.new) result }
 {
     let mut buffer = [0; PIECE];
     let room = most.min(PIECE);
-    match reader.read(&mut buffer[..room]) {
-        Ok(count) => Ok(count),
-        Err(_failed) => Err(RunFault::Read),
-    }
+    reader.read(&mut buffer[..room])
 }
 
 /// How many bytes count in a state.
@@ -106,7 +105,7 @@ impl Intake {
     }
 
     /// Reads once.
-    fn read<R: Source>(&mut self, reader: &mut R, state: State) -> Result<usize, RunFault>
+    fn read<R: Source>(&mut self, reader: &mut R, state: State) -> Result<usize, ReadFault>
         requires room { counted_in self.old state < MOST_DROPPED }
         requires short { length self.old.inbox.text < self.old.inbox.wanted }
         requires dropping { self.old.is_cut ≡ false → state ≡ Sta13 }
@@ -114,10 +113,8 @@ impl Intake {
             (R.remaining reader.new) self.old count self.new) }
         ensures within { OnOk result (counted_in self.new state ≤ MOST_DROPPED) }
         ensures kept { OnErr result (Keeps (R.remaining reader.old) (R.remaining reader.new)) }
-        ensures failed { CountedWhere (tells_read result) (R.failures reader.old)
+        ensures failed { CountedWhere (fails_read result) (R.failures reader.old)
             (R.failures reader.new) }
-        ensures own { tells_write result ≡ false }
-        ensures going { tells_turns result ≡ false }
     {
         let most = most_in(state, self.all_counted(state));
         if self.is_cut {
@@ -157,48 +154,27 @@ fn event(piece: Piece) -> Event
 }
 
 /// Hears the piece in hand, once it is whole.
-fn take_piece<W: Sink, P: Port, G: Gate>(
-    alloc: Global,
+fn take_piece<P: Port, S: Sided<P>>(
     session: &mut Session,
     titles: &Titles<View>,
     intake: &mut Intake,
-    outbox: &mut Outbox,
-    writer: &mut W,
-    port: &mut P,
-    gate: &mut G,
-) -> Result<(), RunFault>
-    requires idle { session.old.association.awaited ≡ None }
-    requires finished { is_left session.old.association.within.state session.old.association.queue
-        ≡ false }
-    requires connected { session.old.association.within.state ≢ Sta1 }
-    requires within { counted_in intake.old session.old.association.within.state ≤ MOST_DROPPED }
-    ensures ok { OnOk result (TakesHand P.ops P.own titles.now.list
-        (sides port.old (W.contents writer.old) (G.reached gate.old))
-        (sides port.new (W.contents writer.new) (G.reached gate.new)) session.old intake.old
-        session.new intake.new) }
-    ensures err { OnErr result (TakingFails P.ops P.own titles.now.list
-        (sides port.old (W.contents writer.old) (G.reached gate.old))
-        (sides port.new (W.contents writer.new) (G.reached gate.new)) session.old intake.old) }
-    ensures read { tells_read result ≡ false }
-    ensures write { CountedWhere (tells_write result) (W.failures writer.old)
-        (W.failures writer.new) }
-    ensures going { tells_turns result ≡ false }
+    sides: &mut S,
+) -> Result<(), WriteFault>
+    requires { CanTake session.old intake.old }
+    ensures ok { OnOk result (TakesHand P.ops P.own titles.now.list (S.at sides.old)
+        (S.at sides.new) session.old intake.old session.new intake.new) }
+    ensures err { OnErr result (TakingFails P.ops P.own titles.now.list (S.at sides.old)
+        (S.at sides.new) session.old intake.old) }
+    ensures write { CountedWhere (fails_write result) (S.failures sides.old)
+        (S.failures sides.new) }
+    ensures same { S.which sides.new ≡ S.which sides.old }
 {
     let Some(piece) = intake.inbox.take()? else {
         return Ok(());
     };
     intake.counted += counted(session.state(), size(&piece));
     intake.is_cut = is_whole(&piece);
-    hear(
-        alloc,
-        session,
-        titles,
-        event(piece),
-        outbox,
-        writer,
-        port,
-        gate,
-    )
+    hear(session, titles, event(piece), sides)
 }
 
 /// How an association ends now.
@@ -225,35 +201,31 @@ fn is_over(session: &Session, counted: usize) -> bool
 }
 
 /// One turn: a read, and the piece that it may end.
-fn take_turn<R: Source, W: Sink, P: Port, G: Gate>(
-    alloc: Global,
+fn take_turn<R: Source, P: Port, S: Sided<P>>(
     session: &mut Session,
     titles: &Titles<View>,
     intake: &mut Intake,
     reader: &mut R,
-    outbox: &mut Outbox,
-    writer: &mut W,
-    port: &mut P,
-    gate: &mut G,
+    sides: &mut S,
 ) -> Result<Option<End>, RunFault>
     requires { IsReady session.old intake.old }
     ensures ready { IfOk result (λ end. end ≡ None → IsReady session.new intake.new) }
     ensures turns { Turns P.ops P.own titles.now.list (R.remaining reader.old)
-        (R.remaining reader.new) (sides port.old (W.contents writer.old) (G.reached gate.old))
-        (sides port.new (W.contents writer.new) (G.reached gate.new)) session.old intake.old
-        result session.new intake.new }
+        (R.remaining reader.new) (S.at sides.old) (S.at sides.new) session.old intake.old result
+        session.new intake.new }
     ensures read { CountedWhere (tells_read result) (R.failures reader.old)
         (R.failures reader.new) }
-    ensures write { CountedWhere (tells_write result) (W.failures writer.old)
-        (W.failures writer.new) }
+    ensures write { CountedWhere (tells_write result) (S.failures sides.old)
+        (S.failures sides.new) }
     ensures going { tells_turns result ≡ false }
+    ensures same { S.which sides.new ≡ S.which sides.old }
 {
     let count = intake.read(reader, session.state())?;
     if count == 0 {
         let counted = intake.all_counted(session.state());
         return Ok(Some(end_now(session, counted)));
     }
-    take_piece(alloc, session, titles, intake, outbox, writer, port, gate)?;
+    take_piece(session, titles, intake, sides)?;
     let counted = intake.all_counted(session.state());
     if is_over(session, counted) {
         return Ok(Some(end_now(session, counted)));
@@ -262,39 +234,28 @@ fn take_turn<R: Source, W: Sink, P: Port, G: Gate>(
 }
 
 /// Takes turn after turn, from the first one to the last.
-fn take_turns<R: Source, W: Sink, P: Port, G: Gate>(
-    alloc: Global,
+fn take_turns<R: Source, P: Port, S: Sided<P>>(
     session: &mut Session,
     titles: &Titles<View>,
     intake: &mut Intake,
     reader: &mut R,
-    outbox: &mut Outbox,
-    writer: &mut W,
-    port: &mut P,
-    gate: &mut G,
+    sides: &mut S,
 ) -> Result<End, RunFault>
-    requires association { session.old.association ≡ start }
-    requires aborted { session.old.aborted ≡ false }
-    requires released { session.old.released ≡ false }
-    requires intake { intake.old ≡ NOTHING_READ }
+    requires { SetsOut session.old intake.old }
     ensures ok { IfOk result (Output P.ops P.own titles.now.list (R.remaining reader.old)
-        (R.remaining reader.new) (sides port.old (W.contents writer.old) (G.reached gate.old))
-        (sides port.new (W.contents writer.new) (G.reached gate.new))) }
+        (R.remaining reader.new) (S.at sides.old) (S.at sides.new)) }
     ensures err { OnErr result (FrontOfOutput P.ops P.own titles.now.list
-        (R.remaining reader.old) (R.remaining reader.new)
-        (sides port.old (W.contents writer.old) (G.reached gate.old))
-        (sides port.new (W.contents writer.new) (G.reached gate.new))) }
+        (R.remaining reader.old) (R.remaining reader.new) (S.at sides.old) (S.at sides.new)) }
     ensures read { CountedWhere (tells_read result) (R.failures reader.old)
         (R.failures reader.new) }
-    ensures write { CountedWhere (tells_write result) (W.failures writer.old)
-        (W.failures writer.new) }
+    ensures write { CountedWhere (tells_write result) (S.failures sides.old)
+        (S.failures sides.new) }
     ensures turns { IsErrOf result RunFault.Turns → ReadAtLeast MOST_READS
         (R.remaining reader.old) (R.remaining reader.new) }
+    ensures same { S.which sides.new ≡ S.which sides.old }
 {
     for _ in 0..MOST_READS {
-        match take_turn(
-            alloc, session, titles, intake, reader, outbox, writer, port, gate,
-        ) {
+        match take_turn(session, titles, intake, reader, sides) {
             Ok(None) => {}
             Ok(Some(end)) => return Ok(end),
             Err(fault) => return Err(fault),
@@ -338,16 +299,12 @@ pub fn run_association<R: Source, W: Sink, P: Port, G: Gate>(
 {
     let mut session = Session::new(alloc);
     let mut intake = Intake::new(alloc);
-    outbox.clear();
-    take_turns(
+    let mut sides = LentSides {
         alloc,
-        &mut session,
-        titles,
-        &mut intake,
-        reader,
         outbox,
         writer,
         port,
         gate,
-    )
+    };
+    take_turns(&mut session, titles, &mut intake, reader, &mut sides)
 }

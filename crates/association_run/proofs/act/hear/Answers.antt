@@ -28,6 +28,7 @@ loop-input-init g c = record {
       c.in_ok-pending.ensures.ok);
   quiet = c.in_ok-tell_rows.ensures.quiet;
   write = c.in_ok-tell_rows.ensures.write ∙ c.in_ok-pending.ensures.write;
+  same = c.in_ok-tell_rows.ensures.same ∙ c.in_ok-pending.ensures.same;
 }
 
 -- Of the deeds for what came next a front was done.
@@ -71,6 +72,7 @@ loop-input-preserved g c =
           c.tell-in-Some.new.session c.loop-input.invariant.hearing next c.in_ok-pending-2.ensures.ok);
       quiet = c.in_ok-tell_rows-2.ensures.quiet;
       write = c.in_ok-tell_rows-2.ensures.write ∙ c.in_ok-pending-2.ensures.write ∙ c.loop-input.invariant.write;
+      same = c.in_ok-tell_rows-2.ensures.same ∙ c.in_ok-pending-2.ensures.same ∙ c.loop-input.invariant.same;
     }
 
 -- Nothing more comes of the event.

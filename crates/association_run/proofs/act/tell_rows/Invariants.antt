@@ -1,19 +1,18 @@
 use Rattle.std.proofs.Common.{◌≡◌}
 use Rattle.association_session.specs.Due.{left_of}
-use Rattle.association_run.specs.Parts.{sides}
-use Rattle.association_run.specs.Steps.{GoesOnWith}
+use Rattle.association_run.specs.inner.Steps.{GoesOnWith}
 use Rattle.association_run.proofs.act.tell_rows.Given as goal
 
 -- some rows are told, and nothing else was heard
-abbrev pub invariant-loop-alloc : goal.invariant-loop-alloc
-invariant-loop-alloc g l = record {
-  goes : GoesOnWith g.P.Port.ops g.P.Port.own l.titles.list (sides l.fn.port (g.W.Sink.contents l.fn.writer)
-      (g.G.Gate.reached l.fn.gate)) (sides l.port (g.W.Sink.contents l.writer) (g.G.Gate.reached l.gate)) l.fn.session
-      l.session;
+abbrev pub invariant-loop-session : goal.invariant-loop-session
+invariant-loop-session g l = record {
+  goes : GoesOnWith g.P.Port.ops g.P.Port.own l.titles.list (g.S.Sided.at l.fn.sides) (g.S.Sided.at l.sides)
+      l.fn.session l.session;
   left : l.session.association.queue ≡ l.fn.session.association.queue;
-  write : g.W.Sink.failures l.writer ≡ g.W.Sink.failures l.fn.writer;
+  write : g.S.Sided.failures l.sides ≡ g.S.Sided.failures l.fn.sides;
+  same : g.S.Sided.which l.sides ≡ g.S.Sided.which l.fn.sides;
 }
 
 -- Each turn leaves fewer responses.
-abbrev pub decreases-loop-alloc : goal.decreases-loop-alloc
-decreases-loop-alloc g l = left_of l.session.association.awaited
+abbrev pub decreases-loop-session : goal.decreases-loop-session
+decreases-loop-session g l = left_of l.session.association.awaited

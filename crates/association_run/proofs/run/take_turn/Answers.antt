@@ -1,7 +1,7 @@
 use Rattle.std.proofs.Common.{◌+◌, ◌∙◌, sym, ap, inr, arith}
 use Rattle.std.proofs.lemmas.Result.{err_from_is_err_and}
 use Rattle.association_run.specs.Output.{end_in}
-use Rattle.association_run.specs.Turns.{counted_in}
+use Rattle.association_run.specs.inner.Turns.{counted_in}
 use Rattle.association_run.proofs.Fronts.{kept_read}
 use Rattle.association_run.proofs.TurnLaws.{after_read, after_take, stopped, broken, finished, fewer_reads}
 use Rattle.association_run.proofs.TurnLaws.{unfinished_after, empty_after, ready_after, read_dropping, nothing_more}

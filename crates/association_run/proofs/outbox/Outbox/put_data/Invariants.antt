@@ -1,7 +1,7 @@
 use Rattle.std.proofs.Common.{◌≡◌, ◌++◌, take}
 use Rattle.std.specs.List.{flat_map}
 use Rattle.pdu.specs.Spelling.{data_head, pdv_text}
-use Rattle.association_run.specs.Outbox.{Puts}
+use Rattle.association_run.specs.inner.Outbox.{Puts}
 use Rattle.association_run.proofs.outbox.Outbox.put_data.Given as goal
 
 -- The header was put, and the values so far.

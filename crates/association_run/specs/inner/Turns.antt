@@ -1,5 +1,6 @@
 -- What one turn of a run does: a read, and the piece that it may end.
-use Rattle.std.specs.Prelude.{◌≡◌, ◌≢◌, ◌<◌, ◌≤◌, ◌⊎◌, ℕ, ◌+◌, true, false, List, [], ◌++◌, length, Option, Some, None}
+use Rattle.std.specs.Prelude.{◌≡◌, ◌≢◌, ◌<◌, ◌≤◌, ◌⊎◌, ℕ, ◌+◌, true, false, List, [], ◌++◌, length, Option, Some}
+use Rattle.std.specs.Prelude.{None}
 use Rattle.std.specs.Prelude.{Result, Ok, Err}
 use Rattle.std.specs.Io.KnownBytes.{Consumes, IsAtEnd}
 use Rattle.pdu.specs.Grammar.{IsUnfinished}
@@ -17,13 +18,32 @@ use Rattle.association_run.specs.declared.fault.RunFault.{RunFault}
 use Rattle.association_run.specs.declared.piece.Piece.{Piece}
 use Rattle.association_run.specs.declared.run.Intake.{Intake}
 use Rattle.association_run.specs.declared.run.TheConstants.{MOST_DROPPED}
-use Rattle.association_run.specs.Inbox.{EMPTY}
-use Rattle.association_run.specs.Pieces.{IsPiece, Cuts, is_cut, is_whole, event_of, size_of_piece}
+use Rattle.association_run.specs.inner.Inbox.{EMPTY}
+use Rattle.association_run.specs.Pieces.{IsPiece, Cuts, is_cut, event_of, size_of_piece}
 use Rattle.association_run.specs.Hearing.{SETTING_OUT, counts, TakesPieces}
 use Rattle.association_run.specs.Parts.{Sides, Performs}
-use Rattle.association_run.specs.Steps.{place_of, HeardWhole, HeardFront}
+use Rattle.association_run.specs.inner.Steps.{place_of, HeardWhole, HeardFront}
 use Rattle.association_run.specs.Output.{Output, FrontOfOutput, was_aborted, was_released}
 use Rattle.archive_model.specs.declared.view.View.{View}
+use Rattle.ul_state.specs.declared.table.State.TheVariants.{Sta6}
+use Rattle.std.specs.Prelude.{◌==◌}
+use Rattle.std.specs.Prelude.{Bool, ◌||◌}
+use Rattle.association_run.specs.declared.piece.Piece.TheVariants.{Whole, Faulty}
+
+-- whether the connection is closed, or all was read that is read
+abbrev pub is_closed : State → Bool
+is_closed Sta1 = true
+is_closed Sta2 = false
+is_closed Sta6 = false
+is_closed Sta13 = false
+
+abbrev pub is_over : State → ℕ → Bool
+is_over state counted = is_closed state || counted == MOST_DROPPED
+
+-- whether the stream behind a piece is cut
+abbrev pub is_whole : Piece → Bool
+is_whole (Whole pdu size) = true
+is_whole (Faulty fault size) = false
 
 -- ---- what was read and not yet heard
 
@@ -53,6 +73,13 @@ pub record Reads (r0 r1 : Option (List ℕ)) (old : Intake) (count : ℕ) (new :
   pub brought : Adds old bytes new ⊎ Drops old bytes new
 
 -- ---- the piece in hand
+
+-- A piece can be taken: nothing is awaited or left, there is a connection, and no more counts than is read.
+pub record CanTake (s : SessionState) (intake : Intake) : Type 0 where
+  pub idle : s.association.awaited ≡ None
+  pub finished : is_left s.association.within.state s.association.queue ≡ false
+  pub connected : s.association.within.state ≢ Sta1
+  pub within : counted_in intake s.association.within.state ≤ MOST_DROPPED
 
 -- A piece was heard, and nothing is in hand.
 pub record HearsPiece {P : Type 0} (ops : P → List Op) (own : P → List (List ℕ)) (titles : List (Title View))
@@ -85,6 +112,13 @@ TakingFails ops own titles old new s before =
     (event_of piece))
 
 -- ---- turns
+
+-- a run that sets out: nothing was heard, and nothing was read
+pub record SetsOut (s : SessionState) (before : Intake) : Type 0 where
+  pub association : s.association ≡ start
+  pub aborted : s.aborted ≡ false
+  pub released : s.released ≡ false
+  pub intake : before ≡ NOTHING_READ
 
 -- a run that goes on: nothing is awaited or left, there is a connection, and a read is allowed that ends no piece that
 -- was read before

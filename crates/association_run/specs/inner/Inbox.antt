@@ -8,8 +8,6 @@ use Rattle.pdu.specs.declared.value.Step.TheVariants.{Need, Done}
 use Rattle.pdu.specs.declared.fault.PduFault.{PduFault}
 use Rattle.pdu.specs.declared.fault.PduFault.TheVariants as faults
 use Rattle.ul_state.specs.Acceptor.{HasLawfulPdu}
-use Rattle.association_run.specs.declared.fault.RunFault.{RunFault}
-use Rattle.association_run.specs.declared.fault.RunFault.TheVariants.{Memory}
 use Rattle.association_run.specs.declared.piece.Piece.{Piece}
 use Rattle.association_run.specs.declared.piece.Piece.TheVariants.{Whole, Faulty}
 use Rattle.association_run.specs.Pieces.{IsPiece, event_of}
@@ -51,12 +49,12 @@ abbrev pub Takes : InHand → Option Piece → InHand → Type 0
 Takes old None new = (new.text ≡ old.text) × (length new.text < new.wanted) × IsUnfinished new.text
 Takes old (Some piece) new = Finds old.text (Some piece) × (new ≡ EMPTY)
 
--- what reading so many bytes comes to
-abbrev pub piece_in : Result Step PduFault → ℕ → Result (Option Piece) RunFault
-piece_in (Ok Need) size = Ok None
-piece_in (Ok (Done pdu taken)) size = Ok (Some (Whole pdu taken))
-piece_in (Err faults.UnknownType) size = Ok (Some (Faulty faults.UnknownType size))
-piece_in (Err faults.BadLength) size = Ok (Some (Faulty faults.BadLength size))
-piece_in (Err faults.BadItem) size = Ok (Some (Faulty faults.BadItem size))
-piece_in (Err faults.TooLong) size = Ok (Some (Faulty faults.TooLong size))
-piece_in (Err faults.Memory) size = Err Memory
+-- what reading so many bytes tells, where it wants no memory
+abbrev pub IsPieceIn : Result Step PduFault → ℕ → Option Piece → Type 0
+IsPieceIn (Ok Need) size piece = piece ≡ None
+IsPieceIn (Ok (Done pdu taken)) size piece = piece ≡ Some (Whole pdu taken)
+IsPieceIn (Err faults.UnknownType) size piece = piece ≡ Some (Faulty faults.UnknownType size)
+IsPieceIn (Err faults.BadLength) size piece = piece ≡ Some (Faulty faults.BadLength size)
+IsPieceIn (Err faults.BadItem) size piece = piece ≡ Some (Faulty faults.BadItem size)
+IsPieceIn (Err faults.TooLong) size piece = piece ≡ Some (Faulty faults.TooLong size)
+IsPieceIn (Err faults.Memory) size piece = ⊥

@@ -1,5 +1,5 @@
 -- What is done on one event of a session, and on one PDU.
-use Rattle.std.specs.Prelude.{◌≡◌, ◌⊎◌, ℕ, true, false, ◌||◌, List, [], ◌∷◌, ◌++◌, Option, Some, None, IsTrue}
+use Rattle.std.specs.Prelude.{◌≡◌, ◌≢◌, ◌⊎◌, ℕ, true, false, ◌||◌, List, [], ◌∷◌, ◌++◌, Option, Some, None, IsTrue}
 use Rattle.std.specs.Prelude.{option_to_list, ⊤}
 use Rattle.std.specs.List.{list_any}
 use Rattle.operation.specs.declared.op.Op.{Op}
@@ -13,8 +13,10 @@ use Rattle.association_session.specs.declared.event.SessionEvent.TheVariants as 
 use Rattle.association_services.specs.declared.reply.Reply.{Reply}
 use Rattle.association_session.specs.Projections.{IsFront, state_after}
 use Rattle.association_session.specs.declared.due.Due.{Due}
+use Rattle.association_session.specs.declared.due.Due.TheVariants as dues
 use Rattle.association_session.specs.Due.{takes_reply, IsAnswered, Fits}
 use Rattle.ul_state.specs.Table.{IsLeft}
+use Rattle.ul_state.specs.declared.table.State.TheVariants.{Sta1}
 use Rattle.association_session.specs.Session.{IsOpenFor}
 use Rattle.association_session.specs.Session.{AssociationState, SessionState, Turned, Takes, IsFewer, IsSound}
 use Rattle.association_session.specs.Session.{is_in_turn, is_left, is_abort, is_release, is_abort_event, aborted_by}
@@ -38,6 +40,15 @@ BreaksOff ops own old new deeds = (done : List Deed) × (part : List ℕ) × Beg
     × Performs ops own old new done part []
 
 -- ---- one event of a session
+
+-- No row is left to be told, and no sub-operation to be begun.
+abbrev pub IsQuiet : Option Due → Type 0
+IsQuiet None = ⊤
+IsQuiet (Some (dues.Store awaited)) = ⊤
+IsQuiet (Some (dues.Find awaited kind)) = ⊤
+IsQuiet (Some (dues.Rows telling)) = ⊥
+IsQuiet (Some (dues.Get awaited syntax)) = ⊤
+IsQuiet (Some (dues.Sending retrieval)) = ⊥
 
 -- The reply that is to be told next is that of the call that is awaited.
 abbrev pub Pends : Option Due → Option Reply → Type 0
@@ -79,6 +90,13 @@ BrokeTurn ops own titles old new from event = (new ≡ old) ⊎ BrokeDeeds ops o
 
 abbrev pub place_of : AssociationState → Place
 place_of s = record { within = s.within; stage = s.stage }
+
+-- A PDU can be heard: what it brings can be answered, nothing is awaited or left, and there is a connection.
+pub record CanHear (s : SessionState) (event : Event) : Type 0 where
+  pub sound : IsSound (inputs.Heard event)
+  pub idle : s.association.awaited ≡ None
+  pub finished : is_left s.association.within.state s.association.queue ≡ false
+  pub connected : s.association.within.state ≢ Sta1
 
 -- A PDU was heard whole, and all the deeds for it were done.
 pub record HeardWhole {P : Type 0} (ops : P → List Op) (own : P → List (List ℕ)) (titles : List (Title View))
