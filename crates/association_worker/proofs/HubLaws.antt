@@ -25,7 +25,7 @@ use Rattle.site_hub.proofs.Histories.{set_of_more, stays, history_is_site}
 use Rattle.association_services.specs.declared.call.Finding.{Finding}
 use Rattle.association_services.specs.declared.call.Getting.{Getting}
 use Rattle.association_services.specs.declared.reply.PortFault.{PortFault}
-use Rattle.association_services.specs.declared.reply.PortFault.TheVariants.{Busy}
+use Rattle.association_services.specs.declared.reply.PortFault.TheVariants.{Busy, Shelf}
 use Rattle.devices.specs.Failures.{Rose}
 use Rattle.association_run.specs.Port as port
 use Rattle.association_worker.specs.Port.{fault_of_hub, reply_to}
@@ -156,6 +156,22 @@ pub busy_take : (old new : ℕ) (told : Result News HubFault) (reply : Result Ta
 busy_take old new (Ok news) reply to tells is = absurd cc
 busy_take old new (Err fault) reply to tells is =
     busy_fault old new fault tells (same_fault (fault_of_hub fault) Busy reply to is)
+
+-- A hub knows no shelf,
+no_shelf : (fault : HubFault) → fault_of_hub fault ≡ Shelf → ⊥
+no_shelf hub.Busy is = absurd cc
+no_shelf hub.Collision is = absurd cc
+no_shelf hub.Memory is = absurd cc
+no_shelf hub.StampsSpent is = absurd cc
+no_shelf hub.Torn is = absurd cc
+no_shelf hub.Pending is = absurd cc
+no_shelf hub.BadCorrection is = absurd cc
+
+-- so a store of it tells of none.
+pub own_take : (told : Result News HubFault) (reply : Result Taken PortFault) → reply ≡ reply_to told
+    → reply ≡ Err Shelf → ⊥
+own_take (Ok news) reply to is = absurd cc
+own_take (Err fault) reply to is = no_shelf fault (same_fault (fault_of_hub fault) Shelf reply to is)
 
 find_fault : (fault : HubFault) → IsLookFault fault → port.IsFindFault (fault_of_hub fault)
 find_fault fault (inl is) = inr (ap fault_of_hub is)

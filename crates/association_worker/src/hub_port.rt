@@ -1,6 +1,6 @@
 //! A pass of a running site as a port.
 
-ghost use Rattle.std.specs.Prelude.{◌≡◌, Err, OnErr};
+ghost use Rattle.std.specs.Prelude.{◌≡◌, ◌≢◌, Err, OnErr};
 ghost use Rattle.operation.specs.declared.op.Op.TheVariants.{Content as a_content};
 ghost use Rattle.devices.specs.Failures.{Rose};
 ghost use Rattle.site_state.specs.Site.{ops_of};
@@ -78,11 +78,12 @@ impl<'a, H: HubName, T: Shows<H>, R: Wait + Drop, S: Wait, E: AtEntry> HubPort<'
     }
 
     /// Takes an operation whose digest is known, at its turn, into what all passes share. What is
-    /// refused was not published: the pass has seen nothing more.
+    /// refused was not published: the pass has seen nothing more. No shelf is asked.
     pub fn take(&mut self, op: Digested) -> Result<Taken, PortFault>
         ensures stores { Stores (λ (s : Seat). ops_of (set_of H.opening s.seen))
             (λ (s : Seat). s.mine) self.old op result self.new }
         ensures refused { OnErr result (self.new.seen ≡ self.old.seen) }
+        ensures own { result ≢ Err PortFault.Shelf }
         ensures busy { result ≡ Err PortFault.Busy → Rose self.old.refused self.new.refused }
         ensures later { IsLater self.old self.new }
     {
@@ -129,6 +130,7 @@ impl<'a, H: HubName, T: Shows<H>, R: Wait + Drop, S: Wait, E: AtEntry> Port
         ensures stores { Stores (λ (s : Seat). ops_of (set_of H.opening s.seen))
             (λ (s : Seat). s.mine) self.old (a_content content) result self.new }
         ensures refused { OnErr result (self.new.seen ≡ self.old.seen) }
+        ensures own { result ≢ Err PortFault.Shelf }
         ensures busy { result ≡ Err PortFault.Busy → Rose self.old.refused self.new.refused }
         ensures later { IsLater self.old self.new }
     {

@@ -1,6 +1,6 @@
 //! A pass of a running site, as the part of a port that is asked what it holds.
 
-ghost use Rattle.std.specs.Prelude.{◌≡◌, Ok, Err, IfOk, IfErr, OnErr};
+ghost use Rattle.std.specs.Prelude.{◌≡◌, ◌≢◌, Ok, Err, IfOk, IfErr, OnErr};
 ghost use Rattle.devices.specs.Failures.{Rose};
 ghost use Rattle.site_state.specs.Site.{ops_of};
 ghost use Rattle.site_hub.specs.History.{set_of};
@@ -137,7 +137,8 @@ impl<H: HubName, E: AtEntry> Looker<H, E> {
         prepared_in(found)
     }
 
-    /// Takes an operation for the pass, at its turn, by a keeper that all passes share.
+    /// Takes an operation for the pass, at its turn, by a keeper that all passes share. What it
+    /// refuses is the hub's own: it knows no shelf.
     pub fn take<T: Shows<H>, R: Wait + Drop>(
         &mut self,
         rt: &impl Wait,
@@ -147,6 +148,7 @@ impl<H: HubName, E: AtEntry> Looker<H, E> {
         ensures stores { Stores (λ (s : Seat). ops_of (set_of H.opening s.seen))
             (λ (s : Seat). s.mine) self.old op result self.new }
         ensures refused { OnErr result (self.new.seen ≡ self.old.seen) }
+        ensures own { result ≢ Err PortFault.Shelf }
         ensures busy { result ≡ Err PortFault.Busy → Rose self.old.refused self.new.refused }
         ensures later { IsLater self.old self.new }
     {

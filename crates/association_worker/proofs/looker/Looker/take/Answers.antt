@@ -1,5 +1,5 @@
 use Rattle.operation.specs.Spelling.{digest_of}
-use Rattle.association_worker.proofs.HubLaws.{pass_stores, refused_unseen, busy_take}
+use Rattle.association_worker.proofs.HubLaws.{pass_stores, refused_unseen, own_take, busy_take}
 use Rattle.association_worker.proofs.looker.Looker.take.Goals as goal
 
 -- What the keeper takes for the pass is stored at the port.
@@ -17,6 +17,10 @@ returns-clause-refused g c =
     let told = c.store_digested-told.ensures in
     refused_unseen c.args.self.now c.store_digested-told.new.pass (digest_of c.args.op) c.store_digested-told.result
     c.reply.result c.reply.ensures (rw (← c.self.view_is) told.pending) (rw (← c.self.view_is) told.kept)
+
+-- The keeper knows no shelf.
+pub returns-clause-own : goal.returns-clause-own
+returns-clause-own g c = own_take c.store_digested-told.result c.reply.result c.reply.ensures
 
 -- It is busy where the keeper was.
 pub returns-clause-busy : goal.returns-clause-busy
