@@ -1,3 +1,5 @@
 pub mod ConflictLaws
 pub mod OrderLaws
 pub mod RejectedLaws
+pub mod StudyLaws
+pub mod UnderLaws

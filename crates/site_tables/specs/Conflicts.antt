@@ -39,6 +39,11 @@ conflicts_among ops uid some = flat_map (conflicts_in ops uid) some
 abbrev pub conflicts_of : List Op → List ℕ → List (List (List ℕ))
 conflicts_of ops uid = map (conflict_row ops) (contents_of uid ops)
 
+-- an operation under its SOP Instance UID, where it is a content
+abbrev pub instance_pair : Op → Option (List ℕ × Op)
+instance_pair (a_content c) = Some (c.instance, a_content c)
+instance_pair (a_correction k) = None
+
 -- the rows of the contents of each flagged SOP Instance UID, ascending
 abbrev pub conflict_rows : List Op → List (List (List ℕ))
 conflict_rows ops = flat_map (conflicts_of ops) (flagged ops)

@@ -1,4 +1,5 @@
 pub mod Cells
+pub mod Under
 pub mod Conflicts
 pub mod Rejected
 pub mod Corrections

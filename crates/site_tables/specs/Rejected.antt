@@ -10,6 +10,8 @@ use Rattle.operation.specs.declared.op.Op.{Op}
 use Rattle.operation.specs.declared.op.Op.TheVariants.{Content as a_content, Correction as a_correction}
 use Rattle.operation.specs.Parts.{ContentParts}
 use Rattle.archive_model.specs.Covered.{is_among}
+use Rattle.site_tables.specs.declared.under.Under.{Under}
+use Rattle.site_tables.specs.Under.{pairs, held_under}
 use Rattle.archive_model.specs.Index.{code_of, names_under}
 
 -- a content, where it is a note
@@ -61,6 +63,14 @@ codes uid notes =
 -- the UID, and parted by spaces the codes of the titles and the notes
 abbrev pub rejected_row : List ContentParts → List ℕ → List (List ℕ)
 rejected_row notes uid = uid ∷ join_with_byte 32 (codes uid notes) ∷ join_with_byte 32 (naming uid notes) ∷ []
+
+-- a note, under each UID that it names
+abbrev pub named_pairs : ContentParts → List (List ℕ × ContentParts)
+named_pairs c = map (λ u. (u, c)) (named_in c)
+
+-- the row of a UID, by the notes that lie under it
+abbrev pub row_by : List (Under ContentParts) → List ℕ → List (List ℕ)
+row_by entries uid = rejected_row (held_under uid (pairs entries)) uid
 
 -- the rows of all UIDs that notes of a set name
 abbrev pub rejected_rows : List Op → List (List (List ℕ))

@@ -9,7 +9,7 @@ use Rattle.data_set.specs.Set.{Set}
 use Rattle.data_set.specs.Values.{value_in}
 use Rattle.operation.specs.declared.op.Op.{Op}
 use Rattle.operation.specs.Parts.{ContentParts, value_or_empty}
-use Rattle.archive_model.specs.Contents.{pick}
+use Rattle.archive_model.specs.Contents.{pick, study_of}
 use Rattle.archive_model.specs.Groups.{in_study}
 use Rattle.archive_model.specs.declared.view.View.TheVariants.{Archive}
 use Rattle.key_matching.specs.declared.matching.Matching.{Matching}
@@ -19,6 +19,8 @@ use Rattle.query_model.specs.declared.query.Query.{Query}
 use Rattle.query_model.specs.declared.key.Level.TheVariants.{Study}
 use Rattle.query_model.specs.Rows.{rows_of}
 use Rattle.study_index.specs.Index.{is_short}
+use Rattle.site_tables.specs.declared.under.Under.{Under}
+use Rattle.site_tables.specs.Under.{pairs, held_under}
 use Rattle.site_tables.specs.Rejected.{notes_of, covered_uids}
 
 -- a universal key (PS3.4, C.2.2.2.3)
@@ -56,6 +58,18 @@ study_row rejected set =
     ∷ value_or_none STUDY_DATE set ∷ value_or_none NUMBER_OF_STUDY_RELATED_SERIES set
     ∷ value_or_none NUMBER_OF_STUDY_RELATED_INSTANCES set
     ∷ decimal (length (in_study (value_or_none STUDY_INSTANCE_UID set) rejected)) ∷ []
+
+-- a content under its study
+abbrev pub study_pair : ContentParts → List ℕ × ContentParts
+study_pair c = (study_of c, c)
+
+-- the same row, by the contents that lie under the study
+abbrev pub row_by : List (Under ContentParts) → Set → List (List ℕ)
+row_by entries set =
+    value_or_none STUDY_INSTANCE_UID set ∷ value_or_none PATIENT_ID set ∷ value_or_none PATIENT_NAME set
+    ∷ value_or_none STUDY_DATE set ∷ value_or_none NUMBER_OF_STUDY_RELATED_SERIES set
+    ∷ value_or_none NUMBER_OF_STUDY_RELATED_INSTANCES set
+    ∷ decimal (length (held_under (value_or_none STUDY_INSTANCE_UID set) (pairs entries))) ∷ []
 
 -- the rows of what a C-FIND for all studies answers in ARCHIVE
 abbrev pub study_rows : List Op → List (List (List ℕ))

@@ -12,6 +12,7 @@ mod laws;
 mod rejected;
 mod studies;
 mod table;
+mod under;
 
 pub use conflicts::conflict_rows;
 pub use corrections::correction_rows;

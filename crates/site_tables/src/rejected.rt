@@ -1,13 +1,16 @@
 //! What rejection notes name (IHE RAD-66).
 
 ghost use Rattle.std.specs.Prelude.{◌≡◌, ◌++◌, IfOk, OnOk, map};
+ghost use Rattle.std.specs.List.{flat_map};
 ghost use Rattle.std.specs.Option.{option_copied};
 ghost use Rattle.archive_model.specs.Covered.{is_among as is_among_in};
 ghost use Rattle.archive_model.specs.Index.{names_under as names_under_in};
 ghost use Rattle.site_state.specs.Site.{ops_of};
-ghost use Rattle.site_tables.specs.Rejected.{note_of, notes_of, named_by, covered_uids as covered_in, is_naming as is_naming_in, naming as naming_in, is_titled as is_titled_in, code_under, codes as codes_in, rejected_row as row_of, rejected_rows as rows_in};
+ghost use Rattle.site_tables.specs.Rejected.{note_of, notes_of, named_by, covered_uids as covered_in, is_naming as is_naming_in, naming as naming_in, is_titled as is_titled_in, code_under, codes as codes_in, rejected_row as row_of, rejected_rows as rows_in, named_pairs, row_by};
+ghost use Rattle.site_tables.specs.Under.{pairs, held_under, AreInOrder, Holds};
 
 use crate::table::Row;
+use crate::under::{Under, put_in_order, those_under};
 use archive_model::title_code;
 use octets::{ListOf, Octets, ascending, digits, joined};
 use operation::{Content, Op};
@@ -170,14 +173,84 @@ fn row(alloc: Global, notes: &[&Content], uid: &[u8]) -> Result<Row, AllocError>
     Ok(cells)
 }
 
+/// Puts a note under some UIDs.
+fn put_under<'a>(
+    uids: &'a [Octets],
+    note: &'a Content,
+    entries: &mut Vec<Under<'a, Content>>,
+) -> Result<(), AllocError>
+    ensures { OnOk result (pairs entries.new.items
+        ≡ pairs entries.old.items ++ map (λ u. (u, note.now)) uids.now) }
+{
+    for uid in uids {
+        entries.push(Under {
+            uid: uid.as_slice(),
+            held: note,
+        })?;
+    }
+    Ok(())
+}
+
+/// Puts a note under each UID that it names.
+fn put_under_named<'a>(
+    note: &'a Content,
+    entries: &mut Vec<Under<'a, Content>>,
+) -> Result<(), AllocError>
+    ensures { OnOk result (pairs entries.new.items
+        ≡ pairs entries.old.items ++ named_pairs note.now) }
+{
+    match note.note() {
+        None => Ok(()),
+        Some(said) => put_under(said.covers.as_slice(), note, entries),
+    }
+}
+
+/// Some notes, under each UID that they name.
+fn under_named<'a>(
+    alloc: Global,
+    notes: &[&'a Content],
+) -> Result<Vec<Under<'a, Content>>, AllocError>
+    ensures { IfOk result (λ found. pairs found.items
+        ≡ flat_map named_pairs (map (λ c. c.now) notes.now)) }
+{
+    let mut found = Vec::new(alloc);
+    for note in notes {
+        put_under_named(note, &mut found)?;
+    }
+    Ok(found)
+}
+
+/// The same, in the order of these UIDs.
+fn by_named<'a>(alloc: Global, notes: &[&'a Content]) -> Result<Vec<Under<'a, Content>>, AllocError>
+    ensures { IfOk result (λ found.
+        Holds (flat_map named_pairs (map (λ c. c.now) notes.now)) found.items) }
+{
+    let mut entries = under_named(alloc, notes)?;
+    put_in_order(&mut entries)?;
+    Ok(entries)
+}
+
+/// The row of a UID, by the notes that lie under it.
+fn row_at(alloc: Global, entries: &[Under<'_, Content>], uid: &[u8]) -> Result<Row, AllocError>
+    requires { AreInOrder entries.now }
+    ensures { IfOk result (λ row. row ≡ row_of (held_under uid.now (pairs entries.now)) uid.now) }
+{
+    let notes = those_under(alloc, entries, uid)?;
+    row(alloc, &notes, uid)
+}
+
 /// The rows of some UIDs.
-fn rows_at(alloc: Global, notes: &[&Content], uids: &[Octets]) -> Result<Vec<Row>, AllocError>
-    ensures { IfOk result (λ rows. rows.items
-        ≡ map (row_of (map (λ c. c.now) notes.now)) uids.now) }
+fn rows_at(
+    alloc: Global,
+    entries: &[Under<'_, Content>],
+    uids: &[Octets],
+) -> Result<Vec<Row>, AllocError>
+    requires { AreInOrder entries.now }
+    ensures { IfOk result (λ rows. rows.items ≡ map (row_by entries.now) uids.now) }
 {
     let mut rows = Vec::with_capacity(alloc, uids.len())?;
     for uid in uids {
-        rows.push(row(alloc, notes, uid.as_slice())?)?;
+        rows.push(row_at(alloc, entries, uid.as_slice())?)?;
     }
     Ok(rows)
 }
@@ -194,14 +267,13 @@ pub(crate) fn covered_uids(alloc: Global, site: &Site) -> Result<Vec<Octets>, Al
 
 /// Of each SOP Instance UID that a note names, ascending: the UID, the codes of the titles of the
 /// notes that name it, and the SOP Instance UIDs of these notes.
-///
-/// It passes over the notes once for each such UID.
 pub fn rejected_rows(alloc: Global, site: &Site) -> Result<Vec<Row>, AllocError>
     ensures { IfOk result (λ rows. rows.items ≡ rows_in (ops_of site.now)) }
 {
     let ops = site.operations(alloc)?;
     let notes = notes_in(alloc, &ops)?;
+    let entries = by_named(alloc, &notes)?;
     let uids = uids_named(alloc, &notes)?;
-    let rows = rows_at(alloc, &notes, &uids)?;
+    let rows = rows_at(alloc, &entries, &uids)?;
     Ok(rows)
 }

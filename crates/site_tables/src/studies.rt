@@ -5,12 +5,13 @@ ghost use Rattle.std.specs.Fmt.{decimal};
 ghost use Rattle.std.specs.Option.{option_copied};
 ghost use Rattle.operation.specs.Parts.{value_or_empty};
 ghost use Rattle.data_set.specs.Values.{value_in};
-ghost use Rattle.archive_model.specs.Groups.{in_study};
 ghost use Rattle.site_state.specs.Site.{ops_of};
-ghost use Rattle.site_tables.specs.Studies.{asked_of as asked_in, study_query as query_in, pick_of_short, rejected_picks as rejected_in, study_row as row_of, study_rows as rows_in};
+ghost use Rattle.site_tables.specs.Studies.{asked_of as asked_in, study_query as query_in, pick_of_short, rejected_picks as rejected_in, study_rows as rows_in, study_pair, row_by};
+ghost use Rattle.site_tables.specs.Under.{pairs, held_under, AreInOrder, Holds};
 
 use crate::rejected::covered_uids;
 use crate::table::Row;
+use crate::under::{Under, put_in_order, run_under};
 use archive_model::{View, study};
 use archive_query::{Answer, Asked, Level, Matching, Query, find};
 use data_set::DataSet;
@@ -79,31 +80,48 @@ fn rejected_picks<'a>(alloc: Global, site: &'a Site) -> Result<Vec<&'a Content>,
     Ok(found)
 }
 
-/// Those of some contents that are of a study.
-fn of_study<'a>(
+/// Some contents, each under its study.
+fn under_studies<'a>(
     alloc: Global,
     contents: &[&'a Content],
-    uid: &[u8],
-) -> Result<Vec<&'a Content>, AllocError>
-    ensures { IfOk result (λ found. map (λ c. c.now) found.items
-        ≡ in_study uid.now (map (λ c. c.now) contents.now)) }
+) -> Result<Vec<Under<'a, Content>>, AllocError>
+    ensures { IfOk result (λ found. pairs found.items
+        ≡ map study_pair (map (λ c. c.now) contents.now)) }
 {
-    let mut found = Vec::new(alloc);
+    let mut found = Vec::with_capacity(alloc, contents.len())?;
     for content in contents {
-        if study(content) == uid {
-            found.push(*content)?;
-        }
+        found.push(Under {
+            uid: study(content),
+            held: *content,
+        })?;
     }
     Ok(found)
 }
 
-/// How many of some contents are of a study, in decimal digits.
-fn count_of_study(alloc: Global, contents: &[&Content], uid: &[u8]) -> Result<Octets, AllocError>
-    ensures { IfOk result (λ text. text
-        ≡ decimal (length (in_study uid.now (map (λ c. c.now) contents.now)))) }
+/// The same, in the order of the studies.
+fn by_study<'a>(
+    alloc: Global,
+    contents: &[&'a Content],
+) -> Result<Vec<Under<'a, Content>>, AllocError>
+    ensures { IfOk result (λ found.
+        Holds (map study_pair (map (λ c. c.now) contents.now)) found.items) }
 {
-    let found = of_study(alloc, contents, uid)?;
-    digits(alloc, found.len() as u64)
+    let mut entries = under_studies(alloc, contents)?;
+    put_in_order(&mut entries)?;
+    Ok(entries)
+}
+
+/// How many contents lie under a study, in decimal digits.
+fn count_of_study(
+    alloc: Global,
+    entries: &[Under<'_, Content>],
+    uid: &[u8],
+) -> Result<Octets, AllocError>
+    requires { AreInOrder entries.now }
+    ensures { IfOk result (λ text. text
+        ≡ decimal (length (held_under uid.now (pairs entries.now)))) }
+{
+    digits(alloc, run_under(entries, uid).len() as u64)
 }
 
 /// The trimmed value of an element, empty where there is none.
@@ -117,8 +135,9 @@ fn value(set: &DataSet, tag: u32) -> &[u8]
 }
 
 /// The row of a study that is answered.
-fn row(alloc: Global, rejected: &[&Content], set: &DataSet) -> Result<Row, AllocError>
-    ensures { IfOk result (λ row. row ≡ row_of (map (λ c. c.now) rejected.now) set.now) }
+fn row(alloc: Global, entries: &[Under<'_, Content>], set: &DataSet) -> Result<Row, AllocError>
+    requires { AreInOrder entries.now }
+    ensures { IfOk result (λ row. row ≡ row_by entries.now set.now) }
 {
     let uid = value(set, STUDY_INSTANCE_UID);
     let series = value(set, NUMBER_OF_STUDY_RELATED_SERIES);
@@ -130,34 +149,37 @@ fn row(alloc: Global, rejected: &[&Content], set: &DataSet) -> Result<Row, Alloc
     cells.push(Octets::from_slice(alloc, value(set, STUDY_DATE))?)?;
     cells.push(Octets::from_slice(alloc, series)?)?;
     cells.push(Octets::from_slice(alloc, instances)?)?;
-    cells.push(count_of_study(alloc, rejected, uid)?)?;
+    cells.push(count_of_study(alloc, entries, uid)?)?;
     Ok(cells)
 }
 
 /// The rows of what is answered.
-fn rows_at(alloc: Global, rejected: &[&Content], answers: &[Answer]) -> Result<Vec<Row>, AllocError>
-    ensures { IfOk result (λ rows. rows.items
-        ≡ map (row_of (map (λ c. c.now) rejected.now)) answers.now) }
+fn rows_at(
+    alloc: Global,
+    entries: &[Under<'_, Content>],
+    answers: &[Answer],
+) -> Result<Vec<Row>, AllocError>
+    requires { AreInOrder entries.now }
+    ensures { IfOk result (λ rows. rows.items ≡ map (row_by entries.now) answers.now) }
 {
     let mut rows = Vec::with_capacity(alloc, answers.len())?;
     for answer in answers {
         let set = answer.to_set(alloc)?;
-        rows.push(row(alloc, rejected, &set)?)?;
+        rows.push(row(alloc, entries, &set)?)?;
     }
     Ok(rows)
 }
 
 /// Of each study that ARCHIVE shows, ascending, what a C-FIND answers there: the UID, Patient ID,
 /// name, date, how many series and instances; and how many instances of the study are rejected.
-///
-/// It passes over the rejected instances once for each study.
 pub fn study_rows(alloc: Global, site: &Site) -> Result<Vec<Row>, AllocError>
     ensures { IfOk result (λ rows. rows.items ≡ rows_in (ops_of site.now)) }
 {
     let rejected = rejected_picks(alloc, site)?;
+    let entries = by_study(alloc, &rejected)?;
     let query = study_query(alloc)?;
     let answers = find(alloc, site, View::Archive, b"ARCHIVE", &query)?;
     let answers = answers.into_vec(alloc)?;
-    let rows = rows_at(alloc, &rejected, &answers)?;
+    let rows = rows_at(alloc, &entries, &answers)?;
     Ok(rows)
 }

@@ -1,7 +1,7 @@
 use Rattle.std.proofs.Common.{◌≡◌, take, map}
-use Rattle.site_tables.specs.Studies.{study_row}
+use Rattle.site_tables.specs.Studies.{row_by}
 use Rattle.site_tables.proofs.studies.rows_at.Given as goal
 
 -- The rows are those of the answers so far.
 abbrev pub invariant-loop-answer : goal.invariant-loop-answer
-invariant-loop-answer l = l.rows.items ≡ map (study_row (map (λ c. c.now) l.rejected)) (take l.answer-index l.answers)
+invariant-loop-answer l = l.rows.items ≡ map (row_by l.entries) (take l.answer-index l.answers)
