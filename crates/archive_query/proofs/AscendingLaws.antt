@@ -1,11 +1,9 @@
 -- Texts that ascend, each once: whatever order they came in, they are the same.
-use Rattle.std.proofs.Common.{inl, inr, ◌≡◌, ℕ, Bool, true, false, cond, List, [], ◌∷◌, ◌++◌, refl, sym, ap, subst, ◌∙◌}
+use Rattle.std.proofs.Common.{inl, inr, ◌≡◌, ℕ, true, List, [], ◌∷◌, refl, sym, ap, subst, ◌∙◌}
 use Rattle.std.proofs.Common.{Less, Equal, Greater}
-use Rattle.std.specs.Prelude.{map, ◌⊎◌}
-use Rattle.std.specs.List.{filter}
+use Rattle.std.specs.Prelude.{◌⊎◌}
 use Rattle.std.specs.Ordering.{match_ordering, ordering_reverse, is_eq}
 use Rattle.std.specs.declared.cmp.Ordering.{Ordering}
-use Rattle.std.specs.Cmp.{IsTotalOrder}
 use Rattle.std.specs.Cmp.Lexicographic.{nat_list_cmp_total, texts_ties, same_text}
 use Rattle.std.proofs.lemmas.Cmp.{tied_itself}
 use Rattle.archive_model.specs.Texts.{same, text_cmp, put, ascending}

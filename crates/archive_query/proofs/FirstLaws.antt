@@ -1,22 +1,22 @@
 -- The first that is shown of each series stands for all that is shown of it.
-use Rattle.std.proofs.Common.{◌≡◌, ℕ, ◌<◌, Bool, true, false, cond, List, [], ◌∷◌, ◌++◌, map, take, length, Option, Some}
+use Rattle.std.proofs.Common.{◌≡◌, ℕ, ◌<◌, Bool, true, false, List, [], ◌∷◌, ◌++◌, take, length, Option, Some}
 use Rattle.std.proofs.Common.{None, zero, suc, refl, sym, ap, subst, ◌∙◌, inl, inr, ◌⊎◌, arith}
 use Rattle.std.specs.Prelude.{◌&&◌, nat_lt, is_some, if◌then◌else◌}
 use Rattle.std.proofs.lemmas.Bool.{false≢true, ltb-true}
 use Rattle.std.proofs.lemmas.List.{take_all}
 use Rattle.std.proofs.lemmas.List.Kept.{IsStrictlySortedBy-filter}
-use Rattle.std.specs.List.{filter, flat_map, cons_option, AllByRecursion}
+use Rattle.std.specs.List.{flat_map, cons_option, AllByRecursion}
 use Rattle.std.specs.List.Sorted.{IsStrictlySortedBy}
 use Rattle.std.specs.Map.{keys_of}
 use Rattle.std.specs.Option.{option_map}
-use Rattle.std.specs.Ordering.{is_gt, ordering_then, nat_cmp}
+use Rattle.std.specs.Ordering.{is_gt, ordering_then}
 use Rattle.std.specs.declared.cmp.Ordering.TheVariants.{Less}
 use Rattle.octets.specs.Members.{Has as IsOne}
 use Rattle.octets.specs.Texts.{same, text_cmp}
 use Rattle.operation.specs.declared.op.Op.{Op}
 use Rattle.operation.specs.Parts.{ContentParts}
 use Rattle.archive_model.specs.declared.view.View.{View}
-use Rattle.archive_model.specs.Contents.{pick, contents, study_of, series_of}
+use Rattle.archive_model.specs.Contents.{study_of, series_of}
 use Rattle.archive_model.specs.Shown.{shown_at}
 use Rattle.archive_model.proofs.MemberLaws.{has_filter, filter_has}
 use Rattle.archive_model.proofs.ModelLaws.{same_is, pick_is_content}
@@ -27,7 +27,6 @@ use Rattle.live_picks.proofs.Studies.{between_of}
 use Rattle.live_picks.proofs.Trees.{sorted-tree_of}
 use Rattle.live_picks.proofs.Walks.{listed, picked, IsListed}
 use Rattle.live_picks.proofs.KeyLaws.{at_itself, same_key}
-use Rattle.live_picks.specs.Keys.{has}
 use Rattle.std.specs.BTreeMap.{is_at}
 use Rattle.archive_model.proofs.MemberLaws.{any_has, has_any}
 use Rattle.study_index.specs.Index.{IndexValue, pick_of}

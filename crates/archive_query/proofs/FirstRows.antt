@@ -1,8 +1,8 @@
 -- The rows of what is shown first of each series are all rows, where no count is asked.
 use Rattle.std.proofs.Common.{◌≡◌, ℕ, Bool, true, false, List, [], ◌∷◌, map, take, Option, Some, None, refl, sym, ap}
-use Rattle.std.proofs.Common.{subst, ◌∙◌, inl, inr}
+use Rattle.std.proofs.Common.{subst, ◌∙◌}
 use Rattle.std.specs.Prelude.{◌&&◌, ◌||◌, not}
-use Rattle.std.specs.List.{filter, filter_map, find, flat_map, cons_option}
+use Rattle.std.specs.List.{filter, filter_map, find, cons_option}
 use Rattle.std.specs.List.Sorted.{IsStrictlySortedBy}
 use Rattle.std.specs.BTreeMap.{is_at}
 use Rattle.std.specs.Map.{keys_of}
@@ -15,12 +15,11 @@ use Rattle.operation.specs.declared.op.Op.{Op}
 use Rattle.operation.specs.Parts.{ContentParts}
 use Rattle.archive_model.specs.declared.view.View.{View}
 use Rattle.archive_model.specs.Attributes.{attribute}
-use Rattle.archive_model.specs.Contents.{pick, contents, instances, study_of, series_of}
+use Rattle.archive_model.specs.Contents.{contents, instances, study_of, series_of}
 use Rattle.archive_model.specs.Shown.{shown, shown_at}
 use Rattle.archive_model.proofs.MemberLaws.{any_has, filter_has, has_filter, has_map, map_has, filter_map_has}
 use Rattle.archive_model.proofs.MemberLaws.{has_filter_map}
 use Rattle.archive_model.proofs.ModelLaws.{same_itself, pick_is_content}
-use Rattle.live_picks.specs.Keys.{has}
 use Rattle.live_picks.specs.Live.{tree_of, places_in_study}
 use Rattle.live_picks.specs.Proved.Picks.{text_exact}
 use Rattle.live_picks.proofs.KeyLaws.{same_key}
@@ -28,12 +27,11 @@ use Rattle.study_index.specs.Index.{IndexValue}
 use Rattle.study_index.specs.Definition.{IsIndexOf, AreLawful}
 use Rattle.query_model.specs.declared.asked.Asked.{Asked}
 use Rattle.query_model.specs.declared.query.Query.{Query}
-use Rattle.query_model.specs.declared.key.Level.{Level}
-use Rattle.query_model.specs.declared.key.Level.TheVariants.{Study, Series, Image}
+use Rattle.query_model.specs.declared.key.Level.TheVariants.{Study}
 use Rattle.query_model.specs.Key.{has_study_above, has_series_above}
 use Rattle.query_model.specs.Rows.{uid_at, is_named, named, rows_among, rows_of}
 use Rattle.archive_query.specs.Candidates.{is_list_of, members_of, listed_of, listed_tag, AreWalked}
-use Rattle.archive_query.specs.Firsts.{is_counted, firsts, firsts_in_study, firsts_of}
+use Rattle.archive_query.specs.Firsts.{is_counted, firsts_in_study, firsts_of}
 use Rattle.archive_query.specs.Found.{AreEnough}
 use Rattle.archive_query.specs.Grouping.{under, groups_by, Ascends}
 use Rattle.archive_query.proofs.AscendingLaws.{Text, Rises, Below, ascending_rises, has_ascending}
@@ -80,9 +78,8 @@ mapped_members {X} {Y} f xs ys within y h =
     let at = map_has f xs y h in
     subst (IsOne (map f ys)) (sym at.2) (has_map f ys at.0 (within at.0 at.1))
 
-module _ (view : View) (ops : List Op) (index : IndexValue) (is : IsIndexOf ops index) (lawful : AreLawful ops)
-    (up : IsStrictlySortedBy text_cmp (keys_of index.1.1.1)) (q : Query) (none : is_counted q ≡ false)
-    (at_study : q.level ≡ Study) where
+module _ (view : View) (ops : List Op) (index : IndexValue) (is : IsIndexOf ops index)
+    (up : IsStrictlySortedBy text_cmp (keys_of index.1.1.1)) where
   -- ---- what is shown, by ascending UID
 
   low : (k : Text) (us : List Text) → Below k us → AtLeast (λ c. c.instance) k (filter_map (shown_at view ops) us)
@@ -98,7 +95,7 @@ module _ (view : View) (ops : List Op) (index : IndexValue) (is : IsIndexOf ops 
         rest,
       )
 
-  up_shown : (us : List Text) → Rises us → Up (λ c. c.instance) (filter_map (shown_at view ops) us)
+  pub up_shown : (us : List Text) → Rises us → Up (λ c. c.instance) (filter_map (shown_at view ops) us)
   up_shown [] rises = tt
   up_shown (u ∷ us) rises = by (shown_at view ops u) refl (up_shown us rises.1)
     where
@@ -112,18 +109,21 @@ module _ (view : View) (ops : List Op) (index : IndexValue) (is : IsIndexOf ops 
         rest,
       )
 
-  shown_own : (c : ContentParts) → IsOne (shown view ops) c → shown_at view ops c.instance ≡ Some c
+  pub shown_own : (c : ContentParts) → IsOne (shown view ops) c → shown_at view ops c.instance ≡ Some c
   shown_own c h =
       let at = filter_map_has (shown_at view ops) (instances ops) c h in
       ap (shown_at view ops) (own view ops index is up at.0 c at.2) ∙ at.2
 
-  in_shown : (c : ContentParts) → shown_at view ops c.instance ≡ Some c → IsOne (shown view ops) c
+  pub in_shown : (c : ContentParts) → shown_at view ops c.instance ≡ Some c → IsOne (shown view ops) c
   in_shown c e =
       let of_set = pick_is_content c.instance ops c (shown_pick view ops c.instance c e) in
       has_filter_map (shown_at view ops) (instances ops) c.instance c
       (has_one (instances ops) c.instance (has_ascending (map (λ (x : ContentParts). x.instance) (contents ops))
       c.instance (one_has _ c.instance (has_map (λ (x : ContentParts). x.instance) (contents ops) c of_set.0)))) e
 
+module _ (view : View) (ops : List Op) (index : IndexValue) (is : IsIndexOf ops index) (lawful : AreLawful ops)
+    (up : IsStrictlySortedBy text_cmp (keys_of index.1.1.1)) (q : Query) (none : is_counted q ≡ false)
+    (at_study : q.level ≡ Study) where
   -- ---- what is taken
 
   abbrev keep : ContentParts → Bool
@@ -173,12 +173,12 @@ module _ (view : View) (ops : List Op) (index : IndexValue) (is : IsIndexOf ops 
 
     within : (d : ContentParts) → IsOne taken d → IsOne all d
     within d h =
-        let at = in_taken d h in all_in d (in_shown d (each_shown studies d (back d at.0))) at.1
+        let at = in_taken d h in all_in d (in_shown view ops index is up d (each_shown studies d (back d at.0))) at.1
 
     single : (c d : ContentParts) → IsOne all c → IsOne all d → c.instance ≡ d.instance → c ≡ d
     single c d h k e =
-        let s : Some c ≡ Some d = sym (shown_own c (in_all c h).0) ∙ ap (shown_at view ops) e
-        ∙ shown_own d (in_all d k).0 in cc
+        let s : Some c ≡ Some d = sym (shown_own view ops index is up c (in_all c h).0) ∙ ap (shown_at view ops) e
+        ∙ shown_own view ops index is up d (in_all d k).0 in cc
 
     -- what is kept is stood for by what is taken
     first_of : (r : Option (List Text)) (c : ContentParts) → is_walked_study r (take 64 (study_of c)) ≡ true
@@ -202,7 +202,7 @@ module _ (view : View) (ops : List Op) (index : IndexValue) (is : IsIndexOf ops 
         let walked_is = walked_to ops index is lawful (find (is_list_of STUDY_INSTANCE_UID) q.asked) q refl studies
         (subst (λ l. AreWalked (option_map members_of (find (is_list_of (listed_tag l)) q.asked)) q index studies)
         at_study walked) c kept in
-        let f = first_of studies c walked_is (shown_own c at.0) in
+        let f = first_of studies c walked_is (shown_own view ops index is up c at.0) in
         record {
           other = f.0;
           one = taken_in f.0 (there f.0 f.2) (at_level f.0
@@ -224,11 +224,15 @@ module _ (view : View) (ops : List Op) (index : IndexValue) (is : IsIndexOf ops 
         rows_of_kept ops lawful called q ds (of_set ds ds_shown)
         ∙ sym (rows_by_firsts (attribute ops) called q none all taken
         (firsts_alike q.level all taken
-        (up_filter (λ c. c.instance) (is_named q) (filter keep (shown view ops)) (up_filter (λ c. c.instance) keep (shown view ops)
-        (up_shown (instances ops) (ascending_rises (map (λ (x : ContentParts). x.instance) (contents ops))))))
-        (up_filter (λ c. c.instance) (is_named q) (filter keep ds) (up_filter (λ c. c.instance) keep ds (ups (λ c. c.instance) ds ds_up)))
+        (up_filter (λ c. c.instance) (is_named q) (filter keep (shown view ops))
+        (up_filter (λ c. c.instance) keep (shown view ops)
+        (up_shown view ops index is up (instances ops)
+        (ascending_rises (map (λ (x : ContentParts). x.instance) (contents ops))))))
+        (up_filter (λ c. c.instance) (is_named q) (filter keep ds)
+        (up_filter (λ c. c.instance) keep ds (ups (λ c. c.instance) ds ds_up)))
         within single stand))
-        ∙ sym (rows_of_kept ops lawful called q (shown view ops) (of_set (shown view ops) shown_own))
+        ∙ sym (rows_of_kept ops lawful called q (shown view ops)
+        (of_set (shown view ops) (shown_own view ops index is up)))
 
     pub first_enough : AreEnough view q ops (named q ds)
     first_enough = record {

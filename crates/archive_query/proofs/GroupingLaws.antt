@@ -2,21 +2,20 @@
 use Rattle.std.proofs.Common.{inl, inr, ◌≡◌, ℕ, zero, suc, ◌+◌, ◌<◌, ◌≤◌, Bool, true, false, not, ◌&&◌, cond, List, []}
 use Rattle.std.proofs.Common.{◌∷◌, ◌++◌, length, get_or, take, drop, refl, sym, ap, subst, ◌∙◌, Less, Equal, Greater}
 use Rattle.std.proofs.Common.{arith, append_assoc, length-drop, ◌-◌}
-use Rattle.std.specs.Prelude.{map, ◌⊎◌, Contains}
+use Rattle.std.specs.Prelude.{map}
 use Rattle.std.specs.List.{filter}
-use Rattle.std.specs.List.Sorted.{IsPermutation, IsSortedBy, IsStableBy, ties}
-use Rattle.std.specs.Ordering.{match_ordering, ordering_reverse, is_eq, is_lt, is_gt}
+use Rattle.std.specs.List.Sorted.{IsSortedBy, IsStableBy, ties}
+use Rattle.std.specs.Ordering.{ordering_reverse, is_eq, is_lt, is_gt}
 use Rattle.std.specs.declared.cmp.Ordering.{Ordering}
-use Rattle.std.specs.Cmp.{IsTotalOrder, IsStrictWeakOrder}
+use Rattle.std.specs.Cmp.{IsStrictWeakOrder}
 use Rattle.std.specs.Cmp.Lexicographic.{nat_list_cmp_total, texts_ties, same_text}
 use Rattle.std.proofs.lemmas.Cmp.{upto}
 use Rattle.std.proofs.lemmas.List.Elements.{filter-append}
-use Rattle.std.proofs.lemmas.List.{take-append-drop, length-take, drop-drop, take_all, map-append}
+use Rattle.std.proofs.lemmas.List.{take-append-drop, length-take, drop-drop, take_all}
 use Rattle.archive_query.specs.Grouping.{under, groups_by, leading, Ascends, IsRun}
 use Rattle.archive_model.specs.Texts.{same, text_cmp, put, ascending}
-use Rattle.archive_query.proofs.AscendingLaws.{Text, Has, Below, Rises, Within, equal_is, itself, same_itself}
-use Rattle.archive_query.proofs.AscendingLaws.{less_after, below_has, ascending_has, has_ascending, ascending_same}
-use Rattle.archive_query.proofs.AscendingLaws.{ascending_rises}
+use Rattle.archive_query.proofs.AscendingLaws.{Text, Has, Below, Within, equal_is, itself, same_itself}
+use Rattle.archive_query.proofs.AscendingLaws.{less_after, below_has, ascending_has, ascending_same}
 
 -- each has this key
 abbrev pub AllAre : {X : Type 0} → (X → Text) → Text → List X → Type 0

@@ -4,7 +4,7 @@ use Rattle.std.proofs.Common.{◌≡◌, ℕ, Bool, true, false, List, [], ◌�
 use Rattle.std.proofs.Common.{refl, sym, ap, subst, ◌∙◌}
 use Rattle.std.specs.Prelude.{◌&&◌, ◌||◌, ◌==◌, not}
 use Rattle.std.proofs.lemmas.Bool.{eqb-true, false≢true}
-use Rattle.std.specs.List.{filter, list_any}
+use Rattle.std.specs.List.{filter}
 use Rattle.std.specs.Ordering.{is_eq, is_le, ordering_then}
 use Rattle.std.specs.declared.cmp.Ordering.TheVariants.{Less, Equal, Greater}
 use Rattle.std.specs.Cmp.Lexicographic.{nat_list_cmp_total}
@@ -23,14 +23,10 @@ use Rattle.archive_model.specs.Contents.{contents, study_of, patient_of}
 use Rattle.archive_model.specs.Attributes.{attribute, corrected, corrections, corrects, correction_for, correction_in}
 use Rattle.archive_model.specs.Attributes.{is_last, is_target_of}
 use Rattle.archive_model.proofs.MemberLaws.{has_filter, filter_has, has_any, any_has, has_map, found_has, filter_map_has}
-use Rattle.archive_model.proofs.ModelLaws.{same_is, same_itself, content_has}
-use Rattle.std.specs.Map.{keys_of}
-use Rattle.live_picks.specs.Proved.Picks.{text_exact}
-use Rattle.live_picks.proofs.Studies.{pick_listed}
-use Rattle.query_model.specs.declared.query.Query.{Query}
+use Rattle.archive_model.proofs.ModelLaws.{same_is, content_has}
 use Rattle.join_laws.specs.Proved.Sets.{has-union}
 use Rattle.live_picks.specs.Keys.{has}
-use Rattle.live_picks.specs.Live.{Text, pick_at, is_of_study}
+use Rattle.live_picks.specs.Live.{Text}
 use Rattle.live_picks.proofs.KeyLaws.{at_itself, same_key}
 use Rattle.study_index.specs.Index.{IndexValue}
 use Rattle.study_index.specs.Definition.{IsIndexOf, AreLawful}

@@ -1,4 +1,5 @@
 pub mod RowSets
+pub mod SeriesRows
 pub mod AscendingLaws
 pub mod GroupingLaws
 pub mod GroupMaps

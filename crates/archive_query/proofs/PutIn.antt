@@ -15,7 +15,7 @@ use Rattle.study_index.specs.Index.{IndexValue}
 use Rattle.study_index.specs.Leads.{LeadWalk}
 use Rattle.query_model.specs.declared.query.Query.{Query}
 use Rattle.archive_query.specs.Candidates.{AreByOne, AreChosen}
-use Rattle.archive_query.specs.Leads.{IsChosen, AreWalksOf, IsOneOf}
+use Rattle.archive_query.specs.Leads.{IsChosen, AreWalksOf}
 
 -- a walk of one of a query's keys
 pub chosen_of : (q : Query) (index : IndexValue) (walks : List (ℕ × LeadWalk)) → AreWalksOf q walks

@@ -1,6 +1,6 @@
 -- The elements of a row are those of a data set.
-use Rattle.std.proofs.Common.{◌≡◌, ◌<◌, ◌≤◌, ◌+◌, ◌^◌, ◌%◌, ℕ, List, [], ◌∷◌, ◌++◌, length, Bool, true, false, cond}
-use Rattle.std.proofs.Common.{not, ◌&&◌, ◌||◌, ◌==◌, nat_lt, nat_le, Option, Some, None, refl, sym, ap, ◌∙◌, arith}
+use Rattle.std.proofs.Common.{◌≡◌, ◌<◌, ◌≤◌, ◌%◌, ℕ, List, [], ◌∷◌, ◌++◌, length, Bool, true, false, cond}
+use Rattle.std.proofs.Common.{not, ◌&&◌, ◌==◌, nat_lt, nat_le, Option, Some, None, refl, sym, arith}
 use Rattle.std.proofs.Common.{length-append}
 use Rattle.std.specs.List.{filter_map, cons_option}
 use Rattle.std.specs.Option.{option_map}
@@ -8,14 +8,13 @@ use Rattle.std.specs.Prelude.{codes}
 use Rattle.std.proofs.lemmas.Bool.{ltb-true, leb-true, lt-ltb}
 use Rattle.dictionary.specs.Elements.{vr_in_table}
 use Rattle.data_set.specs.declared.syntax.Syntax.TheVariants.{Explicit}
-use Rattle.data_set.specs.Tree.{Tree, leaf, trees_of, tag_of}
+use Rattle.data_set.specs.Tree.{Tree, trees_of}
 use Rattle.dictionary.specs.Tags.{is_above}
 use Rattle.data_set.specs.Tags.{is_item_tag, is_reserved_group}
 use Rattle.data_set.specs.Values.{pad_of, padded}
-use Rattle.data_set.specs.Vr.{is_short, is_name, has_bad_vr, inner_syntax, is_undefined, undefined_length}
+use Rattle.data_set.specs.Vr.{is_short, is_name, has_bad_vr, inner_syntax, undefined_length}
 use Rattle.data_set.specs.Header.{offence}
 use Rattle.data_set.specs.Texts.{deepest}
-use Rattle.data_set.specs.Spelling.{FitsHead, SuitsSyntax}
 use Rattle.data_set.specs.Written.{MayStand, IsTree, AreTrees, IsSet}
 use Rattle.query_model.specs.declared.key.Level.{Level}
 use Rattle.query_model.specs.declared.key.Level.TheVariants.{Study, Series, Image}

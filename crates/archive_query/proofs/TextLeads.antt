@@ -6,8 +6,7 @@ use Rattle.std.proofs.lemmas.Bool.{eqb-true, false≢true, leb-true, leb-false}
 use Rattle.std.proofs.lemmas.List.{take_all, take-append-drop, length-map, length-take-le, append_assoc}
 use Rattle.std.proofs.lemmas.List.Folds.{list_all_more}
 use Rattle.std.proofs.Common.{get_or, ◌+◌, ◌<◌, ◌≤◌}
-use Rattle.std.specs.List.{list_all, find}
-use Rattle.std.specs.Prelude.{IfSome, Option, Some, None}
+use Rattle.std.specs.List.{list_all}
 use Rattle.std.specs.Char.{to_ascii_uppercase}
 use Rattle.std.specs.Ordering.{nat_cmp, is_le, ordering_then, ordering_reverse}
 use Rattle.std.specs.declared.cmp.Ordering.{Ordering}
@@ -18,10 +17,7 @@ use Rattle.archive_model.proofs.ModelLaws.{same_itself}
 use Rattle.key_matching.specs.declared.matching.Matching.{Matching}
 use Rattle.key_matching.specs.declared.matching.Matching.TheVariants.{Dates, Times, WildCard, Name, Uids, Single}
 use Rattle.key_matching.specs.declared.matching.Matching.TheVariants.{Answered}
-use Rattle.key_matching.specs.Matches.{is_universal, is_match_by}
-use Rattle.query_model.specs.declared.asked.Asked.{Asked}
-use Rattle.query_model.specs.declared.query.Query.{Query}
-use Rattle.archive_model.proofs.MemberLaws.{found_has}
+use Rattle.key_matching.specs.Matches.{is_match_by}
 use Rattle.key_matching.specs.WildCard.{star, question_mark, capital, folded, is_byte_match, is_wild_match}
 use Rattle.live_picks.specs.Live.{Text}
 use Rattle.study_index.specs.Leads.{Lead, lead_cmp, led_byte, is_folded, as_led, is_between, value_front, value_end}

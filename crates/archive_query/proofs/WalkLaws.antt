@@ -1,9 +1,8 @@
 -- Which keys have a walk, and what it comes to.
-use Rattle.std.proofs.Common.{◌≡◌, ℕ, ◌<◌, Bool, true, false, List, [], ◌∷◌, ◌++◌, refl, sym, ap, subst, ◌∙◌, inl, inr}
+use Rattle.std.proofs.Common.{◌≡◌, ℕ, ◌<◌, Bool, true, false, List, [], ◌∷◌, ◌++◌, refl, sym, subst, ◌∙◌, inl, inr}
 use Rattle.std.proofs.Common.{arith}
 use Rattle.std.specs.Prelude.{◌&&◌, ◌||◌, ◌==◌, not}
-use Rattle.std.proofs.lemmas.Bool.{eqb-true, false≢true}
-use Rattle.std.specs.List.{list_any}
+use Rattle.std.proofs.lemmas.Bool.{eqb-true}
 use Rattle.dictionary.specs.declared.elements.TheConstants.{ACCESSION_NUMBER, PATIENT_ID, PATIENT_NAME, STUDY_DATE}
 use Rattle.dictionary.specs.declared.elements.TheConstants.{STUDY_ID}
 use Rattle.octets.specs.Members.{Has}

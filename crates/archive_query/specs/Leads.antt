@@ -1,6 +1,6 @@
 -- Which studies the leads of an index name as candidates of a key.
 use Rattle.std.specs.Prelude.{◌≡◌, ℕ, ◌<◌, List, [], ◌++◌, map, Bool, true, false, ◌||◌, ◌&&◌, not, ◌==◌, Option}
-use Rattle.std.specs.Prelude.{None, Some, IfSome}
+use Rattle.std.specs.Prelude.{None, IfSome}
 use Rattle.std.specs.List.{list_any, list_all}
 use Rattle.std.specs.declared.cmp.Ordering.TheVariants.{Less}
 use Rattle.octets.specs.Members.{Has}
@@ -14,7 +14,7 @@ use Rattle.key_matching.specs.declared.range.Moment.TheVariants.{Date}
 use Rattle.live_picks.specs.Live.{Text}
 use Rattle.query_model.specs.declared.asked.Asked.{Asked}
 use Rattle.query_model.specs.declared.query.Query.{Query}
-use Rattle.study_index.specs.Leads.{led_tags, is_folded, is_between, is_led, value_front, value_end, IsWithin}
+use Rattle.study_index.specs.Leads.{led_tags, is_folded, is_led, value_front, value_end, IsWithin}
 use Rattle.study_index.specs.Leads.{IsBehind, LeadWalk, is_walked, lead_cmp, led_byte}
 
 -- whether studies are found from the values of an attribute

@@ -8,7 +8,7 @@ ghost use Rattle.archive_query.specs.Found.{rows_found as rows_found_in, AreEnou
 ghost use Rattle.archive_query.specs.Firsts.{is_counted as is_counted_in};
 
 use crate::candidates::{candidates, lent, shown_of, walked_studies};
-use crate::firsts::{is_counted, of_studies};
+use crate::firsts::{is_counted, of_studies, of_study};
 use crate::fixes::Fixes;
 use crate::grouping::sort_by_instance;
 use crate::groups::named;
@@ -16,6 +16,7 @@ use crate::prepared::PreparedQuery;
 use crate::rows::rows_among;
 use archive_model::View;
 use join_laws::Join;
+use live_picks::ShortText;
 use operation::Content;
 use query_model::{Answers, Level, Query};
 use site_state::Site;
@@ -79,8 +80,32 @@ fn reached_first<'a>(
     Ok(named)
 }
 
-/// What is taken for the rows of a query. Where no count is asked at STUDY, only the first content
-/// of each series is.
+/// Of each series of the study that a query names what is shown first, by ascending SOP Instance
+/// UID.
+fn reached_in_study<'a>(
+    alloc: Global,
+    site: &'a Site,
+    view: View,
+    prepared: &PreparedQuery,
+) -> Result<Vec<&'a Content>, AllocError>
+    requires counted { is_counted_in prepared.now ≡ false }
+    requires level { prepared.now.level ≡ Level.Series }
+    ensures { IfOk result (λ found. AreEnough view prepared.now (ops_of site.now)
+        (map (λ c. c.now) found.items)) }
+{
+    site.see_lawful();
+    let index = site.index();
+    index.held();
+    let query = prepared.query();
+    let study = ShortText::cut(query.study.as_slice());
+    let mut found = of_study(alloc, site, index, view, &study)?;
+    sort_by_instance(&mut found)?;
+    let named = named(alloc, query, &found)?;
+    Ok(named)
+}
+
+/// What is taken for the rows of a query. Where no count is asked, only the first content of each
+/// series is, at STUDY, and at SERIES of a study of which no series are listed.
 fn reached<'a>(
     alloc: Global,
     site: &'a Site,
@@ -98,7 +123,12 @@ fn reached<'a>(
             }
             reached_first(alloc, site, view, prepared)
         }
-        Level::Series => reached_all(alloc, site, view, prepared),
+        Level::Series => {
+            if is_counted(query) || prepared.listed().is_some() {
+                return reached_all(alloc, site, view, prepared);
+            }
+            reached_in_study(alloc, site, view, prepared)
+        }
         Level::Image => reached_all(alloc, site, view, prepared),
     }
 }

@@ -98,6 +98,22 @@ fn put_in_study<'a>(
     Ok(())
 }
 
+/// Of each series of a study the first instance that a view shows.
+pub(crate) fn of_study<'a>(
+    alloc: Global,
+    site: &'a Site,
+    index: &Index,
+    view: View,
+    study: &ShortText,
+) -> Result<Vec<&'a Content>, AllocError>
+    ensures { IfOk result (λ found. map (λ c. c.now) found.items ≡ firsts_in_study
+        (shown_at view (ops_of site.now)) index.now.1.1.1 study.now) }
+{
+    let mut found = Vec::new(alloc);
+    put_in_study(alloc, site, index, view, study, &mut found)?;
+    Ok(found)
+}
+
 /// Of each series of some studies the first instance that a view shows.
 fn in_studies<'a>(
     alloc: Global,

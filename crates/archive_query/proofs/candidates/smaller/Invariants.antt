@@ -1,4 +1,4 @@
-use Rattle.std.proofs.Common.{◌≤◌, ◌∷◌, length}
+use Rattle.std.proofs.Common.{◌∷◌}
 use Rattle.octets.specs.Members.{Has}
 use Rattle.archive_query.proofs.candidates.smaller.Given as goal
 

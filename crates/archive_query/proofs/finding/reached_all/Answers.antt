@@ -1,5 +1,4 @@
 use Rattle.std.proofs.Common.{List, map, ap, subst, sym, ◌∙◌, Bor}
-use Rattle.operation.specs.Parts.{ContentParts}
 use Rattle.operation.specs.declared.content.Content.{Content}
 use Rattle.site_state.specs.Site.{ops_of}
 use Rattle.query_model.specs.Rows.{named}

@@ -1,5 +1,5 @@
 use Rattle.std.proofs.Common.{sym, subst}
-use Rattle.archive_query.specs.Grouping.{groups_by, Ascends}
+use Rattle.archive_query.specs.Grouping.{Ascends}
 use Rattle.query_model.specs.Rows.{uid_at}
 use Rattle.query_model.specs.declared.key.Level.{Level}
 use Rattle.archive_query.proofs.grouping.by_uid.Goals as goal

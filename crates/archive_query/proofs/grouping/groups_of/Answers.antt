@@ -1,4 +1,4 @@
-use Rattle.std.proofs.Common.{◌≡◌, ◌++◌, ◌∷◌, [], ◌+◌, List, Bor, arith, rules, map, ap, ◌∙◌, subst, length, drop}
+use Rattle.std.proofs.Common.{◌++◌, ◌∷◌, [], ◌+◌, List, Bor, arith, map, ap, ◌∙◌, subst, length, drop}
 use Rattle.std.proofs.Common.{length-drop}
 use Rattle.std.proofs.lemmas.List.{map-append, drop-drop}
 use Rattle.operation.specs.declared.content.Content.{Content}

@@ -1,4 +1,4 @@
-use Rattle.archive_query.proofs.DateLeads.{up_given, up_open}
+use Rattle.archive_query.proofs.DateLeads.{up_open}
 use Rattle.archive_query.proofs.walks.end_of_range.Goals as goal
 
 -- Whatever a date leads to is before what stands behind all of the attribute.

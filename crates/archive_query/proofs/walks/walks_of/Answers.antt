@@ -1,4 +1,4 @@
-use Rattle.std.proofs.Common.{sym, subst, ap, ◌∙◌, List}
+use Rattle.std.proofs.Common.{sym, subst, List}
 use Rattle.octets.specs.Members.{Has}
 use Rattle.query_model.specs.declared.asked.Asked.{Asked}
 use Rattle.archive_query.proofs.PutIn.{has_at}
