@@ -1,0 +1,2 @@
+pub mod SitePages
+pub mod TablePages
