@@ -1,2 +1,5 @@
 pub mod Keeping
+pub mod Moving
+pub mod Proved
+pub mod Stores
 pub mod Telling

@@ -14,8 +14,8 @@ use std::slice;
 /// a log that is closed and a group that is too long as `Store`, what is damaged and another
 /// operation under the digest as `BadRow`.
 pub struct KeptLog<H: Disk, B: Disk> {
-    log: OpLog<H, B>,
-    alloc: Global,
+    pub(crate) log: OpLog<H, B>,
+    pub(crate) alloc: Global,
 }
 
 // It is written out, so that a caller does not prove again how each part is dropped.

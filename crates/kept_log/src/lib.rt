@@ -1,9 +1,17 @@
-//! A log of operations as a place where a server keeps them.
+//! What an archive's operations stand in: a log as a place where a server keeps them, what a shelf
+//! and a log have in common, and the way from one into another.
 #![tactic(auto)]
 
 mod keeping;
 mod laws;
+mod log_store;
+mod moving;
+mod shelf;
+mod store;
 mod telling;
 
 pub use keeping::KeptLog;
 pub use laws::{the_same_puts_keep_the_same, what_lasts_is_left};
+pub use moving::{Following, MoveFault, Moved, move_all};
+pub use store::Store;
+pub use telling::fault as shelf_fault;

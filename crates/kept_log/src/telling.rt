@@ -31,7 +31,7 @@ pub(crate) fn all_kept(room: Vec<Kept>, told: &[op_log::Kept]) -> Vec<Kept>
 }
 
 /// Why a log refuses, as a shelf tells it.
-pub(crate) fn fault(told: LogFault) -> ShelfFault
+pub fn fault(told: LogFault) -> ShelfFault
     ensures { result ≡ fault_of told }
 {
     match told {

@@ -1,0 +1,65 @@
+//! What an archive's operations stand in.
+
+ghost use Rattle.std.specs.Prelude.{◌≡◌, ℕ, List, IfOk, OnOk, OnErr};
+ghost use Rattle.operation.specs.declared.op.Op.{Op as Operation};
+ghost use Rattle.operation.specs.Spelling.{spelling};
+
+use op_shelf::{Keep, Kept, ShelfFault};
+use operation::{Digested, Op};
+
+/// What keeps the operations of an archive and shows all of them: a shelf, or a log.
+pub trait Store: Keep {
+    // So far the disk has returned what was written, and what is told of values holds.
+    ghost is_clean: { Self → Type 0 };
+
+    // The operations are those that are kept, each as often as it is.
+    ghost lists: { Self → List Operation → Type 0 };
+
+    // How many of them have a kind.
+    ghost count: { Self → ℕ → ℕ };
+
+    // Nothing has changed.
+    ghost is_same: { Self → Self → Type 0 };
+
+    // The operations are as they were, unless a failure of the disk closed it.
+    ghost spares: { Self → Self → Type 0 };
+
+    // Whatever a crash leaves has the operation.
+    ghost is_left: { Self → Operation → Type 0 };
+
+    /// All operations. Each is hashed once, to test it, and comes with its digest.
+    fn all(&mut self) -> Result<Vec<Digested>, ShelfFault>
+        ensures all { is_clean self.new → IfOk result (λ ops. lists self.old ops.items) }
+        ensures same { is_clean self.new → OnOk result (is_same self.old self.new) }
+        ensures refused { is_clean self.new → OnErr result (spares self.old self.new) }
+        ensures clean { is_clean self.new → is_clean self.old };
+
+    /// How many operations of a kind there are.
+    fn count_kind(&mut self, kind: u8) -> Result<u64, ShelfFault>
+        ensures count { is_clean self.new → IfOk result (λ n. n ≡ count self.old kind) }
+        ensures same { is_clean self.new → OnOk result (is_same self.old self.new) }
+        ensures refused { is_clean self.new → OnErr result (spares self.old self.new) }
+        ensures clean { is_clean self.new → is_clean self.old };
+
+    /// Keeps an operation, as `put` does.
+    fn add(&mut self, op: &Op) -> Result<Kept, ShelfFault>
+        ensures left { is_clean self.new → OnOk result (is_left self.new op.now) }
+        ensures refused { is_clean self.new → OnErr result (spares self.old self.new) }
+        ensures clean { is_clean self.new → is_clean self.old };
+
+    // Operations that are spelled alike are one.
+    ghost alike: { (s : Self) (a b : Operation) → spelling a ≡ spelling b
+        → Self.holds s a → Self.holds s b };
+
+    // What has not changed is as it was, also over several calls.
+    ghost same_spared: { (s t : Self) → is_same s t → spares s t };
+
+    ghost same_spares: { (s t u : Self) → is_same s t → spares t u → spares s u };
+
+    ghost same_same: { (s t u : Self) → is_same s t → is_same t u → is_same s u };
+
+    ghost same_lists: { (s t : Self) → is_same s t → (ops : List Operation) → lists s ops
+        → lists t ops };
+
+    ghost same_count: { (s t : Self) → is_same s t → (kind : ℕ) → count t kind ≡ count s kind };
+}
