@@ -65,3 +65,13 @@ one_head h k r s it other is =
     let digest = apart h.digest k.digest _ _ (it.digest ∙ sym other.digest) size.1 in
     let front = apart h.front k.front r s long.0 digest.1 in
     (λ i. record { digest = digest.0 i; front = front.0 i; at = at.0 i; size = size.0 i }, front.1)
+
+-- a head takes so many bytes
+pub head_long : (h : Head) → IsSpelled h → length (head_text h) ≡ length h.front + 56
+unfolding head_text
+head_long h it =
+    let a = length-append (number_text (length h.front)) (number_text h.at ++ (number_text h.size ++ (h.digest ++ h.front))) in
+    let b = length-append (number_text h.at) (number_text h.size ++ (h.digest ++ h.front)) in
+    let c = length-append (number_text h.size) (h.digest ++ h.front) in
+    let d = length-append h.digest h.front in
+    omega (arith, a, b, c, d, eight (length h.front), eight h.at, eight h.size, it.digest)

@@ -1,5 +1,5 @@
 -- The two parts of an operation's spelling, and its head.
-use Rattle.std.specs.Prelude.{◌≡◌, ◌-◌, ◌<◌, ◌^◌, ℕ, List, [], ◌∷◌, ◌++◌, length, take, drop, refl}
+use Rattle.std.specs.Prelude.{◌≡◌, ◌+◌, ◌-◌, ◌<◌, ◌^◌, ℕ, List, [], ◌∷◌, ◌++◌, length, take, drop, refl}
 use Rattle.std.specs.Coded.{Coded, code_by, coded×, coded_ℕ, coded_list}
 use Rattle.std.specs.Int.{w64, to_le_bytes}
 use Rattle.operation.specs.declared.op.Op.{Op}
@@ -18,6 +18,16 @@ front_of op = take (length (spelling op) - size_of op) (spelling op)
 -- and the data set
 unfoldable pub body_of : Op → List ℕ
 body_of op = drop (length (spelling op) - size_of op) (spelling op)
+
+-- how many bytes the data sets of operations have
+abbrev pub bodies_long : List Op → ℕ
+bodies_long [] = 0
+bodies_long (op ∷ ops) = length (body_of op) + bodies_long ops
+
+-- and their heads
+abbrev pub heads_long : List Op → ℕ
+heads_long [] = 0
+heads_long (op ∷ ops) = length (front_of op) + 56 + heads_long ops
 
 -- an operation, and where its data set lies
 abbrev pub Entry : Type 0

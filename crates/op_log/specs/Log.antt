@@ -1,5 +1,5 @@
 -- What a log of operations shows.
-use Rattle.std.specs.Prelude.{◌≡◌, ◌≤◌, ◌&&◌, Bool, ℕ, List, All, length, IsTrue, refl}
+use Rattle.std.specs.Prelude.{◌≡◌, ◌≤◌, ◌<◌, ◌+◌, ◌^◌, ◌⊎◌, ◌&&◌, Bool, ℕ, List, All, length, IsTrue, refl}
 use Rattle.std.specs.Coded.{Coded, code_by, coded×, coded_ℕ, coded_bool, coded_list}
 use Rattle.sqlite_disk.specs.declared.Disk.{Ghosts}
 use Rattle.body_log.specs.declared.log.BodyLog.{BodyLog}
@@ -8,8 +8,9 @@ use Rattle.body_log.specs.Log.{disk_of, end_of}
 use Rattle.head_log.specs.declared.log.HeadLog.{HeadLog}
 use Rattle.head_log.specs.Log.{is_up}
 use Rattle.head_log.specs.Log.{disk_of as heads_of, end_of as heads_end}
-use Rattle.op_log.specs.Heads.{Head, head_code}
+use Rattle.op_log.specs.Heads.{Head, bodies_long, head_code, heads_long}
 use Rattle.op_log.specs.Kept.{IsBelow, IsKept}
+use Rattle.operation.specs.declared.op.Op.{Op}
 
 -- the two files and where each ends, whether operations can be put, and the heads, in order
 pub record Opened (H B : Type 0) : Type 0 where
@@ -53,6 +54,11 @@ opened gh gb heads bodies places = record {
   is_open = is_up gh heads && gb.is_usable (disk_of bodies);
   places = places;
 }
+
+-- a group is too long: it has too many operations, or their heads too many bytes, or a file no room for it
+abbrev pub IsTooLong : {H B : Type 0} → Opened H B → List Op → Type 0
+IsTooLong log ops =
+    (1024 < length ops) ⊎ ((2 ^ 40 ≤ heads_long ops) ⊎ ((2 ^ 60 < log.heads_end) ⊎ (2 ^ 64 ≤ log.bodies_end + bodies_long ops)))
 
 -- what holds through a call: what holds of a log, and nothing is written over
 pub record GoesOn {H B : Type 0} (gh : Ghosts H) (gb : Ghosts B) (old new : Opened H B) : Type 0 where

@@ -1,12 +1,12 @@
 -- What is written of operations before their group is.
-use Rattle.std.specs.Prelude.{◌≡◌, ◌≤◌, ℕ, List, [], ◌++◌, All, length, false, Result, IsErrOf}
+use Rattle.std.specs.Prelude.{◌≡◌, ◌≤◌, ◌+◌, ◌^◌, ℕ, List, [], ◌++◌, All, length, false, Result, IsErrOf}
 use Rattle.sqlite_disk.specs.declared.Disk.{Ghosts}
 use Rattle.body_log.specs.declared.log.BodyLog.{BodyLog}
 use Rattle.body_log.specs.Lasts.{Spares}
 use Rattle.body_log.specs.Log.{disk_of, end_of}
 use Rattle.operation.specs.declared.op.Op.{Op}
 use Rattle.op_log.specs.declared.fault.LogFault.{LogFault}
-use Rattle.op_log.specs.declared.fault.LogFault.TheVariants.{Closed}
+use Rattle.op_log.specs.declared.fault.LogFault.TheVariants.{Closed, TooLong}
 use Rattle.op_log.specs.declared.kept.Kept.{Kept}
 use Rattle.op_log.specs.declared.group.Group.{Group}
 use Rattle.op_log.specs.declared.head.Spelled.{Spelled}
@@ -52,6 +52,11 @@ pub record KeepsPlaces {B : Type 0} (g : Ghosts B) (old new : BodyLog B) (before
   pub more : List Head
   pub are : after ≡ before ++ more
   pub below : All (IsBelow (end_of old)) before → All (IsBelow (end_of new)) after
+
+-- so many bytes more at most were written, and a file is told as too long only where it has no room for them
+pub record IsWithin {B V : Type 0} (old new : BodyLog B) (many : ℕ) (result : Result V LogFault) : Type 0 where
+  pub within : end_of new ≤ end_of old + many
+  pub too_long : IsErrOf result TooLong → 2 ^ 64 ≤ end_of old + many
 
 -- the file is as usable as it was, and only one that was not is told as closed
 pub record Uses {B V : Type 0} (g : Ghosts B) (old new : BodyLog B) (result : Result V LogFault) : Type 0 where

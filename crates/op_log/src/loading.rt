@@ -2,7 +2,7 @@
 
 ghost use Rattle.std.specs.Prelude.{◌≡◌, ◌≢◌, ◌↔◌, ◌++◌, ◌<◌, List, ℕ, Ok, true, false, length, ◌-◌, IfOk, IfErr, IsTrue, IsErrOf};
 ghost use Rattle.sqlite_disk.specs.Disk.{Holds};
-ghost use Rattle.body_log.specs.Log.{disk_of};
+ghost use Rattle.body_log.specs.Log.{disk_of, end_of};
 ghost use Rattle.operation.specs.declared.op.Op.{Op as Operation};
 ghost use Rattle.operation.specs.Reading.{IsOp};
 ghost use Rattle.operation.specs.Spelling.{digest_of, spelling};
@@ -38,6 +38,7 @@ pub(crate) fn body_at<B: Disk>(
     ensures whole { (n : ℕ) → ¬ IsErrOf result (LogFault.DamagedBody n) }
     ensures only { IfErr result IsOfLook }
     ensures seen { B.Disk.seen (disk_of bodies.new) ≡ B.Disk.seen (disk_of bodies.old) }
+    ensures end { end_of bodies.new ≡ end_of bodies.old }
     ensures grows { Grows B.Disk bodies.old bodies.new }
     ensures uses { Uses B.Disk bodies.old bodies.new result }
 {
@@ -61,6 +62,8 @@ pub(crate) fn lies_at<B: Disk>(
         → AreParts (B.Disk.seen (disk_of bodies.new)) place.now spelled.now }
     ensures other { result ≡ Ok false → IsTrue (B.Disk.is_clean (disk_of bodies.new))
         → AreParts (B.Disk.seen (disk_of bodies.old)) place.now spelled.now → ⊥ }
+    ensures end { end_of bodies.new ≡ end_of bodies.old }
+    ensures only { IfErr result IsOfLook }
     ensures grows { Grows B.Disk bodies.old bodies.new }
     ensures uses { Uses B.Disk bodies.old bodies.new result }
 {

@@ -8,7 +8,7 @@ ghost use Rattle.op_log.specs.Fault.{IsOfLook};
 ghost use Rattle.op_log.specs.Heads.{Entry, Head};
 ghost use Rattle.op_log.specs.Kept.{Has, HasBody, IsHeld, IsKept, IsLasting, StandsFor, first_under};
 ghost use Rattle.op_log.specs.Loaded.{HasBadHead, Lists};
-ghost use Rattle.op_log.specs.Log.{GoesOn, IsSound, Looks};
+ghost use Rattle.op_log.specs.Log.{GoesOn, IsSound, IsTooLong, Looks};
 ghost use Rattle.op_log.specs.Puts.{LeavesAllOrNone, PutsAll};
 ghost use Rattle.op_log.specs.Records.{head_in};
 ghost use Rattle.op_log.specs.Verified.{damaged_in, digests_of};
@@ -151,6 +151,7 @@ impl<H: Disk, B: Disk> OpLog<H, B> {
         ensures closed { IsErrOf result LogFault.Closed ↔ (self.old.is_open ≡ false) }
         ensures many { IsTrue self.old.is_open → 1024 < length ops.now
             → IsErrOf result LogFault.TooLong × (self.new ≡ self.old) }
+        ensures too_long { IsErrOf result LogFault.TooLong → IsTooLong self.old ops.now }
     {
         if !self.is_open() {
             return Err(LogFault::Closed);

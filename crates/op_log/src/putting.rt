@@ -1,10 +1,10 @@
 //! Puts a group into both files.
 
-ghost use Rattle.std.specs.Prelude.{◌≡◌, ◌&&◌, [], All, List, false, IfOk, IsTrue, IsErrOf, OnOk, OnErr};
+ghost use Rattle.std.specs.Prelude.{◌≡◌, ◌&&◌, ◌⊎◌, ◌<◌, ◌≤◌, ◌+◌, ◌^◌, length, [], All, List, false, IfOk, IsTrue, IsErrOf, OnOk, OnErr};
 ghost use Rattle.body_log.specs.Log.{disk_of, end_of};
 ghost use Rattle.head_log.specs.Log.{is_up};
 ghost use Rattle.head_log.specs.Log.{disk_of as heads_of, end_of as heads_end};
-ghost use Rattle.op_log.specs.Heads.{Entry, Head, IsSpelled};
+ghost use Rattle.op_log.specs.Heads.{Entry, Head, IsSpelled, bodies_long, heads_long};
 ghost use Rattle.op_log.specs.Kept.{IsBelow, IsHeld, IsKept, IsLasting};
 ghost use Rattle.op_log.specs.Puts.{LeavesAllOrNone, LeavesEither, PutsAll};
 ghost use Rattle.op_log.specs.Staged.{Grows, HasHeads, KeepsPlaces};
@@ -33,6 +33,8 @@ fn add_heads<H: Disk>(heads: &mut HeadLog<H>, text: &[u8]) -> Result<(), LogFaul
         → IsKept H.Disk (heads_of heads.old) (heads_end heads.old) old
         → IsKept H.Disk (heads_of heads.new) (heads_end heads.new) old) }
     ensures closed { IsErrOf result LogFault.Closed → is_up H.Disk heads.old ≡ false }
+    ensures too_long { IsErrOf result LogFault.TooLong
+        → (2 ^ 40 ≤ length text.now) ⊎ (2 ^ 60 < heads_end heads.old) }
     ensures clean { IsTrue (H.Disk.is_clean (heads_of heads.new))
         → IsTrue (H.Disk.is_clean (heads_of heads.old)) }
 {
@@ -69,6 +71,9 @@ pub(crate) fn put_group<H: Disk, B: Disk>(
     ensures grows { Grows B.Disk bodies.old bodies.new }
     ensures closed { IsErrOf result LogFault.Closed → (is_up H.Disk heads.old
         && B.Disk.is_usable (disk_of bodies.old)) ≡ false }
+    ensures too_long { IsErrOf result LogFault.TooLong → (2 ^ 40 ≤ heads_long ops.now)
+        ⊎ ((2 ^ 60 < heads_end heads.old)
+        ⊎ (2 ^ 64 ≤ end_of bodies.old + bodies_long ops.now)) }
     ensures clean { IsTrue (H.Disk.is_clean (heads_of heads.new))
         → IsTrue (H.Disk.is_clean (heads_of heads.old)) }
 {

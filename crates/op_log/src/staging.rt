@@ -1,13 +1,13 @@
 //! Writes the data sets of operations, and gathers their heads.
 
-ghost use Rattle.std.specs.Prelude.{◌≡◌, ◌++◌, ◌∷◌, [], ◌<◌, ◌≤◌, ◌+◌, None, OnOk, IfOk, OnErr, IsErrOf, All, List, false, length, IsTrue};
+ghost use Rattle.std.specs.Prelude.{◌≡◌, ◌++◌, ◌∷◌, [], ◌<◌, ◌≤◌, ◌+◌, ◌^◌, None, OnOk, IfOk, OnErr, IsErrOf, All, List, false, length, IsTrue};
 ghost use Rattle.sqlite_disk.specs.Disk.{Holds};
 ghost use Rattle.body_log.specs.Log.{disk_of, end_of};
-ghost use Rattle.op_log.specs.Heads.{Head, IsSpelled, group_text, head_text};
+ghost use Rattle.op_log.specs.Heads.{Head, IsSpelled, bodies_long, body_of, front_of, group_text, head_text, heads_long};
 ghost use Rattle.op_log.specs.Kept.{IsBelow, first_under};
 ghost use Rattle.op_log.specs.Puts.{Puts};
 ghost use Rattle.op_log.specs.Spelled.{head_spelled};
-ghost use Rattle.op_log.specs.Staged.{AreSettled, AreStaged, Grows, HasHeads, IsStaged, KeepsPlaces, Uses};
+ghost use Rattle.op_log.specs.Staged.{AreSettled, AreStaged, Grows, HasHeads, IsStaged, IsWithin, KeepsPlaces, Uses};
 
 use crate::fault::LogFault;
 use crate::group::Group;
@@ -27,6 +27,7 @@ fn add_body<B: Disk>(bodies: &mut BodyLog<B>, body: &[u8]) -> Result<usize, LogF
     ensures end { IfOk result (λ at. at + length body.now ≤ end_of bodies.new) }
     ensures held { IfOk result (λ at. 0 < length body.now
         → Holds (B.Disk.seen (disk_of bodies.new)) at body.now) }
+    ensures within { IsWithin bodies.old bodies.new (length body.now) result }
     ensures grows { Grows B.Disk bodies.old bodies.new }
     ensures uses { Uses B.Disk bodies.old bodies.new result }
 {
@@ -55,6 +56,7 @@ fn add_new<B: Disk>(
         ≤ end_of bodies.new) }
     ensures lawful { OnOk result (IsSpelled (head_spelled spelled.now (end_of bodies.old))) }
     ensures refused { OnErr result (places.new ≡ places.old) }
+    ensures within { IsWithin bodies.old bodies.new (length spelled.now.body.now) result }
     ensures kepts { group.new.kepts.items ≡ group.old.kepts.items }
     ensures grows { Grows B.Disk bodies.old bodies.new }
     ensures uses { Uses B.Disk bodies.old bodies.new result }
@@ -83,6 +85,9 @@ fn stage_parts<B: Disk>(
         places.old places.new) }
     ensures text { OnOk result (HasHeads places.old places.new group.old.text.items
         group.new.text.items) }
+    ensures long { OnOk result (length group.new.text.items
+        ≤ length group.old.text.items + (length spelled.now.front.now + 56)) }
+    ensures within { IsWithin bodies.old bodies.new (length spelled.now.body.now) result }
     ensures places { KeepsPlaces B.Disk bodies.old bodies.new places.old places.new }
     ensures kepts { group.new.kepts.items ≡ group.old.kepts.items }
     ensures grows { Grows B.Disk bodies.old bodies.new }
@@ -111,6 +116,9 @@ fn stage_one<B: Disk>(
         places.old op.now kept places.new) }
     ensures text { OnOk result (HasHeads places.old places.new group.old.text.items
         group.new.text.items) }
+    ensures long { OnOk result (length group.new.text.items
+        ≤ length group.old.text.items + (length (front_of op.now) + 56)) }
+    ensures within { IsWithin bodies.old bodies.new (length (body_of op.now)) result }
     ensures places { KeepsPlaces B.Disk bodies.old bodies.new places.old places.new }
     ensures kepts { group.new.kepts.items ≡ group.old.kepts.items }
     ensures grows { Grows B.Disk bodies.old bodies.new }
@@ -137,6 +145,9 @@ fn stage_each<B: Disk>(
     requires below { All (IsBelow (end_of bodies.old)) places.old }
     ensures staged { OnOk result (AreStaged B.Disk bodies.new places.old places.new
         group.old group.new ops.now) }
+    ensures long { OnOk result (length group.new.text.items
+        ≤ length group.old.text.items + heads_long ops.now) }
+    ensures within { IsWithin bodies.old bodies.new (bodies_long ops.now) result }
     ensures places { KeepsPlaces B.Disk bodies.old bodies.new places.old places.new }
     ensures grows { Grows B.Disk bodies.old bodies.new }
     ensures uses { Uses B.Disk bodies.old bodies.new result }
@@ -160,6 +171,9 @@ pub(crate) fn stage<B: Disk>(
     requires below { All (IsBelow (end_of bodies.old)) places.old }
     ensures settled { IfOk result (λ group. AreSettled B.Disk bodies.new places.old places.new
         group ops.now) }
+    ensures long { IfOk result (λ group. length group.text.items ≤ heads_long ops.now) }
+    ensures too_long { IsErrOf result LogFault.TooLong
+        → 2 ^ 64 ≤ end_of bodies.old + bodies_long ops.now }
     ensures places { KeepsPlaces B.Disk bodies.old bodies.new places.old places.new }
     ensures grows { Grows B.Disk bodies.old bodies.new }
     ensures closed { IsErrOf result LogFault.Closed

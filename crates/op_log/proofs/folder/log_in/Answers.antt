@@ -1,4 +1,4 @@
-use Rattle.std.proofs.Common.{◌≡◌, Bool, List, ℕ, if◌then◌else◌, subst, sym, ap, ◌∙◌}
+use Rattle.std.proofs.Common.{Bool, List, ℕ, if◌then◌else◌, subst, sym, ap, ◌∙◌}
 use Rattle.sqlite_disk.specs.Events.{Event, replay}
 use Rattle.op_log.specs.Kept.{StandsFor}
 use Rattle.op_log.proofs.folder.log_in.Goals as goal

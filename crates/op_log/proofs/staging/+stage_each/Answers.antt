@@ -1,9 +1,10 @@
-use Rattle.std.proofs.Common.{◌++◌, ◌∷◌, [], ◌-◌, List, ap, take, drop, length, subst, ◌∙◌}
+use Rattle.std.proofs.Common.{arith, ◌++◌, ◌∷◌, [], ◌-◌, List, ap, take, drop, length, subst, ◌∙◌}
 use Rattle.std.proofs.lemmas.Result.{on_ok_weaker}
 use Rattle.operation.specs.declared.op.Op.{Op}
 use Rattle.op_log.specs.declared.kept.Kept.{Kept}
+use Rattle.op_log.specs.Heads.{bodies_long, heads_long}
 use Rattle.op_log.specs.Staged.{AreStaged}
-use Rattle.op_log.proofs.Growing.{grows_twice, split_first, staged_more}
+use Rattle.op_log.proofs.Growing.{grows_twice, places_twice, split_first, staged_more}
 use Rattle.op_log.proofs.staging.+stage_each.Goals as goal
 
 -- The first was put before the others, which leave its data set alone.
@@ -17,6 +18,29 @@ returns-in_ok-push-in-len1-up-clause-staged g t c =
     (staged_more g.B.Disk c.stage_one.new.bodies c.stage_each.new.bodies c.stage_each.ensures.grows c.op-item.result first.kept (take (length ops - 1) (drop 1 ops))
     c.args.places.now c.stage_one.new.places c.stage_each.new.places c.args.group.now _ c.stage_each.new.group first.ensures.put first.ensures.text
     (c.in_ok-push-in-len1-up.ensures.items ∙ ap (λ (ks : List Kept). ks ++ first.kept ∷ []) c.stage_one.ensures.kepts) rest)) c.stage_each.ensures.staged
+
+pub returns-in_ok-push-in-len1-up-clause-places : goal.returns-in_ok-push-in-len1-up-clause-places
+returns-in_ok-push-in-len1-up-clause-places g t c =
+    places_twice g.B.Disk c.args.bodies.now c.stage_one.new.bodies c.stage_each.new.bodies c.args.places.now c.stage_one.new.places
+    c.stage_each.new.places c.stage_one.ensures.places c.stage_each.ensures.places
+
+-- Heads and data sets of both are as long as those of all.
+pub returns-in_ok-push-in-len1-up-clause-long : goal.returns-in_ok-push-in-len1-up-clause-long
+returns-in_ok-push-in-len1-up-clause-long g t c =
+    let ops = c.args.ops.now in
+    let all = ap heads_long (split_first c.op-item.result ops c.in-len1-up.len_at_least c.op-item.is) in
+    on_ok_weaker c.stage_each.result (λ rest. omega (arith, rest, c.in_ok-kept-in-len1-up.ensures.long, all)) c.stage_each.ensures.long
+
+pub returns-in_ok-push-in-len1-up-clause-within : goal.returns-in_ok-push-in-len1-up-clause-within
+returns-in_ok-push-in-len1-up-clause-within g t c =
+    let ops = c.args.ops.now in
+    let all = ap bodies_long (split_first c.op-item.result ops c.in-len1-up.len_at_least c.op-item.is) in
+    let first = c.stage_one.ensures.within in
+    let rest = c.stage_each.ensures.within in
+    record {
+      within = omega (arith, first.within, rest.within, all);
+      too_long = λ told. omega (arith, rest.too_long told, first.within, all);
+    }
 
 pub returns-in_ok-push-in-len1-up-clause-grows : goal.returns-in_ok-push-in-len1-up-clause-grows
 returns-in_ok-push-in-len1-up-clause-grows g t c =

@@ -1,9 +1,21 @@
-use Rattle.std.proofs.Common.{rules, ◌≡◌, Ok, Some, true, refl, ◌∙◌, arith}
+use Rattle.std.proofs.Common.{rules, ◌≡◌, Ok, Some, true, length, refl, ap, ◌∙◌, arith}
+use Rattle.std.proofs.lemmas.List.{length-append}
 use Rattle.body_log.specs.Log.{end_of}
+use Rattle.op_log.specs.Heads.{head_text}
 use Rattle.op_log.specs.Kept.{IsBelow}
 use Rattle.op_log.specs.Places.{head_by}
+use Rattle.op_log.specs.Spelled.{head_spelled}
+use Rattle.op_log.proofs.Cutting.{head_long}
 use Rattle.op_log.proofs.Lookups.{among}
 use Rattle.op_log.proofs.staging.stage_parts.Goals as goal
+
+-- One head more stands behind the others.
+pub returns-in_default-clause-long : goal.returns-in_default-clause-long
+returns-in_default-clause-long g c =
+    let h = head_spelled c.args.spelled.now (end_of c.args.bodies.now) in
+    let text = ap length c.in_ok-add_new.ensures.text in
+    let parts = length-append c.args.group.now.text.items (head_text h) in
+    omega (arith, text, parts, head_long h c.in_ok-add_new.ensures.lawful)
 
 -- The operation lies where the first head with its digest says.
 pub returns-clause-staged : goal.returns-clause-staged
