@@ -24,10 +24,10 @@ use Rattle.association_services.specs.declared.reply.Reply.{Reply}
 use Rattle.association_session.specs.Projections.{calls_in}
 use Rattle.association_services.specs.declared.call.Call.{Call}
 use Rattle.association_services.specs.declared.call.Call.TheVariants.{Store, Find, Get}
-use Rattle.association_session.specs.declared.due.Due.{Due}
-use Rattle.association_session.specs.declared.due.Due.TheVariants as dues
+use Rattle.association_session.specs.declared.pending_response.PendingResponse.{PendingResponse}
+use Rattle.association_session.specs.declared.pending_response.PendingResponse.TheVariants as pendings
 use Rattle.association_services.specs.declared.reply.Reply.TheVariants.{Stored, Found, Gotten}
-use Rattle.association_session.specs.Due.{IsAnswered, Fits, left_of, tells_rows}
+use Rattle.association_session.specs.PendingResponse.{IsAnswered, Fits, left_of, tells_rows}
 use Rattle.association_session.specs.Session.{Awaits, IsToldBy, IsFewer, FewerFor}
 use Rattle.association_session.proofs.TellLaws.{rows_go}
 use Rattle.association_session.proofs.SendLaws.{begins_go}
@@ -44,14 +44,15 @@ use Rattle.association_session.proofs.HearLaws.{none_answered, none_fits}
 use Rattle.association_run.specs.Hearing.{Place, Says, HearsSome}
 use Rattle.association_run.specs.Parts.{Sides, Performs}
 use Rattle.association_run.specs.Port.{Replies, History}
-use Rattle.association_run.specs.inner.Steps.{Halts, Pends, IsNext, DidTurn, BrokeTurn, HeardWhole, HeardFront, place_of}
+use Rattle.association_run.specs.inner.Steps.{Halts, Pends, IsNext, DidTurn, BrokeTurn, HeardWhole, HeardFront}
+use Rattle.association_run.specs.inner.Steps.{place_of}
 use Rattle.association_run.proofs.Fronts.{all_front}
 use Rattle.association_run.proofs.DeedLaws.{did_none, did_then, all_begun, begun_behind}
 use Rattle.archive_model.specs.declared.view.View.{View}
 
 -- ---- how deeds end
 
-pub halts_of : (ds : List Deed) (a : Option Due) → Stops ds a → Halts ds
+pub halts_of : (ds : List Deed) (a : Option PendingResponse) → Stops ds a → Halts ds
 halts_of [] a s = tt
 halts_of (Ask call ∷ ds) a s = s.0
 halts_of (Close ∷ ds) a s = s.0
@@ -63,36 +64,37 @@ no_reply : {P : Type 0} (ops : P → List Op) (own : P → List (List ℕ)) (old
 no_reply ops own old new ds r none h = subst (λ (t : List Deed). History ops own old (calls_in t) (r ∷ []) new) none
     h
 
-asked_pends : {P : Type 0} (ops : P → List Op) (own : P → List (List ℕ)) (old new : P) (call : Call) (a : Option Due)
+asked_pends : {P : Type 0} (ops : P → List Op) (own : P → List (List ℕ)) (old new : P) (call : Call)
+    (a : Option PendingResponse)
     (r : Reply) → Awaits call a → Replies ops own old call r new → Pends a (Some r)
 asked_pends ops own old new (Store content) None r w p = absurd w
-asked_pends ops own old new (Store content) (Some (dues.Store a)) (Stored reply) w p = refl
-asked_pends ops own old new (Store content) (Some (dues.Store a)) (Found reply) w p = absurd p
-asked_pends ops own old new (Store content) (Some (dues.Store a)) (Gotten reply) w p = absurd p
-asked_pends ops own old new (Store content) (Some (dues.Find a kind)) r w p = absurd w
-asked_pends ops own old new (Store content) (Some (dues.Rows telling)) r w p = absurd w
-asked_pends ops own old new (Store content) (Some (dues.Get a syntax)) r w p = absurd w
-asked_pends ops own old new (Store content) (Some (dues.Sending left)) r w p = absurd w
+asked_pends ops own old new (Store content) (Some (pendings.Store a)) (Stored reply) w p = refl
+asked_pends ops own old new (Store content) (Some (pendings.Store a)) (Found reply) w p = absurd p
+asked_pends ops own old new (Store content) (Some (pendings.Store a)) (Gotten reply) w p = absurd p
+asked_pends ops own old new (Store content) (Some (pendings.Find a kind)) r w p = absurd w
+asked_pends ops own old new (Store content) (Some (pendings.Rows telling)) r w p = absurd w
+asked_pends ops own old new (Store content) (Some (pendings.Get a syntax)) r w p = absurd w
+asked_pends ops own old new (Store content) (Some (pendings.Sending left)) r w p = absurd w
 asked_pends ops own old new (Find finding) None r w p = absurd w
-asked_pends ops own old new (Find finding) (Some (dues.Store a)) r w p = absurd w
-asked_pends ops own old new (Find finding) (Some (dues.Find a kind)) (Found reply) w p = refl
-asked_pends ops own old new (Find finding) (Some (dues.Find a kind)) (Stored reply) w p = absurd p
-asked_pends ops own old new (Find finding) (Some (dues.Find a kind)) (Gotten reply) w p = absurd p
-asked_pends ops own old new (Find finding) (Some (dues.Rows telling)) r w p = absurd w
-asked_pends ops own old new (Find finding) (Some (dues.Get a syntax)) r w p = absurd w
-asked_pends ops own old new (Find finding) (Some (dues.Sending left)) r w p = absurd w
+asked_pends ops own old new (Find finding) (Some (pendings.Store a)) r w p = absurd w
+asked_pends ops own old new (Find finding) (Some (pendings.Find a kind)) (Found reply) w p = refl
+asked_pends ops own old new (Find finding) (Some (pendings.Find a kind)) (Stored reply) w p = absurd p
+asked_pends ops own old new (Find finding) (Some (pendings.Find a kind)) (Gotten reply) w p = absurd p
+asked_pends ops own old new (Find finding) (Some (pendings.Rows telling)) r w p = absurd w
+asked_pends ops own old new (Find finding) (Some (pendings.Get a syntax)) r w p = absurd w
+asked_pends ops own old new (Find finding) (Some (pendings.Sending left)) r w p = absurd w
 asked_pends ops own old new (Get getting) None r w p = absurd w
-asked_pends ops own old new (Get getting) (Some (dues.Store a)) r w p = absurd w
-asked_pends ops own old new (Get getting) (Some (dues.Find a kind)) r w p = absurd w
-asked_pends ops own old new (Get getting) (Some (dues.Rows telling)) r w p = absurd w
-asked_pends ops own old new (Get getting) (Some (dues.Get a syntax)) (Gotten reply) w p = refl
-asked_pends ops own old new (Get getting) (Some (dues.Get a syntax)) (Stored reply) w p = absurd p
-asked_pends ops own old new (Get getting) (Some (dues.Get a syntax)) (Found reply) w p = absurd p
-asked_pends ops own old new (Get getting) (Some (dues.Sending left)) r w p = absurd w
+asked_pends ops own old new (Get getting) (Some (pendings.Store a)) r w p = absurd w
+asked_pends ops own old new (Get getting) (Some (pendings.Find a kind)) r w p = absurd w
+asked_pends ops own old new (Get getting) (Some (pendings.Rows telling)) r w p = absurd w
+asked_pends ops own old new (Get getting) (Some (pendings.Get a syntax)) (Gotten reply) w p = refl
+asked_pends ops own old new (Get getting) (Some (pendings.Get a syntax)) (Stored reply) w p = absurd p
+asked_pends ops own old new (Get getting) (Some (pendings.Get a syntax)) (Found reply) w p = absurd p
+asked_pends ops own old new (Get getting) (Some (pendings.Sending left)) r w p = absurd w
 
 -- The reply of the call that ends them is that which is awaited.
 pends_of : {P : Type 0} (ops : P → List Op) (own : P → List (List ℕ)) (old new : P) (ds : List Deed)
-    (a : Option Due) (pending : Option Reply) → Stops ds a → History ops own old (calls_in ds)
+    (a : Option PendingResponse) (pending : Option Reply) → Stops ds a → History ops own old (calls_in ds)
     (option_to_list pending) new → Pends a pending
 pends_of ops own old new [] a None s h = s
 pends_of ops own old new [] a (Some r) s h = absurd h
@@ -106,15 +108,15 @@ pends_of ops own old new (Reach moment ∷ ds) a pending s h = pends_of ops own 
 -- ---- what is owed
 
 -- the deeds that are owed where nothing more comes
-rests_for : (titles : List (Title View)) (w : Within) (sub : Option SubOperation) (a : Option Due) → Fits a
+rests_for : (titles : List (Title View)) (w : Within) (sub : Option SubOperation) (a : Option PendingResponse) → Fits a
     → (rest : List Deed) × OwedAt titles w sub a [] [] rest
 rests_for titles w sub None fits = ([], refl)
-rests_for titles w sub (Some (dues.Store a)) fits = ([], refl)
-rests_for titles w sub (Some (dues.Find a kind)) fits = ([], refl)
-rests_for titles w sub (Some (dues.Rows telling)) fits = rows_go telling.awaited telling.kind telling.rows
+rests_for titles w sub (Some (pendings.Store a)) fits = ([], refl)
+rests_for titles w sub (Some (pendings.Find a kind)) fits = ([], refl)
+rests_for titles w sub (Some (pendings.Rows telling)) fits = rows_go telling.awaited telling.kind telling.rows
     telling.status (Talks titles w sub [] []) fits refl
-rests_for titles w sub (Some (dues.Get a syntax)) fits = ([], refl)
-rests_for titles w sub (Some (dues.Sending r)) fits = begins_go w.link.contexts r.progress r.left
+rests_for titles w sub (Some (pendings.Get a syntax)) fits = ([], refl)
+rests_for titles w sub (Some (pendings.Sending r)) fits = begins_go w.link.contexts r.progress r.left
     (λ next. Talks titles w next [] []) fits (λ next. refl)
 
 -- What was done so far begins what is owed by what came so far.
@@ -135,7 +137,7 @@ takes_all titles a b h r d idle p =
     subst (λ (t : List Heard). Owes titles a t r d) (append-nil h)
     (subst (λ (t : List Reply). Owes titles a (h ++ []) t d) (append-nil r)
     (subst (λ (t : List Deed). Owes titles a (h ++ []) (r ++ []) t) (append-nil d)
-    (p [] [] [] (subst (λ (o : Option Due). OwedAt titles b.within b.sub o [] [] []) (sym idle) refl))))
+    (p [] [] [] (subst (λ (o : Option PendingResponse). OwedAt titles b.within b.sub o [] [] []) (sym idle) refl))))
 
 pub takes_then : (titles : List (Title View)) (a b c : AssociationState) (h1 h2 : List Heard)
     (r1 r2 : List Reply) (d1 d2 : List Deed)
@@ -149,20 +151,20 @@ takes_then titles a b c h1 h2 r1 r2 d1 d2 p q = λ us rs rest owed.
 -- ---- what is in turn
 
 -- A reply comes next where one is awaited.
-pub replied_turn : (a : Option Due) (left : Bool) (reply : Reply) → Pends a (Some reply)
+pub replied_turn : (a : Option PendingResponse) (left : Bool) (reply : Reply) → Pends a (Some reply)
     → in_turn a left (inputs.Replied reply) ≡ true
 replied_turn None left reply pends = absurd pends
 replied_turn (Some a) left reply pends = pends
 
 -- Where no call was made, no reply is to be told.
-none_pends : (a : Option Due) (pending : Option Reply) → IsAnswered a → Pends a pending → pending ≡ None
+none_pends : (a : Option PendingResponse) (pending : Option Reply) → IsAnswered a → Pends a pending → pending ≡ None
 none_pends a None answered pends = refl
 none_pends None (Some r) answered pends = absurd pends
-none_pends (Some (dues.Store a)) (Some r) answered pends = absurd answered
-none_pends (Some (dues.Find a kind)) (Some r) answered pends = absurd answered
-none_pends (Some (dues.Rows telling)) (Some r) answered pends = absurd cc
-none_pends (Some (dues.Get a syntax)) (Some r) answered pends = absurd answered
-none_pends (Some (dues.Sending left)) (Some r) answered pends = absurd cc
+none_pends (Some (pendings.Store a)) (Some r) answered pends = absurd answered
+none_pends (Some (pendings.Find a kind)) (Some r) answered pends = absurd answered
+none_pends (Some (pendings.Rows telling)) (Some r) answered pends = absurd cc
+none_pends (Some (pendings.Get a syntax)) (Some r) answered pends = absurd answered
+none_pends (Some (pendings.Sending left)) (Some r) answered pends = absurd cc
 
 left_open : (s : State) (queue : List Pdv) → is_left s queue ≡ true → s ≡ Sta6
 left_open Sta1 queue e = absurd cc
@@ -175,7 +177,8 @@ open_left [] e = refl
 open_left (p ∷ queue) e = absurd cc
 
 -- What is told behind an event comes while the association is established.
-in_turn_open : (a : Option Due) (s : State) (queue : List Pdv) (input : SessionEvent) → (IsSome a → s ≡ Sta6)
+in_turn_open : (a : Option PendingResponse) (s : State) (queue : List Pdv) (input : SessionEvent)
+    → (IsSome a → s ≡ Sta6)
     → in_turn a (is_left s queue) input ≡ true → met_in input ≡ [] → s ≡ Sta6
 in_turn_open a s queue (inputs.Heard event) asked turn none = absurd cc
 in_turn_open None s queue (inputs.Replied reply) asked turn none = absurd cc
@@ -186,7 +189,7 @@ in_turn_open (Some a) s queue inputs.GoesOn asked turn none = asked refl
 not_left : (s : State) → s ≡ Sta6 → IsLeft s → ⊥
 not_left s opened left = subst (λ (t : State). IsLeft t) opened left
 
-none_some : (a : Option Due) → a ≡ None → IsSome a → ⊥
+none_some : (a : Option PendingResponse) → a ≡ None → IsSome a → ⊥
 none_some a none some = cc
 
 module _ (titles : List (Title View)) where
@@ -339,14 +342,14 @@ lighter old new pending behind same one none =
     omega (arith, f, g, one)
 
 -- Values that are heard on become fewer, where no row is left.
-fewer_left : (a : Option Due) (old new : AssociationState) (left : Bool) → IsQuiet a
+fewer_left : (a : Option PendingResponse) (old new : AssociationState) (left : Bool) → IsQuiet a
     → in_turn a left inputs.GoesOn ≡ true → FewerFor a old new → length new.queue < length old.queue
 fewer_left None old new left quiet turn fewer = fewer
-fewer_left (Some (dues.Store a)) old new left quiet turn fewer = absurd cc
-fewer_left (Some (dues.Find a kind)) old new left quiet turn fewer = absurd cc
-fewer_left (Some (dues.Rows telling)) old new left quiet turn fewer = absurd quiet
-fewer_left (Some (dues.Get a syntax)) old new left quiet turn fewer = absurd cc
-fewer_left (Some (dues.Sending r)) old new left quiet turn fewer = absurd quiet
+fewer_left (Some (pendings.Store a)) old new left quiet turn fewer = absurd cc
+fewer_left (Some (pendings.Find a kind)) old new left quiet turn fewer = absurd cc
+fewer_left (Some (pendings.Rows telling)) old new left quiet turn fewer = absurd quiet
+fewer_left (Some (pendings.Get a syntax)) old new left quiet turn fewer = absurd cc
+fewer_left (Some (pendings.Sending r)) old new left quiet turn fewer = absurd quiet
 
 falls_by : {P : Type 0} (ops : P → List Op) (own : P → List (List ℕ)) (titles : List (Title View))
     (now then : Sides P) (s : SessionState) (input : SessionEvent) (pending behind : Option Reply)
@@ -485,15 +488,16 @@ module _ {P : Type 0} (ops : P → List Op) (own : P → List (List ℕ)) (title
       falls_by ops own titles now then s input pending behind t quiet next turn (pends_of ops own now.port then.port
       turn.deeds t.association.awaited behind turn.turned.stops turn.did.history)
 
-  idle_of : (a : Option Due) (left : Bool) → IsAnswered a → in_turn a left inputs.GoesOn ≡ false → a ≡ None
+  idle_of : (a : Option PendingResponse) (left : Bool) → IsAnswered a → in_turn a left inputs.GoesOn ≡ false → a ≡ None
   idle_of None left answered e = refl
-  idle_of (Some (dues.Store a)) left answered e = absurd answered
-  idle_of (Some (dues.Find a kind)) left answered e = absurd answered
-  idle_of (Some (dues.Rows telling)) left answered e = absurd cc
-  idle_of (Some (dues.Get a syntax)) left answered e = absurd answered
-  idle_of (Some (dues.Sending r)) left answered e = absurd cc
+  idle_of (Some (pendings.Store a)) left answered e = absurd answered
+  idle_of (Some (pendings.Find a kind)) left answered e = absurd answered
+  idle_of (Some (pendings.Rows telling)) left answered e = absurd cc
+  idle_of (Some (pendings.Get a syntax)) left answered e = absurd answered
+  idle_of (Some (pendings.Sending r)) left answered e = absurd cc
 
-  idle_left : (a : Option Due) (left : Bool) → a ≡ None → in_turn a left inputs.GoesOn ≡ false → left ≡ false
+  idle_left : (a : Option PendingResponse) (left : Bool) → a ≡ None → in_turn a left inputs.GoesOn ≡ false
+      → left ≡ false
   idle_left None left idle e = e
   idle_left (Some a) left idle e = absurd cc
 
@@ -612,34 +616,35 @@ module _ {P : Type 0} (ops : P → List Op) (own : P → List (List ℕ)) (title
 
   -- ---- rows
 
-  telling_next : (s : AssociationState) (a : Option Due) (pending : Option Reply) → s.awaited ≡ a
+  telling_next : (s : AssociationState) (a : Option PendingResponse) (pending : Option Reply) → s.awaited ≡ a
       → tells_rows a ≡ true → Pends a pending → IsNext s pending (Some inputs.GoesOn) × (pending ≡ None)
   telling_next s None pending is e pends = absurd cc
-  telling_next s (Some (dues.Store a)) pending is e pends = absurd cc
-  telling_next s (Some (dues.Find a kind)) pending is e pends = absurd cc
-  telling_next s (Some (dues.Rows telling)) None is e pends = (
+  telling_next s (Some (pendings.Store a)) pending is e pends = absurd cc
+  telling_next s (Some (pendings.Find a kind)) pending is e pends = absurd cc
+  telling_next s (Some (pendings.Rows telling)) None is e pends = (
     (
-      ap (λ (o : Option Due). in_turn o (is_left s.within.state s.queue) inputs.GoesOn) is,
+      ap (λ (o : Option PendingResponse). in_turn o (is_left s.within.state s.queue) inputs.GoesOn) is,
       tt,
       refl,
       refl,
     ),
     refl,
   )
-  telling_next s (Some (dues.Rows telling)) (Some reply) is e pends = absurd cc
-  telling_next s (Some (dues.Get a syntax)) pending is e pends = absurd cc
-  telling_next s (Some (dues.Sending r)) None is e pends = (
+  telling_next s (Some (pendings.Rows telling)) (Some reply) is e pends = absurd cc
+  telling_next s (Some (pendings.Get a syntax)) pending is e pends = absurd cc
+  telling_next s (Some (pendings.Sending r)) None is e pends = (
     (
-      ap (λ (o : Option Due). in_turn o (is_left s.within.state s.queue) inputs.GoesOn) is,
+      ap (λ (o : Option PendingResponse). in_turn o (is_left s.within.state s.queue) inputs.GoesOn) is,
       tt,
       refl,
       refl,
     ),
     refl,
   )
-  telling_next s (Some (dues.Sending r)) (Some reply) is e pends = absurd cc
+  telling_next s (Some (pendings.Sending r)) (Some reply) is e pends = absurd cc
 
-  answered_on : (old new : Option Due) → tells_rows old ≡ true → IsToldBy inputs.GoesOn old new → IsAnswered new
+  answered_on : (old new : Option PendingResponse) → tells_rows old ≡ true → IsToldBy inputs.GoesOn old new
+      → IsAnswered new
   answered_on None new e told = absurd cc
   answered_on (Some due) new e told = told
 
@@ -665,7 +670,7 @@ module _ {P : Type 0} (ops : P → List Op) (own : P → List (List ℕ)) (title
       let next = telling_next m.association m.association.awaited pending refl telling here.pends in
       fails_on old mid then from event pending m inputs.GoesOn here next.0 broke
 
-fewer_rows : (a : Option Due) (old new : AssociationState) → tells_rows a ≡ true → FewerFor a old new
+fewer_rows : (a : Option PendingResponse) (old new : AssociationState) → tells_rows a ≡ true → FewerFor a old new
     → (new.queue ≡ old.queue) × (left_of new.awaited < left_of old.awaited)
 fewer_rows None old new e fewer = absurd cc
 fewer_rows (Some due) old new e fewer = fewer
@@ -676,14 +681,15 @@ pub rows_fewer : (old new : AssociationState) → tells_rows old.awaited ≡ tru
 rows_fewer old new e fewer = fewer_rows old.awaited old new e fewer
 
 -- Where no rows are told, none is left.
-pub quiet_of : (a : Option Due) → tells_rows a ≡ false → IsQuiet a
+pub quiet_of : (a : Option PendingResponse) → tells_rows a ≡ false → IsQuiet a
 quiet_of None e = tt
-quiet_of (Some (dues.Store a)) e = tt
-quiet_of (Some (dues.Find a kind)) e = tt
-quiet_of (Some (dues.Rows telling)) e = absurd cc
-quiet_of (Some (dues.Get a syntax)) e = tt
-quiet_of (Some (dues.Sending r)) e = absurd cc
+quiet_of (Some (pendings.Store a)) e = tt
+quiet_of (Some (pendings.Find a kind)) e = tt
+quiet_of (Some (pendings.Rows telling)) e = absurd cc
+quiet_of (Some (pendings.Get a syntax)) e = tt
+quiet_of (Some (pendings.Sending r)) e = absurd cc
 
-pub told_in_turn : (a : Option Due) (left : Bool) → tells_rows a ≡ true → in_turn a left inputs.GoesOn ≡ true
+pub told_in_turn : (a : Option PendingResponse) (left : Bool) → tells_rows a ≡ true
+    → in_turn a left inputs.GoesOn ≡ true
 told_in_turn None left e = absurd cc
 told_in_turn (Some due) left e = e

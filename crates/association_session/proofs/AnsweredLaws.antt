@@ -1,5 +1,5 @@
 -- Behind each call for a query stand its answers.
-use Rattle.std.proofs.Common.{◌≡◌, List, [], ◌∷◌, ◌++◌, map, Option, Some, None, inl, inr, refl, sym, ap, subst, ◌∙◌}
+use Rattle.std.proofs.Common.{◌≡◌, List, [], ◌∷◌, ◌++◌, map, Option, Some, None, inl, inr, sym, ap, subst, ◌∙◌}
 use Rattle.archive_model.specs.declared.view.View.{View}
 use Rattle.data_set.specs.Set.{Set}
 use Rattle.pdu.specs.declared.value.Pdu.{Pdu}
@@ -11,7 +11,7 @@ use Rattle.ul_state.specs.declared.table.State.TheVariants.{Sta1, Sta2, Sta6, St
 use Rattle.ul_state.specs.declared.titles.Title.{Title}
 use Rattle.dimse.specs.declared.message.Message.{Message}
 use Rattle.dimse.specs.declared.status.Status.{Status}
-use Rattle.association_services.specs.declared.call.Call.TheVariants.{Find, Get}
+use Rattle.association_services.specs.declared.call.Call.TheVariants.{Find}
 use Rattle.association_session.specs.declared.deed.Deed.{Deed}
 use Rattle.association_session.specs.declared.deed.Deed.TheVariants.{Send, Reach, Ask}
 use Rattle.association_services.specs.declared.call.Finding.{Finding}
@@ -27,8 +27,7 @@ use Rattle.association_services.specs.Find.{row_status, rows_in, status_of_found
 use Rattle.association_services.specs.Response.{Awaited}
 use Rattle.association_services.specs.Retrieval.{few_in, setting_out, begun, meaning_of}
 use Rattle.association_services.specs.SubOperation.{Retrieval, SubOperation}
-use Rattle.association_services.specs.Retrieval.{performed, cancelling}
-use Rattle.association_services.specs.declared.call.Getting.{Getting}
+use Rattle.association_services.specs.Retrieval.{cancelling}
 use Rattle.association_services.specs.declared.retrieval.Meaning.{Meaning}
 use Rattle.association_services.specs.declared.retrieval.Meaning.TheVariants.{Cancelled, Performed, Unawaited}
 use Rattle.association_services.specs.declared.retrieval.Progress.{Progress}
@@ -36,11 +35,11 @@ use Rattle.data_set.specs.declared.syntax.Syntax.{Syntax}
 use Rattle.dimse.specs.declared.status.Status.TheVariants.{UnableToPerformSubOperations}
 use Rattle.pdu.specs.declared.context.Context.{Context}
 use Rattle.retrieve_model.specs.declared.prepared.Prepared.{Prepared}
-use Rattle.association_session.specs.Row.{Within, row, met, deeds_of, action_on}
+use Rattle.association_session.specs.Row.{Within, met, deeds_of, action_on}
 use Rattle.association_services.specs.Store.{status_of_reply}
 use Rattle.association_session.specs.Talks.{Heard, Met, Said, Goes, GoesBy, Then, Tells, TellsRows, FollowsStore}
 use Rattle.association_session.specs.Talks.{FollowsFind}
-use Rattle.association_session.specs.Talks.{FollowsGet, BeginsFew, Begins, Does, InState, Answers, GoesOnBy, Performs}
+use Rattle.association_session.specs.Talks.{FollowsGet, BeginsFew, Begins, Does, InState, GoesOnBy, Performs}
 use Rattle.association_session.specs.Talks.{Attends}
 use Rattle.association_session.specs.Talks.{Talks, Serves, awaiting}
 use Rattle.association_session.proofs.StatusLaws.{served_kind}

@@ -1,4 +1,4 @@
--- What deeds send that are kept in parts.
+-- What deeds send that are kept, one after another.
 use Rattle.std.proofs.Common.{◌≡◌, Bool, false, List, [], ◌∷◌, ◌++◌, map, refl, ap, ◌∙◌}
 use Rattle.std.specs.Prelude.{◌||◌}
 use Rattle.std.specs.List.{AllByRecursion, list_any}
@@ -10,8 +10,8 @@ use Rattle.pdu.specs.declared.value.Pdu.TheVariants.{Abort}
 use Rattle.dimse.specs.Cut.{IsData}
 use Rattle.association_session.specs.declared.deed.Deed.{Deed}
 use Rattle.association_session.specs.declared.deed.Deed.TheVariants.{Send}
-use Rattle.association_session.specs.declared.deeds.Part.{Part}
-use Rattle.association_session.specs.Deeds.{deeds_of_part, deeds_in}
+use Rattle.association_session.specs.declared.deeds.Outgoing.{Outgoing}
+use Rattle.association_session.specs.inner.Deeds.{deeds_of_outgoing, deeds_in}
 use Rattle.association_session.specs.Session.{is_abort, is_release}
 
 -- No fragment is an A-ABORT.
@@ -36,15 +36,15 @@ no_release (ReleaseRq ∷ pdus) are = absurd are.0
 no_release (ReleaseRp ∷ pdus) are = absurd are.0
 no_release (Abort source reason ∷ pdus) are = absurd are.0
 
-any_in : (p : Deed → Bool) (parts : List Part) → list_any p (deeds_in parts)
-    ≡ list_any (λ part. list_any p (deeds_of_part part)) parts
+any_in : (p : Deed → Bool) (parts : List Outgoing) → list_any p (deeds_in parts)
+    ≡ list_any (λ outgoing. list_any p (deeds_of_outgoing outgoing)) parts
 any_in p [] = refl
-any_in p (part ∷ parts) = ap (list_any p) (flat_map-cons deeds_of_part part parts)
-    ∙ list_any-append p (deeds_of_part part) (deeds_in parts)
-    ∙ ap (λ (b : Bool). list_any p (deeds_of_part part) || b) (any_in p parts)
+any_in p (outgoing ∷ parts) = ap (list_any p) (flat_map-cons deeds_of_outgoing outgoing parts)
+    ∙ list_any-append p (deeds_of_outgoing outgoing) (deeds_in parts)
+    ∙ ap (λ (b : Bool). list_any p (deeds_of_outgoing outgoing) || b) (any_in p parts)
 
--- Where no PDU is one, a part has it.
-pub any_behind : (p : Deed → Bool) (deeds : List Deed) (parts : List Part) → list_any p deeds ≡ false
-    → list_any p (deeds ++ deeds_in parts) ≡ list_any (λ part. list_any p (deeds_of_part part)) parts
+-- Where no PDU is one, a outgoing has it.
+pub any_behind : (p : Deed → Bool) (deeds : List Deed) (parts : List Outgoing) → list_any p deeds ≡ false
+    → list_any p (deeds ++ deeds_in parts) ≡ list_any (λ outgoing. list_any p (deeds_of_outgoing outgoing)) parts
 any_behind p deeds parts none = list_any-append p deeds (deeds_in parts)
     ∙ ap (λ (b : Bool). b || list_any p (deeds_in parts)) none ∙ any_in p parts

@@ -29,7 +29,7 @@ use Rattle.association_services.specs.declared.service.Service.{Service}
 use Rattle.association_services.specs.declared.service.Service.TheVariants.{Ignored, Broken, Responded, Asked}
 use Rattle.association_services.specs.declared.service.Service.TheVariants.{Queried, Fetched}
 use Rattle.association_services.specs.Find.{AreRows, row_text, rows_in, status_of_found}
-use Rattle.association_session.specs.Finals.{data_in, Requested, plain, selecting, RespondsTo, IsOnTheWay}
+use Rattle.association_session.specs.Finals.{data_in, Requested, plain, selecting, RespondsTo}
 use Rattle.association_session.specs.Finals.{SendsOnTheWay, SendsLast, AreResponded, RequestsBy, Precedes, Replied}
 use Rattle.association_session.specs.Finals.{FewRequests, RepliedGet, RequestFor}
 use Rattle.association_session.specs.Finals.{next_of_get, RequestWithin, RequestOf, RequestIn, Requests, open_in}

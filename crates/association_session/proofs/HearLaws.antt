@@ -21,13 +21,13 @@ use Rattle.data_set.specs.Set.{Set}
 use Rattle.operation.specs.declared.taken.Taken.{Taken}
 use Rattle.ul_state.specs.declared.acceptor.Settled.{Settled}
 use Rattle.association_services.specs.declared.call.Call.{Call}
-use Rattle.association_session.specs.declared.due.Due.{Due}
-use Rattle.association_session.specs.declared.due.Due.TheVariants as dues
+use Rattle.association_session.specs.declared.pending_response.PendingResponse.{PendingResponse}
+use Rattle.association_session.specs.declared.pending_response.PendingResponse.TheVariants as pendings
 use Rattle.association_services.specs.declared.service.RowKind.{RowKind}
-use Rattle.association_session.specs.declared.due.Telling.{Telling}
+use Rattle.association_session.specs.declared.pending_response.Telling.{Telling}
 use Rattle.association_session.specs.declared.event.SessionEvent.{SessionEvent}
 use Rattle.association_services.specs.declared.reply.PortFault.{PortFault}
-use Rattle.association_session.specs.Due.{IsAnswered, Fits}
+use Rattle.association_session.specs.PendingResponse.{IsAnswered, Fits}
 use Rattle.association_services.specs.Find.{rows_in, status_of_found}
 use Rattle.association_services.proofs.DataLaws.{AreData, sending_data}
 use Rattle.association_session.proofs.DataLaws.{data_state}
@@ -53,8 +53,11 @@ use Rattle.association_session.specs.Row.{Within, Link, row, met, agreed_by, lim
 use Rattle.association_services.specs.Context.{context_in}
 use Rattle.association_services.specs.Service.{ServesOn}
 use Rattle.association_services.specs.Store.{status_of_reply}
-use Rattle.association_session.specs.Session.{AssociationState, Linked, assembly_in, assembly_of, heard_in, Turned}
-use Rattle.association_session.specs.Session.{Answered, Takes, Owes, OwedFor, OwedAt, Stops, entered, stage_by, IsTold}
+use Rattle.association_session.specs.Session.{AssociationState, assembly_of, heard_in, Turned}
+use Rattle.association_session.specs.inner.Association.{Linked, assembly_in}
+use Rattle.association_session.specs.Session.{Takes, Owes, OwedFor, OwedAt, Stops, entered, stage_by}
+use Rattle.association_session.specs.inner.Telling.{IsTold}
+use Rattle.association_session.specs.inner.Association.{Answered}
 use Rattle.association_session.specs.Session.{IsWritable, IsToldBy, HearsValues, started}
 use Rattle.association_session.specs.Talks.{Heard, Met, Said, Goes, GoesBy, Then, Tells, FollowsFind, FollowsGet}
 use Rattle.association_session.specs.Talks.{BeginsFew, Does, InState, Answers, Attends, Talks, Leads, Serves, awaiting}
@@ -157,20 +160,23 @@ fed_on old now stood v q l same held first feeds limit = let so : Fed old now =
 
 pub owed_idle : (titles : List (Title View)) (s : AssociationState) (us : List Heard) (rs : List Reply)
     (deeds : List Deed) → s.awaited ≡ None → Owes titles s us rs deeds → Talks titles s.within s.sub us rs deeds
-owed_idle titles s us rs deeds idle owed = subst (λ (a : Option Due). OwedAt titles s.within s.sub a us rs deeds) idle
+owed_idle titles s us rs deeds idle owed = subst
+    (λ (a : Option PendingResponse). OwedAt titles s.within s.sub a us rs deeds) idle
     owed
 
 pub idle_owed : (titles : List (Title View)) (s : AssociationState) (us : List Heard) (rs : List Reply)
     (deeds : List Deed) → s.awaited ≡ None → Talks titles s.within s.sub us rs deeds → Owes titles s us rs deeds
-idle_owed titles s us rs deeds idle talks = subst (λ (a : Option Due). OwedAt titles s.within s.sub a us rs deeds)
+idle_owed titles s us rs deeds idle talks = subst
+    (λ (a : Option PendingResponse). OwedAt titles s.within s.sub a us rs deeds)
     (sym idle) talks
 
 -- What is owed depends on where the association is, and on what is awaited.
 pub owed_at : (titles : List (Title View)) (new : AssociationState) (w : Within) (sub : Option SubOperation)
-    (due : Option Due) (us : List Heard) (rs : List Reply) (rest : List Deed) → new.within ≡ w → new.sub ≡ sub
-    → new.awaited ≡ due → Owes titles new us rs rest → OwedAt titles w sub due us rs rest
-owed_at titles new w sub due us rs rest within same awaited owed =
-    subst (λ (k : Option Due). OwedAt titles w sub k us rs rest) awaited
+    (pending : Option PendingResponse) (us : List Heard) (rs : List Reply) (rest : List Deed) → new.within ≡ w
+    → new.sub ≡ sub
+    → new.awaited ≡ pending → Owes titles new us rs rest → OwedAt titles w sub pending us rs rest
+owed_at titles new w sub pending us rs rest within same awaited owed =
+    subst (λ (k : Option PendingResponse). OwedAt titles w sub k us rs rest) awaited
     (subst (λ (k : Option SubOperation). OwedAt titles w k new.awaited us rs rest) same
     (subst (λ (k : Within). OwedAt titles k new.sub new.awaited us rs rest) within owed))
 
@@ -236,23 +242,24 @@ err_once f g e = cc
 
 -- ---- what is still to be told
 
-pub none_due : (a : Option Due) → a ≡ None → IsSome a → ⊥
-none_due a none some = cc
+pub none_pending : (a : Option PendingResponse) → a ≡ None → IsSome a → ⊥
+none_pending a none some = cc
 
-pub none_fits : (a : Option Due) → a ≡ None → Fits a
-none_fits a none = subst (λ (o : Option Due). Fits o) (sym none) tt
+pub none_fits : (a : Option PendingResponse) → a ≡ None → Fits a
+none_fits a none = subst (λ (o : Option PendingResponse). Fits o) (sym none) tt
 
-pub none_answered : (a : Option Due) → a ≡ None → IsAnswered a
-none_answered a none = subst (λ (o : Option Due). IsAnswered o) (sym none) tt
+pub none_answered : (a : Option PendingResponse) → a ≡ None → IsAnswered a
+none_answered a none = subst (λ (o : Option PendingResponse). IsAnswered o) (sym none) tt
 
-told_from : (event : SessionEvent) (old : Option Due) → IsToldBy event old None
+told_from : (event : SessionEvent) (old : Option PendingResponse) → IsToldBy event old None
 told_from (Replied reply) old = tt
 told_from (IsHeard event) old = tt
 told_from GoesOn None = tt
-told_from GoesOn (Some due) = tt
+told_from GoesOn (Some pending) = tt
 
-pub told_none : (event : SessionEvent) (old new : Option Due) → new ≡ None → IsToldBy event old new
-told_none event old new none = subst (λ (o : Option Due). IsToldBy event old o) (sym none) (told_from event old)
+pub told_none : (event : SessionEvent) (old new : Option PendingResponse) → new ≡ None → IsToldBy event old new
+told_none event old new none = subst (λ (o : Option PendingResponse). IsToldBy event old o) (sym none)
+    (told_from event old)
 
 serves_at : (w : Within) (m : Message) (service : Service) (settled : Option (Settled View)) (contexts : List Context)
     → settled ≡ w.settled → contexts ≡ w.link.contexts
@@ -292,7 +299,7 @@ took titles old now stood v q l m deeds new same held first feeds limit idle ans
           ∙ so.within) so.sub so.awaited answered.takes;
       stops = answered.stops;
       state = answered.state ∙ ap (λ (w : Within). state_after w.state deeds) so.within;
-      told = subst (λ (a : Option Due). IsToldBy GoesOn a new.awaited) (sym idle) tt;
+      told = subst (λ (a : Option PendingResponse). IsToldBy GoesOn a new.awaited) (sym idle) tt;
       opened = λ before. answered.opened;
       fits = answered.fits;
     }
@@ -331,12 +338,13 @@ broke titles old now stood v q l f deeds new same held first feeds not_memory li
           ∙ so.within) so.sub so.awaited
           (subst (λ (t : List Deed). Takes titles mid (Met LocalAbort ∷ []) [] t new) (sym row_here)
           (takes_row titles mid new LocalAbort idle next));
-      stops = subst (λ (t : List Deed). Stops t new.awaited) (sym sent) (subst (λ (a : Option Due). Stops [] a)
+      stops = subst (λ (t : List Deed). Stops t new.awaited) (sym sent)
+          (subst (λ (a : Option PendingResponse). Stops [] a)
           (sym (ap (λ (t : AssociationState). t.awaited) next ∙ idle)) tt);
       state = ap (λ (t : AssociationState). t.within.state) next ∙ gone_state titles now.within.state opened
           ∙ sym (ap (λ (t : List Deed). state_after old.within.state t) sent);
       told = told_none GoesOn old.awaited new.awaited none_here;
-      opened = λ before some. absurd (none_due new.awaited none_here some);
+      opened = λ before some. absurd (none_pending new.awaited none_here some);
       fits = none_fits new.awaited none_here;
     }
 
@@ -377,12 +385,13 @@ all_heard titles old now stood q deeds same held idle rest none =
       leads = so.within;
       takes = takes_from titles new old [] [] deeds new so.within so.sub so.awaited
           (subst (λ (t : List Deed). Takes titles new [] [] t new) (sym none) (λ us rs more owed. owed));
-      stops = subst (λ (t : List Deed). Stops t now.awaited) (sym none) (subst (λ (a : Option Due). Stops [] a)
+      stops = subst (λ (t : List Deed). Stops t now.awaited) (sym none)
+          (subst (λ (a : Option PendingResponse). Stops [] a)
           (sym (so.awaited ∙ idle)) tt);
       state = ap (λ (w : Within). w.state) so.within ∙ ap (λ (t : List Deed). state_after old.within.state t)
           (sym none);
       told = told_none GoesOn old.awaited now.awaited (so.awaited ∙ idle);
-      opened = λ before some. absurd (none_due now.awaited (so.awaited ∙ idle) some);
+      opened = λ before some. absurd (none_pending now.awaited (so.awaited ∙ idle) some);
       fits = none_fits now.awaited (so.awaited ∙ idle);
     }
 
@@ -426,7 +435,7 @@ told_state : (awaited : Awaited) (status : Status) (deeds : List Deed) (s : Stat
 told_state awaited status deeds s told =
     ap (λ (t : List Deed). state_after s t) told.2 ∙ data_state s told.0 (sending_data _ _ told.0 told.1)
 
-pub sends_halt : (ps : List Pdu) (a : Option Due) → IsAnswered a → Stops (map Send ps) a
+pub sends_halt : (ps : List Pdu) (a : Option PendingResponse) → IsAnswered a → Stops (map Send ps) a
 sends_halt [] a answered = answered
 sends_halt (p ∷ ps) a answered = sends_halt ps a answered
 
@@ -434,10 +443,10 @@ sends_stop : (pdus : List Pdu) → Stops (map Send pdus) None
 sends_stop [] = tt
 sends_stop (p ∷ pdus) = sends_stop pdus
 
-told_stops : (awaited : Awaited) (status : Status) (deeds : List Deed) (a : Option Due) → a ≡ None
+told_stops : (awaited : Awaited) (status : Status) (deeds : List Deed) (a : Option PendingResponse) → a ≡ None
     → IsTold awaited status deeds → Stops deeds a
 told_stops awaited status deeds a none told = subst (λ (t : List Deed). Stops t a) (sym told.2)
-    (subst (λ (o : Option Due). Stops (map Send told.0) o) (sym none) (sends_stop told.0))
+    (subst (λ (o : Option PendingResponse). Stops (map Send told.0) o) (sym none) (sends_stop told.0))
 
 tells : (awaited : Awaited) (status : Status) (deeds rest : List Deed) (R : List Deed → Type 0) → IsTold awaited status
     deeds → R rest → Tells awaited status R (deeds ++ rest)
@@ -494,26 +503,27 @@ answered_told titles now new m status service settled contexts limit deeds opene
 
 -- a message for which the port is asked
 pub answered_asked : (titles : List (Title View)) (now new : AssociationState) (m : Message) (service : Service)
-    (front : List Deed) (call : Call) (due : Due) (settled : Option (Settled View)) (contexts : List Context)
+    (front : List Deed) (call : Call) (pending : PendingResponse) (settled : Option (Settled View))
+    (contexts : List Context)
     (deeds : List Deed)
     → now.within.state ≡ Sta6 → now.awaited ≡ None → now.sub ≡ None
     → new ≡ record {
       within = now.within;
       sub = now.sub;
       stage = now.stage;
-      awaited = Some due;
+      awaited = Some pending;
       queue = now.queue;
     }
     → settled ≡ now.within.settled → contexts ≡ now.within.link.contexts
     → ServesOn settled (context_in contexts m.context) m.command m.body service
-    → deeds ≡ front ++ Ask call ∷ [] → Stops (front ++ Ask call ∷ []) (Some due)
-    → ((s : State) → state_after s (front ++ Ask call ∷ []) ≡ s) → Fits (Some due)
+    → deeds ≡ front ++ Ask call ∷ [] → Stops (front ++ Ask call ∷ []) (Some pending)
+    → ((s : State) → state_after s (front ++ Ask call ∷ []) ≡ s) → Fits (Some pending)
     → ((abort : List Deed) (gets : GoesBy) (gone : Goes) (rs : List Reply) (rest : List Deed)
-    → OwedFor now.within.link.contexts (Some due) gets (gets None) rs rest
+    → OwedFor now.within.link.contexts (Some pending) gets (gets None) rs rest
     → Does service now.within.link.contexts (awaiting now.within.link m) abort gets gone rs
     ((front ++ Ask call ∷ []) ++ rest))
     → Answered titles now m deeds new
-answered_asked titles now new m service front call due settled contexts deeds opened idle none same se cs serves is
+answered_asked titles now new m service front call pending settled contexts deeds opened idle none same se cs serves is
     stops stays fits does =
     let serves_here : Serves now.within m service = serves_at now.within m service settled contexts se cs serves in
     let gets : List Heard → GoesBy = λ us next. Talks titles now.within next us in
@@ -529,18 +539,19 @@ answered_asked titles now new m service front call due settled contexts deeds op
             subst (λ (t : List Deed). Does service now.within.link.contexts (awaiting now.within.link m) abort
                 (gets us) (gone us) rs (t ++ rest)) (sym is)
                 (does abort (gets us) (gone us) rs rest
-                (owed_at titles new now.within None (Some due) us rs rest
+                (owed_at titles new now.within None (Some pending) us rs rest
                 (ap (λ (t : AssociationState). t.within) same) (ap (λ (t : AssociationState). t.sub) same ∙ none)
                 (ap (λ (t : AssociationState). t.awaited) same) owed)),
           ));
-      stops = subst (λ (a : Option Due). Stops deeds a) (sym (ap (λ (t : AssociationState). t.awaited) same))
-          (subst (λ (t : List Deed). Stops t (Some due)) (sym is) stops);
+      stops = subst (λ (a : Option PendingResponse). Stops deeds a)
+          (sym (ap (λ (t : AssociationState). t.awaited) same))
+          (subst (λ (t : List Deed). Stops t (Some pending)) (sym is) stops);
       state = ap (λ (t : AssociationState). t.within.state) same
           ∙ sym (ap (λ (t : List Deed). state_after now.within.state t) is ∙ stays now.within.state);
       link = ap (λ (t : AssociationState). t.within.link) same;
       stage = ap (λ (t : AssociationState). t.stage) same;
       kept = inl (ap (λ (t : AssociationState). t.queue) same);
-      fits = subst (λ (a : Option Due). Fits a) (sym (ap (λ (t : AssociationState). t.awaited) same)) fits;
+      fits = subst (λ (a : Option PendingResponse). Fits a) (sym (ap (λ (t : AssociationState). t.awaited) same)) fits;
       opened = λ some. ap (λ (t : AssociationState). t.within.state) same ∙ opened;
     }
 
@@ -583,7 +594,8 @@ answered_broken titles now mid new m deeds opened idle is sent next attends =
             ap (λ (t : List Deed). t ++ rest) row_here,
             owed_at titles new (met titles now.within LocalAbort) None None us rs rest within sub none owed,
           )));
-      stops = subst (λ (t : List Deed). Stops t new.awaited) (sym sent) (subst (λ (a : Option Due). Stops [] a)
+      stops = subst (λ (t : List Deed). Stops t new.awaited) (sym sent)
+          (subst (λ (a : Option PendingResponse). Stops [] a)
           (sym none) tt);
       state = ap (λ (w : Within). w.state) within ∙ gone_state titles now.within.state opened
           ∙ sym (ap (λ (t : List Deed). state_after now.within.state t) sent);
@@ -591,22 +603,22 @@ answered_broken titles now mid new m deeds opened idle is sent next attends =
       stage = stage ∙ gone_stage titles now.within.state now.stage opened;
       kept = inr (subst (λ (w : Within). IsLeft w.state) (sym within) (gone_left titles now.within.state opened));
       fits = none_fits new.awaited none;
-      opened = λ some. absurd (none_due new.awaited none some);
+      opened = λ some. absurd (none_pending new.awaited none some);
     }
 
 -- what sends these PDUs within a C-GET, which goes on
 pub answered_sent : (titles : List (Title View)) (now new : AssociationState) (m : Message) (deeds : List Deed)
-    (pdus : List Pdu) (sub : Option SubOperation) (due : Option Due)
+    (pdus : List Pdu) (sub : Option SubOperation) (pending : Option PendingResponse)
     → now.within.state ≡ Sta6 → now.awaited ≡ None
-    → new ≡ record { within = now.within; sub = sub; stage = now.stage; awaited = due; queue = now.queue }
-    → deeds ≡ map Send pdus → AreData pdus → IsAnswered due → Fits due
+    → new ≡ record { within = now.within; sub = sub; stage = now.stage; awaited = pending; queue = now.queue }
+    → deeds ≡ map Send pdus → AreData pdus → IsAnswered pending → Fits pending
     → ((abort : List Deed) (gets : GoesBy) (gone : Goes) (rs : List Reply) (rest : List Deed)
-    → OwedFor now.within.link.contexts due gets (gets sub) rs rest
+    → OwedFor now.within.link.contexts pending gets (gets sub) rs rest
     → Attends now.sub now.within m abort gets gone rs (map Send pdus ++ rest))
     → Answered titles now m deeds new
-answered_sent titles now new m deeds pdus sub due opened idle is sent are_data answered fits attends =
+answered_sent titles now new m deeds pdus sub pending opened idle is sent are_data answered fits attends =
     let within : new.within ≡ now.within = ap (λ (t : AssociationState). t.within) is in
-    let awaited : new.awaited ≡ due = ap (λ (t : AssociationState). t.awaited) is in
+    let awaited : new.awaited ≡ pending = ap (λ (t : AssociationState). t.awaited) is in
     record {
       leads = (opened, inl within);
       takes = λ us rs rest owed.
@@ -619,17 +631,18 @@ answered_sent titles now new m deeds pdus sub due opened idle is sent are_data a
           (t ++ rest)) (sym sent)
           (attends (row titles now.within.state LocalAbort) (λ next. Talks titles now.within next us)
           (Talks titles (met titles now.within LocalAbort) None us) rs rest
-          (owed_at titles new now.within sub due us rs rest within (ap (λ (t : AssociationState). t.sub) is) awaited
+          (owed_at titles new now.within sub pending us rs rest within (ap (λ (t : AssociationState). t.sub) is) awaited
           owed))));
       stops = subst (λ (t : List Deed). Stops t new.awaited) (sym sent)
-          (subst (λ (a : Option Due). Stops (map Send pdus) a) (sym awaited) (sends_halt pdus due answered));
+          (subst (λ (a : Option PendingResponse). Stops (map Send pdus) a) (sym awaited)
+          (sends_halt pdus pending answered));
       state = ap (λ (w : Within). w.state) within
           ∙ sym (ap (λ (t : List Deed). state_after now.within.state t) sent
           ∙ data_state now.within.state pdus are_data);
       link = ap (λ (w : Within). w.link) within;
       stage = ap (λ (t : AssociationState). t.stage) is;
       kept = inl (ap (λ (t : AssociationState). t.queue) is);
-      fits = subst (λ (a : Option Due). Fits a) (sym awaited) fits;
+      fits = subst (λ (a : Option PendingResponse). Fits a) (sym awaited) fits;
       opened = λ some. ap (λ (w : Within). w.state) within ∙ opened;
     }
 
@@ -656,7 +669,7 @@ still now new within stage queue = record {
 -- a reply to a store
 pub resumed : (titles : List (Title View)) (now new : AssociationState) (awaited shown : Awaited)
     (reply : Result Taken PortFault) (status : Status) (deeds : List Deed)
-    → now.awaited ≡ Some (dues.Store awaited) → new.within ≡ now.within → new.sub ≡ now.sub → new.stage ≡ now.stage
+    → now.awaited ≡ Some (pendings.Store awaited) → new.within ≡ now.within → new.sub ≡ now.sub → new.stage ≡ now.stage
     → new.awaited ≡ None → new.queue ≡ now.queue → shown ≡ awaited → status ≡ status_of_reply reply
     → IsTold shown status deeds → Turned titles now (Replied (Stored reply)) deeds new
 resumed titles now new awaited shown reply status deeds has within sub stage none queue same is told =
@@ -667,7 +680,8 @@ resumed titles now new awaited shown reply status deeds has within sub stage non
       values = still (started titles now (Replied (Stored reply))) new within stage queue;
       leads = within;
       takes = λ us rs rest owed.
-          subst (λ (a : Option Due). OwedAt titles now.within now.sub a us (Stored reply ∷ rs) (deeds ++ rest))
+          subst (λ (a : Option PendingResponse). OwedAt titles now.within now.sub a us (Stored reply ∷ rs)
+          (deeds ++ rest))
           (sym has)
           (tells awaited (status_of_reply reply) deeds rest (Talks titles now.within now.sub us rs) told_here
           (owed_at titles new now.within now.sub None us rs rest within sub none owed));
@@ -675,15 +689,15 @@ resumed titles now new awaited shown reply status deeds has within sub stage non
       state = ap (λ (w : Within). w.state) within
           ∙ sym (told_state awaited (status_of_reply reply) deeds now.within.state told_here);
       told = none_answered new.awaited none;
-      opened = λ before some. absurd (none_due new.awaited none some);
+      opened = λ before some. absurd (none_pending new.awaited none some);
       fits = none_fits new.awaited none;
     }
 
 -- a reply to a find: rows are left to be told
 pub found_rows : (titles : List (Title View)) (now new : AssociationState) (awaited : Awaited) (kind : RowKind)
     (telling : Telling) (reply : Result (List Set) PortFault) (deeds : List Deed)
-    → now.awaited ≡ Some (dues.Find awaited kind) → new.within ≡ now.within → new.sub ≡ now.sub
-    → new.stage ≡ now.stage → new.awaited ≡ Some (dues.Rows telling) → new.queue ≡ now.queue
+    → now.awaited ≡ Some (pendings.Find awaited kind) → new.within ≡ now.within → new.sub ≡ now.sub
+    → new.stage ≡ now.stage → new.awaited ≡ Some (pendings.Rows telling) → new.queue ≡ now.queue
     → telling ≡ record {
       awaited = awaited;
       kind = kind;
@@ -691,70 +705,72 @@ pub found_rows : (titles : List (Title View)) (now new : AssociationState) (awai
       status = status_of_found reply;
     } → FitsLimit awaited.limit → deeds ≡ []
     → Turned titles now (Replied (Found reply)) deeds new
-found_rows titles now new awaited kind telling reply deeds has within sub stage due queue is fits none =
-    let rows : Due = dues.Rows (record {
+found_rows titles now new awaited kind telling reply deeds has within sub stage pending queue is fits none =
+    let rows : PendingResponse = pendings.Rows (record {
       awaited = awaited;
       kind = kind;
       rows = rows_in reply;
       status = status_of_found reply;
     }) in
-    let due_is : new.awaited ≡ Some rows = due ∙ ap (λ (t : Telling). Some (dues.Rows t)) is in
+    let pending_is : new.awaited ≡ Some rows = pending ∙ ap (λ (t : Telling). Some (pendings.Rows t)) is in
     record {
       said = [];
       values = still (started titles now (Replied (Found reply))) new within stage queue;
       leads = within;
       takes = λ us rs rest owed.
-          subst (λ (a : Option Due). OwedAt titles now.within now.sub a us (Found reply ∷ rs) (deeds ++ rest))
+          subst (λ (a : Option PendingResponse). OwedAt titles now.within now.sub a us (Found reply ∷ rs)
+          (deeds ++ rest))
           (sym has)
           (subst (λ (t : List Deed). FollowsFind awaited kind (Talks titles now.within now.sub us) (Found reply ∷ rs)
           (t ++ rest)) (sym none)
-          (owed_at titles new now.within now.sub (Some rows) us rs rest within sub due_is owed));
+          (owed_at titles new now.within now.sub (Some rows) us rs rest within sub pending_is owed));
       stops = subst (λ (t : List Deed). Stops t new.awaited) (sym none)
-          (subst (λ (a : Option Due). IsAnswered a) (sym due_is) tt);
+          (subst (λ (a : Option PendingResponse). IsAnswered a) (sym pending_is) tt);
       state = ap (λ (w : Within). w.state) within ∙ ap (λ (t : List Deed). state_after now.within.state t) (sym none);
-      told = subst (λ (a : Option Due). IsAnswered a) (sym due_is) tt;
+      told = subst (λ (a : Option PendingResponse). IsAnswered a) (sym pending_is) tt;
       opened = λ before some. ap (λ (w : Within). w.state) within
-          ∙ before (subst (λ (a : Option Due). IsSome a) (sym has) refl);
-      fits = subst (λ (a : Option Due). Fits a) (sym due_is) fits;
+          ∙ before (subst (λ (a : Option PendingResponse). IsSome a) (sym has) refl);
+      fits = subst (λ (a : Option PendingResponse). Fits a) (sym pending_is) fits;
     }
 
 -- a reply to a get: its sub-operations are left to be begun
 pub gotten_left : (titles : List (Title View)) (now new : AssociationState) (awaited : Awaited) (syntax : Syntax)
     (reply : Result (List Prepared) PortFault) (prepared : List Prepared) (retrieval : Retrieval) (deeds : List Deed)
-    → now.awaited ≡ Some (dues.Get awaited syntax) → new.within ≡ now.within → new.sub ≡ now.sub
-    → new.stage ≡ now.stage → new.awaited ≡ Some (dues.Sending retrieval) → new.queue ≡ now.queue
+    → now.awaited ≡ Some (pendings.Get awaited syntax) → new.within ≡ now.within → new.sub ≡ now.sub
+    → new.stage ≡ now.stage → new.awaited ≡ Some (pendings.Sending retrieval) → new.queue ≡ now.queue
     → few_in reply ≡ Some prepared → retrieval ≡ record { progress = setting_out awaited syntax; left = prepared }
     → FitsLimit awaited.limit → deeds ≡ [] → Turned titles now (Replied (Gotten reply)) deeds new
-gotten_left titles now new awaited syntax reply prepared retrieval deeds has within sub stage due queue few is fits
+gotten_left titles now new awaited syntax reply prepared retrieval deeds has within sub stage pending queue few is fits
     none =
-    let left : Due = dues.Sending (record { progress = setting_out awaited syntax; left = prepared }) in
-    let due_is : new.awaited ≡ Some left = due ∙ ap (λ (t : Retrieval). Some (dues.Sending t)) is in
+    let left : PendingResponse = pendings.Sending (record { progress = setting_out awaited syntax; left = prepared }) in
+    let pending_is : new.awaited ≡ Some left = pending ∙ ap (λ (t : Retrieval). Some (pendings.Sending t)) is in
     record {
       said = [];
       values = still (started titles now (Replied (Gotten reply))) new within stage queue;
       leads = within;
       takes = λ us rs rest owed.
-          subst (λ (a : Option Due). OwedAt titles now.within now.sub a us (Gotten reply ∷ rs) (deeds ++ rest))
+          subst (λ (a : Option PendingResponse). OwedAt titles now.within now.sub a us (Gotten reply ∷ rs)
+          (deeds ++ rest))
           (sym has)
           (subst (λ (t : List Deed). FollowsGet now.within.link.contexts awaited syntax
           (λ next. Talks titles now.within next us) (Talks titles now.within now.sub us) (Gotten reply ∷ rs)
           (t ++ rest)) (sym none)
           (subst (λ (o : Option (List Prepared)). BeginsFew now.within.link.contexts awaited syntax o
           (λ next. Talks titles now.within next us rs) (Talks titles now.within now.sub us rs) rest) (sym few)
-          (owed_at titles new now.within now.sub (Some left) us rs rest within sub due_is owed)));
+          (owed_at titles new now.within now.sub (Some left) us rs rest within sub pending_is owed)));
       stops = subst (λ (t : List Deed). Stops t new.awaited) (sym none)
-          (subst (λ (a : Option Due). IsAnswered a) (sym due_is) tt);
+          (subst (λ (a : Option PendingResponse). IsAnswered a) (sym pending_is) tt);
       state = ap (λ (w : Within). w.state) within ∙ ap (λ (t : List Deed). state_after now.within.state t) (sym none);
-      told = subst (λ (a : Option Due). IsAnswered a) (sym due_is) tt;
+      told = subst (λ (a : Option PendingResponse). IsAnswered a) (sym pending_is) tt;
       opened = λ before some. ap (λ (w : Within). w.state) within
-          ∙ before (subst (λ (a : Option Due). IsSome a) (sym has) refl);
-      fits = subst (λ (a : Option Due). Fits a) (sym due_is) fits;
+          ∙ before (subst (λ (a : Option PendingResponse). IsSome a) (sym has) refl);
+      fits = subst (λ (a : Option PendingResponse). Fits a) (sym pending_is) fits;
     }
 
 -- a reply to a get that is refused
 pub gotten_none : (titles : List (Title View)) (now new : AssociationState) (awaited shown : Awaited) (syntax : Syntax)
     (reply : Result (List Prepared) PortFault) (deeds : List Deed)
-    → now.awaited ≡ Some (dues.Get awaited syntax) → new.within ≡ now.within → new.sub ≡ now.sub
+    → now.awaited ≡ Some (pendings.Get awaited syntax) → new.within ≡ now.within → new.sub ≡ now.sub
     → new.stage ≡ now.stage → new.awaited ≡ None → new.queue ≡ now.queue → shown ≡ awaited → few_in reply ≡ None
     → IsTold shown UnableToPerformSubOperations deeds → Turned titles now (Replied (Gotten reply)) deeds new
 gotten_none titles now new awaited shown syntax reply deeds has within sub stage none queue same few told =
@@ -765,7 +781,8 @@ gotten_none titles now new awaited shown syntax reply deeds has within sub stage
       values = still (started titles now (Replied (Gotten reply))) new within stage queue;
       leads = within;
       takes = λ us rs rest owed.
-          subst (λ (a : Option Due). OwedAt titles now.within now.sub a us (Gotten reply ∷ rs) (deeds ++ rest))
+          subst (λ (a : Option PendingResponse). OwedAt titles now.within now.sub a us (Gotten reply ∷ rs)
+          (deeds ++ rest))
           (sym has)
           (subst (λ (o : Option (List Prepared)). BeginsFew now.within.link.contexts awaited syntax o
           (λ next. Talks titles now.within next us rs) (Talks titles now.within now.sub us rs) (deeds ++ rest))
@@ -776,7 +793,7 @@ gotten_none titles now new awaited shown syntax reply deeds has within sub stage
       state = ap (λ (w : Within). w.state) within
           ∙ sym (told_state awaited UnableToPerformSubOperations deeds now.within.state told_here);
       told = none_answered new.awaited none;
-      opened = λ before some. absurd (none_due new.awaited none some);
+      opened = λ before some. absurd (none_pending new.awaited none some);
       fits = none_fits new.awaited none;
     }
 

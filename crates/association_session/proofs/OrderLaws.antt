@@ -51,7 +51,7 @@ use Rattle.association_session.specs.Row.{Within, row, met, deeds_of, action_on}
 use Rattle.association_services.specs.Store.{status_of_reply}
 use Rattle.association_session.specs.Talks.{Heard, Met, Said, Goes, GoesBy, Then, Tells, TellsRows, FollowsStore}
 use Rattle.association_session.specs.Talks.{FollowsFind}
-use Rattle.association_session.specs.Talks.{FollowsGet, BeginsFew, Begins, Does, InState, Answers, GoesOnBy, Performs}
+use Rattle.association_session.specs.Talks.{FollowsGet, BeginsFew, Begins, Does, InState, GoesOnBy, Performs}
 use Rattle.association_session.specs.Talks.{Attends, Talks}
 use Rattle.association_session.specs.Talks.{awaiting}
 use Rattle.archive_model.specs.declared.view.View.{View}

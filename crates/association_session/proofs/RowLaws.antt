@@ -18,12 +18,12 @@ use Rattle.ul_state.specs.Acceptor.{kind_for}
 use Rattle.association_session.specs.declared.deed.Deed.{Deed}
 use Rattle.association_session.specs.declared.event.SessionEvent.TheVariants.{Heard as IsHeard, GoesOn}
 use Rattle.association_session.specs.Projections.{state_after}
-use Rattle.association_session.specs.declared.due.Due.{Due}
+use Rattle.association_session.specs.declared.pending_response.PendingResponse.{PendingResponse}
 use Rattle.association_session.specs.Row.{row, deeds_of, values_of, action_on}
 use Rattle.association_session.specs.Session.{AssociationState, HearsValues, Turned, Takes, Owes, Stops, entered}
-use Rattle.association_session.specs.Session.{is_left, IsToldBy}
+use Rattle.association_session.specs.Session.{is_left}
 use Rattle.association_session.specs.Talks.{Met, Leads}
-use Rattle.association_session.proofs.HearLaws.{takes_row, idle_owed, owed_idle, none_due, none_fits}
+use Rattle.association_session.proofs.HearLaws.{takes_row, idle_owed, owed_idle, none_pending, none_fits}
 use Rattle.archive_model.specs.declared.view.View.{View}
 
 -- ---- where a row leads
@@ -90,10 +90,10 @@ row_state titles Sta13 (events.Bad faults.Memory) = refl
 row_state titles Sta13 events.Ended = refl
 row_state titles Sta13 events.LocalAbort = refl
 
-row_stops : (action : Option Action) (a : Option Due) → a ≡ None → Stops (deeds_of action) a
-row_stops None a none = subst (λ (o : Option Due). Stops [] o) (sym none) tt
-row_stops (Some (actions.Send pdu)) a none = subst (λ (o : Option Due). Stops [] o) (sym none) tt
-row_stops (Some (actions.Hand values)) a none = subst (λ (o : Option Due). Stops [] o) (sym none) tt
+row_stops : (action : Option Action) (a : Option PendingResponse) → a ≡ None → Stops (deeds_of action) a
+row_stops None a none = subst (λ (o : Option PendingResponse). Stops [] o) (sym none) tt
+row_stops (Some (actions.Send pdu)) a none = subst (λ (o : Option PendingResponse). Stops [] o) (sym none) tt
+row_stops (Some (actions.Hand values)) a none = subst (λ (o : Option PendingResponse). Stops [] o) (sym none) tt
 row_stops (Some actions.Close) a none = (refl, none)
 
 nothing_left : (s : State) → is_left s [] ≡ true → ⊥
@@ -138,7 +138,7 @@ met_only titles now new event deeds idle is row_is = record {
   state = ap (λ (t : AssociationState). t.within.state) is ∙ sym (row_state titles now.within.state event)
       ∙ sym (ap (λ (t : List Deed). state_after now.within.state t) row_is);
   told = tt;
-  opened = λ before some. absurd (none_due new.awaited (ap (λ (t : AssociationState). t.awaited) is ∙ idle) some);
+  opened = λ before some. absurd (none_pending new.awaited (ap (λ (t : AssociationState). t.awaited) is ∙ idle) some);
   fits = none_fits new.awaited (ap (λ (t : AssociationState). t.awaited) is ∙ idle);
 }
 
@@ -170,6 +170,6 @@ heard_on titles now mid new event deeds idle is left turned =
           ∙ sym (row_state titles now.within.state event) ∙ ap (λ (t : List Deed). state_after now.within.state t)
           none);
       told = tt;
-      opened = λ before. turned.opened (λ some. absurd (none_due mid.awaited mid_idle some));
+      opened = λ before. turned.opened (λ some. absurd (none_pending mid.awaited mid_idle some));
       fits = turned.fits;
     }

@@ -30,15 +30,16 @@ use Rattle.operation.specs.Parts.{ContentParts}
 use Rattle.dimse.specs.declared.assembler.Stage.{Stage}
 use Rattle.pdu.specs.declared.pdv.Pdv.{Pdv}
 use Rattle.ul_state.specs.declared.acceptor.Settled.{Settled}
-use Rattle.association_session.specs.declared.due.Due.{Due}
-use Rattle.association_session.specs.declared.due.Due.TheVariants as dues
+use Rattle.association_session.specs.declared.pending_response.PendingResponse.{PendingResponse}
+use Rattle.association_session.specs.declared.pending_response.PendingResponse.TheVariants as pendings
 use Rattle.association_session.specs.declared.event.SessionEvent.TheVariants.{GoesOn}
 use Rattle.association_services.specs.declared.reply.Reply.{Reply}
 use Rattle.association_services.specs.declared.retrieval.Meaning.{Meaning}
 use Rattle.association_services.specs.declared.retrieval.Meaning.TheVariants.{Cancelled, Performed, Unawaited}
 use Rattle.association_services.specs.declared.retrieval.Progress.{Progress}
 use Rattle.association_services.specs.declared.way.Way.{Way}
-use Rattle.association_session.specs.Due.{IsAnswered, Fits, due_of, left_of}
+use Rattle.association_session.specs.PendingResponse.{IsAnswered, Fits, left_of}
+use Rattle.association_session.specs.inner.Association.{pending_of}
 use Rattle.association_services.specs.Get.{final_status, failed_set}
 use Rattle.association_session.specs.Projections.{state_after}
 use Rattle.association_services.specs.Response.{FitsLimit}
@@ -47,7 +48,8 @@ use Rattle.association_services.specs.Retrieval.{SendsOn}
 use Rattle.association_services.specs.Retrieval.{RespondsIfLeft, RespondsEnd, RespondsBy, begun, begun_by, meaning_of}
 use Rattle.association_services.specs.Retrieval.{performed, cancelling}
 use Rattle.association_session.specs.Row.{Within, row}
-use Rattle.association_session.specs.Session.{AssociationState, Answered, Turned, OwedFor, OwedAt, Stops, IsToldBy}
+use Rattle.association_session.specs.Session.{AssociationState, Turned, OwedFor, OwedAt, Stops, IsToldBy}
+use Rattle.association_session.specs.inner.Association.{Answered}
 use Rattle.association_session.specs.Session.{IsFewer, FewerFor, entered}
 use Rattle.association_services.specs.SubOperation.{Retrieval, SubOperation}
 use Rattle.association_session.specs.Talks.{Goes, GoesBy, Then, Begins, GoesOnBy, Performs, Attends, Talks, awaiting}
@@ -127,41 +129,42 @@ unsent_begins (Some way) contexts g x left R ps rest is told p = absurd cc
 
 -- PDUs of a C-GET that are sent in a turn
 sends_turn : (titles : List (Title View)) (now new : AssociationState) (r : Retrieval) (ps : List Pdu)
-    (deeds : List Deed) (sub : Option SubOperation) (due : Option Due)
-    → now.awaited ≡ Some (dues.Sending r)
-    → new ≡ record { within = now.within; sub = sub; stage = now.stage; awaited = due; queue = now.queue }
-    → deeds ≡ map Send ps → AreData ps → IsAnswered due → Fits due
-    → ((R : GoesBy) (rs : List Reply) (rest : List Deed) → OwedFor now.within.link.contexts due R (R sub) rs rest
+    (deeds : List Deed) (sub : Option SubOperation) (pending : Option PendingResponse)
+    → now.awaited ≡ Some (pendings.Sending r)
+    → new ≡ record { within = now.within; sub = sub; stage = now.stage; awaited = pending; queue = now.queue }
+    → deeds ≡ map Send ps → AreData ps → IsAnswered pending → Fits pending
+    → ((R : GoesBy) (rs : List Reply) (rest : List Deed) → OwedFor now.within.link.contexts pending R (R sub) rs rest
     → Begins now.within.link.contexts r.progress r.left (λ next. R next rs) (map Send ps ++ rest))
     → Turned titles now GoesOn deeds new
-sends_turn titles now new r ps deeds sub due has is sent are_data answered fits begins =
+sends_turn titles now new r ps deeds sub pending has is sent are_data answered fits begins =
     let within : new.within ≡ now.within = ap (λ (t : AssociationState). t.within) is in
-    let awaited : new.awaited ≡ due = ap (λ (t : AssociationState). t.awaited) is in
+    let awaited : new.awaited ≡ pending = ap (λ (t : AssociationState). t.awaited) is in
     record {
       said = [];
       values = still now new within (ap (λ (t : AssociationState). t.stage) is) (ap (λ (t : AssociationState). t.queue)
           is);
       leads = within;
       takes = λ us rs rest owed.
-          subst (λ (o : Option Due). OwedAt titles now.within now.sub o us rs (deeds ++ rest)) (sym has)
+          subst (λ (o : Option PendingResponse). OwedAt titles now.within now.sub o us rs (deeds ++ rest)) (sym has)
           (subst (λ (t : List Deed). Begins now.within.link.contexts r.progress r.left
           (λ next. Talks titles now.within next us rs) (t ++ rest)) (sym sent)
           (begins (λ next. Talks titles now.within next us) rs rest
-          (owed_at titles new now.within sub due us rs rest within (ap (λ (t : AssociationState). t.sub) is) awaited
+          (owed_at titles new now.within sub pending us rs rest within (ap (λ (t : AssociationState). t.sub) is) awaited
           owed)));
       stops = subst (λ (t : List Deed). Stops t new.awaited) (sym sent)
-          (subst (λ (a : Option Due). Stops (map Send ps) a) (sym awaited) (sends_halt ps due answered));
+          (subst (λ (a : Option PendingResponse). Stops (map Send ps) a) (sym awaited)
+          (sends_halt ps pending answered));
       state = ap (λ (w : Within). w.state) within
           ∙ sym (ap (λ (t : List Deed). state_after now.within.state t) sent ∙ data_state now.within.state ps are_data);
-      told = subst (λ (o : Option Due). IsToldBy GoesOn o new.awaited) (sym has)
-          (subst (λ (o : Option Due). IsAnswered o) (sym awaited) answered);
+      told = subst (λ (o : Option PendingResponse). IsToldBy GoesOn o new.awaited) (sym has)
+          (subst (λ (o : Option PendingResponse). IsAnswered o) (sym awaited) answered);
       opened = λ before some. ap (λ (w : Within). w.state) within
-          ∙ before (subst (λ (o : Option Due). IsSome o) (sym has) refl);
-      fits = subst (λ (a : Option Due). Fits a) (sym awaited) fits;
+          ∙ before (subst (λ (o : Option PendingResponse). IsSome o) (sym has) refl);
+      fits = subst (λ (a : Option PendingResponse). Fits a) (sym awaited) fits;
     }
 
 pub ended_turn : (titles : List (Title View)) (now new : AssociationState) (r : Retrieval) (ps : List Pdu)
-    (deeds : List Deed) → now.awaited ≡ Some (dues.Sending r)
+    (deeds : List Deed) → now.awaited ≡ Some (pendings.Sending r)
     → new ≡ record { within = now.within; sub = None; stage = now.stage; awaited = None; queue = now.queue }
     → deeds ≡ map Send ps → r.left ≡ [] → RespondsEnd r.progress ps → Turned titles now GoesOn deeds new
 ended_turn titles now new r ps deeds has is sent none told =
@@ -171,7 +174,7 @@ ended_turn titles now new r ps deeds has is sent none told =
 
 pub sent_turn : (titles : List (Title View)) (now new : AssociationState) (r : Retrieval) (contexts : List Context)
     (x : Prepared) (left : List Prepared) (way : Way) (ps : List Pdu) (sub : SubOperation) (deeds : List Deed)
-    → now.awaited ≡ Some (dues.Sending r)
+    → now.awaited ≡ Some (pendings.Sending r)
     → new ≡ record { within = now.within; sub = Some sub; stage = now.stage; awaited = None; queue = now.queue }
     → deeds ≡ map Send ps → contexts ≡ now.within.link.contexts → r.left ≡ x ∷ left → way_for contexts x ≡ Some way
     → IsSending (sub_operation r.progress way x) r.progress.awaited.limit ps → sub ≡ sending r.progress x left
@@ -188,12 +191,12 @@ sent_turn titles now new r contexts x left way ps sub deeds has is sent same som
 
 pub unsent_turn : (titles : List (Title View)) (now new : AssociationState) (r : Retrieval) (contexts : List Context)
     (x : Prepared) (left : List Prepared) (ps : List Pdu) (next : Retrieval) (deeds : List Deed)
-    → now.awaited ≡ Some (dues.Sending r)
+    → now.awaited ≡ Some (pendings.Sending r)
     → new ≡ record {
       within = now.within;
       sub = now.sub;
       stage = now.stage;
-      awaited = Some (dues.Sending next);
+      awaited = Some (pendings.Sending next);
       queue = now.queue;
     }
     → deeds ≡ map Send ps → contexts ≡ now.within.link.contexts → r.left ≡ x ∷ left → way_for contexts x ≡ None
@@ -203,7 +206,7 @@ pub unsent_turn : (titles : List (Title View)) (now new : AssociationState) (r :
 unsent_turn titles now new r contexts x left ps next deeds has is sent same some there told next_is fits =
     let there_now : way_for now.within.link.contexts x ≡ None = ap (λ (cs : List Context). way_for cs x) (sym same)
     ∙ there in
-    sends_turn titles now new r ps deeds now.sub (Some (dues.Sending next)) has is sent
+    sends_turn titles now new r ps deeds now.sub (Some (pendings.Sending next)) has is sent
     (if_left_data (failing r.progress x) left ps told) tt
     (subst (λ (n : Retrieval). FitsLimit n.progress.awaited.limit) (sym next_is) fits)
     (λ R rs rest owed. subst (λ (t : List Prepared). Begins now.within.link.contexts r.progress t (λ n. R n rs)
@@ -214,25 +217,27 @@ unsent_turn titles now new r contexts x left ps next deeds has is sent same some
 
 -- ---- what is left becomes fewer
 
-pub fewer_none : (now new : AssociationState) (r : Retrieval) → now.awaited ≡ Some (dues.Sending r) → new.awaited ≡ None
+pub fewer_none : (now new : AssociationState) (r : Retrieval) → now.awaited ≡ Some (pendings.Sending r)
+    → new.awaited ≡ None
     → new.queue ≡ now.queue → IsFewer GoesOn now new
 fewer_none now new r has none queue =
-    subst (λ (o : Option Due). FewerFor o now new) (sym has) (
+    subst (λ (o : Option PendingResponse). FewerFor o now new) (sym has) (
       queue,
-      subst (λ (o : Option Due). left_of new.awaited < left_of o) (sym has)
-          (subst (λ (o : Option Due). left_of o < suc (length r.left)) (sym none) (omega arith)),
+      subst (λ (o : Option PendingResponse). left_of new.awaited < left_of o) (sym has)
+          (subst (λ (o : Option PendingResponse). left_of o < suc (length r.left)) (sym none) (omega arith)),
     )
 
 pub fewer_one : (now new : AssociationState) (r next : Retrieval) (x : Prepared) (left : List Prepared)
-    → now.awaited ≡ Some (dues.Sending r) → new.awaited ≡ Some (dues.Sending next) → new.queue ≡ now.queue
+    → now.awaited ≡ Some (pendings.Sending r) → new.awaited ≡ Some (pendings.Sending next) → new.queue ≡ now.queue
     → r.left ≡ x ∷ left → next.left ≡ left → IsFewer GoesOn now new
-fewer_one now new r next x left has due queue some rest =
+fewer_one now new r next x left has pending queue some rest =
     let one : length r.left ≡ suc (length left) = ap length some in
     let other : length next.left ≡ length left = ap length rest in
-    subst (λ (o : Option Due). FewerFor o now new) (sym has) (
+    subst (λ (o : Option PendingResponse). FewerFor o now new) (sym has) (
       queue,
-      subst (λ (o : Option Due). left_of new.awaited < left_of o) (sym has)
-          (subst (λ (o : Option Due). left_of o < suc (length r.left)) (sym due) (omega (arith, one, other))),
+      subst (λ (o : Option PendingResponse). left_of new.awaited < left_of o) (sym has)
+          (subst (λ (o : Option PendingResponse). left_of o < suc (length r.left)) (sym pending)
+          (omega (arith, one, other))),
     )
 
 -- ---- what is heard within a C-GET
@@ -259,7 +264,7 @@ pub attended_cancel : (titles : List (Title View)) (now new : AssociationState) 
     → deeds ≡ [] → Answered titles now m deeds new
 attended_cancel titles now new m sub deeds opened idle has means is none =
     answered_sent titles now new m deeds [] (Some (cancelling sub)) None opened idle
-    (is ∙ ap (λ (o : Option Due). record {
+    (is ∙ ap (λ (o : Option PendingResponse). record {
       within = now.within;
       sub = Some (cancelling sub);
       stage = now.stage;
@@ -286,18 +291,18 @@ attended_broken titles now mid new m sub deeds opened idle has means is sent nex
     (λ abort gets gone rs rest p. attends_as now.sub sub Unawaited now.within m abort gets gone rs rest has means p)
 
 goes_on_by : (next : Option Retrieval) (contexts : List Context) (gets : GoesBy) (rs : List Reply) (rest : List Deed)
-    → OwedFor contexts (due_of next) gets (gets None) rs rest → GoesOnBy next contexts gets rs rest
+    → OwedFor contexts (pending_of next) gets (gets None) rs rest → GoesOnBy next contexts gets rs rest
 goes_on_by None contexts gets rs rest owed = owed
 goes_on_by (Some r) contexts gets rs rest owed = owed
 
-due_answered : (next : Option Retrieval) → IsAnswered (due_of next)
-due_answered None = tt
-due_answered (Some r) = tt
+pending_answered : (next : Option Retrieval) → IsAnswered (pending_of next)
+pending_answered None = tt
+pending_answered (Some r) = tt
 
-due_fits : (cancelled : Bool) (g : Progress) (left : List Prepared) (ps : List Pdu) (next : Option Retrieval)
-    → RespondsBy cancelled g left ps next → FitsLimit g.awaited.limit → Fits (due_of next)
-due_fits true g left ps next p fits = subst (λ (n : Option Retrieval). Fits (due_of n)) (sym p.1) tt
-due_fits false g left ps next p fits = subst (λ (n : Option Retrieval). Fits (due_of n)) (sym p.1) fits
+pending_fits : (cancelled : Bool) (g : Progress) (left : List Prepared) (ps : List Pdu) (next : Option Retrieval)
+    → RespondsBy cancelled g left ps next → FitsLimit g.awaited.limit → Fits (pending_of next)
+pending_fits true g left ps next p fits = subst (λ (n : Option Retrieval). Fits (pending_of n)) (sym p.1) tt
+pending_fits false g left ps next p fits = subst (λ (n : Option Retrieval). Fits (pending_of n)) (sym p.1) fits
 
 -- the response that is awaited
 pub attended_performed : (titles : List (Title View)) (now new : AssociationState) (m : Message) (sub : SubOperation)
@@ -308,25 +313,26 @@ pub attended_performed : (titles : List (Title View)) (now new : AssociationStat
       within = now.within;
       sub = None;
       stage = now.stage;
-      awaited = due_of next;
+      awaited = pending_of next;
       queue = now.queue;
     }
     → deeds ≡ map Send ps → RespondsBy sub.cancelled (performed sub outcome) sub.left ps next
     → FitsLimit sub.progress.awaited.limit → Answered titles now m deeds new
 attended_performed titles now new m sub outcome ps next deeds opened idle has means is sent told fits =
-    answered_sent titles now new m deeds ps None (due_of next) opened idle is sent
-    (responds_by_data sub.cancelled (performed sub outcome) sub.left ps next told) (due_answered next)
-    (due_fits sub.cancelled (performed sub outcome) sub.left ps next told fits)
+    answered_sent titles now new m deeds ps None (pending_of next) opened idle is sent
+    (responds_by_data sub.cancelled (performed sub outcome) sub.left ps next told) (pending_answered next)
+    (pending_fits sub.cancelled (performed sub outcome) sub.left ps next told fits)
     (λ abort gets gone rs rest owed. attends_as now.sub sub (Performed outcome) now.within m abort gets gone rs
     (map Send ps ++ rest) has means
     (ps, next, told, (rest, refl, goes_on_by next now.within.link.contexts gets rs rest owed)))
 
 -- ---- the state behind a turn, part by part
 
-pub state_is : (a now : AssociationState) (sub : Option SubOperation) (due : Option Due) → a.within ≡ now.within
-    → a.stage ≡ now.stage → a.queue ≡ now.queue → a.sub ≡ sub → a.awaited ≡ due
-    → a ≡ record { within = now.within; sub = sub; stage = now.stage; awaited = due; queue = now.queue }
-state_is a now sub due within stage queue same awaited =
+pub state_is : (a now : AssociationState) (sub : Option SubOperation) (pending : Option PendingResponse)
+    → a.within ≡ now.within
+    → a.stage ≡ now.stage → a.queue ≡ now.queue → a.sub ≡ sub → a.awaited ≡ pending
+    → a ≡ record { within = now.within; sub = sub; stage = now.stage; awaited = pending; queue = now.queue }
+state_is a now sub pending within stage queue same awaited =
     ap (λ (w : Within). record { within = w; sub = a.sub; stage = a.stage; awaited = a.awaited; queue = a.queue })
     within
     ∙ ap (λ (k : Stage). record { within = now.within; sub = a.sub; stage = k; awaited = a.awaited; queue = a.queue })
@@ -345,7 +351,7 @@ state_is a now sub due within stage queue same awaited =
       awaited = a.awaited;
       queue = now.queue;
     }) same
-    ∙ ap (λ (o : Option Due). record {
+    ∙ ap (λ (o : Option PendingResponse). record {
       within = now.within;
       sub = sub;
       stage = now.stage;
@@ -363,7 +369,7 @@ pub answered_store : (titles : List (Title View)) (now new : AssociationState) (
       within = now.within;
       sub = now.sub;
       stage = now.stage;
-      awaited = Some (dues.Store (record { context = m.context; limit = limit; command = m.command }));
+      awaited = Some (pendings.Store (record { context = m.context; limit = limit; command = m.command }));
       queue = now.queue;
     }
     → settled ≡ now.within.settled → contexts ≡ now.within.link.contexts → limit ≡ now.within.link.limit
@@ -371,13 +377,13 @@ pub answered_store : (titles : List (Title View)) (now new : AssociationState) (
     → deeds ≡ Reach InStore ∷ Ask (Store content) ∷ [] → Answered titles now m deeds new
 answered_store titles now new m content service settled contexts limit deeds opened idle none is se cs lim of serves
     asks =
-    answered_asked titles now new m (Asked content) (Reach InStore ∷ []) (Store content) (dues.Store (awaiting
+    answered_asked titles now new m (Asked content) (Reach InStore ∷ []) (Store content) (pendings.Store (awaiting
     now.within.link m)) settled contexts deeds opened idle none
     (is ∙ ap (λ (n : ℕ). record {
       within = now.within;
       sub = now.sub;
       stage = now.stage;
-      awaited = Some (dues.Store (record { context = m.context; limit = n; command = m.command }));
+      awaited = Some (pendings.Store (record { context = m.context; limit = n; command = m.command }));
       queue = now.queue;
     }) lim) se cs
     (subst (λ (s : Service). ServesOn settled (context_in contexts m.context) m.command m.body s) of serves) asks
@@ -391,7 +397,7 @@ pub answered_find : (titles : List (Title View)) (now new : AssociationState) (m
       within = now.within;
       sub = now.sub;
       stage = now.stage;
-      awaited = Some (dues.Find (record { context = m.context; limit = limit; command = m.command }) kind);
+      awaited = Some (pendings.Find (record { context = m.context; limit = limit; command = m.command }) kind);
       queue = now.queue;
     }
     → settled ≡ now.within.settled → contexts ≡ now.within.link.contexts → limit ≡ now.within.link.limit
@@ -399,13 +405,13 @@ pub answered_find : (titles : List (Title View)) (now new : AssociationState) (m
     → deeds ≡ Ask (Find finding) ∷ [] → Answered titles now m deeds new
 answered_find titles now new m finding kind service settled contexts limit deeds opened idle none is se cs lim of serves
     asks =
-    answered_asked titles now new m (Queried finding kind) [] (Find finding) (dues.Find (awaiting now.within.link m)
+    answered_asked titles now new m (Queried finding kind) [] (Find finding) (pendings.Find (awaiting now.within.link m)
     kind) settled contexts deeds opened idle none
     (is ∙ ap (λ (n : ℕ). record {
       within = now.within;
       sub = now.sub;
       stage = now.stage;
-      awaited = Some (dues.Find (record { context = m.context; limit = n; command = m.command }) kind);
+      awaited = Some (pendings.Find (record { context = m.context; limit = n; command = m.command }) kind);
       queue = now.queue;
     }) lim) se cs
     (subst (λ (s : Service). ServesOn settled (context_in contexts m.context) m.command m.body s) of serves) asks
@@ -419,7 +425,7 @@ pub answered_get : (titles : List (Title View)) (now new : AssociationState) (m 
       within = now.within;
       sub = now.sub;
       stage = now.stage;
-      awaited = Some (dues.Get (record { context = m.context; limit = limit; command = m.command }) syntax);
+      awaited = Some (pendings.Get (record { context = m.context; limit = limit; command = m.command }) syntax);
       queue = now.queue;
     }
     → settled ≡ now.within.settled → contexts ≡ now.within.link.contexts → limit ≡ now.within.link.limit
@@ -427,13 +433,13 @@ pub answered_get : (titles : List (Title View)) (now new : AssociationState) (m 
     → deeds ≡ Ask (Get getting) ∷ [] → Answered titles now m deeds new
 answered_get titles now new m getting syntax service settled contexts limit deeds opened idle none is se cs lim of
     serves asks =
-    answered_asked titles now new m (Fetched getting syntax) [] (Get getting) (dues.Get (awaiting now.within.link m)
+    answered_asked titles now new m (Fetched getting syntax) [] (Get getting) (pendings.Get (awaiting now.within.link m)
     syntax) settled contexts deeds opened idle none
     (is ∙ ap (λ (n : ℕ). record {
       within = now.within;
       sub = now.sub;
       stage = now.stage;
-      awaited = Some (dues.Get (record { context = m.context; limit = n; command = m.command }) syntax);
+      awaited = Some (pendings.Get (record { context = m.context; limit = n; command = m.command }) syntax);
       queue = now.queue;
     }) lim) se cs
     (subst (λ (s : Service). ServesOn settled (context_in contexts m.context) m.command m.body s) of serves) asks

@@ -13,28 +13,29 @@ use Rattle.dimse.specs.declared.status.Status.{Status}
 use Rattle.association_session.specs.declared.deed.Deed.{Deed}
 use Rattle.association_session.specs.declared.deed.Deed.TheVariants.{Send, Reach}
 use Rattle.association_session.specs.declared.deed.Moment.TheVariants.{FindAnswered}
-use Rattle.association_session.specs.declared.due.Due.{Due}
-use Rattle.association_session.specs.declared.due.Due.TheVariants as dues
+use Rattle.association_session.specs.declared.pending_response.PendingResponse.{PendingResponse}
+use Rattle.association_session.specs.declared.pending_response.PendingResponse.TheVariants as pendings
 use Rattle.association_services.specs.declared.service.RowKind.{RowKind}
 use Rattle.association_session.specs.declared.event.SessionEvent.TheVariants.{GoesOn}
-use Rattle.association_session.specs.Due.{IsAnswered, Fits}
+use Rattle.association_session.specs.PendingResponse.{IsAnswered, Fits}
 use Rattle.association_services.specs.Find.{RespondsRow, AreRows, row_text}
 use Rattle.association_session.specs.Projections.{state_after}
 use Rattle.association_services.specs.Response.{Awaited, FitsLimit, response_to, response_with}
 use Rattle.association_session.specs.Row.{Within}
-use Rattle.association_session.specs.Session.{AssociationState, Turned, OwedAt, Stops, IsToldBy, TellsSome, IsEnd}
+use Rattle.association_session.specs.Session.{AssociationState, Turned, OwedAt, Stops, IsToldBy}
+use Rattle.association_session.specs.inner.Telling.{TellsSome, IsEnd}
 use Rattle.association_session.specs.Session.{IsWritable}
 use Rattle.association_session.specs.Talks.{TellsRows, Talks}
 use Rattle.association_services.proofs.DataLaws.{rows_data, sending_data}
 use Rattle.association_session.proofs.DataLaws.{data_then, data_state}
 use Rattle.association_services.proofs.ResponseLaws.{sending_goes}
-use Rattle.association_session.proofs.HearLaws.{still, owed_at, none_due, none_fits, none_answered}
+use Rattle.association_session.proofs.HearLaws.{still, owed_at, none_pending, none_fits, none_answered}
 
 -- ---- rows, one after another
 
-abbrev telling_of : Awaited → RowKind → List Set → Status → Due
+abbrev telling_of : Awaited → RowKind → List Set → Status → PendingResponse
 telling_of awaited kind rows status =
-    dues.Rows (record { awaited = awaited; kind = kind; rows = rows; status = status })
+    pendings.Rows (record { awaited = awaited; kind = kind; rows = rows; status = status })
 
 rows_join : (a : Awaited) (kind : RowKind) (told left : List Set) (ps qs : List Pdu) → AreRows a kind told ps
     → AreRows a kind left qs → AreRows a kind (told ++ left) (ps ++ qs)
@@ -168,11 +169,12 @@ rows_go a kind rows status R fits goes =
 
 -- ---- where deeds stop
 
-sends_stop : (ps : List Pdu) (a : Option Due) → IsAnswered a → Stops (map Send ps) a
+sends_stop : (ps : List Pdu) (a : Option PendingResponse) → IsAnswered a → Stops (map Send ps) a
 sends_stop [] a answered = answered
 sends_stop (p ∷ ps) a answered = sends_stop ps a answered
 
-sends_stop_then : (ps : List Pdu) (ds : List Deed) (a : Option Due) → Stops ds a → Stops (map Send ps ++ ds) a
+sends_stop_then : (ps : List Pdu) (ds : List Deed) (a : Option PendingResponse) → Stops ds a
+    → Stops (map Send ps ++ ds) a
 sends_stop_then [] ds a stops = stops
 sends_stop_then (p ∷ ps) ds a stops = sends_stop_then ps ds a stops
 
@@ -185,24 +187,25 @@ pub told_some : (titles : List (Title View)) (now new : AssociationState) (a : A
     → new.stage ≡ now.stage → new.awaited ≡ Some (telling_of a kind left status) → new.queue ≡ now.queue
     → FitsLimit a.limit
     → TellsSome a kind rows left [] deeds → Turned titles now GoesOn deeds new
-told_some titles now new a kind rows left status deeds has within sub stage due queue fits some = record {
+told_some titles now new a kind rows left status deeds has within sub stage pending queue fits some = record {
   said = [];
   values = still now new within stage queue;
   leads = within;
   takes = λ us rs rest owed.
-      subst (λ (o : Option Due). OwedAt titles now.within now.sub o us rs (deeds ++ rest)) (sym has)
+      subst (λ (o : Option PendingResponse). OwedAt titles now.within now.sub o us rs (deeds ++ rest)) (sym has)
       (tells_on a kind rows left status (Talks titles now.within now.sub us rs) deeds rest some
-      (owed_at titles new now.within now.sub (Some (telling_of a kind left status)) us rs rest within sub due owed));
+      (owed_at titles new now.within now.sub (Some (telling_of a kind left status)) us rs rest within sub pending
+      owed));
   stops = subst (λ (t : List Deed). Stops t new.awaited) (sym some.deeds)
-      (sends_stop some.responses new.awaited (subst (λ (o : Option Due). IsAnswered o) (sym due) tt));
+      (sends_stop some.responses new.awaited (subst (λ (o : Option PendingResponse). IsAnswered o) (sym pending) tt));
   state = ap (λ (w : Within). w.state) within
       ∙ sym (ap (λ (t : List Deed). state_after now.within.state t) some.deeds
       ∙ data_state now.within.state some.responses (rows_data a kind some.told some.responses some.are));
-  told = subst (λ (o : Option Due). IsToldBy GoesOn o new.awaited) (sym has)
-      (subst (λ (o : Option Due). IsAnswered o) (sym due) tt);
+  told = subst (λ (o : Option PendingResponse). IsToldBy GoesOn o new.awaited) (sym has)
+      (subst (λ (o : Option PendingResponse). IsAnswered o) (sym pending) tt);
   opened = λ before more. ap (λ (w : Within). w.state) within
-      ∙ before (subst (λ (o : Option Due). IsSome o) (sym has) refl);
-  fits = subst (λ (o : Option Due). Fits o) (sym due) fits;
+      ∙ before (subst (λ (o : Option PendingResponse). IsSome o) (sym has) refl);
+  fits = subst (λ (o : Option PendingResponse). Fits o) (sym pending) fits;
 }
 
 -- rows that are told, and their end
@@ -220,7 +223,7 @@ told_all titles now new a kind rows left status mid deeds has within sub stage n
       values = still now new within stage queue;
       leads = within;
       takes = λ us rs rest owed.
-          subst (λ (o : Option Due). OwedAt titles now.within now.sub o us rs (deeds ++ rest)) (sym has)
+          subst (λ (o : Option PendingResponse). OwedAt titles now.within now.sub o us rs (deeds ++ rest)) (sym has)
           (tells_end a kind rows left status (Talks titles now.within now.sub us rs) mid deeds rest some empty end
           (owed_at titles new now.within now.sub None us rs rest within sub none owed));
       stops = subst (λ (t : List Deed). Stops t new.awaited) (sym all)
@@ -231,8 +234,9 @@ told_all titles now new a kind rows left status mid deeds has within sub stage n
           ∙ data_then now.within.state some.responses (map Send end.0 ++ Reach FindAnswered ∷ [])
           (rows_data a kind rows some.responses are)
           ∙ data_then now.within.state end.0 (Reach FindAnswered ∷ []) (sending_data _ _ end.0 end.1));
-      told = subst (λ (o : Option Due). IsToldBy GoesOn o new.awaited) (sym has) (none_answered new.awaited none);
-      opened = λ before more. absurd (none_due new.awaited none more);
+      told = subst (λ (o : Option PendingResponse). IsToldBy GoesOn o new.awaited) (sym has)
+          (none_answered new.awaited none);
+      opened = λ before more. absurd (none_pending new.awaited none more);
       fits = none_fits new.awaited none;
     }
 

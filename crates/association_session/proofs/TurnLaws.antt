@@ -12,10 +12,11 @@ use Rattle.ul_state.specs.Acceptor.{kind_for, settled_for, settled_by, CanBeWrit
 use Rattle.ul_state.proofs.Openings.{settles_where_it_opens}
 use Rattle.association_services.specs.Response.{FitsLimit}
 use Rattle.pdu.specs.declared.pdv.Pdv.{Pdv}
-use Rattle.association_session.specs.declared.due.Due.{Due}
+use Rattle.association_session.specs.declared.pending_response.PendingResponse.{PendingResponse}
 use Rattle.association_services.specs.SubOperation.{SubOperation}
 use Rattle.association_session.specs.Row.{limit_in, agreed_by, handed_on}
-use Rattle.association_session.specs.Session.{AssociationState, Linked, stage_by, entered}
+use Rattle.association_session.specs.Session.{AssociationState, stage_by, entered}
+use Rattle.association_session.specs.inner.Association.{Linked}
 use Rattle.association_session.proofs.LimitLaws.{settled_fits}
 use Rattle.archive_model.specs.declared.view.View.{View}
 
@@ -56,7 +57,7 @@ some_same {A = B} a b same some = subst (λ (o : Option B). IsSome o) same some
 
 -- where an event leads, part by part
 pub entered_is : (titles : List (Title View)) (now : AssociationState) (event : Event) (before : State)
-    (agreed : Option (Settled View)) (old : Linked) (sub : Option SubOperation) (awaited : Option Due)
+    (agreed : Option (Settled View)) (old : Linked) (sub : Option SubOperation) (awaited : Option PendingResponse)
     (queue : List Pdv)
     (state : State) (settled : Option (Settled View)) (l : Linked) (left : List Pdv)
     → record {

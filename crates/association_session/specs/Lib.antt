@@ -1,8 +1,8 @@
 pub mod Answered
-pub mod Deeds
-pub mod Due
+pub mod inner
 pub mod Finals
 pub mod Order
+pub mod PendingResponse
 pub mod Projections
 pub mod Row
 pub mod Selected

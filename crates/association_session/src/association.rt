@@ -1,15 +1,17 @@
 //! Where an association is, and what it does on one event, one message or one reply.
 
-ghost use Rattle.std.specs.Prelude.{◌≡◌, IfOk, OnOk, IsTrue, All};
+ghost use Rattle.std.specs.Prelude.{◌≡◌, [], IfOk, OnOk, IsTrue, All, false};
 ghost use Rattle.std.specs.Option.{option_copied};
 ghost use Rattle.association_session.specs.declared.event.SessionEvent.TheVariants.{GoesOn};
-ghost use Rattle.association_session.specs.Due.{tells_rows};
-ghost use Rattle.association_session.specs.Session.{start, closed, is_left, is_in_turn, owing, Turned, IsWritable, IsSound, IsFewer};
+ghost use Rattle.association_session.specs.PendingResponse.{tells_rows};
+ghost use Rattle.association_session.specs.Session.{start, closed, is_left, is_in_turn, Turned, IsWritable, IsSound};
+ghost use Rattle.association_session.specs.Session.{IsFewer};
+ghost use Rattle.association_session.specs.inner.Association.{owing};
 
 use crate::deeds::Deeds;
-use crate::due::{Due, are_rows, are_sent, is_telling, takes};
 use crate::event::SessionEvent;
 use crate::link::Link;
+use crate::pending_response::{PendingResponse, is_telling, takes};
 use archive_model::View;
 use association_services::SubOperation;
 use pdu::Pdv;
@@ -27,7 +29,7 @@ pub(crate) struct Association {
     /// The sub-operation whose response is awaited.
     pub(crate) sub: Option<SubOperation>,
     /// What is still to be told of the request that was served last.
-    pub(crate) awaited: Option<Due>,
+    pub(crate) awaited: Option<PendingResponse>,
     /// The values of the last P-DATA-TF that are not heard yet.
     pub(crate) queue: VecDeque<Pdv>,
 }
@@ -47,13 +49,14 @@ impl Drop for Association {
 }
 
 impl Model for Association {
-    ghost use Rattle.association_session.specs.Session.{AssociationState, state_of, settled_of};
-    ghost use Rattle.association_session.specs.contracts.due.Due as due;
+    ghost use Rattle.association_session.specs.Session.{AssociationState};
+    ghost use Rattle.association_session.specs.inner.Association.{state_of, settled_of};
+    ghost use Rattle.association_session.specs.contracts.pending_response.PendingResponse as pending;
     ghost use Rattle.std.specs.Coded.{codes};
 
     ghost Value = { AssociationState };
 
-    ghost coded = { Prim.hlevel (codes, due.the_row.coded) };
+    ghost coded = { Prim.hlevel (codes, pending.the_row.coded) };
 
     ghost view = { λ a. record {
       within = record {
@@ -111,7 +114,7 @@ impl Association {
     {
         match &self.awaited {
             None => false,
-            Some(due) => is_telling(due),
+            Some(pending) => is_telling(pending),
         }
     }
 
@@ -133,28 +136,38 @@ impl Association {
     }
 
     /// Leaves this to be told of the request that was served.
-    pub(crate) fn owe(&mut self, due: Due)
-        ensures { self.new ≡ owing self.old due }
+    pub(crate) fn owe(&mut self, pending: PendingResponse)
+        ensures { self.new ≡ owing self.old pending }
     {
-        self.awaited = Some(due);
+        self.awaited = Some(pending);
     }
 
     /// Tells the rows that are left, begins the sub-operations that are left, or hears the values
-    /// that are left.
+    /// that are left. While a reply is awaited nothing goes on.
     fn go_on(&mut self, titles: &Titles<View>) -> Result<Deeds, AllocError>
-        requires { IsTrue (is_in_turn self.old GoesOn) }
-        ensures turned { IfOk result (λ deeds.
+        ensures turned { IsTrue (is_in_turn self.old GoesOn) → IfOk result (λ deeds.
             Turned titles.now.list self.old GoesOn deeds self.new) }
-        ensures fewer { OnOk result (IsFewer GoesOn self.old self.new) }
+        ensures fewer { IsTrue (is_in_turn self.old GoesOn) →
+            OnOk result (IsFewer GoesOn self.old self.new) }
+        ensures ignored { is_in_turn self.old GoesOn ≡ false →
+            IfOk result (λ deeds. deeds ≡ []) }
+        ensures kept { is_in_turn self.old GoesOn ≡ false → OnOk result (self.new ≡ self.old) }
         ensures writable { IfOk result (All IsWritable) }
     {
-        if are_rows(&self.awaited) {
-            return self.tell_rows();
+        match self.awaited.take() {
+            Some(PendingResponse::Rows(telling)) => self.tell_rows(telling),
+            Some(PendingResponse::Sending(retrieval)) => self.send_on(retrieval),
+            Some(awaited) => {
+                self.awaited = Some(awaited);
+                Ok(Deeds::new(self.alloc))
+            }
+            None => {
+                if self.is_left() {
+                    return self.hear_values(titles);
+                }
+                Ok(Deeds::new(self.alloc))
+            }
         }
-        if are_sent(&self.awaited) {
-            return self.send_on();
-        }
-        self.hear_values(titles)
     }
 
     /// Whether this comes in its turn.
@@ -166,25 +179,33 @@ impl Association {
             (None, SessionEvent::Replied(_)) => false,
             (None, SessionEvent::GoesOn) => self.is_left(),
             (Some(_), SessionEvent::Heard(_)) => false,
-            (Some(due), SessionEvent::Replied(reply)) => takes(due, reply),
-            (Some(due), SessionEvent::GoesOn) => is_telling(due),
+            (Some(pending), SessionEvent::Replied(reply)) => takes(pending, reply),
+            (Some(pending), SessionEvent::GoesOn) => is_telling(pending),
         }
     }
 
-    /// What is done on what comes in its turn.
+    /// What is done on an event that comes in its turn. Any other changes nothing.
     pub(crate) fn on(
         &mut self,
         titles: &Titles<View>,
         event: SessionEvent,
     ) -> Result<Deeds, AllocError>
-        requires { IsTrue (is_in_turn self.old event) }
-        ensures turned { IfOk result (λ deeds.
+        ensures turned { IsTrue (is_in_turn self.old event) → IfOk result (λ deeds.
             Turned titles.now.list self.old event deeds self.new) }
-        ensures fewer { OnOk result (IsFewer event self.old self.new) }
+        ensures fewer { IsTrue (is_in_turn self.old event) →
+            OnOk result (IsFewer event self.old self.new) }
+        ensures ignored { is_in_turn self.old event ≡ false →
+            IfOk result (λ deeds. deeds ≡ []) }
+        ensures kept { is_in_turn self.old event ≡ false → OnOk result (self.new ≡ self.old) }
         ensures writable { IsSound event → IfOk result (All IsWritable) }
     {
         match event {
-            SessionEvent::Heard(event) => self.hear(titles, event),
+            SessionEvent::Heard(event) => {
+                if self.awaited.is_some() || self.is_left() {
+                    return Ok(Deeds::new(self.alloc));
+                }
+                self.hear(titles, event)
+            }
             SessionEvent::Replied(reply) => self.resume(reply),
             SessionEvent::GoesOn => self.go_on(titles),
         }

@@ -5,7 +5,7 @@
 
 ghost use Rattle.std.specs.Prelude.{◌≡◌, ◌++◌, ◌∷◌, [], IfOk, OnOk, OnErr, None, Ok, option_to_list, map};
 ghost use Rattle.std.specs.List.{list_any};
-ghost use Rattle.association_session.specs.Deeds.{abort_in_part, release_in_part};
+ghost use Rattle.association_session.specs.inner.Deeds.{abort_in_outgoing, release_in_outgoing};
 ghost use Rattle.association_session.specs.Session.{is_abort as is_abort_deed, is_release as is_release_deed};
 ghost use Rattle.association_session.specs.declared.deed.Deed.TheVariants.{Send};
 
@@ -18,7 +18,7 @@ use std::marker::Model;
 
 /// One deed or more, one after another.
 #[derive(Drop)]
-enum Part {
+enum Outgoing {
     One(Deed),
     /// The deeds that send these PDUs.
     Message(Fragments),
@@ -26,9 +26,9 @@ enum Part {
 
 /// Deeds that are still to be done, in order.
 pub struct Deeds {
-    /// What is left to be sent of a message, before all parts.
+    /// What is left to be sent of a message, before all else.
     sending: Fragments,
-    parts: VecDeque<Part>,
+    outgoing: VecDeque<Outgoing>,
 }
 
 // It is written out, so that a caller does not prove again how each part is dropped.
@@ -36,7 +36,7 @@ impl Drop for Deeds {
     fn drop(self) {
         let Deeds {
             sending: _,
-            parts: _,
+            outgoing: _,
         } = self;
     }
 }
@@ -47,13 +47,13 @@ impl Model for Deeds {
     ghost use Rattle.association_session.specs.contracts.deed.Deed as deed;
     ghost use Rattle.association_session.specs.declared.deed.Deed.{Deed as Done};
     ghost use Rattle.association_session.specs.declared.deed.Deed.TheVariants.{Send};
-    ghost use Rattle.association_session.specs.Deeds.{deeds_in};
+    ghost use Rattle.association_session.specs.inner.Deeds.{deeds_in};
 
     ghost Value = { List Done };
 
     ghost coded = { coded_list deed.the_row.coded };
 
-    ghost view = { λ d. map Send d.sending ++ deeds_in d.parts.items };
+    ghost view = { λ d. map Send d.sending ++ deeds_in d.outgoing.items };
 }
 
 fn is_abort(deed: &Deed) -> bool
@@ -69,12 +69,12 @@ fn is_release(deed: &Deed) -> bool
 }
 
 /// Whether an A-ABORT is sent. No fragment is one.
-fn aborts(part: &Part) -> bool
-    ensures { result ≡ abort_in_part part.now }
+fn aborts(outgoing: &Outgoing) -> bool
+    ensures { result ≡ abort_in_outgoing outgoing.now }
 {
-    match part {
-        Part::One(deed) => is_abort(deed),
-        Part::Message(pdus) => {
+    match outgoing {
+        Outgoing::One(deed) => is_abort(deed),
+        Outgoing::Message(pdus) => {
             pdus.see_data();
             false
         }
@@ -82,28 +82,28 @@ fn aborts(part: &Part) -> bool
 }
 
 /// Whether an A-RELEASE-RP is sent. No fragment is one.
-fn releases(part: &Part) -> bool
-    ensures { result ≡ release_in_part part.now }
+fn releases(outgoing: &Outgoing) -> bool
+    ensures { result ≡ release_in_outgoing outgoing.now }
 {
-    match part {
-        Part::One(deed) => is_release(deed),
-        Part::Message(pdus) => {
+    match outgoing {
+        Outgoing::One(deed) => is_release(deed),
+        Outgoing::Message(pdus) => {
             pdus.see_data();
             false
         }
     }
 }
 
-fn is_abort_in(parts: &VecDeque<Part>) -> bool
-    ensures { result ≡ list_any abort_in_part parts.now.items }
+fn is_abort_in(outgoing: &VecDeque<Outgoing>) -> bool
+    ensures { result ≡ list_any abort_in_outgoing outgoing.now.items }
 {
-    parts.iter().any(|part| aborts(part))
+    outgoing.iter().any(|one| aborts(one))
 }
 
-fn is_release_in(parts: &VecDeque<Part>) -> bool
-    ensures { result ≡ list_any release_in_part parts.now.items }
+fn is_release_in(outgoing: &VecDeque<Outgoing>) -> bool
+    ensures { result ≡ list_any release_in_outgoing outgoing.now.items }
 {
-    parts.iter().any(|part| releases(part))
+    outgoing.iter().any(|one| releases(one))
 }
 
 impl Deeds {
@@ -113,7 +113,7 @@ impl Deeds {
     {
         Deeds {
             sending: Fragments::none(alloc),
-            parts: VecDeque::new(alloc),
+            outgoing: VecDeque::new(alloc),
         }
     }
 
@@ -121,7 +121,7 @@ impl Deeds {
     pub(crate) fn push(&mut self, deed: Deed) -> Result<(), AllocError>
         ensures pushed { OnOk result (self.new ≡ self.old ++ deed ∷ []) }
     {
-        self.parts.push_back(Part::One(deed))?;
+        self.outgoing.push_back(Outgoing::One(deed))?;
         Ok(())
     }
 
@@ -129,7 +129,7 @@ impl Deeds {
     pub(crate) fn put_sends(&mut self, pdus: Fragments) -> Result<(), AllocError>
         ensures { OnOk result (self.new ≡ self.old ++ map Send pdus) }
     {
-        self.parts.push_back(Part::Message(pdus))?;
+        self.outgoing.push_back(Outgoing::Message(pdus))?;
         Ok(())
     }
 
@@ -144,10 +144,10 @@ impl Deeds {
             if let Some(pdu) = self.sending.next()? {
                 return Ok(Some(Deed::Send(pdu)));
             }
-            match self.parts.pop_front() {
+            match self.outgoing.pop_front() {
                 None => return Ok(None),
-                Some(Part::One(deed)) => return Ok(Some(deed)),
-                Some(Part::Message(pdus)) => self.sending = pdus,
+                Some(Outgoing::One(deed)) => return Ok(Some(deed)),
+                Some(Outgoing::Message(pdus)) => self.sending = pdus,
             }
         }
     }
@@ -157,7 +157,7 @@ impl Deeds {
         ensures { result ≡ list_any is_abort_deed self.now }
     {
         self.sending.see_data();
-        is_abort_in(&self.parts)
+        is_abort_in(&self.outgoing)
     }
 
     /// Whether an A-RELEASE-RP is sent.
@@ -165,6 +165,6 @@ impl Deeds {
         ensures { result ≡ list_any is_release_deed self.now }
     {
         self.sending.see_data();
-        is_release_in(&self.parts)
+        is_release_in(&self.outgoing)
     }
 }

@@ -7,12 +7,13 @@ ghost use Rattle.ul_state.specs.Acceptor.{HasLawfulPdu};
 ghost use Rattle.dimse.specs.Sending.{IsWhole};
 ghost use Rattle.association_session.specs.declared.event.SessionEvent.TheVariants.{Heard, GoesOn};
 ghost use Rattle.association_session.specs.Row.{row};
-ghost use Rattle.association_session.specs.Session.{Answered, Turned, entered, IsWritable};
+ghost use Rattle.association_session.specs.Session.{Turned, entered, IsWritable};
+ghost use Rattle.association_session.specs.inner.Association.{Answered};
 
 use crate::association::Association;
 use crate::deed::Deed;
 use crate::deeds::Deeds;
-use crate::due::{Due, due_for};
+use crate::pending_response::{PendingResponse, pending_for};
 use crate::row::{parted, turn};
 use crate::telling::{asks, one, respond, sends};
 use archive_model::View;
@@ -87,15 +88,15 @@ impl Association {
             Service::Broken => self.abort(titles),
             Service::Responded(status) => respond(self.alloc, &awaited, status),
             Service::Asked(content) => {
-                self.owe(Due::Store(awaited));
+                self.owe(PendingResponse::Store(awaited));
                 asks(self.alloc, content)
             }
             Service::Queried(finding, kind) => {
-                self.owe(Due::Find(awaited, kind));
+                self.owe(PendingResponse::Find(awaited, kind));
                 one(self.alloc, Deed::Ask(Call::Find(finding)))
             }
             Service::Fetched(getting, syntax) => {
-                self.owe(Due::Get(awaited, syntax));
+                self.owe(PendingResponse::Get(awaited, syntax));
                 one(self.alloc, Deed::Ask(Call::Get(getting)))
             }
         }
@@ -125,7 +126,7 @@ impl Association {
             Meaning::Unawaited => self.abort(titles),
             Meaning::Performed(outcome) => {
                 let (pdus, next) = sub.perform(self.alloc, outcome)?;
-                self.awaited = due_for(next);
+                self.awaited = pending_for(next);
                 sends(self.alloc, pdus)
             }
         }

@@ -9,13 +9,13 @@
 mod association;
 mod deed;
 mod deeds;
-mod due;
 mod event;
 mod hearing;
 mod laws;
 mod limit;
 mod link;
 mod numbers;
+mod pending_response;
 mod replies;
 mod row;
 mod session;

@@ -7,7 +7,8 @@ ghost use Rattle.dimse.specs.Sending.{IsWhole};
 ghost use Rattle.dimse.specs.declared.assembler.Stage.TheVariants.{Between};
 ghost use Rattle.association_services.specs.Response.{FitsLimit};
 ghost use Rattle.association_session.specs.Row.{NO_LINK, agreed_by};
-ghost use Rattle.association_session.specs.Session.{stage_by, assembly_in};
+ghost use Rattle.association_session.specs.Session.{stage_by};
+ghost use Rattle.association_session.specs.inner.Association.{assembly_in};
 
 use crate::limit::SENT_WITHOUT_LIMIT;
 use archive_model::View;
@@ -37,7 +38,7 @@ impl Drop for Link {
 
 impl Model for Link {
     ghost use Rattle.association_session.specs.Row.{Link as Agreed};
-    ghost use Rattle.association_session.specs.Session.{Linked};
+    ghost use Rattle.association_session.specs.inner.Association.{Linked};
     ghost use Rattle.association_services.specs.Response.{FitsLimit};
 
     ghost Value = { Linked };

@@ -18,7 +18,7 @@ use std::alloc::{AllocError, Global};
 use ul_state::{Acceptor, Action, Event, State, Titles};
 
 /// What an acceptor asks on an event.
-fn ask(
+fn ask_acceptor(
     acceptor: &mut Acceptor<View>,
     titles: &Titles<View>,
     event: Event,
@@ -64,7 +64,7 @@ pub(crate) fn turn(
 {
     let before = acceptor.state();
     let limit = limit_of(&event);
-    let action = ask(acceptor, titles, event)?;
+    let action = ask_acceptor(acceptor, titles, event)?;
     let opened = is_opened(before, acceptor.state());
     link.agree(alloc, opened, acceptor.accepted(), limit)?;
     Ok(action)

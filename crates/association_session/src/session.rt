@@ -2,8 +2,9 @@
 
 ghost use Rattle.std.specs.Prelude.{◌≡◌, [], IfOk, OnOk, OnErr, IsTrue, All, false};
 ghost use Rattle.association_session.specs.declared.event.SessionEvent.TheVariants.{GoesOn};
-ghost use Rattle.association_session.specs.Due.{tells_rows};
-ghost use Rattle.association_session.specs.Session.{start, over, is_in_turn, Turned, IsFewer, IsWritable, IsSound, reads_abort, aborted_by, released_by};
+ghost use Rattle.association_session.specs.PendingResponse.{tells_rows};
+ghost use Rattle.association_session.specs.Session.{start, over, is_in_turn, Turned, IsFewer, IsWritable, IsSound};
+ghost use Rattle.association_session.specs.Session.{reads_abort, aborted_by, released_by};
 
 use crate::association::Association;
 use crate::deeds::Deeds;
@@ -39,12 +40,12 @@ impl Drop for Session {
 
 impl Model for Session {
     ghost use Rattle.association_session.specs.Session.{SessionState};
-    ghost use Rattle.association_session.specs.contracts.due.Due as due;
+    ghost use Rattle.association_session.specs.contracts.pending_response.PendingResponse as pending;
     ghost use Rattle.std.specs.Coded.{codes};
 
     ghost Value = { SessionState };
 
-    ghost coded = { Prim.hlevel (codes, due.the_row.coded) };
+    ghost coded = { Prim.hlevel (codes, pending.the_row.coded) };
 
     ghost view = { λ s. record {
       association = s.association;
@@ -53,10 +54,16 @@ impl Model for Session {
     } };
 }
 
-fn reads_an_abort(state: State, event: &SessionEvent) -> bool
-    ensures { result ≡ reads_abort state event.now }
+/// Whether an A-ABORT comes in its turn.
+fn reads_an_abort(association: &Association, event: &SessionEvent) -> bool
+    ensures read { IsTrue (is_in_turn association.now event.now) →
+        result ≡ reads_abort association.now.within.state event.now }
+    ensures ignored { is_in_turn association.now event.now ≡ false → result ≡ false }
 {
-    match (state, event) {
+    if !association.is_in_turn(event) {
+        return false;
+    }
+    match (association.state(), event) {
         (State::Sta1, _) => false,
         (_, SessionEvent::Heard(Event::Got(Pdu::Abort { .. }))) => true,
         (_, _) => false,
@@ -145,10 +152,7 @@ impl Session {
         // Once memory was refused, nothing is done any more.
         ensures refused { OnErr result (self.new ≡ over self.old) }
     {
-        if !self.association.is_in_turn(&event) {
-            return Ok(Deeds::new(self.alloc));
-        }
-        let read = reads_an_abort(self.association.state(), &event);
+        let read = reads_an_abort(&self.association, &event);
         match self.association.on(titles, event) {
             Ok(deeds) => {
                 self.aborted = self.aborted || read || deeds.has_abort();

@@ -6,7 +6,8 @@ ghost use Rattle.association_services.specs.declared.call.Call.TheVariants.{Stor
 ghost use Rattle.association_session.specs.declared.deed.Deed.TheVariants.{Send, Reach, Ask};
 ghost use Rattle.association_session.specs.declared.deed.Moment.TheVariants.{InStore};
 ghost use Rattle.association_services.specs.Find.{RespondsRow};
-ghost use Rattle.association_session.specs.Session.{IsTold, IsWritable, TellsSome, TellsTurn, IsEnd};
+ghost use Rattle.association_session.specs.Session.{IsWritable};
+ghost use Rattle.association_session.specs.inner.Telling.{IsTold, TellsSome, TellsTurn, IsEnd};
 
 use crate::deed::{Deed, Moment};
 use crate::deeds::Deeds;

@@ -12,9 +12,9 @@ use Rattle.association_session.specs.declared.event.SessionEvent.{SessionEvent}
 use Rattle.association_session.specs.declared.event.SessionEvent.TheVariants as inputs
 use Rattle.association_services.specs.declared.reply.Reply.{Reply}
 use Rattle.association_session.specs.Projections.{IsFront, state_after}
-use Rattle.association_session.specs.declared.due.Due.{Due}
-use Rattle.association_session.specs.declared.due.Due.TheVariants as dues
-use Rattle.association_session.specs.Due.{takes_reply, IsAnswered, Fits}
+use Rattle.association_session.specs.declared.pending_response.PendingResponse.{PendingResponse}
+use Rattle.association_session.specs.declared.pending_response.PendingResponse.TheVariants as pendings
+use Rattle.association_session.specs.PendingResponse.{takes_reply, IsAnswered, Fits}
 use Rattle.ul_state.specs.Table.{IsLeft}
 use Rattle.ul_state.specs.declared.table.State.TheVariants.{Sta1}
 use Rattle.association_session.specs.Session.{IsOpenFor}
@@ -42,16 +42,16 @@ BreaksOff ops own old new deeds = (done : List Deed) × (part : List ℕ) × Beg
 -- ---- one event of a session
 
 -- No row is left to be told, and no sub-operation to be begun.
-abbrev pub IsQuiet : Option Due → Type 0
+abbrev pub IsQuiet : Option PendingResponse → Type 0
 IsQuiet None = ⊤
-IsQuiet (Some (dues.Store awaited)) = ⊤
-IsQuiet (Some (dues.Find awaited kind)) = ⊤
-IsQuiet (Some (dues.Rows telling)) = ⊥
-IsQuiet (Some (dues.Get awaited syntax)) = ⊤
-IsQuiet (Some (dues.Sending retrieval)) = ⊥
+IsQuiet (Some (pendings.Store awaited)) = ⊤
+IsQuiet (Some (pendings.Find awaited kind)) = ⊤
+IsQuiet (Some (pendings.Rows telling)) = ⊥
+IsQuiet (Some (pendings.Get awaited syntax)) = ⊤
+IsQuiet (Some (pendings.Sending retrieval)) = ⊥
 
 -- The reply that is to be told next is that of the call that is awaited.
-abbrev pub Pends : Option Due → Option Reply → Type 0
+abbrev pub Pends : Option PendingResponse → Option Reply → Type 0
 Pends awaited None = IsAnswered awaited
 Pends None (Some reply) = ⊥
 Pends (Some due) (Some reply) = takes_reply due reply ≡ true

@@ -1,5 +1,5 @@
 use Rattle.std.proofs.Common.{◌≡◌}
-use Rattle.association_session.specs.Due.{left_of}
+use Rattle.association_session.specs.PendingResponse.{left_of}
 use Rattle.association_run.specs.inner.Steps.{GoesOnWith}
 use Rattle.association_run.proofs.act.tell_rows.Given as goal
 

@@ -8,7 +8,8 @@ pub loop-init : goal.loop-init
 loop-init g c = record {
   ready = rw c.requires.intake (starts_ready c.args.session.now c.requires.association);
   so_far = rw c.requires.intake (nothing_yet g.P.Port.ops g.P.Port.own c.args.titles.now.list
-      (g.R.Source.remaining c.args.reader.now) (g.S.Sided.at c.args.sides.now) c.args.session.now c.requires.association c.requires.aborted
+      (g.R.Source.remaining c.args.reader.now) (g.S.Sided.at c.args.sides.now) c.args.session.now
+      c.requires.association c.requires.aborted
       c.requires.released);
   read = refl;
   write = refl;

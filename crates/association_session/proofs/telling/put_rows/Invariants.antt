@@ -1,6 +1,7 @@
 use Rattle.std.proofs.Common.{◌≡◌, ◌⊎◌, ◌<◌, length}
 use Rattle.std.specs.Prelude.{All}
-use Rattle.association_session.specs.Session.{IsWritable, TellsSome}
+use Rattle.association_session.specs.Session.{IsWritable}
+use Rattle.association_session.specs.inner.Telling.{TellsSome}
 use Rattle.association_session.proofs.telling.put_rows.Given as goal
 
 -- some rows are told, and the others are left

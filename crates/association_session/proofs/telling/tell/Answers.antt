@@ -1,6 +1,6 @@
 use Rattle.std.proofs.Common.{List, subst}
 use Rattle.association_session.specs.declared.deed.Deed.{Deed}
-use Rattle.association_session.specs.Session.{TellsSome}
+use Rattle.association_session.specs.inner.Telling.{TellsSome}
 use Rattle.association_session.proofs.telling.tell.Goals as goal
 
 -- The last rows are told, and their end.

@@ -1,8 +1,5 @@
 use Rattle.std.proofs.Common.{◌∙◌, refl, sym, subst}
-use Rattle.association_session.specs.declared.due.Due.TheVariants as dues
-use Rattle.association_session.proofs.HearLaws.{ok_map, answered_told, at_contexts, at_limit, at_place, at_stage}
-use Rattle.association_session.proofs.HearLaws.{at_queue}
-use Rattle.association_session.proofs.HearLaws.{at_sub}
+use Rattle.association_session.proofs.HearLaws.{ok_map, answered_told, at_contexts, at_limit}
 use Rattle.association_session.proofs.SendLaws.{answered_store, answered_find, answered_get}
 use Rattle.association_services.proofs.ServiceLaws.{IsServed, can_respond}
 use Rattle.association_session.proofs.association.Association.answer.Goals as goal

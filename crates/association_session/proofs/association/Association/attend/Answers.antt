@@ -1,5 +1,5 @@
 use Rattle.std.proofs.Common.{None, ◌∙◌, sym, subst}
-use Rattle.association_session.specs.Due.{due_of}
+use Rattle.association_session.specs.inner.Association.{pending_of}
 use Rattle.association_services.specs.Response.{FitsLimit}
 use Rattle.association_services.specs.SubOperation.{SubOperation}
 use Rattle.association_session.proofs.HearLaws.{ok_map, all_is, at_place, at_stage, at_queue, at_sub}
@@ -14,8 +14,8 @@ returns-in_ok-pdus-in-Performed-clause-answered c =
     c.in-Performed.outcome c.in_ok-pdus-in-Performed.pdus c.in_ok-pdus-in-Performed.next deeds c.requires.established
     c.requires.idle (sym (at_sub _ _ c.self.view_is) ∙ sym c.take.ensures.value ∙ c.in-Some.is)
     (sym c.meaning-meaning.ensures ∙ c.in-Performed.is)
-    (state_is _ c.args.self.now None (due_of c.in_ok-pdus-in-Performed.next) (at_place _ _ c.self.view_is)
-    (at_stage _ _ c.self.view_is) (at_queue _ _ c.self.view_is) c.take.ensures.after c.due_for.ensures) sent
+    (state_is _ c.args.self.now None (pending_of c.in_ok-pdus-in-Performed.next) (at_place _ _ c.self.view_is)
+    (at_stage _ _ c.self.view_is) (at_queue _ _ c.self.view_is) c.take.ensures.after c.pending_for.ensures) sent
     c.in_ok-pdus-in-Performed.ensures.told
     (subst (λ (s : SubOperation). FitsLimit s.progress.awaited.limit) c.sub.view_is c.see_room.ensures))
     c.sends.ensures

@@ -4,7 +4,7 @@ use Rattle.pdu.specs.declared.pdv.Pdv.{Pdv}
 use Rattle.dimse.specs.declared.fault.DimseFault.{DimseFault}
 use Rattle.dimse.specs.declared.message.Message.{Message}
 use Rattle.dimse.specs.Assembly.{Feeds}
-use Rattle.association_session.specs.Session.{assembly_in}
+use Rattle.association_session.specs.inner.Association.{assembly_in}
 use Rattle.association_session.proofs.HearLaws.{ok_map, fed_start, fed_on, took, broke, broke_fewer, all_heard}
 use Rattle.association_session.proofs.HearLaws.{both_map, on_ok_map, at_state, at_within, at_awaited, at_queue}
 use Rattle.association_session.proofs.association.Association.hear_values.Goals as goal

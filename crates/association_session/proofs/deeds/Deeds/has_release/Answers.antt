@@ -5,8 +5,8 @@ use Rattle.association_session.specs.Session.{is_release}
 use Rattle.association_session.proofs.DeedsLaws.{no_release, any_behind}
 use Rattle.association_session.proofs.deeds.Deeds.has_release.Goals as goal
 
--- No fragment is one, so a part has it.
+-- No fragment is one, so a outgoing has it.
 pub returns : goal.returns
 returns c = c.is_release_in.ensures ∙ sym (any_behind is_release (map Send c.self.inside.sending)
-    c.self.inside.parts.items
+    c.self.inside.outgoing.items
     (no_release c.self.inside.sending c.see_data.ensures)) ∙ ap (list_any is_release) c.self.view_is

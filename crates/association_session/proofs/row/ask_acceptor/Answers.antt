@@ -4,7 +4,7 @@ use Rattle.ul_state.specs.declared.event.Action.{Action}
 use Rattle.ul_state.specs.Acceptor.{CanBeWritten}
 use Rattle.association_session.specs.Row.{action_on}
 use Rattle.association_session.proofs.TurnLaws.{popped, popped_writable}
-use Rattle.association_session.proofs.row.ask.Goals as goal
+use Rattle.association_session.proofs.row.ask_acceptor.Goals as goal
 
 action_is : goal.returns-clause-action
 action_is c =

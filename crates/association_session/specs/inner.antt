@@ -1,0 +1,3 @@
+pub mod Association
+pub mod Deeds
+pub mod Telling
