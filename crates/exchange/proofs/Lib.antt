@@ -5,3 +5,4 @@ pub mod Rounds
 pub mod Bucketed
 pub mod Said
 pub mod Places
+pub mod Refusals

@@ -11,10 +11,11 @@ use Rattle.operation.specs.declared.target.Target.TheVariants.{Study, Patient, S
 use Rattle.operation.specs.declared.taken.Taken.{Taken}
 use Rattle.operation.specs.declared.taken.Taken.TheVariants.{New, Known}
 use Rattle.operation.specs.Spelling.{digest_of}
-use Rattle.site_state.specs.Site.{Map, IsSite, held_at, with_op}
+use Rattle.site_state.specs.Site.{Map, IsSite, IsClash, held_at, with_op}
 use Rattle.exchange.specs.declared.version.Version.{Version}
 use Rattle.exchange.specs.declared.version.Version.TheVariants.{One, Two}
 use Rattle.exchange.specs.declared.fault.HolderFault.{HolderFault}
+use Rattle.exchange.specs.declared.fault.HolderFault.TheVariants.{Memory, Refused}
 
 -- ---- versions
 
@@ -75,6 +76,12 @@ if_spoken version (Some op) = if is_spoken version op then Some op else None
 -- the operations under some digests that a set has and a version speaks of, in the order given
 abbrev pub given : Version → List (List ℕ) → Map → List Op
 given version digests m = filter_map (λ digest. if_spoken version (held_at m digest)) digests
+
+-- why a site does not take an operation: memory was refused where nothing of its digest is held, or another operation of
+-- its digest is
+abbrev pub RefusesTake : Map → Op → HolderFault → Type 0
+RefusesTake m op Memory = held_at m (digest_of op) ≡ None
+RefusesTake m op Refused = IsClash m op
 
 -- ---- how a holder changes
 

@@ -1,5 +1,5 @@
 -- What one side of a round asked for, and which of it was given.
-use Rattle.std.specs.Prelude.{◌≡◌, ◌≢◌, ℕ, Bool, true, false, List, Option, Some, None, Result, Ok, Err, is_some}
+use Rattle.std.specs.Prelude.{◌≡◌, ◌≢◌, ◌⊎◌, ℕ, Bool, true, false, List, Option, Some, None, Result, Ok, Err, is_some}
 use Rattle.std.specs.Prelude.{if◌then◌else◌}
 use Rattle.std.specs.List.{list_any}
 use Rattle.std.specs.Map.{lookup, set_value}
@@ -10,6 +10,7 @@ use Rattle.operation.specs.Spelling.{digest_of}
 use Rattle.site_state.specs.Site.{Map, digest_cmp}
 use Rattle.exchange.specs.declared.version.Version.{Version}
 use Rattle.exchange.specs.declared.fault.HolderFault.{HolderFault}
+use Rattle.exchange.specs.declared.fault.HolderFault.TheVariants.{Memory}
 use Rattle.exchange.specs.declared.fault.ExchangeFault.{ExchangeFault}
 use Rattle.exchange.specs.declared.fault.ExchangeFault.TheVariants.{BadFrame, Stranger}
 use Rattle.exchange.specs.Fault.{of_holder}
@@ -50,6 +51,10 @@ refusal_of round op =
 -- a round in which the operation of a digest was given, if it was asked for
 abbrev pub with_given : List ℕ → RoundState → RoundState
 with_given digest round = record round { asked = set_value (is_at (digest_cmp digest)) round.asked true }
+
+-- memory was refused, or a holder refused
+abbrev pub MemoryOr : (HolderFault → Type 0) → HolderFault → Type 0
+MemoryOr refuses fault = (fault ≡ Memory) ⊎ refuses fault
 
 -- how a round answers to an operation that the holder takes: as the holder did
 pub record TakesAsked {H : Type 0} (holds : H → Map) (alone : H → Type 0) (before : H) (op : Op)

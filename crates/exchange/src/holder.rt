@@ -1,8 +1,9 @@
 //! What an exchange asks of a site.
 
-ghost use Rattle.std.specs.Prelude.{◌≡◌, IfOk};
+ghost use Rattle.std.specs.Prelude.{◌≡◌, IfErr, MatchResult};
 ghost use Rattle.operation.specs.declared.op.Op.{Op};
 ghost use Rattle.site_state.specs.Site.{Map};
+ghost use Rattle.exchange.specs.declared.fault.HolderFault.{HolderFault};
 ghost use Rattle.exchange.specs.Held.{offered, offered_in, lacked, given, Looks, TakesIn};
 ghost use Rattle.exchange.specs.Buckets.{bucket_list};
 
@@ -14,7 +15,7 @@ use operation::{Digest, Digested, Op, Taken};
 use std::alloc::Global;
 
 /// A set of operations that only grows. Others may add to it between two calls, and during one:
-/// each call answers of one set that was held during it.
+/// each call answers of one set that was held during it, or refuses as the holder says it may.
 pub trait Holder {
     // What it holds.
     ghost holds: { Self → Map };
@@ -22,10 +23,17 @@ pub trait Holder {
     // Nobody else changes it.
     ghost alone: { Self → Type 0 };
 
+    // Why it may refuse to tell what it holds, by what it was before the call and what it is then.
+    ghost refuses_look: { Self → Self → HolderFault → Type 0 };
+
+    // Why it may refuse to take an operation.
+    ghost refuses_take: { Self → Self → Op → HolderFault → Type 0 };
+
     /// The digests of all operations that a version speaks of, ascending.
     fn digests(&mut self, alloc: Global, version: Version) -> Result<Digests, HolderFault>
-        ensures { Looks holds alone self.old self.new (λ m. IfOk result (λ digests. digests
-            ≡ offered version m)) };
+        ensures { Looks holds alone self.old self.new (λ m. MatchResult result
+            (λ digests. digests ≡ offered version m)
+            (refuses_look self.old self.new)) };
 
     /// Those of them that begin with one of these bytes, ascending.
     fn digests_in(
@@ -34,19 +42,22 @@ pub trait Holder {
         version: Version,
         places: &[u8],
     ) -> Result<Digests, HolderFault>
-        ensures { Looks holds alone self.old self.new (λ m. IfOk result (λ digests. digests
-            ≡ offered_in version places.now m)) };
+        ensures { Looks holds alone self.old self.new (λ m. MatchResult result
+            (λ digests. digests ≡ offered_in version places.now m)
+            (refuses_look self.old self.new)) };
 
     /// For each first byte, the SHA-256 of the digests that begin with it and of whose operations a
     /// version speaks.
     fn buckets(&mut self, alloc: Global, version: Version) -> Result<ListOf<Digest>, HolderFault>
-        ensures { Looks holds alone self.old self.new (λ m. IfOk result (λ buckets. buckets
-            ≡ bucket_list (offered version m))) };
+        ensures { Looks holds alone self.old self.new (λ m. MatchResult result
+            (λ buckets. buckets ≡ bucket_list (offered version m))
+            (refuses_look self.old self.new)) };
 
     /// Those of some digests that are not held, in the order given.
     fn missing(&mut self, alloc: Global, digests: &Digests) -> Result<Digests, HolderFault>
-        ensures { Looks holds alone self.old self.new (λ m. IfOk result (λ missing. missing
-            ≡ lacked m digests.now)) };
+        ensures { Looks holds alone self.old self.new (λ m. MatchResult result
+            (λ missing. missing ≡ lacked m digests.now)
+            (refuses_look self.old self.new)) };
 
     /// The operations under some digests that are held and that a version speaks of, in the order
     /// given. The bytes of data sets are shared.
@@ -56,10 +67,12 @@ pub trait Holder {
         version: Version,
         digests: &Digests,
     ) -> Result<ListOf<Op>, HolderFault>
-        ensures { Looks holds alone self.old self.new (λ m. IfOk result (λ ops. ops
-            ≡ given version digests.now m)) };
+        ensures { Looks holds alone self.old self.new (λ m. MatchResult result
+            (λ ops. ops ≡ given version digests.now m)
+            (refuses_look self.old self.new)) };
 
     /// Takes an operation, once.
     fn take(&mut self, op: Digested) -> Result<Taken, HolderFault>
-        ensures { TakesIn holds alone self.old op result self.new };
+        ensures takes { TakesIn holds alone self.old op result self.new }
+        ensures why { IfErr result (refuses_take self.old self.new op) };
 }

@@ -1,10 +1,10 @@
 //! One side's part in a round of an exchange.
 
-ghost use Rattle.std.specs.Prelude.{◌≡◌, ◌≢◌, ◌↔◌, [], List, ℕ, Some, None, Err, cond, false, IfOk, OnOk, OnErr, IsErrOf, IsTrue};
+ghost use Rattle.std.specs.Prelude.{◌≡◌, ◌≢◌, ◌↔◌, [], List, ℕ, Some, None, Err, cond, false, IfOk, OnOk, OnErr, IsErrOf, IsTrue, MatchResult};
 ghost use Rattle.operation.specs.Spelling.{digest_of};
 ghost use Rattle.exchange.specs.Held.{offered, offered_in, lacked, given, Looks};
 ghost use Rattle.exchange.specs.Buckets.{bucket_list, unequal as unequal_in};
-ghost use Rattle.exchange.specs.Round.{asked_at, is_among, with_given, refusal_of, IsFinished, TakesAsked};
+ghost use Rattle.exchange.specs.Round.{asked_at, is_among, with_given, refusal_of, IsFinished, TakesAsked, MemoryOr};
 
 use crate::asked::Asked;
 use crate::buckets::unequal;
@@ -62,8 +62,9 @@ impl Round {
 
     /// The HAVE of all digests.
     pub fn offer<H: Holder>(&self, alloc: Global, holder: &mut H) -> Result<Digests, HolderFault>
-        ensures { Looks H.holds H.alone holder.old holder.new (λ m.
-            IfOk result (λ have. have ≡ offered self.now.version m)) }
+        ensures { Looks H.holds H.alone holder.old holder.new (λ m. MatchResult result
+            (λ have. have ≡ offered self.now.version m)
+            (H.refuses_look holder.old holder.new)) }
     {
         holder.digests(alloc, self.version)
     }
@@ -74,8 +75,9 @@ impl Round {
         alloc: Global,
         holder: &mut H,
     ) -> Result<ListOf<Digest>, HolderFault>
-        ensures { Looks H.holds H.alone holder.old holder.new (λ m.
-            IfOk result (λ buckets. buckets ≡ bucket_list (offered self.now.version m))) }
+        ensures { Looks H.holds H.alone holder.old holder.new (λ m. MatchResult result
+            (λ buckets. buckets ≡ bucket_list (offered self.now.version m))
+            (H.refuses_look holder.old holder.new)) }
     {
         holder.buckets(alloc, self.version)
     }
@@ -87,8 +89,10 @@ impl Round {
         holder: &mut H,
         buckets: &[Digest],
     ) -> Result<Octets, HolderFault>
-        ensures { Looks H.holds H.alone holder.old holder.new (λ m. IfOk result (λ places.
-            places ≡ unequal_in (bucket_list (offered self.now.version m)) buckets.now)) }
+        ensures { Looks H.holds H.alone holder.old holder.new (λ m. MatchResult result
+            (λ places. places
+            ≡ unequal_in (bucket_list (offered self.now.version m)) buckets.now)
+            (MemoryOr (H.refuses_look holder.old holder.new))) }
     {
         let own = holder.buckets(alloc, self.version)?;
         Ok(unequal(alloc, own.as_slice(), buckets)?)
@@ -101,8 +105,9 @@ impl Round {
         holder: &mut H,
         places: &[u8],
     ) -> Result<Digests, HolderFault>
-        ensures { Looks H.holds H.alone holder.old holder.new (λ m.
-            IfOk result (λ have. have ≡ offered_in self.now.version places.now m)) }
+        ensures { Looks H.holds H.alone holder.old holder.new (λ m. MatchResult result
+            (λ have. have ≡ offered_in self.now.version places.now m)
+            (H.refuses_look holder.old holder.new)) }
     {
         holder.digests_in(alloc, self.version, places)
     }
@@ -115,8 +120,9 @@ impl Round {
         holder: &mut H,
         have: &Digests,
     ) -> Result<Digests, HolderFault>
-        ensures want { Looks H.holds H.alone holder.old holder.new (λ m.
-            IfOk result (λ want. want ≡ lacked m have.now)) }
+        ensures want { Looks H.holds H.alone holder.old holder.new (λ m. MatchResult result
+            (λ want. want ≡ lacked m have.now)
+            (MemoryOr (H.refuses_look holder.old holder.new))) }
         ensures asked { IfOk result (λ want. (digest : List ℕ) → asked_at digest self.new
             ≡ cond (is_among digest want) (Some false) (asked_at digest self.old)) }
         ensures version { self.new.version ≡ self.old.version }
@@ -135,8 +141,9 @@ impl Round {
         holder: &mut H,
         want: &Digests,
     ) -> Result<ListOf<Op>, HolderFault>
-        ensures { Looks H.holds H.alone holder.old holder.new (λ m.
-            IfOk result (λ ops. ops ≡ given self.now.version want.now m)) }
+        ensures { Looks H.holds H.alone holder.old holder.new (λ m. MatchResult result
+            (λ ops. ops ≡ given self.now.version want.now m)
+            (H.refuses_look holder.old holder.new)) }
     {
         holder.ops(alloc, self.version, want)
     }
@@ -165,6 +172,12 @@ impl Round {
         ensures untaken { refusal_of self.old op ≢ None → holder.new ≡ holder.old }
         ensures taken { refusal_of self.old op ≡ None
             → TakesAsked H.holds H.alone holder.old op result holder.new }
+
+        // Each other fault is the holder's.
+        ensures refused { IsErrOf result ExchangeFault.Refused
+            → H.refuses_take holder.old holder.new op HolderFault.Refused }
+        ensures memory { IsErrOf result ExchangeFault.Memory
+            → H.refuses_take holder.old holder.new op HolderFault.Memory }
 
         // What the round knows then.
         ensures given { OnOk result (self.new ≡ with_given (digest_of op) self.old) }

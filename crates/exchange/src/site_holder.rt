@@ -1,8 +1,8 @@
 //! A site as a holder.
 
-ghost use Rattle.std.specs.Prelude.{◌≡◌, ◌↔◌, ◌++◌, ◌==◌, IfOk, OnOk, Err, filter, ⊤};
+ghost use Rattle.std.specs.Prelude.{◌≡◌, ◌↔◌, ◌++◌, ◌==◌, IfOk, IfErr, OnOk, Err, filter, ⊤};
 ghost use Rattle.site_state.specs.Site.{IsClash, held_at};
-ghost use Rattle.exchange.specs.Held.{offered, offered_in, spoken_of, place_of, lacked, given, if_spoken, TakesIn};
+ghost use Rattle.exchange.specs.Held.{offered, offered_in, spoken_of, place_of, lacked, given, if_spoken, TakesIn, RefusesTake};
 ghost use Rattle.exchange.specs.Buckets.{bucket_list, unequal as unequal_in};
 ghost use Rattle.exchange.specs.Places.{front_at, end_at};
 
@@ -185,11 +185,20 @@ pub fn ops_of_site(
     Ok(ListOf::of(ops))
 }
 
-/// Nobody else changes a site.
+/// Nobody else changes a site. It refuses for want of memory, and else only what clashes with what
+/// it holds.
 impl Holder for Site {
+    ghost use Rattle.std.specs.Prelude.{◌≡◌};
+    ghost use Rattle.exchange.specs.declared.fault.HolderFault.TheVariants.{Memory};
+    ghost use Rattle.exchange.specs.Held.{RefusesTake};
+
     ghost holds = { λ s. s };
 
     ghost alone = { λ _. ⊤ };
+
+    ghost refuses_look = { λ _ _ fault. fault ≡ Memory };
+
+    ghost refuses_take = { λ before _ op fault. RefusesTake before op fault };
 
     fn digests(&mut self, alloc: Global, version: Version) -> Result<Digests, HolderFault> {
         self.see_lawful();
@@ -229,6 +238,7 @@ impl Holder for Site {
     fn take(&mut self, op: Digested) -> Result<Taken, HolderFault>
         ensures takes { TakesIn (λ s. s) (λ _. ⊤) self.old op result self.new }
         ensures refused { (result ≡ Err HolderFault.Refused) ↔ IsClash self.old op }
+        ensures why { IfErr result (RefusesTake self.old op) }
     {
         match self.take_digested(op) {
             Ok(taken) => Ok(taken),

@@ -1,13 +1,16 @@
 -- What a holder keeps where it refuses.
-use Rattle.std.proofs.Common.{◌≡◌, ◌≢◌, Option, Some, None, Result, Ok, Err, refl, sym, ap, subst, ◌∙◌}
+use Rattle.std.proofs.Common.{◌≡◌, ◌≢◌, inl, inr, Option, Some, None, Result, Ok, Err, refl, sym, ap, subst, ◌∙◌}
 use Rattle.operation.specs.declared.op.Op.{Op}
 use Rattle.operation.specs.declared.taken.Taken.{Taken}
 use Rattle.site_state.specs.Site.{Map, held_at}
 use Rattle.site_state.proofs.Maps.{same_sites}
 use Rattle.exchange.specs.declared.fault.ExchangeFault.{ExchangeFault}
+use Rattle.exchange.specs.declared.fault.ExchangeFault.TheVariants as exchanges
 use Rattle.exchange.specs.declared.fault.HolderFault.{HolderFault}
+use Rattle.exchange.specs.declared.fault.HolderFault.TheVariants as holders
+use Rattle.exchange.specs.Fault.{of_holder}
 use Rattle.exchange.specs.Held.{HasGrown, Looks, TakesIn}
-use Rattle.exchange.specs.Round.{RoundState, refusal_of, by_holder, TakesAsked}
+use Rattle.exchange.specs.Round.{RoundState, refusal_of, by_holder, TakesAsked, MemoryOr}
 use Rattle.exchange.proofs.Rounds.{same_option}
 use Rattle.exchange_run.specs.Course.{Idles}
 
@@ -45,6 +48,21 @@ refused_take holds alone before after op (Err cause) fault e takes = record {
   grown = takes.grown;
   stays = takes.stays;
 }
+
+abbrev pub told : (X : Type 0) → ExchangeFault → Result X ExchangeFault
+told X fault = Err fault
+
+-- What a holder refused to tell is told as that.
+pub refused_is : (X : Type 0) (P : HolderFault → Type 0) (cause : HolderFault) → P cause
+    → told X (of_holder cause) ≡ told X exchanges.Refused → P holders.Refused
+refused_is X P holders.Refused is e = is
+refused_is X P holders.Memory is e = absurd cc
+
+pub refused_or : (X : Type 0) (P : HolderFault → Type 0) (cause : HolderFault) → MemoryOr P cause
+    → told X (of_holder cause) ≡ told X exchanges.Refused → P holders.Refused
+refused_or X P holders.Memory is e = absurd cc
+refused_or X P holders.Refused (inl is) e = absurd cc
+refused_or X P holders.Refused (inr is) e = is
 
 -- What was given and not taken leaves what the holder has.
 pub untaken : {H : Type 0} (holds : H → Map) (alone : H → Type 0) (before after : H) (op : Op) (round : RoundState)

@@ -32,7 +32,7 @@ use Rattle.exchange_run.specs.declared.task.Task.{Task}
 use Rattle.exchange_run.specs.declared.task.Task.TheVariants as tasks
 use Rattle.exchange_run.specs.Tasks.{task_for}
 use Rattle.exchange_run.specs.Course.{news, Does, DoesAll, SetsOut, Talks, Idles, IsOfHolder, Why}
-use Rattle.exchange_run.specs.Hearing.{texts, is_io, Heard, Unheard, Fails}
+use Rattle.exchange_run.specs.Hearing.{texts, is_io, Heard, Unheard, WhyUnheard, Fails}
 use Rattle.exchange_run.specs.Saying.{WroteFront, WhyUnsaid, AreSayable}
 use Rattle.exchange_run.specs.Run.{Ends, ends, NoneFailed, CountsFailures, Exchanged, EndsEarly}
 use Rattle.exchange_run.specs.Run.{Progress, Turned}
@@ -190,12 +190,25 @@ quiet_why (tasks.Take op) s fault (inr why) = quiet_of fault why
 quiet_why tasks.Show s fault why = quiet_of fault why
 quiet_why tasks.Rest s fault why = absurd why
 
+abbrev pub err : ExchangeFault → Result (Unit {0}) ExchangeFault
+err fault = Err fault
+
 quiet_turns : (fault : ExchangeFault) → quiet fault ≡ true → fault ≡ Turns → ⊥
 unfolding quiet
 quiet_turns fault q e = let f : quiet Turns ≡ true = subst (λ (x : ExchangeFault). quiet x ≡ true) e q in cc
 
 unsaid_turns : (frames : List Frame) (fault : ExchangeFault) → WhyUnsaid frames fault → fault ≡ Turns → ⊥
 unsaid_turns frames fault why e = subst (λ (x : ExchangeFault). WhyUnsaid frames x) e why
+
+-- no frame that was not heard or not said is a refusal
+pub unheard_refused : (r : Option (List ℕ)) (text : List ℕ) (fault : ExchangeFault) → WhyUnheard r text fault
+    → err fault ≡ err Refused → ⊥
+unheard_refused r text fault why e =
+    let is : fault ≡ Refused = cc in subst (λ (x : ExchangeFault). WhyUnheard r text x) is why
+
+pub unsaid_refused : (frames : List Frame) (r : Result (Unit {0}) ExchangeFault) → IfErr r (WhyUnsaid frames)
+    → r ≡ err Refused → ⊥
+unsaid_refused frames r why e = subst (λ (x : Result (Unit {0}) ExchangeFault). IfErr x (WhyUnsaid frames)) e why
 
 -- ---- why
 

@@ -13,6 +13,7 @@ use Rattle.exchange.specs.declared.version.Version.TheVariants.{One as version_o
 use Rattle.exchange.specs.declared.fault.ExchangeFault.{ExchangeFault}
 use Rattle.exchange.specs.declared.fault.ExchangeFault.TheVariants.{BadFrame}
 use Rattle.exchange.specs.declared.fault.HolderFault.{HolderFault}
+use Rattle.exchange.specs.declared.fault.HolderFault.TheVariants.{Refused}
 use Rattle.exchange.specs.Fault.{of_holder}
 use Rattle.exchange.specs.Held.{offered, offered_in, lacked, given, HasGrown, Looks}
 use Rattle.exchange.specs.Buckets.{bucket_list, unequal}
@@ -187,6 +188,13 @@ Why (tasks.Give want) s fault = IsOfHolder fault
 Why (tasks.Take op) s fault = (refusal_of s.round op ≡ Some fault) ⊎ IsOfHolder fault
 Why tasks.Show s fault = IsOfHolder fault
 Why tasks.Rest s fault = ⊥
+
+-- A holder refused a task for another cause than want of memory, as it may: to take an operation, or to tell what it
+-- holds.
+abbrev pub HasRefused : {H : Type 0} → (H → H → HolderFault → Type 0) → (H → H → Op → HolderFault → Type 0) → Task → H
+    → H → Type 0
+HasRefused refuses_look refuses_take (tasks.Take op) before after = refuses_take before after op Refused
+HasRefused refuses_look refuses_take task before after = refuses_look before after Refused
 
 -- ---- frames, one after another
 

@@ -2,9 +2,11 @@
 use Rattle.std.specs.Prelude.{◌≡◌, ◌⊎◌, ◌≤◌, ◌+◌, ◌↔◌, ℕ, List, [], ◌++◌, length, Option, Result, Ok, Err, IsTrue}
 use Rattle.std.specs.Io.KnownBytes.{Consumes, Appends}
 use Rattle.devices.specs.Failures.{Rose}
+use Rattle.operation.specs.declared.op.Op.{Op}
 use Rattle.site_state.specs.Site.{Map}
 use Rattle.exchange_frames.specs.declared.frame.Frame.{Frame}
 use Rattle.exchange_frames.specs.Spelling.{text_of, IsFrame}
+use Rattle.exchange.specs.declared.fault.HolderFault.{HolderFault}
 use Rattle.exchange.specs.declared.fault.ExchangeFault.{ExchangeFault}
 use Rattle.exchange.specs.declared.fault.ExchangeFault.TheVariants.{BadFrame, TooLong, Stranger, Io, Memory, Turns}
 use Rattle.exchange.specs.declared.fault.ExchangeFault.TheVariants.{Refused}
@@ -13,8 +15,9 @@ use Rattle.exchange_run.specs.declared.role.Ended.{Ended}
 use Rattle.exchange_run.specs.declared.run.TheConstants.{MOST_READS}
 use Rattle.exchange_run.specs.declared.side.Side.{Side}
 use Rattle.exchange_run.specs.declared.task.Awaited.TheVariants as awaits
+use Rattle.exchange_run.specs.declared.task.Task.{Task}
 use Rattle.exchange_run.specs.Tasks.{task_for}
-use Rattle.exchange_run.specs.Course.{Talks, Idles, IsOfHolder, Why}
+use Rattle.exchange_run.specs.Course.{Talks, Idles, IsOfHolder, Why, HasRefused}
 use Rattle.exchange_run.specs.Hearing.{texts, AreFrames, WhyUnheard}
 use Rattle.exchange_run.specs.Laws.{Outcome, IsGivenAll, HoldsWhatWasOffered, HoldsWhatWasShown, NoPlaceDiffers}
 use Rattle.exchange_run.specs.Saying.{IsFront, WhyUnsaid}
@@ -115,6 +118,15 @@ pub record Unbegun {H : Type 0} (holds : H → Map) (alone : H → Type 0) (from
 
 abbrev pub EndsEarly : {H : Type 0} → (H → Map) → (H → Type 0) → Role → Ends H → Ends H → ExchangeFault → Type 0
 EndsEarly holds alone role from to fault = Unbegun holds alone from to fault ⊎ BrokenOff holds alone role from to fault
+
+-- The last that was asked of a holder it refused, for another cause than want of memory.
+pub record WasRefused {H : Type 0} (holds : H → Map) (alone : H → Type 0)
+    (refuses_look : H → H → HolderFault → Type 0) (refuses_take : H → H → Op → HolderFault → Type 0) (after : H)
+    : Type 0 where
+  pub task : Task
+  pub before : H
+  pub idle : Idles holds alone before after
+  pub refused : HasRefused refuses_look refuses_take task before after
 
 -- ---- turns
 

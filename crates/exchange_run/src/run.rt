@@ -1,9 +1,9 @@
 //! A whole exchange.
 
-ghost use Rattle.std.specs.Prelude.{◌≡◌, ◌<◌, ◌^◌, ◌-◌, ℕ, List, Option, IfOk, IfErr, OnOk};
+ghost use Rattle.std.specs.Prelude.{◌≡◌, ◌<◌, ◌^◌, ◌-◌, ℕ, List, Option, IfOk, IfErr, IsErrOf, OnOk};
 ghost use Rattle.exchange_run.specs.declared.role.Role.{Role};
 ghost use Rattle.exchange_run.specs.Course.{start_of};
-ghost use Rattle.exchange_run.specs.Run.{Ends, ends, Exchanged, EndsEarly, Progress, Turned};
+ghost use Rattle.exchange_run.specs.Run.{Ends, ends, Exchanged, EndsEarly, Progress, Turned, WasRefused};
 
 use crate::hearing::hear;
 use crate::role::{Ended, Role};
@@ -32,6 +32,8 @@ fn set_out<W: Sink, H: Holder>(
         H.alone side.old.role
         (ends holder.old left (W.contents writer.old) failed (W.failures writer.old))
         (ends holder.new left (W.contents writer.new) failed (W.failures writer.new)) fault) }
+    ensures refused { IsErrOf result ExchangeFault.Refused → WasRefused H.holds H.alone
+        H.refuses_look H.refuses_take holder.new }
 {
     let said = side.set_out(alloc, holder)?;
     say(alloc, writer, said)
@@ -53,6 +55,8 @@ fn take_turn<R: Source, W: Sink, H: Holder>(
         → Turned H.holds H.alone role from
         (ends holder.new (R.remaining reader.new) (W.contents writer.new)
         (R.failures reader.new) (W.failures writer.new)) side.new reads.new n result }
+    ensures refused { IsErrOf result ExchangeFault.Refused → WasRefused H.holds H.alone
+        H.refuses_look H.refuses_take holder.new }
 {
     let frame = hear(alloc, reader, reads)?;
     let said = side.on(alloc, holder, frame)?;
@@ -83,6 +87,8 @@ pub fn run_exchange<R: Source, W: Sink, H: Holder>(
         (R.failures reader.old) (W.failures writer.old))
         (ends holder.new (R.remaining reader.new) (W.contents writer.new)
         (R.failures reader.new) (W.failures writer.new))) }
+    ensures refused { IsErrOf result ExchangeFault.Refused → WasRefused H.holds H.alone
+        H.refuses_look H.refuses_take holder.new }
 {
     let mut side = Side::new(alloc, role);
     let mut reads = MOST_READS;

@@ -1,11 +1,11 @@
 //! One side of an exchange, as a machine: frames come in and frames go out.
 
-ghost use Rattle.std.specs.Prelude.{◌≡◌, ◌∷◌, [], ◌<◌, ◌^◌, ◌-◌, ◌↔◌, IfErr, IsTrue};
+ghost use Rattle.std.specs.Prelude.{◌≡◌, ◌∷◌, [], ◌<◌, ◌^◌, ◌-◌, ◌↔◌, IfErr, IsErrOf, IsTrue};
 ghost use Rattle.exchange_frames.specs.declared.frame.Frame.TheVariants.{Hello};
 ghost use Rattle.exchange_run.specs.declared.task.Awaited.TheVariants as awaits;
 ghost use Rattle.exchange_run.specs.declared.task.Task.TheVariants as tasks;
 ghost use Rattle.exchange_run.specs.Tasks.{task_for};
-ghost use Rattle.exchange_run.specs.Course.{Performs, SetOut, Why, IsOfHolder, frames_of, next_after_gifts, news, settled, start_of};
+ghost use Rattle.exchange_run.specs.Course.{Performs, SetOut, Why, IsOfHolder, HasRefused, frames_of, next_after_gifts, news, settled, start_of};
 ghost use Rattle.exchange_run.specs.Course.{agreed_with as agreed_in};
 ghost use Rattle.exchange.specs.Round.{IsFinished};
 
@@ -135,6 +135,8 @@ impl Side {
         requires { self.old ≡ start_of self.old.role }
         ensures did { SetOut H.holds H.alone self.old.role holder.old result self.new holder.new }
         ensures why { IfErr result IsOfHolder }
+        ensures refused { IsErrOf result ExchangeFault.Refused → HasRefused H.refuses_look
+            H.refuses_take tasks.Show holder.old holder.new }
     {
         match self.role {
             Role::Caller => Ok(Said::One(Frame::Hello(OWN_VERSION))),
@@ -157,6 +159,8 @@ impl Side {
         ensures did { Performs H.holds H.alone (task_for self.old.awaited frame self.old.role)
             self.old holder.old result self.new holder.new }
         ensures why { IfErr result (Why (task_for self.old.awaited frame self.old.role) self.old) }
+        ensures refused { IsErrOf result ExchangeFault.Refused → HasRefused H.refuses_look
+            H.refuses_take (task_for self.old.awaited frame self.old.role) holder.old holder.new }
     {
         self.act(alloc, holder, task_of(self.awaited, frame, self.role))
     }
@@ -170,6 +174,8 @@ impl Side {
         requires { self.old.taken < 2 ^ 64 - 1 }
         ensures did { Performs H.holds H.alone task self.old holder.old result self.new holder.new }
         ensures why { IfErr result (Why task self.old) }
+        ensures refused { IsErrOf result ExchangeFault.Refused → HasRefused H.refuses_look
+            H.refuses_take task holder.old holder.new }
     {
         match task {
             Task::Refuse => Err(ExchangeFault::BadFrame),
@@ -190,6 +196,8 @@ impl Side {
         ensures did { Performs H.holds H.alone tasks.Show self.old holder.old result self.new
             holder.new }
         ensures why { IfErr result IsOfHolder }
+        ensures refused { IsErrOf result ExchangeFault.Refused → HasRefused H.refuses_look
+            H.refuses_take tasks.Show holder.old holder.new }
     {
         let buckets = self.round.buckets(alloc, holder)?;
         self.awaited = Awaited::Differ;
@@ -206,6 +214,8 @@ impl Side {
         ensures did { Performs H.holds H.alone (tasks.Begin version) self.old holder.old result
             self.new holder.new }
         ensures why { IfErr result IsOfHolder }
+        ensures refused { IsErrOf result ExchangeFault.Refused → HasRefused H.refuses_look
+            H.refuses_take (tasks.Begin version) holder.old holder.new }
     {
         self.round = Round::new(alloc, version);
         self.show(alloc, holder)
@@ -231,6 +241,8 @@ impl Side {
         ensures did { Performs H.holds H.alone (tasks.Compare buckets.now) self.old holder.old
             result self.new holder.new }
         ensures why { IfErr result IsOfHolder }
+        ensures refused { IsErrOf result ExchangeFault.Refused → HasRefused H.refuses_look
+            H.refuses_take (tasks.Compare buckets.now) holder.old holder.new }
     {
         let places = self.round.on_buckets(alloc, holder, buckets)?;
         self.agreed = agreed_with(self.agreed, places.as_slice());
@@ -248,6 +260,8 @@ impl Side {
         ensures did { Performs H.holds H.alone (tasks.Offer places.now) self.old holder.old result
             self.new holder.new }
         ensures why { IfErr result IsOfHolder }
+        ensures refused { IsErrOf result ExchangeFault.Refused → HasRefused H.refuses_look
+            H.refuses_take (tasks.Offer places.now) holder.old holder.new }
     {
         let have = self.round.on_differ(alloc, holder, places)?;
         self.agreed = agreed_with(self.agreed, places);
@@ -265,6 +279,8 @@ impl Side {
         ensures did { Performs H.holds H.alone (tasks.Ask have.now) self.old holder.old result
             self.new holder.new }
         ensures why { IfErr result IsOfHolder }
+        ensures refused { IsErrOf result ExchangeFault.Refused → HasRefused H.refuses_look
+            H.refuses_take (tasks.Ask have.now) holder.old holder.new }
     {
         let want = self.round.on_have(alloc, holder, have)?;
         self.awaited = Awaited::Give;
@@ -281,6 +297,8 @@ impl Side {
         ensures did { Performs H.holds H.alone (tasks.Give want.now) self.old holder.old result
             self.new holder.new }
         ensures why { IfErr result IsOfHolder }
+        ensures refused { IsErrOf result ExchangeFault.Refused → HasRefused H.refuses_look
+            H.refuses_take (tasks.Give want.now) holder.old holder.new }
     {
         let ops = self.round.on_want(alloc, holder, want)?;
         self.given = ops.len() as u64;
@@ -294,6 +312,8 @@ impl Side {
         ensures did { Performs H.holds H.alone (tasks.Take op) self.old holder.old result self.new
             holder.new }
         ensures why { IfErr result (Why (tasks.Take op) self.old) }
+        ensures refused { IsErrOf result ExchangeFault.Refused → HasRefused H.refuses_look
+            H.refuses_take (tasks.Take op) holder.old holder.new }
     {
         let taken = self.round.on_give(holder, op)?;
         self.taken += count_of(taken);

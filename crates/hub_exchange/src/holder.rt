@@ -1,11 +1,11 @@
 //! A pass of a running site as a holder.
 
-ghost use Rattle.std.specs.Prelude.{◌≡◌, IfOk, OnErr};
+ghost use Rattle.std.specs.Prelude.{◌≡◌, OnErr, MatchResult};
 ghost use Rattle.operation.specs.Spelling.{digest_of};
 ghost use Rattle.site_hub.specs.History.{set_of};
 ghost use Rattle.site_hub.specs.Hub.{Seat, HasLooked};
 ghost use Rattle.exchange.specs.Held.{Looks, TakesIn};
-ghost use Rattle.hub_exchange.specs.Fault.{refusal_of, reply_to};
+ghost use Rattle.hub_exchange.specs.Fault.{refusal_of, reply_to, RefusesLook};
 ghost use Rattle.hub_exchange.specs.Onward.{IsOnward};
 
 use crate::asking::{All, Buckets, In, Missing, Wanted};
@@ -99,7 +99,7 @@ fn look<H: HubName, X: Drop, Q: Question<X>>(
     question: &Q,
 ) -> Result<X, HolderFault>
     ensures looks { Looks (λ (s : Seat). set_of H.opening s.seen) (λ _. ⊥) pass.old pass.new
-        (λ m. IfOk result (Q.answers question.now m)) }
+        (λ m. MatchResult result (Q.answers question.now m) (RefusesLook pass.old pass.new)) }
     ensures looked { HasLooked pass.old pass.new }
 {
     let answer = pass.look(question);
@@ -168,9 +168,17 @@ impl<
     P: Put<K> + Copy,
     E: AtEntry,
 > Holder for HubHolder<'a, 'b, H, T, R, S, K, P, E> {
+    ghost use Rattle.std.specs.Prelude.{◌≡◌};
+    ghost use Rattle.hub_exchange.specs.Fault.{RefusesLook};
+
     ghost holds = { λ s. set_of H.opening s.seen };
 
     ghost alone = { λ _. ⊥ };
+
+    ghost refuses_look = { RefusesLook };
+
+    // The hub, or the shelf, which may fail: then the pass has seen nothing more.
+    ghost refuses_take = { λ before after _ _. after.seen ≡ before.seen };
 
     fn digests(&mut self, _alloc: Global, version: Version) -> Result<Digests, HolderFault> {
         look(&mut self.pass, &All { version })

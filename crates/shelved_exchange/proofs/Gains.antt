@@ -1,5 +1,5 @@
 -- What a site gains of what was put on a shelf.
-use Rattle.std.proofs.Common.{◌≡◌, ◌⊎◌, inl, inr, Bool, true, false, cond, Some, Result, Ok, Err}
+use Rattle.std.proofs.Common.{◌≡◌, ◌⊎◌, inl, inr, Bool, true, false, cond, Some, Result, Ok, Err, IfErr}
 use Rattle.std.proofs.Common.{refl, sym, ap, subst, ◌∙◌}
 use Rattle.std.specs.FinMap.{get-insert}
 use Rattle.std.specs.Cmp.Lexicographic.{nat_list_cmp_total}
@@ -51,6 +51,12 @@ gains_taken these before after op (Ok New) takes is =
     subst (λ (m : Map). GainsOnly these before m) (sym takes.1) (gains_one these before op is)
 gains_taken these before after op (Ok Known) takes is = gains_same these before after takes.1
 gains_taken these before after op (Err fault) takes is = gains_same these before after takes
+
+-- what is refused changes nothing
+pub refused_same : (before after : Map) (op : Op) (answer : Result Taken HolderFault) → TakesAlone before op answer after
+    → IfErr answer (λ _. after ≡ before)
+refused_same before after op (Ok taken) takes = tt
+refused_same before after op (Err fault) takes = takes
 
 module _ {K : Type 0} (is_up : K → Type 0) (lasts : K → Op → Type 0) (lasted : Op → Type 0) (first : Map) where
   -- nothing has happened yet

@@ -79,9 +79,17 @@ impl<K: Keep + Drop, E: AtOpening> ShelvedHolder<K, E> {
 
 /// Nobody else changes the site.
 impl<K: Keep + Drop, E: AtOpening> Holder for ShelvedHolder<K, E> {
+    ghost use Rattle.std.specs.Prelude.{◌≡◌};
+    ghost use Rattle.exchange.specs.declared.fault.HolderFault.TheVariants.{Memory};
+
     ghost holds = { λ s. s };
 
     ghost alone = { λ _. ⊤ };
+
+    ghost refuses_look = { λ _ _ fault. fault ≡ Memory };
+
+    // The site, or the shelf, which may fail.
+    ghost refuses_take = { λ before after _ _. after ≡ before };
 
     fn digests(&mut self, alloc: Global, version: Version) -> Result<Digests, HolderFault> {
         Holder::digests(&mut self.site, alloc, version)

@@ -12,3 +12,7 @@ returns-then-is_over-clause-ok g c = ended g.H.Holder.holds g.H.Holder.alone c.a
 pub returns-clause-err : goal.returns-clause-err
 returns-clause-err g c = endless g.H.Holder.holds g.H.Holder.alone c.args.role _ _ c.loop.side c.loop.reads
     c.loop.counter (omega (arith, c.loop-test.false)) c.loop.invariant
+
+-- A turn broke it off.
+pub returns-in-Err-take_turn-clause-err : goal.returns-in-Err-take_turn-clause-err
+returns-in-Err-take_turn-clause-err g c = c.in-Err-take_turn.ensures.turn c.args.role _ _ c.loop.invariant

@@ -2,10 +2,10 @@ use Rattle.std.proofs.lemmas.Result.{err_from_is_err_and}
 use Rattle.exchange.proofs.Holdings.{of_site}
 use Rattle.exchange.proofs.site_holder.SiteHolder.digests_in.Goals as goal
 
--- A refusal says nothing of the set.
+-- A refusal is one of memory.
 pub returns-in_err-digests_of_site_in : goal.returns-in_err-digests_of_site_in
 returns-in_err-digests_of_site_in c = let p = err_from_is_err_and c.from_residual.result c.from_residual.ensures.1 in
-    of_site _ c.see_lawful.ensures.own (rw p.1 tt)
+    of_site _ c.see_lawful.ensures.own (rw p.1 p.2)
 
 -- What the site answers is what is asked of a holder.
 pub returns : goal.returns

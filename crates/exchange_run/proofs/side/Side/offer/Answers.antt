@@ -2,7 +2,7 @@ use Rattle.std.proofs.Common.{Bool, List, [], ◌∷◌, ℕ, ap}
 use Rattle.std.proofs.lemmas.Result.{err_from_is_err_and}
 use Rattle.exchange_frames.specs.declared.frame.Frame.TheVariants.{Have}
 use Rattle.exchange_run.specs.declared.task.Awaited.TheVariants as awaits
-use Rattle.exchange_run.proofs.Holders.{idles_of}
+use Rattle.exchange_run.proofs.Holders.{idles_of, refused_is}
 use Rattle.exchange_run.proofs.side.Side.offer.Goals as goal
 
 -- A refusal leaves what the holder has.
@@ -21,3 +21,8 @@ returns-clause-did g c = let looks = c.in_ok-have.ensures in (
     stays = looks.stays;
   },
 )
+
+-- What the holder refused is told as that.
+pub returns-in_err-have-clause-refused : goal.returns-in_err-have-clause-refused
+returns-in_err-have-clause-refused g c = let p = err_from_is_err_and c.from_residual.result c.from_residual.ensures.1 in
+    rw (p.1, p.2) (refused_is _ (g.H.Holder.refuses_look _ _) _ c.in_err-have.ensures.answers)

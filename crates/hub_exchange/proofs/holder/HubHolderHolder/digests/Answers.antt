@@ -11,6 +11,6 @@ pub returns : goal.returns
 returns g c = let look = c.look.ensures.looks in record {
   had = look.had;
   was_had = rw (← c.self.view_is) look.was_had;
-  answers = look.answers;
+  answers = rw (← c.self.view_is) look.answers;
   stays = λ none. elim none [ ];
 }

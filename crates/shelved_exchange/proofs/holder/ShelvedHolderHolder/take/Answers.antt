@@ -1,4 +1,4 @@
-use Rattle.shelved_exchange.proofs.Gains.{asked, spared, gains_taken}
+use Rattle.shelved_exchange.proofs.Gains.{asked, spared, gains_taken, refused_same}
 use Rattle.shelved_exchange.proofs.holder.ShelvedHolderHolder.take.Goals as goal
 
 -- What the site takes lasts on the shelf, which the shelf answered before.
@@ -17,3 +17,7 @@ invariant_of-self-in-Err g c =
 pub invariant_of-self-in-Err-2 : goal.invariant_of-self-in-Err-2
 invariant_of-self-in-Err-2 g c =
     spared g.K.Keep.is_up g.K.Keep.lasts _ _ _ _ _ c.self.invariant c.put_digested.ensures.up c.put_digested.ensures.kept
+
+-- What the site refuses changes nothing.
+pub returns-in-Ok-clause-why : goal.returns-in-Ok-clause-why
+returns-in-Ok-clause-why g c = rw (← c.self.view_is) (refused_same _ _ _ _ (c.take.ensures.takes.stays tt).1)
