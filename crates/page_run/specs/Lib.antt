@@ -1,0 +1,3 @@
+pub mod Responses
+pub mod Serving
+pub mod Telling
