@@ -1,4 +1,4 @@
 //! Tests of shelves over disks that stop.
 
-mod made;
+pub(crate) mod made;
 mod stops;

@@ -2,34 +2,14 @@
 //!
 //! All is generic in the disk, and what can be is in the store: only tests name one.
 
+use crate::disks::Stops;
 use crate::shelf::made::{OLDER, counters, keep, op, put_older, run};
 use assertions::holds_at;
 use op_shelf::{Shelf, make_ready};
 use sqlite::{Alter, Connection, FileStore, Files, Options};
-use sqlite_disk::{Crash, Disk, Fuse, Memory};
+use sqlite_disk::{Disk, Fuse, Memory};
 use std::alloc::Global;
 use std::test::Fail;
-
-/// A disk that is frozen after so many calls.
-trait Stops: Crash + Drop {
-    /// One that holds these bytes, which are synced.
-    fn holding(alloc: Global, bytes: &[u8], calls: u64) -> Result<Self, Fail>;
-
-    fn bytes(&self) -> &[u8];
-}
-
-impl Stops for Fuse<Memory> {
-    fn holding(alloc: Global, bytes: &[u8], calls: u64) -> Result<Fuse<Memory>, Fail> {
-        let mut disk = Memory::new(alloc);
-        disk.write_at(0, bytes)?;
-        disk.sync()?;
-        Ok(Fuse::new(disk, calls))
-    }
-
-    fn bytes(&self) -> &[u8] {
-        self.inner().bytes()
-    }
-}
 
 /// What the two files of a database hold.
 #[derive(Drop)]
