@@ -1,7 +1,9 @@
 pub mod Answers
 pub mod Calling
+pub mod Cause
 pub mod Done
 pub mod Entering
 pub mod Fault
 pub mod Journal
+pub mod Refusing
 pub mod Serving

@@ -1,5 +1,5 @@
 //! The lines of a server on standard error: one for each association and each exchange where they
-//! are asked for, and always one for what the archive itself lacked or refused.
+//! are asked for, and always one for an accept that failed, or where the archive wanted memory.
 //!
 //! What a peer sent is shown as printable ASCII, so that no peer makes a line of its own. A line
 //! that standard error refuses is dropped.
@@ -14,7 +14,6 @@ use crate::manner::Manner;
 use crate::tally::Tally;
 use crate::wire::Wire;
 use association_run::{End, RunFault};
-use association_session::PortFault;
 use dictionary::{
     STATUS_CANNOT_UNDERSTAND, STATUS_DATA_SET_DOES_NOT_MATCH, STATUS_OUT_OF_RESOURCES,
     STATUS_SOP_CLASS_NOT_SUPPORTED, STATUS_UNRECOGNIZED_OPERATION,
@@ -56,10 +55,10 @@ impl Display for Shown<'_> {
 
 /// The second of a line in UTC, or nothing where no clock says it.
 #[derive(Clone, Copy)]
-struct Moment(Option<Timestamp>);
+pub(crate) struct Moment(Option<Timestamp>);
 
 impl Moment {
-    fn now<S: Clock>(rt: &S) -> Moment {
+    pub fn now<S: Clock>(rt: &S) -> Moment {
         match Timestamp::now(rt) {
             Ok(now) => Moment(Timestamp::from_second(now.as_second()).ok()),
             Err(_error) => Moment(None),
@@ -358,38 +357,4 @@ pub(crate) fn tell_refused_store<S: Clock + Log>(rt: &S, peer: Whence, refused: 
         rt; target: "association",
         "{moment} from {peer} store of \"{instance}\" answered {status:04X}: {words}"
     );
-}
-
-/// What a request is answered that the archive itself refuses, as a line has it (PS3.4, sections
-/// B.2.3, C.4.1.1.4 and C.4.3.1.4).
-fn status_of(fault: PortFault) -> &'static str {
-    match fault {
-        PortFault::Collision => "C000",
-        PortFault::Memory | PortFault::Busy | PortFault::Shelf => "A700",
-    }
-}
-
-/// Why, in words.
-fn words_of(fault: PortFault) -> &'static str {
-    match fault {
-        PortFault::Memory => "memory was refused",
-        PortFault::Busy => "another worker has the site",
-        PortFault::Collision => "another operation has its digest",
-        PortFault::Shelf => "it could not be kept: the disk is full, or failed",
-    }
-}
-
-/// Tells always what the archive refused to a request, and hands its reply on.
-pub(crate) fn told<S: Clock + Log, T>(
-    rt: &S,
-    request: &str,
-    reply: Result<T, PortFault>,
-) -> Result<T, PortFault>
-    ensures { result ≡ reply }
-{
-    if let Err(fault) = &reply {
-        let (moment, status, words) = (Moment::now(rt), status_of(*fault), words_of(*fault));
-        error!(rt; target: "archive", "{moment} {request} refused {status}: {words}");
-    }
-    reply
 }

@@ -8,9 +8,8 @@ ghost use Rattle.site_hub.specs.History.{set_of};
 ghost use Rattle.site_hub.specs.Hub.{Seat, IsLater};
 ghost use Rattle.association_run.specs.Port.{Stores, Finds, Gets};
 ghost use Rattle.archive_server.specs.Serving.{IsOnward};
-ghost use Rattle.archive_server.specs.Fault.{port_fault_of};
 
-use crate::journal::told;
+use crate::refusing::{told, told_store};
 use crate::tally::Tally;
 use archive_model::View;
 use association_run::Port;
@@ -18,7 +17,7 @@ use association_session::PortFault;
 use association_worker::{AtEntry, HubPort};
 use log::Log;
 use octets::ListOf;
-use op_shelf::{Keep, ShelfFault};
+use op_shelf::Keep;
 use operation::{Content, Digested, Op, Taken};
 use query_model::{Answers, Query};
 use retrieve_model::{Prepared, Selection};
@@ -67,16 +66,6 @@ impl<
     ghost view = { λ p. p.hub };
 
     ghost invariant = { λ p. IsOnward K.is_up K.holds K.lasts E.seat p.hub };
-}
-
-/// What a fault of the shelf is to an association.
-fn fault_of_shelf(fault: ShelfFault) -> PortFault
-    ensures { result ≡ port_fault_of fault }
-{
-    match fault {
-        ShelfFault::Memory => PortFault::Memory,
-        ShelfFault::Store(_) | ShelfFault::BadRow => PortFault::Shelf,
-    }
 }
 
 /// Lets the hub take what the shelf keeps.
@@ -175,8 +164,8 @@ impl<
                 self.tally.stored(told(self.rt, "store", taken))
             }
             Err(fault) => {
-                let refused = Err(fault_of_shelf(fault));
-                self.tally.stored(told(self.rt, "store", refused))
+                let refused = Err(told_store(self.rt, fault));
+                self.tally.stored(refused)
             }
         }
     }

@@ -9,14 +9,12 @@ use Rattle.command_words.specs.declared.parts.Part.{Part}
 use Rattle.command_words.specs.declared.parts.Part.TheVariants as part
 use Rattle.site_simulation.specs.declared.run.SimFault.TheVariants as sim
 use Rattle.op_shelf.specs.Fault.{fault_of}
-use Rattle.op_shelf.specs.declared.fault.ShelfFault.TheVariants as shelf
-use Rattle.op_shelf.specs.declared.fault.StoreCause.{StoreCause}
-use Rattle.op_shelf.specs.declared.fault.StoreCause.TheVariants as why
 use Rattle.site_state.specs.declared.fault.SiteFault.TheVariants as site
 use Rattle.site_hub.specs.declared.fault.HubFault.TheVariants as hub
 use Rattle.association_run.specs.declared.fault.RunFault.TheVariants as run
 use Rattle.exchange.specs.declared.fault.ExchangeFault.TheVariants as exchange
 use Rattle.archive_server.specs.declared.fault.NetFault.TheVariants as net
+use Rattle.archive_server.specs.Cause.{words_of_shelf}
 use Rattle.command_output.specs.declared.ending.CommandFault.{CommandFault}
 use Rattle.command_output.specs.declared.ending.CommandFault.TheVariants as fault
 use Rattle.command_output.specs.declared.cause.FileCause.{FileCause}
@@ -60,14 +58,6 @@ words_of_part part.Key = codes "KEY is no UID, or no Patient ID, that a target c
 words_of_part part.Tag = codes "TAG is no attribute of this target that can be corrected"
 words_of_part part.Value = codes "VALUE is longer than 64, or has a byte or an outer space that it may not have"
 
--- what the database of a shelf refuses for
-abbrev pub words_of_store : StoreCause → List ℕ
-words_of_store why.Full = codes "the disk is full"
-words_of_store why.Failed = codes "the disk failed"
-words_of_store why.Closed = codes "the disk failed before, and it was closed"
-words_of_store why.Damaged = codes "it is damaged"
-words_of_store why.Other = codes "its database refused"
-
 -- what a fault alone says
 abbrev pub words_of_fault : CommandFault → List ℕ
 words_of_fault (fault.Simulate sim.Read) = codes "standard input could not be read"
@@ -75,9 +65,7 @@ words_of_fault (fault.Simulate sim.Write) = codes "standard output could not be 
 words_of_fault (fault.Simulate sim.LongLine) = codes "a line is longer than 65,536 bytes"
 words_of_fault (fault.Simulate sim.Memory) = codes "memory was refused"
 words_of_fault (fault.Simulate sim.Turns) = codes "the script does not end"
-words_of_fault (fault.Shelf (shelf.Store cause)) = words_of_store cause
-words_of_fault (fault.Shelf shelf.BadRow) = codes "an operation in it is not what its digest says"
-words_of_fault (fault.Shelf shelf.Memory) = codes "memory was refused"
+words_of_fault (fault.Shelf why) = words_of_shelf why
 words_of_fault (fault.Site site.Collision) = codes "two different operations have one digest"
 words_of_fault (fault.Site site.Memory) = codes "memory was refused"
 words_of_fault (fault.Hub hub.Busy) = codes "its workers do not agree on what it has"

@@ -1,14 +1,13 @@
 //! Why a command is refused, in words: the second line on standard error.
 
 ghost use Rattle.std.specs.Prelude.{◌≡◌};
-ghost use Rattle.command_output.specs.Causes.{SaysFullOfAFullDisk, words_of_file, words_of_net, words_of_part, words_of_store, words_of_fault, words_of as words_in, file_cause_of as file_cause_in, file_cause_in_error, listen_cause_of as listen_cause_in, reach_cause_of as reach_cause_in};
+ghost use Rattle.command_output.specs.Causes.{SaysFullOfAFullDisk, words_of_file, words_of_net, words_of_part, words_of_fault, words_of as words_in, file_cause_of as file_cause_in, file_cause_in_error, listen_cause_of as listen_cause_in, reach_cause_of as reach_cause_in};
 
 use crate::ending::CommandFault;
-use archive_server::NetFault;
+use archive_server::{NetFault, words_of_shelf};
 use association_run::RunFault;
 use command_words::Part;
 use exchange::ExchangeFault;
-use op_shelf::{ShelfFault, StoreCause};
 use site_hub::HubFault;
 use site_simulation::SimFault;
 use site_state::SiteFault;
@@ -177,28 +176,6 @@ fn words_of_script(fault: SimFault) -> &'static str
         SimFault::LongLine => "a line is longer than 65,536 bytes",
         SimFault::Memory => "memory was refused",
         SimFault::Turns => "the script does not end",
-    }
-}
-
-fn words_of_store(cause: StoreCause) -> &'static str
-    ensures { result.now ≡ words_of_store cause }
-{
-    match cause {
-        StoreCause::Full => "the disk is full",
-        StoreCause::Failed => "the disk failed",
-        StoreCause::Closed => "the disk failed before, and it was closed",
-        StoreCause::Damaged => "it is damaged",
-        StoreCause::Other => "its database refused",
-    }
-}
-
-fn words_of_shelf(fault: ShelfFault) -> &'static str
-    ensures { result.now ≡ words_of_fault (CommandFault.Shelf fault) }
-{
-    match fault {
-        ShelfFault::Store(cause) => words_of_store(cause),
-        ShelfFault::BadRow => "an operation in it is not what its digest says",
-        ShelfFault::Memory => "memory was refused",
     }
 }
 

@@ -1,0 +1,26 @@
+-- What the lines of a server say of what it refuses.
+use Rattle.std.specs.Prelude.{ℕ, List, codes}
+use Rattle.association_services.specs.declared.reply.PortFault.{PortFault}
+use Rattle.association_services.specs.declared.reply.PortFault.TheVariants as site
+use Rattle.archive_server.specs.declared.refusing.Why.{Why}
+use Rattle.archive_server.specs.declared.refusing.Why.TheVariants.{Site, Shelf}
+use Rattle.archive_server.specs.Cause.{words_of_shelf}
+
+-- the status of what an association is answered, in hexadecimal digits (PS3.4, sections B.2.3, C.4.1.1.4 and C.4.3.1.4)
+abbrev pub status_of : PortFault → List ℕ
+status_of site.Collision = codes "C000"
+status_of site.Memory = codes "A700"
+status_of site.Busy = codes "A700"
+status_of site.Shelf = codes "A700"
+
+-- what a site refuses for
+abbrev pub words_of_site : PortFault → List ℕ
+words_of_site site.Memory = codes "memory was refused"
+words_of_site site.Busy = codes "another worker has the site"
+words_of_site site.Collision = codes "another operation has its digest"
+words_of_site site.Shelf = codes "it could not be kept"
+
+-- what the archive refuses for: of a shelf, what the shelf had
+abbrev pub words_of : Why → List ℕ
+words_of (Site fault) = words_of_site fault
+words_of (Shelf fault) = words_of_shelf fault

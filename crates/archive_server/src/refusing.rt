@@ -1,0 +1,133 @@
+//! The lines of what the archive itself refuses, always on standard error: a request, or an
+//! operation of a peer.
+
+ghost use Rattle.std.specs.Prelude.{◌≡◌};
+ghost use Rattle.archive_server.specs.Fault.{port_fault_of};
+ghost use Rattle.archive_server.specs.Refusing.{status_of, words_of_site, words_of};
+
+use crate::cause::words_of_shelf;
+use crate::journal::Moment;
+use crate::keeping::Asking;
+use association_session::PortFault;
+use log::{Log, error};
+use op_shelf::{Keep, ShelfFault};
+use operation::Digested;
+use shelved_exchange::{Put, Shelved};
+use std::alloc::AllocError;
+use std::sync::Wait;
+use std::time::Clock;
+
+/// Why the archive refuses: what its site answered, or what its shelf had.
+#[derive(Clone, Copy)]
+enum Why {
+    Site(PortFault),
+    Shelf(ShelfFault),
+}
+
+/// What a fault of the shelf is to an association.
+fn fault_of_shelf(fault: ShelfFault) -> PortFault
+    ensures { result ≡ port_fault_of fault }
+{
+    match fault {
+        ShelfFault::Memory => PortFault::Memory,
+        ShelfFault::Store(_) | ShelfFault::BadRow => PortFault::Shelf,
+    }
+}
+
+/// What a request is answered that the archive itself refuses, as a line has it (PS3.4, sections
+/// B.2.3, C.4.1.1.4 and C.4.3.1.4).
+fn status_of(fault: PortFault) -> &'static str
+    ensures { result.now ≡ status_of fault }
+{
+    match fault {
+        PortFault::Collision => "C000",
+        PortFault::Memory | PortFault::Busy | PortFault::Shelf => "A700",
+    }
+}
+
+fn words_of_site(fault: PortFault) -> &'static str
+    ensures { result.now ≡ words_of_site fault }
+{
+    match fault {
+        PortFault::Memory => "memory was refused",
+        PortFault::Busy => "another worker has the site",
+        PortFault::Collision => "another operation has its digest",
+        PortFault::Shelf => "it could not be kept",
+    }
+}
+
+/// Why, in words.
+fn words_of(why: Why) -> &'static str
+    ensures { result.now ≡ words_of why }
+{
+    match why {
+        Why::Site(fault) => words_of_site(fault),
+        Why::Shelf(fault) => words_of_shelf(fault),
+    }
+}
+
+/// Tells that a request was refused, which is answered with this.
+fn tell_request<S: Clock + Log>(rt: &S, request: &str, fault: PortFault, why: Why) {
+    let (moment, status, words) = (Moment::now(rt), status_of(fault), words_of(why));
+    error!(rt; target: "archive", "{moment} {request} refused {status}: {words}");
+}
+
+/// Tells what the site refused to a request, and hands its reply on.
+pub(crate) fn told<S: Clock + Log, T>(
+    rt: &S,
+    request: &str,
+    reply: Result<T, PortFault>,
+) -> Result<T, PortFault>
+    ensures { result ≡ reply }
+{
+    if let Err(fault) = &reply {
+        tell_request(rt, request, *fault, Why::Site(*fault));
+    }
+    reply
+}
+
+/// Tells that the shelf refused a store, and hands on what that is to an association.
+pub(crate) fn told_store<S: Clock + Log>(rt: &S, fault: ShelfFault) -> PortFault
+    ensures { result ≡ port_fault_of fault }
+{
+    let refused = fault_of_shelf(fault);
+    tell_request(rt, "store", refused, Why::Shelf(fault));
+    refused
+}
+
+/// Tells that the shelf refused an operation of a peer, and hands its answer on.
+fn told_put<S: Clock + Log, T>(rt: &S, kept: Result<T, ShelfFault>) -> Result<T, ShelfFault>
+    ensures { result ≡ kept }
+{
+    if let Err(fault) = &kept {
+        let (moment, words) = (Moment::now(rt), words_of(Why::Shelf(*fault)));
+        error!(rt; target: "archive", "{moment} operation of a peer refused: {words}");
+    }
+    kept
+}
+
+/// The way of an exchange to the shelf, which tells what the shelf refuses.
+pub(crate) struct Telling<'a, K: Keep, S: Wait + Clock + Log> {
+    rt: &'a S,
+    way: Asking<'a, K, S>,
+}
+
+impl<'a, K: Keep, S: Wait + Clock + Log> Telling<'a, K, S> {
+    pub fn new(rt: &'a S, way: Asking<'a, K, S>) -> Telling<'a, K, S> {
+        Telling { rt, way }
+    }
+}
+
+impl<'a, K: Keep, S: Wait + Clock + Log> Clone for Telling<'a, K, S> {
+    fn clone(&self) -> Result<Telling<'a, K, S>, AllocError> {
+        Ok(*self)
+    }
+}
+
+impl<'a, K: Keep, S: Wait + Clock + Log> Copy for Telling<'a, K, S> {}
+
+impl<'a, K: Keep, S: Wait + Clock + Log> Put<K> for Telling<'a, K, S> {
+    fn put(&mut self, op: &Digested) -> Result<Shelved<K>, ShelfFault> {
+        told_put(self.rt, self.way.put(op))
+    }
+}
