@@ -1,5 +1,5 @@
 //! The figures, each a line on standard output.
-use crate::made::{IMAGE_LENGTH, images, queries};
+use crate::made::{IMAGE_LENGTH, images, queries, unanswered};
 use crate::running::{Looks, MOST_READERS, Work, worked};
 use anyhow::{Result, anyhow};
 use operation::Digested;
@@ -12,7 +12,7 @@ use std::thread::Threads;
 use std::time::{Duration, Instant};
 
 /// The site of these images.
-fn site_of(alloc: Global, images: Vec<Digested>) -> Result<Site> {
+pub fn site_of(alloc: Global, images: Vec<Digested>) -> Result<Site> {
     let mut site = Site::new(alloc);
     for image in images {
         site.take_digested(image)?;
@@ -68,6 +68,40 @@ pub fn published<R: Threads + Wait + Sync>(
     let publishes = a_second(count, time);
     let answered = a_second(answered(looks), time);
     println!(rt; "{publishes} published a second, {answered} looks a second by {readers}")?;
+    Ok(())
+}
+
+/// Publishes to a hub of so many studies, while one pass asks again and again for a name that none
+/// has.
+pub fn awaited<R: Threads + Wait + Sync>(
+    rt: &HostRuntime,
+    host: &R,
+    words: &[String],
+) -> Result<()> {
+    let alloc = rt.alloc();
+    let held = number(words, 2)?;
+    let count = number(words, 3)?;
+    let mut made = images(alloc, held.saturating_add(count))?;
+    let mut more = Vec::new(alloc);
+    for _ in 0..count {
+        if let Some(image) = made.pop() {
+            more.push(image)?;
+        }
+    }
+    let site = site_of(alloc, made)?;
+    let work = Work {
+        images: more,
+        queries: unanswered(alloc)?,
+        readers: 1,
+        most: u64::MAX,
+    };
+    let opened = open(alloc, host, site, 1, 5)?;
+    let begin = Instant::now(rt)?;
+    let looks = worked(host, opened, work)?;
+    let time = begin.elapsed(rt)?;
+    let publishes = a_second(count, time);
+    let answered = answered(looks);
+    println!(rt; "{publishes} published a second, {answered} queries meanwhile")?;
     Ok(())
 }
 

@@ -33,16 +33,40 @@ fn study(alloc: Global, k: u64) -> Result<String, AllocError> {
     format!(in alloc; "1.2.826.0.1.3680043.2.1143.{k}")
 }
 
+/// The day of study k, one of a thousand.
+fn day(alloc: Global, k: u64) -> Result<String, AllocError> {
+    let place = k % 1_000;
+    let year = place / 100 + 2_010;
+    let month = place % 100 / 9 + 1;
+    let day = place % 9 + 1;
+    format!(in alloc; "{year}{month:02}{day:02}")
+}
+
+/// The name of the patient of study k. One of a thousand is a Smith.
+fn name(alloc: Global, k: u64) -> Result<String, AllocError> {
+    if k % 1_000 == 7 {
+        return format!(in alloc; "SMITH^JANE{k}");
+    }
+    format!(in alloc; "DOE^JANE{k}")
+}
+
+/// The patient's ID of study k, which is its accession number too.
+fn patient(alloc: Global, k: u64) -> Result<String, AllocError> {
+    format!(in alloc; "PATIENT{k}")
+}
+
 /// The data set of the only image of study k.
 fn image_set(alloc: Global, k: u64) -> Result<Vec<u8>, AllocError> {
     let study = study(alloc, k)?;
     let series = format!(in alloc; "{study}.1")?;
     let uid = format!(in alloc; "{study}.1.1")?;
-    let patient = format!(in alloc; "PATIENT{k}")?;
+    let patient = patient(alloc, k)?;
+    let day = day(alloc, k)?;
+    let name = name(alloc, k)?;
     let mut bytes = Vec::with_capacity(alloc, IMAGE_LENGTH)?;
     put(&mut bytes, [0x08, 0x00, 0x16, 0x00], CT, 0)?;
     put(&mut bytes, [0x08, 0x00, 0x18, 0x00], uid.as_bytes(), 0)?;
-    put(&mut bytes, [0x08, 0x00, 0x20, 0x00], b"20250131", b' ')?;
+    put(&mut bytes, [0x08, 0x00, 0x20, 0x00], day.as_bytes(), b' ')?;
     put(&mut bytes, [0x08, 0x00, 0x30, 0x00], b"101500", b' ')?;
     put(
         &mut bytes,
@@ -54,7 +78,7 @@ fn image_set(alloc: Global, k: u64) -> Result<Vec<u8>, AllocError> {
     put(&mut bytes, [0x08, 0x00, 0x90, 0x00], b"ROE^RICHARD", b' ')?;
     put(&mut bytes, [0x08, 0x00, 0x30, 0x10], b"THORAX", b' ')?;
     put(&mut bytes, [0x08, 0x00, 0x3e, 0x10], b"AXIAL", b' ')?;
-    put(&mut bytes, [0x10, 0x00, 0x10, 0x00], b"DOE^JANE", b' ')?;
+    put(&mut bytes, [0x10, 0x00, 0x10, 0x00], name.as_bytes(), b' ')?;
     put(
         &mut bytes,
         [0x10, 0x00, 0x20, 0x00],
@@ -139,24 +163,113 @@ pub fn images(alloc: Global, count: u64) -> Result<Vec<Digested>> {
     Ok(images)
 }
 
-/// The identifier of a query by the UID of study k, with four keys more.
-fn identifier(alloc: Global, k: u64) -> Result<Vec<u8>, AllocError> {
-    let study = study(alloc, k)?;
+/// What a query at STUDY asks for, with an empty value where a key is to be answered alone.
+#[derive(Clone, Copy)]
+pub struct Keys<'a> {
+    pub date: &'a [u8],
+    pub accession: &'a [u8],
+    pub name: &'a [u8],
+    pub patient: &'a [u8],
+    pub study: &'a [u8],
+}
+
+/// No value at all.
+pub const ANY: Keys<'static> = Keys {
+    date: b"",
+    accession: b"",
+    name: b"",
+    patient: b"",
+    study: b"",
+};
+
+/// The identifier of a query.
+fn identifier(alloc: Global, keys: &Keys) -> Result<Vec<u8>, AllocError> {
     let mut bytes = Vec::new(alloc);
-    put(&mut bytes, [0x08, 0x00, 0x20, 0x00], b"", b' ')?;
+    put(&mut bytes, [0x08, 0x00, 0x20, 0x00], keys.date, b' ')?;
+    put(&mut bytes, [0x08, 0x00, 0x50, 0x00], keys.accession, b' ')?;
     put(&mut bytes, [0x08, 0x00, 0x52, 0x00], b"STUDY", b' ')?;
-    put(&mut bytes, [0x08, 0x00, 0x30, 0x10], b"", b' ')?;
-    put(&mut bytes, [0x10, 0x00, 0x10, 0x00], b"", b' ')?;
-    put(&mut bytes, [0x10, 0x00, 0x20, 0x00], b"", b' ')?;
-    put(&mut bytes, [0x20, 0x00, 0x0d, 0x00], study.as_bytes(), 0)?;
+    put(&mut bytes, [0x10, 0x00, 0x10, 0x00], keys.name, b' ')?;
+    put(&mut bytes, [0x10, 0x00, 0x20, 0x00], keys.patient, b' ')?;
+    put(&mut bytes, [0x20, 0x00, 0x0d, 0x00], keys.study, 0)?;
     Ok(bytes)
 }
 
-/// That query.
-fn query(alloc: Global, k: u64) -> Result<Query> {
-    let bytes = identifier(alloc, k)?;
+/// A query at STUDY.
+pub fn query_by(alloc: Global, keys: &Keys) -> Result<Query> {
+    let bytes = identifier(alloc, keys)?;
     let set = read(alloc, Syntax::Implicit, &bytes)?;
     Ok(Query::read(alloc, &set)?)
+}
+
+/// The query by the UID of study k.
+pub fn query_by_study(alloc: Global, k: u64) -> Result<Query> {
+    let study = study(alloc, k)?;
+    query_by(
+        alloc,
+        &Keys {
+            study: study.as_bytes(),
+            ..ANY
+        },
+    )
+}
+
+/// The query by the ID of the patient of study k.
+pub fn query_by_patient(alloc: Global, k: u64) -> Result<Query> {
+    let patient = patient(alloc, k)?;
+    query_by(
+        alloc,
+        &Keys {
+            patient: patient.as_bytes(),
+            ..ANY
+        },
+    )
+}
+
+/// The query by the accession number of study k.
+pub fn query_by_accession(alloc: Global, k: u64) -> Result<Query> {
+    let accession = patient(alloc, k)?;
+    query_by(
+        alloc,
+        &Keys {
+            accession: accession.as_bytes(),
+            ..ANY
+        },
+    )
+}
+
+/// The query by the day of study k.
+pub fn query_by_day(alloc: Global, k: u64) -> Result<Query> {
+    let day = day(alloc, k)?;
+    query_by(
+        alloc,
+        &Keys {
+            date: day.as_bytes(),
+            ..ANY
+        },
+    )
+}
+
+/// The query by a name.
+pub fn query_by_name(alloc: Global, name: &[u8]) -> Result<Query> {
+    query_by(alloc, &Keys { name, ..ANY })
+}
+
+/// The query by a list of the UIDs of so many studies.
+pub fn query_by_list(alloc: Global, count: u64) -> Result<Query> {
+    let mut list = Vec::new(alloc);
+    for k in 0..count {
+        if k > 0 {
+            list.push(b'\\')?;
+        }
+        list.extend_from_slice(study(alloc, k)?.as_bytes())?;
+    }
+    query_by(
+        alloc,
+        &Keys {
+            study: list.as_slice(),
+            ..ANY
+        },
+    )
 }
 
 /// How many queries are asked in turn.
@@ -166,7 +279,16 @@ pub const QUERIES: u64 = 256;
 pub fn queries(alloc: Global, studies: u64) -> Result<Vec<Query>> {
     let mut queries = Vec::new(alloc);
     for k in 0..QUERIES {
-        queries.push(query(alloc, k.saturating_mul(7_919) % studies.max(1))?)?;
+        queries.push(query_by_study(alloc, k.saturating_mul(7_919) % studies.max(1))?)?;
+    }
+    Ok(queries)
+}
+
+/// Queries by a name that no patient has.
+pub fn unanswered(alloc: Global) -> Result<Vec<Query>> {
+    let mut queries = Vec::new(alloc);
+    for _ in 0..QUERIES {
+        queries.push(query_by_name(alloc, b"*NOSUCH*")?)?;
     }
     Ok(queries)
 }
