@@ -16,7 +16,7 @@ use std::marker::Model;
 use std::sync::Wait;
 
 /// A hub that no type names yet: a site in two copies, over a history that has no entry.
-pub struct Opened<R: Wait + Drop> {
+pub struct Opened<R: Drop> {
     blank: Blank,
     first: Site,
     second: Site,
@@ -26,7 +26,7 @@ pub struct Opened<R: Wait + Drop> {
     rt: R,
 }
 
-impl<R: Wait + Drop> Model for Opened<R> {
+impl<R: Drop> Model for Opened<R> {
     ghost use Rattle.std.specs.Prelude.{◌≡◌, ◌≤◌};
     ghost use Rattle.site_hub.specs.Hub.{Unnamed, unnamed_code};
 
@@ -45,7 +45,7 @@ impl<R: Wait + Drop> Model for Opened<R> {
 }
 
 // It is written out, so that a caller does not prove again how each part is dropped.
-impl<R: Wait + Drop> Drop for Opened<R> {
+impl<R: Drop> Drop for Opened<R> {
     fn drop(self) {
         let Opened {
             blank: _,
@@ -59,8 +59,9 @@ impl<R: Wait + Drop> Drop for Opened<R> {
     }
 }
 
-/// Opens a hub over a site, which has this number, for so many passes.
-pub fn open<R: Wait + Drop>(
+/// Opens a hub over a site, which has this number, for so many passes. It waits for nobody: the
+/// handle is kept for the keeper.
+pub fn open<R: Drop>(
     alloc: Global,
     rt: R,
     site: Site,
