@@ -34,7 +34,8 @@ returns c =
     c.in_ok-named.ensures
     ∙ ap (λ r. named r (map content_of c.deref.result.now)) c.query-query.ensures
     ∙ ap (λ (xs : List (Bor Content)). named q (map content_of xs)) c.deref.ensures.value))
-    (series_enough view ops index c.index-index.ensures c.held.ensures.1.1.1.0 q c.requires.counted c.requires.level
+    (series_enough view ops index c.index-index.ensures.says c.held.ensures.1.1.1.0 q c.requires.counted
+    c.requires.level
     (map content_of sorted)
     (ascends_map (λ x. x.instance) content_of sorted c.in_ok-sort_by_instance.ensures.ascends)
     (λ x h. mapped_members content_of found sorted (regrouped key found sorted (sym groups)) x
