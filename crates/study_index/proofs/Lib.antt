@@ -5,3 +5,4 @@ pub mod Flagged
 pub mod Visits
 pub mod LeadLaws
 mod Folded
+pub mod MarkLaws

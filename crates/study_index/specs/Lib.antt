@@ -4,5 +4,6 @@ pub mod Index
 pub mod Laws
 pub mod Leads
 pub mod LeadView
+pub mod Marks
 pub mod Proved
 pub mod Walk

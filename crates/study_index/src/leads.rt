@@ -4,9 +4,11 @@ ghost use Rattle.std.specs.Ordering.{eq_by_cmp, nat_cmp, ordering_then};
 ghost use Rattle.std.specs.Cmp.{partial_equiv_from_equiv, eq_by_cmp_equiv, partial_order_from_total};
 ghost use Rattle.std.specs.Char.{to_ascii_uppercase};
 ghost use Rattle.octets.specs.Texts.{text_cmp};
-ghost use Rattle.study_index.specs.Leads.{lead_cmp, as_led, stored_lead, IsBehind};
+ghost use Rattle.study_index.specs.Leads.{lead_cmp, as_led, led_byte, stored_lead, may_have, IsBehind};
 ghost use Rattle.study_index.specs.Proved.Leads.{lead_total, lead_exact};
 
+use crate::marks::value_marks;
+use crate::needle::{Needle, byte_as_led};
 use archive_model::study;
 use dictionary::PATIENT_NAME;
 use join_laws::{Copies, Exact};
@@ -45,9 +47,11 @@ pub enum Source {
 
 /// What leads from a value of an attribute to a study, or to the studies of a stored Patient ID.
 ///
-/// One of a content shares the content, and keeps no text of its own.
+/// One of a content shares the content, and keeps no text of its own. The marks of its value tell
+/// of most needles that they do not stand in it.
 pub struct Lead {
     tag: u32,
+    marks: u32,
     source: Source,
     alloc: Global,
 }
@@ -60,6 +64,11 @@ impl Model for Lead {
     ghost use Rattle.study_index.specs.LeadView.{lead_view};
 
     ghost view = { λ l. lead_view l.tag l.source };
+
+    ghost use Rattle.std.specs.Prelude.{◌≡◌};
+    ghost use Rattle.study_index.specs.Marks.{value_marks};
+
+    ghost invariant = { λ l. l.marks ≡ value_marks (lead_view l.tag l.source).1.0 };
 }
 
 // It is written out, so that a caller does not prove again how each part is dropped.
@@ -67,6 +76,7 @@ impl Drop for Lead {
     fn drop(self) {
         let Lead {
             tag: _,
+            marks: _,
             source: _,
             alloc: _,
         } = self;
@@ -105,6 +115,39 @@ pub fn led(tag: u32, value: &[u8]) -> ShortText
     }
 }
 
+// At most 64 bytes of a text.
+fn front(text: &[u8]) -> &[u8]
+    ensures { result.now ≡ take 64 text.now }
+{
+    if text.len() > 64 {
+        return &text[..64];
+    }
+    text
+}
+
+// The order of two texts, each byte of them as it is led from.
+fn led_order(folds: bool, text: &[u8], other_folds: bool, other: &[u8]) -> Ordering
+    ensures { result ≡ text_cmp (map (led_byte folds) text.now)
+        (map (led_byte other_folds) other.now) }
+{
+    match text {
+        [] => match other {
+            [] => Ordering::Equal,
+            [_, ..] => Ordering::Less,
+        },
+        [byte, text @ ..] => match other {
+            [] => Ordering::Greater,
+            [other_byte, other @ ..] => {
+                match byte_as_led(folds, *byte).cmp(&byte_as_led(other_folds, *other_byte)) {
+                    Ordering::Less => Ordering::Less,
+                    Ordering::Equal => led_order(folds, text, other_folds, other),
+                    Ordering::Greater => Ordering::Greater,
+                }
+            }
+        },
+    }
+}
+
 // A text with a byte behind it.
 fn ended(text: &[u8], byte: u8) -> ShortText
     requires { length text.now < 64 }
@@ -121,8 +164,10 @@ impl Lead {
     pub fn stored(alloc: Global, tag: u32, content: &Content) -> Result<Lead, AllocError>
         ensures { IfOk result (λ lead. lead ≡ stored_lead content.now tag) }
     {
+        let marks = value_marks(&led(tag, content.own_value(tag)));
         Ok(Lead {
             tag,
+            marks,
             source: Source::Stored(content.copy(alloc)?),
             alloc,
         })
@@ -139,9 +184,11 @@ impl Lead {
     ) -> Result<Lead, AllocError>
         ensures { IfOk result (λ lead. lead ≡ (tag, (value, (kind, key)))) }
     {
+        let marks = value_marks(&value);
         let named = Arc::new(alloc, Named { value, kind, key })?;
         Ok(Lead {
             tag,
+            marks,
             source: Source::Given(named),
             alloc,
         })
@@ -167,14 +214,33 @@ impl Lead {
         self.alloc
     }
 
-    // The value, as it is led from.
-    pub(crate) fn value(&self) -> ShortText
-        ensures { result ≡ self.now.1.0 }
+    // The bytes of the value, at most 64, and whether they are folded where they are read. So no copy
+    // is made of it.
+    fn read(&self) -> (bool, &[u8])
+        ensures { map (led_byte result.0) result.1.now ≡ self.now.1.0 }
     {
         match &self.source {
-            Source::Stored(content) => led(self.tag, content.own_value(self.tag)),
-            Source::Given(named) => named.value.duplicate(),
+            Source::Stored(content) => {
+                let value = front(content.own_value(self.tag));
+                (self.tag == PATIENT_NAME, value)
+            }
+            Source::Given(named) => (false, named.value.as_slice()),
         }
+    }
+
+    // Whether a needle may stand in the value.
+    fn reads(&self, needle: &Needle) -> bool
+        ensures { result ≡ may_have needle.now self.now.1.0 }
+    {
+        let (folds, text) = self.read();
+        needle.may_stand_in(folds, text)
+    }
+
+    /// Whether a needle may stand in the value. One without its marks is not read.
+    pub fn may_have(&self, needle: &Needle) -> bool
+        ensures { result ≡ may_have needle.now self.now.1.0 }
+    {
+        needle.is_marked(self.marks) && self.reads(needle)
     }
 
     /// 1 where it leads to a study, 2 where it leads to the studies of a stored Patient ID.
@@ -215,7 +281,9 @@ impl Lead {
             (ordering_then (nat_cmp self.now.1.1.0 other.now.1.1.0)
             (text_cmp self.now.1.1.1 other.now.1.1.1)) }
     {
-        match self.value().cmp(&other.value()) {
+        let (folds, text) = self.read();
+        let (other_folds, other_text) = other.read();
+        match led_order(folds, text, other_folds, other_text) {
             Ordering::Less => Ordering::Less,
             Ordering::Equal => self.by_key(other),
             Ordering::Greater => Ordering::Greater,
@@ -273,6 +341,7 @@ impl Copies for Lead {
         };
         Ok(Lead {
             tag: self.tag,
+            marks: self.marks,
             source,
             alloc: self.alloc,
         })

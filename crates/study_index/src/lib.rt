@@ -14,6 +14,8 @@ mod keys;
 mod laws;
 mod lead_walk;
 mod leads;
+mod marks;
+mod needle;
 mod walk;
 
 pub use fixes::Fix;

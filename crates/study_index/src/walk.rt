@@ -8,8 +8,9 @@ ghost use Rattle.join_laws.specs.GrowSet.{union_of};
 ghost use Rattle.live_picks.specs.Keys.{has};
 ghost use Rattle.study_index.specs.Leads.{lead_cmp, leads_of, stored_lead, is_between, is_led, is_walked, walk_of, may_have as may_have_in, is_homed, leads_to, home_front as home_front_in, home_end as home_end_in};
 
-use crate::lead_walk::{LeadWalk, may_have};
+use crate::lead_walk::LeadWalk;
 use crate::leads::{Lead, led};
+use crate::needle::Needle;
 use dictionary::{ACCESSION_NUMBER, PATIENT_ID, PATIENT_NAME, STUDY_DATE, STUDY_ID};
 use join_laws::{Copies, GrowSet, Summary};
 use live_picks::ShortText;
@@ -135,14 +136,14 @@ fn put_target(
 fn put_near(
     leads: &BTreeSet<Lead>,
     lead: &Lead,
-    needle: &ShortText,
+    needle: &Needle,
     studies: &mut BTreeSet<ShortText>,
 ) -> Result<(), AllocError>
     ensures { OnOk result ((s : List ℕ) → has text_cmp studies.new.keys s ≡
         (has text_cmp studies.old.keys s
         || (may_have_in needle.now lead.now.1.0 && leads_to leads.now.keys s lead.now))) }
 {
-    if !may_have(needle, &lead.value()) {
+    if !lead.may_have(needle) {
         return Ok(());
     }
     put_target(leads, lead, studies)
@@ -153,7 +154,7 @@ fn put_between(
     leads: &BTreeSet<Lead>,
     front: Lead,
     end: Lead,
-    needle: &ShortText,
+    needle: &Needle,
     studies: &mut BTreeSet<ShortText>,
 ) -> Result<(), AllocError>
     ensures { OnOk result ((s : List ℕ) → has text_cmp studies.new.keys s ≡
@@ -180,7 +181,7 @@ pub fn put_led(
 {
     let front = walk.front.copy()?;
     let end = walk.end.copy()?;
-    put_between(leads, front, end, &walk.needle, studies)?;
+    put_between(leads, front, end, &Needle::of(&walk.needle), studies)?;
     Ok(())
 }
 
