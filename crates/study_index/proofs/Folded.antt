@@ -1,5 +1,5 @@
 -- A text of which the first bytes were changed.
-use mathlib.Core.Path.{◌≡◌, refl, sym, ap, ◌∙◌}
+use mathlib.Core.Path.{◌≡◌, sym, ap, ◌∙◌}
 use mathlib.Core.List.{List, map}
 use Prim.Native.Nat.{ℕ, ◌+◌, ◌≤◌, ◌<◌}
 use native.Mathlib.Omega.{arith}

@@ -1,13 +1,13 @@
 -- Marks of texts: a run has no mark that a text lacks in which it stands.
-use Rattle.std.proofs.Common.{◌≡◌, ℕ, Bool, true, false, List, [], ◌∷◌, ◌+◌, ◌/◌, refl, sym, ap, subst, ◌∙◌, map, take, arith, inl, inr, ⊎_elim, cond, mod-lt, ◌<◌, ◌^◌, ◌%◌, ◌*◌}
-use Rattle.std.specs.Prelude.{◌||◌, ◌&&◌, ◌==◌, ◌⊎◌, nat_le, length}
+use Rattle.std.proofs.Common.{◌≡◌, ℕ, Bool, true, false, List, [], ◌∷◌, ◌+◌, ◌/◌, sym, ap, subst, ◌∙◌, take, arith, inl, inr, ⊎_elim, cond, mod-lt, ◌<◌, ◌^◌, ◌%◌, ◌*◌}
+use Rattle.std.specs.Prelude.{◌||◌, ◌==◌, ◌⊎◌, nat_le, length}
 use Rattle.std.specs.Int.Bits.{bit_or, or_self, or_zero_l, or_zero_r}
 use Rattle.std.proofs.lemmas.Bool.{eqb-true, eq-eqb, true≢false, false≢true, and_parts, or_cases, cases_Bool}
 use Rattle.std.proofs.lemmas.Nat.{or_comm, or_shr, le_or_r, or_of_32}
 use lib.Bits.{or_step}
 use lib.Arith.{bin_ind}
 use Rattle.octets.specs.Texts.{same}
-use Rattle.study_index.specs.Leads.{Text, begins_with, has_run, may_have, led_byte}
+use Rattle.study_index.specs.Leads.{Text, begins_with, has_run, may_have}
 use Rattle.study_index.specs.Marks.{mark_of, marks_behind, marks_of, value_marks}
 
 or_assoc : (c a b : ℕ) → bit_or (bit_or a b) c ≡ bit_or a (bit_or b c)

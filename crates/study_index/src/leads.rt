@@ -130,21 +130,19 @@ fn led_order(folds: bool, text: &[u8], other_folds: bool, other: &[u8]) -> Order
     ensures { result ≡ text_cmp (map (led_byte folds) text.now)
         (map (led_byte other_folds) other.now) }
 {
-    match text {
-        [] => match other {
+    let [byte, text @ ..] = text else {
+        return match other {
             [] => Ordering::Equal,
             [_, ..] => Ordering::Less,
-        },
-        [byte, text @ ..] => match other {
-            [] => Ordering::Greater,
-            [other_byte, other @ ..] => {
-                match byte_as_led(folds, *byte).cmp(&byte_as_led(other_folds, *other_byte)) {
-                    Ordering::Less => Ordering::Less,
-                    Ordering::Equal => led_order(folds, text, other_folds, other),
-                    Ordering::Greater => Ordering::Greater,
-                }
-            }
-        },
+        };
+    };
+    let [other_byte, other @ ..] = other else {
+        return Ordering::Greater;
+    };
+    match byte_as_led(folds, *byte).cmp(&byte_as_led(other_folds, *other_byte)) {
+        Ordering::Less => Ordering::Less,
+        Ordering::Equal => led_order(folds, text, other_folds, other),
+        Ordering::Greater => Ordering::Greater,
     }
 }
 

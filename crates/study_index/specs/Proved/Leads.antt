@@ -1,14 +1,12 @@
 -- The order of leads is total and tells all leads apart.
-use Rattle.std.specs.Prelude.{ℕ}
 use Rattle.std.specs.Cmp.{IsTotalOrder, nat_cmp_total}
 use Rattle.std.specs.Cmp.Lexicographic.{nat_list_cmp_total}
-use Rattle.std.specs.Ordering.{nat_cmp, ordering_then}
-use Rattle.std.specs.declared.cmp.Ordering.{Ordering}
+use Rattle.std.specs.Ordering.{nat_cmp}
 use Rattle.std.proofs.lemmas.Cmp.{then_total, on_total}
 use Rattle.join_laws.specs.Laws.{IsExact}
 use Rattle.join_laws.specs.Proved.Exact.{exact_unsigned, exact_both}
 use Rattle.octets.specs.Texts.{text_cmp}
-use Rattle.study_index.specs.Leads.{Text, lead_cmp}
+use Rattle.study_index.specs.Leads.{lead_cmp}
 use Rattle.live_picks.specs.Proved.Picks.{text_exact}
 
 pub lead_total : IsTotalOrder lead_cmp

@@ -1,6 +1,6 @@
-use Rattle.std.proofs.Common.{◌∙◌, ap, ℕ, [], ◌∷◌, ◌++◌, ◌+◌, take, length, get_or}
+use Rattle.std.proofs.Common.{◌∙◌, ap, [], ◌∷◌, ◌++◌, ◌+◌, take, length, get_or}
 use Rattle.std.specs.Prelude.{◌-◌}
-use Rattle.study_index.specs.Leads.{Text, Lead}
+use Rattle.study_index.specs.Leads.{Text}
 use Rattle.study_index.proofs.LeadLaws.{behind_raised, split}
 use Rattle.study_index.proofs.leads.Lead.behind.Goals as goal
 
