@@ -1,0 +1,4 @@
+pub mod Keeping
+pub mod Alike
+pub mod RowLaws
+pub mod GetLaws
