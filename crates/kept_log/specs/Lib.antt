@@ -1,3 +1,4 @@
+pub mod Either
 pub mod Keeping
 pub mod Moving
 pub mod Proved

@@ -2,6 +2,7 @@
 //! and a log have in common, and the way from one into another.
 #![tactic(auto)]
 
+mod either;
 mod keeping;
 mod laws;
 mod log_store;
@@ -10,6 +11,7 @@ mod shelf;
 mod store;
 mod telling;
 
+pub use either::ShelfOrLog;
 pub use keeping::KeptLog;
 pub use laws::{the_same_puts_keep_the_same, what_lasts_is_left};
 pub use moving::{Following, MoveFault, Moved, move_all};

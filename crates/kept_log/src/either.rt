@@ -1,0 +1,112 @@
+//! A store that is a shelf or a log.
+
+ghost use Rattle.std.specs.Prelude.{◌≡◌};
+ghost use Rattle.operation.specs.declared.op.Op.{Op as Operation};
+
+use crate::store::Store;
+use op_shelf::{Keep, Kept, ShelfFault};
+use operation::{Digested, Op};
+
+/// A shelf or a log. What stands above names one type, whichever of the two an archive has.
+pub enum ShelfOrLog<S, L> {
+    Shelf(S),
+    Log(L),
+}
+
+// It is written out, so that a caller does not prove again how each part is dropped.
+impl<S: Drop, L: Drop> Drop for ShelfOrLog<S, L> {
+    fn drop(self) {
+        match self {
+            ShelfOrLog::Shelf(_) => {}
+            ShelfOrLog::Log(_) => {}
+        }
+    }
+}
+
+/// What is told of it is what the one that it is tells.
+impl<S: Keep, L: Keep> Keep for ShelfOrLog<S, L> {
+    ghost use Rattle.kept_log.specs.Either.{of_it, of_it_and};
+
+    ghost is_up = { λ s. of_it S.is_up L.is_up s };
+
+    ghost holds = { λ s op. of_it_and S.holds L.holds s op };
+
+    ghost lasts = { λ s op. of_it_and S.lasts L.lasts s op };
+
+    fn put(&mut self, op: &Op) -> Result<Kept, ShelfFault> {
+        match self {
+            ShelfOrLog::Shelf(shelf) => shelf.put(op),
+            ShelfOrLog::Log(log) => log.put(op),
+        }
+    }
+
+    fn put_digested(&mut self, op: &Digested) -> Result<Kept, ShelfFault> {
+        match self {
+            ShelfOrLog::Shelf(shelf) => shelf.put_digested(op),
+            ShelfOrLog::Log(log) => log.put_digested(op),
+        }
+    }
+
+    fn put_many(&mut self, ops: &[Digested]) -> Result<Vec<Kept>, ShelfFault> {
+        match self {
+            ShelfOrLog::Shelf(shelf) => shelf.put_many(ops),
+            ShelfOrLog::Log(log) => log.put_many(ops),
+        }
+    }
+}
+
+impl<S: Store, L: Store> Store for ShelfOrLog<S, L> {
+    ghost use Rattle.kept_log.specs.Either.{count_of_it, of_it, of_it_and, of_one_and_then};
+    ghost use Rattle.kept_log.specs.Proved.Eithers.{alike_in_it, same_counts, same_listed, same_then, spared_if};
+
+    ghost is_clean = { λ s. of_it S.is_clean L.is_clean s };
+
+    ghost lists = { λ s ops. of_it_and S.lists L.lists s ops };
+
+    ghost count = { λ s kind. count_of_it S.count L.count s kind };
+
+    ghost is_same = { λ s t. of_one_and_then S.is_same L.is_same s t };
+
+    ghost spares = { λ s t. of_one_and_then S.spares L.spares s t };
+
+    ghost is_left = { λ s op. of_it_and S.is_left L.is_left s op };
+
+    ghost alike = { λ s a b same held. alike_in_it S.holds L.holds a b
+        (λ t had. S.alike t a b same had) (λ t had. L.alike t a b same had) s held };
+
+    ghost same_spared = { λ s t same. spared_if S.is_same S.spares L.is_same L.spares
+        S.same_spared L.same_spared s t same };
+
+    ghost same_spares = { λ s t u same spared. same_then S.is_same S.spares L.is_same L.spares
+        S.same_spares L.same_spares s t u same spared };
+
+    ghost same_same = { λ s t u one two. same_then S.is_same S.is_same L.is_same L.is_same
+        S.same_same L.same_same s t u one two };
+
+    ghost same_lists = { λ s t same ops listed. same_listed S.is_same S.lists L.is_same L.lists
+        S.same_lists L.same_lists s t same ops listed };
+
+    ghost same_count = { λ s t same kind. same_counts S.is_same S.count L.is_same L.count
+        S.same_count L.same_count s t same kind };
+
+    fn all(&mut self) -> Result<Vec<Digested>, ShelfFault> {
+        match self {
+            ShelfOrLog::Shelf(shelf) => shelf.all(),
+            ShelfOrLog::Log(log) => log.all(),
+        }
+    }
+
+    fn count_kind(&mut self, kind: u8) -> Result<u64, ShelfFault> {
+        match self {
+            ShelfOrLog::Shelf(shelf) => shelf.count_kind(kind),
+            ShelfOrLog::Log(log) => log.count_kind(kind),
+        }
+    }
+
+    fn add(&mut self, op: &Op) -> Result<Kept, ShelfFault> {
+        match self {
+            ShelfOrLog::Shelf(shelf) => shelf.add(op),
+            ShelfOrLog::Log(log) => log.add(op),
+        }
+    }
+}
