@@ -1,7 +1,10 @@
 -- A store that is a shelf or a log.
-use Rattle.std.specs.Prelude.{ℕ}
+use Rattle.std.specs.Prelude.{◌≡◌, ℕ}
 use Rattle.kept_log.specs.declared.either.ShelfOrLog.{ShelfOrLog}
 use Rattle.kept_log.specs.declared.either.ShelfOrLog.TheVariants.{Shelf, Log}
+use Rattle.kept_log.specs.declared.keeping.KeptLog.{KeptLog}
+use Rattle.kept_log.specs.Keeping.{log_of}
+use Rattle.op_log.specs.Log.{Opened}
 
 -- what is said of the one that it is
 abbrev pub of_it : {S L : Type 0} → (S → Type 0) → (L → Type 0) → ShelfOrLog S L → Type 0
@@ -25,3 +28,8 @@ of_one_and_then of_shelf of_log (Log old) (Log new) = of_log old new
 abbrev pub count_of_it : {S L : Type 0} → (S → ℕ → ℕ) → (L → ℕ → ℕ) → ShelfOrLog S L → ℕ → ℕ
 count_of_it of_shelf of_log (Shelf shelf) kind = of_shelf shelf kind
 count_of_it of_shelf of_log (Log log) kind = of_log log kind
+
+-- it is this log
+abbrev pub IsLog : {S H B : Type 0} → ShelfOrLog S (KeptLog H B) → Opened H B → Type 0
+IsLog (Shelf shelf) log = ⊥
+IsLog (Log kept) log = log_of kept ≡ log

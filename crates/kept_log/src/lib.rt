@@ -2,6 +2,7 @@
 //! and a log have in common, and the way from one into another.
 #![tactic(auto)]
 
+mod archive;
 mod either;
 mod keeping;
 mod laws;
@@ -11,6 +12,7 @@ mod shelf;
 mod store;
 mod telling;
 
+pub use archive::{ArchiveStore, FileOrFolder, FileShelf, Held, of_log, of_shelf};
 pub use either::ShelfOrLog;
 pub use keeping::KeptLog;
 pub use laws::{the_same_puts_keep_the_same, what_lasts_is_left};
