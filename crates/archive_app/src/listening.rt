@@ -3,18 +3,27 @@
 use crate::file::is_new;
 use crate::refused::Refused;
 use anyhow::Result as Printed;
-use archive_server::{Entrance, Exchanging, NetFault};
+use archive_server::{Entrance, Exchanging, NetFault, Paging};
 use command_output::{CommandFault, listen_cause_of};
 use command_words::Serving;
+use std::hash::RandomState;
 use std::io::Print;
 use std::net::{Net, TcpListener, TcpStream};
 use std::rt::HostRuntime;
 
-/// Where associations come in, and exchanges.
+/// Where pages are asked for, and keys that nobody can guess.
+#[derive(Drop)]
+pub struct PageDoor {
+    listener: TcpListener,
+    keys: RandomState,
+}
+
+/// Where associations come in, and exchanges, and where pages are asked for.
 #[derive(Drop)]
 pub struct Listening {
     pub associations: TcpListener,
     pub exchanges: Option<TcpListener>,
+    pub pages: Option<PageDoor>,
 }
 
 /// Where exchanges come in, and how many are served.
@@ -31,6 +40,21 @@ pub fn exchanging_of<'a>(
             },
             rounds: serving.rounds as u64,
             workers: serving.exchange_workers,
+        }),
+    }
+}
+
+/// Where pages are asked for, if anywhere. The site is called as its file is.
+pub fn paging_at<'a>(listening: &'a Listening, serving: &'a Serving<'_>) -> Option<Paging<'a>> {
+    match &listening.pages {
+        None => None,
+        Some(door) => Some(Paging {
+            entrance: Entrance {
+                listener: &door.listener,
+                allowed: serving.page_networks(),
+            },
+            name: serving.file.as_bytes(),
+            keys: door.keys,
         }),
     }
 }
@@ -61,15 +85,37 @@ fn listener_of<'a, R: Net<Listener = TcpListener, Stream = TcpStream>>(
     Ok(Some(bound(rt, exchange)?))
 }
 
+/// Where pages are asked for, if anywhere.
+fn page_door_of<'a, R: Net<Listener = TcpListener, Stream = TcpStream>>(
+    host: &HostRuntime,
+    rt: &R,
+    page: Option<&'a str>,
+) -> Result<Option<PageDoor>, Refused<'a>> {
+    let Some(address) = page else {
+        return Ok(None);
+    };
+    let listener = bound(rt, address)?;
+    match RandomState::new(host) {
+        Ok(keys) => Ok(Some(PageDoor { listener, keys })),
+        Err(error) => {
+            let fault = CommandFault::Net(NetFault::Listen);
+            Err(Refused::net(address, fault, listen_cause_of(error.kind())))
+        }
+    }
+}
+
 /// Listens, first for associations.
 pub fn listen_to<'a, R: Net<Listener = TcpListener, Stream = TcpStream>>(
+    host: &HostRuntime,
     rt: &R,
     serving: &Serving<'a>,
 ) -> Result<Listening, Refused<'a>> {
     let associations = bound(rt, serving.listen)?;
+    let exchanges = listener_of(rt, serving.exchange, serving.rounds)?;
     Ok(Listening {
         associations,
-        exchanges: listener_of(rt, serving.exchange, serving.rounds)?,
+        exchanges,
+        pages: page_door_of(host, rt, serving.page)?,
     })
 }
 
@@ -80,7 +126,7 @@ pub fn listen_first<'a, R: Net<Listener = TcpListener, Stream = TcpStream>>(
     serving: &Serving<'a>,
 ) -> Result<Option<Listening>, Refused<'a>> {
     match is_new(host, serving.file) {
-        true => Ok(Some(listen_to(rt, serving)?)),
+        true => Ok(Some(listen_to(host, rt, serving)?)),
         false => Ok(None),
     }
 }
@@ -95,11 +141,23 @@ fn say_address<R: Print>(rt: &R, word: &str, listener: &TcpListener, named: &str
     Ok(())
 }
 
+/// Prints where pages are asked for, as a browser takes it.
+fn say_page<R: Print>(rt: &R, listener: &TcpListener, named: &str) -> Printed<()> {
+    match listener.local_addr() {
+        Ok(address) => println!(rt; "pages http://{address}/")?,
+        Err(_unknown) => println!(rt; "pages http://{named}/")?,
+    }
+    Ok(())
+}
+
 /// Prints where the program listens.
 pub fn say_where<R: Print>(rt: &R, listening: &Listening, serving: &Serving<'_>) -> Printed<()> {
     say_address(rt, "listening", &listening.associations, serving.listen)?;
-    match &listening.exchanges {
+    if let Some(listener) = &listening.exchanges {
+        say_address(rt, "exchanging", listener, serving.exchange)?;
+    }
+    match &listening.pages {
         None => Ok(()),
-        Some(listener) => say_address(rt, "exchanging", listener, serving.exchange),
+        Some(door) => say_page(rt, &door.listener, serving.page.unwrap_or("")),
     }
 }

@@ -3,18 +3,18 @@
 ghost use Rattle.std.specs.Prelude.{◌≡◌, ◌≤◌, ◌<◌, ◌+◌, not, ◌==◌, vec_len, IfOk};
 ghost use Rattle.sqlite.specs.Held.{state};
 ghost use Rattle.sqlite.specs.State.{HasCleanDisk};
-ghost use Rattle.archive_server.specs.Serving.{places_for, serving_in};
+ghost use Rattle.archive_server.specs.Serving.{places_for, serving_in, paging_in};
 ghost use Rattle.command_words.specs.Words.{HasPlaces};
 ghost use Rattle.shelved_site.specs.Sites.{IsSiteOf};
 
 use crate::ending::ended_with_input;
 use crate::file::open_shelf;
-use crate::listening::{Listening, exchanging_of, listen_first, listen_to, say_where};
+use crate::listening::{Listening, exchanging_of, listen_first, listen_to, paging_at, say_where};
 use crate::progress::Progress;
 use crate::refused::{Refused, about};
 use anyhow::Result as Printed;
 use archive_model::View;
-use archive_server::{Entrance, Exchanging, Manner, Peer, ServeFault, Served, serve_on};
+use archive_server::{Entrance, Exchanging, Manner, Paging, Peer, ServeFault, Served, serve_on};
 use association_run::OpenGate;
 use command_output::CommandFault;
 use command_words::Serving;
@@ -129,11 +129,25 @@ fn peers_of<'a>(alloc: Global, serving: &'a Serving<'_>) -> Result<Vec<Peer<'a>>
     Ok(peers)
 }
 
-/// How many passes are left for workers, where some serve exchanges and one calls each peer.
-fn workers_of(passes: usize, exchanges: usize, peers: usize) -> usize
-    ensures { 0 < result → passes ≡ places_for result exchanges peers }
+/// How many passes are left for workers, where some serve exchanges, one calls each peer, and some
+/// answer with pages.
+fn workers_of(passes: usize, exchanges: usize, peers: usize, pages: usize) -> usize
+    ensures { 0 < result → passes ≡ places_for result exchanges peers pages }
 {
-    passes.saturating_sub(peers).saturating_sub(exchanges)
+    passes
+        .saturating_sub(pages)
+        .saturating_sub(peers)
+        .saturating_sub(exchanges)
+}
+
+/// How many passes answer with pages.
+fn paging_of(pages: Option<Paging<'_>>) -> usize
+    ensures { result ≡ paging_in pages.entry }
+{
+    match pages {
+        None => 0,
+        Some(_) => 1,
+    }
 }
 
 /// How many passes serve exchanges.
@@ -189,7 +203,10 @@ fn serve_hub<
         listener: &listening.associations,
         allowed: serving.allowed.as_slice(),
     };
-    let exchange = exchanging_of(listening, serving);
+    let (exchange, pages) = (
+        exchanging_of(listening, serving),
+        paging_at(listening, serving),
+    );
     let each = each_of(serving);
     let peers = peers_of(alloc, serving)?;
     let (keeper, passes) = match opened.named::<H>() {
@@ -198,7 +215,8 @@ fn serve_hub<
     };
     // A keeper is dropped by the lock that holds it.
     let keeper = Mutex::new(keeper);
-    let workers = workers_of(passes.len(), serving_of(exchange), peers.len());
+    let exchanges = serving_of(exchange);
+    let workers = workers_of(passes.len(), exchanges, peers.len(), paging_of(pages));
     if workers == 0 {
         return Err(CommandFault::Hub(HubFault::Torn));
     }
@@ -209,6 +227,7 @@ fn serve_hub<
         entrance,
         exchange,
         peers.as_slice(),
+        pages,
         &titles,
         gates,
         each,
@@ -238,12 +257,15 @@ fn hub_of<'r, R: Wait, S: Alter>(
     Ok(opened)
 }
 
-/// A pass for each worker, for each worker of exchanges, and for each peer.
+/// A pass for each worker, for each worker of exchanges, for each peer, and for pages.
 fn passes_for(serving: &Serving<'_>) -> usize
     requires places { HasPlaces serving.now }
     ensures { (1 ≤ result) × (result ≤ 64) }
 {
-    serving.workers as usize + serving.exchange_workers as usize + serving.peers.len()
+    serving.workers as usize
+        + serving.exchange_workers as usize
+        + serving.peers.len()
+        + serving.paging()
 }
 
 /// Opens the hub of a site on a shelf, and listens where nobody does yet.
@@ -265,7 +287,7 @@ fn open_site<'a, 'r, R: Net<Listener = TcpListener, Stream = TcpStream> + Wait, 
     };
     let listening = match listening {
         Some(listening) => listening,
-        None => listen_to(rt, serving)?,
+        None => listen_to(host, rt, serving)?,
     };
     Ok((opened, listening))
 }

@@ -27,3 +27,12 @@ last_round every called = Calls called ∷ (Waits every false ∷ [])
 abbrev pub CallsAgain : Duration → Option (List Turn) → Option (List Turn) → Type 0
 CallsAgain every before after = (calls : List Called) × (last : Called)
     × Went before after (flat_map (round every) calls ++ last_round every last)
+
+-- a wait of so long, at whose end somebody serves
+abbrev pub wait_on : Duration → List Turn
+wait_on time = Waits time true ∷ []
+
+-- It went on, whatever was waited each time, until nobody served any more.
+abbrev pub GoesOnWhileServed : Option (List Turn) → Option (List Turn) → Type 0
+GoesOnWhileServed before after = (times : List Duration) × (last : Duration)
+    × Went before after (flat_map wait_on times ++ Waits last false ∷ [])

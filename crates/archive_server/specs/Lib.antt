@@ -4,6 +4,7 @@ pub mod Cause
 pub mod Done
 pub mod Entering
 pub mod Fault
+pub mod Health
 pub mod Journal
 pub mod Refusing
 pub mod Serving

@@ -4,6 +4,7 @@ use Rattle.operation.specs.declared.op.Op.{Op}
 use Rattle.site_hub.specs.Hub.{Seat}
 use Rattle.archive_server.specs.declared.fault.ServeFault.{ServeFault}
 use Rattle.archive_server.specs.declared.exchanging.Exchanging.{Exchanging}
+use Rattle.archive_server.specs.declared.paging.Paging.{Paging}
 pub use Rattle.shelved_exchange.specs.Putting.{WasPut, WerePut}
 pub use Rattle.hub_exchange.specs.Onward.{IsOnward}
 
@@ -37,6 +38,11 @@ abbrev pub serving_in : Option Exchanging → ℕ
 serving_in None = 0
 serving_in (Some exchanging) = exchanging.workers
 
--- a pass for each gate, for each thread that serves exchanges, and for each peer
-abbrev pub places_for : ℕ → ℕ → ℕ → ℕ
-places_for gates exchanges peers = gates + (exchanges + peers)
+-- how many threads answer with pages
+abbrev pub paging_in : Option Paging → ℕ
+paging_in None = 0
+paging_in (Some paging) = 1
+
+-- a pass for each gate, for each thread that serves exchanges, for each peer, and for pages
+abbrev pub places_for : ℕ → ℕ → ℕ → ℕ → ℕ
+places_for gates exchanges peers pages = gates + (exchanges + peers + pages)

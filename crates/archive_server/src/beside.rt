@@ -7,6 +7,7 @@ use crate::done::Done;
 use crate::exchanging::{Exchanging, exchange_all};
 use crate::meeting::{Peer, meet_all};
 use crate::message::Desk;
+use crate::paging::{Paging, page_all};
 use crate::worker::Hall;
 use crossbeam_channel::Receiver;
 use log::Log;
@@ -23,10 +24,12 @@ pub(crate) enum Beside<'a> {
     Serves(Exchanging<'a>),
     /// It calls a peer, until nobody accepts any more.
     Calls(Peer<'a>),
+    /// It answers who comes for a page, until nobody accepts any more.
+    Pages(Paging<'a>),
 }
 
 impl Beside<'_> {
-    /// Whether it accepts.
+    /// Whether it accepts associations or exchanges.
     pub fn accepts(&self) -> bool {
         matches!(self, Beside::Serves(_))
     }
@@ -51,6 +54,10 @@ fn done_of<
     match job {
         Beside::Serves(exchanging) => exchange_all(place, hall, exchanging, desk, pass),
         Beside::Calls(peer) => meet_all(place, hall, peer, desk, ended, pass),
+        Beside::Pages(paging) => {
+            drop(desk);
+            page_all(place, hall, paging, ended, pass)
+        }
     }
 }
 

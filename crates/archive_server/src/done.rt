@@ -1,7 +1,11 @@
 //! What a thread has done: so many connections accepted, each of which was served or turned away.
 
-ghost use Rattle.std.specs.Prelude.{◌≡◌, ◌+◌, ◌-◌, ◌<◌, ◌^◌, if◌then◌else◌, Some, false};
+ghost use Rattle.std.specs.Prelude.{◌≡◌, ◌+◌, ◌-◌, ◌<◌, ◌^◌, if◌then◌else◌, Some, false, OnOk};
+ghost use Rattle.std.specs.Io.KnownBytes.{Appends, Consumes};
 ghost use Rattle.std.specs.Option.{option_or};
+ghost use Rattle.http_server.specs.History.{History, IsServed, IsDone};
+ghost use Rattle.page_run.specs.Serving.{page_config};
+ghost use Rattle.site_hub.specs.Hub.{HasLooked};
 ghost use Rattle.association_run.specs.Parts.{sides};
 ghost use Rattle.exchange_run.specs.Run.{ends};
 ghost use Rattle.exchange_run.specs.declared.role.Role.TheVariants.{Callee};
@@ -13,15 +17,20 @@ use crate::attending::{Archive, Attended, serve_association};
 use crate::conversing::{Conversed, serve_exchange};
 use crate::entrance::Entrance;
 use crate::fault::{NetFault, ServeFault};
+use crate::paging::Paging;
 use crate::tally::Tally;
 use association_run::{End, Gate, Outbox, RunFault};
 use devices::{Sink, Source};
 use exchange::ExchangeFault;
 use exchange_run::{Ended, Role};
+use hub_pages::{HubPages, serve_hub_pages};
 use log::Log;
 use op_shelf::Keep;
 use shelved_exchange::Put;
 use site_hub::{HubName, Pass, Shows};
+use std::alloc::Global;
+use std::io;
+use std::io::{Read, Write};
 use std::marker::Model;
 use std::net::SocketAddr;
 use std::sync::Wait;
@@ -211,6 +220,42 @@ impl<H: HubName> Done<H> {
         );
         let fault = fault.or(of_exchange(ended));
         (Done::with_one(pass, accepted, failed, fault), ended)
+    }
+
+    /// One more that came for a page, over any reader and writer, who is told why the shelf refuses, if
+    /// it does. A connection that broke is no fault.
+    pub fn with_pages<I: Read, O: Write>(
+        self,
+        alloc: Global,
+        paging: Paging<'_>,
+        refusal: Option<&'static str>,
+        reader: &mut I,
+        writer: &mut O,
+    ) -> (Done<H>, io::Result<()>)
+        requires room { self.accepted + self.failed < 2 ^ 64 - 1 }
+        ensures looked { HasLooked self.pass result.0.pass }
+        ensures served { (h : History) × ∥ IsServed page_config h ∥₁
+            × Consumes (I.remaining reader.old) (I.remaining reader.new) h.received
+            × Appends (O.contents writer.old) (O.contents writer.new) h.sent
+            × OnOk result.1 (IsDone h) }
+        ensures accepted { result.0.accepted ≡ self.accepted + 1 }
+        ensures failed { result.0.failed ≡ self.failed }
+        ensures fault { result.0.fault ≡ self.fault }
+    {
+        let Done {
+            pass,
+            accepted,
+            failed,
+            fault,
+        } = self;
+        let source = HubPages {
+            pass,
+            name: paging.name,
+            fault: refusal.map(|words| words.as_bytes()),
+        };
+        let (source, served) = serve_hub_pages(alloc, paging.keys, source, reader, writer);
+        let HubPages { pass, .. } = source;
+        (Done::with_one(pass, accepted, failed, fault), served)
     }
 
     /// One peer more that may not come in here. It counts as accepted.

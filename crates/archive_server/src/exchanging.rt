@@ -55,7 +55,7 @@ pub(crate) fn exchange_over<
     let (rt, peer) = (hall.archive.rt, Whence::of(wire));
     let mut reader = Counted::new(wire);
     let mut writer = Counted::new(wire);
-    let shelf = Telling::new(rt, Asking::new(rt, hall.archive.alloc, to));
+    let shelf = Telling::new(rt, Asking::new(rt, hall.archive.alloc, to, &hall.health));
     let Conversed { pass, ended } = serve_exchange(
         &hall.archive,
         &shelf,
@@ -88,7 +88,7 @@ fn with_peer<'x, H: HubName, T: Shows<H>, R: Wait + Drop, S: Wait + Clock + Log,
     let (rt, whence) = (hall.archive.rt, Whence::at(peer));
     let mut reader = Counted::new(&wire);
     let mut writer = Counted::new(&wire);
-    let shelf = Telling::new(rt, Asking::new(rt, hall.archive.alloc, to));
+    let shelf = Telling::new(rt, Asking::new(rt, hall.archive.alloc, to, &hall.health));
     let (done, ended) = done.with_exchange(&hall.archive, &shelf, &mut reader, &mut writer);
     tell_exchange(rt, hall.manner, whence, &wire, Role::Callee, ended);
     wire.part(rt);

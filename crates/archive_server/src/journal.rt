@@ -315,6 +315,21 @@ pub(crate) fn tell_unreached<S: Clock + Log>(
     info!(rt; target: "exchange", "{moment} to {address} not reached{broken}");
 }
 
+/// Tells that who came for a page was answered with so many bytes, where lines are asked for.
+pub(crate) fn tell_visit<S: Clock + Log>(
+    rt: &S,
+    manner: Manner<'_>,
+    peer: Whence,
+    wire: &Wire,
+    sent: u64,
+) {
+    if !manner.is_verbose {
+        return;
+    }
+    let (moment, broken) = (Moment::now(rt), Break::of(wire));
+    info!(rt; target: "page", "{moment} from {peer} sent {sent}{broken}");
+}
+
 /// Tells that a peer was turned away before a byte of it was read, likewise.
 pub(crate) fn tell_turned_away<S: Clock + Log>(rt: &S, manner: Manner<'_>, peer: SocketAddr) {
     if !manner.is_verbose {

@@ -4,6 +4,7 @@ ghost use Rattle.std.specs.Prelude.{◌≡◌, ◌++◌, ◌∷◌, [], All, IfO
 ghost use Rattle.operation.specs.Spelling.{digest_of};
 ghost use Rattle.shelved_exchange.specs.Putting.{WasPut};
 
+use crate::health::Health;
 use crate::message::{Reply, Request, Shelved};
 use crossbeam_channel::{Receiver, Sender, bounded};
 use op_shelf::{Keep, ShelfFault, StoreCause};
@@ -234,16 +235,27 @@ pub(crate) fn ask<K: Keep, S: Wait>(
     of_this(op.digest(), kept)
 }
 
-/// The way to the shelf of another thread.
+/// The way to the shelf of another thread, on which is noted what each put comes to.
 pub(crate) struct Asking<'a, K: Keep, S: Wait> {
     rt: &'a S,
     alloc: Global,
     to: &'a Sender<Request<K>>,
+    health: &'a Health,
 }
 
 impl<'a, K: Keep, S: Wait> Asking<'a, K, S> {
-    pub fn new(rt: &'a S, alloc: Global, to: &'a Sender<Request<K>>) -> Asking<'a, K, S> {
-        Asking { rt, alloc, to }
+    pub fn new(
+        rt: &'a S,
+        alloc: Global,
+        to: &'a Sender<Request<K>>,
+        health: &'a Health,
+    ) -> Asking<'a, K, S> {
+        Asking {
+            rt,
+            alloc,
+            to,
+            health,
+        }
     }
 }
 
@@ -257,6 +269,8 @@ impl<'a, K: Keep, S: Wait> Copy for Asking<'a, K, S> {}
 
 impl<'a, K: Keep, S: Wait> Put<K> for Asking<'a, K, S> {
     fn put(&mut self, op: &Digested) -> Result<Shelved<K>, ShelfFault> {
-        ask(self.rt, self.alloc, self.to, op)
+        let kept = ask(self.rt, self.alloc, self.to, op);
+        self.health.note(&kept);
+        kept
     }
 }

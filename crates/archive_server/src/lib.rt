@@ -4,9 +4,10 @@
 //! on a listener that all share. The thread that calls keeps the shelf. A content that an
 //! association stores is put on the shelf, then taken by the hub, then answered; and so is what a
 //! peer gives in an exchange: for those that peers call there is a listener, and some threads with a
-//! pass each, and for each peer that the server calls again and again a thread and a pass. Who
-//! serves may say how long the server waits for a peer at most, name a word by which somebody ends
-//! the server, and ask for a line on each association and exchange.
+//! pass each, and for each peer that the server calls again and again a thread and a pass. Pages of
+//! the site have a listener, a thread and a pass, which only looks. Who serves may say how long the
+//! server waits for a peer at most, name a word by which somebody ends the server, and ask for a
+//! line on each association and exchange.
 #![tactic(auto)]
 
 mod answers;
@@ -20,16 +21,19 @@ mod ends;
 mod entrance;
 mod exchanging;
 mod fault;
+mod health;
 mod heard;
 mod journal;
 mod keeping;
 mod manner;
 mod meeting;
 mod message;
+mod paging;
 mod port;
 mod refusing;
 mod serve;
 mod tally;
+mod visit;
 mod wire;
 mod worker;
 
@@ -39,9 +43,11 @@ pub use conversing::{Conversed, serve_exchange};
 pub use entrance::Entrance;
 pub use exchanging::Exchanging;
 pub use fault::{NetFault, ServeFault};
+pub use health::each_end_of_a_put_has_its_number;
 pub use manner::Manner;
 pub use meeting::Peer;
 pub use message::Shelved;
+pub use paging::Paging;
 pub use port::ServerPort;
 pub use serve::{Served, serve_on};
 pub use tally::Tally;

@@ -81,9 +81,9 @@ fn meet<
 
 /// What tells by its end that nobody accepts any more.
 #[derive(Drop)]
-struct Still<'a, S: Wait + Clock> {
-    rt: &'a S,
-    ended: Receiver<()>,
+pub(crate) struct Still<'a, S: Wait + Clock> {
+    pub rt: &'a S,
+    pub ended: &'a Receiver<()>,
 }
 
 impl<'a, S: Wait + Clock> Pauses for Still<'a, S> {
@@ -152,7 +152,7 @@ pub(crate) fn meet_all<
         return Done::nothing(pass, Some(ServeFault::Exchange(ExchangeFault::Memory)));
     }
     let rt = hall.archive.rt;
-    let mut still = Still { rt, ended };
+    let mut still = Still { rt, ended: &ended };
     let onward = call_again(hall, peer.address, peer.every, &desk.to, &mut still, pass);
     Done::nothing(onward, None)
 }

@@ -3,7 +3,7 @@
 
 ghost use Rattle.std.specs.Prelude.{◌≡◌, ◌+◌, ◌*◌, ◌<◌, ◌≤◌, ◌⊎◌, MatchResult, IfOk, min, length, is_some, false, IsSome, vec_len, vec_capacity};
 ghost use Rattle.std.specs.Option.{option_or};
-ghost use Rattle.archive_server.specs.Serving.{AllOnward, HasServed, HaveServed, places_for, serving_in};
+ghost use Rattle.archive_server.specs.Serving.{AllOnward, HasServed, HaveServed, places_for, serving_in, paging_in};
 
 use crate::attending::Archive;
 use crate::beside::{Beside, attend};
@@ -11,10 +11,12 @@ use crate::done::Done;
 use crate::entrance::Entrance;
 use crate::exchanging::Exchanging;
 use crate::fault::ServeFault;
+use crate::health::Health;
 use crate::keeping::{Inbox, keep_all};
 use crate::manner::Manner;
 use crate::meeting::Peer;
 use crate::message::{Desk, Request};
+use crate::paging::Paging;
 use crate::worker::{Hall, work};
 use archive_model::View;
 use association_run::{Gate, RunFault};
@@ -310,15 +312,16 @@ pub struct Served<H: HubName> {
     /// The passes, each in its place.
     pub passes: Vec<Pass<H>>,
     /// The first fault, by worker and then by its own order; behind them that of an exchange that
-    /// was served, and behind it that of a thread for a peer which was refused. A peer that is not
-    /// reached is no fault.
+    /// was served, and behind it that of a thread for a peer which was refused, and that of the thread
+    /// of pages. A peer that is not reached is no fault.
     pub fault: Option<ServeFault>,
 }
 
 /// Serves associations that come in at an entrance, `each` in a thread for each gate, with the pass
 /// of its place; with `exchange` so many exchanges in all, in as many threads as it says, with the
 /// next passes; and meanwhile calls each peer again and again, in a thread for each, with the passes
-/// behind. The thread that calls keeps the shelf. Whoever may end it in this manner ends it early.
+/// behind; and with `pages` answers who comes for a page, in one thread, with the last pass. The
+/// thread that calls keeps the shelf. Whoever may end it in this manner ends it early.
 pub fn serve_on<
     'x,
     H: HubName + Send + Sync,
@@ -332,6 +335,7 @@ pub fn serve_on<
     entrance: Entrance<'x>,
     exchange: Option<Exchanging<'x>>,
     peers: &'x [Peer<'x>],
+    pages: Option<Paging<'x>>,
     titles: &'x Titles<View>,
     gates: Vec<G>,
     each: u64,
@@ -342,7 +346,7 @@ pub fn serve_on<
 ) -> Served<H>
     requires some { 0 < vec_len gates }
     requires places { vec_len passes
-        ≡ places_for (vec_len gates) (serving_in exchange) (length peers.now) }
+        ≡ places_for (vec_len gates) (serving_in exchange) (length peers.now) (paging_in pages) }
     ensures back { AllOnward K.is_up K.holds K.lasts passes.items result.passes.items }
     ensures most { result.accepted ≤ vec_len gates * each }
     ensures all { IsSome manner.entry.ending ⊎ IsSome result.fault
@@ -351,7 +355,7 @@ pub fn serve_on<
     let (Ok((to, requests)), Ok((still, ended)), Ok(jobs)) = (
         bounded(alloc, WAITING),
         bounded(alloc, 1),
-        jobs_of(alloc, exchange, peers),
+        jobs_of(alloc, exchange, peers, pages),
     ) else {
         return Served {
             accepted: 0,
@@ -371,6 +375,7 @@ pub fn serve_on<
         manner,
         refused: AtomicU64::new(u64::MAX),
         begun: AtomicU64::new(0),
+        health: Health::new(),
     };
     let hall = &hall;
     let channels = Channels {
@@ -393,14 +398,15 @@ pub fn serve_on<
     )
 }
 
-/// What is done beside the workers: exchanges are served, and each peer is called.
+/// What is done beside the workers: exchanges are served, each peer is called, and pages are answered.
 fn jobs_of<'x>(
     alloc: Global,
     exchange: Option<Exchanging<'x>>,
     peers: &[Peer<'x>],
+    pages: Option<Paging<'x>>,
 ) -> Result<Vec<Beside<'x>>, AllocError>
     ensures { IfOk result (λ jobs.
-        vec_len jobs ≡ serving_in exchange.entry + length peers.now) }
+        vec_len jobs ≡ serving_in exchange.entry + length peers.now + paging_in pages.entry) }
 {
     let mut jobs = match exchange {
         Some(exchanging) => {
@@ -414,6 +420,9 @@ fn jobs_of<'x>(
     };
     for peer in peers {
         jobs.push(Beside::Calls(*peer))?;
+    }
+    if let Some(paging) = pages {
+        jobs.push(Beside::Pages(paging))?;
     }
     Ok(jobs)
 }

@@ -29,7 +29,7 @@ pub struct Wire {
 }
 
 /// What a read or a write is cut off by, once it has waited as long as it may.
-fn is_cut_off(error: &io::Error) -> bool {
+pub(crate) fn is_cut_off(error: &io::Error) -> bool {
     matches!(error.kind(), ErrorKind::WouldBlock | ErrorKind::TimedOut)
 }
 
@@ -88,7 +88,7 @@ impl Wire {
     }
 
     /// Notes how a read or a write failed, where it did, and hands it on.
-    fn noted(&self, done: io::Result<usize>) -> io::Result<usize>
+    pub(crate) fn noted(&self, done: io::Result<usize>) -> io::Result<usize>
         ensures { result ≡ done }
     {
         if let Err(error) = &done {

@@ -9,6 +9,7 @@ use crate::attending::Archive;
 use crate::done::Done;
 use crate::entrance::{Entered, Entrance, accept_from};
 use crate::fault::ServeFault;
+use crate::health::Health;
 use crate::heard::{Heard, Said};
 use crate::journal::{Finish, Whence, tell_association, tell_not_accepted, tell_turned_away};
 use crate::keeping::Asking;
@@ -37,6 +38,8 @@ pub(crate) struct Hall<'a, H: HubName, T: Shows<H>, R: Wait + Drop, S: Wait> {
     pub refused: AtomicU64,
     /// How many exchanges were begun to be accepted.
     pub begun: AtomicU64,
+    /// Whether the shelf takes what it is given.
+    pub health: Health,
 }
 
 /// What a worker has done, and one association more, over the connection of a peer that may come in
@@ -60,7 +63,7 @@ fn with_peer<'x, H: HubName, T: Shows<H>, R: Wait + Drop, S: Wait + Clock + Log,
     let rt = hall.archive.rt;
     let alloc = hall.archive.alloc;
     let whence = Whence::at(peer);
-    let shelf = Asking::new(rt, alloc, to);
+    let shelf = Asking::new(rt, alloc, to, &hall.health);
     let mut reader = Heard::new(Counted::new(wire));
     let mut writer = Said::new(
         Counted::new(wire),

@@ -49,6 +49,9 @@ With --peer it meanwhile calls another site, waits --every seconds and calls it
 again; one that does not answer is called again all the same. A peer that says
 nothing for --idle seconds is let go.
 
+With --page it answers browsers of this machine with what the site holds, or of
+the networks of --page-allow.
+
 With --allow only peers of these networks may come, such as 10.1.0.0/16; a
 connection from elsewhere is closed unread. With --calling only requestors that
 call themselves so are answered; others are rejected.
@@ -103,6 +106,18 @@ const EXCHANGE_ALLOW: Help<'static> = Help {
     line: "A network of exchanges [default: any]",
     whole: "A network from which exchanges may come, which can be given \
         again{n}{n}[default: any]",
+};
+
+const PAGE: Help<'static> = Help {
+    line: "Where pages are asked for [default: nowhere]",
+    whole: "Where pages of the site are asked for, by HTTP: what it holds, to \
+        be{n}looked at and not changed{n}{n}[default: nowhere]",
+};
+
+const PAGE_ALLOW: Help<'static> = Help {
+    line: "A network of pages [default: 127.0.0.0/8]",
+    whole: "A network from which pages may be asked for, which can be given \
+        again{n}{n}[default: 127.0.0.0/8]",
 };
 
 const CALLING: Help<'static> = Help {
@@ -282,6 +297,17 @@ fn with_exchanges<'a>(alloc: Global, command: Command<'a>) -> Result<Command<'a>
     with_wanting(command, workers, "exchange")
 }
 
+/// With the option of where pages are asked for.
+fn with_page<'a>(alloc: Global, command: Command<'a>) -> Result<Command<'a>, AllocError> {
+    with(command, told(alloc, "page", "ADDR", PAGE))
+}
+
+/// With the option of who may ask for them.
+fn with_page_allow<'a>(alloc: Global, command: Command<'a>) -> Result<Command<'a>, AllocError> {
+    let allow = told(alloc, "page-allow", "NETWORK", PAGE_ALLOW);
+    with_wanting(command, all(allow), "page")
+}
+
 /// The longest that a wait for a peer lasts.
 fn idle_option<'a>(alloc: Global) -> Arg<'a> {
     told(alloc, "idle", "SECONDS", IDLE).value_parser(value_parser!(u32).range(0..=LONGEST_IDLE))
@@ -302,6 +328,7 @@ fn with_callers<'a>(alloc: Global, command: Command<'a>) -> Result<Command<'a>, 
     let command = with(command, all(told(alloc, "allow", "NETWORK", ALLOW)))?;
     let exchange_allow = told(alloc, "exchange-allow", "NETWORK", EXCHANGE_ALLOW);
     let command = with(command, all(exchange_allow))?;
+    let command = with_page_allow(alloc, command)?;
     let command = with(command, all(told(alloc, "calling", "TITLE", CALLING)))?;
     let quality = told(alloc, "quality-calling", "TITLE", QUALITY_CALLING);
     let command = with(command, all(quality))?;
@@ -340,6 +367,7 @@ fn serve_command<'a>(alloc: Global) -> Result<Command<'a>, AllocError> {
     let command = with(told_of(alloc, "serve", SERVE, SERVE_LONG), file)?;
     let command = with_workers(alloc, command)?;
     let command = with_exchanges(alloc, command)?;
+    let command = with_page(alloc, command)?;
     let command = with_peers(alloc, command)?;
     let command = with_callers(alloc, command)?;
     with_manner(alloc, command)

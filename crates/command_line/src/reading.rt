@@ -1,7 +1,7 @@
 //! What the words of a command ask for.
 
-ghost use Rattle.std.specs.Prelude.{◌+◌, ◌≤◌, IsTrue, IfOk, IfSome};
-ghost use Rattle.command_words.specs.Words.{HasSite, HasPlaces, IsInRange};
+ghost use Rattle.std.specs.Prelude.{◌≡◌, ◌+◌, ◌≤◌, IsTrue, IfOk, IfSome};
+ghost use Rattle.command_words.specs.Words.{HasSite, HasPlaces, IsInRange, paging_of};
 
 use crate::refusals::{
     BAD_FORM, BAD_PEER, Refusal, TOO_MANY, WITHOUT_COMMAND, is_address, refusal_of_serve, text,
@@ -13,7 +13,7 @@ use ipv4_networks::{Network, read_network};
 use site_tables::Table;
 use std::alloc::{AllocError, Global};
 
-/// The most workers, workers of exchanges and peers of a server together: each has a pass.
+/// The most workers, workers of exchanges, peers and pages of a server together: each has a pass.
 const MOST_PASSES: usize = 64;
 
 /// The table that an option names, if one does.
@@ -86,12 +86,22 @@ fn idle_in(found: &ArgMatches<'_>) -> u32 {
     found.get_one::<u32>("idle").unwrap_or(60)
 }
 
-/// Whether these workers, those of exchanges and these peers are no more than a hub has passes for.
-fn fits(workers: u16, exchange_workers: u16, peers: usize) -> bool
-    ensures { IsTrue result → workers + exchange_workers + peers ≤ 64 }
+/// What a server has beside its workers, where pages are asked for or not: so many peers and pages.
+fn others_of(peers: usize, page: Option<&str>) -> Option<usize>
+    ensures { IfSome result (λ others. others ≡ peers + paging_of page.entry) }
+{
+    match page {
+        None => Some(peers),
+        Some(_) => peers.checked_add(1),
+    }
+}
+
+/// Whether these workers, those of exchanges and these others are no more than a hub has passes for.
+fn fits(workers: u16, exchange_workers: u16, others: usize) -> bool
+    ensures { IsTrue result → workers + exchange_workers + others ≤ 64 }
 {
     let serving = workers as usize + exchange_workers as usize;
-    serving <= MOST_PASSES && peers <= MOST_PASSES - serving
+    serving <= MOST_PASSES && others <= MOST_PASSES - serving
 }
 
 /// The networks of an option, if they have their form.
@@ -130,13 +140,18 @@ fn read_serve<'a>(alloc: Global, found: &ArgMatches<'a>) -> Result<Option<Servin
     let peers = texts_in(alloc, found, "peer")?;
     let workers = found.get_one::<u16>("workers").unwrap_or(8);
     let exchange_workers = exchange_workers_in(found);
-    let (Some(allowed), Some(exchange_allowed)) = (
+    let page = found.get_str("page");
+    let (Some(allowed), Some(exchange_allowed), Some(page_allowed)) = (
         networks_in(alloc, found, "allow")?,
         networks_in(alloc, found, "exchange-allow")?,
+        networks_in(alloc, found, "page-allow")?,
     ) else {
         return Ok(None);
     };
-    if workers == 0 || !fits(workers, exchange_workers, peers.len()) {
+    let Some(others) = others_of(peers.len(), page) else {
+        return Ok(None);
+    };
+    if workers == 0 || !fits(workers, exchange_workers, others) {
         return Ok(None);
     }
     Ok(Some(Serving {
@@ -147,10 +162,12 @@ fn read_serve<'a>(alloc: Global, found: &ArgMatches<'a>) -> Result<Option<Servin
         exchange: text(found, "exchange"),
         rounds: rounds_in(found),
         exchange_workers,
+        page,
         peers,
         every: found.get_one::<u32>("every").unwrap_or(60),
         allowed,
         exchange_allowed,
+        page_allowed,
         callers: texts_in(alloc, found, "calling")?,
         quality_callers: texts_in(alloc, found, "quality-calling")?,
         audit_callers: texts_in(alloc, found, "audit-calling")?,

@@ -31,6 +31,11 @@ const BAD_EXCHANGE: Refusal = Refusal {
     text: "--exchange wants an IPv4 address, a colon and a port, such as 127.0.0.1:11113",
 };
 
+const BAD_PAGE: Refusal = Refusal {
+    kind: ErrorKind::InvalidValue,
+    text: "--page wants an IPv4 address, a colon and a port, such as 127.0.0.1:11180",
+};
+
 pub(crate) const BAD_PEER: Refusal = Refusal {
     kind: ErrorKind::InvalidValue,
     text: "--peer wants an IPv4 address, a colon and a port, such as 127.0.0.1:11113",
@@ -38,8 +43,8 @@ pub(crate) const BAD_PEER: Refusal = Refusal {
 
 const BAD_NETWORK: Refusal = Refusal {
     kind: ErrorKind::InvalidValue,
-    text: "--allow and --exchange-allow want an IPv4 address, or one with a slash and how many \
-        bits count",
+    text: "--allow, --exchange-allow and --page-allow want an IPv4 address, or one with a slash and \
+        how many bits count",
 };
 
 const BAD_TITLE: Refusal = Refusal {
@@ -49,7 +54,7 @@ const BAD_TITLE: Refusal = Refusal {
 
 pub(crate) const TOO_MANY: Refusal = Refusal {
     kind: ErrorKind::InvalidValue,
-    text: "--workers, --exchange-workers and the peers are 64 at most together",
+    text: "--workers, --exchange-workers, the peers and the page are 64 at most together",
 };
 
 pub(crate) const WITHOUT_COMMAND: Refusal = Refusal {
@@ -114,10 +119,16 @@ pub(crate) fn refusal_of_serve(found: &ArgMatches<'_>) -> Option<Refusal> {
     if !found.get_str("exchange").is_none_or(is_address) {
         return Some(BAD_EXCHANGE);
     }
+    if !found.get_str("page").is_none_or(is_address) {
+        return Some(BAD_PAGE);
+    }
     if !are_addresses(found, "peer") {
         return Some(BAD_PEER);
     }
-    if !are_networks(found, "allow") || !are_networks(found, "exchange-allow") {
+    if !are_networks(found, "allow")
+        || !are_networks(found, "exchange-allow")
+        || !are_networks(found, "page-allow")
+    {
         return Some(BAD_NETWORK);
     }
     if !are_titles(found, "calling")

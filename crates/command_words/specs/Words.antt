@@ -23,10 +23,15 @@ change_in kind key tag value = change_for (target_in kind key) (tag_in tag) valu
 abbrev pub HasSite : Correcting → Type 0
 HasSite correcting = 1 ≤ correcting.site
 
--- a server has a worker, and its workers, those of exchanges and its peers are 64 at most
+-- how many threads answer with pages, where they are asked for somewhere or nowhere
+abbrev pub paging_of : {A : Type 0} → Option A → ℕ
+paging_of None = 0
+paging_of (Some address) = 1
+
+-- a server has a worker, and its workers, those of exchanges, its peers and its page are 64 at most
 abbrev pub HasPlaces : Serving → Type 0
 HasPlaces serving = (1 ≤ serving.workers)
-    × (serving.workers + serving.exchange_workers + vec_len serving.peers ≤ 64)
+    × (serving.workers + serving.exchange_workers + vec_len serving.peers + paging_of serving.page ≤ 64)
 
 -- those who are named, or else these
 abbrev pub named_or : {A : Type 0} → List A → List A → List A

@@ -2,7 +2,8 @@
 #![tactic(auto)]
 
 ghost use Rattle.std.specs.Prelude.{◌≡◌, IfOk};
-ghost use Rattle.command_words.specs.Words.{change_in as change_in_words, callers_for};
+ghost use Rattle.command_words.specs.Words.{change_in as change_in_words, callers_for, named_or, paging_of};
+ghost use Rattle.command_words.specs.declared.TheConstants.{LOOPBACK};
 
 mod parts;
 
@@ -15,6 +16,7 @@ pub use parts::{Part, bad_part, unmatched};
 use site_script::{tag_in, target_in};
 use site_tables::Table;
 use std::alloc::{AllocError, Global};
+use std::net::Ipv4Addr;
 
 /// The value that an attribute of a target is given.
 #[derive(Debug, Drop)]
@@ -32,6 +34,12 @@ pub struct Correcting<'a> {
     pub change: Change,
 }
 
+/// The addresses by which a machine reaches itself (RFC 6890, section 2.2.2).
+const LOOPBACK: &[Network] = &[Network {
+    address: Ipv4Addr::LOCALHOST,
+    bits: 8,
+}];
+
 /// The operations in a file, served at an address by so many workers.
 #[derive(Debug, Drop)]
 pub struct Serving<'a> {
@@ -46,6 +54,8 @@ pub struct Serving<'a> {
     pub rounds: u32,
     /// How many are served at once: 0 where none is served.
     pub exchange_workers: u16,
+    /// Where pages are asked for. Where it is left out nothing is listened for them.
+    pub page: Option<&'a str>,
     /// The sites that are called for an exchange, again and again.
     pub peers: Vec<&'a str>,
     /// The seconds between an exchange with one of them and the next.
@@ -54,6 +64,8 @@ pub struct Serving<'a> {
     pub allowed: Vec<Network>,
     /// From where exchanges may come, likewise.
     pub exchange_allowed: Vec<Network>,
+    /// From where pages may be asked for. Where none is named, from this machine alone.
+    pub page_allowed: Vec<Network>,
     /// The calling titles that may ask for an association. Where none is named any may.
     pub callers: Vec<&'a str>,
     /// Those that may call QUALITY, and AUDIT. Where none is named those above may.
@@ -120,6 +132,26 @@ impl<'a> Serving<'a> {
             return self.callers.as_slice();
         }
         named
+    }
+
+    /// How many threads answer with pages: one where they are asked for somewhere.
+    pub fn paging(&self) -> usize
+        ensures { result ≡ paging_of self.now.page }
+    {
+        match self.page {
+            None => 0,
+            Some(_) => 1,
+        }
+    }
+
+    /// The networks from which pages may be asked for.
+    pub fn page_networks(&self) -> &[Network]
+        ensures { result.now ≡ named_or self.now.page_allowed.items LOOPBACK.now }
+    {
+        if self.page_allowed.is_empty() {
+            return LOOPBACK;
+        }
+        self.page_allowed.as_slice()
     }
 }
 

@@ -77,7 +77,7 @@ fn places(service: Service<'_>) -> Option<usize>
 fn has_places(service: Service<'_>, passes: usize) -> bool
     ensures { IsTrue result → (0 < service.entry.workers)
         × (passes ≡ places_for service.entry.workers (serving_in service.entry.exchange)
-        (length service.entry.peers.now)) }
+        (length service.entry.peers.now) 0) }
 {
     let Some(count) = service.workers.checked_add(service.peers.len()) else {
         return false;
@@ -102,7 +102,7 @@ fn serve<
 ) -> Option<u64>
     requires some { 0 < service.workers }
     requires places { vec_len passes ≡ places_for service.workers (serving_in service.exchange)
-        (length service.peers.now) }
+        (length service.peers.now) 0 }
 {
     let titles = titles_of(alloc).ok()?;
     let door = Door {
@@ -120,6 +120,7 @@ fn serve<
         service.entrance,
         service.exchange,
         service.peers,
+        None,
         &titles,
         gates,
         service.each,
@@ -164,7 +165,7 @@ fn run<
         || -> Option<u64>
             requires { (0 < service.workers)
                 × (vec_len passes ≡ places_for service.workers (serving_in service.exchange)
-                (length service.peers.now)) }
+                (length service.peers.now) 0) }
         { serve(rt, alloc, service, &keeper, passes, shelf) },
     );
     Ok((held?, accepted))

@@ -1,0 +1,49 @@
+-- Laws of a pass that only looks, and of accepts, one behind another.
+use Rattle.std.proofs.Common.{◌≡◌, List, [], ◌∷◌, ◌++◌, Option, Some, None, Bool, true, false}
+use Rattle.std.proofs.Common.{refl, subst, ◌∙◌}
+use Rattle.std.specs.List.{flat_map}
+use Rattle.std.proofs.lemmas.List.{flat_map_more}
+use Rattle.std.specs.declared.time.Duration.{Duration}
+use Rattle.operation.specs.declared.op.Op.{Op}
+use Rattle.site_hub.specs.Hub.{Seat, HasLooked}
+use Rattle.site_hub.proofs.Fronts.{prefix_self, prefix_trans}
+use Rattle.hub_exchange.proofs.OnwardLaws.{onward_self, onward_seen}
+use Rattle.archive_server.specs.Calling.{Turn, Waits, Went, wait_on, GoesOnWhileServed}
+use Rattle.archive_server.specs.Serving.{IsOnward}
+use Rattle.archive_server.proofs.CallingLaws.{went_on}
+
+-- a pass that did nothing
+pub looked_self : (seat : Seat) → HasLooked seat seat
+looked_self seat = record { number = refl; seen = prefix_self seat.seen; mine = refl }
+
+pub looked_trans : (x y z : Seat) → HasLooked x y → HasLooked y z → HasLooked x z
+looked_trans x y z p q = record {
+  number = q.number ∙ p.number;
+  seen = prefix_trans x.seen y.seen z.seen p.seen q.seen;
+  mine = q.mine ∙ p.mine;
+}
+
+-- a pass that only looked has gone on
+pub looked_onward : {K : Type 0} (up : K → Type 0) (holds lasts : K → Op → Type 0) (s t : Seat) → HasLooked s t
+    → IsOnward up holds lasts s t
+looked_onward up holds lasts s t looked = onward_seen up holds lasts s s t (onward_self up holds lasts s) looked
+
+-- one wait more, behind which somebody serves
+pub one_wait_more : (start a b : Option (List Turn)) (times : List Duration) (time : Duration) (served : Bool)
+    → Went start a (flat_map wait_on times) → Went a b (Waits time served ∷ []) → served ≡ true
+    → Went start b (flat_map wait_on (times ++ time ∷ []))
+one_wait_more start a b times time served before wait serves =
+    subst (λ (turns : List Turn). Went start b turns) (flat_map_more wait_on [] times time)
+    (went_on start a b (flat_map wait_on times) (wait_on time) before
+    (subst (λ (s : Bool). Went a b (Waits time s ∷ [])) serves wait))
+
+-- the last one, behind which nobody does
+pub the_last_wait : (start a b : Option (List Turn)) (times : List Duration) (time : Duration) (served : Bool)
+    → Went start a (flat_map wait_on times) → Went a b (Waits time served ∷ []) → served ≡ false
+    → GoesOnWhileServed start b
+the_last_wait start a b times time served before wait ends = (
+  times,
+  time,
+  went_on start a b (flat_map wait_on times) (Waits time false ∷ []) before
+      (subst (λ (s : Bool). Went a b (Waits time s ∷ [])) ends wait),
+)

@@ -1,0 +1,177 @@
+//! The thread of pages: it answers who comes for one, at an entrance of their own, one after
+//! another, with looks of a pass of its own.
+
+ghost use Rattle.std.specs.Prelude.{◌≡◌, ◌+◌, ◌-◌, ◌<◌, ◌^◌, IfOk, true};
+ghost use Rattle.ipv4_networks.specs.Networks.{may_come};
+ghost use Rattle.site_hub.specs.Hub.{HasLooked};
+ghost use Rattle.archive_server.specs.Calling.{GoesOnWhileServed};
+ghost use Rattle.archive_server.specs.Entering.{IsAsAllowed};
+
+use crate::calling::Pauses;
+use crate::done::Done;
+use crate::entrance::{Entered, Entrance, accept_from};
+use crate::fault::{NetFault, ServeFault};
+use crate::journal::{Whence, tell_not_accepted, tell_turned_away, tell_visit};
+use crate::meeting::Still;
+use crate::visit::{Visit, turn};
+use crate::wire::{Wire, is_cut_off};
+use crate::worker::Hall;
+use crossbeam_channel::Receiver;
+use exchange::ExchangeFault;
+use log::Log;
+use site_hub::{HubName, Pass, Shows};
+use std::hash::RandomState;
+use std::io;
+use std::net::{SocketAddr, TcpListener, TcpStream};
+use std::os::fd::OwnedFd;
+use std::sync::Wait;
+use std::sync::atomic::Ordering;
+use std::time::{Clock, Duration};
+
+/// Where pages are asked for, and what they say of the site beside what it holds.
+#[derive(Clone, Copy)]
+pub struct Paging<'a> {
+    pub entrance: Entrance<'a>,
+    /// What the site is called.
+    pub name: &'a [u8],
+    /// Keys that nobody can guess, for the tables that a request is read into.
+    pub keys: RandomState,
+}
+
+/// What the thread has done, and one connection more, of a peer that may come in here. Behind it the
+/// peer may read what was sent last.
+fn with_visitor<H: HubName, T: Shows<H>, R: Wait + Drop, S: Wait + Clock + Log>(
+    hall: &Hall<'_, H, T, R, S>,
+    paging: Paging<'_>,
+    ended: &Receiver<()>,
+    wire: &Wire,
+    peer: SocketAddr,
+    done: Done<H>,
+) -> Done<H>
+    requires room { done.accepted + done.failed < 2 ^ 64 - 1 }
+    requires allowed { may_come paging.entrance.allowed.now peer ≡ true }
+    ensures looked { HasLooked done.pass result.pass }
+    ensures accepted { result.accepted ≡ done.accepted + 1 }
+    ensures failed { result.failed ≡ done.failed }
+{
+    let (rt, alloc, idle) = (hall.archive.rt, hall.archive.alloc, hall.manner.idle);
+    let refusal = hall.health.words();
+    let mut reader = Visit::new(rt, wire, ended, idle);
+    let mut writer = Visit::new(rt, wire, ended, idle);
+    let (done, _answered) = done.with_pages(alloc, paging, refusal, &mut reader, &mut writer);
+    tell_visit(rt, hall.manner, Whence::at(peer), wire, writer.count());
+    wire.part(rt);
+    done
+}
+
+/// What the thread has done, with what came of an accept.
+fn with_entered<H: HubName, T: Shows<H>, R: Wait + Drop, S: Wait + Clock + Log>(
+    hall: &Hall<'_, H, T, R, S>,
+    paging: Paging<'_>,
+    ended: &Receiver<()>,
+    came: io::Result<Entered>,
+    done: Done<H>,
+) -> Done<H>
+    requires room { done.accepted + done.failed < 2 ^ 64 - 1 }
+    requires ruled { IfOk came (IsAsAllowed paging.entrance.allowed.now) }
+    ensures looked { HasLooked done.pass result.pass }
+    ensures used { result.accepted + result.failed ≡ done.accepted + done.failed + 1 }
+{
+    match came {
+        Ok(Entered::LetIn(wire, peer)) => with_visitor(hall, paging, ended, &wire, peer, done),
+        Ok(Entered::TurnedAway(peer)) => {
+            tell_turned_away(hall.archive.rt, hall.manner, peer);
+            done.with_turned_away(paging.entrance, peer)
+        }
+        Err(error) => {
+            tell_not_accepted(hall.archive.rt, hall.manner, &error);
+            done.with_none(hall.manner.is_ended())
+        }
+    }
+}
+
+/// Whether nobody came within a turn.
+fn is_nobody(came: &io::Result<Entered>) -> bool {
+    matches!(came, Err(error) if is_cut_off(error))
+}
+
+/// How long is waited before the next accept: not at all, but for a turn behind one that failed.
+fn pause_behind_accept(came: &io::Result<Entered>) -> Duration {
+    match came {
+        Ok(_entered) => Duration::ZERO,
+        Err(_error) => turn(),
+    }
+}
+
+/// Accepts once, unless nobody comes within a turn. It says how long is waited before the next.
+fn accept_one<H: HubName, T: Shows<H>, R: Wait + Drop, S: Wait + Clock + Log>(
+    hall: &Hall<'_, H, T, R, S>,
+    paging: Paging<'_>,
+    ended: &Receiver<()>,
+    pass: Pass<H>,
+) -> (Done<H>, Duration)
+    ensures looked { HasLooked pass result.0.pass }
+{
+    let done = Done::nothing(pass, None);
+    let came = accept_from(paging.entrance, Some(turn()));
+    if is_nobody(&came) {
+        return (done, Duration::ZERO);
+    }
+    let pause = pause_behind_accept(&came);
+    (with_entered(hall, paging, ended, came, done), pause)
+}
+
+/// Accepts again and again, as long as somebody serves.
+fn accept_again<H: HubName, T: Shows<H>, R: Wait + Drop, S: Wait + Clock + Log, C: Pauses>(
+    hall: &Hall<'_, H, T, R, S>,
+    paging: Paging<'_>,
+    ended: &Receiver<()>,
+    pauses: &mut C,
+    pass: Pass<H>,
+) -> Done<H>
+    ensures looked { HasLooked pass result.pass }
+    ensures again { GoesOnWhileServed (C.turns pauses.old) (C.turns pauses.new) }
+{
+    let mut onward = pass;
+    let mut first = None;
+    for _ in hall.archive.rt.forever() {
+        let (done, pause) = accept_one(hall, paging, ended, onward);
+        let (pass, _accepted, fault) = done.into_parts();
+        onward = pass;
+        first = first.or(fault);
+        if !pauses.is_served_after(pause) {
+            return Done::nothing(onward, first);
+        }
+    }
+    unreachable!()
+}
+
+/// Lets each accept of a listener end after a turn, in which nobody came.
+fn lets_accepts_end(listener: &TcpListener) -> io::Result<()> {
+    // A socket's time to receive is also that of an accept.
+    TcpStream::from(OwnedFd::from(listener.try_clone()?)).set_read_timeout(Some(turn()))
+}
+
+/// Answers who comes for a page, as long as anybody accepts associations or exchanges, unless the
+/// thread of this place was refused.
+pub(crate) fn page_all<H: HubName, T: Shows<H>, R: Wait + Drop, S: Wait + Clock + Log>(
+    place: u64,
+    hall: &Hall<'_, H, T, R, S>,
+    paging: Paging<'_>,
+    ended: Receiver<()>,
+    pass: Pass<H>,
+) -> Done<H>
+    ensures looked { HasLooked pass result.pass }
+{
+    if hall.refused.load(Ordering::SeqCst) == place {
+        return Done::nothing(pass, Some(ServeFault::Exchange(ExchangeFault::Memory)));
+    }
+    if lets_accepts_end(paging.entrance.listener).is_err() {
+        return Done::nothing(pass, Some(ServeFault::Net(NetFault::Accept)));
+    }
+    let mut still = Still {
+        rt: hall.archive.rt,
+        ended: &ended,
+    };
+    accept_again(hall, paging, &ended, &mut still, pass)
+}
