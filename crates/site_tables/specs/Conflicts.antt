@@ -9,41 +9,53 @@ use Rattle.operation.specs.declared.op.Op.TheVariants.{Content as a_content, Cor
 use Rattle.operation.specs.Parts.{ContentParts}
 use Rattle.operation.specs.Spelling.{digest_of}
 use Rattle.archive_model.specs.Contents.{contents_of, flagged, is_of_instance, pick, study_of}
+use Rattle.site_tables.specs.declared.conflicts.Flagged.{Flagged}
 use Rattle.site_tables.specs.Cells.{yes_no}
+use Rattle.site_tables.specs.Under.{has_under}
 
--- whether this is the digest of a content, if there is one
-abbrev pub is_digest_of : List ℕ → Option ContentParts → Bool
-is_digest_of digest None = false
-is_digest_of digest (Some c) = same (digest_of (a_content c)) digest
+-- the digest of a content, if there is one
+abbrev pub digest_if : Option ContentParts → Option (List ℕ)
+digest_if None = None
+digest_if (Some c) = Some (digest_of (a_content c))
 
--- whether a content is the pick of its SOP Instance UID: the pick has its digest
-abbrev pub is_pick : List Op → ContentParts → Bool
-is_pick ops c = is_digest_of (digest_of (a_content c)) (pick c.instance ops)
+-- whether this is a digest, if there is one
+abbrev pub is_this : Option (List ℕ) → List ℕ → Bool
+is_this None digest = false
+is_this (Some other) digest = same other digest
 
--- the UID, the digest, how many bytes the data set has, (0020,000D) Study Instance UID, and whether it is the pick
-abbrev pub conflict_row : List Op → ContentParts → List (List ℕ)
-conflict_row ops c =
-    c.instance ∷ encode_lower (digest_of (a_content c)) ∷ decimal (length c.body) ∷ study_of c
-    ∷ yes_no (is_pick ops c) ∷ []
+-- a content with the digest of the pick of its SOP Instance UID
+abbrev pub with_pick : List Op → ContentParts → Flagged
+with_pick ops c = record { content = c; pick = digest_if (pick c.instance ops) }
 
--- the row of an operation that is a content of a SOP Instance UID
-abbrev pub conflicts_in : List Op → List ℕ → Op → List (List (List ℕ))
-conflicts_in ops uid (a_content c) = if is_of_instance uid c then conflict_row ops c ∷ [] else []
+-- the UID, the digest, how many bytes the data set has, (0020,000D) Study Instance UID, and whether it is the pick:
+-- the pick has its digest
+abbrev pub conflict_row : Flagged → List (List ℕ)
+conflict_row f =
+    f.content.instance ∷ encode_lower (digest_of (a_content f.content)) ∷ decimal (length f.content.body)
+    ∷ study_of f.content ∷ yes_no (is_this f.pick (digest_of (a_content f.content))) ∷ []
+
+-- an operation that is a content of a SOP Instance UID
+abbrev pub conflicts_in : List Op → List ℕ → Op → List Flagged
+conflicts_in ops uid (a_content c) = if is_of_instance uid c then with_pick ops c ∷ [] else []
 conflicts_in ops uid (a_correction k) = []
 
--- the rows of those of some operations
-abbrev pub conflicts_among : List Op → List ℕ → List Op → List (List (List ℕ))
+-- those of some operations
+abbrev pub conflicts_among : List Op → List ℕ → List Op → List Flagged
 conflicts_among ops uid some = flat_map (conflicts_in ops uid) some
 
--- the rows of the contents of a SOP Instance UID, ascending by digest where the operations are
-abbrev pub conflicts_of : List Op → List ℕ → List (List (List ℕ))
-conflicts_of ops uid = map (conflict_row ops) (contents_of uid ops)
+-- the contents of a SOP Instance UID, ascending by digest where the operations are
+abbrev pub conflicts_of : List Op → List ℕ → List Flagged
+conflicts_of ops uid = map (with_pick ops) (contents_of uid ops)
 
--- an operation under its SOP Instance UID, where it is a content
-abbrev pub instance_pair : Op → Option (List ℕ × Op)
-instance_pair (a_content c) = Some (c.instance, a_content c)
-instance_pair (a_correction k) = None
+-- an operation under its SOP Instance UID, where it is a content of one under which something lies
+abbrev pub instance_pair : List (List ℕ × List ℕ) → Op → Option (List ℕ × Op)
+instance_pair marks (a_content c) = if has_under c.instance marks then Some (c.instance, a_content c) else None
+instance_pair marks (a_correction k) = None
 
--- the rows of the contents of each flagged SOP Instance UID, ascending
+-- the contents of each flagged SOP Instance UID, ascending
+abbrev pub conflicts : List Op → List Flagged
+conflicts ops = flat_map (conflicts_of ops) (flagged ops)
+
+-- their rows
 abbrev pub conflict_rows : List Op → List (List (List ℕ))
-conflict_rows ops = flat_map (conflicts_of ops) (flagged ops)
+conflict_rows ops = map conflict_row (conflicts ops)

@@ -14,6 +14,7 @@ use Rattle.operation.specs.Parts.{CorrectionParts, key_of}
 use Rattle.archive_model.specs.Attributes.{corrections}
 use Rattle.archive_model.specs.Index.{fix}
 use Rattle.site_tables.specs.Cells.{yes_no}
+use Rattle.site_tables.specs.declared.corrections.Stamped.{Stamped}
 
 -- the word for the kind of a target
 abbrev pub kind_word : Target → List ℕ
@@ -49,16 +50,25 @@ is_alike k (Some other) =
 abbrev pub counts : List Op → CorrectionParts → Bool
 counts ops k = is_alike k (fix k.target k.tag ops)
 
+-- a correction, and whether it counts
+abbrev pub with_count : List Op → CorrectionParts → Stamped
+with_count ops k = record { correction = k; counts = counts ops k }
+
 -- kind and key of the target, the tag in hexadecimal digits, the value, counter and site of the stamp, and
 -- whether it counts
-abbrev pub correction_row : List Op → CorrectionParts → List (List ℕ)
-correction_row ops k =
-    kind_word k.target ∷ key_of k.target ∷ encode_lower (to_be_bytes w32 k.tag) ∷ k.value
-    ∷ decimal k.stamp.counter ∷ decimal k.stamp.site ∷ yes_no (counts ops k) ∷ []
+abbrev pub correction_row : Stamped → List (List ℕ)
+correction_row s =
+    kind_word s.correction.target ∷ key_of s.correction.target ∷ encode_lower (to_be_bytes w32 s.correction.tag)
+    ∷ s.correction.value ∷ decimal s.correction.stamp.counter ∷ decimal s.correction.stamp.site
+    ∷ yes_no s.counts ∷ []
 
--- the rows are those of the corrections of a set, in order
-pub record AreCorrectionRows (ops : List Op) (rows : List (List (List ℕ))) : Type 0 where
+-- these are the corrections of a set, in order, each with whether it counts
+pub record AreCorrections (ops : List Op) (stamped : List Stamped) : Type 0 where
   pub ordered : List CorrectionParts
   pub same : IsPermutation (corrections ops) ordered
   pub order : AreInOrder ordered
-  pub told : rows ≡ map (correction_row ops) ordered
+  pub each : stamped ≡ map (with_count ops) ordered
+
+-- the rows are those of the corrections of a set, in order
+abbrev pub AreCorrectionRows : List Op → List (List (List ℕ)) → Type 0
+AreCorrectionRows ops rows = (stamped : List Stamped) × AreCorrections ops stamped × (rows ≡ map correction_row stamped)

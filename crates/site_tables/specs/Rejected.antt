@@ -72,6 +72,10 @@ named_pairs c = map (λ u. (u, c)) (named_in c)
 abbrev pub row_by : List (Under ContentParts) → List ℕ → List (List ℕ)
 row_by entries uid = rejected_row (held_under uid (pairs entries)) uid
 
+-- the rows of all UIDs that some notes name
+abbrev pub rows_named : List ContentParts → List (List (List ℕ))
+rows_named notes = map (rejected_row notes) (covered_uids notes)
+
 -- the rows of all UIDs that notes of a set name
 abbrev pub rejected_rows : List Op → List (List (List ℕ))
-rejected_rows ops = map (rejected_row (notes_of ops)) (covered_uids (notes_of ops))
+rejected_rows ops = rows_named (notes_of ops)

@@ -1,5 +1,5 @@
 -- The studies, as a C-FIND answers them to the called title ARCHIVE.
-use Rattle.std.specs.Prelude.{ℕ, List, [], ◌∷◌, Option, None, false, length, map, codes, if◌then◌else◌}
+use Rattle.std.specs.Prelude.{◌≡◌, ℕ, List, [], ◌∷◌, ◌++◌, Option, None, false, length, map, codes, if◌then◌else◌}
 use Rattle.std.specs.List.{filter_map}
 use Rattle.std.specs.Fmt.{decimal}
 use Rattle.dictionary.specs.declared.elements.TheConstants.{NUMBER_OF_STUDY_RELATED_INSTANCES}
@@ -18,7 +18,9 @@ use Rattle.query_model.specs.declared.asked.Asked.{Asked}
 use Rattle.query_model.specs.declared.query.Query.{Query}
 use Rattle.query_model.specs.declared.key.Level.TheVariants.{Study}
 use Rattle.query_model.specs.Rows.{rows_of}
+use Rattle.archive_query.specs.Found.{rows_found}
 use Rattle.study_index.specs.Index.{is_short}
+use Rattle.site_tables.specs.declared.studies.TakenStudies.{TakenStudies}
 use Rattle.site_tables.specs.declared.under.Under.{Under}
 use Rattle.site_tables.specs.Under.{pairs, held_under}
 use Rattle.site_tables.specs.Rejected.{notes_of, covered_uids}
@@ -51,26 +53,39 @@ rejected_picks ops = filter_map (pick_of_short ops) (covered_uids (notes_of ops)
 abbrev pub value_or_none : ℕ → Set → List ℕ
 value_or_none tag set = value_or_empty (value_in tag set.elements)
 
--- the values of an answered study, and how many of the rejected are of it
-abbrev pub study_row : List ContentParts → Set → List (List ℕ)
-study_row rejected set =
-    value_or_none STUDY_INSTANCE_UID set ∷ value_or_none PATIENT_ID set ∷ value_or_none PATIENT_NAME set
-    ∷ value_or_none STUDY_DATE set ∷ value_or_none NUMBER_OF_STUDY_RELATED_SERIES set
-    ∷ value_or_none NUMBER_OF_STUDY_RELATED_INSTANCES set
-    ∷ decimal (length (in_study (value_or_none STUDY_INSTANCE_UID set) rejected)) ∷ []
+-- the values of an answered study under some tags, and how many of the rejected are of it
+abbrev pub row_with : List ℕ → List ContentParts → Set → List (List ℕ)
+row_with tags rejected set =
+    map (λ tag. value_or_none tag set) tags
+    ++ decimal (length (in_study (value_or_none STUDY_INSTANCE_UID set) rejected)) ∷ []
+
+-- what is told of each study
+abbrev pub study_tags : List ℕ
+study_tags =
+    STUDY_INSTANCE_UID ∷ PATIENT_ID ∷ PATIENT_NAME ∷ STUDY_DATE ∷ NUMBER_OF_STUDY_RELATED_SERIES
+    ∷ NUMBER_OF_STUDY_RELATED_INSTANCES ∷ []
 
 -- a content under its study
 abbrev pub study_pair : ContentParts → List ℕ × ContentParts
 study_pair c = (study_of c, c)
 
 -- the same row, by the contents that lie under the study
-abbrev pub row_by : List (Under ContentParts) → Set → List (List ℕ)
-row_by entries set =
-    value_or_none STUDY_INSTANCE_UID set ∷ value_or_none PATIENT_ID set ∷ value_or_none PATIENT_NAME set
-    ∷ value_or_none STUDY_DATE set ∷ value_or_none NUMBER_OF_STUDY_RELATED_SERIES set
-    ∷ value_or_none NUMBER_OF_STUDY_RELATED_INSTANCES set
-    ∷ decimal (length (held_under (value_or_none STUDY_INSTANCE_UID set) (pairs entries))) ∷ []
+abbrev pub row_by : List ℕ → List (Under ContentParts) → Set → List (List ℕ)
+row_by tags entries set =
+    map (λ tag. value_or_none tag set) tags
+    ++ decimal (length (held_under (value_or_none STUDY_INSTANCE_UID set) (pairs entries))) ∷ []
 
 -- the rows of what a C-FIND for all studies answers in ARCHIVE
 abbrev pub study_rows : List Op → List (List (List ℕ))
-study_rows ops = map (study_row (rejected_picks ops)) (rows_of Archive (codes "ARCHIVE") study_query ops)
+study_rows ops =
+    map (row_with study_tags (rejected_picks ops)) (rows_of Archive (codes "ARCHIVE") study_query ops)
+
+-- what a look took for rows of studies: what the rows of a query are made of, and the rejected picks
+pub record AreTaken (q : Query) (ops : List Op) (taken : TakenStudies) : Type 0 where
+  pub rows : (called : List ℕ) → rows_found called q taken.found ≡ rows_of Archive called q ops
+  pub rejected : taken.rejected ≡ rejected_picks ops
+
+-- the rows of all studies, by what was taken
+abbrev pub rows_taken : TakenStudies → List (List (List ℕ))
+rows_taken taken =
+    map (row_with study_tags taken.rejected) (rows_found (codes "ARCHIVE") study_query taken.found)

@@ -1,5 +1,5 @@
 -- What lies under UIDs.
-use Rattle.std.specs.Prelude.{◌≡◌, ℕ, List, Bool, true, false, map}
+use Rattle.std.specs.Prelude.{◌≡◌, ◌==◌, ℕ, List, Bool, true, false, length, map, not}
 use Rattle.std.specs.List.{filter}
 use Rattle.std.specs.List.Sorted.{IsSortedBy, IsPartitionPoint}
 use Rattle.std.specs.Ordering.{is_lt, is_le}
@@ -20,6 +20,14 @@ is_at uid pair = same pair.0 uid
 -- what lies under a UID, in the order given
 abbrev pub held_under : {T : Type 0} → List ℕ → List (List ℕ × T) → List T
 held_under uid some = map (λ p. p.1) (filter (is_at uid) some)
+
+-- whether anything lies under a UID
+abbrev pub has_under : {T : Type 0} → List ℕ → List (List ℕ × T) → Bool
+has_under uid some = not (length (held_under uid some) == 0)
+
+-- a text under itself
+abbrev pub own_pair : List ℕ → List ℕ × List ℕ
+own_pair text = (text, text)
 
 -- no UID is less than the one before it
 abbrev pub AreInOrder : {T : Type 0} → List (Under T) → Type 0

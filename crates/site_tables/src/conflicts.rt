@@ -1,17 +1,18 @@
 //! The contents of each flagged UID.
 
-ghost use Rattle.std.specs.Prelude.{◌≡◌, ◌++◌, IfOk, OnOk, map};
+ghost use Rattle.std.specs.Prelude.{◌≡◌, ◌++◌, true, IfOk, OnOk, map};
 ghost use Rattle.std.specs.List.{filter_map};
 ghost use Rattle.std.specs.Option.{option_map};
 ghost use Rattle.operation.specs.declared.op.Op.TheVariants.{Content as a_content};
 ghost use Rattle.operation.specs.Spelling.{digest_of};
+ghost use Rattle.archive_model.specs.Contents.{pick as pick_in};
 ghost use Rattle.site_state.specs.Site.{ops_of};
-ghost use Rattle.site_tables.specs.Conflicts.{is_pick as is_pick_in, conflict_row as row_of, conflicts_in, conflicts_among, conflicts_of, conflict_rows as rows_in, instance_pair};
-ghost use Rattle.site_tables.specs.Under.{pair_of, pairs, Holds};
+ghost use Rattle.site_tables.specs.Conflicts.{digest_if, is_this as is_this_in, with_pick as with_pick_in, conflict_row as row_of, conflicts_in, conflicts_among, conflicts_of, conflicts as conflicts_all, conflict_rows as rows_in, instance_pair};
+ghost use Rattle.site_tables.specs.Under.{pair_of, pairs, has_under, own_pair, AreInOrder, Holds};
 
 use crate::cells::{hex_digits, word};
 use crate::table::Row;
-use crate::under::{Under, put_in_order, those_under};
+use crate::under::{Under, put_in_order, run_under, those_under};
 use archive_model::study;
 use live_picks::ShortText;
 use octets::{ListOf, Octets, digits};
@@ -19,41 +20,43 @@ use operation::{Content, Digest, Op, digest};
 use site_state::Site;
 use std::alloc::{AllocError, Global};
 
-/// Whether a content, which has this digest, is the pick of its SOP Instance UID.
-fn is_pick(site: &Site, digest: &Digest, content: &Content) -> bool
-    requires { digest.now ≡ digest_of (a_content content.now) }
-    ensures { result ≡ is_pick_in (ops_of site.now) content.now }
+/// A content of a flagged SOP Instance UID, and the digest of the pick of the UID.
+#[derive(Drop)]
+pub struct Flagged {
+    content: Content,
+    pick: Option<Digest>,
+}
+
+/// The digest of the pick of a content's SOP Instance UID.
+fn pick_of(site: &Site, content: &Content) -> Option<Digest>
+    ensures { result ≡ digest_if (pick_in content.now.instance (ops_of site.now)) }
 {
     match site.index().pick(&ShortText::whole(content.instance())) {
-        None => false,
-        Some(picked) => picked.digest.as_bytes() == digest.as_bytes(),
+        None => None,
+        Some(picked) => Some(picked.digest),
     }
 }
 
-/// The row of a content, which has this digest.
-fn row(alloc: Global, site: &Site, digest: &Digest, content: &Content) -> Result<Row, AllocError>
-    requires { digest.now ≡ digest_of (a_content content.now) }
-    ensures { IfOk result (λ row. row ≡ row_of (ops_of site.now) content.now) }
+/// A second owner of a content, with the digest of the pick of its SOP Instance UID.
+fn with_pick(alloc: Global, site: &Site, content: &Content) -> Result<Flagged, AllocError>
+    ensures { IfOk result (λ flagged. flagged ≡ with_pick_in (ops_of site.now) content.now) }
 {
-    let mut cells = ListOf::new(alloc);
-    cells.push(Octets::from_slice(alloc, content.instance())?)?;
-    cells.push(hex_digits(alloc, digest)?)?;
-    cells.push(digits(alloc, content.body().len() as u64)?)?;
-    cells.push(Octets::from_slice(alloc, study(content))?)?;
-    cells.push(word(alloc, is_pick(site, digest, content))?)?;
-    Ok(cells)
+    Ok(Flagged {
+        content: content.copy(alloc)?,
+        pick: pick_of(site, content),
+    })
 }
 
-/// Puts the row of an operation that is a content of a SOP Instance UID.
+/// Puts an operation that is a content of a SOP Instance UID.
 fn put_conflict(
     alloc: Global,
     site: &Site,
     uid: &[u8],
     op: &Op,
-    rows: &mut Vec<Row>,
+    found: &mut Vec<Flagged>,
 ) -> Result<(), AllocError>
-    ensures { OnOk result (rows.new.items ≡
-        rows.old.items ++ conflicts_in (ops_of site.now) uid.now op.now) }
+    ensures { OnOk result (found.new.items ≡
+        found.old.items ++ conflicts_in (ops_of site.now) uid.now op.now) }
 {
     match op {
         Op::Correction(_) => Ok(()),
@@ -61,50 +64,69 @@ fn put_conflict(
             if content.instance() != uid {
                 return Ok(());
             }
-            rows.push(row(alloc, site, &digest(op), content)?)?;
+            found.push(with_pick(alloc, site, content)?)?;
             Ok(())
         }
     }
 }
 
-/// Puts the rows of the contents of a SOP Instance UID among some operations.
+/// Puts the contents of a SOP Instance UID among some operations.
 fn put_conflicts(
     alloc: Global,
     site: &Site,
     uid: &[u8],
     ops: &[&Op],
-    rows: &mut Vec<Row>,
+    found: &mut Vec<Flagged>,
 ) -> Result<(), AllocError>
-    ensures { OnOk result (rows.new.items ≡ rows.old.items
+    ensures { OnOk result (found.new.items ≡ found.old.items
         ++ conflicts_among (ops_of site.now) uid.now (map (λ o. o.now) ops.now)) }
 {
     for op in ops {
-        put_conflict(alloc, site, uid, op, rows)?;
+        put_conflict(alloc, site, uid, op, found)?;
     }
     Ok(())
 }
 
-/// An operation under its SOP Instance UID, where it is a content.
-fn under_instance(op: &Op) -> Option<Under<'_, Op>>
-    ensures { option_map pair_of result ≡ instance_pair op.now }
+/// Whether a UID is one of these.
+fn is_marked(marks: &[Under<'_, Octets>], uid: &[u8]) -> bool
+    requires { AreInOrder marks.now }
+    ensures { result ≡ has_under uid.now (pairs marks.now) }
+{
+    !run_under(marks, uid).is_empty()
+}
+
+/// An operation under its SOP Instance UID, where it is a content of one of these.
+fn under_instance<'a>(marks: &[Under<'_, Octets>], op: &'a Op) -> Option<Under<'a, Op>>
+    requires { AreInOrder marks.now }
+    ensures { option_map pair_of result ≡ instance_pair (pairs marks.now) op.now }
 {
     match op {
         Op::Correction(_) => None,
-        Op::Content(content) => Some(Under {
-            uid: content.instance(),
-            held: op,
-        }),
+        Op::Content(content) => {
+            if !is_marked(marks, content.instance()) {
+                return None;
+            }
+            Some(Under {
+                uid: content.instance(),
+                held: op,
+            })
+        }
     }
 }
 
-/// Those of some operations that are contents, each under its SOP Instance UID.
-fn under_instances<'a>(alloc: Global, ops: &[&'a Op]) -> Result<Vec<Under<'a, Op>>, AllocError>
+/// Those of some operations that are contents of one of these, each under its SOP Instance UID.
+fn under_instances<'a>(
+    alloc: Global,
+    marks: &[Under<'_, Octets>],
+    ops: &[&'a Op],
+) -> Result<Vec<Under<'a, Op>>, AllocError>
+    requires { AreInOrder marks.now }
     ensures { IfOk result (λ found. pairs found.items
-        ≡ filter_map instance_pair (map (λ o. o.now) ops.now)) }
+        ≡ filter_map (instance_pair (pairs marks.now)) (map (λ o. o.now) ops.now)) }
 {
     let mut found = Vec::new(alloc);
     for op in ops {
-        if let Some(entry) = under_instance(op) {
+        if let Some(entry) = under_instance(marks, op) {
             found.push(entry)?;
         }
     }
@@ -112,29 +134,119 @@ fn under_instances<'a>(alloc: Global, ops: &[&'a Op]) -> Result<Vec<Under<'a, Op
 }
 
 /// The same, in the order of these UIDs.
-fn by_instance<'a>(alloc: Global, ops: &[&'a Op]) -> Result<Vec<Under<'a, Op>>, AllocError>
-    ensures { IfOk result (λ found.
-        Holds (filter_map instance_pair (map (λ o. o.now) ops.now)) found.items) }
+fn by_instance<'a>(
+    alloc: Global,
+    marks: &[Under<'_, Octets>],
+    ops: &[&'a Op],
+) -> Result<Vec<Under<'a, Op>>, AllocError>
+    requires { AreInOrder marks.now }
+    ensures { IfOk result (λ found. Holds
+        (filter_map (instance_pair (pairs marks.now)) (map (λ o. o.now) ops.now)) found.items) }
 {
-    let mut entries = under_instances(alloc, ops)?;
+    let mut entries = under_instances(alloc, marks, ops)?;
     put_in_order(&mut entries)?;
     Ok(entries)
 }
 
-/// Puts the rows of the contents of a SOP Instance UID among all operations.
+/// Each of some UIDs under itself.
+fn under_themselves(alloc: Global, uids: &[Octets]) -> Result<Vec<Under<'_, Octets>>, AllocError>
+    ensures { IfOk result (λ marks. pairs marks.items ≡ map own_pair uids.now) }
+{
+    let mut marks = Vec::with_capacity(alloc, uids.len())?;
+    for uid in uids {
+        marks.push(Under {
+            uid: uid.as_slice(),
+            held: uid,
+        })?;
+    }
+    Ok(marks)
+}
+
+/// The same, in their order.
+fn marks_of(alloc: Global, uids: &[Octets]) -> Result<Vec<Under<'_, Octets>>, AllocError>
+    ensures { IfOk result (λ marks. Holds (map own_pair uids.now) marks.items) }
+{
+    let mut marks = under_themselves(alloc, uids)?;
+    put_in_order(&mut marks)?;
+    Ok(marks)
+}
+
+/// Puts the contents of a SOP Instance UID, which is one of those that are marked.
 fn put_conflicts_of(
     alloc: Global,
     site: &Site,
     uid: &[u8],
+    marks: &[Under<'_, Octets>],
     entries: &[Under<'_, Op>],
-    rows: &mut Vec<Row>,
+    found: &mut Vec<Flagged>,
 ) -> Result<(), AllocError>
-    requires { Holds (filter_map instance_pair (ops_of site.now)) entries.now }
-    ensures { OnOk result (rows.new.items ≡
-        rows.old.items ++ conflicts_of (ops_of site.now) uid.now) }
+    requires marked { has_under uid.now (pairs marks.now) ≡ true }
+    requires held { Holds (filter_map (instance_pair (pairs marks.now)) (ops_of site.now))
+        entries.now }
+    ensures { OnOk result (found.new.items ≡
+        found.old.items ++ conflicts_of (ops_of site.now) uid.now) }
 {
     let ops = those_under(alloc, entries, uid)?;
-    put_conflicts(alloc, site, uid, &ops, rows)
+    put_conflicts(alloc, site, uid, &ops, found)
+}
+
+/// Second owners of the contents of each flagged SOP Instance UID, ascending, and of one UID
+/// ascending by digest. Nothing is hashed, and what is of no flagged UID is passed over.
+pub(crate) fn take_conflicts(alloc: Global, site: &Site) -> Result<Vec<Flagged>, AllocError>
+    ensures { IfOk result (λ found. found.items ≡ conflicts_all (ops_of site.now)) }
+{
+    let uids = site.flagged(alloc)?;
+    let mut found = Vec::new(alloc);
+    let ops = site.operations(alloc)?;
+    let marks = marks_of(alloc, &uids)?;
+    let entries = by_instance(alloc, &marks, &ops)?;
+    for uid in uids.as_slice() {
+        put_conflicts_of(alloc, site, uid.as_slice(), &marks, &entries, &mut found)?;
+    }
+    Ok(found)
+}
+
+/// Whether this is a digest, if there is one.
+fn is_this(other: &Option<Digest>, digest: &Digest) -> bool
+    ensures { result ≡ is_this_in other.now digest.now }
+{
+    match other {
+        None => false,
+        Some(other) => other.as_bytes() == digest.as_bytes(),
+    }
+}
+
+/// The digest of a content.
+fn content_digest(alloc: Global, content: &Content) -> Result<Digest, AllocError>
+    ensures { IfOk result (λ digest. digest ≡ digest_of (a_content content.now)) }
+{
+    Ok(digest(&Op::Content(content.copy(alloc)?)))
+}
+
+/// The row of a content of a flagged SOP Instance UID.
+fn row(alloc: Global, flagged: &Flagged) -> Result<Row, AllocError>
+    ensures { IfOk result (λ row. row ≡ row_of flagged.now) }
+{
+    let content = &flagged.content;
+    let digest = content_digest(alloc, content)?;
+    let mut cells = ListOf::new(alloc);
+    cells.push(Octets::from_slice(alloc, content.instance())?)?;
+    cells.push(hex_digits(alloc, &digest)?)?;
+    cells.push(digits(alloc, content.body().len() as u64)?)?;
+    cells.push(Octets::from_slice(alloc, study(content))?)?;
+    cells.push(word(alloc, is_this(&flagged.pick, &digest))?)?;
+    Ok(cells)
+}
+
+/// The rows of what was taken.
+pub(crate) fn rows_of_conflicts(alloc: Global, found: &[Flagged]) -> Result<Vec<Row>, AllocError>
+    ensures { IfOk result (λ rows. rows.items ≡ map row_of found.now) }
+{
+    let mut rows = Vec::with_capacity(alloc, found.len())?;
+    for flagged in found {
+        rows.push(row(alloc, flagged)?)?;
+    }
+    Ok(rows)
 }
 
 /// Of each flagged SOP Instance UID, ascending, its contents, ascending by digest: the UID, the
@@ -142,12 +254,6 @@ fn put_conflicts_of(
 pub fn conflict_rows(alloc: Global, site: &Site) -> Result<Vec<Row>, AllocError>
     ensures { IfOk result (λ rows. rows.items ≡ rows_in (ops_of site.now)) }
 {
-    let uids = site.flagged(alloc)?;
-    let mut rows = Vec::new(alloc);
-    let ops = site.operations(alloc)?;
-    let entries = by_instance(alloc, &ops)?;
-    for uid in uids.as_slice() {
-        put_conflicts_of(alloc, site, uid.as_slice(), &entries, &mut rows)?;
-    }
-    Ok(rows)
+    let found = take_conflicts(alloc, site)?;
+    rows_of_conflicts(alloc, &found)
 }

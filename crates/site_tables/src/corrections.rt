@@ -8,7 +8,7 @@ ghost use Rattle.operation.specs.Parts.{key_of as key_in};
 ghost use Rattle.archive_model.specs.Attributes.{corrections as corrections_in, correction_in};
 ghost use Rattle.std.specs.Option.{option_copied};
 ghost use Rattle.site_state.specs.Site.{ops_of};
-ghost use Rattle.site_tables.specs.Corrections.{kind_word, target_cmp, order_cmp, AreInOrder, counts as counts_in, correction_row as row_of, AreCorrectionRows};
+ghost use Rattle.site_tables.specs.Corrections.{kind_word, target_cmp, order_cmp, AreInOrder, counts as counts_in, with_count as with_count_in, correction_row as row_of, AreCorrections, AreCorrectionRows};
 
 use crate::cells::word;
 use crate::table::Row;
@@ -17,6 +17,13 @@ use operation::{Correction, Op, Target};
 use site_state::Site;
 use std::alloc::{AllocError, Global};
 use std::cmp::Ordering;
+
+/// A correction, and whether it counts.
+#[derive(Drop)]
+pub struct Stamped {
+    correction: Correction,
+    counts: bool,
+}
 
 /// The correction in an operation.
 fn correction(op: &Op) -> Option<&Correction>
@@ -113,10 +120,49 @@ fn tag_digits(alloc: Global, tag: u32) -> Result<Octets, AllocError>
     Octets::from_slice(alloc, text.as_bytes())
 }
 
-/// The row of a correction.
-fn row(alloc: Global, site: &Site, correction: &Correction) -> Result<Row, AllocError>
-    ensures { IfOk result (λ row. row ≡ row_of (ops_of site.now) correction.now) }
+/// A second owner of a correction, with whether it counts.
+fn with_count(alloc: Global, site: &Site, correction: &Correction) -> Result<Stamped, AllocError>
+    ensures { IfOk result (λ stamped. stamped ≡ with_count_in (ops_of site.now) correction.now) }
 {
+    Ok(Stamped {
+        correction: correction.copy(alloc)?,
+        counts: counts(site, correction),
+    })
+}
+
+/// Some corrections, each with whether it counts.
+fn with_counts(
+    alloc: Global,
+    site: &Site,
+    corrections: &[&Correction],
+) -> Result<Vec<Stamped>, AllocError>
+    ensures { IfOk result (λ found. found.items
+        ≡ map (with_count_in (ops_of site.now)) (map (λ k. k.now) corrections.now)) }
+{
+    let mut found = Vec::with_capacity(alloc, corrections.len())?;
+    for correction in corrections {
+        found.push(with_count(alloc, site, correction)?)?;
+    }
+    Ok(found)
+}
+
+/// Second owners of the corrections of a site, in the order of the rows, each with whether it
+/// counts.
+pub(crate) fn take_corrections(alloc: Global, site: &Site) -> Result<Vec<Stamped>, AllocError>
+    ensures { IfOk result (λ found. AreCorrections (ops_of site.now) found.items) }
+{
+    let ops = site.operations(alloc)?;
+    let mut corrections = corrections_of(alloc, &ops)?;
+    put_in_order(&mut corrections);
+    let found = with_counts(alloc, site, &corrections)?;
+    Ok(found)
+}
+
+/// The row of a correction.
+fn row(alloc: Global, stamped: &Stamped) -> Result<Row, AllocError>
+    ensures { IfOk result (λ row. row ≡ row_of stamped.now) }
+{
+    let correction = &stamped.correction;
     let target = correction.target();
     let stamp = correction.stamp();
     let mut cells = ListOf::new(alloc);
@@ -126,18 +172,17 @@ fn row(alloc: Global, site: &Site, correction: &Correction) -> Result<Row, Alloc
     cells.push(Octets::from_slice(alloc, correction.value())?)?;
     cells.push(digits(alloc, stamp.counter)?)?;
     cells.push(digits(alloc, u64::from(stamp.site))?)?;
-    cells.push(word(alloc, counts(site, correction))?)?;
+    cells.push(word(alloc, stamped.counts)?)?;
     Ok(cells)
 }
 
-/// The rows of some corrections.
-fn rows_at(alloc: Global, site: &Site, corrections: &[&Correction]) -> Result<Vec<Row>, AllocError>
-    ensures { IfOk result (λ rows. rows.items
-        ≡ map (row_of (ops_of site.now)) (map (λ k. k.now) corrections.now)) }
+/// The rows of what was taken.
+pub(crate) fn rows_of_corrections(alloc: Global, found: &[Stamped]) -> Result<Vec<Row>, AllocError>
+    ensures { IfOk result (λ rows. rows.items ≡ map row_of found.now) }
 {
-    let mut rows = Vec::with_capacity(alloc, corrections.len())?;
-    for correction in corrections {
-        rows.push(row(alloc, site, correction)?)?;
+    let mut rows = Vec::with_capacity(alloc, found.len())?;
+    for stamped in found {
+        rows.push(row(alloc, stamped)?)?;
     }
     Ok(rows)
 }
@@ -148,9 +193,6 @@ fn rows_at(alloc: Global, site: &Site, corrections: &[&Correction]) -> Result<Ve
 pub fn correction_rows(alloc: Global, site: &Site) -> Result<Vec<Row>, AllocError>
     ensures { IfOk result (λ rows. AreCorrectionRows (ops_of site.now) rows.items) }
 {
-    let ops = site.operations(alloc)?;
-    let mut corrections = corrections_of(alloc, &ops)?;
-    put_in_order(&mut corrections);
-    let rows = rows_at(alloc, site, &corrections)?;
-    Ok(rows)
+    let found = take_corrections(alloc, site)?;
+    rows_of_corrections(alloc, &found)
 }

@@ -7,16 +7,19 @@
 
 mod cells;
 mod conflicts;
+mod copies;
 mod corrections;
 mod laws;
 mod rejected;
 mod studies;
 mod table;
+mod taken;
 mod under;
 
 pub use conflicts::conflict_rows;
 pub use corrections::correction_rows;
 pub use laws::the_rejected_are_what_is_covered;
-pub use rejected::rejected_rows;
-pub use studies::study_rows;
+pub use rejected::{rejected_rows, rows_of_uids, take_notes};
+pub use studies::{TakenStudies, study_rows};
 pub use table::{Row, Table, rows_of_table};
+pub use taken::TakenTable;

@@ -6,9 +6,10 @@ ghost use Rattle.std.specs.Option.{option_copied};
 ghost use Rattle.archive_model.specs.Covered.{is_among as is_among_in};
 ghost use Rattle.archive_model.specs.Index.{names_under as names_under_in};
 ghost use Rattle.site_state.specs.Site.{ops_of};
-ghost use Rattle.site_tables.specs.Rejected.{note_of, notes_of, named_by, covered_uids as covered_in, is_naming as is_naming_in, naming as naming_in, is_titled as is_titled_in, code_under, codes as codes_in, rejected_row as row_of, rejected_rows as rows_in, named_pairs, row_by};
+ghost use Rattle.site_tables.specs.Rejected.{note_of, notes_of, named_by, covered_uids as covered_in, is_naming as is_naming_in, naming as naming_in, is_titled as is_titled_in, code_under, codes as codes_in, rejected_row as row_of, rows_named as rows_in, rejected_rows as rejected_rows_in, named_pairs, row_by};
 ghost use Rattle.site_tables.specs.Under.{pairs, held_under, AreInOrder, Holds};
 
+use crate::copies::{copies_of, references};
 use crate::table::Row;
 use crate::under::{Under, put_in_order, those_under};
 use archive_model::title_code;
@@ -265,15 +266,45 @@ pub(crate) fn covered_uids(alloc: Global, site: &Site) -> Result<Vec<Octets>, Al
     Ok(uids)
 }
 
-/// Of each SOP Instance UID that a note names, ascending: the UID, the codes of the titles of the
-/// notes that name it, and the SOP Instance UIDs of these notes.
-pub fn rejected_rows(alloc: Global, site: &Site) -> Result<Vec<Row>, AllocError>
-    ensures { IfOk result (λ rows. rows.items ≡ rows_in (ops_of site.now)) }
+/// Second owners of the notes of a site.
+pub fn take_notes(alloc: Global, site: &Site) -> Result<Vec<Content>, AllocError>
+    ensures { IfOk result (λ notes. notes.items ≡ notes_of (ops_of site.now)) }
 {
     let ops = site.operations(alloc)?;
     let notes = notes_in(alloc, &ops)?;
+    let taken = copies_of(alloc, &notes)?;
+    Ok(taken)
+}
+
+/// Of each of some SOP Instance UIDs, in their order: the UID, the codes of the titles of those of
+/// some notes that name it, and the SOP Instance UIDs of these notes.
+pub fn rows_of_uids(
+    alloc: Global,
+    taken: &[Content],
+    uids: &[Octets],
+) -> Result<Vec<Row>, AllocError>
+    ensures { IfOk result (λ rows. rows.items ≡ map (row_of taken.now) uids.now) }
+{
+    let notes = references(alloc, taken)?;
     let entries = by_named(alloc, &notes)?;
-    let uids = uids_named(alloc, &notes)?;
-    let rows = rows_at(alloc, &entries, &uids)?;
+    let rows = rows_at(alloc, &entries, uids)?;
     Ok(rows)
+}
+
+/// The rows of the UIDs that some notes name.
+pub(crate) fn rows_of_notes(alloc: Global, taken: &[Content]) -> Result<Vec<Row>, AllocError>
+    ensures { IfOk result (λ rows. rows.items ≡ rows_in taken.now) }
+{
+    let notes = references(alloc, taken)?;
+    let uids = uids_named(alloc, &notes)?;
+    rows_of_uids(alloc, taken, &uids)
+}
+
+/// Of each SOP Instance UID that a note names, ascending: the UID, the codes of the titles of the
+/// notes that name it, and the SOP Instance UIDs of these notes.
+pub fn rejected_rows(alloc: Global, site: &Site) -> Result<Vec<Row>, AllocError>
+    ensures { IfOk result (λ rows. rows.items ≡ rejected_rows_in (ops_of site.now)) }
+{
+    let notes = take_notes(alloc, site)?;
+    rows_of_notes(alloc, &notes)
 }

@@ -1,19 +1,21 @@
 //! The studies.
 
-ghost use Rattle.std.specs.Prelude.{◌≡◌, IfOk, map, length};
+ghost use Rattle.std.specs.Prelude.{◌≡◌, ◌++◌, codes, IfOk, OnOk, map, length};
 ghost use Rattle.std.specs.Fmt.{decimal};
 ghost use Rattle.std.specs.Option.{option_copied};
-ghost use Rattle.operation.specs.Parts.{value_or_empty};
-ghost use Rattle.data_set.specs.Values.{value_in};
+ghost use Rattle.archive_query.specs.Found.{rows_found as rows_found_in};
 ghost use Rattle.site_state.specs.Site.{ops_of};
-ghost use Rattle.site_tables.specs.Studies.{asked_of as asked_in, study_query as query_in, pick_of_short, rejected_picks as rejected_in, study_rows as rows_in, study_pair, row_by};
+ghost use Rattle.site_tables.specs.Studies.{asked_of as asked_in, study_query as query_in, pick_of_short, rejected_picks as rejected_in, row_with, rows_taken, study_rows as rows_in, study_pair, row_by, value_or_none, AreTaken};
 ghost use Rattle.site_tables.specs.Under.{pairs, held_under, AreInOrder, Holds};
 
+use crate::copies::{copies_of, references};
 use crate::rejected::covered_uids;
 use crate::table::Row;
 use crate::under::{Under, put_in_order, run_under};
 use archive_model::{View, study};
-use archive_query::{Answer, Asked, Level, Matching, Query, find};
+use archive_query::{
+    Answer, Answers, Asked, Found, Level, Matching, PreparedQuery, Query, rows_found, take,
+};
 use data_set::DataSet;
 use dictionary::{
     NUMBER_OF_STUDY_RELATED_INSTANCES, NUMBER_OF_STUDY_RELATED_SERIES, PATIENT_ID, PATIENT_NAME,
@@ -24,6 +26,24 @@ use octets::{ListOf, Octets, digits};
 use operation::Content;
 use site_state::Site;
 use std::alloc::{AllocError, Global};
+
+/// What a look takes for rows of studies: what the rows of a query are made of, and the picks of
+/// the UIDs that notes name.
+#[derive(Drop)]
+pub struct TakenStudies {
+    found: Found,
+    rejected: ListOf<Content>,
+}
+
+/// What is told of each study, besides how many of its instances are rejected.
+const TOLD: [u32; 6] = [
+    STUDY_INSTANCE_UID,
+    PATIENT_ID,
+    PATIENT_NAME,
+    STUDY_DATE,
+    NUMBER_OF_STUDY_RELATED_SERIES,
+    NUMBER_OF_STUDY_RELATED_INSTANCES,
+];
 
 /// A universal key (PS3.4, section C.2.2.2.3).
 fn asked(alloc: Global, tag: u32, matching: Matching) -> Asked
@@ -126,7 +146,7 @@ fn count_of_study(
 
 /// The trimmed value of an element, empty where there is none.
 fn value(set: &DataSet, tag: u32) -> &[u8]
-    ensures { result.now ≡ value_or_empty (value_in tag set.now.elements) }
+    ensures { result.now ≡ value_or_none tag set.now }
 {
     match set.value(tag) {
         None => &[],
@@ -134,40 +154,111 @@ fn value(set: &DataSet, tag: u32) -> &[u8]
     }
 }
 
-/// The row of a study that is answered.
-fn row(alloc: Global, entries: &[Under<'_, Content>], set: &DataSet) -> Result<Row, AllocError>
-    requires { AreInOrder entries.now }
-    ensures { IfOk result (λ row. row ≡ row_by entries.now set.now) }
+/// Puts the values of some elements into the cells of a row.
+fn put_values(alloc: Global, set: &DataSet, tags: &[u32], cells: &mut Row) -> Result<(), AllocError>
+    ensures { OnOk result
+        (cells.new ≡ cells.old ++ map (λ tag. value_or_none tag set.now) tags.now) }
 {
-    let uid = value(set, STUDY_INSTANCE_UID);
-    let series = value(set, NUMBER_OF_STUDY_RELATED_SERIES);
-    let instances = value(set, NUMBER_OF_STUDY_RELATED_INSTANCES);
+    for tag in tags {
+        cells.push(Octets::from_slice(alloc, value(set, *tag))?)?;
+    }
+    Ok(())
+}
+
+/// The row of a study that is answered.
+fn row(
+    alloc: Global,
+    tags: &[u32],
+    entries: &[Under<'_, Content>],
+    set: &DataSet,
+) -> Result<Row, AllocError>
+    requires { AreInOrder entries.now }
+    ensures { IfOk result (λ row. row ≡ row_by tags.now entries.now set.now) }
+{
     let mut cells = ListOf::new(alloc);
-    cells.push(Octets::from_slice(alloc, uid)?)?;
-    cells.push(Octets::from_slice(alloc, value(set, PATIENT_ID))?)?;
-    cells.push(Octets::from_slice(alloc, value(set, PATIENT_NAME))?)?;
-    cells.push(Octets::from_slice(alloc, value(set, STUDY_DATE))?)?;
-    cells.push(Octets::from_slice(alloc, series)?)?;
-    cells.push(Octets::from_slice(alloc, instances)?)?;
-    cells.push(count_of_study(alloc, entries, uid)?)?;
+    put_values(alloc, set, tags, &mut cells)?;
+    cells.push(count_of_study(alloc, entries, value(set, STUDY_INSTANCE_UID))?)?;
     Ok(cells)
 }
 
 /// The rows of what is answered.
 fn rows_at(
     alloc: Global,
+    tags: &[u32],
     entries: &[Under<'_, Content>],
     answers: &[Answer],
 ) -> Result<Vec<Row>, AllocError>
     requires { AreInOrder entries.now }
-    ensures { IfOk result (λ rows. rows.items ≡ map (row_by entries.now) answers.now) }
+    ensures { IfOk result (λ rows. rows.items ≡ map (row_by tags.now entries.now) answers.now) }
 {
     let mut rows = Vec::with_capacity(alloc, answers.len())?;
     for answer in answers {
         let set = answer.to_set(alloc)?;
-        rows.push(row(alloc, entries, &set)?)?;
+        rows.push(row(alloc, tags, entries, &set)?)?;
     }
     Ok(rows)
+}
+
+impl TakenStudies {
+    /// Takes from a site, in ARCHIVE, what rows of the studies are made of that a query finds.
+    pub fn of(
+        alloc: Global,
+        site: &Site,
+        prepared: &PreparedQuery,
+    ) -> Result<TakenStudies, AllocError>
+        ensures { IfOk result (AreTaken prepared.now (ops_of site.now)) }
+    {
+        let rejected = rejected_picks(alloc, site)?;
+        Ok(TakenStudies {
+            found: take(alloc, site, View::Archive, prepared)?,
+            rejected: ListOf::of(copies_of(alloc, &rejected)?),
+        })
+    }
+
+    /// What a C-FIND with this query answers to the called title ARCHIVE, by what was taken.
+    pub fn answers(&self, alloc: Global, query: &Query) -> Result<Answers, AllocError>
+        ensures { IfOk result (λ answers. answers
+            ≡ rows_found_in (codes "ARCHIVE") query.now self.now.found) }
+    {
+        rows_found(alloc, &self.found, b"ARCHIVE", query)
+    }
+
+    /// The rows of some of these answers: the values of each under some tags, and how many
+    /// instances of its study are rejected.
+    pub fn rows(
+        &self,
+        alloc: Global,
+        tags: &[u32],
+        answers: &[Answer],
+    ) -> Result<Vec<Row>, AllocError>
+        ensures { IfOk result (λ rows. rows.items
+            ≡ map (row_with tags.now self.now.rejected) answers.now) }
+    {
+        let rejected = references(alloc, self.rejected.as_slice())?;
+        let entries = by_study(alloc, &rejected)?;
+        let rows = rows_at(alloc, tags, &entries, answers)?;
+        Ok(rows)
+    }
+}
+
+/// Takes what the rows of all studies are made of.
+pub(crate) fn take_studies(alloc: Global, site: &Site) -> Result<TakenStudies, AllocError>
+    ensures { IfOk result (AreTaken query_in (ops_of site.now)) }
+{
+    let query = study_query(alloc)?;
+    let prepared = PreparedQuery::of(alloc, &query)?;
+    let taken = TakenStudies::of(alloc, site, &prepared)?;
+    Ok(taken)
+}
+
+/// The rows of what was taken.
+pub(crate) fn rows_of_studies(alloc: Global, taken: &TakenStudies) -> Result<Vec<Row>, AllocError>
+    ensures { IfOk result (λ rows. rows.items ≡ rows_taken taken.now) }
+{
+    let query = study_query(alloc)?;
+    let answers = taken.answers(alloc, &query)?;
+    let answers = answers.into_vec(alloc)?;
+    taken.rows(alloc, TOLD.as_slice(), &answers)
 }
 
 /// Of each study that ARCHIVE shows, ascending, what a C-FIND answers there: the UID, Patient ID,
@@ -175,11 +266,6 @@ fn rows_at(
 pub fn study_rows(alloc: Global, site: &Site) -> Result<Vec<Row>, AllocError>
     ensures { IfOk result (λ rows. rows.items ≡ rows_in (ops_of site.now)) }
 {
-    let rejected = rejected_picks(alloc, site)?;
-    let entries = by_study(alloc, &rejected)?;
-    let query = study_query(alloc)?;
-    let answers = find(alloc, site, View::Archive, b"ARCHIVE", &query)?;
-    let answers = answers.into_vec(alloc)?;
-    let rows = rows_at(alloc, &entries, &answers)?;
-    Ok(rows)
+    let taken = take_studies(alloc, site)?;
+    rows_of_studies(alloc, &taken)
 }

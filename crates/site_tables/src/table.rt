@@ -1,13 +1,10 @@
 //! The tables by name.
 
-ghost use Rattle.std.specs.Prelude.{◌≡◌, IfOk};
+ghost use Rattle.std.specs.Prelude.{◌≡◌, IfOk, map};
 ghost use Rattle.site_state.specs.Site.{ops_of};
-ghost use Rattle.site_tables.specs.Tables.{IsTable};
+ghost use Rattle.site_tables.specs.Tables.{heading_of, IsTable};
 
-use crate::conflicts::conflict_rows;
-use crate::corrections::correction_rows;
-use crate::rejected::rejected_rows;
-use crate::studies::study_rows;
+use crate::taken::TakenTable;
 use octets::{ListOf, Octets};
 use site_state::Site;
 use std::alloc::{AllocError, Global};
@@ -28,7 +25,9 @@ pub enum Table {
 
 impl Table {
     /// What stands above the columns.
-    pub fn heading(self) -> &'static [&'static str] {
+    pub fn heading(self) -> &'static [&'static str]
+        ensures { map (λ word. word.now) result.now ≡ heading_of self }
+    {
         match self {
             Table::Conflicts => &["INSTANCE", "DIGEST", "BYTES", "STUDY", "PICK"],
             Table::Rejected => &["INSTANCE", "TITLES", "NOTES"],
@@ -50,10 +49,6 @@ impl Table {
 pub fn rows_of_table(alloc: Global, site: &Site, table: Table) -> Result<Vec<Row>, AllocError>
     ensures { IfOk result (λ rows. IsTable table (ops_of site.now) rows.items) }
 {
-    match table {
-        Table::Conflicts => conflict_rows(alloc, site),
-        Table::Rejected => rejected_rows(alloc, site),
-        Table::Corrections => correction_rows(alloc, site),
-        Table::Studies => study_rows(alloc, site),
-    }
+    let taken = TakenTable::of(alloc, site, table)?;
+    taken.rows(alloc)
 }

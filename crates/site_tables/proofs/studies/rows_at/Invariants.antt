@@ -4,4 +4,4 @@ use Rattle.site_tables.proofs.studies.rows_at.Given as goal
 
 -- The rows are those of the answers so far.
 abbrev pub invariant-loop-answer : goal.invariant-loop-answer
-invariant-loop-answer l = l.rows.items ≡ map (row_by l.entries) (take l.answer-index l.answers)
+invariant-loop-answer l = l.rows.items ≡ map (row_by l.tags l.entries) (take l.answer-index l.answers)

@@ -3,8 +3,8 @@ use Rattle.std.proofs.lemmas.List.Sorted.{IsPermutation-map}
 use Rattle.std.specs.List.Sorted.{IsPermutation}
 use Rattle.archive_model.specs.Attributes.{corrections}
 use Rattle.site_state.specs.Site.{ops_of}
-use Rattle.site_tables.specs.Corrections.{correction_row}
-use Rattle.site_tables.proofs.corrections.correction_rows.Goals as goal
+use Rattle.site_tables.specs.Corrections.{with_count}
+use Rattle.site_tables.proofs.corrections.take_corrections.Goals as goal
 
 -- The corrections in order are a permutation of those of the set.
 pub returns : goal.returns
@@ -20,6 +20,6 @@ returns c =
       same =
           subst (λ ks. IsPermutation ks ordered) found (IsPermutation-map (λ k. k.now) _ _ c.put_in_order.ensures.same);
       order = c.put_in_order.ensures.ordered;
-      told = c.in_ok-rows.ensures
-          ∙ ap (λ ks. map (correction_row all) (map (λ k. k.now) ks)) c.deref-2.ensures.value;
+      each = c.in_ok-found.ensures
+          ∙ ap (λ ks. map (with_count all) (map (λ k. k.now) ks)) c.deref-2.ensures.value;
     }
