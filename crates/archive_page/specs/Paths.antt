@@ -2,7 +2,7 @@
 use Rattle.std.specs.Prelude.{ℕ, List, Option, Some, None, Bool, ◌||◌, cond, codes}
 use Rattle.octets.specs.Texts.{same}
 use Rattle.archive_page.specs.declared.asked.Asked.{Asked}
-use Rattle.archive_page.specs.declared.asked.Asked.TheVariants.{Page, Style, Health, Nothing, Change}
+use Rattle.archive_page.specs.declared.asked.Asked.TheVariants.{Page, Style, Health, Metrics, Nothing, Change}
 use Rattle.archive_page.specs.declared.subject.Form.TheVariants.{Html, Json}
 use Rattle.archive_page.specs.declared.subject.Subject.{Subject}
 use Rattle.archive_page.specs.declared.subject.Subject.TheVariants.{Site, Studies, Rejected, Conflicts, Corrections}
@@ -27,7 +27,10 @@ json_at path =
 
 -- what else has a path
 abbrev pub other_at : List ℕ → Asked
-other_at path = cond (same path (codes "/style.css")) Style (cond (same path (codes "/health")) Health Nothing)
+other_at path =
+    cond (same path (codes "/style.css")) Style
+    (cond (same path (codes "/health")) Health
+    (cond (same path (codes "/metrics")) Metrics Nothing))
 
 abbrev pub in_json : Option Subject → List ℕ → Asked
 in_json (Some subject) path = Page subject Json

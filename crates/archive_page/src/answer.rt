@@ -2,11 +2,16 @@
 
 ghost use Rattle.std.specs.Prelude.{◌≡◌, IfOk, map};
 ghost use Rattle.std.specs.Option.{option_copied};
-ghost use Rattle.archive_page.specs.Answers.{number_of, page_answer as page_answer_of};
+ghost use Rattle.archive_page.specs.Answers.{number_of, told_as, page_answer as page_answer_of};
+ghost use Rattle.archive_page.specs.Answers.{listing_answer as listing_answer_of};
 ghost use Rattle.archive_page.specs.Answers.{health_answer as health_answer_of};
 ghost use Rattle.archive_page.specs.Answers.{style_answer as style_answer_of};
+ghost use Rattle.archive_page.specs.Answers.{metrics_answer as metrics_answer_of};
 ghost use Rattle.archive_page.specs.Answers.{refusal as refusal_of};
 
+use crate::listing::{Listing, listing_in_html};
+use crate::listing_json::listing_in_json;
+use crate::metrics::{Sample, metrics_in_text};
 use crate::pages::page_of;
 use crate::style::STYLE;
 use crate::subject::{Form, Subject};
@@ -18,6 +23,7 @@ use std::alloc::{AllocError, Global};
 #[derive(Clone, Copy, Debug, PartialEq, Eq)]
 pub enum Status {
     Ok,
+    BadRequest,
     NotFound,
     MethodNotAllowed,
     ServiceUnavailable,
@@ -30,6 +36,8 @@ pub enum Media {
     Json,
     Css,
     Plain,
+    /// The text format of Prometheus.
+    Metrics,
 }
 
 /// What a request is answered.
@@ -46,10 +54,22 @@ impl Status {
     {
         match self {
             Status::Ok => 200,
+            Status::BadRequest => 400,
             Status::NotFound => 404,
             Status::MethodNotAllowed => 405,
             Status::ServiceUnavailable => 503,
         }
+    }
+}
+
+/// An answer that tells this text.
+fn told(media: Media, text: Vec<u8>) -> Answer
+    ensures { result ≡ told_as media text.items }
+{
+    Answer {
+        status: Status::Ok,
+        media,
+        text: Octets::of(text),
     }
 }
 
@@ -65,16 +85,18 @@ pub fn page_answer(
         ≡ page_answer_of subject form (map (λ cell. cell.now) heading.now) rows.now) }
 {
     match form {
-        Form::Html => Ok(Answer {
-            status: Status::Ok,
-            media: Media::Html,
-            text: Octets::of(page_of(alloc, subject, heading, rows)?),
-        }),
-        Form::Json => Ok(Answer {
-            status: Status::Ok,
-            media: Media::Json,
-            text: Octets::of(table_in_json(alloc, heading, rows)?),
-        }),
+        Form::Html => Ok(told(Media::Html, page_of(alloc, subject, heading, rows)?)),
+        Form::Json => Ok(told(Media::Json, table_in_json(alloc, heading, rows)?)),
+    }
+}
+
+/// A page of what a search for studies finds.
+pub fn listing_answer(alloc: Global, form: Form, listing: &Listing) -> Result<Answer, AllocError>
+    ensures { IfOk result (λ answer. answer ≡ listing_answer_of form listing.now) }
+{
+    match form {
+        Form::Html => Ok(told(Media::Html, listing_in_html(alloc, listing)?)),
+        Form::Json => Ok(told(Media::Json, listing_in_json(alloc, listing)?)),
     }
 }
 
@@ -87,6 +109,13 @@ pub fn style_answer(alloc: Global) -> Result<Answer, AllocError>
         media: Media::Css,
         text: Octets::from_slice(alloc, STYLE.as_slice())?,
     })
+}
+
+/// What is counted of the site.
+pub fn metrics_answer(alloc: Global, samples: &[Sample]) -> Result<Answer, AllocError>
+    ensures { IfOk result (λ answer. answer ≡ metrics_answer_of samples.now) }
+{
+    Ok(told(Media::Metrics, metrics_in_text(alloc, samples)?))
 }
 
 /// That the site takes what it is given, or why it does not.

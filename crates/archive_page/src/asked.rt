@@ -13,6 +13,8 @@ pub enum Asked {
     Page(Subject, Form),
     Style,
     Health,
+    /// What is counted of the site.
+    Metrics,
     /// Nothing has this path.
     Nothing,
     /// The method is neither GET nor HEAD.
@@ -79,6 +81,9 @@ fn other(path: &[u8]) -> Asked
     }
     if is(path, b"/health") {
         return Asked::Health;
+    }
+    if is(path, b"/metrics") {
+        return Asked::Metrics;
     }
     Asked::Nothing
 }

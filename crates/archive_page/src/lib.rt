@@ -6,13 +6,28 @@
 
 mod answer;
 mod asked;
+mod fact;
+mod form;
 mod frame;
 mod laws;
+mod links;
+mod listing;
+mod listing_json;
+mod metrics;
 mod pages;
+mod search;
 mod style;
 mod subject;
 
-pub use answer::{Answer, Media, Status, health_answer, page_answer, refusal, style_answer};
+pub use answer::{
+    Answer, Media, Status, health_answer, listing_answer, metrics_answer, page_answer, refusal,
+    style_answer,
+};
 pub use asked::Asked;
+pub use fact::Fact;
 pub use laws::each_path_leads_to_its_page;
+pub use links::PAGE_LENGTH;
+pub use listing::Listing;
+pub use metrics::{Label, Sample, SampleKind};
+pub use search::{Search, SearchFault};
 pub use subject::{Form, Subject};

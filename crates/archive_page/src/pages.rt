@@ -11,7 +11,7 @@ use std::alloc::{AllocError, Global};
 
 /// Puts what stands above the table of a page.
 #[tactic(auto, unfolding(crate::specs::Pages::above_table))]
-fn put_above(out: &mut Vec<u8>, subject: Subject) -> Result<(), AllocError>
+pub(crate) fn put_above(out: &mut Vec<u8>, subject: Subject) -> Result<(), AllocError>
     ensures { OnOk result (out.new.items ≡ out.old.items ++ above_table subject) }
 {
     out.extend_from_slice(HEAD.as_slice())?;

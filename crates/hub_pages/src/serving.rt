@@ -1,9 +1,11 @@
 //! A connection on which the pages of a running site are asked for.
 
-ghost use Rattle.std.specs.Prelude.{OnOk};
+ghost use Rattle.std.specs.Prelude.{[], OnOk};
 ghost use Rattle.std.specs.Io.KnownBytes.{Appends, Consumes};
 ghost use Rattle.http_server.specs.History.{History, IsServed, IsDone};
+ghost use Rattle.http_server.specs.Exchange.{Calls};
 ghost use Rattle.site_hub.specs.Hub.{HasLooked};
+ghost use Rattle.hub_pages.specs.HubPages.{AnswersFrom};
 ghost use Rattle.page_run.specs.Serving.{page_config};
 
 use crate::source::HubPages;
@@ -14,8 +16,8 @@ use std::hash::RandomState;
 use std::io;
 use std::io::{Read, Write};
 
-/// Answers what is asked for on a connection from looks at the running site, and hands the source
-/// back: its pass has looked, and done nothing else.
+/// Answers what is asked for on a connection from looks at the running site, each request with what
+/// one look tells, and hands the source back: its pass has looked, and done nothing else.
 pub fn serve_hub_pages<'a, H: HubName, R: Read, W: Write>(
     alloc: Global,
     keys: RandomState,
@@ -27,6 +29,7 @@ pub fn serve_hub_pages<'a, H: HubName, R: Read, W: Write>(
     ensures served { (h : History) × ∥ IsServed page_config h ∥₁
         × Consumes (R.remaining reader.old) (R.remaining reader.new) h.received
         × Appends (W.contents writer.old) (W.contents writer.new) h.sent
+        × Calls (AnswersFrom H.opening) source.entry result.0 [] h.calls
         × OnOk result.1 (IsDone h) }
 {
     let mut pages = Pages::new(alloc, source);

@@ -13,6 +13,7 @@ type_of Media.Html = codes "text/html; charset=utf-8"
 type_of Media.Json = codes "application/json"
 type_of Media.Css = codes "text/css; charset=utf-8"
 type_of Media.Plain = codes "text/plain; charset=utf-8"
+type_of Media.Metrics = codes "text/plain; version=0.0.4; charset=utf-8"
 
 -- what the text is, that it is of this moment (RFC 9111, 5.2.2.5), and which methods there are (RFC 9110, 10.2.1)
 abbrev pub kind_fields : Media → List Header

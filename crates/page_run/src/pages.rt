@@ -2,11 +2,12 @@
 
 ghost use Rattle.std.specs.Prelude.{◌≡◌};
 ghost use Rattle.http.specs.declared.request.Request.{Request};
-ghost use Rattle.page_run.specs.Telling.{Told, IsAnswered};
+ghost use Rattle.std.specs.Option.{option_copied};
+ghost use Rattle.page_run.specs.Telling.{Told, IsAnswered, these_or_none};
 
 use crate::responses::{refuse, respond};
 use crate::source::Source;
-use archive_page::{Answer, Asked, Status, health_answer, refusal, style_answer};
+use archive_page::{Answer, Asked, Status, health_answer, metrics_answer, refusal, style_answer};
 use bytes::Bytes;
 use http::Request;
 use http_server::{Response, Service};
@@ -21,6 +22,16 @@ const NO_CHANGE: [u8; 35] = *b"A page is asked for by GET or HEAD.";
 pub struct Pages<S: Source> {
     alloc: Global,
     source: S,
+}
+
+/// The bytes of a query, none where there is none.
+fn bytes_of(query: Option<&str>) -> &[u8]
+    ensures { result.now ≡ these_or_none (option_copied query.entry) }
+{
+    match query {
+        None => &[],
+        Some(query) => query.as_bytes(),
+    }
 }
 
 impl<S: Source> Pages<S> {
@@ -38,13 +49,14 @@ impl<S: Source> Pages<S> {
     }
 
     /// What is told of what is asked, or none where it can't be told now.
-    fn told(&mut self, asked: Asked) -> Option<Answer>
-        ensures { Told S.tells S.fault_of self.old.source asked result self.new.source }
+    fn told(&mut self, asked: Asked, query: &[u8]) -> Option<Answer>
+        ensures { Told S.says self.old.source asked query.now result self.new.source }
     {
         match asked {
-            Asked::Page(subject, form) => self.source.page(self.alloc, subject, form),
+            Asked::Page(subject, form) => self.source.page(self.alloc, subject, form, query),
             Asked::Style => style_answer(self.alloc).ok(),
             Asked::Health => health_answer(self.alloc, self.source.fault()).ok(),
+            Asked::Metrics => metrics_answer(self.alloc, self.source.samples()).ok(),
             Asked::Nothing => refusal(self.alloc, Status::NotFound, NO_PAGE.as_slice()).ok(),
             Asked::Change => {
                 refusal(self.alloc, Status::MethodNotAllowed, NO_CHANGE.as_slice()).ok()
@@ -55,7 +67,7 @@ impl<S: Source> Pages<S> {
 
 impl<S: Source> Service for Pages<S> {
     ghost answers = { λ old request response new.
-        IsAnswered S.tells S.fault_of old.source request response new.source };
+        IsAnswered S.says old.source request response new.source };
 
     fn call(
         &mut self,
@@ -64,7 +76,7 @@ impl<S: Source> Service for Pages<S> {
     ) -> Result<(), AllocError> {
         let method = request.method().as_str().as_bytes();
         let asked = Asked::of(method, request.uri().path().as_bytes());
-        match self.told(asked) {
+        match self.told(asked, bytes_of(request.uri().query())) {
             Some(answer) => respond(response, answer),
             None => refuse(response),
         }

@@ -21,6 +21,7 @@ fn media_type(media: Media) -> HeaderValue
         Media::Json => HeaderValue::from_static("application/json"),
         Media::Css => HeaderValue::from_static("text/css; charset=utf-8"),
         Media::Plain => HeaderValue::from_static("text/plain; charset=utf-8"),
+        Media::Metrics => HeaderValue::from_static("text/plain; version=0.0.4; charset=utf-8"),
     }
 }
 
@@ -29,6 +30,7 @@ fn status_code(status: Status) -> StatusCode
 {
     match status {
         Status::Ok => StatusCode::OK,
+        Status::BadRequest => StatusCode::BAD_REQUEST,
         Status::NotFound => StatusCode::NOT_FOUND,
         Status::MethodNotAllowed => StatusCode::METHOD_NOT_ALLOWED,
         Status::ServiceUnavailable => StatusCode::SERVICE_UNAVAILABLE,

@@ -29,7 +29,7 @@ pub fn serve_pages<S: Source, R: Read, W: Write>(
         × Consumes (R.remaining reader.old) (R.remaining reader.new) h.received
         × Appends (W.contents writer.old) (W.contents writer.new) h.sent
         × Calls (λ old request response new.
-        IsAnswered S.tells S.fault_of old.source request response new.source)
+        IsAnswered S.says old.source request response new.source)
         pages.old pages.new [] h.calls
         × OnOk result (IsDone h) }
 {

@@ -15,4 +15,4 @@ pub use characters::text_of;
 pub use escaping::{escape, put_escaped};
 pub use laws::what_is_escaped_makes_no_markup;
 pub use tables::put_table;
-pub use values::table_in_json;
+pub use values::{put_columns_member, put_rows_member, put_value, table_in_json};

@@ -13,7 +13,7 @@ use octets::{ListOf, Octets};
 use std::alloc::{AllocError, Global};
 
 /// Writes the text of a value as a string.
-fn put_value(alloc: Global, writer: &mut Writer, value: &[u8]) -> Result<(), AllocError>
+pub fn put_value(alloc: Global, writer: &mut Writer, value: &[u8]) -> Result<(), AllocError>
     ensures written { OnOk result (writer.new.tokens
         ≡ writer.old.tokens ++ string_of value.now ∷ []) }
     ensures kept { writer.new.before ≡ writer.old.before }
@@ -60,7 +60,7 @@ fn put_rows(alloc: Global, writer: &mut Writer, rows: &[ListOf<Octets>]) -> Resu
 }
 
 /// Writes the names of the columns as a member of an object.
-fn put_columns_member(
+pub fn put_columns_member(
     alloc: Global,
     writer: &mut Writer,
     heading: &[&str],
@@ -74,7 +74,7 @@ fn put_columns_member(
 }
 
 /// Writes the rows as a member of an object.
-fn put_rows_member(
+pub fn put_rows_member(
     alloc: Global,
     writer: &mut Writer,
     rows: &[ListOf<Octets>],

@@ -1,2 +1,3 @@
 pub mod SitePages
+pub mod StudiesPages
 pub mod TablePages

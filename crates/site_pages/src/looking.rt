@@ -1,45 +1,52 @@
-//! The pages of a site, and a look at a running site that is answered with one.
+//! What pages ask of a site, each in one look.
 
-ghost use Rattle.std.specs.Prelude.{IfOk};
-ghost use Rattle.site_state.specs.Site.{ops_of};
-ghost use Rattle.site_pages.specs.SitePages.{IsPage};
+ghost use Rattle.std.specs.Prelude.{◌≡◌};
+ghost use Rattle.site_state.specs.Site.{ops_of, counts_of};
+ghost use Rattle.site_tables.specs.Studies.{AreTaken};
+ghost use Rattle.site_tables.specs.Tables.{IsTable, rows_of_taken};
 
-use crate::counts::site_page;
-use crate::tables::{table_of, table_page};
-use archive_page::{Answer, Form, Subject};
+use archive_query::PreparedQuery;
 use site_hub::Question;
-use site_state::Site;
+use site_state::{Counts, Site};
+use site_tables::{Table, TakenStudies, TakenTable};
 use std::alloc::{AllocError, Global};
 
-/// The page about a subject, of a site of a name.
-pub fn page_of(
-    alloc: Global,
-    site: &Site,
-    name: &[u8],
-    subject: Subject,
-    form: Form,
-) -> Result<Answer, AllocError>
-    ensures { IfOk result (λ answer. IsPage name.now subject form (ops_of site.now) answer) }
-{
-    match table_of(subject) {
-        None => site_page(alloc, site, name, form),
-        Some(table) => table_page(alloc, site, table, form),
+/// Asks how many operations are held of each kind.
+#[derive(Clone, Copy)]
+pub struct CountsOf;
+
+impl Question<Counts> for CountsOf {
+    ghost answers = { λ q set counts. counts ≡ counts_of (ops_of set) };
+
+    fn answer(&self, _alloc: Global, site: &Site) -> Result<Counts, AllocError> {
+        Ok(site.counts())
     }
 }
 
-/// Asks for a page.
+/// Asks for what the rows of a table are made of.
 #[derive(Clone, Copy)]
-pub struct PageOf<'a> {
-    /// What the site is called.
-    pub name: &'a [u8],
-    pub subject: Subject,
-    pub form: Form,
+pub struct TableOf {
+    pub table: Table,
 }
 
-impl<'a> Question<Answer> for PageOf<'a> {
-    ghost answers = { λ q set answer. IsPage q.name.now q.subject q.form (ops_of set) answer };
+impl Question<TakenTable> for TableOf {
+    ghost answers = { λ q set taken. IsTable q.table (ops_of set) (rows_of_taken taken) };
 
-    fn answer(&self, alloc: Global, site: &Site) -> Result<Answer, AllocError> {
-        page_of(alloc, site, self.name, self.subject, self.form)
+    fn answer(&self, alloc: Global, site: &Site) -> Result<TakenTable, AllocError> {
+        TakenTable::of(alloc, site, self.table)
+    }
+}
+
+/// Asks for what rows of the studies are made of that a query finds.
+#[derive(Clone, Copy)]
+pub struct StudiesOf<'a> {
+    pub query: &'a PreparedQuery<'a>,
+}
+
+impl<'a> Question<TakenStudies> for StudiesOf<'a> {
+    ghost answers = { λ q set taken. AreTaken q.query.now (ops_of set) taken };
+
+    fn answer(&self, alloc: Global, site: &Site) -> Result<TakenStudies, AllocError> {
+        TakenStudies::of(alloc, site, self.query)
     }
 }

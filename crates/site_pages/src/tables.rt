@@ -1,13 +1,12 @@
 //! The tables of a site as pages.
 
 ghost use Rattle.std.specs.Prelude.{◌≡◌, IfOk};
-ghost use Rattle.site_state.specs.Site.{ops_of};
-ghost use Rattle.site_pages.specs.TablePages.{subject_of as subject_in, table_of as table_in};
-ghost use Rattle.site_pages.specs.TablePages.{IsTablePage};
+ghost use Rattle.site_tables.specs.Tables.{rows_of_taken};
+ghost use Rattle.site_pages.specs.TablePages.{subject_of as subject_in};
+ghost use Rattle.site_pages.specs.TablePages.{table_answer as table_answer_of};
 
 use archive_page::{Answer, Form, Subject, page_answer};
-use site_state::Site;
-use site_tables::{Table, rows_of_table};
+use site_tables::{Table, TakenTable};
 use std::alloc::{AllocError, Global};
 
 /// What the page of a table is about.
@@ -22,29 +21,22 @@ pub fn subject_of(table: Table) -> Subject
     }
 }
 
-/// The table that a page is about, and none where it is about the site itself.
-pub fn table_of(subject: Subject) -> Option<Table>
-    ensures { result ≡ table_in subject }
-{
-    match subject {
-        Subject::Site => None,
-        Subject::Studies => Some(Table::Studies),
-        Subject::Rejected => Some(Table::Rejected),
-        Subject::Conflicts => Some(Table::Conflicts),
-        Subject::Corrections => Some(Table::Corrections),
-    }
-}
-
-/// A table of a site as a page: its rows, in order.
-pub fn table_page(
+/// What was taken for a table as its page: its rows, in order.
+pub fn table_answer(
     alloc: Global,
-    site: &Site,
     table: Table,
     form: Form,
+    taken: &TakenTable,
 ) -> Result<Answer, AllocError>
-    ensures { IfOk result (λ answer. IsTablePage table form (ops_of site.now) answer) }
+    ensures { IfOk result (λ answer. answer
+        ≡ table_answer_of table form (rows_of_taken taken.now)) }
 {
-    let subject = subject_of(table);
-    let rows = rows_of_table(alloc, site, table)?;
-    page_answer(alloc, subject, form, table.heading(), rows.as_slice())
+    let rows = taken.rows(alloc)?;
+    page_answer(
+        alloc,
+        subject_of(table),
+        form,
+        table.heading(),
+        rows.as_slice(),
+    )
 }

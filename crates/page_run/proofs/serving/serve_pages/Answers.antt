@@ -25,7 +25,7 @@ returns g c =
             (g.W.Write.contents c.serve.new.writer) bytes)
             (sym (written.2 ∙ ap (λ (h : History). h.sent ++ written.0) began)) written.1,
         from_none (λ old request response new.
-            IsAnswered g.S.Source.tells g.S.Source.fault_of old.source request response new.source)
+            IsAnswered g.S.Source.says old.source request response new.source)
             c.args.pages.now c.serve.new.service _ _ (ap (λ (h : History). h.calls) began) c.serve.ensures.calls,
         c.serve.ensures.done,
       );
