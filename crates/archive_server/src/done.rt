@@ -18,6 +18,7 @@ use crate::conversing::{Conversed, serve_exchange};
 use crate::entrance::Entrance;
 use crate::fault::{NetFault, ServeFault};
 use crate::paging::Paging;
+use crate::samples::counted;
 use crate::tally::Tally;
 use association_run::{End, Gate, Outbox, RunFault};
 use devices::{Sink, Source};
@@ -248,10 +249,14 @@ impl<H: HubName> Done<H> {
             failed,
             fault,
         } = self;
+        let mut pass = pass;
+        let samples = counted(alloc, &mut pass, refusal.is_none());
         let source = HubPages {
             pass,
             name: paging.name,
             fault: refusal.map(|words| words.as_bytes()),
+            facts: &[],
+            samples: samples.as_slice(),
         };
         let (source, served) = serve_hub_pages(alloc, paging.keys, source, reader, writer);
         let HubPages { pass, .. } = source;

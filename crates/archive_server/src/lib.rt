@@ -31,6 +31,7 @@ mod message;
 mod paging;
 mod port;
 mod refusing;
+mod samples;
 mod serve;
 mod tally;
 mod visit;
