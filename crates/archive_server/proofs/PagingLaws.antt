@@ -23,6 +23,10 @@ looked_trans x y z p q = record {
   mine = q.mine ∙ p.mine;
 }
 
+-- a pass that looked, and then looked as the same pass
+pub looked_behind : (x y z w : Seat) → HasLooked x y → z ≡ y → HasLooked z w → HasLooked x w
+looked_behind x y z w p e q = looked_trans x y w p (subst (λ (s : Seat). HasLooked s w) e q)
+
 -- a pass that only looked has gone on
 pub looked_onward : {K : Type 0} (up : K → Type 0) (holds lasts : K → Op → Type 0) (s t : Seat) → HasLooked s t
     → IsOnward up holds lasts s t

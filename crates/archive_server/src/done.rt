@@ -18,13 +18,12 @@ use crate::conversing::{Conversed, serve_exchange};
 use crate::entrance::Entrance;
 use crate::fault::{NetFault, ServeFault};
 use crate::paging::Paging;
-use crate::samples::counted;
 use crate::tally::Tally;
+use crate::told_pages::tell_pages;
 use association_run::{End, Gate, Outbox, RunFault};
 use devices::{Sink, Source};
 use exchange::ExchangeFault;
 use exchange_run::{Ended, Role};
-use hub_pages::{HubPages, serve_hub_pages};
 use log::Log;
 use op_shelf::Keep;
 use shelved_exchange::Put;
@@ -249,17 +248,7 @@ impl<H: HubName> Done<H> {
             failed,
             fault,
         } = self;
-        let mut pass = pass;
-        let samples = counted(alloc, &mut pass, refusal.is_none());
-        let source = HubPages {
-            pass,
-            name: paging.name,
-            fault: refusal.map(|words| words.as_bytes()),
-            facts: &[],
-            samples: samples.as_slice(),
-        };
-        let (source, served) = serve_hub_pages(alloc, paging.keys, source, reader, writer);
-        let HubPages { pass, .. } = source;
+        let (pass, served) = tell_pages(alloc, paging, refusal, pass, reader, writer);
         (Done::with_one(pass, accepted, failed, fault), served)
     }
 

@@ -34,6 +34,7 @@ mod refusing;
 mod samples;
 mod serve;
 mod tally;
+mod told_pages;
 mod visit;
 mod wire;
 mod worker;

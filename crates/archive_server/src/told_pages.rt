@@ -1,0 +1,60 @@
+//! A connection on which pages are asked for: what is counted first, and then what is answered.
+
+ghost use Rattle.std.specs.Prelude.{◌≡◌, OnOk};
+ghost use Rattle.std.specs.Io.KnownBytes.{Appends, Consumes};
+ghost use Rattle.http_server.specs.History.{History, IsServed, IsDone};
+ghost use Rattle.page_run.specs.Serving.{page_config};
+ghost use Rattle.site_hub.specs.Hub.{HasLooked};
+
+use crate::paging::Paging;
+use crate::samples::counted;
+use archive_page::Sample;
+use hub_pages::{HubPages, serve_hub_pages};
+use site_hub::{HubName, Pass};
+use std::alloc::Global;
+use std::io;
+use std::io::{Read, Write};
+
+/// What pages are told from.
+fn source_of<'a, H: HubName>(
+    pass: Pass<H>,
+    name: &'a [u8],
+    refusal: Option<&'static str>,
+    samples: &'a [Sample],
+) -> HubPages<'a, H>
+    ensures pass { result.pass ≡ pass }
+    ensures name { result.name ≡ name.now }
+    ensures samples { result.samples ≡ samples.now }
+{
+    HubPages {
+        pass,
+        name,
+        fault: refusal.map(|words| words.as_bytes()),
+        facts: &[],
+        samples,
+    }
+}
+
+/// Answers what is asked for on a connection, over any reader and writer, from looks of a pass. Who
+/// asks is told why the shelf refuses, if it does.
+pub(crate) fn tell_pages<H: HubName, I: Read, O: Write>(
+    alloc: Global,
+    paging: Paging<'_>,
+    refusal: Option<&'static str>,
+    pass: Pass<H>,
+    reader: &mut I,
+    writer: &mut O,
+) -> (Pass<H>, io::Result<()>)
+    ensures looked { HasLooked pass result.0 }
+    ensures served { (h : History) × ∥ IsServed page_config h ∥₁
+        × Consumes (I.remaining reader.old) (I.remaining reader.new) h.received
+        × Appends (O.contents writer.old) (O.contents writer.new) h.sent
+        × OnOk result.1 (IsDone h) }
+{
+    let mut onward = pass;
+    let samples = counted(alloc, &mut onward, refusal.is_none());
+    let source = source_of(onward, paging.name, refusal, samples.as_slice());
+    let (source, served) = serve_hub_pages(alloc, paging.keys, source, reader, writer);
+    let HubPages { pass, .. } = source;
+    (pass, served)
+}
