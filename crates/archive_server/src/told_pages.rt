@@ -35,6 +35,14 @@ fn source_of<'a, H: HubName>(
     }
 }
 
+/// Gives the pass back.
+fn pass_of<'a, H: HubName>(source: HubPages<'a, H>) -> Pass<H>
+    ensures { result ≡ source.pass }
+{
+    let HubPages { pass, .. } = source;
+    pass
+}
+
 /// Answers what is asked for on a connection, over any reader and writer, from looks of a pass. Who
 /// asks is told why the shelf refuses, if it does.
 pub(crate) fn tell_pages<H: HubName, I: Read, O: Write>(
@@ -55,6 +63,5 @@ pub(crate) fn tell_pages<H: HubName, I: Read, O: Write>(
     let samples = counted(alloc, &mut onward, refusal.is_none());
     let source = source_of(onward, paging.name, refusal, samples.as_slice());
     let (source, served) = serve_hub_pages(alloc, paging.keys, source, reader, writer);
-    let HubPages { pass, .. } = source;
-    (pass, served)
+    (pass_of(source), served)
 }
