@@ -37,7 +37,7 @@ fn source_of<'a, H: HubName>(
 
 /// Gives the pass back.
 fn pass_of<'a, H: HubName>(source: HubPages<'a, H>) -> Pass<H>
-    ensures { result ≡ source.pass }
+    ensures { result ≡ source.entry.pass }
 {
     let HubPages { pass, .. } = source;
     pass
