@@ -36,7 +36,10 @@ fn takes_of(alloc: Global, takes: bool) -> Result<Sample, AllocError>
 {
     Ok(Sample {
         name: Octets::from_slice(alloc, b"wiersomp_takes_operations")?,
-        help: Octets::from_slice(alloc, b"1 where the last put to the disk was taken, else 0.")?,
+        help: Octets::from_slice(
+            alloc,
+            b"1 where the last put to the disk was taken, else 0.",
+        )?,
         kind: SampleKind::Gauge,
         label: None,
         value: if takes { 1 } else { 0 },
@@ -44,11 +47,7 @@ fn takes_of(alloc: Global, takes: bool) -> Result<Sample, AllocError>
 }
 
 /// How many operations of each kind the site holds, and whether its shelf takes more.
-fn samples_of(
-    alloc: Global,
-    counts: Counts,
-    takes: bool,
-) -> Result<Vec<Sample>, AllocError>
+fn samples_of(alloc: Global, counts: Counts, takes: bool) -> Result<Vec<Sample>, AllocError>
     ensures { IfOk result (λ samples. samples.items ≡ samples_in counts takes) }
 {
     let mut samples = Vec::new(alloc);
