@@ -3,7 +3,7 @@ ghost use Rattle.std.specs.Prelude.{◌≡◌};
 
 use crate::figures::{number, site_of};
 use crate::made::{
-    ANY, images, query_by, query_by_accession, query_by_day, query_by_list, query_by_name,
+    ANY, images_of, query_by, query_by_accession, query_by_day, query_by_list, query_by_name,
     query_by_patient, query_by_study,
 };
 use anyhow::{Result, anyhow};
@@ -98,12 +98,13 @@ fn run<H: HubName, R: Wait>(
     put_many(rt, &mut pass, studies, times)
 }
 
-/// Asks a hub of so many studies of one image.
+/// Asks a hub of so many studies of so many images.
 pub fn asked<R: Wait>(rt: &HostRuntime, host: &R, words: &[String]) -> Result<()> {
     let alloc = rt.alloc();
     let studies = number(words, 2)?;
     let times = number(words, 3)?;
-    let site = site_of(alloc, images(alloc, studies)?)?;
+    let each = number(words, 4)?;
+    let site = site_of(alloc, images_of(alloc, studies, each)?)?;
     let opened = open(alloc, host, site, 1, 1)?;
     run::<Brand, R>(rt, opened, studies, times)
 }

@@ -55,11 +55,17 @@ fn patient(alloc: Global, k: u64) -> Result<String, AllocError> {
     format!(in alloc; "PATIENT{k}")
 }
 
-/// The data set of the only image of study k.
-fn image_set(alloc: Global, k: u64) -> Result<Vec<u8>, AllocError> {
+/// The UID of an image of study k, by its place.
+fn instance(alloc: Global, k: u64, place: u64) -> Result<String, AllocError> {
+    let study = study(alloc, k)?;
+    format!(in alloc; "{study}.1.{place}")
+}
+
+/// The data set of an image of study k.
+fn image_set(alloc: Global, k: u64, place: u64) -> Result<Vec<u8>, AllocError> {
     let study = study(alloc, k)?;
     let series = format!(in alloc; "{study}.1")?;
-    let uid = format!(in alloc; "{study}.1.1")?;
+    let uid = instance(alloc, k, place)?;
     let patient = patient(alloc, k)?;
     let day = day(alloc, k)?;
     let name = name(alloc, k)?;
@@ -98,10 +104,10 @@ fn image_set(alloc: Global, k: u64) -> Result<Vec<u8>, AllocError> {
     Ok(bytes)
 }
 
-/// The only image of study k, with its digest.
-pub fn image(alloc: Global, k: u64) -> Result<Digested> {
-    let bytes = image_set(alloc, k)?;
-    let uid = format!(in alloc; "{study}.1.1", study = study(alloc, k)?)?;
+/// An image of study k, by its place, with its digest.
+fn image_at(alloc: Global, k: u64, place: u64) -> Result<Digested> {
+    let bytes = image_set(alloc, k, place)?;
+    let uid = instance(alloc, k, place)?;
     let class = Octets::from_slice(alloc, CT)?;
     let instance = Octets::from_slice(alloc, uid.as_bytes())?;
     let body = Bytes::from_vec(bytes)?;
@@ -154,11 +160,23 @@ pub fn accepts(alloc: Global) -> Result<Accepts> {
     })
 }
 
+/// The first image of study k, with its digest.
+pub fn image(alloc: Global, k: u64) -> Result<Digested> {
+    image_at(alloc, k, 1)
+}
+
 /// So many images, each of a study of its own.
 pub fn images(alloc: Global, count: u64) -> Result<Vec<Digested>> {
+    images_of(alloc, count, 1)
+}
+
+/// So many images of each of so many studies.
+pub fn images_of(alloc: Global, studies: u64, each: u64) -> Result<Vec<Digested>> {
     let mut images = Vec::new(alloc);
-    for k in 0..count {
-        images.push(image(alloc, k)?)?;
+    for k in 0..studies {
+        for place in 0..each {
+            images.push(image_at(alloc, k, place.saturating_add(1))?)?;
+        }
     }
     Ok(images)
 }

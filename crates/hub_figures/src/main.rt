@@ -5,10 +5,10 @@
 //! that memory may be refused to it.
 //! `hub_figures publish READERS IMAGES` publishes so many images, each for itself, while so many
 //! passes look; `hub_figures look READERS IMAGES LOOKS` lets each pass look so often at a hub that
-//! holds so many images; `hub_figures find IMAGES TIMES` asks one by keys of each kind, and
-//! `hub_figures wait IMAGES COUNT` publishes so many more while one pass asks for a name that none
-//! has; `hub_figures site IMAGES` and `hub_figures hub IMAGES` hold them, so that
-//! their memory can be seen from outside. Without words it prints these.
+//! holds so many images; `hub_figures find STUDIES TIMES EACH` asks one of so many studies, of EACH
+//! images, by keys of each kind, and `hub_figures wait IMAGES COUNT` publishes so many more while
+//! one pass asks for a name that none has; `hub_figures site IMAGES` and `hub_figures hub IMAGES`
+//! hold them, so that their memory can be seen from outside. Without words it prints these.
 #![tactic(auto)]
 
 mod asked;
@@ -27,7 +27,7 @@ use std::rt::HostRuntime;
 
 /// What is printed without words.
 const WORDS: &str = "hub_figures holds IMAGES | course | publish READERS IMAGES \
-    | look READERS IMAGES LOOKS | find IMAGES TIMES | wait IMAGES COUNT | site IMAGES \
+    | look READERS IMAGES LOOKS | find STUDIES TIMES EACH | wait IMAGES COUNT | site IMAGES \
     | hub IMAGES";
 
 fn main(rt: HostRuntime) -> Result<()> {
