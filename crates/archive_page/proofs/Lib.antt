@@ -1,1 +1,3 @@
+pub mod CharacterLaws
+pub mod EscapingLaws
 pub mod PathLaws

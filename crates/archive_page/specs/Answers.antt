@@ -1,7 +1,7 @@
 -- What a request is answered.
 use Rattle.std.specs.Prelude.{ℕ, List, [], ◌∷◌, ◌++◌, Option, Some, None, codes}
 use Rattle.json.specs.Print.{print}
-use Rattle.page_text.specs.Values.{json_table}
+use Rattle.archive_page.specs.Values.{json_table}
 use Rattle.archive_page.specs.declared.answer.Answer.{Answer}
 use Rattle.archive_page.specs.declared.answer.Media.{Media}
 use Rattle.archive_page.specs.declared.answer.Status.{Status}

@@ -1,4 +1,6 @@
 pub mod Answers
+pub mod Characters
+pub mod Escaping
 pub mod Links
 pub mod Listings
 pub mod Metrics
@@ -6,3 +8,5 @@ pub mod Pages
 pub mod Paths
 pub mod Searches
 pub mod Subjects
+pub mod Tables
+pub mod Values

@@ -2,9 +2,9 @@
 use Rattle.std.specs.Prelude.{ℕ, ◌+◌, ◌-◌, List, [], ◌∷◌, ◌++◌, nat_lt, cond, codes}
 use Rattle.std.specs.Fmt.{decimal}
 use Rattle.json.specs.Token.{Token, begin_object, end_object, key, number, null}
-use Rattle.page_text.specs.Escaping.{escaped}
-use Rattle.page_text.specs.Tables.{html_table}
-use Rattle.page_text.specs.Values.{string_of, columns_member, rows_member}
+use Rattle.archive_page.specs.Escaping.{escaped}
+use Rattle.archive_page.specs.Tables.{html_table}
+use Rattle.archive_page.specs.Values.{string_of, columns_member, rows_member}
 use Rattle.archive_page.specs.declared.form.TheConstants.{FORM, NAME, PATIENT, DATE, ACCESSION, MODALITY, BUTTON}
 use Rattle.archive_page.specs.declared.frame.TheConstants.{LINK, END}
 use Rattle.archive_page.specs.declared.listing.Listing.{Listing}

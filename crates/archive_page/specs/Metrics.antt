@@ -3,7 +3,7 @@ use Rattle.std.specs.Prelude.{ℕ, List, [], ◌∷◌, ◌++◌, Option, Some, 
 use Rattle.std.specs.Fmt.{decimal}
 use Rattle.std.specs.List.{flat_map}
 use Rattle.octets.specs.Texts.{same}
-use Rattle.page_text.specs.Characters.{text_of}
+use Rattle.archive_page.specs.Characters.{text_of}
 use Rattle.archive_page.specs.declared.metrics.Label.{Label}
 use Rattle.archive_page.specs.declared.metrics.Sample.{Sample}
 use Rattle.archive_page.specs.declared.metrics.SampleKind.{SampleKind}

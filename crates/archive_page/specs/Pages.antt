@@ -1,6 +1,6 @@
 -- A table as a page in HTML.
 use Rattle.std.specs.Prelude.{ℕ, List, ◌++◌, codes}
-use Rattle.page_text.specs.Tables.{html_table}
+use Rattle.archive_page.specs.Tables.{html_table}
 use Rattle.archive_page.specs.declared.frame.TheConstants.{HEAD, LINKS, LINK, END}
 use Rattle.archive_page.specs.declared.subject.Subject.{Subject}
 use Rattle.archive_page.specs.declared.subject.Form.TheVariants.{Json}

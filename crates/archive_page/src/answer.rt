@@ -15,8 +15,8 @@ use crate::metrics::{Sample, metrics_in_text};
 use crate::pages::page_of;
 use crate::style::STYLE;
 use crate::subject::{Form, Subject};
+use crate::values::table_in_json;
 use octets::{ListOf, Octets};
-use page_text::table_in_json;
 use std::alloc::{AllocError, Global};
 
 /// The status of an answer (RFC 9110, section 15).

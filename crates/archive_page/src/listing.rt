@@ -3,14 +3,15 @@
 ghost use Rattle.std.specs.Prelude.{◌≡◌, ◌++◌, IfOk, OnOk, map};
 ghost use Rattle.archive_page.specs.Listings.{listing_heading, search_input, patient_inputs, study_inputs, search_form, turning_link, previous_link, next_link, turning_links, page_place, turning, below_listing, listing_page};
 
+use crate::escaping::put_escaped;
 use crate::form::{ACCESSION, BUTTON, DATE, FORM, MODALITY, NAME, PATIENT};
 use crate::frame::{END, LINK};
 use crate::links::{link, pages};
 use crate::pages::put_above;
 use crate::search::Search;
 use crate::subject::{Form, Subject};
+use crate::tables::put_table;
 use octets::{ListOf, Octets, put_digits};
-use page_text::{put_escaped, put_table};
 use std::alloc::{AllocError, Global};
 
 /// A page of what a search finds.

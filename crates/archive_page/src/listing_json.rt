@@ -3,7 +3,7 @@
 ghost use Rattle.std.specs.Prelude.{◌≡◌, ◌++◌, ◌∷◌, [], IfOk, OnOk};
 ghost use Rattle.json.specs.Lex.{tokens};
 ghost use Rattle.json.specs.Print.{print};
-ghost use Rattle.page_text.specs.Values.{string_of};
+ghost use Rattle.archive_page.specs.Values.{string_of};
 ghost use Rattle.archive_page.specs.declared.subject.Form.TheVariants.{Json};
 ghost use Rattle.archive_page.specs.Links.{link_to};
 ghost use Rattle.archive_page.specs.Listings.{number_member, number_members, previous_member, next_member, listing_object};
@@ -12,8 +12,8 @@ use crate::links::{link, pages};
 use crate::listing::{Listing, heading};
 use crate::search::Search;
 use crate::subject::Form;
+use crate::values::{put_columns_member, put_rows_member, put_value};
 use json::Writer;
-use page_text::{put_columns_member, put_rows_member, put_value};
 use std::alloc::{AllocError, Global};
 
 /// Writes a number as a member of an object.

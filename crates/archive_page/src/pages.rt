@@ -5,8 +5,8 @@ ghost use Rattle.archive_page.specs.Pages.{above_table, below_table, html_page};
 
 use crate::frame::{END, HEAD, LINK, LINKS};
 use crate::subject::{Form, Subject};
+use crate::tables::put_table;
 use octets::{ListOf, Octets};
-use page_text::put_table;
 use std::alloc::{AllocError, Global};
 
 /// Puts what stands above the table of a page.

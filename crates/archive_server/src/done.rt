@@ -4,7 +4,7 @@ ghost use Rattle.std.specs.Prelude.{◌≡◌, ◌+◌, ◌-◌, ◌<◌, ◌^�
 ghost use Rattle.std.specs.Io.KnownBytes.{Appends, Consumes};
 ghost use Rattle.std.specs.Option.{option_or};
 ghost use Rattle.http_server.specs.History.{History, IsServed, IsDone};
-ghost use Rattle.page_run.specs.Serving.{page_config};
+ghost use Rattle.site_pages.specs.Serving.{page_config};
 ghost use Rattle.site_hub.specs.Hub.{HasLooked};
 ghost use Rattle.association_run.specs.Parts.{sides};
 ghost use Rattle.exchange_run.specs.Run.{ends};

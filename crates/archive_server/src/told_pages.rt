@@ -3,14 +3,14 @@
 ghost use Rattle.std.specs.Prelude.{◌≡◌, OnOk};
 ghost use Rattle.std.specs.Io.KnownBytes.{Appends, Consumes};
 ghost use Rattle.http_server.specs.History.{History, IsServed, IsDone};
-ghost use Rattle.page_run.specs.Serving.{page_config};
+ghost use Rattle.site_pages.specs.Serving.{page_config};
 ghost use Rattle.site_hub.specs.Hub.{HasLooked};
 
 use crate::paging::Paging;
 use crate::samples::counted;
 use archive_page::Sample;
-use hub_pages::{HubPages, serve_hub_pages};
 use site_hub::{HubName, Pass};
+use site_pages::{HubPages, serve_hub_pages};
 use std::alloc::Global;
 use std::io;
 use std::io::{Read, Write};

@@ -1,1 +1,4 @@
+pub mod FieldLaws
 pub mod ListingLaws
+pub mod LookLaws
+pub mod ServedLaws

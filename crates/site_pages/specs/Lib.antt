@@ -1,3 +1,7 @@
+pub mod HubPages
+pub mod Responses
+pub mod Serving
 pub mod SitePages
 pub mod StudiesPages
 pub mod TablePages
+pub mod Telling

@@ -1,18 +1,33 @@
-//! The pages of a site: each is made of the operations that the site holds, of its name, and of what
-//! its server knows of itself.
+//! The pages of a running site: each is made of the operations that the site holds, of its name, and
+//! of what its server knows of itself, and is answered over any reader and writer.
 //!
-//! A look takes what a page is made of and ends: rows, texts and markup are made behind it. A look
-//! waits for nobody and changes nothing.
+//! A look of a pass takes what a page is made of and ends; it waits for nobody and changes nothing.
+//! Rows, texts and markup are made behind it, so that no publish waits for them. The connection
+//! (HTTP, RFC 9112) is the kit's, which refuses with a status of 4xx or 5xx what is no request; one
+//! request is answered on it, so that no peer holds the thread beyond its request.
 #![tactic(auto)]
 
 mod counts;
+mod hub_serving;
+mod hub_source;
+mod limits;
 mod listing;
 mod looking;
+mod looks;
+mod pages;
+mod responses;
 mod searching;
+mod serving;
+mod source;
 mod tables;
 
 pub use counts::site_answer;
+pub use hub_serving::serve_hub_pages;
+pub use hub_source::HubPages;
 pub use listing::listed;
 pub use looking::{CountsOf, StudiesOf, TableOf};
+pub use pages::Pages;
 pub use searching::{Searched, query_of, search_of};
+pub use serving::serve_pages;
+pub use source::Source;
 pub use tables::{subject_of, table_answer};

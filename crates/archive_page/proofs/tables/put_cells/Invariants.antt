@@ -1,0 +1,8 @@
+use Rattle.std.proofs.Common.{◌≡◌, ◌++◌, take}
+use Rattle.std.specs.List.{flat_map}
+use Rattle.archive_page.specs.Tables.{data_cell}
+use Rattle.archive_page.proofs.tables.put_cells.Given as goal
+
+-- Those so far stand behind what was there.
+abbrev pub invariant-loop-cell : goal.invariant-loop-cell
+invariant-loop-cell l = l.out.items ≡ l.fn.out.items ++ flat_map data_cell (take l.cell-index l.cells)

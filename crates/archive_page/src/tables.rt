@@ -1,0 +1,113 @@
+//! A table in HTML: a row of the heading, and the rows below it.
+
+ghost use Rattle.std.specs.Prelude.{◌≡◌, ◌++◌, OnOk, map};
+ghost use Rattle.std.specs.List.{flat_map};
+ghost use Rattle.archive_page.specs.Tables.{heading_cell, data_cell};
+ghost use Rattle.archive_page.specs.Tables.{heading_row, data_row};
+ghost use Rattle.archive_page.specs.Tables.{table_head, table_body, html_table};
+
+use crate::escaping::put_escaped;
+use octets::{ListOf, Octets};
+use std::alloc::{AllocError, Global};
+
+/// Puts a cell of the heading.
+fn put_heading_cell(alloc: Global, out: &mut Vec<u8>, cell: &str) -> Result<(), AllocError>
+    ensures { OnOk result (out.new.items ≡ out.old.items ++ heading_cell cell.now) }
+{
+    out.extend_from_slice(b"<th>")?;
+    put_escaped(alloc, out, cell.as_bytes())?;
+    out.extend_from_slice(b"</th>")
+}
+
+/// Puts the cells of the heading.
+fn put_heading_cells(alloc: Global, out: &mut Vec<u8>, heading: &[&str]) -> Result<(), AllocError>
+    ensures { OnOk result (out.new.items
+        ≡ out.old.items ++ flat_map heading_cell (map (λ cell. cell.now) heading.now)) }
+{
+    for cell in heading {
+        put_heading_cell(alloc, out, cell)?;
+    }
+    Ok(())
+}
+
+/// Puts the row of the heading.
+fn put_heading(alloc: Global, out: &mut Vec<u8>, heading: &[&str]) -> Result<(), AllocError>
+    ensures { OnOk result (out.new.items
+        ≡ out.old.items ++ heading_row (map (λ cell. cell.now) heading.now)) }
+{
+    out.extend_from_slice(b"<tr>")?;
+    put_heading_cells(alloc, out, heading)?;
+    out.extend_from_slice(b"</tr>\n")
+}
+
+/// Puts a cell.
+fn put_cell(alloc: Global, out: &mut Vec<u8>, cell: &[u8]) -> Result<(), AllocError>
+    ensures { OnOk result (out.new.items ≡ out.old.items ++ data_cell cell.now) }
+{
+    out.extend_from_slice(b"<td>")?;
+    put_escaped(alloc, out, cell)?;
+    out.extend_from_slice(b"</td>")
+}
+
+/// Puts the cells of a row.
+fn put_cells(alloc: Global, out: &mut Vec<u8>, cells: &[Octets]) -> Result<(), AllocError>
+    ensures { OnOk result (out.new.items ≡ out.old.items ++ flat_map data_cell cells.now) }
+{
+    for cell in cells {
+        put_cell(alloc, out, cell.as_slice())?;
+    }
+    Ok(())
+}
+
+/// Puts a row.
+fn put_row(alloc: Global, out: &mut Vec<u8>, row: &ListOf<Octets>) -> Result<(), AllocError>
+    ensures { OnOk result (out.new.items ≡ out.old.items ++ data_row row.now) }
+{
+    out.extend_from_slice(b"<tr>")?;
+    put_cells(alloc, out, row.as_slice())?;
+    out.extend_from_slice(b"</tr>\n")
+}
+
+/// Puts rows.
+fn put_rows(alloc: Global, out: &mut Vec<u8>, rows: &[ListOf<Octets>]) -> Result<(), AllocError>
+    ensures { OnOk result (out.new.items ≡ out.old.items ++ flat_map data_row rows.now) }
+{
+    for row in rows {
+        put_row(alloc, out, row)?;
+    }
+    Ok(())
+}
+
+/// Puts the head of a table.
+fn put_head(alloc: Global, out: &mut Vec<u8>, heading: &[&str]) -> Result<(), AllocError>
+    ensures { OnOk result (out.new.items
+        ≡ out.old.items ++ table_head (map (λ cell. cell.now) heading.now)) }
+{
+    out.extend_from_slice(b"<table>\n<thead>\n")?;
+    put_heading(alloc, out, heading)?;
+    out.extend_from_slice(b"</thead>\n")
+}
+
+/// Puts the body of a table, and its end.
+fn put_body(alloc: Global, out: &mut Vec<u8>, rows: &[ListOf<Octets>]) -> Result<(), AllocError>
+    ensures { OnOk result (out.new.items ≡ out.old.items ++ table_body rows.now) }
+{
+    out.extend_from_slice(b"<tbody>\n")?;
+    put_rows(alloc, out, rows)?;
+    out.extend_from_slice(b"</tbody>\n</table>\n")
+}
+
+/// Puts a heading and rows below it as a table in HTML: the rows in order, each cell escaped.
+#[tactic(auto, unfolding(crate::specs::Tables::html_table))]
+pub fn put_table(
+    alloc: Global,
+    out: &mut Vec<u8>,
+    heading: &[&str],
+    rows: &[ListOf<Octets>],
+) -> Result<(), AllocError>
+    ensures { OnOk result (out.new.items
+        ≡ out.old.items ++ html_table (map (λ cell. cell.now) heading.now) rows.now) }
+{
+    put_head(alloc, out, heading)?;
+    put_body(alloc, out, rows)
+}

@@ -1,3 +1,0 @@
-pub mod Responses
-pub mod Serving
-pub mod Telling

@@ -1,2 +1,0 @@
-pub mod CharacterLaws
-pub mod EscapingLaws

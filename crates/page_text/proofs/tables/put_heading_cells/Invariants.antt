@@ -1,9 +1,0 @@
-use Rattle.std.proofs.Common.{◌≡◌, ◌++◌, map, take}
-use Rattle.std.specs.List.{flat_map}
-use Rattle.page_text.specs.Tables.{heading_cell}
-use Rattle.page_text.proofs.tables.put_heading_cells.Given as goal
-
--- Those so far stand behind what was there.
-abbrev pub invariant-loop-cell : goal.invariant-loop-cell
-invariant-loop-cell l =
-    l.out.items ≡ l.fn.out.items ++ flat_map heading_cell (map (λ cell. cell.now) (take l.cell-index l.heading))

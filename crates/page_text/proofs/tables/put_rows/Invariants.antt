@@ -1,8 +1,0 @@
-use Rattle.std.proofs.Common.{◌≡◌, ◌++◌, take}
-use Rattle.std.specs.List.{flat_map}
-use Rattle.page_text.specs.Tables.{data_row}
-use Rattle.page_text.proofs.tables.put_rows.Given as goal
-
--- Those so far stand behind what was there.
-abbrev pub invariant-loop-row : goal.invariant-loop-row
-invariant-loop-row l = l.out.items ≡ l.fn.out.items ++ flat_map data_row (take l.row-index l.rows)

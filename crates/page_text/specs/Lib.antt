@@ -1,4 +1,0 @@
-pub mod Characters
-pub mod Escaping
-pub mod Tables
-pub mod Values

@@ -1,0 +1,85 @@
+//! The pages of a source, as a service.
+
+ghost use Rattle.std.specs.Prelude.{◌≡◌};
+ghost use Rattle.http.specs.declared.request.Request.{Request};
+ghost use Rattle.std.specs.Option.{option_copied};
+ghost use Rattle.site_pages.specs.Telling.{Told, IsAnswered, these_or_none};
+
+use crate::responses::{refuse, respond};
+use crate::source::Source;
+use archive_page::{Answer, Asked, Status, health_answer, metrics_answer, refusal, style_answer};
+use bytes::Bytes;
+use http::Request;
+use http_server::{Response, Service};
+use std::alloc::{AllocError, Global};
+
+const NO_PAGE: [u8; 22] = *b"There is no such page.";
+
+const NO_CHANGE: [u8; 35] = *b"A page is asked for by GET or HEAD.";
+
+/// The pages of a source.
+#[derive(Drop)]
+pub struct Pages<S: Source> {
+    alloc: Global,
+    source: S,
+}
+
+/// The bytes of a query, none where there is none.
+fn bytes_of(query: Option<&str>) -> &[u8]
+    ensures { result.now ≡ these_or_none (option_copied query.entry) }
+{
+    match query {
+        None => &[],
+        Some(query) => query.as_bytes(),
+    }
+}
+
+impl<S: Source> Pages<S> {
+    pub fn new(alloc: Global, source: S) -> Pages<S>
+        ensures { result.source ≡ source }
+    {
+        Pages { alloc, source }
+    }
+
+    pub fn into_source(self) -> S
+        ensures { result ≡ self.source }
+    {
+        let Pages { source, .. } = self;
+        source
+    }
+
+    /// What is told of what is asked, or none where it can't be told now.
+    fn told(&mut self, asked: Asked, query: &[u8]) -> Option<Answer>
+        ensures { Told S.says self.old.source asked query.now result self.new.source }
+    {
+        match asked {
+            Asked::Page(subject, form) => self.source.page(self.alloc, subject, form, query),
+            Asked::Style => style_answer(self.alloc).ok(),
+            Asked::Health => health_answer(self.alloc, self.source.fault()).ok(),
+            Asked::Metrics => metrics_answer(self.alloc, self.source.samples()).ok(),
+            Asked::Nothing => refusal(self.alloc, Status::NotFound, NO_PAGE.as_slice()).ok(),
+            Asked::Change => {
+                refusal(self.alloc, Status::MethodNotAllowed, NO_CHANGE.as_slice()).ok()
+            }
+        }
+    }
+}
+
+impl<S: Source> Service for Pages<S> {
+    ghost answers = { λ old request response new.
+        IsAnswered S.says old.source request response new.source };
+
+    fn call(
+        &mut self,
+        request: &Request<Bytes>,
+        response: &mut Response,
+    ) -> Result<(), AllocError> {
+        let method = request.method().as_str().as_bytes();
+        let asked = Asked::of(method, request.uri().path().as_bytes());
+        match self.told(asked, bytes_of(request.uri().query())) {
+            Some(answer) => respond(response, answer),
+            None => refuse(response),
+        }
+        Ok(())
+    }
+}
