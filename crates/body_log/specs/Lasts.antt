@@ -19,6 +19,12 @@ pub record Spares {D : Type 0} (g : Ghosts D) (end : ℕ) (old new : D) : Type 0
   pub clean : IsTrue (g.is_clean new) → IsTrue (g.is_clean old)
   pub longer : length (g.seen old) ≤ length (g.seen new)
 
+-- a file has what it had, and a crash leaves of it what some crash could leave before
+pub record Stays {D : Type 0} (g : Ghosts D) (old new : D) : Type 0 where
+  pub seen : g.seen new ≡ g.seen old
+  pub left : (c : List ℕ) → g.may_leave new c → g.may_leave old c
+  pub clean : IsTrue (g.is_clean new) → IsTrue (g.is_clean old)
+
 -- what a file has lasts
 abbrev pub Settles : {D : Type 0} → Ghosts D → D → D → Type 0
 Settles g old new = (at : ℕ) (bytes : List ℕ) → Holds (g.seen old) at bytes → Lasts g new at bytes

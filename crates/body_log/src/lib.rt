@@ -8,7 +8,9 @@
 mod fault;
 mod laws;
 mod log;
+mod refused;
 
 pub use fault::BodyFault;
 pub use laws::what_lasts_goes_on_to_last;
 pub use log::BodyLog;
+pub use refused::Refused;

@@ -1,11 +1,13 @@
 //! A file to whose end bodies are added.
 
 ghost use Rattle.std.specs.Prelude.{◌≡◌, ◌+◌, ◌≤◌, ◌<◌, ◌^◌, ◌↔◌, List, ℕ, false, length, IsTrue, IfOk, IfErr, OnOk, OnErr, IsErrOf};
-ghost use Rattle.sqlite_disk.specs.Disk.{Holds, MoreFaults};
-ghost use Rattle.body_log.specs.Lasts.{Lasts, Settles, Spares, IsExact};
+ghost use Rattle.sqlite_disk.specs.Disk.{CountsFault, Holds, MoreFaults, Only};
+ghost use Rattle.body_log.specs.Lasts.{Lasts, Settles, Spares, Stays, IsExact};
 
 use crate::fault::BodyFault;
+use crate::refused::Refused;
 use sqlite_disk::Disk;
+use std::io;
 
 /// A file whose bytes below its end are never written again.
 pub struct BodyLog<D: Disk> {
@@ -20,11 +22,25 @@ impl<D: Disk + Drop> Drop for BodyLog<D> {
     }
 }
 
-impl<D: Disk + Drop> BodyLog<D> {
-    ghost use Rattle.body_log.specs.Log.{disk_of, end_of};
+/// How long a file is, all of which is synced first.
+fn synced_len<D: Disk>(disk: &mut D) -> io::Result<usize>
+    requires usable { IsTrue (D.Disk.is_usable disk.old) }
+    ensures len { IfOk result (λ len. IsTrue (D.Disk.is_clean disk.new)
+        → len ≡ length (D.Disk.seen disk.old)) }
+    ensures only { OnOk result (Only (D.Disk.seen disk.old) (D.Disk.may_leave disk.new)) }
+    ensures usable { OnOk result (IsTrue (D.Disk.is_usable disk.new)) }
+    ensures stays { Stays D.Disk disk.old disk.new }
+    ensures counted { CountsFault result (D.Disk.faults disk.old) (D.Disk.faults disk.new) }
+{
+    disk.sync()?;
+    disk.len()
+}
 
-    /// The log of a file, all of which is synced first.
-    pub fn over(disk: D) -> Result<BodyLog<D>, BodyFault>
+impl<D: Disk + Drop> BodyLog<D> {
+    ghost use Rattle.body_log.specs.Log.{disk_of, end_of, file_of};
+
+    /// The log of a file, all of which is synced first. A file that is refused is handed back.
+    pub fn over(disk: D) -> Result<BodyLog<D>, Refused<D>>
         requires usable { IsTrue (D.Disk.is_usable disk) }
         // All that the file has lasts, and lies below the end.
         ensures settled { IfOk result (λ log. Settles D.Disk disk (disk_of log)) }
@@ -35,12 +51,20 @@ impl<D: Disk + Drop> BodyLog<D> {
         ensures reach { IfOk result (λ log. IsTrue (D.Disk.is_clean (disk_of log))
             → end_of log ≤ length (D.Disk.seen (disk_of log))) }
         ensures usable { IfOk result (λ log. IsTrue (D.Disk.is_usable (disk_of log))) }
-        ensures fault { IfErr result (λ fault. fault ≡ BodyFault.Disk) }
+        // Whatever is answered, nothing was written: the file has what it had, after a crash too.
+        ensures kept { Stays D.Disk disk (file_of result) }
+        // It is refused only where the disk refused.
+        ensures fault { IfErr result (λ refused. refused.fault ≡ BodyFault.Disk) }
+        ensures disk { CountsFault result (D.Disk.faults disk) (D.Disk.faults (file_of result)) }
     {
         let mut disk = disk;
-        disk.sync()?;
-        let end = disk.len()?;
-        Ok(BodyLog { disk, end })
+        match synced_len(&mut disk) {
+            Ok(end) => Ok(BodyLog { disk, end }),
+            Err(_error) => Err(Refused {
+                fault: BodyFault::Disk,
+                disk,
+            }),
+        }
     }
 
     /// The file.
