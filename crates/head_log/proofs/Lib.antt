@@ -1,3 +1,5 @@
+pub mod Gates
 pub mod Laying
+pub mod Opening
 pub mod Texts
 pub mod Walking

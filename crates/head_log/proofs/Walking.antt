@@ -1,34 +1,11 @@
 -- The walk from group to group.
-use Rattle.std.proofs.Common.{◌≡◌, ◌≢◌, ◌+◌, ◌≤◌, ◌<◌, ◌^◌, ◌∷◌, [], ℕ, List, length, slice_index, sym, ◌∙◌, arith, subst, ap, refl}
-use Rattle.std.specs.Int.{w64, to_le_bytes}
+use Rattle.std.proofs.Common.{◌≡◌, ◌+◌, ◌≤◌, ◌<◌, ◌∷◌, [], ℕ, List, length, sym, arith, subst, ap, refl}
 use Rattle.sqlite_disk.specs.Disk.{Holds}
 use Rattle.head_log.specs.Groups.{IsGroupAt, Laid}
 use Rattle.head_log.proofs.Laying.{laid_up}
 use Rattle.head_log.proofs.Texts.{said, sized, summed, same_group, front, behind}
 use Rattle.sha2.specs.Sha256.{sha256}
 use Rattle.sha2.proofs.Facts256.{length-sha256}
-
--- groups that are left of a file, from an offset on
-abbrev pub AreLeft : List ℕ → ℕ → ℕ → Type 0
-AreLeft file at end = (rest : List (List ℕ)) × Laid file at rest end
-
--- behind an open gate lies a group, and behind it the others
-pub next_left : (file : List ℕ) (at n end : ℕ) → n < 2 ^ 64 → AreLeft file at end → slice_index file end ≢ 1
-    → slice_index file at ≡ 1 → Holds file (at + 1) (to_le_bytes w64 n) → AreLeft file (at + n + 41) end
-next_left file at n end fits ([], laid) shut gate says =
-    absurd (shut (ap (slice_index file) (sym laid) ∙ gate))
-next_left file at n end fits (group ∷ rest, both) shut gate says =
-    let size = said file at n group fits both.0.short both.0.text says in
-    let here : at + 41 + length group ≡ at + n + 41 = omega (arith, size) in
-    (rest, subst (λ (m : ℕ). Laid file m rest end) here both.1)
-
--- a gate that is not open ends them
-pub none_left : (file : List ℕ) (at end : ℕ) → AreLeft file at end → slice_index file at ≢ 1 → at ≡ end
-none_left file at end ([], laid) shut = laid
-none_left file at end (group ∷ rest, both) shut = absurd (shut both.0.gate)
-
-pub left_up : (file : List ℕ) (at end : ℕ) → AreLeft file at end → at ≤ end
-left_up file at end (rest, laid) = laid_up file at rest end laid
 
 -- at one offset stands one group
 pub one_group : (file : List ℕ) (at : ℕ) (a b : List ℕ) → IsGroupAt file at a → IsGroupAt file at b → a ≡ b

@@ -1,4 +1,5 @@
 pub mod Fault
+pub mod Gates
 pub mod Groups
 pub mod Log
 pub mod Reads

@@ -1,12 +1,18 @@
 -- What a log shows.
-use Rattle.std.specs.Prelude.{◌≡◌, ◌&&◌, Bool, ℕ}
+use Rattle.std.specs.Prelude.{◌≡◌, ◌&&◌, Bool, ℕ, Result, Ok, Err}
 use Rattle.sqlite_disk.specs.declared.Disk.{Ghosts}
 use Rattle.head_log.specs.declared.log.HeadLog.{HeadLog}
+use Rattle.head_log.specs.declared.refused.Refused.{Refused}
 use Rattle.head_log.specs.Reads.{OnlyReads}
 
 -- the file
 abbrev pub disk_of : {D : Type 0} → HeadLog D → D
 disk_of log = log.disk
+
+-- the file, whether it was opened or not
+abbrev pub file_of : {D : Type 0} → Result (HeadLog D) (Refused D) → D
+file_of (Ok log) = log.disk
+file_of (Err refused) = refused.disk
 
 -- where the next group goes
 abbrev pub end_of : {D : Type 0} → HeadLog D → ℕ

@@ -1,6 +1,7 @@
 //! The two halves of adding a group: it is written behind a shut gate, and then the gate is opened.
 
 ghost use Rattle.std.specs.Prelude.{◌≡◌, ◌+◌, ◌<◌, ◌≤◌, ◌++◌, ◌∷◌, ◌^◌, [], List, ℕ, length, IsTrue, OnOk};
+ghost use Rattle.sqlite_disk.specs.Disk.{CountsFault};
 ghost use Rattle.head_log.specs.Groups.{IsEnded, IsReady, IsStaged, LeavesEither, StandsFor, shut_text};
 
 use sqlite_disk::Disk;
@@ -15,6 +16,7 @@ pub(crate) fn begin<D: Disk>(disk: &mut D) -> io::Result<()>
     ensures clean { IsTrue (D.Disk.is_clean disk.new) → IsTrue (D.Disk.is_clean disk.old) }
     ensures crash { ((c : List ℕ) → D.Disk.may_leave disk.old c → length c ≤ 1)
         → (c : List ℕ) → D.Disk.may_leave disk.new c → StandsFor c [] }
+    ensures counted { CountsFault result (D.Disk.faults disk.old) (D.Disk.faults disk.new) }
 {
     disk.write_at(0, &[0])?;
     disk.sync()

@@ -11,9 +11,13 @@ mod gate;
 mod laws;
 mod log;
 mod reading;
+mod refused;
 mod text;
 mod walk;
 
 pub use fault::HeadFault;
-pub use laws::{groups_are_read_in_order, no_group_is_read_behind_the_last};
+pub use laws::{
+    a_file_of_groups_is_not_cut, groups_are_read_in_order, no_group_is_read_behind_the_last,
+};
 pub use log::HeadLog;
+pub use refused::Refused;

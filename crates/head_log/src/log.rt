@@ -1,11 +1,15 @@
 //! A file of groups.
 
-ghost use Rattle.std.specs.Prelude.{◌≡◌, ◌++◌, ◌∷◌, ◌<◌, ◌≤◌, ◌+◌, ◌^◌, ◌↔◌, ◌⊎◌, [], List, ℕ, false, length, Ok, None, IfOk, IfSome, IsTrue, IsErrOf, OnOk, OnErr};
-ghost use Rattle.head_log.specs.Groups.{IsEnded, IsGroupAt, IsReady, LeavesEither, StandsFor};
+ghost use Rattle.std.specs.Prelude.{◌≡◌, ◌++◌, ◌∷◌, ◌<◌, ◌≤◌, ◌+◌, ◌^◌, ◌↔◌, ◌⊎◌, [], List, ℕ, false, length, Ok, None, IfOk, IfSome, IsTrue, IsErrOf, OnOk, OnErr, IfErr, MatchResult};
+ghost use Rattle.sqlite_disk.specs.Disk.{MoreFaults};
+ghost use Rattle.head_log.specs.Fault.{CountsDisk, IsOfOpen};
+ghost use Rattle.head_log.specs.Gates.{EndsAt, IsCutAt};
+ghost use Rattle.head_log.specs.Groups.{IsEnded, IsGroupAt, IsReady, KeepsGroups, LeavesEither, StandsFor};
 
 use crate::fault::HeadFault;
 use crate::gate::{begin, open, stage};
 use crate::reading::group_at;
+use crate::refused::Refused;
 use crate::text::shut;
 use crate::walk::end_at;
 use sqlite_disk::Disk;
@@ -40,8 +44,16 @@ fn start<D: Disk>(disk: &mut D) -> Result<usize, HeadFault>
         → IsReady D.Disk disk.new end groups) }
     ensures ended { IfOk result (λ end. IsTrue (D.Disk.is_clean disk.new)
         → IsEnded D.Disk disk.new end) }
+    ensures gates { IfOk result (λ end. IsTrue (D.Disk.is_clean disk.new)
+        → EndsAt (D.Disk.seen disk.new) end) }
     ensures usable { OnOk result (IsTrue (D.Disk.is_usable disk.new)) }
     ensures clean { IsTrue (D.Disk.is_clean disk.new) → IsTrue (D.Disk.is_clean disk.old) }
+    ensures kept { IsTrue (D.Disk.is_clean disk.new) → KeepsGroups D.Disk disk.old disk.new }
+    // Each fault, only where it is.
+    ensures damaged { (n : ℕ) → IsErrOf result (HeadFault.Damaged n)
+        → IsTrue (D.Disk.is_clean disk.new) → IsCutAt (D.Disk.seen disk.old) n }
+    ensures disk { CountsDisk result (D.Disk.faults disk.old) (D.Disk.faults disk.new) }
+    ensures only { IfErr result IsOfOpen }
 {
     disk.sync()?;
     let len = disk.len()?;
@@ -53,11 +65,11 @@ fn start<D: Disk>(disk: &mut D) -> Result<usize, HeadFault>
 }
 
 impl<D: Disk + Drop> HeadLog<D> {
-    ghost use Rattle.head_log.specs.Log.{disk_of, end_of, is_up};
+    ghost use Rattle.head_log.specs.Log.{disk_of, end_of, file_of, is_up};
 
     /// The log of a file: it is at the end of its groups, and every crash leaves them. A file of no
-    /// byte, or of one, is begun.
-    pub fn over(alloc: Global, disk: D) -> Result<HeadLog<D>, HeadFault>
+    /// byte, or of one, is begun. No sum is tested. A file that is refused is handed back.
+    pub fn over(alloc: Global, disk: D) -> Result<HeadLog<D>, Refused<D>>
         requires usable { IsTrue (D.Disk.is_usable disk) }
         ensures found { IfOk result (λ log. IsTrue (D.Disk.is_clean (disk_of log))
             → (groups : List (List ℕ)) → StandsFor (D.Disk.seen disk) groups
@@ -68,15 +80,31 @@ impl<D: Disk + Drop> HeadLog<D> {
         ensures up { IfOk result (λ log. IsTrue (is_up D.Disk log)) }
         ensures clean { IfOk result (λ log. IsTrue (D.Disk.is_clean (disk_of log))
             → IsTrue (D.Disk.is_clean disk)) }
+        // Whatever is answered, it stands for what it stood for, after a crash too.
+        ensures kept { IsTrue (D.Disk.is_clean (file_of result))
+            → KeepsGroups D.Disk disk (file_of result) }
+
+        // Each fault, exactly where it is: the gates of a file end, or it is cut.
+        ensures gates { IfOk result (λ log. IsTrue (D.Disk.is_clean (disk_of log))
+            → EndsAt (D.Disk.seen (disk_of log)) (end_of log)) }
+        ensures damaged { IfErr result (λ refused. (n : ℕ) → refused.fault ≡ HeadFault.Damaged n
+            → IsTrue (D.Disk.is_clean refused.disk) → IsCutAt (D.Disk.seen disk) n) }
+        ensures disk { MatchResult result
+            (λ log. D.Disk.faults (disk_of log) ≡ D.Disk.faults disk)
+            (λ refused. refused.fault ≡ HeadFault.Disk
+            → MoreFaults (D.Disk.faults disk) (D.Disk.faults refused.disk)) }
+        ensures only { IfErr result (λ refused. IsOfOpen refused.fault) }
     {
         let mut disk = disk;
-        let end = start(&mut disk)?;
-        Ok(HeadLog {
-            disk,
-            end,
-            is_open: true,
-            alloc,
-        })
+        match start(&mut disk) {
+            Ok(end) => Ok(HeadLog {
+                disk,
+                end,
+                is_open: true,
+                alloc,
+            }),
+            Err(fault) => Err(Refused { fault, disk }),
+        }
     }
 
     /// The file.
@@ -171,6 +199,11 @@ impl<D: Disk> HeadLog<D> {
             → IsTrue (D.Disk.is_clean (disk_of self.new)) → (group : List ℕ)
             → at + 41 + length group ≤ end_of self.old
             → ¬ IsGroupAt (D.Disk.seen (disk_of self.old)) at group }
+        ensures disk { (IsTrue (D.Disk.is_clean (disk_of self.old))
+            → end_of self.old ≤ length (D.Disk.seen (disk_of self.old))) → CountsDisk result
+            (D.Disk.faults (disk_of self.old)) (D.Disk.faults (disk_of self.new)) }
+        ensures memory { IsErrOf result HeadFault.Memory → at < end_of self.old }
+        ensures fits { ¬ IsErrOf result HeadFault.TooLong }
     {
         if !self.disk.may_be_used() {
             return Err(HeadFault::Closed);

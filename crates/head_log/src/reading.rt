@@ -2,7 +2,8 @@
 
 ghost use Rattle.std.specs.Prelude.{◌≡◌, ◌<◌, ◌≤◌, ◌+◌, ◌++◌, ◌^◌, ◌↔◌, ◌⊎◌, List, ℕ, Ok, None, length, IsTrue, IfOk, IfErr, IfSome, IsErrOf};
 ghost use Rattle.sha2.specs.Sha256.{sha256};
-ghost use Rattle.sqlite_disk.specs.Disk.{Holds};
+ghost use Rattle.sqlite_disk.specs.Disk.{CountsFaultIf, Holds};
+ghost use Rattle.head_log.specs.Fault.{CountsDisk};
 ghost use Rattle.head_log.specs.Groups.{IsGroupAt};
 ghost use Rattle.head_log.specs.Reads.{OnlyReads};
 
@@ -19,6 +20,9 @@ fn sum_at<D: Disk>(disk: &mut D, at: usize) -> io::Result<[u8; 32]>
     ensures read { IfOk result (λ sum. IsTrue (D.Disk.is_clean disk.new)
         → Holds (D.Disk.seen disk.old) at sum) }
     ensures same { OnlyReads D.Disk disk.old disk.new }
+    ensures counted { CountsFaultIf (IsTrue (D.Disk.is_clean disk.old)
+        → at + 32 ≤ length (D.Disk.seen disk.old))
+        result (D.Disk.faults disk.old) (D.Disk.faults disk.new) }
 {
     let mut sum = [0; 32];
     disk.read_at(at, &mut sum)?;
@@ -39,6 +43,9 @@ fn bytes_at<D: Disk>(
     ensures size { IfOk result (λ bytes. length bytes.items ≡ size) }
     ensures only { IfErr result (λ fault. (fault ≡ HeadFault.Disk) ⊎ (fault ≡ HeadFault.Memory)) }
     ensures same { OnlyReads D.Disk disk.old disk.new }
+    ensures disk { (IsTrue (D.Disk.is_clean disk.old)
+        → at + size ≤ length (D.Disk.seen disk.old))
+        → CountsDisk result (D.Disk.faults disk.old) (D.Disk.faults disk.new) }
 {
     let mut bytes = Vec::new(alloc);
     bytes.resize(size, 0)?;
@@ -64,6 +71,9 @@ fn tested_at<D: Disk>(
         → ¬ Holds (D.Disk.seen disk.old) at (sha256 group ++ group) }
     ensures only { IfErr result (λ fault. (fault ≡ HeadFault.Disk) ⊎ (fault ≡ HeadFault.Memory)) }
     ensures same { OnlyReads D.Disk disk.old disk.new }
+    ensures disk { (IsTrue (D.Disk.is_clean disk.old)
+        → at + 32 + size ≤ length (D.Disk.seen disk.old))
+        → CountsDisk result (D.Disk.faults disk.old) (D.Disk.faults disk.new) }
 {
     let sum = sum_at(disk, at)?;
     let group = bytes_at(alloc, disk, at + 32, size)?;
@@ -97,7 +107,10 @@ pub(crate) fn group_at<D: Disk>(
         → (group : List ℕ) → at + 41 + length group ≤ end
         → ¬ IsGroupAt (D.Disk.seen disk.old) at group }
     ensures only { ¬ IsErrOf result HeadFault.Closed }
+    ensures fits { ¬ IsErrOf result HeadFault.TooLong }
     ensures same { OnlyReads D.Disk disk.old disk.new }
+    ensures disk { (IsTrue (D.Disk.is_clean disk.old) → end ≤ length (D.Disk.seen disk.old))
+        → CountsDisk result (D.Disk.faults disk.old) (D.Disk.faults disk.new) }
 {
     if end - at < 41 {
         return Err(HeadFault::Damaged(at));

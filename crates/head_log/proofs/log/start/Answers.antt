@@ -1,7 +1,28 @@
-use Rattle.std.proofs.Common.{◌≡◌, List, ℕ, length, sym, subst, ap, ◌∙◌, arith}
-use Rattle.head_log.specs.Groups.{Ready}
+use Rattle.std.proofs.Common.{◌≡◌, ◌≤◌, List, ℕ, length, IsTrue, sym, subst, ap, ◌∙◌, arith}
+use Rattle.std.proofs.lemmas.Result.{IfOk-weaker}
+use Rattle.head_log.specs.Gates.{EndsAt}
+use Rattle.head_log.specs.Groups.{IsReady, Ready, StandsFor}
 use Rattle.head_log.proofs.Laying.{none_yet}
+use Rattle.head_log.proofs.Opening.{kept_if_begun, ready_at}
 use Rattle.head_log.proofs.log.start.Goals as goal
+
+-- The groups end where the gates do, and what a crash leaves is what was synced.
+pub returns-then-len-gt1-clause-found : goal.returns-then-len-gt1-clause-found
+returns-then-len-gt1-clause-found g c =
+    let file = g.D.Disk.seen c.args.disk.now in
+    let seen = c.len.ensures.seen ∙ c.sync.ensures.seen in
+    IfOk-weaker c.end_at.result _
+    (λ end. IsTrue (g.D.Disk.is_clean c.end_at.new.disk) → (groups : List (List ℕ)) → StandsFor file groups
+    → IsReady g.D.Disk c.end_at.new.disk end groups)
+    (λ end ends clean groups stands left may.
+    let was = c.end_at.ensures.same.clean clean in
+    let many : c.in_ok-len.len ≡ length file =
+    c.in_ok-len.ensures.len was ∙ ap (λ (f : List ℕ). length f) c.sync.ensures.seen in
+    let here = subst (λ (f : List ℕ). EndsAt f end) seen (ends clean) in
+    let ready = ready_at file end groups (omega (arith, many, c.if-len-gt1.true)) here stands in
+    let only = c.in_ok-sync.ensures.durable left (c.len.ensures.crash left (c.end_at.ensures.same.crash left may)) in
+    subst (λ (f : List ℕ). Ready f end groups) (sym only) ready)
+    c.end_at.ensures.ended
 
 -- A file of a byte at most stood for no group.
 pub returns-clause-found : goal.returns-clause-found
@@ -11,3 +32,24 @@ returns-clause-found g c clean groups stands left may =
     c.in_ok-len.ensures.len (c.begin.ensures.clean clean) ∙ ap (λ (f : List ℕ). length f) c.sync.ensures.seen in
     let none = none_yet file groups (omega (arith, many, c.if-len-gt1.false)) stands in
     subst (λ (gs : List (List ℕ)). Ready left 0 gs) (sym none) (c.in_ok-begin.ensures.ready left may)
+
+-- It is begun, and stands for none.
+pub returns-in_err-begin-clause-kept : goal.returns-in_err-begin-clause-kept
+returns-in_err-begin-clause-kept g c clean =
+    let file = g.D.Disk.seen c.args.disk.now in
+    let many : c.in_ok-len.len ≡ length file =
+    c.in_ok-len.ensures.len (c.begin.ensures.clean clean) ∙ ap (λ (f : List ℕ). length f) c.sync.ensures.seen in
+    let short : length file ≤ 1 = omega (arith, many, c.if-len-gt1.false) in
+    kept_if_begun g.D.Disk c.args.disk.now c.begin.new.disk (λ f. g.met.D.Disk.seen_may_stay f) short
+    (c.begin.ensures.crash λ left may. subst (λ (f : List ℕ). length f ≤ 1)
+    (sym (c.in_ok-sync.ensures.durable left (c.len.ensures.crash left may))) short)
+
+pub returns-clause-kept : goal.returns-clause-kept
+returns-clause-kept g c clean =
+    let file = g.D.Disk.seen c.args.disk.now in
+    let many : c.in_ok-len.len ≡ length file =
+    c.in_ok-len.ensures.len (c.begin.ensures.clean clean) ∙ ap (λ (f : List ℕ). length f) c.sync.ensures.seen in
+    let short : length file ≤ 1 = omega (arith, many, c.if-len-gt1.false) in
+    kept_if_begun g.D.Disk c.args.disk.now c.begin.new.disk (λ f. g.met.D.Disk.seen_may_stay f) short
+    (c.begin.ensures.crash λ left may. subst (λ (f : List ℕ). length f ≤ 1)
+    (sym (c.in_ok-sync.ensures.durable left (c.len.ensures.crash left may))) short)
