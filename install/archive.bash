@@ -2,7 +2,7 @@
 _archive() {
     local word=${COMP_WORDS[COMP_CWORD]} before=${COMP_WORDS[COMP_CWORD - 1]} words=
     if [ "$COMP_CWORD" -eq 1 ]; then
-        words="serve exchange correct report simulate help --help --version"
+        words="serve exchange correct report move simulate help --help --version"
     else
         case "${COMP_WORDS[1]} $before" in
             *\ --listen | *\ --exchange | *\ --page | *\ --peer | *\ --every | *\ --allow | *\ --exchange-allow | *\ --page-allow | *\ --calling | *\ --quality-calling | *\ --audit-calling | *\ --idle | *\ --exchange-workers | *\ --workers | *\ --each | *\ --rounds | *\ --site) return ;;
@@ -11,7 +11,8 @@ _archive() {
             exchange\ *) words="--peer --peer-version --idle --help" ;;
             correct\ *) words="--site study patient series --help" ;;
             report\ *) words="--fingerprint --conflicts --rejected --corrections --studies --tsv --help" ;;
-            help\ help) words="serve exchange correct report simulate" ;;
+            move\ *) words="--help" ;;
+            help\ help) words="serve exchange correct report move simulate" ;;
             *) return ;;
         esac
     fi

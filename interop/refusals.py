@@ -121,7 +121,7 @@ def try_words(refusals):
                 refusals.new(), "", *SERVED, "--page", f"127.0.0.1:{free_port()}", option, network), 2, None)
     many = [w for port in range(1, 65) for w in ("--peer", f"127.0.0.1:{port}")]
     refusals.refused("serve with a worker and 64 peers", refusals.serve(refusals.new(), "", *SERVED, *many), 2, None)
-    for words in ([], ["nothing"], ["report"], ["exchange", refusals.new()],
+    for words in ([], ["nothing"], ["report"], ["exchange", refusals.new()], ["move", refusals.new()],
                   ["report", refusals.new(), "--tsv"], ["report", refusals.new(), "--studies", "--rejected"],
                   ["correct", refusals.new(), "--site", "0", "patient", "P1", "00100010", "A"],
                   ["correct", refusals.new(), "--site", "65536", "patient", "P1", "00100010", "A"],
@@ -161,6 +161,8 @@ def make_site(refusals, name):
 def make_files(refusals):
     """Files that are no site's, by name, and copies of a site's file that were harmed."""
     os.mkdir(refusals.path("a folder"))
+    with open(refusals.path("a folder/a text"), "wb") as f:
+        f.write(b"This is no log.\n")
     for name, data in (("a text", b"This is no database.\n"), ("one octet", b"S"), ("zeros", bytes(8192)),
                        ("the head alone", HEAD), ("noise", HEAD + os.urandom(8176))):
         with open(refusals.path(name), "wb") as f:
@@ -186,7 +188,7 @@ def make_files(refusals):
 
 def try_files(refusals):
     make_files(refusals)
-    for file, why in (("a folder", "it is a folder"), ("a text", OTHER), ("one octet", OTHER), ("zeros", OTHER),
+    for file, why in (("a folder", "it is a folder, and no archive's"), ("a text", OTHER), ("one octet", OTHER), ("zeros", OTHER),
                       ("the head alone", DAMAGED), ("noise", DAMAGED), ("cut off", DAMAGED),
                       ("another database", "it is another program's database")):
         for command, words in on_file(refusals, file):

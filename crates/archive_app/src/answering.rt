@@ -4,6 +4,7 @@ ghost use Rattle.command_words.specs.Words.{IsInRange};
 
 use crate::correct::correct;
 use crate::exchanging::exchange;
+use crate::moving::move_operations;
 use crate::refused::{Refused, about};
 use crate::report::report;
 use crate::serve::serve;
@@ -48,6 +49,7 @@ pub fn answer<
         Asked::Report(reporting) => Ok(report(rt, reporting)),
         Asked::Correct(correcting) => Ok(correct(rt, host, correcting)),
         Asked::Exchange(exchanging) => Ok(exchange(rt, host, exchanging)),
+        Asked::Move(moving) => Ok(move_operations(rt, moving)),
         Asked::Serve(serving) => Ok(printed(rt.alloc(), serve(rt, host, &serving)?)),
     }
 }

@@ -1,19 +1,19 @@
-//! `archive correct`: corrects an attribute in a file.
+//! `archive correct`: corrects an attribute in a file or a folder.
 
 ghost use Rattle.std.specs.Prelude.{◌≤◌};
 ghost use Rattle.command_words.specs.Words.{HasSite};
 
-use crate::file::{OnShelf, is_new, on_file};
+use crate::file::{OnStore, on_file};
+use crate::folder::is_absent;
 use crate::refused::{Refused, about, note};
 use command_output::{Cause, CommandFault, Note, line_of_stamp};
 use command_words::{Change, Correcting, Part, bad_part, unmatched};
+use kept_log::Store;
 use key_matching::Matching;
-use op_shelf::Shelf;
 use operation::Target;
 use shelved_site::{Corrected, correct_on, next_correction};
 use site_hub::HubFault;
 use site_state::Site;
-use sqlite::Alter;
 use std::alloc::Global;
 use std::rt::HostRuntime;
 use std::sync::Wait;
@@ -68,10 +68,10 @@ struct Making<'a, W: Wait> {
     ghost numbered: { 1 ≤ site },
 }
 
-impl<W: Wait> OnShelf for Making<'_, W> {
+impl<W: Wait> OnStore for Making<'_, W> {
     type Told = Result<Corrected, CommandFault>;
 
-    fn on<S: Alter + Drop + Send>(self, mut shelf: Shelf<S>) -> Result<Corrected, CommandFault> {
+    fn on<S: Store + Drop + Send>(self, mut store: S) -> Result<Corrected, CommandFault> {
         let Making {
             alloc,
             wait,
@@ -79,7 +79,7 @@ impl<W: Wait> OnShelf for Making<'_, W> {
             change,
         } = self;
         let Change { target, tag, value } = change;
-        let made = correct_on(alloc, wait, &mut shelf, site, target, tag, value)?;
+        let made = correct_on(alloc, wait, &mut store, site, target, tag, value)?;
         Ok(made)
     }
 }
@@ -95,7 +95,7 @@ fn made<'a>(
 ) -> Result<Corrected, Refused<'a>>
     requires site { 1 ≤ site }
 {
-    if is_new(rt, file) {
+    if is_absent(rt, file) {
         about(file, refuse_first(rt.alloc(), wait, site, &change))?;
     }
     let making = Making {

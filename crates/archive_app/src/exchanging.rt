@@ -1,6 +1,7 @@
-//! `archive exchange`: exchanges the operations in a file with another site.
+//! `archive exchange`: exchanges the operations in a file or a folder with another site.
 
-use crate::file::{OnShelf, is_new, on_file};
+use crate::file::{OnStore, on_file};
+use crate::folder::is_absent;
 use crate::progress::{Progress, Reading, Writing};
 use crate::refused::{Refused, about};
 use crate::serve::wait_of;
@@ -10,10 +11,9 @@ use command_words::Exchanging;
 use devices::Counted;
 use exchange::ExchangeFault;
 use exchange_run::Ended;
-use op_shelf::Shelf;
+use kept_log::Store;
 use shelved_exchange::{Behind, exchange_on};
 use shelved_site::site_on;
-use sqlite::Alter;
 use std::net::{Net, TcpListener, TcpStream};
 use std::rt::HostRuntime;
 
@@ -62,10 +62,10 @@ struct Meeting<'h, 'a, R: Net<Listener = TcpListener, Stream = TcpStream>> {
     connected: Option<Wire>,
 }
 
-impl<'h, 'a, R: Net<Listener = TcpListener, Stream = TcpStream>> OnShelf for Meeting<'h, 'a, R> {
+impl<'h, 'a, R: Net<Listener = TcpListener, Stream = TcpStream>> OnStore for Meeting<'h, 'a, R> {
     type Told = Result<Ended, Refused<'a>>;
 
-    fn on<S: Alter + Drop + Send>(self, mut shelf: Shelf<S>) -> Result<Ended, Refused<'a>> {
+    fn on<S: Store + Drop + Send>(self, mut store: S) -> Result<Ended, Refused<'a>> {
         let Meeting {
             rt,
             net,
@@ -75,7 +75,7 @@ impl<'h, 'a, R: Net<Listener = TcpListener, Stream = TcpStream>> OnShelf for Mee
         let alloc = rt.alloc();
         let progress = Progress::of(rt);
         progress.begins(exchanging.file);
-        let site = about(exchanging.file, site_on(alloc, &mut shelf, &progress))?;
+        let site = about(exchanging.file, site_on(alloc, &mut store, &progress))?;
         let wire = match connected {
             Some(wire) => wire,
             None => connect_to(net, exchanging)?,
@@ -87,7 +87,7 @@ impl<'h, 'a, R: Net<Listener = TcpListener, Stream = TcpStream>> OnShelf for Mee
             site: _,
             shelf: _,
             ended,
-        } = exchange_on(alloc, role, &mut reader, &mut writer, site, shelf);
+        } = exchange_on(alloc, role, &mut reader, &mut writer, site, store);
         wire.part(rt);
         told_of(exchanging.peer, wire.is_silent(), ended)
     }
@@ -95,8 +95,8 @@ impl<'h, 'a, R: Net<Listener = TcpListener, Stream = TcpStream>> OnShelf for Mee
 
 /// Exchanges the operations in a file with the site at an address, and says what came of it.
 ///
-/// What is taken is on the shelf before it counts as given, and stays there whatever comes after.
-/// Refusals come in this order: the shelf, the site, the connection, the exchange. Where the file
+/// What is taken is in the store before it counts as given, and stays there whatever comes after.
+/// Refusals come in this order: the store, the site, the connection, the exchange. Where the file
 /// is not there the connection comes first, so that no file is made where nobody answers. At a
 /// terminal it says meanwhile how far it is. On standard error it says in the end whether both
 /// sides agreed.
@@ -106,7 +106,7 @@ pub fn exchange<'a, R: Net<Listener = TcpListener, Stream = TcpStream>>(
     exchanging: Exchanging<'a>,
 ) -> Result<Vec<u8>, Refused<'a>> {
     let file = exchanging.file;
-    let connected = match is_new(rt, file) {
+    let connected = match is_absent(rt, file) {
         true => Some(connect_to(net, exchanging)?),
         false => None,
     };

@@ -1,9 +1,11 @@
 //! The file of a site's shelf.
 
+use crate::folder::{is_folder, open_log};
 use crate::refused::{Refused, note};
 use command_output::{
     CommandFault, FileCause, Note, file_cause_in_error, file_cause_of, is_other, lacks_log,
 };
+use kept_log::{ArchiveStore, FileShelf, Store, of_shelf};
 use op_shelf::{Shelf, ShelfFault, StoreCause, make_ready};
 use sqlite::{Alter, Connection, Error, FileFrom, FileStore, Start, Wary};
 use std::alloc::AllocError;
@@ -16,15 +18,12 @@ use std::rt::HostRuntime;
 /// How many bytes of a file tell what it holds.
 const FRONT: u64 = 20;
 
-/// A shelf in a file.
-pub type FileShelf = Shelf<FileStore<FileFrom<Wary>>>;
-
-/// What a command does on the shelf in its file. It does so on a shelf over any store: what is said
-/// of a store is proved again by each function that names one, and so few do.
-pub trait OnShelf {
+/// What a command does on the operations of its archive. It does so on any store: what is said of a
+/// store is proved again by each function that names one, and so few do.
+pub trait OnStore {
     type Told;
 
-    fn on<S: Alter + Drop + Send>(self, shelf: Shelf<S>) -> Self::Told;
+    fn on<S: Store + Drop + Send>(self, store: S) -> Self::Told;
 }
 
 /// The first bytes of a file, where it can be read.
@@ -166,7 +165,7 @@ fn shelf_in<'a, S: Start>(
 
 /// Opens the shelf in a file, of which nothing is supposed. The file is made where it is not there;
 /// one of another kind is refused before anything is made beside it.
-pub fn open_shelf<'a>(rt: &HostRuntime, file: &'a str) -> Result<FileShelf, Refused<'a>> {
+fn open_shelf<'a>(rt: &HostRuntime, file: &'a str) -> Result<FileShelf, Refused<'a>> {
     if let Some(front) = front_of(rt, file) {
         if is_other(front.as_slice()) {
             let fault = CommandFault::Shelf(ShelfFault::Store(StoreCause::Other));
@@ -177,12 +176,21 @@ pub fn open_shelf<'a>(rt: &HostRuntime, file: &'a str) -> Result<FileShelf, Refu
     shelf_in(rt, file, Wary)
 }
 
-/// Does a command's work on the shelf in a file.
-pub fn on_file<'a, W: OnShelf + Drop>(
+/// Opens the operations in a file or a folder. What is not there is made: as a folder where its name
+/// ends with a slash, and else as a file.
+pub fn open_store<'a>(rt: &HostRuntime, file: &'a str) -> Result<ArchiveStore, Refused<'a>> {
+    if is_folder(rt, file) {
+        return open_log(rt, file);
+    }
+    Ok(of_shelf(open_shelf(rt, file)?))
+}
+
+/// Does a command's work on the operations in a file or a folder.
+pub fn on_file<'a, W: OnStore + Drop>(
     rt: &HostRuntime,
     file: &'a str,
     work: W,
 ) -> Result<W::Told, Refused<'a>> {
-    let shelf = open_shelf(rt, file)?;
-    Ok(work.on(shelf))
+    let store = open_store(rt, file)?;
+    Ok(work.on(store))
 }

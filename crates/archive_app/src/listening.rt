@@ -1,6 +1,6 @@
 //! Where a server listens.
 
-use crate::file::is_new;
+use crate::folder::is_absent;
 use crate::refused::Refused;
 use anyhow::Result as Printed;
 use archive_server::{Entrance, Exchanging, NetFault, Paging};
@@ -125,7 +125,7 @@ pub fn listen_first<'a, R: Net<Listener = TcpListener, Stream = TcpStream>>(
     rt: &R,
     serving: &Serving<'a>,
 ) -> Result<Option<Listening>, Refused<'a>> {
-    match is_new(host, serving.file) {
+    match is_absent(host, serving.file) {
         true => Ok(Some(listen_to(host, rt, serving)?)),
         false => Ok(None),
     }

@@ -5,6 +5,7 @@
 ghost use Rattle.std.specs.Prelude.{◌≡◌};
 
 use devices::{DeviceFault, Sink, Source};
+use kept_log::Following;
 use shelved_site::Hearing;
 use std::io::IsTerminal;
 use std::rt::HostRuntime;
@@ -48,6 +49,25 @@ impl Hearing for Progress<'_> {
     fn has_read(&self, operations: usize) {
         if let Some(rt) = self.reader {
             let _ = eprintln!(rt; "taking {operations} operations");
+        }
+    }
+}
+
+/// How many operations are moved between two lines.
+const MOVED: usize = 1_024;
+
+impl Following for Progress<'_> {
+    fn has_read(&self, operations: usize) {
+        if let Some(rt) = self.reader {
+            let _ = eprintln!(rt; "moving {operations} operations");
+        }
+    }
+
+    fn has_put(&self, operations: usize) {
+        if let Some(rt) = self.reader {
+            if operations % MOVED == 0 {
+                let _ = eprintln!(rt; "moved {operations} operations");
+            }
         }
     }
 }

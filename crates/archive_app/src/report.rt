@@ -1,15 +1,15 @@
-//! `archive report`: counts the operations in a file, or tells a table of its site.
+//! `archive report`: counts the operations in a file or a folder, or tells a table of its site.
 
-use crate::file::{OnShelf, is_new};
+use crate::file::OnStore;
+use crate::folder::{is_absent, is_folder};
 use crate::refused::{Refused, about, note};
 use crate::viewing::view_file;
 use command_output::{CommandFault, Note, lines_of};
 use command_words::Reporting;
-use op_shelf::Shelf;
+use kept_log::Store;
 use shelved_site::{Report, ShelvedFault, report_of, report_on, table_on};
 use site_state::Site;
 use site_tables::{Row, Table};
-use sqlite::Alter;
 use std::alloc::Global;
 use std::rt::HostRuntime;
 use table_text::{align, separate};
@@ -20,17 +20,17 @@ fn report_of_none(alloc: Global) -> Result<Report, CommandFault> {
     Ok(report)
 }
 
-/// The report of a shelf.
+/// The report of a store.
 #[derive(Drop)]
 struct Counting {
     alloc: Global,
 }
 
-impl OnShelf for Counting {
+impl OnStore for Counting {
     type Told = Result<Report, ShelvedFault>;
 
-    fn on<S: Alter + Drop + Send>(self, mut shelf: Shelf<S>) -> Result<Report, ShelvedFault> {
-        report_on(self.alloc, &mut shelf)
+    fn on<S: Store + Drop + Send>(self, mut store: S) -> Result<Report, ShelvedFault> {
+        report_on(self.alloc, &mut store)
     }
 }
 
@@ -51,21 +51,22 @@ fn counts<'a>(
     } else {
         report_in(rt, file)?
     };
-    about(file, lines_of(alloc, &report, is_fingerprinted))
+    let lines = lines_of(alloc, &report, is_folder(rt, file), is_fingerprinted);
+    about(file, lines)
 }
 
-/// A table of a shelf.
+/// A table of a store.
 #[derive(Drop)]
 struct Telling {
     alloc: Global,
     table: Table,
 }
 
-impl OnShelf for Telling {
+impl OnStore for Telling {
     type Told = Result<Vec<Row>, ShelvedFault>;
 
-    fn on<S: Alter + Drop + Send>(self, mut shelf: Shelf<S>) -> Result<Vec<Row>, ShelvedFault> {
-        table_on(self.alloc, &mut shelf, self.table)
+    fn on<S: Store + Drop + Send>(self, mut store: S) -> Result<Vec<Row>, ShelvedFault> {
+        table_on(self.alloc, &mut store, self.table)
     }
 }
 
@@ -107,7 +108,7 @@ pub fn report<'a>(rt: &HostRuntime, reporting: Reporting<'a>) -> Result<Vec<u8>,
         separated,
         fingerprint,
     } = reporting;
-    let is_absent = is_new(rt, file);
+    let is_absent = is_absent(rt, file);
     if is_absent {
         note(rt, file, Note::Absent);
     }

@@ -1,14 +1,12 @@
-//! `archive serve`: serves the operations in a file to DICOM clients (PS3.8, section 9.1).
+//! `archive serve`: serves the operations in a file or a folder to DICOM clients (PS3.8, section 9.1).
 
 ghost use Rattle.std.specs.Prelude.{◌≡◌, ◌≤◌, ◌<◌, ◌+◌, not, ◌==◌, vec_len, IfOk};
-ghost use Rattle.sqlite.specs.Held.{state};
-ghost use Rattle.sqlite.specs.State.{HasCleanDisk};
 ghost use Rattle.archive_server.specs.Serving.{places_for, serving_in, paging_in};
 ghost use Rattle.command_words.specs.Words.{HasPlaces};
 ghost use Rattle.shelved_site.specs.Sites.{IsSiteOf};
 
 use crate::ending::ended_with_input;
-use crate::file::open_shelf;
+use crate::file::open_store;
 use crate::listening::{Listening, exchanging_of, listen_first, listen_to, paging_at, say_where};
 use crate::progress::Progress;
 use crate::refused::{Refused, about};
@@ -18,12 +16,11 @@ use archive_server::{Entrance, Exchanging, Manner, Paging, Peer, ServeFault, Ser
 use association_run::OpenGate;
 use command_output::CommandFault;
 use command_words::Serving;
+use kept_log::Store;
 use log::Log;
 use octets::{ListOf, Octets};
-use op_shelf::Shelf;
 use shelved_site::hub_on;
 use site_hub::{CloseFault, HubFault, HubName, Keeper, Opened, Pass, Snapshot, close};
-use sqlite::Alter;
 use std::alloc::{AllocError, Global};
 use std::io::Print;
 use std::marker::Brand;
@@ -181,11 +178,11 @@ pub fn wait_of(seconds: u32) -> Option<Duration> {
 fn serve_hub<
     H: HubName + Send + Sync,
     R: Net<Listener = TcpListener, Stream = TcpStream> + Threads + Wait + Clock + Log + Sync,
-    S: Alter + Send,
+    S: Store + Send,
 >(
     rt: &R,
     alloc: Global,
-    shelf: &mut Shelf<S>,
+    store: &mut S,
     opened: Opened<&R>,
     listening: &Listening,
     serving: &Serving<'_>,
@@ -195,8 +192,7 @@ fn serve_hub<
     requires number { opened.number ≡ H.number }
     requires opening { opened.opening ≡ H.opening }
     requires passes { opened.passes ≡ H.passes }
-    requires site { HasCleanDisk (state S.Store shelf.old) →
-        IsSiteOf (state S.Store shelf.old) H.opening }
+    requires site { S.is_clean store.old → IsSiteOf (S.lists store.old) H.opening }
 {
     let titles = titles(alloc, serving)?;
     let entrance = Entrance {
@@ -233,27 +229,27 @@ fn serve_hub<
         each,
         &keeper,
         passes,
-        shelf,
+        store,
         manner,
     );
     Ok(closed_behind(served, keeper.into_inner()))
 }
 
-/// The hub of a site whose operations stand on a shelf, with so many passes.
-fn hub_of<'r, R: Wait, S: Alter>(
+/// The hub of a site whose operations stand in a store, with so many passes.
+fn hub_of<'r, R: Wait, S: Store>(
     host: &HostRuntime,
     rt: &'r R,
     file: &str,
-    shelf: &mut Shelf<S>,
+    store: &mut S,
     passes: usize,
 ) -> Result<Opened<&'r R>, CommandFault>
     requires passes { (1 ≤ passes) × (passes ≤ 64) }
-    ensures site { HasCleanDisk (state S.Store shelf.new) → IfOk result (λ opened.
-        IsSiteOf (state S.Store shelf.new) opened.opening) }
+    ensures site { S.is_clean store.new → IfOk result (λ opened.
+        IsSiteOf (S.lists store.new) opened.opening) }
 {
     let progress = Progress::of(host);
     progress.begins(file);
-    let opened = hub_on(host.alloc(), rt, shelf, SITE, passes, &progress)?;
+    let opened = hub_on(host.alloc(), rt, store, SITE, passes, &progress)?;
     Ok(opened)
 }
 
@@ -268,20 +264,20 @@ fn passes_for(serving: &Serving<'_>) -> usize
         + serving.paging()
 }
 
-/// Opens the hub of a site on a shelf, and listens where nobody does yet.
-fn open_site<'a, 'r, R: Net<Listener = TcpListener, Stream = TcpStream> + Wait, S: Alter>(
+/// Opens the hub of the site in a store, and listens where nobody does yet.
+fn open_site<'a, 'r, R: Net<Listener = TcpListener, Stream = TcpStream> + Wait, S: Store>(
     host: &HostRuntime,
     rt: &'r R,
     serving: &Serving<'a>,
-    shelf: &mut Shelf<S>,
+    store: &mut S,
     passes: usize,
     listening: Option<Listening>,
 ) -> Result<(Opened<&'r R>, Listening), Refused<'a>>
     requires passes { (1 ≤ passes) × (passes ≤ 64) }
-    ensures site { HasCleanDisk (state S.Store shelf.new) → IfOk result (λ both.
-        IsSiteOf (state S.Store shelf.new) both.0.opening) }
+    ensures site { S.is_clean store.new → IfOk result (λ both.
+        IsSiteOf (S.lists store.new) both.0.opening) }
 {
-    let opened = match hub_of(host, rt, serving.file, shelf, passes) {
+    let opened = match hub_of(host, rt, serving.file, store, passes) {
         Ok(opened) => opened,
         Err(fault) => return Err(Refused::of(serving.file, fault)),
     };
@@ -309,16 +305,15 @@ fn ending_of<T: Threads>(
 /// Serves a site that is open, in a manner that lasts as long.
 fn serve_site<
     R: Net<Listener = TcpListener, Stream = TcpStream> + Threads + Wait + Clock + Log + Sync,
-    S: Alter + Send,
+    S: Store + Send,
 >(
     host: &HostRuntime,
     rt: &R,
-    shelf: &mut Shelf<S>,
+    store: &mut S,
     site: (Opened<&R>, Listening),
     serving: &Serving<'_>,
 ) -> Result<Count, CommandFault>
-    requires site { HasCleanDisk (state S.Store shelf.old) →
-        IsSiteOf (state S.Store shelf.old) site.0.opening }
+    requires site { S.is_clean store.old → IsSiteOf (S.lists store.old) site.0.opening }
 {
     let (opened, listening) = site;
     let ended = ending_of(host, rt, &listening, serving)?;
@@ -327,11 +322,11 @@ fn serve_site<
         idle: wait_of(serving.idle),
         is_verbose: serving.is_verbose,
     };
-    serve_hub::<Brand, R, S>(rt, host.alloc(), shelf, opened, &listening, serving, manner)
+    serve_hub::<Brand, R, S>(rt, host.alloc(), store, opened, &listening, serving, manner)
 }
 
-/// Serves the site on a shelf, once it listens and says so.
-fn serve_shelf<
+/// Serves the site in a store, once it listens and says so.
+fn serve_store<
     'a,
     R: Net<Listener = TcpListener, Stream = TcpStream>
         + Threads
@@ -340,27 +335,27 @@ fn serve_shelf<
         + Print
         + Log
         + Sync,
-    S: Alter + Send,
+    S: Store + Send,
 >(
     host: &HostRuntime,
     rt: &R,
     serving: &Serving<'a>,
-    shelf: &mut Shelf<S>,
+    store: &mut S,
     listening: Option<Listening>,
 ) -> Printed<Result<Count, Refused<'a>>>
     requires places { HasPlaces serving.now }
 {
     let passes = passes_for(serving);
-    let site = match open_site(host, rt, serving, shelf, passes, listening) {
+    let site = match open_site(host, rt, serving, store, passes, listening) {
         Ok(site) => site,
         Err(fault) => return Ok(Err(fault)),
     };
     let (_, listening) = &site;
     say_where(rt, listening, serving)?;
-    Ok(about(serving.file, serve_site(host, rt, shelf, site, serving)))
+    Ok(about(serving.file, serve_site(host, rt, store, site, serving)))
 }
 
-/// What was served of the operations in a file.
+/// What was served of the operations in a file or a folder.
 fn serve_file<
     'a,
     R: Net<Listener = TcpListener, Stream = TcpStream>
@@ -377,8 +372,8 @@ fn serve_file<
         Ok(listening) => listening,
         Err(fault) => return Ok(Err(fault)),
     };
-    match open_shelf(host, serving.file) {
-        Ok(mut shelf) => serve_shelf(host, rt, serving, &mut shelf, listening),
+    match open_store(host, serving.file) {
+        Ok(mut store) => serve_store(host, rt, serving, &mut store, listening),
         Err(fault) => Ok(Err(fault)),
     }
 }
@@ -393,11 +388,11 @@ fn ended_of<'a>(serving: &Serving<'a>, ended: Result<(), CommandFault>) -> Resul
     about(what, ended)
 }
 
-/// Serves the operations in a file, until each worker has accepted what it may and each exchange
+/// Serves the operations in a file or a folder, until each worker has accepted what it may and each exchange
 /// was served, or until standard input ends where that is asked for. Meanwhile it calls its peers.
 ///
 /// It prints where it listens once it does, and at the end how many associations were accepted.
-/// Refusals come in this order: the shelf, the site, the hub, the listeners; behind them the first
+/// Refusals come in this order: the store, the site, the hub, the listeners; behind them the first
 /// fault of an association or an accept, and that of an exchange. Where the file is not there the
 /// listeners come first. The thread that waits for the end of standard input comes behind what is
 /// printed.

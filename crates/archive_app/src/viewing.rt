@@ -4,7 +4,8 @@
 ghost use Rattle.std.specs.Prelude.{IfOk, IsTrue};
 ghost use Rattle.sqlite_disk.specs.Memory.{memory_is_usable};
 
-use crate::file::{OnShelf, adopted, beside, front_of, is_new, note_log, on_file, refused};
+use crate::file::{OnStore, adopted, beside, front_of, is_new, note_log, on_file, refused};
+use crate::folder::is_folder;
 use crate::refused::Refused;
 use command_output::{CommandFault, FileCause, file_cause_of, is_other};
 use op_shelf::{Shelf, ShelfFault, StoreCause};
@@ -132,14 +133,15 @@ fn has_both(rt: &HostRuntime, file: &str) -> bool {
     !is_new(rt, log.as_str()) && is_open_to(rt, log.as_str()) && is_open_to(rt, file)
 }
 
-/// Does a command's work on the shelf in a file, of which nothing is changed. Where opening it would
-/// make a file, or there is no right to write it, the work is done on a copy in memory.
-pub fn view_file<'a, W: OnShelf + Drop>(
+/// Does a command's work on the operations in a file or a folder, of which nothing is changed. Where
+/// opening a file would make another, or there is no right to write it, the work is done on a copy in
+/// memory. A folder is opened as it stands.
+pub fn view_file<'a, W: OnStore + Drop>(
     rt: &HostRuntime,
     file: &'a str,
     work: W,
 ) -> Result<W::Told, Refused<'a>> {
-    if has_both(rt, file) {
+    if is_folder(rt, file) || has_both(rt, file) {
         return on_file(rt, file, work);
     }
     note_log(rt, file);

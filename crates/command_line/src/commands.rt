@@ -8,6 +8,9 @@ const ABOUT: &str = "A DICOM archive of several sites";
 /// The version that `--version` tells.
 const VERSION: &str = "1.0";
 
+/// What is said of FILE.
+const FILE: &str = "The file with the operations, or their folder, as in site/";
+
 const SIMULATE: &str = "Answers a script, in which several sites exchange";
 
 const SIMULATE_LONG: &str = "\
@@ -69,6 +72,16 @@ takes what the site has. Prints how many were given, how many taken that were
 new, and whether all came that were asked for.
 
 Example: archive exchange ops.db --peer 127.0.0.1:11113";
+
+const MOVE: &str = "Brings all operations of one archive into another";
+
+const MOVE_LONG: &str = "\
+Brings all operations of FROM into TO, which is made where it is not there: as
+a folder where its name ends with a slash, and else as a file. What TO has stays
+and is not written again, so that a move that broke off is begun anew. FROM is
+only read. Prints how many operations FROM has, and how many were new in TO.
+
+Example: archive move site.db site/";
 
 /// The headings of the options of a server.
 const LISTENING: &str = "Listening";
@@ -215,14 +228,14 @@ fn told_of<'a>(alloc: Global, name: &'a str, about: &'a str, whole: &'a str) -> 
     Command::new(alloc, name).about(about).long_about(whole)
 }
 
-/// A command of a file.
+/// A command of a file or a folder.
 fn command_of<'a>(
     alloc: Global,
     name: &'a str,
     about: &'a str,
     whole: &'a str,
 ) -> Result<Command<'a>, AllocError> {
-    let file = word(alloc, "FILE", "The file with the operations");
+    let file = word(alloc, "FILE", FILE);
     with(told_of(alloc, name, about, whole), file)
 }
 
@@ -362,8 +375,7 @@ fn with_workers<'a>(alloc: Global, command: Command<'a>) -> Result<Command<'a>, 
 }
 
 fn serve_command<'a>(alloc: Global) -> Result<Command<'a>, AllocError> {
-    let file = "The file with the operations";
-    let file = Arg::new(alloc, "FILE").help(file).default_value("site.db");
+    let file = Arg::new(alloc, "FILE").help(FILE).default_value("site.db");
     let command = with(told_of(alloc, "serve", SERVE, SERVE_LONG), file)?;
     let command = with_workers(alloc, command)?;
     let command = with_exchanges(alloc, command)?;
@@ -384,6 +396,12 @@ fn exchange_command<'a>(alloc: Global) -> Result<Command<'a>, AllocError> {
     with(command, idle_option(alloc))
 }
 
+fn move_command<'a>(alloc: Global) -> Result<Command<'a>, AllocError> {
+    let command = told_of(alloc, "move", MOVE, MOVE_LONG);
+    let command = with(command, word(alloc, "FROM", "The archive that is read"))?;
+    with(command, word(alloc, "TO", "The archive that is filled"))
+}
+
 pub(crate) fn archive_command<'a>(alloc: Global) -> Result<Command<'a>, AllocError> {
     Command::new(alloc, "archive")
         .about(ABOUT)
@@ -393,5 +411,6 @@ pub(crate) fn archive_command<'a>(alloc: Global) -> Result<Command<'a>, AllocErr
         .subcommand(report_command(alloc)?)?
         .subcommand(correct_command(alloc)?)?
         .subcommand(serve_command(alloc)?)?
-        .subcommand(exchange_command(alloc)?)
+        .subcommand(exchange_command(alloc)?)?
+        .subcommand(move_command(alloc)?)
 }

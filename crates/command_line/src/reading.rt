@@ -7,7 +7,7 @@ use crate::refusals::{
     BAD_FORM, BAD_PEER, Refusal, TOO_MANY, WITHOUT_COMMAND, is_address, refusal_of_serve, text,
 };
 use clap::ArgMatches;
-use command_words::{Asked, Correcting, Exchanging, Reporting, Serving, change_in};
+use command_words::{Asked, Correcting, Exchanging, Moving, Reporting, Serving, change_in};
 use exchange_run::Role;
 use ipv4_networks::{Network, read_network};
 use site_tables::Table;
@@ -195,6 +195,14 @@ fn read_exchange<'a>(found: &ArgMatches<'a>) -> Option<Exchanging<'a>> {
     })
 }
 
+/// What the words behind `move` ask for.
+fn read_move<'a>(found: &ArgMatches<'a>) -> Moving<'a> {
+    Moving {
+        from: text(found, "FROM"),
+        to: text(found, "TO"),
+    }
+}
+
 /// What the words behind `serve` ask for, or the first thing in them that is refused.
 fn read_server<'a>(
     alloc: Global,
@@ -229,6 +237,7 @@ pub(crate) fn read_command<'a>(
             Some(exchanging) => Ok(Ok(Asked::Exchange(exchanging))),
             None => Ok(Err(BAD_PEER)),
         },
+        Some(("move", found)) => Ok(Ok(Asked::Move(read_move(found)))),
         Some(("simulate", _found)) => Ok(Ok(Asked::Simulate)),
         _ => Ok(Err(WITHOUT_COMMAND)),
     }

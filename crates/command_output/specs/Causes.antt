@@ -27,7 +27,8 @@ use Rattle.command_output.specs.declared.cause.Cause.TheVariants as cause
 -- what a file refuses for
 abbrev pub words_of_file : FileCause → List ℕ
 words_of_file file.InUse = codes "another program has it open"
-words_of_file file.Folder = codes "it is a folder"
+words_of_file file.Absent = codes "it is not there"
+words_of_file file.Folder = codes "it is a folder, and no archive's"
 words_of_file file.NoFolder = codes "its folder is not there"
 words_of_file file.NoRights = codes "no right to read and write it, or to make files in its folder"
 words_of_file file.ReadOnly = codes "its file system is read-only"

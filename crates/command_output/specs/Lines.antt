@@ -5,6 +5,7 @@ use Rattle.std.specs.List.{flat_map}
 use Rattle.hex.specs.Hex.{encode_lower}
 use Rattle.site_simulation.specs.Texts.{line, end_line, message_line}
 use Rattle.exchange_run.specs.declared.role.Ended.{Ended}
+use Rattle.kept_log.specs.declared.moving.Moved.{Moved}
 use Rattle.shelved_site.specs.declared.reporting.Report.{Report}
 
 -- a flagged SOP Instance UID
@@ -28,11 +29,17 @@ abbrev pub fingerprint_lines : Bool → List ℕ → List ℕ
 fingerprint_lines true fingerprint = fingerprint_line fingerprint
 fingerprint_lines false fingerprint = []
 
--- the counts, the number of all that is held where it is asked for, the flagged UIDs, and how many these are
-abbrev pub report_lines : Report → Bool → List ℕ
-report_lines report is_fingerprinted =
-    count_lines report ++ (fingerprint_lines is_fingerprinted report.fingerprint
-    ++ (flat_map flagged_line report.flagged ++ end_line (length report.flagged)))
+-- that the operations stand in a log, where they do
+abbrev pub store_lines : Bool → List ℕ
+store_lines true = line (codes "store log")
+store_lines false = []
+
+-- that it is a log where it is one, the counts, the number of all that is held where it is asked for, the flagged UIDs,
+-- and how many these are
+abbrev pub report_lines : Report → Bool → Bool → List ℕ
+report_lines report is_log is_fingerprinted =
+    store_lines is_log ++ (count_lines report ++ (fingerprint_lines is_fingerprinted report.fingerprint
+    ++ (flat_map flagged_line report.flagged ++ end_line (length report.flagged))))
 
 -- whether all came that was asked for
 abbrev pub finished_line : Bool → List ℕ
@@ -44,3 +51,7 @@ abbrev pub exchange_lines : Ended → List ℕ
 exchange_lines ended =
     message_line (codes "given") ended.given
     ++ (message_line (codes "taken") ended.taken ++ finished_line ended.finished)
+
+-- what a move brought
+abbrev pub move_lines : Moved → List ℕ
+move_lines moved = message_line (codes "operations") moved.operations ++ message_line (codes "new") moved.new

@@ -18,6 +18,9 @@ use std::io::ErrorKind;
 #[derive(Clone, Copy, Debug, PartialEq, Eq)]
 pub enum FileCause {
     InUse,
+    /// It is not there, and is not to be made.
+    Absent,
+    /// It is a folder that has something else in it.
     Folder,
     NoFolder,
     NoRights,
@@ -125,7 +128,8 @@ fn words_of_file(cause: FileCause) -> &'static str
 {
     match cause {
         FileCause::InUse => "another program has it open",
-        FileCause::Folder => "it is a folder",
+        FileCause::Absent => "it is not there",
+        FileCause::Folder => "it is a folder, and no archive's",
         FileCause::NoFolder => "its folder is not there",
         FileCause::NoRights => "no right to read and write it, or to make files in its folder",
         FileCause::ReadOnly => "its file system is read-only",

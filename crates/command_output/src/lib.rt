@@ -11,5 +11,5 @@ pub use cause::{
     listen_cause_of, reach_cause_of, words_of,
 };
 pub use ending::{CommandFault, Ending, ending_of, status_of_refusal};
-pub use lines::{line_of_stamp, lines_of, lines_of_exchange};
+pub use lines::{line_of_stamp, lines_of, lines_of_exchange, lines_of_move};
 pub use notes::{Note, is_other, lacks_log, words_of_note};

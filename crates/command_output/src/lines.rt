@@ -4,10 +4,11 @@ ghost use Rattle.std.specs.Prelude.{◌≡◌, ◌++◌, ◌∷◌, [], OnOk, If
 ghost use Rattle.std.specs.List.{flat_map};
 ghost use Rattle.hex.specs.Hex.{encode_lower};
 ghost use Rattle.site_simulation.specs.Texts.{line, end_line, message_line, stamp_line};
-ghost use Rattle.command_output.specs.Lines.{count_lines, exchange_lines, finished_line, flagged_line, report_lines};
-ghost use Rattle.command_output.specs.Lines.{fingerprint_line, fingerprint_lines};
+ghost use Rattle.command_output.specs.Lines.{count_lines, exchange_lines, finished_line, flagged_line, move_lines, report_lines};
+ghost use Rattle.command_output.specs.Lines.{fingerprint_line, fingerprint_lines, store_lines};
 
 use exchange_run::Ended;
+use kept_log::Moved;
 use octets::{Octets, put_digits};
 use operation::{Digest, Stamp};
 use shelved_site::Report;
@@ -92,16 +93,28 @@ fn put_fingerprint_if(
     put_fingerprint(alloc, out, fingerprint)
 }
 
-/// The lines of a report: how many operations there are of each kind, the fingerprint where it is
-/// asked for, each flagged UID, and how many of these there are.
+fn put_store(out: &mut Vec<u8>, is_log: bool) -> Result<(), AllocError>
+    ensures { OnOk result (out.new.items ≡ out.old.items ++ store_lines is_log) }
+{
+    if !is_log {
+        return Ok(());
+    }
+    out.extend_from_slice(b"store log\n")
+}
+
+/// The lines of a report: that the operations stand in a log where they do, how many there are of
+/// each kind, the fingerprint where it is asked for, each flagged UID, and how many of these there
+/// are.
 pub fn lines_of(
     alloc: Global,
     report: &Report,
+    is_log: bool,
     is_fingerprinted: bool,
 ) -> Result<Vec<u8>, AllocError>
-    ensures { IfOk result (λ text. text.items ≡ report_lines report.now is_fingerprinted) }
+    ensures { IfOk result (λ text. text.items ≡ report_lines report.now is_log is_fingerprinted) }
 {
     let mut out = Vec::new(alloc);
+    put_store(&mut out, is_log)?;
     put_counts(alloc, &mut out, report)?;
     put_fingerprint_if(alloc, &mut out, is_fingerprinted, &report.fingerprint)?;
     put_all_flagged(&mut out, report.flagged.as_slice())?;
@@ -140,5 +153,15 @@ pub fn lines_of_exchange(alloc: Global, ended: Ended) -> Result<Vec<u8>, AllocEr
     put_count(alloc, &mut out, b"given", ended.given)?;
     put_count(alloc, &mut out, b"taken", ended.taken)?;
     put_finished(&mut out, ended.finished)?;
+    Ok(out)
+}
+
+/// The lines of a move: how many operations there were, and how many of them were new.
+pub fn lines_of_move(alloc: Global, moved: Moved) -> Result<Vec<u8>, AllocError>
+    ensures { IfOk result (λ text. text.items ≡ move_lines moved) }
+{
+    let mut out = Vec::new(alloc);
+    put_count(alloc, &mut out, b"operations", moved.operations)?;
+    put_count(alloc, &mut out, b"new", moved.new)?;
     Ok(out)
 }

@@ -26,7 +26,7 @@ pub struct Change {
     pub value: Octets,
 }
 
-/// A change that is made at the site of a number, and the file with the site's shelf.
+/// A change that is made at the site of a number, and the file or folder with the site's operations.
 #[derive(Debug, Drop)]
 pub struct Correcting<'a> {
     pub file: &'a str,
@@ -40,7 +40,7 @@ const LOOPBACK: &[Network] = &[Network {
     bits: 8,
 }];
 
-/// The operations in a file, served at an address by so many workers.
+/// The operations in a file or a folder, served at an address by so many workers.
 #[derive(Debug, Drop)]
 pub struct Serving<'a> {
     pub file: &'a str,
@@ -79,7 +79,7 @@ pub struct Serving<'a> {
     pub is_verbose: bool,
 }
 
-/// The operations in a file, and the address of the site that they are exchanged with.
+/// The operations in a file or a folder, and the address of the site that they are exchanged with.
 #[derive(Clone, Copy, Debug)]
 pub struct Exchanging<'a> {
     pub file: &'a str,
@@ -90,7 +90,7 @@ pub struct Exchanging<'a> {
     pub idle: u32,
 }
 
-/// A report on the shelf in a file.
+/// A report on the operations in a file or a folder.
 #[derive(Clone, Copy, Debug)]
 pub struct Reporting<'a> {
     pub file: &'a str,
@@ -102,12 +102,19 @@ pub struct Reporting<'a> {
     pub fingerprint: bool,
 }
 
+/// The archive whose operations are brought into another, and that one.
+#[derive(Clone, Copy, Debug)]
+pub struct Moving<'a> {
+    pub from: &'a str,
+    pub to: &'a str,
+}
+
 /// What a command line asks for.
 #[derive(Debug, Drop)]
 pub enum Asked<'a> {
     /// Answers a script.
     Simulate,
-    /// Reports on the shelf in a file.
+    /// Reports on the operations in a file or a folder.
     Report(Reporting<'a>),
     /// Makes a correction.
     Correct(Correcting<'a>),
@@ -115,6 +122,8 @@ pub enum Asked<'a> {
     Serve(Serving<'a>),
     /// Exchanges operations with another site.
     Exchange(Exchanging<'a>),
+    /// Brings the operations of one archive into another.
+    Move(Moving<'a>),
 }
 
 impl<'a> Serving<'a> {

@@ -1,8 +1,6 @@
--- Corrections that a shelf keeps.
+-- Corrections that a store keeps.
 use Rattle.std.specs.Prelude.{◌≡◌, ℕ, List, Ok, Err, Bool, false, ⊤}
 use Rattle.std.specs.List.{list_any}
-use Rattle.sqlite.specs.State.{State}
-use Rattle.sqlite.specs.Tree.{Trees}
 use Rattle.operation.specs.declared.op.Op.{Op}
 use Rattle.operation.specs.declared.op.Op.TheVariants.{Content as a_content, Correction as a_correction}
 use Rattle.operation.specs.declared.target.Target.{Target}
@@ -13,8 +11,6 @@ use Rattle.site_state.specs.Laws.{after_taking}
 use Rattle.site_hub.specs.Stamps.{next_correction, LAST_COUNTER}
 use Rattle.site_hub.specs.declared.fault.HubFault.{HubFault}
 use Rattle.site_hub.specs.declared.fault.HubFault.TheVariants as of_hub
-use Rattle.op_shelf.specs.Entries.{Lists, Holds}
-use Rattle.op_shelf.specs.States.{rows_of, rows_left}
 use Rattle.shelved_site.specs.declared.correcting.Corrected.{Corrected}
 use Rattle.shelved_site.specs.declared.fault.ShelvedFault.{ShelvedFault}
 use Rattle.shelved_site.specs.declared.fault.ShelvedFault.TheVariants.{Shelf, Site, Hub}
@@ -28,22 +24,22 @@ is_of target (a_correction k) = false
 abbrev pub is_known : Target → List Op → Bool
 is_known target ops = list_any (is_of target) ops
 
--- The correction that comes next at the site which took all operations of the table: it has this stamp, and the table
--- has it afterwards, also after any crash. Whether its target was known there is told.
-pub record IsCorrected (s t : State) (number : ℕ) (target : Target) (tag : ℕ) (value : List ℕ) (told : Corrected) : Type
-    0 where
+-- The correction that comes next at the site which took all operations of the store: it has this stamp, and whatever a
+-- crash leaves of the store has it afterwards. Whether its target was known there is told.
+pub record IsCorrected (lists : List Op → Type 0) (is_left : Op → Type 0) (number : ℕ) (target : Target) (tag : ℕ)
+    (value : List ℕ) (told : Corrected) : Type 0 where
   pub ops : List Op
-  pub listed : Lists (rows_of s) ops
+  pub listed : lists ops
   pub made : CorrectionParts
   pub next : Ok made ≡ next_correction number (after_taking ops) target tag value
   pub stamped : told.stamp ≡ made.stamp
   pub known : told.is_known ≡ is_known target (ops_of (after_taking ops))
-  pub lasts : (trees : Trees) → t.may_leave trees → Holds (rows_left t trees) (a_correction made)
+  pub lasts : is_left (a_correction made)
 
--- a correction with the last counter is in the table
-pub record IsSpent (s : State) : Type 0 where
+-- a correction with the last counter is in the store
+pub record IsSpent (lists : List Op → Type 0) : Type 0 where
   pub ops : List Op
-  pub listed : Lists (rows_of s) ops
+  pub listed : lists ops
   pub spent : top_counter_of (ops_of (after_taking ops)) ≡ LAST_COUNTER
 
 -- A hub made no correction over a set: for want of memory, or since there is none that comes next, or another operation
@@ -59,9 +55,9 @@ IsUnmade number m target tag value of_hub.Pending = ⊤
 IsUnmade number m target tag value of_hub.BadCorrection =
     next_correction number m target tag value ≡ Err of_hub.BadCorrection
 
--- No correction was made on a shelf: it refused, or its site did, or the hub made none over the operations of the table.
-abbrev pub IsUncorrected : State → ℕ → Target → ℕ → List ℕ → ShelvedFault → Type 0
-IsUncorrected s number target tag value (Shelf _) = ⊤
-IsUncorrected s number target tag value (Site _) = ⊤
-IsUncorrected s number target tag value (Hub fault) =
-    (ops : List Op) × Lists (rows_of s) ops × IsUnmade number (after_taking ops) target tag value fault
+-- No correction was made in a store: it refused, or its site did, or the hub made none over the operations of the store.
+abbrev pub IsUncorrected : (List Op → Type 0) → ℕ → Target → ℕ → List ℕ → ShelvedFault → Type 0
+IsUncorrected lists number target tag value (Shelf _) = ⊤
+IsUncorrected lists number target tag value (Site _) = ⊤
+IsUncorrected lists number target tag value (Hub fault) =
+    (ops : List Op) × lists ops × IsUnmade number (after_taking ops) target tag value fault

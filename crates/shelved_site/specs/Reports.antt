@@ -1,14 +1,11 @@
--- What a report tells of the operations of a shelf.
+-- What a report tells of the operations of a store.
 use Rattle.std.specs.Prelude.{◌≡◌, ℕ, List}
-use Rattle.sqlite.specs.State.{State}
 use Rattle.operation.specs.declared.op.Op.{Op}
 use Rattle.archive_model.specs.Contents.{flagged}
 use Rattle.site_state.specs.Site.{Map, ops_of, counts_of}
 use Rattle.site_state.specs.Laws.{after_taking}
 use Rattle.site_tables.specs.declared.table.Table.{Table}
 use Rattle.site_tables.specs.Tables.{IsTable}
-use Rattle.op_shelf.specs.Entries.{Lists}
-use Rattle.op_shelf.specs.States.{rows_of, count_of}
 use Rattle.shelved_site.specs.Fingerprints.{fingerprint_of}
 use Rattle.shelved_site.specs.declared.reporting.Report.{Report}
 
@@ -25,14 +22,14 @@ reported m series = record {
 abbrev pub SERIES_KIND : ℕ
 SERIES_KIND = 3
 
--- the report is that of the site which took all operations of the table
-pub record IsReport (s : State) (report : Report) : Type 0 where
+-- the report is that of the site which took all operations of a store, so many of which are corrections of series
+pub record IsReport (lists : List Op → Type 0) (series : ℕ) (report : Report) : Type 0 where
   pub ops : List Op
-  pub listed : Lists (rows_of s) ops
-  pub told : report ≡ reported (after_taking ops) (count_of SERIES_KIND (rows_of s))
+  pub listed : lists ops
+  pub told : report ≡ reported (after_taking ops) series
 
--- the rows of a table are those of the site which took all operations of the table of the shelf
-pub record IsTableOf (s : State) (table : Table) (rows : List (List (List ℕ))) : Type 0 where
+-- the rows of a table are those of the site which took all operations of a store
+pub record IsTableOf (lists : List Op → Type 0) (table : Table) (rows : List (List (List ℕ))) : Type 0 where
   pub ops : List Op
-  pub listed : Lists (rows_of s) ops
+  pub listed : lists ops
   pub told : IsTable table (ops_of (after_taking ops)) rows

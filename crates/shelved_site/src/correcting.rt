@@ -1,7 +1,6 @@
-//! Corrections of a site on a shelf.
+//! Corrections of a site in a store.
 
 ghost use Rattle.std.specs.Prelude.{◌≡◌, ◌≤◌, ◌↔◌, Ok, Err, IfOk, IfErr, IsErrOf, OnOk, OnErr, true, false};
-ghost use Rattle.op_shelf.specs.States.{IfClean, KeepsAll};
 ghost use Rattle.site_hub.specs.History.{set_of};
 ghost use Rattle.site_hub.specs.Stamps.{next_correction as next_correction_in, may_be_made};
 ghost use Rattle.shelved_site.specs.declared.fault.ShelvedFault.TheVariants.{Hub};
@@ -10,12 +9,11 @@ ghost use Rattle.shelved_site.specs.Corrections.{IsCorrected, IsSpent, IsUnmade,
 use crate::fault::ShelvedFault;
 use crate::known::is_known;
 use crate::taking::{Silence, site_on};
+use kept_log::Store;
 use octets::Octets;
-use op_shelf::Shelf;
 use operation::{Correction, Op, Stamp, Target};
 use site_hub::{HubFault, HubName, Keeper, Opened, Pass, Snapshot, open};
 use site_state::Site;
-use sqlite::Alter;
 use std::alloc::Global;
 use std::marker::Brand;
 use std::sync::{Mutex, Wait};
@@ -103,40 +101,41 @@ pub fn next_correction<R: Wait>(
 /// A correction that was made.
 #[derive(Clone, Copy, Debug, PartialEq, Eq)]
 pub struct Corrected {
-    /// That of the correction which the shelf then has.
+    /// That of the correction which the store then has.
     pub stamp: Stamp,
     /// Whether the site has a content of its target.
     pub is_known: bool,
 }
 
-/// Corrects an attribute at the site of a number, whose operations stand on a shelf.
-pub fn correct_on<S: Alter, R: Wait>(
+/// Corrects an attribute at the site of a number, whose operations stand in a store.
+pub fn correct_on<S: Store, R: Wait>(
     alloc: Global,
     rt: &R,
-    shelf: &mut Shelf<S>,
+    store: &mut S,
     number: u16,
     target: Target,
     tag: u32,
     value: Octets,
 ) -> Result<Corrected, ShelvedFault>
     requires number { 1 ≤ number }
-    ensures corrected { IfClean S.Store shelf.old shelf.new (λ s t.
-        IfOk result (IsCorrected s t number target tag value)) }
-    ensures refused { IfClean S.Store shelf.old shelf.new (λ s t. OnErr result (KeepsAll s t)) }
+    ensures corrected { S.is_clean store.new → IfOk result
+        (IsCorrected (S.lists store.old) (S.is_left store.new) number target tag value) }
+    ensures refused { S.is_clean store.new → OnErr result (S.spares store.old store.new) }
+    ensures clean { S.is_clean store.new → S.is_clean store.old }
 
     // Each fault of the hub, only where it is. What may not be made is told so, unless memory or the
-    // shelf is what refuses.
-    ensures unmade { IfClean S.Store shelf.old shelf.new (λ s t.
-        IfErr result (IsUncorrected s number target tag value)) }
+    // store is what refuses.
+    ensures unmade { S.is_clean store.new → IfErr result
+        (IsUncorrected (S.lists store.old) number target tag value) }
     ensures bad_correction { result ≡ Err (Hub HubFault.BadCorrection) →
         may_be_made number target tag value ≡ false }
-    ensures stamps_spent { IfClean S.Store shelf.old shelf.new (λ s t.
-        result ≡ Err (Hub HubFault.StampsSpent) → IsSpent s) }
+    ensures stamps_spent { S.is_clean store.new → result ≡ Err (Hub HubFault.StampsSpent)
+        → IsSpent (S.lists store.old) }
 {
-    let site = site_on(alloc, shelf, &Silence)?;
+    let site = site_on(alloc, store, &Silence)?;
     let is_known = is_known(alloc, &site, &target)?;
     let made = next_correction(alloc, rt, site, number, target, tag, value)?;
     let stamp = made.stamp();
-    let _kept = shelf.put(&Op::Correction(made))?;
+    let _kept = store.add(&Op::Correction(made))?;
     Ok(Corrected { stamp, is_known })
 }

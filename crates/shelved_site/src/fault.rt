@@ -1,4 +1,4 @@
-//! Why a site on a shelf refuses.
+//! Why a site in a store refuses.
 
 ghost use Rattle.std.specs.Prelude.{◌≡◌};
 ghost use Rattle.shelved_site.specs.declared.fault.ShelvedFault.TheVariants.{Shelf, Site, Hub};
@@ -11,10 +11,10 @@ use thiserror::Error;
 /// Whose fault it was, and which.
 #[derive(Clone, Copy, Debug, PartialEq, Eq, Hash, Error)]
 pub enum ShelvedFault {
-    /// The shelf did not show its operations, or did not keep one more.
-    #[error("the shelf refused")]
+    /// The store did not show its operations, or did not keep one more.
+    #[error("the store refused")]
     Shelf(ShelfFault),
-    /// The operations of the shelf made no site, or memory for what is told of it was refused.
+    /// The operations of the store made no site, or memory for what is told of it was refused.
     #[error("the site refused")]
     Site(SiteFault),
     /// The hub made no correction.

@@ -1,7 +1,8 @@
-//! A site whose operations stand on a shelf: what the shelf makes of the site at a start, the
-//! report of both, and corrections, which the site's hub stamps and the shelf then keeps.
+//! A site whose operations stand in a store, which is a shelf or a log: what the store makes of the
+//! site at a start, the report of both, and corrections, which the site's hub stamps and the store
+//! then keeps.
 //!
-//! Nothing here opens a file: each call takes the shelf that its caller opened.
+//! Nothing here opens a file: each call takes the store that its caller opened.
 #![tactic(auto)]
 
 mod correcting;

@@ -1,24 +1,21 @@
-//! What a report tells of a shelf.
+//! What a report tells of a store.
 
 ghost use Rattle.std.specs.Prelude.{◌≡◌, IfOk, OnOk, OnErr};
-ghost use Rattle.sqlite.specs.State.{IsUnchanged};
-ghost use Rattle.op_shelf.specs.States.{IfClean, KeepsAll};
 ghost use Rattle.site_state.specs.Site.{ops_of};
 ghost use Rattle.site_tables.specs.Tables.{IsTable};
-ghost use Rattle.shelved_site.specs.Reports.{reported, IsReport, IsTableOf};
+ghost use Rattle.shelved_site.specs.Reports.{reported, IsReport, IsTableOf, SERIES_KIND};
 
 use crate::fault::ShelvedFault;
 use crate::fingerprinting::fingerprint;
 use crate::taking::{Silence, site_on};
+use kept_log::Store;
 use octets::{ListOf, Octets};
-use op_shelf::Shelf;
 use operation::Digest;
 use site_state::{Counts, Site, SiteFault};
 use site_tables::{Row, Table, rows_of_table};
-use sqlite::Alter;
 use std::alloc::Global;
 
-/// The kind of a correction of a series, as the shelf counts it.
+/// The kind of a correction of a series, as the store counts it.
 const SERIES: u8 = 3;
 
 /// How many operations there are of each kind, which SOP Instance UIDs have two contents or more,
@@ -33,7 +30,7 @@ pub struct Report {
     pub fingerprint: Digest,
 }
 
-/// The report of a site whose shelf counts so many corrections of series.
+/// The report of a site whose store counts so many corrections of series.
 pub fn report_of(alloc: Global, site: &Site, series: u64) -> Result<Report, SiteFault>
     ensures report { IfOk result (λ report. report ≡ reported site.now series) }
 {
@@ -45,14 +42,16 @@ pub fn report_of(alloc: Global, site: &Site, series: u64) -> Result<Report, Site
     })
 }
 
-/// The report of the site that a shelf's operations make. The shelf stays as it is.
-pub fn report_on<S: Alter>(alloc: Global, shelf: &mut Shelf<S>) -> Result<Report, ShelvedFault>
-    ensures report { IfClean S.Store shelf.old shelf.new (λ s t. IfOk result (IsReport s)) }
-    ensures same { IfClean S.Store shelf.old shelf.new (λ s t. OnOk result (IsUnchanged s t)) }
-    ensures refused { IfClean S.Store shelf.old shelf.new (λ s t. OnErr result (KeepsAll s t)) }
+/// The report of the site that a store's operations make. The store stays as it is.
+pub fn report_on<S: Store>(alloc: Global, store: &mut S) -> Result<Report, ShelvedFault>
+    ensures report { S.is_clean store.new → IfOk result
+        (IsReport (S.lists store.old) (S.count store.old SERIES_KIND)) }
+    ensures same { S.is_clean store.new → OnOk result (S.is_same store.old store.new) }
+    ensures refused { S.is_clean store.new → OnErr result (S.spares store.old store.new) }
+    ensures clean { S.is_clean store.new → S.is_clean store.old }
 {
-    let site = site_on(alloc, shelf, &Silence)?;
-    let series = shelf.count_kind(SERIES)?;
+    let site = site_on(alloc, store, &Silence)?;
+    let series = store.count_kind(SERIES)?;
     let report = report_of(alloc, &site, series)?;
     Ok(report)
 }
@@ -65,18 +64,19 @@ fn rows_in(alloc: Global, site: &Site, table: Table) -> Result<Vec<Row>, SiteFau
     Ok(rows)
 }
 
-/// The rows of a table over the site that a shelf's operations make. The shelf stays as it is.
-pub fn table_on<S: Alter>(
+/// The rows of a table over the site that a store's operations make. The store stays as it is.
+pub fn table_on<S: Store>(
     alloc: Global,
-    shelf: &mut Shelf<S>,
+    store: &mut S,
     table: Table,
 ) -> Result<Vec<Row>, ShelvedFault>
-    ensures table { IfClean S.Store shelf.old shelf.new (λ s t.
-        IfOk result (λ rows. IsTableOf s table rows.items)) }
-    ensures same { IfClean S.Store shelf.old shelf.new (λ s t. OnOk result (IsUnchanged s t)) }
-    ensures refused { IfClean S.Store shelf.old shelf.new (λ s t. OnErr result (KeepsAll s t)) }
+    ensures table { S.is_clean store.new → IfOk result (λ rows.
+        IsTableOf (S.lists store.old) table rows.items) }
+    ensures same { S.is_clean store.new → OnOk result (S.is_same store.old store.new) }
+    ensures refused { S.is_clean store.new → OnErr result (S.spares store.old store.new) }
+    ensures clean { S.is_clean store.new → S.is_clean store.old }
 {
-    let site = site_on(alloc, shelf, &Silence)?;
+    let site = site_on(alloc, store, &Silence)?;
     let rows = rows_in(alloc, &site, table)?;
     Ok(rows)
 }

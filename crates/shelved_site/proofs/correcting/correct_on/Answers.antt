@@ -1,17 +1,16 @@
 use Rattle.std.proofs.Common.{◌≡◌, sym, subst, ◌∙◌}
 use Rattle.std.proofs.lemmas.Result.{err_from_is_err_and}
-use Rattle.sqlite.specs.Held.{state}
 use Rattle.site_hub.specs.declared.fault.HubFault.TheVariants.{BadCorrection, StampsSpent}
 use Rattle.shelved_site.specs.declared.fault.ShelvedFault.TheVariants.{Hub}
 use Rattle.shelved_site.specs.Sites.{IsBeforeHub}
 use Rattle.shelved_site.proofs.Sites.{before_hub, no_hub}
 use Rattle.shelved_site.proofs.correcting.correct_on.Goals as goal
 
--- The shelf refused, or its site did.
+-- The store refused, or its site did.
 pub returns-in_err-site-clause-unmade : goal.returns-in_err-site-clause-unmade
 returns-in_err-site-clause-unmade g c clean =
     let out = err_from_is_err_and c.from_residual.result c.from_residual.ensures.1 in
-    rw out.1 (before_hub (state g.S.Store c.args.shelf.now) c.args.number c.args.target c.args.tag c.args.value out.0
+    rw out.1 (before_hub (g.S.Store.lists c.args.store.now) c.args.number c.args.target c.args.tag c.args.value out.0
     (subst IsBeforeHub (sym out.2) c.in_err-site.ensures.fault))
 
 -- That is no bad correction.

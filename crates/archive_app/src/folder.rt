@@ -1,0 +1,103 @@
+//! The folder of a site's log.
+
+use crate::file::is_new;
+use crate::refused::Refused;
+use command_output::{CommandFault, FileCause, file_cause_of};
+use kept_log::{ArchiveStore, of_log, shelf_fault};
+use op_log::{FolderFault, LogFault, open_folder};
+use op_shelf::{ShelfFault, StoreCause};
+use std::alloc::AllocError;
+use std::fs;
+use std::rt::HostRuntime;
+
+/// Whether a path is that of a folder: its name ends so, or it is one.
+pub fn is_folder(rt: &HostRuntime, file: &str) -> bool {
+    if file.as_bytes().last() == Some(&b'/') {
+        return true;
+    }
+    match fs::metadata(rt, file) {
+        Ok(found) => found.is_dir(),
+        Err(_unknown) => false,
+    }
+}
+
+/// The path of a file in a folder.
+pub fn within(rt: &HostRuntime, folder: &str, name: &str) -> Result<String, AllocError> {
+    format!(in rt.alloc(); "{folder}/{name}")
+}
+
+/// Whether a folder has the heads of a log.
+fn has_heads(rt: &HostRuntime, folder: &str) -> bool {
+    match within(rt, folder, "heads") {
+        Ok(heads) => !is_new(rt, heads.as_str()),
+        Err(_refused) => true,
+    }
+}
+
+/// Whether something is in a folder, as far as that is known.
+fn is_filled(rt: &HostRuntime, folder: &str) -> bool {
+    match fs::read_dir(rt, folder) {
+        Ok(mut found) => found.next().is_some(),
+        Err(_unknown) => false,
+    }
+}
+
+/// Whether a folder has something else in it than a log.
+fn is_other_folder(rt: &HostRuntime, folder: &str) -> bool {
+    !has_heads(rt, folder) && is_filled(rt, folder)
+}
+
+/// Whether an archive is not there, so that opening it makes it: a file that is not there, or a folder
+/// that is not or has nothing in it.
+pub fn is_absent(rt: &HostRuntime, file: &str) -> bool {
+    if is_folder(rt, file) {
+        return !has_heads(rt, file) && !is_filled(rt, file);
+    }
+    is_new(rt, file)
+}
+
+/// The fault of a folder that is refused for a cause.
+fn refused_for<'a>(folder: &'a str, cause: FileCause) -> Refused<'a> {
+    let fault = CommandFault::Shelf(ShelfFault::Store(StoreCause::Other));
+    Refused::file(folder, fault, cause)
+}
+
+/// The fault of a log that is not opened.
+pub fn refused_log<'a>(folder: &'a str, fault: LogFault) -> Refused<'a> {
+    let told = CommandFault::Shelf(shelf_fault(fault));
+    match fault {
+        LogFault::DamagedHeads(_) => Refused::file(folder, told, FileCause::Damaged),
+        _ => Refused::of(folder, told),
+    }
+}
+
+/// The fault of a folder whose log is not opened.
+fn refused<'a>(folder: &'a str, fault: FolderFault) -> Refused<'a> {
+    match fault {
+        FolderFault::System(error) => refused_for(folder, file_cause_of(error.kind())),
+        FolderFault::Busy => refused_for(folder, FileCause::InUse),
+        FolderFault::Journal => refused_for(folder, FileCause::Journal),
+        FolderFault::Log(fault) => refused_log(folder, fault),
+        FolderFault::Memory => Refused::of(folder, CommandFault::Shelf(ShelfFault::Memory)),
+    }
+}
+
+/// Why a folder may not be a log's, where that is so.
+pub fn refusal_of<'a>(rt: &HostRuntime, folder: &'a str) -> Option<Refused<'a>> {
+    if is_other_folder(rt, folder) {
+        return Some(refused_for(folder, FileCause::Folder));
+    }
+    None
+}
+
+/// Opens the log in a folder, of which nothing is supposed. The folder is made where it is not there;
+/// one that has something else in it is refused before anything is made.
+pub fn open_log<'a>(rt: &HostRuntime, folder: &'a str) -> Result<ArchiveStore, Refused<'a>> {
+    if let Some(refused) = refusal_of(rt, folder) {
+        return Err(refused);
+    }
+    match open_folder(rt, folder) {
+        Ok(log) => Ok(of_log(rt.alloc(), log)),
+        Err(fault) => Err(refused(folder, fault)),
+    }
+}

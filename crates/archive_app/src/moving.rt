@@ -1,0 +1,69 @@
+//! `archive move`: brings the operations of one archive into another.
+
+ghost use Rattle.std.specs.Prelude.{IfOk, OnErr};
+ghost use Rattle.kept_log.specs.Moving.{AreMoved, HasSome};
+
+use crate::file::{OnStore, open_store};
+use crate::folder::is_absent;
+use crate::progress::Progress;
+use crate::refused::{Refused, about};
+use crate::viewing::view_file;
+use command_output::{CommandFault, FileCause, lines_of_move};
+use command_words::Moving;
+use kept_log::{Following, MoveFault, Moved, Store, move_all};
+use op_shelf::{ShelfFault, StoreCause};
+use std::rt::HostRuntime;
+
+/// Brings all operations of one store into another, and tells how far it is.
+fn bring<F: Store, T: Store, H: Following>(
+    from: &mut F,
+    to: &mut T,
+    hearing: &H,
+) -> Result<Moved, MoveFault>
+    ensures moved { F.is_clean from.new → T.is_up to.new → IfOk result
+        (AreMoved (F.lists from.old) (T.holds to.old) (T.holds to.new) (T.lasts to.new)) }
+    ensures part { F.is_clean from.new → T.is_up to.new → OnErr result
+        (HasSome (F.lists from.old) (T.holds to.old) (T.holds to.new)) }
+    ensures read { F.is_clean from.new → F.spares from.old from.new }
+{
+    move_all(from, to, hearing)
+}
+
+/// A move whose first archive is open.
+#[derive(Drop)]
+struct Filling<'h, 'a> {
+    rt: &'h HostRuntime,
+    moving: Moving<'a>,
+}
+
+impl<'h, 'a> OnStore for Filling<'h, 'a> {
+    type Told = Result<Moved, Refused<'a>>;
+
+    fn on<S: Store + Drop + Send>(self, mut from: S) -> Result<Moved, Refused<'a>> {
+        let Filling { rt, moving } = self;
+        let mut to = open_store(rt, moving.to)?;
+        let progress = Progress::of(rt);
+        progress.begins(moving.from);
+        match bring(&mut from, &mut to, &progress) {
+            Ok(moved) => Ok(moved),
+            Err(MoveFault::From(fault)) => Err(Refused::of(
+                moving.from,
+                CommandFault::Shelf(fault),
+            )),
+            Err(MoveFault::To(fault)) => Err(Refused::of(moving.to, CommandFault::Shelf(fault))),
+        }
+    }
+}
+
+/// Brings the operations of one archive into another, which is made where it is not there, and says
+/// how many there were and how many of them were new. The first is only read, and is refused where it
+/// is not there. Refusals come in this order: the first, the second; behind them that of a read or of
+/// a put, where the second has what it had and some of the first.
+pub fn move_operations<'a>(rt: &HostRuntime, moving: Moving<'a>) -> Result<Vec<u8>, Refused<'a>> {
+    if is_absent(rt, moving.from) {
+        let fault = CommandFault::Shelf(ShelfFault::Store(StoreCause::Other));
+        return Err(Refused::file(moving.from, fault, FileCause::Absent));
+    }
+    let moved = view_file(rt, moving.from, Filling { rt, moving })??;
+    about(moving.to, lines_of_move(rt.alloc(), moved))
+}
