@@ -1,8 +1,11 @@
 //! The folder of a site's log.
 
+ghost use Rattle.std.specs.Prelude.{IsTrue};
+ghost use Rattle.command_output.specs.Notes.{names_folder as names_folder_in};
+
 use crate::file::is_new;
 use crate::refused::Refused;
-use command_output::{CommandFault, FileCause, file_cause_of};
+use command_output::{CommandFault, FileCause, file_cause_of, names_folder};
 use kept_log::{ArchiveStore, of_log, shelf_fault};
 use op_log::{FolderFault, LogFault, open_folder};
 use op_shelf::{ShelfFault, StoreCause};
@@ -11,8 +14,10 @@ use std::fs;
 use std::rt::HostRuntime;
 
 /// Whether a path is that of a folder: its name ends so, or it is one.
-pub fn is_folder(rt: &HostRuntime, file: &str) -> bool {
-    if file.as_bytes().last() == Some(&b'/') {
+pub fn is_folder(rt: &HostRuntime, file: &str) -> bool
+    ensures named { IsTrue (names_folder_in file.now) → IsTrue result }
+{
+    if names_folder(file) {
         return true;
     }
     match fs::metadata(rt, file) {

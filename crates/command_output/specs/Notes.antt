@@ -2,6 +2,7 @@
 use Rattle.std.specs.Prelude.{ℕ, List, [], ◌∷◌, ◌++◌, length, take, codes, Bool, false, not, ◌&&◌, ◌||◌, ◌==◌}
 use Rattle.std.specs.Prelude.{nat_eq, slice_get, Option, Some, None}
 use Rattle.std.specs.Cmp.Lexicographic.{pointwise}
+use Rattle.std.specs.List.{ends_with}
 use Rattle.command_output.specs.declared.notes.Note.{Note}
 use Rattle.command_output.specs.declared.notes.Note.TheVariants.{Absent, WithoutLog, NoDate, NoTime}
 use Rattle.command_output.specs.declared.notes.Note.TheVariants.{UnknownStudy, UnknownPatient, UnknownSeries}
@@ -37,3 +38,7 @@ is_logged (Some version) = version == 2
 -- no log is beside it, and it is empty or a database that is written by way of a log
 abbrev pub lacks_log : List ℕ → Bool → Bool
 lacks_log head has_log = not has_log && (length head == 0 || (is_database head && is_logged (slice_get head 18)))
+
+-- whether the name of an archive is that of a folder
+abbrev pub names_folder : List ℕ → Bool
+names_folder name = ends_with nat_eq name (codes "/")

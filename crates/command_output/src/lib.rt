@@ -12,4 +12,4 @@ pub use cause::{
 };
 pub use ending::{CommandFault, Ending, ending_of, status_of_refusal};
 pub use lines::{line_of_stamp, lines_of, lines_of_exchange, lines_of_move};
-pub use notes::{Note, is_other, lacks_log, words_of_note};
+pub use notes::{Note, is_other, lacks_log, names_folder, words_of_note};

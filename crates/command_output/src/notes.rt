@@ -1,7 +1,7 @@
 //! What a command says beside its answer, on standard error.
 
 ghost use Rattle.std.specs.Prelude.{◌≡◌};
-ghost use Rattle.command_output.specs.Notes.{words_of_note, is_database as is_database_in, is_other as is_other_in, lacks_log as lacks_log_in};
+ghost use Rattle.command_output.specs.Notes.{words_of_note, is_database as is_database_in, is_other as is_other_in, lacks_log as lacks_log_in, names_folder as names_folder_in};
 
 /// What a command says beside its answer.
 #[derive(Clone, Copy, Debug, PartialEq, Eq)]
@@ -58,4 +58,11 @@ pub fn lacks_log(head: &[u8], has_log: bool) -> bool
     ensures { result ≡ lacks_log_in head.now has_log }
 {
     !has_log && (head.is_empty() || (is_database(head) && head.get(18) == Some(&2)))
+}
+
+/// Whether the name of an archive is that of a folder, also where none is there: it ends with a slash.
+pub fn names_folder(name: &str) -> bool
+    ensures { result ≡ names_folder_in name.now }
+{
+    name.as_bytes().ends_with(b"/")
 }
