@@ -1,5 +1,7 @@
 pub mod Cutting
+pub mod Faults
 pub mod Fitting
+pub mod Fresh
 pub mod Growing
 pub mod Keeping
 pub mod Lists

@@ -2,17 +2,11 @@
 use Rattle.std.proofs.Common.{◌≡◌, ◌+◌, ◌<◌, ◌≤◌, ℕ, List, [], ◌∷◌, ◌++◌, length, map, All, refl, sym, ◌∙◌, ap, subst, arith}
 use Rattle.std.proofs.lemmas.List.{append_assoc, append-nil, map-append}
 use Rattle.std.proofs.lemmas.List.Concat.{flat_map-append}
-use Rattle.std.proofs.Common.{Result, Ok, Err, IsErrOf}
-use Rattle.std.specs.Result.{IsErrAnd}
+use Rattle.std.proofs.Common.{IsTrue}
 use Rattle.sqlite_disk.specs.declared.Disk.{Ghosts}
-use Rattle.head_log.specs.declared.fault.HeadFault.{HeadFault}
-use Rattle.head_log.specs.declared.fault.HeadFault.TheVariants as of_heads
 use Rattle.head_log.specs.declared.log.HeadLog.{HeadLog}
-use Rattle.head_log.specs.Log.{Looks}
+use Rattle.head_log.specs.Log.{Looks, disk_of, end_of}
 use Rattle.head_log.specs.Groups.{IsGroupAt, Laid}
-use Rattle.op_log.specs.declared.fault.LogFault.{LogFault}
-use Rattle.op_log.specs.declared.fault.LogFault.TheVariants.{Disk, Closed, TooLong, DamagedHeads, Memory}
-use Rattle.op_log.specs.Fault.{fault_of_heads}
 use Rattle.head_log.proofs.Laying.{laid_more, laid_up}
 use Rattle.head_log.proofs.Walking.{one_group as one_text}
 use Rattle.op_log.specs.Filling.{AreFit, AreTaken}
@@ -114,6 +108,14 @@ looks_twice g a b c first second =
       stays = second.stays ∙ first.stays;
     }
 
+-- a file that was only looked at reaches as far as it did
+pub reach_on : {H : Type 0} (g : Ghosts H) (a b : HeadLog H) → Looks g a b
+    → (IsTrue (g.is_clean (disk_of a)) → end_of a ≤ length (g.seen (disk_of a)))
+    → IsTrue (g.is_clean (disk_of b)) → end_of b ≤ length (g.seen (disk_of b))
+reach_on g a b looks reach clean =
+    let many = ap (λ (file : List ℕ). length file) looks.disk.seen in
+    omega (arith, looks.same, many, reach (looks.disk.clean clean))
+
 -- behind what was walked stands the next of all heads that lie there
 pub next_in : (file : List ℕ) (at end last : ℕ) (heads them : List Head) → AreLaid file at end heads → AreLaid file last end them
     → at < last → Next file at end last heads
@@ -121,17 +123,3 @@ next_in file at end last heads them done all low =
     subst (λ (hs : List Head). Next file at end last hs) done.are
     (next_of file 0 at end last [] done.groups all.groups done.laid (subst (λ (hs : List Head). AreFit end [] hs) (sym done.are) done.fit) all.laid
     (subst (λ (hs : List Head). AreFit end [] hs) (sym all.are) all.fit) low)
-
--- what is told of a damaged group
-pub told_of : {T : Type 0} (r : Result T LogFault) (f : HeadFault) (n : ℕ) → IsErrAnd r (λ told. told ≡ fault_of_heads f)
-    → IsErrOf r (DamagedHeads n) → f ≡ of_heads.Damaged n
-told_of (Ok x) f n is told = absurd is
-told_of (Err e) of_heads.Disk n is told = let same : e ≡ DamagedHeads n = cc in let no : DamagedHeads n ≡ Disk = sym same ∙ is in absurd cc
-told_of (Err e) of_heads.Closed n is told = let same : e ≡ DamagedHeads n = cc in let no : DamagedHeads n ≡ Closed = sym same ∙ is in absurd cc
-told_of (Err e) of_heads.TooLong n is told = let same : e ≡ DamagedHeads n = cc in let no : DamagedHeads n ≡ TooLong = sym same ∙ is in absurd cc
-told_of (Err e) (of_heads.Damaged at) n is told =
-    let same : e ≡ DamagedHeads n = cc in
-    let places : DamagedHeads n ≡ DamagedHeads at = sym same ∙ is in
-    let place : n ≡ at = cc in
-    ap of_heads.Damaged (sym place)
-told_of (Err e) of_heads.Memory n is told = let same : e ≡ DamagedHeads n = cc in let no : DamagedHeads n ≡ Memory = sym same ∙ is in absurd cc

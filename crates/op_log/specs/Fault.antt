@@ -4,6 +4,8 @@ use Rattle.body_log.specs.declared.fault.BodyFault.{BodyFault}
 use Rattle.body_log.specs.declared.fault.BodyFault.TheVariants as of_bodies
 use Rattle.head_log.specs.declared.fault.HeadFault.{HeadFault}
 use Rattle.head_log.specs.declared.fault.HeadFault.TheVariants as of_heads
+use Rattle.op_log.specs.declared.folder_fault.FolderFault.{FolderFault}
+use Rattle.op_log.specs.declared.folder_fault.FolderFault.TheVariants as of_folders
 use Rattle.op_log.specs.declared.fault.LogFault.{LogFault}
 use Rattle.op_log.specs.declared.fault.LogFault.TheVariants.{Disk, Closed, TooLong, DamagedHeads, DamagedBody, Collision, Memory}
 
@@ -37,3 +39,31 @@ IsOfLook (DamagedHeads at) = ⊥
 IsOfLook (DamagedBody at) = Unit {0}
 IsOfLook Collision = ⊥
 IsOfLook Memory = Unit {0}
+
+-- what an open tells
+abbrev pub IsOfOpen : LogFault → Type 0
+IsOfOpen Disk = Unit {0}
+IsOfOpen Closed = ⊥
+IsOfOpen TooLong = ⊥
+IsOfOpen (DamagedHeads at) = Unit {0}
+IsOfOpen (DamagedBody at) = ⊥
+IsOfOpen Collision = ⊥
+IsOfOpen Memory = Unit {0}
+
+-- what is told of a group that is taken into memory
+abbrev pub IsOfFill : LogFault → Type 0
+IsOfFill Disk = ⊥
+IsOfFill Closed = ⊥
+IsOfFill TooLong = ⊥
+IsOfFill (DamagedHeads at) = Unit {0}
+IsOfFill (DamagedBody at) = ⊥
+IsOfFill Collision = ⊥
+IsOfFill Memory = Unit {0}
+
+-- no log refused, but the system, or the port of its files
+abbrev pub IsNoLog : FolderFault → Type 0
+IsNoLog (of_folders.System error) = Unit {0}
+IsNoLog of_folders.Busy = Unit {0}
+IsNoLog of_folders.Journal = Unit {0}
+IsNoLog (of_folders.Log fault) = ⊥
+IsNoLog of_folders.Memory = Unit {0}

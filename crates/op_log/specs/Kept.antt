@@ -34,6 +34,12 @@ pub record IsKept {H : Type 0} (g : Ghosts H) (disk : H) (end : ℕ) (heads : Li
   pub ready : IsReady g disk end (map group_text groups)
   pub spelled : All IsSpelled heads
 
+-- A file stands for the heads that it stood for, and what a crash leaves of it for those that some crash could leave before.
+pub record KeepsHeads {H : Type 0} (g : Ghosts H) (old new : H) : Type 0 where
+  pub stands : (them : List Head) → StandsFor (g.seen old) them → StandsFor (g.seen new) them
+  pub left : (c : List ℕ) → g.may_leave new c → (d : List ℕ) × g.may_leave old d
+      × ((them : List Head) → StandsFor d them → StandsFor c them)
+
 -- the data set of an entry lies where the entry says
 abbrev pub HasBody : List ℕ → Entry → Type 0
 HasBody file e = 0 < length (body_of e.0) → Holds file e.1 (body_of e.0)

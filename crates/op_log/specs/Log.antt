@@ -1,5 +1,5 @@
 -- What a log of operations shows.
-use Rattle.std.specs.Prelude.{◌≡◌, ◌≤◌, ◌<◌, ◌+◌, ◌^◌, ◌⊎◌, ◌&&◌, Bool, ℕ, List, All, length, IsTrue, refl}
+use Rattle.std.specs.Prelude.{◌≡◌, ◌≤◌, ◌<◌, ◌+◌, ◌^◌, ◌⊎◌, ◌&&◌, Bool, ℕ, List, All, length, IsTrue, Result, Ok, Err, refl}
 use Rattle.std.specs.Coded.{Coded, code_by, coded×, coded_ℕ, coded_bool, coded_list}
 use Rattle.sqlite_disk.specs.declared.Disk.{Ghosts}
 use Rattle.body_log.specs.declared.log.BodyLog.{BodyLog}
@@ -8,6 +8,7 @@ use Rattle.body_log.specs.Log.{disk_of, end_of}
 use Rattle.head_log.specs.declared.log.HeadLog.{HeadLog}
 use Rattle.head_log.specs.Log.{is_up}
 use Rattle.head_log.specs.Log.{disk_of as heads_of, end_of as heads_end}
+use Rattle.op_log.specs.declared.refused.Refused.{Refused}
 use Rattle.op_log.specs.Heads.{Head, bodies_long, head_code, heads_long}
 use Rattle.op_log.specs.Kept.{IsBelow, IsKept}
 use Rattle.operation.specs.declared.op.Op.{Op}
@@ -36,6 +37,16 @@ opened_code {H} {B} heads bodies =
       places = p.1.1.1.1.1;
     })
     (λ _. refl)
+
+-- the file of heads, whether it was opened or not
+abbrev pub heads_in : {H B : Type 0} → Result (Opened H B) (Refused H B) → H
+heads_in (Ok log) = log.heads
+heads_in (Err refused) = refused.heads
+
+-- and that of data sets
+abbrev pub bodies_in : {H B : Type 0} → Result (Opened H B) (Refused H B) → B
+bodies_in (Ok log) = log.bodies
+bodies_in (Err refused) = refused.bodies
 
 -- Each data set of a head lies below the end of its file. As long as the disk returns what was written, the file is so
 -- long, and the heads are all that their file stands for, whatever a crash leaves of it.

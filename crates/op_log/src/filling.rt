@@ -1,7 +1,8 @@
 //! Takes the heads of a group into memory.
 
-ghost use Rattle.std.specs.Prelude.{◌≡◌, ◌≢◌, ◌++◌, ◌+◌, ◌≤◌, ◌<◌, [], List, ℕ, Ok, None, length, IfOk, IfSome, IsErrOf, IsTrue, OnOk, ◌↔◌, ◌∷◌};
+ghost use Rattle.std.specs.Prelude.{◌≡◌, ◌≢◌, ◌++◌, ◌+◌, ◌≤◌, ◌<◌, [], List, ℕ, Ok, None, length, IfErr, IfOk, IfSome, IsErrOf, IsTrue, OnOk, ◌↔◌, ◌∷◌};
 ghost use Rattle.op_log.specs.Records.{head_in};
+ghost use Rattle.op_log.specs.Fault.{IsOfFill};
 ghost use Rattle.op_log.specs.Filling.{AreFit, AreTaken, IsFit, IsTaken};
 ghost use Rattle.op_log.specs.Heads.{Head, IsSpelled, group_text, head_text};
 ghost use Rattle.op_log.specs.Kept.{IsBelow, first_under};
@@ -58,6 +59,7 @@ pub(crate) fn fill(places: &mut Places, group: &[u8], at: usize, end: usize) -> 
     ensures taken { OnOk result (AreTaken end places.old places.new group.now []) }
     ensures damaged { (n : ℕ) → IsErrOf result (LogFault.DamagedHeads n) → (heads : List Head)
         → AreFit end places.old heads → group.now ≢ group_text heads }
+    ensures only { IfErr result IsOfFill }
 {
     let mut rest = group;
     'heads: while !rest.is_empty() {

@@ -1,14 +1,19 @@
 //! A log in a folder: the files `heads` and `bodies`, and beside each the second file that the port
 //! makes, which stays empty.
 
-ghost use Rattle.std.specs.Prelude.{◌≡◌, false, List, IfOk, IsTrue};
-ghost use Rattle.op_log.specs.Folder.{file_is_clean};
+ghost use Rattle.std.specs.Prelude.{◌≡◌, ℕ, false, List, IfErr, IfOk, IfSome, IsSome, IsTrue};
+ghost use Rattle.op_log.specs.declared.fault.LogFault.{LogFault};
+ghost use Rattle.op_log.specs.Fault.{IsNoLog, IsOfOpen};
+ghost use Rattle.op_log.specs.Folder.{file_is_clean, file_leaves};
 ghost use Rattle.op_log.specs.Heads.{Head};
 ghost use Rattle.op_log.specs.Kept.{StandsFor};
+ghost use Rattle.op_log.specs.Walking.{AreOfLog};
 ghost use Rattle.sqlite_std_file.specs.File.{file_is_usable, IsFresh};
 
 use crate::folder_fault::FolderFault;
+use crate::folder_refused::FolderRefused;
 use crate::log::OpLog;
+use crate::refused::Refused;
 use sqlite_disk::Files;
 use sqlite_std_file::{FileFrom, Start, Wary, open};
 use std::fs::{self, File};
@@ -38,6 +43,7 @@ fn file_in<S: Start>(
 ) -> Result<FileFrom<S>, FolderFault>
     ensures usable { IfOk result (λ file. IsTrue (file_is_usable S.Start file)) }
     ensures fresh { IfOk result (IsFresh false) }
+    ensures fault { IfErr result IsNoLog }
 {
     let path = format!(in rt.alloc(); "{folder}/{name}")?;
     let files = open(rt, path.as_str(), start)?;
@@ -45,23 +51,65 @@ fn file_in<S: Start>(
     Ok(db)
 }
 
-/// The log in a folder whose files hold what is supposed of them.
+/// The files of a folder, which is made if it is not there.
+fn files_in<H: Start, B: Start>(
+    rt: &HostRuntime,
+    folder: &str,
+    heads: H,
+    bodies: B,
+) -> Result<(FileFrom<H>, FileFrom<B>), FolderFault>
+    ensures usable { IfOk result (λ files. IsTrue (file_is_usable H.Start files.0)
+        × IsTrue (file_is_usable B.Start files.1)) }
+    ensures fresh { IfOk result (λ files. IsFresh false files.0 × IsFresh false files.1) }
+    ensures fault { IfErr result IsNoLog }
+{
+    make_folder(rt, folder)?;
+    let heads = file_in(rt, folder, "heads", heads)?;
+    let bodies = file_in(rt, folder, "bodies", bodies)?;
+    Ok((heads, bodies))
+}
+
+/// The log in a folder whose files hold what is supposed of them. Where both files were opened and
+/// are none of a log, they are handed back.
 pub fn log_in<H: Start, B: Start>(
     rt: &HostRuntime,
     folder: &str,
     heads: H,
     bodies: B,
-) -> Result<OpLog<FileFrom<H>, FileFrom<B>>, FolderFault>
+) -> Result<OpLog<FileFrom<H>, FileFrom<B>>, FolderRefused<H, B>>
     // All that the file of heads stood for, in order.
     ensures found { IfOk result (λ log. IsTrue (file_is_clean H.Start log.heads)
         → (them : List Head) → StandsFor H.Start.db them → log.places ≡ them) }
     ensures open { IfOk result (λ log. IsTrue log.is_open) }
+    // Files that come back stand for what they stood for, after a crash too.
+    ensures kept { IfErr result (λ refused. IfSome refused.files (λ files.
+        IsTrue (file_is_clean H.Start files.0) → (them : List Head) → StandsFor H.Start.db them
+        → (c : List ℕ) → file_leaves H.Start files.0 c → StandsFor c them)) }
+    // They come back where they are none of a log, and only then they are told as damaged.
+    ensures log { IfErr result (λ refused. (f : LogFault) → refused.fault ≡ FolderFault.Log f
+        → IsOfOpen f × IsSome refused.files) }
+    ensures damaged { IfErr result (λ refused. IfSome refused.files (λ files. (n : ℕ)
+        → refused.fault ≡ FolderFault.Log (LogFault.DamagedHeads n)
+        → IsTrue (file_is_clean H.Start files.0) → IsTrue (file_is_clean B.Start files.1)
+        → (them : List Head) → ¬ AreOfLog H.Start.db B.Start.db them)) }
 {
-    make_folder(rt, folder)?;
-    let heads = file_in(rt, folder, "heads", heads)?;
-    let bodies = file_in(rt, folder, "bodies", bodies)?;
-    let log = OpLog::open(rt.alloc(), heads, bodies)?;
-    Ok(log)
+    let (heads, bodies) = match files_in(rt, folder, heads, bodies) {
+        Ok(files) => files,
+        Err(fault) => return Err(FolderRefused { fault, files: None }),
+    };
+    match OpLog::open(rt.alloc(), heads, bodies) {
+        Ok(log) => Ok(log),
+        Err(
+            Refused {
+                fault,
+                heads,
+                bodies,
+            },
+        ) => Err(FolderRefused {
+            fault: FolderFault::Log(fault),
+            files: Some((heads, bodies)),
+        }),
+    }
 }
 
 /// Opens the log in a folder, of which nothing is supposed. The folder and its files are made where
@@ -69,5 +117,8 @@ pub fn log_in<H: Start, B: Start>(
 pub fn open_folder(rt: &HostRuntime, folder: &str) -> Result<FolderLog, FolderFault>
     ensures open { IfOk result (λ log. IsTrue log.is_open) }
 {
-    log_in(rt, folder, Wary, Wary)
+    match log_in(rt, folder, Wary, Wary) {
+        Ok(log) => Ok(log),
+        Err(refused) => Err(refused.fault),
+    }
 }

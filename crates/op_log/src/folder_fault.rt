@@ -2,6 +2,7 @@
 
 ghost use Rattle.std.specs.Prelude.{◌≡◌};
 ghost use Rattle.op_log.specs.declared.folder_fault.FolderFault.TheVariants.{System, Memory, Log};
+ghost use Rattle.op_log.specs.Fault.{IsNoLog};
 
 use crate::fault::LogFault;
 use sqlite_std_file::OpenError;
@@ -54,6 +55,8 @@ impl From<LogFault> for FolderFault {
 }
 
 impl From<OpenError> for FolderFault {
+    ghost from_gives = { λ _ fault. IsNoLog fault };
+
     fn from(error: OpenError) -> FolderFault {
         match error {
             OpenError::Io(error) => FolderFault::System(error),

@@ -1,17 +1,20 @@
 //! A log of operations.
 
-ghost use Rattle.std.specs.Prelude.{◌≡◌, ◌&&◌, ◌≤◌, ◌<◌, ◌↔◌, List, ℕ, Ok, None, Some, All, Contains, false, length, map, slice_get, IfOk, IfErr, IfSome, IsTrue, IsErrOf, OnOk, OnErr};
+ghost use Rattle.std.specs.Prelude.{◌≡◌, ◌&&◌, ◌≤◌, ◌<◌, ◌↔◌, List, ℕ, Ok, None, Some, All, Contains, false, length, map, slice_get, IfOk, IfErr, IfSome, IsTrue, IsErrOf, OnOk, OnErr, ◌⊎◌};
+ghost use Rattle.sqlite_disk.specs.Disk.{MoreFaults};
+ghost use Rattle.body_log.specs.Lasts.{Stays};
 ghost use Rattle.operation.specs.declared.op.Op.{Op as Operation};
 ghost use Rattle.operation.specs.Reading.{IsOp};
 ghost use Rattle.operation.specs.Spelling.{digest_of};
-ghost use Rattle.op_log.specs.Fault.{IsOfLook};
+ghost use Rattle.op_log.specs.Fault.{IsOfLook, IsOfOpen};
 ghost use Rattle.op_log.specs.Heads.{Entry, Head};
-ghost use Rattle.op_log.specs.Kept.{Has, HasBody, IsHeld, IsKept, IsLasting, StandsFor, first_under};
+ghost use Rattle.op_log.specs.Kept.{Has, HasBody, IsHeld, IsKept, IsLasting, KeepsHeads, StandsFor, first_under};
 ghost use Rattle.op_log.specs.Loaded.{HasBadHead, Lists};
 ghost use Rattle.op_log.specs.Log.{GoesOn, IsSound, IsTooLong, Looks};
 ghost use Rattle.op_log.specs.Puts.{LeavesAllOrNone, PutsAll};
 ghost use Rattle.op_log.specs.Records.{head_in};
 ghost use Rattle.op_log.specs.Verified.{damaged_in, digests_of};
+ghost use Rattle.op_log.specs.Walking.{AreOfLog};
 
 use crate::fault::LogFault;
 use crate::kept::Kept;
@@ -20,6 +23,7 @@ use crate::loading::load_at;
 use crate::places::Places;
 use crate::putting::put_group;
 use crate::record::Record;
+use crate::refused::{Refused, refused_bodies, refused_heads};
 use crate::verifying::damaged;
 use crate::walking::walk;
 use body_log::BodyLog;
@@ -65,9 +69,12 @@ impl<H: Disk + Drop, B: Disk + Drop> Drop for OpLog<H, B> {
 }
 
 impl<H: Disk + Drop, B: Disk + Drop> OpLog<H, B> {
+    ghost use Rattle.op_log.specs.Log.{bodies_in, heads_in};
+
     /// The log of two files: the heads of one are walked, group by group, and no data set is read.
-    /// Files of no byte are begun.
-    pub fn open(alloc: Global, heads: H, bodies: B) -> Result<OpLog<H, B>, LogFault>
+    /// Files of no byte are begun. Files that are refused are handed back: a stop between two calls
+    /// of the disk refuses each further one.
+    pub fn open(alloc: Global, heads: H, bodies: B) -> Result<OpLog<H, B>, Refused<H, B>>
         requires heads { IsTrue (H.Disk.is_usable heads) }
         requires bodies { IsTrue (B.Disk.is_usable bodies) }
         // All that the files stood for, in order, and it lasts.
@@ -78,15 +85,48 @@ impl<H: Disk + Drop, B: Disk + Drop> OpLog<H, B> {
             → IsLasting B.Disk log.bodies log.bodies_end e) }
         ensures sound { IfOk result (IsSound H.Disk B.Disk) }
         ensures open { IfOk result (λ log. IsTrue log.is_open) }
+
+        // Whatever is answered, the files stand for what they stood for, after a crash too.
+        ensures kept { IsTrue (H.Disk.is_clean (heads_in result))
+            → KeepsHeads H.Disk heads (heads_in result) }
+        ensures stays { Stays B.Disk bodies (bodies_in result) }
+
+        // Each fault, exactly where it is: the files are those of a log, or damaged.
+        ensures whole { IfOk result (λ log. IsTrue (H.Disk.is_clean log.heads)
+            → IsTrue (B.Disk.is_clean log.bodies)
+            → AreOfLog (H.Disk.seen heads) (B.Disk.seen bodies) log.places) }
+        ensures damaged { IfErr result (λ refused. (n : ℕ)
+            → refused.fault ≡ LogFault.DamagedHeads n → IsTrue (H.Disk.is_clean refused.heads)
+            → IsTrue (B.Disk.is_clean refused.bodies) → (them : List Head)
+            → ¬ AreOfLog (H.Disk.seen heads) (B.Disk.seen bodies) them) }
+        ensures disk { IfErr result (λ refused. refused.fault ≡ LogFault.Disk
+            → MoreFaults (H.Disk.faults heads) (H.Disk.faults refused.heads)
+            ⊎ MoreFaults (B.Disk.faults bodies) (B.Disk.faults refused.bodies)) }
+        // No memory is asked for where the file has no group.
+        ensures memory { IfErr result (λ refused. refused.fault ≡ LogFault.Memory
+            → IsTrue (H.Disk.is_clean refused.heads) → 1 < length (H.Disk.seen heads)) }
+        ensures only { IfErr result (λ refused. IsOfOpen refused.fault) }
     {
-        let mut heads = HeadLog::over(alloc, heads)?;
-        let bodies = BodyLog::over(bodies)?;
-        let places = walk(alloc, &mut heads, bodies.end())?;
-        Ok(OpLog {
-            heads,
-            bodies,
-            places,
-        })
+        let mut heads = match HeadLog::over(alloc, heads) {
+            Ok(heads) => heads,
+            Err(refused) => return Err(refused_heads(refused, bodies)),
+        };
+        let bodies = match BodyLog::over(bodies) {
+            Ok(bodies) => bodies,
+            Err(refused) => return Err(refused_bodies(heads.into_disk(), refused)),
+        };
+        match walk(alloc, &mut heads, bodies.end()) {
+            Ok(places) => Ok(OpLog {
+                heads,
+                bodies,
+                places,
+            }),
+            Err(fault) => Err(Refused {
+                fault,
+                heads: heads.into_disk(),
+                bodies: bodies.into_disk(),
+            }),
+        }
     }
 
     /// The two files, of heads and of data sets.

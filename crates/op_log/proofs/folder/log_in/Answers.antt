@@ -1,14 +1,30 @@
-use Rattle.std.proofs.Common.{Bool, List, ℕ, if◌then◌else◌, subst, sym, ap, ◌∙◌}
-use Rattle.sqlite_disk.specs.Events.{Event, replay}
+use Rattle.std.proofs.Common.{◌≡◌, List, ℕ, [], length, subst, sym}
+use Rattle.op_log.specs.declared.fault.LogFault.TheVariants.{DamagedHeads}
 use Rattle.op_log.specs.Kept.{StandsFor}
+use Rattle.op_log.specs.Filling.{AreFit}
+use Rattle.op_log.proofs.Fresh.{fresh_left, fresh_seen}
 use Rattle.op_log.proofs.folder.log_in.Goals as goal
 
 -- A file that nothing has been done to yet has what is supposed of it.
-pub returns-clause-found : goal.returns-clause-found
-returns-clause-found g c clean them stands =
-    let start = g.H.Start in
-    let fresh = c.in_ok-heads.ensures.fresh in
-    let file = c.in_ok-heads.heads in
-    let seen = ap (λ (events : List Event). (replay (if file.is_log then start.log else start.db) events).seen) fresh.1
-    ∙ ap (λ (b : Bool). if b then start.log else start.db) fresh.0 in
-    c.in_ok-log.ensures.found clean them (subst (λ (f : List ℕ). StandsFor f them) (sym seen) stands)
+pub returns-in-Ok-open-clause-found : goal.returns-in-Ok-open-clause-found
+returns-in-Ok-open-clause-found g c clean them stands =
+    let seen = fresh_seen g.H.Start c.in-Ok.files.0 c.in-Ok.ensures.fresh.0 in
+    c.in-Ok-open.ensures.found clean them (subst (λ (f : List ℕ). StandsFor f them) (sym seen) stands)
+
+-- What a crash leaves of it stands for what it stood for.
+pub returns-in-Err-open-clause-kept : goal.returns-in-Err-open-clause-kept
+returns-in-Err-open-clause-kept g c clean them stands left may =
+    let (d, before, keeps) = (c.in-Err-open.ensures.kept clean).left left may in
+    let was = fresh_left g.H.Start c.in-Ok.files.0 c.in-Ok.ensures.fresh.0 d before in
+    keeps them (subst (λ (f : List ℕ). StandsFor f them) (sym was) stands)
+
+-- Two files of a log would not be told as damaged.
+pub returns-in-Err-open-clause-damaged : goal.returns-in-Err-open-clause-damaged
+returns-in-Err-open-clause-damaged g c n told clean whole them are =
+    let heads = fresh_seen g.H.Start c.in-Ok.files.0 c.in-Ok.ensures.fresh.0 in
+    let bodies = fresh_seen g.B.Start c.in-Ok.files.1 c.in-Ok.ensures.fresh.1 in
+    let is : c.in-Err-open.field-0.fault ≡ DamagedHeads n = cc in
+    c.in-Err-open.ensures.damaged n is clean whole them (record {
+      stands = subst (λ (f : List ℕ). StandsFor f them) (sym heads) are.stands;
+      fit = subst (λ (f : List ℕ). AreFit (length f) [] them) (sym bodies) are.fit;
+    })

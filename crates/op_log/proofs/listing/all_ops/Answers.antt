@@ -30,6 +30,7 @@ pub returns-in_err-op-clause-grows : goal.returns-in_err-op-clause-grows
 returns-in_err-op-clause-grows g c =
     grows_twice g.B.Disk c.args.bodies.now c.places.bodies c.load_at.new.bodies c.places.invariant.grows c.load_at.ensures.grows
 
+-- Nor does one whose operation found no room in memory.
 pub returns-in_err-push-clause-grows : goal.returns-in_err-push-clause-grows
 returns-in_err-push-clause-grows g c =
     grows_twice g.B.Disk c.args.bodies.now c.places.bodies c.load_at.new.bodies c.places.invariant.grows c.load_at.ensures.grows

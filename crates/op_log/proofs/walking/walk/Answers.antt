@@ -6,8 +6,11 @@ use Rattle.head_log.specs.declared.fault.HeadFault.TheVariants.{Damaged}
 use Rattle.head_log.proofs.Walking.{one_group as one_text}
 use Rattle.op_log.specs.Heads.{group_text}
 use Rattle.op_log.specs.Kept.{IsBelow}
+use Rattle.op_log.specs.declared.fault.LogFault.TheVariants.{DamagedHeads}
+use Rattle.op_log.specs.Fault.{fault_of_heads}
+use Rattle.op_log.proofs.Faults.{damaged_is, told_is}
 use Rattle.op_log.proofs.Fitting.{fit_all}
-use Rattle.op_log.proofs.Walks.{looks_twice, next_in, told_of, walked_more}
+use Rattle.op_log.proofs.Walks.{looks_twice, next_in, reach_on, walked_more}
 use Rattle.op_log.proofs.walking.walk.Goals as goal
 
 -- What lies here of a file of heads that fit is a group of them.
@@ -15,7 +18,8 @@ pub returns-in_err-group-clause-damaged : goal.returns-in_err-group-clause-damag
 returns-in_err-group-clause-damaged g c n told clean them all =
     let file = g.H.Disk.seen (disk_of c.args.heads.now) in
     let looks = c.groups.invariant.looks in
-    let it = told_of c.from_residual.result c.in_err-group.field-0.0 n c.from_residual.ensures.1 told in
+    let fault = c.in_err-group.field-0.0 in
+    let it = damaged_is fault n (told_is c.from_residual.result (fault_of_heads fault) (DamagedHeads n) c.from_residual.ensures.1 told) in
     let place = c.in_err-group.ensures.place n (ap Err it) in
     let low : c.groups.at < end_of c.args.heads.now = omega (arith, place.1, looks.same) in
     let next = next_in file c.groups.at c.args.end (end_of c.args.heads.now) c.groups.places them
@@ -48,6 +52,8 @@ groups-preserved g c =
           (All-append (IsBelow c.args.end) c.groups.places taken.heads c.groups.invariant.below
           (fit_all (IsBelow c.args.end) c.args.end c.groups.places taken.heads (λ h hs it. it.below) taken.fit));
       within = omega (arith, next.1, looks.same);
+      calm = λ reach.
+          c.in_ok-group.ensures.disk (reach_on g.H.Disk c.args.heads.now c.groups.heads looks reach) ∙ c.groups.invariant.calm reach;
       laid = λ clean.
           let here = (rw c.in-Some.is at c.in_ok-group.ensures.group) clean in
           let mine = subst (λ (f : List ℕ). IsGroupAt f c.groups.at c.in-Some.group.items) looks.disk.seen here in

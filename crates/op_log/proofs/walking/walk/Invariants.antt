@@ -1,4 +1,4 @@
-use Rattle.std.proofs.Common.{◌≤◌, ◌-◌, All, IsTrue}
+use Rattle.std.proofs.Common.{◌≡◌, ◌≤◌, ◌-◌, All, length, IsTrue}
 use Rattle.head_log.specs.Log.{disk_of, end_of, Looks}
 use Rattle.op_log.specs.Kept.{IsBelow}
 use Rattle.op_log.specs.Walking.{AreLaid}
@@ -11,6 +11,8 @@ invariant-groups g l =
       looks : Looks g.H.Disk l.fn.heads l.heads;
       below : All (IsBelow l.end) l.places;
       within : l.at ≤ end_of l.fn.heads;
+      calm : (IsTrue (g.H.Disk.is_clean (disk_of l.fn.heads)) → end_of l.fn.heads ≤ length (g.H.Disk.seen (disk_of l.fn.heads)))
+          → g.H.Disk.faults (disk_of l.heads) ≡ g.H.Disk.faults (disk_of l.fn.heads);
       laid : IsTrue (g.H.Disk.is_clean (disk_of l.heads)) → AreLaid (g.H.Disk.seen (disk_of l.fn.heads)) l.at l.end l.places;
     }
 

@@ -1,50 +1,126 @@
-use Rattle.std.proofs.Common.{All, ℕ, map, subst, sym, arith}
+use Rattle.std.proofs.Common.{All, IsTrue, [], ℕ, Err, map, subst, sym, ap, ◌∙◌, arith}
 use Rattle.head_log.specs.Log.{disk_of as heads_of, end_of as heads_end}
+use Rattle.head_log.proofs.Gates.{groups_not_cut}
+use Rattle.op_log.specs.Filling.{AreFit}
 use Rattle.op_log.specs.Heads.{body_of, group_text}
-use Rattle.op_log.specs.Kept.{IsBelow, IsKept}
-use Rattle.op_log.proofs.Opening.{walked_all, walked_kept}
+use Rattle.op_log.specs.Kept.{IsBelow, IsKept, KeepsHeads}
+use Rattle.op_log.proofs.Faults.{damaged_is}
+use Rattle.op_log.proofs.Opening.{found_all, heads_kept, kept_through, laid_of, some_long, walked_kept, whole_of}
 use Rattle.op_log.proofs.log.OpLog.open.Goals as goal
+
+-- The file that came back keeps its groups, and so their heads.
+pub returns-in-Err-clause-kept : goal.returns-in-Err-clause-kept
+returns-in-Err-clause-kept g c clean =
+    let first = c.args.heads in
+    let same = c.refused_heads.ensures.heads in
+    let kept = c.in-Err.ensures.kept (subst (λ (f : g.row.H.Denot). IsTrue (g.H.Disk.is_clean f)) same clean) in
+    subst (λ (f : g.row.H.Denot). KeepsHeads g.H.Disk first f) (sym same) (heads_kept g.H.Disk first c.in-Err.refused.disk kept)
+
+-- A file that is cut is none of groups.
+pub returns-in-Err-clause-damaged : goal.returns-in-Err-clause-damaged
+returns-in-Err-clause-damaged g c n told clean whole them are =
+    let is = damaged_is c.in-Err.refused.fault n (sym c.refused_heads.ensures.fault ∙ told) in
+    let cut = c.in-Err.ensures.damaged n is (subst (λ (f : g.row.H.Denot). IsTrue (g.H.Disk.is_clean f)) c.refused_heads.ensures.heads clean) in
+    groups_not_cut (g.H.Disk.seen c.args.heads) (map group_text are.stands.groups) n are.stands.laid cut
+
+pub returns-in-Err-over-clause-kept : goal.returns-in-Err-over-clause-kept
+returns-in-Err-over-clause-kept g c clean =
+    let first = c.args.heads in
+    let same = c.refused_bodies.ensures.heads ∙ c.into_disk.ensures in
+    let kept = c.in-Ok.ensures.kept (subst (λ (f : g.row.H.Denot). IsTrue (g.H.Disk.is_clean f)) same clean) in
+    subst (λ (f : g.row.H.Denot). KeepsHeads g.H.Disk first f) (sym same) (heads_kept g.H.Disk first (heads_of c.in-Ok.heads) kept)
 
 -- What was walked is what the file stands for.
 pub invariant_of-result : goal.invariant_of-result
 invariant_of-result g c =
-    let heads = c.in_ok-heads.heads in
+    let heads = c.in-Ok.heads in
     let walked = c.walk.new.heads in
-    let places = c.in_ok-places.places in
+    let places = c.in-Ok-walk.places in
     let same = c.walk.ensures.same in
     record {
-      below = subst (λ (n : ℕ). All (IsBelow n) places) c.end.ensures c.in_ok-places.ensures.below;
-      reach = c.in_ok-bodies.ensures.reach;
+      below = subst (λ (n : ℕ). All (IsBelow n) places) c.end.ensures c.in-Ok-walk.ensures.below;
+      reach = c.in-Ok-over.ensures.reach;
       kept = λ clean opens.
           subst (λ (n : ℕ). IsKept g.H.Disk (heads_of walked) n places) (sym same.same)
           (walked_kept g.H.Disk (heads_of heads) (heads_of walked) c.end.result (heads_end heads) places same.disk
-          (c.in_ok-heads.ensures.ended (same.disk.clean clean)) (c.in_ok-places.ensures.laid clean));
+          (c.in-Ok.ensures.ended (same.disk.clean clean)) (c.in-Ok-walk.ensures.laid clean));
     }
 
-pub returns-clause-found : goal.returns-clause-found
-returns-clause-found g c clean them stands =
-    let heads = c.in_ok-heads.heads in
+pub returns-in-Ok-walk-clause-sound : goal.returns-in-Ok-walk-clause-sound
+returns-in-Ok-walk-clause-sound g c =
+    let heads = c.in-Ok.heads in
     let walked = c.walk.new.heads in
-    let ready = c.in_ok-heads.ensures.found (c.walk.ensures.same.disk.clean clean) (map group_text stands.groups) stands.laid in
-    walked_all g.H.Disk (heads_of heads) (heads_of walked) c.end.result (heads_end heads) c.in_ok-places.places (c.in_ok-places.ensures.laid clean)
-    stands.groups them stands.are (ready _ (g.met.H.Disk.seen_may_stay _)) stands.spelled
+    let places = c.in-Ok-walk.places in
+    let same = c.walk.ensures.same in
+    record {
+      below = subst (λ (n : ℕ). All (IsBelow n) places) c.end.ensures c.in-Ok-walk.ensures.below;
+      reach = c.in-Ok-over.ensures.reach;
+      kept = λ clean opens.
+          subst (λ (n : ℕ). IsKept g.H.Disk (heads_of walked) n places) (sym same.same)
+          (walked_kept g.H.Disk (heads_of heads) (heads_of walked) c.end.result (heads_end heads) places same.disk
+          (c.in-Ok.ensures.ended (same.disk.clean clean)) (c.in-Ok-walk.ensures.laid clean));
+    }
+
+pub returns-in-Ok-walk-clause-found : goal.returns-in-Ok-walk-clause-found
+returns-in-Ok-walk-clause-found g c clean them stands =
+    let heads = c.in-Ok.heads in
+    let found = c.in-Ok.ensures.found (c.walk.ensures.same.disk.clean clean) in
+    found_all g.H.Disk c.args.heads (heads_of heads) (λ f. g.met.H.Disk.seen_may_stay f) (heads_end heads) found c.end.result
+    c.in-Ok-walk.places them (c.in-Ok-walk.ensures.laid clean) stands
 
 -- What the file had lasts.
-pub returns-clause-lasting : goal.returns-clause-lasting
-returns-clause-lasting g c clean e has some =
-    (c.in_ok-bodies.ensures.settled e.1 (body_of e.0) (has some), omega (arith, (has some).within, c.in_ok-bodies.ensures.end clean))
+pub returns-in-Ok-walk-clause-lasting : goal.returns-in-Ok-walk-clause-lasting
+returns-in-Ok-walk-clause-lasting g c clean e has some =
+    (c.in-Ok-over.ensures.settled e.1 (body_of e.0) (has some), omega (arith, (has some).within, c.in-Ok-over.ensures.end clean))
 
-pub returns-clause-sound : goal.returns-clause-sound
-returns-clause-sound g c =
-    let heads = c.in_ok-heads.heads in
-    let walked = c.walk.new.heads in
-    let places = c.in_ok-places.places in
+-- The walk only read.
+pub returns-in-Ok-walk-clause-kept : goal.returns-in-Ok-walk-clause-kept
+returns-in-Ok-walk-clause-kept g c clean =
+    let first = c.args.heads in
+    let walked = heads_of c.walk.new.heads in
     let same = c.walk.ensures.same in
+    heads_kept g.H.Disk first walked
+    (kept_through g.H.Disk first (heads_of c.in-Ok.heads) walked (c.in-Ok.ensures.kept (same.disk.clean clean)) same.disk)
+
+pub returns-in-Err-walk-clause-kept : goal.returns-in-Err-walk-clause-kept
+returns-in-Err-walk-clause-kept g c clean =
+    let first = c.args.heads in
+    let walked = heads_of c.walk.new.heads in
+    let same = c.walk.ensures.same in
+    let is = c.into_disk-in-Err-walk.ensures in
+    let was = same.disk.clean (subst (λ (f : g.row.H.Denot). IsTrue (g.H.Disk.is_clean f)) is clean) in
+    subst (λ (f : g.row.H.Denot). KeepsHeads g.H.Disk first f) (sym is)
+    (heads_kept g.H.Disk first walked (kept_through g.H.Disk first (heads_of c.in-Ok.heads) walked (c.in-Ok.ensures.kept was) same.disk))
+
+-- All heads that lie in the file were walked, and each fits.
+pub returns-in-Ok-walk-clause-whole : goal.returns-in-Ok-walk-clause-whole
+returns-in-Ok-walk-clause-whole g c clean whole =
+    let heads = c.in-Ok.heads in
+    let was = c.walk.ensures.same.disk.clean clean in
+    let laid = c.in-Ok-walk.ensures.laid clean in
     record {
-      below = subst (λ (n : ℕ). All (IsBelow n) places) c.end.ensures c.in_ok-places.ensures.below;
-      reach = c.in_ok-bodies.ensures.reach;
-      kept = λ clean opens.
-          subst (λ (n : ℕ). IsKept g.H.Disk (heads_of walked) n places) (sym same.same)
-          (walked_kept g.H.Disk (heads_of heads) (heads_of walked) c.end.result (heads_end heads) places same.disk
-          (c.in_ok-heads.ensures.ended (same.disk.clean clean)) (c.in_ok-places.ensures.laid clean));
+      stands = whole_of g.H.Disk c.args.heads (heads_of heads) (λ f. g.met.H.Disk.seen_may_stay f) (heads_end heads)
+          (c.in-Ok.ensures.found was) c.end.result c.in-Ok-walk.places (c.in-Ok.ensures.kept was) (c.in-Ok.ensures.ended was) laid;
+      fit = subst (λ (n : ℕ). AreFit n [] c.in-Ok-walk.places) (c.end.ensures ∙ c.in-Ok-over.ensures.end whole) laid.fit;
     }
+
+-- Heads that fit would have been walked.
+pub returns-in-Err-walk-clause-damaged : goal.returns-in-Err-walk-clause-damaged
+returns-in-Err-walk-clause-damaged g c n told clean whole them are =
+    let heads = c.in-Ok.heads in
+    let now = subst (λ (f : g.row.H.Denot). IsTrue (g.H.Disk.is_clean f)) c.into_disk-in-Err-walk.ensures clean in
+    let found = c.in-Ok.ensures.found (c.walk.ensures.same.disk.clean now) in
+    let many = c.end.ensures
+    ∙ c.in-Ok-over.ensures.end (subst (λ (f : g.row.B.Denot). IsTrue (g.B.Disk.is_clean f)) c.into_disk-in-Err-walk-2.ensures whole) in
+    let fit = subst (λ (m : ℕ). AreFit m [] them) (sym many) are.fit in
+    c.in-Err-walk.ensures.damaged n (ap Err told) now them
+    (laid_of g.H.Disk c.args.heads (heads_of heads) (λ f. g.met.H.Disk.seen_may_stay f) (heads_end heads) found c.end.result them are.stands fit)
+
+-- Memory was wanted for a group.
+pub returns-in-Err-walk-clause-memory : goal.returns-in-Err-walk-clause-memory
+returns-in-Err-walk-clause-memory g c told clean =
+    let heads = c.in-Ok.heads in
+    let now = subst (λ (f : g.row.H.Denot). IsTrue (g.H.Disk.is_clean f)) c.into_disk-in-Err-walk.ensures clean in
+    let found = c.in-Ok.ensures.found (c.walk.ensures.same.disk.clean now) in
+    some_long g.H.Disk c.args.heads (heads_of heads) (λ f. g.met.H.Disk.seen_may_stay f) (heads_end heads) found
+    (c.in-Err-walk.ensures.memory (ap Err told))
