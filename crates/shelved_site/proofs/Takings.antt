@@ -1,5 +1,5 @@
 -- The site that took some operations, one after another.
-use Rattle.std.proofs.Common.{◌≡◌, ◌≢◌, ◌⊎◌, inl, inr, List, [], ◌∷◌, ◌++◌, Some, None, Option, Ok, ℕ}
+use Rattle.std.proofs.Common.{◌≡◌, inl, inr, List, [], ◌∷◌, ◌++◌, Some, None, Option, Ok}
 use Rattle.std.proofs.Common.{refl, sym, ap, subst, ◌∙◌, length, arith}
 use Rattle.std.specs.FinMap.{empty, get-empty}
 use Rattle.site_state.specs.Site.{digest_cmp}

@@ -26,3 +26,10 @@ returns-in_err-site-clause-stamps_spent g c clean spent =
     let out = err_from_is_err_and c.from_residual.result c.from_residual.ensures.1 in
     let is : out.0 ≡ Hub StampsSpent = (let both = sym out.1 ∙ spent in cc) in
     absurd (no_hub out.0 StampsSpent (subst IsBeforeHub (sym out.2) c.in_err-site.ensures.fault) is)
+
+-- The store was only read before it refused the correction.
+pub returns-in_err-_kept-clause-refused : goal.returns-in_err-_kept-clause-refused
+returns-in_err-_kept-clause-refused g c clean =
+    let out = err_from_is_err_and c.from_residual-in_err-_kept.result c.from_residual-in_err-_kept.ensures.1 in
+    rw out.1 (g.met.S.Store.same_spares c.args.store.now c.site_on.new.store c.add.new.self
+    (c.in_ok-site.ensures.same (c.add.ensures.clean clean)) (c.in_err-_kept.ensures.refused clean))
