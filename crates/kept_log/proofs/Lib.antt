@@ -5,3 +5,4 @@ pub mod Logs
 pub mod Moves
 pub mod Same
 pub mod Stays
+pub mod Whys

@@ -24,6 +24,14 @@ of_one_and_then of_shelf of_log (Shelf old) (Log new) = ⊥
 of_one_and_then of_shelf of_log (Log old) (Shelf new) = ⊥
 of_one_and_then of_shelf of_log (Log old) (Log new) = of_log old new
 
+-- and of a fault that was told by it
+abbrev pub of_one_and_told : {S L A : Type 0} → (S → S → A → Type 0) → (L → L → A → Type 0) → ShelfOrLog S L
+    → ShelfOrLog S L → A → Type 0
+of_one_and_told of_shelf of_log (Shelf old) (Shelf new) told = of_shelf old new told
+of_one_and_told of_shelf of_log (Shelf old) (Log new) told = ⊥
+of_one_and_told of_shelf of_log (Log old) (Shelf new) told = ⊥
+of_one_and_told of_shelf of_log (Log old) (Log new) told = of_log old new told
+
 -- how many of its operations have a kind
 abbrev pub count_of_it : {S L : Type 0} → (S → ℕ → ℕ) → (L → ℕ → ℕ) → ShelfOrLog S L → ℕ → ℕ
 count_of_it of_shelf of_log (Shelf shelf) kind = of_shelf shelf kind

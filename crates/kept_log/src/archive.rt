@@ -85,6 +85,10 @@ impl<T: Store> Store for Held<T> {
 
     ghost is_left = { λ s. T.is_left s.store };
 
+    ghost refuses_all = { λ s t fault. T.refuses_all s.store t.store fault };
+
+    ghost refuses_count = { λ s kind t fault. T.refuses_count s.store kind t.store fault };
+
     ghost alike = { λ s. T.alike s.store };
 
     ghost same_spared = { λ s t. T.same_spared s.store t.store };

@@ -56,7 +56,7 @@ impl<S: Keep, L: Keep> Keep for ShelfOrLog<S, L> {
 }
 
 impl<S: Store, L: Store> Store for ShelfOrLog<S, L> {
-    ghost use Rattle.kept_log.specs.Either.{count_of_it, of_it, of_it_and, of_one_and_then};
+    ghost use Rattle.kept_log.specs.Either.{count_of_it, of_it, of_it_and, of_one_and_then, of_one_and_told};
     ghost use Rattle.kept_log.specs.Proved.Eithers.{alike_in_it, same_counts, same_listed, same_then, spared_if};
 
     ghost is_clean = { λ s. of_it S.is_clean L.is_clean s };
@@ -70,6 +70,12 @@ impl<S: Store, L: Store> Store for ShelfOrLog<S, L> {
     ghost spares = { λ s t. of_one_and_then S.spares L.spares s t };
 
     ghost is_left = { λ s op. of_it_and S.is_left L.is_left s op };
+
+    ghost refuses_all = { λ s t fault.
+        of_one_and_told S.refuses_all L.refuses_all s t fault };
+
+    ghost refuses_count = { λ s kind t fault. of_one_and_told
+        (λ a b. S.refuses_count a kind b) (λ a b. L.refuses_count a kind b) s t fault };
 
     ghost alike = { λ s a b same held. alike_in_it S.holds L.holds a b
         (λ t had. S.alike t a b same had) (λ t had. L.alike t a b same had) s held };

@@ -42,6 +42,7 @@ impl<H: Disk, B: Disk> Store for KeptLog<H, B> {
     ghost use Rattle.op_log.specs.Loaded.{Lists};
     ghost use Rattle.op_shelf.specs.Keep.{AreSame};
     ghost use Rattle.kept_log.specs.Keeping.{IsUp, Holds, Lasts, log_of};
+    ghost use Rattle.kept_log.specs.Refusing.{LogRefusesAll};
     ghost use Rattle.kept_log.specs.Stores.{IsSame, count_in};
     ghost use Rattle.std.proofs.Common.{ap, sym, ◌∙◌};
 
@@ -56,6 +57,10 @@ impl<H: Disk, B: Disk> Store for KeptLog<H, B> {
     ghost spares = { λ s t. AreSame (Holds B.Disk (log_of s)) (Holds B.Disk (log_of t)) };
 
     ghost is_left = { λ s op. Lasts H.Disk B.Disk (log_of s) op };
+
+    ghost refuses_all = { λ s t fault. LogRefusesAll B.Disk (log_of s) fault };
+
+    ghost refuses_count = { λ s kind t fault. ⊥ };
 
     ghost alike = { λ s a b same held. (held.0, held.1, sym same ∙ held.2) };
 

@@ -1,7 +1,8 @@
 //! Brings the operations of one store into another.
 
-ghost use Rattle.std.specs.Prelude.{◌≡◌, ◌∷◌, [], All, IfOk, OnOk, OnErr};
+ghost use Rattle.std.specs.Prelude.{◌≡◌, ◌∷◌, [], All, IfErr, IfOk, OnOk, OnErr};
 ghost use Rattle.operation.specs.declared.op.Op.{Op as Operation};
+ghost use Rattle.op_shelf.specs.declared.fault.ShelfFault.{ShelfFault as Fault};
 ghost use Rattle.op_shelf.specs.Keep.{AreSame};
 ghost use Rattle.kept_log.specs.Moving.{AreMoved, ArePut, HasSome, JoinsSome, count_new as count_of_new};
 
@@ -112,6 +113,9 @@ pub fn move_all<F: Store, T: Store, H: Following>(
         (HasSome (F.lists from.old) (T.holds to.old) (T.holds to.new)) }
     ensures kept { T.is_up to.new → (op : Operation) → T.lasts to.old op → T.lasts to.new op }
     ensures read { F.is_clean from.new → F.spares from.old from.new }
+    // The first is told as refusing only where it had cause to.
+    ensures unread { F.is_clean from.new → IfErr result (λ fault. (told : Fault)
+        → fault ≡ MoveFault.From told → F.refuses_all from.old from.new told) }
 {
     let ops = match from.all() {
         Ok(ops) => ops,

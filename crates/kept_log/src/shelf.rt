@@ -14,6 +14,7 @@ impl<S: Alter> Store for Shelf<S> {
     ghost use Rattle.std.proofs.Common.{ap, subst, sym, ◌∙◌};
     ghost use Rattle.sqlite.specs.Effect.{Database};
     ghost use Rattle.kept_log.specs.Proved.Shelves.{alike_in};
+    ghost use Rattle.kept_log.specs.Refusing.{ShelfRefusesAll, ShelfRefusesCount};
 
     ghost is_clean = { λ s. HasCleanDisk (state S.Store s) };
 
@@ -27,6 +28,12 @@ impl<S: Alter> Store for Shelf<S> {
 
     ghost is_left = { λ s op. (trees : Trees) → (state S.Store s).may_leave trees
         → Holds (rows_left (state S.Store s) trees) op };
+
+    ghost refuses_all = { λ s t fault.
+        ShelfRefusesAll (state S.Store s) (state S.Store t) fault };
+
+    ghost refuses_count = { λ s kind t fault.
+        ShelfRefusesCount (state S.Store s) kind (state S.Store t) fault };
 
     ghost alike = { λ s a b same held. alike_in _ a b same held };
 

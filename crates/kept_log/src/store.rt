@@ -1,7 +1,8 @@
 //! What an archive's operations stand in.
 
-ghost use Rattle.std.specs.Prelude.{◌≡◌, ℕ, List, IfOk, OnOk, OnErr};
+ghost use Rattle.std.specs.Prelude.{◌≡◌, ℕ, List, IfErr, IfOk, OnOk, OnErr};
 ghost use Rattle.operation.specs.declared.op.Op.{Op as Operation};
+ghost use Rattle.op_shelf.specs.declared.fault.ShelfFault.{ShelfFault as Fault};
 ghost use Rattle.operation.specs.Spelling.{spelling};
 
 use op_shelf::{Keep, Kept, ShelfFault};
@@ -27,11 +28,18 @@ pub trait Store: Keep {
     // Whatever a crash leaves has the operation.
     ghost is_left: { Self → Operation → Type 0 };
 
+    // It has cause for this fault where it shows its operations, before and afterwards.
+    ghost refuses_all: { Self → Self → Fault → Type 0 };
+
+    // The same where those of a kind are counted.
+    ghost refuses_count: { Self → ℕ → Self → Fault → Type 0 };
+
     /// All operations. Each is hashed once, to test it, and comes with its digest.
     fn all(&mut self) -> Result<Vec<Digested>, ShelfFault>
         ensures all { is_clean self.new → IfOk result (λ ops. lists self.old ops.items) }
         ensures same { is_clean self.new → OnOk result (is_same self.old self.new) }
         ensures refused { is_clean self.new → OnErr result (spares self.old self.new) }
+        ensures why { is_clean self.new → IfErr result (refuses_all self.old self.new) }
         ensures clean { is_clean self.new → is_clean self.old };
 
     /// How many operations of a kind there are.
@@ -39,6 +47,7 @@ pub trait Store: Keep {
         ensures count { is_clean self.new → IfOk result (λ n. n ≡ count self.old kind) }
         ensures same { is_clean self.new → OnOk result (is_same self.old self.new) }
         ensures refused { is_clean self.new → OnErr result (spares self.old self.new) }
+        ensures why { is_clean self.new → IfErr result (refuses_count self.old kind self.new) }
         ensures clean { is_clean self.new → is_clean self.old };
 
     /// Keeps an operation, as `put` does.

@@ -3,6 +3,7 @@
 
 use crate::disks::Stops;
 use crate::shelf::made;
+use assertions::holds_at;
 use bytes::Bytes;
 use data_set::Syntax;
 use octets::Octets;
@@ -72,7 +73,21 @@ pub(crate) fn opened<D: Disk + Drop>(
     if !heads.may_be_used() || !bodies.may_be_used() {
         return Err(LogFault::Closed);
     }
-    OpLog::open(alloc, heads, bodies)
+    match OpLog::open(alloc, heads, bodies) {
+        Ok(log) => Ok(log),
+        Err(refused) => Err(refused.fault),
+    }
+}
+
+/// Opens the log in two files and closes it: whether it was opened, and the files.
+pub(crate) fn tried<D: Disk + Drop>(alloc: Global, heads: D, bodies: D) -> (bool, (D, D)) {
+    if !heads.may_be_used() || !bodies.may_be_used() {
+        return (false, (heads, bodies));
+    }
+    match OpLog::open(alloc, heads, bodies) {
+        Ok(log) => (true, log.into_files()),
+        Err(refused) => (false, (refused.heads, refused.bodies)),
+    }
 }
 
 pub(crate) fn is_put<D: Disk>(log: &mut OpLog<D, D>, ops: &[Digested]) -> bool {
@@ -108,6 +123,23 @@ pub(crate) fn are_first(found: &[Digested], ops: &[Digested]) -> bool {
 pub(crate) struct Images {
     pub(crate) heads: Vec<u8>,
     pub(crate) bodies: Vec<u8>,
+}
+
+/// The files of a log of these operations, in groups of two.
+pub(crate) fn images<D: Stops>(alloc: Global, ops: &[Digested]) -> Result<Images, Fail> {
+    let heads = D::holding(alloc, &[], u64::MAX)?;
+    let bodies = D::holding(alloc, &[], u64::MAX)?;
+    let mut log = opened(alloc, heads, bodies)?;
+    for group in 0..ops.len() / 2 {
+        let at = group.saturating_mul(2);
+        let two = ops.get(at..at.saturating_add(2)).unwrap_or(&[]);
+        holds_at(is_put(&mut log, two), "kept", at)?;
+    }
+    let (heads, bodies) = files_of(log);
+    Ok(Images {
+        heads: heads.bytes().to_vec(alloc)?,
+        bodies: bodies.bytes().to_vec(alloc)?,
+    })
 }
 
 /// How many of some operations the log in two files has: its own are the first of them.

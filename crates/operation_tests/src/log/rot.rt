@@ -1,30 +1,13 @@
 //! A log whose files rot, byte by byte.
 
 use crate::disks::Stops;
-use crate::log::made::{Images, all, are_first, files_of, is_put, opened, ops};
+use crate::log::made::{all, are_first, images, opened, ops};
 use assertions::{equal, holds_at};
 use op_log::LogFault;
 use operation::Digested;
 use sqlite_disk::{Fuse, Memory};
 use std::alloc::Global;
 use std::test::Fail;
-
-/// The files of a log of these operations, in groups of two.
-fn images<D: Stops>(alloc: Global, ops: &[Digested]) -> Result<Images, Fail> {
-    let heads = D::holding(alloc, &[], u64::MAX)?;
-    let bodies = D::holding(alloc, &[], u64::MAX)?;
-    let mut log = opened(alloc, heads, bodies)?;
-    for group in 0..ops.len() / 2 {
-        let at = group.saturating_mul(2);
-        let two = ops.get(at..at.saturating_add(2)).unwrap_or(&[]);
-        holds_at(is_put(&mut log, two), "kept", at)?;
-    }
-    let (heads, bodies) = files_of(log);
-    Ok(Images {
-        heads: heads.bytes().to_vec(alloc)?,
-        bodies: bodies.bytes().to_vec(alloc)?,
-    })
-}
 
 /// What a log in two files answers: how many operations it has where they are the first of these,
 /// `None` where it has others, or its fault.

@@ -3,7 +3,7 @@
 //! All is generic in the disk: only tests name one.
 
 use crate::disks::Stops;
-use crate::log::made::{Images, files_of, found, is_put, opened, ops};
+use crate::log::made::{Images, files_of, found, images, is_put, opened, ops, tried};
 use assertions::holds_at;
 use operation::Digested;
 use sqlite_disk::{Disk, Fuse, Memory};
@@ -172,8 +172,63 @@ fn begins<D: Stops>(alloc: Global) -> Result<(), Fail> {
     Ok(())
 }
 
+/// Stops one disk after each number of calls of an open, until the files are opened before it stops:
+/// that number, and whether the files that came back have all operations, whatever a stop left.
+fn each_open<D: Stops>(
+    alloc: Global,
+    images: &Images,
+    ops: &[Digested],
+    of_heads: bool,
+) -> Result<(u64, bool), Fail> {
+    for calls in 0..64 {
+        let (heads, bodies) = if of_heads {
+            (calls, u64::MAX)
+        } else {
+            (u64::MAX, calls)
+        };
+        let heads = D::holding(alloc, &images.heads, heads)?;
+        let bodies = D::holding(alloc, &images.bodies, bodies)?;
+        let (is_open, files) = tried(alloc, heads, bodies);
+        if !is_well::<D>(alloc, files, ops, ops.len(), 0)? {
+            return Ok((calls, false));
+        }
+        if is_open {
+            return Ok((calls, true));
+        }
+    }
+    Ok((64, false))
+}
+
+/// Each stop of an open of so many operations is well, of either disk, and there are some.
+fn opens_again<D: Stops>(alloc: Global, count: u64) -> Result<(), Fail> {
+    let ops = ops(alloc, count)?;
+    let images = images::<D>(alloc, &ops)?;
+    for of_heads in [true, false] {
+        let (calls, is_well) = each_open::<D>(alloc, &images, &ops, of_heads)?;
+        holds_at(
+            is_well,
+            "well at each stop of an open, where heads are stopped",
+            of_heads,
+        )?;
+        holds_at(calls > 1, "some stops of an open", calls)?;
+    }
+    Ok(())
+}
+
+/// A stop of the first open of files of no byte leaves files of no operation.
+fn begins_again<D: Stops>(alloc: Global) -> Result<(), Fail> {
+    let images = Images {
+        heads: Vec::new(alloc),
+        bodies: Vec::new(alloc),
+    };
+    let (calls, is_well) = each_open::<D>(alloc, &images, &[], true)?;
+    holds_at(is_well, "none at each stop of a first open, of", calls)?;
+    holds_at(calls > 3, "some stops of a first open", calls)
+}
+
 // A group that is answered before its sync fails the first test, one whose halves are written apart
-// the second, and a begun file that is not written anew the third.
+// the second, and a begun file that is not written anew the third. An open that writes to files
+// that it refuses fails the fourth, and one that leaves a begun file in two states the fifth.
 
 #[test]
 fn a_stop_of_puts_one_by_one_loses_nothing(rt: HostRuntime) -> Result<(), Fail> {
@@ -188,4 +243,14 @@ fn a_stop_of_puts_in_groups_parts_no_group(rt: HostRuntime) -> Result<(), Fail> 
 #[test]
 fn a_file_of_one_byte_is_begun(rt: HostRuntime) -> Result<(), Fail> {
     begins::<Fuse<Memory>>(rt.alloc())
+}
+
+#[test]
+fn a_stop_of_an_open_loses_nothing(rt: HostRuntime) -> Result<(), Fail> {
+    opens_again::<Fuse<Memory>>(rt.alloc(), 4)
+}
+
+#[test]
+fn a_stop_of_a_first_open_leaves_no_operation(rt: HostRuntime) -> Result<(), Fail> {
+    begins_again::<Fuse<Memory>>(rt.alloc())
 }

@@ -44,6 +44,7 @@ returns-in_err-begin-clause-kept g c clean =
     (c.begin.ensures.crash λ left may. subst (λ (f : List ℕ). length f ≤ 1)
     (sym (c.in_ok-sync.ensures.durable left (c.len.ensures.crash left may))) short)
 
+-- So it does after the sync.
 pub returns-clause-kept : goal.returns-clause-kept
 returns-clause-kept g c clean =
     let file = g.D.Disk.seen c.args.disk.now in

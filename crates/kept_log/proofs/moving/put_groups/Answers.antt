@@ -60,6 +60,7 @@ returns-in_err-more-clause-part g c up =
     (chunks_rest c.loop-group.group-iterator) c.args.ops.now c.loop-group.new (g.met.T.Store.alike c.args.to.now) was.put.1 before.0
     (c.in_err-more.ensures.refused up))
 
+-- What lasted before the group lasts behind it, refused or not.
 pub returns-in_err-more-clause-kept : goal.returns-in_err-more-clause-kept
 returns-in_err-more-clause-kept g c up op it =
     c.put_group.ensures.kept up op (c.loop-group.invariant.kept (c.put_group.ensures.up up) op it)
@@ -72,6 +73,7 @@ returns-clause-put g c up =
     let all = sym (append-nil was.put.0) ∙ ap (λ (ops : List Op). was.put.0 ++ ops) (sym none) ∙ was.put.1 in
     subst (λ (ops : List Op). ArePut (g.T.Keep.holds c.args.to.now) (g.T.Keep.holds c.loop-group.to) ops c.loop-group.new) all (was.put.2 up).0
 
+-- No group is left, so all last.
 pub returns-clause-lasting : goal.returns-clause-lasting
 returns-clause-lasting g c up =
     let was = c.loop-group.invariant in

@@ -23,6 +23,7 @@ returns-in-Err-clause-damaged g c n told clean whole them are =
     let cut = c.in-Err.ensures.damaged n is (subst (λ (f : g.row.H.Denot). IsTrue (g.H.Disk.is_clean f)) c.refused_heads.ensures.heads clean) in
     groups_not_cut (g.H.Disk.seen c.args.heads) (map group_text are.stands.groups) n are.stands.laid cut
 
+-- The file of heads was opened, and comes back as it was then.
 pub returns-in-Err-over-clause-kept : goal.returns-in-Err-over-clause-kept
 returns-in-Err-over-clause-kept g c clean =
     let first = c.args.heads in
@@ -46,6 +47,7 @@ invariant_of-result g c =
           (c.in-Ok.ensures.ended (same.disk.clean clean)) (c.in-Ok-walk.ensures.laid clean));
     }
 
+-- It is what the log shows.
 pub returns-in-Ok-walk-clause-sound : goal.returns-in-Ok-walk-clause-sound
 returns-in-Ok-walk-clause-sound g c =
     let heads = c.in-Ok.heads in
@@ -61,6 +63,7 @@ returns-in-Ok-walk-clause-sound g c =
           (c.in-Ok.ensures.ended (same.disk.clean clean)) (c.in-Ok-walk.ensures.laid clean));
     }
 
+-- All that the file stands for lies up to the end of its groups, and was walked.
 pub returns-in-Ok-walk-clause-found : goal.returns-in-Ok-walk-clause-found
 returns-in-Ok-walk-clause-found g c clean them stands =
     let heads = c.in-Ok.heads in
@@ -82,6 +85,7 @@ returns-in-Ok-walk-clause-kept g c clean =
     heads_kept g.H.Disk first walked
     (kept_through g.H.Disk first (heads_of c.in-Ok.heads) walked (c.in-Ok.ensures.kept (same.disk.clean clean)) same.disk)
 
+-- So did a walk that was refused.
 pub returns-in-Err-walk-clause-kept : goal.returns-in-Err-walk-clause-kept
 returns-in-Err-walk-clause-kept g c clean =
     let first = c.args.heads in
