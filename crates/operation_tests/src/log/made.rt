@@ -126,7 +126,7 @@ pub(crate) struct Images {
 }
 
 /// The files of a log of these operations, in groups of two.
-pub(crate) fn images<D: Stops>(alloc: Global, ops: &[Digested]) -> Result<Images, Fail> {
+pub(crate) fn files_with<D: Stops>(alloc: Global, ops: &[Digested]) -> Result<Images, Fail> {
     let heads = D::holding(alloc, &[], u64::MAX)?;
     let bodies = D::holding(alloc, &[], u64::MAX)?;
     let mut log = opened(alloc, heads, bodies)?;

@@ -1,7 +1,7 @@
 //! A log whose files rot, byte by byte.
 
 use crate::disks::Stops;
-use crate::log::made::{all, are_first, images, opened, ops};
+use crate::log::made::{all, are_first, files_with, opened, ops};
 use assertions::{equal, holds_at};
 use op_log::LogFault;
 use operation::Digested;
@@ -42,7 +42,7 @@ fn rotten(alloc: Global, bytes: &[u8], at: usize) -> Result<Vec<u8>, Fail> {
 /// A bit of each byte of the heads is changed: how many changes were not told. Never is another
 /// operation answered.
 fn untold_in_heads<D: Stops>(alloc: Global, ops: &[Digested]) -> Result<usize, Fail> {
-    let images = images::<D>(alloc, ops)?;
+    let images = files_with::<D>(alloc, ops)?;
     let mut untold: usize = 0;
     for at in 0..images.heads.len() {
         let heads = rotten(alloc, &images.heads, at)?;
@@ -63,7 +63,7 @@ fn untold_in_heads<D: Stops>(alloc: Global, ops: &[Digested]) -> Result<usize, F
 
 /// Each change of a data set is told.
 fn bodies_tell<D: Stops>(alloc: Global, ops: &[Digested]) -> Result<(), Fail> {
-    let images = images::<D>(alloc, ops)?;
+    let images = files_with::<D>(alloc, ops)?;
     for at in 0..images.bodies.len() {
         let bodies = rotten(alloc, &images.bodies, at)?;
         let told = answered::<D>(alloc, &images.heads, &bodies, ops)?;

@@ -3,7 +3,7 @@
 //! All is generic in the disk: only tests name one.
 
 use crate::disks::Stops;
-use crate::log::made::{Images, files_of, found, images, is_put, opened, ops, tried};
+use crate::log::made::{Images, files_of, files_with, found, is_put, opened, ops, tried};
 use assertions::holds_at;
 use operation::Digested;
 use sqlite_disk::{Disk, Fuse, Memory};
@@ -202,7 +202,7 @@ fn each_open<D: Stops>(
 /// Each stop of an open of so many operations is well, of either disk, and there are some.
 fn opens_again<D: Stops>(alloc: Global, count: u64) -> Result<(), Fail> {
     let ops = ops(alloc, count)?;
-    let images = images::<D>(alloc, &ops)?;
+    let images = files_with::<D>(alloc, &ops)?;
     for of_heads in [true, false] {
         let (calls, is_well) = each_open::<D>(alloc, &images, &ops, of_heads)?;
         holds_at(
