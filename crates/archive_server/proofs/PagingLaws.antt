@@ -1,15 +1,13 @@
--- Laws of a pass that only looks, and of accepts, one behind another.
+-- Laws of a pass and a clerk that only look, and of accepts, one behind another.
 use Rattle.std.proofs.Common.{◌≡◌, List, [], ◌∷◌, ◌++◌, Option, Some, None, Bool, true, false}
 use Rattle.std.proofs.Common.{refl, subst, ◌∙◌}
 use Rattle.std.specs.List.{flat_map}
 use Rattle.std.proofs.lemmas.List.{flat_map_more}
 use Rattle.std.specs.declared.time.Duration.{Duration}
-use Rattle.operation.specs.declared.op.Op.{Op}
 use Rattle.site_hub.specs.Hub.{Seat, HasLooked}
 use Rattle.site_hub.proofs.Fronts.{prefix_self, prefix_trans}
-use Rattle.hub_exchange.proofs.OnwardLaws.{onward_self, onward_seen}
 use Rattle.archive_server.specs.Calling.{Turn, Waits, Went, wait_on, GoesOnWhileServed}
-use Rattle.archive_server.specs.Serving.{IsOnward}
+use Rattle.archive_server.specs.Done.{Standing, HasOnlyLooked}
 use Rattle.archive_server.proofs.CallingLaws.{went_on}
 
 -- a pass that did nothing
@@ -27,10 +25,15 @@ looked_trans x y z p q = record {
 pub looked_behind : (x y z w : Seat) → HasLooked x y → z ≡ y → HasLooked z w → HasLooked x w
 looked_behind x y z w p e q = looked_trans x y w p (subst (λ (s : Seat). HasLooked s w) e q)
 
--- a pass that only looked has gone on
-pub looked_onward : {K : Type 0} (up : K → Type 0) (holds lasts : K → Op → Type 0) (s t : Seat) → HasLooked s t
-    → IsOnward up holds lasts s t
-looked_onward up holds lasts s t looked = onward_seen up holds lasts s s t (onward_self up holds lasts s) looked
+-- a clerk that did nothing
+pub only_self : (standing : Standing) → HasOnlyLooked standing standing
+only_self standing = record { looked = looked_self standing.pass; known = refl }
+
+pub only_trans : (x y z : Standing) → HasOnlyLooked x y → HasOnlyLooked y z → HasOnlyLooked x z
+only_trans x y z p q = record {
+  looked = looked_trans x.pass y.pass z.pass p.looked q.looked;
+  known = q.known ∙ p.known;
+}
 
 -- one wait more, behind which somebody serves
 pub one_wait_more : (start a b : Option (List Turn)) (times : List Duration) (time : Duration) (served : Bool)

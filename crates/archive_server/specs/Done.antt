@@ -1,8 +1,8 @@
 -- What a thread of a server has done, and what one connection more comes to.
-use Rattle.std.specs.Prelude.{ℕ, List, Option, Some, None, Result, Ok, Err}
+use Rattle.std.specs.Prelude.{ℕ, ◌≡◌, List, Option, Some, None, Result, Ok, Err}
 use Rattle.operation.specs.declared.op.Op.{Op}
 use Rattle.site_state.specs.Site.{Map, ops_of}
-use Rattle.site_hub.specs.Hub.{Seat}
+use Rattle.site_hub.specs.Hub.{Seat, HasLooked}
 use Rattle.site_hub.specs.History.{set_of}
 use Rattle.ul_state.specs.declared.titles.Title.{Title}
 use Rattle.archive_model.specs.declared.view.View.{View}
@@ -17,9 +17,19 @@ use Rattle.exchange_run.specs.Run.{Ends, Exchanged, EndsEarly}
 use Rattle.archive_server.specs.declared.fault.ServeFault.{ServeFault}
 use Rattle.archive_server.specs.declared.fault.ServeFault.TheVariants.{Run, Exchange}
 
--- its pass, how many connections it accepted, how often an accept failed, and the first fault
-pub record Deeds : Type 0 where
+-- where a clerk stands: its pass, and the beginning of the shelf's ledger that it knows
+pub record Standing : Type 0 where
   pub pass : Seat
+  pub known : List (List ℕ)
+
+-- a clerk that only looked
+pub record HasOnlyLooked (before after : Standing) : Type 0 where
+  pub looked : HasLooked before.pass after.pass
+  pub known : after.known ≡ before.known
+
+-- its clerk, how many connections it accepted, how often an accept failed, and the first fault
+pub record Deeds : Type 0 where
+  pub clerk : Standing
   pub accepted : ℕ
   pub failed : ℕ
   pub fault : Option ServeFault

@@ -5,8 +5,9 @@ ghost use Rattle.association_run.specs.Fault.{CountedWhere, tells_read, tells_wr
 ghost use Rattle.association_run.specs.Output.{ReadAtLeast};
 ghost use Rattle.association_run.specs.Parts.{sides};
 ghost use Rattle.archive_server.specs.Done.{Attends};
-ghost use Rattle.archive_server.specs.Serving.{IsOnward};
+ghost use Rattle.archive_server.specs.Serving.{HasGoneOn};
 
+use crate::clerk::Clerk;
 use crate::port::ServerPort;
 use crate::tally::Tally;
 use archive_model::View;
@@ -14,9 +15,9 @@ use association_run::{End, Gate, Outbox, RunFault, run_association};
 use association_worker::AtEntry;
 use devices::{Sink, Source};
 use log::Log;
-use op_shelf::Keep;
+use shelf_ledger::LedgerName;
 use shelved_exchange::Put;
-use site_hub::{HubName, Keeper, Pass, Shows};
+use site_hub::{HubName, Keeper, Shows};
 use std::alloc::Global;
 use std::marker::Brand;
 use std::sync::{Mutex, Wait};
@@ -33,23 +34,23 @@ pub struct Archive<'a, H: HubName, T: Shows<H>, R: Wait + Drop, S: Wait> {
     pub titles: &'a Titles<View>,
 }
 
-/// What came of an association: the pass, which has gone on, how it ended, and what it asked for.
+/// What came of an association: the clerk, who has gone on, how it ended, and what it asked for.
 #[derive(Drop)]
-pub struct Attended<H: HubName> {
-    pub pass: Pass<H>,
+pub struct Attended<H: HubName, N: LedgerName> {
+    pub clerk: Clerk<H, N>,
     pub ended: Result<End, RunFault>,
     pub tally: Tally,
 }
 
-/// One association, for the pass that the caller named.
+/// One association, for a clerk whose pass the caller named.
 fn attend<
     E: AtEntry,
     H: HubName,
     T: Shows<H>,
     R: Wait + Drop,
     S: Wait + Clock + Log,
-    K: Keep,
-    P: Put<K> + Copy,
+    N: LedgerName,
+    P: Put<N> + Copy,
     I: Source,
     O: Sink,
     G: Gate,
@@ -60,13 +61,13 @@ fn attend<
     reader: &mut I,
     writer: &mut O,
     gate: &mut G,
-    pass: Pass<H>,
-) -> Attended<H>
-    requires entry { pass ≡ E.seat }
-    ensures onward { IsOnward K.is_up K.holds K.lasts E.seat result.pass }
+    clerk: Clerk<H, N>,
+) -> Attended<H, N>
+    requires entry { clerk.pass ≡ E.seat }
+    ensures onward { HasGoneOn clerk result.clerk }
     ensures attends { Attends H.opening archive.now.titles.now.list (I.remaining reader.old)
-        (I.remaining reader.new) (sides pass (O.contents writer.old) (G.reached gate.old))
-        (sides result.pass (O.contents writer.new) (G.reached gate.new)) result.ended }
+        (I.remaining reader.new) (sides clerk.pass (O.contents writer.old) (G.reached gate.old))
+        (sides result.clerk.pass (O.contents writer.new) (G.reached gate.new)) result.ended }
     ensures read { CountedWhere (tells_read result.ended) (I.failures reader.old)
         (I.failures reader.new) }
     ensures write { CountedWhere (tells_write result.ended) (O.failures writer.old)
@@ -75,7 +76,9 @@ fn attend<
         (I.remaining reader.old) (I.remaining reader.new) }
 {
     let (rt, keeper) = (archive.rt, archive.keeper);
-    let mut port = ServerPort::<H, T, R, S, K, P, E>::new(rt, keeper, shelf, pass);
+    let (pass, mut extract) = clerk.into_parts();
+    let known = extract.again();
+    let mut port = ServerPort::<H, T, R, S, N, P, E>::new(rt, keeper, shelf, pass, known);
     let ended = run_association(
         archive.alloc,
         reader,
@@ -86,8 +89,10 @@ fn attend<
         archive.titles,
     );
     let tally = port.tally();
+    let (pass, learned) = port.into_parts();
+    extract.learn(&learned);
     Attended {
-        pass: port.into_pass(),
+        clerk: Clerk::new(pass, extract),
         ended,
         tally,
     }
@@ -97,14 +102,14 @@ fn attend<
 /// to its shelf. What is to be written is held in `outbox`, which may serve one after another.
 ///
 /// What it does is said by `run_association`, of the set that the pass has seen; the pass goes on,
-/// and what it stores is on the shelf.
+/// and what it stores stands in the shelf's ledger.
 pub fn serve_association<
     H: HubName,
     T: Shows<H>,
     R: Wait + Drop,
     S: Wait + Clock + Log,
-    K: Keep,
-    P: Put<K> + Copy,
+    N: LedgerName,
+    P: Put<N> + Copy,
     I: Source,
     O: Sink,
     G: Gate,
@@ -115,14 +120,14 @@ pub fn serve_association<
     reader: &mut I,
     writer: &mut O,
     gate: &mut G,
-    pass: Pass<H>,
-) -> Attended<H>
-    ensures onward { IsOnward K.is_up K.holds K.lasts pass result.pass }
+    clerk: Clerk<H, N>,
+) -> Attended<H, N>
+    ensures onward { HasGoneOn clerk result.clerk }
 
     // All that it does for what it reads and is replied, or a front of it.
     ensures attends { Attends H.opening archive.now.titles.now.list (I.remaining reader.old)
-        (I.remaining reader.new) (sides pass (O.contents writer.old) (G.reached gate.old))
-        (sides result.pass (O.contents writer.new) (G.reached gate.new)) result.ended }
+        (I.remaining reader.new) (sides clerk.pass (O.contents writer.old) (G.reached gate.old))
+        (sides result.clerk.pass (O.contents writer.new) (G.reached gate.new)) result.ended }
 
     // A fault of a device is told exactly where one was counted.
     ensures read { CountedWhere (tells_read result.ended) (I.failures reader.old)
@@ -132,5 +137,5 @@ pub fn serve_association<
     ensures turns { IsErrOf result.ended RunFault.Turns → ReadAtLeast 4294967296
         (I.remaining reader.old) (I.remaining reader.new) }
 {
-    attend::<Brand, H, T, R, S, K, P, I, O, G>(archive, shelf, outbox, reader, writer, gate, pass)
+    attend::<Brand, H, T, R, S, N, P, I, O, G>(archive, shelf, outbox, reader, writer, gate, clerk)
 }

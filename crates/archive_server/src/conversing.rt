@@ -3,36 +3,37 @@
 ghost use Rattle.std.specs.Prelude.{◌≡◌};
 ghost use Rattle.exchange_run.specs.Run.{ends};
 ghost use Rattle.archive_server.specs.Done.{Converses};
-ghost use Rattle.archive_server.specs.Serving.{IsOnward};
+ghost use Rattle.archive_server.specs.Serving.{HasGoneOn};
 
 use crate::attending::Archive;
+use crate::clerk::Clerk;
 use association_worker::AtEntry;
 use devices::{Sink, Source};
 use exchange::ExchangeFault;
 use exchange_run::{Ended, Role, run_exchange};
 use hub_exchange::HubHolder;
-use op_shelf::Keep;
+use shelf_ledger::LedgerName;
 use shelved_exchange::Put;
-use site_hub::{HubName, Pass, Shows};
+use site_hub::{HubName, Shows};
 use std::marker::Brand;
 use std::sync::Wait;
 
-/// What came of an exchange: the pass, which has gone on, and how it ended.
+/// What came of an exchange: the clerk, who has gone on, and how it ended.
 #[derive(Drop)]
-pub struct Conversed<H: HubName> {
-    pub pass: Pass<H>,
+pub struct Conversed<H: HubName, N: LedgerName> {
+    pub clerk: Clerk<H, N>,
     pub ended: Result<Ended, ExchangeFault>,
 }
 
-/// One exchange, for the pass that the caller named.
+/// One exchange, for a clerk whose pass the caller named.
 fn converse<
     E: AtEntry,
     H: HubName,
     T: Shows<H>,
     R: Wait + Drop,
     S: Wait,
-    K: Keep,
-    P: Put<K> + Copy,
+    N: LedgerName,
+    P: Put<N> + Copy,
     I: Source,
     O: Sink,
 >(
@@ -41,21 +42,25 @@ fn converse<
     role: Role,
     reader: &mut I,
     writer: &mut O,
-    pass: Pass<H>,
-) -> Conversed<H>
-    requires entry { pass ≡ E.seat }
-    ensures onward { IsOnward K.is_up K.holds K.lasts E.seat result.pass }
+    clerk: Clerk<H, N>,
+) -> Conversed<H, N>
+    requires entry { clerk.pass ≡ E.seat }
+    ensures onward { HasGoneOn clerk result.clerk }
     ensures converses { Converses H.opening role
-        (ends pass (I.remaining reader.old) (O.contents writer.old) (I.failures reader.old)
+        (ends clerk.pass (I.remaining reader.old) (O.contents writer.old) (I.failures reader.old)
         (O.failures writer.old))
-        (ends result.pass (I.remaining reader.new) (O.contents writer.new) (I.failures reader.new)
-        (O.failures writer.new)) result.ended }
+        (ends result.clerk.pass (I.remaining reader.new) (O.contents writer.new)
+        (I.failures reader.new) (O.failures writer.new)) result.ended }
 {
     let (rt, keeper) = (archive.rt, archive.keeper);
-    let mut holder = HubHolder::<H, T, R, S, K, P, E>::new(rt, keeper, shelf, pass);
+    let (pass, mut extract) = clerk.into_parts();
+    let known = extract.again();
+    let mut holder = HubHolder::<H, T, R, S, N, P, E>::new(rt, keeper, shelf, pass, known);
     let ended = run_exchange(archive.alloc, role, reader, writer, &mut holder);
+    let (pass, learned) = holder.into_parts();
+    extract.learn(&learned);
     Conversed {
-        pass: holder.into_pass(),
+        clerk: Clerk::new(pass, extract),
         ended,
     }
 }
@@ -64,14 +69,14 @@ fn converse<
 /// to its shelf.
 ///
 /// What it does is said by `run_exchange`, of the set that the pass has seen; the pass goes on, and
-/// what it takes is on the shelf.
+/// what it takes stands in the shelf's ledger.
 pub fn serve_exchange<
     H: HubName,
     T: Shows<H>,
     R: Wait + Drop,
     S: Wait,
-    K: Keep,
-    P: Put<K> + Copy,
+    N: LedgerName,
+    P: Put<N> + Copy,
     I: Source,
     O: Sink,
 >(
@@ -80,14 +85,14 @@ pub fn serve_exchange<
     role: Role,
     reader: &mut I,
     writer: &mut O,
-    pass: Pass<H>,
-) -> Conversed<H>
-    ensures onward { IsOnward K.is_up K.holds K.lasts pass result.pass }
+    clerk: Clerk<H, N>,
+) -> Conversed<H, N>
+    ensures onward { HasGoneOn clerk result.clerk }
     ensures converses { Converses H.opening role
-        (ends pass (I.remaining reader.old) (O.contents writer.old) (I.failures reader.old)
+        (ends clerk.pass (I.remaining reader.old) (O.contents writer.old) (I.failures reader.old)
         (O.failures writer.old))
-        (ends result.pass (I.remaining reader.new) (O.contents writer.new) (I.failures reader.new)
-        (O.failures writer.new)) result.ended }
+        (ends result.clerk.pass (I.remaining reader.new) (O.contents writer.new)
+        (I.failures reader.new) (O.failures writer.new)) result.ended }
 {
-    converse::<Brand, H, T, R, S, K, P, I, O>(archive, shelf, role, reader, writer, pass)
+    converse::<Brand, H, T, R, S, N, P, I, O>(archive, shelf, role, reader, writer, clerk)
 }

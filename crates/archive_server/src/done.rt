@@ -4,16 +4,16 @@ ghost use Rattle.std.specs.Prelude.{◌≡◌, ◌+◌, ◌-◌, ◌<◌, ◌^�
 ghost use Rattle.std.specs.Io.KnownBytes.{Appends, Consumes};
 ghost use Rattle.std.specs.Option.{option_or};
 ghost use Rattle.http_server.specs.History.{History, IsServed, IsDone};
-ghost use Rattle.site_pages.specs.Serving.{page_config};
-ghost use Rattle.site_hub.specs.Hub.{HasLooked};
+ghost use Rattle.page_run.specs.Serving.{page_config};
 ghost use Rattle.association_run.specs.Parts.{sides};
 ghost use Rattle.exchange_run.specs.Run.{ends};
 ghost use Rattle.exchange_run.specs.declared.role.Role.TheVariants.{Callee};
 ghost use Rattle.ipv4_networks.specs.Networks.{may_come};
-ghost use Rattle.archive_server.specs.Done.{Attends, Converses, fault_of_run, fault_of_exchange};
-ghost use Rattle.archive_server.specs.Serving.{IsOnward};
+ghost use Rattle.archive_server.specs.Done.{Attends, Converses, HasOnlyLooked, fault_of_run, fault_of_exchange};
+ghost use Rattle.archive_server.specs.Serving.{HasGoneOn};
 
 use crate::attending::{Archive, Attended, serve_association};
+use crate::clerk::Clerk;
 use crate::conversing::{Conversed, serve_exchange};
 use crate::entrance::Entrance;
 use crate::fault::{NetFault, ServeFault};
@@ -25,9 +25,9 @@ use devices::{Sink, Source};
 use exchange::ExchangeFault;
 use exchange_run::{Ended, Role};
 use log::Log;
-use op_shelf::Keep;
+use shelf_ledger::LedgerName;
 use shelved_exchange::Put;
-use site_hub::{HubName, Pass, Shows};
+use site_hub::{HubName, Shows};
 use std::alloc::Global;
 use std::io;
 use std::io::{Read, Write};
@@ -37,17 +37,17 @@ use std::sync::Wait;
 use std::time::Clock;
 
 /// What a thread comes back with. Only what is served, or turned away, counts as accepted.
-pub(crate) struct Done<H: HubName> {
-    pass: Pass<H>,
+pub(crate) struct Done<H: HubName, N: LedgerName> {
+    clerk: Clerk<H, N>,
     accepted: u64,
     failed: u64,
     fault: Option<ServeFault>,
 }
 
-impl<H: HubName> Drop for Done<H> {
+impl<H: HubName, N: LedgerName> Drop for Done<H, N> {
     fn drop(self) {
         let Done {
-            pass: _,
+            clerk: _,
             accepted: _,
             failed: _,
             fault: _,
@@ -55,13 +55,13 @@ impl<H: HubName> Drop for Done<H> {
     }
 }
 
-impl<H: HubName> Model for Done<H> {
+impl<H: HubName, N: LedgerName> Model for Done<H, N> {
     ghost use Rattle.archive_server.specs.Done.{Deeds};
 
     ghost Value = { Deeds };
 
     ghost view = { λ d. record {
-      pass = d.pass;
+      clerk = d.clerk;
       accepted = d.accepted;
       failed = d.failed;
       fault = d.fault;
@@ -88,46 +88,51 @@ fn of_exchange(ended: Result<Ended, ExchangeFault>) -> Option<ServeFault>
     }
 }
 
-impl<H: HubName> Done<H> {
+impl<H: HubName, N: LedgerName> Done<H, N> {
     /// Nothing was accepted.
-    pub fn nothing(pass: Pass<H>, fault: Option<ServeFault>) -> Done<H>
-        ensures pass { result.pass ≡ pass }
+    pub fn nothing(clerk: Clerk<H, N>, fault: Option<ServeFault>) -> Done<H, N>
+        ensures clerk { result.clerk ≡ clerk }
         ensures none { (result.accepted ≡ 0) × (result.failed ≡ 0) }
         ensures fault { result.fault ≡ fault }
     {
         Done {
-            pass,
+            clerk,
             accepted: 0,
             failed: 0,
             fault,
         }
     }
 
-    /// The pass, how many were accepted, and the first fault.
-    pub fn into_parts(self) -> (Pass<H>, u64, Option<ServeFault>)
-        ensures pass { result.0 ≡ self.pass }
+    /// The clerk, how many were accepted, and the first fault.
+    pub fn into_parts(self) -> (Clerk<H, N>, u64, Option<ServeFault>)
+        ensures clerk { result.0 ≡ self.clerk }
         ensures accepted { result.1 ≡ self.accepted }
         ensures fault { result.2 ≡ self.fault }
     {
         let Done {
-            pass,
+            clerk,
             accepted,
             failed: _,
             fault,
         } = self;
-        (pass, accepted, fault)
+        (clerk, accepted, fault)
     }
 
     /// One connection more, after which this is the first fault.
-    fn with_one(pass: Pass<H>, accepted: u64, failed: u64, fault: Option<ServeFault>) -> Done<H>
+    fn with_one(
+        clerk: Clerk<H, N>,
+        accepted: u64,
+        failed: u64,
+        fault: Option<ServeFault>,
+    ) -> Done<H, N>
         requires room { accepted + failed < 2 ^ 64 - 1 }
-        ensures pass { result.pass ≡ pass }
+        ensures clerk { result.clerk ≡ clerk }
         ensures accepted { result.accepted ≡ accepted + 1 }
         ensures failed { result.failed ≡ failed }
         ensures fault { result.fault ≡ fault }
     {
         Done {
-            pass,
+            clerk,
             accepted: accepted + 1,
             failed,
             fault,
@@ -139,8 +144,7 @@ impl<H: HubName> Done<H> {
         T: Shows<H>,
         R: Wait + Drop,
         S: Wait + Clock + Log,
-        K: Keep,
-        P: Put<K> + Copy,
+        P: Put<N> + Copy,
         I: Source,
         O: Sink,
         G: Gate,
@@ -152,28 +156,30 @@ impl<H: HubName> Done<H> {
         reader: &mut I,
         writer: &mut O,
         gate: &mut G,
-    ) -> (Done<H>, Result<End, RunFault>, Tally)
+    ) -> (Done<H, N>, Result<End, RunFault>, Tally)
         requires room { self.accepted + self.failed < 2 ^ 64 - 1 }
-        ensures onward { IsOnward K.is_up K.holds K.lasts self.pass result.0.pass }
+        ensures onward { HasGoneOn self.clerk result.0.clerk }
         ensures attends { Attends H.opening archive.now.titles.now.list (I.remaining reader.old)
             (I.remaining reader.new)
-            (sides self.pass (O.contents writer.old) (G.reached gate.old))
-            (sides result.0.pass (O.contents writer.new) (G.reached gate.new)) result.1 }
+            (sides self.clerk.pass (O.contents writer.old) (G.reached gate.old))
+            (sides result.0.clerk.pass (O.contents writer.new) (G.reached gate.new)) result.1 }
         ensures accepted { result.0.accepted ≡ self.accepted + 1 }
         ensures failed { result.0.failed ≡ self.failed }
         ensures fault { result.0.fault ≡ option_or self.fault (fault_of_run result.1) }
     {
         let Done {
-            pass,
+            clerk,
             accepted,
             failed,
             fault,
         } = self;
-        let Attended { pass, ended, tally } = serve_association(
-            archive, shelf, outbox, reader, writer, gate, pass,
-        );
+        let Attended {
+            clerk,
+            ended,
+            tally,
+        } = serve_association(archive, shelf, outbox, reader, writer, gate, clerk);
         let fault = fault.or(of_run(ended));
-        let done = Done::with_one(pass, accepted, failed, fault);
+        let done = Done::with_one(clerk, accepted, failed, fault);
         (done, ended, tally)
     }
 
@@ -182,8 +188,7 @@ impl<H: HubName> Done<H> {
         T: Shows<H>,
         R: Wait + Drop,
         S: Wait,
-        K: Keep,
-        P: Put<K> + Copy,
+        P: Put<N> + Copy,
         I: Source,
         O: Sink,
     >(
@@ -192,34 +197,34 @@ impl<H: HubName> Done<H> {
         shelf: &P,
         reader: &mut I,
         writer: &mut O,
-    ) -> (Done<H>, Result<Ended, ExchangeFault>)
+    ) -> (Done<H, N>, Result<Ended, ExchangeFault>)
         requires room { self.accepted + self.failed < 2 ^ 64 - 1 }
-        ensures onward { IsOnward K.is_up K.holds K.lasts self.pass result.0.pass }
+        ensures onward { HasGoneOn self.clerk result.0.clerk }
         ensures converses { Converses H.opening Callee
-            (ends self.pass (I.remaining reader.old) (O.contents writer.old)
+            (ends self.clerk.pass (I.remaining reader.old) (O.contents writer.old)
             (I.failures reader.old) (O.failures writer.old))
-            (ends result.0.pass (I.remaining reader.new) (O.contents writer.new)
+            (ends result.0.clerk.pass (I.remaining reader.new) (O.contents writer.new)
             (I.failures reader.new) (O.failures writer.new)) result.1 }
         ensures accepted { result.0.accepted ≡ self.accepted + 1 }
         ensures failed { result.0.failed ≡ self.failed }
         ensures fault { result.0.fault ≡ option_or self.fault (fault_of_exchange result.1) }
     {
         let Done {
-            pass,
+            clerk,
             accepted,
             failed,
             fault,
         } = self;
-        let Conversed { pass, ended } = serve_exchange(
+        let Conversed { clerk, ended } = serve_exchange(
             archive,
             shelf,
             Role::Callee,
             reader,
             writer,
-            pass,
+            clerk,
         );
         let fault = fault.or(of_exchange(ended));
-        (Done::with_one(pass, accepted, failed, fault), ended)
+        (Done::with_one(clerk, accepted, failed, fault), ended)
     }
 
     /// One more that came for a page, over any reader and writer, who is told why the shelf refuses, if
@@ -231,9 +236,9 @@ impl<H: HubName> Done<H> {
         refusal: Option<&'static str>,
         reader: &mut I,
         writer: &mut O,
-    ) -> (Done<H>, io::Result<()>)
+    ) -> (Done<H, N>, io::Result<()>)
         requires room { self.accepted + self.failed < 2 ^ 64 - 1 }
-        ensures looked { HasLooked self.pass result.0.pass }
+        ensures looked { HasOnlyLooked self.clerk result.0.clerk }
         ensures served { (h : History) × ∥ IsServed page_config h ∥₁
             × Consumes (I.remaining reader.old) (I.remaining reader.new) h.received
             × Appends (O.contents writer.old) (O.contents writer.new) h.sent
@@ -243,20 +248,22 @@ impl<H: HubName> Done<H> {
         ensures fault { result.0.fault ≡ self.fault }
     {
         let Done {
-            pass,
+            clerk,
             accepted,
             failed,
             fault,
         } = self;
+        let (pass, extract) = clerk.into_parts();
         let (pass, served) = tell_pages(alloc, paging, refusal, pass, reader, writer);
-        (Done::with_one(pass, accepted, failed, fault), served)
+        let clerk = Clerk::new(pass, extract);
+        (Done::with_one(clerk, accepted, failed, fault), served)
     }
 
     /// One peer more that may not come in here. It counts as accepted.
-    pub fn with_turned_away(self, _entrance: Entrance<'_>, _peer: SocketAddr) -> Done<H>
+    pub fn with_turned_away(self, _entrance: Entrance<'_>, _peer: SocketAddr) -> Done<H, N>
         requires room { self.accepted + self.failed < 2 ^ 64 - 1 }
         requires barred { may_come _entrance.allowed.now _peer ≡ false }
-        ensures pass { result.pass ≡ self.pass }
+        ensures clerk { result.clerk ≡ self.clerk }
         ensures accepted { result.accepted ≡ self.accepted + 1 }
         ensures failed { result.failed ≡ self.failed }
         ensures fault { result.fault ≡ self.fault }
@@ -267,9 +274,9 @@ impl<H: HubName> Done<H> {
     }
 
     /// One accept more that failed: a fault, unless the server was ended.
-    pub fn with_none(self, is_ended: bool) -> Done<H>
+    pub fn with_none(self, is_ended: bool) -> Done<H, N>
         requires room { self.accepted + self.failed < 2 ^ 64 - 1 }
-        ensures pass { result.pass ≡ self.pass }
+        ensures clerk { result.clerk ≡ self.clerk }
         ensures accepted { result.accepted ≡ self.accepted }
         ensures failed { result.failed ≡ self.failed + 1 }
         ensures fault { result.fault ≡ (if is_ended then self.fault

@@ -2,12 +2,12 @@
 
 ghost use Rattle.std.specs.Prelude.{◌≡◌, ◌+◌, ◌-◌, ◌<◌, ◌≤◌, ◌^◌, ◌⊎◌, IsSome, true};
 ghost use Rattle.ipv4_networks.specs.Networks.{may_come};
-ghost use Rattle.archive_server.specs.Serving.{IsOnward};
+ghost use Rattle.archive_server.specs.Serving.{HasGoneOn};
 
+use crate::clerk::Clerk;
 use crate::conversing::{Conversed, serve_exchange};
 use crate::done::Done;
 use crate::entrance::{Entered, Entrance, accept_from};
-use crate::fault::ServeFault;
 use crate::journal::{Whence, tell_exchange, tell_turned_away};
 use crate::keeping::Asking;
 use crate::message::{Desk, Request};
@@ -19,8 +19,8 @@ use devices::Counted;
 use exchange::ExchangeFault;
 use exchange_run::{Ended, Role};
 use log::Log;
-use op_shelf::Keep;
-use site_hub::{HubName, Pass, Shows};
+use shelf_ledger::LedgerName;
+use site_hub::{HubName, Shows};
 use std::net::SocketAddr;
 use std::sync::Wait;
 use std::sync::atomic::Ordering;
@@ -43,44 +43,44 @@ pub(crate) fn exchange_over<
     T: Shows<H>,
     R: Wait + Drop,
     S: Wait + Clock + Log,
-    K: Keep,
+    N: LedgerName,
 >(
     hall: &'x Hall<'x, H, T, R, S>,
-    to: &'x Sender<Request<K>>,
+    to: &'x Sender<Request<N>>,
     wire: &Wire,
-    pass: Pass<H>,
-) -> (Pass<H>, Result<Ended, ExchangeFault>)
-    ensures onward { IsOnward K.is_up K.holds K.lasts pass result.0 }
+    clerk: Clerk<H, N>,
+) -> (Clerk<H, N>, Result<Ended, ExchangeFault>)
+    ensures onward { HasGoneOn clerk result.0 }
 {
     let (rt, peer) = (hall.archive.rt, Whence::of(wire));
     let mut reader = Counted::new(wire);
     let mut writer = Counted::new(wire);
     let shelf = Telling::new(rt, Asking::new(rt, hall.archive.alloc, to, &hall.health));
-    let Conversed { pass, ended } = serve_exchange(
+    let Conversed { clerk, ended } = serve_exchange(
         &hall.archive,
         &shelf,
         Role::Caller,
         &mut reader,
         &mut writer,
-        pass,
+        clerk,
     );
     tell_exchange(rt, hall.manner, peer, wire, Role::Caller, ended);
     wire.part(rt);
-    (pass, ended)
+    (clerk, ended)
 }
 
 /// What the thread has done, and one exchange more, with a peer that called and may come in here.
-fn with_peer<'x, H: HubName, T: Shows<H>, R: Wait + Drop, S: Wait + Clock + Log, K: Keep>(
+fn with_peer<'x, H: HubName, T: Shows<H>, R: Wait + Drop, S: Wait + Clock + Log, N: LedgerName>(
     hall: &'x Hall<'x, H, T, R, S>,
     entrance: Entrance<'_>,
-    to: &'x Sender<Request<K>>,
+    to: &'x Sender<Request<N>>,
     wire: Wire,
     peer: SocketAddr,
-    done: Done<H>,
-) -> Done<H>
+    done: Done<H, N>,
+) -> Done<H, N>
     requires room { done.accepted + done.failed < 2 ^ 64 - 1 }
     requires allowed { may_come entrance.allowed.now peer ≡ true }
-    ensures onward { IsOnward K.is_up K.holds K.lasts done.pass result.pass }
+    ensures onward { HasGoneOn done.clerk result.clerk }
     ensures accepted { result.accepted ≡ done.accepted + 1 }
     ensures failed { result.failed ≡ done.failed }
     ensures told { IsSome done.fault → IsSome result.fault }
@@ -96,14 +96,14 @@ fn with_peer<'x, H: HubName, T: Shows<H>, R: Wait + Drop, S: Wait + Clock + Log,
 }
 
 /// Accepts once. An accept that fails is used up as well.
-fn next_exchange<H: HubName, T: Shows<H>, R: Wait + Drop, S: Wait + Clock + Log, K: Keep>(
+fn next_exchange<H: HubName, T: Shows<H>, R: Wait + Drop, S: Wait + Clock + Log, N: LedgerName>(
     hall: &Hall<'_, H, T, R, S>,
     entrance: Entrance<'_>,
-    to: &Sender<Request<K>>,
-    done: Done<H>,
-) -> Done<H>
+    to: &Sender<Request<N>>,
+    done: Done<H, N>,
+) -> Done<H, N>
     requires room { done.accepted + done.failed < 2 ^ 64 - 1 }
-    ensures onward { IsOnward K.is_up K.holds K.lasts done.pass result.pass }
+    ensures onward { HasGoneOn done.clerk result.clerk }
     ensures used { result.accepted + result.failed ≡ done.accepted + done.failed + 1 }
     ensures told { IsSome hall.now.manner.ending ⊎ IsSome done.fault ⊎ (done.failed ≡ 0)
         → IsSome hall.now.manner.ending ⊎ IsSome result.fault ⊎ (result.failed ≡ 0) }
@@ -119,21 +119,23 @@ fn next_exchange<H: HubName, T: Shows<H>, R: Wait + Drop, S: Wait + Clock + Log,
 }
 
 /// Accepts until all rounds were begun, by whichever thread of exchanges, or until the server is
-/// ended, unless the thread of this place was refused.
-pub(crate) fn exchange_all<H: HubName, T: Shows<H>, R: Wait + Drop, S: Wait + Clock + Log, K: Keep>(
-    place: u64,
+/// ended.
+pub(crate) fn exchange_all<
+    H: HubName,
+    T: Shows<H>,
+    R: Wait + Drop,
+    S: Wait + Clock + Log,
+    N: LedgerName,
+>(
     hall: &Hall<'_, H, T, R, S>,
     exchanging: Exchanging<'_>,
-    desk: Desk<K>,
-    pass: Pass<H>,
-) -> Done<H>
-    ensures onward { IsOnward K.is_up K.holds K.lasts pass result.pass }
+    desk: Desk<N>,
+    clerk: Clerk<H, N>,
+) -> Done<H, N>
+    ensures onward { HasGoneOn clerk result.clerk }
     ensures most { result.accepted ≤ exchanging.entry.rounds }
 {
-    if hall.refused.load(Ordering::SeqCst) == place {
-        return Done::nothing(pass, Some(ServeFault::Exchange(ExchangeFault::Memory)));
-    }
-    let mut done = Done::nothing(pass, None);
+    let mut done = Done::nothing(clerk, None);
     for _ in 0..exchanging.rounds {
         let is_left = hall.begun.fetch_add(1, Ordering::SeqCst) < exchanging.rounds;
         if !is_left || hall.manner.is_ended() {

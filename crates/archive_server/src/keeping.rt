@@ -2,14 +2,15 @@
 
 ghost use Rattle.std.specs.Prelude.{◌≡◌, ◌++◌, ◌∷◌, [], All, IfOk, IsNone, ⊤};
 ghost use Rattle.operation.specs.Spelling.{digest_of};
-ghost use Rattle.shelved_exchange.specs.Putting.{WasPut};
+ghost use Rattle.shelved_exchange.specs.Putting.{IsKept, AreKept};
 
 use crate::health::Health;
-use crate::message::{Reply, Request, Shelved};
+use crate::message::{Reply, Request};
 use crossbeam_channel::{Receiver, Sender, bounded};
 use op_shelf::{Keep, ShelfFault, StoreCause};
 use operation::{Digest, Digested, Op};
-use shelved_exchange::{Put, put_all, put_shown, shown};
+use shelf_ledger::{Ledger, LedgerName};
+use shelved_exchange::{Put, Shelved, put_all, put_shown, shown};
 use std::alloc::{AllocError, Global};
 use std::sync::Wait;
 
@@ -21,15 +22,15 @@ const GROUP_BYTES: usize = 8 << 20;
 
 /// Requests that are put at once: the operations, and in the same places where each is answered.
 #[derive(Drop)]
-struct Group<K: Keep> {
+struct Group<N: LedgerName> {
     ops: Vec<Digested>,
-    replies: Vec<Sender<Reply<K>>>,
+    replies: Vec<Sender<Reply<N>>>,
     bytes: usize,
 }
 
-impl<K: Keep> Group<K> {
+impl<N: LedgerName> Group<N> {
     /// One with no request, and with room for `GROUP`, or for none where memory is refused.
-    fn new(alloc: Global) -> Group<K> {
+    fn new(alloc: Global) -> Group<N> {
         Group {
             ops: Vec::with_capacity(alloc, GROUP).unwrap_or(Vec::new(alloc)),
             replies: Vec::with_capacity(alloc, GROUP).unwrap_or(Vec::new(alloc)),
@@ -38,7 +39,7 @@ impl<K: Keep> Group<K> {
     }
 
     /// Takes a request in, or hands it back where there is no room.
-    fn take(&mut self, request: Request<K>) -> Option<Request<K>>
+    fn take(&mut self, request: Request<N>) -> Option<Request<N>>
         ensures op { IsNone result → self.new.ops.items ≡ self.old.ops.items ++ request.op ∷ [] }
         ensures reply { IsNone result
             → self.new.replies.items ≡ self.old.replies.items ++ request.reply ∷ [] }
@@ -76,11 +77,11 @@ fn body_len(op: &Digested) -> usize {
 }
 
 /// Answers a request with what the shelf answered for its operation.
-fn answer<K: Keep, S: Wait>(
+fn answer<N: LedgerName, S: Wait>(
     rt: &S,
     op: &Digested,
-    to: &Sender<Reply<K>>,
-    kept: Result<Shelved<K>, ShelfFault>,
+    to: &Sender<Reply<N>>,
+    kept: Result<Shelved<N>, ShelfFault>,
 )
     requires own { IfOk kept (λ shelved. shelved.digest ≡ digest_of op.now) }
 {
@@ -88,78 +89,117 @@ fn answer<K: Keep, S: Wait>(
 }
 
 /// Puts an operation alone, and answers.
-fn keep_one<K: Keep, S: Wait>(rt: &S, shelf: &mut K, op: &Digested, to: &Sender<Reply<K>>) {
-    let kept = put_shown(shelf, op);
+fn keep_one<K: Keep, N: LedgerName, S: Wait>(
+    rt: &S,
+    shelf: &mut K,
+    ledger: &mut Ledger<N>,
+    op: &Digested,
+    to: &Sender<Reply<N>>,
+)
+    requires kept { AreKept K.is_up K.holds K.lasts ledger.old shelf.old }
+    ensures kept { AreKept K.is_up K.holds K.lasts ledger.new shelf.new }
+{
+    let kept = put_shown(shelf, ledger, op);
     answer(rt, op, to, kept);
 }
 
-/// Answers each of a group that the shelf has.
-fn answer_all<K: Keep, S: Wait>(rt: &S, ops: &[Digested], replies: &[Sender<Reply<K>>])
-    requires put { All (λ op. WasPut K.is_up K.holds K.lasts (digest_of op)) ops.now }
+/// Writes each of a group that the shelf has, and answers it.
+fn answer_all<K: Keep, N: LedgerName, S: Wait>(
+    rt: &S,
+    shelf: &K,
+    ledger: &mut Ledger<N>,
+    ops: &[Digested],
+    replies: &[Sender<Reply<N>>],
+)
+    requires put { All (λ op. IsKept K.is_up K.holds K.lasts shelf.now (digest_of op)) ops.now }
+    requires kept { AreKept K.is_up K.holds K.lasts ledger.old shelf.now }
+    ensures kept { AreKept K.is_up K.holds K.lasts ledger.new shelf.now }
 {
     let mut rest = replies.iter();
     for op in ops {
         let Some(to) = rest.next() else {
             break;
         };
-        answer(rt, op, to, Ok(shown(op)));
+        answer(rt, op, to, Ok(shown(shelf, ledger, op)));
+    }
+}
+
+/// Puts each of a group alone, and answers each.
+fn keep_each<K: Keep, N: LedgerName, S: Wait>(
+    rt: &S,
+    shelf: &mut K,
+    ledger: &mut Ledger<N>,
+    group: &Group<N>,
+)
+    requires kept { AreKept K.is_up K.holds K.lasts ledger.old shelf.old }
+    ensures kept { AreKept K.is_up K.holds K.lasts ledger.new shelf.new }
+{
+    for (op, to) in group.ops.as_slice().iter().zip(&group.replies) {
+        keep_one(rt, shelf, ledger, op, to);
     }
 }
 
 /// Puts a group at once, and then answers each. One that is refused is put one by one, so that each
 /// has its own answer.
-fn keep_group<K: Keep, S: Wait>(rt: &S, shelf: &mut K, group: &Group<K>) {
-    let ops = group.ops.as_slice();
-    if ops.len() > 1 {
-        if let Ok(()) = put_all(shelf, ops) {
-            answer_all(rt, ops, &group.replies);
-            return;
-        }
+fn keep_group<K: Keep, N: LedgerName, S: Wait>(
+    rt: &S,
+    shelf: &mut K,
+    ledger: &mut Ledger<N>,
+    group: &Group<N>,
+)
+    requires kept { AreKept K.is_up K.holds K.lasts ledger.old shelf.old }
+    ensures kept { AreKept K.is_up K.holds K.lasts ledger.new shelf.new }
+{
+    if group.ops.len() < 2 {
+        keep_each(rt, shelf, ledger, group);
+        return;
     }
-    for (op, to) in ops.iter().zip(&group.replies) {
-        keep_one(rt, shelf, op, to);
+    let ops = group.ops.as_slice();
+    match put_all(shelf, ledger, ops) {
+        Ok(()) => answer_all(rt, shelf, ledger, ops, &group.replies),
+        Err(_refused) => keep_each(rt, shelf, ledger, group),
     }
 }
 
 /// Where requests come in.
-pub(crate) trait Requests<K: Keep> {
+pub(crate) trait Requests<N: LedgerName> {
     // That nobody can ask any more.
     ghost is_over: { Self → Type 0 };
 
     /// Waits for the next request: none comes once nobody can ask any more.
-    fn next(&mut self) -> Option<Request<K>>
+    fn next(&mut self) -> Option<Request<N>>
         ensures over { IsNone result → is_over self.new };
 
     /// One that waits already. It waits for nobody.
-    fn waiting(&mut self) -> Option<Request<K>>;
+    fn waiting(&mut self) -> Option<Request<N>>;
 }
 
 /// The receiving end of the channel of all threads.
 #[derive(Drop)]
-pub(crate) struct Inbox<'a, K: Keep, S: Wait> {
+pub(crate) struct Inbox<'a, N: LedgerName, S: Wait> {
     pub rt: &'a S,
-    pub requests: Receiver<Request<K>>,
+    pub requests: Receiver<Request<N>>,
 }
 
-impl<'a, K: Keep, S: Wait> Requests<K> for Inbox<'a, K, S> {
+impl<'a, N: LedgerName, S: Wait> Requests<N> for Inbox<'a, N, S> {
     ghost is_over = { λ _. ⊤ };
 
-    fn next(&mut self) -> Option<Request<K>> {
+    fn next(&mut self) -> Option<Request<N>> {
         self.requests.recv(self.rt).ok()
     }
 
     /// While a request is just being sent the channel may seem empty, or else.
-    fn waiting(&mut self) -> Option<Request<K>> {
+    fn waiting(&mut self) -> Option<Request<N>> {
         self.requests.try_recv(self.rt).ok()
     }
 }
 
 /// Takes in a request and those that wait behind it, and hands back one that finds no room.
-fn gather<K: Keep, Q: Requests<K>>(
+fn gather<N: LedgerName, Q: Requests<N>>(
     requests: &mut Q,
-    first: Request<K>,
-    group: &mut Group<K>,
-) -> Option<Request<K>> {
+    first: Request<N>,
+    group: &mut Group<N>,
+) -> Option<Request<N>> {
     let mut next = first;
     for _ in 0..GROUP {
         if let Some(over) = group.take(next) {
@@ -173,13 +213,17 @@ fn gather<K: Keep, Q: Requests<K>>(
     Some(next)
 }
 
-/// Serves puts until nobody can ask any more: what waits is one group, with one sync.
-pub(crate) fn keep_all<K: Keep, S: Wait, Q: Requests<K>>(
+/// Serves puts until nobody can ask any more: what waits is one group, with one sync. What is
+/// answered as put is written into the ledger.
+pub(crate) fn keep_all<K: Keep, N: LedgerName, S: Wait, Q: Requests<N>>(
     rt: &S,
     alloc: Global,
     shelf: &mut K,
+    ledger: &mut Ledger<N>,
     requests: &mut Q,
 )
+    requires kept { AreKept K.is_up K.holds K.lasts ledger.old shelf.old }
+    ensures kept { AreKept K.is_up K.holds K.lasts ledger.new shelf.new }
     ensures over { Q.is_over requests.new }
 {
     let mut group = Group::new(alloc);
@@ -188,20 +232,20 @@ pub(crate) fn keep_all<K: Keep, S: Wait, Q: Requests<K>>(
             return;
         };
         let over = gather(requests, first, &mut group);
-        keep_group(rt, shelf, &group);
+        keep_group(rt, shelf, ledger, &group);
         group.clear();
         if let Some(Request { op, reply }) = over {
-            keep_one(rt, shelf, &op, &reply);
+            keep_one(rt, shelf, ledger, &op, &reply);
         }
     }
     unreachable!()
 }
 
 /// An answer, where it is of the operation that was asked for.
-fn of_this<K: Keep>(
+fn of_this<N: LedgerName>(
     digest: &Digest,
-    kept: Result<Shelved<K>, ShelfFault>,
-) -> Result<Shelved<K>, ShelfFault>
+    kept: Result<Shelved<N>, ShelfFault>,
+) -> Result<Shelved<N>, ShelfFault>
     ensures { IfOk result (λ shelved. shelved.digest ≡ digest.now) }
 {
     let shelved = kept?;
@@ -213,12 +257,12 @@ fn of_this<K: Keep>(
 
 /// Asks for a put, and waits for the answer. Nothing is hashed, and the bytes of a data set are
 /// shared with the shelf's thread.
-pub(crate) fn ask<K: Keep, S: Wait>(
+pub(crate) fn ask<N: LedgerName, S: Wait>(
     rt: &S,
     alloc: Global,
-    to: &Sender<Request<K>>,
+    to: &Sender<Request<N>>,
     op: &Digested,
-) -> Result<Shelved<K>, ShelfFault>
+) -> Result<Shelved<N>, ShelfFault>
     ensures { IfOk result (λ shelved. shelved.digest ≡ digest_of op.now) }
 {
     let (reply, answer) = bounded(alloc, 1)?;
@@ -236,20 +280,20 @@ pub(crate) fn ask<K: Keep, S: Wait>(
 }
 
 /// The way to the shelf of another thread, on which is noted what each put comes to.
-pub(crate) struct Asking<'a, K: Keep, S: Wait> {
+pub(crate) struct Asking<'a, N: LedgerName, S: Wait> {
     rt: &'a S,
     alloc: Global,
-    to: &'a Sender<Request<K>>,
+    to: &'a Sender<Request<N>>,
     health: &'a Health,
 }
 
-impl<'a, K: Keep, S: Wait> Asking<'a, K, S> {
+impl<'a, N: LedgerName, S: Wait> Asking<'a, N, S> {
     pub fn new(
         rt: &'a S,
         alloc: Global,
-        to: &'a Sender<Request<K>>,
+        to: &'a Sender<Request<N>>,
         health: &'a Health,
-    ) -> Asking<'a, K, S> {
+    ) -> Asking<'a, N, S> {
         Asking {
             rt,
             alloc,
@@ -259,16 +303,16 @@ impl<'a, K: Keep, S: Wait> Asking<'a, K, S> {
     }
 }
 
-impl<'a, K: Keep, S: Wait> Clone for Asking<'a, K, S> {
-    fn clone(&self) -> Result<Asking<'a, K, S>, AllocError> {
+impl<'a, N: LedgerName, S: Wait> Clone for Asking<'a, N, S> {
+    fn clone(&self) -> Result<Asking<'a, N, S>, AllocError> {
         Ok(*self)
     }
 }
 
-impl<'a, K: Keep, S: Wait> Copy for Asking<'a, K, S> {}
+impl<'a, N: LedgerName, S: Wait> Copy for Asking<'a, N, S> {}
 
-impl<'a, K: Keep, S: Wait> Put<K> for Asking<'a, K, S> {
-    fn put(&mut self, op: &Digested) -> Result<Shelved<K>, ShelfFault> {
+impl<'a, N: LedgerName, S: Wait> Put<N> for Asking<'a, N, S> {
+    fn put(&mut self, op: &Digested) -> Result<Shelved<N>, ShelfFault> {
         let kept = ask(self.rt, self.alloc, self.to, op);
         self.health.note(&kept);
         kept

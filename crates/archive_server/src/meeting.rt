@@ -2,12 +2,12 @@
 
 ghost use Rattle.std.specs.Prelude.{None};
 ghost use Rattle.archive_server.specs.Calling.{CallsAgain};
-ghost use Rattle.archive_server.specs.Serving.{IsOnward};
+ghost use Rattle.archive_server.specs.Serving.{HasGoneOn};
 
 use crate::calling::{Called, Pauses, pause_behind};
+use crate::clerk::Clerk;
 use crate::done::Done;
 use crate::exchanging::exchange_over;
-use crate::fault::ServeFault;
 use crate::journal::tell_unreached;
 use crate::message::{Desk, Request};
 use crate::wire::Wire;
@@ -16,13 +16,12 @@ use crossbeam_channel::{Receiver, RecvTimeoutError, Sender};
 use exchange::ExchangeFault;
 use exchange_run::Ended;
 use log::Log;
-use op_shelf::Keep;
-use site_hub::{HubName, Pass, Shows};
+use shelf_ledger::LedgerName;
+use site_hub::{HubName, Shows};
 use std::io;
 use std::io::ErrorKind;
 use std::net::{Net, TcpListener, TcpStream};
 use std::sync::Wait;
-use std::sync::atomic::Ordering;
 use std::time::{Clock, Duration};
 
 /// A site that serves exchanges, and how long the server waits before it calls it again.
@@ -58,23 +57,23 @@ fn meet<
     T: Shows<H>,
     R: Wait + Drop,
     S: Net<Listener = TcpListener, Stream = TcpStream> + Wait + Clock + Log,
-    K: Keep,
+    N: LedgerName,
 >(
     hall: &Hall<'_, H, T, R, S>,
     address: &str,
-    to: &Sender<Request<K>>,
-    pass: Pass<H>,
-) -> (Pass<H>, Called)
-    ensures onward { IsOnward K.is_up K.holds K.lasts pass result.0 }
+    to: &Sender<Request<N>>,
+    clerk: Clerk<H, N>,
+) -> (Clerk<H, N>, Called)
+    ensures onward { HasGoneOn clerk result.0 }
 {
     match Wire::to(hall.archive.rt, address, hall.manner.idle) {
         Ok(wire) => {
-            let (pass, ended) = exchange_over(hall, to, &wire, pass);
-            (pass, called_as(ended, &wire))
+            let (clerk, ended) = exchange_over(hall, to, &wire, clerk);
+            (clerk, called_as(ended, &wire))
         }
         Err(error) => {
             tell_unreached(hall.archive.rt, hall.manner, address, error);
-            (pass, uncalled_as(&error))
+            (clerk, uncalled_as(&error))
         }
     }
 }
@@ -105,20 +104,20 @@ fn call_again<
     T: Shows<H>,
     R: Wait + Drop,
     S: Net<Listener = TcpListener, Stream = TcpStream> + Wait + Clock + Log,
-    K: Keep,
+    N: LedgerName,
     C: Pauses,
 >(
     hall: &Hall<'_, H, T, R, S>,
     address: &str,
     every: Duration,
-    to: &Sender<Request<K>>,
+    to: &Sender<Request<N>>,
     pauses: &mut C,
-    pass: Pass<H>,
-) -> Pass<H>
-    ensures onward { IsOnward K.is_up K.holds K.lasts pass result }
+    clerk: Clerk<H, N>,
+) -> Clerk<H, N>
+    ensures onward { HasGoneOn clerk result }
     ensures again { CallsAgain every (C.turns pauses.old) (C.turns pauses.new) }
 {
-    let mut onward = pass;
+    let mut onward = clerk;
     for _ in hall.archive.rt.forever() {
         let (next, called) = meet(hall, address, to, onward);
         onward = next;
@@ -131,28 +130,24 @@ fn call_again<
     unreachable!()
 }
 
-/// Calls a peer until nobody accepts any more, unless the thread of this place was refused.
+/// Calls a peer until nobody accepts any more.
 pub(crate) fn meet_all<
     H: HubName,
     T: Shows<H>,
     R: Wait + Drop,
     S: Net<Listener = TcpListener, Stream = TcpStream> + Wait + Clock + Log,
-    K: Keep,
+    N: LedgerName,
 >(
-    place: u64,
     hall: &Hall<'_, H, T, R, S>,
     peer: Peer<'_>,
-    desk: Desk<K>,
+    desk: Desk<N>,
     ended: Receiver<()>,
-    pass: Pass<H>,
-) -> Done<H>
-    ensures onward { IsOnward K.is_up K.holds K.lasts pass result.pass }
+    clerk: Clerk<H, N>,
+) -> Done<H, N>
+    ensures onward { HasGoneOn clerk result.clerk }
 {
-    if hall.refused.load(Ordering::SeqCst) == place {
-        return Done::nothing(pass, Some(ServeFault::Exchange(ExchangeFault::Memory)));
-    }
     let rt = hall.archive.rt;
     let mut still = Still { rt, ended: &ended };
-    let onward = call_again(hall, peer.address, peer.every, &desk.to, &mut still, pass);
+    let onward = call_again(hall, peer.address, peer.every, &desk.to, &mut still, clerk);
     Done::nothing(onward, None)
 }

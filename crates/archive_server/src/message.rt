@@ -1,35 +1,36 @@
 //! What crosses the channels between the threads of a server.
 
 use crossbeam_channel::Sender;
-use op_shelf::{Keep, ShelfFault};
+use op_shelf::ShelfFault;
 use operation::Digested;
-pub use shelved_exchange::Shelved;
+use shelf_ledger::LedgerName;
+use shelved_exchange::Shelved;
 use std::alloc::AllocError;
 
 /// Asks for a put.
 #[derive(Drop)]
-pub(crate) struct Request<K: Keep> {
+pub(crate) struct Request<N: LedgerName> {
     pub op: Digested,
-    pub reply: Sender<Reply<K>>,
+    pub reply: Sender<Reply<N>>,
 }
 
 /// What the shelf answered to a put.
 #[derive(Drop)]
-pub(crate) struct Reply<K: Keep> {
-    pub kept: Result<Shelved<K>, ShelfFault>,
+pub(crate) struct Reply<N: LedgerName> {
+    pub kept: Result<Shelved<N>, ShelfFault>,
 }
 
 /// What a thread holds: the way to the shelf, and where it accepts, what tells by its being there
 /// that somebody still does. Nothing is ever sent on that.
 #[derive(Drop)]
-pub(crate) struct Desk<K: Keep> {
-    pub to: Sender<Request<K>>,
+pub(crate) struct Desk<N: LedgerName> {
+    pub to: Sender<Request<N>>,
     pub still: Option<Sender<()>>,
 }
 
-impl<K: Keep> Desk<K> {
+impl<N: LedgerName> Desk<N> {
     /// One more of it, for one more thread, which accepts or does not.
-    pub fn another(&self, accepts: bool) -> Result<Desk<K>, AllocError> {
+    pub fn another(&self, accepts: bool) -> Result<Desk<N>, AllocError> {
         let to = self.to.clone()?;
         match &self.still {
             Some(still) if accepts => Ok(Desk {

@@ -3,11 +3,12 @@
 
 ghost use Rattle.std.specs.Prelude.{◌≡◌, ◌+◌, ◌-◌, ◌<◌, ◌^◌, IfOk, true};
 ghost use Rattle.ipv4_networks.specs.Networks.{may_come};
-ghost use Rattle.site_hub.specs.Hub.{HasLooked};
 ghost use Rattle.archive_server.specs.Calling.{GoesOnWhileServed};
+ghost use Rattle.archive_server.specs.Done.{HasOnlyLooked};
 ghost use Rattle.archive_server.specs.Entering.{IsAsAllowed};
 
 use crate::calling::Pauses;
+use crate::clerk::Clerk;
 use crate::done::Done;
 use crate::entrance::{Entered, Entrance, accept_from};
 use crate::fault::{NetFault, ServeFault};
@@ -17,15 +18,14 @@ use crate::visit::{Visit, turn};
 use crate::wire::{Wire, is_cut_off};
 use crate::worker::Hall;
 use crossbeam_channel::Receiver;
-use exchange::ExchangeFault;
 use log::Log;
-use site_hub::{HubName, Pass, Shows};
+use shelf_ledger::LedgerName;
+use site_hub::{HubName, Shows};
 use std::hash::RandomState;
 use std::io;
 use std::net::{SocketAddr, TcpListener, TcpStream};
 use std::os::fd::OwnedFd;
 use std::sync::Wait;
-use std::sync::atomic::Ordering;
 use std::time::{Clock, Duration};
 
 /// Where pages are asked for, and what they say of the site beside what it holds.
@@ -40,17 +40,17 @@ pub struct Paging<'a> {
 
 /// What the thread has done, and one connection more, of a peer that may come in here. Behind it the
 /// peer may read what was sent last.
-fn with_visitor<H: HubName, T: Shows<H>, R: Wait + Drop, S: Wait + Clock + Log>(
+fn with_visitor<H: HubName, T: Shows<H>, R: Wait + Drop, S: Wait + Clock + Log, N: LedgerName>(
     hall: &Hall<'_, H, T, R, S>,
     paging: Paging<'_>,
     ended: &Receiver<()>,
     wire: &Wire,
     peer: SocketAddr,
-    done: Done<H>,
-) -> Done<H>
+    done: Done<H, N>,
+) -> Done<H, N>
     requires room { done.accepted + done.failed < 2 ^ 64 - 1 }
     requires allowed { may_come paging.entrance.allowed.now peer ≡ true }
-    ensures looked { HasLooked done.pass result.pass }
+    ensures looked { HasOnlyLooked done.clerk result.clerk }
     ensures accepted { result.accepted ≡ done.accepted + 1 }
     ensures failed { result.failed ≡ done.failed }
 {
@@ -65,16 +65,16 @@ fn with_visitor<H: HubName, T: Shows<H>, R: Wait + Drop, S: Wait + Clock + Log>(
 }
 
 /// What the thread has done, with what came of an accept.
-fn with_entered<H: HubName, T: Shows<H>, R: Wait + Drop, S: Wait + Clock + Log>(
+fn with_entered<H: HubName, T: Shows<H>, R: Wait + Drop, S: Wait + Clock + Log, N: LedgerName>(
     hall: &Hall<'_, H, T, R, S>,
     paging: Paging<'_>,
     ended: &Receiver<()>,
     came: io::Result<Entered>,
-    done: Done<H>,
-) -> Done<H>
+    done: Done<H, N>,
+) -> Done<H, N>
     requires room { done.accepted + done.failed < 2 ^ 64 - 1 }
     requires ruled { IfOk came (IsAsAllowed paging.entrance.allowed.now) }
-    ensures looked { HasLooked done.pass result.pass }
+    ensures looked { HasOnlyLooked done.clerk result.clerk }
     ensures used { result.accepted + result.failed ≡ done.accepted + done.failed + 1 }
 {
     match came {
@@ -104,15 +104,15 @@ fn pause_behind_accept(came: &io::Result<Entered>) -> Duration {
 }
 
 /// Accepts once, unless nobody comes within a turn. It says how long is waited before the next.
-fn accept_one<H: HubName, T: Shows<H>, R: Wait + Drop, S: Wait + Clock + Log>(
+fn accept_one<H: HubName, T: Shows<H>, R: Wait + Drop, S: Wait + Clock + Log, N: LedgerName>(
     hall: &Hall<'_, H, T, R, S>,
     paging: Paging<'_>,
     ended: &Receiver<()>,
-    pass: Pass<H>,
-) -> (Done<H>, Duration)
-    ensures looked { HasLooked pass result.0.pass }
+    clerk: Clerk<H, N>,
+) -> (Done<H, N>, Duration)
+    ensures looked { HasOnlyLooked clerk result.0.clerk }
 {
-    let done = Done::nothing(pass, None);
+    let done = Done::nothing(clerk, None);
     let came = accept_from(paging.entrance, Some(turn()));
     if is_nobody(&came) {
         return (done, Duration::ZERO);
@@ -122,22 +122,29 @@ fn accept_one<H: HubName, T: Shows<H>, R: Wait + Drop, S: Wait + Clock + Log>(
 }
 
 /// Accepts again and again, as long as somebody serves.
-fn accept_again<H: HubName, T: Shows<H>, R: Wait + Drop, S: Wait + Clock + Log, C: Pauses>(
+fn accept_again<
+    H: HubName,
+    T: Shows<H>,
+    R: Wait + Drop,
+    S: Wait + Clock + Log,
+    N: LedgerName,
+    C: Pauses,
+>(
     hall: &Hall<'_, H, T, R, S>,
     paging: Paging<'_>,
     ended: &Receiver<()>,
     pauses: &mut C,
-    pass: Pass<H>,
-) -> Done<H>
-    ensures looked { HasLooked pass result.pass }
+    clerk: Clerk<H, N>,
+) -> Done<H, N>
+    ensures looked { HasOnlyLooked clerk result.clerk }
     ensures again { GoesOnWhileServed (C.turns pauses.old) (C.turns pauses.new) }
 {
-    let mut onward = pass;
+    let mut onward = clerk;
     let mut first = None;
     for _ in hall.archive.rt.forever() {
         let (done, pause) = accept_one(hall, paging, ended, onward);
-        let (pass, _accepted, fault) = done.into_parts();
-        onward = pass;
+        let (clerk, _accepted, fault) = done.into_parts();
+        onward = clerk;
         first = first.or(fault);
         if !pauses.is_served_after(pause) {
             return Done::nothing(onward, first);
@@ -152,26 +159,27 @@ fn lets_accepts_end(listener: &TcpListener) -> io::Result<()> {
     TcpStream::from(OwnedFd::from(listener.try_clone()?)).set_read_timeout(Some(turn()))
 }
 
-/// Answers who comes for a page, as long as anybody accepts associations or exchanges, unless the
-/// thread of this place was refused.
-pub(crate) fn page_all<H: HubName, T: Shows<H>, R: Wait + Drop, S: Wait + Clock + Log>(
-    place: u64,
+/// Answers who comes for a page, as long as anybody accepts associations or exchanges.
+pub(crate) fn page_all<
+    H: HubName,
+    T: Shows<H>,
+    R: Wait + Drop,
+    S: Wait + Clock + Log,
+    N: LedgerName,
+>(
     hall: &Hall<'_, H, T, R, S>,
     paging: Paging<'_>,
     ended: Receiver<()>,
-    pass: Pass<H>,
-) -> Done<H>
-    ensures looked { HasLooked pass result.pass }
+    clerk: Clerk<H, N>,
+) -> Done<H, N>
+    ensures looked { HasOnlyLooked clerk result.clerk }
 {
-    if hall.refused.load(Ordering::SeqCst) == place {
-        return Done::nothing(pass, Some(ServeFault::Exchange(ExchangeFault::Memory)));
-    }
     if lets_accepts_end(paging.entrance.listener).is_err() {
-        return Done::nothing(pass, Some(ServeFault::Net(NetFault::Accept)));
+        return Done::nothing(clerk, Some(ServeFault::Net(NetFault::Accept)));
     }
     let mut still = Still {
         rt: hall.archive.rt,
         ended: &ended,
     };
-    accept_again(hall, paging, &ended, &mut still, pass)
+    accept_again(hall, paging, &ended, &mut still, clerk)
 }

@@ -7,7 +7,7 @@ ghost use Rattle.site_state.specs.Site.{ops_of};
 ghost use Rattle.site_hub.specs.History.{set_of};
 ghost use Rattle.site_hub.specs.Hub.{Seat, IsLater};
 ghost use Rattle.association_run.specs.Port.{Stores, Finds, Gets};
-ghost use Rattle.archive_server.specs.Serving.{IsOnward};
+ghost use Rattle.archive_server.specs.Serving.{IsOnward, WasWritten};
 
 use crate::refusing::{told, told_store};
 use crate::tally::Tally;
@@ -17,18 +17,19 @@ use association_session::PortFault;
 use association_worker::{AtEntry, HubPort};
 use log::Log;
 use octets::ListOf;
-use op_shelf::Keep;
 use operation::{Content, Digested, Op, Taken};
 use query_model::{Answers, Query};
 use retrieve_model::{Prepared, Selection};
+use shelf_ledger::{Extract, LedgerName};
 use shelved_exchange::{Put, Shelved};
 use site_hub::{HubName, Keeper, Pass, Shows};
-use std::marker::{Model, PhantomData};
+use std::marker::Model;
 use std::sync::{Mutex, Wait};
 use std::time::Clock;
 
-/// A pass with the shared keeper, and the way to the shelf. The pass goes on from what it was when
-/// its association began, and what it stores since is on the shelf. Contracts see the pass.
+/// A pass with the shared keeper, the way to the shelf, and what is known of the shelf's ledger. The
+/// pass goes on from what it was when its association began, and what it stores since stands in the
+/// ledger. Contracts see the pass.
 pub struct ServerPort<
     'a,
     'b,
@@ -36,15 +37,15 @@ pub struct ServerPort<
     T: Shows<H>,
     R: Wait + Drop,
     S: Wait,
-    K: Keep,
-    P: Put<K> + Copy,
+    N: LedgerName,
+    P: Put<N> + Copy,
     E: AtEntry,
 > {
     rt: &'a S,
     shelf: &'b P,
     hub: HubPort<'a, H, T, R, S, E>,
     tally: Tally,
-    of: PhantomData<K>,
+    extract: Extract<N>,
 }
 
 impl<
@@ -54,31 +55,32 @@ impl<
     T: Shows<H>,
     R: Wait + Drop,
     S: Wait,
-    K: Keep,
-    P: Put<K> + Copy,
+    N: LedgerName,
+    P: Put<N> + Copy,
     E: AtEntry,
-> Model for ServerPort<'a, 'b, H, T, R, S, K, P, E> {
+> Model for ServerPort<'a, 'b, H, T, R, S, N, P, E> {
     ghost use Rattle.site_hub.specs.Hub.{Seat};
-    ghost use Rattle.archive_server.specs.Serving.{IsOnward};
+    ghost use Rattle.shelved_exchange.specs.Putting.{WasWritten};
+    ghost use Rattle.hub_exchange.specs.Onward.{IsOnward};
 
     ghost Value = { Seat };
 
     ghost view = { λ p. p.hub };
 
-    ghost invariant = { λ p. IsOnward K.is_up K.holds K.lasts E.seat p.hub };
+    ghost invariant = { λ p. IsOnward (WasWritten p.extract) E.seat p.hub };
 }
 
 /// Lets the hub take what the shelf keeps.
-fn publish<H: HubName, T: Shows<H>, R: Wait + Drop, S: Wait, K: Keep, E: AtEntry>(
+fn publish<H: HubName, T: Shows<H>, R: Wait + Drop, S: Wait, N: LedgerName, E: AtEntry>(
     hub: &mut HubPort<'_, H, T, R, S, E>,
     op: Digested,
-    shelved: &Shelved<K>,
+    shelved: &Shelved<N>,
 ) -> Result<Taken, PortFault>
     requires { shelved.now.digest ≡ digest_of op }
     ensures stores { Stores (λ (s : Seat). ops_of (set_of H.opening s.seen))
         (λ (s : Seat). s.mine) hub.old op result hub.new }
     ensures refused { OnErr result (hub.new.seen ≡ hub.old.seen) }
-    ensures onward { IsOnward K.is_up K.holds K.lasts hub.old hub.new }
+    ensures onward { IsOnward (WasWritten shelved.now.extract) hub.old hub.new }
 {
     hub.take(op)
 }
@@ -90,17 +92,18 @@ impl<
     T: Shows<H>,
     R: Wait + Drop,
     S: Wait,
-    K: Keep,
-    P: Put<K> + Copy,
+    N: LedgerName,
+    P: Put<N> + Copy,
     E: AtEntry,
-> ServerPort<'a, 'b, H, T, R, S, K, P, E> {
-    /// The port of an association that begins with this pass.
+> ServerPort<'a, 'b, H, T, R, S, N, P, E> {
+    /// The port of an association that begins with this pass, when this is known of the ledger.
     pub(crate) fn new(
         rt: &'a S,
         keeper: &'a Mutex<Keeper<H, T, R>>,
         shelf: &'b P,
         pass: Pass<H>,
-    ) -> ServerPort<'a, 'b, H, T, R, S, K, P, E>
+        extract: Extract<N>,
+    ) -> ServerPort<'a, 'b, H, T, R, S, N, P, E>
         requires entry { pass ≡ E.seat }
         ensures { result ≡ pass }
     {
@@ -109,7 +112,7 @@ impl<
             shelf,
             hub: HubPort::new(rt, keeper, pass),
             tally: Tally::new(),
-            of: PhantomData,
+            extract,
         }
     }
 
@@ -118,19 +121,19 @@ impl<
         self.tally
     }
 
-    /// Gives the pass back.
-    pub(crate) fn into_pass(self) -> Pass<H>
-        ensures same { result ≡ self.entry }
-        ensures onward { IsOnward K.is_up K.holds K.lasts E.seat result }
+    /// Gives the pass back, and what is known of the ledger.
+    pub(crate) fn into_parts(self) -> (Pass<H>, Extract<N>)
+        ensures same { result.0 ≡ self.entry }
+        ensures onward { IsOnward (WasWritten result.1) E.seat result.0 }
     {
         let ServerPort {
             rt: _,
             shelf: _,
             hub,
             tally: _,
-            of: _,
+            extract,
         } = self;
-        hub.into_pass()
+        (hub.into_pass(), extract)
     }
 }
 
@@ -141,10 +144,10 @@ impl<
     T: Shows<H>,
     R: Wait + Drop,
     S: Wait + Clock + Log,
-    K: Keep,
-    P: Put<K> + Copy,
+    N: LedgerName,
+    P: Put<N> + Copy,
     E: AtEntry,
-> Port for ServerPort<'a, 'b, H, T, R, S, K, P, E> {
+> Port for ServerPort<'a, 'b, H, T, R, S, N, P, E> {
     ghost ops = { λ p. ops_of (set_of H.opening p.seen) };
 
     ghost own = { λ p. p.mine };
@@ -161,6 +164,7 @@ impl<
         match shelf.put(&op) {
             Ok(shelved) => {
                 let taken = publish(&mut self.hub, op, &shelved);
+                self.extract.learn(&shelved.extract);
                 self.tally.stored(told(self.rt, "store", taken))
             }
             Err(fault) => {

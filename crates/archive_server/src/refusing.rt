@@ -10,8 +10,9 @@ use crate::journal::Moment;
 use crate::keeping::Asking;
 use association_session::PortFault;
 use log::{Log, error};
-use op_shelf::{Keep, ShelfFault};
+use op_shelf::ShelfFault;
 use operation::Digested;
+use shelf_ledger::LedgerName;
 use shelved_exchange::{Put, Shelved};
 use std::alloc::AllocError;
 use std::sync::Wait;
@@ -107,27 +108,27 @@ fn told_put<S: Clock + Log, T>(rt: &S, kept: Result<T, ShelfFault>) -> Result<T,
 }
 
 /// The way of an exchange to the shelf, which tells what the shelf refuses.
-pub(crate) struct Telling<'a, K: Keep, S: Wait + Clock + Log> {
+pub(crate) struct Telling<'a, N: LedgerName, S: Wait + Clock + Log> {
     rt: &'a S,
-    way: Asking<'a, K, S>,
+    way: Asking<'a, N, S>,
 }
 
-impl<'a, K: Keep, S: Wait + Clock + Log> Telling<'a, K, S> {
-    pub fn new(rt: &'a S, way: Asking<'a, K, S>) -> Telling<'a, K, S> {
+impl<'a, N: LedgerName, S: Wait + Clock + Log> Telling<'a, N, S> {
+    pub fn new(rt: &'a S, way: Asking<'a, N, S>) -> Telling<'a, N, S> {
         Telling { rt, way }
     }
 }
 
-impl<'a, K: Keep, S: Wait + Clock + Log> Clone for Telling<'a, K, S> {
-    fn clone(&self) -> Result<Telling<'a, K, S>, AllocError> {
+impl<'a, N: LedgerName, S: Wait + Clock + Log> Clone for Telling<'a, N, S> {
+    fn clone(&self) -> Result<Telling<'a, N, S>, AllocError> {
         Ok(*self)
     }
 }
 
-impl<'a, K: Keep, S: Wait + Clock + Log> Copy for Telling<'a, K, S> {}
+impl<'a, N: LedgerName, S: Wait + Clock + Log> Copy for Telling<'a, N, S> {}
 
-impl<'a, K: Keep, S: Wait + Clock + Log> Put<K> for Telling<'a, K, S> {
-    fn put(&mut self, op: &Digested) -> Result<Shelved<K>, ShelfFault> {
+impl<'a, N: LedgerName, S: Wait + Clock + Log> Put<N> for Telling<'a, N, S> {
+    fn put(&mut self, op: &Digested) -> Result<Shelved<N>, ShelfFault> {
         told_put(self.rt, self.way.put(op))
     }
 }

@@ -2,10 +2,11 @@
 
 ghost use Rattle.std.specs.Prelude.{◌≡◌, ◌+◌, ◌-◌, ◌<◌, ◌≤◌, ◌^◌, ◌⊎◌, IsSome, is_some, true};
 ghost use Rattle.ipv4_networks.specs.Networks.{may_come};
-ghost use Rattle.archive_server.specs.Serving.{IsOnward, HasServed};
+ghost use Rattle.archive_server.specs.Serving.{HasGoneOn, HasServed};
 
 use crate::answers::Answers;
 use crate::attending::Archive;
+use crate::clerk::Clerk;
 use crate::done::Done;
 use crate::entrance::{Entered, Entrance, accept_from};
 use crate::fault::ServeFault;
@@ -20,11 +21,11 @@ use association_run::{Gate, Outbox, RunFault};
 use crossbeam_channel::Sender;
 use devices::Counted;
 use log::Log;
-use op_shelf::Keep;
-use site_hub::{HubName, Pass, Shows};
+use shelf_ledger::LedgerName;
+use site_hub::{HubName, Shows};
 use std::net::SocketAddr;
 use std::sync::Wait;
-use std::sync::atomic::{AtomicU64, Ordering};
+use std::sync::atomic::AtomicU64;
 use std::time::Clock;
 
 /// What all threads share.
@@ -34,8 +35,6 @@ pub(crate) struct Hall<'a, H: HubName, T: Shows<H>, R: Wait + Drop, S: Wait> {
     pub entrance: Entrance<'a>,
     pub each: u64,
     pub manner: Manner<'a>,
-    /// The place of a worker whose thread was refused.
-    pub refused: AtomicU64,
     /// How many exchanges were begun to be accepted.
     pub begun: AtomicU64,
     /// Whether the shelf takes what it is given.
@@ -44,18 +43,26 @@ pub(crate) struct Hall<'a, H: HubName, T: Shows<H>, R: Wait + Drop, S: Wait> {
 
 /// What a worker has done, and one association more, over the connection of a peer that may come in
 /// here.
-fn with_peer<'x, H: HubName, T: Shows<H>, R: Wait + Drop, S: Wait + Clock + Log, K: Keep, G: Gate>(
+fn with_peer<
+    'x,
+    H: HubName,
+    T: Shows<H>,
+    R: Wait + Drop,
+    S: Wait + Clock + Log,
+    N: LedgerName,
+    G: Gate,
+>(
     hall: &'x Hall<'x, H, T, R, S>,
-    to: &'x Sender<Request<K>>,
+    to: &'x Sender<Request<N>>,
     gate: &mut G,
     outbox: &mut Outbox,
     wire: &Wire,
     peer: SocketAddr,
-    done: Done<H>,
-) -> Done<H>
+    done: Done<H, N>,
+) -> Done<H, N>
     requires room { done.accepted + done.failed < 2 ^ 64 - 1 }
     requires allowed { may_come hall.now.entrance.allowed.now peer ≡ true }
-    ensures onward { IsOnward K.is_up K.holds K.lasts done.pass result.pass }
+    ensures onward { HasGoneOn done.clerk result.clerk }
     ensures accepted { result.accepted ≡ done.accepted + 1 }
     ensures failed { result.failed ≡ done.failed }
     ensures told { IsSome done.fault → IsSome result.fault }
@@ -89,18 +96,25 @@ fn with_peer<'x, H: HubName, T: Shows<H>, R: Wait + Drop, S: Wait + Clock + Log,
 }
 
 /// The same. Behind it the peer may read what was sent last.
-fn with_wire<H: HubName, T: Shows<H>, R: Wait + Drop, S: Wait + Clock + Log, K: Keep, G: Gate>(
+fn with_wire<
+    H: HubName,
+    T: Shows<H>,
+    R: Wait + Drop,
+    S: Wait + Clock + Log,
+    N: LedgerName,
+    G: Gate,
+>(
     hall: &Hall<'_, H, T, R, S>,
-    to: &Sender<Request<K>>,
+    to: &Sender<Request<N>>,
     gate: &mut G,
     outbox: &mut Outbox,
     wire: Wire,
     peer: SocketAddr,
-    done: Done<H>,
-) -> Done<H>
+    done: Done<H, N>,
+) -> Done<H, N>
     requires room { done.accepted + done.failed < 2 ^ 64 - 1 }
     requires allowed { may_come hall.now.entrance.allowed.now peer ≡ true }
-    ensures onward { IsOnward K.is_up K.holds K.lasts done.pass result.pass }
+    ensures onward { HasGoneOn done.clerk result.clerk }
     ensures accepted { result.accepted ≡ done.accepted + 1 }
     ensures failed { result.failed ≡ done.failed }
     ensures told { IsSome done.fault → IsSome result.fault }
@@ -111,15 +125,15 @@ fn with_wire<H: HubName, T: Shows<H>, R: Wait + Drop, S: Wait + Clock + Log, K: 
 }
 
 /// Accepts once. An accept that fails is used up as well.
-fn next<H: HubName, T: Shows<H>, R: Wait + Drop, S: Wait + Clock + Log, K: Keep, G: Gate>(
+fn next<H: HubName, T: Shows<H>, R: Wait + Drop, S: Wait + Clock + Log, N: LedgerName, G: Gate>(
     hall: &Hall<'_, H, T, R, S>,
-    to: &Sender<Request<K>>,
+    to: &Sender<Request<N>>,
     gate: &mut G,
     outbox: &mut Outbox,
-    done: Done<H>,
-) -> Done<H>
+    done: Done<H, N>,
+) -> Done<H, N>
     requires room { done.accepted + done.failed < 2 ^ 64 - 1 }
-    ensures onward { IsOnward K.is_up K.holds K.lasts done.pass result.pass }
+    ensures onward { HasGoneOn done.clerk result.clerk }
     ensures used { result.accepted + result.failed ≡ done.accepted + done.failed + 1 }
     ensures told { IsSome hall.now.manner.ending ⊎ IsSome done.fault ⊎ (done.failed ≡ 0)
         → IsSome hall.now.manner.ending ⊎ IsSome result.fault ⊎ (result.failed ≡ 0) }
@@ -137,26 +151,26 @@ fn next<H: HubName, T: Shows<H>, R: Wait + Drop, S: Wait + Clock + Log, K: Keep,
     }
 }
 
-/// Accepts `each` times, or until the server is ended, unless the thread of this place was refused,
-/// or the buffer that serves all its associations.
+/// Accepts `each` times, or until the server is ended, unless memory was refused for the buffer that
+/// serves all its associations.
 pub(crate) fn work<
     H: HubName,
     T: Shows<H>,
     R: Wait + Drop,
     S: Wait + Clock + Log,
-    K: Keep,
+    N: LedgerName,
     G: Gate + Drop,
->(place: u64, hall: &Hall<'_, H, T, R, S>, desk: Desk<K>, mut gate: G, pass: Pass<H>) -> Done<H>
-    ensures served { HasServed K.is_up K.holds K.lasts pass result.pass
-        (is_some hall.now.manner.ending) hall.now.each result.accepted result.fault }
+>(hall: &Hall<'_, H, T, R, S>, desk: Desk<N>, mut gate: G, clerk: Clerk<H, N>) -> Done<H, N>
+    ensures served { HasServed (record {
+      before = clerk.pass;
+      room = hall.now.each;
+      ends = is_some hall.now.manner.ending;
+    }) result }
 {
-    if hall.refused.load(Ordering::SeqCst) == place {
-        return Done::nothing(pass, Some(ServeFault::Run(RunFault::Memory)));
-    }
     let Ok(mut outbox) = Outbox::new(hall.archive.alloc) else {
-        return Done::nothing(pass, Some(ServeFault::Run(RunFault::Memory)));
+        return Done::nothing(clerk, Some(ServeFault::Run(RunFault::Memory)));
     };
-    let mut done = Done::nothing(pass, None);
+    let mut done = Done::nothing(clerk, None);
     for _ in 0..hall.each {
         if hall.manner.is_ended() {
             return done;

@@ -11,14 +11,14 @@ use Rattle.site_hub.specs.declared.entry.Entry.{Entry}
 use Rattle.site_hub.specs.declared.fault.HubFault.{HubFault}
 use Rattle.site_hub.specs.declared.fault.HubFault.TheVariants as hub
 use Rattle.site_hub.specs.History.{set_of, entry_of, IsHistory}
-use Rattle.site_hub.specs.Hub.{Seat, News, WasHeld, IsTaken, IsLater, HasLooked, HasKept}
+use Rattle.site_hub.specs.Hub.{Seat, News, IsTaken, IsLater, HasLooked, HasKept}
 use Rattle.site_hub.proofs.Histories.{set_of_more, stays, history_is_site}
 use Rattle.exchange.specs.declared.fault.HolderFault.{HolderFault}
 use Rattle.exchange.specs.Held.{Looks, TakesIn}
 use Rattle.exchange.proofs.Holdings.{put_is_there}
-use Rattle.shelved_exchange.specs.Putting.{WasPut, WerePut}
-use Rattle.shelved_exchange.proofs.PuttingLaws.{put_none, put_one}
-use Rattle.hub_exchange.specs.Fault.{refusal_of, reply_to}
+use Rattle.shelved_exchange.specs.Putting.{AddsOnly}
+use Rattle.shelved_exchange.proofs.PuttingLaws.{adds_none, adds_one}
+use Rattle.hub_exchange.specs.Fault.{reply_to}
 use Rattle.hub_exchange.specs.Onward.{IsOnward}
 
 -- A look answers of the set of the history that the pass has seen then, which has what the pass had seen before.
@@ -102,32 +102,31 @@ refused_sees before later op (Err fault) reply is pending kept =
       | inr same ↦ same.seen
     ])
 
-put_so : {K : Type 0} (up : K → Type 0) (holds lasts : K → Op → Type 0) (before later : Seat) (op : Op)
-    (told : Result News HubFault) → WasPut up holds lasts (digest_of op)
-    → OnOk told (later.mine ≡ before.mine ++ digest_of op ∷ [])
+own_so : (these : List ℕ → Type 0) (before later : Seat) (op : Op) (told : Result News HubFault)
+    → these (digest_of op) → OnOk told (later.mine ≡ before.mine ++ digest_of op ∷ [])
     → IfErr told (λ e. e ≡ hub.Pending
     → (later.mine ≡ before.mine ++ digest_of op ∷ []) × (later.seen ≡ before.seen))
     → IfErr told (λ e. (e ≡ hub.Pending) ⊎ HasKept before later)
-    → WerePut up holds lasts before.mine later.mine
-put_so up holds lasts before later op (Ok told) put mine pending kept =
-    put_one up holds lasts before.mine later.mine (digest_of op) put mine
-put_so up holds lasts before later op (Err fault) put mine pending kept =
-    elim kept as (λ _. WerePut up holds lasts before.mine later.mine) [
-      | inl is ↦ put_one up holds lasts before.mine later.mine (digest_of op) put (pending is).0
-      | inr same ↦ put_none up holds lasts before.mine later.mine same.mine
+    → AddsOnly these before.mine later.mine
+own_so these before later op (Ok told) is mine pending kept =
+    adds_one these before.mine later.mine (digest_of op) is mine
+own_so these before later op (Err fault) is mine pending kept =
+    elim kept as (λ _. AddsOnly these before.mine later.mine) [
+      | inl pends ↦ adds_one these before.mine later.mine (digest_of op) is (pending pends).0
+      | inr same ↦ adds_none these before.mine later.mine same.mine
     ]
 
--- What became the pass's own was put.
-pub pass_onward : {K : Type 0} (up : K → Type 0) (holds lasts : K → Op → Type 0) (before later : Seat) (op : Op)
-    (told : Result News HubFault) (digest : List ℕ) → WasPut up holds lasts digest → digest ≡ digest_of op
+-- What became the pass's own is one of these.
+pub pass_onward : (these : List ℕ → Type 0) (before later : Seat) (op : Op) (told : Result News HubFault)
+    (digest : List ℕ) → these digest → digest ≡ digest_of op
     → IsLater before later → OnOk told (later.mine ≡ before.mine ++ digest_of op ∷ [])
     → IfErr told (λ e. e ≡ hub.Pending
     → (later.mine ≡ before.mine ++ digest_of op ∷ []) × (later.seen ≡ before.seen))
     → IfErr told (λ e. (e ≡ hub.Pending) ⊎ HasKept before later)
-    → IsOnward up holds lasts before later
-pass_onward up holds lasts before later op told digest put named onward mine pending kept = record {
+    → IsOnward these before later
+pass_onward these before later op told digest is named onward mine pending kept = record {
   later = onward;
-  put = put_so up holds lasts before later op told (subst (WasPut up holds lasts) named put) mine pending kept;
+  own = own_so these before later op told (subst these named is) mine pending kept;
 }
 
 -- Where the shelf refused, the pass stays.

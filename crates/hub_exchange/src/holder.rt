@@ -7,22 +7,23 @@ ghost use Rattle.site_hub.specs.Hub.{Seat, HasLooked};
 ghost use Rattle.exchange.specs.Held.{Looks, TakesIn};
 ghost use Rattle.hub_exchange.specs.Fault.{refusal_of, reply_to, RefusesLook};
 ghost use Rattle.hub_exchange.specs.Onward.{IsOnward};
+ghost use Rattle.shelved_exchange.specs.Putting.{WasWritten};
 
 use crate::asking::{All, Buckets, In, Missing, Wanted};
 use association_worker::AtEntry;
 use exchange::{Digests, Holder, HolderFault, Version};
 use octets::ListOf;
-use op_shelf::Keep;
 use operation::{Digest, Digested, Op, Taken};
+use shelf_ledger::{Extract, LedgerName};
 use shelved_exchange::{Put, Shelved, refusal_of_shelf};
 use site_hub::{HubFault, HubName, Keeper, Pass, Question, Shows, Told, store_digested};
 use std::alloc::Global;
 use std::marker::{Model, PhantomData};
 use std::sync::{Mutex, Wait};
 
-/// A pass with the keeper that all passes share, and the way to the shelf. The pass goes on from
-/// what it was when its exchange began, and what it takes since is on the shelf. Contracts see the
-/// pass.
+/// A pass with the keeper that all passes share, the way to the shelf, and what is known of the
+/// shelf's ledger. The pass goes on from what it was when its exchange began, and what it takes since
+/// stands in the ledger. Contracts see the pass.
 pub struct HubHolder<
     'a,
     'b,
@@ -30,7 +31,7 @@ pub struct HubHolder<
     T: Shows<H>,
     R: Wait + Drop,
     S: Wait,
-    K: Keep,
+    N: LedgerName,
     P,
     E: AtEntry,
 > {
@@ -38,19 +39,21 @@ pub struct HubHolder<
     keeper: &'a Mutex<Keeper<H, T, R>>,
     shelf: &'b P,
     pass: Pass<H>,
-    of: PhantomData<(K, E)>,
+    extract: Extract<N>,
+    of: PhantomData<E>,
 }
 
-impl<'a, 'b, H: HubName, T: Shows<H>, R: Wait + Drop, S: Wait, K: Keep, P, E: AtEntry> Model
-    for HubHolder<'a, 'b, H, T, R, S, K, P, E> {
+impl<'a, 'b, H: HubName, T: Shows<H>, R: Wait + Drop, S: Wait, N: LedgerName, P, E: AtEntry> Model
+    for HubHolder<'a, 'b, H, T, R, S, N, P, E> {
     ghost use Rattle.site_hub.specs.Hub.{Seat};
+    ghost use Rattle.shelved_exchange.specs.Putting.{WasWritten};
     ghost use Rattle.hub_exchange.specs.Onward.{IsOnward};
 
     ghost Value = { Seat };
 
     ghost view = { λ h. h.pass };
 
-    ghost invariant = { λ h. IsOnward K.is_up K.holds K.lasts E.seat h.pass };
+    ghost invariant = { λ h. IsOnward (WasWritten h.extract) E.seat h.pass };
 }
 
 /// What a fault of the hub is to a round.
@@ -74,18 +77,18 @@ fn reply<H: HubName>(told: Result<Told<H>, HubFault>) -> Result<Taken, HolderFau
 }
 
 /// Lets the hub take what the shelf keeps, which publishes it.
-fn publish<H: HubName, T: Shows<H>, R: Wait + Drop, S: Wait, K: Keep>(
+fn publish<H: HubName, T: Shows<H>, R: Wait + Drop, S: Wait, N: LedgerName>(
     rt: &S,
     keeper: &Mutex<Keeper<H, T, R>>,
     pass: &mut Pass<H>,
     op: Digested,
-    shelved: &Shelved<K>,
+    shelved: &Shelved<N>,
 ) -> Result<Taken, HolderFault>
     requires { shelved.now.digest ≡ digest_of op }
     ensures takes { TakesIn (λ (s : Seat). set_of H.opening s.seen) (λ _. ⊥) pass.old op result
         pass.new }
     ensures refused { OnErr result (pass.new.seen ≡ pass.old.seen) }
-    ensures onward { IsOnward K.is_up K.holds K.lasts pass.old pass.new }
+    ensures onward { IsOnward (WasWritten shelved.now.extract) pass.old pass.new }
 {
     let _ = &shelved.digest;
     let told = store_digested(rt, keeper, pass, op);
@@ -110,24 +113,25 @@ fn look<H: HubName, X: Drop, Q: Question<X>>(
     }
 }
 
-impl<'a, 'b, H: HubName, T: Shows<H>, R: Wait + Drop, S: Wait, K: Keep, P, E: AtEntry> HubHolder<
+impl<
     'a,
     'b,
-    H,
-    T,
-    R,
-    S,
-    K,
+    H: HubName,
+    T: Shows<H>,
+    R: Wait + Drop,
+    S: Wait,
+    N: LedgerName,
     P,
-    E,
-> {
-    /// The holder of an exchange that begins with this pass.
+    E: AtEntry,
+> HubHolder<'a, 'b, H, T, R, S, N, P, E> {
+    /// The holder of an exchange that begins with this pass, when this is known of the ledger.
     pub fn new(
         rt: &'a S,
         keeper: &'a Mutex<Keeper<H, T, R>>,
         shelf: &'b P,
         pass: Pass<H>,
-    ) -> HubHolder<'a, 'b, H, T, R, S, K, P, E>
+        extract: Extract<N>,
+    ) -> HubHolder<'a, 'b, H, T, R, S, N, P, E>
         requires entry { pass ≡ E.seat }
         ensures { result ≡ pass }
     {
@@ -136,23 +140,25 @@ impl<'a, 'b, H: HubName, T: Shows<H>, R: Wait + Drop, S: Wait, K: Keep, P, E: At
             keeper,
             shelf,
             pass,
+            extract,
             of: PhantomData,
         }
     }
 
-    /// Gives the pass back.
-    pub fn into_pass(self) -> Pass<H>
-        ensures same { result ≡ self.entry }
-        ensures onward { IsOnward K.is_up K.holds K.lasts E.seat result }
+    /// Gives the pass back, and what is known of the ledger.
+    pub fn into_parts(self) -> (Pass<H>, Extract<N>)
+        ensures same { result.0 ≡ self.entry }
+        ensures onward { IsOnward (WasWritten result.1) E.seat result.0 }
     {
         let HubHolder {
             rt: _,
             keeper: _,
             shelf: _,
             pass,
+            extract,
             of: _,
         } = self;
-        pass
+        (pass, extract)
     }
 }
 
@@ -164,10 +170,10 @@ impl<
     T: Shows<H>,
     R: Wait + Drop,
     S: Wait,
-    K: Keep,
-    P: Put<K> + Copy,
+    N: LedgerName,
+    P: Put<N> + Copy,
     E: AtEntry,
-> Holder for HubHolder<'a, 'b, H, T, R, S, K, P, E> {
+> Holder for HubHolder<'a, 'b, H, T, R, S, N, P, E> {
     ghost use Rattle.std.specs.Prelude.{◌≡◌};
     ghost use Rattle.hub_exchange.specs.Fault.{RefusesLook};
 
@@ -218,7 +224,11 @@ impl<
     {
         let mut shelf = *self.shelf;
         match shelf.put(&op) {
-            Ok(shelved) => publish(self.rt, self.keeper, &mut self.pass, op, &shelved),
+            Ok(shelved) => {
+                let taken = publish(self.rt, self.keeper, &mut self.pass, op, &shelved);
+                self.extract.learn(&shelved.extract);
+                taken
+            }
             Err(fault) => Err(refusal_of_shelf(fault)),
         }
     }

@@ -9,17 +9,25 @@ use Rattle.site_state.specs.Site.{Map, held_at}
 use Rattle.exchange.specs.declared.fault.HolderFault.{HolderFault}
 use Rattle.exchange.specs.declared.fault.HolderFault.TheVariants.{Memory, Refused}
 
--- A shelf of this type answered to a put that it keeps an operation of this digest: while what it tells of its
--- operations holds, the operation is among them, and every crash leaves it.
-abbrev pub WasPut : {K : Type 0} → (K → Type 0) → (K → Op → Type 0) → (K → Op → Type 0) → List ℕ → Type 0
-WasPut {K = K} is_up holds lasts digest = ∥ ((shelf : K) × ((op : Op) × ((digest_of op ≡ digest)
-    × (is_up shelf → holds shelf op × lasts shelf op)))) ∥₁
+-- An operation of this digest was put on a shelf: while what the shelf tells of its operations holds, it is among them,
+-- and every crash leaves it.
+abbrev pub IsKept : {K : Type 0} → (K → Type 0) → (K → Op → Type 0) → (K → Op → Type 0) → K → List ℕ → Type 0
+IsKept is_up holds lasts shelf digest = ∥ ((op : Op) × ((digest_of op ≡ digest)
+    × (is_up shelf → holds shelf op × lasts shelf op))) ∥₁
 
--- Each digest behind the first ones was put on the shelf.
-abbrev pub WerePut : {K : Type 0} → (K → Type 0) → (K → Op → Type 0) → (K → Op → Type 0) → List (List ℕ)
-    → List (List ℕ) → Type 0
-WerePut is_up holds lasts first all = (digest : List ℕ) → Has (drop (length first) all) digest
-    → WasPut is_up holds lasts digest
+-- each digest that was written was put on the shelf
+abbrev pub AreKept : {K : Type 0} → (K → Type 0) → (K → Op → Type 0) → (K → Op → Type 0) → List (List ℕ) → K
+    → Type 0
+AreKept is_up holds lasts written shelf = (digest : List ℕ) → Has written digest
+    → IsKept is_up holds lasts shelf digest
+
+-- a digest was written
+abbrev pub WasWritten : List (List ℕ) → List ℕ → Type 0
+WasWritten written digest = ∥ Has written digest ∥₁
+
+-- each digest behind the first ones is one of these
+abbrev pub AddsOnly : (List ℕ → Type 0) → List (List ℕ) → List (List ℕ) → Type 0
+AddsOnly these first all = (digest : List ℕ) → Has (drop (length first) all) digest → these digest
 
 -- each operation that a site has gained is one of these
 abbrev pub GainsOnly : (Op → Type 0) → Map → Map → Type 0

@@ -1,12 +1,12 @@
 use Rattle.std.proofs.Common.{◌∷◌, ◌++◌, []}
 use Rattle.archive_server.proofs.CallingLaws.{one_more, the_last}
-use Rattle.archive_server.proofs.OnwardLaws.{onward_trans}
+use Rattle.archive_server.proofs.OnwardLaws.{gone_trans}
 use Rattle.archive_server.proofs.meeting.call_again.Goals as goal
 
--- The pass goes on from call to call.
+-- The clerk goes on from call to call.
 pub returns-then-not-is_served_after-clause-onward : goal.returns-then-not-is_served_after-clause-onward
 returns-then-not-is_served_after-clause-onward g c =
-    onward_trans g.K.Keep.is_up g.K.Keep.holds g.K.Keep.lasts _ _ _ c.loop.invariant.1 c.meet-next.ensures.onward
+    gone_trans _ _ _ c.loop.invariant.1 c.meet-next.ensures.onward
 
 -- Behind the last call nobody serves any more.
 pub returns-then-not-is_served_after-clause-again : goal.returns-then-not-is_served_after-clause-again
@@ -26,5 +26,5 @@ loop-preserved g c =
             c.is_served_after.result before.1 c.note.ensures.turned c.is_served_after.ensures.turned
             c.pause_behind-pause.ensures c.if-not-is_served_after.false,
       ),
-      onward_trans g.K.Keep.is_up g.K.Keep.holds g.K.Keep.lasts _ _ _ c.loop.invariant.1 c.meet-next.ensures.onward,
+      gone_trans _ _ _ c.loop.invariant.1 c.meet-next.ensures.onward,
     )

@@ -1,13 +1,12 @@
-use Rattle.std.proofs.Common.{◌∷◌, ◌++◌, [], subst}
-use Rattle.site_hub.specs.Hub.{Seat, HasLooked}
-use Rattle.archive_server.proofs.PagingLaws.{looked_trans, one_wait_more, the_last_wait}
+use Rattle.std.proofs.Common.{◌∷◌, ◌++◌, []}
+use Rattle.archive_server.proofs.PagingLaws.{only_trans, one_wait_more, the_last_wait}
 use Rattle.archive_server.proofs.paging.accept_again.Goals as goal
 
--- The pass looks from accept to accept.
+-- The clerk looks from accept to accept.
 pub returns-then-not-is_served_after-clause-looked : goal.returns-then-not-is_served_after-clause-looked
 returns-then-not-is_served_after-clause-looked g c =
-    rw (c.nothing.ensures.pass, c.into_parts-pass.ensures.pass)
-    (looked_trans _ _ _ c.loop.invariant.1 c.accept_one-done.ensures.looked)
+    rw (c.nothing.ensures.clerk, c.into_parts-clerk.ensures.clerk)
+    (only_trans _ _ _ c.loop.invariant.1 c.accept_one-done.ensures.looked)
 
 -- Behind the last accept nobody serves any more.
 pub returns-then-not-is_served_after-clause-again : goal.returns-then-not-is_served_after-clause-again
@@ -25,6 +24,6 @@ loop-preserved g c =
         one_wait_more _ _ _ before.0 c.accept_one-done.result.1 c.is_served_after.result before.1
             c.is_served_after.ensures.turned c.if-not-is_served_after.false,
       ),
-      rw c.into_parts-pass.ensures.pass
-          (looked_trans _ _ _ c.loop.invariant.1 c.accept_one-done.ensures.looked),
+      rw c.into_parts-clerk.ensures.clerk
+          (only_trans _ _ _ c.loop.invariant.1 c.accept_one-done.ensures.looked),
     )

@@ -1,12 +1,12 @@
 use Rattle.std.specs.Prelude.{List}
 use Rattle.std.specs.List.{flat_map}
 use Rattle.std.specs.declared.time.Duration.{Duration}
-use Rattle.site_hub.specs.Hub.{HasLooked}
 use Rattle.archive_server.specs.Calling.{Went, wait_on}
+use Rattle.archive_server.specs.Done.{HasOnlyLooked}
 use Rattle.archive_server.proofs.paging.accept_again.Given as goal
 
--- Somebody served behind each accept so far, and the pass only looked.
+-- Somebody served behind each accept so far, and the clerk only looked.
 abbrev pub invariant-loop : goal.invariant-loop
 invariant-loop g l = ((times : List Duration)
     × Went (g.C.Pauses.turns l.fn.pauses) (g.C.Pauses.turns l.pauses) (flat_map wait_on times))
-    × HasLooked l.fn.pass l.onward
+    × HasOnlyLooked l.fn.clerk l.onward

@@ -1,3 +1,4 @@
+use Rattle.archive_server.specs.Serving.{WasWritten}
 use Rattle.archive_server.proofs.OnwardLaws.{onward_stored}
 use Rattle.archive_server.proofs.port.publish.Goals as goal
 
@@ -6,7 +7,7 @@ pub returns : goal.returns
 returns g c = record {
   stores = c.take.ensures.stores;
   refused = c.take.ensures.refused;
-  onward = onward_stored g.K.Keep.is_up g.K.Keep.holds g.K.Keep.lasts _ c.args.hub.now c.take.new.self c.args.op
-      c.take.result c.args.shelved.now.digest c.args.shelved.now.put c.requires c.take.ensures.later
+  onward = onward_stored (WasWritten c.args.shelved.now.extract) _ c.args.hub.now c.take.new.self c.args.op
+      c.take.result c.args.shelved.now.digest c.args.shelved.now.written c.requires c.take.ensures.later
       c.take.ensures.stores;
 }

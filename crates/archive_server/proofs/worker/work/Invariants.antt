@@ -1,9 +1,9 @@
 use Rattle.std.specs.Prelude.{◌≡◌, ◌+◌, ◌⊎◌, IsSome}
-use Rattle.archive_server.specs.Serving.{IsOnward}
+use Rattle.archive_server.specs.Serving.{HasGoneOn}
 use Rattle.archive_server.proofs.worker.work.Given as goal
 
--- each turn is used up, a failed one is told where nobody may end the server, and the pass went on
+-- each turn is used up, a failed one is told where nobody may end the server, and the clerk went on
 abbrev pub invariant-loop : goal.invariant-loop
 invariant-loop g l = (l.done.accepted + l.done.failed ≡ l.counter)
     × (IsSome l.hall.manner.ending ⊎ IsSome l.done.fault ⊎ (l.done.failed ≡ 0))
-    × IsOnward g.K.Keep.is_up g.K.Keep.holds g.K.Keep.lasts l.fn.pass l.done.pass
+    × HasGoneOn l.fn.clerk l.done.clerk

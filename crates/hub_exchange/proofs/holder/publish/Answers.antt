@@ -1,3 +1,4 @@
+use Rattle.shelved_exchange.specs.Putting.{WasWritten}
 use Rattle.hub_exchange.proofs.HolderLaws.{pass_takes, pass_onward, refused_sees}
 use Rattle.hub_exchange.proofs.holder.publish.Goals as goal
 
@@ -11,6 +12,6 @@ returns g c =
           c.see_history.ensures told.later told.taken;
       refused = refused_sees before later op c.store_digested-told.result c.reply.result c.reply.ensures told.pending
           told.kept;
-      onward = pass_onward g.K.Keep.is_up g.K.Keep.holds g.K.Keep.lasts before later op c.store_digested-told.result
-          c.args.shelved.now.digest c.args.shelved.now.put c.requires told.later told.mine told.pending told.kept;
+      onward = pass_onward (WasWritten c.args.shelved.now.extract) before later op c.store_digested-told.result
+          c.args.shelved.now.digest c.args.shelved.now.written c.requires told.later told.mine told.pending told.kept;
     }

@@ -3,5 +3,4 @@ use Rattle.archive_server.proofs.port.ServerPortPort.get.Goals as goal
 
 -- A look makes nothing the pass's own.
 pub invariant_of-self : goal.invariant_of-self
-invariant_of-self g c = onward_looked g.K.Keep.is_up g.K.Keep.holds g.K.Keep.lasts _ _ _ c.self.invariant
-    c.prepared-prepared.ensures.later c.prepared-prepared.ensures.gets.own_kept
+invariant_of-self g c = onward_looked _ _ _ _ c.self.invariant c.prepared-prepared.ensures.later c.prepared-prepared.ensures.gets.own_kept

@@ -1,5 +1,6 @@
 use Rattle.std.proofs.Common.{sym, subst}
 use Rattle.site_hub.specs.Hub.{Seat}
+use Rattle.shelved_exchange.specs.Putting.{WasWritten}
 use Rattle.hub_exchange.specs.Onward.{IsOnward}
 use Rattle.hub_exchange.proofs.OnwardLaws.{onward_self}
 use Rattle.hub_exchange.proofs.holder.HubHolder.new.Goals as goal
@@ -7,5 +8,5 @@ use Rattle.hub_exchange.proofs.holder.HubHolder.new.Goals as goal
 -- The pass is what it was at entry.
 pub invariant_of-result : goal.invariant_of-result
 invariant_of-result g c =
-    subst (λ (s : Seat). IsOnward g.K.Keep.is_up g.K.Keep.holds g.K.Keep.lasts g.E.AtEntry.seat s)
-    (sym c.requires.entry) (onward_self g.K.Keep.is_up g.K.Keep.holds g.K.Keep.lasts g.E.AtEntry.seat)
+    subst (λ (s : Seat). IsOnward (WasWritten c.args.extract) g.E.AtEntry.seat s) (sym c.requires.entry)
+    (onward_self (WasWritten c.args.extract) g.E.AtEntry.seat)

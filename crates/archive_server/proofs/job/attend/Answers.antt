@@ -1,0 +1,16 @@
+use Rattle.std.proofs.Common.{ap, sym, subst}
+use Rattle.archive_server.specs.Done.{Standing}
+use Rattle.archive_server.specs.Serving.{IsOnward, WasWritten, room_of}
+use Rattle.archive_server.proofs.OnwardLaws.{gone_looked}
+use Rattle.archive_server.proofs.CountLaws.{served_none}
+use Rattle.archive_server.proofs.job.attend.Goals as goal
+
+-- A pass of pages only looked, and no association was accepted.
+pub returns-in-Pages : goal.returns-in-Pages
+returns-in-Pages g c =
+    let gone = gone_looked _ _ c.page_all.ensures.looked in record {
+      served = served_none _ _ (ap (λ job. room_of c.args.hall.now.each job) c.in-Pages.is)
+          c.beside-in-Pages.ensures.none
+          (subst (λ (s : Standing). IsOnward (WasWritten s.known) c.args.clerk.pass s.pass)
+          (sym c.beside-in-Pages.ensures.clerk) gone.onward);
+    }

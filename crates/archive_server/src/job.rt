@@ -1,0 +1,177 @@
+//! What the threads of a server do, each with a pass of its own.
+
+ghost use Rattle.std.specs.Prelude.{◌≡◌, ◌+◌, length, is_some, IfOk, vec_len};
+ghost use Rattle.archive_server.specs.Serving.{AddsBeside, AreJobs, HasServed, room_of, serving_in, paging_in};
+
+use crate::clerk::Clerk;
+use crate::done::Done;
+use crate::exchanging::{Exchanging, exchange_all};
+use crate::fault::ServeFault;
+use crate::meeting::{Peer, meet_all};
+use crate::message::Desk;
+use crate::paging::{Paging, page_all};
+use crate::worker::{Hall, work};
+use association_run::{Gate, RunFault};
+use crossbeam_channel::Receiver;
+use exchange::ExchangeFault;
+use log::Log;
+use shelf_ledger::LedgerName;
+use site_hub::{HubName, Snapshot as Shown};
+use std::alloc::{AllocError, Global};
+use std::net::{Net, TcpListener, TcpStream};
+use std::sync::Wait;
+use std::time::Clock;
+
+/// What a thread does.
+#[derive(Drop)]
+pub(crate) enum Job<'a, G> {
+    /// It accepts associations, which pass this gate.
+    Associations(G),
+    /// It serves exchanges, as long as some are left.
+    Exchanges(Exchanging<'a>),
+    /// It calls a peer, until nobody accepts any more.
+    Calls(Peer<'a>),
+    /// It answers who comes for a page, until nobody accepts any more.
+    Pages(Paging<'a>),
+}
+
+impl<G> Job<'_, G> {
+    /// Whether it accepts associations or exchanges.
+    pub fn accepts(&self) -> bool {
+        matches!(self, Job::Associations(_) | Job::Exchanges(_))
+    }
+
+    /// What is told where memory is refused for it.
+    pub fn refusal(&self) -> ServeFault {
+        match self {
+            Job::Associations(_) => ServeFault::Run(RunFault::Memory),
+            _ => ServeFault::Exchange(ExchangeFault::Memory),
+        }
+    }
+
+    /// How many associations it may accept, where each worker may accept so many.
+    pub fn room(&self, each: u64) -> u64
+        ensures { result ≡ room_of each self.now }
+    {
+        match self {
+            Job::Associations(_) => each,
+            Job::Exchanges(_) | Job::Calls(_) | Job::Pages(_) => 0,
+        }
+    }
+}
+
+/// What comes of a job beside the workers once it is done: none of what it accepts is an
+/// association.
+fn beside<H: HubName, N: LedgerName>(done: Done<H, N>) -> Done<H, N>
+    ensures clerk { result.clerk ≡ done.clerk }
+    ensures none { result.accepted ≡ 0 }
+{
+    let (clerk, _accepted, fault) = done.into_parts();
+    Done::nothing(clerk, fault)
+}
+
+/// Does a job until it is done.
+pub(crate) fn attend<
+    H: HubName,
+    R: Wait + Drop,
+    S: Net<Listener = TcpListener, Stream = TcpStream> + Wait + Clock + Log,
+    N: LedgerName,
+    G: Gate + Drop,
+>(
+    hall: &Hall<'_, H, Shown<H>, R, S>,
+    job: Job<'_, G>,
+    desk: Desk<N>,
+    ended: Receiver<()>,
+    clerk: Clerk<H, N>,
+) -> Done<H, N>
+    ensures served { HasServed (record {
+      before = clerk.pass;
+      room = room_of hall.now.each job.entry;
+      ends = is_some hall.now.manner.ending;
+    }) result }
+{
+    match job {
+        Job::Associations(gate) => work(hall, desk, gate, clerk),
+        Job::Exchanges(exchanging) => beside(exchange_all(hall, exchanging, desk, clerk)),
+        Job::Calls(peer) => beside(meet_all(hall, peer, desk, ended, clerk)),
+        Job::Pages(paging) => {
+            drop(desk);
+            beside(page_all(hall, paging, ended, clerk))
+        }
+    }
+}
+
+/// The jobs of the workers, each with its gate.
+fn workers<'x, G: Drop>(alloc: Global, gates: Vec<G>) -> Result<Vec<Job<'x, G>>, AllocError>
+    ensures { IfOk result (λ jobs. AreJobs (vec_len gates) 0 jobs.items) }
+{
+    let mut jobs = Vec::new(alloc);
+    for gate in gates {
+        jobs.push(Job::Associations(gate))?;
+    }
+    Ok(jobs)
+}
+
+/// These jobs, and behind them those of the threads that serve exchanges.
+fn with_exchanges<'x, G: Drop>(
+    before: Vec<Job<'x, G>>,
+    exchange: Option<Exchanging<'x>>,
+) -> Result<Vec<Job<'x, G>>, AllocError>
+    ensures { IfOk result (λ jobs.
+        AddsBeside (serving_in exchange.entry) before.entry.items jobs.items) }
+{
+    let mut jobs = before;
+    if let Some(exchanging) = exchange {
+        for _ in 0..exchanging.workers {
+            jobs.push(Job::Exchanges(exchanging))?;
+        }
+    }
+    Ok(jobs)
+}
+
+/// These jobs, and behind them those of the threads that call peers.
+fn with_peers<'x, G: Drop>(
+    before: Vec<Job<'x, G>>,
+    peers: &[Peer<'x>],
+) -> Result<Vec<Job<'x, G>>, AllocError>
+    ensures { IfOk result (λ jobs. AddsBeside (length peers.now) before.entry.items jobs.items) }
+{
+    let mut jobs = before;
+    for peer in peers {
+        jobs.push(Job::Calls(*peer))?;
+    }
+    Ok(jobs)
+}
+
+/// These jobs, and behind them that of the thread of pages.
+fn with_pages<'x, G: Drop>(
+    before: Vec<Job<'x, G>>,
+    pages: Option<Paging<'x>>,
+) -> Result<Vec<Job<'x, G>>, AllocError>
+    ensures { IfOk result (λ jobs.
+        AddsBeside (paging_in pages.entry) before.entry.items jobs.items) }
+{
+    let Some(paging) = pages else {
+        return Ok(before);
+    };
+    let mut jobs = before;
+    jobs.push(Job::Pages(paging))?;
+    Ok(jobs)
+}
+
+/// All jobs, by the places of their passes: those of the workers, those of the threads that serve
+/// exchanges, those of the threads that call peers, and that of the thread of pages.
+pub(crate) fn jobs_of<'x, G: Drop>(
+    alloc: Global,
+    gates: Vec<G>,
+    exchange: Option<Exchanging<'x>>,
+    peers: &[Peer<'x>],
+    pages: Option<Paging<'x>>,
+) -> Result<Vec<Job<'x, G>>, AllocError>
+    ensures { IfOk result (λ jobs. AreJobs (vec_len gates)
+        (serving_in exchange.entry + length peers.now + paging_in pages.entry) jobs.items) }
+{
+    let serving = with_exchanges(workers(alloc, gates)?, exchange)?;
+    let jobs = with_pages(with_peers(serving, peers)?, pages)?;
+    Ok(jobs)
+}
