@@ -15,7 +15,7 @@ use Rattle.archive_server.specs.declared.job.Job.{Job}
 use Rattle.archive_server.specs.declared.job.Job.TheVariants.{Associations}
 use Rattle.archive_server.specs.Serving.{IsOnward, Task, HasServed, Tasks, Results, HaveServed, WasWritten}
 use Rattle.archive_server.specs.Serving.{room_of, room_of_all, AddsBeside, AreJobs}
-use Rattle.shelved_exchange.proofs.PuttingLaws.{written_more}
+use Rattle.hub_exchange.proofs.PuttingLaws.{written_more}
 use Rattle.hub_exchange.proofs.OnwardLaws.{onward_more}
 use Rattle.archive_server.proofs.OnwardLaws.{all_self, all_behind, all_more, onward_self}
 

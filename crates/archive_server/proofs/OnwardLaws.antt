@@ -11,8 +11,8 @@ use Rattle.site_hub.specs.Hub.{Seat, IsLater}
 use Rattle.site_hub.proofs.Fronts.{prefix_self, prefix_trans}
 use Rattle.op_shelf.specs.declared.fault.ShelfFault.{ShelfFault}
 use Rattle.op_shelf.specs.declared.fault.ShelfFault.TheVariants as shelf_faults
-use Rattle.shelved_exchange.specs.Putting.{AddsOnly}
-use Rattle.shelved_exchange.proofs.PuttingLaws.{adds_none, adds_one}
+use Rattle.hub_exchange.specs.Putting.{AddsOnly}
+use Rattle.hub_exchange.proofs.PuttingLaws.{adds_none, adds_one}
 use Rattle.hub_exchange.proofs.OnwardLaws.{onward_more, onward_seen}
 pub use Rattle.hub_exchange.proofs.OnwardLaws.{onward_self, onward_trans, onward_looked, onward_learned, onward_known}
 use Rattle.archive_server.specs.Done.{Standing, HasOnlyLooked}

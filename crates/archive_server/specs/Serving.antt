@@ -8,7 +8,7 @@ use Rattle.archive_server.specs.declared.exchanging.Exchanging.{Exchanging}
 use Rattle.archive_server.specs.declared.paging.Paging.{Paging}
 use Rattle.archive_server.specs.declared.job.Job.{Job}
 use Rattle.archive_server.specs.declared.job.Job.TheVariants.{Associations, Exchanges, Calls, Pages}
-pub use Rattle.shelved_exchange.specs.Putting.{IsKept, AreKept, WasWritten}
+pub use Rattle.hub_exchange.specs.Putting.{IsKept, AreKept, WasWritten}
 pub use Rattle.hub_exchange.specs.Onward.{IsOnward}
 
 -- A clerk has gone on: its pass is a later one, it knows no less of the ledger, and what became its pass's own stands

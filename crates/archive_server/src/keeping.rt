@@ -2,15 +2,15 @@
 
 ghost use Rattle.std.specs.Prelude.{◌≡◌, ◌++◌, ◌∷◌, [], All, IfOk, IsNone, ⊤};
 ghost use Rattle.operation.specs.Spelling.{digest_of};
-ghost use Rattle.shelved_exchange.specs.Putting.{IsKept, AreKept};
+ghost use Rattle.hub_exchange.specs.Putting.{IsKept, AreKept};
 
 use crate::health::Health;
 use crate::message::{Reply, Request};
 use crossbeam_channel::{Receiver, Sender, bounded};
+use hub_exchange::{Put, Shelved, put_all, put_shown, shown};
 use op_shelf::{Keep, ShelfFault, StoreCause};
 use operation::{Digest, Digested, Op};
 use shelf_ledger::{Ledger, LedgerName};
-use shelved_exchange::{Put, Shelved, put_all, put_shown, shown};
 use std::alloc::{AllocError, Global};
 use std::sync::Wait;
 

@@ -1,10 +1,10 @@
 //! What crosses the channels between the threads of a server.
 
 use crossbeam_channel::Sender;
+use hub_exchange::Shelved;
 use op_shelf::ShelfFault;
 use operation::Digested;
 use shelf_ledger::LedgerName;
-use shelved_exchange::Shelved;
 use std::alloc::AllocError;
 
 /// Asks for a put.

@@ -15,13 +15,13 @@ use archive_model::View;
 use association_run::Port;
 use association_session::PortFault;
 use association_worker::{AtEntry, HubPort};
+use hub_exchange::{Put, Shelved};
 use log::Log;
 use octets::ListOf;
 use operation::{Content, Digested, Op, Taken};
 use query_model::{Answers, Query};
 use retrieve_model::{Prepared, Selection};
 use shelf_ledger::{Extract, LedgerName};
-use shelved_exchange::{Put, Shelved};
 use site_hub::{HubName, Keeper, Pass, Shows};
 use std::marker::Model;
 use std::sync::{Mutex, Wait};
@@ -60,7 +60,7 @@ impl<
     E: AtEntry,
 > Model for ServerPort<'a, 'b, H, T, R, S, N, P, E> {
     ghost use Rattle.site_hub.specs.Hub.{Seat};
-    ghost use Rattle.shelved_exchange.specs.Putting.{WasWritten};
+    ghost use Rattle.hub_exchange.specs.Putting.{WasWritten};
     ghost use Rattle.hub_exchange.specs.Onward.{IsOnward};
 
     ghost Value = { Seat };

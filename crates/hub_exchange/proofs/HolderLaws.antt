@@ -16,8 +16,8 @@ use Rattle.site_hub.proofs.Histories.{set_of_more, stays, history_is_site}
 use Rattle.exchange.specs.declared.fault.HolderFault.{HolderFault}
 use Rattle.exchange.specs.Held.{Looks, TakesIn}
 use Rattle.exchange.proofs.Holdings.{put_is_there}
-use Rattle.shelved_exchange.specs.Putting.{AddsOnly}
-use Rattle.shelved_exchange.proofs.PuttingLaws.{adds_none, adds_one}
+use Rattle.hub_exchange.specs.Putting.{AddsOnly}
+use Rattle.hub_exchange.proofs.PuttingLaws.{adds_none, adds_one}
 use Rattle.hub_exchange.specs.Fault.{reply_to}
 use Rattle.hub_exchange.specs.Onward.{IsOnward}
 

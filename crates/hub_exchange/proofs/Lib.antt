@@ -1,2 +1,4 @@
-pub mod OnwardLaws
+pub mod Gains
 pub mod HolderLaws
+pub mod OnwardLaws
+pub mod PuttingLaws

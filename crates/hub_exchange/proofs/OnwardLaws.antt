@@ -4,8 +4,8 @@ use mathlib.Core.List.{IsPrefix}
 use Rattle.site_hub.specs.Hub.{Seat, IsLater, HasLooked}
 use Rattle.site_hub.proofs.Fronts.{prefix_self}
 use Rattle.site_hub.proofs.Laters.{later_self, later_trans}
-use Rattle.shelved_exchange.specs.Putting.{WasWritten}
-use Rattle.shelved_exchange.proofs.PuttingLaws.{adds_trans, adds_none, adds_more, written_more}
+use Rattle.hub_exchange.specs.Putting.{WasWritten}
+use Rattle.hub_exchange.proofs.PuttingLaws.{adds_trans, adds_none, adds_more, written_more}
 use Rattle.hub_exchange.specs.Onward.{IsOnward}
 
 -- a pass goes on from itself

@@ -7,15 +7,15 @@ ghost use Rattle.site_hub.specs.Hub.{Seat, HasLooked};
 ghost use Rattle.exchange.specs.Held.{Looks, TakesIn};
 ghost use Rattle.hub_exchange.specs.Fault.{refusal_of, reply_to, RefusesLook};
 ghost use Rattle.hub_exchange.specs.Onward.{IsOnward};
-ghost use Rattle.shelved_exchange.specs.Putting.{WasWritten};
+ghost use Rattle.hub_exchange.specs.Putting.{WasWritten};
 
 use crate::asking::{All, Buckets, In, Missing, Wanted};
+use crate::putting::{Put, Shelved, refusal_of_shelf};
 use association_worker::AtEntry;
 use exchange::{Digests, Holder, HolderFault, Version};
 use octets::ListOf;
 use operation::{Digest, Digested, Op, Taken};
 use shelf_ledger::{Extract, LedgerName};
-use shelved_exchange::{Put, Shelved, refusal_of_shelf};
 use site_hub::{HubFault, HubName, Keeper, Pass, Question, Shows, Told, store_digested};
 use std::alloc::Global;
 use std::marker::{Model, PhantomData};
@@ -46,7 +46,7 @@ pub struct HubHolder<
 impl<'a, 'b, H: HubName, T: Shows<H>, R: Wait + Drop, S: Wait, N: LedgerName, P, E: AtEntry> Model
     for HubHolder<'a, 'b, H, T, R, S, N, P, E> {
     ghost use Rattle.site_hub.specs.Hub.{Seat};
-    ghost use Rattle.shelved_exchange.specs.Putting.{WasWritten};
+    ghost use Rattle.hub_exchange.specs.Putting.{WasWritten};
     ghost use Rattle.hub_exchange.specs.Onward.{IsOnward};
 
     ghost Value = { Seat };

@@ -1,11 +1,19 @@
-//! Exchanges of a running site with a peer: a pass of its hub as the holder.
+//! Exchanges of a site with a peer, where what is taken is kept: of a site on its shelf, and of a
+//! running site, with a pass of its hub as the holder.
 //!
-//! What the holder has is what the pass has seen. An operation that is taken is put on a shelf
-//! first, then taken by the hub, which publishes it, then counts as given: so what a peer need not
-//! give again is kept, and is found by whoever looks from then on.
+//! An operation that is taken is put on the shelf first, then taken by the site, or by the hub, which
+//! publishes it, then counts as given: so what a peer need not give again is kept, and is found by
+//! whoever looks from then on. What the holder of a running site has is what its pass has seen. `Put`
+//! is a way to a shelf, which may stand in another thread.
 #![tactic(auto)]
 
 mod asking;
+mod exchanging;
 mod holder;
+mod putting;
+mod shelf_holder;
 
+pub use exchanging::{Behind, exchange_on};
 pub use holder::HubHolder;
+pub use putting::{Put, Shelved, put_all, put_shown, refusal_of_shelf, shown};
+pub use shelf_holder::{AtOpening, ShelvedHolder};

@@ -1,4 +1,4 @@
-use Rattle.shelved_exchange.proofs.PuttingLaws.{written_kept}
+use Rattle.hub_exchange.proofs.PuttingLaws.{written_kept}
 use Rattle.archive_server.specs.Serving.{IsKept, WasWritten}
 use Rattle.archive_server.proofs.CountLaws.{served_more}
 use Rattle.archive_server.proofs.serve.serve_all.Goals as goal

@@ -1,4 +1,4 @@
-use Rattle.shelved_exchange.specs.Putting.{WasWritten}
+use Rattle.hub_exchange.specs.Putting.{WasWritten}
 use Rattle.hub_exchange.proofs.HolderLaws.{pass_takes, pass_onward, refused_sees}
 use Rattle.hub_exchange.proofs.holder.publish.Goals as goal
 

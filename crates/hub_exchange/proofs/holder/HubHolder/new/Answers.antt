@@ -1,6 +1,6 @@
 use Rattle.std.proofs.Common.{sym, subst}
 use Rattle.site_hub.specs.Hub.{Seat}
-use Rattle.shelved_exchange.specs.Putting.{WasWritten}
+use Rattle.hub_exchange.specs.Putting.{WasWritten}
 use Rattle.hub_exchange.specs.Onward.{IsOnward}
 use Rattle.hub_exchange.proofs.OnwardLaws.{onward_self}
 use Rattle.hub_exchange.proofs.holder.HubHolder.new.Goals as goal

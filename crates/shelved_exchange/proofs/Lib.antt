@@ -1,2 +1,0 @@
-pub mod PuttingLaws
-pub mod Gains

@@ -1,6 +1,0 @@
-use Rattle.shelved_exchange.proofs.Gains.{begun}
-use Rattle.shelved_exchange.proofs.holder.ShelvedHolder.new.Goals as goal
-
--- The site and its shelf are what they were at their opening.
-pub invariant_of-result : goal.invariant_of-result
-invariant_of-result g c = begun g.K.Keep.is_up g.K.Keep.lasts _ _ _ _ c.requires.opening c.requires.lasted
