@@ -1,4 +1,4 @@
-use Rattle.server_tests.proofs.hubs.serve.Given as goal
+use Rattle.archive_tests.proofs.hubs.serve.Given as goal
 
 -- what the pass is when its association begins
 abbrev pub ghosts-associate : goal.ghosts-associate

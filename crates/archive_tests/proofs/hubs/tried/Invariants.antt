@@ -1,4 +1,4 @@
-use Rattle.server_tests.proofs.hubs.tried.Given as goal
+use Rattle.archive_tests.proofs.hubs.tried.Given as goal
 
 -- the hub that was just opened
 abbrev pub ghosts-run : goal.ghosts-run

@@ -1,7 +1,7 @@
 //! A log whose files rot, byte by byte.
 
 use crate::disks::Stops;
-use crate::log::made::{all, are_first, files_with, opened, ops};
+use crate::logs::made::{all, are_first, files_with, opened, ops};
 use assertions::{equal, holds_at};
 use op_log::LogFault;
 use operation::Digested;
