@@ -3,7 +3,7 @@
 ghost use Rattle.std.specs.Prelude.{IfOk, OnErr};
 ghost use Rattle.kept_log.specs.Moving.{AreMoved, HasSome};
 
-use crate::file::{OnStore, open_store};
+use crate::file::{OnStore, on_file};
 use crate::folder::is_absent;
 use crate::progress::Progress;
 use crate::refused::{Refused, about};
@@ -31,17 +31,21 @@ fn bring<F: Store, T: Store, H: Following>(
 
 /// A move whose first archive is open.
 #[derive(Drop)]
-struct Filling<'h, 'a> {
+struct Filling<'h, 'a, F: Store + Drop> {
     rt: &'h HostRuntime,
     moving: Moving<'a>,
+    from: F,
 }
 
-impl<'h, 'a> OnStore for Filling<'h, 'a> {
+impl<'h, 'a, F: Store + Drop> OnStore for Filling<'h, 'a, F> {
     type Told = Result<Moved, Refused<'a>>;
 
-    fn on<S: Store + Drop + Send>(self, mut from: S) -> Result<Moved, Refused<'a>> {
-        let Filling { rt, moving } = self;
-        let mut to = open_store(rt, moving.to)?;
+    fn on<S: Store + Drop + Send>(self, mut to: S) -> Result<Moved, Refused<'a>> {
+        let Filling {
+            rt,
+            moving,
+            mut from,
+        } = self;
         let progress = Progress::of(rt);
         progress.begins(moving.from);
         match bring(&mut from, &mut to, &progress) {
@@ -55,6 +59,22 @@ impl<'h, 'a> OnStore for Filling<'h, 'a> {
     }
 }
 
+/// A move of which neither archive is open.
+#[derive(Drop)]
+struct Starting<'h, 'a> {
+    rt: &'h HostRuntime,
+    moving: Moving<'a>,
+}
+
+impl<'h, 'a> OnStore for Starting<'h, 'a> {
+    type Told = Result<Moved, Refused<'a>>;
+
+    fn on<S: Store + Drop + Send>(self, from: S) -> Result<Moved, Refused<'a>> {
+        let Starting { rt, moving } = self;
+        on_file(rt, moving.to, Filling { rt, moving, from })?
+    }
+}
+
 /// Brings the operations of one archive into another, which is made where it is not there, and says
 /// how many there were and how many of them were new. The first is only read, and is refused where it
 /// is not there. Refusals come in this order: the first, the second; behind them that of a read or of
@@ -64,6 +84,6 @@ pub fn move_operations<'a>(rt: &HostRuntime, moving: Moving<'a>) -> Result<Vec<u
         let fault = CommandFault::Shelf(ShelfFault::Store(StoreCause::Other));
         return Err(Refused::file(moving.from, fault, FileCause::Absent));
     }
-    let moved = view_file(rt, moving.from, Filling { rt, moving })??;
+    let moved = view_file(rt, moving.from, Starting { rt, moving })??;
     about(moving.to, lines_of_move(rt.alloc(), moved))
 }
