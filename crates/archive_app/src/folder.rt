@@ -7,7 +7,7 @@ use crate::file::is_new;
 use crate::refused::Refused;
 use command_output::{CommandFault, FileCause, file_cause_of, names_folder};
 use kept_log::{ArchiveStore, of_log, shelf_fault};
-use op_log::{FolderFault, LogFault, open_folder};
+use op_log::{FolderFault, FolderLog, LogFault, open_folder};
 use op_shelf::{ShelfFault, StoreCause};
 use std::alloc::AllocError;
 use std::fs;
@@ -97,12 +97,14 @@ pub fn refusal_of<'a>(rt: &HostRuntime, folder: &'a str) -> Option<Refused<'a>> 
 
 /// Opens the log in a folder, of which nothing is supposed. The folder is made where it is not there;
 /// one that has something else in it is refused before anything is made.
-pub fn open_log<'a>(rt: &HostRuntime, folder: &'a str) -> Result<ArchiveStore, Refused<'a>> {
+pub fn log_in<'a>(rt: &HostRuntime, folder: &'a str) -> Result<FolderLog, Refused<'a>> {
     if let Some(refused) = refusal_of(rt, folder) {
         return Err(refused);
     }
-    match open_folder(rt, folder) {
-        Ok(log) => Ok(of_log(rt.alloc(), log)),
-        Err(fault) => Err(refused(folder, fault)),
-    }
+    open_folder(rt, folder).map_err(|fault| refused(folder, fault))
+}
+
+/// Opens that log as what an archive stands in.
+pub fn open_log<'a>(rt: &HostRuntime, folder: &'a str) -> Result<ArchiveStore, Refused<'a>> {
+    Ok(of_log(rt.alloc(), log_in(rt, folder)?))
 }

@@ -6,7 +6,8 @@ ghost use Rattle.command_words.specs.Words.{HasPlaces};
 ghost use Rattle.shelved_site.specs.Sites.{IsSiteOf};
 
 use crate::ending::ended_with_input;
-use crate::file::open_store;
+use crate::file::open_shelf;
+use crate::folder::{is_folder, log_in};
 use crate::listening::{Listening, exchanging_of, listen_first, listen_to, paging_at, say_where};
 use crate::progress::Progress;
 use crate::refused::{Refused, about};
@@ -16,11 +17,13 @@ use archive_server::{Entrance, Exchanging, Manner, Paging, Peer, ServeFault, Ser
 use association_run::OpenGate;
 use command_output::CommandFault;
 use command_words::Serving;
-use kept_log::Store;
+use kept_log::{KeptLog, Store};
 use log::Log;
 use octets::{ListOf, Octets};
+use op_shelf::Shelf;
 use shelved_site::hub_on;
 use site_hub::{CloseFault, HubFault, HubName, Keeper, Opened, Pass, Snapshot, close};
+use sqlite::Alter;
 use std::alloc::{AllocError, Global};
 use std::io::Print;
 use std::marker::Brand;
@@ -355,7 +358,82 @@ fn serve_store<
     Ok(about(serving.file, serve_site(host, rt, store, site, serving)))
 }
 
-/// What was served of the operations in a file or a folder.
+/// What was served of the operations on a shelf over any store.
+fn serve_on_shelf<
+    'a,
+    R: Net<Listener = TcpListener, Stream = TcpStream>
+        + Threads
+        + Wait
+        + Clock
+        + Print
+        + Log
+        + Sync,
+    S: Alter + Drop + Send,
+>(
+    host: &HostRuntime,
+    rt: &R,
+    serving: &Serving<'a>,
+    shelf: &mut Shelf<S>,
+    listening: Option<Listening>,
+) -> Printed<Result<Count, Refused<'a>>>
+    requires places { HasPlaces serving.now }
+{
+    serve_store(host, rt, serving, shelf, listening)
+}
+
+/// What was served of those in a file.
+fn serve_shelf<
+    'a,
+    R: Net<Listener = TcpListener, Stream = TcpStream>
+        + Threads
+        + Wait
+        + Clock
+        + Print
+        + Log
+        + Sync,
+>(
+    host: &HostRuntime,
+    rt: &R,
+    serving: &Serving<'a>,
+    listening: Option<Listening>,
+) -> Printed<Result<Count, Refused<'a>>>
+    requires places { HasPlaces serving.now }
+{
+    match open_shelf(host, serving.file) {
+        Ok(mut shelf) => serve_on_shelf(host, rt, serving, &mut shelf, listening),
+        Err(fault) => Ok(Err(fault)),
+    }
+}
+
+/// What was served of those in a folder.
+fn serve_log<
+    'a,
+    R: Net<Listener = TcpListener, Stream = TcpStream>
+        + Threads
+        + Wait
+        + Clock
+        + Print
+        + Log
+        + Sync,
+>(
+    host: &HostRuntime,
+    rt: &R,
+    serving: &Serving<'a>,
+    listening: Option<Listening>,
+) -> Printed<Result<Count, Refused<'a>>>
+    requires places { HasPlaces serving.now }
+{
+    match log_in(host, serving.file) {
+        Ok(log) => {
+            let mut kept = KeptLog::of(host.alloc(), log);
+            serve_store(host, rt, serving, &mut kept, listening)
+        }
+        Err(fault) => Ok(Err(fault)),
+    }
+}
+
+/// What was served of the operations in a file or a folder. Each kind of store is named by a
+/// function of its own: the type that is either is larger than the prover compares in one.
 fn serve_file<
     'a,
     R: Net<Listener = TcpListener, Stream = TcpStream>
@@ -372,10 +450,10 @@ fn serve_file<
         Ok(listening) => listening,
         Err(fault) => return Ok(Err(fault)),
     };
-    match open_store(host, serving.file) {
-        Ok(mut store) => serve_store(host, rt, serving, &mut store, listening),
-        Err(fault) => Ok(Err(fault)),
+    if is_folder(host, serving.file) {
+        return serve_log(host, rt, serving, listening);
     }
+    serve_shelf(host, rt, serving, listening)
 }
 
 /// How serving ended: what its first fault is about.
