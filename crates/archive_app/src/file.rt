@@ -176,8 +176,8 @@ pub fn open_shelf<'a>(rt: &HostRuntime, file: &'a str) -> Result<FileShelf, Refu
     shelf_in(rt, file, Wary)
 }
 
-/// Opens the operations in a file or a folder. What is not there is made: as a folder where its name
-/// ends with a slash, and else as a file.
+/// Opens the operations in a file or a folder. What is not there is made: as a folder where its
+/// name ends with a slash, and else as a file.
 fn open_store<'a>(rt: &HostRuntime, file: &'a str) -> Result<ArchiveStore, Refused<'a>> {
     if is_folder(rt, file) {
         return open_log(rt, file);

@@ -27,7 +27,7 @@ pub fn is_folder(rt: &HostRuntime, file: &str) -> bool
 }
 
 /// The path of a file in a folder.
-pub fn within(rt: &HostRuntime, folder: &str, name: &str) -> Result<String, AllocError> {
+fn within(rt: &HostRuntime, folder: &str, name: &str) -> Result<String, AllocError> {
     format!(in rt.alloc(); "{folder}/{name}")
 }
 
@@ -52,8 +52,8 @@ fn is_other_folder(rt: &HostRuntime, folder: &str) -> bool {
     !has_heads(rt, folder) && is_filled(rt, folder)
 }
 
-/// Whether an archive is not there, so that opening it makes it: a file that is not there, or a folder
-/// that is not or has nothing in it.
+/// Whether an archive is not there, so that opening it makes it: a file that is not there, or a
+/// folder that is not or has nothing in it.
 pub fn is_absent(rt: &HostRuntime, file: &str) -> bool {
     if is_folder(rt, file) {
         return !has_heads(rt, file) && !is_filled(rt, file);
@@ -68,7 +68,7 @@ fn refused_for<'a>(folder: &'a str, cause: FileCause) -> Refused<'a> {
 }
 
 /// The fault of a log that is not opened.
-pub fn refused_log<'a>(folder: &'a str, fault: LogFault) -> Refused<'a> {
+fn refused_log<'a>(folder: &'a str, fault: LogFault) -> Refused<'a> {
     let told = CommandFault::Shelf(shelf_fault(fault));
     match fault {
         LogFault::DamagedHeads(_) => Refused::file(folder, told, FileCause::Damaged),
@@ -88,15 +88,15 @@ fn refused<'a>(folder: &'a str, fault: FolderFault) -> Refused<'a> {
 }
 
 /// Why a folder may not be a log's, where that is so.
-pub fn refusal_of<'a>(rt: &HostRuntime, folder: &'a str) -> Option<Refused<'a>> {
+fn refusal_of<'a>(rt: &HostRuntime, folder: &'a str) -> Option<Refused<'a>> {
     if is_other_folder(rt, folder) {
         return Some(refused_for(folder, FileCause::Folder));
     }
     None
 }
 
-/// Opens the log in a folder, of which nothing is supposed. The folder is made where it is not there;
-/// one that has something else in it is refused before anything is made.
+/// Opens the log in a folder, of which nothing is supposed. The folder is made where it is not
+/// there; one that has something else in it is refused before anything is made.
 pub fn log_in<'a>(rt: &HostRuntime, folder: &'a str) -> Result<FolderLog, Refused<'a>> {
     if let Some(refused) = refusal_of(rt, folder) {
         return Err(refused);

@@ -1,4 +1,5 @@
-//! `archive serve`: serves the operations in a file or a folder to DICOM clients (PS3.8, section 9.1).
+//! `archive serve`: serves the operations in a file or a folder to DICOM clients (PS3.8, section
+//! 9.1).
 
 ghost use Rattle.std.specs.Prelude.{◌≡◌, ◌≤◌, ◌<◌, ◌+◌, not, ◌==◌, vec_len, IfOk};
 ghost use Rattle.archive_server.specs.Serving.{places_for, serving_in, paging_in};
@@ -466,8 +467,9 @@ fn ended_of<'a>(serving: &Serving<'a>, ended: Result<(), CommandFault>) -> Resul
     about(what, ended)
 }
 
-/// Serves the operations in a file or a folder, until each worker has accepted what it may and each exchange
-/// was served, or until standard input ends where that is asked for. Meanwhile it calls its peers.
+/// Serves the operations in a file or a folder, until each worker has accepted what it may and each
+/// exchange was served, or until standard input ends where that is asked for. Meanwhile it calls its
+/// peers.
 ///
 /// It prints where it listens once it does, and at the end how many associations were accepted.
 /// Refusals come in this order: the store, the site, the hub, the listeners; behind them the first

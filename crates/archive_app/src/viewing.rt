@@ -133,9 +133,9 @@ fn has_both(rt: &HostRuntime, file: &str) -> bool {
     !is_new(rt, log.as_str()) && is_open_to(rt, log.as_str()) && is_open_to(rt, file)
 }
 
-/// Does a command's work on the operations in a file or a folder, of which nothing is changed. Where
-/// opening a file would make another, or there is no right to write it, the work is done on a copy in
-/// memory. A folder is opened as it stands.
+/// Does a command's work on the operations in a file or a folder, of which nothing is changed.
+/// Where opening a file would make another, or there is no right to write it, the work is done on a
+/// copy in memory. A folder is opened as it stands.
 pub fn view_file<'a, W: OnStore + Drop>(
     rt: &HostRuntime,
     file: &'a str,
