@@ -33,6 +33,7 @@ pub(crate) fn stage<D: Disk>(disk: &mut D, end: usize, text: &[u8]) -> io::Resul
     // Whatever is answered, the gate is shut, and every crash leaves what was there.
     ensures kept { (groups : List (List ℕ)) → IsReady D.Disk disk.old end groups
         → IsReady D.Disk disk.new end groups }
+    ensures counted { CountsFault result (D.Disk.faults disk.old) (D.Disk.faults disk.new) }
 {
     disk.write_at(end + 1, text)?;
     disk.sync()
@@ -50,6 +51,7 @@ pub(crate) fn open<D: Disk>(disk: &mut D, end: usize, group: &[u8]) -> io::Resul
     ensures clean { IsTrue (D.Disk.is_clean disk.new) → IsTrue (D.Disk.is_clean disk.old) }
     ensures crash { (groups : List (List ℕ)) → IsReady D.Disk disk.old end groups
         → LeavesEither D.Disk disk.new groups group.now }
+    ensures counted { CountsFault result (D.Disk.faults disk.old) (D.Disk.faults disk.new) }
 {
     disk.write_at(end, &[1])?;
     disk.sync()

@@ -159,6 +159,8 @@ impl<D: Disk> HeadLog<D> {
         ensures closed { IsErrOf result HeadFault.Closed ↔ (is_up D.Disk self.old ≡ false) }
         ensures too_long { IsErrOf result HeadFault.TooLong ↔ (IsTrue (is_up D.Disk self.old)
             × ((2 ^ 40 ≤ length group.now) ⊎ (2 ^ 60 < end_of self.old))) }
+        ensures disk { CountsDisk result
+            (D.Disk.faults (disk_of self.old)) (D.Disk.faults (disk_of self.new)) }
         ensures clean { IsTrue (D.Disk.is_clean (disk_of self.new))
             → IsTrue (D.Disk.is_clean (disk_of self.old)) }
     {
