@@ -10,6 +10,7 @@ ghost use Rattle.association_run.specs.Port.{Stores, Finds, Gets};
 
 use crate::at_entry::AtEntry;
 use crate::looker::Looker;
+use crate::shared_keeper::SharedKeeper;
 use archive_model::View;
 use association_run::Port;
 use association_session::PortFault;
@@ -24,10 +25,10 @@ use std::sync::{Mutex, Wait};
 /// A pass with the keeper that all passes share, as the port of one association. Its set is that of
 /// the history that the pass has seen, and its list is the pass's own.
 ///
-/// What it is asked goes to its `Looker`, which waits for nobody; a store waits for the keeper.
+/// What it is asked goes to its `Looker`, which waits for nobody; a store waits for the keeper, whose
+/// lock nothing else here can take.
 pub struct HubPort<'a, H: HubName, T: Shows<H>, R: Wait + Drop, S: Wait, E: AtEntry> {
-    rt: &'a S,
-    keeper: &'a Mutex<Keeper<H, T, R>>,
+    shared: SharedKeeper<'a, H, T, R, S>,
     looker: Looker<H, E>,
 }
 
@@ -51,8 +52,7 @@ impl<'a, H: HubName, T: Shows<H>, R: Wait + Drop, S: Wait, E: AtEntry> HubPort<'
         ensures { result ≡ pass }
     {
         HubPort {
-            rt,
-            keeper,
+            shared: SharedKeeper::new(rt, keeper),
             looker: Looker::new(pass),
         }
     }
@@ -69,11 +69,7 @@ impl<'a, H: HubName, T: Shows<H>, R: Wait + Drop, S: Wait, E: AtEntry> HubPort<'
         ensures same { result ≡ self.entry }
         ensures onward { IsLater E.seat result }
     {
-        let HubPort {
-            rt: _,
-            keeper: _,
-            looker,
-        } = self;
+        let HubPort { shared: _, looker } = self;
         looker.into_pass()
     }
 
@@ -87,7 +83,7 @@ impl<'a, H: HubName, T: Shows<H>, R: Wait + Drop, S: Wait, E: AtEntry> HubPort<'
         ensures busy { result ≡ Err PortFault.Busy → Rose self.old.refused self.new.refused }
         ensures later { IsLater self.old self.new }
     {
-        self.looker.take(self.rt, self.keeper, op)
+        self.shared.take(&mut self.looker, op)
     }
 
     /// The rows that the pass finds, in one look.

@@ -8,6 +8,7 @@
 mod at_entry;
 mod hub_port;
 mod looker;
+mod shared_keeper;
 mod site_port;
 
 pub use at_entry::AtEntry;
