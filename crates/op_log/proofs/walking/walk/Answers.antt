@@ -27,6 +27,7 @@ returns-in_err-group-clause-damaged g c n told clean them all =
     c.in_err-group.ensures.damaged (ap Err (it ∙ ap Damaged place.0)) clean (group_text next.heads) (omega (arith, next.within, looks.same))
     (subst (λ (f : List ℕ). IsGroupAt f c.groups.at (group_text next.heads)) (sym looks.disk.seen) next.here)
 
+-- What was read of it is that group, whose heads fit: so none is found that does not.
 pub returns-in_err-fill-clause-damaged : goal.returns-in_err-fill-clause-damaged
 returns-in_err-fill-clause-damaged g c n told clean them all =
     let file = g.H.Disk.seen (disk_of c.args.heads.now) in
