@@ -47,7 +47,7 @@ pub fn answer<
     match asked {
         Asked::Simulate => Ok(printed(rt.alloc(), about("", answer_script(rt)))),
         Asked::Report(reporting) => Ok(report(rt, reporting)),
-        Asked::Correct(correcting) => Ok(correct(rt, host, correcting)),
+        Asked::Correct(correcting) => Ok(correct(rt, correcting)),
         Asked::Exchange(exchanging) => Ok(exchange(rt, host, exchanging)),
         Asked::Move(moving) => Ok(move_operations(rt, moving)),
         Asked::Serve(serving) => Ok(printed(rt.alloc(), serve(rt, host, &serving)?)),

@@ -1,8 +1,5 @@
 //! `archive correct`: corrects an attribute in a file or a folder.
 
-ghost use Rattle.std.specs.Prelude.{◌≤◌};
-ghost use Rattle.command_words.specs.Words.{HasSite};
-
 use crate::file::{OnStore, on_file};
 use crate::folder::is_absent;
 use crate::refused::{Refused, about, note};
@@ -11,32 +8,17 @@ use command_words::{Change, Correcting, Part, bad_part, unmatched};
 use kept_log::Store;
 use key_matching::Matching;
 use operation::Target;
-use shelved_site::{Corrected, correct_on, next_correction};
-use site_hub::HubFault;
+use shelved_site::{Corrected, correct_on};
+use site_hub::{HubFault, next_correction};
 use site_state::Site;
 use std::alloc::Global;
 use std::rt::HostRuntime;
-use std::sync::Wait;
 
 /// Refuses what no site of this number may correct.
-fn refuse_first(
-    alloc: Global,
-    wait: &impl Wait,
-    site: u16,
-    change: &Change,
-) -> Result<(), CommandFault>
-    requires site { 1 ≤ site }
-{
+fn refuse_first(alloc: Global, site: u16, change: &Change) -> Result<(), CommandFault> {
     let (target, value) = (change.target.copy(alloc)?, change.value.copy(alloc)?);
-    let _made = next_correction(
-        alloc,
-        wait,
-        Site::new(alloc),
-        site,
-        target,
-        change.tag,
-        value,
-    )?;
+    let none = Site::new(alloc);
+    let _made = next_correction(&none, site, target, change.tag, value)?;
     Ok(())
 }
 
@@ -60,26 +42,23 @@ fn note_of_target(target: &Target) -> Note {
 
 /// A correction that a site makes.
 #[derive(Drop)]
-struct Making<'a, W: Wait> {
+struct Making {
     alloc: Global,
-    wait: &'a W,
     site: u16,
     change: Change,
-    ghost numbered: { 1 ≤ site },
 }
 
-impl<W: Wait> OnStore for Making<'_, W> {
+impl OnStore for Making {
     type Told = Result<Corrected, CommandFault>;
 
     fn on<S: Store + Drop + Send>(self, mut store: S) -> Result<Corrected, CommandFault> {
         let Making {
             alloc,
-            wait,
             site,
             change,
         } = self;
         let Change { target, tag, value } = change;
-        let made = correct_on(alloc, wait, &mut store, site, target, tag, value)?;
+        let made = correct_on(alloc, &mut store, site, target, tag, value)?;
         Ok(made)
     }
 }
@@ -88,19 +67,15 @@ impl<W: Wait> OnStore for Making<'_, W> {
 /// before one is made.
 fn made<'a>(
     rt: &HostRuntime,
-    wait: &impl Wait,
     file: &'a str,
     site: u16,
     change: Change,
-) -> Result<Corrected, Refused<'a>>
-    requires site { 1 ≤ site }
-{
+) -> Result<Corrected, Refused<'a>> {
     if is_absent(rt, file) {
-        about(file, refuse_first(rt.alloc(), wait, site, &change))?;
+        about(file, refuse_first(rt.alloc(), site, &change))?;
     }
     let making = Making {
         alloc: rt.alloc(),
-        wait,
         site,
         change,
     };
@@ -120,17 +95,11 @@ fn with_part<'a>(refused: Refused<'a>, bad: Option<Part>) -> Refused<'a> {
 
 /// Makes a correction, and says its stamp once the file has it. It warns of a value that no query
 /// matches, and of a target of which the site has nothing.
-pub fn correct<'a>(
-    rt: &HostRuntime,
-    wait: &impl Wait,
-    correcting: Correcting<'a>,
-) -> Result<Vec<u8>, Refused<'a>>
-    requires site { HasSite correcting }
-{
+pub fn correct<'a>(rt: &HostRuntime, correcting: Correcting<'a>) -> Result<Vec<u8>, Refused<'a>> {
     let Correcting { file, site, change } = correcting;
     let (of_value, of_target) = (note_of_value(&change), note_of_target(&change.target));
     let bad = about(file, bad_part(rt.alloc(), &change))?;
-    let made = match made(rt, wait, file, site, change) {
+    let made = match made(rt, file, site, change) {
         Ok(made) => made,
         Err(refused) => return Err(with_part(refused, bad)),
     };

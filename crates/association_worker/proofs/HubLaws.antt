@@ -1,8 +1,7 @@
 -- What a pass of a running site is as a port.
-use Rattle.std.proofs.Common.{◌≡◌, ◌⊎◌, ◌++◌, ◌∷◌, [], ℕ, List, Result, Ok, Err, MatchResult, IfOk, IfErr, OnOk, OnErr}
+use Rattle.std.proofs.Common.{◌≡◌, ◌⊎◌, ◌++◌, ◌∷◌, [], ℕ, List, Result, Ok, Err, MatchResult, IfOk, IfErr, OnErr}
 use Rattle.std.proofs.Common.{inl, inr, refl, sym, ap, subst, ◌∙◌}
 use mathlib.Core.List.{IsPrefix}
-use Rattle.octets.specs.Members.{Has}
 use Rattle.data_set.specs.Set.{Set}
 use Rattle.operation.specs.declared.op.Op.{Op}
 use Rattle.operation.specs.Spelling.{digest_of}
@@ -21,6 +20,7 @@ use Rattle.site_hub.specs.Fault.{IsLookFault}
 use Rattle.site_hub.specs.History.{set_of, entry_of, IsHistory}
 use Rattle.site_hub.specs.Hub.{Seat, News, WasHeld, IsTaken, IsClashed, IsLater, HasKept, HasLooked}
 use Rattle.site_hub.specs.Refused.{TellsFault, Tells}
+use Rattle.site_hub.specs.Taking.{Takes as PassTakes, Refuses}
 use Rattle.site_hub.proofs.Histories.{set_of_more, stays, history_is_site}
 use Rattle.association_services.specs.declared.call.Finding.{Finding}
 use Rattle.association_services.specs.declared.call.Getting.{Getting}
@@ -84,32 +84,28 @@ comes_so opening before op hub.BadCorrection clash = tt
 pub pass_stores : (opening : Map) (before later : Seat) (op : Op) (told : Result News HubFault)
     (reply : Result Taken PortFault) → reply ≡ reply_to told
     → IsHistory opening later.seen → IsLater before later
-    → IfOk told (λ (t : News). IsTaken opening before op t.taken later)
-    → OnOk told (later.mine ≡ before.mine ++ digest_of op ∷ [])
-    → IfErr told (λ e. e ≡ hub.Pending
-    → (later.mine ≡ before.mine ++ digest_of op ∷ []) × (later.seen ≡ before.seen))
-    → (told ≡ Err hub.Collision → IsClashed opening before op)
-    → IfErr told (λ e. (e ≡ hub.Pending) ⊎ HasKept before later)
+    → IfOk told (λ (t : News). PassTakes opening before op t later) → IfErr told (Refuses opening before op later)
     → port.Stores (λ (s : Seat). ops_of (set_of opening s.seen)) (λ (s : Seat). s.mine) before op reply later
-pass_stores opening before later op (Ok told) reply is history onward taken mine pending clash kept =
+pass_stores opening before later op (Ok told) reply is history onward takes refuses =
+    let taken = takes.taken in
     subst (λ (r : Result Taken PortFault). port.Stores (λ (s : Seat). ops_of (set_of opening s.seen))
     (λ (s : Seat). s.mine) before op r later) (sym is) (record {
       kept = held_on opening before.seen later.seen history onward.seen;
       replied = (
         holds_now (set_of opening taken.turn) (set_of opening later.seen) op told.taken
             (at_turn opening before later op told.taken taken),
-        mine,
+        takes.mine,
       );
       turn = taken_at_turn (set_of opening before.seen) (set_of opening taken.turn) (set_of opening later.seen)
           op told.taken (held_on opening before.seen taken.turn taken.comes.history taken.comes.seen)
           (history_is_site opening taken.turn taken.comes.history) (at_turn opening before later op told.taken taken);
     })
-pass_stores opening before later op (Err fault) reply is history onward taken mine pending clash kept =
+pass_stores opening before later op (Err fault) reply is history onward takes refuses =
     subst (λ (r : Result Taken PortFault). port.Stores (λ (s : Seat). ops_of (set_of opening s.seen))
     (λ (s : Seat). s.mine) before op r later) (sym is) (record {
       kept = held_on opening before.seen later.seen history onward.seen;
-      replied = leaves_so before later op fault pending kept;
-      turn = comes_so opening before op fault (λ same. clash (ap (λ (f : HubFault). Err f) same));
+      replied = leaves_so before later op fault refuses.pending refuses.kept;
+      turn = comes_so opening before op fault refuses.collision;
     })
 
 not_seen : (before later : Seat) (digest : List ℕ) (fault : HubFault)
@@ -119,15 +115,14 @@ not_seen before later digest fault pending (inl is) = (pending is).1
 not_seen before later digest fault pending (inr same) = same.seen
 
 -- What is refused to a pass it has not seen.
-pub refused_unseen : (before later : Seat) (digest : List ℕ) (told : Result News HubFault)
-    (reply : Result Taken PortFault) → reply ≡ reply_to told
-    → IfErr told (λ e. e ≡ hub.Pending → (later.mine ≡ before.mine ++ digest ∷ []) × (later.seen ≡ before.seen))
-    → IfErr told (λ e. (e ≡ hub.Pending) ⊎ HasKept before later) → OnErr reply (later.seen ≡ before.seen)
-refused_unseen before later digest (Ok news) reply is pending kept =
+pub refused_unseen : (opening : Map) (before later : Seat) (op : Op) (told : Result News HubFault)
+    (reply : Result Taken PortFault) → reply ≡ reply_to told → IfErr told (Refuses opening before op later)
+    → OnErr reply (later.seen ≡ before.seen)
+refused_unseen opening before later op (Ok news) reply is refuses =
     subst (λ (r : Result Taken PortFault). OnErr r (later.seen ≡ before.seen)) (sym is) tt
-refused_unseen before later digest (Err fault) reply is pending kept =
+refused_unseen opening before later op (Err fault) reply is refuses =
     subst (λ (r : Result Taken PortFault). OnErr r (later.seen ≡ before.seen)) (sym is)
-    (not_seen before later digest fault pending kept)
+    (not_seen before later (digest_of op) fault refuses.pending refuses.kept)
 
 -- A port is busy only where something was refused to its pass:
 busy_fault : (old new : ℕ) (fault : HubFault) → TellsFault old new fault → fault_of_hub fault ≡ Busy → Rose old new

@@ -1,6 +1,6 @@
 -- What a pass of a running site is as a holder.
-use Rattle.std.proofs.Common.{◌≡◌, ◌⊎◌, inl, inr, ◌++◌, ◌∷◌, [], ℕ, List, Option, Some, None, Result, Ok, Err}
-use Rattle.std.proofs.Common.{IfOk, IfErr, OnOk, OnErr, refl, sym, ap, subst, ◌∙◌}
+use Rattle.std.proofs.Common.{◌≡◌, inl, inr, ℕ, List, Option, Some, None, Result, Ok, Err}
+use Rattle.std.proofs.Common.{IfOk, IfErr, OnErr, refl, sym, ap, subst, ◌∙◌}
 use mathlib.Core.List.{IsPrefix}
 use Rattle.operation.specs.declared.op.Op.{Op}
 use Rattle.operation.specs.Spelling.{digest_of}
@@ -11,7 +11,8 @@ use Rattle.site_hub.specs.declared.entry.Entry.{Entry}
 use Rattle.site_hub.specs.declared.fault.HubFault.{HubFault}
 use Rattle.site_hub.specs.declared.fault.HubFault.TheVariants as hub
 use Rattle.site_hub.specs.History.{set_of, entry_of, IsHistory}
-use Rattle.site_hub.specs.Hub.{Seat, News, IsTaken, IsLater, HasLooked, HasKept}
+use Rattle.site_hub.specs.Hub.{Seat, News, IsTaken, IsLater, HasLooked}
+use Rattle.site_hub.specs.Taking.{Takes, Refuses}
 use Rattle.site_hub.proofs.Histories.{set_of_more, stays, history_is_site}
 use Rattle.exchange.specs.declared.fault.HolderFault.{HolderFault}
 use Rattle.exchange.specs.Held.{Looks, TakesIn}
@@ -67,17 +68,17 @@ held_then opening before later op taken t =
 -- What the keeper takes for a pass the holder takes.
 pub pass_takes : (opening : Map) (before later : Seat) (op : Op) (told : Result News HubFault)
     (reply : Result Taken HolderFault) → reply ≡ reply_to told → IsHistory opening later.seen → IsLater before later
-    → IfOk told (λ (t : News). IsTaken opening before op t.taken later)
+    → IfOk told (λ (t : News). Takes opening before op t later)
     → TakesIn (λ (s : Seat). set_of opening s.seen) (λ _. ⊥) before op reply later
-pass_takes opening before later op (Ok told) reply is history onward taken =
+pass_takes opening before later op (Ok told) reply is history onward takes =
     subst (λ (r : Result Taken HolderFault). TakesIn (λ (s : Seat). set_of opening s.seen) (λ _. ⊥) before op r later)
     (sym is) (record {
       grown = stays opening before.seen later.seen history onward.seen;
-      held = held_then opening before later op told.taken taken;
-      new = new_to opening before later op told.taken taken;
+      held = held_then opening before later op told.taken takes.taken;
+      new = new_to opening before later op told.taken takes.taken;
       stays = λ none. elim none [ ];
     })
-pass_takes opening before later op (Err fault) reply is history onward taken =
+pass_takes opening before later op (Err fault) reply is history onward takes =
     subst (λ (r : Result Taken HolderFault). TakesIn (λ (s : Seat). set_of opening s.seen) (λ _. ⊥) before op r later)
     (sym is) (record {
       grown = stays opening before.seen later.seen history onward.seen;
@@ -87,46 +88,37 @@ pass_takes opening before later op (Err fault) reply is history onward taken =
     })
 
 -- Where a take is told as refused, what the pass has seen stays.
-pub refused_sees : (before later : Seat) (op : Op) (told : Result News HubFault)
-    (reply : Result Taken HolderFault) → reply ≡ reply_to told
-    → IfErr told (λ e. e ≡ hub.Pending
-    → (later.mine ≡ before.mine ++ digest_of op ∷ []) × (later.seen ≡ before.seen))
-    → IfErr told (λ e. (e ≡ hub.Pending) ⊎ HasKept before later)
+pub refused_sees : (opening : Map) (before later : Seat) (op : Op) (told : Result News HubFault)
+    (reply : Result Taken HolderFault) → reply ≡ reply_to told → IfErr told (Refuses opening before op later)
     → OnErr reply (later.seen ≡ before.seen)
-refused_sees before later op (Ok told) reply is pending kept =
+refused_sees opening before later op (Ok told) reply is refuses =
     subst (λ (r : Result Taken HolderFault). OnErr r (later.seen ≡ before.seen)) (sym is) tt
-refused_sees before later op (Err fault) reply is pending kept =
+refused_sees opening before later op (Err fault) reply is refuses =
     subst (λ (r : Result Taken HolderFault). OnErr r (later.seen ≡ before.seen)) (sym is)
-    (elim kept as (λ _. later.seen ≡ before.seen) [
-      | inl pends ↦ (pending pends).1
+    (elim refuses.kept as (λ _. later.seen ≡ before.seen) [
+      | inl pends ↦ (refuses.pending pends).1
       | inr same ↦ same.seen
     ])
 
-own_so : (these : List ℕ → Type 0) (before later : Seat) (op : Op) (told : Result News HubFault)
-    → these (digest_of op) → OnOk told (later.mine ≡ before.mine ++ digest_of op ∷ [])
-    → IfErr told (λ e. e ≡ hub.Pending
-    → (later.mine ≡ before.mine ++ digest_of op ∷ []) × (later.seen ≡ before.seen))
-    → IfErr told (λ e. (e ≡ hub.Pending) ⊎ HasKept before later)
-    → AddsOnly these before.mine later.mine
-own_so these before later op (Ok told) is mine pending kept =
-    adds_one these before.mine later.mine (digest_of op) is mine
-own_so these before later op (Err fault) is mine pending kept =
-    elim kept as (λ _. AddsOnly these before.mine later.mine) [
-      | inl pends ↦ adds_one these before.mine later.mine (digest_of op) is (pending pends).0
+own_so : (opening : Map) (these : List ℕ → Type 0) (before later : Seat) (op : Op) (told : Result News HubFault)
+    → these (digest_of op) → IfOk told (λ (t : News). Takes opening before op t later)
+    → IfErr told (Refuses opening before op later) → AddsOnly these before.mine later.mine
+own_so opening these before later op (Ok told) is takes refuses =
+    adds_one these before.mine later.mine (digest_of op) is takes.mine
+own_so opening these before later op (Err fault) is takes refuses =
+    elim refuses.kept as (λ _. AddsOnly these before.mine later.mine) [
+      | inl pends ↦ adds_one these before.mine later.mine (digest_of op) is (refuses.pending pends).0
       | inr same ↦ adds_none these before.mine later.mine same.mine
     ]
 
 -- What became the pass's own is one of these.
-pub pass_onward : (these : List ℕ → Type 0) (before later : Seat) (op : Op) (told : Result News HubFault)
-    (digest : List ℕ) → these digest → digest ≡ digest_of op
-    → IsLater before later → OnOk told (later.mine ≡ before.mine ++ digest_of op ∷ [])
-    → IfErr told (λ e. e ≡ hub.Pending
-    → (later.mine ≡ before.mine ++ digest_of op ∷ []) × (later.seen ≡ before.seen))
-    → IfErr told (λ e. (e ≡ hub.Pending) ⊎ HasKept before later)
+pub pass_onward : (opening : Map) (these : List ℕ → Type 0) (before later : Seat) (op : Op)
+    (told : Result News HubFault) (digest : List ℕ) → these digest → digest ≡ digest_of op → IsLater before later
+    → IfOk told (λ (t : News). Takes opening before op t later) → IfErr told (Refuses opening before op later)
     → IsOnward these before later
-pass_onward these before later op told digest is named onward mine pending kept = record {
+pass_onward opening these before later op told digest is named onward takes refuses = record {
   later = onward;
-  own = own_so these before later op told (subst these named is) mine pending kept;
+  own = own_so opening these before later op told (subst these named is) takes refuses;
 }
 
 -- Where the shelf refused, the pass stays.

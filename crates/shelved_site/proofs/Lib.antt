@@ -2,4 +2,3 @@ pub mod Hashed
 pub mod KnownLaws
 pub mod Sites
 pub mod Takings
-pub mod Unmade

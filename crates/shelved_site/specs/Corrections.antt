@@ -6,11 +6,9 @@ use Rattle.operation.specs.declared.op.Op.TheVariants.{Content as a_content, Cor
 use Rattle.operation.specs.declared.target.Target.{Target}
 use Rattle.operation.specs.Parts.{CorrectionParts}
 use Rattle.archive_model.specs.Attributes.{is_target_of}
-use Rattle.site_state.specs.Site.{Map, ops_of, top_counter_of, IsClash}
+use Rattle.site_state.specs.Site.{ops_of, top_counter_of}
 use Rattle.site_state.specs.Laws.{after_taking}
 use Rattle.site_hub.specs.Stamps.{next_correction, LAST_COUNTER}
-use Rattle.site_hub.specs.declared.fault.HubFault.{HubFault}
-use Rattle.site_hub.specs.declared.fault.HubFault.TheVariants as of_hub
 use Rattle.shelved_site.specs.declared.correcting.Corrected.{Corrected}
 use Rattle.shelved_site.specs.declared.fault.ShelvedFault.{ShelvedFault}
 use Rattle.shelved_site.specs.declared.fault.ShelvedFault.TheVariants.{Shelf, Site, Hub}
@@ -42,22 +40,10 @@ pub record IsSpent (lists : List Op → Type 0) : Type 0 where
   pub listed : lists ops
   pub spent : top_counter_of (ops_of (after_taking ops)) ≡ LAST_COUNTER
 
--- A hub made no correction over a set: for want of memory, or since there is none that comes next, or another operation
--- has its digest.
-abbrev pub IsUnmade : ℕ → Map → Target → ℕ → List ℕ → HubFault → Type 0
-IsUnmade number m target tag value of_hub.Busy = ⊤
-IsUnmade number m target tag value of_hub.Collision = (made : CorrectionParts)
-    × (next_correction number m target tag value ≡ Ok made) × IsClash m (a_correction made)
-IsUnmade number m target tag value of_hub.Memory = ⊤
-IsUnmade number m target tag value of_hub.StampsSpent = next_correction number m target tag value ≡ Err of_hub.StampsSpent
-IsUnmade number m target tag value of_hub.Torn = ⊥
-IsUnmade number m target tag value of_hub.Pending = ⊤
-IsUnmade number m target tag value of_hub.BadCorrection =
-    next_correction number m target tag value ≡ Err of_hub.BadCorrection
-
--- No correction was made in a store: it refused, or its site did, or the hub made none over the operations of the store.
+-- No correction was made in a store: it refused, or its site did, or over its operations none comes next, for this
+-- reason.
 abbrev pub IsUncorrected : (List Op → Type 0) → ℕ → Target → ℕ → List ℕ → ShelvedFault → Type 0
 IsUncorrected lists number target tag value (Shelf _) = ⊤
 IsUncorrected lists number target tag value (Site _) = ⊤
 IsUncorrected lists number target tag value (Hub fault) =
-    (ops : List Op) × lists ops × IsUnmade number (after_taking ops) target tag value fault
+    (ops : List Op) × lists ops × (next_correction number (after_taking ops) target tag value ≡ Err fault)

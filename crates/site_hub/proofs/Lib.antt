@@ -3,3 +3,4 @@ pub mod Fronts
 pub mod Histories
 pub mod Laters
 pub mod Stamping
+pub mod Takings

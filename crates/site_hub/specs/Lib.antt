@@ -3,6 +3,7 @@ pub mod Refused
 pub mod History
 pub mod Hub
 pub mod Stamps
+pub mod Taking
 pub mod Laws
 pub mod Rules
 pub mod Close

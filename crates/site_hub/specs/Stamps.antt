@@ -50,13 +50,15 @@ pub record IsNext (number : ℕ) (opening : Map) (before : Seat) (target : Targe
   pub comes : IsTurn opening before.seen turn
   pub next : next_correction number (set_of opening turn) target tag value ≡ outcome
 
--- A correction was made for a pass: it came next at its turn, and its entry comes next.
+-- A correction was made for a pass: it came next at its turn, its entry comes next, and its counter is greater than each
+-- that the pass had seen.
 pub record IsMade (number : ℕ) (opening : Map) (before : Seat) (target : Target) (tag : ℕ) (value : List ℕ)
     (made : CorrectionParts) (later : Seat) : Type 0 where
   pub turn : List Entry
   pub comes : IsTurn opening before.seen turn
   pub next : next_correction number (set_of opening turn) target tag value ≡ Ok made
   pub seen : later.seen ≡ turn ++ entry_of before.number (a_correction made) ∷ []
+  pub counter : HasLesser (set_of opening before.seen) made.stamp.counter
 
 -- A correction was not made for a pass: at its turn another operation of its digest was held.
 pub record IsBarred (number : ℕ) (opening : Map) (before : Seat) (target : Target) (tag : ℕ) (value : List ℕ) : Type

@@ -1,11 +1,10 @@
 //! The one writer of a hub.
-ghost use Rattle.std.specs.Prelude.{◌≡◌, ◌≢◌, ◌<◌, ◌⊎◌, ◌∷◌, ◌++◌, [], Ok, Err, IfOk, IfErr, OnOk, MatchResult, length, true, false};
-ghost use mathlib.Core.List.{IsPrefix};
-ghost use Rattle.operation.specs.Spelling.{digest_of};
+ghost use Rattle.std.specs.Prelude.{◌≡◌, ◌≢◌, ◌<◌, ◌⊎◌, Err, IfOk, IfErr, MatchResult, length, true, false};
 ghost use Rattle.site_state.specs.Site.{IsClash};
-ghost use Rattle.site_hub.specs.History.{set_of, entry_of, logged_of};
-ghost use Rattle.site_hub.specs.Hub.{WasHeld, HasStayed, HasKept, IsTurn, IsLater};
+ghost use Rattle.site_hub.specs.History.{set_of, logged_of};
+ghost use Rattle.site_hub.specs.Hub.{WasHeld, IsTurn};
 ghost use Rattle.site_hub.specs.Refused.{CountsUnless, Tells};
+ghost use Rattle.site_hub.specs.Taking.{at_desk, GoesOn, TakesAt, RefusesAt};
 
 use crate::book::{Book, Front, HubName};
 use crate::entry::{Entry, Log, Logged};
@@ -127,27 +126,12 @@ impl<H: HubName, T: Shows<H>, R: Wait + Drop> Keeper<H, T, R> {
         requires shown { self.old.published ≡ self.old.all }
         requires turn { IsTurn H.opening pass.old.seen self.old.all }
         requires held { WasHeld (set_of H.opening self.old.all) op taken }
-        ensures told { IfOk result (λ told.
-            told ≡ record { reached = self.new.all; taken = taken }) }
-        ensures history { OnOk result (self.new.all
-            ≡ self.old.all ++ entry_of pass.old.number op ∷ []) }
-        ensures published { OnOk result (self.new.published ≡ self.new.all) }
-        ensures seen { OnOk result (pass.new.seen ≡ self.new.all) }
-        ensures older { OnOk result (IsPrefix pass.old.seen pass.new.seen) }
-        ensures mine { OnOk result (pass.new.mine ≡ pass.old.mine ++ digest_of op ∷ []) }
-        ensures number { pass.new.number ≡ pass.old.number }
-        ensures later { IsLater pass.old pass.new }
-
-        ensures pending { IfErr result (λ e. e ≡ HubFault.Pending →
-            (self.new.all ≡ self.old.all ++ entry_of pass.old.number op ∷ [])
-            × (self.new.published ≡ self.old.published)
-            × (pass.new.mine ≡ pass.old.mine ++ digest_of op ∷ [])
-            × (pass.new.seen ≡ pass.old.seen)) }
-        ensures kept { IfErr result (λ e. (e ≡ HubFault.Pending)
-            ⊎ ((self.new ≡ self.old) × HasKept pass.old pass.new)) }
-        ensures fault { IfErr result (λ e.
-            (e ≡ HubFault.Busy) ⊎ (e ≡ HubFault.Memory) ⊎ (e ≡ HubFault.Pending)) }
-        ensures counted { Tells result pass.old.refused pass.new.refused }
+        ensures takes { IfOk result (λ told. TakesAt H.opening (at_desk self.old pass.old) op told
+            (at_desk self.new pass.new)) }
+        ensures refuses { IfErr result (RefusesAt H.opening (at_desk self.old pass.old) op
+            (at_desk self.new pass.new)) }
+        ensures only { IfErr result (λ e. e ≢ HubFault.Collision) }
+        ensures goes_on { GoesOn pass.old pass.new result }
     {
         let digest = *op.digest();
         if pass.mine.reserve(1).is_err() || self.log.reserve(1).is_err() {
@@ -183,36 +167,11 @@ impl<H: HubName, T: Shows<H>, R: Wait + Drop> Keeper<H, T, R> {
     /// history and the pass as they were, save `Pending`; what was pending before may have been
     /// published.
     pub fn take(&mut self, pass: &mut Pass<H>, op: Digested) -> Result<Told<H>, HubFault>
-        // What was taken, and where it stands.
-        ensures told { IfOk result (λ told. told.reached ≡ self.new.all) }
-        ensures taken { IfOk result (λ told.
-            WasHeld (set_of H.opening self.old.all) op told.taken) }
-        ensures turn { OnOk result (IsTurn H.opening pass.old.seen self.old.all) }
-        ensures history { OnOk result (self.new.all
-            ≡ self.old.all ++ entry_of pass.old.number op ∷ []) }
-        ensures published { OnOk result (self.new.published ≡ self.new.all) }
-
-        // The pass.
-        ensures seen { OnOk result (pass.new.seen ≡ self.new.all) }
-        ensures older { OnOk result (IsPrefix pass.old.seen pass.new.seen) }
-        ensures mine { OnOk result (pass.new.mine ≡ pass.old.mine ++ digest_of op ∷ []) }
-        ensures number { pass.new.number ≡ pass.old.number }
-        ensures later { IsLater pass.old pass.new }
-
-        // Each fault.
-        ensures pending { IfErr result (λ e. e ≡ HubFault.Pending →
-            (self.new.all ≡ self.old.all ++ entry_of pass.old.number op ∷ [])
-            × (pass.new.mine ≡ pass.old.mine ++ digest_of op ∷ [])
-            × (pass.new.seen ≡ pass.old.seen)) }
-        ensures unpublished { result ≡ Err HubFault.Pending → self.new.published ≡ self.old.all }
-        ensures collision { result ≡ Err HubFault.Collision →
-            IsTurn H.opening pass.old.seen self.old.all
-            × IsClash (set_of H.opening self.old.all) op }
-        ensures kept { IfErr result (λ e. (e ≡ HubFault.Pending)
-            ⊎ (HasStayed self.old self.new × HasKept pass.old pass.new)) }
-        ensures fault { IfErr result (λ e. (e ≡ HubFault.Busy) ⊎ (e ≡ HubFault.Collision)
-            ⊎ (e ≡ HubFault.Memory) ⊎ (e ≡ HubFault.Pending)) }
-        ensures counted { Tells result pass.old.refused pass.new.refused }
+        ensures takes { IfOk result (λ told. TakesAt H.opening (at_desk self.old pass.old) op told
+            (at_desk self.new pass.new)) }
+        ensures refuses { IfErr result (RefusesAt H.opening (at_desk self.old pass.old) op
+            (at_desk self.new pass.new)) }
+        ensures goes_on { GoesOn pass.old pass.new result }
     {
         if !self.flush(&mut pass.refusals) {
             return Err(HubFault::Memory);

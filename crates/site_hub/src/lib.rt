@@ -26,6 +26,7 @@ mod told;
 
 pub use book::{Front, HubName};
 pub use closing::{CloseFault, close};
+pub use correcting::next_correction;
 pub use entry::{Entry, Log, Logged};
 pub use fault::HubFault;
 pub use keeper::Keeper;

@@ -9,9 +9,10 @@ returns g c =
     let before = c.args.pass.now in let later = c.store_digested-told.new.pass in
     record {
       takes = pass_takes g.H.HubName.opening before later op c.store_digested-told.result c.reply.result c.reply.ensures
-          c.see_history.ensures told.later told.taken;
-      refused = refused_sees before later op c.store_digested-told.result c.reply.result c.reply.ensures told.pending
-          told.kept;
-      onward = pass_onward (WasWritten c.args.shelved.now.extract) before later op c.store_digested-told.result
-          c.args.shelved.now.digest c.args.shelved.now.written c.requires told.later told.mine told.pending told.kept;
+          c.see_history.ensures told.goes_on.later told.takes;
+      refused = refused_sees g.H.HubName.opening before later op c.store_digested-told.result c.reply.result
+          c.reply.ensures told.refuses;
+      onward = pass_onward g.H.HubName.opening (WasWritten c.args.shelved.now.extract) before later op
+          c.store_digested-told.result c.args.shelved.now.digest c.args.shelved.now.written c.requires
+          told.goes_on.later told.takes told.refuses;
     }

@@ -1,4 +1,3 @@
-use Rattle.operation.specs.Spelling.{digest_of}
 use Rattle.association_worker.proofs.HubLaws.{pass_stores, refused_unseen, own_take, busy_take}
 use Rattle.association_worker.proofs.looker.Looker.take.Goals as goal
 
@@ -8,15 +7,15 @@ returns-clause-stores g c =
     let told = c.store_digested-told.ensures in
     pass_stores g.H.HubName.opening c.args.self.now c.store_digested-told.new.pass c.args.op
     c.store_digested-told.result c.reply.result c.reply.ensures c.see_history.ensures
-    (rw (← c.self.view_is) told.later) (rw (← c.self.view_is) told.taken) (rw (← c.self.view_is) told.mine)
-    (rw (← c.self.view_is) told.pending) (rw (← c.self.view_is) told.collision) (rw (← c.self.view_is) told.kept)
+    (rw (← c.self.view_is) told.goes_on.later) (rw (← c.self.view_is) told.takes)
+    (rw (← c.self.view_is) told.refuses)
 
 -- What is refused was not published.
 pub returns-clause-refused : goal.returns-clause-refused
 returns-clause-refused g c =
     let told = c.store_digested-told.ensures in
-    refused_unseen c.args.self.now c.store_digested-told.new.pass (digest_of c.args.op) c.store_digested-told.result
-    c.reply.result c.reply.ensures (rw (← c.self.view_is) told.pending) (rw (← c.self.view_is) told.kept)
+    refused_unseen g.H.HubName.opening c.args.self.now c.store_digested-told.new.pass c.args.op
+    c.store_digested-told.result c.reply.result c.reply.ensures (rw (← c.self.view_is) told.refuses)
 
 -- The keeper knows no shelf.
 pub returns-clause-own : goal.returns-clause-own
@@ -27,4 +26,4 @@ pub returns-clause-busy : goal.returns-clause-busy
 returns-clause-busy g c =
     let told = c.store_digested-told.ensures in
     busy_take c.args.self.now.refused c.store_digested-told.new.pass.refused c.store_digested-told.result
-    c.reply.result c.reply.ensures (rw (← c.self.view_is) told.counted)
+    c.reply.result c.reply.ensures (rw (← c.self.view_is) told.goes_on.counted)
