@@ -5,4 +5,5 @@ pub mod Logs
 pub mod Moves
 pub mod Same
 pub mod Stays
+pub mod Tests
 pub mod Whys

@@ -1,5 +1,5 @@
 -- A log that was only looked at.
-use Rattle.std.proofs.Common.{◌≡◌, ℕ, List, [], ◌∷◌, All, length, ap, subst, sym, arith}
+use Rattle.std.proofs.Common.{◌≡◌, ℕ, List, [], ◌∷◌, All, length, refl, ap, subst, sym, ◌∙◌, arith}
 use Rattle.std.proofs.lemmas.List.Elements.{All-head, All-tail}
 use Rattle.sqlite_disk.specs.declared.Disk.{Ghosts}
 use Rattle.body_log.specs.Lasts.{Spares}
@@ -8,6 +8,7 @@ use Rattle.op_log.specs.Heads.{Head, body_of}
 use Rattle.op_log.specs.Kept.{IsBelow}
 use Rattle.op_log.specs.Loaded.{IsOf, Lists}
 use Rattle.op_log.specs.Log.{GoesOn, Looks, Opened}
+use Rattle.op_shelf.specs.Keep.{AreSame}
 use Rattle.kept_log.specs.Keeping.{IsUp}
 use Rattle.kept_log.specs.Stores.{IsSame}
 use Rattle.kept_log.proofs.Logs.{same_of}
@@ -41,3 +42,38 @@ looked gh gb old new goes up looks = record {
   lists = λ ops listed. subst (λ (heads : List Head). Lists (gb.seen new.bodies) heads ops) (sym looks.places)
       (lists_on gb old.bodies_end old.bodies new.bodies goes.spared old.places ops goes.before.below listed);
 }
+
+-- what was not looked at is the same
+pub same_self : {H B : Type 0} (g : Ghosts B) (log : Opened H B) → IsSame g log log
+same_self g log = record {
+  looks = record { heads = refl; heads_end = refl; places = refl; opens = refl };
+  holds = λ op. (λ held. held, λ held. held);
+  lists = λ ops listed. listed;
+}
+
+-- what was looked at twice was only looked at
+pub looks_twice : {H B : Type 0} (one two three : Opened H B) → Looks one two → Looks two three → Looks one three
+looks_twice one two three first next = record {
+  heads = next.heads ∙ first.heads;
+  heads_end = next.heads_end ∙ first.heads_end;
+  places = next.places ∙ first.places;
+  opens = next.opens ∙ first.opens;
+}
+
+-- and what was the same twice is the same
+pub same_twice : {H B : Type 0} (g : Ghosts B) (one two three : Opened H B) → IsSame g one two → IsSame g two three
+    → IsSame g one three
+same_twice g one two three first next = record {
+  looks = looks_twice one two three first.looks next.looks;
+  holds = λ op. (
+    λ held. (next.holds op).0 ((first.holds op).0 held),
+    λ held. (first.holds op).1 ((next.holds op).1 held),
+  );
+  lists = λ ops listed. next.lists ops (first.lists ops listed);
+}
+
+pub has_twice : (one two three : Op → Type 0) → AreSame one two → AreSame two three → AreSame one three
+has_twice one two three first next op = (
+  λ held. (next op).0 ((first op).0 held),
+  λ held. (first op).1 ((next op).1 held),
+)

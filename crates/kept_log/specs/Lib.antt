@@ -5,3 +5,4 @@ pub mod Proved
 pub mod Refusing
 pub mod Stores
 pub mod Telling
+pub mod Verifying

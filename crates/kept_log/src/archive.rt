@@ -7,7 +7,7 @@ use crate::either::ShelfOrLog;
 use crate::keeping::KeptLog;
 use crate::store::Store;
 use op_log::FolderLog;
-use op_shelf::{Keep, Kept, Shelf, ShelfFault};
+use op_shelf::{Keep, Kept, Shelf, ShelfFault, Testing, Verified};
 use operation::{Digested, Op};
 use sqlite::{FileFrom, FileStore, Wary};
 use std::alloc::Global;
@@ -79,6 +79,8 @@ impl<T: Store> Store for Held<T> {
 
     ghost count = { λ s. T.count s.store };
 
+    ghost verifies = { λ s count told. T.verifies s.store count told };
+
     ghost is_same = { λ s t. T.is_same s.store t.store };
 
     ghost spares = { λ s t. T.spares s.store t.store };
@@ -107,6 +109,10 @@ impl<T: Store> Store for Held<T> {
 
     fn count_kind(&mut self, kind: u8) -> Result<u64, ShelfFault> {
         self.store.count_kind(kind)
+    }
+
+    fn verify<H: Testing>(&mut self, hearing: &H) -> Result<Verified, ShelfFault> {
+        self.store.verify(hearing)
     }
 
     fn add(&mut self, op: &Op) -> Result<Kept, ShelfFault> {

@@ -4,7 +4,7 @@ ghost use Rattle.std.specs.Prelude.{◌≡◌};
 ghost use Rattle.operation.specs.declared.op.Op.{Op as Operation};
 
 use crate::store::Store;
-use op_shelf::{Keep, Kept, ShelfFault};
+use op_shelf::{Keep, Kept, ShelfFault, Testing, Verified};
 use operation::{Digested, Op};
 
 /// A shelf or a log. What stands above names one type, whichever of the two an archive has.
@@ -65,6 +65,9 @@ impl<S: Store, L: Store> Store for ShelfOrLog<S, L> {
 
     ghost count = { λ s kind. count_of_it S.count L.count s kind };
 
+    ghost verifies = { λ s count told.
+        of_it (λ a. S.verifies a count told) (λ b. L.verifies b count told) s };
+
     ghost is_same = { λ s t. of_one_and_then S.is_same L.is_same s t };
 
     ghost spares = { λ s t. of_one_and_then S.spares L.spares s t };
@@ -106,6 +109,13 @@ impl<S: Store, L: Store> Store for ShelfOrLog<S, L> {
         match self {
             ShelfOrLog::Shelf(shelf) => shelf.count_kind(kind),
             ShelfOrLog::Log(log) => log.count_kind(kind),
+        }
+    }
+
+    fn verify<T: Testing>(&mut self, hearing: &T) -> Result<Verified, ShelfFault> {
+        match self {
+            ShelfOrLog::Shelf(shelf) => shelf.verify(hearing),
+            ShelfOrLog::Log(log) => log.verify(hearing),
         }
     }
 

@@ -11,6 +11,7 @@ mod moving;
 mod shelf;
 mod store;
 mod telling;
+mod verifying;
 
 pub use archive::{ArchiveStore, FileOrFolder, FileShelf, Held, of_log, of_shelf};
 pub use either::ShelfOrLog;

@@ -7,8 +7,9 @@ ghost use Rattle.kept_log.specs.Stores.{count_in};
 use crate::keeping::KeptLog;
 use crate::store::Store;
 use crate::telling::fault;
+use crate::verifying::test_all;
 use op_log::OpLog;
-use op_shelf::{Keep, Kept, ShelfFault};
+use op_shelf::{Keep, Kept, ShelfFault, Testing, Verified};
 use operation::{Digested, Op};
 use sqlite_disk::Disk;
 
@@ -44,6 +45,7 @@ impl<H: Disk, B: Disk> Store for KeptLog<H, B> {
     ghost use Rattle.kept_log.specs.Keeping.{IsUp, Holds, Lasts, log_of};
     ghost use Rattle.kept_log.specs.Refusing.{LogRefusesAll};
     ghost use Rattle.kept_log.specs.Stores.{IsSame, count_in};
+    ghost use Rattle.kept_log.specs.Verifying.{AreVerified};
     ghost use Rattle.std.proofs.Common.{ap, sym, ◌∙◌};
 
     ghost is_clean = { λ s. IsUp H.Disk B.Disk (log_of s) };
@@ -51,6 +53,9 @@ impl<H: Disk, B: Disk> Store for KeptLog<H, B> {
     ghost lists = { λ s ops. Lists (B.Disk.seen (log_of s).bodies) (log_of s).places ops };
 
     ghost count = { λ s kind. count_in kind (log_of s).places };
+
+    ghost verifies = { λ s count told.
+        AreVerified (B.Disk.seen (log_of s).bodies) (log_of s).places count told };
 
     ghost is_same = { λ s t. IsSame B.Disk (log_of s) (log_of t) };
 
@@ -98,6 +103,17 @@ impl<H: Disk, B: Disk> Store for KeptLog<H, B> {
 
     fn count_kind(&mut self, kind: u8) -> Result<u64, ShelfFault> {
         Ok(count(&self.log, kind))
+    }
+
+    fn verify<T: Testing>(&mut self, hearing: &T) -> Result<Verified, ShelfFault> {
+        let operations = self.log.len() as u64;
+        match test_all(self.alloc, &mut self.log, hearing) {
+            Ok(damaged) => Ok(Verified {
+                operations,
+                damaged,
+            }),
+            Err(refused) => Err(fault(refused)),
+        }
     }
 
     fn add(&mut self, op: &Op) -> Result<Kept, ShelfFault> {

@@ -1,7 +1,7 @@
 //! A shelf as an archive's store.
 
 use crate::store::Store;
-use op_shelf::{Keep, Kept, Shelf, ShelfFault};
+use op_shelf::{Keep, Kept, Shelf, ShelfFault, Testing, Verified};
 use operation::{Digested, Op};
 use sqlite::Alter;
 
@@ -9,6 +9,7 @@ impl<S: Alter> Store for Shelf<S> {
     ghost use Rattle.sqlite.specs.Held.{state};
     ghost use Rattle.sqlite.specs.State.{HasCleanDisk, IsUnchanged};
     ghost use Rattle.sqlite.specs.Tree.{Trees};
+    ghost use Rattle.op_shelf.specs.Damage.{AreVerified};
     ghost use Rattle.op_shelf.specs.Entries.{Holds, Lists};
     ghost use Rattle.op_shelf.specs.States.{KeepsAll, count_of, rows_left, rows_of, tree_in};
     ghost use Rattle.std.proofs.Common.{ap, subst, sym, ◌∙◌};
@@ -21,6 +22,8 @@ impl<S: Alter> Store for Shelf<S> {
     ghost lists = { λ s ops. Lists (rows_of (state S.Store s)) ops };
 
     ghost count = { λ s kind. count_of kind (rows_of (state S.Store s)) };
+
+    ghost verifies = { λ s count told. AreVerified (rows_of (state S.Store s)) count told };
 
     ghost is_same = { λ s t. IsUnchanged (state S.Store s) (state S.Store t) };
 
@@ -69,6 +72,10 @@ impl<S: Alter> Store for Shelf<S> {
 
     fn count_kind(&mut self, kind: u8) -> Result<u64, ShelfFault> {
         Shelf::count_kind(self, kind)
+    }
+
+    fn verify<T: Testing>(&mut self, hearing: &T) -> Result<Verified, ShelfFault> {
+        Shelf::verify(self, hearing)
     }
 
     fn add(&mut self, op: &Op) -> Result<Kept, ShelfFault> {

@@ -1,11 +1,12 @@
 //! What an archive's operations stand in.
 
-ghost use Rattle.std.specs.Prelude.{◌≡◌, ℕ, List, IfErr, IfOk, OnOk, OnErr};
+ghost use Rattle.std.specs.Prelude.{◌≡◌, ℕ, List, IfErr, IfOk, IsErrOf, OnOk, OnErr};
 ghost use Rattle.operation.specs.declared.op.Op.{Op as Operation};
+ghost use Rattle.op_shelf.specs.declared.damaged.Damaged.{Damaged as Damage};
 ghost use Rattle.op_shelf.specs.declared.fault.ShelfFault.{ShelfFault as Fault};
 ghost use Rattle.operation.specs.Spelling.{spelling};
 
-use op_shelf::{Keep, Kept, ShelfFault};
+use op_shelf::{Keep, Kept, ShelfFault, Testing, Verified};
 use operation::{Digested, Op};
 
 /// What keeps the operations of an archive and shows all of them: a shelf, or a log.
@@ -18,6 +19,9 @@ pub trait Store: Keep {
 
     // How many of them have a kind.
     ghost count: { Self → ℕ → ℕ };
+
+    // There are so many, and just these are not those of their digests.
+    ghost verifies: { Self → ℕ → List Damage → Type 0 };
 
     // Nothing has changed.
     ghost is_same: { Self → Self → Type 0 };
@@ -48,6 +52,17 @@ pub trait Store: Keep {
         ensures same { is_clean self.new → OnOk result (is_same self.old self.new) }
         ensures refused { is_clean self.new → OnErr result (spares self.old self.new) }
         ensures why { is_clean self.new → IfErr result (refuses_count self.old kind self.new) }
+        ensures clean { is_clean self.new → is_clean self.old };
+
+    /// Tests each operation against its digest. What it has cause to refuse is as of `all`, but that
+    /// an operation that is not the one of its digest is no fault here.
+    fn verify<T: Testing>(&mut self, hearing: &T) -> Result<Verified, ShelfFault>
+        ensures verified { is_clean self.new → IfOk result
+            (λ told. verifies self.old told.operations told.damaged.items) }
+        ensures same { is_clean self.new → OnOk result (is_same self.old self.new) }
+        ensures refused { is_clean self.new → OnErr result (spares self.old self.new) }
+        ensures why { is_clean self.new → IfErr result (refuses_all self.old self.new) }
+        ensures row { ¬ IsErrOf result ShelfFault.BadRow }
         ensures clean { is_clean self.new → is_clean self.old };
 
     /// Keeps an operation, as `put` does.

@@ -13,7 +13,7 @@ ghost use Rattle.op_log.specs.Loaded.{HasBadHead, Lists};
 ghost use Rattle.op_log.specs.Log.{GoesOn, IsSound, IsTooLong, Looks};
 ghost use Rattle.op_log.specs.Puts.{LeavesAllOrNone, PutsAll};
 ghost use Rattle.op_log.specs.Records.{head_in};
-ghost use Rattle.op_log.specs.Verified.{damaged_in, digests_of};
+ghost use Rattle.op_log.specs.Verified.{damaged_in, digests_of, is_whole as is_whole_in};
 ghost use Rattle.op_log.specs.Walking.{AreOfLog};
 
 use crate::fault::LogFault;
@@ -24,7 +24,7 @@ use crate::places::Places;
 use crate::putting::put_group;
 use crate::record::Record;
 use crate::refused::{Refused, refused_bodies, refused_heads};
-use crate::verifying::damaged;
+use crate::verifying::{damaged, is_whole};
 use crate::walking::walk;
 use body_log::BodyLog;
 use head_log::HeadLog;
@@ -285,5 +285,33 @@ impl<H: Disk, B: Disk> OpLog<H, B> {
         ensures only { IfErr result IsOfLook }
     {
         damaged(&mut self.bodies, &self.places)
+    }
+    /// Whether the operation at an index, in the order in which they were put, has its digest: its
+    /// data set is read and hashed. At an index behind the last nothing is amiss.
+    pub fn is_whole(&mut self, index: usize) -> Result<bool, LogFault>
+        ensures exact { IfOk result (λ whole. IsTrue (B.Disk.is_clean self.new.bodies) → (h : Head)
+            → slice_get self.old.places index ≡ Some h
+            → whole ≡ is_whole_in (B.Disk.seen self.old.bodies) h) }
+        // Nothing is changed.
+        ensures looks { Looks self.old self.new }
+        ensures seen { B.Disk.seen self.new.bodies ≡ B.Disk.seen self.old.bodies }
+        ensures usable { B.Disk.is_usable self.new.bodies ≡ B.Disk.is_usable self.old.bodies }
+        ensures goes_on { GoesOn H.Disk B.Disk self.old self.new }
+
+        // Each fault, only where it is. A data set that is none is no fault here.
+        ensures closed { IsErrOf result LogFault.Closed
+            → B.Disk.is_usable self.old.bodies ≡ false }
+        ensures whole { (n : ℕ) → ¬ IsErrOf result (LogFault.DamagedBody n) }
+        ensures only { IfErr result IsOfLook }
+    {
+        let Some((bytes, place)) = self.places.at(index) else {
+            return Ok(true);
+        };
+        is_whole(
+            self.places.alloc(),
+            &mut self.bodies,
+            &Digest::of(*bytes),
+            place,
+        )
     }
 }

@@ -29,7 +29,7 @@ fn sum_of(front: &[u8], body: &[u8]) -> [u8; 32]
 }
 
 /// Whether the operation at a place has its digest.
-fn is_whole<B: Disk>(
+pub(crate) fn is_whole<B: Disk>(
     alloc: Global,
     bodies: &mut BodyLog<B>,
     digest: &Digest,

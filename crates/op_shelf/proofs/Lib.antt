@@ -1,5 +1,6 @@
 mod Back
 mod Changes
+mod Damages
 mod Digits
 mod Groups
 mod Keeps

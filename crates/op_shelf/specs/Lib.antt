@@ -1,3 +1,4 @@
+pub mod Damage
 pub mod Entries
 pub mod Fault
 pub mod Group

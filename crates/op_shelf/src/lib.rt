@@ -5,6 +5,7 @@
 //! disk returns what was written.
 #![tactic(auto)]
 
+mod damaged;
 mod fault;
 mod group;
 mod keep;
@@ -17,8 +18,10 @@ mod schema;
 mod shelf;
 mod statements;
 mod table;
+mod verifying;
 mod walk;
 
+pub use damaged::{Damaged, Testing, Verified};
 pub use fault::{ShelfFault, StoreCause};
 pub use keep::Keep;
 pub use kept::Kept;

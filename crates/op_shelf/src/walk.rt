@@ -18,7 +18,7 @@ use sqlite::{Alter, Connection, Row};
 use std::alloc::Global;
 
 /// How many rows are read, at most.
-const MOST_ROWS: u64 = 18_446_744_073_709_551_615;
+pub(crate) const MOST_ROWS: u64 = 18_446_744_073_709_551_615;
 
 /// How many rows are read, at most: as many as a number of 64 bits counts.
 pub fn limits_are_these()

@@ -1,0 +1,9 @@
+use Rattle.std.proofs.Common.{rules}
+use Rattle.std.proofs.lemmas.List.Sorted.{answers_always}
+use Rattle.op_shelf.proofs.Damages.{is_before, before_order}
+use Rattle.op_shelf.proofs.damaged.put_in_order.Goals as goal
+
+-- What is sorted by the digests ascends by them.
+pub returns-clause-ascending : goal.returns-clause-ascending
+returns-clause-ascending c =
+    c.sort_unstable_by.ensures.sorted is_before before_order (answers_always _ _ _ (λ f a r g called. search rules))
