@@ -4,7 +4,7 @@ use Rattle.archive_page.specs.declared.asked.Asked.TheVariants.{Page}
 use Rattle.archive_page.specs.declared.subject.Form.{Form}
 use Rattle.archive_page.specs.declared.subject.Form.TheVariants.{Html, Json}
 use Rattle.archive_page.specs.declared.subject.Subject.{Subject}
-use Rattle.archive_page.specs.declared.subject.Subject.TheVariants.{Site, Studies, Rejected, Conflicts, Corrections}
+use Rattle.archive_page.specs.declared.subject.Subject.TheVariants.{Site, Studies, Rejected, Conflicts, Corrections, Study}
 use Rattle.archive_page.specs.Paths.{at}
 use Rattle.archive_page.specs.Subjects.{path_of}
 
@@ -19,3 +19,5 @@ leads Conflicts Html = refl
 leads Conflicts Json = refl
 leads Corrections Html = refl
 leads Corrections Json = refl
+leads Study Html = refl
+leads Study Json = refl

@@ -7,6 +7,7 @@ use Rattle.archive_page.specs.declared.answer.Media.{Media}
 use Rattle.archive_page.specs.declared.answer.Status.{Status}
 use Rattle.archive_page.specs.declared.listing.Listing.{Listing}
 use Rattle.archive_page.specs.declared.metrics.Sample.{Sample}
+use Rattle.archive_page.specs.declared.study.StudyPage.{StudyPage}
 use Rattle.archive_page.specs.declared.style.TheConstants.{STYLE}
 use Rattle.archive_page.specs.declared.subject.Form.{Form}
 use Rattle.archive_page.specs.declared.subject.Form.TheVariants.{Html, Json}
@@ -14,6 +15,7 @@ use Rattle.archive_page.specs.declared.subject.Subject.{Subject}
 use Rattle.archive_page.specs.Listings.{listing_page, listing_object}
 use Rattle.archive_page.specs.Metrics.{metrics_text}
 use Rattle.archive_page.specs.Pages.{html_page}
+use Rattle.archive_page.specs.Studies.{study_page, study_object}
 
 -- the number of a status (RFC 9110, 15)
 abbrev pub number_of : Status → ℕ
@@ -36,6 +38,11 @@ page_answer subject Json heading rows = told_as Media.Json (print (json_table he
 abbrev pub listing_answer : Form → Listing → Answer
 listing_answer Html listing = told_as Media.Html (listing_page listing)
 listing_answer Json listing = told_as Media.Json (print (listing_object listing))
+
+-- a page of a study
+abbrev pub study_answer : Form → StudyPage → Answer
+study_answer Html page = told_as Media.Html (study_page page)
+study_answer Json page = told_as Media.Json (print (study_object page))
 
 -- the style sheet
 abbrev pub style_answer : Answer

@@ -7,6 +7,7 @@ pub mod Metrics
 pub mod Pages
 pub mod Paths
 pub mod Searches
+pub mod Studies
 pub mod Subjects
 pub mod Tables
 pub mod Values

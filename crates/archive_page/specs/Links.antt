@@ -5,6 +5,7 @@ use Rattle.form_urlencoded.specs.Form.{byte_serialize}
 use Rattle.archive_page.specs.declared.links.TheConstants.{PAGE_LENGTH}
 use Rattle.archive_page.specs.declared.search.Search.{Search}
 use Rattle.archive_page.specs.declared.subject.Form.{Form}
+use Rattle.archive_page.specs.declared.subject.Form.TheVariants.{Html, Json}
 use Rattle.archive_page.specs.declared.subject.Subject.TheVariants.{Studies}
 use Rattle.archive_page.specs.Subjects.{path_of}
 
@@ -28,6 +29,15 @@ study_keys search =
 unfoldable pub link_to : Form → Search → ℕ → List ℕ
 link_to form search page =
     path_of form Studies ++ codes "?" ++ patient_keys search ++ study_keys search ++ codes "page=" ++ decimal page
+
+-- what stands behind the name of a study
+abbrev pub suffix_of : Form → List ℕ
+suffix_of Html = []
+suffix_of Json = codes ".json"
+
+-- the path of the page of a study
+unfoldable pub study_path : Form → List ℕ → List ℕ
+study_path form uid = codes "/study/" ++ byte_serialize uid ++ suffix_of form
 
 -- how many pages so many studies have, one at least
 abbrev pub pages_of : ℕ → ℕ

@@ -3,7 +3,7 @@ use Rattle.std.specs.Prelude.{ℕ, ◌+◌, ◌-◌, List, [], ◌∷◌, ◌++�
 use Rattle.std.specs.Fmt.{decimal}
 use Rattle.json.specs.Token.{Token, begin_object, end_object, key, number, null}
 use Rattle.archive_page.specs.Escaping.{escaped}
-use Rattle.archive_page.specs.Tables.{html_table}
+use Rattle.archive_page.specs.Tables.{linked_table}
 use Rattle.archive_page.specs.Values.{string_of, columns_member, rows_member}
 use Rattle.archive_page.specs.declared.form.TheConstants.{FORM, NAME, PATIENT, DATE, ACCESSION, MODALITY, BUTTON}
 use Rattle.archive_page.specs.declared.frame.TheConstants.{LINK, END}
@@ -74,7 +74,7 @@ below_listing search = LINK ++ escaped (link_to Json search search.page) ++ END
 -- a page of what a search finds
 unfoldable pub listing_page : Listing → List ℕ
 listing_page listing =
-    above_table Studies ++ search_form listing.search ++ html_table listing_heading listing.rows
+    above_table Studies ++ search_form listing.search ++ linked_table listing_heading listing.rows
     ++ turning listing.search listing.total ++ below_listing listing.search
 
 -- ---- in JSON

@@ -3,7 +3,7 @@ use Rattle.std.specs.Prelude.{ℕ, List, codes}
 use Rattle.archive_page.specs.declared.subject.Form.{Form}
 use Rattle.archive_page.specs.declared.subject.Form.TheVariants.{Html, Json}
 use Rattle.archive_page.specs.declared.subject.Subject.{Subject}
-use Rattle.archive_page.specs.declared.subject.Subject.TheVariants.{Site, Studies, Rejected, Conflicts, Corrections}
+use Rattle.archive_page.specs.declared.subject.Subject.TheVariants.{Site, Studies, Rejected, Conflicts, Corrections, Study}
 
 -- what stands above a page
 abbrev pub title_of : Subject → List ℕ
@@ -12,6 +12,7 @@ title_of Studies = codes "Studies"
 title_of Rejected = codes "Rejected"
 title_of Conflicts = codes "Conflicts"
 title_of Corrections = codes "Corrections"
+title_of Study = codes "Study"
 
 -- the path of a page about it in HTML
 abbrev pub path_in_html : Subject → List ℕ
@@ -20,6 +21,7 @@ path_in_html Studies = codes "/studies"
 path_in_html Rejected = codes "/rejected"
 path_in_html Conflicts = codes "/conflicts"
 path_in_html Corrections = codes "/corrections"
+path_in_html Study = codes "/study/"
 
 -- and in JSON
 abbrev pub path_in_json : Subject → List ℕ
@@ -28,6 +30,7 @@ path_in_json Studies = codes "/studies.json"
 path_in_json Rejected = codes "/rejected.json"
 path_in_json Conflicts = codes "/conflicts.json"
 path_in_json Corrections = codes "/corrections.json"
+path_in_json Study = codes "/study/.json"
 
 -- the path of a page about it
 abbrev pub path_of : Form → Subject → List ℕ

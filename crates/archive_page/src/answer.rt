@@ -4,6 +4,7 @@ ghost use Rattle.std.specs.Prelude.{◌≡◌, IfOk, map};
 ghost use Rattle.std.specs.Option.{option_copied};
 ghost use Rattle.archive_page.specs.Answers.{number_of, told_as, page_answer as page_answer_of};
 ghost use Rattle.archive_page.specs.Answers.{listing_answer as listing_answer_of};
+ghost use Rattle.archive_page.specs.Answers.{study_answer as study_answer_of};
 ghost use Rattle.archive_page.specs.Answers.{health_answer as health_answer_of};
 ghost use Rattle.archive_page.specs.Answers.{style_answer as style_answer_of};
 ghost use Rattle.archive_page.specs.Answers.{metrics_answer as metrics_answer_of};
@@ -13,6 +14,7 @@ use crate::listing::{Listing, listing_in_html};
 use crate::listing_json::listing_in_json;
 use crate::metrics::{Sample, metrics_in_text};
 use crate::pages::page_of;
+use crate::study::{StudyPage, study_in_html, study_in_json};
 use crate::style::STYLE;
 use crate::subject::{Form, Subject};
 use crate::values::table_in_json;
@@ -97,6 +99,16 @@ pub fn listing_answer(alloc: Global, form: Form, listing: &Listing) -> Result<An
     match form {
         Form::Html => Ok(told(Media::Html, listing_in_html(alloc, listing)?)),
         Form::Json => Ok(told(Media::Json, listing_in_json(alloc, listing)?)),
+    }
+}
+
+/// A page of a study.
+pub fn study_answer(alloc: Global, form: Form, page: &StudyPage) -> Result<Answer, AllocError>
+    ensures { IfOk result (λ answer. answer ≡ study_answer_of form page.now) }
+{
+    match form {
+        Form::Html => Ok(told(Media::Html, study_in_html(alloc, page)?)),
+        Form::Json => Ok(told(Media::Json, study_in_json(alloc, page)?)),
     }
 }
 

@@ -1,8 +1,10 @@
 //! What a request asks for: its method and its path (RFC 9110, sections 7.1 and 9.3).
 
 ghost use Rattle.std.specs.Prelude.{◌≡◌};
+ghost use Rattle.std.specs.Option.{option_copied};
 ghost use Rattle.octets.specs.Texts.{same};
 ghost use Rattle.archive_page.specs.Paths.{html_at, json_at, other_at, at};
+ghost use Rattle.archive_page.specs.Paths.{behind as behind_in, before as before_in, study_at, study_name as study_name_in};
 ghost use Rattle.archive_page.specs.Paths.{is_reading as is_reading_in, asked_of};
 
 use crate::subject::{Form, Subject};
@@ -72,6 +74,61 @@ fn json(path: &[u8]) -> Option<Subject>
     None
 }
 
+/// What stands behind a word, where a text begins with it.
+fn behind<'a>(word: &[u8], text: &'a [u8]) -> Option<&'a [u8]>
+    ensures { option_copied result ≡ behind_in word.now text.now }
+{
+    if text.len() < word.len() {
+        return None;
+    }
+    let (front, rest) = text.split_at(word.len());
+    if is(front, word) {
+        return Some(rest);
+    }
+    None
+}
+
+/// What stands before a word, where a text ends with it.
+fn before<'a>(word: &[u8], text: &'a [u8]) -> Option<&'a [u8]>
+    ensures { option_copied result ≡ before_in word.now text.now }
+{
+    if text.len() < word.len() {
+        return None;
+    }
+    let (front, rest) = text.split_at(text.len() - word.len());
+    if is(rest, word) {
+        return Some(front);
+    }
+    None
+}
+
+/// The page of a study, where this path names one.
+fn study(path: &[u8]) -> Asked
+    ensures { result ≡ study_at path.now }
+{
+    match behind(b"/study/", path) {
+        None => Asked::Nothing,
+        Some(name) => match before(b".json", name) {
+            None => Asked::Page(Subject::Study, Form::Html),
+            Some(_) => Asked::Page(Subject::Study, Form::Json),
+        },
+    }
+}
+
+/// The name of the study whose page has this path, still encoded (RFC 3986, section 2.1), empty
+/// where none has.
+pub fn study_name(path: &[u8]) -> &[u8]
+    ensures { result.now ≡ study_name_in path.now }
+{
+    match behind(b"/study/", path) {
+        None => &[],
+        Some(name) => match before(b".json", name) {
+            None => name,
+            Some(front) => front,
+        },
+    }
+}
+
 /// What else has this path.
 fn other(path: &[u8]) -> Asked
     ensures { result ≡ other_at path.now }
@@ -85,7 +142,7 @@ fn other(path: &[u8]) -> Asked
     if is(path, b"/metrics") {
         return Asked::Metrics;
     }
-    Asked::Nothing
+    study(path)
 }
 
 /// What has this path.

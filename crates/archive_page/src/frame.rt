@@ -34,3 +34,9 @@ pub(crate) const END: [u8; 51] = *b"\
 </main>\n\
 </body>\n\
 </html>\n";
+
+/// Above the instances of a study.
+pub(crate) const INSTANCES: [u8; 19] = *b"<h2>Instances</h2>\n";
+
+/// Above the corrections of its attributes.
+pub(crate) const CORRECTIONS: [u8; 21] = *b"<h2>Corrections</h2>\n";

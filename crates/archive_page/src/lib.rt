@@ -24,6 +24,7 @@ mod listing_json;
 mod metrics;
 mod pages;
 mod search;
+mod study;
 mod style;
 mod subject;
 mod tables;
@@ -31,9 +32,9 @@ mod values;
 
 pub use answer::{
     Answer, Media, Status, health_answer, listing_answer, metrics_answer, page_answer, refusal,
-    style_answer,
+    study_answer, style_answer,
 };
-pub use asked::Asked;
+pub use asked::{Asked, study_name};
 pub use characters::text_of;
 pub use escaping::{escape, put_escaped};
 pub use escaping_laws::what_is_escaped_makes_no_markup;
@@ -42,7 +43,8 @@ pub use laws::each_path_leads_to_its_page;
 pub use links::PAGE_LENGTH;
 pub use listing::Listing;
 pub use metrics::{Label, Sample, SampleKind};
-pub use search::{Search, SearchFault};
+pub use search::{Search, SearchFault, decoded};
+pub use study::StudyPage;
 pub use subject::{Form, Subject};
 pub use tables::put_table;
 pub use values::{put_columns_member, put_rows_member, put_value, table_in_json};

@@ -2,7 +2,7 @@
 
 ghost use Rattle.std.specs.Prelude.{◌≡◌, ◌++◌, IfOk, OnOk};
 ghost use Rattle.form_urlencoded.specs.Form.{byte_serialize as serialized};
-ghost use Rattle.archive_page.specs.Links.{pair_text, patient_keys, study_keys, link_to, pages_of};
+ghost use Rattle.archive_page.specs.Links.{pair_text, patient_keys, study_keys, link_to, pages_of, suffix_of, study_path as study_path_of};
 
 use crate::search::Search;
 use crate::subject::{Form, Subject};
@@ -73,6 +73,28 @@ pub(crate) fn link(
     put_study(&mut out, search)?;
     out.extend_from_slice(b"page=")?;
     put_digits(alloc, &mut out, page)?;
+    Ok(Octets::of(out))
+}
+
+/// What stands behind the name of a study in the path of its page.
+fn suffix(form: Form) -> &'static [u8]
+    ensures { result.now ≡ suffix_of form }
+{
+    match form {
+        Form::Html => b"",
+        Form::Json => b".json",
+    }
+}
+
+/// The path of the page of a study.
+#[tactic(auto, unfolding(crate::specs::Links::study_path))]
+pub(crate) fn study_path(alloc: Global, form: Form, uid: &[u8]) -> Result<Octets, AllocError>
+    ensures { IfOk result (λ path. path ≡ study_path_of form uid.now) }
+{
+    let mut out = Vec::new(alloc);
+    out.extend_from_slice(b"/study/")?;
+    put_encoded(&mut out, uid)?;
+    out.extend_from_slice(suffix(form))?;
     Ok(Octets::of(out))
 }
 

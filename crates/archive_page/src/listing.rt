@@ -10,7 +10,7 @@ use crate::links::{link, pages};
 use crate::pages::put_above;
 use crate::search::Search;
 use crate::subject::{Form, Subject};
-use crate::tables::put_table;
+use crate::tables::put_linked_table;
 use octets::{ListOf, Octets, put_digits};
 use std::alloc::{AllocError, Global};
 
@@ -195,7 +195,7 @@ pub(crate) fn listing_in_html(alloc: Global, listing: &Listing) -> Result<Vec<u8
     let mut out = Vec::new(alloc);
     put_above(&mut out, Subject::Studies)?;
     put_form(alloc, &mut out, search)?;
-    put_table(alloc, &mut out, heading(), listing.rows.as_slice())?;
+    put_linked_table(alloc, &mut out, heading(), listing.rows.as_slice())?;
     put_turning(alloc, &mut out, search, listing.total)?;
     put_below(alloc, &mut out, search)?;
     Ok(out)

@@ -87,12 +87,12 @@ fn first<'a>(query: &'a [u8], name: &[u8]) -> Option<&'a [u8]>
     None
 }
 
-/// A value, decoded and trimmed.
-fn text(alloc: Global, value: &[u8]) -> Result<Octets, AllocError>
+/// A value as a form or a path has it, decoded (URL Standard, section 5.1) and trimmed.
+pub fn decoded(alloc: Global, value: &[u8]) -> Result<Octets, AllocError>
     ensures { IfOk result (λ text. text ≡ text_of value.now) }
 {
-    let decoded = decode(alloc, value)?;
-    Octets::from_slice(alloc, trimmed(decoded.as_bytes()))
+    let text = decode(alloc, value)?;
+    Octets::from_slice(alloc, trimmed(text.as_bytes()))
 }
 
 /// The value of the first key of a name, empty where there is none.
@@ -101,7 +101,7 @@ fn value(alloc: Global, query: &[u8], name: &[u8]) -> Result<Octets, AllocError>
 {
     match first(query, name) {
         None => Ok(Octets::of(Vec::new(alloc))),
-        Some(value) => text(alloc, value),
+        Some(value) => decoded(alloc, value),
     }
 }
 

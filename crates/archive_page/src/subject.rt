@@ -15,6 +15,8 @@ pub enum Subject {
     /// The contents of each flagged UID.
     Conflicts,
     Corrections,
+    /// One study, which the path names behind that of this subject.
+    Study,
 }
 
 /// How a page is written.
@@ -35,6 +37,7 @@ impl Subject {
             Subject::Rejected => b"Rejected",
             Subject::Conflicts => b"Conflicts",
             Subject::Corrections => b"Corrections",
+            Subject::Study => b"Study",
         }
     }
 
@@ -57,6 +60,7 @@ impl Subject {
             Subject::Rejected => b"/rejected",
             Subject::Conflicts => b"/conflicts",
             Subject::Corrections => b"/corrections",
+            Subject::Study => b"/study/",
         }
     }
 
@@ -69,6 +73,7 @@ impl Subject {
             Subject::Rejected => b"/rejected.json",
             Subject::Conflicts => b"/conflicts.json",
             Subject::Corrections => b"/corrections.json",
+            Subject::Study => b"/study/.json",
         }
     }
 }

@@ -90,7 +90,7 @@ pub fn put_rows_member(
 
 /// Writes the object of a table.
 #[tactic(auto, unfolding(crate::specs::Values::json_table))]
-fn put_object(
+pub(crate) fn put_object(
     alloc: Global,
     writer: &mut Writer,
     heading: &[&str],

@@ -10,7 +10,7 @@ use Rattle.archive_page.specs.declared.asked.Asked.{Asked}
 use Rattle.archive_page.specs.declared.asked.Asked.TheVariants.{Page, Style, Health, Metrics, Nothing, Change}
 use Rattle.archive_page.specs.declared.subject.Form.{Form}
 use Rattle.archive_page.specs.declared.subject.Subject.{Subject}
-use Rattle.site_pages.specs.Telling.{Says, Told, IsAnswered, asked_by, query_by}
+use Rattle.site_pages.specs.Telling.{Says, Told, IsAnswered, asked_by, words_by}
 
 pub looked_self : (seat : Seat) → HasLooked seat seat
 looked_self seat = record { number = refl; seen = prefix_self seat.seen; mine = refl }
@@ -34,9 +34,9 @@ answered_looked {S} seat says each old request response new answered =
     stays : new ≡ old → HasLooked (seat old) (seat new)
     stays e = subst (λ (s : S). HasLooked (seat old) (seat s)) (sym e) (looked_self (seat old))
 
-    by_asked : (asked : Asked) (told : Option Answer) → Told says old asked (query_by request) told new
+    by_asked : (asked : Asked) (told : Option Answer) → Told says old asked (words_by request) told new
         → HasLooked (seat old) (seat new)
-    by_asked (Page subject form) told t = each old subject form (query_by request) told new t
+    by_asked (Page subject form) told t = each old subject form (words_by request) told new t
     by_asked Style told t = stays t.0
     by_asked Health told t = stays t.0
     by_asked Metrics told t = stays t.0

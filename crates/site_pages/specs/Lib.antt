@@ -3,5 +3,6 @@ pub mod Responses
 pub mod Serving
 pub mod SitePages
 pub mod StudiesPages
+pub mod StudyPages
 pub mod TablePages
 pub mod Telling

@@ -11,6 +11,7 @@ use Rattle.archive_page.specs.declared.subject.Form.{Form}
 use Rattle.archive_page.specs.declared.subject.Subject.{Subject}
 use Rattle.archive_page.specs.Answers.{page_answer}
 use Rattle.site_pages.specs.StudiesPages.{studies_answer}
+use Rattle.site_pages.specs.StudyPages.{IsStudyPage}
 use Rattle.site_pages.specs.TablePages.{IsTablePage}
 
 -- its name, how many operations it holds, and how many of each kind
@@ -34,10 +35,11 @@ abbrev pub site_answer : List ℕ → List Fact → Form → Counts → Answer
 site_answer name facts form counts =
     page_answer Subject.Site form (codes "WHAT" ∷ codes "VALUE" ∷ []) (site_rows name facts counts)
 
--- the page about a subject, asked with a query, of a site of a name whose server knows some facts
+-- the page about a subject, asked with a query, or with the name of a study, of a site of a name whose server knows some facts
 abbrev pub IsPage : List ℕ → List Fact → Subject → Form → List ℕ → List Op → Answer → Type 0
 IsPage name facts Subject.Site form query ops answer = answer ≡ site_answer name facts form (counts_of ops)
 IsPage name facts Subject.Studies form query ops answer = answer ≡ studies_answer form query ops
 IsPage name facts Subject.Rejected form query ops answer = IsTablePage Table.Rejected form ops answer
 IsPage name facts Subject.Conflicts form query ops answer = IsTablePage Table.Conflicts form ops answer
 IsPage name facts Subject.Corrections form query ops answer = IsTablePage Table.Corrections form ops answer
+IsPage name facts Subject.Study form query ops answer = IsStudyPage form query ops answer

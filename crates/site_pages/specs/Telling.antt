@@ -10,13 +10,14 @@ use Rattle.archive_page.specs.declared.asked.Asked.{Asked}
 use Rattle.archive_page.specs.declared.asked.Asked.TheVariants.{Page, Style, Health, Metrics, Nothing, Change}
 use Rattle.archive_page.specs.declared.subject.Form.{Form}
 use Rattle.archive_page.specs.declared.subject.Subject.{Subject}
+use Rattle.archive_page.specs.declared.subject.Subject.TheVariants.{Study}
 use Rattle.archive_page.specs.declared.metrics.Sample.{Sample}
 use Rattle.archive_page.specs.Answers.{style_answer, health_answer, metrics_answer, refusal}
-use Rattle.archive_page.specs.Paths.{asked_of}
+use Rattle.archive_page.specs.Paths.{asked_of, study_name}
 use Rattle.site_pages.specs.declared.pages.TheConstants.{NO_PAGE, NO_CHANGE}
 use Rattle.site_pages.specs.Responses.{Carries, IsRefused}
 
--- what a source tells about a subject, asked with a query (RFC 3986, 3.4)
+-- what a source tells about a subject, asked with a query (RFC 3986, 3.4), or of a study with its name in the path
 abbrev pub Tells : Type 0 → Type 1
 Tells S = S → Subject → Form → List ℕ → Option Answer → S → Type 0
 
@@ -54,11 +55,18 @@ abbrev pub these_or_none : Option (List ℕ) → List ℕ
 these_or_none None = []
 these_or_none (Some query) = query
 
--- the query of a request
-abbrev pub query_by : Request (List ℕ) → List ℕ
-query_by request = these_or_none (uri_query (head_of request).uri)
+-- a page of a study is asked for with a name, and all else with a query
+abbrev pub words_of : Asked → List ℕ → List ℕ → List ℕ
+words_of (Page Study form) name query = name
+words_of _ name query = query
+
+-- what a request asks with
+abbrev pub words_by : Request (List ℕ) → List ℕ
+words_by request =
+    words_of (asked_by request) (study_name (uri_path (head_of request).uri))
+    (these_or_none (uri_query (head_of request).uri))
 
 -- a request is answered with what is told of what it asks for
 abbrev pub IsAnswered : {S : Type 0} → Says S → S → Request (List ℕ) → Response → S → Type 0
 IsAnswered says old request response new =
-    (told : Option Answer) × Told says old (asked_by request) (query_by request) told new × Responds told response
+    (told : Option Answer) × Told says old (asked_by request) (words_by request) told new × Responds told response

@@ -2,7 +2,7 @@
 
 ghost use Rattle.site_pages.specs.HubPages.{says_from};
 
-use crate::looks::{site_told, studies_told, table_told};
+use crate::looks::{site_told, studies_told, study_told, table_told};
 use crate::source::Source;
 use archive_page::{Answer, Fact, Form, Sample, Subject};
 use site_hub::{HubName, Pass};
@@ -55,6 +55,7 @@ impl<'a, H: HubName> Source for HubPages<'a, H> {
             Subject::Rejected => table_told(alloc, &mut self.pass, Table::Rejected, form),
             Subject::Conflicts => table_told(alloc, &mut self.pass, Table::Conflicts, form),
             Subject::Corrections => table_told(alloc, &mut self.pass, Table::Corrections, form),
+            Subject::Study => study_told(alloc, &mut self.pass, form, query),
         }
     }
 

@@ -19,15 +19,17 @@ mod responses;
 mod searching;
 mod serving;
 mod source;
+mod study;
 mod tables;
 
 pub use counts::site_answer;
 pub use hub_serving::serve_hub_pages;
 pub use hub_source::HubPages;
 pub use listing::listed;
-pub use looking::{CountsOf, StudiesOf, TableOf};
+pub use looking::{CountsOf, StudiesOf, StudyOf, TableOf};
 pub use pages::Pages;
 pub use searching::{Searched, query_of, search_of};
 pub use serving::serve_pages;
 pub use source::Source;
+pub use study::study_page;
 pub use tables::{subject_of, table_answer};

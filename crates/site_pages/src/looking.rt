@@ -3,12 +3,13 @@
 ghost use Rattle.std.specs.Prelude.{◌≡◌};
 ghost use Rattle.site_state.specs.Site.{ops_of, counts_of};
 ghost use Rattle.site_tables.specs.Studies.{AreTaken};
+ghost use Rattle.site_tables.specs.Study.{IsTakenStudy};
 ghost use Rattle.site_tables.specs.Tables.{IsTable, rows_of_taken};
 
 use archive_query::PreparedQuery;
 use site_hub::Question;
 use site_state::{Counts, Site};
-use site_tables::{Table, TakenStudies, TakenTable};
+use site_tables::{Table, TakenStudies, TakenStudy, TakenTable};
 use std::alloc::{AllocError, Global};
 
 /// Asks how many operations are held of each kind.
@@ -48,5 +49,19 @@ impl<'a> Question<TakenStudies> for StudiesOf<'a> {
 
     fn answer(&self, alloc: Global, site: &Site) -> Result<TakenStudies, AllocError> {
         TakenStudies::of(alloc, site, self.query)
+    }
+}
+
+/// Asks for what the page of a study is made of.
+#[derive(Clone, Copy)]
+pub struct StudyOf<'a> {
+    pub uid: &'a [u8],
+}
+
+impl<'a> Question<TakenStudy> for StudyOf<'a> {
+    ghost answers = { λ q set taken. IsTakenStudy q.uid.now (ops_of set) taken };
+
+    fn answer(&self, alloc: Global, site: &Site) -> Result<TakenStudy, AllocError> {
+        TakenStudy::of(alloc, site, self.uid)
     }
 }

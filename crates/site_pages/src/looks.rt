@@ -7,15 +7,17 @@ ghost use Rattle.site_hub.specs.History.{set_of};
 ghost use Rattle.site_hub.specs.Hub.{HasLooked};
 ghost use Rattle.site_pages.specs.SitePages.{site_answer as site_answer_of};
 ghost use Rattle.site_pages.specs.StudiesPages.{studies_answer, query_of as query_in, listing_of};
+ghost use Rattle.site_pages.specs.StudyPages.{IsPageOf, IsStudyPage};
 ghost use Rattle.site_pages.specs.TablePages.{IsTablePage};
 ghost use Rattle.archive_page.specs.Answers.{listing_answer};
 
 use crate::counts::site_answer;
 use crate::listing::listed;
-use crate::looking::{CountsOf, StudiesOf, TableOf};
+use crate::looking::{CountsOf, StudiesOf, StudyOf, TableOf};
 use crate::searching::{Searched, query_of, search_of};
+use crate::study::study_page;
 use crate::tables::table_answer;
-use archive_page::{Answer, Fact, Form, Search};
+use archive_page::{Answer, Fact, Form, Search, decoded};
 use archive_query::{PreparedQuery, Query};
 use site_hub::{HubName, Pass};
 use site_tables::Table;
@@ -113,6 +115,41 @@ pub(crate) fn studies_told<H: HubName>(
     match search_of(alloc, query) {
         Ok(Searched::Found(search)) => search_told(alloc, pass, form, search),
         Ok(Searched::Refused(answer)) => Some(answer),
+        Err(_refused) => None,
+    }
+}
+
+/// The page of a study, in one look, which takes what is told of it.
+fn page_told<H: HubName>(
+    alloc: Global,
+    pass: &mut Pass<H>,
+    form: Form,
+    uid: &[u8],
+) -> Option<Answer>
+    ensures looked { HasLooked pass.old pass.new }
+    ensures page { IfSome result (λ answer. IsPageOf form uid.now
+        (ops_of (set_of H.opening pass.new.seen)) answer) }
+{
+    match pass.look(&StudyOf { uid }) {
+        Ok(taken) => study_page(alloc, form, uid, &taken).ok(),
+        Err(_fault) => None,
+    }
+}
+
+/// The page of the study that a name encodes.
+#[tactic(auto, using(crate::proofs::LookLaws::looked_self))]
+pub(crate) fn study_told<H: HubName>(
+    alloc: Global,
+    pass: &mut Pass<H>,
+    form: Form,
+    name: &[u8],
+) -> Option<Answer>
+    ensures looked { HasLooked pass.old pass.new }
+    ensures page { IfSome result (λ answer. IsStudyPage form name.now
+        (ops_of (set_of H.opening pass.new.seen)) answer) }
+{
+    match decoded(alloc, name) {
+        Ok(uid) => page_told(alloc, pass, form, uid.as_slice()),
         Err(_refused) => None,
     }
 }

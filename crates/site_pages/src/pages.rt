@@ -3,11 +3,14 @@
 ghost use Rattle.std.specs.Prelude.{◌≡◌};
 ghost use Rattle.http.specs.declared.request.Request.{Request};
 ghost use Rattle.std.specs.Option.{option_copied};
-ghost use Rattle.site_pages.specs.Telling.{Told, IsAnswered, these_or_none};
+ghost use Rattle.site_pages.specs.Telling.{Told, IsAnswered, these_or_none, words_of};
 
 use crate::responses::{refuse, respond};
 use crate::source::Source;
-use archive_page::{Answer, Asked, Status, health_answer, metrics_answer, refusal, style_answer};
+use archive_page::{
+    Answer, Asked, Status, Subject, health_answer, metrics_answer, refusal, study_name,
+    style_answer,
+};
 use bytes::Bytes;
 use http::Request;
 use http_server::{Response, Service};
@@ -31,6 +34,16 @@ fn bytes_of(query: Option<&str>) -> &[u8]
     match query {
         None => &[],
         Some(query) => query.as_bytes(),
+    }
+}
+
+/// What a page is asked for with: that of a study with its name, and all else with the query.
+fn words<'a>(asked: Asked, name: &'a [u8], query: &'a [u8]) -> &'a [u8]
+    ensures { result.now ≡ words_of asked name.now query.now }
+{
+    match asked {
+        Asked::Page(Subject::Study, _) => name,
+        _ => query,
     }
 }
 
@@ -75,8 +88,10 @@ impl<S: Source> Service for Pages<S> {
         response: &mut Response,
     ) -> Result<(), AllocError> {
         let method = request.method().as_str().as_bytes();
-        let asked = Asked::of(method, request.uri().path().as_bytes());
-        match self.told(asked, bytes_of(request.uri().query())) {
+        let path = request.uri().path().as_bytes();
+        let asked = Asked::of(method, path);
+        let words = words(asked, study_name(path), bytes_of(request.uri().query()));
+        match self.told(asked, words) {
             Some(answer) => respond(response, answer),
             None => refuse(response),
         }

@@ -12,8 +12,8 @@ pub trait Source {
     // What is told of pages, why the site takes nothing, if so, and what is counted of it.
     ghost says: { Says Self };
 
-    /// The page about a subject, asked with a query (RFC 3986, section 3.4), or none where it can't
-    /// be told now.
+    /// The page about a subject, asked with a query (RFC 3986, section 3.4), or of a study with its
+    /// name in the path, or none where it can't be told now.
     fn page(&mut self, alloc: Global, subject: Subject, form: Form, query: &[u8]) -> Option<Answer>
         ensures { says.tells self.old subject form query.now result self.new };
 

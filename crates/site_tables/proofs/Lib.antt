@@ -1,4 +1,5 @@
 pub mod ConflictLaws
+pub mod InstanceLaws
 pub mod OrderLaws
 pub mod RejectedLaws
 pub mod StudyLaws

@@ -216,9 +216,14 @@ row_is uid notes group is =
     ∙ ap (λ (ns : List Text). uid ∷ join_with_byte 32 (codes uid notes) ∷ join_with_byte 32 ns ∷ [])
     (naming_is uid notes group is)
 
+-- the notes under a UID tell of it what all notes do
+pub row_at_is : (notes : List ContentParts) (entries : List (Under ContentParts)) → Holds (flat_map named_pairs notes) entries
+    → (uid : Text) → row_by entries uid ≡ rejected_row notes uid
+row_at_is notes entries holds uid =
+    row_is uid notes (held_under uid (pairs entries)) (λ f own.
+    ap (list_any f) (holds.each uid) ∙ any_under f uid own notes)
+
 pub rows_are : (notes : List ContentParts) (entries : List (Under ContentParts)) (uids : List Text)
     → Holds (flat_map named_pairs notes) entries → map (row_by entries) uids ≡ map (rejected_row notes) uids
 rows_are notes entries uids holds =
-    map_each (row_by entries) (rejected_row notes) (λ uid.
-    row_is uid notes (held_under uid (pairs entries)) (λ f own.
-    ap (list_any f) (holds.each uid) ∙ any_under f uid own notes)) uids
+    map_each (row_by entries) (rejected_row notes) (row_at_is notes entries holds) uids

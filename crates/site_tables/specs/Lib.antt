@@ -4,5 +4,6 @@ pub mod Conflicts
 pub mod Rejected
 pub mod Corrections
 pub mod Studies
+pub mod Study
 pub mod Tables
 pub mod Laws

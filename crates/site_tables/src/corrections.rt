@@ -21,7 +21,7 @@ use std::cmp::Ordering;
 /// A correction, and whether it counts.
 #[derive(Drop)]
 pub struct Stamped {
-    correction: Correction,
+    pub(crate) correction: Correction,
     counts: bool,
 }
 
@@ -159,7 +159,7 @@ pub(crate) fn take_corrections(alloc: Global, site: &Site) -> Result<Vec<Stamped
 }
 
 /// The row of a correction.
-fn row(alloc: Global, stamped: &Stamped) -> Result<Row, AllocError>
+pub(crate) fn row(alloc: Global, stamped: &Stamped) -> Result<Row, AllocError>
     ensures { IfOk result (λ row. row ≡ row_of stamped.now) }
 {
     let correction = &stamped.correction;

@@ -7,7 +7,7 @@ ghost use Rattle.archive_model.specs.Covered.{is_among as is_among_in};
 ghost use Rattle.archive_model.specs.Index.{names_under as names_under_in};
 ghost use Rattle.site_state.specs.Site.{ops_of};
 ghost use Rattle.site_tables.specs.Rejected.{note_of, notes_of, named_by, covered_uids as covered_in, is_naming as is_naming_in, naming as naming_in, is_titled as is_titled_in, code_under, codes as codes_in, rejected_row as row_of, rows_named as rows_in, rejected_rows as rejected_rows_in, named_pairs, row_by};
-ghost use Rattle.site_tables.specs.Under.{pairs, held_under, AreInOrder, Holds};
+ghost use Rattle.site_tables.specs.Under.{pairs, AreInOrder, Holds};
 
 use crate::copies::{copies_of, references};
 use crate::table::Row;
@@ -161,17 +161,17 @@ fn codes(alloc: Global, notes: &[&Content], uid: &[u8]) -> Result<Vec<Octets>, A
     Ok(codes)
 }
 
-/// The row of a UID that some of these notes name.
-fn row(alloc: Global, notes: &[&Content], uid: &[u8]) -> Result<Row, AllocError>
-    ensures { IfOk result (λ row. row ≡ row_of (map (λ c. c.now) notes.now) uid.now) }
+/// Puts the cells of a UID that some of these notes name.
+fn put_row(alloc: Global, notes: &[&Content], uid: &[u8], cells: &mut Row) -> Result<(), AllocError>
+    ensures { OnOk result
+        (cells.new ≡ cells.old ++ row_of (map (λ c. c.now) notes.now) uid.now) }
 {
     let codes = codes(alloc, notes, uid)?;
     let naming = naming(alloc, notes, uid)?;
-    let mut cells = ListOf::new(alloc);
     cells.push(Octets::from_slice(alloc, uid)?)?;
     cells.push(joined(alloc, b' ', &codes)?)?;
     cells.push(joined(alloc, b' ', &naming)?)?;
-    Ok(cells)
+    Ok(())
 }
 
 /// Puts a note under some UIDs.
@@ -222,7 +222,10 @@ fn under_named<'a>(
 }
 
 /// The same, in the order of these UIDs.
-fn by_named<'a>(alloc: Global, notes: &[&'a Content]) -> Result<Vec<Under<'a, Content>>, AllocError>
+pub(crate) fn by_named<'a>(
+    alloc: Global,
+    notes: &[&'a Content],
+) -> Result<Vec<Under<'a, Content>>, AllocError>
     ensures { IfOk result (λ found.
         Holds (flat_map named_pairs (map (λ c. c.now) notes.now)) found.items) }
 {
@@ -231,13 +234,28 @@ fn by_named<'a>(alloc: Global, notes: &[&'a Content]) -> Result<Vec<Under<'a, Co
     Ok(entries)
 }
 
+/// Puts the cells of a UID, by the notes that lie under it.
+pub(crate) fn put_row_at(
+    alloc: Global,
+    entries: &[Under<'_, Content>],
+    uid: &[u8],
+    cells: &mut Row,
+) -> Result<(), AllocError>
+    requires { AreInOrder entries.now }
+    ensures { OnOk result (cells.new ≡ cells.old ++ row_by entries.now uid.now) }
+{
+    let notes = those_under(alloc, entries, uid)?;
+    put_row(alloc, &notes, uid, cells)
+}
+
 /// The row of a UID, by the notes that lie under it.
 fn row_at(alloc: Global, entries: &[Under<'_, Content>], uid: &[u8]) -> Result<Row, AllocError>
     requires { AreInOrder entries.now }
-    ensures { IfOk result (λ row. row ≡ row_of (held_under uid.now (pairs entries.now)) uid.now) }
+    ensures { IfOk result (λ row. row ≡ row_by entries.now uid.now) }
 {
-    let notes = those_under(alloc, entries, uid)?;
-    row(alloc, &notes, uid)
+    let mut cells = ListOf::new(alloc);
+    put_row_at(alloc, entries, uid, &mut cells)?;
+    Ok(cells)
 }
 
 /// The rows of some UIDs.

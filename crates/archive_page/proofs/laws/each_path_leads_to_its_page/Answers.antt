@@ -1,6 +1,6 @@
 use Rattle.archive_page.proofs.PathLaws.{leads}
 use Rattle.archive_page.proofs.laws.each_path_leads_to_its_page.Goals as goal
 
--- Each of the ten is the first path that is the same as itself.
+-- Each of the twelve is the first path that is the same as itself.
 pub returns : goal.returns
 returns c = leads
