@@ -468,8 +468,8 @@ fn ended_of<'a>(serving: &Serving<'a>, ended: Result<(), CommandFault>) -> Resul
 }
 
 /// Serves the operations in a file or a folder, until each worker has accepted what it may and each
-/// exchange was served, or until standard input ends where that is asked for. Meanwhile it calls its
-/// peers.
+/// exchange was served, or until standard input ends where that is asked for. Meanwhile it calls
+/// its peers.
 ///
 /// It prints where it listens once it does, and at the end how many associations were accepted.
 /// Refusals come in this order: the store, the site, the hub, the listeners; behind them the first

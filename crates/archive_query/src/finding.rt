@@ -1,5 +1,5 @@
-//! C-FIND over a site (PS3.4, section C.4.1): what is needed is taken from the site at once, and the
-//! rows are made of that.
+//! C-FIND over a site (PS3.4, section C.4.1): what is needed is taken from the site at once, and
+//! the rows are made of that.
 
 ghost use Rattle.std.specs.Prelude.{◌≡◌, false, List, ℕ, IfOk, map};
 ghost use Rattle.site_state.specs.Site.{ops_of};

@@ -1,8 +1,8 @@
 //! Answers to C-FIND over a site (PS3.4, section C.4.1).
 //!
-//! The rows are `rows_of` of `query_model`. A query is made ready first, as a `PreparedQuery`; `take`
-//! takes what its rows are made of, found by walking the site's index, and `rows_found` makes them
-//! of that, without the site.
+//! The rows are `rows_of` of `query_model`. A query is made ready first, as a `PreparedQuery`;
+//! `take` takes what its rows are made of, found by walking the site's index, and `rows_found`
+//! makes them of that, without the site.
 #![tactic(auto)]
 
 mod candidates;

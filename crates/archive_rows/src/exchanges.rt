@@ -119,8 +119,8 @@ impl Exchanges {
         )
     }
 
-    /// `exchange-fronts ROLE SITE STEP BYTES`: what it says for fronts of them, each within 48 bytes
-    /// of their ends and each of so many between.
+    /// `exchange-fronts ROLE SITE STEP BYTES`: what it says for fronts of them, each within 48
+    /// bytes of their ends and each of so many between.
     fn put_fronts(&self, out: &mut String, words: &str) -> Result<(), RowFault> {
         let (role, words) = parted(words);
         let (name, words) = parted(words);

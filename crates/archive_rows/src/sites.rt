@@ -135,7 +135,8 @@ impl Sites {
         self.put_take(out, correction)
     }
 
-    /// Has the site take a content. Where memory is refused nothing is told of it, and the row fails.
+    /// Has the site take a content. Where memory is refused nothing is told of it, and the row
+    /// fails.
     fn take_content(&mut self, out: &mut String, words: &str) -> Result<(), RowFault> {
         let op = match content_in(self.alloc, words)? {
             Ok(op) => op,
@@ -162,8 +163,8 @@ impl Sites {
         Ok(())
     }
 
-    /// `numbered FIRST COUNT WORDS`: a new site that takes contents of so many numbers from the first
-    /// on, where `#` is the number.
+    /// `numbered FIRST COUNT WORDS`: a new site that takes contents of so many numbers from the
+    /// first on, where `#` is the number.
     fn put_range(&mut self, out: &mut String, words: &str) -> Result<(), RowFault> {
         let (first, words) = parted(words);
         let (count, words) = parted(words);

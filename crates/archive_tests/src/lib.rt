@@ -1,6 +1,6 @@
 //! Tests of what an assertion says; of the shelves and logs that keep operations on disk; and of
-//! running sites: associations over passes with devices in memory, and servers, both ends in threads
-//! of one process, over 127.0.0.1.
+//! running sites: associations over passes with devices in memory, and servers, both ends in
+//! threads of one process, over 127.0.0.1.
 //!
 //! They stand in a crate of their own, so that no crate is proved once more with its tests.
 #![tactic(auto)]

@@ -33,8 +33,8 @@ pub(crate) enum Partner {
 }
 
 /// Connections in the order in which they were made, and what each does: first those that hold
-/// their workers, by silence, or where there are doors by a store that waits there; then those that are answered meanwhile; then a site; then those that are answered
-/// once all workers are let go.
+/// their workers, by silence, or where there are doors by a store that waits there; then those that
+/// are answered meanwhile; then a site; then those that are answered once all workers are let go.
 #[derive(Drop)]
 pub(crate) struct Visitors<'a> {
     pub doors: &'a Doors,

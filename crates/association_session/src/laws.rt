@@ -62,9 +62,9 @@ pub fn a_response_stands_behind_its_call()
 /// and remaining ones add up to the instances that the port replied; no other response counts any.
 ///
 /// The sub-operations of a C-GET carry what a C-GET sends of the instances that the port replied,
-/// in order, where just those transfer syntaxes are accepted which the presentation contexts accept:
-/// none is passed over but those for which none of them serves. Each goes out on a context that
-/// takes its class, in the transfer syntax in which it is sent.
+/// in order, where just those transfer syntaxes are accepted which the presentation contexts
+/// accept: none is passed over but those for which none of them serves. Each goes out on a context
+/// that takes its class, in the transfer syntax in which it is sent.
 pub fn each_request_has_one_response()
     ensures { (titles : List (Title View)) (w : Within) (heard : List Heard)
         (replies : List Reply) (deeds : List Deed) → Talks titles w None heard replies deeds →

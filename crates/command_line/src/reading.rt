@@ -96,7 +96,8 @@ fn others_of(peers: usize, page: Option<&str>) -> Option<usize>
     }
 }
 
-/// Whether these workers, those of exchanges and these others are no more than a hub has passes for.
+/// Whether these workers, those of exchanges and these others are no more than a hub has passes
+/// for.
 fn fits(workers: u16, exchange_workers: u16, others: usize) -> bool
     ensures { IsTrue result → workers + exchange_workers + others ≤ 64 }
 {

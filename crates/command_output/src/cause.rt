@@ -255,8 +255,8 @@ fn words_of_fault(fault: CommandFault) -> &'static str
     }
 }
 
-/// Of a shelf that refused a command says that the disk is full exactly where the database said that
-/// there is no room: a law, said as the contract of a function with nothing to do.
+/// Of a shelf that refused a command says that the disk is full exactly where the database said
+/// that there is no room: a law, said as the contract of a function with nothing to do.
 pub fn a_full_disk_is_told_as_one()
     ensures { SaysFullOfAFullDisk }
 {}

@@ -60,7 +60,8 @@ pub fn lacks_log(head: &[u8], has_log: bool) -> bool
     !has_log && (head.is_empty() || (is_database(head) && head.get(18) == Some(&2)))
 }
 
-/// Whether the name of an archive is that of a folder, also where none is there: it ends with a slash.
+/// Whether the name of an archive is that of a folder, also where none is there: it ends with a
+/// slash.
 pub fn names_folder(name: &str) -> bool
     ensures { result ≡ names_folder_in name.now }
 {

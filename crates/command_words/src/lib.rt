@@ -26,7 +26,8 @@ pub struct Change {
     pub value: Octets,
 }
 
-/// A change that is made at the site of a number, and the file or folder with the site's operations.
+/// A change that is made at the site of a number, and the file or folder with the site's
+/// operations.
 #[derive(Debug, Drop)]
 pub struct Correcting<'a> {
     pub file: &'a str,

@@ -63,8 +63,8 @@ pub fn exchange_on<K: Keep + Drop, R: Source, W: Sink>(
     site: Site,
     shelf: K,
 ) -> Behind<K>
-    // What the site gains lasts on this shelf, with what lasted there before, also where the exchange
-    // was broken off.
+    // What the site gains lasts on this shelf, with what lasted there before, also where the
+    // exchange was broken off.
     ensures gone_on { HaveGoneOn K.is_up K.lasts (K.lasts shelf) site result.site result.shelf }
 
     // What was said and heard, and what it comes to.

@@ -22,8 +22,8 @@ use std::marker::{Model, PhantomData};
 use std::sync::{Mutex, Wait};
 
 /// A pass with the keeper that all passes share, the way to the shelf, and what is known of the
-/// shelf's ledger. The pass goes on from what it was when its exchange began, and what it takes since
-/// stands in the ledger. Contracts see the pass.
+/// shelf's ledger. The pass goes on from what it was when its exchange began, and what it takes
+/// since stands in the ledger. Contracts see the pass.
 pub struct HubHolder<
     'a,
     'b,

@@ -1,10 +1,10 @@
 //! Exchanges of a site with a peer, where what is taken is kept: of a site on its shelf, and of a
 //! running site, with a pass of its hub as the holder.
 //!
-//! An operation that is taken is put on the shelf first, then taken by the site, or by the hub, which
-//! publishes it, then counts as given: so what a peer need not give again is kept, and is found by
-//! whoever looks from then on. What the holder of a running site has is what its pass has seen. `Put`
-//! is a way to a shelf, which may stand in another thread.
+//! An operation that is taken is put on the shelf first, then taken by the site, or by the hub,
+//! which publishes it, then counts as given: so what a peer need not give again is kept, and is
+//! found by whoever looks from then on. What the holder of a running site has is what its pass has
+//! seen. `Put` is a way to a shelf, which may stand in another thread.
 #![tactic(auto)]
 
 mod asking;

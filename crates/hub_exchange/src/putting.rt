@@ -9,8 +9,8 @@ use op_shelf::{Keep, ShelfFault};
 use operation::{Digest, Digested};
 use shelf_ledger::{Extract, Ledger, LedgerName};
 
-/// The digest of an operation that a shelf keeps, and a beginning of that shelf's ledger in which it
-/// stands.
+/// The digest of an operation that a shelf keeps, and a beginning of that shelf's ledger in which
+/// it stands.
 #[derive(Drop)]
 pub struct Shelved<N: LedgerName> {
     pub digest: Digest,

@@ -29,8 +29,8 @@ impl AtOpening for Brand {
     ghost lasted = { λ _. ⊥ };
 }
 
-/// A site with its shelf. What it has gained since its exchange began lasts on the shelf, and so does
-/// what lasted there then. Contracts see the site.
+/// A site with its shelf. What it has gained since its exchange began lasts on the shelf, and so
+/// does what lasted there then. Contracts see the site.
 pub struct ShelvedHolder<K: Keep + Drop, E: AtOpening> {
     site: Site,
     shelf: K,

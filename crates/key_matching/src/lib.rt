@@ -1,7 +1,7 @@
 //! Which values the key of a query matches, on bytes (PS3.4, section C.2.2.2).
 //!
-//! A wild-card key takes as many steps as it and the value are long; a run between two `*` that folds
-//! or has a `?` takes up to its length times that of the value.
+//! A wild-card key takes as many steps as it and the value are long; a run between two `*` that
+//! folds or has a `?` takes up to its length times that of the value.
 #![tactic(auto)]
 
 mod matching;

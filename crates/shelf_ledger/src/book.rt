@@ -93,8 +93,8 @@ impl Plain<Next, Line, u64> for Write {
     ghost state = { λ next. None };
 }
 
-/// Which ledger it is: its book, and the pen that writes its first line. Each call of a program that
-/// names one picks these.
+/// Which ledger it is: its book, and the pen that writes its first line. Each call of a program
+/// that names one picks these.
 pub trait LedgerName {
     ghost use Rattle.std.specs.Prelude.{ℕ};
     ghost use Rattle.logbook.specs.Pages.{Book};

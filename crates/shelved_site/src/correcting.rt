@@ -37,8 +37,8 @@ pub fn correct_on<S: Store>(
     ensures refused { S.is_clean store.new → OnErr result (S.spares store.old store.new) }
     ensures clean { S.is_clean store.new → S.is_clean store.old }
 
-    // Why none comes next, only where it is so. What may not be made is told so, unless memory or the
-    // store is what refuses.
+    // Why none comes next, only where it is so. What may not be made is told so, unless memory
+    // or the store is what refuses.
     ensures unmade { S.is_clean store.new → IfErr result
         (IsUncorrected (S.lists store.old) number target tag value) }
     ensures bad_correction { result ≡ Err (Hub HubFault.BadCorrection) →

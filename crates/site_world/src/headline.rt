@@ -10,8 +10,8 @@ ghost use Rattle.site_world.specs.Rejected.{RejectedIsInNoRow, RejectedIsAsIfNev
 
 /// Sites at which the same operations were taken, in one run or in two, in whatever order and
 /// however often, hold equal maps, give equal answers to every query, send the same of every
-/// selection, and have equal indexes. So the time of an operation does not matter. That unequal operations have unequal
-/// digests is no premise: a site takes one of them alone.
+/// selection, and have equal indexes. So the time of an operation does not matter. That unequal
+/// operations have unequal digests is no premise: a site takes one of them alone.
 pub fn order_is_free()
     ensures states { SameTakenSameMaps }
     ensures answers { SameTakenSameAnswers }

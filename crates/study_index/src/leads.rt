@@ -212,8 +212,8 @@ impl Lead {
         self.alloc
     }
 
-    // The bytes of the value, at most 64, and whether they are folded where they are read. So no copy
-    // is made of it.
+    // The bytes of the value, at most 64, and whether they are folded where they are read. So no
+    // copy is made of it.
     fn read(&self) -> (bool, &[u8])
         ensures { map (led_byte result.0) result.1.now ≡ self.now.1.0 }
     {

@@ -172,8 +172,9 @@ fn begins<D: Stops>(alloc: Global) -> Result<(), Fail> {
     Ok(())
 }
 
-/// Stops one disk after each number of calls of an open, until the files are opened before it stops:
-/// that number, and whether the files that came back have all operations, whatever a stop left.
+/// Stops one disk after each number of calls of an open, until the files are opened before it
+/// stops: that number, and whether the files that came back have all operations, whatever a stop
+/// left.
 fn each_open<D: Stops>(
     alloc: Global,
     images: &Images,
