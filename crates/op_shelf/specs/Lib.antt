@@ -6,6 +6,7 @@ pub mod Keep
 pub mod Migration
 pub mod Older
 pub mod Opened
+pub mod Putting
 pub mod States
 pub mod Table
 pub mod Texts

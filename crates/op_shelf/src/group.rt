@@ -8,8 +8,9 @@ ghost use Rattle.sqlite.specs.Tree.{Trees};
 ghost use Rattle.operation.specs.declared.op.Op.{Op as Operation};
 ghost use Rattle.op_shelf.specs.Entries.{entry_by, entry_of, digest_text};
 ghost use Rattle.op_shelf.specs.Fault.{IfStore};
-ghost use Rattle.op_shelf.specs.Group.{IsPutAll, MayHaveAll, IsFilling, HasAdded, HasPut, FindsOther, IsStuck, IsNotPut};
-ghost use Rattle.op_shelf.specs.States.{IfClean, IsReady, IsKnown, KeepsAll, StaysReady, HasOther, IsNotShown, rows_of, under};
+ghost use Rattle.op_shelf.specs.Group.{IsFilling, HasAdded, HasPut, FindsOther, IsStuck};
+ghost use Rattle.op_shelf.specs.Putting.{PutsGroup};
+ghost use Rattle.op_shelf.specs.States.{IfClean, IsReady, IsKnown, HasOther, IsNotShown, rows_of, under};
 ghost use Rattle.op_shelf.specs.Texts.{held_text, insert_text};
 
 use crate::fault::ShelfFault;
@@ -215,21 +216,7 @@ pub(crate) fn put_group<S: Alter>(
     ops: &[Digested],
 ) -> Result<Vec<Kept>, ShelfFault>
     requires ready { IsReady (state S.Store database.old) }
-    ensures put { IfClean S.Store database.old database.new (λ s t.
-        IfOk result (λ kepts. IsPutAll s t ops.now kepts.items)) }
-    ensures refused { IfClean S.Store database.old database.new (λ s t.
-        OnErr result (KeepsAll s t)) }
-    ensures ready { IfClean S.Store database.old database.new StaysReady }
-
-    // Each fault, only where it is.
-    ensures bad_row { IfClean S.Store database.old database.new (λ s t.
-        IsErrOf result ShelfFault.BadRow → FindsOther s ops.now) }
-    ensures store { IfClean S.Store database.old database.new (λ s t.
-        IfStore result (λ why. IsNotPut S.Store why database.old database.new ops.now)) }
-
-    // A crash finds the entries from before, or those and all of the group.
-    ensures crash { Survives (state S.Store database.old) (state S.Store database.new)
-        (MayHaveAll (state S.Store database.old) ops.now) }
+    ensures puts { PutsGroup S.Store database.old database.new ops.now result }
     ensures settled { IfClean S.Store database.old database.new (λ s t. OnOk result
         ((trees : Trees) → t.may_leave trees → trees ≡ t.now.trees)) }
 {

@@ -5,10 +5,10 @@ ghost use Rattle.sqlite.specs.declared.types.Value.TheVariants.{Int};
 ghost use Rattle.sqlite.specs.Held.{Held, held_code, state};
 ghost use Rattle.sqlite.specs.State.{IsUnchanged, Survives};
 ghost use Rattle.sqlite.specs.Tree.{Trees};
-ghost use Rattle.op_shelf.specs.Entries.{Adds, Holds, Lists, HasBadRow, entry_of, digest_text};
+ghost use Rattle.op_shelf.specs.Entries.{Holds, Lists, HasBadRow, entry_of, digest_text};
 ghost use Rattle.op_shelf.specs.Fault.{IfStore};
-ghost use Rattle.op_shelf.specs.Group.{IsPutAll, MayHaveAll, FindsOther, IsNotPut};
-ghost use Rattle.op_shelf.specs.States.{IfClean, IsUnready, IsKnown, IsPut, HasOther, KeepsAll, StaysReady, IsNotShown, IsNotKept, rows_of, rows_left, count_of, digest_cmp};
+ghost use Rattle.op_shelf.specs.Putting.{PutsEntry, PutsGroup};
+ghost use Rattle.op_shelf.specs.States.{IfClean, IsUnready, KeepsAll, IsNotShown, rows_of, rows_left, count_of, digest_cmp};
 ghost use Rattle.op_shelf.specs.Texts.{all_text, kind_text};
 
 use crate::fault::{ShelfFault, StoreCause};
@@ -58,29 +58,9 @@ impl<S: Alter + Drop> Shelf<S> {
 
 impl<S: Alter> Shelf<S> {
     /// Puts an operation on the shelf, and syncs it. It is hashed here, and put as
-    /// `put_digested` does.
+    /// `put_digested` does: New adds exactly it, Known finds it there, a refusal changes nothing.
     pub fn put(&mut self, op: &Op) -> Result<Kept, ShelfFault>
-        // New adds exactly that operation, Known finds it there, and a refusal changes nothing.
-        // A shelf that was ready, and is open, is ready.
-        ensures new { IfClean S.Store self.old self.new (λ s t.
-            result ≡ Ok Kept.New → IsPut s t (digest_text op.now) (entry_of op.now)) }
-        ensures known { IfClean S.Store self.old self.new (λ s t.
-            result ≡ Ok Kept.Known → IsKnown s t (digest_text op.now) (entry_of op.now)) }
-        ensures refused { IfClean S.Store self.old self.new (λ s t. OnErr result (KeepsAll s t)) }
-        ensures ready { IfClean S.Store self.old self.new StaysReady }
-
-        // Each fault, only where it is.
-        ensures bad_row { IfClean S.Store self.old self.new (λ s t. IsErrOf result ShelfFault.BadRow
-            → HasOther (rows_of s) (digest_text op.now) (entry_of op.now)) }
-        ensures store { IfClean S.Store self.old self.new (λ s t. IfStore result (λ why.
-            IsNotKept S.Store why self.old self.new (digest_text op.now) (entry_of op.now))) }
-
-        // A crash finds the operations from before, with this one or without; after Ok with it.
-        ensures crash { Survives (state S.Store self.old) (state S.Store self.new) (λ trees.
-            Adds (rows_of (state S.Store self.old)) (rows_left (state S.Store self.old) trees)
-            (entry_of op.now)) }
-        ensures durable { IfClean S.Store self.old self.new (λ s t. OnOk result
-            ((trees : Trees) → t.may_leave trees → Holds (rows_left t trees) op.now)) }
+        ensures { PutsEntry S.Store self.old self.new (digest_text op.now) (entry_of op.now) result }
     {
         let digested = Digested::of(op.copy(self.alloc)?);
         self.put_digested(&digested)
@@ -89,27 +69,7 @@ impl<S: Alter> Shelf<S> {
     /// Puts an operation on the shelf under the digest that it has, and syncs it. Nothing is
     /// hashed. The data set is copied once, into the spelling that is stored.
     pub fn put_digested(&mut self, op: &Digested) -> Result<Kept, ShelfFault>
-        // New adds exactly that operation, Known finds it there, and a refusal changes nothing.
-        // A shelf that was ready, and is open, is ready.
-        ensures new { IfClean S.Store self.old self.new (λ s t.
-            result ≡ Ok Kept.New → IsPut s t (digest_text op.now) (entry_of op.now)) }
-        ensures known { IfClean S.Store self.old self.new (λ s t.
-            result ≡ Ok Kept.Known → IsKnown s t (digest_text op.now) (entry_of op.now)) }
-        ensures refused { IfClean S.Store self.old self.new (λ s t. OnErr result (KeepsAll s t)) }
-        ensures ready { IfClean S.Store self.old self.new StaysReady }
-
-        // Each fault, only where it is.
-        ensures bad_row { IfClean S.Store self.old self.new (λ s t. IsErrOf result ShelfFault.BadRow
-            → HasOther (rows_of s) (digest_text op.now) (entry_of op.now)) }
-        ensures store { IfClean S.Store self.old self.new (λ s t. IfStore result (λ why.
-            IsNotKept S.Store why self.old self.new (digest_text op.now) (entry_of op.now))) }
-
-        // A crash finds the operations from before, with this one or without; after Ok with it.
-        ensures crash { Survives (state S.Store self.old) (state S.Store self.new) (λ trees.
-            Adds (rows_of (state S.Store self.old)) (rows_left (state S.Store self.old) trees)
-            (entry_of op.now)) }
-        ensures durable { IfClean S.Store self.old self.new (λ s t. OnOk result
-            ((trees : Trees) → t.may_leave trees → Holds (rows_left t trees) op.now)) }
+        ensures { PutsEntry S.Store self.old self.new (digest_text op.now) (entry_of op.now) result }
     {
         let name = op.digest().text(self.alloc)?;
         let body = encode(self.alloc, op.op())?;
@@ -120,22 +80,9 @@ impl<S: Alter> Shelf<S> {
     /// once. It tells of each whether it was there. Nothing is hashed, and one spelling at a time
     /// is in memory.
     pub fn put_many(&mut self, ops: &[Digested]) -> Result<Vec<Kept>, ShelfFault>
-        // All of the group is put, each in its turn, and a refusal changes nothing.
-        // A shelf that was ready, and is open, is ready.
-        ensures put { IfClean S.Store self.old self.new (λ s t.
-            IfOk result (λ kepts. IsPutAll s t ops.now kepts.items)) }
-        ensures refused { IfClean S.Store self.old self.new (λ s t. OnErr result (KeepsAll s t)) }
-        ensures ready { IfClean S.Store self.old self.new StaysReady }
+        ensures puts { PutsGroup S.Store self.old self.new ops.now result }
 
-        // Each fault, only where it is.
-        ensures bad_row { IfClean S.Store self.old self.new (λ s t.
-            IsErrOf result ShelfFault.BadRow → FindsOther s ops.now) }
-        ensures store { IfClean S.Store self.old self.new (λ s t.
-            IfStore result (λ why. IsNotPut S.Store why self.old self.new ops.now)) }
-
-        // A crash finds the operations from before, or those and all of the group; after Ok these.
-        ensures crash { Survives (state S.Store self.old) (state S.Store self.new)
-            (MayHaveAll (state S.Store self.old) ops.now) }
+        // After Ok every crash leaves all of the group.
         ensures durable { IfClean S.Store self.old self.new (λ s t. OnOk result
             ((trees : Trees) → t.may_leave trees → All (Holds (rows_left t trees)) ops.now)) }
     {

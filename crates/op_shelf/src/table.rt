@@ -4,11 +4,11 @@ ghost use Rattle.std.specs.Prelude.{◌≡◌, ◌≢◌, ◌↔◌, ◌∷◌, 
 ghost use Rattle.sqlite.specs.declared.types.Value.TheVariants.{Text};
 ghost use Rattle.sqlite.specs.Held.{state};
 ghost use Rattle.sqlite.specs.State.{HasCleanDisk, IsUnchanged, Survives};
-ghost use Rattle.sqlite.specs.Tree.{Trees};
-ghost use Rattle.op_shelf.specs.Entries.{entries, entry_by, Adds};
+ghost use Rattle.op_shelf.specs.Entries.{entry_by, Adds};
 ghost use Rattle.op_shelf.specs.Fault.{IfStore};
 ghost use Rattle.op_shelf.specs.Migration.{IsOlder};
-ghost use Rattle.op_shelf.specs.States.{IfClean, IsReady, IsKnown, IsPut, HasOther, KeepsAll, Spares, StaysReady, IsNotShown, IsNotDone, IsNotKept, IsAdded, IsBare, under, rows_of, rows_left};
+ghost use Rattle.op_shelf.specs.Putting.{PutsEntry};
+ghost use Rattle.op_shelf.specs.States.{IfClean, IsReady, IsKnown, HasOther, Spares, IsNotShown, IsNotDone, IsAdded, IsBare, under, rows_of, rows_left};
 ghost use Rattle.op_shelf.specs.Table.{IsShelf};
 ghost use Rattle.op_shelf.specs.Texts.{held_text, insert_text};
 
@@ -92,30 +92,8 @@ pub(crate) fn put_entry<S: Alter>(
     digest: &str,
     body: &[u8],
 ) -> Result<Kept, ShelfFault>
-    // New adds exactly that entry, Known finds it there, and a refusal changes nothing.
-    ensures new { IfClean S.Store database.old database.new (λ s t. result ≡ Ok Kept.New
-        → IsPut s t digest.now (entry_by digest.now body.now)) }
-    ensures known { IfClean S.Store database.old database.new (λ s t. result ≡ Ok Kept.Known
-        → IsKnown s t digest.now (entry_by digest.now body.now)) }
-    ensures refused { IfClean S.Store database.old database.new (λ s t.
-        OnErr result (KeepsAll s t)) }
-    ensures ready { IfClean S.Store database.old database.new StaysReady }
-
-    // Each fault, only where it is.
-    ensures bad_row { IfClean S.Store database.old database.new (λ s t.
-        IsErrOf result ShelfFault.BadRow
-        → HasOther (rows_of s) digest.now (entry_by digest.now body.now)) }
-    ensures store { IfClean S.Store database.old database.new (λ s t.
-        IfStore result (λ why. IsNotKept S.Store why database.old database.new digest.now
-        (entry_by digest.now body.now))) }
-
-    // A crash finds the entries from before, with this one or without, and after Ok with it.
-    ensures crash { Survives (state S.Store database.old) (state S.Store database.new) (λ trees.
-        Adds (rows_of (state S.Store database.old)) (rows_left (state S.Store database.old) trees)
-        (entry_by digest.now body.now)) }
-    ensures durable { IfClean S.Store database.old database.new (λ s t. OnOk result
-        ((trees : Trees) → t.may_leave trees
-        → Contains (entries (rows_left t trees)) (entry_by digest.now body.now))) }
+    ensures { PutsEntry S.Store database.old database.new digest.now
+        (entry_by digest.now body.now) result }
 {
     if !is_ready(database) {
         return Err(ShelfFault::Store(StoreCause::Other));
