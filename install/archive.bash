@@ -2,7 +2,7 @@
 _archive() {
     local word=${COMP_WORDS[COMP_CWORD]} before=${COMP_WORDS[COMP_CWORD - 1]} words=
     if [ "$COMP_CWORD" -eq 1 ]; then
-        words="serve exchange correct report move simulate help --help --version"
+        words="serve exchange correct report move verify simulate help --help --version"
     else
         case "${COMP_WORDS[1]} $before" in
             *\ --listen | *\ --exchange | *\ --page | *\ --peer | *\ --every | *\ --allow | *\ --exchange-allow | *\ --page-allow | *\ --calling | *\ --quality-calling | *\ --audit-calling | *\ --idle | *\ --exchange-workers | *\ --workers | *\ --each | *\ --rounds | *\ --site) return ;;
@@ -12,7 +12,8 @@ _archive() {
             correct\ *) words="--site study patient series --help" ;;
             report\ *) words="--fingerprint --conflicts --rejected --corrections --studies --tsv --help" ;;
             move\ *) words="--help" ;;
-            help\ help) words="serve exchange correct report move simulate" ;;
+            verify\ *) words="--help" ;;
+            help\ help) words="serve exchange correct report move verify simulate" ;;
             *) return ;;
         esac
     fi

@@ -9,6 +9,7 @@ use crate::refused::{Refused, about};
 use crate::report::report;
 use crate::serve::serve;
 use crate::simulate::answer_script;
+use crate::verifying::verify;
 use anyhow::Result;
 use command_words::Asked;
 use log::Log;
@@ -50,6 +51,7 @@ pub fn answer<
         Asked::Correct(correcting) => Ok(correct(rt, correcting)),
         Asked::Exchange(exchanging) => Ok(exchange(rt, host, exchanging)),
         Asked::Move(moving) => Ok(move_operations(rt, moving)),
+        Asked::Verify(verifying) => Ok(printed(rt.alloc(), verify(rt, verifying)?)),
         Asked::Serve(serving) => Ok(printed(rt.alloc(), serve(rt, host, &serving)?)),
     }
 }

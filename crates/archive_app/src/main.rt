@@ -14,6 +14,7 @@ mod refused;
 mod report;
 mod serve;
 mod simulate;
+mod verifying;
 mod viewing;
 
 use crate::answering::{Answered, answer};

@@ -6,6 +6,7 @@ ghost use Rattle.std.specs.Prelude.{◌≡◌};
 
 use devices::{DeviceFault, Sink, Source};
 use kept_log::Following;
+use op_shelf::Testing;
 use shelved_site::Hearing;
 use std::io::IsTerminal;
 use std::rt::HostRuntime;
@@ -67,6 +68,19 @@ impl Following for Progress<'_> {
         if let Some(rt) = self.reader {
             if operations % MOVED == 0 {
                 let _ = eprintln!(rt; "moved {operations} operations");
+            }
+        }
+    }
+}
+
+/// How many operations are tested between two lines.
+const TESTED: u64 = 1_024;
+
+impl Testing for Progress<'_> {
+    fn has_tested(&self, operations: u64) {
+        if let Some(rt) = self.reader {
+            if operations % TESTED == 0 {
+                let _ = eprintln!(rt; "tested {operations} operations");
             }
         }
     }

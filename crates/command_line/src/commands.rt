@@ -83,6 +83,16 @@ only read. Prints how many operations FROM has, and how many were new in TO.
 
 Example: archive move site.db site/";
 
+const VERIFY: &str = "Tests each operation in FILE against its digest";
+
+const VERIFY_LONG: &str = "\
+Tests each operation in FILE against its digest, and prints how many there are,
+a line \"damaged DIGEST INSTANCE\" for each that is not the one of its digest,
+and how many these are; with one or more of them the status is 1. FILE is only
+read, and is refused where it is not there.
+
+Example: archive verify site/";
+
 /// The headings of the options of a server.
 const LISTENING: &str = "Listening";
 
@@ -402,6 +412,10 @@ fn move_command<'a>(alloc: Global) -> Result<Command<'a>, AllocError> {
     with(command, word(alloc, "TO", "The archive that is filled"))
 }
 
+fn verify_command<'a>(alloc: Global) -> Result<Command<'a>, AllocError> {
+    command_of(alloc, "verify", VERIFY, VERIFY_LONG)
+}
+
 pub(crate) fn archive_command<'a>(alloc: Global) -> Result<Command<'a>, AllocError> {
     Command::new(alloc, "archive")
         .about(ABOUT)
@@ -412,5 +426,6 @@ pub(crate) fn archive_command<'a>(alloc: Global) -> Result<Command<'a>, AllocErr
         .subcommand(correct_command(alloc)?)?
         .subcommand(serve_command(alloc)?)?
         .subcommand(exchange_command(alloc)?)?
-        .subcommand(move_command(alloc)?)
+        .subcommand(move_command(alloc)?)?
+        .subcommand(verify_command(alloc)?)
 }

@@ -7,7 +7,9 @@ use crate::refusals::{
     BAD_FORM, BAD_PEER, Refusal, TOO_MANY, WITHOUT_COMMAND, is_address, refusal_of_serve, text,
 };
 use clap::ArgMatches;
-use command_words::{Asked, Correcting, Exchanging, Moving, Reporting, Serving, change_in};
+use command_words::{
+    Asked, Correcting, Exchanging, Moving, Reporting, Serving, Verifying, change_in,
+};
 use exchange_run::Role;
 use ipv4_networks::{Network, read_network};
 use site_tables::Table;
@@ -204,6 +206,13 @@ fn read_move<'a>(found: &ArgMatches<'a>) -> Moving<'a> {
     }
 }
 
+/// What the words behind `verify` ask for.
+fn read_verify<'a>(found: &ArgMatches<'a>) -> Verifying<'a> {
+    Verifying {
+        file: text(found, "FILE"),
+    }
+}
+
 /// What the words behind `serve` ask for, or the first thing in them that is refused.
 fn read_server<'a>(
     alloc: Global,
@@ -239,6 +248,7 @@ pub(crate) fn read_command<'a>(
             None => Ok(Err(BAD_PEER)),
         },
         Some(("move", found)) => Ok(Ok(Asked::Move(read_move(found)))),
+        Some(("verify", found)) => Ok(Ok(Asked::Verify(read_verify(found)))),
         Some(("simulate", _found)) => Ok(Ok(Asked::Simulate)),
         _ => Ok(Err(WITHOUT_COMMAND)),
     }

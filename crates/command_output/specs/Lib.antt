@@ -2,3 +2,4 @@ pub mod Causes
 pub mod Ending
 pub mod Lines
 pub mod Notes
+pub mod Verified

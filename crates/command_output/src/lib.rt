@@ -5,6 +5,7 @@ mod cause;
 mod ending;
 mod lines;
 mod notes;
+mod verified;
 
 pub use cause::{
     Cause, FileCause, NetCause, a_full_disk_is_told_as_one, file_cause_in_error, file_cause_of,
@@ -13,3 +14,4 @@ pub use cause::{
 pub use ending::{CommandFault, Ending, ending_of, status_of_refusal};
 pub use lines::{line_of_stamp, lines_of, lines_of_exchange, lines_of_move};
 pub use notes::{Note, is_other, lacks_log, names_folder, words_of_note};
+pub use verified::{ended_of_verify, lines_of_verify};

@@ -15,7 +15,12 @@ use shelved_site::Report;
 use std::alloc::{AllocError, Global};
 
 /// A line of a word and a number.
-fn put_count(alloc: Global, out: &mut Vec<u8>, word: &[u8], number: u64) -> Result<(), AllocError>
+pub(crate) fn put_count(
+    alloc: Global,
+    out: &mut Vec<u8>,
+    word: &[u8],
+    number: u64,
+) -> Result<(), AllocError>
     ensures { OnOk result (out.new.items ≡ out.old.items ++ message_line word.now number) }
 {
     out.extend_from_slice(word)?;

@@ -9,7 +9,7 @@ use Rattle.command_words.specs.declared.Change.{Change}
 use Rattle.command_words.specs.declared.Correcting.{Correcting}
 use Rattle.command_words.specs.declared.Serving.{Serving}
 use Rattle.command_words.specs.declared.Asked.{Asked}
-use Rattle.command_words.specs.declared.Asked.TheVariants.{Simulate, Report, Correct, Serve, Exchange, Move}
+use Rattle.command_words.specs.declared.Asked.TheVariants.{Simulate, Report, Correct, Serve, Exchange, Move, Verify}
 
 abbrev pub change_for : Option Target → Option ℕ → List ℕ → Option Change
 change_for (Some target) (Some tag) value = Some (record { target = target; tag = tag; value = value })
@@ -52,3 +52,4 @@ IsInRange (Correct correcting) = HasSite correcting
 IsInRange (Serve serving) = HasPlaces serving
 IsInRange (Exchange exchanging) = Unit {0}
 IsInRange (Move moving) = Unit {0}
+IsInRange (Verify verifying) = Unit {0}

@@ -110,6 +110,12 @@ pub struct Moving<'a> {
     pub to: &'a str,
 }
 
+/// The file or folder whose operations are tested against their digests.
+#[derive(Clone, Copy, Debug)]
+pub struct Verifying<'a> {
+    pub file: &'a str,
+}
+
 /// What a command line asks for.
 #[derive(Debug, Drop)]
 pub enum Asked<'a> {
@@ -125,6 +131,8 @@ pub enum Asked<'a> {
     Exchange(Exchanging<'a>),
     /// Brings the operations of one archive into another.
     Move(Moving<'a>),
+    /// Tests operations against their digests.
+    Verify(Verifying<'a>),
 }
 
 impl<'a> Serving<'a> {

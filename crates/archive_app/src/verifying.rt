@@ -1,0 +1,71 @@
+//! `archive verify`: tests each operation in a file or a folder against its digest.
+
+ghost use Rattle.std.specs.Prelude.{IfOk, OnErr, OnOk};
+
+use crate::file::OnStore;
+use crate::folder::is_absent;
+use crate::progress::Progress;
+use crate::refused::{Refused, about};
+use crate::viewing::view_file;
+use anyhow::Result as Printed;
+use command_output::{CommandFault, FileCause, ended_of_verify, lines_of_verify};
+use command_words::Verifying;
+use kept_log::Store;
+use op_shelf::{ShelfFault, StoreCause, Testing, Verified};
+use std::io;
+use std::io::Write;
+use std::rt::HostRuntime;
+
+/// Tests all operations of a store, and tells how far it is.
+fn tested<S: Store, T: Testing>(store: &mut S, hearing: &T) -> Result<Verified, ShelfFault>
+    ensures verified { S.is_clean store.new → IfOk result
+        (λ told. S.verifies store.old told.operations told.damaged.items) }
+    ensures same { S.is_clean store.new → OnOk result (S.is_same store.old store.new) }
+    ensures read { S.is_clean store.new → OnErr result (S.spares store.old store.new) }
+{
+    store.verify(hearing)
+}
+
+/// A test of a store.
+#[derive(Drop)]
+struct Verification<'h, 'a> {
+    rt: &'h HostRuntime,
+    file: &'a str,
+}
+
+impl<'h, 'a> OnStore for Verification<'h, 'a> {
+    type Told = Result<Verified, ShelfFault>;
+
+    fn on<S: Store + Drop + Send>(self, mut store: S) -> Result<Verified, ShelfFault> {
+        let progress = Progress::of(self.rt);
+        progress.begins(self.file);
+        tested(&mut store, &progress)
+    }
+}
+
+/// What the operations in a file are tested to be. One that is not there is refused.
+fn verified<'a>(rt: &HostRuntime, file: &'a str) -> Result<Verified, Refused<'a>> {
+    if is_absent(rt, file) {
+        let fault = CommandFault::Shelf(ShelfFault::Store(StoreCause::Other));
+        return Err(Refused::file(file, fault, FileCause::Absent));
+    }
+    match view_file(rt, file, Verification { rt, file })? {
+        Ok(verified) => Ok(verified),
+        Err(fault) => Err(Refused::of(file, CommandFault::Shelf(fault))),
+    }
+}
+
+/// Tests each operation in a file, of which nothing is changed, and prints which are not those of
+/// their digests. Where one is not it ends with a fault behind that.
+pub fn verify<'a>(rt: &HostRuntime, verifying: Verifying<'a>) -> Printed<Result<(), Refused<'a>>> {
+    let file = verifying.file;
+    let verified = match verified(rt, file) {
+        Ok(verified) => verified,
+        Err(refused) => return Ok(Err(refused)),
+    };
+    match about(file, lines_of_verify(rt.alloc(), &verified)) {
+        Ok(lines) => io::writer(rt).write_all(lines.as_slice())?,
+        Err(refused) => return Ok(Err(refused)),
+    }
+    Ok(about(file, ended_of_verify(&verified)))
+}
