@@ -5,8 +5,7 @@ use crate::hub::Shared;
 use crate::images::{CT, IMAGE_LENGTH, image, study};
 use anyhow::{Result, anyhow};
 use archive_model::View;
-use archive_query::Level;
-use archive_retrieve::{Accepted, Accepts, Selection};
+use archive_query::{Accepted, Accepts, Level, Selection};
 use octets::{ListOf, Octets};
 use operation::{Digested, Op, Stamp, Target, correction_of};
 use site_hub::{

@@ -9,3 +9,17 @@ pub mod Index
 pub mod Members
 pub mod Laws
 pub mod Coercion
+pub mod Key
+pub mod Fault
+pub mod Query
+pub mod Column
+pub mod Cell
+pub mod Rows
+pub mod Answer
+pub mod Accepts
+pub mod Change
+pub mod Selection
+pub mod Sending
+pub mod Prepared
+pub mod Preparing
+pub mod SendingLaws

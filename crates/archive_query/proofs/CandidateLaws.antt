@@ -38,20 +38,20 @@ use Rattle.key_matching.specs.declared.matching.Matching.{Matching}
 use Rattle.key_matching.specs.declared.matching.Matching.TheVariants.{Dates, Times, WildCard, Name, Uids, Single}
 use Rattle.key_matching.specs.declared.matching.Matching.TheVariants.{Answered}
 use Rattle.key_matching.specs.Matches.{is_universal, parts, matches, is_match_by, is_same_part}
-use Rattle.live_picks.specs.Keys.{has}
-use Rattle.live_picks.specs.Live.{pick_at, is_of_study, is_of_series}
+use Rattle.study_index.specs.Keys.{has}
+use Rattle.study_index.specs.Live.{pick_at, is_of_study, is_of_series}
 use Rattle.study_index.specs.Index.{IndexValue, pick_of}
 use Rattle.study_index.specs.Definition.{IsIndexOf, AreLawful}
-use Rattle.live_picks.specs.Proved.Picks.{text_exact}
-use Rattle.live_picks.proofs.KeyLaws.{at_itself, same_key}
+use Rattle.study_index.specs.Proved.Picks.{text_exact}
+use Rattle.study_index.proofs.KeyLaws.{at_itself, same_key}
 use Rattle.study_index.proofs.Corrected.{not_corrected}
-use Rattle.query_model.specs.declared.asked.Asked.{Asked}
-use Rattle.query_model.specs.declared.query.Query.{Query}
-use Rattle.query_model.specs.declared.key.Level.{Level}
-use Rattle.query_model.specs.declared.key.Level.TheVariants.{Study, Series, Image}
-use Rattle.query_model.specs.Key.{has_study_above, has_series_above}
-use Rattle.query_model.specs.Rows.{uid_at, is_named, named, uids_at, is_at as is_at_uid, contents_at, is_key_match}
-use Rattle.query_model.specs.Rows.{is_match, row, row_of, row_at, rows_among, rows_of}
+use Rattle.archive_model.specs.declared.asked.Asked.{Asked}
+use Rattle.archive_model.specs.declared.query.Query.{Query}
+use Rattle.archive_model.specs.declared.key.Level.{Level}
+use Rattle.archive_model.specs.declared.key.Level.TheVariants.{Study, Series, Image}
+use Rattle.archive_model.specs.Key.{has_study_above, has_series_above}
+use Rattle.archive_model.specs.Rows.{uid_at, is_named, named, uids_at, is_at as is_at_uid, contents_at, is_key_match}
+use Rattle.archive_model.specs.Rows.{is_match, row, row_of, row_at, rows_among, rows_of}
 use Rattle.key_matching.specs.Prepared.{is_uids}
 use Rattle.archive_query.specs.Candidates.{is_list_of, is_listed_series, is_walked_at_series, is_walked_at_image, listed_tag}
 use Rattle.archive_query.specs.Candidates.{cut_texts, members_of, is_of_walked, AreStudiesOf, AreWalked, AreAt, AreCandidates}
@@ -61,7 +61,7 @@ use Rattle.std.specs.Cmp.Lexicographic.{nat_list_cmp_total}
 use Rattle.join_laws.specs.Proved.Sets.{has-union}
 use Rattle.octets.proofs.TextLemmas.{in_ascending}
 use Rattle.archive_query.proofs.DistinctLaws.{any_ascending}
-use Rattle.live_picks.proofs.Studies.{pick_listed}
+use Rattle.study_index.proofs.Studies.{pick_listed}
 use Rattle.archive_query.proofs.LeadEnough.{leads_enough, value_within}
 use Rattle.archive_query.proofs.TextLeads.{walked, none_stands}
 use Rattle.archive_query.specs.Leads.{value_walk}

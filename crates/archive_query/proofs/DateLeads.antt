@@ -17,7 +17,7 @@ use Rattle.key_matching.specs.declared.range.Moment.TheVariants.{Date}
 use Rattle.key_matching.specs.Matches.{is_match_by}
 use Rattle.key_matching.specs.Range.{are_digits, is_date, is_from, is_until, is_in_range, is_no_later, is_open}
 use Rattle.key_matching.specs.Range.{first_end, last_end}
-use Rattle.live_picks.specs.Live.{Text}
+use Rattle.study_index.specs.Live.{Text}
 use Rattle.study_index.specs.Leads.{Lead, lead_cmp, led_byte, is_folded, as_led, is_between, value_front}
 use Rattle.study_index.specs.Leads.{IsWithin, IsBehind, LeadWalk, is_walked, may_have}
 use Rattle.archive_query.specs.Leads.{is_dates, IsUpTo}

@@ -20,13 +20,13 @@ use Rattle.archive_model.specs.Contents.{study_of, series_of}
 use Rattle.archive_model.specs.Shown.{shown_at}
 use Rattle.archive_model.proofs.MemberLaws.{has_filter, filter_has}
 use Rattle.archive_model.proofs.ModelLaws.{same_is, pick_is_content}
-use Rattle.live_picks.specs.Live.{Pick, Place, place_cmp, place_of, instance_of, pick_at, tree_of, front_of, end_of}
-use Rattle.live_picks.specs.Live.{is_between, places_in_study}
-use Rattle.live_picks.specs.Proved.Picks.{place_total, place_exact}
-use Rattle.live_picks.proofs.Studies.{between_of}
-use Rattle.live_picks.proofs.Trees.{sorted-tree_of}
-use Rattle.live_picks.proofs.Walks.{listed, picked, IsListed}
-use Rattle.live_picks.proofs.KeyLaws.{at_itself, same_key}
+use Rattle.study_index.specs.Live.{Pick, Place, place_cmp, place_of, instance_of, pick_at, tree_of, front_of, end_of}
+use Rattle.study_index.specs.Live.{is_between, places_in_study}
+use Rattle.study_index.specs.Proved.Picks.{place_total, place_exact}
+use Rattle.study_index.proofs.Studies.{between_of}
+use Rattle.study_index.proofs.Trees.{sorted-tree_of}
+use Rattle.study_index.proofs.Walks.{listed, picked, IsListed}
+use Rattle.study_index.proofs.KeyLaws.{at_itself, same_key}
 use Rattle.std.specs.BTreeMap.{is_at}
 use Rattle.archive_model.proofs.MemberLaws.{any_has, has_any}
 use Rattle.study_index.specs.Index.{IndexValue, pick_of}

@@ -20,16 +20,16 @@ use Rattle.archive_model.specs.Shown.{shown, shown_at}
 use Rattle.archive_model.proofs.MemberLaws.{any_has, filter_has, has_filter, has_map, map_has, filter_map_has}
 use Rattle.archive_model.proofs.MemberLaws.{has_filter_map}
 use Rattle.archive_model.proofs.ModelLaws.{same_itself, pick_is_content}
-use Rattle.live_picks.specs.Live.{tree_of, places_in_study}
-use Rattle.live_picks.specs.Proved.Picks.{text_exact}
-use Rattle.live_picks.proofs.KeyLaws.{same_key}
+use Rattle.study_index.specs.Live.{tree_of, places_in_study}
+use Rattle.study_index.specs.Proved.Picks.{text_exact}
+use Rattle.study_index.proofs.KeyLaws.{same_key}
 use Rattle.study_index.specs.Index.{IndexValue}
 use Rattle.study_index.specs.Definition.{IsIndexOf, AreLawful}
-use Rattle.query_model.specs.declared.asked.Asked.{Asked}
-use Rattle.query_model.specs.declared.query.Query.{Query}
-use Rattle.query_model.specs.declared.key.Level.TheVariants.{Study}
-use Rattle.query_model.specs.Key.{has_study_above, has_series_above}
-use Rattle.query_model.specs.Rows.{uid_at, is_named, named, rows_among, rows_of}
+use Rattle.archive_model.specs.declared.asked.Asked.{Asked}
+use Rattle.archive_model.specs.declared.query.Query.{Query}
+use Rattle.archive_model.specs.declared.key.Level.TheVariants.{Study}
+use Rattle.archive_model.specs.Key.{has_study_above, has_series_above}
+use Rattle.archive_model.specs.Rows.{uid_at, is_named, named, rows_among, rows_of}
 use Rattle.archive_query.specs.Candidates.{is_list_of, members_of, listed_of, listed_tag, AreWalked}
 use Rattle.archive_query.specs.Firsts.{is_counted, firsts_in_study, firsts_of}
 use Rattle.archive_query.specs.Found.{AreEnough}

@@ -19,11 +19,11 @@ use Rattle.archive_model.specs.Shown.{shown_at, unless_hiding}
 use Rattle.archive_model.specs.Attributes.{corrections, corrects, greatest, corrected, attribute}
 use Rattle.archive_model.proofs.MemberLaws.{filter_has, filter_map_has}
 use Rattle.archive_model.proofs.ModelLaws.{same_is, same_itself, pick_is_content}
-use Rattle.live_picks.specs.Proved.Picks.{text_exact}
-use Rattle.live_picks.proofs.KeyLaws.{same_key}
-use Rattle.query_model.specs.declared.asked.Asked.{Asked}
-use Rattle.query_model.specs.declared.query.Query.{Query}
-use Rattle.query_model.specs.Rows.{is_named, named, rows_among}
+use Rattle.study_index.specs.Proved.Picks.{text_exact}
+use Rattle.study_index.proofs.KeyLaws.{same_key}
+use Rattle.archive_model.specs.declared.asked.Asked.{Asked}
+use Rattle.archive_model.specs.declared.query.Query.{Query}
+use Rattle.archive_model.specs.Rows.{is_named, named, rows_among}
 use Rattle.archive_query.specs.Found.{fixes_of, value_among, these_or_none, fixes_under, fixes_put, value_by}
 use Rattle.archive_query.specs.Found.{AreFixes, rows_found}
 use Rattle.archive_query.proofs.RowLaws.{rows_agree}

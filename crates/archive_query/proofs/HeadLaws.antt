@@ -24,13 +24,13 @@ use Rattle.octets.specs.Texts.{same, text_cmp, ascending}
 use Rattle.archive_model.specs.Contents.{series_of}
 use Rattle.archive_model.proofs.MemberLaws.{any_has, has_any, filter_has, has_filter, has_map, map_has}
 use Rattle.archive_model.proofs.ModelLaws.{same_is, same_itself}
-use Rattle.query_model.specs.declared.key.Level.{Level}
-use Rattle.query_model.specs.declared.query.Query.{Query}
-use Rattle.query_model.specs.Key.{word_of}
-use Rattle.query_model.specs.Column.{columns}
-use Rattle.query_model.specs.Cell.{cell}
-use Rattle.query_model.specs.Rows.{uid_at, uids_at, is_at, contents_at, is_match_with, modalities_of, asked_value, is_unique_key}
-use Rattle.query_model.specs.Rows.{is_asked, value_in_row, cell_in_row, row_with, row_of_with, row_at_with, rows_with}
+use Rattle.archive_model.specs.declared.key.Level.{Level}
+use Rattle.archive_model.specs.declared.query.Query.{Query}
+use Rattle.archive_model.specs.Key.{word_of}
+use Rattle.archive_model.specs.Column.{columns}
+use Rattle.archive_model.specs.Cell.{cell}
+use Rattle.archive_model.specs.Rows.{uid_at, uids_at, is_at, contents_at, is_match_with, modalities_of, asked_value, is_unique_key}
+use Rattle.archive_model.specs.Rows.{is_asked, value_in_row, cell_in_row, row_with, row_of_with, row_at_with, rows_with}
 use Rattle.archive_query.specs.Firsts.{is_counted_tag, is_counted}
 use Rattle.archive_query.specs.Grouping.{Ascends}
 use Rattle.archive_query.proofs.AscendingLaws.{Text, Has, equal_is, itself, one_rising, ascending_rises, ascending_has}

@@ -25,9 +25,9 @@ use Rattle.archive_model.specs.Attributes.{is_last, is_target_of}
 use Rattle.archive_model.proofs.MemberLaws.{has_filter, filter_has, has_any, any_has, has_map, found_has, filter_map_has}
 use Rattle.archive_model.proofs.ModelLaws.{same_is, content_has}
 use Rattle.join_laws.specs.Proved.Sets.{has-union}
-use Rattle.live_picks.specs.Keys.{has}
-use Rattle.live_picks.specs.Live.{Text}
-use Rattle.live_picks.proofs.KeyLaws.{at_itself, same_key}
+use Rattle.study_index.specs.Keys.{has}
+use Rattle.study_index.specs.Live.{Text}
+use Rattle.study_index.proofs.KeyLaws.{at_itself, same_key}
 use Rattle.study_index.specs.Index.{IndexValue}
 use Rattle.study_index.specs.Definition.{IsIndexOf, AreLawful}
 use Rattle.study_index.specs.Leads.{Lead, lead_cmp, led_tags, led_byte, as_led, stored_lead, given_leads, leads_of}

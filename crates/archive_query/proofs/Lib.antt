@@ -15,3 +15,9 @@ pub mod CandidateLaws
 pub mod HeadLaws
 pub mod FirstLaws
 pub mod FirstRows
+pub mod AmongLaws
+pub mod SelectedPlaceLaws
+pub mod ChangeLaws
+pub mod SendingLaws
+pub mod SelectedLaws
+pub mod RetrieveLaws

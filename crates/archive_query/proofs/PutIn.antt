@@ -6,14 +6,14 @@ use Rattle.std.specs.BTreeMap.{is_at}
 use Rattle.std.specs.BTreeSet.{insert_key}
 use Rattle.octets.specs.Members.{Has}
 use Rattle.octets.specs.Texts.{text_cmp}
-use Rattle.live_picks.specs.Keys.{has}
-use Rattle.live_picks.specs.Proved.Picks.{text_exact}
-use Rattle.live_picks.proofs.KeyLaws.{or_none, same_key}
+use Rattle.study_index.specs.Keys.{has}
+use Rattle.study_index.specs.Proved.Picks.{text_exact}
+use Rattle.study_index.proofs.KeyLaws.{or_none, same_key}
 use Rattle.study_index.proofs.LeadLaws.{put_in}
-use Rattle.live_picks.specs.Live.{Text}
+use Rattle.study_index.specs.Live.{Text}
 use Rattle.study_index.specs.Index.{IndexValue}
 use Rattle.study_index.specs.Leads.{LeadWalk}
-use Rattle.query_model.specs.declared.query.Query.{Query}
+use Rattle.archive_model.specs.declared.query.Query.{Query}
 use Rattle.archive_query.specs.Candidates.{AreByOne, AreChosen}
 use Rattle.archive_query.specs.Leads.{IsChosen, AreWalksOf}
 

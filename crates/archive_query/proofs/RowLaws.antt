@@ -20,15 +20,15 @@ use Rattle.archive_model.specs.Texts.{ascending}
 use Rattle.archive_model.specs.Contents.{series_of}
 use Rattle.archive_model.specs.Attributes.{corrections, corrects, greatest, corrected, attribute}
 use Rattle.archive_model.proofs.MemberLaws.{has_any, filter_has}
-use Rattle.query_model.specs.declared.asked.Asked.{Asked}
-use Rattle.query_model.specs.declared.query.Query.{Query}
-use Rattle.query_model.specs.Key.{word_of}
+use Rattle.archive_model.specs.declared.asked.Asked.{Asked}
+use Rattle.archive_model.specs.declared.query.Query.{Query}
+use Rattle.archive_model.specs.Key.{word_of}
 use Rattle.key_matching.specs.Matches.{matches}
-use Rattle.query_model.specs.Column.{columns}
-use Rattle.query_model.specs.Cell.{cell}
-use Rattle.query_model.specs.Rows.{is_key_match_with, is_match_with, modalities_of, is_unique_key, is_asked, is_at}
-use Rattle.query_model.specs.Rows.{value_in_row, cell_in_row, row_with, row_of_with, row_at_with, rows_with, rows_among}
-use Rattle.query_model.specs.Rows.{uids_at, contents_at}
+use Rattle.archive_model.specs.Column.{columns}
+use Rattle.archive_model.specs.Cell.{cell}
+use Rattle.archive_model.specs.Rows.{is_key_match_with, is_match_with, modalities_of, is_unique_key, is_asked, is_at}
+use Rattle.archive_model.specs.Rows.{value_in_row, cell_in_row, row_with, row_of_with, row_at_with, rows_with, rows_among}
+use Rattle.archive_model.specs.Rows.{uids_at, contents_at}
 
 list_all_each : {X : Type 0} (p q : X → Bool) (xs : List X) → ((x : X) → Has xs x → p x ≡ q x)
     → list_all p xs ≡ list_all q xs

@@ -16,10 +16,10 @@ use Rattle.data_set.specs.Vr.{is_short, is_name, has_bad_vr, inner_syntax, undef
 use Rattle.data_set.specs.Header.{offence}
 use Rattle.data_set.specs.Texts.{deepest}
 use Rattle.data_set.specs.Written.{MayStand, IsTree, AreTrees, IsSet}
-use Rattle.query_model.specs.declared.key.Level.{Level}
-use Rattle.query_model.specs.declared.key.Level.TheVariants.{Study, Series, Image}
-use Rattle.query_model.specs.Column.{columns}
-use Rattle.query_model.specs.Cell.{longest, fitting, cell}
+use Rattle.archive_model.specs.declared.key.Level.{Level}
+use Rattle.archive_model.specs.declared.key.Level.TheVariants.{Study, Series, Image}
+use Rattle.archive_model.specs.Column.{columns}
+use Rattle.archive_model.specs.Cell.{longest, fitting, cell}
 
 -- ---- columns in order, each of which holds a value
 

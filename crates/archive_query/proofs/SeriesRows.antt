@@ -13,13 +13,13 @@ use Rattle.archive_model.specs.Contents.{contents, instances, study_of, series_o
 use Rattle.archive_model.specs.Shown.{shown, shown_at}
 use Rattle.archive_model.proofs.MemberLaws.{filter_has, has_filter}
 use Rattle.archive_model.proofs.ModelLaws.{same_itself, same_is}
-use Rattle.live_picks.specs.Live.{places_in_study}
+use Rattle.study_index.specs.Live.{places_in_study}
 use Rattle.study_index.specs.Index.{IndexValue}
 use Rattle.study_index.specs.Definition.{IsIndexOf}
-use Rattle.query_model.specs.declared.query.Query.{Query}
-use Rattle.query_model.specs.declared.key.Level.TheVariants.{Series}
-use Rattle.query_model.specs.Key.{has_study_above, has_series_above}
-use Rattle.query_model.specs.Rows.{uid_at, is_named, named, rows_among, rows_of}
+use Rattle.archive_model.specs.declared.query.Query.{Query}
+use Rattle.archive_model.specs.declared.key.Level.TheVariants.{Series}
+use Rattle.archive_model.specs.Key.{has_study_above, has_series_above}
+use Rattle.archive_model.specs.Rows.{uid_at, is_named, named, rows_among, rows_of}
 use Rattle.archive_query.specs.Firsts.{is_counted, firsts_in_study}
 use Rattle.archive_query.specs.Found.{AreEnough}
 use Rattle.archive_query.specs.Grouping.{Ascends}

@@ -19,7 +19,7 @@ use Rattle.key_matching.specs.declared.matching.Matching.TheVariants.{Dates, Tim
 use Rattle.key_matching.specs.declared.matching.Matching.TheVariants.{Answered}
 use Rattle.key_matching.specs.Matches.{is_match_by}
 use Rattle.key_matching.specs.WildCard.{star, question_mark, capital, folded, is_byte_match, is_wild_match}
-use Rattle.live_picks.specs.Live.{Text}
+use Rattle.study_index.specs.Live.{Text}
 use Rattle.study_index.specs.Leads.{Lead, lead_cmp, led_byte, is_folded, as_led, is_between, value_front, value_end}
 use Rattle.study_index.specs.Leads.{IsWithin, IsBehind, LeadWalk, is_walked, begins_with, has_run, may_have}
 use Rattle.study_index.specs.Proved.Leads.{lead_total}

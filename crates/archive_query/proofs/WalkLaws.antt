@@ -8,11 +8,11 @@ use Rattle.dictionary.specs.declared.elements.TheConstants.{STUDY_ID}
 use Rattle.octets.specs.Members.{Has}
 use Rattle.archive_model.proofs.MemberLaws.{any_has}
 use Rattle.key_matching.specs.Matches.{is_universal, is_match_by}
-use Rattle.query_model.specs.declared.asked.Asked.{Asked}
-use Rattle.live_picks.specs.Live.{Text}
+use Rattle.archive_model.specs.declared.asked.Asked.{Asked}
+use Rattle.study_index.specs.Live.{Text}
 use Rattle.study_index.specs.Leads.{led_tags, LeadWalk, is_walked, IsWithin}
 use Rattle.archive_query.specs.Leads.{is_led_tag, is_text_key, is_dates, is_walkable, IsWalkFor, IsChosen, AreChosenWalks}
-use Rattle.query_model.specs.declared.query.Query.{Query}
+use Rattle.archive_model.specs.declared.query.Query.{Query}
 use Rattle.archive_query.proofs.TextLeads.{both, not_true}
 
 split : (asked : Asked) → is_walkable asked ≡ true → (is_led_tag asked.tag ≡ true) × (is_universal asked.key ≡ false)

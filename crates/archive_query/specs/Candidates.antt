@@ -10,12 +10,12 @@ use Rattle.octets.specs.Texts.{ascending, text_cmp}
 use Rattle.join_laws.specs.GrowSet.{union_of}
 use Rattle.key_matching.specs.Matches.{is_universal, parts}
 use Rattle.key_matching.specs.Prepared.{is_uids}
-use Rattle.live_picks.specs.Keys.{has}
-use Rattle.live_picks.specs.Live.{Pick, pick_at, is_of_study, is_of_series}
-use Rattle.query_model.specs.declared.asked.Asked.{Asked}
-use Rattle.query_model.specs.declared.key.Level.{Level}
-use Rattle.query_model.specs.declared.key.Level.TheVariants.{Study, Series, Image}
-use Rattle.query_model.specs.declared.query.Query.{Query}
+use Rattle.study_index.specs.Keys.{has}
+use Rattle.study_index.specs.Live.{Pick, pick_at, is_of_study, is_of_series}
+use Rattle.archive_model.specs.declared.asked.Asked.{Asked}
+use Rattle.archive_model.specs.declared.key.Level.{Level}
+use Rattle.archive_model.specs.declared.key.Level.TheVariants.{Study, Series, Image}
+use Rattle.archive_model.specs.declared.query.Query.{Query}
 use Rattle.study_index.specs.Index.{IndexValue}
 use Rattle.study_index.specs.Leads.{LeadWalk, is_walked}
 use Rattle.archive_query.specs.Leads.{is_candidate, is_walkable, IsChosen, IsOneOf, AreWalksOf}

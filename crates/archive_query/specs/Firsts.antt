@@ -7,8 +7,8 @@ use Rattle.dictionary.specs.declared.elements.TheConstants.{NUMBER_OF_STUDY_RELA
 use Rattle.dictionary.specs.declared.elements.TheConstants.{NUMBER_OF_STUDY_RELATED_SERIES}
 use Rattle.octets.specs.Texts.{same}
 use Rattle.operation.specs.Parts.{ContentParts}
-use Rattle.live_picks.specs.Live.{Text, Pick, Place, instance_of, tree_of, places_in_study}
-use Rattle.query_model.specs.declared.query.Query.{Query}
+use Rattle.study_index.specs.Live.{Text, Pick, Place, instance_of, tree_of, places_in_study}
+use Rattle.archive_model.specs.declared.query.Query.{Query}
 
 -- what is told of all contents of a row
 abbrev pub is_counted_tag : ℕ → Bool

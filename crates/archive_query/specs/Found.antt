@@ -11,9 +11,9 @@ use Rattle.archive_model.specs.declared.view.View.{View}
 use Rattle.archive_model.specs.Shown.{shown_at}
 use Rattle.archive_model.specs.Attributes.{attribute}
 use Rattle.data_set.specs.Set.{Set}
-use Rattle.query_model.specs.declared.asked.Asked.{Asked}
-use Rattle.query_model.specs.declared.query.Query.{Query}
-use Rattle.query_model.specs.Rows.{rows_with, rows_among, rows_of}
+use Rattle.archive_model.specs.declared.asked.Asked.{Asked}
+use Rattle.archive_model.specs.declared.query.Query.{Query}
+use Rattle.archive_model.specs.Rows.{rows_with, rows_among, rows_of}
 
 -- a tag and a value, where the corrected value of a key's attribute is not the content's own
 abbrev pub fix_at : List Op → ContentParts → Asked → Option (ℕ × List ℕ)

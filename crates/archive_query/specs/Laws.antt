@@ -2,8 +2,8 @@
 use Rattle.std.specs.Prelude.{◌≡◌, ℕ, List}
 use Rattle.archive_model.specs.declared.view.View.{View}
 use Rattle.site_state.specs.Site.{Map, ops_of, held_at}
-use Rattle.query_model.specs.declared.query.Query.{Query}
-use Rattle.query_model.specs.Rows.{rows_of}
+use Rattle.archive_model.specs.declared.query.Query.{Query}
+use Rattle.archive_model.specs.Rows.{rows_of}
 
 -- two sites that hold the same operation under each digest have the same rows
 abbrev pub SameSitesAnswerAlike : Type 0

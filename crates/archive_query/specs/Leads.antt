@@ -11,9 +11,9 @@ use Rattle.key_matching.specs.Matches.{is_universal, is_match_by}
 use Rattle.key_matching.specs.Range.{is_until}
 use Rattle.key_matching.specs.WildCard.{star, question_mark}
 use Rattle.key_matching.specs.declared.range.Moment.TheVariants.{Date}
-use Rattle.live_picks.specs.Live.{Text}
-use Rattle.query_model.specs.declared.asked.Asked.{Asked}
-use Rattle.query_model.specs.declared.query.Query.{Query}
+use Rattle.study_index.specs.Live.{Text}
+use Rattle.archive_model.specs.declared.asked.Asked.{Asked}
+use Rattle.archive_model.specs.declared.query.Query.{Query}
 use Rattle.study_index.specs.Leads.{led_tags, is_folded, is_led, value_front, value_end, IsWithin}
 use Rattle.study_index.specs.Leads.{IsBehind, LeadWalk, is_walked, lead_cmp, led_byte}
 

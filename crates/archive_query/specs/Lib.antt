@@ -4,3 +4,7 @@ pub mod Candidates
 pub mod Found
 pub mod Leads
 pub mod Firsts
+pub mod SelectedPlaces
+pub mod Changes
+pub mod Made
+pub mod SendingLaws

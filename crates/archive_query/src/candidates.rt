@@ -10,8 +10,8 @@ ghost use Rattle.octets.specs.Members.{Has};
 ghost use Rattle.octets.specs.Texts.{text_cmp};
 ghost use Rattle.archive_model.specs.Shown.{shown_at};
 ghost use Rattle.join_laws.specs.GrowSet.{union_of};
-ghost use Rattle.live_picks.specs.Keys.{has};
-ghost use Rattle.live_picks.specs.Live.{pick_at, is_of_study, is_of_series as is_of_series_in};
+ghost use Rattle.study_index.specs.Keys.{has};
+ghost use Rattle.study_index.specs.Live.{pick_at, is_of_study, is_of_series as is_of_series_in};
 ghost use Rattle.site_state.specs.Site.{ops_of};
 ghost use Rattle.study_index.specs.Leads.{is_walked};
 ghost use Rattle.archive_query.specs.Candidates.{is_of_some, is_of_some_series, is_listed_series, is_walked_at_series, is_walked_at_image, listed_of, cut_texts as cut_texts_in, is_of_walked, AreByOne, AreWalked, AreAtStudy, AreAt, AreCandidates};
@@ -19,15 +19,13 @@ ghost use Rattle.archive_query.specs.Leads.{is_candidate, IsOneOf};
 
 use crate::prepared::PreparedQuery;
 use crate::walks::KeyWalk;
-use archive_model::View;
-use live_picks::{Pick, ShortText, put_uid};
+use archive_model::{Level, View};
 use octets::Octets;
 use operation::Content;
-use query_model::Level;
 use site_state::Site;
 use std::alloc::{AllocError, Global};
 use std::collections::BTreeSet;
-use study_index::Index;
+use study_index::{Index, Pick, ShortText, put_uid};
 
 /// How many leads of a walk are counted. Of walks that have more each, one with a needle is taken.
 const COUNTED: usize = 512;

@@ -1,7 +1,7 @@
 //! How a value stands in a row (PS3.5, section 6.2).
 
 ghost use Rattle.std.specs.Prelude.{◌≡◌, IfOk};
-ghost use Rattle.query_model.specs.Cell.{longest, fitting as fitting_in, cell as cell_in};
+ghost use Rattle.archive_model.specs.Cell.{longest, fitting as fitting_in, cell as cell_in};
 
 use data_set::{Element, padded_of};
 use dictionary::vr_of;
@@ -18,7 +18,7 @@ fn fitting(value: &[u8]) -> &[u8]
 }
 
 /// The element of a tag that holds a value.
-#[tactic(auto, unfolding(query_model::specs::Cell::cell))]
+#[tactic(auto, unfolding(archive_model::specs::Cell::cell))]
 pub(crate) fn cell(alloc: Global, tag: u32, value: &[u8]) -> Result<Element, AllocError>
     ensures { IfOk result (λ element. element ≡ cell_in tag value.now) }
 {

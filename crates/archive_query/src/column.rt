@@ -1,8 +1,9 @@
 //! What a row may answer, in ascending tags (PS3.4, section C.4.1.1.3).
 
 ghost use Rattle.std.specs.Prelude.{◌≡◌};
-ghost use Rattle.query_model.specs.Column.{columns as columns_of};
+ghost use Rattle.archive_model.specs.Column.{columns as columns_of};
 
+use archive_model::Level;
 use dictionary::{
     ACCESSION_NUMBER, INSTANCE_NUMBER, MODALITIES_IN_STUDY, MODALITY,
     NUMBER_OF_SERIES_RELATED_INSTANCES, NUMBER_OF_STUDY_RELATED_INSTANCES,
@@ -11,7 +12,6 @@ use dictionary::{
     SERIES_INSTANCE_UID, SERIES_NUMBER, SOP_CLASS_UID, SOP_INSTANCE_UID, SPECIFIC_CHARACTER_SET,
     STUDY_DATE, STUDY_DESCRIPTION, STUDY_ID, STUDY_INSTANCE_UID, STUDY_TIME,
 };
-use query_model::Level;
 
 static STUDY_COLUMNS: [u32; 17] = [
     SPECIFIC_CHARACTER_SET,

@@ -3,7 +3,7 @@
 
 ghost use Rattle.std.specs.Prelude.{◌≡◌, false, List, ℕ, IfOk, map};
 ghost use Rattle.site_state.specs.Site.{ops_of};
-ghost use Rattle.query_model.specs.Rows.{rows_of};
+ghost use Rattle.archive_model.specs.Rows.{rows_of};
 ghost use Rattle.archive_query.specs.Found.{rows_found as rows_found_in, AreEnough};
 ghost use Rattle.archive_query.specs.Firsts.{is_counted as is_counted_in};
 
@@ -14,14 +14,13 @@ use crate::grouping::sort_by_instance;
 use crate::groups::named;
 use crate::prepared::PreparedQuery;
 use crate::rows::rows_among;
-use archive_model::View;
+use archive_model::{Answers, Level, Query, View};
 use join_laws::Join;
-use live_picks::ShortText;
 use operation::Content;
-use query_model::{Answers, Level, Query};
 use site_state::Site;
 use std::alloc::{AllocError, Global};
 use std::marker::Model;
+use study_index::ShortText;
 
 /// What is taken from a site for the rows of a query: contents, whose bytes it shares with the
 /// site, and the values that corrections give them.

@@ -8,18 +8,16 @@ ghost use Rattle.archive_model.specs.Shown.{shown_at};
 ghost use Rattle.site_state.specs.Site.{ops_of};
 ghost use Rattle.archive_query.specs.Firsts.{is_counted_tag as is_counted_tag_in, is_counted as is_counted_in, is_in_series as is_in_series_in, firsts, firsts_in_study, firsts_of};
 
-use archive_model::View;
+use archive_model::{Query, View};
 use dictionary::{
     MODALITIES_IN_STUDY, NUMBER_OF_SERIES_RELATED_INSTANCES, NUMBER_OF_STUDY_RELATED_INSTANCES,
     NUMBER_OF_STUDY_RELATED_SERIES,
 };
-use live_picks::{Place, ShortText};
 use operation::Content;
-use query_model::Query;
 use site_state::Site;
 use std::alloc::{AllocError, Global};
 use std::collections::BTreeSet;
-use study_index::Index;
+use study_index::{Index, Place, ShortText};
 
 fn is_counted_tag(tag: u32) -> bool
     ensures { result ≡ is_counted_tag_in tag }

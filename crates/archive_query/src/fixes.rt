@@ -4,14 +4,14 @@ ghost use Rattle.std.specs.Prelude.{◌≡◌, List, ℕ, IfOk, OnOk, map};
 ghost use Rattle.archive_query.specs.Found.{fix_at, fixes_of as fixes_of_in, value_among as value_among_in, fixes_under as fixes_under_in, value_by, AreFixes, fixes_put};
 ghost use Rattle.site_state.specs.Site.{ops_of};
 
-use live_picks::ShortText;
+use archive_model::{Asked, Query};
 use octets::{ListOf, Octets};
 use operation::Content;
-use query_model::{Asked, Query};
 use site_state::Site;
 use std::alloc::{AllocError, Global};
 use std::collections::BTreeMap;
 use std::marker::Model;
+use study_index::ShortText;
 
 /// A value that corrections give an attribute.
 #[derive(Drop)]

@@ -3,11 +3,11 @@
 ghost use Rattle.std.specs.Prelude.{◌≡◌, ◌+◌, ◌<◌, ◌≤◌, ◌∷◌, length, List, ℕ, map, IfOk, OnOk};
 ghost use Rattle.archive_model.specs.Texts.{same, text_cmp};
 ghost use Rattle.archive_query.specs.Grouping.{leading, groups_by, Ascends, IsRun};
-ghost use Rattle.query_model.specs.Rows.{uid_at as uid_in};
+ghost use Rattle.archive_model.specs.Rows.{uid_at as uid_in};
 
 use crate::groups::uid_at;
+use archive_model::Level;
 use operation::Content;
-use query_model::Level;
 use std::alloc::{AllocError, Global};
 use std::cmp::Ordering;
 

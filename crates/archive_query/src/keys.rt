@@ -2,12 +2,12 @@
 
 ghost use Rattle.std.specs.Prelude.{◌≡◌, IfOk};
 ghost use Rattle.archive_query.specs.Found.{value_by};
-ghost use Rattle.query_model.specs.Rows.{is_key_match_with};
+ghost use Rattle.archive_model.specs.Rows.{is_key_match_with};
 
 use crate::fixes::Fixes;
+use archive_model::{Asked, Query};
 use key_matching::PreparedKey;
 use operation::Content;
-use query_model::{Asked, Query};
 use std::alloc::{AllocError, Global};
 use std::marker::Model;
 
@@ -19,7 +19,7 @@ pub(crate) struct Key<'a> {
 }
 
 impl<'a> Model for Key<'a> {
-    ghost use Rattle.query_model.specs.declared.asked.Asked.{Asked};
+    ghost use Rattle.archive_model.specs.declared.asked.Asked.{Asked};
 
     ghost Value = { Asked };
 

@@ -7,10 +7,10 @@ ghost use Rattle.archive_query.specs.Candidates.{is_list_of as is_list_in, liste
 ghost use Rattle.archive_query.specs.Leads.{AreWalksOf};
 
 use crate::walks::{KeyWalk, walks_of};
+use archive_model::{Asked, Level, Query};
 use dictionary::{SERIES_INSTANCE_UID, SOP_INSTANCE_UID, STUDY_INSTANCE_UID};
 use key_matching::{is_uids, is_universal, members_of};
 use octets::{Octets, ascending};
-use query_model::{Asked, Level, Query};
 use std::alloc::{AllocError, Global};
 use std::marker::Model;
 
@@ -25,7 +25,7 @@ pub struct PreparedQuery<'a> {
 
 impl<'a> Model for PreparedQuery<'a> {
     ghost use Rattle.std.specs.Option.{option_map};
-    ghost use Rattle.query_model.specs.declared.query.Query.{Query};
+    ghost use Rattle.archive_model.specs.declared.query.Query.{Query};
     ghost use Rattle.archive_query.specs.Candidates.{IsPrepared};
 
     ghost Value = { Query };

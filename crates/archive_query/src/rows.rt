@@ -5,9 +5,9 @@ ghost use Rattle.std.specs.Option.{option_map};
 ghost use Rattle.std.specs.List.{filter_map, list_all};
 ghost use Rattle.operation.specs.Parts.{value_at};
 ghost use Rattle.archive_query.specs.Found.{value_by};
-ghost use Rattle.query_model.specs.Column.{columns as columns_of};
-ghost use Rattle.query_model.specs.Cell.{cell as cell_in};
-ghost use Rattle.query_model.specs.Rows.{is_key_match_with, is_unique_key as is_unique_key_in, is_asked as is_asked_in, asked_value, value_in_row, cell_in_row as cell_in_row_of, row_with, row_of_with, rows_with};
+ghost use Rattle.archive_model.specs.Column.{columns as columns_of};
+ghost use Rattle.archive_model.specs.Cell.{cell as cell_in};
+ghost use Rattle.archive_model.specs.Rows.{is_key_match_with, is_unique_key as is_unique_key_in, is_asked as is_asked_in, asked_value, value_in_row, cell_in_row as cell_in_row_of, row_with, row_of_with, rows_with};
 
 use crate::cell::cell;
 use crate::column::columns;
@@ -15,6 +15,7 @@ use crate::fixes::Fixes;
 use crate::grouping::{by_uid, groups_of};
 use crate::groups::{count_series, modalities_of};
 use crate::keys::{Key, is_key_match, keys_of};
+use archive_model::{Answers, AnswersMut, Query};
 use data_set::{DataSet, Element, Syntax};
 use dictionary::{
     MODALITIES_IN_STUDY, NUMBER_OF_SERIES_RELATED_INSTANCES, NUMBER_OF_STUDY_RELATED_INSTANCES,
@@ -23,7 +24,6 @@ use dictionary::{
 };
 use octets::{Octets, digits, joined};
 use operation::Content;
-use query_model::{Answers, AnswersMut, Query};
 use std::alloc::{AllocError, Global};
 
 /// Whether every key matches a representative.

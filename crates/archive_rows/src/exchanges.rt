@@ -7,8 +7,7 @@ mod runs;
 
 use crate::associations::words::Words;
 use crate::text::{RowFault, number_of, parted};
-use exchange::{Round, Version};
-use exchange_run::Role;
+use exchange::{Role, Round, Version};
 use pair::{Pair, put_many, put_take};
 use rounds::{put_frame, put_offer};
 use runs::{Way, put_fronts, put_meeting, put_run};

@@ -11,9 +11,9 @@ use Rattle.association_run.specs.Parts.{Sides}
 use Rattle.dimse.specs.Command.{Spells}
 use Rattle.dimse.specs.declared.command.Command.{Command}
 use Rattle.exchange.specs.declared.fault.ExchangeFault.{ExchangeFault}
-use Rattle.exchange_run.specs.declared.role.Role.{Role}
-use Rattle.exchange_run.specs.declared.role.Ended.{Ended}
-use Rattle.exchange_run.specs.Run.{Ends, Exchanged, EndsEarly}
+use Rattle.exchange.specs.declared.role.Role.{Role}
+use Rattle.exchange.specs.declared.role.Ended.{Ended}
+use Rattle.exchange.specs.Run.{Ends, Exchanged, EndsEarly}
 use Rattle.archive_server.specs.declared.answers.RefusedStore.{RefusedStore}
 use Rattle.archive_server.specs.Answers.{refusal_of, IsRefusalIn}
 use Rattle.archive_server.specs.Done.{seen_by, ops_seen, own_of, Attends, Converses}

@@ -11,9 +11,9 @@ use Rattle.association_run.specs.declared.fault.RunFault.{RunFault}
 use Rattle.association_run.specs.Output.{Output, FrontOfOutput}
 use Rattle.association_run.specs.Parts.{Sides}
 use Rattle.exchange.specs.declared.fault.ExchangeFault.{ExchangeFault}
-use Rattle.exchange_run.specs.declared.role.Role.{Role}
-use Rattle.exchange_run.specs.declared.role.Ended.{Ended}
-use Rattle.exchange_run.specs.Run.{Ends, Exchanged, EndsEarly}
+use Rattle.exchange.specs.declared.role.Role.{Role}
+use Rattle.exchange.specs.declared.role.Ended.{Ended}
+use Rattle.exchange.specs.Run.{Ends, Exchanged, EndsEarly}
 use Rattle.archive_server.specs.declared.fault.ServeFault.{ServeFault}
 use Rattle.archive_server.specs.declared.fault.ServeFault.TheVariants.{Run, Exchange}
 

@@ -1,7 +1,7 @@
 //! One exchange over any reader and writer, with a pass of a running site.
 
 ghost use Rattle.std.specs.Prelude.{◌≡◌};
-ghost use Rattle.exchange_run.specs.Run.{ends};
+ghost use Rattle.exchange.specs.Run.{ends};
 ghost use Rattle.archive_server.specs.Done.{Converses};
 ghost use Rattle.archive_server.specs.Serving.{HasGoneOn};
 
@@ -9,8 +9,7 @@ use crate::attending::Archive;
 use crate::clerk::Clerk;
 use association_worker::AtEntry;
 use devices::{Sink, Source};
-use exchange::ExchangeFault;
-use exchange_run::{Ended, Role, run_exchange};
+use exchange::{Ended, ExchangeFault, Role, run_exchange};
 use hub_exchange::{HubHolder, Put};
 use shelf_ledger::LedgerName;
 use site_hub::{HubName, Shows};

@@ -18,8 +18,7 @@ use dictionary::{
     STATUS_CANNOT_UNDERSTAND, STATUS_DATA_SET_DOES_NOT_MATCH, STATUS_OUT_OF_RESOURCES,
     STATUS_SOP_CLASS_NOT_SUPPORTED, STATUS_UNRECOGNIZED_OPERATION,
 };
-use exchange::ExchangeFault;
-use exchange_run::{Ended, Role};
+use exchange::{Ended, ExchangeFault, Role};
 use jiff::Timestamp;
 use log::{Log, error, info};
 use std::fmt::{Display, Formatter};

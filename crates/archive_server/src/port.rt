@@ -11,7 +11,7 @@ ghost use Rattle.archive_server.specs.Serving.{IsOnward, WasWritten};
 
 use crate::refusing::{told, told_store};
 use crate::tally::Tally;
-use archive_model::View;
+use archive_model::{Answers, Prepared, Query, Selection, View};
 use association_run::Port;
 use association_session::PortFault;
 use association_worker::{AtEntry, HubPort};
@@ -19,8 +19,6 @@ use hub_exchange::{Put, Shelved};
 use log::Log;
 use octets::ListOf;
 use operation::{Content, Digested, Op, Taken};
-use query_model::{Answers, Query};
-use retrieve_model::{Prepared, Selection};
 use shelf_ledger::{Extract, LedgerName};
 use site_hub::{HubName, Keeper, Pass, Shows};
 use std::marker::Model;

@@ -5,7 +5,7 @@ use crate::messages::{RELEASE, Step, heard, said};
 use crate::shelves::Counting;
 use bytes::Bytes;
 use devices::Counted;
-use exchange_run::Role;
+use exchange::Role;
 use hub_exchange::{Behind, exchange_on};
 use operation::decode;
 use site_state::Site;

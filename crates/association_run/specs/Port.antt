@@ -2,9 +2,9 @@
 use Rattle.std.specs.Prelude.{◌≡◌, ◌≢◌, ◌⊎◌, ⊤, ℕ, List, [], ◌∷◌, ◌++◌, Result, MatchResult}
 use Rattle.octets.specs.Members.{Has}
 use Rattle.data_set.specs.Set.{Set}
-use Rattle.query_model.specs.Rows.{rows_of}
-use Rattle.retrieve_model.specs.declared.prepared.Prepared.{Prepared}
-use Rattle.retrieve_model.specs.Preparing.{prepared_of}
+use Rattle.archive_model.specs.Rows.{rows_of}
+use Rattle.archive_model.specs.declared.prepared.Prepared.{Prepared}
+use Rattle.archive_model.specs.Preparing.{prepared_of}
 use Rattle.operation.specs.declared.op.Op.{Op}
 use Rattle.operation.specs.declared.op.Op.TheVariants.{Content}
 use Rattle.operation.specs.Spelling.{digest_of}

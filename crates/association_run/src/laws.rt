@@ -3,8 +3,8 @@
 ghost use Rattle.std.specs.Prelude.{◌≡◌, List, Ok};
 ghost use Rattle.std.specs.List.{filter};
 ghost use Rattle.pdu.specs.declared.context.Context.{Context};
-ghost use Rattle.retrieve_model.specs.declared.prepared.Prepared.{Prepared};
-ghost use Rattle.retrieve_model.specs.Sending.{sendings_of};
+ghost use Rattle.archive_model.specs.declared.prepared.Prepared.{Prepared};
+ghost use Rattle.archive_model.specs.Sending.{sendings_of};
 ghost use Rattle.association_services.specs.declared.call.Getting.{Getting};
 ghost use Rattle.association_services.specs.Accepted.{accepts_of, carried_of, is_carried};
 ghost use Rattle.association_run.specs.Port.{Gets};

@@ -5,12 +5,10 @@ ghost use Rattle.operation.specs.declared.op.Op.{Op};
 ghost use Rattle.operation.specs.declared.op.Op.TheVariants.{Content as a_content};
 ghost use Rattle.association_run.specs.Port.{Stores, Finds, Gets};
 
-use archive_model::View;
+use archive_model::{Answers, Prepared, Query, Selection, View};
 use association_session::PortFault;
 use octets::ListOf;
 use operation::{Content, Taken};
-use query_model::{Answers, Query};
-use retrieve_model::{Prepared, Selection};
 
 /// A site, as one association sees it. Others may store between two steps, and nothing that is held
 /// is lost.

@@ -15,7 +15,7 @@ use Rattle.association_services.specs.Retrieval.{RespondsBy, ByWay, Both}
 use Rattle.association_services.specs.declared.retrieval.Progress.{Progress}
 use Rattle.association_services.specs.declared.way.Way.{Way}
 use Rattle.pdu.specs.declared.context.Context.{Context}
-use Rattle.retrieve_model.specs.declared.prepared.Prepared.{Prepared}
+use Rattle.archive_model.specs.declared.prepared.Prepared.{Prepared}
 
 -- Each is a P-DATA-TF.
 abbrev pub AreData : List Pdu → Type 0

@@ -17,7 +17,7 @@ use Rattle.data_set.specs.Set.{Set}
 use Rattle.data_set.specs.Tree.{Tree}
 use Rattle.data_set.specs.declared.syntax.Syntax.{Syntax}
 use Rattle.data_set.proofs.Sets.{spelled_once, fault_or_spelled}
-use Rattle.query_model.specs.Query.{query_of}
+use Rattle.archive_model.specs.Query.{query_of}
 use Rattle.ul_state.specs.declared.acceptor.Settled.{Settled}
 use Rattle.association_services.specs.declared.service.RowKind.{RowKind}
 use Rattle.association_services.specs.declared.service.Kind.{Kind}
@@ -32,8 +32,8 @@ use Rattle.association_services.specs.SubOperation.{Retrieval}
 use Rattle.association_services.specs.Retrieval.{sub_operation, failing, RespondsIfLeft, RespondsBy, ByWay, Both}
 use Rattle.association_services.specs.declared.retrieval.Progress.{Progress}
 use Rattle.association_services.specs.declared.way.Way.{Way}
-use Rattle.retrieve_model.specs.declared.prepared.Prepared.{Prepared}
-use Rattle.retrieve_model.specs.Selection.{selection_of}
+use Rattle.archive_model.specs.declared.prepared.Prepared.{Prepared}
+use Rattle.archive_model.specs.Selection.{selection_of}
 use Rattle.association_services.specs.Response.{Awaited, Responds}
 use Rattle.association_services.specs.Context.{syntax_of}
 use Rattle.association_services.specs.Service.{kind_of, ServesOn, ServesKind}

@@ -7,8 +7,8 @@ use Rattle.std.proofs.lemmas.Bool.{eqb-true}
 use Rattle.dictionary.specs.declared.commands.TheConstants.{RESPONSE_BIT, C_CANCEL_RQ, C_FIND_RQ, C_GET_RQ}
 use Rattle.dictionary.specs.declared.commands.TheConstants.{C_ECHO_RQ, C_STORE_RQ}
 use Rattle.dimse.specs.declared.status.Status.TheVariants.{UnableToPerformSubOperations, SubOperationsWithFailures}
-use Rattle.retrieve_model.specs.declared.selection.Selection.{Selection}
-use Rattle.retrieve_model.specs.Selection.{selection_of}
+use Rattle.archive_model.specs.declared.selection.Selection.{Selection}
+use Rattle.archive_model.specs.Selection.{selection_of}
 use Rattle.association_services.specs.declared.counts.Counts.{Counts}
 use Rattle.association_services.specs.declared.call.Getting.{Getting}
 use Rattle.association_services.specs.Get.{is_get, get_refusal, fetched_by, final_status, ServesSelection, ServesGet}
@@ -24,9 +24,9 @@ use Rattle.dimse.specs.declared.status.Status.TheVariants.{Success, SopClassNotS
 use Rattle.operation.specs.declared.fault.OpFault.{OpFault}
 use Rattle.operation.specs.declared.fault.OpFault.TheVariants as faults
 use Rattle.operation.specs.declared.taken.Taken.{Taken}
-use Rattle.query_model.specs.declared.fault.QueryFault.{QueryFault}
-use Rattle.query_model.specs.declared.query.Query.{Query}
-use Rattle.query_model.specs.Query.{query_of}
+use Rattle.archive_model.specs.declared.fault.QueryFault.{QueryFault}
+use Rattle.archive_model.specs.declared.query.Query.{Query}
+use Rattle.archive_model.specs.Query.{query_of}
 use Rattle.association_services.specs.declared.call.Finding.{Finding}
 use Rattle.association_services.specs.declared.service.RowKind.{RowKind}
 use Rattle.association_services.specs.declared.reply.PortFault.{PortFault}

@@ -19,7 +19,7 @@ use Rattle.dimse.specs.Status.{status_code}
 use Rattle.dimse.specs.Uid.{IsUid}
 use Rattle.octets.specs.Graphic.{is_graphic}
 use Rattle.dimse.proofs.SoundLaws.{answer_lawful}
-use Rattle.retrieve_model.specs.declared.prepared.Prepared.{Prepared}
+use Rattle.archive_model.specs.declared.prepared.Prepared.{Prepared}
 use Rattle.association_services.specs.declared.retrieval.Progress.{Progress}
 use Rattle.association_services.specs.declared.way.Way.{Way}
 use Rattle.association_services.specs.Response.{CanBeResponded}

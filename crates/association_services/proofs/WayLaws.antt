@@ -11,12 +11,12 @@ use Rattle.archive_model.proofs.ModelLaws.{same_is}
 use Rattle.pdu.specs.declared.context.Context.{Context}
 use Rattle.operation.specs.declared.op.Op.{Op}
 use Rattle.archive_model.specs.declared.view.View.{View}
-use Rattle.retrieve_model.specs.declared.accepts.Form.{Form}
-use Rattle.retrieve_model.specs.declared.prepared.Prepared.{Prepared}
-use Rattle.retrieve_model.specs.declared.sending.Sending.{Sending}
-use Rattle.retrieve_model.specs.Accepts.{form_by, form_for, syntax_of}
-use Rattle.retrieve_model.specs.Prepared.{made, made_body}
-use Rattle.retrieve_model.proofs.PreparedLaws.{sent_is_made}
+use Rattle.archive_model.specs.declared.accepts.Form.{Form}
+use Rattle.archive_model.specs.declared.prepared.Prepared.{Prepared}
+use Rattle.archive_model.specs.declared.sending.Sending.{Sending}
+use Rattle.archive_model.specs.Accepts.{form_by, form_for, syntax_of}
+use Rattle.archive_model.specs.Prepared.{made, made_body}
+use Rattle.archive_model.proofs.PreparedLaws.{sent_is_made}
 use Rattle.association_services.specs.declared.retrieval.Progress.{Progress}
 use Rattle.association_services.specs.declared.way.Way.{Way}
 use Rattle.association_services.specs.Accepted.{takes_any, accepted_on, accepts_of, FormIsAccepted, is_explicit, IsOn}

@@ -11,15 +11,15 @@ use Rattle.dimse.specs.declared.message.Message.{Message}
 use Rattle.pdu.specs.declared.context.Context.{Context}
 use Rattle.operation.specs.declared.op.Op.{Op}
 use Rattle.archive_model.specs.declared.view.View.{View}
-use Rattle.retrieve_model.specs.declared.accepts.Accepted.{Accepted}
-use Rattle.retrieve_model.specs.declared.accepts.Accepts.{Accepts}
-use Rattle.retrieve_model.specs.declared.prepared.Prepared.{Prepared}
-use Rattle.retrieve_model.specs.declared.selection.Selection.{Selection}
-use Rattle.retrieve_model.specs.declared.sending.Sending.{Sending}
-use Rattle.retrieve_model.specs.Accepts.{form_for, syntax_of}
-use Rattle.retrieve_model.specs.Prepared.{made}
-use Rattle.retrieve_model.specs.Preparing.{prepared_of}
-use Rattle.retrieve_model.specs.Sending.{sendings_of}
+use Rattle.archive_model.specs.declared.accepts.Accepted.{Accepted}
+use Rattle.archive_model.specs.declared.accepts.Accepts.{Accepts}
+use Rattle.archive_model.specs.declared.prepared.Prepared.{Prepared}
+use Rattle.archive_model.specs.declared.selection.Selection.{Selection}
+use Rattle.archive_model.specs.declared.sending.Sending.{Sending}
+use Rattle.archive_model.specs.Accepts.{form_for, syntax_of}
+use Rattle.archive_model.specs.Prepared.{made}
+use Rattle.archive_model.specs.Preparing.{prepared_of}
+use Rattle.archive_model.specs.Sending.{sendings_of}
 use Rattle.association_services.specs.declared.way.Way.{Way}
 use Rattle.association_services.specs.Get.{takes_class, way_of}
 

@@ -21,9 +21,9 @@ use Rattle.dimse.specs.declared.status.Status.{Status}
 use Rattle.dimse.specs.declared.status.Status.TheVariants.{Success, SopClassNotSupported, UnrecognizedOperation}
 use Rattle.dimse.specs.declared.status.Status.TheVariants.{OutOfResources, DataSetMismatch, CannotUnderstand, Pending}
 use Rattle.dimse.specs.declared.status.Status.TheVariants.{PendingWithoutOptionalKeys}
-use Rattle.query_model.specs.declared.fault.QueryFault.{QueryFault}
-use Rattle.query_model.specs.declared.query.Query.{Query}
-use Rattle.query_model.specs.Query.{query_of}
+use Rattle.archive_model.specs.declared.fault.QueryFault.{QueryFault}
+use Rattle.archive_model.specs.declared.query.Query.{Query}
+use Rattle.archive_model.specs.Query.{query_of}
 use Rattle.association_services.specs.declared.call.Finding.{Finding}
 use Rattle.association_services.specs.declared.service.RowKind.{RowKind}
 use Rattle.association_services.specs.declared.reply.PortFault.{PortFault}

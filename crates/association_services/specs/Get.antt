@@ -21,10 +21,10 @@ use Rattle.dimse.specs.declared.status.Status.TheVariants.{Success, SopClassNotS
 use Rattle.dimse.specs.declared.status.Status.TheVariants.{DataSetMismatch, CannotUnderstand}
 use Rattle.dimse.specs.declared.status.Status.TheVariants.{UnableToPerformSubOperations, SubOperationsWithFailures}
 use Rattle.pdu.specs.declared.context.Context.{Context}
-use Rattle.query_model.specs.declared.fault.QueryFault.{QueryFault}
-use Rattle.retrieve_model.specs.declared.accepts.Form.TheVariants.{Own, Converted}
-use Rattle.retrieve_model.specs.declared.selection.Selection.{Selection}
-use Rattle.retrieve_model.specs.Selection.{selection_of}
+use Rattle.archive_model.specs.declared.fault.QueryFault.{QueryFault}
+use Rattle.archive_model.specs.declared.accepts.Form.TheVariants.{Own, Converted}
+use Rattle.archive_model.specs.declared.selection.Selection.{Selection}
+use Rattle.archive_model.specs.Selection.{selection_of}
 use Rattle.ul_state.specs.declared.acceptor.Settled.{Settled}
 use Rattle.ul_state.specs.Titles.{is_text}
 use Rattle.association_services.specs.declared.call.Getting.{Getting}

@@ -14,8 +14,8 @@ use Rattle.dimse.specs.Sending.{IsSending}
 use Rattle.dimse.specs.Status.{status_code}
 use Rattle.pdu.specs.declared.context.Context.{Context}
 use Rattle.pdu.specs.declared.value.Pdu.{Pdu}
-use Rattle.retrieve_model.specs.declared.prepared.Prepared.{Prepared}
-use Rattle.retrieve_model.specs.Prepared.{text_in}
+use Rattle.archive_model.specs.declared.prepared.Prepared.{Prepared}
+use Rattle.archive_model.specs.Prepared.{text_in}
 use Rattle.association_services.specs.declared.counts.Counts.{Counts}
 use Rattle.association_services.specs.declared.counts.Outcome.{Outcome}
 use Rattle.association_services.specs.declared.counts.Outcome.TheVariants.{Failed}

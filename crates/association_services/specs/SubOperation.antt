@@ -1,6 +1,6 @@
 -- Where a C-GET is whose sub-operations are performed (PS3.7, 9.1.3; PS3.4, C.4.3).
 use Rattle.std.specs.Prelude.{◌≤◌, ℕ, ◌+◌, Bool, List}
-use Rattle.retrieve_model.specs.declared.prepared.Prepared.{Prepared}
+use Rattle.archive_model.specs.declared.prepared.Prepared.{Prepared}
 use Rattle.association_services.specs.declared.retrieval.Progress.{Progress}
 use Rattle.association_services.specs.declared.retrieval.TheConstants.{MOST_SUB_OPERATIONS}
 use Rattle.association_services.specs.Get.{all_counted}

@@ -1,10 +1,8 @@
 //! What a port is asked.
 
-use archive_model::View;
+use archive_model::{Query, Selection, View};
 use octets::Octets;
 use operation::Content;
-use query_model::Query;
-use retrieve_model::Selection;
 
 /// What a C-FIND asks.
 #[derive(Debug, Drop)]

@@ -2,21 +2,20 @@
 
 ghost use Rattle.std.specs.Prelude.{◌≡◌, IfOk, Option};
 ghost use Rattle.std.specs.Option.{option_copied};
-ghost use Rattle.query_model.specs.Query.{query_of};
+ghost use Rattle.archive_model.specs.Query.{query_of};
 ghost use Rattle.association_services.specs.Find.{is_find, find_refusal, row_status as row_status_of, finding_of, queried_by, row_text as row_text_of, rows_in, status_of_found, ServesIdentifier, ServesFind};
 
 use crate::call::Finding;
 use crate::context::{is_of_other_class, syntax};
 use crate::reply::PortFault;
 use crate::service::{RowKind, Service};
-use archive_model::View;
+use archive_model::{Answer, Answers, Query, QueryFault, View};
 use bytes::Bytes;
 use data_set::{DataSet, SetFault, Syntax, read, write};
 use dictionary::STUDY_ROOT_FIND;
 use dimse::{Command, Status};
 use octets::Octets;
 use pdu::Context;
-use query_model::{Answer, Answers, Query, QueryFault};
 use std::alloc::{AllocError, Global};
 use ul_state::Settled;
 

@@ -2,20 +2,18 @@
 
 ghost use Rattle.std.specs.Prelude.{◌≡◌, IfOk, Option};
 ghost use Rattle.std.specs.Option.{option_copied};
-ghost use Rattle.retrieve_model.specs.Selection.{selection_of};
+ghost use Rattle.archive_model.specs.Selection.{selection_of};
 ghost use Rattle.association_services.specs.Get.{is_get, get_refusal, getting_of, fetched_by, ServesSelection, ServesGet};
 
 use crate::call::Getting;
 use crate::context::{is_of_other_class, syntax};
 use crate::service::Service;
-use archive_model::View;
+use archive_model::{QueryFault, Selection, View};
 use bytes::Bytes;
 use data_set::{DataSet, SetFault, Syntax, read};
 use dictionary::STUDY_ROOT_GET;
 use dimse::{Command, Status};
 use pdu::Context;
-use query_model::QueryFault;
-use retrieve_model::Selection;
 use std::alloc::{AllocError, Global};
 use ul_state::Settled;
 

@@ -3,10 +3,9 @@
 ghost use Rattle.std.specs.Prelude.{◌≡◌};
 ghost use Rattle.association_services.specs.Reply.{number_of};
 
+use archive_model::{Answers, Prepared};
 use octets::ListOf;
 use operation::Taken;
-use query_model::Answers;
-use retrieve_model::Prepared;
 use thiserror::Error;
 
 /// Why a port took no content, or found no rows or instances.

@@ -3,9 +3,9 @@
 ghost use Rattle.std.specs.Prelude.{◌≡◌};
 ghost use Rattle.association_services.specs.Get.{takes_class, lesser as lesser_of, least_of, least_id, own_or, converted_on, way_of};
 
+use archive_model::Form;
 use data_set::Syntax;
 use pdu::Context;
-use retrieve_model::Form;
 
 /// The context of a sub-operation, and how its data set is sent there.
 #[derive(Clone, Copy)]

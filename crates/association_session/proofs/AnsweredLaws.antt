@@ -34,7 +34,7 @@ use Rattle.association_services.specs.declared.retrieval.Progress.{Progress}
 use Rattle.data_set.specs.declared.syntax.Syntax.{Syntax}
 use Rattle.dimse.specs.declared.status.Status.TheVariants.{UnableToPerformSubOperations}
 use Rattle.pdu.specs.declared.context.Context.{Context}
-use Rattle.retrieve_model.specs.declared.prepared.Prepared.{Prepared}
+use Rattle.archive_model.specs.declared.prepared.Prepared.{Prepared}
 use Rattle.association_session.specs.Row.{Within, met, deeds_of, action_on}
 use Rattle.association_services.specs.Store.{status_of_reply}
 use Rattle.association_session.specs.Talks.{Heard, Met, Said, Goes, GoesBy, Then, Tells, TellsRows, FollowsStore}

@@ -54,9 +54,9 @@ use Rattle.dimse.specs.declared.status.Status.TheVariants.{Cancel, Pending, Unab
 use Rattle.dimse.specs.Response.{response_of}
 use Rattle.dimse.specs.Sending.{IsSending}
 use Rattle.pdu.specs.declared.context.Context.{Context}
-use Rattle.retrieve_model.specs.declared.prepared.Prepared.{Prepared}
-use Rattle.retrieve_model.specs.declared.sending.Sending.{Sending}
-use Rattle.retrieve_model.specs.Prepared.{made}
+use Rattle.archive_model.specs.declared.prepared.Prepared.{Prepared}
+use Rattle.archive_model.specs.declared.sending.Sending.{Sending}
+use Rattle.archive_model.specs.Prepared.{made}
 use Rattle.ul_state.specs.Acceptor.{kind_for, settled_by}
 use Rattle.ul_state.specs.Table.{next_of, opens}
 use Rattle.ul_state.specs.declared.acceptor.Settled.{Settled}

@@ -46,7 +46,7 @@ use Rattle.association_session.specs.Projections.{state_after}
 use Rattle.association_services.specs.Response.{Awaited, FitsLimit}
 use Rattle.association_services.specs.Retrieval.{few_in, setting_out}
 use Rattle.association_services.specs.SubOperation.{Retrieval, SubOperation}
-use Rattle.retrieve_model.specs.declared.prepared.Prepared.{Prepared}
+use Rattle.archive_model.specs.declared.prepared.Prepared.{Prepared}
 use Rattle.data_set.specs.declared.syntax.Syntax.{Syntax}
 use Rattle.dimse.specs.declared.status.Status.TheVariants.{UnableToPerformSubOperations}
 use Rattle.association_session.specs.Row.{Within, Link, row, met, agreed_by, limit_in, handed_on}

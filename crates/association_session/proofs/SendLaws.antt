@@ -9,7 +9,7 @@ use Rattle.dimse.specs.declared.status.Status.TheVariants.{Pending}
 use Rattle.dimse.specs.Sending.{IsSending}
 use Rattle.pdu.specs.declared.context.Context.{Context}
 use Rattle.pdu.specs.declared.value.Pdu.{Pdu}
-use Rattle.retrieve_model.specs.declared.prepared.Prepared.{Prepared}
+use Rattle.archive_model.specs.declared.prepared.Prepared.{Prepared}
 use Rattle.ul_state.specs.declared.event.Event.TheVariants.{LocalAbort}
 use Rattle.ul_state.specs.declared.table.State.TheVariants.{Sta6}
 use Rattle.ul_state.specs.declared.titles.Title.{Title}

@@ -31,7 +31,7 @@ use Rattle.association_services.specs.declared.retrieval.Meaning.{Meaning}
 use Rattle.association_services.specs.declared.retrieval.Meaning.TheVariants.{Cancelled, Performed, Unawaited}
 use Rattle.association_services.specs.declared.retrieval.Progress.{Progress}
 use Rattle.dimse.specs.declared.status.Status.TheVariants.{UnableToPerformSubOperations}
-use Rattle.retrieve_model.specs.declared.prepared.Prepared.{Prepared}
+use Rattle.archive_model.specs.declared.prepared.Prepared.{Prepared}
 use Rattle.association_services.specs.Response.{Awaited}
 use Rattle.association_services.proofs.OnceLaws.{response_once, rows_once, serves_on_once, sends_on_once}
 use Rattle.association_services.proofs.OnceLaws.{responds_by_once}

@@ -13,8 +13,8 @@ use Rattle.dimse.specs.declared.message.Message.{Message}
 use Rattle.dimse.specs.Sending.{IsSending}
 use Rattle.dimse.specs.Status.{status_code}
 use Rattle.pdu.specs.declared.context.Context.{Context}
-use Rattle.retrieve_model.specs.declared.prepared.Prepared.{Prepared}
-use Rattle.retrieve_model.specs.declared.sending.Sending.{Sending}
+use Rattle.archive_model.specs.declared.prepared.Prepared.{Prepared}
+use Rattle.archive_model.specs.declared.sending.Sending.{Sending}
 use Rattle.dimse.specs.declared.status.Status.{Status}
 use Rattle.association_services.specs.declared.call.Call.{Call}
 use Rattle.association_session.specs.declared.deed.Deed.{Deed}

@@ -15,7 +15,7 @@ use Rattle.dimse.specs.declared.status.Status.{Status}
 use Rattle.dimse.specs.declared.status.Status.TheVariants.{UnableToPerformSubOperations}
 use Rattle.pdu.specs.declared.context.Context.{Context}
 use Rattle.data_set.specs.declared.syntax.Syntax.{Syntax}
-use Rattle.retrieve_model.specs.declared.prepared.Prepared.{Prepared}
+use Rattle.archive_model.specs.declared.prepared.Prepared.{Prepared}
 use Rattle.data_set.specs.Set.{Set}
 use Rattle.association_services.specs.declared.call.Call.TheVariants.{Store, Find, Get}
 use Rattle.association_session.specs.declared.deed.Deed.{Deed}

@@ -4,10 +4,10 @@ ghost use Rattle.std.specs.Prelude.{◌≡◌};
 ghost use Rattle.association_session.specs.PendingResponse.{takes_reply, is_telling as is_telling_response};
 ghost use Rattle.association_session.specs.inner.Association.{pending_of};
 
+use archive_model::Answers;
 use association_services::{Awaited, Reply, Retrieval, RowKind};
 use data_set::Syntax;
 use dimse::Status;
-use query_model::Answers;
 
 /// Rows that are told, and the status that ends them.
 #[derive(Drop)]

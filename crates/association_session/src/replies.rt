@@ -13,6 +13,7 @@ use crate::association::Association;
 use crate::deeds::Deeds;
 use crate::pending_response::{PendingResponse, Telling};
 use crate::telling::{respond, sends, tell};
+use archive_model::{Answers, Prepared};
 use association_services::{
     Awaited, Begun, PortFault, Reply, Retrieval, RowKind, few, found, status_for,
 };
@@ -20,8 +21,6 @@ use data_set::Syntax;
 use dimse::Status;
 use octets::ListOf;
 use operation::Taken;
-use query_model::Answers;
-use retrieve_model::Prepared;
 use std::alloc::AllocError;
 
 impl Association {

@@ -11,10 +11,10 @@ ghost use Rattle.association_session.specs.inner.Telling.{IsTold, TellsSome, Tel
 
 use crate::deed::{Deed, Moment};
 use crate::deeds::Deeds;
+use archive_model::{Answer, Answers};
 use association_services::{Awaited, Call, RowKind, row_text};
 use dimse::{Fragments, Status};
 use operation::Content;
-use query_model::{Answer, Answers};
 use std::alloc::{AllocError, Global};
 
 pub(crate) fn one(alloc: Global, deed: Deed) -> Result<Deeds, AllocError>

@@ -7,9 +7,9 @@ use Rattle.operation.specs.declared.op.Op.{Op}
 use Rattle.operation.specs.Spelling.{digest_of}
 use Rattle.operation.specs.declared.taken.Taken.{Taken}
 use Rattle.operation.specs.declared.taken.Taken.TheVariants.{New, Known}
-use Rattle.query_model.specs.Rows.{rows_of}
-use Rattle.retrieve_model.specs.declared.prepared.Prepared.{Prepared}
-use Rattle.retrieve_model.specs.Preparing.{prepared_of}
+use Rattle.archive_model.specs.Rows.{rows_of}
+use Rattle.archive_model.specs.declared.prepared.Prepared.{Prepared}
+use Rattle.archive_model.specs.Preparing.{prepared_of}
 use Rattle.site_state.specs.Site.{Map, ops_of, with_op, Takes}
 use Rattle.site_state.proofs.Indexed.{ops_held}
 use Rattle.site_state.proofs.Same.{of_ops, taking_adds}

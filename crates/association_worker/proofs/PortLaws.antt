@@ -17,9 +17,9 @@ use Rattle.site_state.proofs.Indexed.{ops_held}
 use Rattle.site_state.proofs.Same.{of_ops}
 use Rattle.octets.specs.Members.{Has}
 use Rattle.data_set.specs.Set.{Set}
-use Rattle.query_model.specs.Rows.{rows_of}
-use Rattle.retrieve_model.specs.declared.prepared.Prepared.{Prepared}
-use Rattle.retrieve_model.specs.Preparing.{prepared_of}
+use Rattle.archive_model.specs.Rows.{rows_of}
+use Rattle.archive_model.specs.declared.prepared.Prepared.{Prepared}
+use Rattle.archive_model.specs.Preparing.{prepared_of}
 use Rattle.association_services.specs.declared.call.Finding.{Finding}
 use Rattle.association_services.specs.declared.call.Getting.{Getting}
 use Rattle.association_services.specs.declared.reply.PortFault.{PortFault}

@@ -9,12 +9,10 @@ ghost use Rattle.association_run.specs.Port.{Stores, Finds, Gets};
 ghost use Rattle.association_worker.specs.Port.{fault_of_hub, reply_to};
 
 use crate::at_entry::AtEntry;
-use archive_model::View;
+use archive_model::{Answers, Prepared, Query, Selection, View};
 use association_session::PortFault;
 use octets::ListOf;
 use operation::{Digested, Taken};
-use query_model::{Answers, Query};
-use retrieve_model::{Prepared, Selection};
 use site_hub::{HubFault, HubName, Keeper, Pass, Shows, Told, store_digested};
 use std::marker::{Model, PhantomData};
 use std::sync::{Mutex, Wait};

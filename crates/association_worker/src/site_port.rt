@@ -4,21 +4,18 @@ ghost use Rattle.std.specs.Prelude.{◌≡◌, ◌⊎◌, ◌++◌, ◌∷◌, [
 ghost use Rattle.std.specs.FinMap as finmap;
 ghost use Rattle.operation.specs.declared.op.Op.TheVariants.{Content as AContent};
 ghost use Rattle.operation.specs.Spelling.{digest_of};
-ghost use Rattle.query_model.specs.Rows.{rows_of};
+ghost use Rattle.archive_model.specs.Rows.{rows_of};
 ghost use Rattle.site_state.specs.Site.{IsSite, Takes, IsClash, ops_of};
-ghost use Rattle.retrieve_model.specs.Preparing.{prepared_of};
+ghost use Rattle.archive_model.specs.Preparing.{prepared_of};
 ghost use Rattle.association_run.specs.Port.{Stores, Finds, Gets};
 ghost use Rattle.association_worker.specs.Port.{PortParts, fault_of_site};
 
-use archive_model::View;
-use archive_query::find;
-use archive_retrieve::prepare;
+use archive_model::{Answers, Prepared, Query, Selection, View};
+use archive_query::{find, prepare};
 use association_run::Port;
 use association_session::PortFault;
 use octets::ListOf;
 use operation::{Content, Digest, Digested, Op, Taken};
-use query_model::{Answers, Query};
-use retrieve_model::{Prepared, Selection};
 use site_state::{Site, SiteFault};
 use std::alloc::Global;
 use std::marker::Model;

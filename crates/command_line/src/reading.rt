@@ -10,7 +10,7 @@ use clap::ArgMatches;
 use command_words::{
     Asked, Correcting, Exchanging, Moving, Reporting, Serving, Verifying, change_in,
 };
-use exchange_run::Role;
+use exchange::Role;
 use ipv4_networks::{Network, read_network};
 use site_tables::Table;
 use std::alloc::{AllocError, Global};

@@ -7,7 +7,7 @@ ghost use Rattle.site_simulation.specs.Texts.{line, end_line, message_line, stam
 ghost use Rattle.command_output.specs.Lines.{count_lines, exchange_lines, finished_line, flagged_line, move_lines, report_lines};
 ghost use Rattle.command_output.specs.Lines.{fingerprint_line, fingerprint_lines, store_lines};
 
-use exchange_run::Ended;
+use exchange::Ended;
 use kept_log::Moved;
 use octets::{Octets, put_digits};
 use operation::{Digest, Stamp};

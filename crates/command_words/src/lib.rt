@@ -8,7 +8,7 @@ ghost use Rattle.command_words.specs.declared.TheConstants.{LOOPBACK};
 mod parts;
 
 use archive_model::View;
-use exchange_run::Role;
+use exchange::Role;
 use ipv4_networks::Network;
 use octets::Octets;
 use operation::Target;

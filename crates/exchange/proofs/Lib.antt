@@ -6,3 +6,16 @@ pub mod Bucketed
 pub mod Said
 pub mod Places
 pub mod Refusals
+pub mod Holders
+pub mod Agreed
+pub mod Outcomes
+pub mod Readings
+pub mod Runs
+pub mod Turns
+pub mod Writings
+pub mod Frames
+pub mod Goings
+pub mod Offers
+pub mod Orders
+pub mod Once
+pub mod Joins

@@ -6,3 +6,11 @@ pub mod Places
 pub mod Asked
 pub mod Round
 pub mod Laws
+pub mod Tasks
+pub mod Course
+pub mod Hearing
+pub mod Saying
+pub mod RunLaws
+pub mod Order
+pub mod Run
+pub mod Joined

@@ -1,17 +1,30 @@
 //! One side's part in a round of frames, in which two sites tell each other what they hold, ask for
 //! what they lack and give it.
 //!
-//! What a site must do for it is `Holder`. Values come in and values go out: nothing here reads a
-//! socket. The frames are those of `exchange_frames`, whose types and calls are named here too.
+//! What a site must do for it is `Holder`. The frames are those of `exchange_frames`, whose types and
+//! calls are named here too. In a `Round` values come in and values go out.
+//!
+//! Behind it stands a whole exchange with a peer, from its first frame to its last. What a frame
+//! calls for is one table, `specs/Tasks.antt`, and what a side says then it says over a set that its
+//! holder has: `specs/Course.antt`. `Side` is that as a machine, to which frames come and which says
+//! frames; `run_exchange` reads and writes them, over any reader and writer.
 #![tactic(auto)]
 
 mod asked;
 mod buckets;
 mod fault;
+mod hearing;
 mod holder;
 mod laws;
+mod numbers;
+mod role;
 mod round;
+mod run;
+mod run_laws;
+mod saying;
+mod side;
 mod site_holder;
+mod task;
 mod version;
 
 pub use buckets::buckets_of_tree;
@@ -28,7 +41,13 @@ pub use laws::{
     equal_digests_meet_the_premise_of_buckets, rounds_each_way_make_sites_equal,
     what_a_round_says_is_a_frame,
 };
+pub use numbers::numbers_are_these;
+pub use role::{Ended, Role};
 pub use round::Round;
+pub use run::run_exchange;
+pub use run_laws::{
+    a_side_says_its_frames_in_order, an_exchange_gives_all, an_exchange_makes_holders_equal,
+};
 pub use site_holder::{
     buckets_of_site, differ_of_site, digests_of_site, digests_of_site_in, missing_of_site,
     ops_of_site,

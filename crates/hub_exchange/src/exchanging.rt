@@ -1,14 +1,13 @@
 //! A whole exchange of a site on a shelf.
 
 ghost use Rattle.std.specs.Prelude.{◌≡◌, IfOk, IfErr, ⊤};
-ghost use Rattle.exchange_run.specs.Run.{ends, Exchanged, EndsEarly};
+ghost use Rattle.exchange.specs.Run.{ends, Exchanged, EndsEarly};
 ghost use Rattle.operation.specs.declared.op.Op.{Op as Operation};
 ghost use Rattle.hub_exchange.specs.Putting.{HaveGoneOn};
 
 use crate::shelf_holder::{AtOpening, ShelvedHolder};
 use devices::{Sink, Source};
-use exchange::ExchangeFault;
-use exchange_run::{Ended, Role, run_exchange};
+use exchange::{Ended, ExchangeFault, Role, run_exchange};
 use op_shelf::Keep;
 use site_state::Site;
 use std::alloc::Global;

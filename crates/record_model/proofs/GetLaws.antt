@@ -10,10 +10,10 @@ use Rattle.op_record.specs.Parts.{ContentRecordParts, content_record}
 use Rattle.archive_model.specs.declared.view.View.{View}
 use Rattle.archive_model.specs.Covered.{is_among}
 use Rattle.archive_model.specs.Shown.{shown}
-use Rattle.retrieve_model.specs.declared.selection.Selection.{Selection}
-use Rattle.retrieve_model.specs.Change.{ChangeParts}
-use Rattle.retrieve_model.specs.Preparing.{changes_for, prepared_for, prepared_of}
-use Rattle.retrieve_model.specs.Selection.{is_selected, is_within, selected}
+use Rattle.archive_model.specs.declared.selection.Selection.{Selection}
+use Rattle.archive_model.specs.Change.{ChangeParts}
+use Rattle.archive_model.specs.Preparing.{changes_for, prepared_for, prepared_of}
+use Rattle.archive_model.specs.Selection.{is_selected, is_within, selected}
 use Rattle.record_model.specs.Laws as laws
 use Rattle.record_model.specs.Laws.{KeepTheSame, kept_prepared}
 use Rattle.record_model.proofs.Keeping.{map_kept}

@@ -17,15 +17,15 @@ use Rattle.archive_model.specs.Attributes.{attribute}
 use Rattle.archive_model.specs.Contents.{modality_of, series_of}
 use Rattle.archive_model.specs.Shown.{shown}
 use Rattle.key_matching.specs.Matches.{matches}
-use Rattle.query_model.specs.declared.key.Level.{Level}
-use Rattle.query_model.specs.declared.key.Level.TheVariants.{Study, Series, Image}
-use Rattle.query_model.specs.declared.query.Query.{Query}
-use Rattle.query_model.specs.Cell.{cell}
-use Rattle.query_model.specs.Column.{columns}
-use Rattle.query_model.specs.Key.{word_of}
-use Rattle.query_model.specs.Rows.{asked_value, cell_in_row, contents_at, is_asked, is_at, is_match_with, is_named}
-use Rattle.query_model.specs.Rows.{is_unique_key, modalities_of, named, row_at_with, row_of_with, row_with, rows_of}
-use Rattle.query_model.specs.Rows.{rows_with, uid_at, uids_at}
+use Rattle.archive_model.specs.declared.key.Level.{Level}
+use Rattle.archive_model.specs.declared.key.Level.TheVariants.{Study, Series, Image}
+use Rattle.archive_model.specs.declared.query.Query.{Query}
+use Rattle.archive_model.specs.Cell.{cell}
+use Rattle.archive_model.specs.Column.{columns}
+use Rattle.archive_model.specs.Key.{word_of}
+use Rattle.archive_model.specs.Rows.{asked_value, cell_in_row, contents_at, is_asked, is_at, is_match_with, is_named}
+use Rattle.archive_model.specs.Rows.{is_unique_key, modalities_of, named, row_at_with, row_of_with, row_with, rows_of}
+use Rattle.archive_model.specs.Rows.{rows_with, uid_at, uids_at}
 use Rattle.record_model.specs.Laws as laws
 use Rattle.record_model.specs.Laws.{KeepTheSame}
 use Rattle.record_model.proofs.Keeping.{filter_kept, map_kept}

@@ -17,12 +17,12 @@ use Rattle.archive_model.specs.Groups.{studies, series_in, study_representative,
 use Rattle.archive_model.specs.Groups.{instances_of_study, series_of_study}
 use Rattle.archive_model.specs.Index.{copies, fix, is_titled, pick_digest}
 use Rattle.archive_model.specs.Shown.{shown}
-use Rattle.query_model.specs.declared.query.Query.{Query}
-use Rattle.query_model.specs.Rows.{rows_of}
-use Rattle.retrieve_model.specs.declared.prepared.Prepared.{Prepared}
-use Rattle.retrieve_model.specs.declared.selection.Selection.{Selection}
-use Rattle.retrieve_model.specs.Change.{ChangeParts}
-use Rattle.retrieve_model.specs.Preparing.{prepared_of}
+use Rattle.archive_model.specs.declared.query.Query.{Query}
+use Rattle.archive_model.specs.Rows.{rows_of}
+use Rattle.archive_model.specs.declared.prepared.Prepared.{Prepared}
+use Rattle.archive_model.specs.declared.selection.Selection.{Selection}
+use Rattle.archive_model.specs.Change.{ChangeParts}
+use Rattle.archive_model.specs.Preparing.{prepared_of}
 
 -- of both sets the same is kept
 abbrev pub KeepTheSame : List Op → List Op → Type 0

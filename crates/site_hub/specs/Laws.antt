@@ -2,12 +2,12 @@
 use Rattle.std.specs.Prelude.{◌≡◌, ℕ, List}
 use Rattle.archive_model.specs.declared.view.View.{View}
 use Rattle.site_state.specs.Site.{Map, ops_of, held_at}
-use Rattle.query_model.specs.declared.query.Query.{Query}
-use Rattle.query_model.specs.Rows.{rows_of}
-use Rattle.retrieve_model.specs.declared.selection.Selection.{Selection}
-use Rattle.retrieve_model.specs.declared.accepts.Accepts.{Accepts}
-use Rattle.retrieve_model.specs.declared.sending.Sending.{Sending}
-use Rattle.retrieve_model.specs.Sending.{Gets}
+use Rattle.archive_model.specs.declared.query.Query.{Query}
+use Rattle.archive_model.specs.Rows.{rows_of}
+use Rattle.archive_model.specs.declared.selection.Selection.{Selection}
+use Rattle.archive_model.specs.declared.accepts.Accepts.{Accepts}
+use Rattle.archive_model.specs.declared.sending.Sending.{Sending}
+use Rattle.archive_model.specs.Sending.{Gets}
 use Rattle.site_hub.specs.declared.entry.Entry.{Entry}
 use Rattle.site_hub.specs.History.{set_of}
 

@@ -2,9 +2,9 @@
 ghost use Rattle.std.specs.Prelude.{◌≡◌, ◌⊎◌, Err, IfOk, IfErr};
 ghost use mathlib.Core.List.{IsPrefix};
 ghost use Rattle.site_state.specs.Site.{ops_of, held_at, digests_of};
-ghost use Rattle.query_model.specs.Rows.{rows_of};
-ghost use Rattle.retrieve_model.specs.Preparing.{prepared_of};
-ghost use Rattle.retrieve_model.specs.Sending.{Gets};
+ghost use Rattle.archive_model.specs.Rows.{rows_of};
+ghost use Rattle.archive_model.specs.Preparing.{prepared_of};
+ghost use Rattle.archive_model.specs.Sending.{Gets};
 ghost use Rattle.site_hub.specs.Fault.{IsLookFault};
 ghost use Rattle.site_hub.specs.History.{set_of, missing_from, IsHistory};
 ghost use Rattle.site_hub.specs.Hub.{HasKept, HasLooked};
@@ -17,8 +17,9 @@ use crate::refusals::Refusals;
 use crate::snapshot::Snapshot;
 use crate::told::Told;
 use archive_model::View;
-use archive_query::{Answers, PreparedQuery, Query, rows_found};
-use archive_retrieve::{Accepts, Prepared, Selection, Sending};
+use archive_query::{
+    Accepts, Answers, Prepared, PreparedQuery, Query, Selection, Sending, rows_found,
+};
 use left_right::ReadHandle;
 use operation::{Digest, Op};
 use std::alloc::Global;

@@ -2,16 +2,17 @@
 ghost use Rattle.std.specs.Prelude.{◌≡◌, List, ℕ, IfOk};
 ghost use Rattle.std.specs.Option.{option_copied};
 ghost use Rattle.site_state.specs.Site.{ops_of, held_at, digests_of};
-ghost use Rattle.query_model.specs.Rows.{rows_of};
+ghost use Rattle.archive_model.specs.Rows.{rows_of};
 ghost use Rattle.archive_query.specs.Found.{rows_found};
-ghost use Rattle.retrieve_model.specs.Preparing.{prepared_of};
-ghost use Rattle.retrieve_model.specs.Sending.{Gets};
+ghost use Rattle.archive_model.specs.Preparing.{prepared_of};
+ghost use Rattle.archive_model.specs.Sending.{Gets};
 ghost use Rattle.site_hub.specs.History.{missing_from};
 
 use crate::looking::Question;
 use archive_model::View;
-use archive_query::{Found, PreparedQuery, take};
-use archive_retrieve::{Accepts, Prepared, Selection, Sending, get, prepare};
+use archive_query::{
+    Accepts, Found, Prepared, PreparedQuery, Selection, Sending, get, prepare, take,
+};
 use operation::{Digest, Op};
 use site_state::Site;
 use std::alloc::{AllocError, Global};

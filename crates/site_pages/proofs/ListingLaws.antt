@@ -6,8 +6,8 @@ use Rattle.data_set.specs.Set.{Set}
 use Rattle.operation.specs.declared.op.Op.{Op}
 use Rattle.operation.specs.Parts.{ContentParts}
 use Rattle.archive_model.specs.declared.view.View.TheVariants.{Archive}
-use Rattle.query_model.specs.declared.query.Query.{Query}
-use Rattle.query_model.specs.Rows.{rows_of}
+use Rattle.archive_model.specs.declared.query.Query.{Query}
+use Rattle.archive_model.specs.Rows.{rows_of}
 use Rattle.archive_query.specs.Found.{rows_found}
 use Rattle.archive_page.specs.declared.search.Search.{Search}
 use Rattle.site_tables.specs.declared.studies.TakenStudies.{TakenStudies}

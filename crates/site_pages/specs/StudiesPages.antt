@@ -14,10 +14,10 @@ use Rattle.archive_model.specs.declared.view.View.TheVariants.{Archive}
 use Rattle.key_matching.specs.declared.matching.Matching.{Matching}
 use Rattle.key_matching.specs.declared.matching.Matching.TheVariants.{Dates, WildCard, Name, Answered}
 use Rattle.key_matching.specs.Matches.{is_universal, is_of_form, matches, parts}
-use Rattle.query_model.specs.declared.asked.Asked.{Asked}
-use Rattle.query_model.specs.declared.query.Query.{Query}
-use Rattle.query_model.specs.declared.key.Level.TheVariants.{Study}
-use Rattle.query_model.specs.Rows.{rows_of}
+use Rattle.archive_model.specs.declared.asked.Asked.{Asked}
+use Rattle.archive_model.specs.declared.query.Query.{Query}
+use Rattle.archive_model.specs.declared.key.Level.TheVariants.{Study}
+use Rattle.archive_model.specs.Rows.{rows_of}
 use Rattle.site_tables.specs.Studies.{value_or_none, row_with, rejected_picks}
 use Rattle.archive_page.specs.declared.answer.Answer.{Answer}
 use Rattle.archive_page.specs.declared.answer.Status.TheVariants.{BadRequest}

@@ -5,8 +5,8 @@ use Rattle.octets.specs.Padding.{trimmed}
 use Rattle.dictionary.specs.declared.elements.TheConstants.{QUERY_RETRIEVE_LEVEL, SERIES_INSTANCE_UID, SOP_INSTANCE_UID}
 use Rattle.dictionary.specs.declared.elements.TheConstants.{STUDY_INSTANCE_UID}
 use Rattle.dictionary.specs.declared.uids.TheConstants.{CT_IMAGE_STORAGE, KEY_OBJECT_SELECTION_DOCUMENT_STORAGE}
-use Rattle.retrieve_model.specs.declared.accepts.Accepted.{Accepted}
-use Rattle.retrieve_model.specs.declared.accepts.Accepts.{Accepts}
+use Rattle.archive_model.specs.declared.accepts.Accepted.{Accepted}
+use Rattle.archive_model.specs.declared.accepts.Accepts.{Accepts}
 use Rattle.site_script.specs.declared.key.Key.{Key}
 use Rattle.site_script.specs.Names.{is}
 

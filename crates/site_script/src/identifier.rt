@@ -3,8 +3,8 @@
 
 ghost use Rattle.std.specs.Prelude.{◌≡◌, IfOk};
 ghost use Rattle.octets.specs.Gives.{Gives};
-ghost use Rattle.query_model.specs.Fault.{is_memory};
-ghost use Rattle.query_model.specs.Query.{query_of};
+ghost use Rattle.archive_model.specs.Fault.{is_memory};
+ghost use Rattle.archive_model.specs.Query.{query_of};
 ghost use Rattle.data_set.specs.declared.syntax.Syntax.TheVariants.{Implicit};
 ghost use Rattle.data_set.specs.Written.{IsSet};
 ghost use Rattle.site_script.specs.Sets.{identifier as identifier_of, key_element as key_element_of};

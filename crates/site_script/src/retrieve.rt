@@ -2,8 +2,8 @@
 
 ghost use Rattle.std.specs.Prelude.{◌≡◌, ◌++◌, ◌∷◌, [], IfOk, OnOk};
 ghost use Rattle.octets.specs.Gives.{Gives};
-ghost use Rattle.query_model.specs.Fault.{is_memory};
-ghost use Rattle.retrieve_model.specs.Selection.{selection_of};
+ghost use Rattle.archive_model.specs.Fault.{is_memory};
+ghost use Rattle.archive_model.specs.Selection.{selection_of};
 ghost use Rattle.data_set.specs.declared.syntax.Syntax.TheVariants.{Implicit};
 ghost use Rattle.data_set.specs.Written.{IsSet};
 ghost use Rattle.site_script.specs.Sets.{identifier as identifier_of};
@@ -12,8 +12,7 @@ ghost use Rattle.site_script.specs.Retrieves.{first_in as first_of, behind_first
 use crate::command::GetLine;
 use crate::identifier::identifier;
 use crate::key::Key;
-use archive_query::QueryFault;
-use archive_retrieve::{Accepted, Accepts, Selection};
+use archive_query::{Accepted, Accepts, QueryFault, Selection};
 use data_set::{DataSet, Syntax};
 use dictionary::{
     CT_IMAGE_STORAGE, KEY_OBJECT_SELECTION_DOCUMENT_STORAGE, QUERY_RETRIEVE_LEVEL,

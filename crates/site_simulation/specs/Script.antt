@@ -7,12 +7,12 @@ use Rattle.operation.specs.Fault.{number_of}
 use Rattle.operation.specs.Parts.{ContentParts}
 use Rattle.archive_model.specs.Contents.{flagged}
 use Rattle.archive_model.specs.declared.view.View.{View}
-use Rattle.query_model.specs.declared.query.Query.{Query}
-use Rattle.query_model.specs.declared.fault.QueryFault.{QueryFault}
-use Rattle.query_model.specs.Fault.{number_of as number_of_query_fault}
-use Rattle.query_model.specs.Query.{query_of}
-use Rattle.retrieve_model.specs.declared.selection.Selection.{Selection}
-use Rattle.retrieve_model.specs.Selection.{selection_of}
+use Rattle.archive_model.specs.declared.query.Query.{Query}
+use Rattle.archive_model.specs.declared.fault.QueryFault.{QueryFault}
+use Rattle.archive_model.specs.Fault.{number_of as number_of_query_fault}
+use Rattle.archive_model.specs.Query.{query_of}
+use Rattle.archive_model.specs.declared.selection.Selection.{Selection}
+use Rattle.archive_model.specs.Selection.{selection_of}
 use Rattle.site_state.specs.Site.{Map, ops_of}
 use Rattle.site_script.specs.declared.command.Command.{Command}
 use Rattle.site_script.specs.declared.command.Command.TheVariants.{Skip, Bad, Site, Image, Note}

@@ -12,7 +12,7 @@ use Rattle.data_set.specs.Written.{text_of}
 use Rattle.operation.specs.declared.stamp.Stamp.{Stamp}
 use Rattle.operation.specs.declared.taken.Taken.{Taken}
 use Rattle.operation.specs.declared.taken.Taken.TheVariants.{New, Known}
-use Rattle.retrieve_model.specs.declared.sending.Sending.{Sending}
+use Rattle.archive_model.specs.declared.sending.Sending.{Sending}
 use Rattle.site_world.specs.declared.fault.WorldFault.{WorldFault}
 use Rattle.site_world.specs.declared.fault.WorldFault.TheVariants.{NoSite, NoMessage, Site, StampsSpent, Memory}
 use Rattle.site_world.specs.declared.fault.WorldFault.TheVariants.{BadCorrection, OldSite}

@@ -8,8 +8,7 @@ ghost use Rattle.site_simulation.specs.Texts.{answer_lines, rows_lines, bytes_of
 ghost use Rattle.site_simulation.specs.Texts.{sending_line, sending_lines, sent_lines};
 ghost use Rattle.site_simulation.specs.Texts.{message_line, spaced_numbers, gave_line};
 
-use archive_query::Answer;
-use archive_retrieve::Sending;
+use archive_query::{Answer, Sending};
 use bytes::Bytes;
 use data_set::{Syntax, write};
 use octets::{Octets, put_digits};

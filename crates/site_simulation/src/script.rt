@@ -10,12 +10,12 @@ ghost use Rattle.operation.specs.declared.op.Op.TheVariants.{Content as a_conten
 ghost use Rattle.operation.specs.declared.fault.OpFault.{OpFault};
 ghost use Rattle.operation.specs.Fault.{is_memory as is_memory_fault};
 ghost use Rattle.operation.specs.Parts.{ContentParts};
-ghost use Rattle.query_model.specs.declared.query.Query.{Query};
-ghost use Rattle.query_model.specs.declared.fault.QueryFault.{QueryFault};
-ghost use Rattle.query_model.specs.Fault.{is_memory as is_memory_query};
-ghost use Rattle.query_model.specs.Query.{query_of};
-ghost use Rattle.retrieve_model.specs.declared.selection.Selection.{Selection};
-ghost use Rattle.retrieve_model.specs.Selection.{selection_of};
+ghost use Rattle.archive_model.specs.declared.query.Query.{Query};
+ghost use Rattle.archive_model.specs.declared.fault.QueryFault.{QueryFault};
+ghost use Rattle.archive_model.specs.Fault.{is_memory as is_memory_query};
+ghost use Rattle.archive_model.specs.Query.{query_of};
+ghost use Rattle.archive_model.specs.declared.selection.Selection.{Selection};
+ghost use Rattle.archive_model.specs.Selection.{selection_of};
 ghost use Rattle.site_script.specs.Commands.{command_of as command_of_line};
 ghost use Rattle.site_script.specs.Fitting.{IsShort, MakesSets};
 ghost use Rattle.site_simulation.specs.Output.{NOTHING};
@@ -32,8 +32,7 @@ ghost use Rattle.site_simulation.specs.Texts.{BAD, fault_line, flagged_lines, sa
 
 use crate::print::{put_fault, put_flagged, put_line, put_same, put_seen, put_site};
 use archive_model::View;
-use archive_query::{Query, QueryFault};
-use archive_retrieve::Selection;
+use archive_query::{Query, QueryFault, Selection};
 use octets::Octets;
 use operation::{Content, Op, OpFault};
 use site_script::{

@@ -17,10 +17,10 @@ use Rattle.archive_model.specs.Covered.{is_covered}
 use Rattle.archive_model.specs.Attributes.{corrected}
 use Rattle.archive_model.specs.Index.{is_titled}
 use Rattle.archive_model.proofs.ModelLaws.{content_has, pick_is_content, covered_by_titles}
-use Rattle.live_picks.specs.Live.{Pick, pick_at}
+use Rattle.study_index.specs.Live.{Pick, pick_at}
 use Rattle.study_index.specs.Index.{IndexValue, Fix, fix_of, pick_of}
 use Rattle.study_index.specs.Definition.{IsIndexOf}
-use Rattle.live_picks.proofs.Studies.{both_ways}
+use Rattle.study_index.proofs.Studies.{both_ways}
 use Rattle.site_state.specs.Site.{Map, IsSite, held_at, ops_of}
 use Rattle.site_state.specs.Hidden.{hides_under, is_hidden, content_held}
 use Rattle.site_state.proofs.Indexed.{ops_held}

@@ -20,14 +20,13 @@ use crate::fault::SiteFault;
 use crate::tree::{do_clash, merge_in, take_in};
 use archive_model::{View, content, hides, is_hiding};
 use join_laws::Join;
-use live_picks::ShortText;
 use octets::Octets;
 use operation::{Content, Digest, Digested, Op, Taken};
 use rejection_note::NoteTitle;
 use std::alloc::{AllocError, Global};
 use std::collections::{BTreeMap, BTreeSet};
 use std::marker::Model;
-use study_index::Index;
+use study_index::{Index, ShortText};
 
 mod lending;
 

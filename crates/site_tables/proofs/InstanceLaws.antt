@@ -5,7 +5,7 @@ use Rattle.operation.specs.declared.op.Op.{Op}
 use Rattle.operation.specs.Parts.{ContentParts}
 use Rattle.archive_model.specs.Contents.{series_of}
 use Rattle.archive_model.specs.declared.view.View.TheVariants.{Audit}
-use Rattle.retrieve_model.specs.Preparing.{prepared_for, prepared_of}
+use Rattle.archive_model.specs.Preparing.{prepared_for, prepared_of}
 use Rattle.site_tables.specs.declared.study.Instance.{Instance}
 use Rattle.site_tables.specs.declared.under.Under.{Under}
 use Rattle.site_tables.specs.Cells.{yes_no}

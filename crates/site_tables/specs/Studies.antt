@@ -14,10 +14,10 @@ use Rattle.archive_model.specs.Groups.{in_study}
 use Rattle.archive_model.specs.declared.view.View.TheVariants.{Archive}
 use Rattle.key_matching.specs.declared.matching.Matching.{Matching}
 use Rattle.key_matching.specs.declared.matching.Matching.TheVariants.{Dates, WildCard, Name, Answered}
-use Rattle.query_model.specs.declared.asked.Asked.{Asked}
-use Rattle.query_model.specs.declared.query.Query.{Query}
-use Rattle.query_model.specs.declared.key.Level.TheVariants.{Study}
-use Rattle.query_model.specs.Rows.{rows_of}
+use Rattle.archive_model.specs.declared.asked.Asked.{Asked}
+use Rattle.archive_model.specs.declared.query.Query.{Query}
+use Rattle.archive_model.specs.declared.key.Level.TheVariants.{Study}
+use Rattle.archive_model.specs.Rows.{rows_of}
 use Rattle.archive_query.specs.Found.{rows_found}
 use Rattle.study_index.specs.Index.{is_short}
 use Rattle.site_tables.specs.declared.studies.TakenStudies.{TakenStudies}

@@ -9,10 +9,10 @@ use Rattle.archive_model.specs.Attributes.{is_target_of}
 use Rattle.archive_model.specs.Contents.{series_of}
 use Rattle.archive_model.specs.Shown.{shown, shown_at}
 use Rattle.archive_model.specs.declared.view.View.TheVariants.{Archive, Audit}
-use Rattle.query_model.specs.declared.key.Level.TheVariants.{Study}
-use Rattle.retrieve_model.specs.declared.prepared.Prepared.{Prepared}
-use Rattle.retrieve_model.specs.declared.selection.Selection.{Selection}
-use Rattle.retrieve_model.specs.Selection.{selected}
+use Rattle.archive_model.specs.declared.key.Level.TheVariants.{Study}
+use Rattle.archive_model.specs.declared.prepared.Prepared.{Prepared}
+use Rattle.archive_model.specs.declared.selection.Selection.{Selection}
+use Rattle.archive_model.specs.Selection.{selected}
 use Rattle.site_tables.specs.declared.corrections.Stamped.{Stamped}
 use Rattle.site_tables.specs.declared.study.Instance.{Instance}
 use Rattle.site_tables.specs.declared.study.TakenStudy.{TakenStudy}

@@ -14,11 +14,11 @@ use crate::cells::{hex_digits, word};
 use crate::table::Row;
 use crate::under::{Under, put_in_order, run_under, those_under};
 use archive_model::study;
-use live_picks::ShortText;
 use octets::{ListOf, Octets, digits};
 use operation::{Content, Digest, Op, digest};
 use site_state::Site;
 use std::alloc::{AllocError, Global};
+use study_index::ShortText;
 
 /// A content of a flagged SOP Instance UID, and the digest of the pick of the UID.
 #[derive(Drop)]

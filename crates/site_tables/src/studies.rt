@@ -21,11 +21,11 @@ use dictionary::{
     NUMBER_OF_STUDY_RELATED_INSTANCES, NUMBER_OF_STUDY_RELATED_SERIES, PATIENT_ID, PATIENT_NAME,
     STUDY_DATE, STUDY_INSTANCE_UID,
 };
-use live_picks::ShortText;
 use octets::{ListOf, Octets, digits};
 use operation::Content;
 use site_state::Site;
 use std::alloc::{AllocError, Global};
+use study_index::ShortText;
 
 /// What a look takes for rows of studies: what the rows of a query are made of, and the picks of
 /// the UIDs that notes name.

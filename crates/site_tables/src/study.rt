@@ -19,13 +19,12 @@ use crate::rejected::{by_named, put_row_at, take_notes};
 use crate::table::Row;
 use crate::under::Under;
 use archive_model::{View, patient, series, study};
-use archive_query::Level;
-use archive_retrieve::{Prepared, Selection, prepare};
-use live_picks::ShortText;
+use archive_query::{Level, Prepared, Selection, prepare};
 use octets::{ListOf, Octets, ascending, joined};
 use operation::{Content, Correction, Target};
 use site_state::Site;
 use std::alloc::{AllocError, Global};
+use study_index::ShortText;
 
 /// An instance of a study, and whether ARCHIVE shows it.
 #[derive(Drop)]

@@ -17,9 +17,9 @@ use Rattle.archive_model.specs.Attributes.{corrections}
 use Rattle.archive_model.specs.declared.view.View.{View}
 use Rattle.archive_model.proofs.MemberLaws.{filter_has, has_filter_map, filter_map_has}
 use Rattle.archive_model.proofs.ModelLaws.{same_is, same_itself, content_has, covered_is_named, shown_are_picks}
-use Rattle.query_model.specs.declared.query.Query.{Query}
-use Rattle.query_model.specs.Rows.{named, is_named, is_at, is_match, contents_at, uids_at, row, row_of, row_at}
-use Rattle.query_model.specs.Rows.{rows_among, rows_of}
+use Rattle.archive_model.specs.declared.query.Query.{Query}
+use Rattle.archive_model.specs.Rows.{named, is_named, is_at, is_match, contents_at, uids_at, row, row_of, row_at}
+use Rattle.archive_model.specs.Rows.{rows_among, rows_of}
 use Rattle.archive_query.proofs.AscendingLaws.{Has as HasText, Rises, Below, ascending_rises, ascending_has}
 use Rattle.archive_query.proofs.AscendingLaws.{has_ascending, one_rising}
 use Rattle.archive_query.proofs.RowLaws.{rows_alike}

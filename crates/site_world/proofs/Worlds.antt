@@ -8,9 +8,9 @@ use Rattle.std.specs.List.{slice_get}
 use Rattle.operation.specs.declared.op.Op.{Op}
 use Rattle.operation.specs.declared.target.Target.{Target}
 use Rattle.archive_model.specs.declared.view.View.{View}
-use Rattle.query_model.specs.declared.query.Query.{Query}
-use Rattle.retrieve_model.specs.declared.accepts.Accepts.{Accepts}
-use Rattle.retrieve_model.specs.declared.selection.Selection.{Selection}
+use Rattle.archive_model.specs.declared.query.Query.{Query}
+use Rattle.archive_model.specs.declared.accepts.Accepts.{Accepts}
+use Rattle.archive_model.specs.declared.selection.Selection.{Selection}
 use Rattle.site_state.specs.Site.{Map}
 use Rattle.site_world.specs.declared.fault.WorldFault.{WorldFault}
 use Rattle.site_world.specs.declared.step.Step.{Step}

@@ -10,8 +10,8 @@ use Rattle.archive_model.specs.Members.{Has}
 use Rattle.archive_model.specs.View.{hides}
 use Rattle.archive_model.specs.Index.{is_content_of}
 use Rattle.archive_model.specs.declared.view.View.{View}
-use Rattle.query_model.specs.declared.query.Query.{Query}
-use Rattle.query_model.specs.Rows.{row, rows_of}
+use Rattle.archive_model.specs.declared.query.Query.{Query}
+use Rattle.archive_model.specs.Rows.{row, rows_of}
 use Rattle.site_state.specs.Site.{Map, ops_of}
 use Rattle.site_world.specs.Headline.{SiteOf}
 

@@ -9,12 +9,12 @@ use Rattle.operation.specs.declared.op.Op.TheVariants.{Correction as a_correctio
 use Rattle.operation.specs.declared.stamp.Stamp.{Stamp}
 use Rattle.archive_model.specs.Members.{SameMembers}
 use Rattle.archive_model.specs.declared.view.View.{View}
-use Rattle.query_model.specs.declared.query.Query.{Query}
-use Rattle.query_model.specs.Rows.{rows_of}
-use Rattle.retrieve_model.specs.declared.accepts.Accepts.{Accepts}
-use Rattle.retrieve_model.specs.declared.selection.Selection.{Selection}
-use Rattle.retrieve_model.specs.declared.sending.Sending.{Sending}
-use Rattle.retrieve_model.specs.Sending.{sendings_of}
+use Rattle.archive_model.specs.declared.query.Query.{Query}
+use Rattle.archive_model.specs.Rows.{rows_of}
+use Rattle.archive_model.specs.declared.accepts.Accepts.{Accepts}
+use Rattle.archive_model.specs.declared.selection.Selection.{Selection}
+use Rattle.archive_model.specs.declared.sending.Sending.{Sending}
+use Rattle.archive_model.specs.Sending.{sendings_of}
 use Rattle.site_state.specs.Site.{Map, ops_of}
 use Rattle.site_state.specs.Laws.{holding}
 use Rattle.study_index.specs.Definition.{index_value}

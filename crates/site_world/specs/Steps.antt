@@ -11,11 +11,11 @@ use Rattle.operation.specs.Spelling.{digest_of}
 use Rattle.operation.specs.Corrections.{is_correction}
 use Rattle.archive_model.specs.declared.view.View.{View}
 use Rattle.archive_model.specs.declared.view.View.TheVariants.{Archive, Quality, Audit}
-use Rattle.query_model.specs.declared.query.Query.{Query}
-use Rattle.query_model.specs.Rows.{rows_of}
-use Rattle.retrieve_model.specs.declared.accepts.Accepts.{Accepts}
-use Rattle.retrieve_model.specs.declared.selection.Selection.{Selection}
-use Rattle.retrieve_model.specs.Sending.{sendings_of}
+use Rattle.archive_model.specs.declared.query.Query.{Query}
+use Rattle.archive_model.specs.Rows.{rows_of}
+use Rattle.archive_model.specs.declared.accepts.Accepts.{Accepts}
+use Rattle.archive_model.specs.declared.selection.Selection.{Selection}
+use Rattle.archive_model.specs.Sending.{sendings_of}
 use Rattle.site_state.specs.Site.{Map, held_at, with_op, ops_of, top_counter_of}
 use Rattle.operation.specs.declared.taken.Taken.{Taken}
 use Rattle.operation.specs.declared.taken.Taken.TheVariants.{New, Known}

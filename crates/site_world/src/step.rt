@@ -1,8 +1,7 @@
 //! The steps of several sites, and what is seen of them.
 
 use archive_model::View;
-use archive_query::{Answer, Query};
-use archive_retrieve::{Accepts, Selection, Sending};
+use archive_query::{Accepts, Answer, Query, Selection, Sending};
 use octets::{ListOf, Octets};
 use operation::{Op, Stamp, Target};
 use site_state::Taken;

@@ -21,13 +21,13 @@ use Rattle.archive_model.proofs.MemberLaws.{filter_map_has}
 use Rattle.archive_model.proofs.ModelLaws.{same_is, same_itself}
 use Rattle.join_laws.specs.Greatest.{greatest_of}
 use Rattle.join_laws.specs.Proved.Orders.{greatest_laws}
-use Rattle.live_picks.specs.Live.{Text}
+use Rattle.study_index.specs.Live.{Text}
 use Rattle.study_index.specs.Index.{Fix, IndexValue, fix_cmp, is_short, fix_key, fix_of, fix_at, short_fix_at}
 use Rattle.study_index.specs.Index.{latest_at}
 use Rattle.study_index.specs.Definition.{IsIndexOf, IsLawful, AreLawful}
 use Rattle.study_index.specs.Proved.Indexes.{fix_total, fix_exact}
 use Rattle.study_index.proofs.Definitions.{greatest_more}
-use Rattle.live_picks.proofs.Studies.{both_ways}
+use Rattle.study_index.proofs.Studies.{both_ways}
 
 abbrev later_of : Option Fix → Option Fix → Option Fix
 later_of = greatest_of fix_cmp

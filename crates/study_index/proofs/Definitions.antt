@@ -37,8 +37,8 @@ use Rattle.join_laws.specs.MapOf.{entry}
 use Rattle.join_laws.specs.Proved.Sets.{has-union}
 use Rattle.join_laws.specs.Proved.Maps.{lookup-map_joined}
 use Rattle.join_laws.proofs.Folds.{value_held}
-use Rattle.live_picks.specs.Keys.{has}
-use Rattle.live_picks.specs.Live.{Text, pick_cmp, flat, pick_at}
+use Rattle.study_index.specs.Keys.{has}
+use Rattle.study_index.specs.Live.{Text, pick_cmp, flat, pick_at}
 use Rattle.study_index.specs.Index.{FixKey, Fix, IndexValue, copy_cmp, naming_cmp, fix_key_cmp, fix_cmp, fixes_joined}
 use Rattle.study_index.specs.Index.{IsIndex, index_joined, nothing, is_short, namings, titles_of, pick_of, fix_key}
 use Rattle.study_index.specs.Index.{fix_of, index_of, fix_at}
@@ -47,8 +47,8 @@ use Rattle.study_index.specs.Proved.Indexes.{copy_total, copy_exact, naming_tota
 use Rattle.study_index.specs.Proved.Indexes.{fix_key_exact, fix_exact, index_laws, index_summary_laws}
 use Rattle.study_index.specs.Leads.{Lead, lead_cmp, leads_of, is_lead}
 use Rattle.study_index.specs.Proved.Leads.{lead_total, lead_exact}
-use Rattle.live_picks.proofs.KeyLaws.{or_none, at_either}
-use Rattle.live_picks.proofs.Trees.{pick_at-joined}
+use Rattle.study_index.proofs.KeyLaws.{or_none, at_either}
+use Rattle.study_index.proofs.Trees.{pick_at-joined}
 
 -- the index of a list of operations
 abbrev pub value : List Op → IndexValue

@@ -15,11 +15,11 @@ use Rattle.std.specs.Cmp.Lexicographic.{nat_list_cmp_total}
 use Rattle.octets.specs.Texts.{same, text_cmp}
 use Rattle.archive_model.proofs.ModelLaws.{same_is, same_itself}
 use Rattle.join_laws.specs.Proved.Sets.{has-insert_key}
-use Rattle.live_picks.specs.Keys.{has}
-use Rattle.live_picks.specs.Live.{Text}
+use Rattle.study_index.specs.Keys.{has}
+use Rattle.study_index.specs.Live.{Text}
 use Rattle.study_index.specs.Index.{Copy, copy_cmp}
 use Rattle.study_index.specs.Copies.{is_copy_of, is_doubled, is_next_copy}
-use Rattle.live_picks.specs.Proved.Picks.{text_exact}
+use Rattle.study_index.specs.Proved.Picks.{text_exact}
 use Rattle.study_index.proofs.Definitions.{at_text}
 
 -- ---- how many there are

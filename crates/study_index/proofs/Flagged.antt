@@ -27,15 +27,15 @@ use Rattle.archive_model.proofs.MemberLaws.{any_has, has_any, filter_has}
 use Rattle.archive_model.proofs.ModelLaws.{same_is, flagged_have_two}
 use Rattle.join_laws.specs.GrowSet.{only}
 use Rattle.join_laws.specs.Proved.Sets.{same_keys, set_laws}
-use Rattle.live_picks.specs.Keys.{has}
-use Rattle.live_picks.specs.Live.{Text}
+use Rattle.study_index.specs.Keys.{has}
+use Rattle.study_index.specs.Live.{Text}
 use Rattle.study_index.specs.Index.{Copy, IndexValue, copy_cmp}
 use Rattle.study_index.specs.Definition.{IsIndexOf, index_value}
 use Rattle.study_index.specs.Copies.{is_copy_of, is_doubled}
-use Rattle.live_picks.specs.Proved.Picks.{text_exact}
+use Rattle.study_index.specs.Proved.Picks.{text_exact}
 use Rattle.study_index.specs.Proved.Indexes.{copy_total, copy_exact}
 use Rattle.study_index.proofs.Definitions.{has_copy, held, at_copy}
-use Rattle.live_picks.proofs.Studies.{both_ways}
+use Rattle.study_index.proofs.Studies.{both_ways}
 
 -- ---- the digests of the copies of a UID
 

@@ -19,9 +19,9 @@ use Rattle.std.proofs.lemmas.Cmp.{tied_itself, nat_cmp_total}
 use Rattle.std.proofs.lemmas.List.Folds.{list_any-append}
 use Rattle.join_laws.specs.Proved.Sets.{has-insert_key}
 use Rattle.octets.specs.Texts.{text_cmp}
-use Rattle.live_picks.specs.Keys.{has}
-use Rattle.live_picks.specs.Proved.Picks.{text_exact}
-use Rattle.live_picks.proofs.KeyLaws.{or_none, or_assoc}
+use Rattle.study_index.specs.Keys.{has}
+use Rattle.study_index.specs.Proved.Picks.{text_exact}
+use Rattle.study_index.proofs.KeyLaws.{or_none, or_assoc}
 use Rattle.study_index.specs.Leads.{Text, Lead, lead_cmp, is_between, is_led, leads_to, home_front, home_end, IsBehind}
 use Rattle.study_index.specs.Leads.{is_folded, led_byte, as_led, is_walked, walk_of, begins_with, has_run, may_have}
 use Rattle.study_index.specs.Proved.Leads.{lead_total}

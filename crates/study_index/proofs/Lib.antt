@@ -6,3 +6,7 @@ pub mod Visits
 pub mod LeadLaws
 mod Folded
 pub mod MarkLaws
+pub mod KeyLaws
+pub mod Studies
+pub mod Trees
+pub mod Walks

@@ -25,17 +25,17 @@ use Rattle.archive_model.proofs.ModelLaws.{pick_is_content, same_is, same_itself
 use Rattle.join_laws.specs.Laws.{IsExact}
 use Rattle.join_laws.specs.GrowSet.{union_of}
 use Rattle.join_laws.specs.Proved.Sets.{sorted-union, has-union}
-use Rattle.live_picks.specs.Keys.{has}
+use Rattle.study_index.specs.Keys.{has}
 use Rattle.study_index.specs.Index.{IndexValue, pick_of}
 use Rattle.study_index.specs.Definition.{IsIndexOf}
-use Rattle.live_picks.specs.Live.{Text, Pick, Place, place_cmp, place_of, pick_at, HasStudy, HasSeries, HasInstance}
-use Rattle.live_picks.specs.Live.{IsPast, instance_of}
+use Rattle.study_index.specs.Live.{Text, Pick, Place, place_cmp, place_of, pick_at, HasStudy, HasSeries, HasInstance}
+use Rattle.study_index.specs.Live.{IsPast, instance_of}
 use Rattle.study_index.specs.Walk.{IsWalk, IsWalkOfStudy, IsWalkOf, visited_in_series, visited_in_study, visited}
 use Rattle.study_index.specs.Walk.{place_in, places_of}
-use Rattle.live_picks.specs.Proved.Picks.{text_exact, place_exact, place_total}
-use Rattle.live_picks.proofs.KeyLaws.{at_itself, same_key}
-use Rattle.live_picks.proofs.Studies.{both_ways, and_both}
-use Rattle.live_picks.proofs.Trees.{same_places}
+use Rattle.study_index.specs.Proved.Picks.{text_exact, place_exact, place_total}
+use Rattle.study_index.proofs.KeyLaws.{at_itself, same_key}
+use Rattle.study_index.proofs.Studies.{both_ways, and_both}
+use Rattle.study_index.proofs.Trees.{same_places}
 
 -- ---- lists
 

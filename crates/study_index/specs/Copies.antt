@@ -2,7 +2,7 @@
 use Rattle.std.specs.Prelude.{ℕ, Bool, false, nat_lt, List, length, Option, None, Some}
 use Rattle.std.specs.List.{filter}
 use Rattle.octets.specs.Texts.{same}
-use Rattle.live_picks.specs.Live.{Text}
+use Rattle.study_index.specs.Live.{Text}
 
 -- whether a copy is of a SOP Instance UID
 abbrev pub is_copy_of : List ℕ → Text × Text → Bool

@@ -12,8 +12,8 @@ use Rattle.operation.specs.declared.target.Target.{Target}
 use Rattle.archive_model.specs.Contents.{pick}
 use Rattle.archive_model.specs.Index.{code_of, copies, is_titled, fix}
 use Rattle.octets.specs.Texts.{text_cmp}
-use Rattle.live_picks.specs.Keys.{has}
-use Rattle.live_picks.specs.Live.{pick_at}
+use Rattle.study_index.specs.Keys.{has}
+use Rattle.study_index.specs.Live.{pick_at}
 use Rattle.join_laws.specs.Laws.{summary_of}
 use Rattle.study_index.specs.Index.{IndexValue, index_joined, index_of, nothing, copy_cmp, naming_cmp, is_short}
 use Rattle.study_index.specs.Index.{pick_of, fix_key, fix_of, fix_at}

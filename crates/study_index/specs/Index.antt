@@ -21,7 +21,7 @@ use Rattle.join_laws.specs.Greatest.{greatest_of}
 use Rattle.join_laws.specs.GrowSet.{union_of, only}
 use Rattle.join_laws.specs.MapOf.{IsMapOf, map_joined, entry}
 use Rattle.join_laws.specs.PairOf.{pair_joined}
-use Rattle.live_picks.specs.Live.{Text, Pick, picks_joined, flat}
+use Rattle.study_index.specs.Live.{Text, Pick, picks_joined, flat}
 use Rattle.study_index.specs.Leads.{lead_cmp, leads_of}
 
 -- the SOP Instance UID of a content, and its digest

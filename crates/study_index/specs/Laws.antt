@@ -4,7 +4,7 @@ use Rattle.std.specs.List.Sorted.{IsStrictlySortedBy}
 use Rattle.operation.specs.declared.op.Op.{Op}
 use Rattle.study_index.specs.Definition.{IsIndexOf}
 use Rattle.study_index.specs.Index.{IndexValue}
-use Rattle.live_picks.specs.Live.{place_cmp}
+use Rattle.study_index.specs.Live.{place_cmp}
 use Rattle.study_index.specs.Walk.{IsWalkOf, visited, places_of}
 
 -- a walk comes to the places of the picks, one after another

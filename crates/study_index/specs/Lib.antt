@@ -7,3 +7,5 @@ pub mod LeadView
 pub mod Marks
 pub mod Proved
 pub mod Walk
+pub mod Keys
+pub mod Live

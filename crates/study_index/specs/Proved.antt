@@ -1,3 +1,4 @@
 -- The proofs of the laws, which the implementations of the traits name. No clause cites them.
 pub mod Indexes
 pub mod Leads
+pub mod Picks

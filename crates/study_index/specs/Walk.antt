@@ -7,7 +7,7 @@ use Rattle.operation.specs.declared.op.Op.{Op}
 use Rattle.archive_model.specs.Contents.{pick, instances}
 use Rattle.join_laws.specs.GrowSet.{union_of}
 use Rattle.study_index.specs.Index.{pick_of}
-use Rattle.live_picks.specs.Live.{Text, Pick, Place, place_cmp, place_of, HasStudy, HasSeries, HasInstance, IsNext}
+use Rattle.study_index.specs.Live.{Text, Pick, Place, place_cmp, place_of, HasStudy, HasSeries, HasInstance, IsNext}
 
 -- steps past `after`: each is the next one, and behind the last there is none
 abbrev pub IsWalk : (List ℕ → Type 0) → Option (List ℕ) → List (List ℕ) → Type 0

@@ -3,13 +3,15 @@ ghost use Rattle.std.specs.Prelude.{◌≡◌, OnOk, OnErr};
 ghost use Rattle.operation.specs.declared.op.Op.TheVariants.{Content as a_content};
 ghost use Rattle.operation.specs.Spelling.{digest_of};
 ghost use Rattle.join_laws.specs.GrowSet.{union_of};
-ghost use Rattle.live_picks.specs.Live.{picks_joined};
+ghost use Rattle.study_index.specs.Live.{picks_joined};
 ghost use Rattle.study_index.specs.Index.{index_of, copy_cmp, keys_of};
 
 use crate::entries::ContentCopy;
 use crate::keys::Keys;
+use crate::live_picks::LivePicks;
+use crate::pick::Pick;
+use crate::short_text::ShortText;
 use join_laws::{GrowSet, Join, Undoes};
-use live_picks::{LivePicks, Pick, ShortText};
 use operation::{Content, Digest};
 use std::alloc::AllocError;
 

@@ -3,10 +3,11 @@ ghost use Rattle.std.specs.Prelude.{◌≡◌, ◌&&◌, ◌||◌, List, ℕ, On
 ghost use Rattle.std.specs.Option.{option_copied};
 ghost use Rattle.octets.specs.Texts.{text_cmp};
 ghost use Rattle.study_index.specs.Copies.{is_copy_of, is_doubled, is_next_copy as is_next_in};
-ghost use Rattle.live_picks.specs.Keys.{has};
+ghost use Rattle.study_index.specs.Keys.{has};
 
 use crate::entries::ContentCopy;
-use live_picks::{ShortText, put_uid};
+use crate::short_text::ShortText;
+use crate::tree::put_uid;
 use std::alloc::AllocError;
 use std::collections::BTreeSet;
 

@@ -5,8 +5,8 @@ ghost use Rattle.std.specs.Cmp.{partial_equiv_from_equiv, eq_by_cmp_equiv, parti
 ghost use Rattle.study_index.specs.Index.{copy_cmp, naming_cmp};
 ghost use Rattle.study_index.specs.Proved.Indexes.{copy_total, copy_exact, naming_total, naming_exact};
 
+use crate::short_text::ShortText;
 use join_laws::{Copies, Exact};
-use live_picks::ShortText;
 use operation::Digest;
 use std::alloc::AllocError;
 use std::cmp::Ordering;

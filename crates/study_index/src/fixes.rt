@@ -9,8 +9,8 @@ ghost use Rattle.study_index.specs.Proved.Indexes.{fix_key_total, fix_key_exact,
 ghost use Rattle.operation.specs.Parts.{key_of as key_in};
 ghost use Rattle.study_index.specs.Index.{kind_of, fix_key, fix_of};
 
+use crate::short_text::ShortText;
 use join_laws::{Copies, Exact};
-use live_picks::ShortText;
 use operation::{Correction, Target};
 use std::alloc::AllocError;
 use std::cmp::Ordering;

@@ -2,8 +2,8 @@
 ghost use Rattle.std.specs.Prelude.{◌≡◌};
 ghost use Rattle.study_index.specs.Index.{keys_of};
 
+use crate::short_text::ShortText;
 use archive_model::{series, study};
-use live_picks::ShortText;
 use operation::Content;
 
 /// The study and the series of a content, under which it stands in the list of places.

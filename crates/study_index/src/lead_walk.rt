@@ -1,7 +1,7 @@
 //! Walks of leads: from where to where, and what the values have in them.
 
 use crate::leads::Lead;
-use live_picks::ShortText;
+use crate::short_text::ShortText;
 use std::marker::Model;
 
 /// The leads from a front on and before an end, of values in which a needle may stand.

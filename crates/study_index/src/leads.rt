@@ -9,10 +9,10 @@ ghost use Rattle.study_index.specs.Proved.Leads.{lead_total, lead_exact};
 
 use crate::marks::value_marks;
 use crate::needle::{Needle, byte_as_led};
+use crate::short_text::ShortText;
 use archive_model::study;
 use dictionary::PATIENT_NAME;
 use join_laws::{Copies, Exact};
-use live_picks::ShortText;
 use operation::Content;
 use std::alloc::{AllocError, Global};
 use std::cmp::Ordering;

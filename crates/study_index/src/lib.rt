@@ -1,8 +1,10 @@
 //! What queries look up in a set of operations, kept as a joined value.
 //!
 //! An [`Index`] takes operations in one by one, and other indexes whole; neither the order nor a
-//! repeat is seen in it. `specs/Definition.antt` says what it is from the set alone. Its picks, and
-//! the places of these, are those of `live_picks`.
+//! repeat is seen in it. `specs/Definition.antt` says what it is from the set alone. Of each SOP
+//! Instance UID it keeps the pick of least digest ([`LivePicks`](live_picks)), and beside the picks
+//! a list of their places, which is a function of them and is never built anew; it is walked by
+//! study, series and instance, which takes no memory.
 #![tactic(auto)]
 
 mod adding;
@@ -14,8 +16,14 @@ mod keys;
 mod laws;
 mod lead_walk;
 mod leads;
+mod live_picks;
 mod marks;
 mod needle;
+mod pick;
+mod place;
+mod places;
+mod short_text;
+mod tree;
 mod walk;
 
 pub use fixes::Fix;
@@ -24,3 +32,7 @@ pub use keys::Keys;
 pub use laws::a_walk_comes_to_all_places;
 pub use lead_walk::LeadWalk;
 pub use leads::{Lead, led};
+pub use pick::Pick;
+pub use place::Place;
+pub use short_text::ShortText;
+pub use tree::put_uid;

@@ -5,7 +5,7 @@
 ghost use Rattle.std.specs.Prelude.{◌≡◌};
 ghost use Rattle.study_index.specs.Marks.{mark_of, marks_behind as marks_behind_in, marks_of as marks_of_in, value_marks as value_marks_in};
 
-use live_picks::ShortText;
+use crate::short_text::ShortText;
 
 // One of 32 bits.
 fn mark(first: u8, second: u8) -> u32

@@ -4,7 +4,7 @@ ghost use Rattle.study_index.specs.Leads.{led_byte, begins_with, has_run as has_
 ghost use Rattle.study_index.specs.Marks.{value_marks};
 
 use crate::marks::marks_of;
-use live_picks::ShortText;
+use crate::short_text::ShortText;
 use std::marker::Model;
 
 /// A run of at most 64 bytes, and its marks, by which most values are told that lack it.

@@ -3,14 +3,12 @@
 ghost use Rattle.std.specs.Prelude.{None};
 
 use crate::text::put_bytes;
-use archive_model::View;
+use archive_model::{Answers, Prepared, Query, Selection, View};
 use association_run::{Gate, Port};
 use association_session::{Moment, PortFault};
 use association_worker::*;
 use octets::ListOf;
 use operation::{Content, Taken};
-use query_model::{Answers, Query};
-use retrieve_model::{Prepared, Selection};
 use std::alloc::{AllocError, Global};
 use std::marker::Model;
 

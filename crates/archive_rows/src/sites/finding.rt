@@ -2,8 +2,7 @@
 
 use crate::sites::names::view_of;
 use crate::text::{RowFault, bytes_of, parted, put_bytes, put_fault};
-use archive_query::{Answer, Level, Query, QueryFault, find};
-use archive_retrieve::Selection;
+use archive_query::{Answer, Level, Query, QueryFault, Selection, find};
 use data_set::{DataSet, Element, SetFault, Syntax, read};
 use site_state::Site;
 use std::alloc::{AllocError, Global};

@@ -2,7 +2,7 @@
 
 use crate::sites::names::{level_of, view_of};
 use crate::text::{RowFault, octets_of, parted, put_bytes};
-use archive_retrieve::{Accepted, Accepts, Selection, Sending, get};
+use archive_query::{Accepted, Accepts, Selection, Sending, get};
 use data_set::Syntax;
 use dictionary::CT_IMAGE_STORAGE;
 use octets::{ListOf, Octets};

@@ -19,12 +19,12 @@ use Rattle.join_laws.specs.Proved.Maps.{map_laws, map_summary_laws}
 use Rattle.join_laws.specs.Proved.Orders.{least_laws, least_summary_laws, greatest_laws, greatest_summary_laws}
 use Rattle.join_laws.specs.Proved.Sets.{set_laws, set_summary_laws, sorted-union}
 use Rattle.join_laws.specs.Proved.Pairs.{pair_laws}
-use Rattle.live_picks.specs.Live.{Text, pick_cmp}
+use Rattle.study_index.specs.Live.{Text, pick_cmp}
 use Rattle.study_index.specs.Index.{FixKey, Fix, copy_cmp, naming_cmp, fix_key_cmp, fix_cmp, fixes_joined, IsIndex}
 use Rattle.study_index.specs.Index.{index_joined, index_of, nothing, namings, titles_of, pick_of, fix_key, fix_of}
 use Rattle.study_index.specs.Leads.{lead_cmp, leads_of, given_leads, stored_lead, led_tags}
 use Rattle.study_index.specs.Proved.Leads.{lead_total, lead_exact}
-use Rattle.live_picks.specs.Proved.Picks.{text_exact, pick_exact, pick_total, picks_laws}
+use Rattle.study_index.specs.Proved.Picks.{text_exact, pick_exact, pick_total, picks_laws}
 
 pub copy_exact : IsExact copy_cmp
 copy_exact = exact_both text_cmp text_cmp text_exact text_exact

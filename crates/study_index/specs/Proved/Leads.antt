@@ -7,7 +7,7 @@ use Rattle.join_laws.specs.Laws.{IsExact}
 use Rattle.join_laws.specs.Proved.Exact.{exact_unsigned, exact_both}
 use Rattle.octets.specs.Texts.{text_cmp}
 use Rattle.study_index.specs.Leads.{lead_cmp}
-use Rattle.live_picks.specs.Proved.Picks.{text_exact}
+use Rattle.study_index.specs.Proved.Picks.{text_exact}
 
 pub lead_total : IsTotalOrder lead_cmp
 lead_total =

@@ -1,7 +1,7 @@
 use Rattle.std.proofs.Common.{ℕ, List, ap, ◌∙◌}
 use Rattle.std.specs.Prelude.{◌||◌}
 use Rattle.octets.specs.Texts.{text_cmp}
-use Rattle.live_picks.specs.Keys.{has}
+use Rattle.study_index.specs.Keys.{has}
 use Rattle.study_index.specs.Leads.{LeadWalk, is_led, is_walked}
 use Rattle.archive_query.specs.Leads.{is_candidate}
 use Rattle.archive_query.proofs.candidates.led_studies.Goals as goal

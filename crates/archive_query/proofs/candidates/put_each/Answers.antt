@@ -2,9 +2,9 @@ use Rattle.std.proofs.Common.{◌∙◌, ap, sym, List, Bool}
 use Rattle.std.specs.Prelude.{◌||◌}
 use Rattle.std.specs.List.{list_any}
 use Rattle.octets.specs.Texts.{text_cmp}
-use Rattle.live_picks.specs.Keys.{has}
-use Rattle.live_picks.specs.Live.{Text, pick_at, is_of_study}
-use Rattle.live_picks.proofs.KeyLaws.{or_none, or_assoc}
+use Rattle.study_index.specs.Keys.{has}
+use Rattle.study_index.specs.Live.{Text, pick_at, is_of_study}
+use Rattle.study_index.proofs.KeyLaws.{or_none, or_assoc}
 use Rattle.archive_query.proofs.candidates.put_each.Goals as goal
 
 -- What is of one study more is in.

@@ -2,8 +2,8 @@ use Rattle.std.proofs.Common.{◌≡◌, ℕ, List}
 use Rattle.std.specs.Prelude.{◌||◌}
 use Rattle.std.specs.List.{list_any}
 use Rattle.octets.specs.Texts.{text_cmp}
-use Rattle.live_picks.specs.Keys.{has}
-use Rattle.live_picks.specs.Live.{pick_at, is_of_study}
+use Rattle.study_index.specs.Keys.{has}
+use Rattle.study_index.specs.Live.{pick_at, is_of_study}
 use Rattle.archive_query.proofs.candidates.put_each.Given as goal
 
 -- what is in, with what is of the studies that are left, is all

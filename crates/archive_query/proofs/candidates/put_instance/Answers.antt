@@ -1,7 +1,7 @@
 use Rattle.std.proofs.Common.{◌∙◌, ap, sym}
 use Rattle.octets.specs.Texts.{text_cmp}
-use Rattle.live_picks.specs.Keys.{has}
-use Rattle.live_picks.specs.Live.{Text, pick_at, is_of_series}
+use Rattle.study_index.specs.Keys.{has}
+use Rattle.study_index.specs.Live.{Text, pick_at, is_of_series}
 use Rattle.archive_query.proofs.PutIn.{none_put, one_put}
 use Rattle.archive_query.proofs.candidates.put_instance.Goals as goal
 

@@ -1,8 +1,8 @@
 use Rattle.std.proofs.Common.{◌≡◌, ℕ, List}
 use Rattle.std.specs.Prelude.{◌&&◌, ◌||◌}
 use Rattle.octets.specs.Texts.{text_cmp}
-use Rattle.live_picks.specs.Keys.{has}
-use Rattle.live_picks.specs.Live.{pick_at, is_of_series}
+use Rattle.study_index.specs.Keys.{has}
+use Rattle.study_index.specs.Live.{pick_at, is_of_series}
 use Rattle.archive_query.proofs.candidates.put_instances.Given as goal
 
 -- what is in, with what the instances that are left bring, is all

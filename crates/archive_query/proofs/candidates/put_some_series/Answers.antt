@@ -3,9 +3,9 @@ use Rattle.std.specs.Prelude.{◌||◌}
 use Rattle.std.specs.List.{list_any}
 use Rattle.std.proofs.lemmas.List.Folds.{list_any_more}
 use Rattle.octets.specs.Texts.{text_cmp}
-use Rattle.live_picks.specs.Keys.{has}
-use Rattle.live_picks.specs.Live.{Text, pick_at, is_of_series}
-use Rattle.live_picks.proofs.KeyLaws.{or_assoc}
+use Rattle.study_index.specs.Keys.{has}
+use Rattle.study_index.specs.Live.{Text, pick_at, is_of_series}
+use Rattle.study_index.proofs.KeyLaws.{or_assoc}
 use Rattle.archive_query.proofs.candidates.put_some_series.Goals as goal
 
 -- What is of one series more is in.

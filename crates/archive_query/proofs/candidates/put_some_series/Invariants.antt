@@ -1,8 +1,8 @@
 use Rattle.std.proofs.Common.{◌≡◌, ◌≤◌, ℕ, List, length, take}
 use Rattle.std.specs.Prelude.{◌||◌}
 use Rattle.octets.specs.Texts.{text_cmp}
-use Rattle.live_picks.specs.Keys.{has}
-use Rattle.live_picks.specs.Live.{pick_at}
+use Rattle.study_index.specs.Keys.{has}
+use Rattle.study_index.specs.Live.{pick_at}
 use Rattle.archive_query.specs.Candidates.{is_of_some_series}
 use Rattle.archive_query.proofs.candidates.put_some_series.Given as goal
 

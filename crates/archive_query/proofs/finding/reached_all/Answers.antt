@@ -1,7 +1,7 @@
 use Rattle.std.proofs.Common.{List, map, ap, subst, sym, ◌∙◌, Bor}
 use Rattle.operation.specs.declared.content.Content.{Content}
 use Rattle.site_state.specs.Site.{ops_of}
-use Rattle.query_model.specs.Rows.{named}
+use Rattle.archive_model.specs.Rows.{named}
 use Rattle.archive_query.specs.Found.{AreEnough}
 use Rattle.archive_query.proofs.CandidateLaws.{all_enough}
 use Rattle.archive_query.proofs.finding.reached_all.Goals as goal

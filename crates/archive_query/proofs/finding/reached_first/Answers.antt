@@ -5,8 +5,8 @@ use Rattle.operation.specs.declared.content.Content.{Content}
 use Rattle.octets.specs.Members.{Has}
 use Rattle.archive_model.specs.Shown.{shown_at}
 use Rattle.site_state.specs.Site.{ops_of}
-use Rattle.query_model.specs.declared.key.Level.TheVariants.{Image}
-use Rattle.query_model.specs.Rows.{named, uid_at}
+use Rattle.archive_model.specs.declared.key.Level.TheVariants.{Image}
+use Rattle.archive_model.specs.Rows.{named, uid_at}
 use Rattle.archive_query.specs.Firsts.{firsts_of}
 use Rattle.archive_query.specs.Found.{AreEnough}
 use Rattle.archive_query.proofs.FirstRows.{first_enough, regrouped, ascends_map, mapped_members}

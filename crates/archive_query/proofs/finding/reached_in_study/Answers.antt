@@ -4,9 +4,9 @@ use Rattle.operation.specs.declared.content.Content.{Content}
 use Rattle.octets.specs.Members.{Has}
 use Rattle.archive_model.specs.Shown.{shown_at}
 use Rattle.site_state.specs.Site.{ops_of}
-use Rattle.query_model.specs.declared.key.Level.TheVariants.{Image}
-use Rattle.query_model.specs.declared.query.Query.{Query}
-use Rattle.query_model.specs.Rows.{named, uid_at}
+use Rattle.archive_model.specs.declared.key.Level.TheVariants.{Image}
+use Rattle.archive_model.specs.declared.query.Query.{Query}
+use Rattle.archive_model.specs.Rows.{named, uid_at}
 use Rattle.archive_query.specs.Firsts.{firsts_in_study}
 use Rattle.archive_query.specs.Found.{AreEnough}
 use Rattle.archive_query.proofs.FirstRows.{regrouped, ascends_map, mapped_members}

@@ -1,7 +1,7 @@
 use Rattle.std.proofs.Common.{List, map, ap, subst, ◌∙◌, Bor}
 use Rattle.operation.specs.Parts.{ContentParts}
 use Rattle.operation.specs.declared.content.Content.{Content}
-use Rattle.query_model.specs.declared.query.Query.{Query}
+use Rattle.archive_model.specs.declared.query.Query.{Query}
 use Rattle.site_state.specs.Site.{ops_of}
 use Rattle.archive_query.specs.Found.{AreFixes, rows_found}
 use Rattle.archive_query.proofs.FoundLaws.{enough_found}

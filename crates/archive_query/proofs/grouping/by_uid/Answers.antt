@@ -1,7 +1,7 @@
 use Rattle.std.proofs.Common.{sym, subst}
 use Rattle.archive_query.specs.Grouping.{Ascends}
-use Rattle.query_model.specs.Rows.{uid_at}
-use Rattle.query_model.specs.declared.key.Level.{Level}
+use Rattle.archive_model.specs.Rows.{uid_at}
+use Rattle.archive_model.specs.declared.key.Level.{Level}
 use Rattle.archive_query.proofs.grouping.by_uid.Goals as goal
 
 -- At the level Study, the contents ascend by Study Instance UID.

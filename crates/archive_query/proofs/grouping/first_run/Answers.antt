@@ -1,6 +1,6 @@
 use Rattle.std.proofs.Common.{Bor}
 use Rattle.operation.specs.declared.content.Content.{Content}
-use Rattle.query_model.specs.Rows.{uid_at}
+use Rattle.archive_model.specs.Rows.{uid_at}
 use Rattle.archive_query.proofs.GroupingLaws.{group_step, run_from_step}
 use Rattle.archive_query.proofs.grouping.first_run.Goals as goal
 

@@ -3,7 +3,7 @@ use Rattle.std.proofs.Common.{length-drop}
 use Rattle.std.proofs.lemmas.List.{map-append, drop-drop}
 use Rattle.operation.specs.declared.content.Content.{Content}
 use Rattle.archive_query.specs.Grouping.{groups_by, Ascends, IsRun}
-use Rattle.query_model.specs.Rows.{uid_at}
+use Rattle.archive_model.specs.Rows.{uid_at}
 use Rattle.archive_query.proofs.GroupingLaws.{next_group, rest_run}
 use Rattle.archive_query.proofs.grouping.groups_of.Goals as goal
 

@@ -1,6 +1,6 @@
 use Rattle.std.proofs.Common.{◌≡◌, ◌++◌, ◌≤◌, ◌-◌, map, length, drop}
 use Rattle.archive_query.specs.Grouping.{groups_by, Ascends}
-use Rattle.query_model.specs.Rows.{uid_at}
+use Rattle.archive_model.specs.Rows.{uid_at}
 use Rattle.archive_query.proofs.grouping.groups_of.Given as goal
 
 -- What is left ascends, and the groups so far, with its groups, are the groups of all contents.

@@ -1,7 +1,7 @@
 use Rattle.std.proofs.Common.{◌≡◌, ◌+◌, drop}
 use Rattle.archive_query.specs.Grouping.{leading}
 use Rattle.archive_model.specs.Texts.{same}
-use Rattle.query_model.specs.Rows.{uid_at}
+use Rattle.archive_model.specs.Rows.{uid_at}
 use Rattle.archive_query.proofs.grouping.run_length.Given as goal
 
 -- All contents so far were counted; with those of the UID at the front of the rest, they are the run.

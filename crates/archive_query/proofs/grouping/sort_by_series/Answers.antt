@@ -1,8 +1,8 @@
 use Rattle.std.proofs.Common.{rules, Bor}
 use Rattle.std.proofs.lemmas.List.Sorted.{answers_always}
 use Rattle.operation.specs.declared.content.Content.{Content}
-use Rattle.query_model.specs.Rows.{uid_at}
-use Rattle.query_model.specs.declared.key.Level.TheVariants.{Series}
+use Rattle.archive_model.specs.Rows.{uid_at}
+use Rattle.archive_model.specs.declared.key.Level.TheVariants.{Series}
 use Rattle.archive_query.proofs.GroupingLaws.{key_lt, key_lt_order, sorted_ascends, sorted_groups}
 use Rattle.archive_query.proofs.grouping.sort_by_series.Goals as goal
 

@@ -1,5 +1,5 @@
 use Rattle.std.proofs.Common.{◌≡◌, ◌++◌, drop, map}
-use Rattle.query_model.specs.Rows.{named}
+use Rattle.archive_model.specs.Rows.{named}
 use Rattle.archive_query.proofs.groups.named.Given as goal
 
 -- What was found, with what the query names among the contents left, is all that it names.

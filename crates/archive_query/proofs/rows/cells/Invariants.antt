@@ -1,6 +1,6 @@
 use Rattle.std.proofs.Common.{◌≡◌, ◌++◌, drop, map}
 use Rattle.std.specs.List.{filter_map}
-use Rattle.query_model.specs.Rows.{cell_in_row}
+use Rattle.archive_model.specs.Rows.{cell_in_row}
 use Rattle.archive_query.specs.Found.{value_by}
 use Rattle.archive_query.proofs.rows.cells.Given as goal
 

@@ -1,7 +1,7 @@
 use Rattle.std.proofs.Common.{map, sym, subst}
 use Rattle.data_set.specs.Written.{IsSet}
 use Rattle.data_set.specs.declared.syntax.Syntax.TheVariants.{Explicit}
-use Rattle.query_model.specs.Rows.{value_in_row}
+use Rattle.archive_model.specs.Rows.{value_in_row}
 use Rattle.archive_query.proofs.RowSets.{row_is_set}
 use Rattle.archive_query.specs.Found.{value_by}
 use Rattle.archive_query.proofs.rows.put_row.Goals as goal

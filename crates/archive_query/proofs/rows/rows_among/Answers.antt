@@ -2,7 +2,7 @@ use Rattle.std.proofs.Common.{List, map, ap, sym, ◌∙◌, refl, Bor}
 use Rattle.std.specs.List.{filter_map}
 use Rattle.operation.specs.declared.content.Content.{Content}
 use Rattle.archive_query.specs.Grouping.{under, groups_by}
-use Rattle.query_model.specs.Rows.{uid_at, row_of_with, row_at_with, uids_at}
+use Rattle.archive_model.specs.Rows.{uid_at, row_of_with, row_at_with, uids_at}
 use Rattle.archive_query.proofs.GroupMaps.{map-map, groups-map, filter_map-map}
 use Rattle.archive_query.specs.Found.{value_by}
 use Rattle.archive_query.proofs.rows.rows_among.Goals as goal

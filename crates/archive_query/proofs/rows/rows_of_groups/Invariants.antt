@@ -1,6 +1,6 @@
 use Rattle.std.proofs.Common.{◌≡◌, ◌++◌, map, drop}
 use Rattle.std.specs.List.{filter_map}
-use Rattle.query_model.specs.Rows.{row_of_with}
+use Rattle.archive_model.specs.Rows.{row_of_with}
 use Rattle.archive_query.specs.Found.{value_by}
 use Rattle.archive_query.proofs.rows.rows_of_groups.Given as goal
 

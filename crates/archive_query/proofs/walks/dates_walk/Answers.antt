@@ -1,5 +1,5 @@
 use Rattle.std.proofs.Common.{take, ap, ◌∙◌}
-use Rattle.live_picks.specs.Live.{Text}
+use Rattle.study_index.specs.Live.{Text}
 use Rattle.study_index.specs.Leads.{walk_of}
 use Rattle.archive_query.proofs.DateLeads.{dates_within}
 use Rattle.archive_query.proofs.walks.dates_walk.Goals as goal

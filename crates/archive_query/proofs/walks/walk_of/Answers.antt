@@ -2,7 +2,7 @@ use Rattle.std.proofs.Common.{ap, sym, ◌∙◌}
 use Rattle.key_matching.specs.Range.{is_in_range}
 use Rattle.key_matching.specs.declared.range.Moment.TheVariants.{Date}
 use Rattle.key_matching.specs.WildCard.{is_wild_match}
-use Rattle.live_picks.specs.Live.{Text}
+use Rattle.study_index.specs.Live.{Text}
 use Rattle.study_index.specs.Leads.{is_folded}
 use Rattle.archive_query.proofs.DateLeads.{dates_as}
 use Rattle.archive_query.proofs.TextLeads.{matched_as}

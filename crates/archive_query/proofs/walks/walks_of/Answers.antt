@@ -1,6 +1,6 @@
 use Rattle.std.proofs.Common.{sym, subst, List}
 use Rattle.octets.specs.Members.{Has}
-use Rattle.query_model.specs.declared.asked.Asked.{Asked}
+use Rattle.archive_model.specs.declared.asked.Asked.{Asked}
 use Rattle.archive_query.proofs.PutIn.{has_at}
 use Rattle.archive_query.proofs.walks.walks_of.Goals as goal
 

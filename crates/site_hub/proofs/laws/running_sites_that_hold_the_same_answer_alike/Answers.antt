@@ -1,8 +1,8 @@
 use Rattle.std.proofs.Common.{ap}
 use Rattle.site_state.specs.Site.{ops_of}
 use Rattle.site_state.proofs.Maps.{same_sites as one_map}
-use Rattle.query_model.specs.Rows.{rows_of}
-use Rattle.archive_retrieve.proofs.RetrieveLaws.{same_sites}
+use Rattle.archive_model.specs.Rows.{rows_of}
+use Rattle.archive_query.proofs.RetrieveLaws.{same_sites}
 use Rattle.site_hub.specs.History.{set_of}
 use Rattle.site_hub.proofs.laws.running_sites_that_hold_the_same_answer_alike.Goals as goal
 

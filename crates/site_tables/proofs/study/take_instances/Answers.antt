@@ -1,9 +1,9 @@
 use Rattle.std.proofs.Common.{List, ap, map, ◌∙◌}
 use Rattle.site_state.specs.Site.{ops_of}
 use Rattle.archive_model.specs.declared.view.View.TheVariants.{Audit}
-use Rattle.retrieve_model.specs.declared.prepared.Prepared.{Prepared}
-use Rattle.retrieve_model.specs.declared.selection.Selection.{Selection}
-use Rattle.retrieve_model.specs.Preparing.{prepared_of}
+use Rattle.archive_model.specs.declared.prepared.Prepared.{Prepared}
+use Rattle.archive_model.specs.declared.selection.Selection.{Selection}
+use Rattle.archive_model.specs.Preparing.{prepared_of}
 use Rattle.site_tables.specs.Study.{prepared_instance}
 use Rattle.site_tables.proofs.InstanceLaws.{prepared_are}
 use Rattle.site_tables.proofs.study.take_instances.Goals as goal

@@ -3,7 +3,7 @@ use Rattle.std.specs.BTreeSet.{insert_key}
 use Rattle.octets.specs.Texts.{text_cmp}
 use Rattle.join_laws.specs.Least.{least_of}
 use Rattle.join_laws.specs.MapOf.{put_joined}
-use Rattle.live_picks.specs.Live.{pick_cmp}
+use Rattle.study_index.specs.Live.{pick_cmp}
 use Rattle.study_index.specs.Index.{copy_cmp, keys_of}
 use Rattle.study_index.proofs.adding.add_content.Goals as goal
 

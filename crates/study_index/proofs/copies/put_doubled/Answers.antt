@@ -2,7 +2,7 @@ use Rattle.std.proofs.Common.{sym, ap, ◌∙◌, None}
 use Rattle.std.specs.Prelude.{◌||◌}
 use Rattle.std.specs.Option.{option_copied}
 use Rattle.octets.specs.Texts.{text_cmp}
-use Rattle.live_picks.specs.Keys.{has}
+use Rattle.study_index.specs.Keys.{has}
 use Rattle.study_index.proofs.Doubles.{repeats, seen, all_counted, or_none}
 use Rattle.study_index.proofs.copies.put_doubled.Goals as goal
 

@@ -4,7 +4,7 @@ use Rattle.std.specs.List.{filter, list_any}
 use Rattle.std.specs.Map.Iter.{deref}
 use Rattle.std.proofs.lemmas.Map.Iter.{iter_end}
 use Rattle.octets.specs.Texts.{text_cmp}
-use Rattle.live_picks.specs.Keys.{has}
+use Rattle.study_index.specs.Keys.{has}
 use Rattle.study_index.specs.Leads.{Lead, is_between, may_have, leads_to}
 use Rattle.study_index.proofs.LeadLaws.{one_step, none_led, any_and}
 use Rattle.study_index.proofs.walk.put_between.Goals as goal

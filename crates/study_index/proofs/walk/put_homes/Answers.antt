@@ -6,7 +6,7 @@ use Rattle.std.proofs.lemmas.Map.Iter.{iter_end}
 use Rattle.std.specs.Ordering.{is_gt}
 use Rattle.std.specs.BTreeMap.{is_at}
 use Rattle.octets.specs.Texts.{text_cmp}
-use Rattle.live_picks.specs.Keys.{has}
+use Rattle.study_index.specs.Keys.{has}
 use Rattle.study_index.specs.Leads.{Lead, lead_cmp, is_between, is_key, home_front}
 use Rattle.study_index.proofs.LeadLaws.{one_step, homes_in_order}
 use Rattle.study_index.proofs.walk.put_homes.Goals as goal

@@ -1,7 +1,7 @@
 use Rattle.std.proofs.Common.{ap, ◌∙◌}
 use Rattle.std.specs.Prelude.{◌||◌}
 use Rattle.octets.specs.Texts.{text_cmp}
-use Rattle.live_picks.specs.Keys.{has}
+use Rattle.study_index.specs.Keys.{has}
 use Rattle.study_index.specs.Copies.{is_doubled}
 use Rattle.study_index.proofs.Flagged.{flagged_are}
 use Rattle.site_state.specs.Site.{ops_of}

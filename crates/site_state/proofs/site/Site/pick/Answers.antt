@@ -1,7 +1,7 @@
 use Rattle.std.proofs.Common.{◌∙◌, ap}
 use Rattle.site_state.specs.Site.{held_at}
 use Rattle.site_state.specs.Hidden.{content_held}
-use Rattle.live_picks.specs.Live.{Pick}
+use Rattle.study_index.specs.Live.{Pick}
 use Rattle.site_state.proofs.Lookups.{none_picked, is_picked}
 use Rattle.site_state.proofs.site.Site.pick.Goals as goal
 

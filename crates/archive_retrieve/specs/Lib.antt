@@ -1,4 +1,0 @@
-pub mod Candidates
-pub mod Changes
-pub mod Made
-pub mod Laws

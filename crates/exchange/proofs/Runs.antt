@@ -1,0 +1,479 @@
+-- An exchange, turn by turn.
+use Rattle.std.proofs.Common.{inl, inr, ◌≡◌, ◌≤◌, ◌+◌, ℕ, List, [], ◌∷◌, ◌++◌, length, Bool, true, false}
+use Rattle.std.proofs.Common.{Option, Some, None, Result, Ok, Err, refl, sym, ap, subst, ◌∙◌, append_assoc, append-nil}
+use Rattle.std.proofs.Common.{arith}
+use Rattle.std.specs.Prelude.{◌↔◌, IfErr, OnOk, OnErr, MatchBool, IsTrue, ◌||◌, if◌then◌else◌}
+use Rattle.std.specs.List.{list_any}
+use Rattle.std.specs.Io.KnownBytes.{Appends, Consumes}
+use Rattle.std.proofs.KnownBytes.{Appends-trans, Consumes-nil, Consumes-trans}
+use Rattle.std.proofs.lemmas.Grind.{flat_map-append}
+use Rattle.std.proofs.lemmas.List.{length-append}
+use Rattle.devices.specs.Failures.{Rose}
+use Rattle.operation.specs.declared.taken.Taken.{Taken}
+use Rattle.operation.specs.declared.taken.Taken.TheVariants.{New, Known}
+use Rattle.site_state.specs.Site.{Map}
+use Rattle.exchange_frames.specs.declared.frame.Frame.{Frame}
+use Rattle.exchange_frames.specs.Spelling.{text_of}
+use Rattle.exchange_frames.specs.Writing.{is_too_long}
+use Rattle.exchange.specs.declared.fault.ExchangeFault.{ExchangeFault}
+use Rattle.exchange.specs.declared.fault.ExchangeFault.TheVariants.{BadFrame, TooLong, Stranger, Io, Memory, Turns}
+use Rattle.exchange.specs.declared.fault.ExchangeFault.TheVariants.{Refused}
+use Rattle.exchange.specs.declared.fault.HolderFault.{HolderFault}
+use Rattle.exchange.specs.declared.fault.HolderFault.TheVariants as holders
+use Rattle.exchange.specs.Fault.{of_holder}
+use Rattle.exchange.specs.Round.{IsFinished}
+use Rattle.exchange.specs.declared.role.Role.{Role}
+use Rattle.exchange.specs.declared.role.Role.TheVariants.{Caller, Callee, OldCaller}
+use Rattle.exchange.specs.declared.role.Ended.{Ended}
+use Rattle.exchange.specs.declared.run.TheConstants.{MOST_READS}
+use Rattle.exchange.specs.declared.side.Side.{Side}
+use Rattle.exchange.specs.declared.task.Awaited.TheVariants as awaits
+use Rattle.exchange.specs.declared.task.Task.{Task}
+use Rattle.exchange.specs.declared.task.Task.TheVariants as tasks
+use Rattle.exchange.specs.Tasks.{task_for}
+use Rattle.exchange.specs.Course.{news, Does, DoesAll, SetsOut, Talks, Idles, IsOfHolder, Why}
+use Rattle.exchange.specs.Hearing.{texts, is_io, Heard, Unheard, WhyUnheard, Fails}
+use Rattle.exchange.specs.Saying.{WroteFront, WhyUnsaid, AreSayable}
+use Rattle.exchange.specs.Run.{Ends, ends, NoneFailed, CountsFailures, Exchanged, EndsEarly}
+use Rattle.exchange.specs.Run.{Progress, Turned}
+use Rattle.exchange.proofs.Agreed.{agreed_ends}
+use Rattle.exchange.proofs.Frames.{frames_more, told_frames, first_frames}
+use Rattle.exchange.proofs.Holders.{idles_same}
+use Rattle.exchange.proofs.Outcomes.{outcome_of}
+use Rattle.exchange.proofs.Turns.{fits}
+
+-- ---- texts
+
+pub texts_then : (frames : List Frame) (frame : Frame) → texts (frames ++ frame ∷ []) ≡ texts frames ++ text_of frame
+texts_then frames frame = flat_map-append text_of frames (frame ∷ [])
+    ∙ ap (λ (t : List ℕ). texts frames ++ t) (append-nil (text_of frame))
+
+pub texts_more : (frames more : List Frame) → texts (frames ++ more) ≡ texts frames ++ texts more
+texts_more frames more = flat_map-append text_of frames more
+
+some_text : (frame : Frame) → 1 ≤ length (text_of frame)
+unfolding text_of
+some_text frame = omega arith
+
+-- ---- one frame more
+
+then_frame : {H : Type 0} (holds : H → Map) (alone : H → Type 0) (s : Side) (h : H) (heard told : List Frame) (t : Side)
+    (k : H) (frame : Frame) (more : List Frame) (u : Side) (j : H) → DoesAll holds alone s h heard told t k
+    → Does holds alone (task_for t.awaited frame t.role) t k more u j
+    → DoesAll holds alone s h (heard ++ frame ∷ []) (told ++ more) u j
+then_frame {H = H} holds alone s h [] told t k frame more u j d does =
+    let at_s = subst (λ (x : Side). Does holds alone (task_for x.awaited frame x.role) x k more u j) d.1 does in
+    let at_h = subst (λ (y : H). Does holds alone (task_for s.awaited frame s.role) s y more u j) d.2 at_s in
+    (more, [], u, j, at_h, (refl, refl, refl), ap (λ (l : List Frame). l ++ more) d.0 ∙ sym (append-nil more))
+then_frame holds alone s h (f ∷ heard) told t k frame more u j d does = (
+  d.0,
+  d.1 ++ more,
+  d.2,
+  d.3,
+  d.4,
+  then_frame holds alone d.2 d.3 heard d.1 t k frame more u j d.5 does,
+  ap (λ (l : List Frame). l ++ more) d.6 ∙ append_assoc d.0 d.1 more,
+)
+
+pub talk_then : {H : Type 0} (holds : H → Map) (alone : H → Type 0) (role : Role) (before : H)
+    (heard told : List Frame) (t : Side) (k : H) (frame : Frame) (more : List Frame) (u : Side) (j : H)
+    → Talks holds alone role before heard told t k → Does holds alone (task_for t.awaited frame t.role) t k more u j
+    → Talks holds alone role before (heard ++ frame ∷ []) (told ++ more) u j
+talk_then holds alone role before heard told t k frame more u j talk does = record {
+  first = talk.first;
+  rest = talk.rest ++ more;
+  from = talk.from;
+  mid = talk.mid;
+  sets_out = talk.sets_out;
+  goes_on = then_frame holds alone talk.from talk.mid heard talk.rest t k frame more u j talk.goes_on does;
+  told_is = ap (λ (l : List Frame). l ++ more) talk.told_is ∙ append_assoc talk.first talk.rest more;
+}
+
+-- ---- how many were taken
+
+few_news : (taken : Taken) → news taken ≤ 1
+few_news New = omega arith
+few_news Known = omega arith
+
+taken_after : {H : Type 0} (holds : H → Map) (alone : H → Type 0) (task : Task) (s : Side) (h : H) (told : List Frame)
+    (t : Side) (k : H) → Does holds alone task s h told t k → t.taken ≤ s.taken + 1
+taken_after holds alone tasks.Refuse s h told t k d = absurd d
+taken_after holds alone (tasks.Begin v) s h told t k d = omega (arith, ap (λ (x : Side). x.taken) d.0)
+taken_after holds alone (tasks.Meet v) s h told t k d = omega (arith, ap (λ (x : Side). x.taken) d.0)
+taken_after holds alone (tasks.Compare b) s h told t k d = omega (arith, ap (λ (x : Side). x.taken) d.same)
+taken_after holds alone (tasks.Offer p) s h told t k d = omega (arith, ap (λ (x : Side). x.taken) d.0)
+taken_after holds alone (tasks.Ask a) s h told t k d = omega (arith, ap (λ (x : Side). x.taken) d.same)
+taken_after holds alone (tasks.Give w) s h told t k d = omega (arith, ap (λ (x : Side). x.taken) d.same)
+taken_after holds alone (tasks.Take op) s h told t k d = omega (
+  arith,
+  ap (λ (x : Side). x.taken) d.same,
+  few_news d.taken,
+)
+taken_after holds alone tasks.Show s h told t k d = omega (arith, ap (λ (x : Side). x.taken) d.0)
+taken_after holds alone tasks.Rest s h told t k d = omega (arith, ap (λ (x : Side). x.taken) d.0)
+
+start_taken : {H : Type 0} (holds : H → Map) (alone : H → Type 0) (role : Role) (h : H) (told : List Frame) (s : Side)
+    (k : H) → SetsOut holds alone role h told s k → s.taken ≡ 0
+start_taken holds alone Caller h told s k d = ap (λ (x : Side). x.taken) d.0
+start_taken holds alone Callee h told s k d = ap (λ (x : Side). x.taken) d.0
+start_taken holds alone OldCaller h told s k d = ap (λ (x : Side). x.taken) d.0
+
+-- ---- failures
+
+-- whether a fault is told of neither a device nor too many reads
+quiet : ExchangeFault → Bool
+quiet BadFrame = true
+quiet TooLong = true
+quiet Stranger = true
+quiet Io = false
+quiet Memory = true
+quiet Turns = false
+quiet Refused = true
+
+module _ {H : Type 0} (from to : Ends H) where
+  counts_quiet : (fault : ExchangeFault) → quiet fault ≡ true → NoneFailed from to → CountsFailures fault from to
+  unfolding quiet
+  counts_quiet BadFrame q n = n
+  counts_quiet TooLong q n = n
+  counts_quiet Stranger q n = n
+  counts_quiet Io q n = absurd cc
+  counts_quiet Memory q n = n
+  counts_quiet Turns q n = n
+  counts_quiet Refused q n = n
+
+  counts_reader : (fault : ExchangeFault) → MatchBool (is_io fault) (Rose from.read_failures to.read_failures)
+      (to.read_failures ≡ from.read_failures) → to.write_failures ≡ from.write_failures → CountsFailures fault from to
+  counts_reader BadFrame r w = (r, w)
+  counts_reader TooLong r w = (r, w)
+  counts_reader Stranger r w = (r, w)
+  counts_reader Io r w = inl (r, w)
+  counts_reader Memory r w = (r, w)
+  counts_reader Turns r w = (r, w)
+  counts_reader Refused r w = (r, w)
+
+  counts_writer : (fault : ExchangeFault) → MatchBool (is_io fault) (Rose from.write_failures to.write_failures)
+      (to.write_failures ≡ from.write_failures) → to.read_failures ≡ from.read_failures → CountsFailures fault from to
+  counts_writer BadFrame w r = (r, w)
+  counts_writer TooLong w r = (r, w)
+  counts_writer Stranger w r = (r, w)
+  counts_writer Io w r = inr (r, w)
+  counts_writer Memory w r = (r, w)
+  counts_writer Turns w r = (r, w)
+  counts_writer Refused w r = (r, w)
+
+quiet_holder : (cause : HolderFault) → quiet (of_holder cause) ≡ true
+unfolding quiet
+quiet_holder holders.Memory = refl
+quiet_holder holders.Refused = refl
+
+quiet_of : (fault : ExchangeFault) → IsOfHolder fault → quiet fault ≡ true
+quiet_of fault p = ap quiet p.1 ∙ quiet_holder p.0
+
+quiet_refusal : (b : Bool) (c : Bool) (fault : ExchangeFault)
+    → (if b then (if c then None else Some Stranger) else Some BadFrame) ≡ Some fault → quiet fault ≡ true
+unfolding quiet
+quiet_refusal true true fault e = absurd cc
+quiet_refusal true false fault e = let is : Stranger ≡ fault = cc in ap quiet (sym is)
+quiet_refusal false c fault e = let is : BadFrame ≡ fault = cc in ap quiet (sym is)
+
+quiet_why : (task : Task) (s : Side) (fault : ExchangeFault) → Why task s fault → quiet fault ≡ true
+unfolding quiet
+quiet_why tasks.Refuse s fault why = ap quiet why
+quiet_why (tasks.Begin v) s fault why = quiet_of fault why
+quiet_why (tasks.Meet v) s fault why = absurd why
+quiet_why (tasks.Compare b) s fault why = quiet_of fault why
+quiet_why (tasks.Offer p) s fault why = quiet_of fault why
+quiet_why (tasks.Ask h) s fault why = quiet_of fault why
+quiet_why (tasks.Give w) s fault why = quiet_of fault why
+quiet_why (tasks.Take op) s fault (inl e) = quiet_refusal _ _ fault e
+quiet_why (tasks.Take op) s fault (inr why) = quiet_of fault why
+quiet_why tasks.Show s fault why = quiet_of fault why
+quiet_why tasks.Rest s fault why = absurd why
+
+abbrev pub err : ExchangeFault → Result (Unit {0}) ExchangeFault
+err fault = Err fault
+
+quiet_turns : (fault : ExchangeFault) → quiet fault ≡ true → fault ≡ Turns → ⊥
+unfolding quiet
+quiet_turns fault q e = let f : quiet Turns ≡ true = subst (λ (x : ExchangeFault). quiet x ≡ true) e q in cc
+
+unsaid_turns : (frames : List Frame) (fault : ExchangeFault) → WhyUnsaid frames fault → fault ≡ Turns → ⊥
+unsaid_turns frames fault why e = subst (λ (x : ExchangeFault). WhyUnsaid frames x) e why
+
+-- no frame that was not heard or not said is a refusal
+pub unheard_refused : (r : Option (List ℕ)) (text : List ℕ) (fault : ExchangeFault) → WhyUnheard r text fault
+    → err fault ≡ err Refused → ⊥
+unheard_refused r text fault why e =
+    let is : fault ≡ Refused = cc in subst (λ (x : ExchangeFault). WhyUnheard r text x) is why
+
+pub unsaid_refused : (frames : List Frame) (r : Result (Unit {0}) ExchangeFault) → IfErr r (WhyUnsaid frames)
+    → r ≡ err Refused → ⊥
+unsaid_refused frames r why e = subst (λ (x : Result (Unit {0}) ExchangeFault). IfErr x (WhyUnsaid frames)) e why
+
+-- ---- why
+
+any_or : (a b : Bool) → b ≡ true → (a || b) ≡ true
+any_or true b e = refl
+any_or false b e = e
+
+any_behind : (frames more : List Frame) → list_any is_too_long more ≡ true
+    → list_any is_too_long (frames ++ more) ≡ true
+any_behind [] more e = e
+any_behind (f ∷ frames) more e = any_or (is_too_long f) _ (any_behind frames more e)
+
+why_behind : (frames more : List Frame) (fault : ExchangeFault) → WhyUnsaid more fault
+    → WhyUnsaid (frames ++ more) fault
+why_behind frames more BadFrame why = why
+why_behind frames more TooLong why = any_behind frames more why
+why_behind frames more Stranger why = why
+why_behind frames more Io why = why
+why_behind frames more Memory why = why
+why_behind frames more Turns why = why
+why_behind frames more Refused why = why
+
+-- ---- a turn
+
+module _ {H : Type 0} (holds : H → Map) (alone : H → Type 0) (role : Role) (from : Ends H) (h : H)
+    (r0 r1 w : Option (List ℕ)) (rf wf : ℕ) (side : Side) (reads n : ℕ)
+    (so : Progress holds alone role from (ends h r0 w rf wf) side reads n) where
+  -- No frame was heard.
+  pub unheard_breaks : (rf1 : ℕ) (fault : ExchangeFault) → Unheard r0 r1 reads fault
+      → MatchBool (is_io fault) (Rose rf rf1) (rf1 ≡ rf) → EndsEarly holds alone role from (ends h r1 w rf1 wf) fault
+  unheard_breaks rf1 fault u failed = inr (record {
+    heard = so.heard;
+    told = so.told;
+    side = side;
+    mid = h;
+    talk = so.talk;
+    comes_to = outcome_of holds alone role from.holder so.heard so.told side h so.talk;
+    idle = idles_same holds alone h h refl;
+    rest = u.text;
+    read = Consumes-trans from.left r0 r1 (texts so.heard) u.text so.read u.read;
+    out = texts so.told;
+    wrote = so.wrote;
+    front = ([], sym (append-nil (texts so.told)));
+    why = inl (refl, u.why);
+    turns = λ e. omega (arith, so.many, u.turns e, length-append (texts so.heard) u.text);
+    failed = counts_reader from (ends h r1 w rf1 wf) fault (subst (λ (k : ℕ). MatchBool (is_io fault) (Rose k rf1)
+        (rf1 ≡ k)) so.failed.0 failed) so.failed.1;
+  })
+
+  module _ (left : ℕ) (frame : Frame) (heard : Heard r0 r1 reads left frame) (rf1 : ℕ) (same : rf1 ≡ rf) where
+    -- One was, and was refused.
+    pub refused_breaks : (k : H) (fault : ExchangeFault) → Idles holds alone h k
+        → Why (task_for side.awaited frame side.role) side fault
+        → EndsEarly holds alone role from (ends k r1 w rf1 wf) fault
+    refused_breaks k fault idle why =
+        let q = quiet_why (task_for side.awaited frame side.role) side fault why in
+        inr (record {
+          heard = so.heard;
+          told = so.told;
+          side = side;
+          mid = h;
+          talk = so.talk;
+          comes_to = outcome_of holds alone role from.holder so.heard so.told side h so.talk;
+          idle = idle;
+          rest = text_of frame;
+          read = Consumes-trans from.left r0 r1 (texts so.heard) (text_of frame) so.read heard.read;
+          out = texts so.told;
+          wrote = so.wrote;
+          front = ([], sym (append-nil (texts so.told)));
+          why = inr (inl (refl, (frame, refl, heard.lawful, why)));
+          turns = λ e. absurd (quiet_turns fault q e);
+          failed = counts_quiet from (ends k r1 w rf1 wf) fault q (same ∙ so.failed.0, so.failed.1);
+        })
+
+    module _ (k : H) (more : List Frame) (u : Side)
+        (does : Does holds alone (task_for side.awaited frame side.role) side h more u k) where
+      read_too : Consumes from.left r1 (texts (so.heard ++ frame ∷ []))
+      read_too = subst (λ (t : List ℕ). Consumes from.left r1 t) (sym (texts_then so.heard frame))
+          (Consumes-trans from.left r0 r1 (texts so.heard) (text_of frame) so.read heard.read)
+
+      talk_too : Talks holds alone role from.holder (so.heard ++ frame ∷ []) (so.told ++ more) u k
+      talk_too = talk_then holds alone role from.holder so.heard so.told side h frame more u k so.talk does
+
+      -- It was answered, and the answer was written.
+      pub answered : (w1 : Option (List ℕ)) (wf1 : ℕ) → Appends w w1 (texts more) → AreSayable more → wf1 ≡ wf
+          → Progress holds alone role from (ends k r1 w1 rf1 wf1) u left (n + 1)
+      answered w1 wf1 wrote sayable fine = record {
+        heard = so.heard ++ frame ∷ [];
+        told = so.told ++ more;
+        talk = talk_too;
+        heard_are = frames_more so.heard (frame ∷ []) so.heard_are (heard.lawful, tt);
+        told_are = frames_more so.told more so.told_are (told_frames holds alone
+            (task_for side.awaited frame side.role) side h frame more u k (fits side.awaited frame side.role)
+            heard.lawful does sayable);
+        read = read_too;
+        wrote = subst (λ (t : List ℕ). Appends from.written w1 t) (sym (texts_more so.told more))
+            (Appends-trans from.written w w1 (texts so.told) (texts more) so.wrote wrote);
+        many = omega (
+          arith,
+          so.many,
+          heard.many,
+          ap (λ (t : List ℕ). length t) (texts_then so.heard frame),
+          length-append (texts so.heard) (text_of frame),
+        );
+        turned = omega (
+          arith,
+          so.turned,
+          some_text frame,
+          ap (λ (t : List ℕ). length t) (texts_then so.heard frame),
+          length-append (texts so.heard) (text_of frame),
+        );
+        few = omega (
+          arith,
+          so.few,
+          taken_after holds alone (task_for side.awaited frame side.role) side h more u k
+              does,
+        );
+        failed = (same ∙ so.failed.0, fine ∙ so.failed.1);
+      }
+
+      -- Of the answer a front was written.
+      pub unsaid_breaks : (w1 : Option (List ℕ)) (wf1 : ℕ) (fault : ExchangeFault) → WroteFront w w1 (texts more)
+          → WhyUnsaid more fault → MatchBool (is_io fault) (Rose wf wf1) (wf1 ≡ wf)
+          → EndsEarly holds alone role from (ends k r1 w1 rf1 wf1) fault
+      unsaid_breaks w1 wf1 fault wrote why failed = inr (record {
+        heard = so.heard ++ frame ∷ [];
+        told = so.told ++ more;
+        side = u;
+        mid = k;
+        talk = talk_too;
+        comes_to = outcome_of holds alone role from.holder (so.heard ++ frame ∷ []) (so.told ++ more) u k talk_too;
+        idle = idles_same holds alone k k refl;
+        rest = [];
+        read = subst (λ (t : List ℕ). Consumes from.left r1 t) (sym (append-nil (texts (so.heard ++ frame ∷ []))))
+            read_too;
+        out = texts so.told ++ wrote.0;
+        wrote = Appends-trans from.written w w1 (texts so.told) wrote.0 so.wrote wrote.1;
+        front = (
+          wrote.2.0,
+          texts_more so.told more ∙ ap (λ (t : List ℕ). texts so.told ++ t) wrote.2.1
+              ∙ sym (append_assoc (texts so.told) wrote.0 wrote.2.0),
+        );
+        why = inr (inr (refl, why_behind so.told more fault why));
+        turns = λ e. absurd (unsaid_turns more fault why e);
+        failed = counts_writer from (ends k r1 w1 rf1 wf1) fault (subst (λ (x : ℕ). MatchBool (is_io fault) (Rose x wf1)
+            (wf1 ≡ x)) so.failed.1 failed) (same ∙ so.failed.0);
+      })
+
+      pub said_turned : (w1 : Option (List ℕ)) (wf1 : ℕ) (r : Result (Unit {0}) ExchangeFault)
+          → OnOk r (Appends w w1 (texts more)) → OnErr r (WroteFront w w1 (texts more)) → IfErr r (WhyUnsaid more)
+          → OnOk r (AreSayable more) → Fails r wf wf1 → Turned holds alone role from (ends k r1 w1 rf1 wf1) u left n r
+      said_turned w1 wf1 (Ok x) ok err why sayable failed = answered w1 wf1 ok sayable failed
+      said_turned w1 wf1 (Err fault) ok err why sayable failed = unsaid_breaks w1 wf1 fault err why failed
+
+-- ---- the first words
+
+module _ {H : Type 0} (holds : H → Map) (alone : H → Type 0) (role : Role) (h k : H) (left w0 w1 : Option (List ℕ))
+    (rf wf0 wf1 : ℕ) (told : List Frame) (s : Side) (out : SetsOut holds alone role h told s k) where
+  opening : Talks holds alone role h [] told s k
+  opening = record {
+    first = told;
+    rest = [];
+    from = s;
+    mid = k;
+    sets_out = out;
+    goes_on = (refl, refl, refl);
+    told_is = sym (append-nil told);
+  }
+
+  pub begun : Appends w0 w1 (texts told) → wf1 ≡ wf0
+      → Progress holds alone role (ends h left w0 rf wf0) (ends k left w1 rf wf1) s MOST_READS 0
+  begun wrote fine = record {
+    heard = [];
+    told = told;
+    talk = opening;
+    heard_are = tt;
+    told_are = first_frames holds alone role h told s k out;
+    read = Consumes-nil left;
+    wrote = wrote;
+    many = omega arith;
+    turned = omega arith;
+    few = omega (arith, start_taken holds alone role h told s k out);
+    failed = (refl, fine);
+  }
+
+  pub unbegun : (fault : ExchangeFault) → WroteFront w0 w1 (texts told) → WhyUnsaid told fault
+      → MatchBool (is_io fault) (Rose wf0 wf1) (wf1 ≡ wf0)
+      → EndsEarly holds alone role (ends h left w0 rf wf0) (ends k left w1 rf wf1) fault
+  unbegun fault wrote why failed = inr (record {
+    heard = [];
+    told = told;
+    side = s;
+    mid = k;
+    talk = opening;
+    comes_to = outcome_of holds alone role h [] told s k opening;
+    idle = idles_same holds alone k k refl;
+    rest = [];
+    read = Consumes-nil left;
+    out = wrote.0;
+    wrote = wrote.1;
+    front = wrote.2;
+    why = inr (inr (refl, why));
+    turns = λ e. absurd (unsaid_turns told fault why e);
+    failed = counts_writer (ends h left w0 rf wf0) (ends k left w1 rf wf1) fault failed refl;
+  })
+
+pub ok_begun : {X : Type 0} (r : Result X ExchangeFault) (A B : Type 0) (old new : ℕ) → OnOk r A → Fails r old new
+    → (A → new ≡ old → B) → OnOk r B
+ok_begun (Ok x) A B old new p f to = to p f
+ok_begun (Err e) A B old new p f to = tt
+
+pub err_begun : {X : Type 0} (r : Result X ExchangeFault) (A : Type 0) (P Q : ExchangeFault → Type 0) (old new : ℕ)
+    → OnErr r A → IfErr r P → Fails r old new
+    → ((e : ExchangeFault) → A → P e → MatchBool (is_io e) (Rose old new) (new ≡ old) → Q e) → IfErr r Q
+err_begun (Ok x) A P Q old new a p f to = tt
+err_begun (Err e) A P Q old new a p f to = to e a p f
+
+-- ---- the end
+
+-- The exchange is over.
+pub ended : {H : Type 0} (holds : H → Map) (alone : H → Type 0) (role : Role) (from to : Ends H) (side : Side)
+    (reads n : ℕ) (e : Ended) → Progress holds alone role from to side reads n → side.awaited ≡ awaits.Nothing
+    → e.given ≡ side.given → e.taken ≡ side.taken → (IsTrue e.finished ↔ IsFinished side.round)
+    → e.agreed ≡ side.agreed
+    → Exchanged holds alone role from to e
+ended holds alone role from to side reads n e so over given taken finished agreed =
+    let comes_to = outcome_of holds alone role from.holder so.heard so.told side to.holder so.talk in
+    record {
+      heard = so.heard;
+      told = so.told;
+      side = side;
+      talk = so.talk;
+      comes_to = comes_to;
+      heard_are = so.heard_are;
+      told_are = so.told_are;
+      over = over;
+      read = so.read;
+      wrote = so.wrote;
+      given = given;
+      taken = taken;
+      finished = (λ is. comes_to.finished.0 (finished.0 is), λ all. finished.1 (comes_to.finished.1 all));
+      have = λ is. comes_to.have (finished.0 is);
+      shown = λ theirs heard. let was = comes_to.shown theirs heard in (was.0, was.1, λ is. was.2 (finished.0 is));
+      agreed = agreed_ends holds alone role from.holder so.heard so.told side to.holder so.talk e.agreed agreed;
+      failed = so.failed;
+    }
+
+-- It has no end.
+pub endless : {H : Type 0} (holds : H → Map) (alone : H → Type 0) (role : Role) (from to : Ends H) (side : Side)
+    (reads n : ℕ) → MOST_READS ≤ n → Progress holds alone role from to side reads n
+    → EndsEarly holds alone role from to Turns
+endless holds alone role from to side reads n many so = inr (record {
+  heard = so.heard;
+  told = so.told;
+  side = side;
+  mid = to.holder;
+  talk = so.talk;
+  comes_to = outcome_of holds alone role from.holder so.heard so.told side to.holder so.talk;
+  idle = idles_same holds alone to.holder to.holder refl;
+  rest = [];
+  read = subst (λ (t : List ℕ). Consumes from.left to.left t) (sym (append-nil (texts so.heard))) so.read;
+  out = texts so.told;
+  wrote = so.wrote;
+  front = ([], sym (append-nil (texts so.told)));
+  why = inl (refl, inl (omega arith));
+  turns = λ e. omega (arith, many, so.turned, length-append (texts so.heard) []);
+  failed = so.failed;
+})

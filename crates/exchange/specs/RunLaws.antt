@@ -1,0 +1,91 @@
+-- What an exchange comes to, in the frames that were heard and said.
+use Rattle.std.specs.Prelude.{◌≡◌, ◌⊎◌, ◌<◌, ℕ, List, [], Some, true, ◌↔◌}
+use Rattle.octets.specs.Members.{Has}
+use Rattle.operation.specs.declared.op.Op.{Op}
+use Rattle.operation.specs.Spelling.{digest_of}
+use Rattle.site_state.specs.Site.{Map, held_at}
+use Rattle.exchange_frames.specs.declared.frame.Frame.{Frame}
+use Rattle.exchange_frames.specs.declared.frame.Frame.TheVariants.{Have, Want, Give, Buckets, Differ}
+use Rattle.exchange.specs.declared.version.Version.{Version}
+use Rattle.exchange.specs.Held.{offered, place_of, is_in, HasGrown, WasHad}
+use Rattle.exchange.specs.Buckets.{bucket_list, unequal}
+use Rattle.exchange.specs.Laws.{BucketsTell}
+use Rattle.exchange.specs.Round.{IsFinished}
+use Rattle.exchange.specs.declared.side.Side.{Side}
+
+-- A WANT that was said has this digest.
+abbrev pub WasAsked : List Frame → List ℕ → Type 0
+WasAsked told digest = (want : List (List ℕ)) × Has told (Want want) × Has want digest
+
+-- A GIVE that was heard has the operation of this digest.
+abbrev pub WasGiven : List Frame → List ℕ → Type 0
+WasGiven heard digest = (op : Op) × Has heard (Give op) × (digest ≡ digest_of op)
+
+-- Every digest that was asked for was given.
+abbrev pub IsGivenAll : List Frame → List Frame → Type 0
+IsGivenAll heard told = (digest : List ℕ) → WasAsked told digest → WasGiven heard digest
+
+-- something is held under a digest
+abbrev pub IsHeld : Map → List ℕ → Type 0
+IsHeld m digest = (op : Op) × (held_at m digest ≡ Some op)
+
+abbrev pub HoldsAll : Map → List (List ℕ) → Type 0
+HoldsAll m digests = (digest : List ℕ) → Has digests digest → IsHeld m digest
+
+-- Every digest of each HAVE that was heard is held.
+abbrev pub HoldsWhatWasOffered : Map → List Frame → Type 0
+HoldsWhatWasOffered m heard = (have : List (List ℕ)) → Has heard (Have have) → HoldsAll m have
+
+-- each is a digest, so it begins with a byte
+abbrev pub BeginWithBytes : List (List ℕ) → Type 0
+BeginWithBytes digests = (digest : List ℕ) → Has digests digest → place_of digest < 256
+
+-- A HAVE that was heard has those of some digests that lie in the places of each DIFFER that was said.
+abbrev pub OffersWhereTheyDiffer : List Frame → List Frame → List (List ℕ) → Type 0
+OffersWhereTheyDiffer heard told digests =
+    (places : List ℕ) → Has told (Differ places) → (digest : List ℕ) → Has digests digest
+    → is_in places digest ≡ true → (have : List (List ℕ)) × Has heard (Have have) × Has have digest
+
+-- The set that a side compared with BUCKETS of some digests: its holder had it, and DIFFER was said of the places in
+-- which it has other buckets. A holder that nobody else changes had it as the exchange began.
+pub record WasCompared {H : Type 0} (holds : H → Map) (alone : H → Type 0) (version : Version)
+    (theirs : List (List ℕ)) (before : H) (told : List Frame) (after : H) (compared : Map) : Type 0 where
+  pub had : WasHad (holds before) compared (holds after)
+  pub said : Has told (Differ (unequal (bucket_list (offered version compared)) (bucket_list theirs)))
+  pub at_begin : alone before → compared ≡ holds before
+
+-- Where the BUCKETS that were heard are those of a set of digests, a set was compared with them. Where all that was
+-- asked for was given, and what was offered has those of this set in the places of the DIFFER, the whole set is held,
+-- if unequal digests of a place have unequal buckets in these two.
+abbrev pub HoldsWhatWasShown
+    : {H : Type 0} → (H → Map) → (H → Type 0) → Version → Type 0 → H → List Frame → List Frame → H → Type 0
+HoldsWhatWasShown holds alone version finished before heard told after =
+    (theirs : List (List ℕ)) → Has heard (Buckets (bucket_list theirs))
+    → (compared : Map) × WasCompared holds alone version theirs before told after compared
+    × (finished → BeginWithBytes theirs → OffersWhereTheyDiffer heard told theirs
+    → BucketsTell (offered version compared) theirs → HoldsAll (holds after) theirs)
+
+-- Each DIFFER among some frames is of no place.
+abbrev pub NoneDiffers : List Frame → Type 0
+NoneDiffers frames = (places : List ℕ) → Has frames (Differ places) → places ≡ []
+
+-- No place differed: neither of the lists of buckets that this side compared, nor of those that the peer did.
+pub record NoPlaceDiffers (heard told : List Frame) : Type 0 where
+  pub here : NoneDiffers told
+  pub there : NoneDiffers heard
+
+-- An operation that a holder has gained, which nobody else changes, was given, and was asked for.
+abbrev pub GainsOnlyGiven : Map → List Frame → List Frame → Map → Type 0
+GainsOnlyGiven before heard told after =
+    (digest : List ℕ) (op : Op) → held_at after digest ≡ Some op
+    → (held_at before digest ≡ Some op) ⊎ (Has heard (Give op) × WasAsked told (digest_of op))
+
+-- what frames that were heard and said come to
+pub record Outcome {H : Type 0} (holds : H → Map) (alone : H → Type 0) (before : H) (heard told : List Frame)
+    (side : Side) (after : H) : Type 0 where
+  pub grown : HasGrown (holds before) (holds after)
+  pub only : alone before → GainsOnlyGiven (holds before) heard told (holds after)
+  pub given : (op : Op) → Has heard (Give op) → held_at (holds after) (digest_of op) ≡ Some op
+  pub finished : IsFinished side.round ↔ IsGivenAll heard told
+  pub have : IsFinished side.round → HoldsWhatWasOffered (holds after) heard
+  pub shown : HoldsWhatWasShown holds alone side.round.version (IsFinished side.round) before heard told after

@@ -1,0 +1,25 @@
+//! What two sides of one exchange come to: laws, said as contracts of functions with nothing to do.
+
+ghost use Rattle.exchange.specs.Joined.{ExchangeGivesAll, ExchangeMakesEqual};
+ghost use Rattle.exchange.specs.Order.{SaysInOrder};
+
+use crate::holder::Holder;
+
+/// Where a caller and a callee each heard what the other said, a side that is finished holds in the
+/// end all that the other side offered, and so all that this held as the exchange began. Both agree
+/// or neither does, and where they do the buckets that were compared are equal.
+pub fn an_exchange_gives_all<A: Holder, B: Holder>()
+    ensures { ExchangeGivesAll A.holds A.alone B.holds B.alone }
+{}
+
+/// Where both are finished, and nobody else changes either holder, both hold the same in the end.
+pub fn an_exchange_makes_holders_equal<A: Holder, B: Holder>()
+    ensures { ExchangeMakesEqual A.holds A.alone B.holds B.alone }
+{}
+
+/// What a side says that ended is said in one order, and it says no other frame: a caller HELLO,
+/// BUCKETS, HAVE, its GIVEs, END, DIFFER and WANT; a callee HELLO where it heard one, DIFFER, WANT,
+/// BUCKETS, HAVE, its GIVEs and END. At version 1 nobody says HELLO.
+pub fn a_side_says_its_frames_in_order<H: Holder>()
+    ensures { SaysInOrder H.holds H.alone }
+{}

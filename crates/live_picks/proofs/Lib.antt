@@ -1,4 +1,0 @@
-pub mod KeyLaws
-pub mod Studies
-pub mod Trees
-pub mod Walks

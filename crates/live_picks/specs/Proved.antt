@@ -1,2 +1,0 @@
--- The proofs of the laws, which the implementations of the traits name. No clause cites them.
-pub mod Picks

@@ -1,0 +1,90 @@
+-- Lists of keys, and what is put in and taken out of them.
+use Rattle.std.specs.Prelude.{◌≡◌, ℕ, ◌+◌, ◌<◌, Bool, true, false, cond, not, ◌&&◌, ◌||◌, List, [], ◌∷◌, ◌++◌}
+use Rattle.std.proofs.Common.{refl, sym, ap, ◌∙◌, take, drop, length, get_or}
+use mathlib.Core.Bool.{true≢false}
+use Rattle.std.specs.Cmp.{IsTotalOrder}
+use Rattle.std.specs.Ordering.{is_eq, ordering_reverse}
+use Rattle.std.specs.declared.cmp.Ordering.{Ordering}
+use Rattle.std.specs.declared.cmp.Ordering.TheVariants.{Less, Equal, Greater}
+use Rattle.std.specs.BTreeMap.{is_at}
+use Rattle.std.proofs.lemmas.Cmp.{tied_itself}
+use Rattle.std.proofs.lemmas.List.{take-append-drop, take_more}
+use Rattle.std.proofs.lemmas.List.Folds.{list_any-append}
+use Rattle.join_laws.specs.Laws.{IsExact}
+use Rattle.join_laws.specs.Proved.Maps.{equal_from_is_eq}
+use Rattle.study_index.specs.Keys.{has}
+
+-- ---- tests
+pub or_none : (a : Bool) → (a || false) ≡ a
+or_none true = refl
+or_none false = refl
+
+pub or_assoc : (a b c : Bool) → ((a || b) || c) ≡ (a || (b || c))
+or_assoc true b c = refl
+or_assoc false b c = refl
+
+or_true : (a b : Bool) → a ≡ true → (a || b) ≡ true
+or_true a b h = ap (λ c. c || b) h
+
+is_eq_reverse : (o : Ordering) → is_eq (ordering_reverse o) ≡ is_eq o
+is_eq_reverse Less = refl
+is_eq_reverse Equal = refl
+is_eq_reverse Greater = refl
+
+pub as_cond : (a b : Bool) → (a || b) ≡ cond a true b
+as_cond true b = refl
+as_cond false b = refl
+
+-- ---- what is put in and taken out again
+pub step_in : (old front at new both : Bool) → both ≡ (old || front) → new ≡ cond at true both
+    → new ≡ (old || (front || at))
+step_in true front true new both h k = k
+step_in false true true new both h k = k
+step_in false false true new both h k = k
+step_in true true false new both h k = k ∙ h
+step_in true false false new both h k = k ∙ h
+step_in false true false new both h k = k ∙ h
+step_in false false false new both h k = k ∙ h
+
+pub step_out : (old front at new both : Bool) → both ≡ (old && not front) → new ≡ cond at false both
+    → new ≡ (old && not (front || at))
+step_out true true true new both h k = k
+step_out true false true new both h k = k
+step_out false front true new both h k = k
+step_out true true false new both h k = k ∙ h
+step_out true false false new both h k = k ∙ h
+step_out false front false new both h k = k ∙ h
+
+pub out_again : (old front all : Bool) → (front ≡ true → all ≡ true) → (old ≡ true → all ≡ false)
+    → ((old || front) && not all) ≡ old
+out_again true front true h k = absurd (true≢false (k refl))
+out_again true front false h k = refl
+out_again false true true h k = refl
+out_again false false true h k = refl
+out_again false true false h k = absurd (true≢false (sym (h refl)))
+out_again false false false h k = refl
+
+module _ {K : Type 0} {R : K → K → Ordering} (o : IsTotalOrder R) where
+  pub at_itself : (q : K) → is_at (R q) q ≡ true
+  at_itself q = ap is_eq (tied_itself o q)
+
+  pub at_either : (q p : K) → is_at (R q) p ≡ is_at (R p) q
+  at_either q p = ap is_eq (o.antisymm q p) ∙ is_eq_reverse (R p q)
+
+pub same_key : {K : Type 0} {R : K → K → Ordering} → IsExact R → (q p : K) → is_at (R q) p ≡ true → q ≡ p
+same_key {K} {R} exact q p h = exact q p (equal_from_is_eq (R q p) h)
+
+module _ {K : Type 0} (R : K → K → Ordering) where
+  pub has-append : (xs ys : List K) (q : K) → has R (xs ++ ys) q ≡ (has R xs q || has R ys q)
+  has-append xs ys q = list_any-append (is_at (R q)) xs ys
+
+  pub has-take_more : (xs : List K) (i : ℕ) (x q : K) → i < length xs → x ≡ get_or xs i x → has R (take (i + 1) xs)
+      q ≡ (has R (take i xs) q || is_at (R q) x)
+  has-take_more xs i x q within read =
+      ap (λ ys. has R ys q) (take_more xs i x within ∙ ap (λ y. take i xs ++ y ∷ []) (sym read))
+      ∙ has-append (take i xs) (x ∷ []) q
+      ∙ ap (λ b. has R (take i xs) q || b) (or_none (is_at (R q) x))
+
+  pub has-take : (xs : List K) (i : ℕ) (q : K) → has R (take i xs) q ≡ true → has R xs q ≡ true
+  has-take xs i q h = ap (λ ys. has R ys q) (sym (take-append-drop i xs)) ∙ has-append (take i xs) (drop i xs) q
+      ∙ or_true (has R (take i xs) q) (has R (drop i xs) q) h

@@ -1,0 +1,45 @@
+use Rattle.std.proofs.Common.{◌∙◌, ap, map, subst, sym, List}
+use Rattle.std.specs.Prelude.{◌||◌}
+use Rattle.std.specs.List.{filter}
+use Rattle.std.specs.BTreeMap.Range.{IsLeBy}
+use Rattle.std.specs.Cmp.Lexicographic.{nat_list_cmp_total}
+use Rattle.octets.specs.Texts.{text_cmp}
+use Rattle.join_laws.specs.GrowSet.{union_of}
+use Rattle.join_laws.specs.Proved.Sets.{has-union}
+use Rattle.study_index.specs.Keys.{has}
+use Rattle.study_index.specs.Live.{Place, place_cmp, instance_of, front_of_series, end_of_series, is_between}
+use Rattle.study_index.specs.Live.{is_of_series, pick_at, tree_of}
+use Rattle.study_index.specs.Proved.Picks.{text_exact}
+use Rattle.study_index.proofs.Studies.{series_front_before_end, has_series}
+use Rattle.study_index.proofs.live_picks.LivePicks.put_series.Goals as goal
+
+-- The front of a series stands before its end.
+pub put_between-requires : goal.put_between-requires
+put_between-requires c =
+    let study = c.args.study.now in
+    let series = c.args.series.now in
+    subst (λ (p : Place). IsLeBy place_cmp p c.end_of_series.result) (sym c.front_of_series-front.ensures)
+    (subst (λ (p : Place). IsLeBy place_cmp (front_of_series study series) p) (sym c.end_of_series.ensures)
+    (series_front_before_end study series))
+
+-- The places between both are those of the picks of the series.
+pub returns : goal.returns
+returns c = λ uid.
+    let old = c.args.uids.now.keys in
+    let study = c.args.study.now in
+    let series = c.args.series.now in
+    let front = front_of_series study series in
+    let picks = c.self.inside.picks in
+    ap (λ ks. has text_cmp ks uid) (
+    c.in_ok-put_between.ensures
+    ∙ ap (λ (p : Place). union_of text_cmp old
+    (map instance_of (filter (is_between p c.end_of_series.result) c.self.inside.tree.keys)))
+    c.front_of_series-front.ensures
+    ∙ ap (λ (p : Place). union_of text_cmp old
+    (map instance_of (filter (is_between front p) c.self.inside.tree.keys))) c.end_of_series.ensures
+    ∙ ap (λ (ps : List Place). union_of text_cmp
+    old (map instance_of (filter (is_between front (end_of_series study series)) ps))) c.self.invariant)
+    ∙ has-union nat_list_cmp_total text_exact uid (map instance_of (filter (is_between front
+    (end_of_series study series)) (tree_of picks))) old
+    ∙ ap (λ b. has text_cmp old uid || b) (has_series picks c.held.ensures.0 study series uid)
+    ∙ ap (λ ps. has text_cmp old uid || is_of_series study series (pick_at uid ps)) c.self.view_is

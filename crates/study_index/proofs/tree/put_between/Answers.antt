@@ -1,0 +1,15 @@
+use Rattle.std.proofs.Common.{rules, ◌≡◌, ◌∙◌, ap, map}
+use Rattle.std.specs.List.{filter}
+use Rattle.std.specs.Map.Iter.{deref}
+use Rattle.std.proofs.lemmas.Map.Iter.{iter_end}
+use Rattle.octets.specs.Texts.{text_cmp}
+use Rattle.join_laws.specs.GrowSet.{union_of}
+use Rattle.study_index.specs.Live.{instance_of, is_between}
+use Rattle.study_index.proofs.tree.put_between.Goals as goal
+
+-- All places of the range came.
+pub returns : goal.returns
+returns c =
+    let all : map deref c.loop-place.yielded ≡ filter (is_between c.args.front c.args.end) c.args.tree.now.keys =
+    search (rules, iter_end) in
+    c.loop-place.invariant ∙ ap (λ ps. union_of text_cmp c.args.uids.now.keys (map instance_of ps)) all
