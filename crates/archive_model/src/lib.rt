@@ -4,9 +4,9 @@
 //! In `specs/` a set is the list of its operations, ascending by digest, and each definition is a
 //! filter of that list: it knows no site, no index and no order of arrival. `Query::read` says what
 //! the identifier of a C-FIND asks, and `Selection::read` that of a C-GET; what is answered are
-//! `rows_of` and `sendings_of`. An instance that is to be sent is held as a `Prepared`, of which its
-//! bytes are made when its turn comes. What holds of the definitions is said in `laws.rt` and in
-//! `sending_laws.rt`.
+//! `rows_of` and `sendings_of`. An instance that is to be sent is held as a `Prepared`, of which
+//! its bytes are made when its turn comes. What holds of the definitions is said in `laws.rt` and
+//! in `sending_laws.rt`.
 #![tactic(auto)]
 
 mod accepts;

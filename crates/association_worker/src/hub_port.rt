@@ -23,8 +23,8 @@ use std::sync::{Mutex, Wait};
 /// A pass with the keeper that all passes share, as the port of one association. Its set is that of
 /// the history that the pass has seen, and its list is the pass's own.
 ///
-/// What it is asked goes to its `Looker`, which waits for nobody; a store waits for the keeper, whose
-/// lock nothing else here can take.
+/// What it is asked goes to its `Looker`, which waits for nobody; a store waits for the keeper,
+/// whose lock nothing else here can take.
 pub struct HubPort<'a, H: HubName, T: Shows<H>, R: Wait + Drop, S: Wait, E: AtEntry> {
     shared: SharedKeeper<'a, H, T, R, S>,
     looker: Looker<H, E>,

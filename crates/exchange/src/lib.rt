@@ -1,13 +1,13 @@
 //! One side's part in a round of frames, in which two sites tell each other what they hold, ask for
 //! what they lack and give it.
 //!
-//! What a site must do for it is `Holder`. The frames are those of `exchange_frames`, whose types and
-//! calls are named here too. In a `Round` values come in and values go out.
+//! What a site must do for it is `Holder`. The frames are those of `exchange_frames`, whose types
+//! and calls are named here too. In a `Round` values come in and values go out.
 //!
 //! Behind it stands a whole exchange with a peer, from its first frame to its last. What a frame
-//! calls for is one table, `specs/Tasks.antt`, and what a side says then it says over a set that its
-//! holder has: `specs/Course.antt`. `Side` is that as a machine, to which frames come and which says
-//! frames; `run_exchange` reads and writes them, over any reader and writer.
+//! calls for is one table, `specs/Tasks.antt`, and what a side says then it says over a set that
+//! its holder has: `specs/Course.antt`. `Side` is that as a machine, to which frames come and which
+//! says frames; `run_exchange` reads and writes them, over any reader and writer.
 #![tactic(auto)]
 
 mod asked;
