@@ -1,7 +1,8 @@
 //! A file to whose end bodies are added.
 
 ghost use Rattle.std.specs.Prelude.{◌≡◌, ◌+◌, ◌≤◌, ◌<◌, ◌^◌, ◌↔◌, List, ℕ, false, length, IsTrue, IfOk, IfErr, OnOk, OnErr, IsErrOf};
-ghost use Rattle.sqlite_disk.specs.Disk.{CountsFault, Holds, MoreFaults, Only};
+ghost use Rattle.sqlite_disk.specs.Disk.{CountsFault, Holds, Only};
+ghost use Rattle.body_log.specs.Fault.{CountsAs, CountsAsIf};
 ghost use Rattle.body_log.specs.Lasts.{Lasts, Settles, Spares, Stays, IsExact};
 
 use crate::fault::BodyFault;
@@ -112,7 +113,7 @@ impl<D: Disk> BodyLog<D> {
             ↔ (D.Disk.is_usable (disk_of self.old) ≡ false) }
         ensures too_long { IsErrOf result BodyFault.TooLong
             → 2 ^ 64 ≤ end_of self.old + length body.now }
-        ensures disk { IsErrOf result BodyFault.Disk → MoreFaults
+        ensures disk { CountsAs BodyFault.Disk result
             (D.Disk.faults (disk_of self.old)) (D.Disk.faults (disk_of self.new)) }
     {
         if !self.disk.may_be_used() {
@@ -138,7 +139,7 @@ impl<D: Disk> BodyLog<D> {
         // Each fault, only where it is.
         ensures closed { IsErrOf result BodyFault.Closed
             ↔ (D.Disk.is_usable (disk_of self.old) ≡ false) }
-        ensures disk { IsErrOf result BodyFault.Disk → MoreFaults
+        ensures disk { CountsAs BodyFault.Disk result
             (D.Disk.faults (disk_of self.old)) (D.Disk.faults (disk_of self.new)) }
         ensures fits { ¬ IsErrOf result BodyFault.TooLong }
     {
@@ -165,8 +166,8 @@ impl<D: Disk> BodyLog<D> {
         // Each fault, only where it is.
         ensures closed { IsErrOf result BodyFault.Closed
             ↔ (D.Disk.is_usable (disk_of self.old) ≡ false) }
-        ensures disk { IsErrOf result BodyFault.Disk → IsTrue (D.Disk.is_clean (disk_of self.old))
-            → at + length body.old ≤ length (D.Disk.seen (disk_of self.old)) → MoreFaults
+        ensures disk { CountsAsIf (IsTrue (D.Disk.is_clean (disk_of self.old))
+            → at + length body.old ≤ length (D.Disk.seen (disk_of self.old))) BodyFault.Disk result
             (D.Disk.faults (disk_of self.old)) (D.Disk.faults (disk_of self.new)) }
         ensures fits { ¬ IsErrOf result BodyFault.TooLong }
     {

@@ -1,6 +1,6 @@
 -- The public numbers of the faults, and when they are told.
-use Rattle.std.specs.Prelude.{◌≡◌, ℕ, Result, MatchResult}
-use Rattle.sqlite_disk.specs.Disk.{MoreFaults}
+use Rattle.std.specs.Prelude.{ℕ, Result}
+use Rattle.body_log.specs.Fault.{CountsAs}
 use Rattle.head_log.specs.declared.fault.HeadFault.{HeadFault}
 use Rattle.head_log.specs.declared.fault.HeadFault.TheVariants.{Disk, Closed, TooLong, Damaged, Memory}
 
@@ -21,4 +21,4 @@ IsOfOpen Memory = ⊥
 
 -- the count of the disk's failures stays at `Ok`, and rises where `Disk` is told
 abbrev pub CountsDisk : {V : Type 0} → Result V HeadFault → ℕ → ℕ → Type 0
-CountsDisk result old new = MatchResult result (λ _. new ≡ old) (λ fault. fault ≡ Disk → MoreFaults old new)
+CountsDisk result old new = CountsAs Disk result old new

@@ -161,6 +161,7 @@ impl<D: Disk> HeadLog<D> {
             × ((2 ^ 40 ≤ length group.now) ⊎ (2 ^ 60 < end_of self.old))) }
         ensures disk { CountsDisk result
             (D.Disk.faults (disk_of self.old)) (D.Disk.faults (disk_of self.new)) }
+        ensures whole { (n : ℕ) → ¬ IsErrOf result (HeadFault.Damaged n) }
         ensures clean { IsTrue (D.Disk.is_clean (disk_of self.new))
             → IsTrue (D.Disk.is_clean (disk_of self.old)) }
     {

@@ -1,11 +1,13 @@
 -- What the faults of the two files are to a log of operations.
 use Rattle.std.proofs.Common.{◌≡◌, ℕ, Result, Ok, Err, IsErrOf, sym, ◌∙◌, ap}
 use Rattle.std.specs.Result.{IsErrAnd}
+use Rattle.sqlite_disk.specs.Disk.{MoreFaults}
+use Rattle.body_log.specs.Fault.{CountsAs, CountsAsIf}
 use Rattle.head_log.specs.declared.fault.HeadFault.{HeadFault}
 use Rattle.head_log.specs.declared.fault.HeadFault.TheVariants as of_heads
 use Rattle.op_log.specs.declared.fault.LogFault.{LogFault}
-use Rattle.op_log.specs.declared.fault.LogFault.TheVariants.{DamagedHeads}
-use Rattle.op_log.specs.Fault.{fault_of_heads}
+use Rattle.op_log.specs.declared.fault.LogFault.TheVariants.{Disk, Closed, TooLong, DamagedHeads, DamagedBody, Collision, Memory}
+use Rattle.op_log.specs.Fault.{fault_of_heads, IsOfLook, IsOfPut, IsOfRead, IsOfWrite}
 
 -- damage that is told is damage of the file of heads
 pub damaged_is : (f : HeadFault) (n : ℕ) → fault_of_heads f ≡ DamagedHeads n → f ≡ of_heads.Damaged n
@@ -24,3 +26,44 @@ told_is (Ok x) told fault is came = absurd is
 told_is (Err e) told fault is came =
     let same : e ≡ fault = cc in
     sym is ∙ same
+
+-- what a read tells, a look tells
+pub read_is_look : (fault : LogFault) → IsOfRead fault → IsOfLook fault
+read_is_look Disk is = is
+read_is_look Closed is = is
+read_is_look TooLong is = absurd is
+read_is_look (DamagedHeads at) is = absurd is
+read_is_look (DamagedBody at) is = absurd is
+read_is_look Collision is = absurd is
+read_is_look Memory is = is
+
+-- and a put
+pub read_is_put : (fault : LogFault) → IsOfRead fault → IsOfPut fault
+read_is_put Disk is = is
+read_is_put Closed is = is
+read_is_put TooLong is = absurd is
+read_is_put (DamagedHeads at) is = absurd is
+read_is_put (DamagedBody at) is = absurd is
+read_is_put Collision is = absurd is
+read_is_put Memory is = is
+
+-- what a write tells, a put tells
+pub write_is_put : (fault : LogFault) → IsOfWrite fault → IsOfPut fault
+write_is_put Disk is = is
+write_is_put Closed is = is
+write_is_put TooLong is = is
+write_is_put (DamagedHeads at) is = absurd is
+write_is_put (DamagedBody at) is = absurd is
+write_is_put Collision is = absurd is
+write_is_put Memory is = is
+
+-- where a call was refused, the count rose
+pub counts_on : {V P : Type 0} (r : Result V LogFault) (fault : LogFault) (old new : ℕ) → IsErrAnd r (λ it. it ≡ fault)
+    → (fault ≡ Disk → P → MoreFaults old new) → CountsAsIf P Disk r old new
+counts_on (Ok x) fault old new is counts = absurd is
+counts_on (Err e) fault old new is counts = λ told. counts (sym is ∙ told)
+
+pub counts_as : {V : Type 0} (r : Result V LogFault) (fault : LogFault) (old new : ℕ) → IsErrAnd r (λ it. it ≡ fault)
+    → (fault ≡ Disk → MoreFaults old new) → CountsAs Disk r old new
+counts_as (Ok x) fault old new is counts = absurd is
+counts_as (Err e) fault old new is counts = λ told. counts (sym is ∙ told)

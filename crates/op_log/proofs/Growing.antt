@@ -1,22 +1,23 @@
 -- What stays while data sets are written behind it.
-use Rattle.std.proofs.Common.{◌≡◌, ◌≤◌, ℕ, List, [], ◌∷◌, ◌++◌, length, ◌-◌, take, drop, get_or, inl, inr, All, sym, ◌∙◌, ap, subst, arith}
+use Rattle.std.proofs.Common.{Result, Ok, Err, ◌≡◌, ◌≤◌, ℕ, List, [], ◌∷◌, ◌++◌, length, ◌-◌, take, drop, get_or, inl, inr, All, sym, ◌∙◌, ap, subst, arith}
 use Rattle.std.proofs.Math.Seq.{take-length}
 use Rattle.std.proofs.lemmas.List.{append_assoc, append-nil}
 use Rattle.std.proofs.lemmas.List.Elements.{All-weaker, All-same, All-push}
-use Rattle.sqlite_disk.specs.Disk.{Holds}
+use Rattle.sqlite_disk.specs.Disk.{Holds, MoreFaults}
 use Rattle.sqlite_disk.specs.declared.Disk.{Ghosts}
 use Rattle.body_log.specs.declared.log.BodyLog.{BodyLog}
 use Rattle.body_log.specs.Lasts.{Settles, Spares}
 use Rattle.body_log.specs.Log.{disk_of, end_of}
 use Rattle.body_log.proofs.Holding.{lasting}
 use Rattle.operation.specs.declared.op.Op.{Op}
+use Rattle.op_log.specs.declared.fault.LogFault.{LogFault}
 use Rattle.op_log.specs.declared.kept.Kept.{Kept}
 use Rattle.op_log.specs.declared.kept.Kept.TheVariants.{New, Known}
 use Rattle.op_log.specs.Heads.{Entry, Head, body_of, group_text, head_of, IsSpelled}
 use Rattle.op_log.specs.Kept.{IsBelow, IsLasting}
 use Rattle.op_log.specs.Puts.{LeavesAllOrNone, LeavesEither, LiesAt, Puts, PutsAll}
 use Rattle.op_log.specs.declared.group.Group.{Group}
-use Rattle.op_log.specs.Staged.{AreSettled, AreStaged, Grows, HasHeads, KeepsPlaces}
+use Rattle.op_log.specs.Staged.{AreSettled, AreStaged, Counts, Grows, HasHeads, KeepsPlaces, Reaches}
 use Rattle.op_log.proofs.Fitting.{groups_joined}
 
 -- two calls that spare what lies below the end are one
@@ -35,6 +36,26 @@ grows_twice g a b c first second =
       longer = omega (arith, first.longer, second.longer);
       reach = λ h. second.reach (first.reach h);
     }
+
+-- a file that reaches to its end goes on to
+pub reaches_on : {B : Type 0} (g : Ghosts B) (a b : BodyLog B) → Grows g a b → Reaches g a (end_of a) → Reaches g b (end_of b)
+reaches_on g a b grows reach clean = grows.reach (reach (grows.spared.clean clean))
+
+-- and to whatever lay below it
+pub reaches_head : {B : Type 0} (g : Ghosts B) (a b : BodyLog B) → Grows g a b → (end : ℕ) → end ≤ end_of a
+    → Reaches g a (end_of a) → Reaches g b end
+reaches_head g a b grows end low reach clean = omega (arith, low, grows.longer, reaches_on g a b grows reach clean)
+
+-- a file that reaches to its end reaches to whatever lies below
+pub reaches_less : {B : Type 0} (g : Ghosts B) (a : BodyLog B) (end : ℕ) → end ≤ end_of a → Reaches g a (end_of a) → Reaches g a end
+reaches_less g a end low reach clean = omega (arith, low, reach clean)
+
+-- two calls count as one
+pub counts_twice : {B V : Type 0} (g : Ghosts B) (a b c : BodyLog B) (r : Result V LogFault) → Grows g a b
+    → g.faults (disk_of b) ≡ g.faults (disk_of a) → Counts g (end_of b) b c r → Counts g (end_of a) a c r
+counts_twice g a b c (Ok x) grows calm counts = counts ∙ calm
+counts_twice g a b c (Err e) grows calm counts = λ told reach.
+    subst (λ (n : ℕ). MoreFaults n (g.faults (disk_of c))) calm (counts told (reaches_on g a b grows reach))
 
 -- a data set that is in the file stays there
 pub lies_on : {B : Type 0} (g : Ghosts B) (a b : BodyLog B) → Grows g a b → (at : ℕ) (body : List ℕ)

@@ -40,6 +40,36 @@ IsOfLook (DamagedBody at) = Unit {0}
 IsOfLook Collision = ⊥
 IsOfLook Memory = Unit {0}
 
+-- what a read of a data set tells
+abbrev pub IsOfRead : LogFault → Type 0
+IsOfRead Disk = Unit {0}
+IsOfRead Closed = Unit {0}
+IsOfRead TooLong = ⊥
+IsOfRead (DamagedHeads at) = ⊥
+IsOfRead (DamagedBody at) = ⊥
+IsOfRead Collision = ⊥
+IsOfRead Memory = Unit {0}
+
+-- what a write of data sets or heads tells
+abbrev pub IsOfWrite : LogFault → Type 0
+IsOfWrite Disk = Unit {0}
+IsOfWrite Closed = Unit {0}
+IsOfWrite TooLong = Unit {0}
+IsOfWrite (DamagedHeads at) = ⊥
+IsOfWrite (DamagedBody at) = ⊥
+IsOfWrite Collision = ⊥
+IsOfWrite Memory = Unit {0}
+
+-- what a put tells
+abbrev pub IsOfPut : LogFault → Type 0
+IsOfPut Disk = Unit {0}
+IsOfPut Closed = Unit {0}
+IsOfPut TooLong = Unit {0}
+IsOfPut (DamagedHeads at) = ⊥
+IsOfPut (DamagedBody at) = ⊥
+IsOfPut Collision = Unit {0}
+IsOfPut Memory = Unit {0}
+
 -- what an open tells
 abbrev pub IsOfOpen : LogFault → Type 0
 IsOfOpen Disk = Unit {0}

@@ -1,5 +1,5 @@
 -- What puts make of the heads.
-use Rattle.std.specs.Prelude.{◌≡◌, ◌+◌, ◌<◌, ◌≤◌, ℕ, List, [], ◌∷◌, ◌++◌, ◌⊎◌, length, Some, None, IsTrue}
+use Rattle.std.specs.Prelude.{◌≡◌, ◌≢◌, ◌+◌, ◌<◌, ◌≤◌, ℕ, List, [], ◌∷◌, ◌++◌, ◌⊎◌, length, Some, None, IsTrue}
 use Rattle.sqlite_disk.specs.Disk.{Holds}
 use Rattle.sqlite_disk.specs.declared.Disk.{Ghosts}
 use Rattle.operation.specs.declared.op.Op.{Op}
@@ -18,14 +18,17 @@ module _ {B : Type 0} (g : Ghosts B) (disk : B) (end : ℕ) where
   abbrev pub LiesAt : ℕ → List ℕ → Type 0
   LiesAt at body = 0 < length body → Holds (g.seen disk) at body × (at + length body ≤ end)
 
+  -- the first head with a digest is that of these parts, and their data set lies where it says
+  abbrev pub HasParts : List ℕ → List ℕ → List ℕ → List Head → Type 0
+  HasParts digest front body heads =
+      (at : ℕ) × (first_under digest heads ≡ Some (head_from digest front body at)) × LiesAt at body
+
   -- A put makes one head more, where none has the digest; or it finds the operation, as long as the disk returns what was
   -- written, and makes none.
   abbrev pub PutsParts : List ℕ → List ℕ → List ℕ → List Head → Kept → List Head → Type 0
   PutsParts digest front body old New new = (first_under digest old ≡ None)
       × ((at : ℕ) × (new ≡ old ++ head_from digest front body at ∷ []) × IsSpelled (head_from digest front body at) × LiesAt at body)
-  PutsParts digest front body old Known new =
-      (IsTrue (g.is_clean disk) → (at : ℕ) × (first_under digest old ≡ Some (head_from digest front body at)) × LiesAt at body)
-      × (new ≡ old)
+  PutsParts digest front body old Known new = (IsTrue (g.is_clean disk) → HasParts digest front body old) × (new ≡ old)
 
   -- the same of an operation
   abbrev pub Puts : List Head → Op → Kept → List Head → Type 0
@@ -37,6 +40,21 @@ module _ {B : Type 0} (g : Ghosts B) (disk : B) (end : ℕ) where
   PutsAll old [] (kept ∷ kepts) new = ⊥
   PutsAll old (op ∷ ops) [] new = ⊥
   PutsAll old (op ∷ ops) (kept ∷ kepts) new = (mid : List Head) × Puts old op kept mid × PutsAll mid ops kepts new
+
+  -- A head has the digest, and as long as the disk returns what was written, it is not that of these parts.
+  abbrev pub ClashesParts : List ℕ → List ℕ → List ℕ → List Head → Type 0
+  ClashesParts digest front body heads =
+      (first_under digest heads ≢ None) × (IsTrue (g.is_clean disk) → ¬ HasParts digest front body heads)
+
+  -- another operation has the digest of one
+  abbrev pub Clashes : Op → List Head → Type 0
+  Clashes op heads = ClashesParts (digest_of op) (front_of op) (body_of op) heads
+
+  -- one put after another comes to an operation whose digest another has
+  abbrev pub ComesToClash : List Head → List Op → Type 0
+  ComesToClash old [] = ⊥
+  ComesToClash old (op ∷ ops) =
+      Clashes op old ⊎ ((kept : Kept) × (mid : List Head) × Puts old op kept mid × ComesToClash mid ops)
 
 -- a crash leaves the heads from before, or those afterwards
 abbrev pub LeavesEither : {H : Type 0} → Ghosts H → H → List Head → List Head → Type 0

@@ -1,12 +1,13 @@
 -- What is written of operations before their group is.
-use Rattle.std.specs.Prelude.{◌≡◌, ◌≤◌, ◌+◌, ◌^◌, ℕ, List, [], ◌++◌, All, length, false, Result, IsErrOf}
+use Rattle.std.specs.Prelude.{◌≡◌, ◌≤◌, ◌+◌, ◌^◌, ℕ, List, [], ◌++◌, All, length, false, IsTrue, Result, IsErrOf}
 use Rattle.sqlite_disk.specs.declared.Disk.{Ghosts}
 use Rattle.body_log.specs.declared.log.BodyLog.{BodyLog}
+use Rattle.body_log.specs.Fault.{CountsAsIf}
 use Rattle.body_log.specs.Lasts.{Spares}
 use Rattle.body_log.specs.Log.{disk_of, end_of}
 use Rattle.operation.specs.declared.op.Op.{Op}
 use Rattle.op_log.specs.declared.fault.LogFault.{LogFault}
-use Rattle.op_log.specs.declared.fault.LogFault.TheVariants.{Closed, TooLong}
+use Rattle.op_log.specs.declared.fault.LogFault.TheVariants.{Closed, Disk, TooLong}
 use Rattle.op_log.specs.declared.kept.Kept.{Kept}
 use Rattle.op_log.specs.declared.group.Group.{Group}
 use Rattle.op_log.specs.declared.head.Spelled.{Spelled}
@@ -57,6 +58,14 @@ pub record KeepsPlaces {B : Type 0} (g : Ghosts B) (old new : BodyLog B) (before
 pub record IsWithin {B V : Type 0} (old new : BodyLog B) (many : ℕ) (result : Result V LogFault) : Type 0 where
   pub within : end_of new ≤ end_of old + many
   pub too_long : IsErrOf result TooLong → 2 ^ 64 ≤ end_of old + many
+
+-- a file reaches so far, as long as the disk returns what was written
+abbrev pub Reaches : {B : Type 0} → Ghosts B → BodyLog B → ℕ → Type 0
+Reaches g bodies end = IsTrue (g.is_clean (disk_of bodies)) → end ≤ length (g.seen (disk_of bodies))
+
+-- the count of the disk's failures stays at `Ok`, and rises where `Disk` is told of a file that reaches so far
+abbrev pub Counts : {B V : Type 0} → Ghosts B → ℕ → BodyLog B → BodyLog B → Result V LogFault → Type 0
+Counts g end old new result = CountsAsIf (Reaches g old end) Disk result (g.faults (disk_of old)) (g.faults (disk_of new))
 
 -- the file is as usable as it was, and only one that was not is told as closed
 pub record Uses {B V : Type 0} (g : Ghosts B) (old new : BodyLog B) (result : Result V LogFault) : Type 0 where

@@ -1,11 +1,12 @@
 //! Loads all operations.
 
-ghost use Rattle.std.specs.Prelude.{◌≡◌, ℕ, map, IfOk, IfErr, IsTrue, IsErrOf};
-ghost use Rattle.body_log.specs.Log.{disk_of};
+ghost use Rattle.std.specs.Prelude.{◌≡◌, ℕ, All, map, IfOk, IfErr, IsTrue, IsErrOf};
+ghost use Rattle.body_log.specs.Log.{disk_of, end_of};
 ghost use Rattle.operation.specs.Spelling.{digest_of};
 ghost use Rattle.op_log.specs.Fault.{IsOfLook};
+ghost use Rattle.op_log.specs.Kept.{IsBelow};
 ghost use Rattle.op_log.specs.Loaded.{HasBadHead, Lists};
-ghost use Rattle.op_log.specs.Staged.{Grows, Uses};
+ghost use Rattle.op_log.specs.Staged.{Counts, Grows, Uses};
 ghost use Rattle.op_log.specs.Verified.{digests_of};
 
 use crate::fault::LogFault;
@@ -28,6 +29,8 @@ pub(crate) fn all_ops<B: Disk>(
     ensures damaged { IsTrue (B.Disk.is_clean (disk_of bodies.new)) → (n : ℕ)
         → IsErrOf result (LogFault.DamagedBody n)
         → HasBadHead (B.Disk.seen (disk_of bodies.old)) places.now n }
+    ensures disk { All (IsBelow (end_of bodies.old)) places.now
+        → Counts B.Disk (end_of bodies.old) bodies.old bodies.new result }
     ensures only { IfErr result IsOfLook }
     ensures grows { Grows B.Disk bodies.old bodies.new }
     ensures uses { Uses B.Disk bodies.old bodies.new result }

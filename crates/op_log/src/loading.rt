@@ -1,17 +1,17 @@
 //! Reads data sets again.
 
-ghost use Rattle.std.specs.Prelude.{◌≡◌, ◌≢◌, ◌↔◌, ◌++◌, ◌<◌, List, ℕ, Ok, true, false, length, ◌-◌, IfOk, IfErr, IsTrue, IsErrOf};
+ghost use Rattle.std.specs.Prelude.{◌≡◌, ◌≢◌, ◌↔◌, ◌++◌, ◌<◌, ◌+◌, List, ℕ, Ok, true, false, length, ◌-◌, IfOk, IfErr, IsTrue, IsErrOf};
 ghost use Rattle.sqlite_disk.specs.Disk.{Holds};
 ghost use Rattle.body_log.specs.Log.{disk_of, end_of};
 ghost use Rattle.operation.specs.declared.op.Op.{Op as Operation};
 ghost use Rattle.operation.specs.Reading.{IsOp};
 ghost use Rattle.operation.specs.Spelling.{digest_of, spelling};
-ghost use Rattle.op_log.specs.Fault.{IsOfLook};
+ghost use Rattle.op_log.specs.Fault.{IsOfLook, IsOfRead};
 ghost use Rattle.op_log.specs.Heads.{body_of, head_of, size_of};
 ghost use Rattle.op_log.specs.Kept.{HasBody};
 ghost use Rattle.op_log.specs.Loaded.{AreParts, IsFrontAnd, IsOf};
 ghost use Rattle.op_log.specs.Places.{head_by};
-ghost use Rattle.op_log.specs.Staged.{Grows, Uses};
+ghost use Rattle.op_log.specs.Staged.{Counts, Grows, Uses};
 
 use crate::fault::LogFault;
 use crate::head::{Spelled, size_of};
@@ -20,7 +20,16 @@ use body_log::BodyLog;
 use bytes::Bytes;
 use operation::{Digest, Digested, OpFault, decode};
 use sqlite_disk::Disk;
-use std::alloc::Global;
+use std::alloc::{AllocError, Global};
+
+/// Room for so many bytes.
+fn zeros(alloc: Global, size: usize) -> Result<Vec<u8>, AllocError>
+    ensures { IfOk result (λ room. length room.items ≡ size) }
+{
+    let mut room = Vec::new(alloc);
+    room.resize(size, 0)?;
+    Ok(room)
+}
 
 /// The data set that lies at an offset.
 pub(crate) fn body_at<B: Disk>(
@@ -35,18 +44,17 @@ pub(crate) fn body_at<B: Disk>(
     ensures held { IfOk result (λ read. IsTrue (B.Disk.is_clean (disk_of bodies.new))
         → 0 < size → Holds (B.Disk.seen (disk_of bodies.new)) at read.items) }
     ensures size { IfOk result (λ read. length read.items ≡ size) }
-    ensures whole { (n : ℕ) → ¬ IsErrOf result (LogFault.DamagedBody n) }
-    ensures only { IfErr result IsOfLook }
+    ensures disk { Counts B.Disk (at + size) bodies.old bodies.new result }
+    ensures only { IfErr result IsOfRead }
     ensures seen { B.Disk.seen (disk_of bodies.new) ≡ B.Disk.seen (disk_of bodies.old) }
     ensures end { end_of bodies.new ≡ end_of bodies.old }
     ensures grows { Grows B.Disk bodies.old bodies.new }
     ensures uses { Uses B.Disk bodies.old bodies.new result }
 {
-    let mut body = Vec::new(alloc);
+    let mut body = zeros(alloc, size)?;
     if size == 0 {
         return Ok(body);
     }
-    body.resize(size, 0)?;
     bodies.read(at, body.as_mut_slice())?;
     Ok(body)
 }
@@ -62,8 +70,10 @@ pub(crate) fn lies_at<B: Disk>(
         → AreParts (B.Disk.seen (disk_of bodies.new)) place.now spelled.now }
     ensures other { result ≡ Ok false → IsTrue (B.Disk.is_clean (disk_of bodies.new))
         → AreParts (B.Disk.seen (disk_of bodies.old)) place.now spelled.now → ⊥ }
+    ensures disk { Counts B.Disk (place.now.at + place.now.size) bodies.old bodies.new result }
+    ensures only { IfErr result IsOfRead }
+    ensures seen { B.Disk.seen (disk_of bodies.new) ≡ B.Disk.seen (disk_of bodies.old) }
     ensures end { end_of bodies.new ≡ end_of bodies.old }
-    ensures only { IfErr result IsOfLook }
     ensures grows { Grows B.Disk bodies.old bodies.new }
     ensures uses { Uses B.Disk bodies.old bodies.new result }
 {
@@ -86,8 +96,8 @@ fn text_at<B: Disk>(
         → read.items ≡ place.now.front ++ body) }
     ensures held { IfOk result (λ read. IsTrue (B.Disk.is_clean (disk_of bodies.new))
         → IsFrontAnd (B.Disk.seen (disk_of bodies.old)) place.now read.items) }
-    ensures whole { (n : ℕ) → ¬ IsErrOf result (LogFault.DamagedBody n) }
-    ensures only { IfErr result IsOfLook }
+    ensures disk { Counts B.Disk (place.now.at + place.now.size) bodies.old bodies.new result }
+    ensures only { IfErr result IsOfRead }
     ensures seen { B.Disk.seen (disk_of bodies.new) ≡ B.Disk.seen (disk_of bodies.old) }
     ensures grows { Grows B.Disk bodies.old bodies.new }
     ensures uses { Uses B.Disk bodies.old bodies.new result }
@@ -107,6 +117,7 @@ fn decoded(alloc: Global, text: Vec<u8>, at: usize) -> Result<Digested, LogFault
         → IsOp op → text.items ≢ spelling op }
     ensures place { (n : ℕ) → IsErrOf result (LogFault.DamagedBody n) → n ≡ at }
     ensures open { ¬ IsErrOf result LogFault.Closed }
+    ensures disk { ¬ IsErrOf result LogFault.Disk }
     ensures only { IfErr result IsOfLook }
 {
     match decode(alloc, Bytes::from_vec(text)?) {
@@ -132,6 +143,7 @@ fn is_behind(op: &Digested, long: usize, front: usize) -> bool
 
 /// The operation with a digest that lies at a place. Whatever the disk returns, no other is
 /// answered.
+#[tactic(auto, using(crate::proofs::Faults::read_is_look))]
 pub(crate) fn load_at<B: Disk>(
     alloc: Global,
     bodies: &mut BodyLog<B>,
@@ -151,6 +163,7 @@ pub(crate) fn load_at<B: Disk>(
         → HasBody (B.Disk.seen (disk_of bodies.old)) (op, place.now.at)
         → (n : ℕ) → ¬ IsErrOf result (LogFault.DamagedBody n) }
     ensures place { (n : ℕ) → IsErrOf result (LogFault.DamagedBody n) → n ≡ place.now.at }
+    ensures disk { Counts B.Disk (place.now.at + place.now.size) bodies.old bodies.new result }
     ensures only { IfErr result IsOfLook }
     ensures seen { B.Disk.seen (disk_of bodies.new) ≡ B.Disk.seen (disk_of bodies.old) }
     ensures grows { Grows B.Disk bodies.old bodies.new }

@@ -2,16 +2,17 @@
 
 ghost use Rattle.std.specs.Prelude.{◌≡◌, ◌&&◌, ◌≤◌, ◌<◌, ◌↔◌, List, ℕ, Ok, None, Some, All, Contains, false, length, map, slice_get, IfOk, IfErr, IfSome, IsTrue, IsErrOf, OnOk, OnErr, ◌⊎◌};
 ghost use Rattle.sqlite_disk.specs.Disk.{MoreFaults};
+ghost use Rattle.body_log.specs.Fault.{CountsAs};
 ghost use Rattle.body_log.specs.Lasts.{Stays};
 ghost use Rattle.operation.specs.declared.op.Op.{Op as Operation};
 ghost use Rattle.operation.specs.Reading.{IsOp};
 ghost use Rattle.operation.specs.Spelling.{digest_of};
-ghost use Rattle.op_log.specs.Fault.{IsOfLook, IsOfOpen};
+ghost use Rattle.op_log.specs.Fault.{IsOfLook, IsOfOpen, IsOfPut};
 ghost use Rattle.op_log.specs.Heads.{Entry, Head};
 ghost use Rattle.op_log.specs.Kept.{Has, HasBody, IsHeld, IsKept, IsLasting, KeepsHeads, StandsFor, first_under};
 ghost use Rattle.op_log.specs.Loaded.{HasBadHead, Lists};
 ghost use Rattle.op_log.specs.Log.{GoesOn, IsSound, IsTooLong, Looks};
-ghost use Rattle.op_log.specs.Puts.{LeavesAllOrNone, PutsAll};
+ghost use Rattle.op_log.specs.Puts.{ComesToClash, LeavesAllOrNone, PutsAll};
 ghost use Rattle.op_log.specs.Records.{head_in};
 ghost use Rattle.op_log.specs.Verified.{damaged_in, digests_of, is_whole as is_whole_in};
 ghost use Rattle.op_log.specs.Walking.{AreOfLog};
@@ -187,11 +188,17 @@ impl<H: Disk, B: Disk> OpLog<H, B> {
             → LeavesAllOrNone H.Disk B.Disk self.new.heads self.new.bodies self.new.bodies_end
             self.old.places ops.now }
         ensures goes_on { GoesOn H.Disk B.Disk self.old self.new }
-        // Closed, exactly where it is; and a longer group is not begun.
+        // Each fault, only where it is; and a group that is longer is not begun.
         ensures closed { IsErrOf result LogFault.Closed ↔ (self.old.is_open ≡ false) }
         ensures many { IsTrue self.old.is_open → 1024 < length ops.now
             → IsErrOf result LogFault.TooLong × (self.new ≡ self.old) }
         ensures too_long { IsErrOf result LogFault.TooLong → IsTooLong self.old ops.now }
+        ensures disk { IsErrOf result LogFault.Disk
+            → MoreFaults (H.Disk.faults self.old.heads) (H.Disk.faults self.new.heads)
+            ⊎ MoreFaults (B.Disk.faults self.old.bodies) (B.Disk.faults self.new.bodies) }
+        ensures collision { IsErrOf result LogFault.Collision → ComesToClash B.Disk self.new.bodies
+            self.new.bodies_end self.old.places ops.now }
+        ensures only { IfErr result IsOfPut }
     {
         if !self.is_open() {
             return Err(LogFault::Closed);
@@ -234,6 +241,8 @@ impl<H: Disk, B: Disk> OpLog<H, B> {
             → HasBadHead (B.Disk.seen self.old.bodies) self.old.places n }
         ensures closed { IsErrOf result LogFault.Closed
             → B.Disk.is_usable self.old.bodies ≡ false }
+        ensures disk { CountsAs LogFault.Disk result
+            (B.Disk.faults self.old.bodies) (B.Disk.faults self.new.bodies) }
         ensures only { IfErr result IsOfLook }
     {
         let Some(place) = self.places.find(digest) else {
@@ -264,6 +273,8 @@ impl<H: Disk, B: Disk> OpLog<H, B> {
             → HasBadHead (B.Disk.seen self.old.bodies) self.old.places n }
         ensures closed { IsErrOf result LogFault.Closed
             → B.Disk.is_usable self.old.bodies ≡ false }
+        ensures disk { CountsAs LogFault.Disk result
+            (B.Disk.faults self.old.bodies) (B.Disk.faults self.new.bodies) }
         ensures only { IfErr result IsOfLook }
     {
         all_ops(alloc, &mut self.bodies, &self.places)
@@ -271,6 +282,7 @@ impl<H: Disk, B: Disk> OpLog<H, B> {
 
     /// The digests of the operations whose data sets are none of theirs, in the order of their
     /// heads. Each is read and hashed.
+    #[tactic(auto, using(crate::proofs::Faults::read_is_look))]
     pub fn verify(&mut self) -> Result<Vec<Digest>, LogFault>
         ensures exact { IfOk result (λ damaged. IsTrue (B.Disk.is_clean self.new.bodies)
             → damaged.items
@@ -281,13 +293,17 @@ impl<H: Disk, B: Disk> OpLog<H, B> {
         // Each fault, only where it is. A data set that is none is no fault here.
         ensures closed { IsErrOf result LogFault.Closed
             → B.Disk.is_usable self.old.bodies ≡ false }
+        ensures disk { CountsAs LogFault.Disk result
+            (B.Disk.faults self.old.bodies) (B.Disk.faults self.new.bodies) }
         ensures whole { (n : ℕ) → ¬ IsErrOf result (LogFault.DamagedBody n) }
         ensures only { IfErr result IsOfLook }
     {
         damaged(&mut self.bodies, &self.places)
     }
+
     /// Whether the operation at an index, in the order in which they were put, has its digest: its
     /// data set is read and hashed. At an index behind the last nothing is amiss.
+    #[tactic(auto, using(crate::proofs::Faults::read_is_look))]
     pub fn is_whole(&mut self, index: usize) -> Result<bool, LogFault>
         ensures exact { IfOk result (λ whole. IsTrue (B.Disk.is_clean self.new.bodies) → (h : Head)
             → slice_get self.old.places index ≡ Some h
@@ -301,6 +317,8 @@ impl<H: Disk, B: Disk> OpLog<H, B> {
         // Each fault, only where it is. A data set that is none is no fault here.
         ensures closed { IsErrOf result LogFault.Closed
             → B.Disk.is_usable self.old.bodies ≡ false }
+        ensures disk { CountsAs LogFault.Disk result
+            (B.Disk.faults self.old.bodies) (B.Disk.faults self.new.bodies) }
         ensures whole { (n : ℕ) → ¬ IsErrOf result (LogFault.DamagedBody n) }
         ensures only { IfErr result IsOfLook }
     {

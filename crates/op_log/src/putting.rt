@@ -1,13 +1,16 @@
 //! Puts a group into both files.
 
-ghost use Rattle.std.specs.Prelude.{◌≡◌, ◌&&◌, ◌⊎◌, ◌<◌, ◌≤◌, ◌+◌, ◌^◌, length, [], All, List, false, IfOk, IsTrue, IsErrOf, OnOk, OnErr};
+ghost use Rattle.std.specs.Prelude.{◌≡◌, ◌&&◌, ◌⊎◌, ◌<◌, ◌≤◌, ◌+◌, ◌^◌, length, [], All, List, false, IfOk, IfErr, IsTrue, IsErrOf, OnOk, OnErr};
+ghost use Rattle.sqlite_disk.specs.Disk.{MoreFaults};
+ghost use Rattle.body_log.specs.Fault.{CountsAs};
 ghost use Rattle.body_log.specs.Log.{disk_of, end_of};
 ghost use Rattle.head_log.specs.Log.{is_up};
 ghost use Rattle.head_log.specs.Log.{disk_of as heads_of, end_of as heads_end};
+ghost use Rattle.op_log.specs.Fault.{IsOfPut, IsOfWrite};
 ghost use Rattle.op_log.specs.Heads.{Entry, Head, IsSpelled, bodies_long, heads_long};
 ghost use Rattle.op_log.specs.Kept.{IsBelow, IsHeld, IsKept, IsLasting};
-ghost use Rattle.op_log.specs.Puts.{LeavesAllOrNone, LeavesEither, PutsAll};
-ghost use Rattle.op_log.specs.Staged.{Grows, HasHeads, KeepsPlaces};
+ghost use Rattle.op_log.specs.Puts.{ComesToClash, LeavesAllOrNone, LeavesEither, PutsAll};
+ghost use Rattle.op_log.specs.Staged.{Grows, HasHeads, KeepsPlaces, Reaches};
 
 use crate::fault::LogFault;
 use crate::kept::Kept;
@@ -35,6 +38,9 @@ fn add_heads<H: Disk>(heads: &mut HeadLog<H>, text: &[u8]) -> Result<(), LogFaul
     ensures closed { IsErrOf result LogFault.Closed → is_up H.Disk heads.old ≡ false }
     ensures too_long { IsErrOf result LogFault.TooLong
         → (2 ^ 40 ≤ length text.now) ⊎ (2 ^ 60 < heads_end heads.old) }
+    ensures disk { CountsAs LogFault.Disk result
+        (H.Disk.faults (heads_of heads.old)) (H.Disk.faults (heads_of heads.new)) }
+    ensures only { IfErr result IsOfWrite }
     ensures clean { IsTrue (H.Disk.is_clean (heads_of heads.new))
         → IsTrue (H.Disk.is_clean (heads_of heads.old)) }
 {
@@ -47,6 +53,7 @@ fn add_heads<H: Disk>(heads: &mut HeadLog<H>, text: &[u8]) -> Result<(), LogFaul
 
 /// Puts operations one after another: the data sets of what is new, and then, in one group, the
 /// heads. On a refusal heads in memory may be left behind those from before.
+#[tactic(auto, using(crate::proofs::Faults::write_is_put))]
 pub(crate) fn put_group<H: Disk, B: Disk>(
     heads: &mut HeadLog<H>,
     bodies: &mut BodyLog<B>,
@@ -74,6 +81,12 @@ pub(crate) fn put_group<H: Disk, B: Disk>(
     ensures too_long { IsErrOf result LogFault.TooLong → (2 ^ 40 ≤ heads_long ops.now)
         ⊎ ((2 ^ 60 < heads_end heads.old)
         ⊎ (2 ^ 64 ≤ end_of bodies.old + bodies_long ops.now)) }
+    ensures disk { IsErrOf result LogFault.Disk → Reaches B.Disk bodies.old (end_of bodies.old)
+        → MoreFaults (H.Disk.faults (heads_of heads.old)) (H.Disk.faults (heads_of heads.new))
+        ⊎ MoreFaults (B.Disk.faults (disk_of bodies.old)) (B.Disk.faults (disk_of bodies.new)) }
+    ensures collision { IsErrOf result LogFault.Collision → ComesToClash B.Disk (disk_of bodies.new)
+        (end_of bodies.new) places.old ops.now }
+    ensures only { IfErr result IsOfPut }
     ensures clean { IsTrue (H.Disk.is_clean (heads_of heads.new))
         → IsTrue (H.Disk.is_clean (heads_of heads.old)) }
 {

@@ -1,13 +1,14 @@
 //! Writes the data sets of operations, and gathers their heads.
 
-ghost use Rattle.std.specs.Prelude.{◌≡◌, ◌++◌, ◌∷◌, [], ◌<◌, ◌≤◌, ◌+◌, ◌^◌, None, OnOk, IfOk, OnErr, IsErrOf, All, List, false, length, IsTrue};
+ghost use Rattle.std.specs.Prelude.{◌≡◌, ◌++◌, ◌∷◌, [], ◌<◌, ◌≤◌, ◌+◌, ◌^◌, None, OnOk, IfOk, IfErr, OnErr, IsErrOf, All, List, false, length, IsTrue};
 ghost use Rattle.sqlite_disk.specs.Disk.{Holds};
 ghost use Rattle.body_log.specs.Log.{disk_of, end_of};
+ghost use Rattle.op_log.specs.Fault.{IsOfPut, IsOfWrite};
 ghost use Rattle.op_log.specs.Heads.{Head, IsSpelled, bodies_long, body_of, front_of, group_text, head_text, heads_long};
 ghost use Rattle.op_log.specs.Kept.{IsBelow, first_under};
-ghost use Rattle.op_log.specs.Puts.{Puts};
+ghost use Rattle.op_log.specs.Puts.{Clashes, ClashesParts, ComesToClash, Puts};
 ghost use Rattle.op_log.specs.Spelled.{head_spelled};
-ghost use Rattle.op_log.specs.Staged.{AreSettled, AreStaged, Grows, HasHeads, IsStaged, IsWithin, KeepsPlaces, Uses};
+ghost use Rattle.op_log.specs.Staged.{AreSettled, AreStaged, Counts, Grows, HasHeads, IsStaged, IsWithin, KeepsPlaces, Uses};
 
 use crate::fault::LogFault;
 use crate::group::Group;
@@ -30,6 +31,8 @@ fn add_body<B: Disk>(bodies: &mut BodyLog<B>, body: &[u8]) -> Result<usize, LogF
     ensures within { IsWithin bodies.old bodies.new (length body.now) result }
     ensures grows { Grows B.Disk bodies.old bodies.new }
     ensures uses { Uses B.Disk bodies.old bodies.new result }
+    ensures disk { Counts B.Disk (end_of bodies.old) bodies.old bodies.new result }
+    ensures only { IfErr result IsOfWrite }
 {
     if body.is_empty() {
         return Ok(bodies.end());
@@ -60,6 +63,8 @@ fn add_new<B: Disk>(
     ensures kepts { group.new.kepts.items ≡ group.old.kepts.items }
     ensures grows { Grows B.Disk bodies.old bodies.new }
     ensures uses { Uses B.Disk bodies.old bodies.new result }
+    ensures disk { Counts B.Disk (end_of bodies.old) bodies.old bodies.new result }
+    ensures only { IfErr result IsOfWrite }
 {
     let at = add_body(bodies, spelled.body)?;
     put_head(&mut group.text, spelled, at)?;
@@ -73,6 +78,7 @@ fn add_new<B: Disk>(
 }
 
 /// Finds the operation of these parts, or adds it.
+#[tactic(auto, using(crate::proofs::Faults::read_is_put, crate::proofs::Faults::write_is_put))]
 fn stage_parts<B: Disk>(
     bodies: &mut BodyLog<B>,
     places: &mut Places,
@@ -92,6 +98,11 @@ fn stage_parts<B: Disk>(
     ensures kepts { group.new.kepts.items ≡ group.old.kepts.items }
     ensures grows { Grows B.Disk bodies.old bodies.new }
     ensures uses { Uses B.Disk bodies.old bodies.new result }
+    ensures disk { Counts B.Disk (end_of bodies.old) bodies.old bodies.new result }
+    ensures collision { IsErrOf result LogFault.Collision → ClashesParts B.Disk (disk_of bodies.new)
+        (end_of bodies.new) spelled.now.digest.now spelled.now.front.now spelled.now.body.now
+        places.old }
+    ensures only { IfErr result IsOfPut }
 {
     let Some(place) = places.find(spelled.digest) else {
         add_new(bodies, places, group, spelled)?;
@@ -123,6 +134,10 @@ fn stage_one<B: Disk>(
     ensures kepts { group.new.kepts.items ≡ group.old.kepts.items }
     ensures grows { Grows B.Disk bodies.old bodies.new }
     ensures uses { Uses B.Disk bodies.old bodies.new result }
+    ensures disk { Counts B.Disk (end_of bodies.old) bodies.old bodies.new result }
+    ensures collision { IsErrOf result LogFault.Collision → Clashes B.Disk (disk_of bodies.new)
+        (end_of bodies.new) op.now places.old }
+    ensures only { IfErr result IsOfPut }
 {
     let text = encode(group.alloc, op.op())?;
     let cut = text.len().saturating_sub(size_of(op.op()));
@@ -151,6 +166,10 @@ fn stage_each<B: Disk>(
     ensures places { KeepsPlaces B.Disk bodies.old bodies.new places.old places.new }
     ensures grows { Grows B.Disk bodies.old bodies.new }
     ensures uses { Uses B.Disk bodies.old bodies.new result }
+    ensures disk { Counts B.Disk (end_of bodies.old) bodies.old bodies.new result }
+    ensures collision { IsErrOf result LogFault.Collision → ComesToClash B.Disk (disk_of bodies.new)
+        (end_of bodies.new) places.old ops.now }
+    ensures only { IfErr result IsOfPut }
 {
     match ops {
         [] => Ok(()),
@@ -178,6 +197,10 @@ pub(crate) fn stage<B: Disk>(
     ensures grows { Grows B.Disk bodies.old bodies.new }
     ensures closed { IsErrOf result LogFault.Closed
         → B.Disk.is_usable (disk_of bodies.old) ≡ false }
+    ensures disk { Counts B.Disk (end_of bodies.old) bodies.old bodies.new result }
+    ensures collision { IsErrOf result LogFault.Collision → ComesToClash B.Disk (disk_of bodies.new)
+        (end_of bodies.new) places.old ops.now }
+    ensures only { IfErr result IsOfPut }
     ensures usable { OnOk result (IsTrue (B.Disk.is_usable (disk_of bodies.new))) }
 {
     let alloc = places.alloc();

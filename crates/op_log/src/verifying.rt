@@ -1,11 +1,12 @@
 //! Tests each data set against the digest of its operation.
 
-ghost use Rattle.std.specs.Prelude.{◌≡◌, ◌++◌, ℕ, IfOk, IfErr, IsErrOf, IsTrue};
-ghost use Rattle.body_log.specs.Log.{disk_of};
+ghost use Rattle.std.specs.Prelude.{◌≡◌, ◌++◌, ◌+◌, All, IfOk, IfErr, IsTrue};
+ghost use Rattle.body_log.specs.Log.{disk_of, end_of};
 ghost use Rattle.sha2.specs.Sha256.{sha256};
-ghost use Rattle.op_log.specs.Fault.{IsOfLook};
+ghost use Rattle.op_log.specs.Fault.{IsOfRead};
+ghost use Rattle.op_log.specs.Kept.{IsBelow};
 ghost use Rattle.op_log.specs.Places.{head_by};
-ghost use Rattle.op_log.specs.Staged.{Grows, Uses};
+ghost use Rattle.op_log.specs.Staged.{Counts, Grows, Uses};
 ghost use Rattle.op_log.specs.Verified.{damaged_in, digests_of, is_whole};
 
 use crate::fault::LogFault;
@@ -37,8 +38,8 @@ pub(crate) fn is_whole<B: Disk>(
 ) -> Result<bool, LogFault>
     ensures exact { IfOk result (λ whole. IsTrue (B.Disk.is_clean (disk_of bodies.new))
         → whole ≡ is_whole (B.Disk.seen (disk_of bodies.old)) (head_by digest.now place.now)) }
-    ensures whole { (n : ℕ) → ¬ IsErrOf result (LogFault.DamagedBody n) }
-    ensures only { IfErr result IsOfLook }
+    ensures disk { Counts B.Disk (place.now.at + place.now.size) bodies.old bodies.new result }
+    ensures only { IfErr result IsOfRead }
     ensures seen { B.Disk.seen (disk_of bodies.new) ≡ B.Disk.seen (disk_of bodies.old) }
     ensures grows { Grows B.Disk bodies.old bodies.new }
     ensures uses { Uses B.Disk bodies.old bodies.new result }
@@ -56,8 +57,9 @@ pub(crate) fn damaged<B: Disk>(
 ) -> Result<Vec<Digest>, LogFault>
     ensures exact { IfOk result (λ damaged. IsTrue (B.Disk.is_clean (disk_of bodies.new))
         → damaged.items ≡ digests_of (damaged_in (B.Disk.seen (disk_of bodies.old)) places.now)) }
-    ensures whole { (n : ℕ) → ¬ IsErrOf result (LogFault.DamagedBody n) }
-    ensures only { IfErr result IsOfLook }
+    ensures disk { All (IsBelow (end_of bodies.old)) places.now
+        → Counts B.Disk (end_of bodies.old) bodies.old bodies.new result }
+    ensures only { IfErr result IsOfRead }
     ensures grows { Grows B.Disk bodies.old bodies.new }
     ensures uses { Uses B.Disk bodies.old bodies.new result }
 {

@@ -1,13 +1,16 @@
-use Rattle.std.proofs.Common.{rules, ◌++◌, ◌∷◌, [], ℕ, List, map, take, subst, sym, ap, ◌∙◌}
-use Rattle.body_log.specs.Log.{disk_of}
+use Rattle.std.proofs.Common.{rules, ◌+◌, ◌++◌, ◌∷◌, [], ℕ, List, map, take, subst, sym, ap, ◌∙◌}
+use Rattle.std.proofs.lemmas.List.Elements.{All-contains}
+use Rattle.sqlite_disk.specs.Disk.{MoreFaults}
+use Rattle.body_log.specs.Log.{disk_of, end_of}
 use Rattle.operation.specs.declared.op.Op.{Op}
 use Rattle.operation.specs.Spelling.{digest_of}
 use Rattle.op_log.specs.Heads.{Head}
-use Rattle.op_log.specs.Kept.{HasBody}
+use Rattle.op_log.specs.Kept.{HasBody, IsBelow}
 use Rattle.op_log.specs.Loaded.{IsOf, Lists}
 use Rattle.op_log.specs.Places.{head_by}
 use Rattle.op_log.specs.Verified.{digests_of}
-use Rattle.op_log.proofs.Growing.{grows_twice}
+use Rattle.op_log.proofs.Faults.{counts_on}
+use Rattle.op_log.proofs.Growing.{grows_twice, reaches_head}
 use Rattle.op_log.proofs.Lists.{at_among, lists_more, told_more}
 use Rattle.op_log.proofs.TestedBodies.{take_more}
 use Rattle.op_log.proofs.listing.all_ops.Goals as goal
@@ -24,6 +27,20 @@ returns-in_err-op-clause-damaged g c clean n told =
       none = λ op it. c.load_at.ensures.damaged clean op it.lawful (ap (λ (d : List ℕ). head_by d place) c.of.ensures ∙ it.head)
           (subst (λ (f : List ℕ). HasBody f (op, place.at)) (sym seen) it.held) n (search rules);
     }
+
+-- The data set lies below the end, and so far no call was refused.
+pub returns-in_err-op-clause-disk : goal.returns-in_err-op-clause-disk
+returns-in_err-op-clause-disk g c below =
+    let inv = c.places.invariant in
+    let old = c.args.bodies.now in
+    let mid = c.places.bodies in
+    let new = c.load_at.new.bodies in
+    let heads = c.args.places.now in
+    let h = head_by c.in-Some.bytes.now c.in-Some.place.now in
+    let low = All-contains (IsBelow (end_of old)) heads h below (at_among heads c.places.index h c.in-Some.ensures.found) in
+    counts_on c.from_residual-in_err-op.result c.in_err-op.field-0.0 (g.B.Disk.faults (disk_of old)) (g.B.Disk.faults (disk_of new)) c.from_residual-in_err-op.ensures.1 λ told reach.
+    subst (λ (n : ℕ). MoreFaults n (g.B.Disk.faults (disk_of new))) inv.calm
+    (c.in_err-op.ensures.disk told (reaches_head g.B.Disk old mid inv.grows (h.at + h.size) low reach))
 
 -- A read writes nothing.
 pub returns-in_err-op-clause-grows : goal.returns-in_err-op-clause-grows
@@ -50,6 +67,7 @@ places-preserved g c =
       grows = grows_twice g.B.Disk c.args.bodies.now c.places.bodies c.load_at.new.bodies inv.grows c.load_at.ensures.grows;
       seen = c.load_at.ensures.seen ∙ inv.seen;
       usable = c.load_at.ensures.uses.usable ∙ inv.usable;
+      calm = c.in_ok-op.ensures.disk ∙ inv.calm;
       told = ap (λ (ops : List Op). map digest_of ops) items
           ∙ told_more (take c.places.index heads) c.places.ops.items h op inv.told (c.in_ok-op.ensures.told ∙ c.of.ensures)
           ∙ ap digests_of (sym more);

@@ -14,6 +14,7 @@ invariant-places g l =
       grows : Grows d l.fn.bodies l.bodies;
       seen : d.seen (disk_of l.bodies) ≡ d.seen (disk_of l.fn.bodies);
       usable : d.is_usable (disk_of l.bodies) ≡ d.is_usable (disk_of l.fn.bodies);
+      calm : d.faults (disk_of l.bodies) ≡ d.faults (disk_of l.fn.bodies);
       told : map digest_of l.ops.items ≡ digests_of (take l.index l.places);
       all : IsTrue (d.is_clean (disk_of l.bodies)) → Lists (d.seen (disk_of l.fn.bodies)) (take l.index l.places) l.ops.items;
     }

@@ -1,17 +1,23 @@
-use Rattle.std.proofs.Common.{rules, ◌≡◌, ◌-◌, ℕ, true, length, sym, ap, ◌∙◌, arith}
+use Rattle.std.proofs.Common.{rules, ◌≡◌, ◌-◌, ℕ, true, length, sym, subst, ap, ◌∙◌, arith}
 use Rattle.body_log.specs.Log.{disk_of}
 use Rattle.operation.specs.declared.op.Op.{Op}
 use Rattle.operation.specs.Spelling.{spelling}
 use Rattle.operation.specs.Spelling.{digest_of}
+use Rattle.op_log.specs.Fault.{IsOfRead}
+use Rattle.op_log.specs.declared.fault.LogFault.TheVariants.{DamagedBody}
 use Rattle.op_log.specs.Heads.{Head, body_of, size_of}
+use Rattle.op_log.proofs.Faults.{told_is}
 use Rattle.op_log.proofs.Lists.{front_long, is_of}
 use Rattle.op_log.proofs.Spellings.{same_op, spelled}
 use Rattle.op_log.proofs.loading.load_at.Goals as goal
 
--- What is read is front and data set of the operation, so its spelling.
+-- A read tells no damage.
 pub returns-in_err-text-clause-damaged : goal.returns-in_err-text-clause-damaged
-returns-in_err-text-clause-damaged g c clean op lawful head has n told = c.text_at.ensures.whole n (search rules)
+returns-in_err-text-clause-damaged g c clean op lawful head has n told =
+    let is = told_is c.from_residual.result c.in_err-text.field-0.0 (DamagedBody n) c.from_residual.ensures.1 told in
+    subst IsOfRead is c.in_err-text.ensures.only
 
+-- What is read is front and data set of the operation, so its spelling.
 pub returns-in_err-op-clause-damaged : goal.returns-in_err-op-clause-damaged
 returns-in_err-op-clause-damaged g c clean op lawful head has n told =
     let size = ap (λ (h : Head). h.size) head in

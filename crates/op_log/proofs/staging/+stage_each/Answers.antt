@@ -1,10 +1,12 @@
-use Rattle.std.proofs.Common.{arith, ◌++◌, ◌∷◌, [], ◌-◌, List, ap, take, drop, length, subst, ◌∙◌}
+use Rattle.std.proofs.Common.{arith, ◌++◌, ◌∷◌, [], ◌-◌, List, inr, ap, take, drop, length, subst, ◌∙◌}
 use Rattle.std.proofs.lemmas.Result.{on_ok_weaker}
+use Rattle.body_log.specs.Log.{disk_of, end_of}
 use Rattle.operation.specs.declared.op.Op.{Op}
 use Rattle.op_log.specs.declared.kept.Kept.{Kept}
 use Rattle.op_log.specs.Heads.{bodies_long, heads_long}
+use Rattle.op_log.specs.Puts.{ComesToClash}
 use Rattle.op_log.specs.Staged.{AreStaged}
-use Rattle.op_log.proofs.Growing.{grows_twice, places_twice, split_first, staged_more}
+use Rattle.op_log.proofs.Growing.{grows_twice, places_twice, puts_on, split_first, staged_more}
 use Rattle.op_log.proofs.staging.+stage_each.Goals as goal
 
 -- The first was put before the others, which leave its data set alone.
@@ -23,6 +25,19 @@ pub returns-in_ok-push-in-len1-up-clause-places : goal.returns-in_ok-push-in-len
 returns-in_ok-push-in-len1-up-clause-places g t c =
     places_twice g.B.Disk c.args.bodies.now c.stage_one.new.bodies c.stage_each.new.bodies c.args.places.now c.stage_one.new.places
     c.stage_each.new.places c.stage_one.ensures.places c.stage_each.ensures.places
+
+-- The first was put, and then one of the others clashes.
+pub returns-in_ok-push-in-len1-up-clause-collision : goal.returns-in_ok-push-in-len1-up-clause-collision
+returns-in_ok-push-in-len1-up-clause-collision g t c told =
+    let first = c.in_ok-kept-in-len1-up in
+    let ops = c.args.ops.now in
+    let old = c.args.places.now in
+    let mid = c.stage_one.new.places in
+    let new = c.stage_each.new.bodies in
+    let put = puts_on g.B.Disk c.stage_one.new.bodies new c.stage_each.ensures.grows c.op-item.result first.kept old mid first.ensures.put in
+    subst (λ (os : List Op). ComesToClash g.B.Disk (disk_of new) (end_of new) old os)
+    (split_first c.op-item.result ops c.in-len1-up.len_at_least c.op-item.is)
+    (inr (first.kept, mid, put, c.stage_each.ensures.collision told))
 
 -- Heads and data sets of both are as long as those of all.
 pub returns-in_ok-push-in-len1-up-clause-long : goal.returns-in_ok-push-in-len1-up-clause-long

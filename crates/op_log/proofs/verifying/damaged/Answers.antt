@@ -1,12 +1,31 @@
-use Rattle.std.proofs.Common.{◌++◌, ◌∷◌, [], List, ℕ, Bool, cond, take, sym, ap, ◌∙◌}
+use Rattle.std.proofs.Common.{◌+◌, ◌++◌, ◌∷◌, [], List, ℕ, Bool, cond, take, sym, subst, ap, ◌∙◌}
 use Rattle.std.proofs.lemmas.List.{append-nil}
-use Rattle.body_log.specs.Log.{disk_of}
+use Rattle.std.proofs.lemmas.List.Elements.{All-contains}
+use Rattle.sqlite_disk.specs.Disk.{MoreFaults}
+use Rattle.body_log.specs.Log.{disk_of, end_of}
+use Rattle.op_log.specs.Kept.{IsBelow}
 use Rattle.op_log.specs.Places.{head_by}
 use Rattle.op_log.specs.Verified.{damaged_in, digests_of, is_whole}
-use Rattle.op_log.proofs.Growing.{grows_twice}
+use Rattle.op_log.proofs.Faults.{counts_on}
+use Rattle.op_log.proofs.Growing.{grows_twice, reaches_head}
+use Rattle.op_log.proofs.Lists.{at_among}
 use Rattle.op_log.proofs.TestedBodies.{tested_more}
 use Rattle.op_log.proofs.verifying.damaged.Goals.{then-not-branch+in_ok-push, else-not-branch}
 use Rattle.op_log.proofs.verifying.damaged.Goals as goal
+
+-- The data set lies below the end, and so far no call was refused.
+pub returns-in_err-is_whole-clause-disk : goal.returns-in_err-is_whole-clause-disk
+returns-in_err-is_whole-clause-disk g c below =
+    let inv = c.places.invariant in
+    let old = c.args.bodies.now in
+    let mid = c.places.bodies in
+    let new = c.is_whole.new.bodies in
+    let heads = c.args.places.now in
+    let h = head_by c.in-Some.bytes.now c.in-Some.place.now in
+    let low = All-contains (IsBelow (end_of old)) heads h below (at_among heads c.places.index h c.in-Some.ensures.found) in
+    counts_on c.from_residual.result c.in_err-is_whole.field-0.0 (g.B.Disk.faults (disk_of old)) (g.B.Disk.faults (disk_of new)) c.from_residual.ensures.1 λ told reach.
+    subst (λ (n : ℕ). MoreFaults n (g.B.Disk.faults (disk_of new))) inv.calm
+    (c.in_err-is_whole.ensures.disk told (reaches_head g.B.Disk old mid inv.grows (h.at + h.size) low reach))
 
 -- A read writes nothing.
 pub returns-in_err-is_whole-clause-grows : goal.returns-in_err-is_whole-clause-grows
@@ -29,6 +48,7 @@ places-preserved g c =
       grows = grows_twice g.B.Disk c.args.bodies.now c.places.bodies c.is_whole.new.bodies inv.grows c.is_whole.ensures.grows;
       seen = c.is_whole.ensures.seen ∙ inv.seen;
       usable = c.is_whole.ensures.uses.usable ∙ inv.usable;
+      calm = c.in_ok-is_whole.ensures.disk ∙ inv.calm;
       tested = λ clean.
           let before = inv.tested (c.is_whole.ensures.grows.spared.clean clean) in
           let more = tested_more file heads c.places.index h c.in-Some.ensures.found in

@@ -12,5 +12,6 @@ invariant-places g l =
       grows : Grows d l.fn.bodies l.bodies;
       seen : d.seen (disk_of l.bodies) ≡ d.seen (disk_of l.fn.bodies);
       usable : d.is_usable (disk_of l.bodies) ≡ d.is_usable (disk_of l.fn.bodies);
+      calm : d.faults (disk_of l.bodies) ≡ d.faults (disk_of l.fn.bodies);
       tested : IsTrue (d.is_clean (disk_of l.bodies)) → l.damaged.items ≡ digests_of (damaged_in (d.seen (disk_of l.fn.bodies)) (take l.index l.places));
     }

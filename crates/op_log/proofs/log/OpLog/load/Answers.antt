@@ -1,11 +1,15 @@
-use Rattle.std.proofs.Common.{rules, Contains, ℕ, List, Some, subst, sym, ap, ◌∙◌, arith}
+use Rattle.std.proofs.Common.{rules, ◌+◌, Contains, ℕ, List, Some, subst, sym, ap, ◌∙◌, arith}
 use Rattle.std.proofs.lemmas.List.Elements.{All-contains_itself}
-use Rattle.body_log.specs.Log.{end_of}
+use Rattle.body_log.specs.Log.{disk_of, end_of}
+use Rattle.body_log.specs.Fault.{CountsAs}
+use Rattle.op_log.specs.declared.fault.LogFault.TheVariants.{Disk}
 use Rattle.op_log.specs.Heads.{Head}
 use Rattle.op_log.specs.Kept.{Has, IsBelow, first_under}
 use Rattle.op_log.specs.Loaded.{HasBadHead}
 use Rattle.op_log.specs.Log.{Opened}
 use Rattle.op_log.specs.Places.{head_by}
+use Rattle.op_log.proofs.Faults.{counts_as}
+use Rattle.op_log.proofs.Growing.{reaches_less}
 use Rattle.op_log.proofs.Lookups.{among}
 use Rattle.op_log.proofs.log.OpLog.load.Goals as goal
 
@@ -23,6 +27,17 @@ returns-in_err-op-clause-bad g c clean n told =
       place = sym at;
       none = λ op it. bad op it.lawful it.head it.held n (search rules);
     })
+
+-- The data set lies below the end of its file.
+pub returns-in_err-op-clause-disk : goal.returns-in_err-op-clause-disk
+returns-in_err-op-clause-disk g c =
+    let bodies = c.self.inside.bodies in
+    let h = head_by c.args.digest.now c.in-Some.place.now in
+    let low = among (IsBelow (end_of bodies)) c.self.inside.places c.args.digest.now h c.in-Some.ensures.found c.self.invariant.below in
+    let new = g.B.Disk.faults (disk_of c.load_at.new.bodies) in
+    subst (λ (o : Opened g.row.H.Denot g.row.B.Denot). CountsAs Disk c.from_residual.result (g.B.Disk.faults o.bodies) new) c.self.view_is
+    (counts_as c.from_residual.result c.in_err-op.field-0.0 (g.B.Disk.faults (disk_of bodies)) new c.from_residual.ensures.1
+    λ told. c.in_err-op.ensures.disk told (reaches_less g.B.Disk bodies (h.at + h.size) low c.self.invariant.reach))
 
 -- What was read is the operation of the first head with the digest.
 pub returns-clause-found : goal.returns-clause-found
