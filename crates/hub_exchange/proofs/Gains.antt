@@ -10,8 +10,9 @@ use Rattle.operation.specs.declared.taken.Taken.TheVariants.{New, Known}
 use Rattle.operation.specs.Spelling.{digest_of}
 use Rattle.site_state.specs.Site.{Map, held_at, with_op, digest_cmp}
 use Rattle.exchange.specs.declared.fault.HolderFault.{HolderFault}
-use Rattle.exchange.specs.Held.{TakesAlone}
-use Rattle.hub_exchange.specs.Putting.{GainsOnly, HaveGoneOn}
+use Rattle.exchange.specs.Held.{TakesAlone, RefusesTake}
+use Rattle.op_shelf.specs.declared.fault.ShelfFault.{ShelfFault}
+use Rattle.hub_exchange.specs.Putting.{GainsOnly, HaveGoneOn, RefusesOnShelf}
 
 -- a site that stays gains nothing
 pub gains_same : (these : Op → Type 0) (before after : Map) → after ≡ before → GainsOnly these before after
@@ -52,11 +53,12 @@ gains_taken these before after op (Ok New) takes is =
 gains_taken these before after op (Ok Known) takes is = gains_same these before after takes.1
 gains_taken these before after op (Err fault) takes is = gains_same these before after takes
 
--- what is refused changes nothing
-pub refused_same : (before after : Map) (op : Op) (answer : Result Taken HolderFault) → TakesAlone before op answer after
-    → IfErr answer (λ _. after ≡ before)
-refused_same before after op (Ok taken) takes = tt
-refused_same before after op (Err fault) takes = takes
+-- what the site refused, which changes nothing
+pub refused_on_shelf : {K : Type 0} (refuses : K → K → Op → ShelfFault → Type 0) (before after : Map) (op : Op)
+    (answer : Result Taken HolderFault) → TakesAlone before op answer after → IfErr answer (RefusesTake before op)
+    → IfErr answer (RefusesOnShelf refuses before after op)
+refused_on_shelf refuses before after op (Ok taken) takes why = tt
+refused_on_shelf refuses before after op (Err fault) takes why = record { same = takes; why = inr why }
 
 module _ {K : Type 0} (is_up : K → Type 0) (lasts : K → Op → Type 0) (lasted : Op → Type 0) (first : Map) where
   -- nothing has happened yet

@@ -6,12 +6,14 @@ use Rattle.operation.specs.declared.op.Op.{Op}
 use Rattle.operation.specs.Spelling.{digest_of}
 use Rattle.operation.specs.declared.taken.Taken.{Taken}
 use Rattle.operation.specs.declared.taken.Taken.TheVariants.{New, Known}
+use Rattle.op_shelf.specs.declared.fault.ShelfFault.{ShelfFault}
 use Rattle.site_state.specs.Site.{Map, held_at}
 use Rattle.site_hub.specs.declared.entry.Entry.{Entry}
 use Rattle.site_hub.specs.declared.fault.HubFault.{HubFault}
 use Rattle.site_hub.specs.declared.fault.HubFault.TheVariants as hub
 use Rattle.site_hub.specs.History.{set_of, entry_of, IsHistory}
 use Rattle.site_hub.specs.Hub.{Seat, News, IsTaken, IsLater, HasLooked}
+use Rattle.site_hub.specs.Refused.{Tells}
 use Rattle.site_hub.specs.Taking.{Takes, Refuses}
 use Rattle.site_hub.proofs.Histories.{set_of_more, stays, history_is_site}
 use Rattle.exchange.specs.declared.fault.HolderFault.{HolderFault}
@@ -19,7 +21,7 @@ use Rattle.exchange.specs.Held.{Looks, TakesIn}
 use Rattle.exchange.proofs.Holdings.{put_is_there}
 use Rattle.hub_exchange.specs.Putting.{AddsOnly}
 use Rattle.hub_exchange.proofs.PuttingLaws.{adds_none, adds_one}
-use Rattle.hub_exchange.specs.Fault.{reply_to}
+use Rattle.hub_exchange.specs.Fault.{reply_to, RefusesPublish, RefusesAtHub}
 use Rattle.hub_exchange.specs.Onward.{IsOnward}
 
 -- A look answers of the set of the history that the pass has seen then, which has what the pass had seen before.
@@ -100,6 +102,16 @@ refused_sees opening before later op (Err fault) reply is refuses =
       | inr same ↦ same.seen
     ])
 
+-- Why the keeper did not take it is why the holder does not.
+pub refused_for : (opening : Map) (before later : Seat) (op : Op) (told : Result News HubFault)
+    (reply : Result Taken HolderFault) → reply ≡ reply_to told → IfErr told (Refuses opening before op later)
+    → Tells told before.refused later.refused → IfErr reply (RefusesPublish opening before later op)
+refused_for opening before later op (Ok told) reply is refuses counted =
+    subst (λ (r : Result Taken HolderFault). IfErr r (RefusesPublish opening before later op)) (sym is) tt
+refused_for opening before later op (Err fault) reply is refuses counted =
+    subst (λ (r : Result Taken HolderFault). IfErr r (RefusesPublish opening before later op)) (sym is)
+    (record { cause = fault; refuses = refuses; counted = counted; told = refl })
+
 own_so : (opening : Map) (these : List ℕ → Type 0) (before later : Seat) (op : Op) (told : Result News HubFault)
     → these (digest_of op) → IfOk told (λ (t : News). Takes opening before op t later)
     → IfErr told (Refuses opening before op later) → AddsOnly these before.mine later.mine
@@ -130,3 +142,10 @@ refused_by opening before op fault = record {
   new = λ e. absurd cc;
   stays = λ none. elim none [ ];
 }
+
+-- What the hub refused a pass was refused by its hub.
+pub refused_at_hub : {P : Type 0} (refuses : P → P → Op → ShelfFault → Type 0) (opening : Map) (before later : Seat)
+    (op : Op) (reply : Result Taken HolderFault) → OnErr reply (later.seen ≡ before.seen)
+    → IfErr reply (RefusesPublish opening before later op) → IfErr reply (RefusesAtHub refuses opening before later op)
+refused_at_hub refuses opening before later op (Ok taken) seen why = tt
+refused_at_hub refuses opening before later op (Err fault) seen why = record { seen = seen; why = inr why }

@@ -1,13 +1,19 @@
 -- What the faults of a hub are to a round.
-use Rattle.std.specs.Prelude.{◌≡◌, Result, Ok, Err}
+use Rattle.std.specs.Prelude.{◌≡◌, ◌⊎◌, Result, Ok, Err}
+use Rattle.operation.specs.declared.op.Op.{Op}
 use Rattle.operation.specs.declared.taken.Taken.{Taken}
+use Rattle.op_shelf.specs.declared.fault.ShelfFault.{ShelfFault}
+use Rattle.site_state.specs.Site.{Map}
 use Rattle.site_hub.specs.declared.fault.HubFault.{HubFault}
 use Rattle.site_hub.specs.declared.fault.HubFault.TheVariants as hub_faults
 use Rattle.site_hub.specs.Hub.{News, Seat}
 use Rattle.site_hub.specs.Fault.{IsLookFault}
 use Rattle.site_hub.specs.Refused.{TellsFault}
+use Rattle.site_hub.specs.Taking.{Refuses}
 use Rattle.exchange.specs.declared.fault.HolderFault.{HolderFault}
 use Rattle.exchange.specs.declared.fault.HolderFault.TheVariants.{Memory, Refused}
+use Rattle.hub_exchange.specs.Putting.{RefusesPut}
+use Rattle.hub_exchange.specs.Putting.{refusal_of as refusal_of_shelf}
 
 -- What a fault of a hub is to a round: what is not published yet could not be, for want of memory. A take and a look
 -- have none of the last three.
@@ -26,6 +32,20 @@ pub record RefusesLook (before after : Seat) (fault : HolderFault) : Type 0 wher
   pub of_look : IsLookFault cause
   pub counted : TellsFault before.refused after.refused cause
   pub told : fault ≡ refusal_of cause
+
+-- Why the hub does not take for a pass what its shelf keeps: what refused it was counted, or is a clash, or is want of
+-- memory.
+pub record RefusesPublish (opening : Map) (before after : Seat) (op : Op) (fault : HolderFault) : Type 0 where
+  pub cause : HubFault
+  pub refuses : Refuses opening before op after cause
+  pub counted : TellsFault before.refused after.refused cause
+  pub told : fault ≡ refusal_of cause
+
+-- Why a pass does not take an operation, and has seen nothing more: its shelf refused it, or the hub did.
+pub record RefusesAtHub {P : Type 0} (refuses : P → P → Op → ShelfFault → Type 0) (opening : Map) (before after : Seat)
+    (op : Op) (fault : HolderFault) : Type 0 where
+  pub seen : after.seen ≡ before.seen
+  pub why : RefusesPut refuses refusal_of_shelf op fault ⊎ RefusesPublish opening before after op fault
 
 -- what the answer to a take is to a round
 abbrev pub reply_to : Result News HubFault → Result Taken HolderFault

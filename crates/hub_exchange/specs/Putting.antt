@@ -1,4 +1,4 @@
--- What a shelf answered, and what a site gains of it.
+-- What a shelf answered, why it refuses, and what a site gains of it.
 use Rattle.std.specs.Prelude.{ℕ, ◌≡◌, ◌⊎◌, List, Some, drop, length}
 use Rattle.octets.specs.Members.{Has}
 use Rattle.operation.specs.declared.op.Op.{Op}
@@ -8,6 +8,7 @@ use Rattle.op_shelf.specs.declared.fault.ShelfFault.TheVariants as shelf_faults
 use Rattle.site_state.specs.Site.{Map, held_at}
 use Rattle.exchange.specs.declared.fault.HolderFault.{HolderFault}
 use Rattle.exchange.specs.declared.fault.HolderFault.TheVariants.{Memory, Refused}
+use Rattle.exchange.specs.Held.{RefusesTake}
 
 -- An operation of this digest was put on a shelf: while what the shelf tells of its operations holds, it is among them,
 -- and every crash leaves it.
@@ -46,3 +47,19 @@ abbrev pub refusal_of : ShelfFault → HolderFault
 refusal_of (shelf_faults.Store _) = Refused
 refusal_of shelf_faults.BadRow = Refused
 refusal_of shelf_faults.Memory = Memory
+
+-- What keeps operations, or a way to it, was asked to keep this one and refused, and the fault is what that is to whoever
+-- asked.
+pub record RefusesPut {P F : Type 0} (refuses : P → P → Op → ShelfFault → Type 0) (told_as : ShelfFault → F) (op : Op)
+    (fault : F) : Type 0 where
+  pub before : P
+  pub after : P
+  pub cause : ShelfFault
+  pub refused : refuses before after op cause
+  pub told : fault ≡ told_as cause
+
+-- Why a site on a shelf does not take an operation, and stays: the shelf refused it, or the site did.
+pub record RefusesOnShelf {K : Type 0} (refuses : K → K → Op → ShelfFault → Type 0) (before after : Map) (op : Op)
+    (fault : HolderFault) : Type 0 where
+  pub same : after ≡ before
+  pub why : RefusesPut refuses refusal_of op fault ⊎ RefusesTake before op fault

@@ -1,11 +1,11 @@
 //! A pass of a running site as a holder.
 
-ghost use Rattle.std.specs.Prelude.{◌≡◌, OnErr, MatchResult};
+ghost use Rattle.std.specs.Prelude.{◌≡◌, IfErr, OnErr, MatchResult};
 ghost use Rattle.operation.specs.Spelling.{digest_of};
 ghost use Rattle.site_hub.specs.History.{set_of};
 ghost use Rattle.site_hub.specs.Hub.{Seat, HasLooked};
 ghost use Rattle.exchange.specs.Held.{Looks, TakesIn};
-ghost use Rattle.hub_exchange.specs.Fault.{refusal_of, reply_to, RefusesLook};
+ghost use Rattle.hub_exchange.specs.Fault.{refusal_of, reply_to, RefusesLook, RefusesPublish, RefusesAtHub};
 ghost use Rattle.hub_exchange.specs.Onward.{IsOnward};
 ghost use Rattle.hub_exchange.specs.Putting.{WasWritten};
 
@@ -88,6 +88,7 @@ fn publish<H: HubName, T: Shows<H>, R: Wait + Drop, S: Wait, N: LedgerName>(
     ensures takes { TakesIn (λ (s : Seat). set_of H.opening s.seen) (λ _. ⊥) pass.old op result
         pass.new }
     ensures refused { OnErr result (pass.new.seen ≡ pass.old.seen) }
+    ensures why { IfErr result (RefusesPublish H.opening pass.old pass.new op) }
     ensures onward { IsOnward (WasWritten shelved.now.extract) pass.old pass.new }
 {
     let _ = &shelved.digest;
@@ -175,7 +176,7 @@ impl<
     E: AtEntry,
 > Holder for HubHolder<'a, 'b, H, T, R, S, N, P, E> {
     ghost use Rattle.std.specs.Prelude.{◌≡◌};
-    ghost use Rattle.hub_exchange.specs.Fault.{RefusesLook};
+    ghost use Rattle.hub_exchange.specs.Fault.{RefusesLook, RefusesAtHub};
 
     ghost holds = { λ s. set_of H.opening s.seen };
 
@@ -183,8 +184,8 @@ impl<
 
     ghost refuses_look = { RefusesLook };
 
-    // The hub, or the shelf, which may fail: then the pass has seen nothing more.
-    ghost refuses_take = { λ before after _ _. after.seen ≡ before.seen };
+    // The shelf refused to put it, or the hub to take it: then the pass has seen nothing more.
+    ghost refuses_take = { RefusesAtHub P.refuses H.opening };
 
     fn digests(&mut self, _alloc: Global, version: Version) -> Result<Digests, HolderFault> {
         look(&mut self.pass, &All { version })
@@ -219,8 +220,10 @@ impl<
     fn take(&mut self, op: Digested) -> Result<Taken, HolderFault>
         ensures takes { TakesIn (λ (s : Seat). set_of H.opening s.seen) (λ _. ⊥) self.old op result
             self.new }
-        // What the pass has seen published is told as taken.
+        // What the pass has seen published is told as taken, and what is refused the shelf or the hub
+        // refused in this call.
         ensures refused { OnErr result (self.new.seen ≡ self.old.seen) }
+        ensures why { IfErr result (RefusesAtHub P.refuses H.opening self.old self.new op) }
     {
         let mut shelf = *self.shelf;
         match shelf.put(&op) {

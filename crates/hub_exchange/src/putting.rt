@@ -1,7 +1,9 @@
 //! How operations come on a shelf, and what shows that they did.
 
-ghost use Rattle.std.specs.Prelude.{◌≡◌, All, IfOk, OnOk};
+ghost use Rattle.std.specs.Prelude.{◌≡◌, All, IfOk, IfErr, OnOk};
+ghost use Rattle.operation.specs.declared.op.Op.{Op as Operation};
 ghost use Rattle.operation.specs.Spelling.{digest_of};
+ghost use Rattle.op_shelf.specs.declared.fault.ShelfFault.{ShelfFault};
 ghost use Rattle.hub_exchange.specs.Putting.{IsKept, AreKept, WasWritten, refusal_of};
 
 use exchange::HolderFault;
@@ -68,9 +70,13 @@ pub fn put_all<K: Keep, N: LedgerName>(
 
 /// A way to the shelf of a ledger.
 pub trait Put<N: LedgerName> {
+    // Why it may refuse to put an operation, by what it was before the call and what it is then.
+    ghost refuses: { Self → Self → Operation → ShelfFault → Type 0 };
+
     /// Puts an operation on the shelf, where it is after `Ok`.
     fn put(&mut self, op: &Digested) -> Result<Shelved<N>, ShelfFault>
-        ensures { IfOk result (λ shelved. shelved.digest ≡ digest_of op.now) };
+        ensures own { IfOk result (λ shelved. shelved.digest ≡ digest_of op.now) }
+        ensures why { IfErr result (refuses self.old self.new op.now) };
 }
 
 /// What a fault of the shelf is to a round: want of memory, or a refusal.

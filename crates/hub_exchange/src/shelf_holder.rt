@@ -81,6 +81,7 @@ impl<K: Keep + Drop, E: AtOpening> ShelvedHolder<K, E> {
 impl<K: Keep + Drop, E: AtOpening> Holder for ShelvedHolder<K, E> {
     ghost use Rattle.std.specs.Prelude.{◌≡◌};
     ghost use Rattle.exchange.specs.declared.fault.HolderFault.TheVariants.{Memory};
+    ghost use Rattle.hub_exchange.specs.Putting.{RefusesOnShelf};
 
     ghost holds = { λ s. s };
 
@@ -88,8 +89,8 @@ impl<K: Keep + Drop, E: AtOpening> Holder for ShelvedHolder<K, E> {
 
     ghost refuses_look = { λ _ _ fault. fault ≡ Memory };
 
-    // The site, or the shelf, which may fail.
-    ghost refuses_take = { λ before after _ _. after ≡ before };
+    // The shelf refused to put it, or the site to take it.
+    ghost refuses_take = { RefusesOnShelf K.refuses };
 
     fn digests(&mut self, alloc: Global, version: Version) -> Result<Digests, HolderFault> {
         Holder::digests(&mut self.site, alloc, version)

@@ -14,3 +14,4 @@ mod Queries
 mod Schemas
 mod Texts
 mod Walks
+mod Whys

@@ -7,6 +7,7 @@ pub mod Migration
 pub mod Older
 pub mod Opened
 pub mod Putting
+pub mod Refusing
 pub mod States
 pub mod Table
 pub mod Texts

@@ -1,10 +1,12 @@
 //! Where a server keeps operations.
 
-ghost use Rattle.std.specs.Prelude.{◌≡◌, All, Ok, IfOk, OnOk, OnErr};
+ghost use Rattle.std.specs.Prelude.{◌≡◌, All, List, Ok, IfOk, IfErr, OnOk, OnErr};
 ghost use Rattle.operation.specs.declared.op.Op.{Op as Operation};
 ghost use Rattle.sqlite.specs.Held.{state};
-ghost use Rattle.op_shelf.specs.Entries.{Holds};
+ghost use Rattle.op_shelf.specs.declared.fault.ShelfFault.{ShelfFault};
+ghost use Rattle.op_shelf.specs.Entries.{Holds, digest_text, entry_of};
 ghost use Rattle.op_shelf.specs.Keep.{AreSame, Gains, GainsAll, Finds};
+ghost use Rattle.op_shelf.specs.Refusing.{RefusesEntry, RefusesGroup};
 ghost use Rattle.op_shelf.specs.States.{rows_of, IsUp, Lasts};
 
 use crate::fault::ShelfFault;
@@ -24,6 +26,12 @@ pub trait Keep {
     // The operation is kept, and every crash leaves it.
     ghost lasts: { Self → Operation → Type 0 };
 
+    // Why it may refuse to keep an operation, by what it was before the call and what it is then.
+    ghost refuses: { Self → Self → Operation → ShelfFault → Type 0 };
+
+    // Why it may refuse a group.
+    ghost refuses_group: { Self → Self → List Operation → ShelfFault → Type 0 };
+
     /// Keeps an operation.
     fn put(&mut self, op: &Op) -> Result<Kept, ShelfFault>
         // New adds exactly that operation, Known finds it there, and a refusal changes nothing.
@@ -33,6 +41,7 @@ pub trait Keep {
             → Finds (holds self.old) (holds self.new) op.now }
         ensures refused { is_up self.new
             → OnErr result (AreSame (holds self.old) (holds self.new)) }
+        ensures why { IfErr result (refuses self.old self.new op.now) }
         ensures up { is_up self.new → is_up self.old }
 
         // A crash leaves it after Ok, and always what it left before.
@@ -49,6 +58,7 @@ pub trait Keep {
             → Finds (holds self.old) (holds self.new) op.now }
         ensures refused { is_up self.new
             → OnErr result (AreSame (holds self.old) (holds self.new)) }
+        ensures why { IfErr result (refuses self.old self.new op.now) }
         ensures up { is_up self.new → is_up self.old }
 
         // A crash leaves it after Ok, and always what it left before.
@@ -64,6 +74,7 @@ pub trait Keep {
             GainsAll (holds self.old) (holds self.new) ops.now kepts.items) }
         ensures refused { is_up self.new
             → OnErr result (AreSame (holds self.old) (holds self.new)) }
+        ensures why { IfErr result (refuses_group self.old self.new ops.now) }
         ensures up { is_up self.new → is_up self.old }
 
         // A crash leaves all of it after Ok, and always what it left before.
@@ -78,6 +89,11 @@ impl<S: Alter> Keep for Shelf<S> {
     ghost holds = { λ s op. Holds (rows_of (state S.Store s)) op };
 
     ghost lasts = { λ s op. Lasts (state S.Store s) op };
+
+    ghost refuses = { λ s t op fault.
+        RefusesEntry S.Store s t (digest_text op) (entry_of op) fault };
+
+    ghost refuses_group = { λ s t ops fault. RefusesGroup S.Store s t ops fault };
 
     fn put(&mut self, op: &Op) -> Result<Kept, ShelfFault> {
         Shelf::put(self, op)

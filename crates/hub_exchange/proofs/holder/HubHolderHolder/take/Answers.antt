@@ -1,3 +1,5 @@
+use Rattle.std.proofs.Common.{inl, refl}
+use Rattle.hub_exchange.proofs.HolderLaws.{refused_at_hub}
 use Rattle.hub_exchange.proofs.OnwardLaws.{onward_learned}
 use Rattle.hub_exchange.proofs.holder.HubHolderHolder.take.Goals as goal
 
@@ -5,3 +7,21 @@ use Rattle.hub_exchange.proofs.holder.HubHolderHolder.take.Goals as goal
 pub invariant_of-self : goal.invariant_of-self
 invariant_of-self g c = onward_learned _ _ _ _ _ _ c.learn.ensures.this c.learn.ensures.that c.self.invariant
     c.publish-taken.ensures.onward
+
+-- What the shelf has kept only the hub refuses.
+pub returns-in-Ok-clause-why : goal.returns-in-Ok-clause-why
+returns-in-Ok-clause-why g c = rw (← c.self.view_is) (refused_at_hub g.P.Put.refuses g.H.HubName.opening _ _ c.args.op
+    c.publish-taken.result c.publish-taken.ensures.refused c.publish-taken.ensures.why)
+
+-- The shelf refused it.
+pub returns-in-Err-clause-why : goal.returns-in-Err-clause-why
+returns-in-Err-clause-why g c = record {
+  seen = refl;
+  why = inl (record {
+    before = _;
+    after = _;
+    cause = _;
+    refused = c.in-Err.ensures.why;
+    told = c.refusal_of_shelf.ensures;
+  });
+}

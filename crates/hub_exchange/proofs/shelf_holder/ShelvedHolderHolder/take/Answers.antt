@@ -1,4 +1,5 @@
-use Rattle.hub_exchange.proofs.Gains.{asked, spared, gains_taken, refused_same}
+use Rattle.std.proofs.Common.{inl, rules}
+use Rattle.hub_exchange.proofs.Gains.{asked, spared, gains_taken, refused_on_shelf}
 use Rattle.hub_exchange.proofs.shelf_holder.ShelvedHolderHolder.take.Goals as goal
 
 -- What the site takes lasts on the shelf, which the shelf answered before.
@@ -18,6 +19,20 @@ pub invariant_of-self-in-Err-2 : goal.invariant_of-self-in-Err-2
 invariant_of-self-in-Err-2 g c =
     spared g.K.Keep.is_up g.K.Keep.lasts _ _ _ _ _ c.self.invariant c.put_digested.ensures.up c.put_digested.ensures.kept
 
--- What the site refuses changes nothing.
+-- What the shelf has kept only the site refuses, which changes nothing.
 pub returns-in-Ok-clause-why : goal.returns-in-Ok-clause-why
-returns-in-Ok-clause-why g c = rw (← c.self.view_is) (refused_same _ _ _ _ (c.take.ensures.takes.stays tt).1)
+returns-in-Ok-clause-why g c = rw (← c.self.view_is) (refused_on_shelf g.K.Keep.refuses _ _ _ _
+    (c.take.ensures.takes.stays tt).1 c.take.ensures.why)
+
+-- The shelf refused it.
+pub returns-in-Err-clause-why : goal.returns-in-Err-clause-why
+returns-in-Err-clause-why g c = record {
+  same = search rules;
+  why = inl (record {
+    before = _;
+    after = _;
+    cause = _;
+    refused = c.in-Err.ensures.why;
+    told = c.refusal_of_shelf.ensures;
+  });
+}

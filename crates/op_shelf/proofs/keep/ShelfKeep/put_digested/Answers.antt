@@ -1,5 +1,7 @@
 use Rattle.sqlite.specs.Held.{state}
 use Rattle.op_shelf.proofs.Keeps.{gains, finds_known, was_up, lasts_on}
+use Rattle.op_shelf.specs.Entries.{digest_text, entry_of}
+use Rattle.op_shelf.proofs.Whys.{entry_why}
 use Rattle.op_shelf.proofs.keep.ShelfKeep.put_digested.Goals as goal
 
 -- The entry that was put is that of one operation more.
@@ -27,3 +29,8 @@ returns-clause-up g c up =
     was_up (state g.S.Store c.args.self.now) (state g.S.Store c.put_digested.new.self) c.args.op.now c.put_digested.result
     up (c.put_digested.ensures.new up.clean) (c.put_digested.ensures.known up.clean) (c.put_digested.ensures.refused up.clean)
     c.put_digested.ensures.crash
+
+-- Each fault comes only where it is.
+pub returns-clause-why : goal.returns-clause-why
+returns-clause-why g c = entry_why g.S.Store c.args.self.now c.put_digested.new.self (digest_text c.args.op.now) (entry_of c.args.op.now)
+    c.put_digested.result c.put_digested.ensures

@@ -1,6 +1,7 @@
 use Rattle.std.proofs.lemmas.Result.{IfOk-weaker}
 use Rattle.sqlite.specs.Held.{state}
 use Rattle.op_shelf.proofs.Keeps.{gains_all, all_up, all_last, all_put}
+use Rattle.op_shelf.proofs.Whys.{group_why}
 use Rattle.op_shelf.proofs.keep.ShelfKeep.put_many.Goals as goal
 
 -- The entries that were put are those of the group.
@@ -25,3 +26,7 @@ pub returns-clause-up : goal.returns-clause-up
 returns-clause-up g c up =
     all_up (state g.S.Store c.args.self.now) (state g.S.Store c.put_many.new.self) c.args.ops.now c.put_many.result
     (λ v. v.items) up (c.put_many.ensures.puts.put up.clean) (c.put_many.ensures.puts.refused up.clean) c.put_many.ensures.puts.crash
+
+-- Each fault comes only where it is.
+pub returns-clause-why : goal.returns-clause-why
+returns-clause-why g c = group_why g.S.Store c.args.self.now c.put_many.new.self c.args.ops.now c.put_many.result c.put_many.ensures.puts
