@@ -36,7 +36,7 @@ pub place_small : (op : Op) → place_of (digest_of op) < BUCKET_COUNT
 unfolding digest_of
 place_small op = first_byte _
 
-range_has : (n a p : ℕ) → a ≤ p → p < a + n → Has (range_with_len a n) p
+pub range_has : (n a p : ℕ) → a ≤ p → p < a + n → Has (range_with_len a n) p
 range_has zero a p low high = absurd (omega arith)
 range_has (suc n) a p low high = by (eqb p a) refl (range_has n (a + 1) p)
   where
@@ -57,7 +57,7 @@ bucket_at ds p lt = let e : 0 + p ≡ p = omega arith in told_at (bucket_of ds) 
 
 -- ---- members
 
-eqb_itself : (n : ℕ) → eqb n n ≡ true
+pub eqb_itself : (n : ℕ) → eqb n n ≡ true
 eqb_itself n = grind arith
 
 held_first : (d : List ℕ) (e : List ℕ × Op) (rest : Option Op) → d ≡ e.0 → cond (is_at (digest_cmp d) e.0) (Some e.1)
@@ -88,7 +88,7 @@ pub offered_held : (version : Version) (m : Map) (d : List ℕ) → Has (offered
 offered_held version m d h = let found = spoken_held version d (entries m) h in
     (found.0, sym (held_entries m d) ∙ found.1)
 
-negated : (b : Bool) → not b ≡ false → b ≡ true
+pub negated : (b : Bool) → not b ≡ false → b ≡ true
 negated true e = refl
 negated false e = absurd cc
 
@@ -158,7 +158,7 @@ same_map f g [] same = refl
 same_map f g (x ∷ xs) same =
     ap (λ y. y ∷ map f xs) (same x (inl refl)) ∙ ap (λ ys. g x ∷ ys) (same_map f g xs (λ p h. same p (inr h)))
 
-in_range : (n a p : ℕ) → Has (range_with_len a n) p → p < a + n
+pub in_range : (n a p : ℕ) → Has (range_with_len a n) p → p < a + n
 in_range zero a p h = absurd h
 in_range (suc n) a p (inl e) = omega (arith, e)
 in_range (suc n) a p (inr h) = let last = in_range n (a + 1) p h in omega (arith, last)

@@ -1,12 +1,10 @@
 -- What is heard and said are frames.
-use Rattle.std.proofs.Common.{◌≡◌, ◌≤◌, ℕ, List, [], ◌∷◌, ◌++◌, length}
+use Rattle.std.proofs.Common.{◌≡◌, ℕ, List, [], ◌∷◌, ◌++◌}
 use Rattle.std.proofs.Common.{arith, sym, subst}
-use Rattle.std.proofs.lemmas.Bool.{ltb-false}
 use Rattle.operation.specs.declared.op.Op.{Op}
 use Rattle.site_state.specs.Site.{Map}
 use Rattle.exchange_frames.specs.declared.frame.Frame.{Frame}
 use Rattle.exchange_frames.specs.declared.frame.Frame.TheVariants.{Have, Want, Differ}
-use Rattle.exchange_frames.specs.declared.reader.TheConstants.{MOST_DIGESTS}
 use Rattle.exchange_frames.specs.Spelling.{IsFrame}
 use Rattle.exchange.specs.Held.{lacked}
 use Rattle.exchange.proofs.Said.{round_says_frames}
@@ -34,11 +32,6 @@ gifts_frames : (ops : List Op) → AreSayable (gifts_of ops) → AreFrames (gift
 gifts_frames [] p = (tt, tt)
 gifts_frames (op ∷ ops) p = (p.0.1, gifts_frames ops p.1)
 
--- what is not too long has no more digests than are read
-few_of : (digests : List (List ℕ)) (more : List Frame) → more ≡ Have digests ∷ [] → AreSayable more
-    → length digests ≤ MOST_DIGESTS
-few_of digests more is sayable = let p = subst AreSayable is sayable in ltb-false _ _ p.0.0
-
 want_frame : (m : Map) (have want : List (List ℕ)) (frame : Frame) → frame ≡ Have have → IsFrame frame
     → want ≡ lacked m have → IsFrame (Want want)
 want_frame m have want frame is lawful same =
@@ -57,8 +50,7 @@ told_frames holds alone (tasks.Compare b) s h frame more t k fit lawful d sayabl
     one_frame (Differ d.places) more d.says (subst (λ (p : List ℕ). IsFrame (Differ p)) (sym d.looks.answers)
     (round_says_frames.differ _ b))
 told_frames holds alone (tasks.Offer p) s h frame more t k fit lawful d sayable =
-    one_frame _ more d.1.answers (round_says_frames.offer_in s.round.version p d.1.had d.1.was_had.own
-    (few_of _ more d.1.answers sayable))
+    one_frame _ more d.1.answers (round_says_frames.part s.round.version p d.1.had d.1.was_had.own)
 told_frames holds alone (tasks.Ask x) s h frame more t k fit lawful d sayable =
     one_frame (Want d.want) more d.says (want_frame d.looks.had x d.want frame fit lawful d.looks.answers)
 told_frames holds alone (tasks.Give w) s h frame more t k fit lawful d sayable =

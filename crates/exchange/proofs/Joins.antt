@@ -1,7 +1,8 @@
 -- What two sides hold in the end, where each heard what the other said.
 use Rattle.std.proofs.Common.{inl, inr, ◌≡◌, ◌<◌, ℕ, List, [], ◌∷◌, ◌++◌, true, false, Some, refl}
 use Rattle.std.proofs.Common.{sym, ap, subst, ◌∙◌}
-use Rattle.std.specs.Prelude.{◌⊎◌, ◌↔◌, IsTrue}
+use Rattle.std.proofs.Common.{◌≤◌, length, arith}
+use Rattle.std.specs.Prelude.{◌⊎◌, ◌↔◌, IsTrue, filter}
 use Rattle.octets.specs.Members.{Has}
 use Rattle.archive_model.proofs.MemberLaws.{has_filter}
 use Rattle.operation.specs.declared.op.Op.{Op}
@@ -11,6 +12,7 @@ use Rattle.site_state.specs.Union.{Agree}
 use Rattle.site_state.proofs.Maps.{same_sites}
 use Rattle.exchange_frames.specs.declared.frame.Frame.{Frame}
 use Rattle.exchange_frames.specs.declared.frame.Frame.TheVariants.{Have, Give, Buckets, Differ, Hello}
+use Rattle.exchange_frames.specs.declared.reader.TheConstants.{MOST_DIGESTS}
 use Rattle.exchange.specs.declared.version.Version.{Version}
 use Rattle.exchange.specs.declared.version.Version.TheVariants.{Two}
 use Rattle.exchange.specs.Held.{place_of, is_in, offered, offered_in, HasGrown}
@@ -28,10 +30,13 @@ use Rattle.exchange.specs.declared.task.Task.{Task}
 use Rattle.exchange.specs.declared.task.Task.TheVariants as tasks
 use Rattle.exchange.specs.Tasks.{task_for}
 use Rattle.exchange.specs.Course.{Does, DoesAll, SetsOut, Talks, start_of}
-use Rattle.exchange.specs.RunLaws.{BeginWithBytes, OffersWhereTheyDiffer, HoldsAll, WasAsked, WasCompared}
-use Rattle.exchange.specs.RunLaws.{HoldsWhatWasShown}
+use Rattle.exchange.specs.RunLaws.{IsHeld, IsOffered, HoldsWhatWasShown, WasAsked, WasCompared}
 use Rattle.exchange.specs.Run.{Ends, Exchanged}
-use Rattle.exchange.specs.Joined.{AreJoined, WasGained, lone_offer, ExchangeGivesAll, ExchangeMakesEqual}
+use Rattle.exchange.specs.Joined.{AreJoined, WasGained, WasTold, lone_offer, places_of, AllFits, IsInPart, HoldsPart}
+use Rattle.exchange.specs.Joined.{ExchangeGivesAll, ExchangeMakesEqual}
+use Rattle.exchange.specs.Parts.{told_in}
+use Rattle.exchange.proofs.Said.{offered_in_sorted}
+use Rattle.exchange.proofs.PartLaws.{fitting_has}
 use Rattle.exchange.proofs.Once.{texts_once}
 use Rattle.exchange.proofs.Turns.{later_of}
 use Rattle.exchange.proofs.Goings.{is_met, has_shown, Goes, goes}
@@ -171,37 +176,59 @@ module _ {X Y : Type 0} (holds_x : X → Map) (alone_x : X → Type 0) (role_x :
       by Callee first last = last refl
       by OldCaller first last = first refl
 
-  begin : BeginWithBytes (offered Two shown.had)
+  begin : (d : List ℕ) → Has (offered Two shown.had) d → place_of d < 256
   begin d h =
       let op = offered_held Two shown.had d h in
       subst (λ (q : List ℕ). place_of q < 256) (sym (own_digest shown.had shown.own d op.0 op.1))
       (place_small op.0)
 
-  offers : OffersWhereTheyDiffer x.heard x.told (offered Two shown.had)
-  offers places said d h in_places =
-      let n = shown.offers places (subst (λ (l : List Frame). Has l (Differ places)) there said) in
-      let op = offered_held Two shown.had d h in (
-        offered_in Two places n.0,
-        subst (λ (l : List Frame). Has l (Have (offered_in Two places n.0))) back n.2,
-        has_filter (is_in places) (offered Two n.0) d (offered_has Two n.0 d op.0 (n.1 d op.0 op.1) refl) in_places,
-      )
-
   -- what was compared with it
   against : (compared : Map) × WasCompared holds_x alone_x Two (offered Two shown.had) from_x.holder x.told to_x.holder
-      compared × (IsTrue ended_x.finished → BeginWithBytes (offered Two shown.had)
-      → OffersWhereTheyDiffer x.heard x.told (offered Two shown.had)
-      → BucketsTell (offered Two compared) (offered Two shown.had)
-      → HoldsAll (holds_x to_x.holder) (offered Two shown.had))
+      compared × (IsTrue ended_x.finished → BucketsTell (offered Two compared) (offered Two shown.had) → (d : List ℕ)
+      → Has (offered Two shown.had) d → place_of d < 256
+      → (is_in (places_of compared shown.had) d ≡ true → IsOffered x.heard d) → IsHeld (holds_x to_x.holder) d)
   against = subst (λ (v : Version). HoldsWhatWasShown holds_x alone_x v (IsTrue ended_x.finished) from_x.holder x.heard
       x.told to_x.holder) version_x x.shown (offered Two shown.had) (subst (λ (l : List Frame).
       Has l (Buckets (bucket_list (offered Two shown.had)))) back shown.said)
 
-  -- what was shown is held
-  gained : IsTrue ended_x.finished → BucketsTell (offered Two against.0) (offered Two shown.had)
-      → HasGrown shown.had (holds_x to_x.holder)
-  gained finished tell d op e =
-      let found = against.2 finished begin offers tell d (offered_has Two shown.had d op e refl) in
+  abbrev places : List ℕ
+  places = places_of against.0 shown.had
+
+  -- the set of which the HAVE was told
+  had : (n : Map) × WasTold Two (alone_y from_y.holder) places y.told shown.had (holds_y to_y.holder) n
+  had = shown.offers places (subst (λ (l : List Frame). Has l (Differ places)) there against.1.said)
+
+  -- what it tells whole was offered
+  offers : (d : List ℕ) (op : Op) → held_at shown.had d ≡ Some op → IsInPart against.0 shown.had had.0 d
+      → is_in places d ≡ true → IsOffered x.heard d
+  offers d op e part in_places = (
+    told_in Two places had.0,
+    subst (λ (l : List Frame). Has l (Have (told_in Two places had.0))) back had.1.said,
+    fitting_has MOST_DIGESTS (offered_in Two places had.0) d (offered_in_sorted Two places had.0)
+        (has_filter (is_in places) (offered Two had.0) d
+        (offered_has Two had.0 d op (had.1.since d op e) refl) in_places) (part in_places),
+  )
+
+  -- what was shown is held, of the places that do not differ and of those that were told whole
+  part_gained : IsTrue ended_x.finished → BucketsTell (offered Two against.0) (offered Two shown.had)
+      → HoldsPart (IsInPart against.0 shown.had had.0) shown.had (holds_x to_x.holder)
+  part_gained finished tell d op part e =
+      let h = offered_has Two shown.had d op e refl in
+      let found = against.2 finished tell d h (begin d h) (offers d op e part) in
       found.1 ∙ ap Some (sym (agree d op found.0 (shown.until d op e) found.1))
+
+  gained : IsTrue ended_x.finished → BucketsTell (offered Two against.0) (offered Two shown.had)
+      → AllFits against.0 shown.had had.0 → HasGrown shown.had (holds_x to_x.holder)
+  gained finished tell few d op e = part_gained finished tell d op (λ _. inl few) e
+
+  -- where no place differs there is nothing to tell
+  none_in : (ds : List (List ℕ)) → length (filter (is_in []) ds) ≡ 0
+  none_in [] = refl
+  none_in (d ∷ ds) = none_in ds
+
+  none_fits : places ≡ [] → AllFits against.0 shown.had had.0
+  none_fits none = subst (λ (p : List ℕ). length (offered_in Two p had.0) ≤ MOST_DIGESTS) (sym none)
+      (omega (arith, none_in (offered Two had.0)))
 
   pub was_gained : WasGained holds_x alone_x from_x to_x ended_x x.told holds_y alone_y role_y from_y to_y y.told
   was_gained = record {
@@ -215,7 +242,11 @@ module _ {X Y : Type 0} (holds_x : X → Map) (alone_x : X → Type 0) (role_x :
     };
     compared = against.0;
     was_compared = against.1;
+    had = had.0;
+    was_told = had.1;
+    part = part_gained;
     gained = gained;
+    fits = λ is. none_fits ((x.agreed.0 is).here _ against.1.said);
     agreed = λ is. (no_place_is_equal (offered Two against.0) (offered Two shown.had)).0
         ((x.agreed.0 is).here _ against.1.said);
   }
@@ -232,9 +263,11 @@ module _ {X Y : Type 0} (holds_x : X → Map) (alone_x : X → Type 0) (role_x :
       → IsTrue ended_x.finished
       → BucketsTell (offered Two (holds_x from_x.holder))
       (offered Two (lone_offer role_y (holds_y from_y.holder) (holds_y to_y.holder)))
+      → AllFits (holds_x from_x.holder) (lone_offer role_y (holds_y from_y.holder) (holds_y to_y.holder))
+      (lone_offer role_y (holds_y from_y.holder) (holds_y to_y.holder))
       → ((op : Op) → Has x.told (Give op) → held_at (holds_x to_x.holder) (digest_of op) ≡ Some op)
       → HasGrown (holds_y to_y.holder) (holds_x to_x.holder)
-  has_theirs own here here_x finished tell gave d op e = by (y.comes_to.only here d op e)
+  has_theirs own here here_x finished tell fit gave d op e = by (y.comes_to.only here d op e)
     where
       tells : BucketsTell (offered Two against.0) (offered Two shown.had)
       tells = subst (λ (m : Map). BucketsTell (offered Two m) (offered Two shown.had))
@@ -242,9 +275,14 @@ module _ {X Y : Type 0} (holds_x : X → Map) (alone_x : X → Type 0) (role_x :
           (subst (λ (m : Map). BucketsTell (offered Two (holds_x from_x.holder)) (offered Two m)) (sym (lone here))
           tell)
 
+      few : AllFits against.0 shown.had had.0
+      few = subst (λ (n : Map). AllFits against.0 shown.had n) (sym (had.1.same here))
+          (subst (λ (m : Map). AllFits m shown.had shown.had) (sym (against.1.at_begin here_x))
+          (subst (λ (n : Map). AllFits (holds_x from_x.holder) n n) (sym (lone here)) fit))
+
       by : (held_at (holds_y from_y.holder) d ≡ Some op) ⊎ (Has y.heard (Give op) × WasAsked
           y.told (digest_of op)) → held_at (holds_x to_x.holder) d ≡ Some op
-      by (inl was) = gained finished tells d op (shown.since d op was)
+      by (inl was) = gained finished tells few d op (shown.since d op was)
       by (inr p) =
           let given = gave op (subst (λ (l : List Frame). Has l (Give op)) (sym there) p.0) in
           ap (held_at (holds_x to_x.holder)) (own_digest (holds_y to_y.holder) own d op e) ∙ given
@@ -311,13 +349,15 @@ module _ {A B : Type 0} (holds_a : A → Map) (alone_a : A → Type 0) (holds_b 
   equal : IsSite (holds_a to_a.holder) → IsSite (holds_b to_b.holder) → alone_a from_a.holder → alone_b from_b.holder
       → IsTrue ended_a.finished → IsTrue ended_b.finished
       → BucketsTell (offered Two (holds_b from_b.holder)) (offered Two (holds_a from_a.holder))
+      → AllFits (holds_b from_b.holder) (holds_a from_a.holder) (holds_a from_a.holder)
       → BucketsTell (offered Two (holds_a from_a.holder)) (offered Two (holds_b to_b.holder))
+      → AllFits (holds_a from_a.holder) (holds_b to_b.holder) (holds_b to_b.holder)
       → holds_a to_a.holder ≡ holds_b to_b.holder
-  equal own_a own_b here_a here_b finished_a finished_b tell_b tell_a =
+  equal own_a own_b here_a here_b finished_a finished_b tell_b fit_b tell_a fit_a =
       let to_b_all = has_theirs holds_b alone_b Callee from_b to_b ended_b b holds_a alone_a Caller from_a to_a ended_a
-      a back there meets.0 version_a agree_too own_a here_a here_b finished_b tell_b gave_b in
+      a back there meets.0 version_a agree_too own_a here_a here_b finished_b tell_b fit_b gave_b in
       let to_a_all = has_theirs holds_a alone_a Caller from_a to_a ended_a a holds_b alone_b Callee from_b to_b ended_b
-      b there back version_a meets.0 agree own_b here_b here_a finished_a tell_a gave_a in
+      b there back version_a meets.0 agree own_b here_b here_a finished_a tell_a fit_a gave_a in
       same_sites (holds_a to_a.holder) (holds_b to_b.holder)
       (λ d. same_option (held_at (holds_a to_a.holder) d) (held_at (holds_b to_b.holder) d) (to_b_all d) (to_a_all d))
 

@@ -3,8 +3,11 @@ pub mod Holdings
 pub mod Askings
 pub mod Rounds
 pub mod Bucketed
+pub mod Fittings
 pub mod Said
 pub mod Places
+pub mod PartLaws
+pub mod Parted
 pub mod Refusals
 pub mod Holders
 pub mod Agreed

@@ -10,7 +10,9 @@ use Rattle.site_state.specs.Site.{Map, IsSite, held_at}
 use Rattle.exchange_frames.specs.declared.frame.Frame.{Frame}
 use Rattle.exchange_frames.specs.declared.frame.Frame.TheVariants.{Have, Want, Give, End, Buckets, Differ, Hello}
 use Rattle.exchange.specs.declared.version.Version.{Version}
-use Rattle.exchange.specs.Held.{is_spoken, if_spoken, given, offered, offered_in, HasGrown}
+use Rattle.exchange.specs.Held.{is_spoken, if_spoken, given, offered, HasGrown}
+use Rattle.exchange.specs.Parts.{told_in}
+use Rattle.exchange.specs.Joined.{WasTold}
 use Rattle.exchange.specs.Buckets.{bucket_list}
 use Rattle.exchange.proofs.Rounds.{own_digest}
 use Rattle.exchange.specs.declared.role.Role.{Role}
@@ -37,8 +39,7 @@ pub record IsShown (version : Version) (role : Role) (lone : Type 0) (start : Ma
   pub since : HasGrown start had
   pub until : HasGrown had now
   pub said : Has told (Buckets (bucket_list (offered version had)))
-  pub offers : (places : List ℕ) → Has heard (Differ places) → (n : Map) × HasGrown had n
-      × Has told (Have (offered_in version places n))
+  pub offers : (places : List ℕ) → Has heard (Differ places) → (n : Map) × WasTold version lone places told had now n
   pub first : lone → later_of role ≡ true → had ≡ start
   pub last : lone → later_of role ≡ false → had ≡ now
 
@@ -107,6 +108,17 @@ module _ {H : Type 0} (holds : H → Map) (alone : H → Type 0) (start : H) (he
       → holds h ≡ holds k
   idle_same idle lone shown turn = sym (idle.stays (know.here lone)).1
 
+  -- what was told stays told
+  told_on : (version : Version) (places : List ℕ) (offer n : Map) → HasGrown (holds h) (holds k)
+      → WasTold version (alone start) places told offer (holds h) n
+      → WasTold version (alone start) places (told ++ more) offer (holds k) n
+  told_on version places offer n grown was = record {
+    since = was.since;
+    until = λ d op e. grown d op (was.until d op e);
+    said = has_left told more _ was.said;
+    same = was.same;
+  }
+
   shown_on : (version : Version) → HasGrown (holds h) (holds k) → ((places : List ℕ) → Differ places ≡ frame → ⊥)
       → (alone start → later_of s.role ≡ false → holds h ≡ holds k)
       → IsShown version s.role (alone start) (holds start) heard told (holds h)
@@ -119,11 +131,8 @@ module _ {H : Type 0} (holds : H → Map) (alone : H → Type 0) (start : H) (he
     since = was.since;
     until = λ d op e. grown d op (was.until d op e);
     said = has_left told more _ was.said;
-    offers = λ places p. let n = was.offers places (other_has heard frame (Differ places) (other places) p) in (
-      n.0,
-      n.1,
-      has_left told more _ n.2,
-    );
+    offers = λ places p. let n = was.offers places (other_has heard frame (Differ places) (other places) p) in
+        (n.0, told_on version places was.had n.0 grown n.1);
   }
 
   old_gift : ((op : Op) → Has more (Give op) → ⊥) → (op : Op) → Has (told ++ more) (Give op) → Has told (Give op)
@@ -212,16 +221,28 @@ module _ {H : Type 0} (holds : H → Map) (alone : H → Type 0) (start : H) (he
       was : IsShown s.round.version s.role (alone start) (holds start) heard told (holds h)
       was = know.some (ap (λ (a : Awaited). has_shown s.role a) awaited)
 
-      by : (p : List ℕ) → Has heard (Differ p) ⊎ Has (frame ∷ []) (Differ p) → (n : Map) × HasGrown was.had n
-          × Has (told ++ more) (Have (offered_in s.round.version p n))
-      by p (inl l) = let n = was.offers p l in (n.0, n.1, has_left told more _ n.2)
+      -- what nobody else changes is still what was shown
+      stood : (b : Bool) → later_of s.role ≡ b → alone start → holds h ≡ was.had
+      stood true turn lone =
+          know.early lone (ap (λ (a : Awaited). later s.role a) awaited ∙ turn) ∙ sym (was.first lone turn)
+      stood false turn lone = sym (was.last lone turn)
+
+      by : (p : List ℕ) → Has heard (Differ p) ⊎ Has (frame ∷ []) (Differ p) → (n : Map)
+          × WasTold s.round.version (alone start) p (told ++ more) was.had (holds k) n
+      by p (inl l) = let n = was.offers p l in
+          (n.0, told_on s.round.version p was.had n.0 (idles_of does.1).grown n.1)
       by p (inr r) =
           let one : Differ p ≡ Differ places = one_is frame (Differ p) (frame ∷ []) refl r ∙ is in
           let same : p ≡ places = cc in (
             does.1.had,
-            λ d op e. does.1.was_had.since d op (was.until d op e),
-            has_right told more _ (subst (λ (l : List Frame). Has l (Have (offered_in s.round.version p does.1.had)))
-                (sym does.1.answers) (inl (ap (λ (q : List ℕ). Have (offered_in s.round.version q does.1.had)) same))),
+            record {
+              since = λ d op e. does.1.was_had.since d op (was.until d op e);
+              until = does.1.was_had.until;
+              said = has_right told more _ (subst (λ (l : List Frame). Has l (Have (told_in s.round.version p
+                  does.1.had))) (sym does.1.answers)
+                  (inl (ap (λ (q : List ℕ). Have (told_in s.round.version q does.1.had)) same)));
+              same = λ lone. looked_same does.1 (know.here lone) ∙ stood (later_of s.role) refl lone;
+            },
           )
 
   -- GIVEs are said.

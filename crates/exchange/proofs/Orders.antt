@@ -7,7 +7,8 @@ use Rattle.site_state.specs.Site.{Map}
 use Rattle.exchange_frames.specs.declared.frame.Frame.{Frame}
 use Rattle.exchange_frames.specs.declared.frame.Frame.TheVariants.{Have, Want, Give, End, Buckets, Differ, Hello}
 use Rattle.exchange.specs.declared.version.Version.{Version}
-use Rattle.exchange.specs.Held.{version_of, offered, offered_in}
+use Rattle.exchange.specs.Held.{version_of, offered}
+use Rattle.exchange.specs.Parts.{told_in}
 use Rattle.exchange.specs.Buckets.{bucket_list}
 use Rattle.exchange.specs.declared.role.Role.{Role}
 use Rattle.exchange.specs.declared.role.Role.TheVariants.{Caller, Callee, OldCaller}
@@ -235,7 +236,7 @@ module _ {H : Type 0} (holds : H → Map) (alone : H → Type 0) (s : Side) (h :
       )))
   next (tasks.Offer places) lead fit does =
       let then = subst (λ (x : Side). Says x.role x.awaited heard rest) does.0 later in
-      let have = offered_in s.round.version places does.1.had in
+      let have = told_in s.round.version places does.1.had in
       at awaits.Differ lead (
         have,
         then.0,

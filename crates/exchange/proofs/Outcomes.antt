@@ -25,7 +25,8 @@ use Rattle.exchange_frames.specs.declared.frame.Frame.TheVariants.{Have, Want, G
 use Rattle.exchange.specs.declared.fault.ExchangeFault.TheVariants.{BadFrame, Stranger}
 use Rattle.exchange.specs.declared.fault.HolderFault.{HolderFault}
 use Rattle.exchange.specs.declared.version.Version.{Version}
-use Rattle.exchange.specs.Held.{offered, place_of, is_lacking, is_spoken, HasGrown, WasHad, TakesIn, TakesAlone}
+use Rattle.exchange.specs.Held.{offered, place_of, is_in, is_lacking, is_spoken, HasGrown, WasHad, TakesIn}
+use Rattle.exchange.specs.Held.{TakesAlone}
 use Rattle.exchange.specs.Buckets.{bucket_list, is_unequal, unequal}
 use Rattle.exchange.specs.Laws.{BucketsTell}
 use Rattle.exchange.specs.Round.{RoundState, asked_at, asked_in, is_among, by_holder, IsFinished}
@@ -37,8 +38,8 @@ use Rattle.exchange.specs.declared.task.Task.{Task}
 use Rattle.exchange.specs.declared.task.Task.TheVariants as tasks
 use Rattle.exchange.specs.Tasks.{task_for}
 use Rattle.exchange.specs.Course.{gifts_of, Does, DoesAll, SetsOut, Talks, Idles}
-use Rattle.exchange.specs.RunLaws.{WasAsked, WasGiven, IsGivenAll, IsHeld, HoldsAll, HoldsWhatWasOffered}
-use Rattle.exchange.specs.RunLaws.{BeginWithBytes, OffersWhereTheyDiffer}
+use Rattle.exchange.specs.RunLaws.{WasAsked, WasGiven, IsGivenAll, IsHeld, HoldsWhatWasOffered}
+use Rattle.exchange.specs.RunLaws.{IsOffered, differing}
 use Rattle.exchange.specs.RunLaws.{WasCompared, GainsOnlyGiven, Outcome}
 use Rattle.exchange.proofs.Holders.{idles_of, idles_same, grown_both, looked_same}
 use Rattle.exchange.proofs.Turns.{later, Fits, fits}
@@ -786,10 +787,10 @@ module _ {H : Type 0} (holds : H → Map) (alone : H → Type 0) (before : H) (h
 
   shown_all : (theirs : List (List ℕ)) → (m : Map)
       → WasCompared holds alone side.round.version theirs before told k m → IsFinished side.round
-      → BeginWithBytes theirs → OffersWhereTheyDiffer heard told theirs
-      → BucketsTell (offered side.round.version m) theirs → HoldsAll (holds k) theirs
+      → BucketsTell (offered side.round.version m) theirs → (d : List ℕ) → Has theirs d → place_of d < 256
+      → (is_in (differing side.round.version m theirs) d ≡ true → IsOffered heard d) → IsHeld (holds k) d
   unfolding unequal
-  shown_all theirs m was finished bytes offers tell d has = by (is_unequal (bucket_list (offered side.round.version m))
+  shown_all theirs m was finished tell d has small offers = by (is_unequal (bucket_list (offered side.round.version m))
       (bucket_list theirs) place) refl
     where
       place : ℕ
@@ -800,14 +801,14 @@ module _ {H : Type 0} (holds : H → Map) (alone : H → Type 0) (before : H) (h
       by true e =
           let there = has_filter (is_unequal (bucket_list (offered side.round.version m)) (bucket_list theirs))
           (range_with_len 0 256) place (places_has 256 0 place (omega arith)
-          (omega (arith, bytes d has))) e in
+          (omega (arith, small))) e in
           let in_places = has_any (λ q. q == place) _ place there (eqb_itself place) in
-          let offer = offers _ was.said d has in_places in
+          let offer = offers in_places in
           had_all finished offer.0 offer.1 d offer.2
       by false e =
-          let equal = sym (bucket_at (offered side.round.version m) place (bytes d has)) ∙ same_is _ _ (negated _ e)
-          ∙ bucket_at theirs place (bytes d has) in
-          let mine = subst (λ (xs : List (List ℕ)). Has xs d) (sym (tell place (bytes d has) equal))
+          let equal = sym (bucket_at (offered side.round.version m) place small) ∙ same_is _ _ (negated _ e)
+          ∙ bucket_at theirs place small in
+          let mine = subst (λ (xs : List (List ℕ)). Has xs d) (sym (tell place small equal))
           (has_filter (λ x. place_of x == place) theirs d has (eqb_itself place)) in
           let found = offered_held side.round.version m d (filter_has (λ x. place_of x == place)
           (offered side.round.version m) d mine).0 in

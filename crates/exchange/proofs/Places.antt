@@ -140,7 +140,7 @@ below_or k n = by (nat_lt k n) (eqb k n) refl refl
     by false true lt eq = inr (inl (lt, eq, grind arith))
     by false false lt eq = inr (inr (lt, eq, grind arith))
 
-first_le : (x y : List ℕ) → digest_cmp x y ≡ Less → place_of x ≤ place_of y
+pub first_le : (x y : List ℕ) → digest_cmp x y ≡ Less → place_of x ≤ place_of y
 first_le [] [] e = absurd (let clash : Equal ≡ Less = e in cc)
 first_le [] (b ∷ ys) e = omega arith
 first_le (a ∷ xs) [] e = absurd (let clash : Greater ≡ Less = e in cc)

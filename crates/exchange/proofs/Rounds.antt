@@ -80,7 +80,7 @@ round_gives_all version offering giving asking after own grown agree answered d 
     had_is_held version offering giving asking after own grown agree (offered version offering) answered d op there
     spoken (offered_has version offering d op there spoken) (held_at asking d) refl
 
-spoken_some : (r : Option Op) (op : Op) → if_spoken Two r ≡ Some op → r ≡ Some op
+pub spoken_some : (r : Option Op) (op : Op) → if_spoken Two r ≡ Some op → r ≡ Some op
 spoken_some None op e = absurd cc
 spoken_some (Some o) op e = e
 

@@ -13,7 +13,6 @@ use Rattle.std.specs.declared.cmp.Ordering.TheVariants.{Less, Equal, Greater}
 use Rattle.std.proofs.lemmas.Cmp.{nat_list_cmp_total}
 use Rattle.std.proofs.lemmas.List.FromFn.{length-range_with_len}
 use Rattle.std.proofs.lemmas.List.Kept.{IsStrictlySortedBy-filter}
-use Rattle.std.proofs.lemmas.List.Sums.{length-filter, count_by-le-length}
 use Rattle.sha2.proofs.Facts256.{length-sha256}
 use Rattle.octets.specs.Members.{Has}
 use Rattle.octets.specs.Texts.{text_cmp}
@@ -30,6 +29,8 @@ use Rattle.exchange.specs.declared.version.Version.TheVariants.{Two}
 use Rattle.exchange.specs.Held.{is_spoken, place_of, is_in, is_lacking, offered, offered_in, lacked}
 use Rattle.exchange.specs.Buckets.{bucket_of, bucket_list, is_unequal, unequal}
 use Rattle.exchange.specs.Laws.{RoundSaysFrames}
+use Rattle.exchange.specs.Parts.{told_in}
+use Rattle.exchange.proofs.Fittings.{kept_few, fitting_few, fitting_from, fitting_sorted}
 use Rattle.exchange.proofs.Bucketed.{offered_held, place_small}
 use Rattle.exchange.proofs.Rounds.{own_digest}
 
@@ -151,6 +152,11 @@ have_is version m own short = record {
   ascending = sorted_ascends text_cmp (offered version m) (offered_sorted version m);
 }
 
+pub offered_in_sorted : (version : Version) (places : List ℕ) (m : Map)
+    → IsStrictlySortedBy text_cmp (offered_in version places m)
+offered_in_sorted version places m =
+    IsStrictlySortedBy-filter text_cmp (is_in places) (offered version m) (offered_sorted version m)
+
 have_in_is : (version : Version) (places : List ℕ) (m : Map) → IsSite m
     → length (offered_in version places m) ≤ MOST_DIGESTS → IsFrame (Have (offered_in version places m))
 have_in_is version places m own short = record {
@@ -158,7 +164,18 @@ have_in_is version places m own short = record {
   whole = all_of (λ d. length d ≡ 32) (offered_in version places m)
       (λ d h. offered_long version m own d (filter_has (is_in places) (offered version m) d h).0);
   ascending = sorted_ascends text_cmp (offered_in version places m)
-      (IsStrictlySortedBy-filter text_cmp (is_in places) (offered version m) (offered_sorted version m));
+      (offered_in_sorted version places m);
+}
+
+-- of some places it is, however many are held there
+part_is : (version : Version) (places : List ℕ) (m : Map) → IsSite m → IsFrame (Have (told_in version places m))
+part_is version places m own = record {
+  short = fitting_few MOST_DIGESTS (offered_in version places m);
+  whole = all_of (λ d. length d ≡ 32) (told_in version places m)
+      (λ d h. offered_long version m own d (filter_has (is_in places) (offered version m) d
+      (fitting_from MOST_DIGESTS (offered_in version places m) d h)).0);
+  ascending = sorted_ascends text_cmp (told_in version places m)
+      (fitting_sorted MOST_DIGESTS (offered_in version places m) (offered_in_sorted version places m));
 }
 
 buckets_long : (digests : List (List ℕ)) (places : List ℕ) → AreDigests (map (bucket_of digests) places)
@@ -175,9 +192,6 @@ buckets_are digests = (
   buckets_many digests (range_with_len 0 BUCKET_COUNT) ∙ length-range_with_len 0 BUCKET_COUNT,
   buckets_long digests (range_with_len 0 BUCKET_COUNT),
 )
-
-kept_few : {X : Type 0} (p : X → Bool) (xs : List X) → length (filter p xs) ≤ length xs
-kept_few p xs = subst (λ (n : ℕ). n ≤ length xs) (sym (length-filter p xs)) (count_by-le-length p xs)
 
 differ_is : (own theirs : List (List ℕ)) → IsFrame (Differ (unequal own theirs))
 unfolding unequal
@@ -206,6 +220,7 @@ pub round_says_frames : RoundSaysFrames
 round_says_frames = record {
   offer = have_is;
   offer_in = have_in_is;
+  part = part_is;
   buckets = buckets_are;
   differ = differ_is;
   want = want_is;

@@ -15,7 +15,8 @@ use Rattle.exchange.specs.declared.fault.ExchangeFault.TheVariants.{BadFrame}
 use Rattle.exchange.specs.declared.fault.HolderFault.{HolderFault}
 use Rattle.exchange.specs.declared.fault.HolderFault.TheVariants.{Refused}
 use Rattle.exchange.specs.Fault.{of_holder}
-use Rattle.exchange.specs.Held.{offered, offered_in, lacked, given, HasGrown, Looks}
+use Rattle.exchange.specs.Held.{offered, lacked, given, HasGrown, Looks}
+use Rattle.exchange.specs.Parts.{told_in}
 use Rattle.exchange.specs.Buckets.{bucket_list, unequal}
 use Rattle.exchange.specs.Round.{RoundState, asked_at, is_among, refusal_of, with_given, TakesAsked}
 use Rattle.exchange.specs.declared.role.Role.{Role}
@@ -103,11 +104,11 @@ pub record Compares {H : Type 0} (holds : H → Map) (alone : H → Type 0) (buc
   pub says : told ≡ Differ places ∷ []
   pub same : t ≡ record s { awaited = awaits.Have; agreed = agreed_with s.agreed places }
 
--- HAVE of what is held in these places
+-- HAVE of what is held in these places, or of what fits of it
 abbrev pub Offers : {H : Type 0} → (H → Map) → (H → Type 0) → List ℕ → Side → H → List Frame → Side → H → Type 0
 Offers holds alone places s before told t after =
     (t ≡ record s { awaited = awaits.Want; agreed = agreed_with s.agreed places })
-    × Looks holds alone before after (λ m. told ≡ Have (offered_in s.round.version places m) ∷ [])
+    × Looks holds alone before after (λ m. told ≡ Have (told_in s.round.version places m) ∷ [])
 
 -- WANT of what is not held of a HAVE, which is asked for from then on
 pub record Asks {H : Type 0} (holds : H → Map) (alone : H → Type 0) (have : List (List ℕ)) (s : Side) (before : H)

@@ -1,19 +1,23 @@
 -- What two sides of one exchange hold in the end, where each heard what the other said.
-use Rattle.std.specs.Prelude.{◌≡◌, ◌↔◌, List, IsTrue}
+use Rattle.std.specs.Prelude.{◌≡◌, ◌↔◌, ◌≤◌, ℕ, List, Some, true, length, IsTrue}
 use Rattle.octets.specs.Members.{Has}
-use Rattle.site_state.specs.Site.{Map, IsSite}
+use Rattle.operation.specs.declared.op.Op.{Op}
+use Rattle.site_state.specs.Site.{Map, IsSite, held_at}
 use Rattle.site_state.specs.Union.{Agree}
 use Rattle.exchange_frames.specs.declared.frame.Frame.{Frame}
-use Rattle.exchange_frames.specs.declared.frame.Frame.TheVariants.{Buckets}
+use Rattle.exchange_frames.specs.declared.frame.Frame.TheVariants.{Have, Buckets}
+use Rattle.exchange_frames.specs.declared.reader.TheConstants.{MOST_DIGESTS}
+use Rattle.exchange.specs.declared.version.Version.{Version}
 use Rattle.exchange.specs.declared.version.Version.TheVariants.{Two}
-use Rattle.exchange.specs.Held.{offered, HasGrown}
+use Rattle.exchange.specs.Held.{offered, offered_in, place_of, is_in, HasGrown}
+use Rattle.exchange.specs.Parts.{told_in, IsWhole}
 use Rattle.exchange.specs.Buckets.{bucket_list}
 use Rattle.exchange.specs.Laws.{BucketsTell}
 use Rattle.exchange.specs.declared.role.Role.{Role}
 use Rattle.exchange.specs.declared.role.Role.TheVariants.{Caller, Callee, OldCaller}
 use Rattle.exchange.specs.declared.role.Ended.{Ended}
 use Rattle.exchange.specs.Hearing.{texts}
-use Rattle.exchange.specs.RunLaws.{WasCompared}
+use Rattle.exchange.specs.RunLaws.{WasCompared, differing}
 use Rattle.exchange.specs.Run.{Ends, Exchanged}
 
 -- Both sides of one exchange ended, and the bytes that each wrote are those that the other read.
@@ -40,9 +44,38 @@ pub record WasOffered {H : Type 0} (holds : H → Map) (alone : H → Type 0) (r
   pub said : Has told (Buckets (bucket_list (offered Two offer)))
   pub lone : alone from.holder → offer ≡ lone_offer role (holds from.holder) (holds to.holder)
 
--- What one side offered, and what the other side compared with it. Where the exchange of the other is finished it holds
--- in the end all that was offered, if unequal digests of a place have unequal buckets in these two sets; where it
--- agrees, their buckets are equal.
+-- the set of which a HAVE was told, in some places, once another was offered: its holder had it since. One that nobody
+-- else changes is the one that was offered.
+pub record WasTold (version : Version) (lone : Type 0) (places : List ℕ) (told : List Frame) (offer now had : Map)
+    : Type 0 where
+  pub since : HasGrown offer had
+  pub until : HasGrown had now
+  pub said : Has told (Have (told_in version places had))
+  pub same : lone → had ≡ offer
+
+-- the places in which a set that was compared has other buckets than the one that was offered
+abbrev pub places_of : Map → Map → List ℕ
+places_of compared offer = differing Two compared (offered Two offer)
+
+-- What is held in these places fits into one HAVE.
+abbrev pub AllFits : Map → Map → Map → Type 0
+AllFits compared offer had = length (offered_in Two (places_of compared offer) had) ≤ MOST_DIGESTS
+
+-- A digest lies in none of these places, or in one of which the HAVE has all.
+abbrev pub IsInPart : Map → Map → Map → List ℕ → Type 0
+IsInPart compared offer had digest =
+    is_in (places_of compared offer) digest ≡ true
+    → IsWhole MOST_DIGESTS (offered_in Two (places_of compared offer) had) (place_of digest)
+
+-- a set has what another has of the digests of which this holds
+abbrev pub HoldsPart : (List ℕ → Type 0) → Map → Map → Type 0
+HoldsPart Part m n = (digest : List ℕ) (op : Op) → Part digest → held_at m digest ≡ Some op → held_at n digest ≡ Some op
+
+-- What one side offered, what the other side compared with it, and of what a HAVE was told then. Where the exchange of
+-- the other is finished it holds in the end what was offered in the places that do not differ, and in those of which
+-- the HAVE has all, if unequal digests of a place have unequal buckets in these two sets: so all that was offered, where
+-- what is held in the places that differ fits into one HAVE. Where it agrees their buckets are equal, and so it does not
+-- agree where that does not fit.
 pub record WasGained {X Y : Type 0} (holds_x : X → Map) (alone_x : X → Type 0) (from_x to_x : Ends X) (ended_x : Ended)
     (told_x : List Frame) (holds_y : Y → Map) (alone_y : Y → Type 0) (role_y : Role) (from_y to_y : Ends Y)
     (told_y : List Frame) : Type 0 where
@@ -51,12 +84,17 @@ pub record WasGained {X Y : Type 0} (holds_x : X → Map) (alone_x : X → Type 
   pub compared : Map
   pub was_compared
       : WasCompared holds_x alone_x Two (offered Two offer) from_x.holder told_x to_x.holder compared
+  pub had : Map
+  pub was_told : WasTold Two (alone_y from_y.holder) (places_of compared offer) told_y offer (holds_y to_y.holder) had
+  pub part : IsTrue ended_x.finished → BucketsTell (offered Two compared) (offered Two offer)
+      → HoldsPart (IsInPart compared offer had) offer (holds_x to_x.holder)
   pub gained : IsTrue ended_x.finished → BucketsTell (offered Two compared) (offered Two offer)
-      → HasGrown offer (holds_x to_x.holder)
+      → AllFits compared offer had → HasGrown offer (holds_x to_x.holder)
+  pub fits : IsTrue ended_x.agreed → AllFits compared offer had
   pub agreed : IsTrue ended_x.agreed → bucket_list (offered Two compared) ≡ bucket_list (offered Two offer)
 
 -- A side that is finished holds in the end all that the other side offered, so all that this held as the exchange
--- began. One side agrees exactly where the other does.
+-- began, where what differs fits into one HAVE. One side agrees exactly where the other does.
 abbrev pub ExchangeGivesAll : {A B : Type 0} → (A → Map) → (A → Type 0) → (B → Map) → (B → Type 0) → Type 0
 ExchangeGivesAll {A} {B} holds_a alone_a holds_b alone_b =
     (from_a to_a : Ends A) (ended_a : Ended) (from_b to_b : Ends B) (ended_b : Ended)
@@ -67,8 +105,8 @@ ExchangeGivesAll {A} {B} holds_a alone_a holds_b alone_b =
     × (IsTrue ended_a.agreed ↔ IsTrue ended_b.agreed)
 
 -- Two sides that are finished, and that nobody else changes, hold the same in the end, if unequal digests of a place
--- have unequal buckets in the two pairs of sets that were compared: what the callee held with what the caller did, and
--- what the caller held with what the callee holds in the end.
+-- have unequal buckets in the two pairs of sets that were compared, and what was offered of them fits into one HAVE:
+-- what the callee held with what the caller did, and what the caller held with what the callee holds in the end.
 abbrev pub ExchangeMakesEqual : {A B : Type 0} → (A → Map) → (A → Type 0) → (B → Map) → (B → Type 0) → Type 0
 ExchangeMakesEqual {A} {B} holds_a alone_a holds_b alone_b =
     (from_a to_a : Ends A) (ended_a : Ended) (from_b to_b : Ends B) (ended_b : Ended)
@@ -76,5 +114,7 @@ ExchangeMakesEqual {A} {B} holds_a alone_a holds_b alone_b =
     → Agree (holds_b to_b.holder) (holds_a to_a.holder) → IsSite (holds_a to_a.holder) → IsSite (holds_b to_b.holder)
     → alone_a from_a.holder → alone_b from_b.holder → IsTrue ended_a.finished → IsTrue ended_b.finished
     → BucketsTell (offered Two (holds_b from_b.holder)) (offered Two (holds_a from_a.holder))
+    → AllFits (holds_b from_b.holder) (holds_a from_a.holder) (holds_a from_a.holder)
     → BucketsTell (offered Two (holds_a from_a.holder)) (offered Two (holds_b to_b.holder))
+    → AllFits (holds_a from_a.holder) (holds_b to_b.holder) (holds_b to_b.holder)
     → holds_a to_a.holder ≡ holds_b to_b.holder

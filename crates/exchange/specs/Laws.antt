@@ -11,6 +11,7 @@ use Rattle.exchange_frames.specs.Spelling.{IsFrame}
 use Rattle.exchange.specs.declared.version.Version.{Version}
 use Rattle.exchange.specs.declared.version.Version.TheVariants.{Two}
 use Rattle.exchange.specs.Held.{is_spoken, place_of, offered, offered_in, lacked, given, HasGrown}
+use Rattle.exchange.specs.Parts.{told_in}
 use Rattle.exchange.specs.Buckets.{bucket_of, bucket_list, unequal}
 
 -- what a version speaks of in a set is in another
@@ -88,13 +89,15 @@ RoundByBucketsGivesAll =
     (bucket_list (offered version offering))) showing) asking giving after
     → HasAllSpoken version offering after
 
--- What a round says of a set is a frame: a HAVE, of all places or of some, where it has no more digests than are read;
--- BUCKETS and DIFFER of any digests; and the WANT that answers a HAVE that is a frame.
+-- What a round says of a set is a frame: a HAVE, of all places or of some, where it has no more digests than are read,
+-- and what a HAVE tells of some places, however many are held there; BUCKETS and DIFFER of any digests; and the WANT
+-- that answers a HAVE that is a frame.
 pub record RoundSaysFrames : Type 0 where
   pub offer : (version : Version) (m : Map) → IsSite m → length (offered version m) ≤ MOST_DIGESTS
       → IsFrame (Have (offered version m))
   pub offer_in : (version : Version) (places : List ℕ) (m : Map) → IsSite m
       → length (offered_in version places m) ≤ MOST_DIGESTS → IsFrame (Have (offered_in version places m))
+  pub part : (version : Version) (places : List ℕ) (m : Map) → IsSite m → IsFrame (Have (told_in version places m))
   pub buckets : (digests : List (List ℕ)) → IsFrame (Buckets (bucket_list digests))
   pub differ : (own theirs : List (List ℕ)) → IsFrame (Differ (unequal own theirs))
   pub want : (m : Map) (have : List (List ℕ)) → IsFrame (Have have) → IsFrame (Want (lacked m have))

@@ -3,6 +3,7 @@ pub mod Held
 pub mod Buckets
 pub mod Hashing
 pub mod Places
+pub mod Parts
 pub mod Asked
 pub mod Round
 pub mod Laws
@@ -13,4 +14,5 @@ pub mod Saying
 pub mod RunLaws
 pub mod Order
 pub mod Run
+pub mod PartLaws
 pub mod Joined

@@ -36,34 +36,34 @@ HoldsAll m digests = (digest : List ℕ) → Has digests digest → IsHeld m dig
 abbrev pub HoldsWhatWasOffered : Map → List Frame → Type 0
 HoldsWhatWasOffered m heard = (have : List (List ℕ)) → Has heard (Have have) → HoldsAll m have
 
--- each is a digest, so it begins with a byte
-abbrev pub BeginWithBytes : List (List ℕ) → Type 0
-BeginWithBytes digests = (digest : List ℕ) → Has digests digest → place_of digest < 256
+-- A HAVE that was heard has this digest.
+abbrev pub IsOffered : List Frame → List ℕ → Type 0
+IsOffered heard digest = (have : List (List ℕ)) × Has heard (Have have) × Has have digest
 
--- A HAVE that was heard has those of some digests that lie in the places of each DIFFER that was said.
-abbrev pub OffersWhereTheyDiffer : List Frame → List Frame → List (List ℕ) → Type 0
-OffersWhereTheyDiffer heard told digests =
-    (places : List ℕ) → Has told (Differ places) → (digest : List ℕ) → Has digests digest
-    → is_in places digest ≡ true → (have : List (List ℕ)) × Has heard (Have have) × Has have digest
+-- the places in which a set has other buckets than some digests
+abbrev pub differing : Version → Map → List (List ℕ) → List ℕ
+differing version m theirs = unequal (bucket_list (offered version m)) (bucket_list theirs)
 
 -- The set that a side compared with BUCKETS of some digests: its holder had it, and DIFFER was said of the places in
 -- which it has other buckets. A holder that nobody else changes had it as the exchange began.
 pub record WasCompared {H : Type 0} (holds : H → Map) (alone : H → Type 0) (version : Version)
     (theirs : List (List ℕ)) (before : H) (told : List Frame) (after : H) (compared : Map) : Type 0 where
   pub had : WasHad (holds before) compared (holds after)
-  pub said : Has told (Differ (unequal (bucket_list (offered version compared)) (bucket_list theirs)))
+  pub said : Has told (Differ (differing version compared theirs))
   pub at_begin : alone before → compared ≡ holds before
 
 -- Where the BUCKETS that were heard are those of a set of digests, a set was compared with them. Where all that was
--- asked for was given, and what was offered has those of this set in the places of the DIFFER, the whole set is held,
--- if unequal digests of a place have unequal buckets in these two.
+-- asked for was given, each of these digests is held that was offered if it lies in the places of the DIFFER, if unequal
+-- digests of a place have unequal buckets in these two. So the whole set is held where a HAVE has all of it in these
+-- places.
 abbrev pub HoldsWhatWasShown
     : {H : Type 0} → (H → Map) → (H → Type 0) → Version → Type 0 → H → List Frame → List Frame → H → Type 0
 HoldsWhatWasShown holds alone version finished before heard told after =
     (theirs : List (List ℕ)) → Has heard (Buckets (bucket_list theirs))
     → (compared : Map) × WasCompared holds alone version theirs before told after compared
-    × (finished → BeginWithBytes theirs → OffersWhereTheyDiffer heard told theirs
-    → BucketsTell (offered version compared) theirs → HoldsAll (holds after) theirs)
+    × (finished → BucketsTell (offered version compared) theirs → (digest : List ℕ) → Has theirs digest
+    → place_of digest < 256 → (is_in (differing version compared theirs) digest ≡ true → IsOffered heard digest)
+    → IsHeld (holds after) digest)
 
 -- Each DIFFER among some frames is of no place.
 abbrev pub NoneDiffers : List Frame → Type 0

@@ -1,6 +1,7 @@
 //! What rounds come to: laws, said as contracts of functions with nothing to do.
 
 ghost use Rattle.exchange.specs.Laws.{RoundGivesAll, RoundByBucketsGivesAll, RoundsMakeEqual, RoundSaysFrames};
+ghost use Rattle.exchange.specs.PartLaws.{FittingTells, PartsEnd};
 ghost use Rattle.exchange.specs.Laws.{EqualDigestsTell, EqualPlacesTell, NoPlaceIsEqual};
 
 /// After a round in which each operation that was given was taken, the one side holds all that the
@@ -32,8 +33,21 @@ pub fn rounds_each_way_make_sites_equal()
     ensures { RoundsMakeEqual }
 {}
 
+/// What a HAVE tells where more is held in the places of a DIFFER than it may have: never more than
+/// that, and each place before that of the first digest that does not fit whole.
+pub fn a_have_tells_what_fits()
+    ensures { FittingTells }
+{}
+
+/// Where a HAVE has room for any one place, each exchange in parts makes two sites hold the same in
+/// one place more, the first in which they did not; so 256 exchanges are enough, whatever they hold.
+pub fn exchanges_in_parts_end()
+    ensures { PartsEnd }
+{}
+
 /// What a round says of a set of operations, each under its digest, is a frame, so it is written
-/// and read again: BUCKETS, DIFFER and WANT always, HAVE where it has 1,048,576 digests at most.
+/// and read again: BUCKETS, DIFFER and WANT always, HAVE where it has 1,048,576 digests at most, as
+/// it has where it answers a DIFFER.
 pub fn what_a_round_says_is_a_frame()
     ensures { RoundSaysFrames }
 {}

@@ -17,6 +17,7 @@ mod hearing;
 mod holder;
 mod laws;
 mod numbers;
+mod parts;
 mod role;
 mod round;
 mod run;
@@ -37,9 +38,9 @@ pub use exchange_frames::{
 pub use fault::{ExchangeFault, HolderFault};
 pub use holder::Holder;
 pub use laws::{
-    a_round_by_buckets_gives_all, a_round_gives_all, buckets_that_differ_nowhere_are_equal,
-    equal_digests_meet_the_premise_of_buckets, rounds_each_way_make_sites_equal,
-    what_a_round_says_is_a_frame,
+    a_have_tells_what_fits, a_round_by_buckets_gives_all, a_round_gives_all,
+    buckets_that_differ_nowhere_are_equal, equal_digests_meet_the_premise_of_buckets,
+    exchanges_in_parts_end, rounds_each_way_make_sites_equal, what_a_round_says_is_a_frame,
 };
 pub use numbers::numbers_are_these;
 pub use role::{Ended, Role};

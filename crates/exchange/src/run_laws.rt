@@ -6,13 +6,15 @@ ghost use Rattle.exchange.specs.Order.{SaysInOrder};
 use crate::holder::Holder;
 
 /// Where a caller and a callee each heard what the other said, a side that is finished holds in the
-/// end all that the other side offered, and so all that this held as the exchange began. Both agree
-/// or neither does, and where they do the buckets that were compared are equal.
+/// end all that the other side offered, and so all that this held as the exchange began, where what
+/// differs fits into one HAVE; and else the places that the HAVE tells whole. Both agree or neither
+/// does, and where they do the buckets that were compared are equal.
 pub fn an_exchange_gives_all<A: Holder, B: Holder>()
     ensures { ExchangeGivesAll A.holds A.alone B.holds B.alone }
 {}
 
-/// Where both are finished, and nobody else changes either holder, both hold the same in the end.
+/// Where both are finished, what differs fits into one HAVE each way, and nobody else changes either
+/// holder, both hold the same in the end.
 pub fn an_exchange_makes_holders_equal<A: Holder, B: Holder>()
     ensures { ExchangeMakesEqual A.holds A.alone B.holds B.alone }
 {}

@@ -11,11 +11,12 @@ ghost use Rattle.exchange.specs.Round.{IsFinished};
 
 use crate::fault::ExchangeFault;
 use crate::holder::Holder;
+use crate::parts::fitting;
 use crate::role::{Ended, Role};
 use crate::round::Round;
 use crate::task::{Awaited, Task, task_of};
 use crate::version::Version;
-use exchange_frames::{Digests, Frame};
+use exchange_frames::{Digests, Frame, MOST_DIGESTS};
 use octets::ListOf;
 use operation::{Digest, Op, Taken};
 use std::alloc::Global;
@@ -254,7 +255,8 @@ impl Side {
         Ok(Said::One(Frame::Differ(places)))
     }
 
-    /// Answers DIFFER.
+    /// Answers DIFFER. Where more is held in its places than a HAVE may have, the HAVE has what is
+    /// held in the first of them, and the rest is left to a later exchange.
     fn offer<H: Holder>(
         &mut self,
         alloc: Global,
@@ -267,7 +269,8 @@ impl Side {
         ensures refused { IsErrOf result ExchangeFault.Refused → HasRefused H.refuses_look
             H.refuses_take (tasks.Offer places.now) holder.old holder.new }
     {
-        let have = self.round.on_differ(alloc, holder, places)?;
+        let held = self.round.on_differ(alloc, holder, places)?;
+        let have = fitting(alloc, held, MOST_DIGESTS)?;
         self.agreed = agreed_with(self.agreed, places);
         self.awaited = Awaited::Want;
         Ok(Said::One(Frame::Have(have)))
