@@ -22,13 +22,13 @@ as_many (e ∷ es) = ap suc (as_many es)
 
 module _ (m : Map) (es : List (List ℕ × Op)) (view : from_entries es ≡ m)
     (sorted : IsStrictlySortedBy digest_cmp (keys_of es)) (site : IsSite (of_entries es)) (index : IndexValue)
-    (own : HasIndex (of_entries es) index) (n a : ℕ) (all : n ≡ length es) (copies : a ≡ length index.0.0) where
+    (own : HasIndex (of_entries es) index) (n a : ℕ) (all : n ≡ length es) (copies : a ≡ length index.copies) where
   all_are : n ≡ length (ops_of m)
   all_are = all ∙ as_many es ∙ ap length (tree_ops m es view sorted)
 
   contents_are : a ≡ length (contents (ops_of m))
   contents_are =
-      copies ∙ ap (λ (v : IndexValue). length v.0.0) own
+      copies ∙ ap (λ (v : IndexValue). length v.copies) own
       ∙ contents_counted (ops_of (of_entries es)) (ops_ascend (of_entries es) site)
       ∙ ap (λ (k : Map). length (contents (ops_of k))) view
 

@@ -36,7 +36,7 @@ held_under m site o h =
 -- ---- picks
 
 module _ (m : Map) (index : IndexValue) (site : IsSite m) (is : IsIndexOf (ops_of m) index) (uid : List ℕ) where
-  pub none_picked : None ≡ pick_at uid index.1.1.1 → None ≡ pick uid (ops_of m)
+  pub none_picked : None ≡ pick_at uid index.picks → None ≡ pick uid (ops_of m)
   none_picked e = by (pick uid (ops_of m)) refl
     where
       by : (r : Option ContentParts) → pick uid (ops_of m) ≡ r → None ≡ r
@@ -44,23 +44,24 @@ module _ (m : Map) (index : IndexValue) (site : IsSite m) (is : IsIndexOf (ops_o
       by (Some c) p = absurd (let f : None ≡ Some (pick_of c) = e ∙ is.picks uid ∙ ap (option_map pick_of) p in cc)
 
   -- the digest of a pick is that of the content that is picked, which is held
-  pub found : (p : Pick) → Some p ≡ pick_at uid index.1.1.1 → (c : ContentParts) × (pick uid (ops_of m) ≡ Some c)
-      × (held_at m p.0 ≡ Some (a_content c))
+  pub found : (p : Pick) → Some p ≡ pick_at uid index.picks → (c : ContentParts) × (pick uid (ops_of m) ≡ Some c)
+      × (held_at m p.digest ≡ Some (a_content c))
   found p e = by (pick uid (ops_of m)) refl
     where
       by : (r : Option ContentParts) → pick uid (ops_of m) ≡ r → (c : ContentParts) × (pick uid (ops_of m) ≡ Some c)
-          × (held_at m p.0 ≡ Some (a_content c))
+          × (held_at m p.digest ≡ Some (a_content c))
       by None q = absurd (let f : Some p ≡ None = e ∙ is.picks uid ∙ ap (option_map pick_of) q in cc)
       by (Some c) q =
           let f : Some p ≡ Some (pick_of c) = e ∙ is.picks uid ∙ ap (option_map pick_of) q in
           let one : p ≡ pick_of c = cc in (
             c,
             q,
-            ap (λ (x : Pick). held_at m x.0) one ∙ held_under m site (a_content c)
+            ap (λ (x : Pick). held_at m x.digest) one ∙ held_under m site (a_content c)
                 (content_has (ops_of m) c (pick_is_content uid (ops_of m) c q).0),
           )
 
-  pub is_picked : (p : Pick) → Some p ≡ pick_at uid index.1.1.1 → content_held (held_at m p.0) ≡ pick uid (ops_of m)
+  pub is_picked : (p : Pick) → Some p ≡ pick_at uid index.picks → content_held (held_at m p.digest) ≡ pick uid
+      (ops_of m)
   is_picked p e = let there = found p e in ap content_held there.2 ∙ sym there.1
 
 -- ---- what is covered
@@ -114,9 +115,9 @@ covered_is view ops uid = both_ways _ _ there back
 -- ---- attributes
 
 pub value_is : (own : List ℕ) (r : Option CorrectionParts) (f : Fix) → Some f ≡ option_map fix_of r
-    → f.1.1 ≡ corrected own r
+    → f.value ≡ corrected own r
 value_is own None f e = absurd cc
-value_is own (Some k) f e = let one : f ≡ fix_of k = cc in ap (λ (x : Fix). x.1.1) one
+value_is own (Some k) f e = let one : f ≡ fix_of k = cc in ap (λ (x : Fix). x.value) one
 
 pub own_is : (own : List ℕ) (r : Option CorrectionParts) → None ≡ option_map fix_of r → own ≡ corrected own r
 own_is own None e = refl

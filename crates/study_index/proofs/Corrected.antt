@@ -257,24 +257,24 @@ none_long target tag (k ∷ ks) all long = none_more (is_fix target tag) k ks (b
     by false e = refl
 
 module _ (ops : List Op) (index : IndexValue) (is : IsIndexOf ops index) (lawful : AreLawful ops) where
-  short_is : (target : Target) (tag : ℕ) → short_fix_at (fix_key target tag) index.1.1.0 ≡ last_fix target
+  short_is : (target : Target) (tag : ℕ) → short_fix_at (fix_key target tag) index.fixes ≡ last_fix target
       tag (corrections ops)
   short_is target tag = by (is_short (key_of target)) refl
     where
-      by : (b : Bool) → is_short (key_of target) ≡ b → (if b then fix_at (fix_key target tag) index.1.1.0 else None)
+      by : (b : Bool) → is_short (key_of target) ≡ b → (if b then fix_at (fix_key target tag) index.fixes else None)
           ≡ last_fix target tag (corrections ops)
       by true e = is.fixes target tag
       by false e = sym (none_long target tag (corrections ops) (lawful_of ops lawful) e)
 
   -- what is looked up is the correction that counts
-  pub latest_is : (c : ContentParts) (tag : ℕ) → latest_at c tag index.1.1.0 ≡ option_map
+  pub latest_is : (c : ContentParts) (tag : ℕ) → latest_at c tag index.fixes ≡ option_map
       fix_of (correction_for ops c tag)
   latest_is c tag =
       ap (λ x. greatest_of fix_cmp x (greatest_of fix_cmp (short_fix_at (fix_key (Patient (patient_of c)) tag)
-      index.1.1.0) (short_fix_at (fix_key (Series (series_of c)) tag) index.1.1.0)))
+      index.fixes) (short_fix_at (fix_key (Series (series_of c)) tag) index.fixes)))
       (short_is (Study (study_of c)) tag)
       ∙ ap (λ x. greatest_of fix_cmp (last_fix (Study (study_of c)) tag (corrections ops))
-      (greatest_of fix_cmp x (short_fix_at (fix_key (Series (series_of c)) tag) index.1.1.0)))
+      (greatest_of fix_cmp x (short_fix_at (fix_key (Series (series_of c)) tag) index.fixes)))
       (short_is (Patient (patient_of c)) tag)
       ∙ ap (λ x. greatest_of fix_cmp (last_fix (Study (study_of c)) tag (corrections ops))
       (greatest_of fix_cmp (last_fix (Patient (patient_of c)) tag (corrections ops)) x))

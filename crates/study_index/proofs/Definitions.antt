@@ -39,7 +39,8 @@ use Rattle.join_laws.specs.Proved.Maps.{lookup-map_joined}
 use Rattle.join_laws.proofs.Folds.{value_held}
 use Rattle.study_index.specs.Keys.{has}
 use Rattle.study_index.specs.Live.{Text, pick_cmp, flat, pick_at}
-use Rattle.study_index.specs.Index.{FixKey, Fix, IndexValue, copy_cmp, naming_cmp, fix_key_cmp, fix_cmp, fixes_joined}
+use Rattle.study_index.specs.Index.{FixKey, Fix, IndexValue, a_copy, a_naming, copy_cmp, naming_cmp, fix_key_cmp}
+use Rattle.study_index.specs.Index.{fix_cmp, fixes_joined}
 use Rattle.study_index.specs.Index.{IsIndex, index_joined, nothing, is_short, namings, titles_of, pick_of, fix_key}
 use Rattle.study_index.specs.Index.{fix_of, index_of, fix_at}
 use Rattle.study_index.specs.Definition.{IsIndexOf}
@@ -79,7 +80,8 @@ and_swapped false false = refl
 
 -- ---- copies
 
-pub at_copy : (uid digest instance other : Text) → is_at (copy_cmp (uid, digest)) (instance, other) ≡ (same instance uid
+pub at_copy : (uid digest instance other : Text) → is_at (copy_cmp (a_copy uid digest)) (a_copy instance other) ≡
+    (same instance uid
     && is_at (text_cmp digest) other)
 at_copy uid digest instance other = then_eq (text_cmp uid instance) (text_cmp digest other)
     ∙ ap (λ b. b && is_eq (text_cmp digest other)) (at_text uid instance)
@@ -91,34 +93,36 @@ one_copy : (b : Bool) (uid digest : Text) (op : Op) (ops : List Op) → is_conte
 one_copy true uid digest op ops e = refl
 one_copy false uid digest op ops e = refl
 
-pub has_copy : (ops : List Op) (uid digest : Text) → has copy_cmp (value ops).0.0 (uid, digest) ≡ has text_cmp
+pub has_copy : (ops : List Op) (uid digest : Text) → has copy_cmp (value ops).copies (a_copy uid digest) ≡ has text_cmp
     (copies uid ops) digest
 has_copy [] uid digest = refl
 has_copy (a_content c ∷ ops) uid digest =
-    has-union copy_total copy_exact (uid, digest) (value ops).0.0 ((c.instance, digest_of (a_content c)) ∷ [])
-    ∙ ap (λ b. (b || false) || has copy_cmp (value ops).0.0 (uid, digest))
+    has-union copy_total copy_exact (a_copy uid digest) (value ops).copies
+    (a_copy c.instance (digest_of (a_content c)) ∷ [])
+    ∙ ap (λ b. (b || false) || has copy_cmp (value ops).copies (a_copy uid digest))
     (at_copy uid digest c.instance (digest_of (a_content c)))
-    ∙ ap (λ b. b || has copy_cmp (value ops).0.0 (uid, digest)) (or_none _)
+    ∙ ap (λ b. b || has copy_cmp (value ops).copies (a_copy uid digest)) (or_none _)
     ∙ ap (λ b. (same c.instance uid && is_at (text_cmp digest) (digest_of (a_content c))) || b)
     (has_copy ops uid digest)
     ∙ one_copy (same c.instance uid) uid digest (a_content c) ops refl
-has_copy (a_correction k ∷ ops) uid digest = has-union copy_total copy_exact (uid, digest) (value ops).0.0 []
+has_copy (a_correction k ∷ ops) uid digest = has-union copy_total copy_exact (a_copy uid digest) (value ops).copies []
     ∙ has_copy ops uid digest
 
 -- ---- leads
 
-has_lead : (ops : List Op) (lead : Lead) → has lead_cmp (value ops).0.1 lead ≡ is_lead ops lead
+has_lead : (ops : List Op) (lead : Lead) → has lead_cmp (value ops).leads lead ≡ is_lead ops lead
 has_lead [] lead = refl
 has_lead (a_content c ∷ ops) lead =
-    has-union lead_total lead_exact lead (value ops).0.1 (leads_of (a_content c))
+    has-union lead_total lead_exact lead (value ops).leads (leads_of (a_content c))
     ∙ ap (λ b. has lead_cmp (leads_of (a_content c)) lead || b) (has_lead ops lead)
 has_lead (a_correction k ∷ ops) lead =
-    has-union lead_total lead_exact lead (value ops).0.1 (leads_of (a_correction k))
+    has-union lead_total lead_exact lead (value ops).leads (leads_of (a_correction k))
     ∙ ap (λ b. has lead_cmp (leads_of (a_correction k)) lead || b) (has_lead ops lead)
 
 -- ---- titles
 
-at_naming : (uid other : Text) (m n : ℕ) → is_at (naming_cmp (uid, m)) (other, n) ≡ (same other uid && (n == m))
+at_naming : (uid other : Text) (m n : ℕ) → is_at (naming_cmp (a_naming uid m)) (a_naming other n) ≡
+    (same other uid && (n == m))
 at_naming uid other m n =
     then_eq (text_cmp uid other) (nat_cmp m n) ∙ ap (λ b. b && is_eq (nat_cmp m n)) (at_text uid other)
     ∙ ap (λ b. same other uid && b) (at_number m n ∙ swapped)
@@ -141,7 +145,8 @@ spread false true r = refl
 spread false false r = refl
 
 has_namings : (uid : Text) (title own : NoteTitle) (uids : List Text) → IsTrue (is_short uid)
-    → has naming_cmp (map (λ u. (u, code_of own)) (filter is_short uids)) (uid, code_of title) ≡ (code_of own == code_of
+    → has naming_cmp (map (λ u. a_naming u (code_of own)) (filter is_short uids)) (a_naming uid (code_of title)) ≡
+    (code_of own == code_of
     title && list_any (λ u. same u uid) uids)
 has_namings uid title own [] short = none (code_of own == code_of title)
   where
@@ -150,12 +155,15 @@ has_namings uid title own [] short = none (code_of own == code_of title)
     none false = refl
 has_namings uid title own (u ∷ uids) short = by (is_short u) refl (has_namings uid title own uids short)
   where
-    by : (b : Bool) → is_short u ≡ b → has naming_cmp (map (λ x. (x, code_of own)) (filter is_short uids))
-        (uid, code_of title) ≡ (code_of own == code_of title && list_any (λ x. same x uid) uids)
-        → has naming_cmp (map (λ x. (x, code_of own)) (cond b (u ∷ filter is_short uids) (filter is_short uids)))
-        (uid, code_of title) ≡ (code_of own == code_of title && (same u uid || list_any (λ x. same x uid) uids))
+    by : (b : Bool) → is_short u ≡ b → has naming_cmp (map (λ x. a_naming x (code_of own)) (filter is_short uids))
+        (a_naming uid (code_of title)) ≡ (code_of own == code_of title && list_any (λ x. same x uid) uids)
+        → has naming_cmp (map (λ x. a_naming x (code_of own)) (cond b (u ∷ filter is_short uids)
+        (filter is_short uids)))
+        (a_naming uid (code_of title)) ≡ (code_of own == code_of title && (same u uid || list_any
+        (λ x. same x uid) uids))
     by true e later =
-        ap (λ b. b || has naming_cmp (map (λ x. (x, code_of own)) (filter is_short uids)) (uid, code_of title))
+        ap (λ b. b || has naming_cmp (map (λ x. a_naming x (code_of own)) (filter is_short uids))
+        (a_naming uid (code_of title)))
         (at_naming uid u (code_of title) (code_of own))
         ∙ ap (λ b. (same u uid && (code_of own == code_of title)) || b) later
         ∙ spread (same u uid) (code_of own == code_of title) (list_any (λ x. same x uid) uids)
@@ -165,20 +173,22 @@ has_namings uid title own (u ∷ uids) short = by (is_short u) refl (has_namings
         (sym (not_longer uid u short e))
 
 has_titles : (uid : Text) (title : NoteTitle) (note : Option Note) → IsTrue (is_short uid)
-    → has naming_cmp (titles_of note) (uid, code_of title) ≡ names_under title uid note
+    → has naming_cmp (titles_of note) (a_naming uid (code_of title)) ≡ names_under title uid note
 has_titles uid title None short = refl
-has_titles uid title (Some note) short = has-union naming_total naming_exact (uid, code_of title) (namings note) []
+has_titles uid title (Some note) short = has-union naming_total naming_exact (a_naming uid (code_of title))
+    (namings note) []
     ∙ has_namings uid title note.title note.covers short
 
-has_title : (ops : List Op) (uid : Text) (title : NoteTitle) → IsTrue (is_short uid) → has naming_cmp (value ops).1.0
-    (uid, code_of title) ≡ is_titled ops uid title
+has_title : (ops : List Op) (uid : Text) (title : NoteTitle) → IsTrue (is_short uid) → has naming_cmp (value ops).titles
+    (a_naming uid (code_of title)) ≡ is_titled ops uid title
 has_title [] uid title short = refl
 has_title (a_content c ∷ ops) uid title short =
-    has-union naming_total naming_exact (uid, code_of title) (value ops).1.0 (titles_of c.note)
-    ∙ ap (λ b. b || has naming_cmp (value ops).1.0 (uid, code_of title)) (has_titles uid title c.note short)
+    has-union naming_total naming_exact (a_naming uid (code_of title)) (value ops).titles (titles_of c.note)
+    ∙ ap (λ b. b || has naming_cmp (value ops).titles (a_naming uid (code_of title)))
+    (has_titles uid title c.note short)
     ∙ ap (λ b. names_under title uid c.note || b) (has_title ops uid title short)
-has_title (a_correction k ∷ ops) uid title short = has-union naming_total naming_exact (uid, code_of title)
-    (value ops).1.0 [] ∙ has_title ops uid title short
+has_title (a_correction k ∷ ops) uid title short = has-union naming_total naming_exact (a_naming uid (code_of title))
+    (value ops).titles [] ∙ has_title ops uid title short
 
 -- ---- corrections
 
@@ -317,19 +327,19 @@ one_fix_more : (b : Bool) (k : CorrectionParts) (ks : List CorrectionParts)
 one_fix_more true k ks = sym (greatest_more k ks)
 one_fix_more false k ks = refl
 
-has_fix : (ops : List Op) (target : Target) (tag : ℕ) → fix_at (fix_key target tag) (value ops).1.1.0 ≡ option_map
+has_fix : (ops : List Op) (target : Target) (tag : ℕ) → fix_at (fix_key target tag) (value ops).fixes ≡ option_map
     fix_of (fix target tag ops)
 has_fix [] target tag = refl
 has_fix (a_content c ∷ ops) target tag =
-    fix_at-joined [] (value ops).1.1.0 index_laws_none (held ops).1.1.0.0 (fix_key target tag) ∙ has_fix ops target tag
+    fix_at-joined [] (value ops).fixes index_laws_none (held ops).fixes.0 (fix_key target tag) ∙ has_fix ops target tag
   where
-    index_laws_none : IsStrictlySortedBy fix_key_cmp (keys_of (index_of (a_content c)).1.1.0)
-    index_laws_none = (index_summary_laws.one_held (a_content c)).1.1.0.0
+    index_laws_none : IsStrictlySortedBy fix_key_cmp (keys_of (index_of (a_content c)).fixes)
+    index_laws_none = (index_summary_laws.one_held (a_content c)).fixes.0
 has_fix (a_correction k ∷ ops) target tag =
-    fix_at-joined (entry (fix_key k.target k.tag) (Some (fix_of k))) (value ops).1.1.0
-    (index_summary_laws.one_held (a_correction k)).1.1.0.0 (held ops).1.1.0.0 (fix_key target tag)
+    fix_at-joined (entry (fix_key k.target k.tag) (Some (fix_of k))) (value ops).fixes
+    (index_summary_laws.one_held (a_correction k)).fixes.0 (held ops).fixes.0 (fix_key target tag)
     ∙ ap (λ b. greatest_of fix_cmp (flat (cond b (Some (Some (fix_of k))) None))
-    (fix_at (fix_key target tag) (value ops).1.1.0)) (at_key target tag k)
+    (fix_at (fix_key target tag) (value ops).fixes)) (at_key target tag k)
     ∙ ap (greatest_of fix_cmp (flat (cond (is_fix target tag k) (Some (Some (fix_of k))) None)))
     (has_fix ops target tag)
     ∙ one_fix_more (is_fix target tag k) k (filter (is_fix target tag) (corrections ops))
@@ -358,7 +368,8 @@ first_is_least c ops uid up = by (pick uid ops) refl
         let less : text_cmp (digest_of (a_content c)) (digest_of (a_content d)) ≡ Less =
         all_has (λ t. text_cmp (digest_of (a_content c)) t ≡ Less) ops (a_content d)
         up.0 (content_has ops d (pick_is_content uid ops d e).0) in
-        let rest = ordering_then (text_cmp (pick_of d).1.0 (pick_of c).1.0) (text_cmp (pick_of d).1.1 (pick_of c).1.1)
+        let rest = ordering_then (text_cmp (pick_of d).study (pick_of c).study) (text_cmp (pick_of d).series
+        (pick_of c).series)
         in
         let later : is_lt (pick_cmp (pick_of d) (pick_of c)) ≡ false =
         ap (λ x. is_lt (ordering_then x rest)) (nat_list_cmp_total.antisymm (digest_of (a_content d))
@@ -366,14 +377,14 @@ first_is_least c ops uid up = by (pick uid ops) refl
         in
         ap (λ b. Some (cond b (pick_of d) (pick_of c))) later
 
-has_pick : (ops : List Op) → Ascend ops → (uid : Text) → pick_at uid (value ops).1.1.1 ≡ option_map
+has_pick : (ops : List Op) → Ascend ops → (uid : Text) → pick_at uid (value ops).picks ≡ option_map
     pick_of (pick uid ops)
 unfolding IsStrictlySortedBy
 has_pick [] up uid = refl
 has_pick (a_content c ∷ ops) up uid =
-    pick_at-joined (entry c.instance (Some (pick_of c))) (value ops).1.1.1
-    (index_summary_laws.one_held (a_content c)).1.1.1.0 (held ops).1.1.1.0 uid
-    ∙ ap (λ b. least_of pick_cmp (flat (cond b (Some (Some (pick_of c))) None)) (pick_at uid (value ops).1.1.1))
+    pick_at-joined (entry c.instance (Some (pick_of c))) (value ops).picks
+    (index_summary_laws.one_held (a_content c)).picks.0 (held ops).picks.0 uid
+    ∙ ap (λ b. least_of pick_cmp (flat (cond b (Some (Some (pick_of c))) None)) (pick_at uid (value ops).picks))
     (at_text uid c.instance)
     ∙ ap (least_of pick_cmp (flat (cond (same c.instance uid) (Some (Some (pick_of c))) None))) (has_pick ops up.1 uid)
     ∙ by (same c.instance uid)
@@ -383,7 +394,7 @@ has_pick (a_content c ∷ ops) up uid =
     by true = first_is_least c ops uid up
     by false = refl
 has_pick (a_correction k ∷ ops) up uid =
-    pick_at-joined [] (value ops).1.1.1 index_summary_laws.nothing_held.1.1.1.0 (held ops).1.1.1.0 uid
+    pick_at-joined [] (value ops).picks index_summary_laws.nothing_held.picks.0 (held ops).picks.0 uid
     ∙ has_pick ops up.1 uid
 
 -- ---- the whole

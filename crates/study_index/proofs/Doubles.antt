@@ -49,76 +49,81 @@ none_here true = refl
 none_here false = refl
 
 -- copies ascend by UID
-uid_up : (b c : Copy) → copy_cmp b c ≡ Less → same b.0 c.0 ≡ false → text_cmp b.0 c.0 ≡ Less
-uid_up b c less apart = by (text_cmp b.0 c.0) refl less
+uid_up : (b c : Copy) → copy_cmp b c ≡ Less → same b.uid c.uid ≡ false → text_cmp b.uid c.uid ≡ Less
+uid_up b c less apart = by (text_cmp b.uid c.uid) refl less
   where
-    by : (o : Ordering) → text_cmp b.0 c.0 ≡ o → ordering_then o (text_cmp b.1 c.1) ≡ Less → text_cmp b.0 c.0 ≡ Less
+    by : (o : Ordering) → text_cmp b.uid c.uid ≡ o → ordering_then o (text_cmp b.digest c.digest) ≡ Less
+        → text_cmp b.uid c.uid ≡ Less
     by Less e l = e
-    by Equal e l = absurd (true≢false (sym (same_itself b.0 c.0 (text_exact b.0 c.0 e)) ∙ apart))
+    by Equal e l = absurd (true≢false (sym (same_itself b.uid c.uid (text_exact b.uid c.uid e)) ∙ apart))
     by Greater e l = absurd cc
 
 below_apart : (uid t : Text) → text_cmp uid t ≡ Less → same t uid ≡ false
 below_apart uid t less = sym (at_text uid t) ∙ ap is_eq less
 
-further : (uid : Text) (c d : Copy) → text_cmp uid c.0 ≡ Less → copy_cmp c d ≡ Less → text_cmp uid d.0 ≡ Less
-further uid c d below less = by (text_cmp c.0 d.0) refl less
+further : (uid : Text) (c d : Copy) → text_cmp uid c.uid ≡ Less → copy_cmp c d ≡ Less → text_cmp uid d.uid ≡ Less
+further uid c d below less = by (text_cmp c.uid d.uid) refl less
   where
-    by : (o : Ordering) → text_cmp c.0 d.0 ≡ o → ordering_then o (text_cmp c.1 d.1) ≡ Less → text_cmp uid d.0 ≡ Less
-    by Less e l = nat_list_cmp_total.trans uid c.0 d.0 below e
-    by Equal e l = ap (text_cmp uid) (sym (text_exact c.0 d.0 e)) ∙ below
+    by : (o : Ordering) → text_cmp c.uid d.uid ≡ o → ordering_then o (text_cmp c.digest d.digest) ≡ Less
+        → text_cmp uid d.uid ≡ Less
+    by Less e l = nat_list_cmp_total.trans uid c.uid d.uid below e
+    by Equal e l = ap (text_cmp uid) (sym (text_exact c.uid d.uid e)) ∙ below
     by Greater e l = absurd cc
 
 -- no copy of a UID stands past one of a greater UID
-none_past : (uid : Text) (c : Copy) (cs : List Copy) → text_cmp uid c.0 ≡ Less
+none_past : (uid : Text) (c : Copy) (cs : List Copy) → text_cmp uid c.uid ≡ Less
     → AllByRecursion (λ d. copy_cmp c d ≡ Less) cs → filter (is_copy_of uid) cs ≡ []
 none_past uid c [] below all = refl
 none_past uid c (d ∷ cs) below all = ap (λ b. cond b (d ∷ filter (is_copy_of uid) cs) (filter (is_copy_of uid) cs))
-    (below_apart uid d.0 (further uid c d below all.0)) ∙ none_past uid c cs below all.1
+    (below_apart uid d.uid (further uid c d below all.0)) ∙ none_past uid c cs below all.1
 
 -- behind a copy of the UID one more is enough, and behind another two are
 pub counted : (b : Copy) (cs : List Copy) (uid : Text) → IsStrictlySortedBy copy_cmp (b ∷ cs) → repeats (Some b) cs
-    uid ≡ cond (same b.0 uid) (is_some_there (filter (is_copy_of uid) cs)) (are_two_there (filter (is_copy_of uid) cs))
+    uid ≡ cond (same b.uid uid) (is_some_there (filter (is_copy_of uid) cs))
+    (are_two_there (filter (is_copy_of uid) cs))
 unfolding IsStrictlySortedBy
-counted b [] uid up = nothing (same b.0 uid)
+counted b [] uid up = nothing (same b.uid uid)
   where
     nothing : (t : Bool) → false ≡ cond t false false
     nothing true = refl
     nothing false = refl
-counted b (c ∷ cs) uid up = by (same b.0 uid) (same c.0 uid) refl refl (counted c cs uid up.1)
+counted b (c ∷ cs) uid up = by (same b.uid uid) (same c.uid uid) refl refl (counted c cs uid up.1)
   where
     rest : List Copy
     rest = filter (is_copy_of uid) cs
 
-    by : (t s : Bool) → same b.0 uid ≡ t → same c.0 uid ≡ s → repeats (Some c) cs uid ≡ cond
+    by : (t s : Bool) → same b.uid uid ≡ t → same c.uid uid ≡ s → repeats (Some c) cs uid ≡ cond
         s (is_some_there (filter (is_copy_of uid) cs)) (are_two_there (filter (is_copy_of uid) cs))
-        → ((same b.0 c.0 && s) || repeats (Some c) cs uid) ≡ cond
+        → ((same b.uid c.uid && s) || repeats (Some c) cs uid) ≡ cond
         t (is_some_there (cond s (c ∷ filter (is_copy_of uid) cs) (filter (is_copy_of uid) cs)))
         (are_two_there (cond s (c ∷ filter (is_copy_of uid) cs) (filter (is_copy_of uid) cs)))
     by true true e f more = ap (λ x. (x && true) || repeats (Some c) cs uid)
-        (same_itself b.0 c.0 (same_is b.0 uid e ∙ sym (same_is c.0 uid f)))
+        (same_itself b.uid c.uid (same_is b.uid uid e ∙ sym (same_is c.uid uid f)))
     by true false e f more =
-        let is : b.0 ≡ uid = same_is b.0 uid e in
-        let apart : same b.0 c.0 ≡ false = below_no (same b.0 c.0) refl in
-        let past : text_cmp uid c.0 ≡ Less = ap (λ u. text_cmp u c.0) (sym is) ∙ uid_up b c up.0.0 apart in
+        let is : b.uid ≡ uid = same_is b.uid uid e in
+        let apart : same b.uid c.uid ≡ false = below_no (same b.uid c.uid) refl in
+        let past : text_cmp uid c.uid ≡ Less = ap (λ u. text_cmp u c.uid) (sym is) ∙ uid_up b c up.0.0 apart in
         let none : filter (is_copy_of uid) cs ≡ [] = none_past uid c cs past up.1.0 in
-        ap (λ x. x || repeats (Some c) cs uid) (none_here (same b.0 c.0)) ∙ more ∙ ap are_two_there none
+        ap (λ x. x || repeats (Some c) cs uid) (none_here (same b.uid c.uid)) ∙ more ∙ ap are_two_there none
         ∙ sym (ap is_some_there none)
       where
-        below_no : (x : Bool) → same b.0 c.0 ≡ x → x ≡ false
-        below_no true g = absurd (true≢false (sym (same_itself c.0 uid (sym (same_is b.0 c.0 g) ∙ same_is b.0 uid e))
+        below_no : (x : Bool) → same b.uid c.uid ≡ x → x ≡ false
+        below_no true g = absurd (true≢false
+            (sym (same_itself c.uid uid (sym (same_is b.uid c.uid g) ∙ same_is b.uid uid e))
             ∙ f))
         below_no false g = refl
-    by false true e f more = ap (λ x. (x && true) || repeats (Some c) cs uid) (apart (same b.0 c.0) refl) ∙ more
+    by false true e f more = ap (λ x. (x && true) || repeats (Some c) cs uid) (apart (same b.uid c.uid) refl) ∙ more
       where
-        apart : (x : Bool) → same b.0 c.0 ≡ x → x ≡ false
-        apart true g = absurd (true≢false (sym (same_itself b.0 uid (same_is b.0 c.0 g ∙ same_is c.0 uid f)) ∙ e))
+        apart : (x : Bool) → same b.uid c.uid ≡ x → x ≡ false
+        apart true g = absurd (true≢false (sym (same_itself b.uid uid (same_is b.uid c.uid g ∙ same_is c.uid uid f))
+            ∙ e))
         apart false g = refl
-    by false false e f more = ap (λ x. x || repeats (Some c) cs uid) (none_here (same b.0 c.0)) ∙ more
+    by false false e f more = ap (λ x. x || repeats (Some c) cs uid) (none_here (same b.uid c.uid)) ∙ more
 
 pub all_counted : (cs : List Copy) (uid : Text) → IsStrictlySortedBy copy_cmp cs → repeats None cs uid ≡ is_doubled cs
     uid
 all_counted [] uid up = refl
-all_counted (c ∷ cs) uid up = counted c cs uid up ∙ by (same c.0 uid) ∙ are_two (filter (is_copy_of uid) (c ∷ cs))
+all_counted (c ∷ cs) uid up = counted c cs uid up ∙ by (same c.uid uid) ∙ are_two (filter (is_copy_of uid) (c ∷ cs))
   where
     by : (s : Bool) → cond s (is_some_there (filter (is_copy_of uid) cs)) (are_two_there (filter (is_copy_of uid) cs))
         ≡ are_two_there (cond s (c ∷ filter (is_copy_of uid) cs) (filter (is_copy_of uid) cs))
@@ -143,12 +148,12 @@ or_none false = refl
 
 -- the UID of the copy was put in
 pub put_in : (before : Option Copy) (c : Copy) (old new : List Text) (uid : Text) → is_next_copy before c ≡ true
-    → new ≡ insert_key text_cmp old c.0 → has text_cmp new
+    → new ≡ insert_key text_cmp old c.uid → has text_cmp new
     uid ≡ (has text_cmp old uid || (is_next_copy before c && is_copy_of uid c))
 put_in before c old new uid next is =
-    ap (λ us. has text_cmp us uid) is ∙ has-insert_key nat_list_cmp_total text_exact uid c.0 old
-    ∙ or_swapped (is_at (text_cmp uid) c.0) (has text_cmp old uid)
-    ∙ ap (λ b. has text_cmp old uid || b) (at_text uid c.0)
+    ap (λ us. has text_cmp us uid) is ∙ has-insert_key nat_list_cmp_total text_exact uid c.uid old
+    ∙ or_swapped (is_at (text_cmp uid) c.uid) (has text_cmp old uid)
+    ∙ ap (λ b. has text_cmp old uid || b) (at_text uid c.uid)
     ∙ ap (λ b. has text_cmp old uid || (b && is_copy_of uid c)) (sym next)
 
 -- it was not, and nothing changed

@@ -29,7 +29,7 @@ use Rattle.join_laws.specs.GrowSet.{only}
 use Rattle.join_laws.specs.Proved.Sets.{same_keys, set_laws}
 use Rattle.study_index.specs.Keys.{has}
 use Rattle.study_index.specs.Live.{Text}
-use Rattle.study_index.specs.Index.{Copy, IndexValue, copy_cmp}
+use Rattle.study_index.specs.Index.{Copy, IndexValue, a_copy, copy_cmp}
 use Rattle.study_index.specs.Definition.{IsIndexOf, index_value}
 use Rattle.study_index.specs.Copies.{is_copy_of, is_doubled}
 use Rattle.study_index.specs.Proved.Picks.{text_exact}
@@ -40,43 +40,44 @@ use Rattle.study_index.proofs.Studies.{both_ways}
 -- ---- the digests of the copies of a UID
 
 abbrev digests : Text → List Copy → List Text
-digests uid cs = map (λ c. c.1) (filter (is_copy_of uid) cs)
+digests uid cs = map (λ c. c.digest) (filter (is_copy_of uid) cs)
 
 -- copies of one UID ascend by digest
-above : (uid : Text) (c : Copy) (cs : List Copy) → c.0 ≡ uid → AllByRecursion (λ d. copy_cmp c d ≡ Less) cs
-    → AllByRecursion (λ t. text_cmp c.1 t ≡ Less) (digests uid cs)
+above : (uid : Text) (c : Copy) (cs : List Copy) → c.uid ≡ uid → AllByRecursion (λ d. copy_cmp c d ≡ Less) cs
+    → AllByRecursion (λ t. text_cmp c.digest t ≡ Less) (digests uid cs)
 above uid c [] is all = tt
-above uid c (d ∷ cs) is all = by (same d.0 uid) refl (above uid c cs is all.1)
+above uid c (d ∷ cs) is all = by (same d.uid uid) refl (above uid c cs is all.1)
   where
-    by : (b : Bool) → same d.0 uid ≡ b → AllByRecursion (λ t. text_cmp c.1 t ≡ Less) (digests uid cs)
-        → AllByRecursion (λ t. text_cmp c.1 t ≡ Less)
-        (map (λ x. x.1) (cond b (d ∷ filter (is_copy_of uid) cs) (filter (is_copy_of uid) cs)))
+    by : (b : Bool) → same d.uid uid ≡ b → AllByRecursion (λ t. text_cmp c.digest t ≡ Less) (digests uid cs)
+        → AllByRecursion (λ t. text_cmp c.digest t ≡ Less)
+        (map (λ x. x.digest) (cond b (d ∷ filter (is_copy_of uid) cs) (filter (is_copy_of uid) cs)))
     by true e later =
-        let one : c.0 ≡ d.0 = is ∙ sym (same_is d.0 uid e) in
-        let tie : text_cmp c.0 d.0 ≡ Equal = ap (text_cmp c.0) (sym one) ∙ tied_itself nat_list_cmp_total c.0 in
-        (sym (ap (λ o. ordering_then o (text_cmp c.1 d.1)) tie) ∙ all.0, later)
+        let one : c.uid ≡ d.uid = is ∙ sym (same_is d.uid uid e) in
+        let tie : text_cmp c.uid d.uid ≡ Equal = ap (text_cmp c.uid) (sym one) ∙ tied_itself nat_list_cmp_total c.uid in
+        (sym (ap (λ o. ordering_then o (text_cmp c.digest d.digest)) tie) ∙ all.0, later)
     by false e later = later
 
 digests_ascend : (uid : Text) (cs : List Copy) → IsStrictlySortedBy copy_cmp cs → IsStrictlySortedBy text_cmp
     (digests uid cs)
 unfolding IsStrictlySortedBy
 digests_ascend uid [] up = tt
-digests_ascend uid (c ∷ cs) up = by (same c.0 uid) refl (digests_ascend uid cs up.1)
+digests_ascend uid (c ∷ cs) up = by (same c.uid uid) refl (digests_ascend uid cs up.1)
   where
-    by : (b : Bool) → same c.0 uid ≡ b → IsStrictlySortedBy text_cmp (digests uid cs) → IsStrictlySortedBy text_cmp
-        (map (λ x. x.1) (cond b (c ∷ filter (is_copy_of uid) cs) (filter (is_copy_of uid) cs)))
-    by true e later = (above uid c cs (same_is c.0 uid e) up.0, later)
+    by : (b : Bool) → same c.uid uid ≡ b → IsStrictlySortedBy text_cmp (digests uid cs) → IsStrictlySortedBy text_cmp
+        (map (λ x. x.digest) (cond b (c ∷ filter (is_copy_of uid) cs) (filter (is_copy_of uid) cs)))
+    by true e later = (above uid c cs (same_is c.uid uid e) up.0, later)
     by false e later = later
 
-has_digest : (uid digest : Text) (cs : List Copy) → has text_cmp (digests uid cs) digest ≡ has copy_cmp cs (uid, digest)
+has_digest : (uid digest : Text) (cs : List Copy) → has text_cmp (digests uid cs) digest ≡ has copy_cmp cs
+    (a_copy uid digest)
 has_digest uid digest [] = refl
-has_digest uid digest (c ∷ cs) = by (same c.0 uid) (has_digest uid digest cs)
-    ∙ ap (λ b. b || has copy_cmp cs (uid, digest)) (sym (at_copy uid digest c.0 c.1))
+has_digest uid digest (c ∷ cs) = by (same c.uid uid) (has_digest uid digest cs)
+    ∙ ap (λ b. b || has copy_cmp cs (a_copy uid digest)) (sym (at_copy uid digest c.uid c.digest))
   where
-    by : (b : Bool) → has text_cmp (digests uid cs) digest ≡ has copy_cmp cs (uid, digest)
-        → has text_cmp (map (λ x. x.1) (cond b (c ∷ filter (is_copy_of uid) cs) (filter (is_copy_of uid) cs)))
-        digest ≡ ((b && is_at (text_cmp digest) c.1) || has copy_cmp cs (uid, digest))
-    by true later = ap (λ b. is_at (text_cmp digest) c.1 || b) later
+    by : (b : Bool) → has text_cmp (digests uid cs) digest ≡ has copy_cmp cs (a_copy uid digest)
+        → has text_cmp (map (λ x. x.digest) (cond b (c ∷ filter (is_copy_of uid) cs) (filter (is_copy_of uid) cs)))
+        digest ≡ ((b && is_at (text_cmp digest) c.digest) || has copy_cmp cs (a_copy uid digest))
+    by true later = ap (λ b. is_at (text_cmp digest) c.digest || b) later
     by false later = later
 
 -- ---- the digests of the contents of a UID
@@ -114,15 +115,15 @@ as_many uid (a_content c ∷ ops) = by (same c.instance uid) (as_many uid ops)
 as_many uid (a_correction k ∷ ops) = as_many uid ops
 
 module _ (ops : List Op) (up : Ascend ops) (index : IndexValue) (is : IsIndexOf ops index)
-    (sorted : IsStrictlySortedBy copy_cmp index.0.0) where
+    (sorted : IsStrictlySortedBy copy_cmp index.copies) where
   -- two copies of a UID are two contents of it
-  doubled : (uid : Text) → is_doubled index.0.0 uid ≡ is_flagged ops uid
+  doubled : (uid : Text) → is_doubled index.copies uid ≡ is_flagged ops uid
   doubled uid =
       ap (nat_lt 1) (
-      sym (length-map (filter (is_copy_of uid) index.0.0) (λ c. c.1))
-      ∙ ap length (same_keys nat_list_cmp_total text_exact (digests uid index.0.0) (copies uid ops)
-      (digests_ascend uid index.0.0 sorted) (kept_ascend (is_content_of uid) ops up)
-      (λ digest. has_digest uid digest index.0.0 ∙ is.copies uid digest))
+      sym (length-map (filter (is_copy_of uid) index.copies) (λ c. c.digest))
+      ∙ ap length (same_keys nat_list_cmp_total text_exact (digests uid index.copies) (copies uid ops)
+      (digests_ascend uid index.copies sorted) (kept_ascend (is_content_of uid) ops up)
+      (λ digest. has_digest uid digest index.copies ∙ is.copies uid digest))
       ∙ as_many uid ops)
 
   has_flagged : (uid : Text) → is_flagged ops uid ≡ has text_cmp (flagged ops) uid
@@ -146,7 +147,7 @@ module _ (ops : List Op) (up : Ascend ops) (index : IndexValue) (is : IsIndexOf 
 
   -- UIDs that ascend and are those of two copies are the flagged ones
   pub flagged_are : (uids : List Text) → IsStrictlySortedBy text_cmp uids
-      → ((uid : Text) → has text_cmp uids uid ≡ is_doubled index.0.0 uid) → uids ≡ flagged ops
+      → ((uid : Text) → has text_cmp uids uid ≡ is_doubled index.copies uid) → uids ≡ flagged ops
   flagged_are uids rise two =
       same_keys nat_list_cmp_total text_exact uids (flagged ops)
       rise (IsStrictlySortedBy-filter text_cmp (is_flagged ops) (instances ops)
@@ -172,18 +173,19 @@ none_below x [] all = refl
 none_below x (t ∷ ts) all = ap (λ o. is_eq o || has text_cmp ts x) all.0 ∙ none_below x ts all.1
 
 -- each content is a copy of its own
-pub contents_counted : (ops : List Op) → Ascend ops → length (index_value ops).0.0 ≡ length (contents ops)
+pub contents_counted : (ops : List Op) → Ascend ops → length (index_value ops).copies ≡ length (contents ops)
 unfolding IsStrictlySortedBy
 contents_counted [] up = refl
 contents_counted (a_content c ∷ ops) up =
     let digest = digest_of (a_content c) in
-    let own : Copy = (c.instance, digest) in
-    ap length ((set_laws copy_total copy_exact).commutative (only own) (index_value ops).0.0 (tt, tt) (held ops).0.0)
-    ∙ one_more copy_cmp own (index_value ops).0.0 (has_copy ops c.instance digest
+    let own : Copy = a_copy c.instance digest in
+    ap length ((set_laws copy_total copy_exact).commutative (only own) (index_value ops).copies (tt, tt)
+    (held ops).copies)
+    ∙ one_more copy_cmp own (index_value ops).copies (has_copy ops c.instance digest
     ∙ none_below digest (copies c.instance ops) (below_kept digest (is_content_of c.instance) ops up.0))
     ∙ ap suc (contents_counted ops up.1)
 contents_counted (a_correction k ∷ ops) up = ap length ((set_laws copy_total copy_exact).commutative []
-    (index_value ops).0.0 tt (held ops).0.0) ∙ contents_counted ops up.1
+    (index_value ops).copies tt (held ops).copies) ∙ contents_counted ops up.1
 
 -- what is no content is a correction
 pub kinds_counted : (ops : List Op) → length (contents ops) + length (corrections ops) ≡ length ops

@@ -22,7 +22,8 @@ use Rattle.octets.specs.Texts.{text_cmp}
 use Rattle.study_index.specs.Keys.{has}
 use Rattle.study_index.specs.Proved.Picks.{text_exact}
 use Rattle.study_index.proofs.KeyLaws.{or_none, or_assoc}
-use Rattle.study_index.specs.Leads.{Text, Lead, lead_cmp, is_between, is_led, leads_to, home_front, home_end, IsBehind}
+use Rattle.study_index.specs.Leads.{Text, Lead, a_lead, lead_cmp, is_between, is_led, leads_to, home_front, home_end}
+use Rattle.study_index.specs.Leads.{IsBehind}
 use Rattle.study_index.specs.Leads.{is_folded, led_byte, as_led, is_walked, walk_of, begins_with, has_run, may_have}
 use Rattle.study_index.specs.Proved.Leads.{lead_total}
 
@@ -88,7 +89,7 @@ pub none_led : (front end : Lead) (needle : Text) (leads : List Lead) (s : Text)
 none_led front end needle leads s b more =
     sym (ap (λ ls. b || list_any (leads_to leads s) ls)
     (none_filtered (is_walked (walk_of front end needle)) leads
-    (λ lead. ap (λ x. x && may_have needle lead.1.0) (none_between front end lead (before_front front end more))))
+    (λ lead. ap (λ x. x && may_have needle lead.value) (none_between front end lead (before_front front end more))))
     ∙ or_none b)
 
 pub none_counted : (front end : Lead) (leads : List Lead) → is_gt (lead_cmp front end) ≡ true
@@ -146,17 +147,17 @@ raised (x ∷ xs) byte rest =
     ∙ raised xs byte rest
 
 pub behind_raised : (tag : ℕ) (text front : Text) (byte : ℕ) (end : Lead) → text ≡ front ++ byte ∷ []
-    → end ≡ (tag, (front ++ (byte + 1) ∷ [], (0, []))) → IsBehind tag text end
+    → end ≡ a_lead tag (front ++ (byte + 1) ∷ []) 0 [] → IsBehind tag text end
 behind_raised tag text front byte end split is rest kind key =
-    ap (λ (t : Text). lead_cmp (tag, (t ++ rest, (kind, key))) end) split
-    ∙ ap (lead_cmp (tag, ((front ++ byte ∷ []) ++ rest, (kind, key)))) is
+    ap (λ (t : Text). lead_cmp (a_lead tag (t ++ rest) kind key) end) split
+    ∙ ap (lead_cmp (a_lead tag ((front ++ byte ∷ []) ++ rest) kind key)) is
     ∙ ap (λ o. ordering_then o (ordering_then (text_cmp ((front ++ byte ∷ []) ++ rest) (front ++ (byte + 1) ∷ []))
     (ordering_then (nat_cmp kind 0) (text_cmp key [])))) (tied_itself nat_cmp_total tag)
     ∙ ap (λ o. ordering_then o (ordering_then (nat_cmp kind 0) (text_cmp key []))) (raised front byte rest)
 
-pub behind_tag : (tag : ℕ) (text : Text) (end : Lead) → end ≡ (tag + 1, ([], (0, []))) → IsBehind tag text end
+pub behind_tag : (tag : ℕ) (text : Text) (end : Lead) → end ≡ a_lead (tag + 1) [] 0 [] → IsBehind tag text end
 behind_tag tag text end is rest kind key =
-    ap (lead_cmp (tag, (text ++ rest, (kind, key)))) is
+    ap (lead_cmp (a_lead tag (text ++ rest) kind key)) is
     ∙ ap (λ o. ordering_then o (ordering_then (text_cmp (text ++ rest) []) (ordering_then (nat_cmp kind 0)
     (text_cmp key [])))) (sym (nat_cmp_is tag (tag + 1) Less (omega arith)))
 

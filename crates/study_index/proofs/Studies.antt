@@ -16,7 +16,8 @@ use Rattle.octets.specs.Texts.{same, text_cmp}
 use Rattle.archive_model.proofs.MemberLaws.{any_has, has_any, filter_has, has_filter, map_has, has_map}
 use Rattle.archive_model.proofs.ModelLaws.{same_is, same_itself}
 use Rattle.study_index.specs.Keys.{has}
-use Rattle.study_index.specs.Live.{Text, Pick, Place, place_cmp, instance_of, flat, pick_at, tree_of, is_of_study}
+use Rattle.study_index.specs.Live.{Text, Pick, Place, a_pick, a_place, place_cmp, instance_of, flat, pick_at, tree_of}
+use Rattle.study_index.specs.Live.{is_of_study}
 use Rattle.study_index.specs.Live.{front_of, end_of, is_between, is_of_series, front_of_series, end_of_series}
 use Rattle.study_index.specs.Proved.Picks.{text_exact, place_exact, place_total}
 use Rattle.study_index.proofs.KeyLaws.{at_itself, same_key}
@@ -59,16 +60,16 @@ itself : (t : Text) → text_cmp t t ≡ Equal
 itself t = tied_itself nat_list_cmp_total t
 
 -- what lies between the front and the end of a study is of it
-of_between : (study : Text) (q : Place) → q ≡ (q.0, (0, (q.1.1.0, (0, q.1.1.1.1)))) → is_between (front_of study)
-    (end_of study) q ≡ true → study ≡ q.0
+of_between : (study : Text) (q : Place) → q ≡ a_place q.study q.series q.instance → is_between (front_of study)
+    (end_of study) q ≡ true → study ≡ q.study
 of_between study q is h =
     let both = and_both _ _ (sym (ap (is_between (front_of study) (end_of study)) is) ∙ h) in
-    text_exact study q.0 (neither (text_cmp study q.0) (le_first (text_cmp study q.0) _ both.0)
-    (not_past (text_cmp study q.0) both.1))
+    text_exact study q.study (neither (text_cmp study q.study) (le_first (text_cmp study q.study) _ both.0)
+    (not_past (text_cmp study q.study) both.1))
 
 -- and what is of it lies there
 pub between_of : (study series instance : Text) → is_between (front_of study) (end_of study)
-    (study, (0, (series, (0, instance)))) ≡ true
+    (a_place study series instance) ≡ true
 between_of study series instance =
     ap (λ o. is_le (ordering_then o (ordering_then (text_cmp [] series) (text_cmp [] instance))) &&
     not (is_le (ordering_then o Greater))) (itself study)
@@ -96,17 +97,17 @@ le_text : (t : Text) → is_le (text_cmp [] t) ≡ true
 le_text [] = refl
 le_text (x ∷ xs) = refl
 
-of_between_series : (study series : Text) (q : Place) → q ≡ (q.0, (0, (q.1.1.0, (0, q.1.1.1.1))))
+of_between_series : (study series : Text) (q : Place) → q ≡ a_place q.study q.series q.instance
     → is_between (front_of_series study series) (end_of_series study series) q ≡ true
-    → (study ≡ q.0) × (series ≡ q.1.1.0)
+    → (study ≡ q.study) × (series ≡ q.series)
 of_between_series study series q is h =
     let both = and_both _ _ (sym (ap (is_between (front_of_series study series) (end_of_series study series)) is) ∙ h)
     in
-    let equal = both_equal (text_cmp study q.0) (text_cmp series q.1.1.0) (text_cmp [] q.1.1.1.1) both.0 both.1 in
-    (text_exact study q.0 equal.0, text_exact series q.1.1.0 equal.1)
+    let equal = both_equal (text_cmp study q.study) (text_cmp series q.series) (text_cmp [] q.instance) both.0 both.1 in
+    (text_exact study q.study equal.0, text_exact series q.series equal.1)
 
 between_of_series : (study series instance : Text) → is_between (front_of_series study series)
-    (end_of_series study series) (study, (0, (series, (0, instance)))) ≡ true
+    (end_of_series study series) (a_place study series instance) ≡ true
 between_of_series study series instance =
     ap (λ o. is_le (ordering_then o (ordering_then (text_cmp series series) (text_cmp [] instance))) &&
     not (is_le (ordering_then o (ordering_then (text_cmp series series) Greater)))) (itself study)
@@ -139,7 +140,7 @@ module _ (picks : List (Text × Option Pick)) (s : IsStrictlySortedBy text_cmp (
           in
           ap (λ u. is_of_study study (pick_at u picks)) (is ∙ of.2)
           ∙ ap (is_of_study study) (IsListed.pick l)
-          ∙ same_itself q.0 study (sym (of_between study q (IsListed.place l) within.1))
+          ∙ same_itself q.study study (sym (of_between study q (IsListed.place l) within.1))
 
       back : is_of_study study (pick_at uid picks) ≡ true
           → has text_cmp (map instance_of (filter (is_between (front_of study) (end_of study)) (tree_of picks)))
@@ -151,15 +152,16 @@ module _ (picks : List (Text × Option Pick)) (s : IsStrictlySortedBy text_cmp (
               uid ≡ true
           by None e g = absurd (true≢false (sym g))
           by (Some p) e g =
-              let of : p.1.0 ≡ study = same_is p.1.0 study g in
-              let q : Place = (study, (0, (p.1.1, (0, uid)))) in
+              let of : p.study ≡ study = same_is p.study study g in
+              let q : Place = a_place study p.series uid in
               let at = any_has (is_at (place_cmp q)) (tree_of picks)
-              (listed picks s p.0 study p.1.1 uid (e ∙ ap (λ (t : Text). Some (p.0, (t, p.1.1))) of)) in
+              (listed picks s p.digest study p.series uid
+              (e ∙ ap (λ (t : Text). Some (a_pick p.digest t p.series)) of)) in
               let there : Has (tree_of picks) q = subst (Has (tree_of picks)) (sym (same_key place_exact q at.0 at.2))
               at.1 in
               has_any (is_at (text_cmp uid)) _ uid (has_map instance_of _
               q (has_filter (is_between (front_of study) (end_of study)) (tree_of picks) q
-              there (between_of study p.1.1 uid))) (at_itself nat_list_cmp_total uid)
+              there (between_of study p.series uid))) (at_itself nat_list_cmp_total uid)
 
   abbrev within_series : Text → Text → List Place
   within_series study series = filter (is_between (front_of_series study series) (end_of_series study series))
@@ -186,8 +188,8 @@ module _ (picks : List (Text × Option Pick)) (s : IsStrictlySortedBy text_cmp (
           let both = of_between_series study series q (IsListed.place l) within.1 in
           ap (λ u. is_of_series study series (pick_at u picks)) (is ∙ of.2)
           ∙ ap (is_of_series study series) (IsListed.pick l)
-          ∙ ap (λ b. b && same q.1.1.0 series) (same_itself q.0 study (sym both.0))
-          ∙ same_itself q.1.1.0 series (sym both.1)
+          ∙ ap (λ b. b && same q.series series) (same_itself q.study study (sym both.0))
+          ∙ same_itself q.series series (sym both.1)
 
       back : is_of_series study series (pick_at uid picks) ≡ true
           → has text_cmp (map instance_of (within_series study series)) uid ≡ true
@@ -198,12 +200,12 @@ module _ (picks : List (Text × Option Pick)) (s : IsStrictlySortedBy text_cmp (
           by None e g = absurd (true≢false (sym g))
           by (Some p) e g =
               let both = and_both _ _ g in
-              let of : p.1.0 ≡ study = same_is p.1.0 study both.0 in
-              let in_it : p.1.1 ≡ series = same_is p.1.1 series both.1 in
-              let q : Place = (study, (0, (series, (0, uid)))) in
+              let of : p.study ≡ study = same_is p.study study both.0 in
+              let in_it : p.series ≡ series = same_is p.series series both.1 in
+              let q : Place = a_place study series uid in
               let at = any_has (is_at (place_cmp q)) (tree_of picks)
-              (listed picks s p.0 study series uid (e ∙ ap (λ (t : Text). Some (p.0, (t, p.1.1))) of
-              ∙ ap (λ (t : Text). Some (p.0, (study, t))) in_it)) in
+              (listed picks s p.digest study series uid (e ∙ ap (λ (t : Text). Some (a_pick p.digest t p.series)) of
+              ∙ ap (λ (t : Text). Some (a_pick p.digest study t)) in_it)) in
               let there : Has (tree_of picks) q = subst (Has (tree_of picks)) (sym (same_key place_exact q at.0 at.2))
               at.1 in
               has_any (is_at (text_cmp uid)) _ uid (has_map instance_of _

@@ -19,7 +19,8 @@ use Rattle.join_laws.specs.Least.{least_of}
 use Rattle.join_laws.specs.Proved.Sets.{sorted-union, has-union, same_keys}
 use Rattle.join_laws.specs.Proved.Maps.{lookup-map_joined, equal_from_is_eq}
 use Rattle.study_index.specs.Keys.{has, AreApart}
-use Rattle.study_index.specs.Live.{Text, Pick, Place, pick_cmp, place_cmp, instance_of, flat, pick_at, picks_joined}
+use Rattle.study_index.specs.Live.{Text, Pick, Place, a_place, pick_cmp, place_cmp, instance_of, flat, pick_at}
+use Rattle.study_index.specs.Live.{picks_joined}
 use Rattle.study_index.specs.Live.{place_of, place_at, tree_of, is_moved, gained, lost, gains, losses}
 use Rattle.study_index.specs.Proved.Picks.{text_exact, place_exact, place_total}
 use Rattle.study_index.proofs.KeyLaws.{or_none, or_assoc, has-append, same_key}
@@ -108,8 +109,8 @@ least_none (Some p) = refl
 
 stays : (a : Option Pick) → is_moved a a ≡ false
 stays None = refl
-stays (Some p) = ap (λ b. not (b && same p.1.1 p.1.1)) (same_itself p.1.0 p.1.0 refl)
-    ∙ ap not (same_itself p.1.1 p.1.1 refl)
+stays (Some p) = ap (λ b. not (b && same p.series p.series)) (same_itself p.study p.study refl)
+    ∙ ap not (same_itself p.series p.series refl)
 
 has_cond : (m : Bool) (q : Place) (ps : List Place) → has place_cmp (cond m ps []) q ≡ (m && has place_cmp ps q)
 has_cond true q ps = refl
@@ -194,11 +195,11 @@ not_both q None c m h k = true≢false (sym h)
 not_both q (Some v) None m h k = true≢false (sym k)
 not_both q (Some v) (Some w) m h k =
     let there : place_of (instance_of q) v ≡ place_of (instance_of q) w = sym (at_of q v h) ∙ at_of q w k in
-    let study : v.1.0 ≡ w.1.0 = ap (λ (x : Place). x.0) there in
-    let series : v.1.1 ≡ w.1.1 = ap (λ (x : Place). x.1.1.0) there in
+    let study : v.study ≡ w.study = ap (λ (x : Place). x.study) there in
+    let series : v.series ≡ w.series = ap (λ (x : Place). x.series) there in
     let stayed : is_moved (Some v) (Some w) ≡ false =
-    ap (λ n. not (same v.1.0 n && same v.1.1 w.1.1)) (sym study)
-    ∙ ap (λ n. not (same v.1.0 v.1.0 && same v.1.1 n)) (sym series)
+    ap (λ n. not (same v.study n && same v.series w.series)) (sym study)
+    ∙ ap (λ n. not (same v.study v.study && same v.series n)) (sym series)
     ∙ stays (Some v) in
     true≢false (sym m ∙ stayed)
 
@@ -212,9 +213,9 @@ both_stand q None None m = refl
 both_stand q None (Some w) m = absurd (true≢false m)
 both_stand q (Some v) None m = absurd (true≢false m)
 both_stand q (Some v) (Some w) m =
-    let both = and_true (same v.1.0 w.1.0) (same v.1.1 w.1.1) m in
-    ap (λ n. is_at (place_cmp q) (n, (0, (v.1.1, (0, instance_of q)))) || false) (same_is v.1.0 w.1.0 both.0)
-    ∙ ap (λ n. is_at (place_cmp q) (w.1.0, (0, (n, (0, instance_of q)))) || false) (same_is v.1.1 w.1.1 both.1)
+    let both = and_true (same v.study w.study) (same v.series w.series) m in
+    ap (λ n. is_at (place_cmp q) (a_place n v.series (instance_of q)) || false) (same_is v.study w.study both.0)
+    ∙ ap (λ n. is_at (place_cmp q) (a_place w.study n (instance_of q)) || false) (same_is v.series w.series both.1)
 
 move : (m old new : Bool) → (m ≡ true → old ≡ true → new ≡ true → ⊥) → (m ≡ false → old ≡ new)
     → ((old || (m && new)) && not (m && old)) ≡ new

@@ -28,7 +28,8 @@ use Rattle.join_laws.specs.Proved.Sets.{sorted-union, has-union}
 use Rattle.study_index.specs.Keys.{has}
 use Rattle.study_index.specs.Index.{IndexValue, pick_of}
 use Rattle.study_index.specs.Definition.{IsIndexOf}
-use Rattle.study_index.specs.Live.{Text, Pick, Place, place_cmp, place_of, pick_at, HasStudy, HasSeries, HasInstance}
+use Rattle.study_index.specs.Live.{Text, Pick, Place, a_pick, a_place, place_cmp, place_of, pick_at, HasStudy}
+use Rattle.study_index.specs.Live.{HasSeries, HasInstance}
 use Rattle.study_index.specs.Live.{IsPast, instance_of}
 use Rattle.study_index.specs.Walk.{IsWalk, IsWalkOfStudy, IsWalkOf, visited_in_series, visited_in_study, visited}
 use Rattle.study_index.specs.Walk.{place_in, places_of}
@@ -132,7 +133,7 @@ itself : (t : Text) → text_cmp t t ≡ Equal
 itself t = tied_itself nat_list_cmp_total t
 
 abbrev at : Text → Text → Text → Place
-at study series instance = (study, (0, (series, (0, instance))))
+at = a_place
 
 less_study : (s t r q i j : Text) → text_cmp s t ≡ Less → place_cmp (at s r i) (at t q j) ≡ Less
 less_study s t r q i j h =
@@ -167,7 +168,7 @@ series_up study series (i ∷ is) up = (
 )
 
 in_study : (study : Text) (ss : List (Text × List Text)) (q : Place) → Has (visited_in_study study ss) q
-    → (s : Text × List Text) × (i : Text) × Has ss s × Has s.1 i × (q ≡ (study, (0, (s.0, (0, i)))))
+    → (s : Text × List Text) × (i : Text) × Has ss s × Has s.1 i × (q ≡ a_place study s.0 i)
 in_study study [] q h = absurd h
 in_study study (s ∷ ss) q h =
     elim (has_either (visited_in_series study s.0 s.1) (visited_in_study study ss) q h) [
@@ -256,8 +257,8 @@ module _ (picks : List (Text × Option Pick)) (walk : Walk) (w : IsWalkOf picks 
       (all_has (λ x. IsWalk (HasInstance picks t.0 x.0) None x.1) t.1 s of.1 k)))))
 
   -- a place that is come to is that of a pick
-  come_to : (q : Place) → Has (visited walk) q → (digest : Text) × (pick_at q.1.1.1.1 picks ≡ Some
-      (digest, (q.0, q.1.1.0))) × (q ≡ (q.0, (0, (q.1.1.0, (0, q.1.1.1.1)))))
+  come_to : (q : Place) → Has (visited walk) q → (digest : Text) × (pick_at q.instance picks ≡ Some
+      (a_pick digest q.study q.series)) × (q ≡ a_place q.study q.series q.instance)
   come_to q h =
       let t = in_walk walk q h in
       let of = all_has (λ x. IsWalkOfStudy picks x.0 x.1) walk t.0 w.1 t.1 in
@@ -265,24 +266,24 @@ module _ (picks : List (Text × Option Pick)) (walk : Walk) (w : IsWalkOf picks 
       let steps = all_has (λ x. IsWalk (HasInstance picks t.0.0 x.0) None x.1) t.0.1 s.0 of.1 s.2 in
       let is = (walked (HasInstance picks t.0.0 s.0.0) None s.0.1 steps s.1 s.3).1 in (
         is.0,
-        subst (λ (x : Place). pick_at x.1.1.1.1 picks ≡ Some (is.0, (x.0, x.1.1.0))) (sym s.4) is.1,
-        subst (λ (x : Place). x ≡ (x.0, (0, (x.1.1.0, (0, x.1.1.1.1))))) (sym s.4) refl,
+        subst (λ (x : Place). pick_at x.instance picks ≡ Some (a_pick is.0 x.study x.series)) (sym s.4) is.1,
+        subst (λ (x : Place). x ≡ a_place x.study x.series x.instance) (sym s.4) refl,
       )
 
   -- and that of each pick is come to
-  comes_to : (digest study series instance : Text) → pick_at instance picks ≡ Some (digest, (study, series))
-      → Has (visited walk) (study, (0, (series, (0, instance))))
+  comes_to : (digest study series instance : Text) → pick_at instance picks ≡ Some (a_pick digest study series)
+      → Has (visited walk) (a_place study series instance)
   comes_to digest study series instance e =
       let t = has_key walk study (all_walked (HasStudy picks) None (keys_of walk) w.0 study
       (instance, digest, series, e) tt) in
       let of = all_has (λ x. IsWalkOfStudy picks x.0 x.1) walk t.0 w.1 t.1 in
-      let there : pick_at instance picks ≡ Some (digest, (t.0.0, series)) = e
-      ∙ ap (λ (x : Text). Some (digest, (x, series))) t.2 in
+      let there : pick_at instance picks ≡ Some (a_pick digest t.0.0 series) = e
+      ∙ ap (λ (x : Text). Some (a_pick digest x series)) t.2 in
       let s = has_key t.0.1 series (all_walked (HasSeries picks t.0.0) None (keys_of t.0.1) of.0 series
       (instance, digest, there) tt) in
       let steps = all_has (λ x. IsWalk (HasInstance picks t.0.0 x.0) None x.1) t.0.1 s.0 of.1 s.1 in
       let one = all_walked (HasInstance picks t.0.0 s.0.0) None s.0.1 steps instance
-      (digest, there ∙ ap (λ (x : Text). Some (digest, (t.0.0, x))) s.2) tt in
+      (digest, there ∙ ap (λ (x : Text). Some (a_pick digest t.0.0 x)) s.2) tt in
       put_walk walk t.0 (at study series instance) t.1
       (subst (λ (x : Text). Has (visited_in_study t.0.0 t.0.1) (at x series instance)) (sym t.2)
       (subst (λ (x : Text). Has (visited_in_study t.0.0 t.0.1) (at t.0.0 x instance)) (sym s.2)
@@ -311,45 +312,46 @@ spots ops = filter_map (place_in ops) (instances ops)
 
 module _ (ops : List Op) (index : IndexValue) (is : IsIndexOf ops index) where
   -- a pick has its place
-  has_spot : (digest study series instance : Text) → pick_at instance index.1.1.1 ≡ Some (digest, (study, series))
-      → Has (spots ops) (study, (0, (series, (0, instance))))
+  has_spot : (digest study series instance : Text) → pick_at instance index.picks ≡ Some (a_pick digest study series)
+      → Has (spots ops) (a_place study series instance)
   has_spot digest study series instance e =
-      let c = placed pick_of (pick instance ops) (digest, (study, series)) (sym (is.picks instance) ∙ e) in
+      let c = placed pick_of (pick instance ops) (a_pick digest study series) (sym (is.picks instance) ∙ e) in
       has_filter_map (place_in ops) (instances ops) instance (at study series instance)
       (instance_has ops instance c.0 c.1)
       (ap (option_map (λ x. place_of instance (pick_of x))) c.1
       ∙ ap (λ (p : Pick). Some (place_of instance p)) c.2)
 
   -- and a place its pick
-  spot_has : (q : Place) → Has (spots ops) q → (digest : Text) × (pick_at q.1.1.1.1 index.1.1.1 ≡ Some
-      (digest, (q.0, q.1.1.0))) × (q ≡ (q.0, (0, (q.1.1.0, (0, q.1.1.1.1)))))
+  spot_has : (q : Place) → Has (spots ops) q → (digest : Text) × (pick_at q.instance index.picks ≡ Some
+      (a_pick digest q.study q.series)) × (q ≡ a_place q.study q.series q.instance)
   spot_has q h =
       let of = filter_map_has (place_in ops) (instances ops) q h in
       let c = placed (λ x. place_of of.0 (pick_of x)) (pick of.0 ops) q of.2 in
-      let there : pick_at of.0 index.1.1.1 ≡ Some (pick_of c.0) = is.picks of.0 ∙ ap (option_map pick_of) c.1 in (
-        (pick_of c.0).0,
-        subst (λ (x : Place). pick_at x.1.1.1.1 index.1.1.1 ≡ Some ((pick_of c.0).0, (x.0, x.1.1.0))) c.2 there,
-        subst (λ (x : Place). x ≡ (x.0, (0, (x.1.1.0, (0, x.1.1.1.1))))) c.2 refl,
+      let there : pick_at of.0 index.picks ≡ Some (pick_of c.0) = is.picks of.0 ∙ ap (option_map pick_of) c.1 in (
+        (pick_of c.0).digest,
+        subst (λ (x : Place). pick_at x.instance index.picks ≡ Some
+            (a_pick (pick_of c.0).digest x.study x.series)) c.2 there,
+        subst (λ (x : Place). x ≡ a_place x.study x.series x.instance) c.2 refl,
       )
 
-  module _ (walk : Walk) (w : IsWalkOf index.1.1.1 walk) where
+  module _ (walk : Walk) (w : IsWalkOf index.picks walk) where
     there : (q : Place) → has place_cmp (visited walk) q ≡ true → has place_cmp (places_of ops) q ≡ true
     there q h =
-        let of = come_to index.1.1.1 walk w q (member place_exact (visited walk) q h) in
+        let of = come_to index.picks walk w q (member place_exact (visited walk) q h) in
         has-union place_total place_exact q (spots ops) []
         ∙ has_any (is_at (place_cmp q)) (spots ops) q
-        (subst (Has (spots ops)) (sym of.2) (has_spot of.0 q.0 q.1.1.0 q.1.1.1.1 of.1)) (at_itself place_total q)
+        (subst (Has (spots ops)) (sym of.2) (has_spot of.0 q.study q.series q.instance of.1)) (at_itself place_total q)
 
     back : (q : Place) → has place_cmp (places_of ops) q ≡ true → has place_cmp (visited walk) q ≡ true
     back q h =
         let of = spot_has q (member place_exact (spots ops) q
         (sym (has-union place_total place_exact q (spots ops) []) ∙ h)) in
         has_any (is_at (place_cmp q)) (visited walk) q
-        (subst (Has (visited walk)) (sym of.2) (comes_to index.1.1.1 walk w of.0 q.0 q.1.1.0 q.1.1.1.1 of.1))
+        (subst (Has (visited walk)) (sym of.2) (comes_to index.picks walk w of.0 q.study q.series q.instance of.1))
         (at_itself place_total q)
 
     pub all_places : visited walk ≡ places_of ops
-    all_places = same_places (visited walk) (places_of ops) (all_up index.1.1.1 walk w) (places_up ops)
+    all_places = same_places (visited walk) (places_of ops) (all_up index.picks walk w) (places_up ops)
         (λ q. both_ways (has place_cmp (visited walk) q) (has place_cmp (places_of ops) q) (there q) (back q))
 
 -- ---- there is a walk
@@ -409,16 +411,16 @@ all_with P f each (x ∷ xs) = (each x, all_with P f each xs)
 
 module _ (ops : List Op) (index : IndexValue) (is : IsIndexOf ops index) where
   abbrev of_study : Text → Place → Bool
-  of_study study q = same q.0 study
+  of_study study q = same q.study study
 
   abbrev of_series : Text → Text → Place → Bool
-  of_series study series q = same q.0 study && same q.1.1.0 series
+  of_series study series q = same q.study study && same q.series series
 
   abbrev studies : List Text
-  studies = map (λ q. q.0) (spots ops)
+  studies = map (λ q. q.study) (spots ops)
 
   abbrev series_of : Text → List Text
-  series_of study = map (λ q. q.1.1.0) (filter (of_study study) (spots ops))
+  series_of study = map (λ q. q.series) (filter (of_study study) (spots ops))
 
   abbrev instances_of : Text → Text → List Text
   instances_of study series = map instance_of (filter (of_series study series) (spots ops))
@@ -432,55 +434,56 @@ module _ (ops : List Op) (index : IndexValue) (is : IsIndexOf ops index) where
   abbrev whole : Walk
   whole = map (λ study. (study, series_walk study)) (rising studies)
 
-  instance_steps : (study series : Text) → IsWalk (HasInstance index.1.1.1 study series) None
+  instance_steps : (study series : Text) → IsWalk (HasInstance index.picks study series) None
       (rising (instances_of study series))
-  instance_steps study series = steps (HasInstance index.1.1.1 study series) (instances_of study series)
+  instance_steps study series = steps (HasInstance index.picks study series) (instances_of study series)
       (λ u h. let q = map_has instance_of (filter (of_series study series) (spots ops)) u h in
       let within = filter_has (of_series study series) (spots ops) q.0 q.1 in
-      let both = and_both (same q.0.0 study) (same q.0.1.1.0 series) within.1 in
+      let both = and_both (same q.0.study study) (same q.0.series series) within.1 in
       let of = spot_has ops index is q.0 within.0 in (
         of.0,
-        ap (λ (x : Text). pick_at x index.1.1.1) q.2 ∙ of.1
-            ∙ ap (λ (x : Text). Some (of.0, (x, q.0.1.1.0))) (same_is q.0.0 study both.0)
-            ∙ ap (λ (x : Text). Some (of.0, (study, x))) (same_is q.0.1.1.0 series both.1),
+        ap (λ (x : Text). pick_at x index.picks) q.2 ∙ of.1
+            ∙ ap (λ (x : Text). Some (a_pick of.0 x q.0.series)) (same_is q.0.study study both.0)
+            ∙ ap (λ (x : Text). Some (a_pick of.0 study x)) (same_is q.0.series series both.1),
       ))
       (λ u has. has_map instance_of (filter (of_series study series) (spots ops)) (at study series u)
       (has_filter (of_series study series) (spots ops) (at study series u)
       (has_spot ops index is has.0 study series u has.1)
       (ap (λ b. b && same series series) (same_itself study study refl) ∙ same_itself series series refl)))
 
-  series_steps : (study : Text) → IsWalk (HasSeries index.1.1.1 study) None (rising (series_of study))
-  series_steps study = steps (HasSeries index.1.1.1 study) (series_of study)
-      (λ u h. let q = map_has (λ (x : Place). x.1.1.0) (filter (of_study study) (spots ops)) u h in
+  series_steps : (study : Text) → IsWalk (HasSeries index.picks study) None (rising (series_of study))
+  series_steps study = steps (HasSeries index.picks study) (series_of study)
+      (λ u h. let q = map_has (λ (x : Place). x.series) (filter (of_study study) (spots ops)) u h in
       let within = filter_has (of_study study) (spots ops) q.0 q.1 in
       let of = spot_has ops index is q.0 within.0 in (
-        q.0.1.1.1.1,
+        q.0.instance,
         of.0,
-        of.1 ∙ ap (λ (x : Text). Some (of.0, (x, q.0.1.1.0))) (same_is q.0.0 study within.1)
-            ∙ ap (λ (x : Text). Some (of.0, (study, x))) (sym q.2),
+        of.1 ∙ ap (λ (x : Text). Some (a_pick of.0 x q.0.series)) (same_is q.0.study study within.1)
+            ∙ ap (λ (x : Text). Some (a_pick of.0 study x)) (sym q.2),
       ))
-      (λ u has. has_map (λ (x : Place). x.1.1.0) (filter (of_study study) (spots ops)) (at study u has.0)
+      (λ u has. has_map (λ (x : Place). x.series) (filter (of_study study) (spots ops)) (at study u has.0)
       (has_filter (of_study study) (spots ops) (at study u has.0) (has_spot ops index is has.1 study u has.0 has.2)
       (same_itself study study refl)))
 
-  study_steps : IsWalk (HasStudy index.1.1.1) None (rising studies)
-  study_steps = steps (HasStudy index.1.1.1) studies
-      (λ u h. let q = map_has (λ (x : Place). x.0) (spots ops) u h in
+  study_steps : IsWalk (HasStudy index.picks) None (rising studies)
+  study_steps = steps (HasStudy index.picks) studies
+      (λ u h. let q = map_has (λ (x : Place). x.study) (spots ops) u h in
       let of = spot_has ops index is q.0 q.1 in
-      (q.0.1.1.1.1, of.0, q.0.1.1.0, of.1 ∙ ap (λ (x : Text). Some (of.0, (x, q.0.1.1.0))) (sym q.2)))
-      (λ u has. has_map (λ (x : Place). x.0) (spots ops) (at u has.2 has.0) (has_spot ops index is has.1 u has.2 has.0
+      (q.0.instance, of.0, q.0.series, of.1 ∙ ap (λ (x : Text). Some (a_pick of.0 x q.0.series)) (sym q.2)))
+      (λ u has. has_map (λ (x : Place). x.study) (spots ops) (at u has.2 has.0)
+      (has_spot ops index is has.1 u has.2 has.0
       has.3))
 
-  pub a_walk : (walk : Walk) × IsWalkOf index.1.1.1 walk
+  pub a_walk : (walk : Walk) × IsWalkOf index.picks walk
   a_walk = (
     whole,
     (
-      subst (IsWalk (HasStudy index.1.1.1) None) (sym (keys_with series_walk (rising studies))) study_steps,
-      all_with (λ t. IsWalkOfStudy index.1.1.1 t.0 t.1) (λ study. (study, series_walk study)) (λ study. (
-        subst (IsWalk (HasSeries index.1.1.1 study) None)
+      subst (IsWalk (HasStudy index.picks) None) (sym (keys_with series_walk (rising studies))) study_steps,
+      all_with (λ t. IsWalkOfStudy index.picks t.0 t.1) (λ study. (study, series_walk study)) (λ study. (
+        subst (IsWalk (HasSeries index.picks study) None)
             (sym (keys_with (λ series. rising (instances_of study series)) (rising (series_of study))))
             (series_steps study),
-        all_with (λ s. IsWalk (HasInstance index.1.1.1 study s.0) None s.1) (in_series study)
+        all_with (λ s. IsWalk (HasInstance index.picks study s.0) None s.1) (in_series study)
             (instance_steps study) (rising (series_of study)),
       )) (rising studies),
     ),

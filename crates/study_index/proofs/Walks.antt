@@ -13,8 +13,9 @@ use Rattle.std.specs.BTreeMap.Range.{IsFromStart, IsLeBy}
 use Rattle.std.proofs.lemmas.Cmp.{tied_itself}
 use Rattle.octets.specs.Texts.{text_cmp}
 use Rattle.study_index.specs.Keys.{has}
-use Rattle.study_index.specs.Live.{Text, Pick, Place, place_cmp, pick_at, tree_of, HasStudy, HasSeries, HasInstance}
-use Rattle.study_index.specs.Live.{IsPast, IsNext, study_start, series_start, instance_start}
+use Rattle.study_index.specs.Live.{Text, Pick, Place, a_pick, a_place, place_cmp, pick_at, tree_of, HasStudy}
+use Rattle.study_index.specs.Live.{HasSeries, HasInstance}
+use Rattle.study_index.specs.Live.{end_of, end_of_series, IsPast, IsNext, study_start, series_start, instance_start}
 use Rattle.study_index.specs.Proved.Picks.{text_exact, place_total}
 use Rattle.study_index.proofs.KeyLaws.{at_itself}
 use Rattle.study_index.proofs.Trees.{has-tree_of, stands, at_of}
@@ -77,35 +78,36 @@ same_text s t h k = text_exact s t (neither (text_cmp s t) h (ap is_gt (sym (nat
 -- ---- a place is in the list exactly where a pick stands there
 module _ (picks : List (Text × Option Pick)) (s : IsStrictlySortedBy text_cmp (keys_of picks)) where
   abbrev listed_at : Text → Text → Text → Place
-  listed_at study series instance = (study, (0, (series, (0, instance))))
+  listed_at study series instance = a_place study series instance
 
-  pub listed : (digest study series instance : Text) → pick_at instance picks ≡ Some (digest, (study, series))
-      → has place_cmp (tree_of picks) (study, (0, (series, (0, instance)))) ≡ true
+  pub listed : (digest study series instance : Text) → pick_at instance picks ≡ Some (a_pick digest study series)
+      → has place_cmp (tree_of picks) (a_place study series instance) ≡ true
   listed digest study series instance h =
-      has-tree_of picks s (study, (0, (series, (0, instance))))
-      ∙ ap (stands (study, (0, (series, (0, instance))))) h
-      ∙ ap (λ b. b || false) (at_itself place_total (study, (0, (series, (0, instance)))))
+      has-tree_of picks s (a_place study series instance)
+      ∙ ap (stands (a_place study series instance)) h
+      ∙ ap (λ b. b || false) (at_itself place_total (a_place study series instance))
 
   -- what the list has is a place of a pick
   pub record IsListed (q : Place) : Type 0 where
     pub digest : Text
-    pub pick : pick_at q.1.1.1.1 picks ≡ Some (digest, (q.0, q.1.1.0))
-    pub place : q ≡ (q.0, (0, (q.1.1.0, (0, q.1.1.1.1))))
+    pub pick : pick_at q.instance picks ≡ Some (a_pick digest q.study q.series)
+    pub place : q ≡ a_place q.study q.series q.instance
 
   pub picked : (q : Place) → has place_cmp (tree_of picks) q ≡ true → IsListed q
-  picked q h = by (pick_at q.1.1.1.1 picks) refl (sym (has-tree_of picks s q) ∙ h)
+  picked q h = by (pick_at q.instance picks) refl (sym (has-tree_of picks s q) ∙ h)
     where
-      by : (o : Option Pick) → pick_at q.1.1.1.1 picks ≡ o → stands q o ≡ true → IsListed q
+      by : (o : Option Pick) → pick_at q.instance picks ≡ o → stands q o ≡ true → IsListed q
       by None l m = absurd (true≢false (sym m))
       by (Some p) l m =
           let at = at_of q p m in
-          let study : p.1.0 ≡ q.0 = sym (ap (λ (x : Place). x.0) at) in
-          let series : p.1.1 ≡ q.1.1.0 = sym (ap (λ (x : Place). x.1.1.0) at) in
+          let study : p.study ≡ q.study = sym (ap (λ (x : Place). x.study) at) in
+          let series : p.series ≡ q.series = sym (ap (λ (x : Place). x.series) at) in
           record {
-            digest = p.0;
-            pick = l ∙ ap (λ (t : Text). Some (p.0, (t, p.1.1))) study ∙ ap (λ (t : Text). Some (p.0, (q.0, t))) series;
-            place = at ∙ ap (λ (t : Text). (t, (0, (p.1.1, (0, q.1.1.1.1))))) study
-                ∙ ap (λ (t : Text). (q.0, (0, (t, (0, q.1.1.1.1))))) series;
+            digest = p.digest;
+            pick = l ∙ ap (λ (t : Text). Some (a_pick p.digest t p.series)) study ∙ ap
+                (λ (t : Text). Some (a_pick p.digest q.study t)) series;
+            place = at ∙ ap (λ (t : Text). a_place t p.series q.instance) study
+                ∙ ap (λ (t : Text). a_place q.study t q.instance) series;
           }
 
   abbrev IsLeast : Place → Bound Place → Type 0
@@ -116,35 +118,35 @@ module _ (picks : List (Text × Option Pick)) (s : IsStrictlySortedBy text_cmp (
   IsNone start = (q : Place) → IsFromStart place_cmp start q → has place_cmp (tree_of picks) q ≡ false
 
   -- ---- studies
-  study_from : (after : Option Text) (q : Place) → IsPast after q.0 → IsFromStart place_cmp (study_start after) q
+  study_from : (after : Option Text) (q : Place) → IsPast after q.study → IsFromStart place_cmp (study_start after) q
   study_from None q h = tt
-  study_from (Some a) q h = less_first (text_cmp a q.0) _ h
+  study_from (Some a) q h = less_first (text_cmp a q.study) _ h
 
   study_past : (after : Option Text) (p : Place) → IsListed p → IsFromStart place_cmp (study_start after) p
-      → IsPast after p.0
+      → IsPast after p.study
   study_past None p l h = tt
-  study_past (Some a) p l h = past_end (text_cmp a p.0) (sym (ap (place_cmp (a, (1, ([], (0, []))))) (IsListed.place l))
+  study_past (Some a) p l h = past_end (text_cmp a p.study) (sym (ap (place_cmp (end_of a)) (IsListed.place l))
       ∙ h)
 
   pub no_study : (after : Option Text) → IsNone (study_start after) → IsNext (HasStudy picks) after None
   no_study after none uid there past =
-      let q : Place = (uid, (0, (there.2, (0, there.0)))) in
+      let q : Place = a_place uid there.2 there.0 in
       true≢false (sym (listed there.1 uid there.2 there.0 there.3) ∙ none q (study_from after q past))
 
   pub a_study : (after : Option Text) (p : Place) → IsFromStart place_cmp (study_start after) p
       → has place_cmp (tree_of picks) p ≡ true → IsLeast p (study_start after) → IsNext (HasStudy picks)
-      after (Some p.0)
+      after (Some p.study)
   a_study after p from there least = (
-    (p.1.1.1.1, IsListed.digest (picked p there), p.1.1.0, IsListed.pick (picked p there)),
+    (p.instance, IsListed.digest (picked p there), p.series, IsListed.pick (picked p there)),
     study_past after p (picked p there) from,
     λ uid has past.
-        let q : Place = (uid, (0, (has.2, (0, has.0)))) in
-        first_of_le (text_cmp p.0 uid) _ (least q (study_from after q past) (listed has.1 uid has.2 has.0 has.3)),
+        let q : Place = a_place uid has.2 has.0 in
+        first_of_le (text_cmp p.study uid) _ (least q (study_from after q past) (listed has.1 uid has.2 has.0 has.3)),
   )
 
   -- ---- series of a study
   series_from : (study : Text) (after : Option Text) (series instance : Text) → IsPast after series
-      → IsFromStart place_cmp (series_start study after) (study, (0, (series, (0, instance))))
+      → IsFromStart place_cmp (series_start study after) (a_place study series instance)
   series_from study None series instance h =
       gt_second (text_cmp study study) _ (itself study) (by (text_cmp [] series) refl (none_first series))
     where
@@ -158,135 +160,140 @@ module _ (picks : List (Text × Option Pick)) (s : IsStrictlySortedBy text_cmp (
       (less_first (text_cmp a series) _ h)
 
   series_past : (study : Text) (after : Option Text) (p : Place) → IsListed p
-      → IsFromStart place_cmp (series_start study after) p → p.0 ≡ study → IsPast after p.1.1.0
+      → IsFromStart place_cmp (series_start study after) p → p.study ≡ study → IsPast after p.series
   series_past study None p l h at = tt
   series_past study (Some a) p l h at =
-      past_end (text_cmp a p.1.1.0)
-      (second_of_less (text_cmp study p.0) _ (equal_texts study p.0 (sym at))
-      (sym (ap (place_cmp (study, (0, (a, (1, []))))) (IsListed.place l)) ∙ h))
+      past_end (text_cmp a p.series)
+      (second_of_less (text_cmp study p.study) _ (equal_texts study p.study (sym at))
+      (sym (ap (place_cmp (end_of_series study a)) (IsListed.place l)) ∙ h))
 
   series_above : (study : Text) (after : Option Text) (p : Place) → IsFromStart place_cmp (series_start study after) p
-      → is_gt (text_cmp study p.0) ≡ false
-  series_above study None p h = first_of_le (text_cmp study p.0) _ h
-  series_above study (Some a) p h = first_of_less (text_cmp study p.0) _ h
+      → is_gt (text_cmp study p.study) ≡ false
+  series_above study None p h = first_of_le (text_cmp study p.study) _ h
+  series_above study (Some a) p h = first_of_less (text_cmp study p.study) _ h
 
   pub no_series : (study : Text) (after : Option Text) → IsNone (series_start study after)
       → IsNext (HasSeries picks study) after None
   no_series study after none uid there past =
-      true≢false (sym (listed there.1 study uid there.0 there.2) ∙ none (study, (0, (uid, (0, there.0))))
+      true≢false (sym (listed there.1 study uid there.0 there.2) ∙ none (a_place study uid there.0)
       (series_from study after uid there.0 past))
 
-  pub other_study : (study : Text) (after : Option Text) (p : Place) → (p.0 ≡ study → ⊥)
+  pub other_study : (study : Text) (after : Option Text) (p : Place) → (p.study ≡ study → ⊥)
       → IsFromStart place_cmp (series_start study after) p → IsLeast p (series_start study after)
       → IsNext (HasSeries picks study) after None
   other_study study after p apart from least uid has past =
-      let q : Place = (study, (0, (uid, (0, has.0)))) in
-      apart (same_text p.0 study (first_of_le (text_cmp p.0 study) _ (least q (series_from study after uid has.0 past)
+      let q : Place = a_place study uid has.0 in
+      apart (same_text p.study study (first_of_le (text_cmp p.study study) _
+      (least q (series_from study after uid has.0 past)
       (listed has.1 study uid has.0 has.2))) (series_above study after p from))
 
-  pub a_series : (study : Text) (after : Option Text) (p : Place) → p.0 ≡ study
+  pub a_series : (study : Text) (after : Option Text) (p : Place) → p.study ≡ study
       → IsFromStart place_cmp (series_start study after) p → has place_cmp (tree_of picks) p ≡ true
       → IsLeast p (series_start study after)
-      → IsNext (HasSeries picks study) after (Some p.1.1.0)
+      → IsNext (HasSeries picks study) after (Some p.series)
   a_series study after p at from there least = (
     (
-      p.1.1.1.1,
+      p.instance,
       IsListed.digest (picked p there),
       IsListed.pick (picked p there)
-          ∙ ap (λ (t : Text). Some (IsListed.digest (picked p there), (t, p.1.1.0))) at,
+          ∙ ap (λ (t : Text). Some (a_pick (IsListed.digest (picked p there)) t p.series)) at,
     ),
     series_past study after p (picked p there) from at,
     λ uid has past.
-        let q : Place = (study, (0, (uid, (0, has.0)))) in
-        let le = second_of_le (text_cmp p.0 study) _ (equal_texts p.0 study at)
+        let q : Place = a_place study uid has.0 in
+        let le = second_of_le (text_cmp p.study study) _ (equal_texts p.study study at)
         (least q (series_from study after uid has.0 past) (listed has.1 study uid has.0 has.2)) in
-        first_of_le (text_cmp p.1.1.0 uid) _ (second_of_le (nat_cmp p.1.0 0) _ (stands_there p (picked p there)) le),
+        first_of_le (text_cmp p.series uid) _ (second_of_le (nat_cmp p.study_end 0) _
+        (stands_there p (picked p there)) le),
   )
     where
-      stands_there : (q : Place) → IsListed q → nat_cmp q.1.0 0 ≡ Equal
-      stands_there q l = ap (λ (x : Place). nat_cmp x.1.0 0) (IsListed.place l)
+      stands_there : (q : Place) → IsListed q → nat_cmp q.study_end 0 ≡ Equal
+      stands_there q l = ap (λ (x : Place). nat_cmp x.study_end 0) (IsListed.place l)
 
   -- ---- instances of a series
   instance_from : (study series : Text) (after : Option Text) (instance : Text) → IsPast after instance
-      → IsFromStart place_cmp (instance_start study series after) (study, (0, (series, (0, instance))))
+      → IsFromStart place_cmp (instance_start study series after) (a_place study series instance)
   instance_from study series None instance h = gt_second (text_cmp study study) _ (itself study)
       (gt_second (text_cmp series series) _ (itself series) (none_first instance))
   instance_from study series (Some a) instance h = less_second (text_cmp study study) _ (itself study)
       (less_second (text_cmp series series) _ (itself series) h)
 
   studies_above : (study series : Text) (after : Option Text) (p : Place)
-      → IsFromStart place_cmp (instance_start study series after) p → is_gt (text_cmp study p.0) ≡ false
-  studies_above study series None p h = first_of_le (text_cmp study p.0) _ h
-  studies_above study series (Some a) p h = first_of_less (text_cmp study p.0) _ h
+      → IsFromStart place_cmp (instance_start study series after) p → is_gt (text_cmp study p.study) ≡ false
+  studies_above study series None p h = first_of_le (text_cmp study p.study) _ h
+  studies_above study series (Some a) p h = first_of_less (text_cmp study p.study) _ h
 
-  series_of_study_above : (study series : Text) (after : Option Text) (p : Place) → IsListed p → p.0 ≡ study
-      → IsFromStart place_cmp (instance_start study series after) p → is_gt (text_cmp series p.1.1.0) ≡ false
+  series_of_study_above : (study series : Text) (after : Option Text) (p : Place) → IsListed p → p.study ≡ study
+      → IsFromStart place_cmp (instance_start study series after) p → is_gt (text_cmp series p.series) ≡ false
   series_of_study_above study series None p l at h =
-      first_of_le (text_cmp series p.1.1.0) _
-      (second_of_le (text_cmp study p.0) _ (equal_texts study p.0 (sym at))
-      (sym (ap (λ (x : Place). is_gt (place_cmp (study, (0, (series, (0, [])))) x)) (IsListed.place l)) ∙ h))
+      first_of_le (text_cmp series p.series) _
+      (second_of_le (text_cmp study p.study) _ (equal_texts study p.study (sym at))
+      (sym (ap (λ (x : Place). is_gt (place_cmp (a_place study series []) x)) (IsListed.place l)) ∙ h))
   series_of_study_above study series (Some a) p l at h =
-      first_of_less (text_cmp series p.1.1.0) _
-      (second_of_less (text_cmp study p.0) _ (equal_texts study p.0 (sym at))
-      (sym (ap (place_cmp (study, (0, (series, (0, a))))) (IsListed.place l)) ∙ h))
+      first_of_less (text_cmp series p.series) _
+      (second_of_less (text_cmp study p.study) _ (equal_texts study p.study (sym at))
+      (sym (ap (place_cmp (a_place study series a)) (IsListed.place l)) ∙ h))
 
   instance_past : (study series : Text) (after : Option Text) (p : Place) → IsListed p
-      → IsFromStart place_cmp (instance_start study series after) p → p.0 ≡ study → p.1.1.0 ≡ series
-      → IsPast after p.1.1.1.1
+      → IsFromStart place_cmp (instance_start study series after) p → p.study ≡ study → p.series ≡ series
+      → IsPast after p.instance
   instance_past study series None p l h at of = tt
   instance_past study series (Some a) p l h at of =
-      second_of_less (text_cmp series p.1.1.0) _ (equal_texts series p.1.1.0 (sym of))
-      (second_of_less (text_cmp study p.0) _ (equal_texts study p.0 (sym at))
-      (sym (ap (place_cmp (study, (0, (series, (0, a))))) (IsListed.place l)) ∙ h))
+      second_of_less (text_cmp series p.series) _ (equal_texts series p.series (sym of))
+      (second_of_less (text_cmp study p.study) _ (equal_texts study p.study (sym at))
+      (sym (ap (place_cmp (a_place study series a)) (IsListed.place l)) ∙ h))
 
   pub no_instance : (study series : Text) (after : Option Text) → IsNone (instance_start study series after)
       → IsNext (HasInstance picks study series) after None
   no_instance study series after none uid there past =
-      true≢false (sym (listed there.0 study series uid there.1) ∙ none (study, (0, (series, (0, uid))))
+      true≢false (sym (listed there.0 study series uid there.1) ∙ none (a_place study series uid)
       (instance_from study series after uid past))
 
-  pub not_in_study : (study series : Text) (after : Option Text) (p : Place) → (p.0 ≡ study → ⊥)
+  pub not_in_study : (study series : Text) (after : Option Text) (p : Place) → (p.study ≡ study → ⊥)
       → IsFromStart place_cmp (instance_start study series after) p → IsLeast p (instance_start study series after)
       → IsNext (HasInstance picks study series) after None
   not_in_study study series after p apart from least uid has past =
-      let q : Place = (study, (0, (series, (0, uid)))) in
-      apart (same_text p.0 study (first_of_le (text_cmp p.0 study)
+      let q : Place = a_place study series uid in
+      apart (same_text p.study study (first_of_le (text_cmp p.study study)
       _ (least q (instance_from study series after uid past) (listed has.0 study series uid has.1)))
       (studies_above study series after p from))
 
   -- behind the study and the number 0 of a listed place, the series decides
-  behind_study : (p : Place) (study series uid : Text) → IsListed p → p.0 ≡ study
-      → IsLeBy place_cmp p (study, (0, (series, (0, uid))))
-      → is_gt (ordering_then (text_cmp p.1.1.0 series) (ordering_then (nat_cmp p.1.1.1.0 0) (text_cmp p.1.1.1.1 uid)))
+  behind_study : (p : Place) (study series uid : Text) → IsListed p → p.study ≡ study
+      → IsLeBy place_cmp p (a_place study series uid)
+      → is_gt (ordering_then (text_cmp p.series series) (ordering_then (nat_cmp p.series_end 0)
+      (text_cmp p.instance uid)))
       ≡ false
-  behind_study p study series uid l at le = second_of_le (nat_cmp p.1.0 0) _ (ap (λ (x : Place). nat_cmp x.1.0 0)
-      (IsListed.place l)) (second_of_le (text_cmp p.0 study) _ (equal_texts p.0 study at) le)
+  behind_study p study series uid l at le = second_of_le (nat_cmp p.study_end 0) _
+      (ap (λ (x : Place). nat_cmp x.study_end 0)
+      (IsListed.place l)) (second_of_le (text_cmp p.study study) _ (equal_texts p.study study at) le)
 
-  pub not_in_series : (study series : Text) (after : Option Text) (p : Place) → p.0 ≡ study → (p.1.1.0 ≡ series → ⊥)
+  pub not_in_series : (study series : Text) (after : Option Text) (p : Place) → p.study ≡ study
+      → (p.series ≡ series → ⊥)
       → IsFromStart place_cmp (instance_start study series after) p → has place_cmp (tree_of picks) p ≡ true
       → IsLeast p (instance_start study series after) → IsNext (HasInstance picks study series) after None
   not_in_series study series after p at apart from there least uid has past =
-      let q : Place = (study, (0, (series, (0, uid)))) in
+      let q : Place = a_place study series uid in
       let le = least q (instance_from study series after uid past) (listed has.0 study series uid has.1) in
-      apart (same_text p.1.1.0 series (first_of_le (text_cmp p.1.1.0 series)
+      apart (same_text p.series series (first_of_le (text_cmp p.series series)
       _ (behind_study p study series uid (picked p there) at le)) (series_of_study_above study series after
       p (picked p there) at from))
 
-  pub an_instance : (study series : Text) (after : Option Text) (p : Place) → p.0 ≡ study → p.1.1.0 ≡ series
+  pub an_instance : (study series : Text) (after : Option Text) (p : Place) → p.study ≡ study → p.series ≡ series
       → IsFromStart place_cmp (instance_start study series after) p → has place_cmp (tree_of picks) p ≡ true
-      → IsLeast p (instance_start study series after) → IsNext (HasInstance picks study series) after (Some p.1.1.1.1)
+      → IsLeast p (instance_start study series after) → IsNext (HasInstance picks study series) after (Some p.instance)
   an_instance study series after p at of from there least =
       let l = picked p there in (
         (
           IsListed.digest l,
-          IsListed.pick l ∙ ap (λ (t : Text). Some (IsListed.digest l, (t, p.1.1.0))) at
-              ∙ ap (λ (t : Text). Some (IsListed.digest l, (study, t))) of,
+          IsListed.pick l ∙ ap (λ (t : Text). Some (a_pick (IsListed.digest l) t p.series)) at
+              ∙ ap (λ (t : Text). Some (a_pick (IsListed.digest l) study t)) of,
         ),
         instance_past study series after p l from at of,
         λ uid has past.
-            let q : Place = (study, (0, (series, (0, uid)))) in
+            let q : Place = a_place study series uid in
             let le = behind_study p study series uid l at (least q (instance_from study series after uid past)
             (listed has.0 study series uid has.1)) in
-            second_of_le (nat_cmp p.1.1.1.0 0) _ (ap (λ (x : Place). nat_cmp x.1.1.1.0 0) (IsListed.place l))
-            (second_of_le (text_cmp p.1.1.0 series) _ (equal_texts p.1.1.0 series of) le),
+            second_of_le (nat_cmp p.series_end 0) _ (ap (λ (x : Place). nat_cmp x.series_end 0) (IsListed.place l))
+            (second_of_le (text_cmp p.series series) _ (equal_texts p.series series of) le),
       )

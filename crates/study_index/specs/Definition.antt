@@ -16,19 +16,20 @@ use Rattle.study_index.specs.Keys.{has}
 use Rattle.study_index.specs.Live.{pick_at}
 use Rattle.join_laws.specs.Laws.{summary_of}
 use Rattle.study_index.specs.Index.{IndexValue, index_joined, index_of, nothing, copy_cmp, naming_cmp, is_short}
-use Rattle.study_index.specs.Index.{pick_of, fix_key, fix_of, fix_at}
+use Rattle.study_index.specs.Index.{a_copy, a_naming, pick_of, fix_key, fix_of, fix_at}
 use Rattle.study_index.specs.Leads.{Lead, lead_cmp, is_lead}
 
 -- For each SOP Instance UID the digest and the keys of its pick, and the digests of its contents;
 -- for each UID the titles of the notes that name it; for each target and tag the greatest correction.
 -- The list of places is that of the picks. The leads are those that its operations give, whatever is picked or hidden.
 pub record IsIndexOf (ops : List Op) (index : IndexValue) : Type 0 where
-  pub picks : (uid : List ℕ) → pick_at uid index.1.1.1 ≡ option_map pick_of (pick uid ops)
-  pub copies : (uid digest : List ℕ) → has copy_cmp index.0.0 (uid, digest) ≡ has text_cmp (copies uid ops) digest
+  pub picks : (uid : List ℕ) → pick_at uid index.picks ≡ option_map pick_of (pick uid ops)
+  pub copies : (uid digest : List ℕ) → has copy_cmp index.copies (a_copy uid digest) ≡ has text_cmp
+      (copies uid ops) digest
   pub titles : (uid : List ℕ) (title : NoteTitle) → IsTrue (is_short uid)
-      → has naming_cmp index.1.0 (uid, code_of title) ≡ is_titled ops uid title
-  pub leads : (lead : Lead) → has lead_cmp index.0.1 lead ≡ is_lead ops lead
-  pub fixes : (target : Target) (tag : ℕ) → fix_at (fix_key target tag) index.1.1.0 ≡ option_map
+      → has naming_cmp index.titles (a_naming uid (code_of title)) ≡ is_titled ops uid title
+  pub leads : (lead : Lead) → has lead_cmp index.leads lead ≡ is_lead ops lead
+  pub fixes : (target : Target) (tag : ℕ) → fix_at (fix_key target tag) index.fixes ≡ option_map
       fix_of (fix target tag ops)
 
 -- the index of a list of operations: those of its operations, joined

@@ -11,14 +11,14 @@ use Rattle.study_index.specs.Walk.{IsWalkOf, visited, places_of}
 abbrev pub WalksComeToAllPlaces : Type 0
 WalksComeToAllPlaces =
     (ops : List Op) (index : IndexValue) → IsIndexOf ops index
-    → (walk : List (List ℕ × List (List ℕ × List (List ℕ)))) → IsWalkOf index.1.1.1 walk
+    → (walk : List (List ℕ × List (List ℕ × List (List ℕ)))) → IsWalkOf index.picks walk
     → visited walk ≡ places_of ops
 
 -- and each index has a walk
 abbrev pub ThereIsAWalk : Type 0
 ThereIsAWalk =
     (ops : List Op) (index : IndexValue) → IsIndexOf ops index
-    → (walk : List (List ℕ × List (List ℕ × List (List ℕ)))) × IsWalkOf index.1.1.1 walk
+    → (walk : List (List ℕ × List (List ℕ × List (List ℕ)))) × IsWalkOf index.picks walk
 
 -- the places ascend: by study, in it by series, and in it by instance
 abbrev pub PlacesAscend : Type 0

@@ -25,13 +25,25 @@ Text = List ℕ
 
 -- a tag and a value, and the kind and the key of what it leads to: 1 for a study, 2 for the studies of a stored Patient
 -- ID; 0 and 3 are before and behind all that a value leads to
-abbrev pub Lead : Type 0
-Lead = ℕ × (Text × (ℕ × Text))
+pub record Lead : Type 0 where
+  pub tag : ℕ
+  pub value : Text
+  pub kind : ℕ
+  pub key : Text
+
+abbrev pub a_lead : ℕ → Text → ℕ → Text → Lead
+a_lead tag value kind key = record { tag = tag; value = value; kind = kind; key = key }
+
+-- the same without its tag
+pub record Named : Type 0 where
+  pub value : Text
+  pub kind : ℕ
+  pub key : Text
 
 -- part after part
-abbrev pub lead_cmp : ℕ × (Text × (ℕ × Text)) → ℕ × (Text × (ℕ × Text)) → Ordering
-lead_cmp x y = ordering_then (nat_cmp x.0 y.0) (ordering_then (text_cmp x.1.0 y.1.0)
-    (ordering_then (nat_cmp x.1.1.0 y.1.1.0) (text_cmp x.1.1.1 y.1.1.1)))
+abbrev pub lead_cmp : Lead → Lead → Ordering
+lead_cmp x y = ordering_then (nat_cmp x.tag y.tag) (ordering_then (text_cmp x.value y.value)
+    (ordering_then (nat_cmp x.kind y.kind) (text_cmp x.key y.key)))
 
 -- ---- values
 
@@ -54,12 +66,12 @@ as_led tag value = map (led_byte (is_folded tag)) (take 64 value)
 
 -- a content's own value leads to its study
 abbrev pub stored_lead : ContentParts → ℕ → Lead
-stored_lead c tag = (tag, (as_led tag (own_value c tag), (1, take 64 (study_of c))))
+stored_lead c tag = a_lead tag (as_led tag (own_value c tag)) 1 (take 64 (study_of c))
 
 -- a correction's value leads to its study, or to the studies of its patient; no attribute of a study is one of a series
 abbrev pub given_leads : Target → ℕ → Text → List Lead
-given_leads (Study key) tag value = only (tag, (as_led tag value, (1, take 64 key)))
-given_leads (Patient key) tag value = only (tag, (as_led tag value, (2, take 64 key)))
+given_leads (Study key) tag value = only (a_lead tag (as_led tag value) 1 (take 64 key))
+given_leads (Patient key) tag value = only (a_lead tag (as_led tag value) 2 (take 64 key))
 given_leads (Series key) tag value = []
 
 abbrev pub leads_of : Op → List Lead
@@ -72,34 +84,34 @@ is_lead ops lead = list_any (λ op. list_any (is_at (lead_cmp lead)) (leads_of o
 
 -- ---- what they lead to
 
-abbrev pub is_between : ℕ × (Text × (ℕ × Text)) → ℕ × (Text × (ℕ × Text)) → ℕ × (Text × (ℕ × Text)) → Bool
+abbrev pub is_between : Lead → Lead → Lead → Bool
 is_between front end lead = range_contains lead_cmp (Included front) (Excluded end) lead
 
 -- a value's front and end
 abbrev pub value_front : ℕ → Text → Lead
-value_front tag value = (tag, (value, (0, [])))
+value_front tag value = a_lead tag value 0 []
 
 abbrev pub value_end : ℕ → Text → Lead
-value_end tag value = (tag, (value, (3, [])))
+value_end tag value = a_lead tag value 3 []
 
 -- the studies of a stored Patient ID stand side by side
 abbrev pub home_front : Text → Lead
-home_front patient = (PATIENT_ID, (patient, (1, [])))
+home_front patient = a_lead PATIENT_ID patient 1 []
 
 abbrev pub home_end : Text → Lead
-home_end patient = (PATIENT_ID, (patient, (2, [])))
+home_end patient = a_lead PATIENT_ID patient 2 []
 
 abbrev pub is_key : Text → Lead → Bool
-is_key s lead = is_at (text_cmp s) lead.1.1.1
+is_key s lead = is_at (text_cmp s) lead.key
 
-abbrev pub is_homed : List (ℕ × (Text × (ℕ × Text))) → Text → Text → Bool
+abbrev pub is_homed : List Lead → Text → Text → Bool
 is_homed leads s patient = list_any (is_key s) (filter (is_between (home_front patient) (home_end patient)) leads)
 
-abbrev pub leads_to : List (ℕ × (Text × (ℕ × Text))) → Text → Lead → Bool
-leads_to leads s lead = if lead.1.1.0 == 2 then is_homed leads s lead.1.1.1 else is_key s lead
+abbrev pub leads_to : List Lead → Text → Lead → Bool
+leads_to leads s lead = if lead.kind == 2 then is_homed leads s lead.key else is_key s lead
 
 -- whether the leads that pass a test come to a study
-abbrev pub is_led : (ℕ × (Text × (ℕ × Text)) → Bool) → List (ℕ × (Text × (ℕ × Text))) → Text → Bool
+abbrev pub is_led : (Lead → Bool) → List Lead → Text → Bool
 is_led passes leads s = list_any (leads_to leads s) (filter passes leads)
 
 -- ---- walks
@@ -119,22 +131,22 @@ may_have run value = nat_le 64 (length value) || has_run run value
 
 -- a walk of leads: from a front on and before an end those from values in which a needle may stand
 pub record LeadWalk : Type 0 where
-  pub front : ℕ × (Text × (ℕ × Text))
-  pub end : ℕ × (Text × (ℕ × Text))
+  pub front : Lead
+  pub end : Lead
   pub needle : Text
 
-abbrev pub walk_of : ℕ × (Text × (ℕ × Text)) → ℕ × (Text × (ℕ × Text)) → Text → LeadWalk
+abbrev pub walk_of : Lead → Lead → Text → LeadWalk
 walk_of front end needle = record { front = front; end = end; needle = needle }
 
-abbrev pub is_walked : LeadWalk → ℕ × (Text × (ℕ × Text)) → Bool
-is_walked walk lead = is_between walk.front walk.end lead && may_have walk.needle lead.1.0
+abbrev pub is_walked : LeadWalk → Lead → Bool
+is_walked walk lead = is_between walk.front walk.end lead && may_have walk.needle lead.value
 
 -- whatever a value of a tag leads to passes a test of leads
-abbrev pub IsWithin : (ℕ × (Text × (ℕ × Text)) → Bool) → ℕ → Text → Type 0
+abbrev pub IsWithin : (Lead → Bool) → ℕ → Text → Type 0
 IsWithin passes tag value = (kind : ℕ) (key : Text) → (kind ≡ 1) ⊎ (kind ≡ 2)
-    → passes (tag, (as_led tag value, (kind, key))) ≡ true
+    → passes (a_lead tag (as_led tag value) kind key) ≡ true
 
 -- whatever a value that begins with a text leads to is before a lead
-abbrev pub IsBehind : ℕ → Text → ℕ × (Text × (ℕ × Text)) → Type 0
+abbrev pub IsBehind : ℕ → Text → Lead → Type 0
 IsBehind tag text end = (rest : Text) (kind : ℕ) (key : Text)
-    → lead_cmp (tag, (text ++ rest, (kind, key))) end ≡ Less
+    → lead_cmp (a_lead tag (text ++ rest) kind key) end ≡ Less

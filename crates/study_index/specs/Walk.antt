@@ -7,7 +7,8 @@ use Rattle.operation.specs.declared.op.Op.{Op}
 use Rattle.archive_model.specs.Contents.{pick, instances}
 use Rattle.join_laws.specs.GrowSet.{union_of}
 use Rattle.study_index.specs.Index.{pick_of}
-use Rattle.study_index.specs.Live.{Text, Pick, Place, place_cmp, place_of, HasStudy, HasSeries, HasInstance, IsNext}
+use Rattle.study_index.specs.Live.{Text, Pick, Place, a_place, place_cmp, place_of, HasStudy, HasSeries, HasInstance}
+use Rattle.study_index.specs.Live.{IsNext}
 
 -- steps past `after`: each is the next one, and behind the last there is none
 abbrev pub IsWalk : (List ℕ → Type 0) → Option (List ℕ) → List (List ℕ) → Type 0
@@ -27,7 +28,7 @@ IsWalkOf picks walk =
 
 -- the places that a walk comes to, one after another
 abbrev pub visited_in_series : List ℕ → List ℕ → List (List ℕ) → List Place
-visited_in_series study series instances = map (λ instance. (study, (0, (series, (0, instance))))) instances
+visited_in_series study series instances = map (a_place study series) instances
 
 abbrev pub visited_in_study : List ℕ → List (List ℕ × List (List ℕ)) → List Place
 visited_in_study study [] = []

@@ -4,7 +4,7 @@ ghost use Rattle.operation.specs.declared.op.Op.TheVariants.{Content as a_conten
 ghost use Rattle.operation.specs.Spelling.{digest_of};
 ghost use Rattle.join_laws.specs.GrowSet.{union_of};
 ghost use Rattle.study_index.specs.Live.{picks_joined};
-ghost use Rattle.study_index.specs.Index.{index_of, copy_cmp, keys_of};
+ghost use Rattle.study_index.specs.Index.{index_of, copy_cmp, a_copy, pick_under};
 
 use crate::entries::ContentCopy;
 use crate::keys::Keys;
@@ -17,7 +17,7 @@ use std::alloc::AllocError;
 
 // The SOP Instance UID of a content, and its digest.
 fn copy_of(digest: Digest, content: &Content) -> ContentCopy
-    ensures { result ≡ (content.now.instance, digest) }
+    ensures { result ≡ a_copy content.now.instance digest }
 {
     ContentCopy {
         uid: ShortText::whole(content.instance()),
@@ -27,7 +27,7 @@ fn copy_of(digest: Digest, content: &Content) -> ContentCopy
 
 // A content under its digest, with its keys.
 fn pick_in(digest: Digest, content: &Content) -> Pick
-    ensures { result ≡ (digest, keys_of content.now) }
+    ensures { result ≡ pick_under digest content.now }
 {
     let keys = Keys::of(content);
     Pick {
@@ -47,9 +47,9 @@ pub fn add_content(
 ) -> Result<(), AllocError>
     requires { digest ≡ digest_of (a_content content.now) }
     ensures copies { OnOk result (copies.new ≡
-        union_of copy_cmp copies.old (index_of (a_content content.now)).0.0) }
+        union_of copy_cmp copies.old (index_of (a_content content.now)).copies) }
     ensures picks { OnOk result (live.new ≡
-        picks_joined live.old (index_of (a_content content.now)).1.1.1) }
+        picks_joined live.old (index_of (a_content content.now)).picks) }
     ensures copies_kept { OnErr result (copies.new ≡ copies.old) }
     ensures picks_kept { OnErr result (live.new ≡ live.old) }
 {

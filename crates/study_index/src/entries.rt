@@ -24,7 +24,7 @@ impl Model for ContentCopy {
 
     ghost Value = { Copy };
 
-    ghost view = { λ a. (a.uid, a.digest) };
+    ghost view = { λ a. record { uid = a.uid; digest = a.digest } };
 }
 
 impl PartialEq for ContentCopy {
@@ -91,7 +91,7 @@ impl Model for Naming {
 
     ghost Value = { Naming };
 
-    ghost view = { λ a. (a.uid, a.title) };
+    ghost view = { λ a. record { uid = a.uid; title = a.title } };
 }
 
 impl PartialEq for Naming {

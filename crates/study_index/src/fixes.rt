@@ -30,7 +30,7 @@ impl Model for FixKey {
 
     ghost Value = { FixKey };
 
-    ghost view = { λ a. (a.kind, (a.key, a.tag)) };
+    ghost view = { λ a. record { kind = a.kind; key = a.key; tag = a.tag } };
 }
 
 impl PartialEq for FixKey {
@@ -100,7 +100,7 @@ impl Model for Fix {
 
     ghost Value = { Fix };
 
-    ghost view = { λ a. (a.counter, (a.site, a.value)) };
+    ghost view = { λ a. record { counter = a.counter; site = a.site; value = a.value } };
 }
 
 impl PartialEq for Fix {

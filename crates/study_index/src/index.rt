@@ -13,7 +13,9 @@ ghost use Rattle.join_laws.specs.GrowSet.{union_of};
 ghost use Rattle.study_index.specs.Copies.{is_doubled};
 ghost use Rattle.study_index.specs.Keys.{has};
 ghost use Rattle.study_index.specs.Live.{pick_at, HasStudy, HasSeries, HasInstance, IsNext, picks_joined, is_of_study, is_of_series, tree_of, places_in_study};
-ghost use Rattle.study_index.specs.Index.{IsIndex, index_joined, index_of, nothing, fixes_joined, titles_of, naming_cmp, copy_cmp, fix_key, fix_at, short_fix_at, latest_at, named, with_content};
+ghost use Rattle.study_index.specs.Index.{IsIndex, index_joined, index_of, nothing, fixes_joined, titles_of, a_naming};
+ghost use Rattle.study_index.specs.Index.{naming_cmp, a_copy, copy_cmp, fix_key, fix_at, short_fix_at, latest_at};
+ghost use Rattle.study_index.specs.Index.{named, with_content};
 ghost use Rattle.study_index.specs.Leads.{lead_cmp, is_between, is_led, is_walked};
 ghost use Rattle.study_index.specs.Proved.Indexes.{index_laws, index_summary_laws};
 
@@ -56,7 +58,13 @@ impl Model for Index {
 
     ghost Value = { IndexValue };
 
-    ghost view = { λ a. ((a.copies, a.leads), (a.titles, (a.fixes, a.live))) };
+    ghost view = { λ a. record {
+      copies = a.copies;
+      leads = a.leads;
+      titles = a.titles;
+      fixes = a.fixes;
+      picks = a.live;
+    } };
 }
 
 // Takes in a UID that a note names, unless it has more than 64 bytes.
@@ -91,8 +99,8 @@ fn join_live(
     live: &mut LivePicks,
     other: &Index,
 ) -> Result<(), AllocError>
-    ensures fixes { OnOk result (fixes.new ≡ fixes_joined fixes.old other.now.1.1.0) }
-    ensures picks { OnOk result (live.new ≡ picks_joined live.old other.now.1.1.1) }
+    ensures fixes { OnOk result (fixes.new ≡ fixes_joined fixes.old other.now.fixes) }
+    ensures picks { OnOk result (live.new ≡ picks_joined live.old other.now.picks) }
     ensures fixes_kept { OnErr result (fixes.new ≡ fixes.old) }
     ensures picks_kept { OnErr result (live.new ≡ live.old) }
 {
@@ -112,9 +120,9 @@ fn join_others(
     live: &mut LivePicks,
     other: &Index,
 ) -> Result<(), AllocError>
-    ensures titles { OnOk result (titles.new ≡ union_of naming_cmp titles.old other.now.1.0) }
-    ensures fixes { OnOk result (fixes.new ≡ fixes_joined fixes.old other.now.1.1.0) }
-    ensures picks { OnOk result (live.new ≡ picks_joined live.old other.now.1.1.1) }
+    ensures titles { OnOk result (titles.new ≡ union_of naming_cmp titles.old other.now.titles) }
+    ensures fixes { OnOk result (fixes.new ≡ fixes_joined fixes.old other.now.fixes) }
+    ensures picks { OnOk result (live.new ≡ picks_joined live.old other.now.picks) }
     ensures titles_kept { OnErr result (titles.new ≡ titles.old) }
     ensures fixes_kept { OnErr result (fixes.new ≡ fixes.old) }
     ensures picks_kept { OnErr result (live.new ≡ live.old) }
@@ -135,10 +143,10 @@ fn join_led(
     live: &mut LivePicks,
     other: &Index,
 ) -> Result<(), AllocError>
-    ensures leads { OnOk result (leads.new ≡ union_of lead_cmp leads.old other.now.0.1) }
-    ensures titles { OnOk result (titles.new ≡ union_of naming_cmp titles.old other.now.1.0) }
-    ensures fixes { OnOk result (fixes.new ≡ fixes_joined fixes.old other.now.1.1.0) }
-    ensures picks { OnOk result (live.new ≡ picks_joined live.old other.now.1.1.1) }
+    ensures leads { OnOk result (leads.new ≡ union_of lead_cmp leads.old other.now.leads) }
+    ensures titles { OnOk result (titles.new ≡ union_of naming_cmp titles.old other.now.titles) }
+    ensures fixes { OnOk result (fixes.new ≡ fixes_joined fixes.old other.now.fixes) }
+    ensures picks { OnOk result (live.new ≡ picks_joined live.old other.now.picks) }
     ensures leads_kept { OnErr result (leads.new ≡ leads.old) }
     ensures titles_kept { OnErr result (titles.new ≡ titles.old) }
     ensures fixes_kept { OnErr result (fixes.new ≡ fixes.old) }
@@ -292,14 +300,14 @@ impl Index {
 
     /// The digest of the pick of a SOP Instance UID, and behind it the pick's study and series.
     pub fn pick(&self, uid: &ShortText) -> Option<&Pick>
-        ensures { option_copied result ≡ pick_at uid.now self.now.1.1.1 }
+        ensures { option_copied result ≡ pick_at uid.now self.now.picks }
     {
         self.live.pick(uid)
     }
 
     /// Whether a digest is that of a content of a SOP Instance UID.
     pub fn is_copy(&self, uid: &ShortText, digest: &Digest) -> bool
-        ensures { result ≡ has copy_cmp self.now.0.0 (uid.now, digest.now) }
+        ensures { result ≡ has copy_cmp self.now.copies (a_copy uid.now digest.now) }
     {
         let copy = ContentCopy {
             uid: uid.duplicate(),
@@ -310,7 +318,7 @@ impl Index {
 
     /// Whether a note of a title names a UID.
     pub fn covered_by(&self, uid: &ShortText, title: NoteTitle) -> bool
-        ensures { result ≡ has naming_cmp self.now.1.0 (uid.now, code_of title) }
+        ensures { result ≡ has naming_cmp self.now.titles (a_naming uid.now (code_of title)) }
     {
         let naming = Naming {
             uid: uid.duplicate(),
@@ -323,7 +331,7 @@ impl Index {
     /// at most 64 bytes, and one of more has no correction.
     pub fn fix(&self, target: &Target, tag: u32) -> Option<&Fix>
         ensures { length (key_in target.now) ≤ 64 →
-            option_copied result ≡ fix_at (fix_key target.now tag) self.now.1.1.0 }
+            option_copied result ≡ fix_at (fix_key target.now tag) self.now.fixes }
     {
         if key_of(target).len() > 64 {
             return None;
@@ -336,7 +344,8 @@ impl Index {
 
     // The correction of a kind of target under a key, and a tag.
     fn fix_under(&self, kind: u8, key: &[u8], tag: u32) -> Option<&Fix>
-        ensures { option_copied result ≡ short_fix_at (kind, (key.now, tag)) self.now.1.1.0 }
+        ensures { option_copied result ≡
+            short_fix_at (record { kind = kind; key = key.now; tag = tag }) self.now.fixes }
     {
         if key.len() > 64 {
             return None;
@@ -351,7 +360,7 @@ impl Index {
     /// Counter, site and value of the correction of an attribute of a content that counts: of those
     /// of its study, its patient and its series the greatest.
     pub fn latest(&self, content: &Content, tag: u32) -> Option<&Fix>
-        ensures { option_copied result ≡ latest_at content.now tag self.now.1.1.0 }
+        ensures { option_copied result ≡ latest_at content.now tag self.now.fixes }
     {
         let of_study = self.fix_under(1, study(content), tag);
         let of_patient = self.fix_under(2, patient(content), tag);
@@ -361,7 +370,7 @@ impl Index {
 
     /// How many contents were taken in.
     pub fn content_count(&self) -> usize
-        ensures { result ≡ length self.now.0.0 }
+        ensures { result ≡ length self.now.copies }
     {
         self.copies.get().len()
     }
@@ -370,7 +379,7 @@ impl Index {
     /// What was put in before memory was refused stays.
     pub fn put_flagged(&self, uids: &mut BTreeSet<ShortText>) -> Result<(), AllocError>
         ensures { OnOk result ((uid : List ℕ) → has text_cmp uids.new.keys uid
-            ≡ (has text_cmp uids.old.keys uid || is_doubled self.now.0.0 uid)) }
+            ≡ (has text_cmp uids.old.keys uid || is_doubled self.now.copies uid)) }
     {
         put_doubled(self.copies.get(), uids)
     }
@@ -384,7 +393,7 @@ impl Index {
     ) -> Result<(), AllocError>
         ensures { OnOk result ((study : List ℕ) → has text_cmp studies.new.keys study ≡
             (has text_cmp studies.old.keys study
-            || is_led (is_walked walk.now) self.now.0.1 study)) }
+            || is_led (is_walked walk.now) self.now.leads study)) }
     {
         put_led(self.leads.get(), walk, studies)
     }
@@ -393,7 +402,7 @@ impl Index {
     pub fn count_led(&self, walk: &LeadWalk, most: usize) -> Result<usize, AllocError>
         ensures most { IfOk result (λ count. count ≤ most) }
         ensures counted { IfOk result (λ count. count < most → count ≡
-            length (filter (is_between walk.now.front walk.now.end) self.now.0.1)) }
+            length (filter (is_between walk.now.front walk.now.end) self.now.leads)) }
     {
         count_led(self.leads.get(), walk, most)
     }
@@ -407,7 +416,7 @@ impl Index {
     ) -> Result<(), AllocError>
         ensures { OnOk result ((uid : List ℕ) → has text_cmp uids.new.keys uid ≡
             (has text_cmp uids.old.keys uid
-            || is_of_study study.now (pick_at uid self.now.1.1.1))) }
+            || is_of_study study.now (pick_at uid self.now.picks))) }
     {
         self.live.put_study(study, uids)
     }
@@ -422,7 +431,7 @@ impl Index {
     ) -> Result<(), AllocError>
         ensures { OnOk result ((uid : List ℕ) → has text_cmp uids.new.keys uid ≡
             (has text_cmp uids.old.keys uid
-            || is_of_series study.now series.now (pick_at uid self.now.1.1.1))) }
+            || is_of_series study.now series.now (pick_at uid self.now.picks))) }
     {
         self.live.put_series(study, series, uids)
     }
@@ -430,14 +439,14 @@ impl Index {
     /// The places of a study's picks, ascending.
     pub fn places_in(&self, alloc: Global, study: &ShortText) -> Result<Vec<&Place>, AllocError>
         ensures { IfOk result (λ found. map (λ p. p.now) found.items ≡
-            places_in_study study.now self.now.1.1.1) }
+            places_in_study study.now self.now.picks) }
     {
         self.live.places_in(alloc, study)
     }
 
     /// The places of all picks, ascending.
     pub fn places(&self, alloc: Global) -> Result<Vec<&Place>, AllocError>
-        ensures { IfOk result (λ found. map (λ p. p.now) found.items ≡ tree_of self.now.1.1.1) }
+        ensures { IfOk result (λ found. map (λ p. p.now) found.items ≡ tree_of self.now.picks) }
     {
         self.live.places(alloc)
     }
@@ -446,14 +455,14 @@ impl Index {
     /// refused stays.
     pub fn put_all(&self, uids: &mut BTreeSet<ShortText>) -> Result<(), AllocError>
         ensures { OnOk result ((uid : List ℕ) → has text_cmp uids.new.keys uid
-            ≡ (has text_cmp uids.old.keys uid || has text_cmp (uids_in self.now.1.1.1) uid)) }
+            ≡ (has text_cmp uids.old.keys uid || has text_cmp (uids_in self.now.picks) uid)) }
     {
         self.live.put_all(uids)
     }
 
     /// The least study of all picks past `after` as bytes, or the first where there is none.
     pub fn next_study(&self, after: Option<&ShortText>) -> Option<&ShortText>
-        ensures { IsNext (HasStudy self.now.1.1.1) (option_copied after.entry)
+        ensures { IsNext (HasStudy self.now.picks) (option_copied after.entry)
             (option_copied result) }
     {
         self.live.next_study(after)
@@ -461,7 +470,7 @@ impl Index {
 
     /// The least series of a study past `after` as bytes, or the first where there is none.
     pub fn next_series(&self, study: &ShortText, after: Option<&ShortText>) -> Option<&ShortText>
-        ensures { IsNext (HasSeries self.now.1.1.1 study.now) (option_copied after.entry)
+        ensures { IsNext (HasSeries self.now.picks study.now) (option_copied after.entry)
             (option_copied result) }
     {
         self.live.next_series(study, after)
@@ -475,7 +484,7 @@ impl Index {
         series: &ShortText,
         after: Option<&ShortText>,
     ) -> Option<&ShortText>
-        ensures { IsNext (HasInstance self.now.1.1.1 study.now series.now)
+        ensures { IsNext (HasInstance self.now.picks study.now series.now)
             (option_copied after.entry) (option_copied result) }
     {
         self.live.next_instance(study, series, after)

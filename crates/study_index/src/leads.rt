@@ -4,7 +4,7 @@ ghost use Rattle.std.specs.Ordering.{eq_by_cmp, nat_cmp, ordering_then};
 ghost use Rattle.std.specs.Cmp.{partial_equiv_from_equiv, eq_by_cmp_equiv, partial_order_from_total};
 ghost use Rattle.std.specs.Char.{to_ascii_uppercase};
 ghost use Rattle.octets.specs.Texts.{text_cmp};
-ghost use Rattle.study_index.specs.Leads.{lead_cmp, as_led, led_byte, stored_lead, may_have, IsBehind};
+ghost use Rattle.study_index.specs.Leads.{a_lead, lead_cmp, as_led, led_byte, stored_lead, may_have, IsBehind};
 ghost use Rattle.study_index.specs.Proved.Leads.{lead_total, lead_exact};
 
 use crate::marks::value_marks;
@@ -28,12 +28,11 @@ pub struct Named {
 }
 
 impl Model for Named {
-    ghost use Rattle.std.specs.Prelude.{ℕ};
-    ghost use Rattle.study_index.specs.Leads.{Text};
+    ghost use Rattle.study_index.specs.Leads.{Named};
 
-    ghost Value = { Text × (ℕ × Text) };
+    ghost Value = { Named };
 
-    ghost view = { λ n. (n.value, (n.kind, n.key)) };
+    ghost view = { λ n. record { value = n.value; kind = n.kind; key = n.key } };
 }
 
 /// Where the value and the key of a lead stand.
@@ -68,7 +67,7 @@ impl Model for Lead {
     ghost use Rattle.std.specs.Prelude.{◌≡◌};
     ghost use Rattle.study_index.specs.Marks.{value_marks};
 
-    ghost invariant = { λ l. l.marks ≡ value_marks (lead_view l.tag l.source).1.0 };
+    ghost invariant = { λ l. l.marks ≡ value_marks (lead_view l.tag l.source).value };
 }
 
 // It is written out, so that a caller does not prove again how each part is dropped.
@@ -180,7 +179,7 @@ impl Lead {
         kind: u8,
         key: ShortText,
     ) -> Result<Lead, AllocError>
-        ensures { IfOk result (λ lead. lead ≡ (tag, (value, (kind, key)))) }
+        ensures { IfOk result (λ lead. lead ≡ a_lead tag value kind key) }
     {
         let marks = value_marks(&value);
         let named = Arc::new(alloc, Named { value, kind, key })?;
@@ -215,7 +214,7 @@ impl Lead {
     // The bytes of the value, at most 64, and whether they are folded where they are read. So no
     // copy is made of it.
     fn read(&self) -> (bool, &[u8])
-        ensures { map (led_byte result.0) result.1.now ≡ self.now.1.0 }
+        ensures { map (led_byte result.0) result.1.now ≡ self.now.value }
     {
         match &self.source {
             Source::Stored(content) => {
@@ -228,7 +227,7 @@ impl Lead {
 
     // Whether a needle may stand in the value.
     fn reads(&self, needle: &Needle) -> bool
-        ensures { result ≡ may_have needle.now self.now.1.0 }
+        ensures { result ≡ may_have needle.now self.now.value }
     {
         let (folds, text) = self.read();
         needle.may_stand_in(folds, text)
@@ -236,14 +235,14 @@ impl Lead {
 
     /// Whether a needle may stand in the value. One without its marks is not read.
     pub fn may_have(&self, needle: &Needle) -> bool
-        ensures { result ≡ may_have needle.now self.now.1.0 }
+        ensures { result ≡ may_have needle.now self.now.value }
     {
         needle.is_marked(self.marks) && self.reads(needle)
     }
 
     /// 1 where it leads to a study, 2 where it leads to the studies of a stored Patient ID.
     pub fn kind(&self) -> u8
-        ensures { result ≡ self.now.1.1.0 }
+        ensures { result ≡ self.now.kind }
     {
         match &self.source {
             Source::Stored(_) => 1,
@@ -253,7 +252,7 @@ impl Lead {
 
     /// The study, or the Patient ID, of which an index knows 64 bytes.
     pub fn key(&self) -> ShortText
-        ensures { result ≡ self.now.1.1.1 }
+        ensures { result ≡ self.now.key }
     {
         match &self.source {
             Source::Stored(content) => ShortText::cut(study(content)),
@@ -263,8 +262,8 @@ impl Lead {
 
     // The order of leads of one tag and one value.
     fn by_key(&self, other: &Lead) -> Ordering
-        ensures { result ≡ ordering_then (nat_cmp self.now.1.1.0 other.now.1.1.0)
-            (text_cmp self.now.1.1.1 other.now.1.1.1) }
+        ensures { result ≡ ordering_then (nat_cmp self.now.kind other.now.kind)
+            (text_cmp self.now.key other.now.key) }
     {
         match self.kind().cmp(&other.kind()) {
             Ordering::Less => Ordering::Less,
@@ -275,9 +274,9 @@ impl Lead {
 
     // The order of leads of one tag.
     fn by_value(&self, other: &Lead) -> Ordering
-        ensures { result ≡ ordering_then (text_cmp self.now.1.0 other.now.1.0)
-            (ordering_then (nat_cmp self.now.1.1.0 other.now.1.1.0)
-            (text_cmp self.now.1.1.1 other.now.1.1.1)) }
+        ensures { result ≡ ordering_then (text_cmp self.now.value other.now.value)
+            (ordering_then (nat_cmp self.now.kind other.now.kind)
+            (text_cmp self.now.key other.now.key)) }
     {
         let (folds, text) = self.read();
         let (other_folds, other_text) = other.read();

@@ -26,7 +26,7 @@ impl Model for Pick {
 
     ghost Value = { Pick };
 
-    ghost view = { λ p. (p.digest, (p.study, p.series)) };
+    ghost view = { λ p. record { digest = p.digest; study = p.study; series = p.series } };
 }
 
 impl PartialEq for Pick {

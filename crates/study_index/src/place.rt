@@ -30,7 +30,13 @@ impl Model for Place {
 
     ghost Value = { Place };
 
-    ghost view = { λ p. (p.study, (p.study_end, (p.series, (p.series_end, p.instance)))) };
+    ghost view = { λ p. record {
+      study = p.study;
+      study_end = p.study_end;
+      series = p.series;
+      series_end = p.series_end;
+      instance = p.instance;
+    } };
 }
 
 impl Place {
@@ -49,21 +55,21 @@ impl Place {
 
     /// The study.
     pub fn study(&self) -> &ShortText
-        ensures { result.now ≡ self.now.0 }
+        ensures { result.now ≡ self.now.study }
     {
         &self.study
     }
 
     /// The series.
     pub fn series(&self) -> &ShortText
-        ensures { result.now ≡ self.now.1.1.0 }
+        ensures { result.now ≡ self.now.series }
     {
         &self.series
     }
 
     /// The SOP Instance UID.
     pub fn instance(&self) -> &ShortText
-        ensures { result.now ≡ self.now.1.1.1.1 }
+        ensures { result.now ≡ self.now.instance }
     {
         &self.instance
     }
@@ -83,8 +89,8 @@ impl Place {
 
     // The order of places of one study and one series.
     fn in_series(&self, other: &Place) -> Ordering
-        ensures { result ≡ ordering_then (nat_cmp self.now.1.1.1.0 other.now.1.1.1.0)
-            (text_cmp self.now.1.1.1.1 other.now.1.1.1.1) }
+        ensures { result ≡ ordering_then (nat_cmp self.now.series_end other.now.series_end)
+            (text_cmp self.now.instance other.now.instance) }
     {
         match self.series_end.cmp(&other.series_end) {
             Ordering::Less => Ordering::Less,
@@ -95,9 +101,9 @@ impl Place {
 
     // The order of places of one study, by their series.
     fn by_series(&self, other: &Place) -> Ordering
-        ensures { result ≡ ordering_then (text_cmp self.now.1.1.0 other.now.1.1.0)
-            (ordering_then (nat_cmp self.now.1.1.1.0 other.now.1.1.1.0)
-            (text_cmp self.now.1.1.1.1 other.now.1.1.1.1)) }
+        ensures { result ≡ ordering_then (text_cmp self.now.series other.now.series)
+            (ordering_then (nat_cmp self.now.series_end other.now.series_end)
+            (text_cmp self.now.instance other.now.instance)) }
     {
         match self.series.cmp(&other.series) {
             Ordering::Less => Ordering::Less,
@@ -108,10 +114,10 @@ impl Place {
 
     // The order of places of one study.
     fn in_study(&self, other: &Place) -> Ordering
-        ensures { result ≡ ordering_then (nat_cmp self.now.1.0 other.now.1.0)
-            (ordering_then (text_cmp self.now.1.1.0 other.now.1.1.0)
-            (ordering_then (nat_cmp self.now.1.1.1.0 other.now.1.1.1.0)
-            (text_cmp self.now.1.1.1.1 other.now.1.1.1.1))) }
+        ensures { result ≡ ordering_then (nat_cmp self.now.study_end other.now.study_end)
+            (ordering_then (text_cmp self.now.series other.now.series)
+            (ordering_then (nat_cmp self.now.series_end other.now.series_end)
+            (text_cmp self.now.instance other.now.instance))) }
     {
         match self.study_end.cmp(&other.study_end) {
             Ordering::Less => Ordering::Less,

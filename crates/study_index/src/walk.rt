@@ -141,7 +141,7 @@ fn put_near(
 ) -> Result<(), AllocError>
     ensures { OnOk result ((s : List ℕ) → has text_cmp studies.new.keys s ≡
         (has text_cmp studies.old.keys s
-        || (may_have_in needle.now lead.now.1.0 && leads_to leads.now.keys s lead.now))) }
+        || (may_have_in needle.now lead.now.value && leads_to leads.now.keys s lead.now))) }
 {
     if !lead.may_have(needle) {
         return Ok(());

@@ -12,4 +12,4 @@ returns c = λ uid.
     let old = c.args.uids.now.keys in
     put_in (option_copied c.args.before) c.args.copy.now old c.put_uid.new.uids.keys uid (sym c.is_next_copy.ensures
     ∙ c.if-not-is_next_copy.false)
-    (c.in_ok-put_uid.ensures ∙ ap (λ (x : Copy). insert_key text_cmp old x.0) c.copy.view_is)
+    (c.in_ok-put_uid.ensures ∙ ap (λ (x : Copy). insert_key text_cmp old x.uid) c.copy.view_is)

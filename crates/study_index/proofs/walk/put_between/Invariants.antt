@@ -10,5 +10,5 @@ use Rattle.study_index.proofs.walk.put_between.Given as goal
 -- what the leads so far come to, where the needle may stand in their values, is in
 abbrev pub invariant-loop-lead : goal.invariant-loop-lead
 invariant-loop-lead l = (s : List ℕ) → has text_cmp l.studies.keys s ≡ (has text_cmp l.initial.studies.keys
-    s || list_any (λ lead. may_have l.needle lead.1.0 && leads_to l.leads.keys s lead)
+    s || list_any (λ lead. may_have l.needle lead.value && leads_to l.leads.keys s lead)
     (map deref l.yielded))

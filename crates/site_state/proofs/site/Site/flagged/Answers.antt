@@ -14,6 +14,8 @@ returns c =
     let site = c.args.self.now in
     let index = c.index-index.result.now in
     c.in_ok-texts.ensures.all
-    ∙ flagged_are (ops_of site) (ops_ascend site c.see_lawful.ensures.own) index c.index-index.ensures.says c.held.ensures.0.0
+    ∙ flagged_are (ops_of site) (ops_ascend site c.see_lawful.ensures.own) index c.index-index.ensures.says
+    c.held.ensures.copies
     c.put_flagged.new.uids.keys c.in_ok-texts.ensures.ordered (λ uid.
-    c.in_ok-put_flagged.ensures uid ∙ ap (λ ks. has text_cmp ks uid || is_doubled index.0.0 uid) c.new-uids.ensures.empty)
+    c.in_ok-put_flagged.ensures uid ∙ ap
+    (λ ks. has text_cmp ks uid || is_doubled index.copies uid) c.new-uids.ensures.empty)

@@ -14,6 +14,6 @@ returns-in-None c = none_picked c.args.self.now c.index.result.now c.see_lawful.
 pub returns-in-Some : goal.returns-in-Some
 returns-in-Some c =
     c.content_under.ensures
-    ∙ ap (λ (p : Pick). content_held (held_at c.args.self.now p.0)) c.picked.view_is
+    ∙ ap (λ (p : Pick). content_held (held_at c.args.self.now p.digest)) c.picked.view_is
     ∙ is_picked c.args.self.now c.index.result.now c.see_lawful.ensures.own c.index.ensures.says c.args.uid.now
     c.in-Some.picked.now c.in-Some.ensures

@@ -21,7 +21,8 @@ returns-then-not-equals c =
     c.self.view_is
     (not_in_study c.self.inside.picks c.held.ensures.0 c.args.study.now c.args.series.now (option_copied c.args.after)
     c.in-Some.place.now
-    (λ e. let t = c.equals.ensures.1 (ap (λ (p : Place). p.0) c.place.view_is ∙ e) in let u = c.if-not-equals.true in
+    (λ e. let t = c.equals.ensures.1 (ap (λ (p : Place). p.study) c.place.view_is ∙ e) in
+    let u = c.if-not-equals.true in
     cc)
     (subst (λ b. IsFromStart place_cmp b c.in-Some.place.now) c.instance_start.ensures c.in-Some.ensures.found.0)
     (λ q from there. c.in-Some.ensures.least q (subst (λ b. IsFromStart place_cmp b q) (sym c.instance_start.ensures)
@@ -34,8 +35,8 @@ returns-then-not-equals-2 c =
     c.self.view_is
     (not_in_series c.self.inside.picks c.held.ensures.0 c.args.study.now c.args.series.now (option_copied c.args.after)
     c.in-Some.place.now
-    (sym (ap (λ (p : Place). p.0) c.place.view_is) ∙ c.equals.ensures.0 c.if-not-equals.false)
-    (λ e. let t = c.equals-in-Some.ensures.1 (ap (λ (p : Place). p.1.1.0) c.place.view_is ∙ e) in
+    (sym (ap (λ (p : Place). p.study) c.place.view_is) ∙ c.equals.ensures.0 c.if-not-equals.false)
+    (λ e. let t = c.equals-in-Some.ensures.1 (ap (λ (p : Place). p.series) c.place.view_is ∙ e) in
     let u = c.if-not-equals-2.true in cc)
     (subst (λ b. IsFromStart place_cmp b c.in-Some.place.now) c.instance_start.ensures c.in-Some.ensures.found.0)
     (ap (λ ks. has place_cmp ks c.in-Some.place.now) (sym c.self.invariant) ∙ c.in-Some.ensures.found.1)
@@ -46,13 +47,13 @@ returns-then-not-equals-2 c =
 pub returns-else-not-equals-2 : goal.returns-else-not-equals-2
 returns-else-not-equals-2 c =
     subst (λ (p : Place). IsNext (HasInstance c.args.self.now c.args.study.now c.args.series.now)
-    (option_copied c.args.after) (Some p.1.1.1.1)) (sym c.place.view_is)
+    (option_copied c.args.after) (Some p.instance)) (sym c.place.view_is)
     (subst (λ picks. IsNext (HasInstance picks c.args.study.now c.args.series.now) (option_copied c.args.after)
-    (Some c.in-Some.place.now.1.1.1.1)) c.self.view_is
+    (Some c.in-Some.place.now.instance)) c.self.view_is
     (an_instance c.self.inside.picks c.held.ensures.0 c.args.study.now c.args.series.now (option_copied c.args.after)
     c.in-Some.place.now
-    (sym (ap (λ (p : Place). p.0) c.place.view_is) ∙ c.equals.ensures.0 c.if-not-equals.false)
-    (sym (ap (λ (p : Place). p.1.1.0) c.place.view_is) ∙ c.equals-in-Some.ensures.0 c.if-not-equals-2.false)
+    (sym (ap (λ (p : Place). p.study) c.place.view_is) ∙ c.equals.ensures.0 c.if-not-equals.false)
+    (sym (ap (λ (p : Place). p.series) c.place.view_is) ∙ c.equals-in-Some.ensures.0 c.if-not-equals-2.false)
     (subst (λ b. IsFromStart place_cmp b c.in-Some.place.now) c.instance_start.ensures c.in-Some.ensures.found.0)
     (ap (λ ks. has place_cmp ks c.in-Some.place.now) (sym c.self.invariant) ∙ c.in-Some.ensures.found.1)
     (λ q from there. c.in-Some.ensures.least q (subst (λ b. IsFromStart place_cmp b q) (sym c.instance_start.ensures)

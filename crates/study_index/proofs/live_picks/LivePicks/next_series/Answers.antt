@@ -18,7 +18,8 @@ pub returns-then-not-equals : goal.returns-then-not-equals
 returns-then-not-equals c =
     subst (λ picks. IsNext (HasSeries picks c.args.study.now) (option_copied c.args.after) None) c.self.view_is
     (other_study c.self.inside.picks c.held.ensures.0 c.args.study.now (option_copied c.args.after) c.in-Some.place.now
-    (λ e. let t = c.equals.ensures.1 (ap (λ (p : Place). p.0) c.place.view_is ∙ e) in let u = c.if-not-equals.true in
+    (λ e. let t = c.equals.ensures.1 (ap (λ (p : Place). p.study) c.place.view_is ∙ e) in
+    let u = c.if-not-equals.true in
     cc)
     (subst (λ b. IsFromStart place_cmp b c.in-Some.place.now) c.series_start.ensures c.in-Some.ensures.found.0)
     (λ q from there. c.in-Some.ensures.least q (subst (λ b. IsFromStart place_cmp b q) (sym c.series_start.ensures)
@@ -28,11 +29,11 @@ returns-then-not-equals c =
 pub returns-else-not-equals : goal.returns-else-not-equals
 returns-else-not-equals c =
     subst (λ (p : Place). IsNext (HasSeries c.args.self.now c.args.study.now) (option_copied c.args.after)
-    (Some p.1.1.0)) (sym c.place.view_is)
+    (Some p.series)) (sym c.place.view_is)
     (subst (λ picks. IsNext (HasSeries picks c.args.study.now) (option_copied c.args.after)
-    (Some c.in-Some.place.now.1.1.0)) c.self.view_is
+    (Some c.in-Some.place.now.series)) c.self.view_is
     (a_series c.self.inside.picks c.held.ensures.0 c.args.study.now (option_copied c.args.after) c.in-Some.place.now
-    (sym (ap (λ (p : Place). p.0) c.place.view_is) ∙ c.equals.ensures.0 c.if-not-equals.false)
+    (sym (ap (λ (p : Place). p.study) c.place.view_is) ∙ c.equals.ensures.0 c.if-not-equals.false)
     (subst (λ b. IsFromStart place_cmp b c.in-Some.place.now) c.series_start.ensures c.in-Some.ensures.found.0)
     (ap (λ ks. has place_cmp ks c.in-Some.place.now) (sym c.self.invariant) ∙ c.in-Some.ensures.found.1)
     (λ q from there. c.in-Some.ensures.least q (subst (λ b. IsFromStart place_cmp b q) (sym c.series_start.ensures)

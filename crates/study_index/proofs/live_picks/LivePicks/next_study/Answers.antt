@@ -16,9 +16,10 @@ returns-in-None c = subst (λ picks. IsNext (HasStudy picks) (option_copied c.ar
 -- The first place from there on has the study.
 pub returns-in-Some : goal.returns-in-Some
 returns-in-Some c =
-    subst (λ (p : Place). IsNext (HasStudy c.args.self.now) (option_copied c.args.after) (Some p.0))
+    subst (λ (p : Place). IsNext (HasStudy c.args.self.now) (option_copied c.args.after) (Some p.study))
     (sym c.place.view_is)
-    (subst (λ picks. IsNext (HasStudy picks) (option_copied c.args.after) (Some c.in-Some.place.now.0)) c.self.view_is
+    (subst (λ picks. IsNext (HasStudy picks) (option_copied c.args.after)
+    (Some c.in-Some.place.now.study)) c.self.view_is
     (a_study c.self.inside.picks c.held.ensures.0 (option_copied c.args.after) c.in-Some.place.now
     (subst (λ b. IsFromStart place_cmp b c.in-Some.place.now) c.study_start.ensures c.in-Some.ensures.found.0)
     (ap (λ ks. has place_cmp ks c.in-Some.place.now) (sym c.self.invariant) ∙ c.in-Some.ensures.found.1)
