@@ -1,0 +1,5 @@
+pub mod Answers
+pub mod Faults
+pub mod Forms
+pub mod Objects
+pub mod Posting
