@@ -1,0 +1,7 @@
+pub mod Counting
+pub mod Ends
+pub mod Facts
+pub mod Families
+pub mod Meters
+pub mod Samples
+pub mod Tally
