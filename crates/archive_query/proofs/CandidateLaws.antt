@@ -348,7 +348,7 @@ is_walked_study (Some studies) s = has text_cmp studies s
 module _ (ops : List Op) (index : IndexValue) (is : IsIndexOf ops index) (lawful : AreLawful ops) where
   -- each walk of a key that matches some content of the set comes to the content's study
   led_by : (d : ContentParts) → IsOne (contents ops) d → (asked : Asked) → is_key_match ops d asked ≡ true
-      → IsLedBy asked index.0.1 (take 64 (study_of d))
+      → IsLedBy asked index.leads (take 64 (study_of d))
   led_by d h asked e walk for_it =
       either_of (is_universal asked.key || length (attribute ops d asked.tag) == 0)
       (is_match_by asked.matching asked.key (attribute ops d asked.tag)) e
@@ -362,7 +362,7 @@ module _ (ops : List Op) (index : IndexValue) (is : IsIndexOf ops index) (lawful
       (λ m. or_second _ _ (leads_enough ops index is lawful (is_walked walk) asked.tag for_it.tag d h
       (for_it.passes (attribute ops d asked.tag) m)))
 
-  pick_there : (uid : Text) (c : ContentParts) → pick uid ops ≡ Some c → pick_at uid index.1.1.1 ≡ Some (pick_of c)
+  pick_there : (uid : Text) (c : ContentParts) → pick uid ops ≡ Some c → pick_at uid index.picks ≡ Some (pick_of c)
   pick_there uid c e = is.picks uid ∙ ap (option_map pick_of) e
 
   -- the walk of one key comes to what every key matches
@@ -375,9 +375,9 @@ module _ (ops : List Op) (index : IndexValue) (is : IsIndexOf ops index) (lawful
       let at = any_has (λ d. same (study_of d) study && is_match ops q d) (contents ops) k in
       let parts_of = and_both _ _ at.2 in
       are (take 64 study)
-      ∙ ap (λ (t : Text). is_candidate walk.0 (is_walked walk.1) index.0.1 (take 64 t))
+      ∙ ap (λ (t : Text). is_candidate walk.0 (is_walked walk.1) index.leads (take 64 t))
       (sym (same_is (study_of at.0) study parts_of.0))
-      ∙ ap (λ n. is_candidate n (is_walked walk.1) index.0.1 (take 64 (study_of at.0))) (sym chosen.tag)
+      ∙ ap (λ n. is_candidate n (is_walked walk.1) index.leads (take 64 (study_of at.0))) (sym chosen.tag)
       ∙ led_by at.0 at.1 chosen.asked (has_all (is_key_match ops at.0) q.asked chosen.asked parts_of.1 chosen.one)
       walk.1 chosen.walk
 
@@ -396,16 +396,16 @@ module _ (ops : List Op) (index : IndexValue) (is : IsIndexOf ops index) (lawful
   -- whatever is put in of the studies that are walked has what is kept
   put_to : (studies : Option (List Text)) (uid : Text) (c : ContentParts) → pick uid ops ≡ Some c
       → is_walked_study studies (take 64 (study_of c)) ≡ true → is_of_walked studies index uid ≡ true
-  put_to None uid c e w = pick_listed index.1.1.1 uid (pick_of c) (pick_there uid c e)
+  put_to None uid c e w = pick_listed index.picks uid (pick_of c) (pick_there uid c e)
   put_to (Some studies) uid c e w =
       let at = any_has (is_at (text_cmp (take 64 (study_of c)))) studies w in
-      has_any (λ study. is_of_study study (pick_at uid index.1.1.1)) studies at.0 at.1
+      has_any (λ study. is_of_study study (pick_at uid index.picks)) studies at.0 at.1
       (ap (is_of_study at.0) (pick_there uid c e)
       ∙ same_equal (take 64 (study_of c)) at.0 (same_key text_exact (take 64 (study_of c)) at.0 at.2))
 
   reached_in : (r : Option Asked) (q : Query) → find (is_list_of SERIES_INSTANCE_UID) q.asked ≡ r → q.level ≡ Series
       → (uid : Text) (c : ContentParts) → pick uid ops ≡ Some c → kept_in r q c ≡ true
-      → is_walked_at_series (option_map members_of r) (take 64 q.study) (pick_at uid index.1.1.1) ≡ true
+      → is_walked_at_series (option_map members_of r) (take 64 q.study) (pick_at uid index.picks) ≡ true
   reached_in None q f l uid c e k =
       ap (is_of_study (take 64 q.study)) (pick_there uid c e)
       ∙ of_cut q.study c (named_study q c (ap has_study_above l) k)
@@ -417,7 +417,7 @@ module _ (ops : List Op) (index : IndexValue) (is : IsIndexOf ops index) (lawful
       ∙ listed_in q.study a c (named_study q c (ap has_study_above l) both.0) some both.1
 
   named_in_series : (q : Query) → q.level ≡ Image → (uid : Text) (c : ContentParts) → pick uid ops ≡ Some c
-      → is_named q c ≡ true → is_of_series (take 64 q.study) (take 64 q.series) (pick_at uid index.1.1.1) ≡ true
+      → is_named q c ≡ true → is_of_series (take 64 q.study) (take 64 q.series) (pick_at uid index.picks) ≡ true
   named_in_series q l uid c e k =
       ap (is_of_series (take 64 q.study) (take 64 q.series)) (pick_there uid c e)
       ∙ of_cut_series q.study q.series c (named_study q c (ap has_study_above l) k)
@@ -450,7 +450,7 @@ module _ (ops : List Op) (index : IndexValue) (is : IsIndexOf ops index) (lawful
       are.put uid ∙ put_to are.studies uid c e (walked_to (find (is_list_of STUDY_INSTANCE_UID) q.asked) q refl
       are.studies (subst (λ x. AreWalked (listed_at x q) q index are.studies) l are.walked) c k)
   reached_at Series q l uids are uid c e k =
-      are uid ∙ ap (λ x. is_walked_at_series (listed_at x q) (take 64 q.study) (pick_at uid index.1.1.1)) l
+      are uid ∙ ap (λ x. is_walked_at_series (listed_at x q) (take 64 q.study) (pick_at uid index.picks)) l
       ∙ reached_in (find (is_list_of SERIES_INSTANCE_UID) q.asked) q refl l uid c e k
   reached_at Image q l uids are uid c e k =
       are uid ∙ ap (λ x. is_walked_at_image (listed_at x q) (take 64 q.study) (take 64 q.series) index uid) l

@@ -18,7 +18,7 @@ use Rattle.key_matching.specs.Matches.{is_match_by}
 use Rattle.key_matching.specs.Range.{are_digits, is_date, is_from, is_until, is_in_range, is_no_later, is_open}
 use Rattle.key_matching.specs.Range.{first_end, last_end}
 use Rattle.study_index.specs.Live.{Text}
-use Rattle.study_index.specs.Leads.{Lead, lead_cmp, led_byte, is_folded, as_led, is_between, value_front}
+use Rattle.study_index.specs.Leads.{Lead, a_lead, lead_cmp, led_byte, is_folded, as_led, is_between, value_front}
 use Rattle.study_index.specs.Leads.{IsWithin, IsBehind, LeadWalk, is_walked, may_have}
 use Rattle.archive_query.specs.Leads.{is_dates, IsUpTo}
 use Rattle.archive_query.proofs.LeadEnough.{all_kept, le_none}
@@ -61,7 +61,7 @@ first_first first value e = either (is_open first) (is_date first && is_no_later
 
 front_before : (tag : ℕ) (first value : Text) → is_from Date first value ≡ true → (kind : ℕ) (key : Text)
     → (kind ≡ 1) ⊎ (kind ≡ 2)
-    → is_le (lead_cmp (value_front tag (take 64 first)) (tag, (value, (kind, key)))) ≡ true
+    → is_le (lead_cmp (value_front tag (take 64 first)) (a_lead tag value kind key)) ≡ true
 front_before tag first value e kind key which =
     ap (λ o. is_le (ordering_then o (ordering_then (text_cmp (take 64 first) value) (ordering_then (nat_cmp 0 kind)
     (text_cmp [] key))))) (tied_itself nat_cmp_total tag)
@@ -70,10 +70,10 @@ front_before tag first value e kind key which =
 
 -- ---- the last end
 
-pub up_given : (tag : ℕ) (last : Text) (end : Lead) → (length last ≡ 0 → ⊥) → end ≡ (tag, (take 64 last, (3, [])))
+pub up_given : (tag : ℕ) (last : Text) (end : Lead) → (length last ≡ 0 → ⊥) → end ≡ a_lead tag (take 64 last) 3 []
     → IsUpTo tag last end
 up_given tag last end some is value kind key until below =
-    ap (lead_cmp (tag, (value, (kind, key)))) is
+    ap (lead_cmp (a_lead tag value kind key)) is
     ∙ ap (λ o. ordering_then o (ordering_then (text_cmp value (take 64 last)) (ordering_then (nat_cmp kind 3)
     (text_cmp key [])))) (tied_itself nat_cmp_total tag)
     ∙ less_then (text_cmp value (take 64 last)) (ordering_then (nat_cmp kind 3) (text_cmp key [])) no_later
@@ -87,7 +87,7 @@ up_given tag last end some is value kind key until below =
 
 pub up_open : (tag : ℕ) (last text : Text) (end : Lead) → text ≡ [] → IsBehind tag text end → IsUpTo tag last end
 up_open tag last text end none behind value kind key until below =
-    ap (λ (t : Text). lead_cmp (tag, (t ++ value, (kind, key))) end) (sym none) ∙ behind value kind key
+    ap (λ (t : Text). lead_cmp (a_lead tag (t ++ value) kind key) end) (sym none) ∙ behind value kind key
 
 -- ---- both
 
@@ -103,12 +103,12 @@ dates_within tag key first last walk kept is_first is_last front up none value e
     let until = ap (λ (t : Text). is_until Date t value) is_last ∙ ends.1 in
     let same = led_is tag value kept date_and.0 in
     walked walk tag value
-    (λ kind k which. ap (λ (t : Text). is_between walk.front walk.end (tag, (t, (kind, k)))) same
-    ∙ both_true (is_le (lead_cmp walk.front (tag, (value, (kind, k)))))
-    (not (is_le (lead_cmp walk.end (tag, (value, (kind, k))))))
-    (ap (λ (l : Lead). is_le (lead_cmp l (tag, (value, (kind, k))))) front
+    (λ kind k which. ap (λ (t : Text). is_between walk.front walk.end (a_lead tag t kind k)) same
+    ∙ both_true (is_le (lead_cmp walk.front (a_lead tag value kind k)))
+    (not (is_le (lead_cmp walk.end (a_lead tag value kind k))))
+    (ap (λ (l : Lead). is_le (lead_cmp l (a_lead tag value kind k))) front
     ∙ front_before tag first value from kind k which)
-    (before_end (tag, (value, (kind, k))) walk.end (up value kind k until (small kind which))))
+    (before_end (a_lead tag value kind k) walk.end (up value kind k until (small kind which))))
     (ap (λ (n : Text). may_have n (as_led tag value)) none ∙ none_stands (as_led tag value))
   where
     grouped : is_in_range Date key value ≡ true → (is_date value && (is_from Date (first_end key) value && is_until

@@ -20,7 +20,8 @@ use Rattle.archive_model.specs.Contents.{study_of, series_of}
 use Rattle.archive_model.specs.Shown.{shown_at}
 use Rattle.archive_model.proofs.MemberLaws.{has_filter, filter_has}
 use Rattle.archive_model.proofs.ModelLaws.{same_is, pick_is_content}
-use Rattle.study_index.specs.Live.{Pick, Place, place_cmp, place_of, instance_of, pick_at, tree_of, front_of, end_of}
+use Rattle.study_index.specs.Live.{Pick, Place, a_pick, a_place, place_cmp, place_of, instance_of, pick_at, tree_of}
+use Rattle.study_index.specs.Live.{front_of, end_of}
 use Rattle.study_index.specs.Live.{is_between, places_in_study}
 use Rattle.study_index.specs.Proved.Picks.{place_total, place_exact}
 use Rattle.study_index.proofs.Studies.{between_of}
@@ -93,12 +94,12 @@ for_itself : (c : ContentParts) → IsFor c c
 for_itself c = record { study = refl; series = refl; low = ap is_gt (itself c.instance) }
 
 module _ (view : View) (ops : List Op) (index : IndexValue) (is : IsIndexOf ops index)
-    (up : IsStrictlySortedBy text_cmp (keys_of index.1.1.1)) where
+    (up : IsStrictlySortedBy text_cmp (keys_of index.picks)) where
   abbrev shown : Text → Option ContentParts
   shown = shown_at view ops
 
   abbrev picks : List (Text × Option Pick)
-  picks = index.1.1.1
+  picks = index.picks
 
   pub own : (uid : Text) (c : ContentParts) → shown uid ≡ Some c → c.instance ≡ uid
   own uid c e = (pick_is_content uid ops c (shown_pick view ops uid c e)).1
@@ -108,26 +109,27 @@ module _ (view : View) (ops : List Op) (index : IndexValue) (is : IsIndexOf ops 
 
   -- what is shown at a place is of its study and its series
   known_study : (p : Place) → IsListed picks up p → (c : ContentParts) → shown (instance_of p) ≡ Some c
-      → take 64 (study_of c) ≡ p.0
-  known_study p l c e = let tie : Some (pick_of c) ≡ Some (l.digest, (p.0, p.1.1.0)) =
-      sym (picked_as (instance_of p) c e) ∙ l.pick in let s : pick_of c ≡ (l.digest, (p.0, p.1.1.0)) = cc in
-      ap (λ (q : Pick). q.1.0) s
+      → take 64 (study_of c) ≡ p.study
+  known_study p l c e = let tie : Some (pick_of c) ≡ Some (a_pick l.digest p.study p.series) =
+      sym (picked_as (instance_of p) c e) ∙ l.pick in let s : pick_of c ≡ a_pick l.digest p.study p.series = cc in
+      ap (λ (q : Pick). q.study) s
 
   known_series : (p : Place) → IsListed picks up p → (c : ContentParts) → shown (instance_of p) ≡ Some c
-      → take 64 (series_of c) ≡ p.1.1.0
-  known_series p l c e = let tie : Some (pick_of c) ≡ Some (l.digest, (p.0, p.1.1.0)) =
-      sym (picked_as (instance_of p) c e) ∙ l.pick in let s : pick_of c ≡ (l.digest, (p.0, p.1.1.0)) = cc in
-      ap (λ (q : Pick). q.1.1) s
+      → take 64 (series_of c) ≡ p.series
+  known_series p l c e = let tie : Some (pick_of c) ≡ Some (a_pick l.digest p.study p.series) =
+      sym (picked_as (instance_of p) c e) ∙ l.pick in let s : pick_of c ≡ a_pick l.digest p.study p.series = cc in
+      ap (λ (q : Pick). q.series) s
 
   -- a place behind another of its series has a greater instance
-  behind : (l p : Place) → IsListed picks up l → IsListed picks up p → l.0 ≡ p.0 → l.1.1.0 ≡ p.1.1.0
+  behind : (l p : Place) → IsListed picks up l → IsListed picks up p → l.study ≡ p.study → l.series ≡ p.series
       → place_cmp l p ≡ Less → text_cmp (instance_of l) (instance_of p) ≡ Less
   behind l p l_is p_is study series less =
       sym (ap (λ o. ordering_then o (text_cmp (instance_of l) (instance_of p)))
-      (ap (text_cmp l.1.1.0) (sym series) ∙ itself l.1.1.0))
-      ∙ sym (ap (λ o. ordering_then o (ordering_then (text_cmp l.1.1.0 p.1.1.0) (text_cmp (instance_of l) (instance_of p))))
-      (ap (text_cmp l.0) (sym study) ∙ itself l.0))
-      ∙ sym (ap (λ (q : Place). place_cmp q (p.0, (0, (p.1.1.0, (0, instance_of p))))) l_is.place)
+      (ap (text_cmp l.series) (sym series) ∙ itself l.series))
+      ∙ sym (ap (λ o. ordering_then o (ordering_then (text_cmp l.series p.series) (text_cmp (instance_of l)
+      (instance_of p))))
+      (ap (text_cmp l.study) (sym study) ∙ itself l.study))
+      ∙ sym (ap (λ (q : Place). place_cmp q (a_place p.study p.series (instance_of p))) l_is.place)
       ∙ sym (ap (place_cmp l) p_is.place) ∙ less
 
   -- two places of one series, of which one was shown before
@@ -135,16 +137,17 @@ module _ (view : View) (ops : List Op) (index : IndexValue) (is : IsIndexOf ops 
       → place_cmp l p ≡ Less → (d c : ContentParts) → shown (instance_of l) ≡ Some d → shown (instance_of p) ≡ Some c
       → IsFor d c
   stands l p l_is p_is one less d c e f =
-      let a = and_parts (same l.0 p.0 && same l.1.1.0 p.1.1.0 && nat_lt (length p.0) 64) (nat_lt (length p.1.1.0) 64) one in
-      let b = and_parts (same l.0 p.0 && same l.1.1.0 p.1.1.0) (nat_lt (length p.0) 64) a.0 in
-      let g = and_parts (same l.0 p.0) (same l.1.1.0 p.1.1.0) b.0 in
-      let study : l.0 ≡ p.0 = same_is l.0 p.0 g.0 in
-      let series : l.1.1.0 ≡ p.1.1.0 = same_is l.1.1.0 p.1.1.0 g.1 in
+      let a = and_parts (same l.study p.study && same l.series p.series && nat_lt (length p.study) 64)
+      (nat_lt (length p.series) 64) one in
+      let b = and_parts (same l.study p.study && same l.series p.series) (nat_lt (length p.study) 64) a.0 in
+      let g = and_parts (same l.study p.study) (same l.series p.series) b.0 in
+      let study : l.study ≡ p.study = same_is l.study p.study g.0 in
+      let series : l.series ≡ p.series = same_is l.series p.series g.1 in
       record {
-        study = whole_is (study_of d) (study_of c) p.0 (known_study l l_is d e ∙ study) (known_study p p_is c f)
-            (ltb-true (length p.0) 64 b.1);
-        series = whole_is (series_of d) (series_of c) p.1.1.0 (known_series l l_is d e ∙ series)
-            (known_series p p_is c f) (ltb-true (length p.1.1.0) 64 a.1);
+        study = whole_is (study_of d) (study_of c) p.study (known_study l l_is d e ∙ study) (known_study p p_is c f)
+            (ltb-true (length p.study) 64 b.1);
+        series = whole_is (series_of d) (series_of c) p.series (known_series l l_is d e ∙ series)
+            (known_series p p_is c f) (ltb-true (length p.series) 64 a.1);
         low = ap (λ (t : Text). is_gt (text_cmp t c.instance)) (own (instance_of l) d e)
             ∙ ap (λ (t : Text). is_gt (text_cmp (instance_of l) t)) (own (instance_of p) c f)
             ∙ ap is_gt (behind l p l_is p_is study series less);
@@ -273,8 +276,8 @@ module _ (view : View) (ops : List Op) (index : IndexValue) (is : IsIndexOf ops 
   place_here : (uid : Text) (c : ContentParts) → shown uid ≡ Some c → IsOne (tree_of picks) (place_of uid (pick_of c))
   place_here uid c e =
       let q = place_of uid (pick_of c) in
-      let at = any_has (is_at (place_cmp q)) (tree_of picks) (listed picks up (pick_of c).0 (pick_of c).1.0
-      (pick_of c).1.1 uid (picked_as uid c e)) in
+      let at = any_has (is_at (place_cmp q)) (tree_of picks) (listed picks up (pick_of c).digest (pick_of c).study
+      (pick_of c).series uid (picked_as uid c e)) in
       subst (IsOne (tree_of picks)) (sym (same_key place_exact q at.0 at.2)) at.1
 
   taken : (ps : List Place) (c : ContentParts) → Stands None c (firsts shown None ps)

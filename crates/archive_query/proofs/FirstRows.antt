@@ -79,7 +79,7 @@ mapped_members {X} {Y} f xs ys within y h =
     subst (IsOne (map f ys)) (sym at.2) (has_map f ys at.0 (within at.0 at.1))
 
 module _ (view : View) (ops : List Op) (index : IndexValue) (is : IsIndexOf ops index)
-    (up : IsStrictlySortedBy text_cmp (keys_of index.1.1.1)) where
+    (up : IsStrictlySortedBy text_cmp (keys_of index.picks)) where
   -- ---- what is shown, by ascending UID
 
   low : (k : Text) (us : List Text) → Below k us → AtLeast (λ c. c.instance) k (filter_map (shown_at view ops) us)
@@ -122,7 +122,7 @@ module _ (view : View) (ops : List Op) (index : IndexValue) (is : IsIndexOf ops 
       c.instance (one_has _ c.instance (has_map (λ (x : ContentParts). x.instance) (contents ops) c of_set.0)))) e
 
 module _ (view : View) (ops : List Op) (index : IndexValue) (is : IsIndexOf ops index) (lawful : AreLawful ops)
-    (up : IsStrictlySortedBy text_cmp (keys_of index.1.1.1)) (q : Query) (none : is_counted q ≡ false)
+    (up : IsStrictlySortedBy text_cmp (keys_of index.picks)) (q : Query) (none : is_counted q ≡ false)
     (at_study : q.level ≡ Study) where
   -- ---- what is taken
 
@@ -143,14 +143,14 @@ module _ (view : View) (ops : List Op) (index : IndexValue) (is : IsIndexOf ops 
 
   module _ (studies : Option (List Text)) (walked : AreWalked (listed_of q) q index studies) (ds : List ContentParts)
       (ds_up : Ascends (λ c. c.instance) ds)
-      (there : (c : ContentParts) → IsOne (firsts_of (shown_at view ops) index.1.1.1 studies) c → IsOne ds c)
-      (back : (c : ContentParts) → IsOne ds c → IsOne (firsts_of (shown_at view ops) index.1.1.1 studies) c) where
+      (there : (c : ContentParts) → IsOne (firsts_of (shown_at view ops) index.picks studies) c → IsOne ds c)
+      (back : (c : ContentParts) → IsOne ds c → IsOne (firsts_of (shown_at view ops) index.picks studies) c) where
     each_shown : (r : Option (List Text)) (d : ContentParts)
-        → IsOne (firsts_of (shown_at view ops) index.1.1.1 r) d → shown_at view ops d.instance ≡ Some d
-    each_shown None d h = taken_shown view ops index is up (tree_of index.1.1.1) d h
+        → IsOne (firsts_of (shown_at view ops) index.picks r) d → shown_at view ops d.instance ≡ Some d
+    each_shown None d h = taken_shown view ops index is up (tree_of index.picks) d h
     each_shown (Some ss) d h =
-        let at = flat_has (firsts_in_study (shown_at view ops) index.1.1.1) ss d h in
-        taken_shown view ops index is up (places_in_study at.0 index.1.1.1) d at.2
+        let at = flat_has (firsts_in_study (shown_at view ops) index.picks) ss d h in
+        taken_shown view ops index is up (places_in_study at.0 index.picks) d at.2
 
     abbrev all : List ContentParts
     all = named q (filter keep (shown view ops))
@@ -183,7 +183,7 @@ module _ (view : View) (ops : List Op) (index : IndexValue) (is : IsIndexOf ops 
     -- what is kept is stood for by what is taken
     first_of : (r : Option (List Text)) (c : ContentParts) → is_walked_study r (take 64 (study_of c)) ≡ true
         → shown_at view ops c.instance ≡ Some c
-        → (d : ContentParts) × IsFor d c × IsOne (firsts_of (shown_at view ops) index.1.1.1 r) d
+        → (d : ContentParts) × IsFor d c × IsOne (firsts_of (shown_at view ops) index.picks r) d
     first_of None c w e = stands_in_all view ops index is up c.instance c e
     first_of (Some ss) c w e =
         let at = any_has (is_at (text_cmp (take 64 (study_of c)))) ss w in
@@ -191,8 +191,8 @@ module _ (view : View) (ops : List Op) (index : IndexValue) (is : IsIndexOf ops 
         let f = stands_in_study view ops index is up c.instance c e in (
           f.0,
           f.1,
-          has_flat (firsts_in_study (shown_at view ops) index.1.1.1) ss at.0 f.0 at.1
-              (subst (λ (t : Text). IsOne (firsts_in_study (shown_at view ops) index.1.1.1 t) f.0) tie f.2),
+          has_flat (firsts_in_study (shown_at view ops) index.picks) ss at.0 f.0 at.1
+              (subst (λ (t : Text). IsOne (firsts_in_study (shown_at view ops) index.picks t) f.0) tie f.2),
         )
 
     stand : (c : ContentParts) → IsOne all c → StandsFor q.level taken c

@@ -30,7 +30,8 @@ use Rattle.study_index.specs.Live.{Text}
 use Rattle.study_index.proofs.KeyLaws.{at_itself, same_key}
 use Rattle.study_index.specs.Index.{IndexValue}
 use Rattle.study_index.specs.Definition.{IsIndexOf, AreLawful}
-use Rattle.study_index.specs.Leads.{Lead, lead_cmp, led_tags, led_byte, as_led, stored_lead, given_leads, leads_of}
+use Rattle.study_index.specs.Leads.{Lead, a_lead, lead_cmp, led_tags, led_byte, as_led, stored_lead, given_leads}
+use Rattle.study_index.specs.Leads.{leads_of}
 use Rattle.study_index.specs.Leads.{is_between, home_front, home_end, is_key, is_homed, leads_to, is_led, IsWithin}
 use Rattle.study_index.specs.Leads.{value_front, value_end}
 use Rattle.study_index.specs.Proved.Leads.{lead_total, lead_exact}
@@ -59,7 +60,7 @@ pub le_none : (t : Text) → is_le (text_cmp [] t) ≡ true
 le_none [] = refl
 le_none (x ∷ xs) = refl
 
-between_homes : (patient s : Text) → is_between (home_front patient) (home_end patient) (PATIENT_ID, (patient, (1, s)))
+between_homes : (patient s : Text) → is_between (home_front patient) (home_end patient) (a_lead PATIENT_ID patient 1 s)
     ≡ true
 between_homes patient s =
     ap (λ o. is_le (ordering_then o (text_cmp [] s)) && not (is_le (ordering_then o Greater))) (itself patient)
@@ -90,7 +91,7 @@ has_own c tag t =
 
 module _ (ops : List Op) (index : IndexValue) (is : IsIndexOf ops index) where
   abbrev leads : List Lead
-  leads = index.0.1
+  leads = index.leads
 
   stored : (c : ContentParts) → Has (contents ops) c → (tag : ℕ) → is_led_tag tag ≡ true
       → has lead_cmp leads (stored_lead c tag) ≡ true
@@ -109,8 +110,8 @@ module _ (ops : List Op) (index : IndexValue) (is : IsIndexOf ops index) where
   homed : (c : ContentParts) → Has (contents ops) c → is_homed leads (take 64 (study_of c)) (take 64 (patient_of c)) ≡ true
   homed c h =
       let home = stored_lead c PATIENT_ID in
-      let same_home : home ≡ (PATIENT_ID, (take 64 (patient_of c), (1, take 64 (study_of c)))) =
-      ap (λ (t : Text). (PATIENT_ID, (t, (1, take 64 (study_of c))))) (all_kept (take 64 (patient_of c))) in
+      let same_home : home ≡ a_lead PATIENT_ID (take 64 (patient_of c)) 1 (take 64 (study_of c)) =
+      ap (λ (t : Text). a_lead PATIENT_ID t 1 (take 64 (study_of c))) (all_kept (take 64 (patient_of c))) in
       let patient = take 64 (patient_of c) in
       has_any (is_key (take 64 (study_of c))) (filter (is_between (home_front patient) (home_end patient)) leads) home
       (has_filter (is_between (home_front patient) (home_end patient)) leads home
@@ -129,7 +130,7 @@ module _ (ops : List Op) (index : IndexValue) (is : IsIndexOf ops index) where
         → Has (corrections ops) k → k.tag ≡ tag → IsWithin passes tag k.value → (target : Target) → k.target ≡ target
         → is_target_of c target ≡ true → is_led passes leads (take 64 (study_of c)) ≡ true
     by_target tag t c h k kh same_tag within (Study key) e to =
-        let lead : Lead = (tag, (as_led tag k.value, (1, take 64 key))) in
+        let lead : Lead = a_lead tag (as_led tag k.value) 1 (take 64 key) in
         led (take 64 (study_of c)) lead
         (given k kh lead (ap (λ (x : Target). has lead_cmp (given_leads x k.tag k.value) lead) e
         ∙ ap (λ n. has lead_cmp (given_leads (Study key) n k.value) lead) same_tag
@@ -138,7 +139,7 @@ module _ (ops : List Op) (index : IndexValue) (is : IsIndexOf ops index) where
         (ap (λ (x : Text). is_at (text_cmp (take 64 (study_of c))) (take 64 x)) (sym (same_is (study_of c) key to))
         ∙ ap is_eq (itself (take 64 (study_of c))))
     by_target tag t c h k kh same_tag within (Patient key) e to =
-        let lead : Lead = (tag, (as_led tag k.value, (2, take 64 key))) in
+        let lead : Lead = a_lead tag (as_led tag k.value) 2 (take 64 key) in
         led (take 64 (study_of c)) lead
         (given k kh lead (ap (λ (x : Target). has lead_cmp (given_leads x k.tag k.value) lead) e
         ∙ ap (λ n. has lead_cmp (given_leads (Patient key) n k.value) lead) same_tag
@@ -175,14 +176,14 @@ module _ (ops : List Op) (index : IndexValue) (is : IsIndexOf ops index) where
 pub value_within : (tag : ℕ) (value text : Text) → as_led tag value ≡ text
     → IsWithin (is_between (value_front tag text) (value_end tag text)) tag value
 value_within tag value text e kind k (inl one) =
-    ap (λ n. is_between (value_front tag text) (value_end tag text) (tag, (as_led tag value, (n, k)))) one
-    ∙ ap (λ (v : Text). is_between (value_front tag text) (value_end tag text) (tag, (v, (1, k)))) e
+    ap (λ n. is_between (value_front tag text) (value_end tag text) (a_lead tag (as_led tag value) n k)) one
+    ∙ ap (λ (v : Text). is_between (value_front tag text) (value_end tag text) (a_lead tag v 1 k)) e
     ∙ ap (λ o. is_le (ordering_then o (ordering_then (text_cmp text text) Less)) &&
     not (is_le (ordering_then o (ordering_then (text_cmp text text) Greater)))) (tied_itself nat_cmp_total tag)
     ∙ ap (λ o. is_le (ordering_then o Less) && not (is_le (ordering_then o Greater))) (itself text)
 value_within tag value text e kind k (inr two) =
-    ap (λ n. is_between (value_front tag text) (value_end tag text) (tag, (as_led tag value, (n, k)))) two
-    ∙ ap (λ (v : Text). is_between (value_front tag text) (value_end tag text) (tag, (v, (2, k)))) e
+    ap (λ n. is_between (value_front tag text) (value_end tag text) (a_lead tag (as_led tag value) n k)) two
+    ∙ ap (λ (v : Text). is_between (value_front tag text) (value_end tag text) (a_lead tag v 2 k)) e
     ∙ ap (λ o. is_le (ordering_then o (ordering_then (text_cmp text text) Less)) &&
     not (is_le (ordering_then o (ordering_then (text_cmp text text) Greater)))) (tied_itself nat_cmp_total tag)
     ∙ ap (λ o. is_le (ordering_then o Less) && not (is_le (ordering_then o Greater))) (itself text)

@@ -137,7 +137,7 @@ listed_one us u h =
 
 -- of what is reached that is selected which is selected of all that is shown
 pub selected_enough : (view : View) (s : Selection) (ops : List Op) (index : IndexValue) → IsIndexOf ops index
-    → (us : List Text) → IsStrictlySortedBy text_cmp us → ReachesAll s index.1.1.1 us
+    → (us : List Text) → IsStrictlySortedBy text_cmp us → ReachesAll s index.picks us
     → selected s (filter_map (shown_at view ops) us) ≡ selected s (shown view ops)
 selected_enough view s ops index is us up reaches = enough view ops (is_selected s) us (sorted_rises us up) here
   where

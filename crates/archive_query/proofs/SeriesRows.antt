@@ -33,14 +33,14 @@ and_true true = refl
 and_true false = refl
 
 module _ (view : View) (ops : List Op) (index : IndexValue) (is : IsIndexOf ops index)
-    (up : IsStrictlySortedBy text_cmp (keys_of index.1.1.1)) (q : Query) (none : is_counted q ≡ false)
+    (up : IsStrictlySortedBy text_cmp (keys_of index.picks)) (q : Query) (none : is_counted q ≡ false)
     (at_series : q.level ≡ Series) (ds : List ContentParts) (ds_up : Ascends (λ c. c.instance) ds)
-    (there : (c : ContentParts) → IsOne (firsts_in_study (shown_at view ops) index.1.1.1 (take 64 q.study)) c
+    (there : (c : ContentParts) → IsOne (firsts_in_study (shown_at view ops) index.picks (take 64 q.study)) c
     → IsOne ds c)
     (back : (c : ContentParts) → IsOne ds c
-    → IsOne (firsts_in_study (shown_at view ops) index.1.1.1 (take 64 q.study)) c) where
+    → IsOne (firsts_in_study (shown_at view ops) index.picks (take 64 q.study)) c) where
   each_shown : (d : ContentParts) → IsOne ds d → shown_at view ops d.instance ≡ Some d
-  each_shown d h = taken_shown view ops index is up (places_in_study (take 64 q.study) index.1.1.1) d (back d h)
+  each_shown d h = taken_shown view ops index is up (places_in_study (take 64 q.study) index.picks) d (back d h)
 
   -- what is named is of the study
   named_is : (c : ContentParts) → is_named q c ≡ same (study_of c) q.study
@@ -74,7 +74,7 @@ module _ (view : View) (ops : List Op) (index : IndexValue) (is : IsIndexOf ops 
       record {
         other = f.0;
         one = has_filter (is_named q) ds f.0 (there f.0
-            (subst (λ (t : Text). IsOne (firsts_in_study (shown_at view ops) index.1.1.1 (take 64 t)) f.0) study f.2))
+            (subst (λ (t : Text). IsOne (firsts_in_study (shown_at view ops) index.picks (take 64 t)) f.0) study f.2))
             (named_is f.0 ∙ same_itself (study_of f.0) q.study (f.1.study ∙ study));
         uid = ap (λ l. uid_at l f.0) at_series ∙ f.1.series ∙ ap (λ l. uid_at l c) (sym at_series);
         low = f.1.low;

@@ -20,7 +20,8 @@ use Rattle.key_matching.specs.declared.matching.Matching.TheVariants.{Answered}
 use Rattle.key_matching.specs.Matches.{is_match_by}
 use Rattle.key_matching.specs.WildCard.{star, question_mark, capital, folded, is_byte_match, is_wild_match}
 use Rattle.study_index.specs.Live.{Text}
-use Rattle.study_index.specs.Leads.{Lead, lead_cmp, led_byte, is_folded, as_led, is_between, value_front, value_end}
+use Rattle.study_index.specs.Leads.{Lead, a_lead, lead_cmp, led_byte, is_folded, as_led, is_between, value_front}
+use Rattle.study_index.specs.Leads.{value_end}
 use Rattle.study_index.specs.Leads.{IsWithin, IsBehind, LeadWalk, is_walked, begins_with, has_run, may_have}
 use Rattle.study_index.specs.Proved.Leads.{lead_total}
 use Rattle.archive_query.specs.Leads.{is_plain, is_text_key, value_walk, IsFrontWalk, IsRunOf, IsNeedleOf}
@@ -125,13 +126,13 @@ both_true false b p q = absurd (false≢true p)
 begins_within : (tag : ℕ) (value text rest : Text) (end : Lead) → as_led tag value ≡ text ++ rest → IsBehind tag text end
     → IsWithin (is_between (value_front tag text) end) tag value
 begins_within tag value text rest end e behind kind key which =
-    ap (λ (v : Text). is_between (value_front tag text) end (tag, (v, (kind, key)))) e
-    ∙ both_true (is_le (lead_cmp (value_front tag text) (tag, (text ++ rest, (kind, key)))))
-    (not (is_le (lead_cmp end (tag, (text ++ rest, (kind, key))))))
+    ap (λ (v : Text). is_between (value_front tag text) end (a_lead tag v kind key)) e
+    ∙ both_true (is_le (lead_cmp (value_front tag text) (a_lead tag (text ++ rest) kind key)))
+    (not (is_le (lead_cmp end (a_lead tag (text ++ rest) kind key))))
     (ap (λ o. is_le (ordering_then o (ordering_then (text_cmp text (text ++ rest)) (ordering_then (nat_cmp 0 kind)
     (text_cmp [] key))))) (tied_itself nat_cmp_total tag)
     ∙ le_front text rest (ordering_then (nat_cmp 0 kind) (text_cmp [] key)) (kind_after kind key which))
-    (before_end (tag, (text ++ rest, (kind, key))) end (behind rest kind key))
+    (before_end (a_lead tag (text ++ rest) kind key) end (behind rest kind key))
 
 -- ---- needles
 
@@ -271,7 +272,7 @@ needle_is tag n key run front needle of is few led = (
 pub walked : (walk : LeadWalk) (tag : ℕ) (value : Text) → IsWithin (is_between walk.front walk.end) tag value
     → may_have walk.needle (as_led tag value) ≡ true → IsWithin (is_walked walk) tag value
 walked walk tag value within near kind key which =
-    both_true (is_between walk.front walk.end (tag, (as_led tag value, (kind, key))))
+    both_true (is_between walk.front walk.end (a_lead tag (as_led tag value) kind key))
     (may_have walk.needle (as_led tag value)) (within kind key which) near
 
 -- each value has a run of no bytes

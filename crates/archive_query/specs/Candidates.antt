@@ -65,16 +65,16 @@ cut_texts texts = [] ∷ map (take 64) texts
 
 -- at IMAGE: of the series that is named what a key lists, or else all
 abbrev pub is_walked_at_image : Option (List (List ℕ)) → List ℕ → List ℕ → IndexValue → List ℕ → Bool
-is_walked_at_image None study series index uid = is_of_series study series (pick_at uid index.1.1.1)
+is_walked_at_image None study series index uid = is_of_series study series (pick_at uid index.picks)
 is_walked_at_image (Some listed) study series index uid =
-    is_of_series study series (pick_at uid index.1.1.1) && has text_cmp (union_of text_cmp [] (cut_texts listed)) uid
+    is_of_series study series (pick_at uid index.picks) && has text_cmp (union_of text_cmp [] (cut_texts listed)) uid
 
 -- the studies that the walk of a key comes to, or all
 abbrev pub AreStudiesOf : Option (ℕ × LeadWalk) → IndexValue → Option (List (List ℕ)) → Type 0
 AreStudiesOf None index studies = studies ≡ None
 AreStudiesOf (Some walk) index None = ⊥
 AreStudiesOf (Some walk) index (Some studies) =
-    (s : List ℕ) → has text_cmp studies s ≡ is_candidate walk.0 (is_walked walk.1) index.0.1 s
+    (s : List ℕ) → has text_cmp studies s ≡ is_candidate walk.0 (is_walked walk.1) index.leads s
 
 -- the studies that the walk of one of some keys comes to, or all, where no key has one
 pub record AreByOne (walks : List (ℕ × LeadWalk)) (index : IndexValue) (studies : Option (List (List ℕ))) : Type 0 where
@@ -96,8 +96,8 @@ AreWalked (Some listed) q index studies = studies ≡ Some (union_of text_cmp []
 
 -- whether an instance is of the studies that are walked
 abbrev pub is_of_walked : Option (List (List ℕ)) → IndexValue → List ℕ → Bool
-is_of_walked None index uid = has text_cmp (keys_of index.1.1.1) uid
-is_of_walked (Some studies) index uid = list_any (λ study. is_of_study study (pick_at uid index.1.1.1)) studies
+is_of_walked None index uid = has text_cmp (keys_of index.picks) uid
+is_of_walked (Some studies) index uid = list_any (λ study. is_of_study study (pick_at uid index.picks)) studies
 
 -- at STUDY: to some instances come those of the studies that are walked
 pub record AreAtStudy (q : Query) (index : IndexValue) (old new : List (List ℕ)) : Type 0 where
@@ -109,7 +109,7 @@ pub record AreAtStudy (q : Query) (index : IndexValue) (old new : List (List ℕ
 abbrev pub AreAt : Level → Query → IndexValue → List (List ℕ) → List (List ℕ) → Type 0
 AreAt Study q index old new = AreAtStudy q index old new
 AreAt Series q index old new = (uid : List ℕ) → has text_cmp new uid
-    ≡ (has text_cmp old uid || is_walked_at_series (listed_of q) (take 64 q.study) (pick_at uid index.1.1.1))
+    ≡ (has text_cmp old uid || is_walked_at_series (listed_of q) (take 64 q.study) (pick_at uid index.picks))
 AreAt Image q index old new = (uid : List ℕ) → has text_cmp new uid
     ≡ (has text_cmp old uid || is_walked_at_image (listed_of q) (take 64 q.study) (take 64 q.series) index uid)
 

@@ -24,7 +24,8 @@ is_counted q = list_any (λ asked. is_counted_tag asked.tag) q.asked
 abbrev pub is_in_series : Option Place → Place → Bool
 is_in_series None place = false
 is_in_series (Some last) place =
-    same last.0 place.0 && same last.1.1.0 place.1.1.0 && nat_lt (length place.0) 64 && nat_lt (length place.1.1.0) 64
+    same last.study place.study && same last.series place.series && nat_lt (length place.study) 64
+    && nat_lt (length place.series) 64
 
 -- of each series of some places what is shown first, but for the series of the place that was taken last
 abbrev pub firsts : (Text → Option ContentParts) → Option Place → List Place → List ContentParts

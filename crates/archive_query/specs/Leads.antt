@@ -14,7 +14,7 @@ use Rattle.key_matching.specs.declared.range.Moment.TheVariants.{Date}
 use Rattle.study_index.specs.Live.{Text}
 use Rattle.archive_model.specs.declared.asked.Asked.{Asked}
 use Rattle.archive_model.specs.declared.query.Query.{Query}
-use Rattle.study_index.specs.Leads.{led_tags, is_folded, is_led, value_front, value_end, IsWithin}
+use Rattle.study_index.specs.Leads.{Lead, a_lead, led_tags, is_folded, is_led, value_front, value_end, IsWithin}
 use Rattle.study_index.specs.Leads.{IsBehind, LeadWalk, is_walked, lead_cmp, led_byte}
 
 -- whether studies are found from the values of an attribute
@@ -22,7 +22,7 @@ abbrev pub is_led_tag : ℕ → Bool
 is_led_tag tag = list_any (λ one. one == tag) led_tags
 
 -- whatever leads from a value that a key matches passes a test
-abbrev pub PassesAll : Asked → (ℕ × (Text × (ℕ × Text)) → Bool) → Type 0
+abbrev pub PassesAll : Asked → (Lead → Bool) → Type 0
 PassesAll asked passes = (value : List ℕ) → is_match_by asked.matching asked.key value ≡ true
     → IsWithin passes asked.tag value
 
@@ -31,11 +31,11 @@ abbrev pub value_walk : ℕ → Text → LeadWalk
 value_walk tag value = record { front = value_front tag value; end = value_end tag value; needle = [] }
 
 -- the leads of a value of no bytes, which every key matches
-abbrev pub is_of_none : ℕ → ℕ × (Text × (ℕ × Text)) → Bool
+abbrev pub is_of_none : ℕ → Lead → Bool
 is_of_none tag = is_walked (value_walk tag [])
 
 -- whether a study is a candidate: it is led to from a value of no bytes, or by leads that pass
-abbrev pub is_candidate : ℕ → (ℕ × (Text × (ℕ × Text)) → Bool) → List (ℕ × (Text × (ℕ × Text))) → Text → Bool
+abbrev pub is_candidate : ℕ → (Lead → Bool) → List Lead → Text → Bool
 is_candidate tag passes leads s = is_led (is_of_none tag) leads s || is_led passes leads s
 
 -- a byte that is no wild card
@@ -83,9 +83,9 @@ pub record IsFrontWalk (tag : ℕ) (text run : Text) (walk : LeadWalk) : Type 0 
   pub needle : walk.needle ≡ run
 
 -- whatever a date up to the last of a range leads to is before a lead
-abbrev pub IsUpTo : ℕ → List ℕ → ℕ × (Text × (ℕ × Text)) → Type 0
+abbrev pub IsUpTo : ℕ → List ℕ → Lead → Type 0
 IsUpTo tag last end = (value : Text) (kind : ℕ) (key : Text) → is_until Date last value ≡ true → kind < 3
-    → lead_cmp (tag, (value, (kind, key))) end ≡ Less
+    → lead_cmp (a_lead tag value kind key) end ≡ Less
 
 -- a walk of a key comes to whatever leads from a value that the key matches
 pub record IsWalkFor (asked : Asked) (walk : LeadWalk) : Type 0 where
@@ -101,7 +101,7 @@ pub record IsChosen (q : Query) (chosen : ℕ × LeadWalk) : Type 0 where
   pub walk : IsWalkFor asked chosen.1
 
 -- a study that each walk of a key comes to
-abbrev pub IsLedBy : Asked → List (ℕ × (Text × (ℕ × Text))) → Text → Type 0
+abbrev pub IsLedBy : Asked → List Lead → Text → Type 0
 IsLedBy asked leads s = (walk : LeadWalk) → IsWalkFor asked walk
     → is_candidate asked.tag (is_walked walk) leads s ≡ true
 

@@ -39,7 +39,7 @@ pub fn put_studies(
 ) -> Result<(), AllocError>
     ensures { OnOk result ((uid : List ℕ) → has text_cmp uids.new.keys uid ≡
         (has text_cmp uids.old.keys uid
-        || is_of_some studies.now (pick_at uid index.now.1.1.1))) }
+        || is_of_some studies.now (pick_at uid index.now.picks))) }
 {
     for study in studies {
         index.put_study(&ShortText::cut(study.as_slice()), uids)?;
@@ -57,7 +57,7 @@ pub fn put_some_series(
 ) -> Result<(), AllocError>
     ensures { OnOk result ((uid : List ℕ) → has text_cmp uids.new.keys uid ≡
         (has text_cmp uids.old.keys uid
-        || is_of_some_series study.now series.now (pick_at uid index.now.1.1.1))) }
+        || is_of_some_series study.now series.now (pick_at uid index.now.picks))) }
 {
     for one in series {
         index.put_series(study, &ShortText::cut(one.as_slice()), uids)?;
@@ -74,7 +74,7 @@ fn put_listed_series(
 ) -> Result<(), AllocError>
     ensures { OnOk result ((uid : List ℕ) → has text_cmp uids.new.keys uid ≡
         (has text_cmp uids.old.keys uid
-        || is_listed_series study.now series.now (pick_at uid index.now.1.1.1))) }
+        || is_listed_series study.now series.now (pick_at uid index.now.picks))) }
 {
     index.put_series(study, &ShortText::empty(), uids)?;
     put_some_series(index, study, series, uids)?;
@@ -133,7 +133,7 @@ fn led_studies(
     walk: &KeyWalk,
 ) -> Result<BTreeSet<ShortText>, AllocError>
     ensures { IfOk result (λ studies. (s : List ℕ) → has text_cmp studies.keys s
-        ≡ is_candidate walk.now.0 (is_walked walk.now.1) index.now.0.1 s) }
+        ≡ is_candidate walk.now.0 (is_walked walk.now.1) index.now.leads s) }
 {
     let mut studies = BTreeSet::new(alloc);
     index.put_led(&walk.none, &mut studies)?;
@@ -149,7 +149,7 @@ fn put_each(
 ) -> Result<(), AllocError>
     ensures { OnOk result ((uid : List ℕ) → has text_cmp uids.new.keys uid ≡
         (has text_cmp uids.old.keys uid || list_any
-        (λ study. is_of_study study (pick_at uid index.now.1.1.1)) studies.now.keys)) }
+        (λ study. is_of_study study (pick_at uid index.now.picks)) studies.now.keys)) }
 {
     for study in studies.iter() {
         index.put_study(study, uids)?;
@@ -257,7 +257,7 @@ fn put_at_series(
 ) -> Result<(), AllocError>
     ensures { OnOk result ((uid : List ℕ) → has text_cmp uids.new.keys uid ≡
         (has text_cmp uids.old.keys uid || is_walked_at_series
-        (option_map (λ l. l.now) listed.entry) study.now (pick_at uid index.now.1.1.1))) }
+        (option_map (λ l. l.now) listed.entry) study.now (pick_at uid index.now.picks))) }
 {
     match listed {
         None => index.put_study(study, uids),
@@ -287,7 +287,7 @@ fn put_instance(
 ) -> Result<(), AllocError>
     ensures { OnOk result ((uid : List ℕ) → has text_cmp uids.new.keys uid ≡
         (has text_cmp uids.old.keys uid || (is_of_series_in study.now series.now
-        (pick_at uid index.now.1.1.1) && is_at (text_cmp uid) one.now))) }
+        (pick_at uid index.now.picks) && is_at (text_cmp uid) one.now))) }
 {
     if !is_of_series(index.pick(one), study, series) {
         return Ok(());
@@ -306,7 +306,7 @@ fn put_instances(
 ) -> Result<(), AllocError>
     ensures { OnOk result ((uid : List ℕ) → has text_cmp uids.new.keys uid ≡
         (has text_cmp uids.old.keys uid || (is_of_series_in study.now series.now
-        (pick_at uid index.now.1.1.1) && has text_cmp instances.now.keys uid))) }
+        (pick_at uid index.now.picks) && has text_cmp instances.now.keys uid))) }
 {
     for one in instances.iter() {
         put_instance(index, study, series, one, uids)?;

@@ -89,7 +89,7 @@ fn put_in_study<'a>(
     found: &mut Vec<&'a Content>,
 ) -> Result<(), AllocError>
     ensures { OnOk result (map (λ c. c.now) found.new.items ≡ map (λ c. c.now) found.old.items
-        ++ firsts_in_study (shown_at view (ops_of site.now)) index.now.1.1.1 study.now) }
+        ++ firsts_in_study (shown_at view (ops_of site.now)) index.now.picks study.now) }
 {
     let places = index.places_in(alloc, study)?;
     put_firsts(site, view, &places, found)?;
@@ -105,7 +105,7 @@ pub(crate) fn of_study<'a>(
     study: &ShortText,
 ) -> Result<Vec<&'a Content>, AllocError>
     ensures { IfOk result (λ found. map (λ c. c.now) found.items ≡ firsts_in_study
-        (shown_at view (ops_of site.now)) index.now.1.1.1 study.now) }
+        (shown_at view (ops_of site.now)) index.now.picks study.now) }
 {
     let mut found = Vec::new(alloc);
     put_in_study(alloc, site, index, view, study, &mut found)?;
@@ -121,7 +121,7 @@ fn in_studies<'a>(
     studies: &BTreeSet<ShortText>,
 ) -> Result<Vec<&'a Content>, AllocError>
     ensures { IfOk result (λ found. map (λ c. c.now) found.items ≡ flat_map
-        (firsts_in_study (shown_at view (ops_of site.now)) index.now.1.1.1) studies.now.keys) }
+        (firsts_in_study (shown_at view (ops_of site.now)) index.now.picks) studies.now.keys) }
 {
     let mut found = Vec::new(alloc);
     for study in studies.iter() {
@@ -139,7 +139,7 @@ pub(crate) fn of_studies<'a>(
     studies: Option<&BTreeSet<ShortText>>,
 ) -> Result<Vec<&'a Content>, AllocError>
     ensures { IfOk result (λ found. map (λ c. c.now) found.items ≡ firsts_of
-        (shown_at view (ops_of site.now)) index.now.1.1.1
+        (shown_at view (ops_of site.now)) index.now.picks
         (option_map (λ s. s.now.keys) studies.entry)) }
 {
     match studies {

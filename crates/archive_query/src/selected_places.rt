@@ -35,7 +35,7 @@ fn put_named_studies(
     uids: &mut BTreeSet<ShortText>,
 ) -> Result<(), AllocError>
     ensures { OnOk result ((uid : List ℕ) → has text_cmp uids.new.keys uid ≡
-        (has text_cmp uids.old.keys uid || is_of_some named.now (pick_at uid index.now.1.1.1))) }
+        (has text_cmp uids.old.keys uid || is_of_some named.now (pick_at uid index.now.picks))) }
 {
     let each = each_once(alloc, named)?;
     put_studies(index, &each, uids)?;
@@ -52,7 +52,7 @@ fn put_named_series(
 ) -> Result<(), AllocError>
     ensures { OnOk result ((uid : List ℕ) → has text_cmp uids.new.keys uid ≡
         (has text_cmp uids.old.keys uid
-        || is_of_some_series study.now named.now (pick_at uid index.now.1.1.1))) }
+        || is_of_some_series study.now named.now (pick_at uid index.now.picks))) }
 {
     let each = each_once(alloc, named)?;
     put_some_series(index, study, &each, uids)?;
@@ -83,7 +83,7 @@ fn put_series(
 ) -> Result<(), AllocError>
     requires level { selection.now.level ≡ Level.Image }
     requires study { study.now ≡ take 64 selection.now.study }
-    ensures { OnOk result (ReachesAll selection.now index.now.1.1.1 uids.new.keys) }
+    ensures { OnOk result (ReachesAll selection.now index.now.picks uids.new.keys) }
 {
     index.put_series(study, &ShortText::cut(selection.series.as_slice()), uids)
 }
@@ -95,7 +95,7 @@ fn put_reached(
     selection: &Selection,
     uids: &mut BTreeSet<ShortText>,
 ) -> Result<(), AllocError>
-    ensures { OnOk result (ReachesAll selection.now index.now.1.1.1 uids.new.keys) }
+    ensures { OnOk result (ReachesAll selection.now index.now.picks uids.new.keys) }
 {
     let named = selection.uids.as_slice();
     let study = ShortText::cut(selection.study.as_slice());
@@ -117,7 +117,7 @@ pub fn candidates(
     index: &Index,
     selection: &Selection,
 ) -> Result<BTreeSet<ShortText>, AllocError>
-    ensures { IfOk result (λ uids. ReachesAll selection.now index.now.1.1.1 uids.keys) }
+    ensures { IfOk result (λ uids. ReachesAll selection.now index.now.picks uids.keys) }
 {
     let mut uids = BTreeSet::new(alloc);
     put_reached(alloc, index, selection, &mut uids)?;

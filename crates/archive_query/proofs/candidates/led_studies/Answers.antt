@@ -9,7 +9,7 @@ use Rattle.archive_query.proofs.candidates.led_studies.Goals as goal
 -- First what leads from the value of no bytes, then what the key's walk comes to.
 pub returns : goal.returns
 returns c = λ s.
-    let leads = c.args.index.now.0.1 in
+    let leads = c.args.index.now.leads in
     let walk = c.walk.inside.walk in
     c.in_ok-put_led-2.ensures s
     ∙ ap (λ b. b || is_led (is_walked walk) leads s) (c.in_ok-put_led.ensures s)

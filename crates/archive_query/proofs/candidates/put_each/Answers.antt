@@ -10,7 +10,7 @@ use Rattle.archive_query.proofs.candidates.put_each.Goals as goal
 -- What is of one study more is in.
 pub loop-study-preserved : goal.loop-study-preserved
 loop-study-preserved c = λ uid.
-    let p : Text → Bool = λ study. is_of_study study (pick_at uid c.args.index.now.1.1.1) in
+    let p : Text → Bool = λ study. is_of_study study (pick_at uid c.args.index.now.picks) in
     let old = has text_cmp c.loop-study.uids.keys uid in
     ap (λ b. b || list_any p c.next.new.self) (c.in_ok-put_study.ensures uid)
     ∙ or_assoc old (p c.in-Some.study.now) (list_any p c.next.new.self)
@@ -20,7 +20,7 @@ loop-study-preserved c = λ uid.
 -- No study is left.
 pub returns : goal.returns
 returns c = λ uid.
-    let p : Text → Bool = λ study. is_of_study study (pick_at uid c.args.index.now.1.1.1) in
+    let p : Text → Bool = λ study. is_of_study study (pick_at uid c.args.index.now.picks) in
     sym (or_none (has text_cmp c.loop-study.uids.keys uid))
     ∙ ap (λ (xs : List Text). has text_cmp c.loop-study.uids.keys uid || list_any p xs) (sym c.in-None.ensures.steps.0)
     ∙ c.loop-study.invariant uid

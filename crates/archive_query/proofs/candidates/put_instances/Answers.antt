@@ -10,7 +10,7 @@ use Rattle.archive_query.proofs.candidates.put_instances.Goals as goal
 -- One instance more is in.
 pub loop-one-preserved : goal.loop-one-preserved
 loop-one-preserved c = λ uid.
-    let p = is_of_series c.args.study.now c.args.series.now (pick_at uid c.args.index.now.1.1.1) in
+    let p = is_of_series c.args.study.now c.args.series.now (pick_at uid c.args.index.now.picks) in
     let old = has text_cmp c.loop-one.uids.keys uid in
     ap (λ b. b || (p && has text_cmp c.next.new.self uid)) (c.in_ok-put_instance.ensures uid)
     ∙ one_more old p (is_at (text_cmp uid) c.in-Some.one.now) (has text_cmp c.next.new.self uid)
@@ -20,7 +20,7 @@ loop-one-preserved c = λ uid.
 -- None is left.
 pub returns : goal.returns
 returns c = λ uid.
-    let p = is_of_series c.args.study.now c.args.series.now (pick_at uid c.args.index.now.1.1.1) in
+    let p = is_of_series c.args.study.now c.args.series.now (pick_at uid c.args.index.now.picks) in
     no_more (has text_cmp c.loop-one.uids.keys uid) p
     ∙ ap (λ (xs : List Text). has text_cmp c.loop-one.uids.keys uid || (p && has text_cmp xs uid))
     (sym c.in-None.ensures.steps.0)

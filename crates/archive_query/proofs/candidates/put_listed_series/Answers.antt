@@ -13,7 +13,7 @@ returns c = λ uid.
     let study = c.args.study.now in
     let series = c.args.series.now in
     let old = c.args.uids.now.keys in
-    let pick = pick_at uid c.args.index.now.1.1.1 in
+    let pick = pick_at uid c.args.index.now.picks in
     c.in_ok-put_some_series.ensures uid
     ∙ ap (λ b. b || is_of_some_series study series pick) (c.in_ok-put_series.ensures uid)
     ∙ ap (λ (t : Text). (has text_cmp old uid || is_of_series study t pick) || is_of_some_series study series pick)

@@ -17,7 +17,7 @@ loop-one-preserved c =
     let old = c.args.uids.now.keys in
     let mid = c.loop-one.uids.keys in
     let x = c.one-item.result in
-    let picks = c.args.index.now.1.1.1 in (
+    let picks = c.args.index.now.picks in (
       omega arith,
       λ uid. c.in_ok-put_series.ensures uid
           ∙ ap (λ (t : Text). has text_cmp mid uid || is_of_series study t (pick_at uid picks))

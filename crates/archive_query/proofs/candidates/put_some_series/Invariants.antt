@@ -10,4 +10,4 @@ use Rattle.archive_query.proofs.candidates.put_some_series.Given as goal
 abbrev pub invariant-loop-one : goal.invariant-loop-one
 invariant-loop-one l = (l.one-index ≤ length l.series)
     × ((uid : List ℕ) → has text_cmp l.uids.keys uid ≡ (has text_cmp l.initial.uids.keys uid || is_of_some_series
-    l.study (take l.one-index l.series) (pick_at uid l.index.1.1.1)))
+    l.study (take l.one-index l.series) (pick_at uid l.index.picks)))

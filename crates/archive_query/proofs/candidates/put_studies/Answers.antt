@@ -16,7 +16,7 @@ loop-study-preserved c =
     let old = c.args.uids.now.keys in
     let mid = c.loop-study.uids.keys in
     let x = c.study-item.result in
-    let picks = c.args.index.now.1.1.1 in (
+    let picks = c.args.index.now.picks in (
       omega arith,
       λ uid. c.in_ok-put_study.ensures uid
           ∙ ap (λ (t : Text). has text_cmp mid uid || is_of_study t (pick_at uid picks))

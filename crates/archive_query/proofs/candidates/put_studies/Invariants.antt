@@ -10,4 +10,4 @@ use Rattle.archive_query.proofs.candidates.put_studies.Given as goal
 abbrev pub invariant-loop-study : goal.invariant-loop-study
 invariant-loop-study l = (l.study-index ≤ length l.studies)
     × ((uid : List ℕ) → has text_cmp l.uids.keys uid ≡ (has text_cmp l.initial.uids.keys uid || is_of_some
-    (take l.study-index l.studies) (pick_at uid l.index.1.1.1)))
+    (take l.study-index l.studies) (pick_at uid l.index.picks)))

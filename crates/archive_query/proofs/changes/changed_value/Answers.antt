@@ -26,7 +26,7 @@ returns-then-eq-clause-value c =
     let content = c.args.content.now in
     let value =
     c.as_slice-value.ensures.value
-    ∙ ap (λ (f : Fix). f.1.1) c.fix.view_is
+    ∙ ap (λ (f : Fix). f.value) c.fix.view_is
     ∙ value_is (own_value content c.args.tag) (correction_for ops content c.args.tag) c.in-Some.fix.now
     (c.in-Some.ensures ∙ latest_is ops c.index.result.now c.index.ensures.says c.see_lawful.ensures.lawful content
     c.args.tag)
@@ -41,7 +41,7 @@ returns-else-eq-clause-value c =
     let content = c.args.content.now in
     let value =
     c.as_slice-value.ensures.value
-    ∙ ap (λ (f : Fix). f.1.1) c.fix.view_is
+    ∙ ap (λ (f : Fix). f.value) c.fix.view_is
     ∙ value_is (own_value content c.args.tag) (correction_for ops content c.args.tag) c.in-Some.fix.now
     (c.in-Some.ensures ∙ latest_is ops c.index.result.now c.index.ensures.says c.see_lawful.ensures.lawful content
     c.args.tag)

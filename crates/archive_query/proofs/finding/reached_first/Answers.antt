@@ -24,14 +24,14 @@ returns c =
     let found = c.in_ok-found.found.items in
     let sorted = c.sort_by_instance.new.contents.items in
     let studies = option_map (λ s. s.keys) c.in_ok-studies.studies in
-    let taken : map content_of found ≡ firsts_of (shown_at view ops) index.1.1.1 studies = c.in_ok-found.ensures
-    ∙ ap (firsts_of (shown_at view ops) index.1.1.1) c.lent.ensures in
+    let taken : map content_of found ≡ firsts_of (shown_at view ops) index.picks studies = c.in_ok-found.ensures
+    ∙ ap (firsts_of (shown_at view ops) index.picks) c.lent.ensures in
     let groups = c.in_ok-sort_by_instance.ensures.groups in
     subst (AreEnough view q ops) (sym (
     c.in_ok-named.ensures
     ∙ ap (λ r. named r (map content_of c.deref.result.now)) c.query.ensures
     ∙ ap (λ (xs : List (Bor Content)). named q (map content_of xs)) c.deref.ensures.value))
-    (first_enough view ops index c.index-index.ensures.says c.see_lawful.ensures.lawful c.held.ensures.1.1.1.0 q
+    (first_enough view ops index c.index-index.ensures.says c.see_lawful.ensures.lawful c.held.ensures.picks.0 q
     c.requires.counted c.requires.level studies c.in_ok-studies.ensures (map content_of sorted)
     (ascends_map (λ x. x.instance) content_of sorted c.in_ok-sort_by_instance.ensures.ascends)
     (λ x h. mapped_members content_of found sorted (regrouped key found sorted (sym groups)) x

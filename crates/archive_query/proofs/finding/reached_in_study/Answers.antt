@@ -24,9 +24,9 @@ returns c =
     let key = λ (x : Bor Content). uid_at Image x.now in
     let found = c.in_ok-found.found.items in
     let sorted = c.sort_by_instance.new.contents.items in
-    let taken : map content_of found ≡ firsts_in_study (shown_at view ops) index.1.1.1 (take 64 q.study) =
+    let taken : map content_of found ≡ firsts_in_study (shown_at view ops) index.picks (take 64 q.study) =
     c.in_ok-found.ensures
-    ∙ ap (firsts_in_study (shown_at view ops) index.1.1.1) (c.cut-study.ensures ∙ ap (take 64) c.as_slice.ensures
+    ∙ ap (firsts_in_study (shown_at view ops) index.picks) (c.cut-study.ensures ∙ ap (take 64) c.as_slice.ensures
     ∙ ap (λ (r : Query). take 64 r.study) c.query-query.ensures)
     in
     let groups = c.in_ok-sort_by_instance.ensures.groups in
@@ -34,7 +34,7 @@ returns c =
     c.in_ok-named.ensures
     ∙ ap (λ r. named r (map content_of c.deref.result.now)) c.query-query.ensures
     ∙ ap (λ (xs : List (Bor Content)). named q (map content_of xs)) c.deref.ensures.value))
-    (series_enough view ops index c.index-index.ensures.says c.held.ensures.1.1.1.0 q c.requires.counted
+    (series_enough view ops index c.index-index.ensures.says c.held.ensures.picks.0 q c.requires.counted
     c.requires.level
     (map content_of sorted)
     (ascends_map (λ x. x.instance) content_of sorted c.in_ok-sort_by_instance.ensures.ascends)

@@ -9,5 +9,5 @@ use Rattle.archive_query.proofs.firsts.in_studies.Given as goal
 abbrev pub invariant-loop-study : goal.invariant-loop-study
 invariant-loop-study l =
     map (λ c. c.now) l.found.items ++ flat_map
-    (firsts_in_study (shown_at l.view (ops_of l.site)) l.index.1.1.1) l.study-iterator
-    ≡ flat_map (firsts_in_study (shown_at l.view (ops_of l.site)) l.index.1.1.1) l.initial.study-iterator
+    (firsts_in_study (shown_at l.view (ops_of l.site)) l.index.picks) l.study-iterator
+    ≡ flat_map (firsts_in_study (shown_at l.view (ops_of l.site)) l.index.picks) l.initial.study-iterator

@@ -12,7 +12,7 @@ pub returns : goal.returns
 returns c = λ uid.
     let study = c.args.study.now in
     let old = c.args.uids.now.keys in
-    let pick = pick_at uid c.args.index.now.1.1.1 in
+    let pick = pick_at uid c.args.index.now.picks in
     c.in_ok-put_some_series.ensures uid
     ∙ ap (λ (ts : List Text). has text_cmp old uid || is_of_some_series study ts pick)
     (c.deref.ensures.value ∙ c.in_ok-each.ensures)

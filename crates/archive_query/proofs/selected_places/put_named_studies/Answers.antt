@@ -11,7 +11,7 @@ use Rattle.archive_query.proofs.selected_places.put_named_studies.Goals as goal
 pub returns : goal.returns
 returns c = λ uid.
     let old = c.args.uids.now.keys in
-    let pick = pick_at uid c.args.index.now.1.1.1 in
+    let pick = pick_at uid c.args.index.now.picks in
     c.in_ok-put_studies.ensures uid
     ∙ ap (λ (ts : List Text). has text_cmp old uid || is_of_some ts pick) (c.deref.ensures.value ∙ c.in_ok-each.ensures)
     ∙ ap (λ b. has text_cmp old uid || b) (any_ascending (λ study. is_of_study (take 64 study) pick) c.args.named.now)

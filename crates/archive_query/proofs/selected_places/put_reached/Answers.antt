@@ -13,7 +13,7 @@ use Rattle.archive_query.proofs.selected_places.put_reached.Goals as goal
 pub returns-in-Study : goal.returns-in-Study
 returns-in-Study c =
     let old = c.args.uids.now.keys in
-    let picks = c.args.index.now.1.1.1 in
+    let picks = c.args.index.now.picks in
     on_ok c.put_named_studies.result (λ put. reached_by_studies c.args.selection.now picks old c.put_named_studies.new.uids.keys
     c.in-Study.is (λ uid.
     put uid ∙ ap (λ (ts : List Text). has text_cmp old uid || is_of_some ts (pick_at uid picks))
@@ -24,7 +24,7 @@ returns-in-Study c =
 pub returns-in-Series : goal.returns-in-Series
 returns-in-Series c =
     let old = c.args.uids.now.keys in
-    let picks = c.args.index.now.1.1.1 in
+    let picks = c.args.index.now.picks in
     on_ok c.put_named_series.result (λ put. reached_by_some_series c.args.selection.now picks
     old c.put_named_series.new.uids.keys c.in-Series.is (λ uid.
     put uid ∙ ap (λ (t : Text). has text_cmp old uid || is_of_some_series t c.as_slice-named.result.now
@@ -37,5 +37,5 @@ returns-in-Series c =
 pub returns-then-branch : goal.returns-then-branch
 returns-then-branch c =
     let old = c.args.uids.now.keys in
-    reached_by_instances c.args.selection.now c.args.index.now.1.1.1 old c.put_instances.new.uids.keys c.in-Image.is
+    reached_by_instances c.args.selection.now c.args.index.now.picks old c.put_instances.new.uids.keys c.in-Image.is
     (c.in_ok-put_instances-in-Image.ensures c.if-branch.true ∙ ap (union_of text_cmp old) c.as_slice-named.ensures)

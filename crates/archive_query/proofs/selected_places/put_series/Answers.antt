@@ -10,7 +10,7 @@ use Rattle.archive_query.proofs.selected_places.put_series.Goals as goal
 pub returns : goal.returns
 returns c =
     let old = c.args.uids.now.keys in
-    let picks = c.args.index.now.1.1.1 in
+    let picks = c.args.index.now.picks in
     on_ok c.put_series.result (λ put. reached_by_series c.args.selection.now picks old c.put_series.new.uids.keys
     c.requires.level (λ uid.
     put uid
