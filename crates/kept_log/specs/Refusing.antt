@@ -1,16 +1,18 @@
--- Why a store shows or counts no operations.
-use Rattle.std.specs.Prelude.{◌≡◌, ◌⊎◌, ◌∷◌, [], ℕ, pos, false}
+-- Why a store keeps, shows or counts no operations.
+use Rattle.std.specs.Prelude.{◌≡◌, ◌⊎◌, ◌∷◌, [], ℕ, List, pos, false}
 use Rattle.sqlite.specs.declared.types.Value.TheVariants.{Int}
 use Rattle.sqlite.specs.State.{State}
 use Rattle.sqlite_disk.specs.declared.Disk.{Ghosts}
+use Rattle.operation.specs.declared.op.Op.{Op}
 use Rattle.op_log.specs.Loaded.{HasBadHead}
-use Rattle.op_log.specs.Log.{Opened}
+use Rattle.op_log.specs.Log.{IsTooLong, Opened}
 use Rattle.op_shelf.specs.declared.fault.ShelfFault.{ShelfFault}
 use Rattle.op_shelf.specs.declared.fault.ShelfFault.TheVariants.{Store, BadRow, Memory}
 use Rattle.op_shelf.specs.declared.fault.StoreCause.TheVariants as cause
 use Rattle.op_shelf.specs.Entries.{HasBadRow}
 use Rattle.op_shelf.specs.States.{IsNotShown, IsUnready, rows_of}
 use Rattle.op_shelf.specs.Texts.{all_text, kind_text}
+use Rattle.kept_log.specs.Keeping.{IsUp}
 
 -- a shelf: a row is that of no operation, or its table does not stand alone, or the database refused for this cause
 abbrev pub ShelfRefusesAll : State → State → ShelfFault → Type 0
@@ -33,3 +35,15 @@ LogRefusesAll g log (Store cause.Damaged) = ⊥
 LogRefusesAll g log (Store cause.Other) = ⊥
 LogRefusesAll g log BadRow = (at : ℕ) × HasBadHead (g.seen log.bodies) log.places at
 LogRefusesAll g log Memory = Unit {0}
+
+-- a log that is asked to keep a group: it is closed, or the group is longer than one may be; or its disk refused, or memory
+-- was refused, or another operation has a digest of the group
+abbrev pub LogRefusesGroup : {H B : Type 0} → Ghosts H → Ghosts B → Opened H B → Opened H B → List Op → ShelfFault
+    → Type 0
+LogRefusesGroup gh gb old new ops (Store cause.Failed) = Unit {0}
+LogRefusesGroup gh gb old new ops (Store cause.Closed) = old.is_open ≡ false
+LogRefusesGroup gh gb old new ops (Store cause.Full) = ⊥
+LogRefusesGroup gh gb old new ops (Store cause.Damaged) = ⊥
+LogRefusesGroup gh gb old new ops (Store cause.Other) = IsUp gh gb new → IsTooLong old ops
+LogRefusesGroup gh gb old new ops BadRow = Unit {0}
+LogRefusesGroup gh gb old new ops Memory = Unit {0}

@@ -59,6 +59,10 @@ impl<T: Keep> Keep for Held<T> {
 
     ghost lasts = { λ s. T.lasts s.store };
 
+    ghost refuses = { λ s t. T.refuses s.store t.store };
+
+    ghost refuses_group = { λ s t. T.refuses_group s.store t.store };
+
     fn put(&mut self, op: &Op) -> Result<Kept, ShelfFault> {
         self.store.put(op)
     }

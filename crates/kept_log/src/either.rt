@@ -25,13 +25,19 @@ impl<S: Drop, L: Drop> Drop for ShelfOrLog<S, L> {
 
 /// What is told of it is what the one that it is tells.
 impl<S: Keep, L: Keep> Keep for ShelfOrLog<S, L> {
-    ghost use Rattle.kept_log.specs.Either.{of_it, of_it_and};
+    ghost use Rattle.kept_log.specs.Either.{of_it, of_it_and, of_one_and_told};
 
     ghost is_up = { λ s. of_it S.is_up L.is_up s };
 
     ghost holds = { λ s op. of_it_and S.holds L.holds s op };
 
     ghost lasts = { λ s op. of_it_and S.lasts L.lasts s op };
+
+    ghost refuses = { λ s t op fault. of_one_and_told
+        (λ a b. S.refuses a b op) (λ a b. L.refuses a b op) s t fault };
+
+    ghost refuses_group = { λ s t ops fault. of_one_and_told
+        (λ a b. S.refuses_group a b ops) (λ a b. L.refuses_group a b ops) s t fault };
 
     fn put(&mut self, op: &Op) -> Result<Kept, ShelfFault> {
         match self {

@@ -45,13 +45,21 @@ impl<H: Disk + Drop, B: Disk + Drop> KeptLog<H, B> {
 }
 
 impl<H: Disk, B: Disk> Keep for KeptLog<H, B> {
+    ghost use Rattle.std.specs.Prelude.{◌∷◌, []};
     ghost use Rattle.kept_log.specs.Keeping.{IsUp, Holds, Lasts, log_of};
+    ghost use Rattle.kept_log.specs.Refusing.{LogRefusesGroup};
 
     ghost is_up = { λ s. IsUp H.Disk B.Disk (log_of s) };
 
     ghost holds = { λ s op. Holds B.Disk (log_of s) op };
 
     ghost lasts = { λ s op. Lasts H.Disk B.Disk (log_of s) op };
+
+    ghost refuses = { λ s t op fault.
+        LogRefusesGroup H.Disk B.Disk (log_of s) (log_of t) (op ∷ []) fault };
+
+    ghost refuses_group = { λ s t ops fault.
+        LogRefusesGroup H.Disk B.Disk (log_of s) (log_of t) ops fault };
 
     fn put(&mut self, op: &Op) -> Result<Kept, ShelfFault> {
         let digested = Digested::of(op.copy(self.alloc)?);

@@ -1,11 +1,14 @@
-use Rattle.std.proofs.Common.{List, length, map, ap, sym, subst, ◌∙◌, arith}
+use Rattle.std.proofs.Common.{List, Err, length, map, ap, sym, subst, ◌∙◌, arith}
 use Rattle.std.proofs.lemmas.List.{append-nil}
+use Rattle.op_shelf.specs.declared.fault.ShelfFault.{ShelfFault}
 use Rattle.op_shelf.specs.declared.kept.Kept.{Kept}
 use Rattle.op_shelf.specs.Keep.{GainsAll}
 use Rattle.kept_log.specs.Keeping.{Holds}
+use Rattle.kept_log.specs.Refusing.{LogRefusesGroup}
 use Rattle.kept_log.specs.Telling.{kept_of}
 use Rattle.kept_log.proofs.Keeps.{puts_more, same_length}
 use Rattle.kept_log.proofs.Logs.{all_last, gains_all, lasts_on, same_of, was_up}
+use Rattle.kept_log.proofs.Whys.{group_why}
 use Rattle.kept_log.proofs.keeping.KeptLogKeep.put_many.Goals as goal
 
 -- Each of the group is told of.
@@ -58,3 +61,12 @@ returns-in-Ok-clause-up g c up =
 pub returns-in-Err-clause-up : goal.returns-in-Err-clause-up
 returns-in-Err-clause-up g c up =
     was_up g.H.Disk g.B.Disk c.args.self.now.log c.put_many.new.self c.put_many.ensures.goes_on up
+
+-- Each fault of a log is told as what it is to a shelf.
+pub returns-in-Err-clause-why : goal.returns-in-Err-clause-why
+returns-in-Err-clause-why g c =
+    let old = c.args.self.now.log in
+    let new = c.put_many.new.self in
+    let why = group_why g.H.Disk g.B.Disk old new c.args.ops.now c.in-Err.refused
+    (λ is. (c.in-Err.ensures.closed).0 (ap Err is)) (λ is. c.in-Err.ensures.too_long (ap Err is)) in
+    subst (λ (told : ShelfFault). LogRefusesGroup g.H.Disk g.B.Disk old new c.args.ops.now told) (sym c.fault.ensures) why
