@@ -1,0 +1,4 @@
+pub mod DeskLaws
+pub mod FieldLaws
+pub mod MakingLaws
+pub mod RequestLaws

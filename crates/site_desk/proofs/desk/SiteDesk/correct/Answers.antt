@@ -1,0 +1,46 @@
+use Rattle.std.proofs.Common.{◌≡◌, Ok, refl, sym, ap, subst, ℕ}
+use Rattle.operation.specs.declared.op.Op.TheVariants.{Correction as a_correction}
+use Rattle.operation.specs.declared.stamp.Stamp.{Stamp}
+use Rattle.site_hub.specs.History.{entry_of, EndsWith}
+use Rattle.site_desk.specs.Making.{next_over}
+use Rattle.site_desk.proofs.DeskLaws.{looked_onward}
+use Rattle.site_desk.proofs.MakingLaws.{last_rises, told}
+use Rattle.site_desk.proofs.desk.SiteDesk.correct.Goals as goal
+
+-- The pass has looked, and then stored what was written, or nothing; the counter is greater than the last one.
+pub returns-in_err-keep-clause-goes_on : goal.returns-in_err-keep-clause-goes_on
+returns-in_err-keep-clause-goes_on g c = rw (← c.self.view_is) (record {
+  onward = looked_onward c.keep.new.extract c.self.inside.pass c.top_of.new.pass c.keep.new.pass c.top_of.ensures.looked
+      c.keep.ensures.onward;
+  known = c.keep.ensures.known;
+  site = refl;
+  last = last_rises c.self.inside.site c.in_ok-top.top c.self.inside.last _ c.args.change c.in_ok-made.made
+      c.stamp-stamp.result c.in_ok-top.ensures.top c.in_ok-made.ensures c.stamp-stamp.ensures.value;
+})
+
+-- So it is where the correction was made.
+pub returns-clause-goes_on : goal.returns-clause-goes_on
+returns-clause-goes_on g c = rw (← c.self.view_is) (record {
+  onward = looked_onward c.keep.new.extract c.self.inside.pass c.top_of.new.pass c.keep.new.pass c.top_of.ensures.looked
+      c.keep.ensures.onward;
+  known = c.keep.ensures.known;
+  site = refl;
+  last = last_rises c.self.inside.site c.in_ok-top.top c.self.inside.last _ c.args.change c.in_ok-made.made
+      c.stamp-stamp.result c.in_ok-top.ensures.top c.in_ok-made.ensures c.stamp-stamp.ensures.value;
+})
+
+-- It came next over what the look saw, was written, and is the last that the pass has seen.
+pub returns-clause-made : goal.returns-clause-made
+returns-clause-made g c = rw (← c.self.view_is) (record {
+  turn = c.top_of.new.pass.seen;
+  sees = c.top_of.ensures.looked.seen;
+  parts = c.in_ok-made.made;
+  next = sym (subst (λ (top : ℕ). told c.in_ok-made.made ≡ next_over c.self.inside.site top c.args.change)
+      c.in_ok-top.ensures.top c.in_ok-made.ensures);
+  stored = c.in_ok-keep.ensures.stored;
+  shown = subst (λ (number : ℕ). EndsWith c.keep.new.pass.seen (entry_of number (a_correction c.in_ok-made.made)))
+      c.top_of.ensures.looked.number c.in_ok-keep.ensures.shown;
+  counter = ap (λ (s : Stamp). s.counter) c.stamp-stamp.ensures.value;
+  site = ap (λ (s : Stamp). s.site) c.stamp-stamp.ensures.value;
+  last = refl;
+})

@@ -1,0 +1,71 @@
+-- What the desk of a running site does.
+use Rattle.std.specs.Prelude.{◌≡◌, ℕ, ◌≤◌, ◌⊎◌, ◌+◌, max, List, Option, Some, None, Result, Ok, Err}
+use mathlib.Core.List.{IsPrefix}
+use Rattle.http.specs.declared.request.Request.{Request}
+use Rattle.http_server.specs.declared.response.Response.{Response}
+use Rattle.operation.specs.declared.op.Op.TheVariants.{Correction as a_correction}
+use Rattle.operation.specs.Parts.{CorrectionParts}
+use Rattle.operation.specs.Spelling.{digest_of}
+use Rattle.site_state.specs.Site.{Map, ops_of, top_counter_of}
+use Rattle.site_hub.specs.declared.entry.Entry.{Entry}
+use Rattle.site_hub.specs.History.{set_of, entry_of, EndsWith}
+use Rattle.site_hub.specs.Hub.{Seat, HasLooked}
+use Rattle.hub_exchange.specs.Putting.{WasWritten}
+use Rattle.hub_exchange.specs.Onward.{IsOnward}
+use Rattle.archive_desk.specs.declared.answer.Made.{Made}
+use Rattle.archive_desk.specs.declared.fault.DeskFault.{DeskFault}
+use Rattle.archive_desk.specs.declared.fault.DeskFault.TheVariants.{StampsSpent, Unshown}
+use Rattle.archive_desk.specs.declared.words.Words.{Words}
+use Rattle.archive_desk.specs.Answers.{answer_of}
+use Rattle.archive_desk.specs.Posting.{Says}
+use Rattle.command_words.specs.declared.Change.{Change}
+use Rattle.site_desk.specs.Making.{change_of, next_over}
+use Rattle.site_desk.specs.Requests.{posting_of}
+use Rattle.site_desk.specs.Responses.{Responds}
+
+-- a desk: its pass, what is known of the shelf's ledger, the number of the site, and the greatest counter that it has made
+pub record AtDesk : Type 0 where
+  pub pass : Seat
+  pub known : List (List ℕ)
+  pub site : ℕ
+  pub last : ℕ
+
+-- A desk afterwards: its pass has gone on, what became its own was written to the shelf's ledger, of which no less is
+-- known, and no counter that it has made comes again.
+pub record GoesOn (before after : AtDesk) : Type 0 where
+  pub onward : IsOnward (WasWritten after.known) before.pass after.pass
+  pub known : IsPrefix before.known after.known
+  pub site : after.site ≡ before.site
+  pub last : before.last ≤ after.last
+
+-- A desk made the correction that was asked for: its counter comes next over the history that was looked at and over
+-- what the desk had made; it was written to the shelf's ledger; and it is the last that the pass has seen.
+pub record Makes (opening : Map) (before : AtDesk) (change : Change) (after : AtDesk) (made : Made) : Type 0 where
+  pub turn : List Entry
+  pub sees : IsPrefix before.pass.seen turn
+  pub parts : CorrectionParts
+  pub next : next_over before.site (max (top_counter_of (ops_of (set_of opening turn))) before.last) change ≡ Ok parts
+  pub stored : WasWritten after.known (digest_of (a_correction parts))
+  pub shown : EndsWith after.pass.seen (entry_of before.pass.number (a_correction parts))
+  pub counter : made.counter ≡ parts.stamp.counter
+  pub site : made.site ≡ parts.stamp.site
+  pub last : after.last ≡ made.counter
+
+-- A desk made none: its pass has only looked, unless the shelf has the correction and the hub does not show it yet.
+abbrev pub MakesNone : AtDesk → AtDesk → DeskFault → Type 0
+MakesNone before after fault = HasLooked before.pass after.pass ⊎ (fault ≡ Unshown)
+
+-- what a request comes to: the correction that its words ask for was made, or none was
+abbrev pub ComesTo : Map → AtDesk → Request (List ℕ) → AtDesk → Result Made DeskFault → Type 0
+ComesTo opening before request after (Ok made) =
+    (words : Words) × Says (posting_of request) words
+    × ((change : Change) × (change_of words ≡ Some change) × Makes opening before change after made)
+ComesTo opening before request after (Err fault) = MakesNone before after fault
+
+-- a request is answered with what it comes to, or is refused without words
+pub record AnswersAt (opening : Map) (before : AtDesk) (request : Request (List ℕ)) (response : Response)
+    (after : AtDesk) : Type 0 where
+  pub outcome : Result Made DeskFault
+  pub comes : ComesTo opening before request after outcome
+  pub goes_on : GoesOn before after
+  pub told : Responds (answer_of outcome) response

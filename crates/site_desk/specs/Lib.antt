@@ -1,0 +1,5 @@
+pub mod Desks
+pub mod Making
+pub mod Requests
+pub mod Responses
+pub mod Serving
