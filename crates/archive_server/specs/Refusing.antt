@@ -1,10 +1,16 @@
 -- What the lines of a server say of what it refuses.
-use Rattle.std.specs.Prelude.{ℕ, List, codes}
+use Rattle.std.specs.Prelude.{◌≡◌, ◌≢◌, ◌⊎◌, ℕ, List, codes}
+use Rattle.devices.specs.Failures.{Rose}
+use Rattle.operation.specs.declared.op.Op.{Op}
+use Rattle.op_shelf.specs.declared.fault.ShelfFault.{ShelfFault}
+use Rattle.site_hub.specs.Hub.{Seat}
+use Rattle.hub_exchange.specs.Putting.{RefusesPut}
 use Rattle.association_services.specs.declared.reply.PortFault.{PortFault}
 use Rattle.association_services.specs.declared.reply.PortFault.TheVariants as site
 use Rattle.archive_server.specs.declared.refusing.Why.{Why}
 use Rattle.archive_server.specs.declared.refusing.Why.TheVariants.{Site, Shelf}
 use Rattle.archive_server.specs.Cause.{words_of_shelf}
+use Rattle.archive_server.specs.Fault.{port_fault_of}
 
 -- the status of what an association is answered, in hexadecimal digits (PS3.4, sections B.2.3, C.4.1.1.4 and C.4.3.1.4)
 abbrev pub status_of : PortFault → List ℕ
@@ -24,3 +30,13 @@ words_of_site site.Shelf = codes "it could not be kept"
 abbrev pub words_of : Why → List ℕ
 words_of (Site fault) = words_of_site fault
 words_of (Shelf fault) = words_of_shelf fault
+
+-- The hub refused to publish: that is never told as a failure of the shelf, and that another has the site only where it
+-- was counted.
+pub record RefusesAsHub (before after : Seat) (fault : PortFault) : Type 0 where
+  pub own : fault ≢ site.Shelf
+  pub busy : fault ≡ site.Busy → Rose before.refused after.refused
+
+-- Why a store is refused: the shelf refused to put the operation, or the hub to publish it.
+abbrev pub RefusesStore : {P : Type 0} → (P → P → Op → ShelfFault → Type 0) → Seat → Seat → Op → PortFault → Type 0
+RefusesStore refuses before after op fault = RefusesPut refuses port_fault_of op fault ⊎ RefusesAsHub before after fault

@@ -1,6 +1,7 @@
 //! The thread that keeps the shelf, and how workers reach it.
 
 ghost use Rattle.std.specs.Prelude.{◌≡◌, ◌++◌, ◌∷◌, [], All, IfOk, IsNone, ⊤};
+ghost use Rattle.devices.specs.Failures.{Rose};
 ghost use Rattle.operation.specs.Spelling.{digest_of};
 ghost use Rattle.hub_exchange.specs.Putting.{IsKept, AreKept};
 
@@ -279,12 +280,15 @@ pub(crate) fn ask<N: LedgerName, S: Wait>(
     of_this(op.digest(), kept)
 }
 
-/// The way to the shelf of another thread, on which is noted what each put comes to.
+/// The way to the shelf of another thread, on which is noted what each put comes to. No contract of
+/// a channel says when it is closed, so each put that comes back refused is counted here, and
+/// nothing else raises the count.
 pub(crate) struct Asking<'a, N: LedgerName, S: Wait> {
     rt: &'a S,
     alloc: Global,
     to: &'a Sender<Request<N>>,
     health: &'a Health,
+    pub refusals: u64,
 }
 
 impl<'a, N: LedgerName, S: Wait> Asking<'a, N, S> {
@@ -299,7 +303,14 @@ impl<'a, N: LedgerName, S: Wait> Asking<'a, N, S> {
             alloc,
             to,
             health,
+            refusals: 0,
         }
+    }
+
+    fn refuse(&mut self)
+        ensures { Rose self.old.refusals self.new.refusals }
+    {
+        self.refusals = self.refusals.saturating_add(1);
     }
 }
 
@@ -312,9 +323,19 @@ impl<'a, N: LedgerName, S: Wait> Clone for Asking<'a, N, S> {
 impl<'a, N: LedgerName, S: Wait> Copy for Asking<'a, N, S> {}
 
 impl<'a, N: LedgerName, S: Wait> Put<N> for Asking<'a, N, S> {
+    ghost use Rattle.devices.specs.Failures.{Rose};
+
+    ghost refuses = { λ before after _ _. Rose before.refusals after.refusals };
+
     fn put(&mut self, op: &Digested) -> Result<Shelved<N>, ShelfFault> {
         let kept = ask(self.rt, self.alloc, self.to, op);
         self.health.note(&kept);
-        kept
+        match kept {
+            Ok(shelved) => Ok(shelved),
+            Err(fault) => {
+                self.refuse();
+                Err(fault)
+            }
+        }
     }
 }

@@ -1,12 +1,14 @@
 //! The port of an association of a server.
 
-ghost use Rattle.std.specs.Prelude.{◌≡◌, OnErr};
+ghost use Rattle.std.specs.Prelude.{◌≡◌, ◌≢◌, Err, IfErr, OnErr};
 ghost use Rattle.operation.specs.declared.op.Op.TheVariants.{Content as a_content};
 ghost use Rattle.operation.specs.Spelling.{digest_of};
+ghost use Rattle.devices.specs.Failures.{Rose};
 ghost use Rattle.site_state.specs.Site.{ops_of};
 ghost use Rattle.site_hub.specs.History.{set_of};
 ghost use Rattle.site_hub.specs.Hub.{Seat, IsLater};
 ghost use Rattle.association_run.specs.Port.{Stores, Finds, Gets};
+ghost use Rattle.archive_server.specs.Refusing.{RefusesStore};
 ghost use Rattle.archive_server.specs.Serving.{IsOnward, WasWritten};
 
 use crate::refusing::{told, told_store};
@@ -78,6 +80,8 @@ fn publish<H: HubName, T: Shows<H>, R: Wait + Drop, S: Wait, N: LedgerName, E: A
     ensures stores { Stores (λ (s : Seat). ops_of (set_of H.opening s.seen))
         (λ (s : Seat). s.mine) hub.old op result hub.new }
     ensures refused { OnErr result (hub.new.seen ≡ hub.old.seen) }
+    ensures own { result ≢ Err PortFault.Shelf }
+    ensures busy { result ≡ Err PortFault.Busy → Rose hub.old.refused hub.new.refused }
     ensures onward { IsOnward (WasWritten shelved.now.extract) hub.old hub.new }
 {
     hub.take(op)
@@ -153,8 +157,11 @@ impl<
     fn store(&mut self, content: Content) -> Result<Taken, PortFault>
         ensures stores { Stores (λ (s : Seat). ops_of (set_of H.opening s.seen))
             (λ (s : Seat). s.mine) self.old (a_content content) result self.new }
-        // What the pass has seen published is told as taken.
+        // What the pass has seen published is told as taken, and what is refused the shelf or the hub
+        // refused in this call.
         ensures refused { OnErr result (self.new.seen ≡ self.old.seen) }
+        ensures why { IfErr result
+            (RefusesStore P.refuses self.old self.new (a_content content)) }
         ensures later { IsLater self.old self.new }
     {
         let op = Digested::of(Op::Content(content));
@@ -176,6 +183,7 @@ impl<
         ensures finds { Finds (λ (s : Seat). ops_of (set_of H.opening s.seen))
             (λ (s : Seat). s.mine) self.old
             (record { called = called.now; view = view; query = query.now }) result self.new }
+        ensures busy { result ≡ Err PortFault.Busy → Rose self.old.refused self.new.refused }
         ensures later { IsLater self.old self.new }
     {
         self.tally.finds = self.tally.finds.saturating_add(1);
@@ -187,6 +195,7 @@ impl<
         ensures gets { Gets (λ (s : Seat). ops_of (set_of H.opening s.seen))
             (λ (s : Seat). s.mine) self.old
             (record { view = view; selection = selection.now }) result self.new }
+        ensures busy { result ≡ Err PortFault.Busy → Rose self.old.refused self.new.refused }
         ensures later { IsLater self.old self.new }
     {
         self.tally.gets = self.tally.gets.saturating_add(1);

@@ -128,6 +128,10 @@ impl<'a, N: LedgerName, S: Wait + Clock + Log> Clone for Telling<'a, N, S> {
 impl<'a, N: LedgerName, S: Wait + Clock + Log> Copy for Telling<'a, N, S> {}
 
 impl<'a, N: LedgerName, S: Wait + Clock + Log> Put<N> for Telling<'a, N, S> {
+    ghost use Rattle.devices.specs.Failures.{Rose};
+
+    ghost refuses = { λ before after _ _. Rose before.way.refusals after.way.refusals };
+
     fn put(&mut self, op: &Digested) -> Result<Shelved<N>, ShelfFault> {
         told_put(self.rt, self.way.put(op))
     }

@@ -11,11 +11,18 @@ pub(crate) struct Counting {
 }
 
 impl Keep for Counting {
+    ghost use Rattle.std.specs.Prelude.{◌≤◌, ⊤};
+
     ghost is_up = { λ _. ⊥ };
 
     ghost holds = { λ _ _. ⊥ };
 
     ghost lasts = { λ _ _. ⊥ };
+
+    // It has no room for one more, and takes no group.
+    ghost refuses = { λ before _ _ _. before.room ≤ before.asked };
+
+    ghost refuses_group = { λ _ _ _ _. ⊤ };
 
     fn put(&mut self, _op: &Op) -> Result<Kept, ShelfFault> {
         self.asked = self.asked.saturating_add(1);

@@ -1,6 +1,8 @@
-use Rattle.std.proofs.Common.{rules}
+use Rattle.std.proofs.Common.{◌∙◌, inl, sym, subst, rules, IfErr, Result}
 use Rattle.site_hub.proofs.Laters.{later_same}
+use Rattle.archive_server.specs.Refusing.{RefusesStore}
 use Rattle.archive_server.proofs.OnwardLaws.{onward_learned}
+use Rattle.archive_server.proofs.RefusingLaws.{hub_refused}
 use Rattle.archive_server.proofs.port.ServerPortPort.store.Goals as goal
 
 -- The pass goes on from what it was at the store, and so from what it was at entry.
@@ -11,3 +13,18 @@ invariant_of-self g c = onward_learned _ _ _ _ _ _ c.learn.ensures.this c.learn.
 -- What the shelf refused leaves the pass as it was.
 pub returns-in-Err-clause-later : goal.returns-in-Err-clause-later
 returns-in-Err-clause-later g c = later_same _ _ (search rules)
+
+-- What the shelf has kept only the hub refuses.
+pub returns-in-Ok-clause-why : goal.returns-in-Ok-clause-why
+returns-in-Ok-clause-why g c = rw (← c.self.view_is) (rw (c.stored.ensures ∙ c.told.ensures)
+    (hub_refused g.P.Put.refuses _ _ _ c.publish-taken.result c.publish-taken.ensures.own c.publish-taken.ensures.busy))
+
+-- The shelf refused it.
+pub returns-in-Err-clause-why : goal.returns-in-Err-clause-why
+returns-in-Err-clause-why g c = rw c.stored-in-Err.ensures (inl (record {
+  before = _;
+  after = _;
+  cause = _;
+  refused = c.in-Err.ensures.why;
+  told = c.told_store.ensures;
+}))
