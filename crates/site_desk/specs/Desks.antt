@@ -1,5 +1,5 @@
 -- What the desk of a running site does.
-use Rattle.std.specs.Prelude.{◌≡◌, ℕ, ◌≤◌, ◌⊎◌, ◌+◌, max, List, Option, Some, None, Result, Ok, Err}
+use Rattle.std.specs.Prelude.{◌≡◌, ℕ, ◌≤◌, ◌⊎◌, max, List, Some, Result, Ok, Err}
 use mathlib.Core.List.{IsPrefix}
 use Rattle.http.specs.declared.request.Request.{Request}
 use Rattle.http_server.specs.declared.response.Response.{Response}
@@ -14,7 +14,7 @@ use Rattle.hub_exchange.specs.Putting.{WasWritten}
 use Rattle.hub_exchange.specs.Onward.{IsOnward}
 use Rattle.archive_desk.specs.declared.answer.Made.{Made}
 use Rattle.archive_desk.specs.declared.fault.DeskFault.{DeskFault}
-use Rattle.archive_desk.specs.declared.fault.DeskFault.TheVariants.{StampsSpent, Unshown}
+use Rattle.archive_desk.specs.declared.fault.DeskFault.TheVariants.{Unshown}
 use Rattle.archive_desk.specs.declared.words.Words.{Words}
 use Rattle.archive_desk.specs.Answers.{answer_of}
 use Rattle.archive_desk.specs.Posting.{Says}

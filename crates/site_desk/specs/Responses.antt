@@ -1,5 +1,5 @@
 -- An answer of the desk as a response of HTTP.
-use Rattle.std.specs.Prelude.{ℕ, List, [], ◌∷◌, ◌⊎◌, codes}
+use Rattle.std.specs.Prelude.{List, [], ◌∷◌, ◌⊎◌, codes}
 use Rattle.http1.specs.Fields.{Header}
 use Rattle.http_server.specs.declared.response.Response.{Response}
 use Rattle.http_server.specs.Response.{IsResponse}

@@ -1,4 +1,4 @@
-use Rattle.std.proofs.Common.{◌≡◌, Ok, refl, sym, ap, subst, ℕ}
+use Rattle.std.proofs.Common.{◌≡◌, refl, sym, ap, subst, ℕ}
 use Rattle.operation.specs.declared.op.Op.TheVariants.{Correction as a_correction}
 use Rattle.operation.specs.declared.stamp.Stamp.{Stamp}
 use Rattle.site_hub.specs.History.{entry_of, EndsWith}
