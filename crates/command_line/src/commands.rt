@@ -1,15 +1,16 @@
 //! The commands of the program, with their words and options.
 
-use clap::{Arg, ArgAction, ArgGroup, Command, value_parser};
+use crate::refusals::BAD_PEER;
+use crate::rows::{CommandRow, FLAG, Form, Row, VALUE, WORD, command_of};
+use crate::serve::SERVE_ROWS;
+use clap::Command;
 use std::alloc::{AllocError, Global};
 
+/// What the program is.
 const ABOUT: &str = "A DICOM archive of several sites";
 
 /// The version that `--version` tells.
 const VERSION: &str = "1.0";
-
-/// What is said of FILE.
-const FILE: &str = "The file with the operations, or their folder, as in site/";
 
 const SIMULATE: &str = "Answers a script, in which several sites exchange";
 
@@ -93,339 +94,241 @@ read, and is refused where it is not there.
 
 Example: archive verify site/";
 
-/// The headings of the options of a server.
-const LISTENING: &str = "Listening";
-
-const OTHERS: &str = "Other sites";
-
-const WHO: &str = "Who may come";
-
-const ENDING: &str = "Ending and telling";
-
-const EXCHANGES_AT_ONCE: Help<'static> = Help {
-    line: "How many of them at once, 1 to 64 [default: 2]",
-    whole: "How many exchanges are served at once, 1 to 64{n}{n}[default: 2]",
+/// The file or folder of a command.
+pub(crate) const FILE: Row = Row {
+    name: "FILE",
+    line: "The file with the operations, or their folder, as in site/",
+    ..WORD
 };
 
-const IDLE: Help<'static> = Help {
+/// How long a wait for a peer lasts at most.
+pub(crate) const IDLE: Row = Row {
+    name: "idle",
+    value: "SECONDS",
+    // Up to a day.
+    form: Form::Number(0, 86_400),
     line: "How long a peer may be silent [default: 60]",
-    whole: "How long a peer may say nothing, or take nothing, before it is let \
+    whole: Some(
+        "How long a peer may say nothing, or take nothing, before it is let \
         go,{n}0 to 86400 seconds, 0 for ever{n}{n}[default: 60]",
+    ),
+    ..VALUE
 };
 
-const EVERY: Help<'static> = Help {
-    line: "The wait before a peer is called again [default: 60]",
-    whole: "How long it waits before it calls a peer again, from 1 second \
-        on{n}{n}[default: 60]",
+/// An option that names a table, of which one may be given.
+const TABLE: Row = Row {
+    group: Some("table"),
+    ..FLAG
 };
 
-const ALLOW: Help<'static> = Help {
-    line: "A network of associations [default: any]",
-    whole: "A network from which associations may come, which can be given \
-        again{n}{n}[default: any]",
-};
+const REPORT_ROWS: &[Row] = &[
+    FILE,
+    Row {
+        name: "conflicts",
+        line: "The contents of UIDs that have two or more",
+        ..TABLE
+    },
+    Row {
+        name: "rejected",
+        line: "The UIDs that rejection notes name",
+        ..TABLE
+    },
+    Row {
+        name: "corrections",
+        line: "The corrections, and which of them count",
+        ..TABLE
+    },
+    Row {
+        name: "studies",
+        line: "The studies that ARCHIVE shows, corrected",
+        ..TABLE
+    },
+    Row {
+        name: "tsv",
+        beside: Some("table"),
+        line: "Parts the cells of the table by tabs",
+        ..FLAG
+    },
+    Row {
+        name: "fingerprint",
+        without: Some("table"),
+        line: "One number for all operations, which sites that hold the same have alike",
+        ..FLAG
+    },
+];
 
-const EXCHANGE_ALLOW: Help<'static> = Help {
-    line: "A network of exchanges [default: any]",
-    whole: "A network from which exchanges may come, which can be given \
-        again{n}{n}[default: any]",
-};
+const CORRECT_ROWS: &[Row] = &[
+    FILE,
+    Row {
+        name: "site",
+        value: "N",
+        form: Form::Number(1, 65_535),
+        needed: true,
+        line: "The number of the site, 1 to 65535",
+        ..VALUE
+    },
+    Row {
+        name: "TARGET",
+        line: "study, patient or series",
+        ..WORD
+    },
+    Row {
+        name: "KEY",
+        line: "Its Study Instance UID, Patient ID or Series Instance UID",
+        ..WORD
+    },
+    Row {
+        name: "TAG",
+        line: "The attribute, in eight hexadecimal digits",
+        ..WORD
+    },
+    Row {
+        name: "VALUE",
+        line: "Its new value, behind -- where it begins with -",
+        ..WORD
+    },
+];
 
-const PAGE: Help<'static> = Help {
-    line: "Where pages are asked for [default: nowhere]",
-    whole: "Where pages of the site are asked for, by HTTP: what it holds, to \
-        be{n}looked at and not changed{n}{n}[default: nowhere]",
-};
+/// The words and options of `exchange`, in the order of its help.
+pub(crate) const EXCHANGE_ROWS: &[Row] = &[
+    FILE,
+    Row {
+        name: "peer",
+        value: "ADDR",
+        form: Form::Address(BAD_PEER),
+        needed: true,
+        line: "Where the other site serves exchanges",
+        ..VALUE
+    },
+    Row {
+        name: "peer-version",
+        value: "N",
+        form: Form::Number(1, 2),
+        line: "The version of the other site [default: 2]",
+        whole: Some(
+            "The version that the other site speaks: 1 for one that knows no \
+            HELLO{n}{n}[default: 2]",
+        ),
+        ..VALUE
+    },
+    IDLE,
+];
 
-const PAGE_ALLOW: Help<'static> = Help {
-    line: "A network of pages [default: 127.0.0.0/8]",
-    whole: "A network from which pages may be asked for, which can be given \
-        again{n}{n}[default: 127.0.0.0/8]",
-};
+const MOVE_ROWS: &[Row] = &[
+    Row {
+        name: "FROM",
+        line: "The archive that is read",
+        ..WORD
+    },
+    Row {
+        name: "TO",
+        line: "The archive that is filled",
+        ..WORD
+    },
+];
 
-const CALLING: Help<'static> = Help {
-    line: "A title that may call [default: any]",
-    whole: "A calling title that may ask for an association, which can be \
-        given{n}again{n}{n}[default: any]",
-};
+/// The words of `verify`.
+const VERIFY_ROWS: &[Row] = &[FILE];
 
-const QUALITY_CALLING: Help<'static> = Help {
-    line: "A title that may call QUALITY [default: see --calling]",
-    whole: "A calling title that may call QUALITY, which can be given \
-        again{n}{n}[default: those of --calling]",
-};
-
-const AUDIT_CALLING: Help<'static> = Help {
-    line: "A title that may call AUDIT [default: see --calling]",
-    whole: "A calling title that may call AUDIT, which can be given \
-        again{n}{n}[default: those of --calling]",
-};
-
-const EACH: Help<'static> = Help {
-    line: "How many each worker accepts [default: no end]",
-    whole: "How many associations each worker accepts before it \
-        ends{n}{n}[default: no end]",
-};
-
-const PEER_VERSION: Help<'static> = Help {
-    line: "The version of the other site [default: 2]",
-    whole: "The version that the other site speaks: 1 for one that knows no \
-        HELLO{n}{n}[default: 2]",
-};
-
-/// The longest that a wait for a peer may last, in seconds: a day.
-const LONGEST_IDLE: i64 = 86_400;
-
-/// A word that has to be there.
-fn word<'a>(alloc: Global, name: &'a str, help: &'a str) -> Arg<'a> {
-    Arg::new(alloc, name).required(true).help(help)
-}
-
-/// An option without a value.
-fn flag<'a>(alloc: Global, name: &'a str, help: &'a str) -> Arg<'a> {
-    Arg::new(alloc, name)
-        .long(name)
-        .action(ArgAction::SetTrue)
-        .help(help)
-}
-
-/// An option with a value.
-fn option<'a>(alloc: Global, name: &'a str, value: &'a str, help: &'a str) -> Arg<'a> {
-    Arg::new(alloc, name)
-        .long(name)
-        .value_name(value)
-        .help(help)
-}
-
-/// What is said of an option in a line, and in whole.
-#[derive(Clone, Copy)]
-struct Help<'a> {
-    line: &'a str,
-    whole: &'a str,
-}
-
-/// An option with a value, of which more is said in whole: what holds where it is left out.
-fn told<'a>(alloc: Global, name: &'a str, value: &'a str, help: Help<'a>) -> Arg<'a> {
-    option(alloc, name, value, help.line).long_help(help.whole)
-}
-
-/// An option with a value, which has to be there.
-fn needed<'a>(alloc: Global, name: &'a str, value: &'a str, help: &'a str) -> Arg<'a> {
-    option(alloc, name, value, help).required(true)
-}
-
-/// An option that may be given again and again.
-fn all(option: Arg<'_>) -> Arg<'_> {
-    option.action(ArgAction::Append)
-}
-
-/// A command with one word or option more.
-fn with<'a>(command: Command<'a>, arg: Arg<'a>) -> Result<Command<'a>, AllocError> {
-    command.arg(arg)
-}
-
-/// A command with an option that wants another one beside it.
-fn with_wanting<'a>(
-    command: Command<'a>,
-    arg: Arg<'a>,
-    wanted: &'a str,
-) -> Result<Command<'a>, AllocError> {
-    command.arg(arg.requires_arg(wanted)?)
-}
-
-/// A command, with what is said of it in a line and in whole.
-fn told_of<'a>(alloc: Global, name: &'a str, about: &'a str, whole: &'a str) -> Command<'a> {
-    Command::new(alloc, name).about(about).long_about(whole)
-}
-
-/// A command of a file or a folder.
-fn command_of<'a>(
+/// With one command more.
+fn with<'a>(
     alloc: Global,
-    name: &'a str,
-    about: &'a str,
-    whole: &'a str,
+    command: Command<'a>,
+    told: CommandRow,
 ) -> Result<Command<'a>, AllocError> {
-    let file = word(alloc, "FILE", FILE);
-    with(told_of(alloc, name, about, whole), file)
+    command.subcommand(command_of(alloc, &told)?)
 }
 
-/// With the options that name tables, of which one may be given.
-fn with_tables<'a>(alloc: Global, command: Command<'a>) -> Result<Command<'a>, AllocError> {
-    let conflicts = "The contents of UIDs that have two or more";
-    let rejected = "The UIDs that rejection notes name";
-    let corrections = "The corrections, and which of them count";
-    let studies = "The studies that ARCHIVE shows, corrected";
-    let command = with(command, flag(alloc, "conflicts", conflicts))?;
-    let command = with(command, flag(alloc, "rejected", rejected))?;
-    let command = with(command, flag(alloc, "corrections", corrections))?;
-    with(command, flag(alloc, "studies", studies))
+/// With the commands that answer with a text, or make a correction.
+fn with_answers<'a>(alloc: Global, command: Command<'a>) -> Result<Command<'a>, AllocError> {
+    let command = with(
+        alloc,
+        command,
+        CommandRow {
+            name: "simulate",
+            line: SIMULATE,
+            whole: SIMULATE_LONG,
+            rows: &[],
+        },
+    )?;
+    let command = with(
+        alloc,
+        command,
+        CommandRow {
+            name: "report",
+            line: REPORT,
+            whole: REPORT_LONG,
+            rows: REPORT_ROWS,
+        },
+    )?;
+    with(
+        alloc,
+        command,
+        CommandRow {
+            name: "correct",
+            line: CORRECT,
+            whole: CORRECT_LONG,
+            rows: CORRECT_ROWS,
+        },
+    )
 }
 
-/// A group with one option more.
-fn beside<'a>(group: ArgGroup<'a>, name: &'a str) -> Result<ArgGroup<'a>, AllocError> {
-    group.arg(name)
+/// With the commands that meet other machines.
+fn with_meetings<'a>(alloc: Global, command: Command<'a>) -> Result<Command<'a>, AllocError> {
+    let command = with(
+        alloc,
+        command,
+        CommandRow {
+            name: "serve",
+            line: SERVE,
+            whole: SERVE_LONG,
+            rows: SERVE_ROWS,
+        },
+    )?;
+    with(
+        alloc,
+        command,
+        CommandRow {
+            name: "exchange",
+            line: EXCHANGE,
+            whole: EXCHANGE_LONG,
+            rows: EXCHANGE_ROWS,
+        },
+    )
 }
 
-/// The options that name tables, of which one may be given.
-fn tables_of<'a>(alloc: Global) -> Result<ArgGroup<'a>, AllocError> {
-    let group = beside(ArgGroup::new(alloc, "table"), "conflicts")?;
-    let group = beside(group, "rejected")?;
-    let group = beside(group, "corrections")?;
-    beside(group, "studies")
+/// With the commands that go through an archive.
+fn with_walks<'a>(alloc: Global, command: Command<'a>) -> Result<Command<'a>, AllocError> {
+    let command = with(
+        alloc,
+        command,
+        CommandRow {
+            name: "move",
+            line: MOVE,
+            whole: MOVE_LONG,
+            rows: MOVE_ROWS,
+        },
+    )?;
+    with(
+        alloc,
+        command,
+        CommandRow {
+            name: "verify",
+            line: VERIFY,
+            whole: VERIFY_LONG,
+            rows: VERIFY_ROWS,
+        },
+    )
 }
 
-/// With the option of one number for all operations, which no table has.
-fn with_fingerprint<'a>(alloc: Global, command: Command<'a>) -> Result<Command<'a>, AllocError> {
-    let help = "One number for all operations, which sites that hold the same have alike";
-    let option = flag(alloc, "fingerprint", help).conflicts_with("table")?;
-    with(command, option)
-}
-
-fn report_command<'a>(alloc: Global) -> Result<Command<'a>, AllocError> {
-    let tables = tables_of(alloc)?;
-    let separated = "Parts the cells of the table by tabs";
-    let command = with_tables(alloc, command_of(alloc, "report", REPORT, REPORT_LONG)?)?;
-    let command = with_wanting(command, flag(alloc, "tsv", separated), "table")?;
-    let command = with_fingerprint(alloc, command)?;
-    command.group(tables)
-}
-
-fn correct_command<'a>(alloc: Global) -> Result<Command<'a>, AllocError> {
-    let site = needed(alloc, "site", "N", "The number of the site, 1 to 65535").value_parser(
-        value_parser!(u16).range(1..),
-    );
-    let key = "Its Study Instance UID, Patient ID or Series Instance UID";
-    let tag = "The attribute, in eight hexadecimal digits";
-    let value = "Its new value, behind -- where it begins with -";
-    let command = command_of(alloc, "correct", CORRECT, CORRECT_LONG)?;
-    let command = with(command, site)?;
-    let command = with(command, word(alloc, "TARGET", "study, patient or series"))?;
-    let command = with(command, word(alloc, "KEY", key))?;
-    let command = with(command, word(alloc, "TAG", tag))?;
-    with(command, word(alloc, "VALUE", value))
-}
-
-/// With the options of the exchanges that a server serves.
-fn with_exchanges<'a>(alloc: Global, command: Command<'a>) -> Result<Command<'a>, AllocError> {
-    let listen = "Where exchanges come in";
-    let exchange = option(alloc, "exchange", "ADDR", listen);
-    let rounds = option(alloc, "rounds", "N", "How many exchanges are served").value_parser(
-        value_parser!(u32),
-    );
-    let workers = told(alloc, "exchange-workers", "N", EXCHANGES_AT_ONCE).value_parser(
-        value_parser!(u16).range(1..=64),
-    );
-    let command = with_wanting(command, exchange, "rounds")?;
-    let command = with_wanting(command, rounds, "exchange")?;
-    with_wanting(command, workers, "exchange")
-}
-
-/// With the option of where pages are asked for.
-fn with_page<'a>(alloc: Global, command: Command<'a>) -> Result<Command<'a>, AllocError> {
-    with(command, told(alloc, "page", "ADDR", PAGE))
-}
-
-/// With the option of who may ask for them.
-fn with_page_allow<'a>(alloc: Global, command: Command<'a>) -> Result<Command<'a>, AllocError> {
-    let allow = told(alloc, "page-allow", "NETWORK", PAGE_ALLOW);
-    with_wanting(command, all(allow), "page")
-}
-
-/// The longest that a wait for a peer lasts.
-fn idle_option<'a>(alloc: Global) -> Arg<'a> {
-    told(alloc, "idle", "SECONDS", IDLE).value_parser(value_parser!(u32).range(0..=LONGEST_IDLE))
-}
-
-/// With the options of the sites that a server calls.
-fn with_peers<'a>(alloc: Global, command: Command<'a>) -> Result<Command<'a>, AllocError> {
-    let peer = "A site that is called again and again";
-    let command = command.next_help_heading(OTHERS);
-    let command = with(command, all(option(alloc, "peer", "ADDR", peer)))?;
-    let every = told(alloc, "every", "SECONDS", EVERY).value_parser(value_parser!(u32).range(1..));
-    with_wanting(command, every, "peer")
-}
-
-/// With the options of who may come.
-fn with_callers<'a>(alloc: Global, command: Command<'a>) -> Result<Command<'a>, AllocError> {
-    let command = command.next_help_heading(WHO);
-    let command = with(command, all(told(alloc, "allow", "NETWORK", ALLOW)))?;
-    let exchange_allow = told(alloc, "exchange-allow", "NETWORK", EXCHANGE_ALLOW);
-    let command = with(command, all(exchange_allow))?;
-    let command = with_page_allow(alloc, command)?;
-    let command = with(command, all(told(alloc, "calling", "TITLE", CALLING)))?;
-    let quality = told(alloc, "quality-calling", "TITLE", QUALITY_CALLING);
-    let command = with(command, all(quality))?;
-    let audit = told(alloc, "audit-calling", "TITLE", AUDIT_CALLING);
-    with(command, all(audit))
-}
-
-/// With the options of how a server ends and what it tells.
-fn with_manner<'a>(alloc: Global, command: Command<'a>) -> Result<Command<'a>, AllocError> {
-    let until = "Ends once its standard input does";
-    let verbose = "Tells what it serves on standard error";
-    let command = command.next_help_heading(ENDING);
-    let command = with(command, idle_option(alloc))?;
-    let command = with(command, flag(alloc, "until-end-of-input", until))?;
-    with(command, flag(alloc, "verbose", verbose))
-}
-
-/// With the options of where a server listens and how much it serves.
-fn with_workers<'a>(alloc: Global, command: Command<'a>) -> Result<Command<'a>, AllocError> {
-    let listen = "Where associations come in";
-    let workers = "How many of them at once, 1 to 64";
-    let command = command.next_help_heading(LISTENING);
-    let listen = option(alloc, "listen", "ADDR", listen).default_value("127.0.0.1:11112");
-    let command = with(command, listen)?;
-    let workers = option(alloc, "workers", "N", workers)
-        .value_parser(value_parser!(u16).range(1..=64))
-        .default_value("8");
-    let command = with(command, workers)?;
-    let each = told(alloc, "each", "N", EACH).value_parser(value_parser!(u32));
-    with(command, each)
-}
-
-fn serve_command<'a>(alloc: Global) -> Result<Command<'a>, AllocError> {
-    let file = Arg::new(alloc, "FILE").help(FILE).default_value("site.db");
-    let command = with(told_of(alloc, "serve", SERVE, SERVE_LONG), file)?;
-    let command = with_workers(alloc, command)?;
-    let command = with_exchanges(alloc, command)?;
-    let command = with_page(alloc, command)?;
-    let command = with_peers(alloc, command)?;
-    let command = with_callers(alloc, command)?;
-    with_manner(alloc, command)
-}
-
-fn exchange_command<'a>(alloc: Global) -> Result<Command<'a>, AllocError> {
-    let peer = "Where the other site serves exchanges";
-    let command = command_of(alloc, "exchange", EXCHANGE, EXCHANGE_LONG)?;
-    let command = with(command, needed(alloc, "peer", "ADDR", peer))?;
-    let version = told(alloc, "peer-version", "N", PEER_VERSION).value_parser(value_parser!(
-        u16
-    ).range(1..=2));
-    let command = with(command, version)?;
-    with(command, idle_option(alloc))
-}
-
-fn move_command<'a>(alloc: Global) -> Result<Command<'a>, AllocError> {
-    let command = told_of(alloc, "move", MOVE, MOVE_LONG);
-    let command = with(command, word(alloc, "FROM", "The archive that is read"))?;
-    with(command, word(alloc, "TO", "The archive that is filled"))
-}
-
-fn verify_command<'a>(alloc: Global) -> Result<Command<'a>, AllocError> {
-    command_of(alloc, "verify", VERIFY, VERIFY_LONG)
-}
-
+/// The command line of the program. Its commands are no table: one constant that holds them all is
+/// a larger term than the prover goes through.
 pub(crate) fn archive_command<'a>(alloc: Global) -> Result<Command<'a>, AllocError> {
-    Command::new(alloc, "archive")
+    let command = Command::new(alloc, "archive")
         .about(ABOUT)
         .version(VERSION)
-        .subcommand_required(true)
-        .subcommand(told_of(alloc, "simulate", SIMULATE, SIMULATE_LONG))?
-        .subcommand(report_command(alloc)?)?
-        .subcommand(correct_command(alloc)?)?
-        .subcommand(serve_command(alloc)?)?
-        .subcommand(exchange_command(alloc)?)?
-        .subcommand(move_command(alloc)?)?
-        .subcommand(verify_command(alloc)?)
+        .subcommand_required(true);
+    let command = with_answers(alloc, command)?;
+    let command = with_meetings(alloc, command)?;
+    with_walks(alloc, command)
 }

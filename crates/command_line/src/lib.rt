@@ -8,9 +8,11 @@ ghost use Rattle.command_words.specs.Words.{IsInRange};
 mod commands;
 mod reading;
 mod refusals;
+mod rows;
+mod serve;
 
 use crate::commands::archive_command;
-use crate::reading::read_command;
+use crate::reading::{Unread, read_command};
 use crate::refusals::Refusal;
 use clap::error::ErrorKind;
 use clap::{ArgMatches, Command, Error};
@@ -46,9 +48,10 @@ fn asked_of<'a>(
     ensures ranges { IfOk result IsInRange }
 {
     let found = matches_of(command, words)?;
-    match read_command(alloc, &found)? {
+    match read_command(alloc, &found) {
         Ok(asked) => Ok(asked),
-        Err(refusal) => Err(refused(command, refusal)?),
+        Err(Unread::Refused(refusal)) => Err(refused(command, refusal)?),
+        Err(Unread::Memory) => Err(Error::from(AllocError)),
     }
 }
 

@@ -3,9 +3,10 @@
 ghost use Rattle.std.specs.Prelude.{◌≡◌, ◌+◌, ◌≤◌, IsTrue, IfOk, IfSome};
 ghost use Rattle.command_words.specs.Words.{HasSite, HasPlaces, IsInRange, paging_of};
 
-use crate::refusals::{
-    BAD_FORM, BAD_PEER, Refusal, TOO_MANY, WITHOUT_COMMAND, is_address, refusal_of_serve, text,
-};
+use crate::commands::EXCHANGE_ROWS;
+use crate::refusals::{BAD_FORM, BAD_NETWORK, Refusal, TOO_MANY, WITHOUT_COMMAND, refusal_of};
+use crate::rows::Row;
+use crate::serve::SERVE_ROWS;
 use clap::ArgMatches;
 use command_words::{
     Asked, Correcting, Exchanging, Moving, Reporting, Serving, Verifying, change_in,
@@ -13,23 +14,72 @@ use command_words::{
 use exchange::Role;
 use ipv4_networks::{Network, read_network};
 use site_tables::Table;
-use std::alloc::{AllocError, Global};
+use std::alloc::{AllocError, AllocFailed, Global};
 
 /// The most workers, workers of exchanges, peers and pages of a server together: each has a pass.
 const MOST_PASSES: usize = 64;
 
+/// Why the words of a command ask for nothing.
+#[derive(Clone, Copy)]
+pub(crate) enum Unread {
+    /// They may not be so.
+    Refused(Refusal),
+    /// There is no memory left.
+    Memory,
+}
+
+impl From<AllocError> for Unread {
+    fn from(_error: AllocError) -> Unread {
+        Unread::Memory
+    }
+}
+
+impl<T: Drop> From<AllocFailed<T>> for Unread {
+    fn from(_error: AllocFailed<T>) -> Unread {
+        Unread::Memory
+    }
+}
+
+/// The text of a name, which is there where the name is that of a word that has to be.
+fn text<'a>(found: &ArgMatches<'a>, name: &str) -> &'a str {
+    found.get_str(name).unwrap_or("")
+}
+
+/// The number of a name.
+fn number(found: &ArgMatches<'_>, name: &str) -> Option<u32> {
+    found.get_one::<u32>(name)
+}
+
+/// The number of a name, of those up to 65535.
+fn short(found: &ArgMatches<'_>, name: &str) -> Option<u16> {
+    u16::try_from(number(found, name)?).ok()
+}
+
+/// Whether an option without a value is there.
+fn has(found: &ArgMatches<'_>, name: &str) -> bool {
+    found.get_flag(name)
+}
+
+/// Refuses where a value has not its form.
+fn tested(found: &ArgMatches<'_>, rows: &[Row]) -> Result<(), Unread> {
+    match refusal_of(found, rows) {
+        Some(refusal) => Err(Unread::Refused(refusal)),
+        None => Ok(()),
+    }
+}
+
 /// The table that an option names, if one does.
 fn table_in(found: &ArgMatches<'_>) -> Option<Table> {
-    if found.get_flag("conflicts") {
+    if has(found, "conflicts") {
         return Some(Table::Conflicts);
     }
-    if found.get_flag("rejected") {
+    if has(found, "rejected") {
         return Some(Table::Rejected);
     }
-    if found.get_flag("corrections") {
+    if has(found, "corrections") {
         return Some(Table::Corrections);
     }
-    if found.get_flag("studies") {
+    if has(found, "studies") {
         return Some(Table::Studies);
     }
     None
@@ -40,36 +90,33 @@ fn read_report<'a>(found: &ArgMatches<'a>) -> Reporting<'a> {
     Reporting {
         file: text(found, "FILE"),
         table: table_in(found),
-        separated: found.get_flag("tsv"),
-        fingerprint: found.get_flag("fingerprint"),
+        separated: has(found, "tsv"),
+        fingerprint: has(found, "fingerprint"),
     }
 }
 
 /// What the words behind `correct` ask for, if they have its form.
-fn read_correct<'a>(
-    alloc: Global,
-    found: &ArgMatches<'a>,
-) -> Result<Option<Correcting<'a>>, AllocError>
-    ensures { IfOk result (λ correcting. IfSome correcting HasSite) }
+fn read_correct<'a>(alloc: Global, found: &ArgMatches<'a>) -> Result<Correcting<'a>, Unread>
+    ensures { IfOk result HasSite }
 {
     let kind = text(found, "TARGET");
     let key = text(found, "KEY");
     let tag = text(found, "TAG");
     let value = text(found, "VALUE");
     let change = change_in(alloc, kind, key, tag, value)?;
-    match (found.get_one::<u16>("site"), change) {
-        (None | Some(0), _) | (_, None) => Ok(None),
-        (Some(site), Some(change)) => Ok(Some(Correcting {
+    match (short(found, "site"), change) {
+        (None | Some(0), _) | (_, None) => Err(Unread::Refused(BAD_FORM)),
+        (Some(site), Some(change)) => Ok(Correcting {
             file: text(found, "FILE"),
             site,
             change,
-        })),
+        }),
     }
 }
 
 /// How many exchanges are to be served: none without an address for them.
 fn rounds_in(found: &ArgMatches<'_>) -> u32 {
-    match (found.get_str("exchange"), found.get_one::<u32>("rounds")) {
+    match (found.get_str("exchange"), number(found, "rounds")) {
         (Some(_), Some(rounds)) => rounds,
         _ => 0,
     }
@@ -79,13 +126,13 @@ fn rounds_in(found: &ArgMatches<'_>) -> u32 {
 fn exchange_workers_in(found: &ArgMatches<'_>) -> u16 {
     match rounds_in(found) {
         0 => 0,
-        _ => found.get_one::<u16>("exchange-workers").unwrap_or(2),
+        _ => short(found, "exchange-workers").unwrap_or(2),
     }
 }
 
 /// How long a wait for a peer lasts at most, in seconds.
 fn idle_in(found: &ArgMatches<'_>) -> u32 {
-    found.get_one::<u32>("idle").unwrap_or(60)
+    number(found, "idle").unwrap_or(60)
 }
 
 /// What a server has beside its workers, where pages are asked for or not: so many peers and pages.
@@ -107,92 +154,104 @@ fn fits(workers: u16, exchange_workers: u16, others: usize) -> bool
     serving <= MOST_PASSES && others <= MOST_PASSES - serving
 }
 
-/// The networks of an option, if they have their form.
-fn networks_in(
-    alloc: Global,
+/// Whether a server has a worker, and a hub has passes for all that it has.
+fn has_places(serving: &Serving<'_>) -> bool
+    ensures { IsTrue result → HasPlaces serving.now }
+{
+    match others_of(serving.peers.len(), serving.page) {
+        None => false,
+        Some(others) => {
+            serving.workers != 0 && fits(serving.workers, serving.exchange_workers, others)
+        }
+    }
+}
+
+/// Reads the networks of an option.
+fn read_networks(
     found: &ArgMatches<'_>,
     name: &str,
-) -> Result<Option<Vec<Network>>, AllocError> {
-    let mut networks = Vec::new(alloc);
+    networks: &mut Vec<Network>,
+) -> Result<(), Unread> {
     for text in found.get_strs(name).unwrap_or(&[]) {
         let Some(network) = read_network(text) else {
-            return Ok(None);
+            return Err(Unread::Refused(BAD_NETWORK));
         };
         networks.push(network)?;
     }
-    Ok(Some(networks))
+    Ok(())
 }
 
-/// The texts of an option that may be given again and again.
-fn texts_in<'a>(
-    alloc: Global,
+/// Reads the texts of an option.
+fn read_texts<'a>(
     found: &ArgMatches<'a>,
     name: &str,
-) -> Result<Vec<&'a str>, AllocError> {
-    let mut texts = Vec::new(alloc);
+    list: &mut Vec<&'a str>,
+) -> Result<(), Unread> {
     for text in found.get_strs(name).unwrap_or(&[]) {
-        texts.push(*text)?;
+        list.push(*text)?;
     }
-    Ok(texts)
+    Ok(())
 }
 
-/// What the words behind `serve` ask for, if its numbers have room.
-fn read_serve<'a>(alloc: Global, found: &ArgMatches<'a>) -> Result<Option<Serving<'a>>, AllocError>
-    ensures { IfOk result (λ serving. IfSome serving HasPlaces) }
-{
-    let peers = texts_in(alloc, found, "peer")?;
-    let workers = found.get_one::<u16>("workers").unwrap_or(8);
-    let exchange_workers = exchange_workers_in(found);
-    let page = found.get_str("page");
-    let (Some(allowed), Some(exchange_allowed), Some(page_allowed)) = (
-        networks_in(alloc, found, "allow")?,
-        networks_in(alloc, found, "exchange-allow")?,
-        networks_in(alloc, found, "page-allow")?,
-    ) else {
-        return Ok(None);
-    };
-    let Some(others) = others_of(peers.len(), page) else {
-        return Ok(None);
-    };
-    if workers == 0 || !fits(workers, exchange_workers, others) {
-        return Ok(None);
-    }
-    Ok(Some(Serving {
+/// Reads the options of a server that may be given again and again.
+fn read_lists<'a>(found: &ArgMatches<'a>, serving: &mut Serving<'a>) -> Result<(), Unread> {
+    read_texts(found, "peer", &mut serving.peers)?;
+    read_networks(found, "allow", &mut serving.allowed)?;
+    read_networks(found, "exchange-allow", &mut serving.exchange_allowed)?;
+    read_networks(found, "page-allow", &mut serving.page_allowed)?;
+    read_texts(found, "calling", &mut serving.callers)?;
+    read_texts(found, "quality-calling", &mut serving.quality_callers)?;
+    read_texts(found, "audit-calling", &mut serving.audit_callers)
+}
+
+/// A server as its other words and options ask for it.
+fn server_of<'a>(alloc: Global, found: &ArgMatches<'a>) -> Serving<'a> {
+    Serving {
         file: text(found, "FILE"),
         listen: text(found, "listen"),
-        workers,
-        each: found.get_one::<u32>("each"),
+        workers: short(found, "workers").unwrap_or(8),
+        each: number(found, "each"),
         exchange: text(found, "exchange"),
         rounds: rounds_in(found),
-        exchange_workers,
-        page,
-        peers,
-        every: found.get_one::<u32>("every").unwrap_or(60),
-        allowed,
-        exchange_allowed,
-        page_allowed,
-        callers: texts_in(alloc, found, "calling")?,
-        quality_callers: texts_in(alloc, found, "quality-calling")?,
-        audit_callers: texts_in(alloc, found, "audit-calling")?,
+        exchange_workers: exchange_workers_in(found),
+        page: found.get_str("page"),
+        peers: Vec::new(alloc),
+        every: number(found, "every").unwrap_or(60),
+        allowed: Vec::new(alloc),
+        exchange_allowed: Vec::new(alloc),
+        page_allowed: Vec::new(alloc),
+        callers: Vec::new(alloc),
+        quality_callers: Vec::new(alloc),
+        audit_callers: Vec::new(alloc),
         idle: idle_in(found),
-        ends_with_input: found.get_flag("until-end-of-input"),
-        is_verbose: found.get_flag("verbose"),
-    }))
+        ends_with_input: has(found, "until-end-of-input"),
+        is_verbose: has(found, "verbose"),
+    }
+}
+
+/// What the words behind `serve` ask for, if its values have their form and its numbers room.
+fn read_serve<'a>(alloc: Global, found: &ArgMatches<'a>) -> Result<Serving<'a>, Unread>
+    ensures { IfOk result HasPlaces }
+{
+    tested(found, SERVE_ROWS)?;
+    let mut serving = server_of(alloc, found);
+    read_lists(found, &mut serving)?;
+    if !has_places(&serving) {
+        return Err(Unread::Refused(TOO_MANY));
+    }
+    Ok(serving)
 }
 
 /// What the words behind `exchange` ask for, if its address has its form.
-fn read_exchange<'a>(found: &ArgMatches<'a>) -> Option<Exchanging<'a>> {
-    let peer = text(found, "peer");
-    if !is_address(peer) {
-        return None;
-    }
-    let role = match found.get_one::<u16>("peer-version") {
+fn read_exchange<'a>(found: &ArgMatches<'a>) -> Result<Exchanging<'a>, Unread> {
+    tested(found, EXCHANGE_ROWS)?;
+    let role = match number(found, "peer-version") {
         Some(1) => Role::OldCaller,
         _ => Role::Caller,
     };
-    Some(Exchanging {
+    Ok(Exchanging {
         file: text(found, "FILE"),
-        peer,
+        peer: text(found, "peer"),
         role,
         idle: idle_in(found),
     })
@@ -213,43 +272,18 @@ fn read_verify<'a>(found: &ArgMatches<'a>) -> Verifying<'a> {
     }
 }
 
-/// What the words behind `serve` ask for, or the first thing in them that is refused.
-fn read_server<'a>(
-    alloc: Global,
-    found: &ArgMatches<'a>,
-) -> Result<Result<Asked<'a>, Refusal>, AllocError>
-    ensures ranges { IfOk result (λ asked. IfOk asked IsInRange) }
-{
-    if let Some(refusal) = refusal_of_serve(found) {
-        return Ok(Err(refusal));
-    }
-    match read_serve(alloc, found)? {
-        Some(serving) => Ok(Ok(Asked::Serve(serving))),
-        None => Ok(Err(TOO_MANY)),
-    }
-}
-
-/// What the words of a command ask for, if they have its form.
-pub(crate) fn read_command<'a>(
-    alloc: Global,
-    found: &ArgMatches<'a>,
-) -> Result<Result<Asked<'a>, Refusal>, AllocError>
-    ensures ranges { IfOk result (λ asked. IfOk asked IsInRange) }
+/// What the words of a command ask for, if they have their form.
+pub(crate) fn read_command<'a>(alloc: Global, found: &ArgMatches<'a>) -> Result<Asked<'a>, Unread>
+    ensures ranges { IfOk result IsInRange }
 {
     match found.subcommand() {
-        Some(("report", found)) => Ok(Ok(Asked::Report(read_report(found)))),
-        Some(("correct", found)) => match read_correct(alloc, found)? {
-            Some(correcting) => Ok(Ok(Asked::Correct(correcting))),
-            None => Ok(Err(BAD_FORM)),
-        },
-        Some(("serve", found)) => read_server(alloc, found),
-        Some(("exchange", found)) => match read_exchange(found) {
-            Some(exchanging) => Ok(Ok(Asked::Exchange(exchanging))),
-            None => Ok(Err(BAD_PEER)),
-        },
-        Some(("move", found)) => Ok(Ok(Asked::Move(read_move(found)))),
-        Some(("verify", found)) => Ok(Ok(Asked::Verify(read_verify(found)))),
-        Some(("simulate", _found)) => Ok(Ok(Asked::Simulate)),
-        _ => Ok(Err(WITHOUT_COMMAND)),
+        Some(("report", found)) => Ok(Asked::Report(read_report(found))),
+        Some(("correct", found)) => Ok(Asked::Correct(read_correct(alloc, found)?)),
+        Some(("serve", found)) => Ok(Asked::Serve(read_serve(alloc, found)?)),
+        Some(("exchange", found)) => Ok(Asked::Exchange(read_exchange(found)?)),
+        Some(("move", found)) => Ok(Asked::Move(read_move(found))),
+        Some(("verify", found)) => Ok(Asked::Verify(read_verify(found))),
+        Some(("simulate", _found)) => Ok(Asked::Simulate),
+        _ => Err(Unread::Refused(WITHOUT_COMMAND)),
     }
 }
