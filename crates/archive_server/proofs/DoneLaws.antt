@@ -1,5 +1,5 @@
 -- Laws of associations, exchanges and responses that came to something.
-use Rattle.std.proofs.Common.{◌≡◌, ℕ, List, Option, Some, None, Result, Ok, Err, IfOk, IfErr, IfSome, OnErr, sym}
+use Rattle.std.proofs.Common.{◌≡◌, ℕ, Bool, List, Option, Some, None, Result, Ok, Err, IfOk, IfErr, IfSome, IsTrue, OnErr, sym, ◌∙◌}
 use Rattle.site_state.specs.Site.{Map}
 use Rattle.site_hub.specs.Hub.{Seat}
 use Rattle.ul_state.specs.declared.titles.Title.{Title}
@@ -15,7 +15,7 @@ use Rattle.exchange.specs.declared.role.Role.{Role}
 use Rattle.exchange.specs.declared.role.Ended.{Ended}
 use Rattle.exchange.specs.Run.{Ends, Exchanged, EndsEarly}
 use Rattle.archive_server.specs.declared.answers.RefusedStore.{RefusedStore}
-use Rattle.archive_server.specs.Answers.{refusal_of, IsRefusalIn}
+use Rattle.archive_server.specs.Answers.{refusal_of, IsRefusalIn, is_row_of, IsRowIn}
 use Rattle.archive_server.specs.Done.{seen_by, ops_seen, own_of, Attends, Converses}
 
 -- an association that ended, or was broken off
@@ -38,3 +38,7 @@ pub refusal_in : (text : List ℕ) (command : Command) (refused : Option Refused
     → refused ≡ refusal_of command → IfSome refused (IsRefusalIn text)
 refusal_in text command None spells is = tt
 refusal_in text command (Some refused) spells is = (command, spells, sym is)
+
+pub row_in : (text : List ℕ) (command : Command) (is : Bool) → Spells text command → is ≡ is_row_of command
+    → IsTrue is → IsRowIn text
+row_in text command is spells same holds = (command, spells, sym same ∙ holds)

@@ -7,5 +7,5 @@ pub mod Fault
 pub mod Health
 pub mod Journal
 pub mod Refusing
-pub mod Samples
 pub mod Serving
+pub mod Telling

@@ -1,16 +1,18 @@
-//! The C-STOREs that are not answered with success, read off the bytes that are written: command
-//! sets are put together of presentation data values (PS3.8, sections 9.3.5 and E.2), and each is
-//! told once it is whole.
+//! The C-STOREs that are not answered with success, and the rows that C-FINDs are answered with, read
+//! off the bytes that are written: command sets are put together of presentation data values (PS3.8,
+//! sections 9.3.5 and E.2). Each refused store is told once its response is whole.
 
-ghost use Rattle.std.specs.Prelude.{◌≡◌, ◌<◌, ◌≤◌, IfSome, Some, length};
+ghost use Rattle.std.specs.Prelude.{◌≡◌, ◌<◌, ◌≤◌, IfSome, IsTrue, Some, length};
 ghost use Rattle.dimse.specs.Command.{Spells};
 ghost use Rattle.dimse.specs.declared.command.Command.{Command};
-ghost use Rattle.archive_server.specs.Answers.{refusal_of, IsRefusalIn};
+ghost use Rattle.archive_server.specs.Answers.{refusal_of, IsRefusalIn, is_pending_status, is_row_of, IsRowIn};
 
 use crate::ends::Hears;
 use crate::journal::{Whence, tell_refused_store};
 use crate::manner::Manner;
-use dictionary::{C_STORE_RSP, STATUS_SUCCESS};
+use dictionary::{
+    C_FIND_RSP, C_STORE_RSP, STATUS_PENDING, STATUS_PENDING_WITHOUT_OPTIONAL_KEYS, STATUS_SUCCESS,
+};
 use dimse::{Command, read_command};
 use log::Log;
 use octets::Octets;
@@ -74,8 +76,35 @@ fn refused_in(alloc: Global, text: &[u8]) -> Option<RefusedStore>
     }
 }
 
-/// The presentation data values of what is written to a peer, of which refused stores are told
-/// where lines are asked for.
+/// Whether it is a status with which a row comes (PS3.4, section C.4.1.1.4).
+fn is_pending(status: u16) -> bool
+    ensures { result ≡ is_pending_status status }
+{
+    status == STATUS_PENDING || status == STATUS_PENDING_WITHOUT_OPTIONAL_KEYS
+}
+
+/// Whether a command is a response to a C-FIND with which a row comes.
+fn is_row(command: &Command) -> bool
+    ensures { result ≡ is_row_of command.now }
+{
+    match command.status {
+        Some(status) => command.field == C_FIND_RSP && is_pending(status),
+        None => false,
+    }
+}
+
+/// Whether a command set is one. It is none where memory is refused.
+fn is_row_in(alloc: Global, text: &[u8]) -> bool
+    ensures only { IsTrue result → IsRowIn text.now }
+{
+    match read_command(alloc, text) {
+        Ok(command) => is_row(&command),
+        Err(_fault) => false,
+    }
+}
+
+/// The presentation data values of what is written to a peer, of which rows are counted, and refused
+/// stores are told where lines are asked for.
 #[derive(Drop)]
 pub(crate) struct Answers<'a, S: Clock + Log> {
     rt: &'a S,
@@ -89,6 +118,8 @@ pub(crate) struct Answers<'a, S: Clock + Log> {
     left: usize,
     /// The command set so far.
     text: Vec<u8>,
+    /// How many rows came.
+    rows: u64,
 }
 
 impl<'a, S: Clock + Log> Answers<'a, S> {
@@ -102,7 +133,13 @@ impl<'a, S: Clock + Log> Answers<'a, S> {
             count: 0,
             left: 0,
             text: Vec::new(alloc),
+            rows: 0,
         }
+    }
+
+    /// How many rows came.
+    pub fn rows(&self) -> u64 {
+        self.rows
     }
 
     /// Whether the fragment is one of a command set, and whether it is its last.
@@ -117,14 +154,25 @@ impl<'a, S: Clock + Log> Answers<'a, S> {
         length.saturating_sub(COUNTED)
     }
 
-    /// Tells of a command set once its last fragment came.
-    fn close(&mut self) {
-        if !self.is_of(COMMAND) || !self.is_of(LAST) {
+    /// Tells of a command set, where lines are asked for.
+    fn tell(&self) {
+        if !self.manner.is_verbose {
             return;
         }
         if let Some(refused) = refused_in(self.alloc, self.text.as_slice()) {
             tell_refused_store(self.rt, self.peer, &refused);
         }
+    }
+
+    /// Counts a command set once its last fragment came, and tells of it.
+    fn close(&mut self) {
+        if !self.is_of(COMMAND) || !self.is_of(LAST) {
+            return;
+        }
+        if is_row_in(self.alloc, self.text.as_slice()) {
+            self.rows = self.rows.saturating_add(1);
+        }
+        self.tell();
         self.text.clear();
     }
 
@@ -168,9 +216,6 @@ impl<'a, S: Clock + Log> Answers<'a, S> {
 
 impl<'a, S: Clock + Log> Hears for Answers<'a, S> {
     fn hear(&mut self, bytes: &[u8]) {
-        if !self.manner.is_verbose {
-            return;
-        }
         let mut at = 0;
         for _ in 0..bytes.len() {
             if bytes.len() <= at {

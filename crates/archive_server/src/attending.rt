@@ -9,13 +9,13 @@ ghost use Rattle.archive_server.specs.Serving.{HasGoneOn};
 
 use crate::clerk::Clerk;
 use crate::port::ServerPort;
-use crate::tally::Tally;
 use archive_model::View;
 use association_run::{End, Gate, Outbox, RunFault, run_association};
 use association_worker::AtEntry;
 use devices::{Sink, Source};
 use hub_exchange::Put;
 use log::Log;
+use server_counts::Tally;
 use shelf_ledger::LedgerName;
 use site_hub::{HubName, Keeper, Shows};
 use std::alloc::Global;

@@ -11,20 +11,22 @@ ghost use Rattle.exchange.specs.declared.role.Role.TheVariants.{Callee};
 ghost use Rattle.ipv4_networks.specs.Networks.{may_come};
 ghost use Rattle.archive_server.specs.Done.{Attends, Converses, HasOnlyLooked, fault_of_run, fault_of_exchange};
 ghost use Rattle.archive_server.specs.Serving.{HasGoneOn};
+ghost use Rattle.archive_server.specs.Telling.{AreTold};
 
 use crate::attending::{Archive, Attended, serve_association};
 use crate::clerk::Clerk;
 use crate::conversing::{Conversed, serve_exchange};
 use crate::entrance::Entrance;
 use crate::fault::{NetFault, ServeFault};
+use crate::known::Known;
 use crate::paging::Paging;
-use crate::tally::Tally;
 use crate::told_pages::tell_pages;
 use association_run::{End, Gate, Outbox, RunFault};
 use devices::{Sink, Source};
 use exchange::{Ended, ExchangeFault, Role};
 use hub_exchange::Put;
 use log::Log;
+use server_counts::Tally;
 use shelf_ledger::LedgerName;
 use site_hub::{HubName, Shows};
 use std::alloc::Global;
@@ -226,19 +228,20 @@ impl<H: HubName, N: LedgerName> Done<H, N> {
         (Done::with_one(clerk, accepted, failed, fault), ended)
     }
 
-    /// One more that came for a page, over any reader and writer, who is told why the shelf refuses, if
-    /// it does. A connection that broke is no fault.
+    /// One more that came for a page, over any reader and writer, who is told what the server knows of
+    /// itself. A connection that broke is no fault.
     pub fn with_pages<I: Read, O: Write>(
         self,
         alloc: Global,
         paging: Paging<'_>,
-        refusal: Option<&'static str>,
+        known: &Known,
         reader: &mut I,
         writer: &mut O,
     ) -> (Done<H, N>, io::Result<()>)
         requires room { self.accepted + self.failed < 2 ^ 64 - 1 }
         ensures looked { HasOnlyLooked self.clerk result.0.clerk }
         ensures served { (h : History) × ∥ IsServed page_config h ∥₁
+            × AreTold H.opening paging.entry.name.now known.now self.clerk.pass h
             × Consumes (I.remaining reader.old) (I.remaining reader.new) h.received
             × Appends (O.contents writer.old) (O.contents writer.new) h.sent
             × OnOk result.1 (IsDone h) }
@@ -253,7 +256,7 @@ impl<H: HubName, N: LedgerName> Done<H, N> {
             fault,
         } = self;
         let (pass, extract) = clerk.into_parts();
-        let (pass, served) = tell_pages(alloc, paging, refusal, pass, reader, writer);
+        let (pass, served) = tell_pages(alloc, paging, known, pass, reader, writer);
         let clerk = Clerk::new(pass, extract);
         (Done::with_one(clerk, accepted, failed, fault), served)
     }

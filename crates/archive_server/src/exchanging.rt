@@ -52,6 +52,7 @@ pub(crate) fn exchange_over<
     ensures onward { HasGoneOn clerk result.0 }
 {
     let (rt, peer) = (hall.archive.rt, Whence::of(wire));
+    hall.board.begun(rt);
     let mut reader = Counted::new(wire);
     let mut writer = Counted::new(wire);
     let shelf = Telling::new(rt, Asking::new(rt, hall.archive.alloc, to, &hall.health));
@@ -65,6 +66,7 @@ pub(crate) fn exchange_over<
     );
     tell_exchange(rt, hall.manner, peer, wire, Role::Caller, ended);
     wire.part(rt);
+    hall.board.freed(rt);
     (clerk, ended)
 }
 
@@ -85,12 +87,15 @@ fn with_peer<'x, H: HubName, T: Shows<H>, R: Wait + Drop, S: Wait + Clock + Log,
     ensures told { IsSome done.fault → IsSome result.fault }
 {
     let (rt, whence) = (hall.archive.rt, Whence::at(peer));
+    hall.board.begun(rt);
     let mut reader = Counted::new(&wire);
     let mut writer = Counted::new(&wire);
     let shelf = Telling::new(rt, Asking::new(rt, hall.archive.alloc, to, &hall.health));
     let (done, ended) = done.with_exchange(&hall.archive, &shelf, &mut reader, &mut writer);
     tell_exchange(rt, hall.manner, whence, &wire, Role::Callee, ended);
+    hall.board.served(rt, ended);
     wire.part(rt);
+    hall.board.freed(rt);
     done
 }
 

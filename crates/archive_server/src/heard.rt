@@ -106,8 +106,8 @@ impl<R: Source> Source for Heard<R> {
     }
 }
 
-/// A writer whose rejections and aborts are noted, and whose refused stores are told. Contracts see
-/// the writer.
+/// A writer whose rejections and aborts are noted, whose rows are counted, and whose refused stores
+/// are told. Contracts see the writer.
 #[derive(Drop)]
 pub(crate) struct Said<'a, W: Sink, S: Clock + Log> {
     sink: W,
@@ -132,6 +132,11 @@ impl<'a, W: Sink, S: Clock + Log> Said<'a, W, S> {
     /// The abort that was sent, likewise.
     pub fn abort(&self) -> Option<Abort> {
         self.ends.abort()
+    }
+
+    /// How many rows were sent in answers to queries.
+    pub fn rows(&self) -> u64 {
+        self.answers.rows()
     }
 }
 

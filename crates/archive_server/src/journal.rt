@@ -11,7 +11,6 @@ use crate::answers::RefusedStore;
 use crate::ends::{Abort, Rejection};
 use crate::heard::Front;
 use crate::manner::Manner;
-use crate::tally::Tally;
 use crate::wire::Wire;
 use association_run::{End, RunFault};
 use dictionary::{
@@ -21,6 +20,7 @@ use dictionary::{
 use exchange::{Ended, ExchangeFault, Role};
 use jiff::Timestamp;
 use log::{Log, error, info};
+use server_counts::Tally;
 use std::fmt::{Display, Formatter};
 use std::io::ErrorKind;
 use std::net::SocketAddr;
@@ -108,7 +108,9 @@ impl Display for Asked {
             known,
             refused,
             finds,
+            rows: _,
             gets,
+            images: _,
         } = self.0;
         write!(
             f,

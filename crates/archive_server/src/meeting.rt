@@ -68,9 +68,11 @@ fn meet<
     match Wire::to(hall.archive.rt, address, hall.manner.idle) {
         Ok(wire) => {
             let (clerk, ended) = exchange_over(hall, to, &wire, clerk);
+            hall.board.called(hall.archive.rt, address, ended);
             (clerk, called_as(ended, &wire))
         }
         Err(error) => {
+            hall.board.unreached(hall.archive.rt, address);
             tell_unreached(hall.archive.rt, hall.manner, address, error);
             (clerk, uncalled_as(&error))
         }

@@ -55,10 +55,10 @@ fn with_visitor<H: HubName, T: Shows<H>, R: Wait + Drop, S: Wait + Clock + Log, 
     ensures failed { result.failed ≡ done.failed }
 {
     let (rt, alloc, idle) = (hall.archive.rt, hall.archive.alloc, hall.manner.idle);
-    let refusal = hall.health.words();
+    let known = hall.board.known(rt, alloc, hall.health.words());
     let mut reader = Visit::new(rt, wire, ended, idle);
     let mut writer = Visit::new(rt, wire, ended, idle);
-    let (done, _answered) = done.with_pages(alloc, paging, refusal, &mut reader, &mut writer);
+    let (done, _answered) = done.with_pages(alloc, paging, &known, &mut reader, &mut writer);
     tell_visit(rt, hall.manner, Whence::at(peer), wire, writer.count());
     wire.part(rt);
     done

@@ -12,7 +12,6 @@ ghost use Rattle.archive_server.specs.Refusing.{RefusesStore};
 ghost use Rattle.archive_server.specs.Serving.{IsOnward, WasWritten};
 
 use crate::refusing::{told, told_store};
-use crate::tally::Tally;
 use archive_model::{Answers, Prepared, Query, Selection, View};
 use association_run::Port;
 use association_session::PortFault;
@@ -21,6 +20,7 @@ use hub_exchange::{Put, Shelved};
 use log::Log;
 use octets::ListOf;
 use operation::{Content, Digested, Op, Taken};
+use server_counts::Tally;
 use shelf_ledger::{Extract, LedgerName};
 use site_hub::{HubName, Keeper, Pass, Shows};
 use std::marker::Model;
@@ -68,6 +68,14 @@ impl<
     ghost view = { λ p. p.hub };
 
     ghost invariant = { λ p. IsOnward (WasWritten p.extract) E.seat p.hub };
+}
+
+/// How many images were prepared.
+fn length_of<E>(prepared: &Result<ListOf<Prepared>, E>) -> u64 {
+    match prepared {
+        Ok(images) => images.len() as u64,
+        Err(_fault) => 0,
+    }
 }
 
 /// Lets the hub take what the shelf keeps.
@@ -186,7 +194,7 @@ impl<
         ensures busy { result ≡ Err PortFault.Busy → Rose self.old.refused self.new.refused }
         ensures later { IsLater self.old self.new }
     {
-        self.tally.finds = self.tally.finds.saturating_add(1);
+        self.tally.found();
         let rows = self.hub.rows(called, view, query);
         told(self.rt, "find", rows)
     }
@@ -198,8 +206,8 @@ impl<
         ensures busy { result ≡ Err PortFault.Busy → Rose self.old.refused self.new.refused }
         ensures later { IsLater self.old self.new }
     {
-        self.tally.gets = self.tally.gets.saturating_add(1);
         let prepared = self.hub.prepared(view, selection);
+        self.tally.got(length_of(&prepared));
         told(self.rt, "get", prepared)
     }
 }

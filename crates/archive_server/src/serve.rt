@@ -6,6 +6,7 @@ ghost use Rattle.std.specs.Option.{option_or};
 ghost use Rattle.archive_server.specs.Serving.{AllOnward, AreJobs, AreKept, HaveServed, IsKept, WasWritten, places_for, serving_in, paging_in, room_of_all};
 
 use crate::attending::Archive;
+use crate::board::Board;
 use crate::clerk::Clerk;
 use crate::entrance::Entrance;
 use crate::exchanging::Exchanging;
@@ -423,6 +424,7 @@ pub fn serve_on<
         manner,
         begun: AtomicU64::new(0),
         health: Health::new(),
+        board: Board::new(rt, alloc, peers),
     };
     serve_named::<Brand, H, R, S, K, G>(Blank::new(), &hall, jobs, shelf, passes)
 }

@@ -6,6 +6,7 @@ ghost use Rattle.archive_server.specs.Serving.{HasGoneOn, HasServed};
 
 use crate::answers::Answers;
 use crate::attending::Archive;
+use crate::board::Board;
 use crate::clerk::Clerk;
 use crate::done::Done;
 use crate::entrance::{Entered, Entrance, accept_from};
@@ -39,6 +40,7 @@ pub(crate) struct Hall<'a, H: HubName, T: Shows<H>, R: Wait + Drop, S: Wait> {
     pub begun: AtomicU64,
     /// Whether the shelf takes what it is given.
     pub health: Health,
+    pub board: Board,
 }
 
 /// What a worker has done, and one association more, over the connection of a peer that may come in
@@ -76,7 +78,7 @@ fn with_peer<
         Counted::new(wire),
         Answers::new(rt, hall.manner, whence, alloc),
     );
-    let (done, ended, tally) = done.with_association(
+    let (done, ended, mut tally) = done.with_association(
         &hall.archive,
         &shelf,
         outbox,
@@ -91,6 +93,9 @@ fn with_peer<
         came: reader.abort(),
     };
     let front = reader.front();
+    tally.answered(writer.rows());
+    hall.board
+        .attended(rt, ended, finish.rejection.is_some(), tally);
     tell_association(rt, hall.manner, whence, wire, &front, tally, finish);
     done
 }
@@ -119,8 +124,11 @@ fn with_wire<
     ensures failed { result.failed ≡ done.failed }
     ensures told { IsSome done.fault → IsSome result.fault }
 {
+    let rt = hall.archive.rt;
+    hall.board.begun(rt);
     let served = with_peer(hall, to, gate, outbox, &wire, peer, done);
-    wire.part(hall.archive.rt);
+    wire.part(rt);
+    hall.board.freed(rt);
     served
 }
 
