@@ -1,6 +1,7 @@
-use Rattle.std.proofs.Common.{◌∙◌, inl, sym, subst, rules, IfErr, Result}
+use Rattle.std.proofs.Common.{◌≡◌, ◌∙◌, inl, subst, rules}
+use Rattle.operation.specs.declared.op.Op.{Op}
+use Rattle.operation.specs.declared.op.Op.TheVariants.{Content as a_content}
 use Rattle.site_hub.proofs.Laters.{later_same}
-use Rattle.archive_server.specs.Refusing.{RefusesStore}
 use Rattle.archive_server.proofs.OnwardLaws.{onward_learned}
 use Rattle.archive_server.proofs.RefusingLaws.{hub_refused}
 use Rattle.archive_server.proofs.port.ServerPortPort.store.Goals as goal
@@ -21,10 +22,13 @@ returns-in-Ok-clause-why g c = rw (← c.self.view_is) (rw (c.stored.ensures ∙
 
 -- The shelf refused it.
 pub returns-in-Err-clause-why : goal.returns-in-Err-clause-why
-returns-in-Err-clause-why g c = rw c.stored-in-Err.ensures (inl (record {
-  before = _;
-  after = _;
-  cause = _;
-  refused = c.in-Err.ensures.why;
-  told = c.told_store.ensures;
-}))
+returns-in-Err-clause-why g c =
+    let same : c.of-op.result ≡ a_content c.args.content = search rules in
+    rw c.stored-in-Err.ensures (inl (record {
+      before = c.self.inside.shelf.now;
+      after = c.put.new.self;
+      cause = c.in-Err.fault;
+      refused = subst (λ (op : Op). g.P.Put.refuses c.self.inside.shelf.now c.put.new.self op c.in-Err.fault) same
+          c.in-Err.ensures.why;
+      told = c.told_store.ensures;
+    }))
