@@ -17,14 +17,14 @@ returns-in-Err-clause-later g c = later_same _ _ (search rules)
 
 -- What the shelf has kept only the hub refuses.
 pub returns-in-Ok-clause-why : goal.returns-in-Ok-clause-why
-returns-in-Ok-clause-why g c = rw (← c.self.view_is) (rw (c.stored.ensures ∙ c.told.ensures)
+returns-in-Ok-clause-why g c = rw (← c.self.view_is) (rw (c.stored.ensures.same ∙ c.told.ensures)
     (hub_refused g.P.Put.refuses _ _ _ c.publish-taken.result c.publish-taken.ensures.own c.publish-taken.ensures.busy))
 
 -- The shelf refused it.
 pub returns-in-Err-clause-why : goal.returns-in-Err-clause-why
 returns-in-Err-clause-why g c =
     let same : c.of-op.result ≡ a_content c.args.content = search rules in
-    rw c.stored-in-Err.ensures (inl (record {
+    rw c.stored-in-Err.ensures.same (inl (record {
       before = c.self.inside.shelf.now;
       after = c.put.new.self;
       cause = c.in-Err.fault;
