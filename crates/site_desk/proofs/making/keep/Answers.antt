@@ -10,7 +10,7 @@ use Rattle.site_desk.proofs.making.keep.Goals as goal
 pub returns-in-Ok-clause-stored : goal.returns-in-Ok-clause-stored
 returns-in-Ok-clause-stored g c = on_ok c.publish-taken.result
     (written_more c.in-Ok.shelved.extract c.learn.new.self c.learn.ensures.that _
-    (subst (WasWritten c.in-Ok.shelved.extract) (c.in-Ok.ensures ∙ ap digest_of c.of-op.ensures)
+    (subst (WasWritten c.in-Ok.shelved.extract) (c.in-Ok.ensures.own ∙ ap digest_of c.of-op.ensures)
     c.in-Ok.shelved.written))
 
 -- So does what became the pass's own.
