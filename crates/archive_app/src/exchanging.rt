@@ -11,8 +11,7 @@ use command_words::Exchanging;
 use devices::Counted;
 use exchange::{Ended, ExchangeFault};
 use hub_exchange::{Behind, exchange_on};
-use kept_log::Store;
-use shelved_site::site_on;
+use shelved_site::{Store, site_on};
 use std::net::{Net, TcpListener, TcpStream};
 use std::rt::HostRuntime;
 

@@ -5,8 +5,8 @@ use crate::refused::{Refused, note};
 use command_output::{
     CommandFault, FileCause, Note, file_cause_in_error, file_cause_of, is_other, lacks_log,
 };
-use kept_log::{ArchiveStore, FileShelf, Store, of_shelf};
 use op_shelf::{Shelf, ShelfFault, StoreCause, make_ready};
+use shelved_site::{ArchiveStore, FileShelf, Store, of_shelf};
 use sqlite::{Alter, Connection, Error, FileFrom, FileStore, Start, Wary};
 use std::alloc::AllocError;
 use std::fs;

@@ -1,7 +1,7 @@
 //! `archive move`: brings the operations of one archive into another.
 
 ghost use Rattle.std.specs.Prelude.{IfOk, OnErr};
-ghost use Rattle.kept_log.specs.Moving.{AreMoved, HasSome};
+ghost use Rattle.shelved_site.specs.Moving.{AreMoved, HasSome};
 
 use crate::file::{OnStore, on_file};
 use crate::folder::is_absent;
@@ -10,8 +10,8 @@ use crate::refused::{Refused, about};
 use crate::viewing::view_file;
 use command_output::{CommandFault, FileCause, lines_of_move};
 use command_words::Moving;
-use kept_log::{Following, MoveFault, Moved, Store, move_all};
 use op_shelf::{ShelfFault, StoreCause};
+use shelved_site::{Following, MoveFault, Moved, Store, move_all};
 use std::rt::HostRuntime;
 
 /// Brings all operations of one store into another, and tells how far it is.

@@ -5,9 +5,8 @@
 ghost use Rattle.std.specs.Prelude.{◌≡◌};
 
 use devices::{DeviceFault, Sink, Source};
-use kept_log::Following;
 use op_shelf::Testing;
-use shelved_site::Hearing;
+use shelved_site::{Following, Hearing};
 use std::io::IsTerminal;
 use std::rt::HostRuntime;
 

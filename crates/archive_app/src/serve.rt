@@ -18,11 +18,10 @@ use archive_server::{Entrance, Exchanging, Manner, Paging, Peer, ServeFault, Ser
 use association_run::OpenGate;
 use command_output::CommandFault;
 use command_words::Serving;
-use kept_log::{KeptLog, Store};
 use log::Log;
 use octets::{ListOf, Octets};
 use op_shelf::Shelf;
-use shelved_site::hub_on;
+use shelved_site::{KeptLog, Store, hub_on};
 use site_hub::{CloseFault, HubFault, HubName, Keeper, Opened, Pass, Snapshot, close};
 use sqlite::Alter;
 use std::alloc::{AllocError, Global};

@@ -25,6 +25,7 @@ mod parts;
 mod prepared;
 mod query;
 mod reading;
+mod record_laws;
 mod selection;
 mod sending;
 mod sending_laws;
@@ -52,6 +53,11 @@ pub use parts::content;
 pub use prepared::Prepared;
 pub use query::{Query, level_of, upper_uid};
 pub use reading::stored;
+pub use record_laws::{
+    a_correction_needs_no_bytes, a_row_needs_no_bytes, an_index_needs_no_bytes,
+    what_is_picked_needs_no_bytes, what_is_shown_needs_no_bytes, what_is_to_be_sent_needs_no_bytes,
+    what_stands_for_others_needs_no_bytes,
+};
 pub use selection::Selection;
 pub use sending::Sending;
 pub use sending_laws::what_is_sent_is_made_of_what_is_prepared;

@@ -8,9 +8,9 @@ use Rattle.site_hub.specs.History.{set_of}
 use Rattle.site_hub.specs.Hub.{Seat, HasLooked}
 use Rattle.archive_page.specs.declared.fact.Fact.{Fact}
 use Rattle.archive_page.specs.declared.metrics.Sample.{Sample}
-use Rattle.server_counts.specs.declared.meters.Meters.{Meters}
-use Rattle.server_counts.specs.declared.samples.Reading.{Reading}
-use Rattle.server_counts.specs.Samples.{samples_in}
+use Rattle.site_pages.specs.declared.meters.Meters.{Meters}
+use Rattle.site_pages.specs.declared.samples.Reading.{Reading}
+use Rattle.site_pages.specs.Samples.{samples_in}
 use Rattle.site_pages.specs.HubPages.{HubSource, AnswersFrom}
 
 -- what a server knows of itself: why its shelf refuses, if it does, what it has counted, how many seconds ago it began,

@@ -5,7 +5,7 @@ use crate::meeting::Peer;
 use association_run::{End, RunFault};
 use exchange::{Ended, ExchangeFault};
 use octets::Octets;
-use server_counts::{
+use site_pages::{
     Meeting, Met, Meters, Tally, Way, association_end_of, facts_of, met_of, not_reached,
     note_meeting,
 };

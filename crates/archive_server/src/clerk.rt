@@ -2,7 +2,7 @@
 
 ghost use Rattle.std.specs.Prelude.{◌≡◌};
 
-use shelf_ledger::{Extract, LedgerName};
+use hub_exchange::{Extract, LedgerName};
 use site_hub::{HubName, Pass};
 use std::marker::Model;
 

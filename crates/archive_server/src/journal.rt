@@ -20,7 +20,7 @@ use dictionary::{
 use exchange::{Ended, ExchangeFault, Role};
 use jiff::Timestamp;
 use log::{Log, error, info};
-use server_counts::Tally;
+use site_pages::Tally;
 use std::fmt::{Display, Formatter};
 use std::io::ErrorKind;
 use std::net::SocketAddr;

@@ -8,10 +8,9 @@ ghost use Rattle.hub_exchange.specs.Putting.{IsKept, AreKept};
 use crate::health::Health;
 use crate::message::{Reply, Request};
 use crossbeam_channel::{Receiver, Sender, bounded};
-use hub_exchange::{Put, Shelved, put_all, put_shown, shown};
+use hub_exchange::{Ledger, LedgerName, Put, Shelved, put_all, put_shown, shown};
 use op_shelf::{Keep, ShelfFault, StoreCause};
 use operation::{Digest, Digested, Op};
-use shelf_ledger::{Ledger, LedgerName};
 use std::alloc::{AllocError, Global};
 use std::sync::Wait;
 

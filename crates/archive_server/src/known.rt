@@ -1,7 +1,7 @@
 //! What a server knows of itself as it answers for a page.
 
 use archive_page::Fact;
-use server_counts::Meters;
+use site_pages::Meters;
 use std::marker::Model;
 
 /// What a server knows of itself as it answers for a page.

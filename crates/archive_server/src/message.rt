@@ -1,10 +1,9 @@
 //! What crosses the channels between the threads of a server.
 
 use crossbeam_channel::Sender;
-use hub_exchange::Shelved;
+use hub_exchange::{LedgerName, Shelved};
 use op_shelf::ShelfFault;
 use operation::Digested;
-use shelf_ledger::LedgerName;
 use std::alloc::AllocError;
 
 /// Asks for a put.

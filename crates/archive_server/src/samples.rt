@@ -6,9 +6,8 @@ ghost use Rattle.archive_server.specs.Telling.{AreSamplesOf, reading_in};
 
 use crate::known::Known;
 use archive_page::Sample;
-use server_counts::{Reading, samples_of};
 use site_hub::{HubName, Pass};
-use site_pages::CountsOf;
+use site_pages::{CountsOf, Reading, samples_of};
 use site_state::Counts;
 use std::alloc::Global;
 

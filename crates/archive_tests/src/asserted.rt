@@ -1,6 +1,6 @@
 //! What tests assert: a false assertion fails, and a true one does not.
 
-use assertions::{equal, equal_at, holds, holds_at};
+use crate::assertions::{equal, equal_at, holds, holds_at};
 use std::process::{ExitCode, Termination};
 use std::rt::HostRuntime;
 use std::test::Fail;

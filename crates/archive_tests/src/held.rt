@@ -1,9 +1,9 @@
 //! Associations that are held, and those that another pass looks at.
 
+use crate::assertions::equal;
 use crate::doors::comes_to;
 use crate::hubs::{Line, Row, Shared, order_of, serve, tried};
 use crate::messages::Step;
-use assertions::equal;
 use association_run::Gate;
 use association_session::Moment;
 use site_hub::{HubName, Pass, Question};

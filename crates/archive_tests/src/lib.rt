@@ -8,6 +8,8 @@
 #[cfg(test)]
 mod asserted;
 #[cfg(test)]
+mod assertions;
+#[cfg(test)]
 mod disks;
 #[cfg(test)]
 mod doors;

@@ -1,11 +1,11 @@
 //! Servers, and what comes to them.
 
+use crate::assertions::{equal, equal_at, holds};
 use crate::doors::Doors;
 use crate::messages::Step;
 use crate::serving::{Service, Told, open_to_all, served};
 use crate::visitors::{EXCHANGES, Partner, Visitors};
 use archive_server::{Exchanging, Peer};
-use assertions::{equal, equal_at, holds};
 use log::Log;
 use std::alloc::Global;
 use std::io;

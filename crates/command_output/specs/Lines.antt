@@ -5,7 +5,7 @@ use Rattle.std.specs.List.{flat_map}
 use Rattle.hex.specs.Hex.{encode_lower}
 use Rattle.site_simulation.specs.Texts.{line, end_line, message_line}
 use Rattle.exchange.specs.declared.role.Ended.{Ended}
-use Rattle.kept_log.specs.declared.moving.Moved.{Moved}
+use Rattle.shelved_site.specs.declared.moving.Moved.{Moved}
 use Rattle.shelved_site.specs.declared.reporting.Report.{Report}
 
 -- a flagged SOP Instance UID

@@ -8,10 +8,9 @@ ghost use Rattle.command_output.specs.Lines.{count_lines, exchange_lines, finish
 ghost use Rattle.command_output.specs.Lines.{fingerprint_line, fingerprint_lines, store_lines};
 
 use exchange::Ended;
-use kept_log::Moved;
 use octets::{Octets, put_digits};
 use operation::{Digest, Stamp};
-use shelved_site::Report;
+use shelved_site::{Moved, Report};
 use std::alloc::{AllocError, Global};
 
 /// A line of a word and a number.

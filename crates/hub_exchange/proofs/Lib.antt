@@ -1,4 +1,6 @@
 pub mod Gains
 pub mod HolderLaws
+mod Lines
 pub mod OnwardLaws
 pub mod PuttingLaws
+mod Steps

@@ -11,11 +11,11 @@ ghost use Rattle.hub_exchange.specs.Putting.{WasWritten};
 
 use crate::asking::{All, Buckets, In, Missing, Wanted};
 use crate::putting::{Put, Shelved, refusal_of_shelf};
+use crate::{Extract, LedgerName};
 use association_worker::AtEntry;
 use exchange::{Digests, Holder, HolderFault, Version};
 use octets::ListOf;
 use operation::{Digest, Digested, Op, Taken};
-use shelf_ledger::{Extract, LedgerName};
 use site_hub::{HubFault, HubName, Keeper, Pass, Question, Shows, Told, store_digested};
 use std::alloc::Global;
 use std::marker::{Model, PhantomData};

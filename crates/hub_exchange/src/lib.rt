@@ -8,12 +8,16 @@
 #![tactic(auto)]
 
 mod asking;
+mod book;
 mod exchanging;
 mod holder;
+mod ledger;
 mod putting;
 mod shelf_holder;
 
+pub use book::{Extract, LedgerName};
 pub use exchanging::{Behind, exchange_on};
 pub use holder::HubHolder;
+pub use ledger::{Blank, Ledger};
 pub use putting::{Put, Shelved, put_all, put_shown, refusal_of_shelf, shown};
 pub use shelf_holder::{AtOpening, ShelvedHolder};

@@ -6,10 +6,10 @@ ghost use Rattle.operation.specs.Spelling.{digest_of};
 ghost use Rattle.op_shelf.specs.declared.fault.ShelfFault.{ShelfFault};
 ghost use Rattle.hub_exchange.specs.Putting.{IsKept, AreKept, WasWritten, refusal_of};
 
+use crate::{Extract, Ledger, LedgerName};
 use exchange::HolderFault;
 use op_shelf::{Keep, ShelfFault};
 use operation::{Digest, Digested};
-use shelf_ledger::{Extract, Ledger, LedgerName};
 
 /// The digest of an operation that a shelf keeps, and a beginning of that shelf's ledger in which
 /// it stands.

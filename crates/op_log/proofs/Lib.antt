@@ -5,8 +5,9 @@ pub mod Fresh
 pub mod Growing
 pub mod Keeping
 pub mod Lists
-pub mod Spellings
-pub mod TestedBodies
+pub mod LoadLaws
 pub mod Lookups
 pub mod Opening
+pub mod Spellings
+pub mod TestedBodies
 pub mod Walks

@@ -4,6 +4,7 @@ pub mod Folder
 pub mod Heads
 pub mod Kept
 pub mod Loaded
+pub mod Loads
 pub mod Log
 pub mod Places
 pub mod Puts

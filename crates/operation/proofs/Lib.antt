@@ -1,6 +1,7 @@
 pub mod Bounds
 pub mod ContentLaws
-pub mod KeyValueLaws
-pub mod ReadingLaws
-pub mod OutcomeLaws
 pub mod ExistenceLaws
+pub mod KeyValueLaws
+pub mod OutcomeLaws
+pub mod ReadingLaws
+pub mod ValueLaws

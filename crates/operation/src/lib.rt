@@ -3,6 +3,7 @@
 #![tactic(auto)]
 
 mod content;
+mod content_record;
 mod contents;
 mod correction;
 mod decoding;
@@ -12,14 +13,19 @@ mod draft;
 mod encoding;
 mod fault;
 mod hashing;
+mod kept_value;
 mod key_values;
 mod laws;
 mod op;
+mod record;
+mod record_laws;
 mod stamp;
 mod taken;
 mod target;
+mod values;
 
 pub use content::Content;
+pub use content_record::ContentRecord;
 pub use contents::content_of;
 pub use correction::{Correction, correction_of};
 pub use decoding::decode;
@@ -28,11 +34,14 @@ pub use digests::Digest;
 pub use encoding::encode;
 pub use fault::OpFault;
 pub use hashing::digest;
+pub use kept_value::KeptValue;
 pub use laws::{
     a_series_is_corrected_by_its_description_alone, a_text_has_one_outcome,
     each_text_has_an_outcome, spellings_tell_operations_apart,
 };
 pub use op::Op;
+pub use record::Record;
+pub use record_laws::a_record_names_one_operation;
 pub use stamp::Stamp;
 pub use taken::Taken;
 pub use target::Target;

@@ -1,4 +1,13 @@
+pub mod Counting
 pub mod Hashed
+pub mod Holding
+pub mod Keeps
 pub mod KnownLaws
+pub mod Logs
+pub mod Moves
+pub mod Same
 pub mod Sites
+pub mod Stays
 pub mod Takings
+pub mod Tests
+pub mod Whys

@@ -1,4 +1,12 @@
 pub mod Corrections
+pub mod Either
 pub mod Fingerprints
+pub mod Keeping
+pub mod Moving
+pub mod Proved
+pub mod Refusing
 pub mod Reports
 pub mod Sites
+pub mod Stores
+pub mod Telling
+pub mod Verifying

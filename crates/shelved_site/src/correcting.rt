@@ -5,10 +5,10 @@ ghost use Rattle.site_hub.specs.Stamps.{may_be_made};
 ghost use Rattle.shelved_site.specs.declared.fault.ShelvedFault.TheVariants.{Hub};
 ghost use Rattle.shelved_site.specs.Corrections.{IsCorrected, IsSpent, IsUncorrected};
 
+use crate::Store;
 use crate::fault::ShelvedFault;
 use crate::known::is_known;
 use crate::taking::{Silence, site_on};
-use kept_log::Store;
 use octets::Octets;
 use operation::{Op, Stamp, Target};
 use site_hub::{HubFault, next_correction};

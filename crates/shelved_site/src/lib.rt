@@ -5,15 +5,32 @@
 //! Nothing here opens a file: each call takes the store that its caller opened.
 #![tactic(auto)]
 
+mod archive;
 mod correcting;
+mod either;
 mod fault;
 mod fingerprinting;
+mod keeping;
 mod known;
+mod laws;
+mod log_store;
+mod moving;
 mod reporting;
+mod shelf;
+mod store;
 mod taking;
+mod telling;
+mod verifying;
 
+pub use archive::{ArchiveStore, FileOrFolder, FileShelf, Held, of_log, of_shelf};
 pub use correcting::{Corrected, correct_on};
+pub use either::ShelfOrLog;
 pub use fault::ShelvedFault;
 pub use fingerprinting::{equal_sets_have_equal_fingerprints, fingerprint};
+pub use keeping::KeptLog;
+pub use laws::{the_same_puts_keep_the_same, what_lasts_is_left};
+pub use moving::{Following, MoveFault, Moved, move_all};
 pub use reporting::{Report, report_of, report_on, table_on};
+pub use store::Store;
 pub use taking::{Hearing, Silence, hub_on, site_of, site_on};
+pub use telling::fault as shelf_fault;

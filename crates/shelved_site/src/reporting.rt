@@ -5,10 +5,10 @@ ghost use Rattle.site_state.specs.Site.{ops_of};
 ghost use Rattle.site_tables.specs.Tables.{IsTable};
 ghost use Rattle.shelved_site.specs.Reports.{reported, IsReport, IsTableOf, SERIES_KIND};
 
+use crate::Store;
 use crate::fault::ShelvedFault;
 use crate::fingerprinting::fingerprint;
 use crate::taking::{Silence, site_on};
-use kept_log::Store;
 use octets::{ListOf, Octets};
 use operation::Digest;
 use site_state::{Counts, Site, SiteFault};

@@ -4,8 +4,8 @@ ghost use Rattle.std.specs.Prelude.{◌≡◌, ◌≤◌, IfOk, IfErr, IsErrOf, 
 ghost use Rattle.site_state.specs.Laws.{Apart, after_taking};
 ghost use Rattle.shelved_site.specs.Sites.{IsSiteOf, IsBeforeHub};
 
+use crate::Store;
 use crate::fault::ShelvedFault;
-use kept_log::Store;
 use operation::Digested;
 use site_hub::{Opened, open};
 use site_state::{Site, SiteFault};

@@ -6,8 +6,8 @@ use Rattle.operation.specs.declared.fault.OpFault.TheVariants.{BadCorrection}
 use Rattle.operation.specs.declared.stamp.Stamp.{Stamp}
 use Rattle.operation.specs.Corrections.{is_correction}
 use Rattle.operation.specs.Parts.{CorrectionParts}
-use Rattle.archive_desk.specs.declared.fault.DeskFault.{DeskFault}
-use Rattle.archive_desk.specs.declared.fault.DeskFault.TheVariants.{StampsSpent}
+use Rattle.site_desk.specs.declared.fault.DeskFault.{DeskFault}
+use Rattle.site_desk.specs.declared.fault.DeskFault.TheVariants.{StampsSpent}
 use Rattle.command_words.specs.declared.Change.{Change}
 use Rattle.site_hub.specs.Stamps.{LAST_COUNTER, made_with}
 use Rattle.site_desk.specs.Making.{made_by, next_over}

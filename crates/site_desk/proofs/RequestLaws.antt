@@ -3,7 +3,7 @@ use Rattle.std.proofs.Common.{◌≡◌, ◌∙◌, ℕ, List, Bool, Option, Som
 use Rattle.std.specs.Borrow.{Bor}
 use Rattle.std.specs.Option.{option_copied}
 use Rattle.std.specs.Prelude.{is_some}
-use Rattle.archive_desk.specs.Posting.{Posting}
+use Rattle.site_desk.specs.Posting.{Posting}
 
 abbrev posting : List ℕ → List ℕ → List ℕ → Bool → List ℕ → Posting
 posting method path media has_origin body =

@@ -12,12 +12,12 @@ use Rattle.site_hub.specs.History.{set_of, entry_of, EndsWith}
 use Rattle.site_hub.specs.Hub.{Seat, HasLooked}
 use Rattle.hub_exchange.specs.Putting.{WasWritten}
 use Rattle.hub_exchange.specs.Onward.{IsOnward}
-use Rattle.archive_desk.specs.declared.answer.Made.{Made}
-use Rattle.archive_desk.specs.declared.fault.DeskFault.{DeskFault}
-use Rattle.archive_desk.specs.declared.fault.DeskFault.TheVariants.{Unshown}
-use Rattle.archive_desk.specs.declared.words.Words.{Words}
-use Rattle.archive_desk.specs.Answers.{answer_of}
-use Rattle.archive_desk.specs.Posting.{Says}
+use Rattle.site_desk.specs.declared.answer.Made.{Made}
+use Rattle.site_desk.specs.declared.fault.DeskFault.{DeskFault}
+use Rattle.site_desk.specs.declared.fault.DeskFault.TheVariants.{Unshown}
+use Rattle.site_desk.specs.declared.words.Words.{Words}
+use Rattle.site_desk.specs.Answers.{answer_of}
+use Rattle.site_desk.specs.Posting.{Says}
 use Rattle.command_words.specs.declared.Change.{Change}
 use Rattle.site_desk.specs.Making.{change_of, next_over}
 use Rattle.site_desk.specs.Requests.{posting_of}

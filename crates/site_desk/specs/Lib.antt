@@ -1,5 +1,10 @@
+pub mod Answers
 pub mod Desks
+pub mod Faults
+pub mod Forms
 pub mod Making
+pub mod Objects
+pub mod Posting
 pub mod Requests
 pub mod Responses
 pub mod Serving

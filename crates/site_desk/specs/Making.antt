@@ -5,9 +5,9 @@ use Rattle.operation.specs.Corrections.{checked}
 use Rattle.operation.specs.Parts.{CorrectionParts}
 use Rattle.op_shelf.specs.declared.fault.ShelfFault.{ShelfFault}
 use Rattle.op_shelf.specs.declared.fault.ShelfFault.TheVariants as shelf_faults
-use Rattle.archive_desk.specs.declared.fault.DeskFault.{DeskFault}
-use Rattle.archive_desk.specs.declared.fault.DeskFault.TheVariants.{BadKey, BadTag, BadValue, NoSite, StampsSpent, Shelf, Memory}
-use Rattle.archive_desk.specs.declared.words.Words.{Words}
+use Rattle.site_desk.specs.declared.fault.DeskFault.{DeskFault}
+use Rattle.site_desk.specs.declared.fault.DeskFault.TheVariants.{BadKey, BadTag, BadValue, NoSite, StampsSpent, Shelf, Memory}
+use Rattle.site_desk.specs.declared.words.Words.{Words}
 use Rattle.command_words.specs.declared.Change.{Change}
 use Rattle.command_words.specs.declared.parts.Part.{Part}
 use Rattle.command_words.specs.declared.parts.Part.TheVariants.{Key, Tag, Value}

@@ -5,7 +5,7 @@ use Rattle.http.specs.Request.{head_of, body_of}
 use Rattle.http_header.specs.FieldValue.{FieldValue}
 use Rattle.http_header.specs.HeaderMap.{get}
 use Rattle.http_uri.specs.Uri.{uri_path}
-use Rattle.archive_desk.specs.Posting.{Posting}
+use Rattle.site_desk.specs.Posting.{Posting}
 
 abbrev pub value_or_none : Option FieldValue → List ℕ
 value_or_none None = []

@@ -3,8 +3,8 @@ use Rattle.std.specs.Prelude.{List, [], ◌∷◌, ◌⊎◌, codes}
 use Rattle.http1.specs.Fields.{Header}
 use Rattle.http_server.specs.declared.response.Response.{Response}
 use Rattle.http_server.specs.Response.{IsResponse}
-use Rattle.archive_desk.specs.declared.answer.Answer.{Answer}
-use Rattle.archive_desk.specs.Answers.{number_of}
+use Rattle.site_desk.specs.declared.answer.Answer.{Answer}
+use Rattle.site_desk.specs.Answers.{number_of}
 
 -- what the line is, that it is of this moment (RFC 9111, 5.2.2.5), which method there is (RFC 9110, 10.2.1), and that
 -- the connection ends

@@ -7,15 +7,27 @@
 //! request; one request is answered on it, so that no peer holds the thread beyond its request.
 #![tactic(auto)]
 
+mod answer;
+mod asking;
 mod desk;
+mod fault;
+mod form;
 mod limits;
 mod making;
+mod object;
+mod posted;
 mod requests;
 mod responses;
 mod serving;
 mod stamps;
 mod top;
+mod words;
 
+pub use answer::{Answer, Made, Status, answered};
+pub use asking::{Kind, asked};
 pub use desk::SiteDesk;
+pub use fault::DeskFault;
+pub use posted::Posted;
 pub use serving::serve_desk;
 pub use stamps::Stamps;
+pub use words::{Words, read};

@@ -5,19 +5,18 @@ ghost use Rattle.std.specs.Prelude.{◌≡◌, ◌⊎◌, Some, None, IfOk, IfEr
 ghost use mathlib.Core.List.{IsPrefix};
 ghost use Rattle.operation.specs.declared.op.Op.TheVariants.{Correction as a_correction};
 ghost use Rattle.operation.specs.Spelling.{digest_of};
-ghost use Rattle.archive_desk.specs.declared.fault.DeskFault.TheVariants.{Memory, Unshown, Shelf};
+ghost use Rattle.site_desk.specs.declared.fault.DeskFault.TheVariants.{Memory, Unshown, Shelf};
 ghost use Rattle.command_words.specs.Parts.{bad_part_of};
 ghost use Rattle.hub_exchange.specs.Putting.{WasWritten};
 ghost use Rattle.hub_exchange.specs.Onward.{IsOnward};
 ghost use Rattle.site_hub.specs.History.{EndsWith, entry_of};
 ghost use Rattle.site_desk.specs.Making.{change_of, fault_of_part, fault_of_shelf as fault_of_shelf_in, next_over as next_over_of, IsOfPart};
 
-use archive_desk::{DeskFault, Words};
+use crate::{DeskFault, Words};
 use command_words::{Change, Part, bad_part, change_in};
-use hub_exchange::{Put, Shelved};
+use hub_exchange::{Extract, LedgerName, Put, Shelved};
 use op_shelf::ShelfFault;
 use operation::{Correction, Digested, Op, Stamp, correction_of};
-use shelf_ledger::{Extract, LedgerName};
 use site_hub::{HubName, Keeper, Pass, Shows, store_digested};
 use std::alloc::Global;
 use std::sync::{Mutex, Wait};

@@ -4,7 +4,7 @@ ghost use Rattle.std.specs.Prelude.{◌≡◌};
 ghost use Rattle.std.specs.Option.{option_copied};
 ghost use Rattle.site_desk.specs.Requests.{posting_of, value_or_none};
 
-use archive_desk::Posted;
+use crate::Posted;
 use bytes::Bytes;
 use http::{HeaderName, HeaderValue, Request};
 

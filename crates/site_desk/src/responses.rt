@@ -3,10 +3,10 @@
 ghost use Rattle.std.specs.Prelude.{◌≡◌, ◌++◌, [], OnOk};
 ghost use Rattle.http_header.specs.FieldValue.{plain_value};
 ghost use Rattle.http_server.specs.Response.{IsBlank, fields_of};
-ghost use Rattle.archive_desk.specs.Answers.{number_of};
+ghost use Rattle.site_desk.specs.Answers.{number_of};
 ghost use Rattle.site_desk.specs.Responses.{line_fields, Carries, IsRefused, Responds};
 
-use archive_desk::{Answer, Status};
+use crate::{Answer, Status};
 use bytes::Bytes;
 use http::{HeaderName, HeaderValue, StatusCode};
 use http_server::Response;

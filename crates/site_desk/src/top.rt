@@ -1,12 +1,12 @@
 //! What the desk asks of a site, in one look.
 
 ghost use Rattle.std.specs.Prelude.{◌≡◌, ◌⊎◌, IfOk, IfErr, max};
-ghost use Rattle.archive_desk.specs.declared.fault.DeskFault.TheVariants.{Busy, Memory};
+ghost use Rattle.site_desk.specs.declared.fault.DeskFault.TheVariants.{Busy, Memory};
 ghost use Rattle.site_state.specs.Site.{ops_of, top_counter_of};
 ghost use Rattle.site_hub.specs.History.{set_of};
 ghost use Rattle.site_hub.specs.Hub.{HasLooked};
 
-use archive_desk::DeskFault;
+use crate::DeskFault;
 use site_hub::{HubFault, HubName, Pass, Question};
 use site_state::Site;
 use std::alloc::{AllocError, Global};

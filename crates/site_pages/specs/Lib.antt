@@ -1,8 +1,15 @@
+pub mod Counting
+pub mod Ends
+pub mod Facts
+pub mod Families
 pub mod HubPages
+pub mod Meters
 pub mod Responses
+pub mod Samples
 pub mod Serving
 pub mod SitePages
 pub mod StudiesPages
 pub mod StudyPages
 pub mod TablePages
+pub mod Tally
 pub mod Telling

@@ -7,29 +7,42 @@
 //! request is answered on it, so that no peer holds the thread beyond its request.
 #![tactic(auto)]
 
+mod counting;
 mod counts;
+mod ends;
+mod facts;
+mod families;
 mod hub_serving;
 mod hub_source;
 mod limits;
 mod listing;
 mod looking;
 mod looks;
+mod meters;
 mod pages;
 mod responses;
+mod samples;
 mod searching;
 mod serving;
 mod source;
 mod study;
 mod tables;
+mod tally;
 
+pub use counting::{association_end_of, met_of, not_reached};
 pub use counts::site_answer;
+pub use ends::{AssociationEnd, AssociationEnds, ExchangeEnd, ExchangeEnds};
+pub use facts::{Meeting, facts_of, note_meeting};
 pub use hub_serving::serve_hub_pages;
 pub use hub_source::HubPages;
 pub use listing::listed;
 pub use looking::{CountsOf, StudiesOf, StudyOf, TableOf};
+pub use meters::{Met, Meters, Way};
 pub use pages::Pages;
+pub use samples::{Reading, samples_of};
 pub use searching::{Searched, query_of, search_of};
 pub use serving::serve_pages;
 pub use source::Source;
 pub use study::study_page;
 pub use tables::{subject_of, table_answer};
+pub use tally::Tally;

@@ -1,9 +1,9 @@
 //! What the tests of logs make. Nothing here has a clause, so that the proof of a test does not
 //! carry the state of each call.
 
+use crate::assertions::holds_at;
 use crate::disks::Stops;
 use crate::shelf::made;
-use assertions::holds_at;
 use bytes::Bytes;
 use data_set::Syntax;
 use octets::Octets;

@@ -1,8 +1,8 @@
 //! A log whose files rot, byte by byte.
 
+use crate::assertions::{equal, holds_at};
 use crate::disks::Stops;
 use crate::logs::made::{all, are_first, files_with, opened, ops};
-use assertions::{equal, holds_at};
 use op_log::LogFault;
 use operation::Digested;
 use sqlite_disk::{Fuse, Memory};

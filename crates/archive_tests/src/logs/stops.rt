@@ -2,9 +2,9 @@
 //!
 //! All is generic in the disk: only tests name one.
 
+use crate::assertions::holds_at;
 use crate::disks::Stops;
 use crate::logs::made::{Images, files_of, files_with, found, is_put, opened, ops, tried};
-use assertions::holds_at;
 use operation::Digested;
 use sqlite_disk::{Disk, Fuse, Memory};
 use std::alloc::Global;

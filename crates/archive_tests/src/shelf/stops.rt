@@ -2,9 +2,9 @@
 //!
 //! All is generic in the disk, and what can be is in the store: only tests name one.
 
+use crate::assertions::holds_at;
 use crate::disks::Stops;
 use crate::shelf::made::{OLDER, counters, keep, op, put_older, run};
-use assertions::holds_at;
 use op_shelf::{Shelf, make_ready};
 use sqlite::{Alter, Connection, FileStore, Files, Options};
 use sqlite_disk::{Disk, Fuse, Memory};

@@ -1,9 +1,0 @@
-pub mod Counting
-pub mod Holding
-pub mod Keeps
-pub mod Logs
-pub mod Moves
-pub mod Same
-pub mod Stays
-pub mod Tests
-pub mod Whys

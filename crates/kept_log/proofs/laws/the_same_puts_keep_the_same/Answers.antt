@@ -1,6 +1,0 @@
-use Rattle.kept_log.proofs.Same.{gains_same}
-use Rattle.kept_log.proofs.laws.the_same_puts_keep_the_same.Goals as goal
-
-pub returns : goal.returns
-returns g c a c' b d ops kepts told same gains gains' =
-    gains_same (g.A.Keep.holds a) (g.A.Keep.holds c') (g.B.Keep.holds b) (g.B.Keep.holds d) ops kepts told same gains gains'

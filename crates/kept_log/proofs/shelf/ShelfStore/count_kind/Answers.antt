@@ -1,6 +1,0 @@
-use Rattle.std.proofs.Common.{arith}
-use Rattle.kept_log.proofs.shelf.ShelfStore.count_kind.Goals as goal
-
--- A disk that is clean afterwards was clean.
-pub returns-clause-clean : goal.returns-clause-clean
-returns-clause-clean g c clean = omega (arith, c.count_kind.ensures.crash.clean, clean)

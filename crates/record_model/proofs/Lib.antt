@@ -1,4 +1,0 @@
-pub mod Keeping
-pub mod Alike
-pub mod RowLaws
-pub mod GetLaws

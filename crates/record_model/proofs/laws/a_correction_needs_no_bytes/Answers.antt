@@ -1,6 +1,0 @@
-use Rattle.record_model.proofs.Alike.{same_attributes}
-use Rattle.record_model.proofs.laws.a_correction_needs_no_bytes.Goals as goal
-
--- A correction is kept whole, and so are the keys of its targets.
-pub returns : goal.returns
-returns c = same_attributes

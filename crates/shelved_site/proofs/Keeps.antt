@@ -1,0 +1,149 @@
+-- What puts make of the operations that a log has.
+use Rattle.std.proofs.Common.{◌≡◌, ◌⊎◌, inl, inr, ◌↔◌, ◌+◌, ◌<◌, ◌≤◌, ℕ, List, [], ◌∷◌, ◌++◌, Bool, true, false, cond, nat_eq, Option, Some, None, All, IsTrue, length, map, refl, sym, ◌∙◌, ap, subst, arith}
+use Rattle.std.specs.Cmp.Lexicographic.{pointwise}
+use Rattle.std.proofs.lemmas.List.{append_assoc, append-nil}
+use Rattle.std.proofs.lemmas.List.Elements.{All-nil, All-cons}
+use Rattle.sqlite_disk.specs.Disk.{Holds}
+use Rattle.sqlite_disk.specs.declared.Disk.{Ghosts}
+use Rattle.head_log.proofs.Texts.{once}
+use Rattle.operation.specs.declared.op.Op.{Op}
+use Rattle.operation.specs.Spelling.{digest_of, spelling}
+use Rattle.op_log.specs.declared.kept.Kept.{Kept as Told}
+use Rattle.op_log.specs.declared.kept.Kept.TheVariants as told
+use Rattle.op_log.specs.Heads.{Head, body_of, front_of, head_of}
+use Rattle.op_log.specs.Kept.{Has, IsHeld, first_under}
+use Rattle.op_log.specs.Puts.{PutsAll}
+use Rattle.op_log.proofs.Lookups.{still_first, first_behind, own}
+use Rattle.op_shelf.specs.Keep.{GainsAll, with_one}
+use Rattle.shelved_site.specs.Telling.{kept_of}
+use Rattle.op_log.proofs.Spellings.{both_parts}
+use Rattle.shelved_site.proofs.Holding.{one_digest}
+
+module _ {B : Type 0} (g : Ghosts B) (disk : B) (end : ℕ) where
+  -- heads, and the data sets in a file, have an operation that is spelled so
+  abbrev pub Have : List Head → Op → Type 0
+  Have heads other = (op : Op) × Has g disk end heads op × (spelling other ≡ spelling op)
+
+  abbrev pub IsOf : (Op → Type 0) → List Head → Type 0
+  IsOf held heads = (other : Op) → held other ↔ Have heads other
+
+  -- two data sets at one place are one
+  one_body : (a b : Op) (at : ℕ) → length (body_of a) ≡ length (body_of b) → IsHeld g disk end (a, at) → IsHeld g disk end (b, at)
+      → body_of a ≡ body_of b
+  one_body a b at many held held' = by (body_of a) (body_of b) many held held'
+    where
+      by : (xs ys : List ℕ) → length xs ≡ length ys → (0 < length xs → Holds (g.seen disk) at xs × (at + length xs ≤ end))
+          → (0 < length ys → Holds (g.seen disk) at ys × (at + length ys ≤ end)) → xs ≡ ys
+      by [] [] many h k = refl
+      by [] (y ∷ ys) many h k = absurd (omega (arith, many))
+      by (x ∷ xs) [] many h k = absurd (omega (arith, many))
+      by (x ∷ xs) (y ∷ ys) many h k = once (g.seen disk) at (x ∷ xs) (y ∷ ys) many (h (omega arith)).0 (k (omega arith)).0
+
+  -- operations of one head are spelled alike
+  pub one_spelling : (a b : Op) (at at' : ℕ) → head_of (a, at) ≡ head_of (b, at') → IsHeld g disk end (a, at) → IsHeld g disk end (b, at')
+      → spelling a ≡ spelling b
+  one_spelling a b at at' same held held' =
+      let fronts : front_of a ≡ front_of b = ap (λ (h : Head). h.front) same in
+      let places : at ≡ at' = ap (λ (h : Head). h.at) same in
+      let sizes : length (body_of a) ≡ length (body_of b) = ap (λ (h : Head). h.size) same in
+      let bodies = one_body a b at sizes held (subst (λ (n : ℕ). IsHeld g disk end (b, n)) (sym places) held') in
+      sym (both_parts a) ∙ ap (λ (text : List ℕ). text ++ body_of a) fronts ∙ ap (λ (text : List ℕ). front_of b ++ text) bodies ∙ both_parts b
+
+  -- an operation whose digest has no head is not had
+  pub absent : (heads : List Head) (op : Op) → first_under (digest_of op) heads ≡ None → ¬ Have heads op
+  absent heads op none (other, (at, first, held), same) =
+      let found = ap (λ (d : List ℕ). first_under d heads) (one_digest op other same) ∙ first in
+      let both : None ≡ Some (head_of (other, at)) = sym none ∙ found in
+      absurd cc
+
+  -- what is had behind a new head is that of it, or was had
+  behind : (held : Op → Type 0) (heads : List Head) (op other : Op) (at : ℕ) → IsOf held heads → IsHeld g disk end (op, at)
+      → Have (heads ++ head_of (op, at) ∷ []) other → held other ⊎ (spelling other ≡ spelling op)
+  behind held heads op other at is lies (it, (at', first, lies'), same) = by (first_under (digest_of it) heads) refl
+    where
+      found : (h : Head) → first_under (digest_of it) heads ≡ Some h → h ≡ head_of (it, at')
+      found h was =
+          let both : Some h ≡ Some (head_of (it, at')) = sym (still_first heads (head_of (op, at) ∷ []) (digest_of it) h was) ∙ first in
+          cc
+
+      last : (b : Bool) → cond b (Some (head_of (op, at))) None ≡ Some (head_of (it, at')) → head_of (op, at) ≡ head_of (it, at')
+      last true is = cc
+      last false is = absurd cc
+
+      by : (o : Option Head) → first_under (digest_of it) heads ≡ o → held other ⊎ (spelling other ≡ spelling op)
+      by (Some h) was = inl ((is other).1 (it, (at', was ∙ ap (λ (x : Head). Some x) (found h was), lies'), same))
+      by None was =
+          let here = last (pointwise nat_eq (digest_of it) (digest_of op)) (sym (first_behind heads (head_of (op, at) ∷ []) (digest_of it) was) ∙ first) in
+          inr (same ∙ sym (one_spelling op it at at' here lies lies'))
+
+  -- one head more
+  more_of : (held : Op → Type 0) (heads : List Head) (op : Op) (at : ℕ) → IsOf held heads → first_under (digest_of op) heads ≡ None
+      → IsHeld g disk end (op, at) → IsOf (with_one held op) (heads ++ head_of (op, at) ∷ [])
+  more_of held heads op at is none lies other = (
+    elim [
+      | inl was ↦
+          let it = (is other).0 was in
+          (it.0, (it.1.0, still_first heads (head_of (op, at) ∷ []) (digest_of it.0) (head_of (it.0, it.1.0)) it.1.1, it.1.2), it.2)
+      | inr alike ↦ (op, (at, first_behind heads (head_of (op, at) ∷ []) (digest_of op) none ∙ own (head_of (op, at)), lies), alike)
+    ],
+    behind held heads op other at is lies,
+  )
+
+  -- what the puts of a group make of the operations
+  pub gains_in : (held : Op → Type 0) (heads new : List Head) (ops : List Op) (kepts : List Told) → IsTrue (g.is_clean disk)
+      → IsOf held heads → PutsAll g disk end heads ops kepts new → GainsAll held (Have new) ops (map kept_of kepts)
+  gains_in held heads new [] [] clean is put = λ other. (
+    λ was. subst (λ (hs : List Head). Have hs other) (sym put) ((is other).0 was),
+    λ there. (is other).1 (subst (λ (hs : List Head). Have hs other) put there),
+  )
+  gains_in held heads new [] (kept ∷ kepts) clean is put = absurd put
+  gains_in held heads new (op ∷ ops) [] clean is put = absurd put
+  gains_in held heads new (op ∷ ops) (told.New ∷ kepts) clean is (mid, (none, (at, mid_is, spelled, lies)), rest) = (
+    λ was. absent heads op none ((is op).0 was),
+    gains_in (with_one held op) mid new ops kepts clean
+        (subst (λ (hs : List Head). IsOf (with_one held op) hs) (sym mid_is) (more_of held heads op at is none lies)) rest,
+  )
+  gains_in held heads new (op ∷ ops) (told.Known ∷ kepts) clean is (mid, (there, same), rest) = (
+    (is op).1 (op, there clean, refl),
+    gains_in held mid new ops kepts clean (subst (λ (hs : List Head). IsOf held hs) (sym same) is) rest,
+  )
+
+  -- puts only add heads
+  pub puts_more : (old new : List Head) (ops : List Op) (kepts : List Told) → PutsAll g disk end old ops kepts new
+      → (more : List Head) × (new ≡ old ++ more)
+  puts_more old new [] [] put = ([], put ∙ sym (append-nil old))
+  puts_more old new [] (kept ∷ kepts) put = absurd put
+  puts_more old new (op ∷ ops) [] put = absurd put
+  puts_more old new (op ∷ ops) (told.New ∷ kepts) (mid, (none, (at, mid_is, spelled, lies)), rest) =
+      let (more, is) = puts_more mid new ops kepts rest in
+      (head_of (op, at) ∷ more, is ∙ ap (λ (hs : List Head). hs ++ more) mid_is ∙ append_assoc old (head_of (op, at) ∷ []) more)
+  puts_more old new (op ∷ ops) (told.Known ∷ kepts) (mid, (there, same), rest) =
+      let (more, is) = puts_more mid new ops kepts rest in
+      (more, is ∙ ap (λ (hs : List Head). hs ++ more) same)
+
+  has_still : (heads more new : List Head) (op : Op) → new ≡ heads ++ more → Has g disk end heads op → Has g disk end new op
+  has_still heads more new op is (at, first, lies) =
+      subst (λ (hs : List Head). Has g disk end hs op) (sym is) (at, still_first heads more (digest_of op) (head_of (op, at)) first, lies)
+
+  -- and each operation of the group is had
+  pub puts_had : (old new : List Head) (ops : List Op) (kepts : List Told) → IsTrue (g.is_clean disk) → PutsAll g disk end old ops kepts new
+      → All (Has g disk end new) ops
+  puts_had old new [] [] clean put = All-nil (Has g disk end new)
+  puts_had old new [] (kept ∷ kepts) clean put = absurd put
+  puts_had old new (op ∷ ops) [] clean put = absurd put
+  puts_had old new (op ∷ ops) (told.New ∷ kepts) clean (mid, (none, (at, mid_is, spelled, lies)), rest) =
+      let (more, is) = puts_more mid new ops kepts rest in
+      let here : Has g disk end mid op =
+      subst (λ (hs : List Head). Has g disk end hs op) (sym mid_is) (at, first_behind old (head_of (op, at) ∷ []) (digest_of op) none ∙ own (head_of (op, at)), lies) in
+      All-cons (Has g disk end new) op ops (has_still mid more new op is here) (puts_had mid new ops kepts clean rest)
+  puts_had old new (op ∷ ops) (told.Known ∷ kepts) clean (mid, (there, same), rest) =
+      let (more, is) = puts_more mid new ops kepts rest in
+      All-cons (Has g disk end new) op ops (has_still old more new op (is ∙ ap (λ (hs : List Head). hs ++ more) same) (there clean))
+      (puts_had mid new ops kepts clean rest)
+
+  -- each is told of
+  pub same_length : (old new : List Head) (ops : List Op) (kepts : List Told) → PutsAll g disk end old ops kepts new → length kepts ≡ length ops
+  same_length old new [] [] put = refl
+  same_length old new [] (kept ∷ kepts) put = absurd put
+  same_length old new (op ∷ ops) [] put = absurd put
+  same_length old new (op ∷ ops) (kept ∷ kepts) (mid, first, rest) = omega (arith, same_length mid new ops kepts rest)

@@ -1,0 +1,36 @@
+-- Why a log refuses, from what is told of each fault.
+use Rattle.std.proofs.Common.{◌≡◌, ℕ, List, refl, false}
+use Rattle.sqlite_disk.specs.declared.Disk.{Ghosts}
+use Rattle.operation.specs.declared.op.Op.{Op}
+use Rattle.op_log.specs.declared.fault.LogFault.{LogFault}
+use Rattle.op_log.specs.declared.fault.LogFault.TheVariants as of_log
+use Rattle.op_log.specs.Fault.{IsOfLook}
+use Rattle.op_log.specs.Loaded.{HasBadHead}
+use Rattle.op_log.specs.Log.{IsTooLong, Opened}
+use Rattle.shelved_site.specs.Refusing.{LogRefusesAll, LogRefusesGroup}
+use Rattle.shelved_site.specs.Telling.{fault_of}
+
+-- what a look tells of a log, in a shelf's words
+pub log_why : {H B : Type 0} (g : Ghosts B) (log : Opened H B) (f : LogFault) → IsOfLook f
+    → (f ≡ of_log.Closed → g.is_usable log.bodies ≡ false)
+    → ((at : ℕ) → f ≡ of_log.DamagedBody at → HasBadHead (g.seen log.bodies) log.places at)
+    → LogRefusesAll g log (fault_of f)
+log_why g log of_log.Disk look closed bad = tt
+log_why g log of_log.Closed look closed bad = closed refl
+log_why g log of_log.TooLong look closed bad = absurd look
+log_why g log (of_log.DamagedHeads at) look closed bad = absurd look
+log_why g log (of_log.DamagedBody at) look closed bad = (at, bad at refl)
+log_why g log of_log.Collision look closed bad = absurd look
+log_why g log of_log.Memory look closed bad = tt
+
+-- what a put tells of a log, in a shelf's words
+pub group_why : {H B : Type 0} (gh : Ghosts H) (gb : Ghosts B) (old new : Opened H B) (ops : List Op) (f : LogFault)
+    → (f ≡ of_log.Closed → old.is_open ≡ false) → (f ≡ of_log.TooLong → IsTooLong old ops)
+    → LogRefusesGroup gh gb old new ops (fault_of f)
+group_why gh gb old new ops of_log.Disk closed long = tt
+group_why gh gb old new ops of_log.Closed closed long = closed refl
+group_why gh gb old new ops of_log.TooLong closed long = λ up. long refl
+group_why gh gb old new ops (of_log.DamagedHeads at) closed long = tt
+group_why gh gb old new ops (of_log.DamagedBody at) closed long = tt
+group_why gh gb old new ops of_log.Collision closed long = tt
+group_why gh gb old new ops of_log.Memory closed long = tt

@@ -1,0 +1,67 @@
+use Rattle.std.proofs.Common.{rules, ◌≡◌, ◌<◌, ◌++◌, ◌∷◌, [], ℕ, List, Bool, cond, length, refl, sym, ap, ◌∙◌, arith, slice_get}
+use Rattle.std.proofs.lemmas.Result.{err_from_is_err_and}
+use Rattle.op_log.specs.Heads.{Head}
+use Rattle.op_log.specs.Verified.{is_whole}
+use Rattle.op_shelf.specs.declared.damaged.Damaged.{Damaged}
+use Rattle.shelved_site.specs.Keeping.{Holds}
+use Rattle.shelved_site.specs.Verifying.{damage_of}
+use Rattle.shelved_site.proofs.Logs.{same_of, was_up}
+use Rattle.shelved_site.proofs.Stays.{has_twice, looked, looks_twice, same_self, same_twice}
+use Rattle.shelved_site.proofs.Tests.{head_at, told_next}
+use Rattle.shelved_site.proofs.verifying.test_all.Goals as goal
+
+-- None was tested.
+pub loop-index-init : goal.loop-index-init
+loop-index-init g c = record {
+  looks = (same_self g.B.Disk c.args.log.now).looks;
+  seen = refl;
+  usable = refl;
+  up = λ up. up;
+  same = λ up. same_self g.B.Disk c.args.log.now;
+  told = λ up. search rules;
+}
+
+-- One more was tested, by a look at the log.
+pub loop-index-preserved : goal.loop-index-preserved
+loop-index-preserved g c =
+    let gh = g.H.Disk in
+    let gb = g.B.Disk in
+    let old = c.args.log.now in
+    let mid = c.loop-index.log in
+    let new = c.test_at.new.log in
+    let was = c.loop-index.invariant in
+    let step = c.test_at.ensures in
+    let low : c.loop-index.index < length old.places = search (arith, rules) in
+    let (h, at) = head_at old.places c.loop-index.index low in
+    record {
+      looks = looks_twice old mid new was.looks step.looks;
+      seen = step.seen ∙ was.seen;
+      usable = step.usable ∙ was.usable;
+      up = λ up. was.up (was_up gh gb mid new step.goes_on up);
+      same = λ up. same_twice gb old mid new (was.same (was_up gh gb mid new step.goes_on up))
+          (looked gh gb mid new step.goes_on up step.looks);
+      told = λ up.
+          let before = was.told (was_up gh gb mid new step.goes_on up) in
+          let more = c.in_ok-test_at.ensures.tested up.bodies h (ap (λ (hs : List Head). slice_get hs c.loop-index.index) was.looks.places ∙ at) in
+          more ∙ ap (λ (file : List ℕ). c.loop-index.damaged.items ++ cond (is_whole file h) [] (damage_of h ∷ [])) was.seen
+          ∙ ap (λ (ds : List Damaged). ds ++ cond (is_whole (gb.seen old.bodies) h) [] (damage_of h ∷ [])) before
+          ∙ sym (told_next (gb.seen old.bodies) old.places c.loop-index.index h at);
+    }
+
+-- A look that is refused leaves all heads in memory.
+pub returns-in_err-test_at-clause-refused : goal.returns-in_err-test_at-clause-refused
+returns-in_err-test_at-clause-refused g c up =
+    let gh = g.H.Disk in
+    let gb = g.B.Disk in
+    let old = c.args.log.now in
+    let mid = c.loop-index.log in
+    let new = c.test_at.new.log in
+    let goes = c.test_at.ensures.goes_on in
+    let out = err_from_is_err_and c.from_residual.result c.from_residual.ensures.1 in
+    rw out.1 (has_twice (Holds gb old) (Holds gb mid) (Holds gb new) (c.loop-index.invariant.same (was_up gh gb mid new goes up)).holds
+    (same_of gh gb mid new goes up c.test_at.ensures.looks.places))
+
+-- What is up was up.
+pub returns-in_err-test_at-clause-up : goal.returns-in_err-test_at-clause-up
+returns-in_err-test_at-clause-up g c up =
+    c.loop-index.invariant.up (was_up g.H.Disk g.B.Disk c.loop-index.log c.test_at.new.log c.test_at.ensures.goes_on up)

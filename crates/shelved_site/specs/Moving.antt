@@ -1,0 +1,43 @@
+-- What a move brings.
+use Rattle.std.specs.Prelude.{◌≡◌, ◌⊎◌, ◌↔◌, ◌+◌, ℕ, List, [], ◌∷◌, All, length}
+use Rattle.operation.specs.declared.op.Op.{Op}
+use Rattle.operation.specs.Spelling.{spelling}
+use Rattle.op_shelf.specs.declared.kept.Kept.{Kept}
+use Rattle.op_shelf.specs.declared.kept.Kept.TheVariants.{New, Known}
+use Rattle.op_shelf.specs.Keep.{AreSame, GainsAll}
+use Rattle.shelved_site.specs.declared.moving.Moved.{Moved}
+
+-- how many of some puts found an operation that was not there
+abbrev pub count_new : List Kept → ℕ
+count_new [] = 0
+count_new (New ∷ kepts) = 1 + count_new kepts
+count_new (Known ∷ kepts) = count_new kepts
+
+-- an operation is one of these, by their spellings
+abbrev pub IsAmong : List Op → Op → Type 0
+IsAmong [] op = ⊥
+IsAmong (o ∷ ops) op = (spelling op ≡ spelling o) ⊎ IsAmong ops op
+
+-- operations were put one after another, and so many of them were not there
+pub record ArePut (old new : Op → Type 0) (ops : List Op) (count : ℕ) : Type 0 where
+  pub kepts : List Kept
+  pub gained : GainsAll old new ops kepts
+  pub counted : count ≡ count_new kepts
+
+-- what was kept before is kept, and what else is kept is one of these operations
+pub record JoinsSome (old new : Op → Type 0) (ops : List Op) : Type 0 where
+  pub kept : (op : Op) → old op → new op
+  pub only : (op : Op) → new op → old op ⊎ IsAmong ops op
+
+-- all operations of a list were brought into a store, which has what it had and these, and each of them lasts
+pub record AreMoved (lists : List Op → Type 0) (old new lasts : Op → Type 0) (moved : Moved) : Type 0 where
+  pub ops : List Op
+  pub listed : lists ops
+  pub joined : (op : Op) → new op ↔ (old op ⊎ IsAmong ops op)
+  pub lasting : All lasts ops
+  pub put : ArePut old new ops moved.new
+  pub counted : moved.operations ≡ length ops
+
+-- A store has what it had. What else it has is one of the operations of a list, or it is as it was.
+abbrev pub HasSome : (List Op → Type 0) → (Op → Type 0) → (Op → Type 0) → Type 0
+HasSome lists old new = AreSame old new ⊎ ((ops : List Op) × lists ops × JoinsSome old new ops)

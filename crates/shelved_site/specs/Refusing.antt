@@ -1,0 +1,49 @@
+-- Why a store keeps, shows or counts no operations.
+use Rattle.std.specs.Prelude.{◌≡◌, ◌⊎◌, ◌∷◌, [], ℕ, List, pos, false}
+use Rattle.sqlite.specs.declared.types.Value.TheVariants.{Int}
+use Rattle.sqlite.specs.State.{State}
+use Rattle.sqlite_disk.specs.declared.Disk.{Ghosts}
+use Rattle.operation.specs.declared.op.Op.{Op}
+use Rattle.op_log.specs.Loaded.{HasBadHead}
+use Rattle.op_log.specs.Log.{IsTooLong, Opened}
+use Rattle.op_shelf.specs.declared.fault.ShelfFault.{ShelfFault}
+use Rattle.op_shelf.specs.declared.fault.ShelfFault.TheVariants.{Store, BadRow, Memory}
+use Rattle.op_shelf.specs.declared.fault.StoreCause.TheVariants as cause
+use Rattle.op_shelf.specs.Entries.{HasBadRow}
+use Rattle.op_shelf.specs.States.{IsNotShown, IsUnready, rows_of}
+use Rattle.op_shelf.specs.Texts.{all_text, kind_text}
+use Rattle.shelved_site.specs.Keeping.{IsUp}
+
+-- a shelf: a row is that of no operation, or its table does not stand alone, or the database refused for this cause
+abbrev pub ShelfRefusesAll : State → State → ShelfFault → Type 0
+ShelfRefusesAll old new (Store why) = IsUnready why old ⊎ IsNotShown why all_text [] old new
+ShelfRefusesAll old new BadRow = HasBadRow (rows_of old)
+ShelfRefusesAll old new Memory = Unit {0}
+
+-- the same of a count, of which a shelf does not say when a row is bad
+abbrev pub ShelfRefusesCount : State → ℕ → State → ShelfFault → Type 0
+ShelfRefusesCount old kind new (Store why) = IsUnready why old ⊎ IsNotShown why kind_text (Int (pos kind) ∷ []) old new
+ShelfRefusesCount old kind new BadRow = Unit {0}
+ShelfRefusesCount old kind new Memory = Unit {0}
+
+-- a log: a data set is none of its head's operation, or the file of data sets is closed, or its disk refused
+abbrev pub LogRefusesAll : {H B : Type 0} → Ghosts B → Opened H B → ShelfFault → Type 0
+LogRefusesAll g log (Store cause.Failed) = Unit {0}
+LogRefusesAll g log (Store cause.Closed) = g.is_usable log.bodies ≡ false
+LogRefusesAll g log (Store cause.Full) = ⊥
+LogRefusesAll g log (Store cause.Damaged) = ⊥
+LogRefusesAll g log (Store cause.Other) = ⊥
+LogRefusesAll g log BadRow = (at : ℕ) × HasBadHead (g.seen log.bodies) log.places at
+LogRefusesAll g log Memory = Unit {0}
+
+-- a log that is asked to keep a group: it is closed, or the group is longer than one may be; or its disk refused, or memory
+-- was refused, or another operation has a digest of the group
+abbrev pub LogRefusesGroup : {H B : Type 0} → Ghosts H → Ghosts B → Opened H B → Opened H B → List Op → ShelfFault
+    → Type 0
+LogRefusesGroup gh gb old new ops (Store cause.Failed) = Unit {0}
+LogRefusesGroup gh gb old new ops (Store cause.Closed) = old.is_open ≡ false
+LogRefusesGroup gh gb old new ops (Store cause.Full) = ⊥
+LogRefusesGroup gh gb old new ops (Store cause.Damaged) = ⊥
+LogRefusesGroup gh gb old new ops (Store cause.Other) = IsUp gh gb new → IsTooLong old ops
+LogRefusesGroup gh gb old new ops BadRow = Unit {0}
+LogRefusesGroup gh gb old new ops Memory = Unit {0}

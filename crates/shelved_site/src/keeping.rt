@@ -1,0 +1,83 @@
+//! A log that keeps operations.
+
+ghost use Rattle.std.specs.Prelude.{◌≡◌};
+
+use crate::telling::{all_kept, fault};
+use op_log::OpLog;
+use op_shelf::{Keep, Kept, ShelfFault, StoreCause};
+use operation::{Digested, Op};
+use sqlite_disk::Disk;
+use std::alloc::Global;
+use std::slice;
+
+/// A log of operations, as a server takes it. What it refuses is told in a shelf's words: the disk,
+/// a log that is closed and a group that is too long as `Store`, what is damaged and another
+/// operation under the digest as `BadRow`.
+pub struct KeptLog<H: Disk, B: Disk> {
+    pub(crate) log: OpLog<H, B>,
+    pub(crate) alloc: Global,
+}
+
+// It is written out, so that a caller does not prove again how each part is dropped.
+impl<H: Disk + Drop, B: Disk + Drop> Drop for KeptLog<H, B> {
+    fn drop(self) {
+        let KeptLog { log: _, alloc: _ } = self;
+    }
+}
+
+impl<H: Disk + Drop, B: Disk + Drop> KeptLog<H, B> {
+    ghost use Rattle.shelved_site.specs.Keeping.{log_of};
+
+    /// A log that keeps operations.
+    pub fn of(alloc: Global, log: OpLog<H, B>) -> KeptLog<H, B>
+        ensures { log_of result ≡ log }
+    {
+        KeptLog { log, alloc }
+    }
+
+    /// The log, which loads what is kept.
+    pub fn into_log(self) -> OpLog<H, B>
+        ensures { result ≡ log_of self }
+    {
+        let KeptLog { log, alloc: _ } = self;
+        log
+    }
+}
+
+impl<H: Disk, B: Disk> Keep for KeptLog<H, B> {
+    ghost use Rattle.std.specs.Prelude.{◌∷◌, []};
+    ghost use Rattle.shelved_site.specs.Keeping.{IsUp, Holds, Lasts, log_of};
+    ghost use Rattle.shelved_site.specs.Refusing.{LogRefusesGroup};
+
+    ghost is_up = { λ s. IsUp H.Disk B.Disk (log_of s) };
+
+    ghost holds = { λ s op. Holds B.Disk (log_of s) op };
+
+    ghost lasts = { λ s op. Lasts H.Disk B.Disk (log_of s) op };
+
+    ghost refuses = { λ s t op fault.
+        LogRefusesGroup H.Disk B.Disk (log_of s) (log_of t) (op ∷ []) fault };
+
+    ghost refuses_group = { λ s t ops fault.
+        LogRefusesGroup H.Disk B.Disk (log_of s) (log_of t) ops fault };
+
+    fn put(&mut self, op: &Op) -> Result<Kept, ShelfFault> {
+        let digested = Digested::of(op.copy(self.alloc)?);
+        self.put_digested(&digested)
+    }
+
+    fn put_digested(&mut self, op: &Digested) -> Result<Kept, ShelfFault> {
+        match self.put_many(slice::from_ref(op))?.as_slice() {
+            [kept, ..] => Ok(*kept),
+            [] => Err(ShelfFault::Store(StoreCause::Other)),
+        }
+    }
+
+    fn put_many(&mut self, ops: &[Digested]) -> Result<Vec<Kept>, ShelfFault> {
+        let room = Vec::with_capacity(self.alloc, ops.len())?;
+        match self.log.put_many(ops) {
+            Ok(told) => Ok(all_kept(room, &told)),
+            Err(refused) => Err(fault(refused)),
+        }
+    }
+}

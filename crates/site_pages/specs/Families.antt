@@ -1,0 +1,60 @@
+-- The names under which a server is measured, and what each of them counts.
+use Rattle.std.specs.Prelude.{ℕ, List, codes}
+use Rattle.archive_page.specs.declared.metrics.SampleKind.{SampleKind}
+use Rattle.archive_page.specs.declared.metrics.SampleKind.TheVariants.{Counter, Gauge}
+use Rattle.site_pages.specs.declared.families.Family.{Family}
+use Rattle.site_pages.specs.declared.families.Family.TheVariants as family
+
+-- what only grows, and what goes up and down
+unfoldable pub kind_of : Family → SampleKind
+kind_of family.Operations = Gauge
+kind_of family.TakesOperations = Gauge
+kind_of family.Associations = Counter
+kind_of family.Stores = Counter
+kind_of family.Finds = Counter
+kind_of family.FindRows = Counter
+kind_of family.Gets = Counter
+kind_of family.GetImages = Counter
+kind_of family.ExchangesServed = Counter
+kind_of family.ExchangesCalled = Counter
+kind_of family.OperationsGiven = Counter
+kind_of family.OperationsTaken = Counter
+kind_of family.WorkersBusy = Gauge
+kind_of family.Uptime = Gauge
+kind_of family.SinceAgreed = Gauge
+
+-- their name
+unfoldable pub name_of : Family → List ℕ
+name_of family.Operations = codes "wiersomp_operations"
+name_of family.TakesOperations = codes "wiersomp_takes_operations"
+name_of family.Associations = codes "wiersomp_associations_total"
+name_of family.Stores = codes "wiersomp_stores_total"
+name_of family.Finds = codes "wiersomp_finds_total"
+name_of family.FindRows = codes "wiersomp_find_rows_total"
+name_of family.Gets = codes "wiersomp_gets_total"
+name_of family.GetImages = codes "wiersomp_get_images_total"
+name_of family.ExchangesServed = codes "wiersomp_exchanges_served_total"
+name_of family.ExchangesCalled = codes "wiersomp_exchanges_called_total"
+name_of family.OperationsGiven = codes "wiersomp_operations_given_total"
+name_of family.OperationsTaken = codes "wiersomp_operations_taken_total"
+name_of family.WorkersBusy = codes "wiersomp_workers_busy"
+name_of family.Uptime = codes "wiersomp_uptime_seconds"
+name_of family.SinceAgreed = codes "wiersomp_seconds_since_agreed"
+
+-- what they count
+unfoldable pub help_of : Family → List ℕ
+help_of family.Operations = codes "Operations that the site holds."
+help_of family.TakesOperations = codes "1 where the last put to the disk was taken, else 0."
+help_of family.Associations = codes "Associations that have ended, by how."
+help_of family.Stores = codes "Stores of ended associations: of what was new or known, or refused."
+help_of family.Finds = codes "Queries of ended associations."
+help_of family.FindRows = codes "Rows that these queries were answered with."
+help_of family.Gets = codes "Retrievals of ended associations."
+help_of family.GetImages = codes "Images that these retrievals were prepared with."
+help_of family.ExchangesServed = codes "Exchanges with peers that called, by how they ended."
+help_of family.ExchangesCalled = codes "Exchanges with peers that were called, by how they ended."
+help_of family.OperationsGiven = codes "Operations that exchanges gave."
+help_of family.OperationsTaken = codes "Operations that exchanges took and that were new."
+help_of family.WorkersBusy = codes "Threads that serve an association or an exchange now."
+help_of family.Uptime = codes "Seconds since the server began."
+help_of family.SinceAgreed = codes "Seconds since the last exchange that agreed ended."

@@ -1,0 +1,92 @@
+//! The names under which a server is measured, and what each of them counts.
+
+ghost use Rattle.std.specs.Prelude.{◌≡◌};
+ghost use Rattle.site_pages.specs.Families.{kind_of, name_of, help_of};
+
+use archive_page::SampleKind;
+
+/// The samples of one name.
+#[derive(Clone, Copy)]
+pub(crate) enum Family {
+    Operations,
+    TakesOperations,
+    Associations,
+    Stores,
+    Finds,
+    FindRows,
+    Gets,
+    GetImages,
+    ExchangesServed,
+    ExchangesCalled,
+    OperationsGiven,
+    OperationsTaken,
+    WorkersBusy,
+    Uptime,
+    SinceAgreed,
+}
+
+impl Family {
+    /// Whether they only grow while the server runs.
+    #[tactic(auto, unfolding(crate::specs::Families::kind_of))]
+    pub fn kind(self) -> SampleKind
+        ensures { result ≡ kind_of self }
+    {
+        match self {
+            Family::Operations | Family::TakesOperations => SampleKind::Gauge,
+            Family::Associations | Family::Stores => SampleKind::Counter,
+            Family::Finds | Family::FindRows => SampleKind::Counter,
+            Family::Gets | Family::GetImages => SampleKind::Counter,
+            Family::ExchangesServed | Family::ExchangesCalled => SampleKind::Counter,
+            Family::OperationsGiven | Family::OperationsTaken => SampleKind::Counter,
+            Family::WorkersBusy | Family::Uptime | Family::SinceAgreed => SampleKind::Gauge,
+        }
+    }
+
+    #[tactic(auto, unfolding(crate::specs::Families::name_of))]
+    pub fn name(self) -> &'static [u8]
+        ensures { result.now ≡ name_of self }
+    {
+        match self {
+            Family::Operations => b"wiersomp_operations",
+            Family::TakesOperations => b"wiersomp_takes_operations",
+            Family::Associations => b"wiersomp_associations_total",
+            Family::Stores => b"wiersomp_stores_total",
+            Family::Finds => b"wiersomp_finds_total",
+            Family::FindRows => b"wiersomp_find_rows_total",
+            Family::Gets => b"wiersomp_gets_total",
+            Family::GetImages => b"wiersomp_get_images_total",
+            Family::ExchangesServed => b"wiersomp_exchanges_served_total",
+            Family::ExchangesCalled => b"wiersomp_exchanges_called_total",
+            Family::OperationsGiven => b"wiersomp_operations_given_total",
+            Family::OperationsTaken => b"wiersomp_operations_taken_total",
+            Family::WorkersBusy => b"wiersomp_workers_busy",
+            Family::Uptime => b"wiersomp_uptime_seconds",
+            Family::SinceAgreed => b"wiersomp_seconds_since_agreed",
+        }
+    }
+
+    /// What they count.
+    #[tactic(auto, unfolding(crate::specs::Families::help_of))]
+    pub fn help(self) -> &'static [u8]
+        ensures { result.now ≡ help_of self }
+    {
+        match self {
+            Family::Operations => b"Operations that the site holds.",
+            Family::TakesOperations => b"1 where the last put to the disk was taken, else 0.",
+            Family::Associations => b"Associations that have ended, by how.",
+            Family::Stores =>
+                b"Stores of ended associations: of what was new or known, or refused.",
+            Family::Finds => b"Queries of ended associations.",
+            Family::FindRows => b"Rows that these queries were answered with.",
+            Family::Gets => b"Retrievals of ended associations.",
+            Family::GetImages => b"Images that these retrievals were prepared with.",
+            Family::ExchangesServed => b"Exchanges with peers that called, by how they ended.",
+            Family::ExchangesCalled => b"Exchanges with peers that were called, by how they ended.",
+            Family::OperationsGiven => b"Operations that exchanges gave.",
+            Family::OperationsTaken => b"Operations that exchanges took and that were new.",
+            Family::WorkersBusy => b"Threads that serve an association or an exchange now.",
+            Family::Uptime => b"Seconds since the server began.",
+            Family::SinceAgreed => b"Seconds since the last exchange that agreed ended.",
+        }
+    }
+}
