@@ -1,6 +1,7 @@
 //! What tests assert, as calls that answer why a test failed.
 //!
 //! A call is proved once, where a macro is proved again at each place that writes it.
+
 ghost use Rattle.std.specs.Prelude.{◌≡◌, OnOk, true};
 
 use std::fmt::{Debug, Display};
