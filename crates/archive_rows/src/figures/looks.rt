@@ -1,6 +1,6 @@
 //! Passes that look without pause, and one that publishes.
 
-use crate::hub::Shared;
+use crate::figures::hub::Shared;
 use anyhow::{Result, anyhow};
 use archive_model::View;
 use archive_query::Query;

@@ -1,6 +1,6 @@
 //! What queries of a hub take, by the clock, without the texts of their rows.
 
-use crate::asking::{ASKS, Ask};
+use crate::figures::asking::{ASKS, Ask};
 use anyhow::{Result, anyhow};
 use archive_model::View;
 use archive_query::Query;

@@ -1,8 +1,8 @@
 //! Two passes of a hub that goes on where memory is refused to it, until it is closed.
 
-use crate::elements::NAME;
-use crate::hub::Shared;
-use crate::images::{CT, IMAGE_LENGTH, image, study};
+use crate::figures::elements::NAME;
+use crate::figures::hub::Shared;
+use crate::figures::images::{CT, IMAGE_LENGTH, image, study};
 use anyhow::{Result, anyhow};
 use archive_model::View;
 use archive_query::{Accepted, Accepts, Level, Selection};

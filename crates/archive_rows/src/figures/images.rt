@@ -1,6 +1,6 @@
 //! The images that are published and put.
 
-use crate::elements::{
+use crate::figures::elements::{
     ACCESSION, CLASS, DATE, INSTANCE, NAME, PATIENT, PIXELS, SERIES, STUDY, put, put_header,
 };
 use anyhow::Result;

@@ -2,8 +2,8 @@
 //!
 //! One function alone names the log of real files; the others know any.
 
-use crate::images::{image, images};
-use crate::words::{a_second, number, size};
+use crate::figures::images::{image, images};
+use crate::figures::words::{a_second, number, size};
 use anyhow::{Result, anyhow};
 use op_log::{Kept, OpLog, open_folder};
 use operation::Digested;

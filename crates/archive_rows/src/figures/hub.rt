@@ -1,9 +1,9 @@
 //! A new hub, and what is done with it.
 ghost use Rattle.std.specs.Prelude.{◌≡◌};
 
-use crate::asked::{Finds, asked};
-use crate::course::{Course, gone_on};
-use crate::looks::{Looks, Work, worked};
+use crate::figures::asked::{Finds, asked};
+use crate::figures::course::{Course, gone_on};
+use crate::figures::looks::{Looks, Work, worked};
 use anyhow::{Result, anyhow};
 use operation::Digested;
 use site_hub::{HubName, Keeper, Opened, open};

@@ -1,7 +1,7 @@
 //! Queries at STUDY.
 
-use crate::elements::{ACCESSION, DATE, LEVEL, NAME, PATIENT, STUDY, put};
-use crate::images::{day, study};
+use crate::figures::elements::{ACCESSION, DATE, LEVEL, NAME, PATIENT, STUDY, put};
+use crate::figures::images::{day, study};
 use anyhow::Result;
 use archive_query::Query;
 use data_set::{Syntax, read};

@@ -1,12 +1,12 @@
 //! What is told of hubs: figures, each a line on standard output, and what holds.
 
-use crate::asked::Finds;
-use crate::asking::{Ask, queries};
-use crate::course::{BLANK, Came, Course};
-use crate::hub::{Task, with_hub};
-use crate::images::{IMAGE_LENGTH, image, images};
-use crate::looks::{Looks, MOST_READERS, NONE, Work};
-use crate::words::{a_second, must, number, size};
+use crate::figures::asked::Finds;
+use crate::figures::asking::{Ask, queries};
+use crate::figures::course::{BLANK, Came, Course};
+use crate::figures::hub::{Task, with_hub};
+use crate::figures::images::{IMAGE_LENGTH, image, images};
+use crate::figures::looks::{Looks, MOST_READERS, NONE, Work};
+use crate::figures::words::{a_second, must, number, size};
 use anyhow::Result;
 use archive_query::Query;
 use operation::Digested;
