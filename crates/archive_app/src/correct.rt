@@ -2,8 +2,8 @@
 
 use crate::file::{OnStore, on_file};
 use crate::folder::is_absent;
+use crate::output::{Cause, CommandFault, Note, line_of_stamp};
 use crate::refused::{Refused, about, note};
-use command_output::{Cause, CommandFault, Note, line_of_stamp};
 use command_words::{Change, Correcting, Part, bad_part, unmatched};
 use key_matching::Matching;
 use operation::Target;

@@ -1,8 +1,8 @@
 //! `archive serve --until-end-of-input`: the end of standard input ends the server.
 
+use crate::output::CommandFault;
 use archive_server::NetFault;
 use association_run::RunFault;
-use command_output::CommandFault;
 use std::alloc::Global;
 use std::io::{ErrorKind, Read, Stdin};
 use std::net::{Shutdown, TcpListener, TcpStream};

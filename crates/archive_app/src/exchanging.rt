@@ -2,11 +2,11 @@
 
 use crate::file::{OnStore, on_file};
 use crate::folder::is_absent;
+use crate::output::{CommandFault, NetCause, lines_of_exchange, reach_cause_of};
 use crate::progress::{Progress, Reading, Writing};
 use crate::refused::{Refused, about};
 use crate::serve::wait_of;
 use archive_server::{NetFault, Wire};
-use command_output::{CommandFault, NetCause, lines_of_exchange, reach_cause_of};
 use command_words::Exchanging;
 use devices::Counted;
 use exchange::{Ended, ExchangeFault};

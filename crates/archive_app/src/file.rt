@@ -1,10 +1,10 @@
 //! The file of a site's shelf.
 
 use crate::folder::{is_folder, open_log};
-use crate::refused::{Refused, note};
-use command_output::{
+use crate::output::{
     CommandFault, FileCause, Note, file_cause_in_error, file_cause_of, is_other, lacks_log,
 };
+use crate::refused::{Refused, note};
 use op_shelf::{Shelf, ShelfFault, StoreCause, make_ready};
 use shelved_site::{ArchiveStore, FileShelf, Store, of_shelf};
 use sqlite::{Alter, Connection, Error, FileFrom, FileStore, Start, Wary};

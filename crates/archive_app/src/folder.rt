@@ -1,11 +1,11 @@
 //! The folder of a site's log.
 
 ghost use Rattle.std.specs.Prelude.{IsTrue};
-ghost use Rattle.command_output.specs.Notes.{names_folder as names_folder_in};
+ghost use Rattle.archive_app.specs.Notes.{names_folder as names_folder_in};
 
 use crate::file::is_new;
+use crate::output::{CommandFault, FileCause, file_cause_of, names_folder};
 use crate::refused::Refused;
-use command_output::{CommandFault, FileCause, file_cause_of, names_folder};
 use op_log::{FolderFault, FolderLog, LogFault, open_folder};
 use op_shelf::{ShelfFault, StoreCause};
 use shelved_site::{ArchiveStore, of_log, shelf_fault};

@@ -1,10 +1,10 @@
 //! Where a server listens.
 
 use crate::folder::is_absent;
+use crate::output::{CommandFault, listen_cause_of};
 use crate::refused::Refused;
 use anyhow::Result as Printed;
 use archive_server::{Entrance, Exchanging, NetFault, Paging};
-use command_output::{CommandFault, listen_cause_of};
 use command_words::Serving;
 use std::hash::RandomState;
 use std::io::Print;

@@ -5,10 +5,10 @@ ghost use Rattle.shelved_site.specs.Moving.{AreMoved, HasSome};
 
 use crate::file::{OnStore, on_file};
 use crate::folder::is_absent;
+use crate::output::{CommandFault, FileCause, lines_of_move};
 use crate::progress::Progress;
 use crate::refused::{Refused, about};
 use crate::viewing::view_file;
-use command_output::{CommandFault, FileCause, lines_of_move};
 use command_words::Moving;
 use op_shelf::{ShelfFault, StoreCause};
 use shelved_site::{Following, MoveFault, Moved, Store, move_all};

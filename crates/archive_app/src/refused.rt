@@ -1,6 +1,6 @@
 //! Why a command is refused, and what of.
 
-use command_output::{Cause, CommandFault, FileCause, NetCause, Note, words_of, words_of_note};
+use crate::output::{Cause, CommandFault, FileCause, NetCause, Note, words_of, words_of_note};
 use std::rt::HostRuntime;
 
 /// The fault of a command, the file or the address that it is about, and why it came.

@@ -2,9 +2,9 @@
 
 use crate::file::OnStore;
 use crate::folder::{is_absent, is_folder};
+use crate::output::{CommandFault, Note, lines_of};
 use crate::refused::{Refused, about, note};
 use crate::viewing::view_file;
-use command_output::{CommandFault, Note, lines_of};
 use command_words::Reporting;
 use shelved_site::{Report, ShelvedFault, Store, report_of, report_on, table_on};
 use site_state::Site;

@@ -4,11 +4,11 @@ ghost use Rattle.std.specs.Prelude.{IfOk, OnErr, OnOk};
 
 use crate::file::OnStore;
 use crate::folder::is_absent;
+use crate::output::{CommandFault, FileCause, ended_of_verify, lines_of_verify};
 use crate::progress::Progress;
 use crate::refused::{Refused, about};
 use crate::viewing::view_file;
 use anyhow::Result as Printed;
-use command_output::{CommandFault, FileCause, ended_of_verify, lines_of_verify};
 use command_words::Verifying;
 use op_shelf::{ShelfFault, StoreCause, Testing, Verified};
 use shelved_site::Store;

@@ -6,8 +6,8 @@ ghost use Rattle.sqlite_disk.specs.Memory.{memory_is_usable};
 
 use crate::file::{OnStore, adopted, beside, front_of, is_new, note_log, on_file, refused};
 use crate::folder::is_folder;
+use crate::output::{CommandFault, FileCause, file_cause_of, is_other};
 use crate::refused::Refused;
-use command_output::{CommandFault, FileCause, file_cause_of, is_other};
 use op_shelf::{Shelf, ShelfFault, StoreCause};
 use os::RangeLock;
 use sqlite::{Connection, FileStore, Files, Options};

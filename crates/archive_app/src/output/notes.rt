@@ -1,0 +1,69 @@
+//! What a command says beside its answer, on standard error.
+
+ghost use Rattle.std.specs.Prelude.{◌≡◌};
+ghost use Rattle.archive_app.specs.Notes.{words_of_note, is_database as is_database_in, is_other as is_other_in, lacks_log as lacks_log_in, names_folder as names_folder_in};
+
+/// What a command says beside its answer.
+#[derive(Clone, Copy, Debug, PartialEq, Eq)]
+pub enum Note {
+    /// A file is reported that is not there.
+    Absent,
+    /// The log is not beside a file that may have had one.
+    WithoutLog,
+    /// A correction's value is no date or no time that a query matches.
+    NoDate,
+    NoTime,
+    /// Nothing at the site is of a correction's target.
+    UnknownStudy,
+    UnknownPatient,
+    UnknownSeries,
+}
+
+/// A note in words. It takes no memory.
+pub fn words_of_note(note: Note) -> &'static str
+    ensures { result.now ≡ words_of_note note }
+{
+    match note {
+        Note::Absent => "it is not there, and is told as one that has nothing",
+        Note::WithoutLog =>
+            "its -wal is not beside it: without it what came last is missing, unless sqlite3 closed it",
+        Note::NoDate => "warning: VALUE is no date that a query matches, such as 20240229",
+        Note::NoTime => "warning: VALUE is no time that a query matches, such as 101530",
+        Note::UnknownStudy => "warning: it has nothing of this study, or not yet",
+        Note::UnknownPatient => "warning: it has nothing of this patient, or not yet",
+        Note::UnknownSeries => "warning: it has nothing of this series, or not yet",
+    }
+}
+
+/// What the file of a SQLite database begins with.
+const HEAD: &[u8] = b"SQLite format 3\0";
+
+/// Whether the first bytes of a file are those of a database.
+fn is_database(head: &[u8]) -> bool
+    ensures { result ≡ is_database_in head.now }
+{
+    head.starts_with(HEAD)
+}
+
+/// Whether a file that begins so holds no database: it is not empty, and begins otherwise.
+pub fn is_other(head: &[u8]) -> bool
+    ensures { result ≡ is_other_in head.now }
+{
+    !head.is_empty() && !is_database(head)
+}
+
+/// Whether a file that begins so may have had a log, and has none beside it. The archive leaves one
+/// beside each of its files; sqlite3 takes it in and removes it where it closes the file.
+pub fn lacks_log(head: &[u8], has_log: bool) -> bool
+    ensures { result ≡ lacks_log_in head.now has_log }
+{
+    !has_log && (head.is_empty() || (is_database(head) && head.get(18) == Some(&2)))
+}
+
+/// Whether the name of an archive is that of a folder, also where none is there: it ends with a
+/// slash.
+pub fn names_folder(name: &str) -> bool
+    ensures { result ≡ names_folder_in name.now }
+{
+    name.as_bytes().ends_with(b"/")
+}

@@ -1,6 +1,0 @@
-use Rattle.command_output.proofs.CauseLaws.{full_alike}
-use Rattle.command_output.proofs.cause.a_full_disk_is_told_as_one.Goals as goal
-
--- Each other error has other words.
-pub returns : goal.returns
-returns c = full_alike
