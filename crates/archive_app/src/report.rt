@@ -8,10 +8,9 @@ use crate::viewing::view_file;
 use command_words::Reporting;
 use shelved_site::{Report, ShelvedFault, Store, report_of, report_on, table_on};
 use site_state::Site;
-use site_tables::{Row, Table};
+use site_tables::{Row, Table, align, separate};
 use std::alloc::Global;
 use std::rt::HostRuntime;
-use table_text::{align, separate};
 
 /// The report of no operations.
 fn report_of_none(alloc: Global) -> Result<Report, CommandFault> {

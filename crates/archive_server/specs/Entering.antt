@@ -1,7 +1,7 @@
 -- Who is let in.
 use Rattle.std.specs.Prelude.{◌≡◌, List, true, false}
-use Rattle.ipv4_networks.specs.declared.Network.{Network}
-use Rattle.ipv4_networks.specs.Networks.{may_come}
+use Rattle.command_words.specs.declared.networks.Network.{Network}
+use Rattle.command_words.specs.Networks.{may_come}
 use Rattle.archive_server.specs.declared.entrance.Entered.{Entered}
 use Rattle.archive_server.specs.declared.entrance.Entered.TheVariants.{LetIn, TurnedAway}
 

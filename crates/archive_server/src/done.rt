@@ -8,7 +8,7 @@ ghost use Rattle.site_pages.specs.Serving.{page_config};
 ghost use Rattle.association_run.specs.Parts.{sides};
 ghost use Rattle.exchange.specs.Run.{ends};
 ghost use Rattle.exchange.specs.declared.role.Role.TheVariants.{Callee};
-ghost use Rattle.ipv4_networks.specs.Networks.{may_come};
+ghost use Rattle.command_words.specs.Networks.{may_come};
 ghost use Rattle.archive_server.specs.Done.{Attends, Converses, HasOnlyLooked, fault_of_run, fault_of_exchange};
 ghost use Rattle.archive_server.specs.Serving.{HasGoneOn};
 ghost use Rattle.archive_server.specs.Telling.{AreTold};

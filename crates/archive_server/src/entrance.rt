@@ -4,7 +4,7 @@ ghost use Rattle.std.specs.Prelude.{IfOk};
 ghost use Rattle.archive_server.specs.Entering.{IsAsAllowed};
 
 use crate::wire::Wire;
-use ipv4_networks::{Network, is_allowed};
+use command_words::{Network, is_allowed};
 use std::io;
 use std::net::{SocketAddr, TcpListener};
 use std::time::Duration;

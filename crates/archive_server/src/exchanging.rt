@@ -1,7 +1,7 @@
 //! The threads of exchanges: they accept so many on a listener of their own.
 
 ghost use Rattle.std.specs.Prelude.{◌≡◌, ◌+◌, ◌-◌, ◌<◌, ◌≤◌, ◌^◌, ◌⊎◌, IsSome, true};
-ghost use Rattle.ipv4_networks.specs.Networks.{may_come};
+ghost use Rattle.command_words.specs.Networks.{may_come};
 ghost use Rattle.archive_server.specs.Serving.{HasGoneOn};
 
 use crate::clerk::Clerk;

@@ -2,7 +2,7 @@
 //! another, with looks of a pass of its own.
 
 ghost use Rattle.std.specs.Prelude.{◌≡◌, ◌+◌, ◌-◌, ◌<◌, ◌^◌, IfOk, true};
-ghost use Rattle.ipv4_networks.specs.Networks.{may_come};
+ghost use Rattle.command_words.specs.Networks.{may_come};
 ghost use Rattle.archive_server.specs.Calling.{GoesOnWhileServed};
 ghost use Rattle.archive_server.specs.Done.{HasOnlyLooked};
 ghost use Rattle.archive_server.specs.Entering.{IsAsAllowed};

@@ -1,7 +1,7 @@
 //! A worker: it accepts so many associations on the shared listener, with a pass of its own.
 
 ghost use Rattle.std.specs.Prelude.{◌≡◌, ◌+◌, ◌-◌, ◌<◌, ◌≤◌, ◌^◌, ◌⊎◌, IsSome, is_some, true};
-ghost use Rattle.ipv4_networks.specs.Networks.{may_come};
+ghost use Rattle.command_words.specs.Networks.{may_come};
 ghost use Rattle.archive_server.specs.Serving.{HasGoneOn, HasServed};
 
 use crate::answers::Answers;

@@ -9,10 +9,10 @@ use crate::rows::Row;
 use crate::serve::SERVE_ROWS;
 use clap::ArgMatches;
 use command_words::{
-    Asked, Correcting, Exchanging, Moving, Reporting, Serving, Verifying, change_in,
+    Asked, Correcting, Exchanging, Moving, Network, Reporting, Serving, Verifying, change_in,
+    read_network,
 };
 use exchange::Role;
-use ipv4_networks::{Network, read_network};
 use site_tables::Table;
 use std::alloc::{AllocError, AllocFailed, Global};
 

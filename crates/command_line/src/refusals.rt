@@ -3,7 +3,7 @@
 use crate::rows::{Form, Row};
 use clap::ArgMatches;
 use clap::error::ErrorKind;
-use ipv4_networks::read_network;
+use command_words::read_network;
 use std::net::SocketAddrV4;
 
 /// Why words of another form than an answer has are refused.

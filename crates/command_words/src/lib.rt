@@ -5,11 +5,12 @@ ghost use Rattle.std.specs.Prelude.{◌≡◌, IfOk};
 ghost use Rattle.command_words.specs.Words.{change_in as change_in_words, callers_for, named_or, paging_of};
 ghost use Rattle.command_words.specs.declared.TheConstants.{LOOPBACK};
 
+mod networks;
 mod parts;
 
 use archive_model::View;
 use exchange::Role;
-use ipv4_networks::Network;
+pub use networks::{Network, is_allowed, read_network};
 use octets::Octets;
 use operation::Target;
 pub use parts::{Part, bad_part, unmatched};

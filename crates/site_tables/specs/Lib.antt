@@ -1,9 +1,12 @@
+pub mod Aligned
 pub mod Cells
-pub mod Under
 pub mod Conflicts
-pub mod Rejected
 pub mod Corrections
+pub mod Laws
+pub mod Rejected
+pub mod Separated
+pub mod Shown
 pub mod Studies
 pub mod Study
 pub mod Tables
-pub mod Laws
+pub mod Under

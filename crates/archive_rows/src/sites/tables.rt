@@ -2,10 +2,9 @@
 
 use crate::text::{RowFault, put_bytes};
 use site_state::Site;
-use site_tables::{Table, rows_of_table};
+use site_tables::{Table, align, rows_of_table, separate};
 use std::alloc::{AllocError, Global};
 use std::str::from_utf8;
-use table_text::{align, separate};
 
 fn table_of(word: &str) -> Result<Table, RowFault> {
     match word {

@@ -1,2 +1,0 @@
-pub mod AlignedLaws
-pub mod ShownLaws

@@ -1,8 +1,0 @@
-use Rattle.std.proofs.Common.{◌≡◌, map, take}
-use Rattle.std.specs.String.{string_bytes}
-use Rattle.table_text.specs.Aligned.{shown_text}
-use Rattle.table_text.proofs.aligned.shown_row.Given as goal
-
--- The cells so far, as they are shown.
-abbrev pub invariant-loop-cell : goal.invariant-loop-cell
-invariant-loop-cell l = map string_bytes l.cells.items ≡ map shown_text (take l.cell-index l.row)

@@ -1,7 +1,0 @@
-use Rattle.std.proofs.Common.{map, take}
-use Rattle.table_text.specs.Separated.{separated, IsWritten}
-use Rattle.table_text.proofs.separated.separate.Given as goal
-
--- The records of the heading and of the rows so far were written.
-abbrev pub invariant-loop-row : goal.invariant-loop-row
-invariant-loop-row l = IsWritten l.writer (separated (map (λ cell. cell.now) l.heading) (take l.row-index l.rows))
