@@ -6,7 +6,7 @@
 //! the identifier of a C-FIND asks, and `Selection::read` that of a C-GET; what is answered are
 //! `rows_of` and `sendings_of`. An instance that is to be sent is held as a `Prepared`, of which
 //! its bytes are made when its turn comes. What holds of the definitions is said in `laws.rt` and
-//! in `sending_laws.rt`.
+//! in `sending_laws.rt`, and in `record_laws.rt` that what is shown needs no byte of a data set.
 #![tactic(auto)]
 
 mod accepts;

@@ -1,4 +1,4 @@
-//! What a command line asks for.
+//! What a command line asks for, and the IPv4 networks by which a listener tells who may come.
 #![tactic(auto)]
 
 ghost use Rattle.std.specs.Prelude.{◌≡◌, IfOk};

@@ -1,5 +1,6 @@
 //! Operations, the atoms of a site: contents and corrections, the one spelling of each, and its
-//! digest.
+//! digest; and the record of each, which is all of it but the bytes of a data set, with its digest.
+//! An operation that is read from elsewhere is the one that was asked for where its record is.
 #![tactic(auto)]
 
 mod content;

@@ -1,6 +1,6 @@
 //! A site whose operations stand in a store, which is a shelf or a log: what the store makes of the
-//! site at a start, the report of both, and corrections, which the site stamps and the store then
-//! keeps.
+//! site at a start, the report of both, corrections, which the site stamps and the store then
+//! keeps, what a shelf and a log have in common, and the way from one into another.
 //!
 //! Nothing here opens a file: each call takes the store that its caller opened.
 #![tactic(auto)]

@@ -4,7 +4,8 @@
 //! Its stamp comes next over what a look of the pass sees, and over what this desk has made: so no
 //! two corrections of a desk have one stamp, also where the hub has not taken the first yet. The
 //! connection (HTTP, RFC 9112) is the kit's, which refuses with a status of 4xx or 5xx what is no
-//! request; one request is answered on it, so that no peer holds the thread beyond its request.
+//! request; one request is answered on it, so that no peer holds the thread beyond its request. What
+//! a request says are four words, as `archive correct` has them.
 #![tactic(auto)]
 
 mod answer;

@@ -2,7 +2,8 @@
 //! the corrections, and the studies.
 //!
 //! A row is the texts of its cells. Each table is written in `specs/` from the operations alone, so
-//! sites that hold the same have the same tables.
+//! sites that hold the same have the same tables. As text a table is aligned for a terminal, or has
+//! tab-separated values.
 #![tactic(auto)]
 
 mod aligned;
