@@ -1,6 +1,9 @@
 //! What the definitions mean: laws, said as contracts of functions with nothing to do.
 
-ghost use Rattle.archive_model.specs.Laws.{GreatestIsLast, SomeHaveGreatest, LastHaveOneValue, PickIsContent, PickIsLeast, ContentsHavePick, CoveredIsNamed, ShownArePicks, AuditCoversNothing, AuditShowsPicks, FlaggedHaveTwo, ShownAscend, StudyRepresentativeIsLeast, SeriesRepresentativeIsLeast};
+ghost use Rattle.archive_model.specs.Laws.{GreatestIsLast, SomeHaveGreatest, LastHaveOneValue, PickIsContent};
+ghost use Rattle.archive_model.specs.Laws.{PickIsLeast, ContentsHavePick, CoveredIsNamed, ShownArePicks};
+ghost use Rattle.archive_model.specs.Laws.{AuditCoversNothing, AuditShowsPicks, FlaggedHaveTwo, ShownAscend};
+ghost use Rattle.archive_model.specs.Laws.{StudyRepresentativeIsLeast, SeriesRepresentativeIsLeast};
 ghost use Rattle.archive_model.specs.Index.{CoveredByTitles};
 ghost use Rattle.archive_model.specs.Coercion.{CoercedHasAttributes, CoercedKeepsOthers, OwnIsNotCoerced};
 

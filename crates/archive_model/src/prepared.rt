@@ -2,7 +2,9 @@
 
 ghost use Rattle.std.specs.Prelude.{◌≡◌, ◌≤◌, length, IfOk};
 ghost use Rattle.archive_model.specs.Change.{IsChange};
-ghost use Rattle.archive_model.specs.Prepared.{with_change as with_change_in, with_changes as with_changes_in, is_as_stored as is_as_stored_in, text_in, IsTextIn, IsSetIn, IsMadeText};
+ghost use Rattle.archive_model.specs.Prepared.{with_change as with_change_in, with_changes as with_changes_in};
+ghost use Rattle.archive_model.specs.Prepared.{is_as_stored as is_as_stored_in, text_in, IsTextIn, IsSetIn};
+ghost use Rattle.archive_model.specs.Prepared.{IsMadeText};
 
 use crate::accepts::Form;
 use crate::change::Change;

@@ -6,7 +6,11 @@ ghost use Rattle.octets.specs.Gives.{Gives};
 ghost use Rattle.data_set.specs.Values.{value_in};
 ghost use Rattle.dictionary.specs.declared.elements.TheConstants.{QUERY_RETRIEVE_LEVEL};
 ghost use Rattle.archive_model.specs.Fault.{is_memory};
-ghost use Rattle.archive_model.specs.Query.{level_named, level_in, uid_from, upper_uid as upper_uid_in, key_text, is_counted as is_counted_in, is_answered_only as is_answered_only_in, makes_partial as makes_partial_in, is_partial_at as is_partial_in, is_bad as is_bad_in, is_bad_at as is_bad_at_in, asked_of as asked_in, query_of};
+ghost use Rattle.archive_model.specs.Query.{level_named, level_in, uid_from, upper_uid as upper_uid_in, key_text};
+ghost use Rattle.archive_model.specs.Query.{is_counted as is_counted_in, is_answered_only as is_answered_only_in};
+ghost use Rattle.archive_model.specs.Query.{makes_partial as makes_partial_in, is_partial_at as is_partial_in};
+ghost use Rattle.archive_model.specs.Query.{is_bad as is_bad_in, is_bad_at as is_bad_at_in, asked_of as asked_in};
+ghost use Rattle.archive_model.specs.Query.{query_of};
 
 use crate::asked::Asked;
 use crate::fault::QueryFault;

@@ -1,7 +1,11 @@
 //! Of two sets of operations of which the same is kept, the same is shown: laws, said as contracts
 //! of functions with nothing to do.
 
-ghost use Rattle.archive_model.specs.RecordLaws.{SameDigests, SameContents, SamePicks, SameFlagged, SameCovered, SameShown, SameAttributes, SameStudies, SameSeries, SameStudyRepresentatives, SameSeriesRepresentatives, SameStudyCounts, SameSeriesCounts, SamePickDigests, SameCopies, SameTitles, SameFixes, SameRows, SamePrepared};
+ghost use Rattle.archive_model.specs.RecordLaws.{SameDigests, SameContents, SamePicks, SameFlagged, SameCovered};
+ghost use Rattle.archive_model.specs.RecordLaws.{SameShown, SameAttributes, SameStudies, SameSeries};
+ghost use Rattle.archive_model.specs.RecordLaws.{SameStudyRepresentatives, SameSeriesRepresentatives};
+ghost use Rattle.archive_model.specs.RecordLaws.{SameStudyCounts, SameSeriesCounts, SamePickDigests, SameCopies};
+ghost use Rattle.archive_model.specs.RecordLaws.{SameTitles, SameFixes, SameRows, SamePrepared};
 
 /// Digests, contents, picks and flagged UIDs are functions of records.
 pub fn what_is_picked_needs_no_bytes()

@@ -4,7 +4,8 @@ use Rattle.archive_page.specs.declared.asked.Asked.TheVariants.{Page}
 use Rattle.archive_page.specs.declared.subject.Form.{Form}
 use Rattle.archive_page.specs.declared.subject.Form.TheVariants.{Html, Json}
 use Rattle.archive_page.specs.declared.subject.Subject.{Subject}
-use Rattle.archive_page.specs.declared.subject.Subject.TheVariants.{Site, Studies, Rejected, Conflicts, Corrections, Study}
+use Rattle.archive_page.specs.declared.subject.Subject.TheVariants.{Site, Studies, Rejected, Conflicts, Corrections}
+use Rattle.archive_page.specs.declared.subject.Subject.TheVariants.{Study}
 use Rattle.archive_page.specs.Paths.{at}
 use Rattle.archive_page.specs.Subjects.{path_of}
 

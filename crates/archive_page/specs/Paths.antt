@@ -6,7 +6,8 @@ use Rattle.archive_page.specs.declared.asked.Asked.TheVariants.{Page, Style, Hea
 use Rattle.archive_page.specs.declared.subject.Form.{Form}
 use Rattle.archive_page.specs.declared.subject.Form.TheVariants.{Html, Json}
 use Rattle.archive_page.specs.declared.subject.Subject.{Subject}
-use Rattle.archive_page.specs.declared.subject.Subject.TheVariants.{Site, Studies, Rejected, Conflicts, Corrections, Study}
+use Rattle.archive_page.specs.declared.subject.Subject.TheVariants.{Site, Studies, Rejected, Conflicts, Corrections}
+use Rattle.archive_page.specs.declared.subject.Subject.TheVariants.{Study}
 
 -- the page in HTML that has a path
 abbrev pub html_at : List ℕ → Option Subject

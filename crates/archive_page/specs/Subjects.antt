@@ -3,7 +3,8 @@ use Rattle.std.specs.Prelude.{ℕ, List, codes}
 use Rattle.archive_page.specs.declared.subject.Form.{Form}
 use Rattle.archive_page.specs.declared.subject.Form.TheVariants.{Html, Json}
 use Rattle.archive_page.specs.declared.subject.Subject.{Subject}
-use Rattle.archive_page.specs.declared.subject.Subject.TheVariants.{Site, Studies, Rejected, Conflicts, Corrections, Study}
+use Rattle.archive_page.specs.declared.subject.Subject.TheVariants.{Site, Studies, Rejected, Conflicts, Corrections}
+use Rattle.archive_page.specs.declared.subject.Subject.TheVariants.{Study}
 
 -- what stands above a page
 abbrev pub title_of : Subject → List ℕ

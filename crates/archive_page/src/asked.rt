@@ -4,7 +4,8 @@ ghost use Rattle.std.specs.Prelude.{◌≡◌};
 ghost use Rattle.std.specs.Option.{option_copied};
 ghost use Rattle.octets.specs.Texts.{same};
 ghost use Rattle.archive_page.specs.Paths.{html_at, json_at, other_at, at};
-ghost use Rattle.archive_page.specs.Paths.{behind as behind_in, before as before_in, study_at, study_name as study_name_in};
+ghost use Rattle.archive_page.specs.Paths.{behind as behind_in, before as before_in, study_at};
+ghost use Rattle.archive_page.specs.Paths.{study_name as study_name_in};
 ghost use Rattle.archive_page.specs.Paths.{is_reading as is_reading_in, asked_of};
 
 use crate::subject::{Form, Subject};

@@ -2,7 +2,8 @@
 
 ghost use Rattle.std.specs.Prelude.{◌≡◌, ◌++◌, IfOk, OnOk};
 ghost use Rattle.form_urlencoded.specs.Form.{byte_serialize as serialized};
-ghost use Rattle.archive_page.specs.Links.{pair_text, patient_keys, study_keys, link_to, pages_of, suffix_of, study_path as study_path_of};
+ghost use Rattle.archive_page.specs.Links.{pair_text, patient_keys, study_keys, link_to, pages_of, suffix_of};
+ghost use Rattle.archive_page.specs.Links.{study_path as study_path_of};
 
 use crate::search::Search;
 use crate::subject::{Form, Subject};

@@ -1,7 +1,9 @@
 //! A page of what a search for studies finds.
 
 ghost use Rattle.std.specs.Prelude.{◌≡◌, ◌++◌, IfOk, OnOk, map};
-ghost use Rattle.archive_page.specs.Listings.{listing_heading, search_input, patient_inputs, study_inputs, search_form, turning_link, previous_link, next_link, turning_links, page_place, turning, below_listing, listing_page};
+ghost use Rattle.archive_page.specs.Listings.{listing_heading, search_input, patient_inputs, study_inputs};
+ghost use Rattle.archive_page.specs.Listings.{search_form, turning_link, previous_link, next_link, turning_links};
+ghost use Rattle.archive_page.specs.Listings.{page_place, turning, below_listing, listing_page};
 
 use crate::escaping::put_escaped;
 use crate::form::{ACCESSION, BUTTON, DATE, FORM, MODALITY, NAME, PATIENT};

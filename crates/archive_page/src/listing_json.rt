@@ -6,7 +6,8 @@ ghost use Rattle.json.specs.Print.{print};
 ghost use Rattle.archive_page.specs.Values.{string_of};
 ghost use Rattle.archive_page.specs.declared.subject.Form.TheVariants.{Json};
 ghost use Rattle.archive_page.specs.Links.{link_to};
-ghost use Rattle.archive_page.specs.Listings.{number_member, number_members, previous_member, next_member, listing_object};
+ghost use Rattle.archive_page.specs.Listings.{number_member, number_members, previous_member, next_member};
+ghost use Rattle.archive_page.specs.Listings.{listing_object};
 
 use crate::links::{link, pages};
 use crate::listing::{Listing, heading};

@@ -3,7 +3,8 @@
 ghost use Rattle.std.specs.Prelude.{◌≡◌, ◌++◌, IfOk, OnOk};
 ghost use Rattle.std.specs.List.{flat_map};
 ghost use Rattle.octets.specs.Texts.{same};
-ghost use Rattle.archive_page.specs.Metrics.{kind_word, help_byte, label_byte, help_text, label_text, labels_text, head_text, line_text, samples_text, metrics_text};
+ghost use Rattle.archive_page.specs.Metrics.{kind_word, help_byte, label_byte, help_text, label_text, labels_text};
+ghost use Rattle.archive_page.specs.Metrics.{head_text, line_text, samples_text, metrics_text};
 
 use crate::characters::text_of;
 use octets::{Octets, put_digits};

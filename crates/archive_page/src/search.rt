@@ -7,7 +7,8 @@ ghost use Rattle.std.specs.Option.{option_copied, option_map};
 ghost use Rattle.form_urlencoded.specs.Form.{raw_pairs as raw_pairs_of};
 ghost use Rattle.octets.specs.Gives.{Gives};
 ghost use Rattle.octets.specs.Texts.{same};
-ghost use Rattle.archive_page.specs.Searches.{is_named, text_of, value_under, value_or_none, is_known, with_digit, number_in, page_in, search_in, is_memory, words_of};
+ghost use Rattle.archive_page.specs.Searches.{is_named, text_of, value_under, value_or_none, is_known, with_digit};
+ghost use Rattle.archive_page.specs.Searches.{number_in, page_in, search_in, is_memory, words_of};
 
 use form_urlencoded::{decode, raw_pairs};
 use octets::{Octets, trimmed};

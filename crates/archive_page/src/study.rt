@@ -3,9 +3,11 @@
 ghost use Rattle.std.specs.Prelude.{◌≡◌, ◌++◌, IfOk, OnOk, map};
 ghost use Rattle.json.specs.Lex.{tokens};
 ghost use Rattle.json.specs.Print.{print};
-ghost use Rattle.archive_page.specs.Studies.{instance_heading as instance_heading_of, correction_heading as correction_heading_of};
+ghost use Rattle.archive_page.specs.Studies.{instance_heading as instance_heading_of};
+ghost use Rattle.archive_page.specs.Studies.{correction_heading as correction_heading_of};
 ghost use Rattle.archive_page.specs.Studies.{study_line, study_tables, below_study, study_page};
-ghost use Rattle.archive_page.specs.Studies.{study_member, table_member, instances_member, corrections_member, study_object};
+ghost use Rattle.archive_page.specs.Studies.{study_member, table_member, instances_member, corrections_member};
+ghost use Rattle.archive_page.specs.Studies.{study_object};
 
 use crate::escaping::put_escaped;
 use crate::frame::{CORRECTIONS, END, INSTANCES, LINK};

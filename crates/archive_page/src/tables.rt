@@ -5,7 +5,8 @@ ghost use Rattle.std.specs.List.{flat_map};
 ghost use Rattle.archive_page.specs.Tables.{heading_cell, data_cell};
 ghost use Rattle.archive_page.specs.Tables.{heading_row, data_row};
 ghost use Rattle.archive_page.specs.Tables.{table_head, table_body, html_table};
-ghost use Rattle.archive_page.specs.Tables.{study_link, study_cell, linked_cells, linked_row, linked_body, linked_table};
+ghost use Rattle.archive_page.specs.Tables.{study_link, study_cell, linked_cells, linked_row, linked_body};
+ghost use Rattle.archive_page.specs.Tables.{linked_table};
 
 use crate::escaping::put_escaped;
 use crate::links::study_path;

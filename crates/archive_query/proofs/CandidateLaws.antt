@@ -53,8 +53,10 @@ use Rattle.archive_model.specs.Key.{has_study_above, has_series_above}
 use Rattle.archive_model.specs.Rows.{uid_at, is_named, named, uids_at, is_at as is_at_uid, contents_at, is_key_match}
 use Rattle.archive_model.specs.Rows.{is_match, row, row_of, row_at, rows_among, rows_of}
 use Rattle.key_matching.specs.Prepared.{is_uids}
-use Rattle.archive_query.specs.Candidates.{is_list_of, is_listed_series, is_walked_at_series, is_walked_at_image, listed_tag}
-use Rattle.archive_query.specs.Candidates.{cut_texts, members_of, is_of_walked, AreStudiesOf, AreWalked, AreAt, AreCandidates}
+use Rattle.archive_query.specs.Candidates.{is_list_of, is_listed_series, is_walked_at_series, is_walked_at_image}
+use Rattle.archive_query.specs.Candidates.{listed_tag}
+use Rattle.archive_query.specs.Candidates.{cut_texts, members_of, is_of_walked, AreStudiesOf, AreWalked, AreAt}
+use Rattle.archive_query.specs.Candidates.{AreCandidates}
 use Rattle.archive_query.specs.Found.{AreEnough}
 use Rattle.archive_query.specs.Leads.{IsLedBy, is_candidate, is_of_none, IsChosen}
 use Rattle.std.specs.Cmp.Lexicographic.{nat_list_cmp_total}

@@ -35,7 +35,8 @@ use Rattle.archive_query.specs.Firsts.{is_counted, firsts_in_study, firsts_of}
 use Rattle.archive_query.specs.Found.{AreEnough}
 use Rattle.archive_query.specs.Grouping.{under, groups_by, Ascends}
 use Rattle.archive_query.proofs.AscendingLaws.{Text, Rises, Below, ascending_rises, has_ascending}
-use Rattle.archive_query.proofs.CandidateLaws.{one_has, has_one, is_kept, is_study_match, kept_by, kept_at, shown_pick, rows_of_kept}
+use Rattle.archive_query.proofs.CandidateLaws.{one_has, has_one, is_kept, is_study_match, kept_by, kept_at}
+use Rattle.archive_query.proofs.CandidateLaws.{shown_pick, rows_of_kept}
 use Rattle.archive_query.proofs.CandidateLaws.{is_walked_study, walked_to}
 use Rattle.key_matching.specs.declared.matching.Matching.TheVariants.{Uids}
 use Rattle.key_matching.specs.Matches.{matches}

@@ -29,7 +29,8 @@ use Rattle.archive_model.specs.declared.query.Query.{Query}
 use Rattle.archive_model.specs.Key.{word_of}
 use Rattle.archive_model.specs.Column.{columns}
 use Rattle.archive_model.specs.Cell.{cell}
-use Rattle.archive_model.specs.Rows.{uid_at, uids_at, is_at, contents_at, is_match_with, modalities_of, asked_value, is_unique_key}
+use Rattle.archive_model.specs.Rows.{uid_at, uids_at, is_at, contents_at, is_match_with, modalities_of, asked_value}
+use Rattle.archive_model.specs.Rows.{is_unique_key}
 use Rattle.archive_model.specs.Rows.{is_asked, value_in_row, cell_in_row, row_with, row_of_with, row_at_with, rows_with}
 use Rattle.archive_query.specs.Firsts.{is_counted_tag, is_counted}
 use Rattle.archive_query.specs.Grouping.{Ascends}

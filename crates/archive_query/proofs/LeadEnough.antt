@@ -22,7 +22,8 @@ use Rattle.octets.specs.Texts.{text_cmp}
 use Rattle.archive_model.specs.Contents.{contents, study_of, patient_of}
 use Rattle.archive_model.specs.Attributes.{attribute, corrected, corrections, corrects, correction_for, correction_in}
 use Rattle.archive_model.specs.Attributes.{is_last, is_target_of}
-use Rattle.archive_model.proofs.MemberLaws.{has_filter, filter_has, has_any, any_has, has_map, found_has, filter_map_has}
+use Rattle.archive_model.proofs.MemberLaws.{has_filter, filter_has, has_any, any_has, has_map, found_has}
+use Rattle.archive_model.proofs.MemberLaws.{filter_map_has}
 use Rattle.archive_model.proofs.ModelLaws.{same_is, content_has}
 use Rattle.join_laws.specs.Proved.Sets.{has-union}
 use Rattle.study_index.specs.Keys.{has}

@@ -27,7 +27,8 @@ use Rattle.key_matching.specs.Matches.{matches}
 use Rattle.archive_model.specs.Column.{columns}
 use Rattle.archive_model.specs.Cell.{cell}
 use Rattle.archive_model.specs.Rows.{is_key_match_with, is_match_with, modalities_of, is_unique_key, is_asked, is_at}
-use Rattle.archive_model.specs.Rows.{value_in_row, cell_in_row, row_with, row_of_with, row_at_with, rows_with, rows_among}
+use Rattle.archive_model.specs.Rows.{value_in_row, cell_in_row, row_with, row_of_with, row_at_with, rows_with}
+use Rattle.archive_model.specs.Rows.{rows_among}
 use Rattle.archive_model.specs.Rows.{uids_at, contents_at}
 
 list_all_each : {X : Type 0} (p q : X → Bool) (xs : List X) → ((x : X) → Has xs x → p x ≡ q x)

@@ -11,7 +11,8 @@ use Rattle.key_matching.specs.Matches.{is_universal, is_match_by}
 use Rattle.archive_model.specs.declared.asked.Asked.{Asked}
 use Rattle.study_index.specs.Live.{Text}
 use Rattle.study_index.specs.Leads.{led_tags, LeadWalk, is_walked, IsWithin}
-use Rattle.archive_query.specs.Leads.{is_led_tag, is_text_key, is_dates, is_walkable, IsWalkFor, IsChosen, AreChosenWalks}
+use Rattle.archive_query.specs.Leads.{is_led_tag, is_text_key, is_dates, is_walkable, IsWalkFor, IsChosen}
+use Rattle.archive_query.specs.Leads.{AreChosenWalks}
 use Rattle.archive_model.specs.declared.query.Query.{Query}
 use Rattle.archive_query.proofs.TextLeads.{both, not_true}
 

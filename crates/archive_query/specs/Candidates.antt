@@ -89,7 +89,8 @@ pub record AreChosen (q : Query) (index : IndexValue) (studies : Option (List (L
   pub none : one ≡ None → list_any is_walkable q.asked ≡ false
   pub studies_are : AreStudiesOf one index studies
 
--- the studies that are walked, of each of which an index knows 64 bytes: those that a key lists, or those of another key
+-- the studies that are walked, of each of which an index knows 64 bytes: those that a key lists, or those of another
+-- key
 abbrev pub AreWalked : Option (List (List ℕ)) → Query → IndexValue → Option (List (List ℕ)) → Type 0
 AreWalked None q index studies = AreChosen q index studies
 AreWalked (Some listed) q index studies = studies ≡ Some (union_of text_cmp [] (cut_texts listed))

@@ -1,5 +1,6 @@
 -- Which contents stand for others, where a row is made of the first of its contents alone.
-use Rattle.std.specs.Prelude.{ℕ, nat_lt, List, [], ◌∷◌, length, Bool, false, ◌&&◌, ◌||◌, ◌==◌, Option, None, Some, is_some}
+use Rattle.std.specs.Prelude.{ℕ, nat_lt, List, [], ◌∷◌, length, Bool, false, ◌&&◌, ◌||◌, ◌==◌, Option, None, Some}
+use Rattle.std.specs.Prelude.{is_some}
 use Rattle.std.specs.Prelude.{if◌then◌else◌}
 use Rattle.std.specs.List.{list_any, cons_option, flat_map}
 use Rattle.dictionary.specs.declared.elements.TheConstants.{MODALITIES_IN_STUDY, NUMBER_OF_SERIES_RELATED_INSTANCES}

@@ -14,7 +14,10 @@ ghost use Rattle.study_index.specs.Keys.{has};
 ghost use Rattle.study_index.specs.Live.{pick_at, is_of_study, is_of_series as is_of_series_in};
 ghost use Rattle.site_state.specs.Site.{ops_of};
 ghost use Rattle.study_index.specs.Leads.{is_walked};
-ghost use Rattle.archive_query.specs.Candidates.{is_of_some, is_of_some_series, is_listed_series, is_walked_at_series, is_walked_at_image, listed_of, cut_texts as cut_texts_in, is_of_walked, AreByOne, AreWalked, AreAtStudy, AreAt, AreCandidates};
+ghost use Rattle.archive_query.specs.Candidates.{is_of_some, is_of_some_series, is_listed_series};
+ghost use Rattle.archive_query.specs.Candidates.{is_walked_at_series, is_walked_at_image, listed_of};
+ghost use Rattle.archive_query.specs.Candidates.{cut_texts as cut_texts_in, is_of_walked, AreByOne, AreWalked};
+ghost use Rattle.archive_query.specs.Candidates.{AreAtStudy, AreAt, AreCandidates};
 ghost use Rattle.archive_query.specs.Leads.{is_candidate, IsOneOf};
 
 use crate::prepared::PreparedQuery;

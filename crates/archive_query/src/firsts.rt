@@ -6,7 +6,8 @@ ghost use Rattle.std.specs.List.{flat_map};
 ghost use Rattle.std.specs.Option.{option_copied, option_map};
 ghost use Rattle.archive_model.specs.Shown.{shown_at};
 ghost use Rattle.site_state.specs.Site.{ops_of};
-ghost use Rattle.archive_query.specs.Firsts.{is_counted_tag as is_counted_tag_in, is_counted as is_counted_in, is_in_series as is_in_series_in, firsts, firsts_in_study, firsts_of};
+ghost use Rattle.archive_query.specs.Firsts.{is_counted_tag as is_counted_tag_in, is_counted as is_counted_in};
+ghost use Rattle.archive_query.specs.Firsts.{is_in_series as is_in_series_in, firsts, firsts_in_study, firsts_of};
 
 use archive_model::{Query, View};
 use dictionary::{

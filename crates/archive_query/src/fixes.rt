@@ -1,7 +1,8 @@
 //! The values that corrections give some contents, taken from a site.
 
 ghost use Rattle.std.specs.Prelude.{◌≡◌, List, ℕ, IfOk, OnOk, map};
-ghost use Rattle.archive_query.specs.Found.{fix_at, fixes_of as fixes_of_in, value_among as value_among_in, fixes_under as fixes_under_in, value_by, AreFixes, fixes_put};
+ghost use Rattle.archive_query.specs.Found.{fix_at, fixes_of as fixes_of_in, value_among as value_among_in};
+ghost use Rattle.archive_query.specs.Found.{fixes_under as fixes_under_in, value_by, AreFixes, fixes_put};
 ghost use Rattle.site_state.specs.Site.{ops_of};
 
 use archive_model::{Asked, Query};

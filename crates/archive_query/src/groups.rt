@@ -2,7 +2,8 @@
 
 ghost use Rattle.std.specs.Prelude.{◌≡◌, IfOk, map, filter, not, length, ◌==◌};
 ghost use Rattle.operation.specs.Parts.{ContentParts};
-ghost use Rattle.archive_model.specs.Rows.{uid_at as uid_in, is_named as is_named_in, named as named_in, modalities_of as modalities_in};
+ghost use Rattle.archive_model.specs.Rows.{uid_at as uid_in, is_named as is_named_in, named as named_in};
+ghost use Rattle.archive_model.specs.Rows.{modalities_of as modalities_in};
 ghost use Rattle.archive_model.specs.Texts.{ascending as ascending_of};
 ghost use Rattle.archive_model.specs.Contents.{series_of as series_in};
 

@@ -3,7 +3,8 @@
 ghost use Rattle.std.specs.Prelude.{◌≡◌, IfOk};
 ghost use Rattle.std.specs.List.{find};
 ghost use Rattle.std.specs.Option.{option_map};
-ghost use Rattle.archive_query.specs.Candidates.{is_list_of as is_list_in, listed_tag as listed_tag_in, members_of as members_in, listed_of};
+ghost use Rattle.archive_query.specs.Candidates.{is_list_of as is_list_in, listed_tag as listed_tag_in};
+ghost use Rattle.archive_query.specs.Candidates.{members_of as members_in, listed_of};
 ghost use Rattle.archive_query.specs.Leads.{AreWalksOf};
 
 use crate::walks::{KeyWalk, walks_of};

@@ -7,7 +7,9 @@ ghost use Rattle.operation.specs.Parts.{value_at};
 ghost use Rattle.archive_query.specs.Found.{value_by};
 ghost use Rattle.archive_model.specs.Column.{columns as columns_of};
 ghost use Rattle.archive_model.specs.Cell.{cell as cell_in};
-ghost use Rattle.archive_model.specs.Rows.{is_key_match_with, is_unique_key as is_unique_key_in, is_asked as is_asked_in, asked_value, value_in_row, cell_in_row as cell_in_row_of, row_with, row_of_with, rows_with};
+ghost use Rattle.archive_model.specs.Rows.{is_key_match_with, is_unique_key as is_unique_key_in};
+ghost use Rattle.archive_model.specs.Rows.{is_asked as is_asked_in, asked_value, value_in_row};
+ghost use Rattle.archive_model.specs.Rows.{cell_in_row as cell_in_row_of, row_with, row_of_with, rows_with};
 
 use crate::cell::cell;
 use crate::column::columns;

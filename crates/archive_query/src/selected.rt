@@ -2,7 +2,8 @@
 
 ghost use Rattle.std.specs.Prelude.{◌≡◌, List, ℕ, map, filter, IfOk};
 ghost use Rattle.archive_model.specs.Covered.{is_among};
-ghost use Rattle.archive_model.specs.Selection.{Rises, is_within as is_within_in, is_among_these as is_among_these_in, selected as selected_in};
+ghost use Rattle.archive_model.specs.Selection.{Rises, is_within as is_within_in};
+ghost use Rattle.archive_model.specs.Selection.{is_among_these as is_among_these_in, selected as selected_in};
 
 use crate::groups::uid_at;
 use archive_model::{Selection, series, study};

@@ -1,6 +1,8 @@
 //! What is sent, as contracts of functions that do nothing.
 
-ghost use Rattle.archive_query.specs.SendingLaws.{SameSitesSendAlike, WhatIsSentIsComputed, NothingHiddenIsSent, WhatIsRejectedIsNotSent, WhatIsShownIsSent, WhatIsSentAscends, WhatNeedsNothingIsSentAsItCame, SentHasAttributes, SentKeepsOthers};
+ghost use Rattle.archive_query.specs.SendingLaws.{SameSitesSendAlike, WhatIsSentIsComputed, NothingHiddenIsSent};
+ghost use Rattle.archive_query.specs.SendingLaws.{WhatIsRejectedIsNotSent, WhatIsShownIsSent, WhatIsSentAscends};
+ghost use Rattle.archive_query.specs.SendingLaws.{WhatNeedsNothingIsSentAsItCame, SentHasAttributes, SentKeepsOthers};
 
 /// Two sites that hold the same operations send the same, in whatever order they took them.
 pub fn same_sites_send_alike()

@@ -7,7 +7,10 @@ ghost use Rattle.key_matching.specs.Range.{is_in_range};
 ghost use Rattle.key_matching.specs.declared.range.Moment.TheVariants.{Date};
 ghost use Rattle.key_matching.specs.WildCard.{is_wild_match};
 ghost use Rattle.study_index.specs.Leads.{as_led, is_folded, is_walked, value_front, IsWithin, IsBehind};
-ghost use Rattle.archive_query.specs.Leads.{is_led_tag as is_led_tag_in, is_plain as is_plain_in, is_text_key as is_text_key_in, is_dates as is_dates_in, is_walkable as is_walkable_in, value_walk as value_walk_in, IsFrontWalk, IsNeedleOf, IsRunOf, IsUpTo, IsWalkFor, AreChosenWalks, AreWalksOf};
+ghost use Rattle.archive_query.specs.Leads.{is_led_tag as is_led_tag_in, is_plain as is_plain_in};
+ghost use Rattle.archive_query.specs.Leads.{is_text_key as is_text_key_in, is_dates as is_dates_in};
+ghost use Rattle.archive_query.specs.Leads.{is_walkable as is_walkable_in, value_walk as value_walk_in, IsFrontWalk};
+ghost use Rattle.archive_query.specs.Leads.{IsNeedleOf, IsRunOf, IsUpTo, IsWalkFor, AreChosenWalks, AreWalksOf};
 
 use archive_model::{Asked, Query};
 use dictionary::{ACCESSION_NUMBER, PATIENT_ID, PATIENT_NAME, STUDY_DATE, STUDY_ID};

@@ -1,5 +1,6 @@
 -- Laws of associations, exchanges and responses that came to something.
-use Rattle.std.proofs.Common.{◌≡◌, ℕ, Bool, List, Option, Some, None, Result, Ok, Err, IfOk, IfErr, IfSome, IsTrue, OnErr, sym, ◌∙◌}
+use Rattle.std.proofs.Common.{◌≡◌, ℕ, Bool, List, Option, Some, None, Result, Ok, Err, IfOk, IfErr, IfSome, IsTrue}
+use Rattle.std.proofs.Common.{OnErr, sym, ◌∙◌}
 use Rattle.site_state.specs.Site.{Map}
 use Rattle.site_hub.specs.Hub.{Seat}
 use Rattle.ul_state.specs.declared.titles.Title.{Title}

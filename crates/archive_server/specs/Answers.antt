@@ -1,8 +1,10 @@
 -- Which stores were refused, and which rows queries were answered with, as their responses say (PS3.7, 9.3.1.2 and
 -- 9.3.2.2).
-use Rattle.std.specs.Prelude.{◌≡◌, ℕ, List, Bool, false, IsTrue, ◌==◌, ◌&&◌, ◌||◌, not, Option, Some, None, if◌then◌else◌}
+use Rattle.std.specs.Prelude.{◌≡◌, ℕ, List, Bool, false, IsTrue, ◌==◌, ◌&&◌, ◌||◌, not, Option, Some, None}
+use Rattle.std.specs.Prelude.{if◌then◌else◌}
 use Rattle.dictionary.specs.declared.commands.TheConstants.{C_FIND_RSP, C_STORE_RSP}
-use Rattle.dictionary.specs.declared.statuses.TheConstants.{STATUS_SUCCESS, STATUS_PENDING, STATUS_PENDING_WITHOUT_OPTIONAL_KEYS}
+use Rattle.dictionary.specs.declared.statuses.TheConstants.{STATUS_SUCCESS, STATUS_PENDING}
+use Rattle.dictionary.specs.declared.statuses.TheConstants.{STATUS_PENDING_WITHOUT_OPTIONAL_KEYS}
 use Rattle.dimse.specs.Command.{Spells}
 use Rattle.dimse.specs.declared.command.Command.{Command}
 use Rattle.archive_server.specs.declared.answers.RefusedStore.{RefusedStore}

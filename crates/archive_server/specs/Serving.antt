@@ -1,5 +1,6 @@
 -- What passes gain while they serve, and how many passes a server takes.
-use Rattle.std.specs.Prelude.{ℕ, ◌+◌, ◌*◌, length, min, ◌≤◌, ◌≡◌, ◌⊎◌, List, [], ◌∷◌, Bool, IsTrue, Option, Some, None, IsSome}
+use Rattle.std.specs.Prelude.{ℕ, ◌+◌, ◌*◌, length, min, ◌≤◌, ◌≡◌, ◌⊎◌, List, [], ◌∷◌, Bool, IsTrue, Option, Some}
+use Rattle.std.specs.Prelude.{None, IsSome}
 use mathlib.Core.List.{IsPrefix}
 use Rattle.site_hub.specs.Hub.{Seat}
 use Rattle.archive_server.specs.Done.{Standing, Deeds}

@@ -1,9 +1,11 @@
 //! The server: a thread for each worker, for each worker of exchanges and for each peer, and the
 //! shelf in the thread that called.
 
-ghost use Rattle.std.specs.Prelude.{◌≡◌, ◌+◌, ◌*◌, ◌<◌, ◌≤◌, ◌⊎◌, [], min, length, is_some, IfOk, IsSome, vec_len, vec_capacity};
+ghost use Rattle.std.specs.Prelude.{◌≡◌, ◌+◌, ◌*◌, ◌<◌, ◌≤◌, ◌⊎◌, [], min, length, is_some, IfOk, IsSome, vec_len};
+ghost use Rattle.std.specs.Prelude.{vec_capacity};
 ghost use Rattle.std.specs.Option.{option_or};
-ghost use Rattle.archive_server.specs.Serving.{AllOnward, AreJobs, AreKept, HaveServed, IsKept, WasWritten, places_for, serving_in, paging_in, room_of_all};
+ghost use Rattle.archive_server.specs.Serving.{AllOnward, AreJobs, AreKept, HaveServed, IsKept, WasWritten};
+ghost use Rattle.archive_server.specs.Serving.{places_for, serving_in, paging_in, room_of_all};
 
 use crate::attending::Archive;
 use crate::board::Board;

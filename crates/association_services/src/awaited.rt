@@ -2,7 +2,8 @@
 
 ghost use Rattle.std.specs.Prelude.{◌≡◌, IfOk, All};
 ghost use Rattle.pdu.specs.Spelling.{IsPdu};
-ghost use Rattle.association_services.specs.Response.{FitsLimit, CanBeResponded, response_to, response_with, Responds, RespondsWith};
+ghost use Rattle.association_services.specs.Response.{FitsLimit, CanBeResponded, response_to, response_with};
+ghost use Rattle.association_services.specs.Response.{Responds, RespondsWith};
 
 use bytes::Bytes;
 use dimse::{Command, DATA_SET_FOLLOWS, Fragments, Message, Status};

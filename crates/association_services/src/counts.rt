@@ -1,7 +1,9 @@
 //! What the sub-operations of a C-GET came to (PS3.7, section 9.1.3; PS3.4, section C.4.3.1).
 
 ghost use Rattle.std.specs.Prelude.{◌≡◌, ◌<◌, ◌≤◌, [], IfOk, take, length};
-ghost use Rattle.association_services.specs.Get.{is_warning as is_warning_code, outcome_by, outcome_of, counted, all_counted, final_status, fitting, room_in, vr_in, uid_list, failed_text as text_of_failed, failed_set};
+ghost use Rattle.association_services.specs.Get.{is_warning as is_warning_code, outcome_by, outcome_of, counted};
+ghost use Rattle.association_services.specs.Get.{all_counted, final_status, fitting, room_in, vr_in, uid_list};
+ghost use Rattle.association_services.specs.Get.{failed_text as text_of_failed, failed_set};
 
 use bytes::Bytes;
 use data_set::{DataSet, Element, Syntax, padded_of, write};

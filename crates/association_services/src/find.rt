@@ -3,7 +3,9 @@
 ghost use Rattle.std.specs.Prelude.{◌≡◌, IfOk, Option};
 ghost use Rattle.std.specs.Option.{option_copied};
 ghost use Rattle.archive_model.specs.Query.{query_of};
-ghost use Rattle.association_services.specs.Find.{is_find, find_refusal, row_status as row_status_of, finding_of, queried_by, row_text as row_text_of, rows_in, status_of_found, ServesIdentifier, ServesFind};
+ghost use Rattle.association_services.specs.Find.{is_find, find_refusal, row_status as row_status_of, finding_of};
+ghost use Rattle.association_services.specs.Find.{queried_by, row_text as row_text_of, rows_in, status_of_found};
+ghost use Rattle.association_services.specs.Find.{ServesIdentifier, ServesFind};
 
 use crate::call::Finding;
 use crate::context::{is_of_other_class, syntax};

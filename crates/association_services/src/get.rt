@@ -3,7 +3,8 @@
 ghost use Rattle.std.specs.Prelude.{◌≡◌, IfOk, Option};
 ghost use Rattle.std.specs.Option.{option_copied};
 ghost use Rattle.archive_model.specs.Selection.{selection_of};
-ghost use Rattle.association_services.specs.Get.{is_get, get_refusal, getting_of, fetched_by, ServesSelection, ServesGet};
+ghost use Rattle.association_services.specs.Get.{is_get, get_refusal, getting_of, fetched_by, ServesSelection};
+ghost use Rattle.association_services.specs.Get.{ServesGet};
 
 use crate::call::Getting;
 use crate::context::{is_of_other_class, syntax};

@@ -5,7 +5,10 @@ ghost use Rattle.pdu.specs.Spelling.{IsPdu};
 ghost use Rattle.dimse.specs.Sending.{IsSending};
 ghost use Rattle.association_services.specs.Get.{all_counted, counted};
 ghost use Rattle.association_services.specs.SubOperation.{IsBound};
-ghost use Rattle.association_services.specs.Retrieval.{few_in, with_counts, with_sent, setting_out, counting, CountsIn, RespondsIfLeft, RespondsEnd, RespondsCancel, sub_operation, is_named, meaning_of, performed, cancelling, RespondsBy, Begins, pdus_begun};
+ghost use Rattle.association_services.specs.Retrieval.{few_in, with_counts, with_sent, setting_out, counting};
+ghost use Rattle.association_services.specs.Retrieval.{CountsIn, RespondsIfLeft, RespondsEnd, RespondsCancel};
+ghost use Rattle.association_services.specs.Retrieval.{sub_operation, is_named, meaning_of, performed, cancelling};
+ghost use Rattle.association_services.specs.Retrieval.{RespondsBy, Begins, pdus_begun};
 
 use crate::awaited::Awaited;
 use crate::counts::{Counts, Outcome, outcome_for};

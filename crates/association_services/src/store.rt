@@ -1,7 +1,8 @@
 //! What a C-STORE is answered (PS3.7, section 9.1.1; PS3.4, annex B).
 
 ghost use Rattle.std.specs.Prelude.{◌≡◌, IfOk, None, Option, Some};
-ghost use Rattle.association_services.specs.Store.{store_refusal, status_of_reply, draft_for, uid_or_empty, ServesStore, ServesDraft};
+ghost use Rattle.association_services.specs.Store.{store_refusal, status_of_reply, draft_for, uid_or_empty};
+ghost use Rattle.association_services.specs.Store.{ServesStore, ServesDraft};
 
 use crate::context::{is_of_other_class, syntax};
 use crate::reply::PortFault;

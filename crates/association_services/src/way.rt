@@ -1,7 +1,8 @@
 //! On which presentation context a content goes out (PS3.4, section C.4.3; PS3.7, section D.3.3.4).
 
 ghost use Rattle.std.specs.Prelude.{◌≡◌};
-ghost use Rattle.association_services.specs.Get.{takes_class, lesser as lesser_of, least_of, least_id, own_or, converted_on, way_of};
+ghost use Rattle.association_services.specs.Get.{takes_class, lesser as lesser_of, least_of, least_id, own_or};
+ghost use Rattle.association_services.specs.Get.{converted_on, way_of};
 
 use archive_model::Form;
 use data_set::Syntax;

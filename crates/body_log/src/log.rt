@@ -1,6 +1,7 @@
 //! A file to whose end bodies are added.
 
-ghost use Rattle.std.specs.Prelude.{◌≡◌, ◌+◌, ◌≤◌, ◌<◌, ◌^◌, ◌↔◌, List, ℕ, false, length, IsTrue, IfOk, IfErr, OnOk, OnErr, IsErrOf};
+ghost use Rattle.std.specs.Prelude.{◌≡◌, ◌+◌, ◌≤◌, ◌<◌, ◌^◌, ◌↔◌, List, ℕ, false, length, IsTrue, IfOk, IfErr, OnOk};
+ghost use Rattle.std.specs.Prelude.{OnErr, IsErrOf};
 ghost use Rattle.sqlite_disk.specs.Disk.{CountsFault, Holds, Only};
 ghost use Rattle.body_log.specs.Fault.{CountsAs, CountsAsIf};
 ghost use Rattle.body_log.specs.Lasts.{Lasts, Settles, Spares, Stays, IsExact};

@@ -2,7 +2,8 @@
 
 ghost use Rattle.std.specs.Prelude.{◌≡◌, IfOk, IsTrue};
 ghost use Rattle.operation.specs.Corrections.{is_correction, is_key, is_tag_for, is_plain};
-ghost use Rattle.command_words.specs.Parts.{bad_part_of, tag_for as tag_for_in, has_dash as has_dash_in, is_one as is_one_in, matching_of as matching_in, unmatched_by};
+ghost use Rattle.command_words.specs.Parts.{bad_part_of, tag_for as tag_for_in, has_dash as has_dash_in};
+ghost use Rattle.command_words.specs.Parts.{is_one as is_one_in, matching_of as matching_in, unmatched_by};
 
 use crate::Change;
 use dictionary::{PATIENT_BIRTH_DATE, PATIENT_NAME, SERIES_DESCRIPTION, STUDY_DATE, STUDY_TIME};

@@ -2,7 +2,8 @@
 
 ghost use Rattle.std.specs.Prelude.{◌≡◌, ◌∷◌, [], ◌<◌, ◌≤◌, length, Ok, None, IfOk, IfSome, IsTrue};
 ghost use Rattle.std.specs.Option.{option_map};
-ghost use Rattle.data_set.specs.Header.{implicit_header, explicit_header, long_size, short_size, header_at, offence, is_place, front_at, item_at, eight_at, end_at};
+ghost use Rattle.data_set.specs.Header.{implicit_header, explicit_header, long_size, short_size, header_at, offence};
+ghost use Rattle.data_set.specs.Header.{is_place, front_at, item_at, eight_at, end_at};
 ghost use Rattle.data_set.specs.Spelling.{Begins, BeginsItem};
 ghost use Rattle.data_set.specs.Seen.{GivesAt, bytes_seen};
 

@@ -1,8 +1,11 @@
 //! Fragments are put together to messages (PS3.8, annex E).
 
-ghost use Rattle.std.specs.Prelude.{◌≡◌, ◌≢◌, ◌≤◌, ◌+◌, ◌++◌, nat_lt, [], length, IfOk, IfErr, IfSome, OnErr, IsTrue, Some, None, false};
+ghost use Rattle.std.specs.Prelude.{◌≡◌, ◌≢◌, ◌≤◌, ◌+◌, ◌++◌, nat_lt, [], length, IfOk, IfErr, IfSome, OnErr, IsTrue};
+ghost use Rattle.std.specs.Prelude.{Some, None, false};
 ghost use Rattle.std.specs.List.{list_any};
-ghost use Rattle.dimse.specs.Assembly.{Assembly, accepts, has_place, limit_of, text_so_far, fault_of, is_over, Closes, AdvancesCommand, AdvancesData, IsRefusalAt, LeadsTo, Feeds, IsAnnouncement, Keeps};
+ghost use Rattle.dimse.specs.Assembly.{Assembly, accepts, has_place, limit_of, text_so_far, fault_of, is_over};
+ghost use Rattle.dimse.specs.Assembly.{Closes, AdvancesCommand, AdvancesData, IsRefusalAt, LeadsTo, Feeds};
+ghost use Rattle.dimse.specs.Assembly.{IsAnnouncement, Keeps};
 ghost use Rattle.dimse.specs.Sending.{IsWhole, CanBeSent};
 ghost use Rattle.dimse.specs.Refusal.{IsRefusal};
 

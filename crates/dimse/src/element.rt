@@ -4,7 +4,8 @@ ghost use Rattle.std.specs.Prelude.{◌≡◌, ◌++◌, List, length, find, ◌
 ghost use Rattle.std.specs.Option.{option_map};
 ghost use Rattle.dimse.specs.Fault.{Gives};
 ghost use Rattle.dictionary.specs.Tags.{is_above, tag_from};
-ghost use Rattle.dimse.specs.Elements.{Element as Parts, IsElement, AreElements, element_text, text_of, value_of, element_at};
+ghost use Rattle.dimse.specs.Elements.{Element as Parts, IsElement, AreElements, element_text, text_of, value_of};
+ghost use Rattle.dimse.specs.Elements.{element_at};
 ghost use Rattle.dimse.specs.Command.{SpellsElements};
 ghost use Rattle.dimse.specs.Refusal.{RefusesElements};
 

@@ -1,7 +1,8 @@
 //! Reading a command set (PS3.7, section 6.3.1).
 
 ghost use Rattle.std.specs.Prelude.{◌≡◌, ◌≤◌, length, List, ℕ, Ok, Err, IfOk, IfErr};
-ghost use Rattle.dimse.specs.Command.{is_lawful, is_number_tag, is_uid_tag, number_from, number_of, uid_of, Says, Spells, IsCommand, HasRoom};
+ghost use Rattle.dimse.specs.Command.{is_lawful, is_number_tag, is_uid_tag, number_from, number_of, uid_of, Says};
+ghost use Rattle.dimse.specs.Command.{Spells, IsCommand, HasRoom};
 ghost use Rattle.dimse.specs.declared.command.Command.{Command};
 ghost use Rattle.dimse.specs.Fault.{Gives};
 ghost use Rattle.dimse.specs.Refusal.{IsRefusal, RefusesCommand};

@@ -5,7 +5,8 @@ ghost use Rattle.std.specs.Int.{w32, to_le_bytes};
 ghost use Rattle.dimse.specs.Uid.{padded};
 ghost use Rattle.dictionary.specs.Tags.{tag_text};
 ghost use Rattle.dimse.specs.Elements.{text_of, Element};
-ghost use Rattle.dimse.specs.Command.{field_elements, number_field, uid_field, fields_text, command_text, FitsTwoBytes, IsCommand, HasRoom, Spells};
+ghost use Rattle.dimse.specs.Command.{field_elements, number_field, uid_field, fields_text, command_text};
+ghost use Rattle.dimse.specs.Command.{FitsTwoBytes, IsCommand, HasRoom, Spells};
 
 use crate::command::{Command, LONGEST_COMMAND};
 use dictionary::{

@@ -77,8 +77,8 @@ if_spoken version (Some op) = if is_spoken version op then Some op else None
 abbrev pub given : Version → List (List ℕ) → Map → List Op
 given version digests m = filter_map (λ digest. if_spoken version (held_at m digest)) digests
 
--- why a site does not take an operation: memory was refused where nothing of its digest is held, or another operation of
--- its digest is
+-- why a site does not take an operation: memory was refused where nothing of its digest is held, or another operation
+-- of its digest is
 abbrev pub RefusesTake : Map → Op → HolderFault → Type 0
 RefusesTake m op Memory = held_at m (digest_of op) ≡ None
 RefusesTake m op Refused = IsClash m op

@@ -71,11 +71,11 @@ IsInPart compared offer had digest =
 abbrev pub HoldsPart : (List ℕ → Type 0) → Map → Map → Type 0
 HoldsPart Part m n = (digest : List ℕ) (op : Op) → Part digest → held_at m digest ≡ Some op → held_at n digest ≡ Some op
 
--- What one side offered, what the other side compared with it, and of what a HAVE was told then. Where the exchange of
--- the other is finished it holds in the end what was offered in the places that do not differ, and in those of which
--- the HAVE has all, if unequal digests of a place have unequal buckets in these two sets: so all that was offered, where
--- what is held in the places that differ fits into one HAVE. Where it agrees their buckets are equal, and so it does not
--- agree where that does not fit.
+-- What one side offered, what the other side compared with it, and of what a HAVE was told then. Where the exchange
+-- of the other is finished it holds in the end what was offered in the places that do not differ, and in those of
+-- which the HAVE has all, if unequal digests of a place have unequal buckets in these two sets: so all that was
+-- offered, where what is held in the places that differ fits into one HAVE. Where it agrees their buckets are equal,
+-- and so it does not agree where that does not fit.
 pub record WasGained {X Y : Type 0} (holds_x : X → Map) (alone_x : X → Type 0) (from_x to_x : Ends X) (ended_x : Ended)
     (told_x : List Frame) (holds_y : Y → Map) (alone_y : Y → Type 0) (role_y : Role) (from_y to_y : Ends Y)
     (told_y : List Frame) : Type 0 where

@@ -53,9 +53,9 @@ pub record WasCompared {H : Type 0} (holds : H → Map) (alone : H → Type 0) (
   pub at_begin : alone before → compared ≡ holds before
 
 -- Where the BUCKETS that were heard are those of a set of digests, a set was compared with them. Where all that was
--- asked for was given, each of these digests is held that was offered if it lies in the places of the DIFFER, if unequal
--- digests of a place have unequal buckets in these two. So the whole set is held where a HAVE has all of it in these
--- places.
+-- asked for was given, each of these digests is held that was offered if it lies in the places of the DIFFER, if
+-- unequal digests of a place have unequal buckets in these two. So the whole set is held where a HAVE has all of it
+-- in these places.
 abbrev pub HoldsWhatWasShown
     : {H : Type 0} → (H → Map) → (H → Type 0) → Version → Type 0 → H → List Frame → List Frame → H → Type 0
 HoldsWhatWasShown holds alone version finished before heard told after =

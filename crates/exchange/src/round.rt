@@ -1,6 +1,7 @@
 //! One side's part in a round of an exchange.
 
-ghost use Rattle.std.specs.Prelude.{◌≡◌, ◌≢◌, ◌↔◌, [], List, ℕ, Some, None, Err, cond, false, IfOk, OnOk, OnErr, IsErrOf, IsTrue, MatchResult};
+ghost use Rattle.std.specs.Prelude.{◌≡◌, ◌≢◌, ◌↔◌, [], List, ℕ, Some, None, Err, cond, false, IfOk, OnOk, OnErr};
+ghost use Rattle.std.specs.Prelude.{IsErrOf, IsTrue, MatchResult};
 ghost use Rattle.operation.specs.Spelling.{digest_of};
 ghost use Rattle.exchange.specs.Held.{offered, offered_in, lacked, given, Looks};
 ghost use Rattle.exchange.specs.Buckets.{bucket_list, unequal as unequal_in};

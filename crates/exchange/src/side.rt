@@ -5,7 +5,8 @@ ghost use Rattle.exchange_frames.specs.declared.frame.Frame.TheVariants.{Hello};
 ghost use Rattle.exchange.specs.declared.task.Awaited.TheVariants as awaits;
 ghost use Rattle.exchange.specs.declared.task.Task.TheVariants as tasks;
 ghost use Rattle.exchange.specs.Tasks.{task_for};
-ghost use Rattle.exchange.specs.Course.{Performs, SetOut, Why, IsOfHolder, HasRefused, frames_of, next_after_gifts, news, settled, start_of};
+ghost use Rattle.exchange.specs.Course.{Performs, SetOut, Why, IsOfHolder, HasRefused, frames_of, next_after_gifts};
+ghost use Rattle.exchange.specs.Course.{news, settled, start_of};
 ghost use Rattle.exchange.specs.Course.{agreed_with as agreed_in};
 ghost use Rattle.exchange.specs.Round.{IsFinished};
 

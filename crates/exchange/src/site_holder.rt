@@ -2,7 +2,8 @@
 
 ghost use Rattle.std.specs.Prelude.{◌≡◌, ◌↔◌, ◌++◌, ◌==◌, IfOk, IfErr, OnOk, Err, filter, ⊤};
 ghost use Rattle.site_state.specs.Site.{IsClash, held_at};
-ghost use Rattle.exchange.specs.Held.{offered, offered_in, spoken_of, place_of, lacked, given, if_spoken, TakesIn, RefusesTake};
+ghost use Rattle.exchange.specs.Held.{offered, offered_in, spoken_of, place_of, lacked, given, if_spoken, TakesIn};
+ghost use Rattle.exchange.specs.Held.{RefusesTake};
 ghost use Rattle.exchange.specs.Buckets.{bucket_list, unequal as unequal_in};
 ghost use Rattle.exchange.specs.Places.{front_at, end_at};
 

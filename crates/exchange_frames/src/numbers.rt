@@ -1,7 +1,8 @@
 //! The numbers that clauses cite by name, each said once as it is.
 
 ghost use Rattle.std.specs.Prelude.{◌≡◌};
-ghost use Rattle.exchange_frames.specs.declared.header.TheConstants.{HEADER_LENGTH, LONGEST_BODY, HAVE, WANT, GIVE, END, BUCKETS, DIFFER, HELLO};
+ghost use Rattle.exchange_frames.specs.declared.header.TheConstants.{HEADER_LENGTH, LONGEST_BODY, HAVE, WANT, GIVE};
+ghost use Rattle.exchange_frames.specs.declared.header.TheConstants.{END, BUCKETS, DIFFER, HELLO};
 ghost use Rattle.exchange_frames.specs.declared.reader.TheConstants.{MOST_DIGESTS, DIGEST_LENGTH, BUCKET_COUNT};
 ghost use Rattle.exchange_frames.specs.declared.writer.TheConstants.{MOST_PLACES};
 

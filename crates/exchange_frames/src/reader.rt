@@ -9,7 +9,9 @@ ghost use Rattle.exchange_frames.specs.declared.frame.Frame.{Frame};
 ghost use Rattle.exchange_frames.specs.Fault.{is_memory};
 ghost use Rattle.exchange_frames.specs.Header.{header_text};
 ghost use Rattle.exchange_frames.specs.Spelling.{text_of, ascends, IsFrame};
-ghost use Rattle.exchange_frames.specs.Reading.{cut, counts_too_many as has_many, is_long, or_bad, counted_at, buckets_at, places_at, version_at, end_at, frame_at, IsGiven, IsOutcome, HasFault};
+ghost use Rattle.exchange_frames.specs.Reading.{cut, counts_too_many as has_many, is_long, or_bad, counted_at};
+ghost use Rattle.exchange_frames.specs.Reading.{buckets_at, places_at, version_at, end_at, frame_at, IsGiven};
+ghost use Rattle.exchange_frames.specs.Reading.{IsOutcome, HasFault};
 
 use crate::digests::Digests;
 use crate::fault::FrameFault;

@@ -1,6 +1,7 @@
 //! Writing a frame: its head, and the bytes of a data set or of digests, which are not copied.
 
-ghost use Rattle.std.specs.Prelude.{◌≡◌, ◌⊎◌, ◌↔◌, ◌<◌, ◌≤◌, ◌++◌, ◌^◌, ◌+◌, ◌*◌, length, List, ℕ, IfOk, OnOk, IfErr, IsErrOf, IsTrue};
+ghost use Rattle.std.specs.Prelude.{◌≡◌, ◌⊎◌, ◌↔◌, ◌<◌, ◌≤◌, ◌++◌, ◌^◌, ◌+◌, ◌*◌, length, List, ℕ, IfOk, OnOk, IfErr};
+ghost use Rattle.std.specs.Prelude.{IsErrOf, IsTrue};
 ghost use Rattle.operation.specs.Spelling.{content_text, short_text};
 ghost use Rattle.exchange_frames.specs.declared.frame.Frame.{Frame};
 ghost use Rattle.exchange_frames.specs.declared.frame.Frame.TheVariants.{Give, Differ, Hello};

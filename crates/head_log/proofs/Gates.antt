@@ -1,5 +1,6 @@
 -- Gates lead to one end, and the groups of a file stand behind them.
-use Rattle.std.proofs.Common.{◌≡◌, ◌≢◌, ◌+◌, ◌≤◌, ◌<◌, ◌^◌, ◌∷◌, [], ◌++◌, inl, inr, ℕ, List, length, map, slice_index, sym, ◌∙◌, arith, subst, ap, refl}
+use Rattle.std.proofs.Common.{◌≡◌, ◌≢◌, ◌+◌, ◌≤◌, ◌<◌, ◌^◌, ◌∷◌, [], ◌++◌, inl, inr, ℕ, List, length, map}
+use Rattle.std.proofs.Common.{slice_index, sym, ◌∙◌, arith, subst, ap, refl}
 use Rattle.std.specs.Int.{w64, to_le_bytes, from_le_bytes}
 use Rattle.std.proofs.lemmas.Nat.{from_le_bytes-to_le_bytes_8}
 use Rattle.sqlite_disk.specs.Disk.{Holds}

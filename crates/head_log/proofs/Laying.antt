@@ -1,5 +1,6 @@
 -- What lies below a write stays, and a gate decides.
-use Rattle.std.proofs.Common.{◌≡◌, ◌⊎◌, inl, inr, ◌+◌, ◌≤◌, ◌<◌, ◌^◌, ◌∷◌, [], ◌++◌, ℕ, List, length, slice_index, sym, ◌∙◌, arith, subst, refl, ap}
+use Rattle.std.proofs.Common.{◌≡◌, ◌⊎◌, inl, inr, ◌+◌, ◌≤◌, ◌<◌, ◌^◌, ◌∷◌, [], ◌++◌, ℕ, List, length, slice_index}
+use Rattle.std.proofs.Common.{sym, ◌∙◌, arith, subst, refl, ap}
 use Rattle.std.proofs.lemmas.Bool.{cases_eq}
 use Rattle.sqlite_disk.specs.Disk.{Holds, Torn}
 use Rattle.body_log.proofs.Holding.{past}

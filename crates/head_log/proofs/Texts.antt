@@ -1,5 +1,6 @@
 -- Bytes that lie one behind the other, and the parts of a group's text.
-use Rattle.std.proofs.Common.{◌≡◌, ◌+◌, ◌-◌, ◌<◌, ◌^◌, ◌++◌, inl, inr, ℕ, List, length, slice_index, refl, sym, ◌∙◌, arith, subst, ap}
+use Rattle.std.proofs.Common.{◌≡◌, ◌+◌, ◌-◌, ◌<◌, ◌^◌, ◌++◌, inl, inr, ℕ, List, length, slice_index, refl, sym, ◌∙◌}
+use Rattle.std.proofs.Common.{arith, subst, ap}
 use Rattle.std.specs.Int.{w64, to_le_bytes, from_le_bytes}
 use Rattle.std.proofs.lemmas.Bool.{cases_lt}
 use Rattle.std.proofs.lemmas.List.{ext_get_or, get_or_append_left, get_or-append-add, length-append}

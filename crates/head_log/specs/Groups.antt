@@ -55,8 +55,8 @@ abbrev pub LeavesEither : {D : Type 0} → Ghosts D → D → List (List ℕ) �
 LeavesEither g disk groups group =
     (c : List ℕ) → g.may_leave disk c → StandsFor c groups ⊎ StandsFor c (groups ++ group ∷ [])
 
--- A file stands for what it stood for, and what a crash leaves of it for what some crash could leave before. Only one of
--- a byte at most was written.
+-- A file stands for what it stood for, and what a crash leaves of it for what some crash could leave before. Only one
+-- of a byte at most was written.
 pub record KeepsGroups {D : Type 0} (g : Ghosts D) (old new : D) : Type 0 where
   pub same : 1 < length (g.seen old) → g.seen new ≡ g.seen old
   pub stands : (groups : List (List ℕ)) → StandsFor (g.seen old) groups → StandsFor (g.seen new) groups

@@ -1,6 +1,7 @@
 //! A file of groups.
 
-ghost use Rattle.std.specs.Prelude.{◌≡◌, ◌++◌, ◌∷◌, ◌<◌, ◌≤◌, ◌+◌, ◌^◌, ◌↔◌, ◌⊎◌, [], List, ℕ, false, length, Ok, None, IfOk, IfSome, IsTrue, IsErrOf, OnOk, OnErr, IfErr, MatchResult};
+ghost use Rattle.std.specs.Prelude.{◌≡◌, ◌++◌, ◌∷◌, ◌<◌, ◌≤◌, ◌+◌, ◌^◌, ◌↔◌, ◌⊎◌, [], List, ℕ, false, length, Ok};
+ghost use Rattle.std.specs.Prelude.{None, IfOk, IfSome, IsTrue, IsErrOf, OnOk, OnErr, IfErr, MatchResult};
 ghost use Rattle.sqlite_disk.specs.Disk.{MoreFaults};
 ghost use Rattle.head_log.specs.Fault.{CountsDisk, IsOfOpen};
 ghost use Rattle.head_log.specs.Gates.{EndsAt, IsCutAt};

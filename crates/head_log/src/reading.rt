@@ -1,6 +1,7 @@
 //! Reads a group again.
 
-ghost use Rattle.std.specs.Prelude.{◌≡◌, ◌<◌, ◌≤◌, ◌+◌, ◌++◌, ◌^◌, ◌↔◌, ◌⊎◌, List, ℕ, Ok, None, length, IsTrue, IfOk, IfErr, IfSome, IsErrOf};
+ghost use Rattle.std.specs.Prelude.{◌≡◌, ◌<◌, ◌≤◌, ◌+◌, ◌++◌, ◌^◌, ◌↔◌, ◌⊎◌, List, ℕ, Ok, None, length, IsTrue, IfOk};
+ghost use Rattle.std.specs.Prelude.{IfErr, IfSome, IsErrOf};
 ghost use Rattle.sha2.specs.Sha256.{sha256};
 ghost use Rattle.sqlite_disk.specs.Disk.{CountsFaultIf, Holds};
 ghost use Rattle.head_log.specs.Fault.{CountsDisk};

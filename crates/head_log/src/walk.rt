@@ -1,6 +1,7 @@
 //! Finds where the groups of a file end.
 
-ghost use Rattle.std.specs.Prelude.{◌≡◌, ◌≢◌, ◌<◌, ◌≤◌, ◌+◌, ◌^◌, ◌↔◌, ℕ, Ok, None, IsTrue, IfOk, IfErr, IfSome, IsErrOf, length, slice_index};
+ghost use Rattle.std.specs.Prelude.{◌≡◌, ◌≢◌, ◌<◌, ◌≤◌, ◌+◌, ◌^◌, ◌↔◌, ℕ, Ok, None, IsTrue, IfOk, IfErr, IfSome};
+ghost use Rattle.std.specs.Prelude.{IsErrOf, length, slice_index};
 ghost use Rattle.std.specs.Int.{w64, to_le_bytes};
 ghost use Rattle.sqlite_disk.specs.Disk.{CountsFaultIf, Holds};
 ghost use Rattle.head_log.specs.Fault.{CountsDisk, IsOfOpen};

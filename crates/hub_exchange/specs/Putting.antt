@@ -35,8 +35,8 @@ abbrev pub GainsOnly : (Op → Type 0) → Map → Map → Type 0
 GainsOnly these before after = (digest : List ℕ) (op : Op) → held_at after digest ≡ Some op
     → (held_at before digest ≡ Some op) ⊎ these op
 
--- A shelf and its site have gone on: while the shelf is up, what lasted on it lasts, and so does each operation that the
--- site has gained.
+-- A shelf and its site have gone on: while the shelf is up, what lasted on it lasts, and so does each operation that
+-- the site has gained.
 pub record HaveGoneOn {K : Type 0} (is_up : K → Type 0) (lasts : K → Op → Type 0) (lasted : Op → Type 0)
     (before after : Map) (shelf : K) : Type 0 where
   pub kept : is_up shelf → (op : Op) → lasted op → lasts shelf op
@@ -48,8 +48,8 @@ refusal_of (shelf_faults.Store _) = Refused
 refusal_of shelf_faults.BadRow = Refused
 refusal_of shelf_faults.Memory = Memory
 
--- What keeps operations, or a way to it, was asked to keep this one and refused, and the fault is what that is to whoever
--- asked.
+-- What keeps operations, or a way to it, was asked to keep this one and refused, and the fault is what that is to
+-- whoever asked.
 pub record RefusesPut {P F : Type 0} (refuses : P → P → Op → ShelfFault → Type 0) (told_as : ShelfFault → F) (op : Op)
     (fault : F) : Type 0 where
   pub before : P

@@ -1,7 +1,13 @@
 //! Dates and times, and ranges of them (PS3.4, section C.2.2.2.5; PS3.5, section 6.2).
 
 ghost use Rattle.std.specs.Prelude.{◌≡◌, ◌≤◌, ◌++◌, length, take, drop, position, IsTrue, IfSome, ◌<◌};
-ghost use Rattle.key_matching.specs.Range.{is_digit as is_digit_in, are_digits as are_digits_in, is_whole_time as is_whole_time_in, is_fraction_time as is_fraction_time_in, is_moment as is_moment_in, midnight, whole, is_no_later as is_no_later_in, is_dash, before, behind, first_end, last_end, is_end as is_end_in, is_range as is_range_in, is_from as is_from_in, is_until as is_until_in, is_in_range as is_in_range_in};
+ghost use Rattle.key_matching.specs.Range.{is_digit as is_digit_in, are_digits as are_digits_in};
+ghost use Rattle.key_matching.specs.Range.{is_whole_time as is_whole_time_in};
+ghost use Rattle.key_matching.specs.Range.{is_fraction_time as is_fraction_time_in, is_moment as is_moment_in};
+ghost use Rattle.key_matching.specs.Range.{midnight, whole, is_no_later as is_no_later_in, is_dash, before, behind};
+ghost use Rattle.key_matching.specs.Range.{first_end, last_end, is_end as is_end_in, is_range as is_range_in};
+ghost use Rattle.key_matching.specs.Range.{is_from as is_from_in, is_until as is_until_in};
+ghost use Rattle.key_matching.specs.Range.{is_in_range as is_in_range_in};
 
 /// What a key of dates or of times is about.
 #[derive(Clone, Copy, Debug, PartialEq, Eq)]

@@ -1,9 +1,13 @@
 //! Which values a key matches, on bytes (PS3.4, section C.2.2.2).
 
-ghost use Rattle.std.specs.Prelude.{◌≡◌, ◌<◌, ◌+◌, ◌++◌, ◌∷◌, [], length, take, drop, map, position, IfSome, IfOk, OnOk};
+ghost use Rattle.std.specs.Prelude.{◌≡◌, ◌<◌, ◌+◌, ◌++◌, ◌∷◌, [], length, take, drop, map, position, IfSome, IfOk};
+ghost use Rattle.std.specs.Prelude.{OnOk};
 ghost use Rattle.std.specs.List.{list_any, list_all};
 ghost use Rattle.octets.specs.Padding.{trimmed as trimmed_in};
-ghost use Rattle.key_matching.specs.Matches.{is_universal as is_universal_in, is_backslash, parts, is_uid_part as is_uid_part_in, is_same_part as is_same_part_in, is_of_form as is_of_form_in, is_match_by as is_match_by_in, matches as matches_in};
+ghost use Rattle.key_matching.specs.Matches.{is_universal as is_universal_in, is_backslash, parts};
+ghost use Rattle.key_matching.specs.Matches.{is_uid_part as is_uid_part_in, is_same_part as is_same_part_in};
+ghost use Rattle.key_matching.specs.Matches.{is_of_form as is_of_form_in, is_match_by as is_match_by_in};
+ghost use Rattle.key_matching.specs.Matches.{matches as matches_in};
 
 use crate::matching::Matching;
 use crate::range::{Moment, is_in_range, is_range};

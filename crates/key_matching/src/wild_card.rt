@@ -1,9 +1,12 @@
 //! Wild card matching (PS3.4, section C.2.2.2.4).
 
-ghost use Rattle.std.specs.Prelude.{◌≡◌, ◌+◌, ◌<◌, ◌≤◌, length, take, drop, slice_index, ◌∷◌, ◌==◌, false, true, IsTrue, IfSome};
+ghost use Rattle.std.specs.Prelude.{◌≡◌, ◌+◌, ◌<◌, ◌≤◌, length, take, drop, slice_index, ◌∷◌, ◌==◌, false, true};
+ghost use Rattle.std.specs.Prelude.{IsTrue, IfSome};
 ghost use Rattle.std.specs.List.{list_all};
-ghost use Rattle.key_matching.specs.WildCard.{star, capital, folded, is_byte_match as is_byte_match_of, is_wild_match as is_wild_match_of};
-ghost use Rattle.key_matching.specs.WildCardFront.{IsStarless, IsStuck, is_itself as is_itself_in, is_front as is_front_in, IsFirstPlace};
+ghost use Rattle.key_matching.specs.WildCard.{star, capital, folded, is_byte_match as is_byte_match_of};
+ghost use Rattle.key_matching.specs.WildCard.{is_wild_match as is_wild_match_of};
+ghost use Rattle.key_matching.specs.WildCardFront.{IsStarless, IsStuck, is_itself as is_itself_in};
+ghost use Rattle.key_matching.specs.WildCardFront.{is_front as is_front_in, IsFirstPlace};
 
 use memchr::memmem;
 

@@ -6,7 +6,8 @@ use Rattle.body_log.specs.Fault.{CountsAs, CountsAsIf}
 use Rattle.head_log.specs.declared.fault.HeadFault.{HeadFault}
 use Rattle.head_log.specs.declared.fault.HeadFault.TheVariants as of_heads
 use Rattle.op_log.specs.declared.fault.LogFault.{LogFault}
-use Rattle.op_log.specs.declared.fault.LogFault.TheVariants.{Disk, Closed, TooLong, DamagedHeads, DamagedBody, Collision, Memory}
+use Rattle.op_log.specs.declared.fault.LogFault.TheVariants.{Disk, Closed, TooLong, DamagedHeads, DamagedBody}
+use Rattle.op_log.specs.declared.fault.LogFault.TheVariants.{Collision, Memory}
 use Rattle.op_log.specs.Fault.{fault_of_heads, IsOfLook, IsOfPut, IsOfRead, IsOfWrite}
 
 -- damage that is told is damage of the file of heads

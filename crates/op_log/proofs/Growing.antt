@@ -1,5 +1,6 @@
 -- What stays while data sets are written behind it.
-use Rattle.std.proofs.Common.{Result, Ok, Err, ◌≡◌, ◌≤◌, ℕ, List, [], ◌∷◌, ◌++◌, length, ◌-◌, take, drop, get_or, inl, inr, All, sym, ◌∙◌, ap, subst, arith}
+use Rattle.std.proofs.Common.{Result, Ok, Err, ◌≡◌, ◌≤◌, ℕ, List, [], ◌∷◌, ◌++◌, length, ◌-◌, take, drop, get_or, inl}
+use Rattle.std.proofs.Common.{inr, All, sym, ◌∙◌, ap, subst, arith}
 use Rattle.std.proofs.Math.Seq.{take-length}
 use Rattle.std.proofs.lemmas.List.{append_assoc, append-nil}
 use Rattle.std.proofs.lemmas.List.Elements.{All-weaker, All-same, All-push}

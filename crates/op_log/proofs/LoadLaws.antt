@@ -1,6 +1,7 @@
 -- What a log tells that only reads, a load tells.
 use Rattle.op_log.specs.declared.fault.LogFault.{LogFault}
-use Rattle.op_log.specs.declared.fault.LogFault.TheVariants.{Disk, Closed, TooLong, DamagedHeads, DamagedBody, Collision, Memory}
+use Rattle.op_log.specs.declared.fault.LogFault.TheVariants.{Disk, Closed, TooLong, DamagedHeads, DamagedBody}
+use Rattle.op_log.specs.declared.fault.LogFault.TheVariants.{Collision, Memory}
 use Rattle.op_log.specs.Fault.{IsOfLook}
 use Rattle.op_log.specs.Loads.{IsOfLoad}
 

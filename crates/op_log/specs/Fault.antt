@@ -7,7 +7,8 @@ use Rattle.head_log.specs.declared.fault.HeadFault.TheVariants as of_heads
 use Rattle.op_log.specs.declared.folder_fault.FolderFault.{FolderFault}
 use Rattle.op_log.specs.declared.folder_fault.FolderFault.TheVariants as of_folders
 use Rattle.op_log.specs.declared.fault.LogFault.{LogFault}
-use Rattle.op_log.specs.declared.fault.LogFault.TheVariants.{Disk, Closed, TooLong, DamagedHeads, DamagedBody, Collision, Memory}
+use Rattle.op_log.specs.declared.fault.LogFault.TheVariants.{Disk, Closed, TooLong, DamagedHeads, DamagedBody}
+use Rattle.op_log.specs.declared.fault.LogFault.TheVariants.{Collision, Memory}
 
 abbrev pub number_of : LogFault → ℕ
 number_of Disk = 1

@@ -1,5 +1,6 @@
 -- What two files keep of operations: one has their heads, in groups, and the other their data sets.
-use Rattle.std.specs.Prelude.{◌≡◌, ◌+◌, ◌≤◌, ◌<◌, ℕ, List, [], ◌∷◌, length, map, All, Option, Some, None, if◌then◌else◌, nat_eq}
+use Rattle.std.specs.Prelude.{◌≡◌, ◌+◌, ◌≤◌, ◌<◌, ℕ, List, [], ◌∷◌, length, map, All, Option, Some, None}
+use Rattle.std.specs.Prelude.{if◌then◌else◌, nat_eq}
 use Rattle.std.specs.List.{flat_map}
 use Rattle.std.specs.Cmp.Lexicographic.{pointwise}
 use Rattle.sqlite_disk.specs.Disk.{Holds}
@@ -34,7 +35,8 @@ pub record IsKept {H : Type 0} (g : Ghosts H) (disk : H) (end : ℕ) (heads : Li
   pub ready : IsReady g disk end (map group_text groups)
   pub spelled : All IsSpelled heads
 
--- A file stands for the heads that it stood for, and what a crash leaves of it for those that some crash could leave before.
+-- A file stands for the heads that it stood for, and what a crash leaves of it for those that some crash could leave
+-- before.
 pub record KeepsHeads {H : Type 0} (g : Ghosts H) (old new : H) : Type 0 where
   pub stands : (them : List Head) → StandsFor (g.seen old) them → StandsFor (g.seen new) them
   pub left : (c : List ℕ) → g.may_leave new c → (d : List ℕ) × g.may_leave old d

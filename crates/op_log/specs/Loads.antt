@@ -5,7 +5,8 @@ use Rattle.operation.specs.declared.op.Op.{Op}
 use Rattle.operation.specs.Reading.{IsOp}
 use Rattle.operation.specs.Spelling.{digest_of}
 use Rattle.op_log.specs.declared.fault.LogFault.{LogFault}
-use Rattle.op_log.specs.declared.fault.LogFault.TheVariants.{Disk, Closed, TooLong, DamagedHeads, DamagedBody, Collision, Memory}
+use Rattle.op_log.specs.declared.fault.LogFault.TheVariants.{Disk, Closed, TooLong, DamagedHeads, DamagedBody}
+use Rattle.op_log.specs.declared.fault.LogFault.TheVariants.{Collision, Memory}
 use Rattle.op_log.specs.Kept.{Has}
 use Rattle.op_log.specs.Log.{Opened}
 

@@ -1,5 +1,6 @@
 -- What a log of operations shows.
-use Rattle.std.specs.Prelude.{◌≡◌, ◌≤◌, ◌<◌, ◌+◌, ◌^◌, ◌⊎◌, ◌&&◌, Bool, ℕ, List, All, length, IsTrue, Result, Ok, Err, refl}
+use Rattle.std.specs.Prelude.{◌≡◌, ◌≤◌, ◌<◌, ◌+◌, ◌^◌, ◌⊎◌, ◌&&◌, Bool, ℕ, List, All, length, IsTrue, Result, Ok, Err}
+use Rattle.std.specs.Prelude.{refl}
 use Rattle.std.specs.Coded.{Coded, code_by, coded×, coded_ℕ, coded_bool, coded_list}
 use Rattle.sqlite_disk.specs.declared.Disk.{Ghosts}
 use Rattle.body_log.specs.declared.log.BodyLog.{BodyLog}

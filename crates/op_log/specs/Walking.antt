@@ -12,7 +12,8 @@ pub record AreLaid (file : List ℕ) (at end : ℕ) (heads : List Head) : Type 0
   pub laid : Laid file 0 (map group_text groups) at
   pub fit : AreFit end [] heads
 
--- One file stands for these heads, each data set of which lies within the other file, and no two of them have one digest.
+-- One file stands for these heads, each data set of which lies within the other file, and no two of them have one
+-- digest.
 pub record AreOfLog (heads bodies : List ℕ) (them : List Head) : Type 0 where
   pub stands : StandsFor heads them
   pub fit : AreFit (length bodies) [] them

@@ -1,6 +1,7 @@
 //! Takes the heads of a group into memory.
 
-ghost use Rattle.std.specs.Prelude.{◌≡◌, ◌≢◌, ◌++◌, ◌+◌, ◌≤◌, ◌<◌, [], List, ℕ, Ok, None, length, IfErr, IfOk, IfSome, IsErrOf, IsTrue, OnOk, ◌↔◌, ◌∷◌};
+ghost use Rattle.std.specs.Prelude.{◌≡◌, ◌≢◌, ◌++◌, ◌+◌, ◌≤◌, ◌<◌, [], List, ℕ, Ok, None, length, IfErr, IfOk};
+ghost use Rattle.std.specs.Prelude.{IfSome, IsErrOf, IsTrue, OnOk, ◌↔◌, ◌∷◌};
 ghost use Rattle.op_log.specs.Records.{head_in};
 ghost use Rattle.op_log.specs.Fault.{IsOfFill};
 ghost use Rattle.op_log.specs.Filling.{AreFit, AreTaken, IsFit, IsTaken};

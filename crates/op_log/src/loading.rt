@@ -1,6 +1,7 @@
 //! Reads data sets again.
 
-ghost use Rattle.std.specs.Prelude.{◌≡◌, ◌≢◌, ◌↔◌, ◌++◌, ◌<◌, ◌+◌, List, ℕ, Ok, true, false, length, ◌-◌, IfOk, IfErr, IsTrue, IsErrOf};
+ghost use Rattle.std.specs.Prelude.{◌≡◌, ◌≢◌, ◌↔◌, ◌++◌, ◌<◌, ◌+◌, List, ℕ, Ok, true, false, length, ◌-◌, IfOk};
+ghost use Rattle.std.specs.Prelude.{IfErr, IsTrue, IsErrOf};
 ghost use Rattle.sqlite_disk.specs.Disk.{Holds};
 ghost use Rattle.body_log.specs.Log.{disk_of, end_of};
 ghost use Rattle.operation.specs.declared.op.Op.{Op as Operation};

@@ -1,6 +1,7 @@
 //! A log of operations.
 
-ghost use Rattle.std.specs.Prelude.{◌≡◌, ◌&&◌, ◌≤◌, ◌<◌, ◌↔◌, List, ℕ, Ok, None, Some, All, Contains, false, length, map, slice_get, IfOk, IfErr, IfSome, IsTrue, IsErrOf, OnOk, OnErr, ◌⊎◌};
+ghost use Rattle.std.specs.Prelude.{◌≡◌, ◌&&◌, ◌≤◌, ◌<◌, ◌↔◌, List, ℕ, Ok, None, Some, All, Contains, false, length};
+ghost use Rattle.std.specs.Prelude.{map, slice_get, IfOk, IfErr, IfSome, IsTrue, IsErrOf, OnOk, OnErr, ◌⊎◌};
 ghost use Rattle.sqlite_disk.specs.Disk.{MoreFaults};
 ghost use Rattle.body_log.specs.Fault.{CountsAs};
 ghost use Rattle.body_log.specs.Lasts.{Stays};

@@ -1,6 +1,7 @@
 //! Puts a group into both files.
 
-ghost use Rattle.std.specs.Prelude.{◌≡◌, ◌&&◌, ◌⊎◌, ◌<◌, ◌≤◌, ◌+◌, ◌^◌, length, [], All, List, false, IfOk, IfErr, IsTrue, IsErrOf, OnOk, OnErr};
+ghost use Rattle.std.specs.Prelude.{◌≡◌, ◌&&◌, ◌⊎◌, ◌<◌, ◌≤◌, ◌+◌, ◌^◌, length, [], All, List, false, IfOk, IfErr};
+ghost use Rattle.std.specs.Prelude.{IsTrue, IsErrOf, OnOk, OnErr};
 ghost use Rattle.sqlite_disk.specs.Disk.{MoreFaults};
 ghost use Rattle.body_log.specs.Fault.{CountsAs};
 ghost use Rattle.body_log.specs.Log.{disk_of, end_of};

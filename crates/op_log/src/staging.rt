@@ -1,14 +1,17 @@
 //! Writes the data sets of operations, and gathers their heads.
 
-ghost use Rattle.std.specs.Prelude.{◌≡◌, ◌++◌, ◌∷◌, [], ◌<◌, ◌≤◌, ◌+◌, ◌^◌, None, OnOk, IfOk, IfErr, OnErr, IsErrOf, All, List, false, length, IsTrue};
+ghost use Rattle.std.specs.Prelude.{◌≡◌, ◌++◌, ◌∷◌, [], ◌<◌, ◌≤◌, ◌+◌, ◌^◌, None, OnOk, IfOk, IfErr, OnErr, IsErrOf};
+ghost use Rattle.std.specs.Prelude.{All, List, false, length, IsTrue};
 ghost use Rattle.sqlite_disk.specs.Disk.{Holds};
 ghost use Rattle.body_log.specs.Log.{disk_of, end_of};
 ghost use Rattle.op_log.specs.Fault.{IsOfPut, IsOfWrite};
-ghost use Rattle.op_log.specs.Heads.{Head, IsSpelled, bodies_long, body_of, front_of, group_text, head_text, heads_long};
+ghost use Rattle.op_log.specs.Heads.{Head, IsSpelled, bodies_long, body_of, front_of, group_text, head_text};
+ghost use Rattle.op_log.specs.Heads.{heads_long};
 ghost use Rattle.op_log.specs.Kept.{IsBelow, first_under};
 ghost use Rattle.op_log.specs.Puts.{Clashes, ClashesParts, ComesToClash, Puts};
 ghost use Rattle.op_log.specs.Spelled.{head_spelled};
-ghost use Rattle.op_log.specs.Staged.{AreSettled, AreStaged, Counts, Grows, HasHeads, IsStaged, IsWithin, KeepsPlaces, Uses};
+ghost use Rattle.op_log.specs.Staged.{AreSettled, AreStaged, Counts, Grows, HasHeads, IsStaged, IsWithin};
+ghost use Rattle.op_log.specs.Staged.{KeepsPlaces, Uses};
 
 use crate::fault::LogFault;
 use crate::group::Group;

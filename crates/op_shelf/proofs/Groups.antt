@@ -1,7 +1,8 @@
 -- Puts of a group.
 use Rattle.std.proofs.Common.{◌≡◌, ◌⊎◌, ◌++◌, ◌<◌, ◌+◌, inl, inr, suc, pos, ℕ, List, [], ◌∷◌, false, true, Ok, Err}
 use Rattle.std.proofs.Common.{Result, IfOk, OnOk, IfErr, IsSome, All, Contains, IsTrue}
-use Rattle.std.proofs.Common.{length, take, drop, get_or, take-suc, append_assoc, refl, sym, ap, subst, subst₂, ◌∙◌, arith}
+use Rattle.std.proofs.Common.{length, take, drop, get_or, take-suc, append_assoc, refl, sym, ap, subst, subst₂, ◌∙◌}
+use Rattle.std.proofs.Common.{arith}
 use Rattle.std.proofs.lemmas.List.{take-append-drop}
 use Rattle.std.proofs.lemmas.List.Elements.{All-cons}
 use Rattle.std.proofs.lemmas.List.Sorted.{Contains-permutation}

@@ -1,6 +1,7 @@
 -- What a put makes of the operations that a shelf keeps.
 use Rattle.std.proofs.Common.{◌≡◌, ◌⊎◌, ◌↔◌, ◌<◌, inl, inr, zero, suc, List, [], ◌∷◌, Bool, true, false, cond}
-use Rattle.std.proofs.Common.{All, IfOk, IsTrue, IsPermutation, filter, length, Contains, Ok, Err, Result, OnOk, OnErr, refl, sym}
+use Rattle.std.proofs.Common.{All, IfOk, IsTrue, IsPermutation, filter, length, Contains, Ok, Err, Result, OnOk}
+use Rattle.std.proofs.Common.{OnErr, refl, sym}
 use Rattle.std.proofs.Common.{ap, subst, ◌∙◌, arith}
 use Rattle.std.specs.Ordering.{is_eq}
 use Rattle.std.proofs.lemmas.List.Sorted.{IsPermutation-sym, Contains-permutation}

@@ -1,5 +1,6 @@
 -- What a group of puts makes of the entries, all at once.
-use Rattle.std.specs.Prelude.{◌≡◌, ◌≢◌, ◌⊎◌, ◌++◌, ◌∷◌, [], false, ℕ, List, All, Any, Contains, Err, IsTrue, IsPermutation}
+use Rattle.std.specs.Prelude.{◌≡◌, ◌≢◌, ◌⊎◌, ◌++◌, ◌∷◌, [], false, ℕ, List, All, Any, Contains, Err, IsTrue}
+use Rattle.std.specs.Prelude.{IsPermutation}
 use Rattle.sqlite.specs.Order.{Row}
 use Rattle.sqlite.specs.declared.types.Value.TheVariants.{Text}
 use Rattle.sqlite.specs.Store.{Ghosts}

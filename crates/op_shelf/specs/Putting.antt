@@ -14,7 +14,8 @@ use Rattle.op_shelf.specs.declared.fault.ShelfFault.TheVariants.{BadRow}
 use Rattle.op_shelf.specs.Entries.{entries, Adds}
 use Rattle.op_shelf.specs.Fault.{IfStore}
 use Rattle.op_shelf.specs.Group.{IsPutAll, MayHaveAll, FindsOther, IsNotPut}
-use Rattle.op_shelf.specs.States.{IfClean, IsPut, IsKnown, KeepsAll, StaysReady, HasOther, IsNotKept, rows_of, rows_left}
+use Rattle.op_shelf.specs.States.{IfClean, IsPut, IsKnown, KeepsAll, StaysReady, HasOther, IsNotKept, rows_of}
+use Rattle.op_shelf.specs.States.{rows_left}
 
 -- Whether an entry was put: New adds exactly that entry, Known finds it there, and a refusal changes nothing. A shelf
 -- that was ready, and is open, is ready. Each fault, only where it is. A crash finds the entries from before, with this

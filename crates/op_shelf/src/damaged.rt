@@ -5,7 +5,8 @@ ghost use Rattle.std.specs.List.{list_all};
 ghost use Rattle.std.specs.Option.{option_map};
 ghost use Rattle.std.specs.Ordering.{nat_cmp};
 ghost use Rattle.std.specs.Cmp.Lexicographic.{slice_cmp};
-ghost use Rattle.op_shelf.specs.Damage.{is_digit, digits_in, short_in, short_behind, uid_in, instance_in, damage_by, damaged_cmp};
+ghost use Rattle.op_shelf.specs.Damage.{is_digit, digits_in, short_in, short_behind, uid_in, instance_in, damage_by};
+ghost use Rattle.op_shelf.specs.Damage.{damaged_cmp};
 
 use octets::{Octets, is_uid};
 use std::alloc::{AllocError, Global};

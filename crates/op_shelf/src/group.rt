@@ -1,6 +1,7 @@
 //! Puts of a group, in one transaction.
 
-ghost use Rattle.std.specs.Prelude.{◌≡◌, ◌∷◌, [], false, true, Contains, Ok, Err, IfOk, IfErr, IsErrOf, OnOk, OnErr, IsPermutation};
+ghost use Rattle.std.specs.Prelude.{◌≡◌, ◌∷◌, [], false, true, Contains, Ok, Err, IfOk, IfErr, IsErrOf, OnOk, OnErr};
+ghost use Rattle.std.specs.Prelude.{IsPermutation};
 ghost use Rattle.sqlite.specs.declared.types.Value.TheVariants.{Text};
 ghost use Rattle.sqlite.specs.Held.{state};
 ghost use Rattle.sqlite.specs.State.{HasCleanDisk, IsUnchanged, KeepsCommit, FailsToQuery, ExecutesInside, Survives};

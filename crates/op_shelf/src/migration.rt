@@ -6,7 +6,8 @@ ghost use Rattle.sqlite.specs.Held.{state};
 ghost use Rattle.sqlite.specs.Order.{Row as Values};
 ghost use Rattle.sqlite.specs.State.{HasCleanDisk, KeepsCommit, Survives};
 ghost use Rattle.op_shelf.specs.Fault.{IfStore};
-ghost use Rattle.op_shelf.specs.Migration.{IsOlder, IsStarted, IsMoving, IsMoved, IsSwapped, IsSwap, IsMigrated, IsMigration, HasBadPair, IsHalted, IsNotSwapped};
+ghost use Rattle.op_shelf.specs.Migration.{IsOlder, IsStarted, IsMoving, IsMoved, IsSwapped, IsSwap, IsMigrated};
+ghost use Rattle.op_shelf.specs.Migration.{IsMigration, HasBadPair, IsHalted, IsNotSwapped};
 ghost use Rattle.op_shelf.specs.Older.{IsPair, moved};
 ghost use Rattle.op_shelf.specs.States.{IfClean, KeepsAll, IsNotMigrated};
 

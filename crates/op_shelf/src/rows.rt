@@ -1,6 +1,7 @@
 //! Entries of the table, and the operations that they stand for.
 
-ghost use Rattle.std.specs.Prelude.{◌≡◌, ◌≢◌, ◌↔◌, ◌<◌, ◌⊎◌, [], true, false, pos, length, map, All, Any, IfOk, IfErr, OnOk, IfSome, IsNone, IsTrue, IsErrOf, Ok, Err, List, ℕ};
+ghost use Rattle.std.specs.Prelude.{◌≡◌, ◌≢◌, ◌↔◌, ◌<◌, ◌⊎◌, [], true, false, pos, length, map, All, Any, IfOk};
+ghost use Rattle.std.specs.Prelude.{IfErr, OnOk, IfSome, IsNone, IsTrue, IsErrOf, Ok, Err, List, ℕ};
 ghost use Rattle.sqlite.specs.declared.types.Value.TheVariants.{Int, Text, Blob};
 ghost use Rattle.sqlite_value.specs.Value.{owned};
 ghost use Rattle.sqlite.specs.Order.{column};

@@ -3,7 +3,8 @@
 ghost use Rattle.std.specs.Prelude.{◌≡◌, ◌↔◌, ◌⊎◌, ◌∷◌, ◌+◌, [], true, false, codes, IsTrue};
 ghost use Rattle.sqlite.specs.Collation.TheVariants.{Binary};
 ghost use Rattle.sqlite.specs.declared.types.Value.TheVariants.{Null};
-ghost use Rattle.op_shelf.specs.Table.{digest_column, kind_column, body_column, ops2, index_of, AreTrees, AreParts, IsShelf, no_schema};
+ghost use Rattle.op_shelf.specs.Table.{digest_column, kind_column, body_column, ops2, index_of, AreTrees, AreParts};
+ghost use Rattle.op_shelf.specs.Table.{IsShelf, no_schema};
 ghost use Rattle.op_shelf.specs.Older.{ops, ops_index, older_schema, AreOlderParts};
 
 use sqlite_items::Items;

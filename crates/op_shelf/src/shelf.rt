@@ -8,7 +8,8 @@ ghost use Rattle.sqlite.specs.Tree.{Trees};
 ghost use Rattle.op_shelf.specs.Entries.{Holds, Lists, HasBadRow, entry_of, digest_text};
 ghost use Rattle.op_shelf.specs.Fault.{IfStore};
 ghost use Rattle.op_shelf.specs.Putting.{PutsEntry, PutsGroup};
-ghost use Rattle.op_shelf.specs.States.{IfClean, IsUnready, KeepsAll, IsNotShown, rows_of, rows_left, count_of, digest_cmp};
+ghost use Rattle.op_shelf.specs.States.{IfClean, IsUnready, KeepsAll, IsNotShown, rows_of, rows_left, count_of};
+ghost use Rattle.op_shelf.specs.States.{digest_cmp};
 ghost use Rattle.op_shelf.specs.Texts.{all_text, kind_text};
 
 use crate::fault::{ShelfFault, StoreCause};

@@ -1,6 +1,7 @@
 //! A put into the table, over any connection.
 
-ghost use Rattle.std.specs.Prelude.{◌≡◌, ◌≢◌, ◌↔◌, ◌∷◌, [], IfErr, true, false, Ok, Err, IsErrOf, OnOk, OnErr, Contains, IsTrue};
+ghost use Rattle.std.specs.Prelude.{◌≡◌, ◌≢◌, ◌↔◌, ◌∷◌, [], IfErr, true, false, Ok, Err, IsErrOf, OnOk, OnErr};
+ghost use Rattle.std.specs.Prelude.{Contains, IsTrue};
 ghost use Rattle.sqlite.specs.declared.types.Value.TheVariants.{Text};
 ghost use Rattle.sqlite.specs.Held.{state};
 ghost use Rattle.sqlite.specs.State.{HasCleanDisk, IsUnchanged, Survives};
@@ -8,7 +9,8 @@ ghost use Rattle.op_shelf.specs.Entries.{entry_by, Adds};
 ghost use Rattle.op_shelf.specs.Fault.{IfStore};
 ghost use Rattle.op_shelf.specs.Migration.{IsOlder};
 ghost use Rattle.op_shelf.specs.Putting.{PutsEntry};
-ghost use Rattle.op_shelf.specs.States.{IfClean, IsReady, IsKnown, HasOther, Spares, IsNotShown, IsNotDone, IsAdded, IsBare, under, rows_of, rows_left};
+ghost use Rattle.op_shelf.specs.States.{IfClean, IsReady, IsKnown, HasOther, Spares, IsNotShown, IsNotDone, IsAdded};
+ghost use Rattle.op_shelf.specs.States.{IsBare, under, rows_of, rows_left};
 ghost use Rattle.op_shelf.specs.Table.{IsShelf};
 ghost use Rattle.op_shelf.specs.Texts.{held_text, insert_text};
 

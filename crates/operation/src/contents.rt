@@ -10,7 +10,8 @@ ghost use Rattle.data_set.specs.Values.{value_in};
 ghost use Rattle.operation.specs.declared.fault.OpFault.{OpFault};
 ghost use Rattle.operation.specs.Fault.{is_memory};
 ghost use Rattle.operation.specs.Parts.{ContentParts};
-ghost use Rattle.operation.specs.Contents.{has_uids, names_itself, is_uid_value, is_value, values_in, IsOutcome, IsContent, IsRefused, IsShort, draft_of, drafted, kept_of};
+ghost use Rattle.operation.specs.Contents.{has_uids, names_itself, is_uid_value, is_value, values_in, IsOutcome};
+ghost use Rattle.operation.specs.Contents.{IsContent, IsRefused, IsShort, draft_of, drafted, kept_of};
 
 use crate::content::{Content, Stored};
 use crate::draft::Draft;

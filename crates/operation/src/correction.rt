@@ -3,7 +3,8 @@
 ghost use Rattle.std.specs.Prelude.{◌≡◌, ◌≤◌, ◌↔◌, length, List, ℕ, IfOk, IsTrue};
 ghost use Rattle.std.specs.List.{list_all};
 ghost use Rattle.operation.specs.Parts.{CorrectionParts, key_of};
-ghost use Rattle.operation.specs.Corrections.{is_tag_for, is_text_byte, has_outer_space, is_plain, is_key, checked, is_correction, IsCorrection};
+ghost use Rattle.operation.specs.Corrections.{is_tag_for, is_text_byte, has_outer_space, is_plain, is_key, checked};
+ghost use Rattle.operation.specs.Corrections.{is_correction, IsCorrection};
 
 use crate::fault::OpFault;
 use crate::stamp::Stamp;

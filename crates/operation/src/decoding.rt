@@ -8,7 +8,9 @@ ghost use Rattle.operation.specs.Contents.{draft_of as draft_in};
 ghost use Rattle.operation.specs.Corrections.{IsCorrection};
 ghost use Rattle.operation.specs.Fault.{is_memory};
 ghost use Rattle.operation.specs.Front.{drafted_front};
-ghost use Rattle.operation.specs.Reading.{short_at, is_padded, uid_at, syntax_at, body_at, draft_at, target_at, tag_at, value_text_at, stamp_at, correction_at, IsMade, IsReading, IsOp, HasFault};
+ghost use Rattle.operation.specs.Reading.{short_at, is_padded, uid_at, syntax_at, body_at, draft_at, target_at};
+ghost use Rattle.operation.specs.Reading.{tag_at, value_text_at, stamp_at, correction_at, IsMade, IsReading, IsOp};
+ghost use Rattle.operation.specs.Reading.{HasFault};
 ghost use Rattle.operation.specs.Spelling.{spelling, draft_text, correction_text};
 
 use crate::content::Content;

@@ -1,8 +1,12 @@
 //! The numbers that clauses cite by name, each said once as it stands in PS3.8 and PS3.7.
 
 ghost use Rattle.std.specs.Prelude.{◌≡◌};
-ghost use Rattle.pdu.specs.declared.header.TheConstants.{HEADER_LENGTH, LONGEST_BODY, LONGEST_ACCEPT, OPENING_LENGTH, FIXED_LENGTH, ASSOCIATE_RQ, ASSOCIATE_AC, ASSOCIATE_RJ, P_DATA, RELEASE_RQ, RELEASE_RP, ABORT};
-ghost use Rattle.pdu.specs.declared.item.TheConstants.{APPLICATION_CONTEXT, PROPOSED_CONTEXT, ANSWERED_CONTEXT, ABSTRACT_SYNTAX, TRANSFER_SYNTAX, USER_INFORMATION, MAXIMUM_LENGTH, IMPLEMENTATION_CLASS, ROLE_SELECTION};
+ghost use Rattle.pdu.specs.declared.header.TheConstants.{HEADER_LENGTH, LONGEST_BODY, LONGEST_ACCEPT, OPENING_LENGTH};
+ghost use Rattle.pdu.specs.declared.header.TheConstants.{FIXED_LENGTH, ASSOCIATE_RQ, ASSOCIATE_AC, ASSOCIATE_RJ};
+ghost use Rattle.pdu.specs.declared.header.TheConstants.{P_DATA, RELEASE_RQ, RELEASE_RP, ABORT};
+ghost use Rattle.pdu.specs.declared.item.TheConstants.{APPLICATION_CONTEXT, PROPOSED_CONTEXT, ANSWERED_CONTEXT};
+ghost use Rattle.pdu.specs.declared.item.TheConstants.{ABSTRACT_SYNTAX, TRANSFER_SYNTAX, USER_INFORMATION};
+ghost use Rattle.pdu.specs.declared.item.TheConstants.{MAXIMUM_LENGTH, IMPLEMENTATION_CLASS, ROLE_SELECTION};
 
 /// The types of PDUs (PS3.8, section 9.3.1).
 pub fn pdus_have_these_types()

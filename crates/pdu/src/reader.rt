@@ -1,6 +1,7 @@
 //! Reading the PDU at the front of a stream (PS3.8, section 9.3).
 
-ghost use Rattle.std.specs.Prelude.{◌≡◌, ◌≤◌, ◌+◌, ◌++◌, ◌↔◌, List, ℕ, length, take, IsErrOf, IfOk, IfErr, IfSome, Ok, Err};
+ghost use Rattle.std.specs.Prelude.{◌≡◌, ◌≤◌, ◌+◌, ◌++◌, ◌↔◌, List, ℕ, length, take, IsErrOf, IfOk, IfErr, IfSome};
+ghost use Rattle.std.specs.Prelude.{Ok, Err};
 ghost use Rattle.octets.specs.Bytes.{IsBytes};
 ghost use Rattle.pdu.specs.declared.fault.PduFault.TheVariants.{UnknownType, BadLength, BadItem, TooLong};
 ghost use Rattle.pdu.specs.declared.header.TheConstants.{HEADER_LENGTH};

@@ -6,7 +6,11 @@ ghost use Rattle.std.specs.Int.{w32, to_be_bytes};
 ghost use Rattle.pdu.specs.declared.header.TheConstants.{LONGEST_BODY, P_DATA};
 ghost use Rattle.pdu.specs.declared.value.Pdu.{Pdu};
 ghost use Rattle.pdu.specs.Grammar.{Spells};
-ghost use Rattle.pdu.specs.Spelling.{item_of, item_text, items_text, role_item, length_items, class_items, user_items, syntax_item, proposal_items, answer_items, proposal_item, answer_item, user_item, opening_text, request_items, accept_items, control_of, pdv_head, pdv_text, data_head, text_of, HasLength, FitsProposal, FitsAnswer, FitsRequest, FitsAccept, IsPdu};
+ghost use Rattle.pdu.specs.Spelling.{item_of, item_text, items_text, role_item, length_items, class_items};
+ghost use Rattle.pdu.specs.Spelling.{user_items, syntax_item, proposal_items, answer_items, proposal_item};
+ghost use Rattle.pdu.specs.Spelling.{answer_item, user_item, opening_text, request_items, accept_items, control_of};
+ghost use Rattle.pdu.specs.Spelling.{pdv_head, pdv_text, data_head, text_of, HasLength, FitsProposal, FitsAnswer};
+ghost use Rattle.pdu.specs.Spelling.{FitsRequest, FitsAccept, IsPdu};
 
 use crate::accept::Accept;
 use crate::context::{AnsweredContext, ProposedContext};

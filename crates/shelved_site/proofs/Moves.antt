@@ -1,5 +1,6 @@
 -- What groups of puts come to.
-use Rattle.std.proofs.Common.{◌≡◌, ◌⊎◌, ◌↔◌, ◌+◌, ◌≤◌, inl, inr, ◌<◌, ℕ, zero, suc, take, slice_index_or, List, [], ◌∷◌, ◌++◌, length, refl, sym, ap, subst, ◌∙◌, arith}
+use Rattle.std.proofs.Common.{◌≡◌, ◌⊎◌, ◌↔◌, ◌+◌, ◌≤◌, inl, inr, ◌<◌, ℕ, zero, suc, take, slice_index_or, List, []}
+use Rattle.std.proofs.Common.{◌∷◌, ◌++◌, length, refl, sym, ap, subst, ◌∙◌, arith}
 use Rattle.operation.specs.declared.op.Op.{Op}
 use Rattle.operation.specs.Spelling.{spelling}
 use Rattle.op_shelf.specs.declared.kept.Kept.{Kept}

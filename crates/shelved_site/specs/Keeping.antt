@@ -27,8 +27,8 @@ abbrev pub AreHeld : List ℕ → List ℕ → Op → Type 0
 AreHeld heads bodies other =
     (them : List Head) × StandsFor heads them × ((op : Op) × AreOf them bodies op × (spelling other ≡ spelling op))
 
--- A log has an operation that is spelled so, and whatever a crash leaves of the file of heads has all heads, and of the other
--- its data set.
+-- A log has an operation that is spelled so, and whatever a crash leaves of the file of heads has all heads, and of
+-- the other its data set.
 pub record Lasts {H B : Type 0} (gh : Ghosts H) (gb : Ghosts B) (log : Opened H B) (other : Op) : Type 0 where
   pub op : Op
   pub at : ℕ

@@ -36,8 +36,8 @@ LogRefusesAll g log (Store cause.Other) = ⊥
 LogRefusesAll g log BadRow = (at : ℕ) × HasBadHead (g.seen log.bodies) log.places at
 LogRefusesAll g log Memory = Unit {0}
 
--- a log that is asked to keep a group: it is closed, or the group is longer than one may be; or its disk refused, or memory
--- was refused, or another operation has a digest of the group
+-- a log that is asked to keep a group: it is closed, or the group is longer than one may be; or its disk refused, or
+-- memory was refused, or another operation has a digest of the group
 abbrev pub LogRefusesGroup : {H B : Type 0} → Ghosts H → Ghosts B → Opened H B → Opened H B → List Op → ShelfFault
     → Type 0
 LogRefusesGroup gh gb old new ops (Store cause.Failed) = Unit {0}

@@ -1,6 +1,7 @@
 //! Tests the operations of a log against their digests.
 
-ghost use Rattle.std.specs.Prelude.{◌≡◌, ◌++◌, ◌∷◌, [], ℕ, false, cond, Some, slice_get, IfErr, IfOk, IsErrOf, IsTrue, OnErr, OnOk};
+ghost use Rattle.std.specs.Prelude.{◌≡◌, ◌++◌, ◌∷◌, [], ℕ, false, cond, Some, slice_get, IfErr, IfOk, IsErrOf};
+ghost use Rattle.std.specs.Prelude.{IsTrue, OnErr, OnOk};
 ghost use Rattle.op_log.specs.Fault.{IsOfLook};
 ghost use Rattle.op_log.specs.Heads.{Head};
 ghost use Rattle.op_log.specs.Log.{GoesOn, Looks};

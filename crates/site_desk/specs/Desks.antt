@@ -23,7 +23,8 @@ use Rattle.site_desk.specs.Making.{change_of, next_over}
 use Rattle.site_desk.specs.Requests.{posting_of}
 use Rattle.site_desk.specs.Responses.{Responds}
 
--- a desk: its pass, what is known of the shelf's ledger, the number of the site, and the greatest counter that it has made
+-- a desk: its pass, what is known of the shelf's ledger, the number of the site, and the greatest counter that it has
+-- made
 pub record AtDesk : Type 0 where
   pub pass : Seat
   pub known : List (List ℕ)

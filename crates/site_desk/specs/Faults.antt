@@ -5,7 +5,8 @@ use Rattle.site_desk.specs.declared.answer.Status.TheVariants.{BadRequest, NotFo
 use Rattle.site_desk.specs.declared.answer.Status.TheVariants.{UnsupportedMediaType, ServiceUnavailable}
 use Rattle.site_desk.specs.declared.fault.DeskFault.{DeskFault}
 use Rattle.site_desk.specs.declared.fault.DeskFault.TheVariants.{NoPath, NoPost, HasOrigin, NoKind, NoForm, NoObject}
-use Rattle.site_desk.specs.declared.fault.DeskFault.TheVariants.{NoChange, BadKey, BadTag, BadValue, NoSite, StampsSpent}
+use Rattle.site_desk.specs.declared.fault.DeskFault.TheVariants.{NoChange, BadKey, BadTag, BadValue, NoSite}
+use Rattle.site_desk.specs.declared.fault.DeskFault.TheVariants.{StampsSpent}
 use Rattle.site_desk.specs.declared.fault.DeskFault.TheVariants.{Shelf, Busy, Unshown, Memory}
 
 -- the reason, in words: of a part as `archive correct` names it

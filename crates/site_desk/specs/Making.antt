@@ -6,7 +6,8 @@ use Rattle.operation.specs.Parts.{CorrectionParts}
 use Rattle.op_shelf.specs.declared.fault.ShelfFault.{ShelfFault}
 use Rattle.op_shelf.specs.declared.fault.ShelfFault.TheVariants as shelf_faults
 use Rattle.site_desk.specs.declared.fault.DeskFault.{DeskFault}
-use Rattle.site_desk.specs.declared.fault.DeskFault.TheVariants.{BadKey, BadTag, BadValue, NoSite, StampsSpent, Shelf, Memory}
+use Rattle.site_desk.specs.declared.fault.DeskFault.TheVariants.{BadKey, BadTag, BadValue, NoSite, StampsSpent, Shelf}
+use Rattle.site_desk.specs.declared.fault.DeskFault.TheVariants.{Memory}
 use Rattle.site_desk.specs.declared.words.Words.{Words}
 use Rattle.command_words.specs.declared.Change.{Change}
 use Rattle.command_words.specs.declared.parts.Part.{Part}

@@ -9,7 +9,8 @@ use Rattle.octets.specs.Texts.{same}
 use Rattle.site_desk.specs.declared.asking.Kind.{Kind}
 use Rattle.site_desk.specs.declared.asking.Kind.TheVariants.{Form, Object}
 use Rattle.site_desk.specs.declared.fault.DeskFault.{DeskFault}
-use Rattle.site_desk.specs.declared.fault.DeskFault.TheVariants.{NoPath, NoPost, HasOrigin, NoKind, NoForm, NoObject, Memory}
+use Rattle.site_desk.specs.declared.fault.DeskFault.TheVariants.{NoPath, NoPost, HasOrigin, NoKind, NoForm, NoObject}
+use Rattle.site_desk.specs.declared.fault.DeskFault.TheVariants.{Memory}
 use Rattle.site_desk.specs.declared.words.Words.{Words}
 use Rattle.site_desk.specs.Forms as forms
 use Rattle.site_desk.specs.Objects as objects

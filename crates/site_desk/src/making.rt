@@ -10,7 +10,8 @@ ghost use Rattle.command_words.specs.Parts.{bad_part_of};
 ghost use Rattle.hub_exchange.specs.Putting.{WasWritten};
 ghost use Rattle.hub_exchange.specs.Onward.{IsOnward};
 ghost use Rattle.site_hub.specs.History.{EndsWith, entry_of};
-ghost use Rattle.site_desk.specs.Making.{change_of, fault_of_part, fault_of_shelf as fault_of_shelf_in, next_over as next_over_of, IsOfPart};
+ghost use Rattle.site_desk.specs.Making.{change_of, fault_of_part, fault_of_shelf as fault_of_shelf_in};
+ghost use Rattle.site_desk.specs.Making.{next_over as next_over_of, IsOfPart};
 
 use crate::{DeskFault, Words};
 use command_words::{Change, Part, bad_part, change_in};

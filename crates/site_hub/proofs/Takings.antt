@@ -7,7 +7,8 @@ use Rattle.operation.specs.Spelling.{digest_of}
 use Rattle.site_state.specs.Site.{Map, IsClash}
 use Rattle.site_hub.specs.declared.entry.Entry.{Entry}
 use Rattle.site_hub.specs.declared.fault.HubFault.{HubFault}
-use Rattle.site_hub.specs.declared.fault.HubFault.TheVariants.{BadCorrection, Busy, Collision, Memory, Pending, StampsSpent}
+use Rattle.site_hub.specs.declared.fault.HubFault.TheVariants.{BadCorrection, Busy, Collision, Memory, Pending}
+use Rattle.site_hub.specs.declared.fault.HubFault.TheVariants.{StampsSpent}
 use Rattle.site_hub.specs.Fault.{IsTurnFault}
 use Rattle.site_hub.specs.History.{set_of, entry_of}
 use Rattle.site_hub.specs.Hub.{Desk, Seat, HasStayed, HasKept, IsTurn}

@@ -50,8 +50,8 @@ pub record IsNext (number : ℕ) (opening : Map) (before : Seat) (target : Targe
   pub comes : IsTurn opening before.seen turn
   pub next : next_correction number (set_of opening turn) target tag value ≡ outcome
 
--- A correction was made for a pass: it came next at its turn, its entry comes next, and its counter is greater than each
--- that the pass had seen.
+-- A correction was made for a pass: it came next at its turn, its entry comes next, and its counter is greater than
+-- each that the pass had seen.
 pub record IsMade (number : ℕ) (opening : Map) (before : Seat) (target : Target) (tag : ℕ) (value : List ℕ)
     (made : CorrectionParts) (later : Seat) : Type 0 where
   pub turn : List Entry

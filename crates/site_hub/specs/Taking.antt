@@ -89,7 +89,8 @@ pub record MakesNext (next : Result CorrectionParts HubFault) (seen : Map) (one 
   pub made : Ok one ≡ next
   pub counter : HasLesser seen one.stamp.counter
 
--- A keeper made no correction for a pass, where this one came next, or none did: all stays, unless its entry is pending.
+-- A keeper made no correction for a pass, where this one came next, or none did: all stays, unless its entry is
+-- pending.
 pub record MakesNone (opening : Map) (before : AtDesk) (next : Result CorrectionParts HubFault) (later : AtDesk)
     (e : HubFault) : Type 0 where
   pub turn : IsTurnFault e → IsTurn opening before.seat.seen before.desk.all

@@ -4,7 +4,8 @@
 //! `logbook` what a book's only writer finds there. So each of these calls is made here, and
 //! counted where it was refused; and so is what a copy or a history lacks. Nothing else raises the
 //! count.
-ghost use Rattle.std.specs.Prelude.{◌≡◌, ◌<◌, ◌≤◌, ◌++◌, ◌∷◌, ◌^◌, [], IfSome, IsTrue, MatchOption, MatchResult, false, true, length};
+ghost use Rattle.std.specs.Prelude.{◌≡◌, ◌<◌, ◌≤◌, ◌++◌, ◌∷◌, ◌^◌, [], IfSome, IsTrue, MatchOption, MatchResult};
+ghost use Rattle.std.specs.Prelude.{false, true, length};
 ghost use mathlib.Core.List.{IsPrefix};
 ghost use Rattle.devices.specs.Failures.{Rose, Counts};
 ghost use Rattle.operation.specs.Spelling.{digest_of};

@@ -14,7 +14,8 @@ use Rattle.archive_page.specs.declared.subject.Subject.{Subject}
 use Rattle.site_pages.specs.Telling.{Says, IsAnswered}
 use Rattle.site_pages.specs.SitePages.{IsPage}
 
--- a pass, and what the server of its site knows: its name, why it takes nothing, if so, further facts, and what it counts
+-- a pass, and what the server of its site knows: its name, why it takes nothing, if so, further facts, and what it
+-- counts
 pub record HubSource : Type 0 where
   pub pass : Seat
   pub name : List ℕ

@@ -35,7 +35,8 @@ abbrev pub site_answer : List ℕ → List Fact → Form → Counts → Answer
 site_answer name facts form counts =
     page_answer Subject.Site form (codes "WHAT" ∷ codes "VALUE" ∷ []) (site_rows name facts counts)
 
--- the page about a subject, asked with a query, or with the name of a study, of a site of a name whose server knows some facts
+-- the page about a subject, asked with a query, or with the name of a study, of a site of a name whose server knows
+-- some facts
 abbrev pub IsPage : List ℕ → List Fact → Subject → Form → List ℕ → List Op → Answer → Type 0
 IsPage name facts Subject.Site form query ops answer = answer ≡ site_answer name facts form (counts_of ops)
 IsPage name facts Subject.Studies form query ops answer = answer ≡ studies_answer form query ops

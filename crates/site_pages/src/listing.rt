@@ -6,7 +6,9 @@ ghost use Rattle.archive_page.specs.declared.links.TheConstants.{PAGE_LENGTH};
 ghost use Rattle.archive_query.specs.Found.{rows_found};
 ghost use Rattle.archive_page.specs.Answers.{listing_answer as listing_answer_of};
 ghost use Rattle.site_tables.specs.Studies.{value_or_none, AreTaken};
-ghost use Rattle.site_pages.specs.StudiesPages.{modalities as modalities_in, has_modality as has_modality_in, of_modality as of_modality_in, page_of as page_in, query_of as query_in, listing_with, listing_of};
+ghost use Rattle.site_pages.specs.StudiesPages.{modalities as modalities_in, has_modality as has_modality_in};
+ghost use Rattle.site_pages.specs.StudiesPages.{of_modality as of_modality_in, page_of as page_in};
+ghost use Rattle.site_pages.specs.StudiesPages.{query_of as query_in, listing_with, listing_of};
 
 use archive_page::{Answer as Page, Form, Listing, PAGE_LENGTH, Search, listing_answer};
 use archive_query::{Answer, Answers, Query};

@@ -1,7 +1,8 @@
 //! What a server has counted since it began.
 
 ghost use Rattle.std.specs.Prelude.{◌≡◌};
-ghost use Rattle.site_pages.specs.Meters.{no_meters, last_agreed, with_begun, with_freed, with_association, with_way, with_exchange};
+ghost use Rattle.site_pages.specs.Meters.{no_meters, last_agreed, with_begun, with_freed, with_association, with_way};
+ghost use Rattle.site_pages.specs.Meters.{with_exchange};
 
 use crate::ends::{AssociationEnd, AssociationEnds, ExchangeEnd, ExchangeEnds};
 use crate::tally::Tally;

@@ -1,7 +1,9 @@
 //! What is told of a running server to who measures it.
 
 ghost use Rattle.std.specs.Prelude.{◌≡◌, ◌++◌, IfOk, OnOk};
-ghost use Rattle.site_pages.specs.Samples.{sample_in, labelled_in, held_samples, association_samples, store_samples, find_samples, served_samples, called_samples, operation_samples, moment_samples, since_samples, samples_in};
+ghost use Rattle.site_pages.specs.Samples.{sample_in, labelled_in, held_samples, association_samples, store_samples};
+ghost use Rattle.site_pages.specs.Samples.{find_samples, served_samples, called_samples, operation_samples};
+ghost use Rattle.site_pages.specs.Samples.{moment_samples, since_samples, samples_in};
 
 use crate::ends::{AssociationEnds, ExchangeEnds};
 use crate::families::Family;

@@ -1,7 +1,8 @@
 //! A search for studies as a query of a C-FIND (PS3.4, section C.4.1).
 
 ghost use Rattle.std.specs.Prelude.{◌≡◌, IfOk};
-ghost use Rattle.site_pages.specs.StudiesPages.{key_of as key_in, query_of as query_in, has_bad_date as has_bad_date_in, Reads};
+ghost use Rattle.site_pages.specs.StudiesPages.{key_of as key_in, query_of as query_in};
+ghost use Rattle.site_pages.specs.StudiesPages.{has_bad_date as has_bad_date_in, Reads};
 
 use archive_page::{Answer, Search, SearchFault, Status, refusal};
 use archive_query::{Asked, Level, Matching, Query};

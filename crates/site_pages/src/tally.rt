@@ -1,7 +1,8 @@
 //! What associations asked for, and how it was answered.
 
 ghost use Rattle.std.specs.Prelude.{◌≡◌};
-ghost use Rattle.site_pages.specs.Tally.{more, no_tally, store_status, with_status, with_store, with_find, with_rows, with_get, sum_of};
+ghost use Rattle.site_pages.specs.Tally.{more, no_tally, store_status, with_status, with_store, with_find, with_rows};
+ghost use Rattle.site_pages.specs.Tally.{with_get, sum_of};
 
 use operation::Taken;
 

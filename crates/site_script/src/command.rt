@@ -4,7 +4,12 @@ ghost use Rattle.std.specs.Prelude.{◌≡◌, IfOk};
 ghost use Rattle.site_script.specs.Fitting.{IsShort, MakesSets};
 ghost use Rattle.site_script.specs.Commands.{offer_in as offer_in_words, buckets_in as buckets_in_words};
 ghost use Rattle.site_script.specs.Commands.{deliver_in as deliver_in_words, old_in as old_in_words};
-ghost use Rattle.site_script.specs.Commands.{site_in as site_in_words, image_in as image_in_words, image_parts, note_in as note_in_words, correct_in as correct_in_words, find_in as find_in_words, get_in as get_in_words, same_in as same_in_words, flagged_in as flagged_in_words, asked as asked_by, command_in as command_in_words, command_of as command_of_line};
+ghost use Rattle.site_script.specs.Commands.{site_in as site_in_words, image_in as image_in_words, image_parts};
+ghost use Rattle.site_script.specs.Commands.{note_in as note_in_words, correct_in as correct_in_words};
+ghost use Rattle.site_script.specs.Commands.{find_in as find_in_words, get_in as get_in_words};
+ghost use Rattle.site_script.specs.Commands.{same_in as same_in_words, flagged_in as flagged_in_words};
+ghost use Rattle.site_script.specs.Commands.{asked as asked_by, command_in as command_in_words};
+ghost use Rattle.site_script.specs.Commands.{command_of as command_of_line};
 
 use crate::key::{Key, keys_in};
 use crate::name::{is_site_name, target_in, view_in};

@@ -2,7 +2,8 @@
 
 ghost use Rattle.std.specs.Prelude.{◌≡◌, ◌∷◌, [], IfOk};
 ghost use Rattle.std.specs.Option.{option_map};
-ghost use Rattle.site_script.specs.Keys.{is_askable as is_askable_tag, key_in as key_in_word, put_key, keys_in as keys_in_words, Puts};
+ghost use Rattle.site_script.specs.Keys.{is_askable as is_askable_tag, key_in as key_in_word, put_key};
+ghost use Rattle.site_script.specs.Keys.{keys_in as keys_in_words, Puts};
 ghost use Rattle.dictionary.specs.declared.elements.TheConstants.{QUERY_RETRIEVE_LEVEL};
 
 use crate::tag::tag_in;

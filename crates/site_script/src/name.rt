@@ -2,7 +2,8 @@
 
 ghost use Rattle.std.specs.Prelude.{◌≡◌, IfOk};
 ghost use Rattle.std.specs.List.{list_all};
-ghost use Rattle.site_script.specs.Names.{is_letter_or_digit as is_letter_or_digit_byte, is_site_name as is_name_of_site, view_in as view_in_word};
+ghost use Rattle.site_script.specs.Names.{is_letter_or_digit as is_letter_or_digit_byte};
+ghost use Rattle.site_script.specs.Names.{is_site_name as is_name_of_site, view_in as view_in_word};
 ghost use Rattle.site_script.specs.Commands.{target_in as target_in_words};
 
 use archive_model::View;

@@ -7,7 +7,10 @@ ghost use Rattle.archive_model.specs.Selection.{selection_of};
 ghost use Rattle.data_set.specs.declared.syntax.Syntax.TheVariants.{Implicit};
 ghost use Rattle.data_set.specs.Written.{IsSet};
 ghost use Rattle.site_script.specs.Sets.{identifier as identifier_of};
-ghost use Rattle.site_script.specs.Retrieves.{first_in as first_of, behind_first as behind_first_of, key_at, study_keys as study_keys_of, series_keys as series_keys_of, image_keys as image_keys_of, named_keys as named_keys_of, in_implicit, SCRIPT_ACCEPTS};
+ghost use Rattle.site_script.specs.Retrieves.{first_in as first_of, behind_first as behind_first_of, key_at};
+ghost use Rattle.site_script.specs.Retrieves.{study_keys as study_keys_of, series_keys as series_keys_of};
+ghost use Rattle.site_script.specs.Retrieves.{image_keys as image_keys_of, named_keys as named_keys_of, in_implicit};
+ghost use Rattle.site_script.specs.Retrieves.{SCRIPT_ACCEPTS};
 
 use crate::command::GetLine;
 use crate::identifier::identifier;

@@ -6,7 +6,12 @@ ghost use Rattle.octets.specs.Gives.{Gives};
 ghost use Rattle.data_set.specs.Written.{IsSet};
 ghost use Rattle.data_set.specs.declared.syntax.Syntax.TheVariants.{Implicit};
 ghost use Rattle.operation.specs.Fault.{is_memory};
-ghost use Rattle.site_script.specs.Sets.{valued, sop_elements, patient_elements, study_elements, image_elements as image_elements_of, note_elements as note_elements_of, note_series as note_series_of, title_sequence as title_sequence_of, named as named_by, images_sequence as images_sequence_of, series_sequence as series_sequence_of, evidence_sequence as evidence_sequence_of, made_of, image_made, note_made};
+ghost use Rattle.site_script.specs.Sets.{valued, sop_elements, patient_elements, study_elements};
+ghost use Rattle.site_script.specs.Sets.{image_elements as image_elements_of, note_elements as note_elements_of};
+ghost use Rattle.site_script.specs.Sets.{note_series as note_series_of, title_sequence as title_sequence_of};
+ghost use Rattle.site_script.specs.Sets.{named as named_by, images_sequence as images_sequence_of};
+ghost use Rattle.site_script.specs.Sets.{series_sequence as series_sequence_of};
+ghost use Rattle.site_script.specs.Sets.{evidence_sequence as evidence_sequence_of, made_of, image_made, note_made};
 
 use crate::command::{ImageLine, NoteLine};
 use bytes::Bytes;

@@ -1,7 +1,10 @@
 //! What sites are, whatever the order in which they took their operations: laws, said as contracts
 //! of functions with nothing to do.
 
-ghost use Rattle.site_state.specs.Laws.{TakingAdds, IsCommutative, IsAssociative, IsIdempotent, UnionIsOfBoth, EqualMaps, EqualContents, EqualPicks, EqualCovers, EqualShown, EqualFlagged, EqualAttributes, EqualCounts, EqualTops, NoteBeforeIsNoteAfter, NamedIsNotShown, TakenIsSite, OperationsAscend, PickHasLeastDigest};
+ghost use Rattle.site_state.specs.Laws.{TakingAdds, IsCommutative, IsAssociative, IsIdempotent, UnionIsOfBoth};
+ghost use Rattle.site_state.specs.Laws.{EqualMaps, EqualContents, EqualPicks, EqualCovers, EqualShown, EqualFlagged};
+ghost use Rattle.site_state.specs.Laws.{EqualAttributes, EqualCounts, EqualTops, NoteBeforeIsNoteAfter};
+ghost use Rattle.site_state.specs.Laws.{NamedIsNotShown, TakenIsSite, OperationsAscend, PickHasLeastDigest};
 
 /// An operation that is taken, new or known, is added to the site.
 pub fn taking_adds_the_operation()

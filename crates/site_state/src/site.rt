@@ -1,6 +1,7 @@
 //! One site.
 
-ghost use Rattle.std.specs.Prelude.{◌≡◌, ◌≢◌, ◌↔◌, List, ℕ, Some, None, Ok, Err, OnOk, OnErr, IfOk, IfSome, IsTrue, map, filter};
+ghost use Rattle.std.specs.Prelude.{◌≡◌, ◌≢◌, ◌↔◌, List, ℕ, Some, None, Ok, Err, OnOk, OnErr, IfOk, IfSome, IsTrue};
+ghost use Rattle.std.specs.Prelude.{map, filter};
 ghost use Rattle.archive_model.specs.Contents.{flagged as flagged_in, pick as pick_in};
 ghost use Rattle.archive_model.specs.Covered.{is_covered as is_covered_in};
 ghost use Rattle.archive_model.specs.Shown.{shown_at};
@@ -10,7 +11,9 @@ ghost use Rattle.std.specs.FinMap as finmap;
 ghost use Rattle.std.specs.List.Sorted.{IsStrictlySortedBy};
 ghost use Rattle.octets.specs.Texts.{text_cmp};
 ghost use Rattle.operation.specs.Spelling.{digest_of};
-ghost use Rattle.site_state.specs.Site.{IsSite, Map, digests_of, is_missing as is_missing_in, ops_of, held_at, with_op, IsClash, Takes, counter_of as counter_of_op, top_counter_of, counts_of};
+ghost use Rattle.site_state.specs.Site.{IsSite, Map, digests_of, is_missing as is_missing_in, ops_of, held_at};
+ghost use Rattle.site_state.specs.Site.{with_op, IsClash, Takes, counter_of as counter_of_op, top_counter_of};
+ghost use Rattle.site_state.specs.Site.{counts_of};
 ghost use Rattle.study_index.specs.Definition.{IsIndexOf, index_value, IsLawful, AreLawful};
 ghost use Rattle.site_state.specs.Union.{union, DoClash, Agree};
 ghost use Rattle.site_state.specs.Hidden.{hides_under, is_hidden as is_hidden_in, content_held};

@@ -7,7 +7,9 @@ ghost use Rattle.operation.specs.declared.op.Op.TheVariants.{Content as a_conten
 ghost use Rattle.operation.specs.Spelling.{digest_of};
 ghost use Rattle.archive_model.specs.Contents.{pick as pick_in};
 ghost use Rattle.site_state.specs.Site.{ops_of};
-ghost use Rattle.site_tables.specs.Conflicts.{digest_if, is_this as is_this_in, with_pick as with_pick_in, conflict_row as row_of, conflicts_in, conflicts_among, conflicts_of, conflicts as conflicts_all, conflict_rows as rows_in, instance_pair};
+ghost use Rattle.site_tables.specs.Conflicts.{digest_if, is_this as is_this_in, with_pick as with_pick_in};
+ghost use Rattle.site_tables.specs.Conflicts.{conflict_row as row_of, conflicts_in, conflicts_among, conflicts_of};
+ghost use Rattle.site_tables.specs.Conflicts.{conflicts as conflicts_all, conflict_rows as rows_in, instance_pair};
 ghost use Rattle.site_tables.specs.Under.{pair_of, pairs, has_under, own_pair, AreInOrder, Holds};
 
 use crate::cells::{hex_digits, word};

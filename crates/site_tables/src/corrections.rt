@@ -8,7 +8,9 @@ ghost use Rattle.operation.specs.Parts.{key_of as key_in};
 ghost use Rattle.archive_model.specs.Attributes.{corrections as corrections_in, correction_in};
 ghost use Rattle.std.specs.Option.{option_copied};
 ghost use Rattle.site_state.specs.Site.{ops_of};
-ghost use Rattle.site_tables.specs.Corrections.{kind_word, target_cmp, order_cmp, AreInOrder, counts as counts_in, with_count as with_count_in, correction_row as row_of, AreCorrections, AreCorrectionRows};
+ghost use Rattle.site_tables.specs.Corrections.{kind_word, target_cmp, order_cmp, AreInOrder, counts as counts_in};
+ghost use Rattle.site_tables.specs.Corrections.{with_count as with_count_in, correction_row as row_of};
+ghost use Rattle.site_tables.specs.Corrections.{AreCorrections, AreCorrectionRows};
 
 use crate::cells::word;
 use crate::table::Row;

@@ -6,7 +6,11 @@ ghost use Rattle.std.specs.Option.{option_copied};
 ghost use Rattle.archive_model.specs.Covered.{is_among as is_among_in};
 ghost use Rattle.archive_model.specs.Index.{names_under as names_under_in};
 ghost use Rattle.site_state.specs.Site.{ops_of};
-ghost use Rattle.site_tables.specs.Rejected.{note_of, notes_of, named_by, covered_uids as covered_in, is_naming as is_naming_in, naming as naming_in, is_titled as is_titled_in, code_under, codes as codes_in, rejected_row as row_of, rows_named as rows_in, rejected_rows as rejected_rows_in, named_pairs, row_by};
+ghost use Rattle.site_tables.specs.Rejected.{note_of, notes_of, named_by, covered_uids as covered_in};
+ghost use Rattle.site_tables.specs.Rejected.{is_naming as is_naming_in, naming as naming_in};
+ghost use Rattle.site_tables.specs.Rejected.{is_titled as is_titled_in, code_under, codes as codes_in};
+ghost use Rattle.site_tables.specs.Rejected.{rejected_row as row_of, rows_named as rows_in};
+ghost use Rattle.site_tables.specs.Rejected.{rejected_rows as rejected_rows_in, named_pairs, row_by};
 ghost use Rattle.site_tables.specs.Under.{pairs, AreInOrder, Holds};
 
 use crate::copies::{copies_of, references};

@@ -5,7 +5,9 @@ ghost use Rattle.std.specs.Fmt.{decimal};
 ghost use Rattle.std.specs.Option.{option_copied};
 ghost use Rattle.archive_query.specs.Found.{rows_found as rows_found_in};
 ghost use Rattle.site_state.specs.Site.{ops_of};
-ghost use Rattle.site_tables.specs.Studies.{asked_of as asked_in, study_query as query_in, pick_of_short, rejected_picks as rejected_in, row_with, rows_taken, study_rows as rows_in, study_pair, row_by, value_or_none, AreTaken};
+ghost use Rattle.site_tables.specs.Studies.{asked_of as asked_in, study_query as query_in, pick_of_short};
+ghost use Rattle.site_tables.specs.Studies.{rejected_picks as rejected_in, row_with, rows_taken};
+ghost use Rattle.site_tables.specs.Studies.{study_rows as rows_in, study_pair, row_by, value_or_none, AreTaken};
 ghost use Rattle.site_tables.specs.Under.{pairs, held_under, AreInOrder, Holds};
 
 use crate::copies::{copies_of, references};

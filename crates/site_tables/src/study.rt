@@ -7,9 +7,13 @@ ghost use Rattle.archive_model.specs.Attributes.{is_target_of};
 ghost use Rattle.archive_model.specs.Shown.{shown_at};
 ghost use Rattle.archive_model.specs.declared.view.View.TheVariants.{Archive};
 ghost use Rattle.site_state.specs.Site.{ops_of};
-ghost use Rattle.site_tables.specs.Study.{selection_of, with_shown as with_shown_in, instances_of as instances_in, prepared_instance, IsTakenStudy};
-ghost use Rattle.site_tables.specs.Study.{instance_row as instance_row_of, instance_row_by, instance_rows as instance_rows_of};
-ghost use Rattle.site_tables.specs.Study.{is_of as is_of_in, concerns as concerns_in, stored_values as stored_values_in, change_row as change_row_of, change_rows as change_rows_of};
+ghost use Rattle.site_tables.specs.Study.{selection_of, with_shown as with_shown_in, instances_of as instances_in};
+ghost use Rattle.site_tables.specs.Study.{prepared_instance, IsTakenStudy};
+ghost use Rattle.site_tables.specs.Study.{instance_row as instance_row_of, instance_row_by};
+ghost use Rattle.site_tables.specs.Study.{instance_rows as instance_rows_of};
+ghost use Rattle.site_tables.specs.Study.{is_of as is_of_in, concerns as concerns_in};
+ghost use Rattle.site_tables.specs.Study.{stored_values as stored_values_in, change_row as change_row_of};
+ghost use Rattle.site_tables.specs.Study.{change_rows as change_rows_of};
 ghost use Rattle.site_tables.specs.Under.{AreInOrder};
 
 use crate::cells::word;

@@ -1,5 +1,6 @@
 -- Walks of leads: what is put in, and what stands between a front and an end.
-use Rattle.std.proofs.Common.{◌≡◌, ℕ, Bool, true, false, cond, List, [], ◌∷◌, ◌++◌, ◌+◌, refl, sym, ap, ◌∙◌, map, take, arith}
+use Rattle.std.proofs.Common.{◌≡◌, ℕ, Bool, true, false, cond, List, [], ◌∷◌, ◌++◌, ◌+◌, refl, sym, ap, ◌∙◌, map}
+use Rattle.std.proofs.Common.{take, arith}
 use Rattle.std.specs.Prelude.{◌||◌, ◌&&◌, not, ◌-◌, ◌<◌, length}
 use Rattle.std.proofs.Common.{get_or, drop}
 use Rattle.std.proofs.lemmas.Bool.{eqb-true, false≢true}

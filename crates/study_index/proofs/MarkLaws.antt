@@ -1,5 +1,6 @@
 -- Marks of texts: a run has no mark that a text lacks in which it stands.
-use Rattle.std.proofs.Common.{◌≡◌, ℕ, Bool, true, false, List, [], ◌∷◌, ◌+◌, ◌/◌, sym, ap, subst, ◌∙◌, take, arith, inl, inr, ⊎_elim, cond, mod-lt, ◌<◌, ◌^◌, ◌%◌, ◌*◌}
+use Rattle.std.proofs.Common.{◌≡◌, ℕ, Bool, true, false, List, [], ◌∷◌, ◌+◌, ◌/◌, sym, ap, subst, ◌∙◌, take, arith}
+use Rattle.std.proofs.Common.{inl, inr, ⊎_elim, cond, mod-lt, ◌<◌, ◌^◌, ◌%◌, ◌*◌}
 use Rattle.std.specs.Prelude.{◌||◌, ◌==◌, ◌⊎◌, nat_le, length}
 use Rattle.std.specs.Int.Bits.{bit_or, or_self, or_zero_l, or_zero_r}
 use Rattle.std.proofs.lemmas.Bool.{eqb-true, eq-eqb, true≢false, false≢true, and_parts, or_cases, cases_Bool}

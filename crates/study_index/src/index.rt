@@ -1,5 +1,6 @@
 //! The index of a set of operations.
-ghost use Rattle.std.specs.Prelude.{◌≡◌, ◌<◌, ◌≤◌, ◌||◌, [], ◌∷◌, length, map, List, ℕ, OnOk, OnErr, IfOk, Option, None, Some, IfSome};
+ghost use Rattle.std.specs.Prelude.{◌≡◌, ◌<◌, ◌≤◌, ◌||◌, [], ◌∷◌, length, map, List, ℕ, OnOk, OnErr, IfOk, Option};
+ghost use Rattle.std.specs.Prelude.{None, Some, IfSome};
 ghost use Rattle.std.specs.List.{filter};
 ghost use Rattle.std.specs.Option.{option_copied, option_map};
 ghost use Rattle.std.specs.Map.{keys_of as uids_in};
@@ -12,7 +13,8 @@ ghost use Rattle.archive_model.specs.Index.{code_of};
 ghost use Rattle.join_laws.specs.GrowSet.{union_of};
 ghost use Rattle.study_index.specs.Copies.{is_doubled};
 ghost use Rattle.study_index.specs.Keys.{has};
-ghost use Rattle.study_index.specs.Live.{pick_at, HasStudy, HasSeries, HasInstance, IsNext, picks_joined, is_of_study, is_of_series, tree_of, places_in_study};
+ghost use Rattle.study_index.specs.Live.{pick_at, HasStudy, HasSeries, HasInstance, IsNext, picks_joined};
+ghost use Rattle.study_index.specs.Live.{is_of_study, is_of_series, tree_of, places_in_study};
 ghost use Rattle.study_index.specs.Index.{IsIndex, index_joined, index_of, nothing, fixes_joined, titles_of, a_naming};
 ghost use Rattle.study_index.specs.Index.{naming_cmp, a_copy, copy_cmp, fix_key, fix_at, short_fix_at, latest_at};
 ghost use Rattle.study_index.specs.Index.{named, with_content};

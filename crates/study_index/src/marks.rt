@@ -3,7 +3,8 @@
 //! A run of bytes has no mark that a text lacks in which it stands. So a text that lacks one of
 //! them need not be read.
 ghost use Rattle.std.specs.Prelude.{◌≡◌};
-ghost use Rattle.study_index.specs.Marks.{mark_of, marks_behind as marks_behind_in, marks_of as marks_of_in, value_marks as value_marks_in};
+ghost use Rattle.study_index.specs.Marks.{mark_of, marks_behind as marks_behind_in, marks_of as marks_of_in};
+ghost use Rattle.study_index.specs.Marks.{value_marks as value_marks_in};
 
 use crate::short_text::ShortText;
 

@@ -6,7 +6,9 @@ ghost use Rattle.octets.specs.Texts.{text_cmp};
 ghost use Rattle.operation.specs.declared.op.Op.TheVariants.{Content as a_content, Correction as a_correction};
 ghost use Rattle.join_laws.specs.GrowSet.{union_of};
 ghost use Rattle.study_index.specs.Keys.{has};
-ghost use Rattle.study_index.specs.Leads.{lead_cmp, leads_of, stored_lead, is_between, is_led, is_walked, walk_of, may_have as may_have_in, is_homed, leads_to, home_front as home_front_in, home_end as home_end_in};
+ghost use Rattle.study_index.specs.Leads.{lead_cmp, leads_of, stored_lead, is_between, is_led, is_walked, walk_of};
+ghost use Rattle.study_index.specs.Leads.{may_have as may_have_in, is_homed, leads_to, home_front as home_front_in};
+ghost use Rattle.study_index.specs.Leads.{home_end as home_end_in};
 
 use crate::lead_walk::LeadWalk;
 use crate::leads::{Lead, led};

@@ -6,7 +6,8 @@ use Rattle.ul_state.specs.declared.table.Kind.{Kind}
 use Rattle.ul_state.specs.declared.table.Kind.TheVariants.{AcceptableRq, OtherRq, PData, ReleaseRq, Abort, OtherPdu}
 use Rattle.ul_state.specs.declared.table.Kind.TheVariants.{UnknownPdu, FaultyPdu, StreamEnd, LocalAbort}
 use Rattle.ul_state.specs.declared.table.ActionKind.{ActionKind}
-use Rattle.ul_state.specs.declared.table.ActionKind.TheVariants.{Nothing, SendAccept, SendReject, SendReleaseRp, AbortAsUser}
+use Rattle.ul_state.specs.declared.table.ActionKind.TheVariants.{Nothing, SendAccept, SendReject, SendReleaseRp}
+use Rattle.ul_state.specs.declared.table.ActionKind.TheVariants.{AbortAsUser}
 use Rattle.ul_state.specs.declared.table.ActionKind.TheVariants.{AbortAsProvider, HandOn, Close}
 
 -- what the machine does

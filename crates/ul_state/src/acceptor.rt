@@ -6,7 +6,9 @@ ghost use Rattle.pdu.specs.declared.value.Pdu.TheVariants.{Abort};
 ghost use Rattle.ul_state.specs.declared.event.Action.TheVariants.{Send};
 ghost use Rattle.ul_state.specs.declared.table.ActionKind.TheVariants.{HandOn};
 ghost use Rattle.ul_state.specs.declared.table.State.TheVariants.{Sta2};
-ghost use Rattle.ul_state.specs.Acceptor.{kind_for, kind_for_pdu, acceptance_for, rejection_for, hand_for, action_for, actions_for, state_on, settled_for, settled_by, HasLawfulPdu, CanBeWritten};
+ghost use Rattle.ul_state.specs.Acceptor.{kind_for, kind_for_pdu, acceptance_for, rejection_for, hand_for};
+ghost use Rattle.ul_state.specs.Acceptor.{action_for, actions_for, state_on, settled_for, settled_by, HasLawfulPdu};
+ghost use Rattle.ul_state.specs.Acceptor.{CanBeWritten};
 
 use crate::answer::{accept_of, contexts_of};
 use crate::decision::admission;

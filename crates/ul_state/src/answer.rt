@@ -3,7 +3,9 @@
 ghost use Rattle.std.specs.Prelude.{◌≡◌, map, filter, IfOk, OnOk};
 ghost use Rattle.std.specs.List.{AllByRecursion};
 ghost use Rattle.pdu.specs.Spelling.{FitsRequest, FitsAccept};
-ghost use Rattle.ul_state.specs.Answer.{is_verification_or_query, is_storage, has_scp, has_scp_role, proposes, chosen, taken_syntax, answer_number, answer_syntax, answered, accepted, opening_back, accept_for, contexts_for, HasByteId};
+ghost use Rattle.ul_state.specs.Answer.{is_verification_or_query, is_storage, has_scp, has_scp_role, proposes};
+ghost use Rattle.ul_state.specs.Answer.{chosen, taken_syntax, answer_number, answer_syntax, answered, accepted};
+ghost use Rattle.ul_state.specs.Answer.{opening_back, accept_for, contexts_for, HasByteId};
 
 use dictionary::{
     EXPLICIT_VR_LITTLE_ENDIAN, IMPLICIT_VR_LITTLE_ENDIAN, STORAGE_ROOT, STUDY_ROOT_FIND,

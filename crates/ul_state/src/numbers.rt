@@ -2,7 +2,8 @@
 
 ghost use Rattle.std.specs.Prelude.{◌≡◌, codes};
 ghost use Rattle.ul_state.specs.declared.admission.TheConstants.{LEAST_MAXIMUM};
-ghost use Rattle.ul_state.specs.declared.answer.TheConstants.{IMPLEMENTATION_CLASS, MAXIMUM_LENGTH, ACCEPTANCE, NO_ABSTRACT_SYNTAX, NO_TRANSFER_SYNTAX};
+ghost use Rattle.ul_state.specs.declared.answer.TheConstants.{IMPLEMENTATION_CLASS, MAXIMUM_LENGTH, ACCEPTANCE};
+ghost use Rattle.ul_state.specs.declared.answer.TheConstants.{NO_ABSTRACT_SYNTAX, NO_TRANSFER_SYNTAX};
 
 /// What an acceptance says of this archive (PS3.8, section D.1; PS3.7, section D.3.3.2), the least
 /// maximum length that a peer may say, and the answers to a context (PS3.8, section 9.3.3.2).

@@ -3,7 +3,8 @@
 ghost use Rattle.std.specs.Prelude.{◌≡◌};
 ghost use Rattle.std.specs.List.{list_any};
 ghost use Rattle.std.specs.Option.{option_copied};
-ghost use Rattle.ul_state.specs.Titles.{is_space, without_front, without_end, without_spaces, title_of, may_call, is_text};
+ghost use Rattle.ul_state.specs.Titles.{is_space, without_front, without_end, without_spaces, title_of, may_call};
+ghost use Rattle.ul_state.specs.Titles.{is_text};
 
 use octets::{ListOf, Octets};
 

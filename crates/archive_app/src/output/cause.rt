@@ -1,7 +1,10 @@
 //! Why a command is refused, in words: the second line on standard error.
 
 ghost use Rattle.std.specs.Prelude.{◌≡◌};
-ghost use Rattle.archive_app.specs.Causes.{SaysFullOfAFullDisk, words_of_file, words_of_net, words_of_part, words_of_fault, words_of as words_in, file_cause_of as file_cause_in, file_cause_in_error, listen_cause_of as listen_cause_in, reach_cause_of as reach_cause_in};
+ghost use Rattle.archive_app.specs.Causes.{SaysFullOfAFullDisk, words_of_file, words_of_net, words_of_part};
+ghost use Rattle.archive_app.specs.Causes.{words_of_fault, words_of as words_in, file_cause_of as file_cause_in};
+ghost use Rattle.archive_app.specs.Causes.{file_cause_in_error, listen_cause_of as listen_cause_in};
+ghost use Rattle.archive_app.specs.Causes.{reach_cause_of as reach_cause_in};
 
 use crate::output::ending::CommandFault;
 use archive_server::{NetFault, words_of_shelf};

@@ -9,7 +9,8 @@ ghost use Rattle.association_run.specs.Fault.{number_of as number_of_run};
 ghost use Rattle.exchange.specs.Fault.{number_of_exchange};
 ghost use Rattle.archive_server.specs.Fault.{number_of as number_of_net};
 ghost use Rattle.archive_app.specs.Ending.{fault_line, line_of_fault, fault_of_shelved, fault_of_served};
-ghost use Rattle.archive_app.specs.declared.output.ending.CommandFault.TheVariants.{Simulate, Shelf, Site, Hub, Exchange};
+ghost use Rattle.archive_app.specs.declared.output.ending.CommandFault.TheVariants.{Simulate, Shelf, Site, Hub};
+ghost use Rattle.archive_app.specs.declared.output.ending.CommandFault.TheVariants.{Exchange};
 ghost use Rattle.site_state.specs.declared.fault.SiteFault.TheVariants.{Memory};
 
 use archive_server::{NetFault, ServeFault};

@@ -4,7 +4,8 @@ ghost use Rattle.std.specs.Prelude.{◌≡◌, ◌++◌, ◌∷◌, [], OnOk, If
 ghost use Rattle.std.specs.List.{flat_map};
 ghost use Rattle.hex.specs.Hex.{encode_lower};
 ghost use Rattle.site_simulation.specs.Texts.{line, end_line, message_line, stamp_line};
-ghost use Rattle.archive_app.specs.Lines.{count_lines, exchange_lines, finished_line, flagged_line, move_lines, report_lines};
+ghost use Rattle.archive_app.specs.Lines.{count_lines, exchange_lines, finished_line, flagged_line, move_lines};
+ghost use Rattle.archive_app.specs.Lines.{report_lines};
 ghost use Rattle.archive_app.specs.Lines.{fingerprint_line, fingerprint_lines, store_lines};
 
 use exchange::Ended;

@@ -1,7 +1,8 @@
 //! What a command says beside its answer, on standard error.
 
 ghost use Rattle.std.specs.Prelude.{◌≡◌};
-ghost use Rattle.archive_app.specs.Notes.{words_of_note, is_database as is_database_in, is_other as is_other_in, lacks_log as lacks_log_in, names_folder as names_folder_in};
+ghost use Rattle.archive_app.specs.Notes.{words_of_note, is_database as is_database_in, is_other as is_other_in};
+ghost use Rattle.archive_app.specs.Notes.{lacks_log as lacks_log_in, names_folder as names_folder_in};
 
 /// What a command says beside its answer.
 #[derive(Clone, Copy, Debug, PartialEq, Eq)]
