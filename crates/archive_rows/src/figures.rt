@@ -35,6 +35,8 @@ use crate::figures::words::word;
 use anyhow::{Result, anyhow};
 use std::alloc::{AllocError, Global};
 use std::rt::HostRuntime;
+use std::sync::Wait;
+use std::thread::Threads;
 
 /// The words of a row, whose first is its kind.
 pub fn words_of(alloc: Global, row: &str) -> Result<Vec<String>, AllocError> {
@@ -58,20 +60,20 @@ fn log_holds(rt: &HostRuntime, words: &[String]) -> Result<()> {
 }
 
 /// Prints the figure that the second word names, by the words behind it.
-pub fn tell(rt: &HostRuntime, words: &[String]) -> Result<()> {
+pub fn tell<R: Threads + Wait + Sync>(rt: &HostRuntime, host: &R, words: &[String]) -> Result<()> {
     match word(words, 1)? {
         "holds" => {
-            hubs::seen(rt, rt, words)?;
-            hubs::went_on(rt, rt)?;
+            hubs::seen(rt, host, words)?;
+            hubs::went_on(rt, host)?;
             log_holds(rt, words)
         }
-        "course" => hubs::went_on(rt, rt),
-        "publish" => hubs::published(rt, rt, words),
-        "look" => hubs::looked(rt, rt, words),
-        "find" => hubs::found(rt, rt, words),
-        "wait" => hubs::awaited(rt, rt, words),
-        "site" => hubs::held(rt, rt, words, false),
-        "hub" => hubs::held(rt, rt, words, true),
+        "course" => hubs::went_on(rt, host),
+        "publish" => hubs::published(rt, host, words),
+        "look" => hubs::looked(rt, host, words),
+        "find" => hubs::found(rt, host, words),
+        "wait" => hubs::awaited(rt, host, words),
+        "site" => hubs::held(rt, host, words, false),
+        "hub" => hubs::held(rt, host, words, true),
         "put" => log_told(rt, words, Work::Put),
         "open" => log_told(rt, words, Work::Open),
         "load" => log_told(rt, words, Work::Load),

@@ -19,12 +19,21 @@ mod text;
 use anyhow::Result;
 use rows::Rows;
 use std::env;
+use std::rt::HostRuntime;
+use std::sync::Wait;
+use std::thread::Threads;
 
 /// Prints what a row tells.
-fn tell(rt: &HostRuntime, rows: &mut Rows, out: &mut String, row: &str) -> Result<()> {
+fn tell<R: Threads + Wait + Sync>(
+    rt: &HostRuntime,
+    host: &R,
+    rows: &mut Rows,
+    out: &mut String,
+    row: &str,
+) -> Result<()> {
     if row.starts_with("figure ") {
         let words = figures::words_of(rt.alloc(), row)?;
-        return figures::tell(rt, words.as_slice());
+        return figures::tell(rt, host, words.as_slice());
     }
     out.clear();
     rows.put(out, row)?;
@@ -36,12 +45,12 @@ fn tell(rt: &HostRuntime, rows: &mut Rows, out: &mut String, row: &str) -> Resul
 fn main(rt: HostRuntime) -> Result<()> {
     let words: Vec<String> = env::args(&rt)?.collect(rt.alloc())?;
     if words.len() > 1 {
-        return figures::tell(&rt, words.as_slice());
+        return figures::tell(&rt, &rt, words.as_slice());
     }
     let mut rows = Rows::new(rt.alloc())?;
     let mut out = String::new(rt.alloc());
     for line in rt.lines(rt.alloc()) {
-        tell(&rt, &mut rows, &mut out, line?.as_str())?;
+        tell(&rt, &rt, &mut rows, &mut out, line?.as_str())?;
     }
     Ok(())
 }
