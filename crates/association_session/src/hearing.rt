@@ -8,20 +8,30 @@ ghost use Rattle.dimse.specs.Sending.{IsWhole};
 ghost use Rattle.association_session.specs.declared.event.SessionEvent.TheVariants.{Heard, GoesOn};
 ghost use Rattle.association_session.specs.Row.{row};
 ghost use Rattle.association_session.specs.Session.{Turned, entered, IsWritable};
-ghost use Rattle.association_session.specs.inner.Association.{Answered};
+ghost use Rattle.association_session.specs.inner.Association.{Answered, cancelled_in};
 
 use crate::association::Association;
 use crate::deed::Deed;
 use crate::deeds::Deeds;
-use crate::pending_response::{PendingResponse, pending_for};
+use crate::pending_response::{PendingResponse, leave};
 use crate::row::{parted, turn};
 use crate::telling::{asks, one, respond, sends};
 use archive_model::View;
-use association_services::{Awaited, Call, Meaning, Service, serve};
+use association_services::{Awaited, Call, Meaning, Service, SubOperation, serve};
 use dimse::Message;
 use std::alloc::AllocError;
 use std::collections::VecDeque;
 use ul_state::{Event, Titles};
+
+/// Where a sub-operation is awaited, no other is begun behind it.
+fn cancel(sub: &mut Option<SubOperation>)
+    ensures { sub.new ≡ cancelled_in sub.old }
+{
+    let Some(one) = sub.take() else {
+        return;
+    };
+    *sub = Some(one.cancel());
+}
 
 impl Association {
     /// Takes an event by the table's row. The values that are handed on are left to be heard.
@@ -112,21 +122,27 @@ impl Association {
         ensures fewer { OnOk result (length self.new.queue ≤ length self.old.queue) }
         ensures writable { IfOk result (All IsWritable) }
     {
-        let Some(sub) = self.sub.take() else {
+        let Some(sub) = &self.sub else {
             return self.answer(titles, message);
         };
-        let meaning = sub.meaning(&message.command);
         sub.progress.awaited.see_room();
+        let meaning = sub.meaning(&message.command);
         drop(message);
         match meaning {
             Meaning::Cancelled => {
-                self.sub = Some(sub.cancel());
+                cancel(&mut self.sub);
                 Ok(Deeds::new(self.alloc))
             }
-            Meaning::Unawaited => self.abort(titles),
+            Meaning::Unawaited => {
+                self.sub = None;
+                self.abort(titles)
+            }
             Meaning::Performed(outcome) => {
+                let Some(sub) = self.sub.take() else {
+                    unreachable!();
+                };
                 let (pdus, next) = sub.perform(self.alloc, outcome)?;
-                self.awaited = pending_for(next);
+                leave(&mut self.awaited, next);
                 sends(self.alloc, pdus)
             }
         }

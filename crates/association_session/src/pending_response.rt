@@ -66,11 +66,19 @@ pub(crate) fn is_telling(pending: &PendingResponse) -> bool
 }
 
 /// What goes on of a C-GET.
-pub(crate) fn pending_for(retrieval: Option<Retrieval>) -> Option<PendingResponse>
+fn pending_for(retrieval: Option<Retrieval>) -> Option<PendingResponse>
     ensures { result ≡ pending_of retrieval }
 {
     match retrieval {
         None => None,
         Some(retrieval) => Some(PendingResponse::Sending(retrieval)),
     }
+}
+
+/// Leaves what goes on of a C-GET to be told.
+// What was left before is dropped here, so that a caller does not prove again how each kind is.
+pub(crate) fn leave(pending: &mut Option<PendingResponse>, retrieval: Option<Retrieval>)
+    ensures { pending.new ≡ pending_of retrieval }
+{
+    *pending = pending_for(retrieval);
 }
