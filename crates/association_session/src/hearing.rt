@@ -8,30 +8,20 @@ ghost use Rattle.dimse.specs.Sending.{IsWhole};
 ghost use Rattle.association_session.specs.declared.event.SessionEvent.TheVariants.{Heard, GoesOn};
 ghost use Rattle.association_session.specs.Row.{row};
 ghost use Rattle.association_session.specs.Session.{Turned, entered, IsWritable};
-ghost use Rattle.association_session.specs.inner.Association.{Answered, cancelled_in};
+ghost use Rattle.association_session.specs.inner.Association.{Answered};
 
 use crate::association::Association;
 use crate::deed::Deed;
 use crate::deeds::Deeds;
-use crate::pending_response::{PendingResponse, leave};
+use crate::pending_response::{PendingResponse, cancel, leave, put};
 use crate::row::{parted, turn};
 use crate::telling::{asks, one, respond, sends};
 use archive_model::View;
-use association_services::{Awaited, Call, Meaning, Service, SubOperation, serve};
+use association_services::{Awaited, Call, Meaning, Service, serve};
 use dimse::Message;
 use std::alloc::AllocError;
 use std::collections::VecDeque;
 use ul_state::{Event, Titles};
-
-/// Where a sub-operation is awaited, no other is begun behind it.
-fn cancel(sub: &mut Option<SubOperation>)
-    ensures { sub.new ≡ cancelled_in sub.old }
-{
-    let Some(one) = sub.take() else {
-        return;
-    };
-    *sub = Some(one.cancel());
-}
 
 impl Association {
     /// Takes an event by the table's row. The values that are handed on are left to be heard.
@@ -134,7 +124,7 @@ impl Association {
                 Ok(Deeds::new(self.alloc))
             }
             Meaning::Unawaited => {
-                self.sub = None;
+                put(&mut self.sub, None);
                 self.abort(titles)
             }
             Meaning::Performed(outcome) => {

@@ -11,7 +11,7 @@ ghost use Rattle.archive_model.specs.declared.view.View.{View};
 
 use crate::association::Association;
 use crate::deeds::Deeds;
-use crate::pending_response::{PendingResponse, Telling, takes};
+use crate::pending_response::{PendingResponse, Telling, put, takes};
 use crate::telling::{respond, sends, tell};
 use archive_model::{Answers, Prepared};
 use association_services::{
@@ -149,11 +149,11 @@ impl Association {
         retrieval.progress.awaited.see_room();
         match retrieval.begin(self.alloc, self.link.contexts())? {
             Begun::Ended(pdus) => {
-                self.sub = None;
+                put(&mut self.sub, None);
                 sends(self.alloc, pdus)
             }
             Begun::Sent(pdus, sub) => {
-                self.sub = Some(sub);
+                put(&mut self.sub, Some(sub));
                 sends(self.alloc, pdus)
             }
             Begun::Unsent(pdus, retrieval) => {
