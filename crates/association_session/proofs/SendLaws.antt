@@ -290,6 +290,9 @@ attended_broken titles now mid new m sub deeds opened idle has means is sent nex
     answered_broken titles now mid new m deeds opened idle is sent next
     (λ abort gets gone rs rest p. attends_as now.sub sub Unawaited now.within m abort gets gone rs rest has means p)
 
+pub same_sub : (o : Option SubOperation) (a b : SubOperation) → o ≡ Some a → o ≡ Some b → a ≡ b
+same_sub o a b p q = cc
+
 goes_on_by : (next : Option Retrieval) (contexts : List Context) (gets : GoesBy) (rs : List Reply) (rest : List Deed)
     → OwedFor contexts (pending_of next) gets (gets None) rs rest → GoesOnBy next contexts gets rs rest
 goes_on_by None contexts gets rs rest owed = owed

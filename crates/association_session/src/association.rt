@@ -1,6 +1,8 @@
 //! Where an association is, and what it does on one event, one message or one reply.
 
-ghost use Rattle.std.specs.Prelude.{◌≡◌, [], IfOk, OnOk, IsTrue, All, false};
+ghost use Rattle.std.specs.Prelude.{◌≡◌, [], IfOk, OnOk, IsTrue, All, List, false};
+ghost use Rattle.ul_state.specs.declared.titles.Title.{Title};
+ghost use Rattle.archive_model.specs.declared.view.View.{View};
 ghost use Rattle.std.specs.Option.{option_copied};
 ghost use Rattle.association_session.specs.declared.event.SessionEvent.TheVariants.{GoesOn};
 ghost use Rattle.association_session.specs.PendingResponse.{tells_rows};
@@ -142,6 +144,21 @@ impl Association {
         self.awaited = Some(pending);
     }
 
+    /// Tells the rows that are left, or begins the sub-operations that are left.
+    fn tell_on(&mut self) -> Result<Deeds, AllocError>
+        requires { IsTrue (tells_rows self.old.awaited) }
+        ensures turned { (titles : List (Title View)) → IfOk result (λ deeds.
+            Turned titles self.old GoesOn deeds self.new) }
+        ensures fewer { OnOk result (IsFewer GoesOn self.old self.new) }
+        ensures writable { IfOk result (All IsWritable) }
+    {
+        match self.awaited.take() {
+            Some(PendingResponse::Rows(telling)) => self.tell_rows(telling),
+            Some(PendingResponse::Sending(retrieval)) => self.send_on(retrieval),
+            _ => unreachable!(),
+        }
+    }
+
     /// Tells the rows that are left, begins the sub-operations that are left, or hears the values
     /// that are left. While a reply is awaited nothing goes on.
     fn go_on(&mut self, titles: &Titles<View>) -> Result<Deeds, AllocError>
@@ -154,20 +171,16 @@ impl Association {
         ensures kept { is_in_turn self.old GoesOn ≡ false → OnOk result (self.new ≡ self.old) }
         ensures writable { IfOk result (All IsWritable) }
     {
-        match self.awaited.take() {
-            Some(PendingResponse::Rows(telling)) => self.tell_rows(telling),
-            Some(PendingResponse::Sending(retrieval)) => self.send_on(retrieval),
-            Some(awaited) => {
-                self.awaited = Some(awaited);
-                Ok(Deeds::new(self.alloc))
+        let Some(pending) = &self.awaited else {
+            if self.is_left() {
+                return self.hear_values(titles);
             }
-            None => {
-                if self.is_left() {
-                    return self.hear_values(titles);
-                }
-                Ok(Deeds::new(self.alloc))
-            }
+            return Ok(Deeds::new(self.alloc));
+        };
+        if !is_telling(pending) {
+            return Ok(Deeds::new(self.alloc));
         }
+        self.tell_on()
     }
 
     /// Whether this comes in its turn.

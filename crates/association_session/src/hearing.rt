@@ -13,7 +13,7 @@ ghost use Rattle.association_session.specs.inner.Association.{Answered};
 use crate::association::Association;
 use crate::deed::Deed;
 use crate::deeds::Deeds;
-use crate::pending_response::{PendingResponse, pending_for};
+use crate::pending_response::{PendingResponse, cancel, leave, put};
 use crate::row::{parted, turn};
 use crate::telling::{asks, one, respond, sends};
 use archive_model::View;
@@ -112,21 +112,27 @@ impl Association {
         ensures fewer { OnOk result (length self.new.queue ≤ length self.old.queue) }
         ensures writable { IfOk result (All IsWritable) }
     {
-        let Some(sub) = self.sub.take() else {
+        let Some(sub) = &self.sub else {
             return self.answer(titles, message);
         };
-        let meaning = sub.meaning(&message.command);
         sub.progress.awaited.see_room();
+        let meaning = sub.meaning(&message.command);
         drop(message);
         match meaning {
             Meaning::Cancelled => {
-                self.sub = Some(sub.cancel());
+                cancel(&mut self.sub);
                 Ok(Deeds::new(self.alloc))
             }
-            Meaning::Unawaited => self.abort(titles),
+            Meaning::Unawaited => {
+                put(&mut self.sub, None);
+                self.abort(titles)
+            }
             Meaning::Performed(outcome) => {
+                let Some(sub) = self.sub.take() else {
+                    unreachable!();
+                };
                 let (pdus, next) = sub.perform(self.alloc, outcome)?;
-                self.awaited = pending_for(next);
+                leave(&mut self.awaited, next);
                 sends(self.alloc, pdus)
             }
         }

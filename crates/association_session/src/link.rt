@@ -72,6 +72,14 @@ fn copies_of(alloc: Global, contexts: &[Context]) -> Result<Contexts, AllocError
     Ok(ListOf::of(copies))
 }
 
+/// These contexts are agreed, and nothing came since.
+// What came before is dropped here, so that a caller does not prove again how each kind is.
+fn restart(alloc: Global, assembler: &mut Assembler, contexts: Contexts)
+    ensures { assembler.new ≡ record { contexts = contexts; stage = Between } }
+{
+    *assembler = Assembler::new(alloc, contexts);
+}
+
 impl Link {
     /// Nothing is agreed yet.
     pub(crate) fn new(alloc: Global) -> Link
@@ -100,10 +108,12 @@ impl Link {
             return Ok(());
         }
         let Some(settled) = settled else {
-            self.assembler = Assembler::new(alloc, copies_of(alloc, self.assembler.contexts())?);
+            let contexts = copies_of(alloc, self.assembler.contexts())?;
+            restart(alloc, &mut self.assembler, contexts);
             return Ok(());
         };
-        self.assembler = Assembler::new(alloc, copies_of(alloc, settled.contexts.as_slice())?);
+        let contexts = copies_of(alloc, settled.contexts.as_slice())?;
+        restart(alloc, &mut self.assembler, contexts);
         self.limit = limit;
         Ok(())
     }

@@ -2,10 +2,10 @@
 
 ghost use Rattle.std.specs.Prelude.{◌≡◌};
 ghost use Rattle.association_session.specs.PendingResponse.{takes_reply, is_telling as is_telling_response};
-ghost use Rattle.association_session.specs.inner.Association.{pending_of};
+ghost use Rattle.association_session.specs.inner.Association.{cancelled_in, pending_of};
 
 use archive_model::Answers;
-use association_services::{Awaited, Reply, Retrieval, RowKind};
+use association_services::{Awaited, Reply, Retrieval, RowKind, SubOperation};
 use data_set::Syntax;
 use dimse::Status;
 
@@ -66,11 +66,37 @@ pub(crate) fn is_telling(pending: &PendingResponse) -> bool
 }
 
 /// What goes on of a C-GET.
-pub(crate) fn pending_for(retrieval: Option<Retrieval>) -> Option<PendingResponse>
+fn pending_for(retrieval: Option<Retrieval>) -> Option<PendingResponse>
     ensures { result ≡ pending_of retrieval }
 {
     match retrieval {
         None => None,
         Some(retrieval) => Some(PendingResponse::Sending(retrieval)),
     }
+}
+
+/// Leaves what goes on of a C-GET to be told.
+// What was left before is dropped here, so that a caller does not prove again how each kind is.
+pub(crate) fn leave(pending: &mut Option<PendingResponse>, retrieval: Option<Retrieval>)
+    ensures { pending.new ≡ pending_of retrieval }
+{
+    *pending = pending_for(retrieval);
+}
+
+/// Puts a sub-operation in the place of what was awaited.
+// What was there before is dropped here, for the same reason.
+pub(crate) fn put(sub: &mut Option<SubOperation>, next: Option<SubOperation>)
+    ensures { sub.new ≡ next }
+{
+    *sub = next;
+}
+
+/// Where a sub-operation is awaited, no other is begun behind it.
+pub(crate) fn cancel(sub: &mut Option<SubOperation>)
+    ensures { sub.new ≡ cancelled_in sub.old }
+{
+    let Some(one) = sub.take() else {
+        return;
+    };
+    *sub = Some(one.cancel());
 }

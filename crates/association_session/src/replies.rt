@@ -11,7 +11,7 @@ ghost use Rattle.archive_model.specs.declared.view.View.{View};
 
 use crate::association::Association;
 use crate::deeds::Deeds;
-use crate::pending_response::{PendingResponse, Telling};
+use crate::pending_response::{PendingResponse, Telling, put, takes};
 use crate::telling::{respond, sends, tell};
 use archive_model::{Answers, Prepared};
 use association_services::{
@@ -87,16 +87,22 @@ impl Association {
         Ok(Deeds::new(self.alloc))
     }
 
-    /// Takes a reply. One that is not awaited changes nothing.
-    pub(crate) fn resume(&mut self, reply: Reply) -> Result<Deeds, AllocError>
-        ensures turned { (titles : List (Title View)) →
-            IsTrue (is_in_turn self.old (Replied reply)) → IfOk result (λ deeds.
+    /// Whether this reply is awaited.
+    fn awaits(&self, reply: &Reply) -> bool
+        ensures { result ≡ is_in_turn self.now (Replied reply.now) }
+    {
+        match &self.awaited {
+            None => false,
+            Some(pending) => takes(pending, reply),
+        }
+    }
+
+    /// Takes the reply that is awaited.
+    fn take(&mut self, reply: Reply) -> Result<Deeds, AllocError>
+        requires { IsTrue (is_in_turn self.old (Replied reply)) }
+        ensures turned { (titles : List (Title View)) → IfOk result (λ deeds.
             Turned titles self.old (Replied reply) deeds self.new) }
         ensures left { OnOk result (self.new.queue ≡ self.old.queue) }
-        ensures ignored { is_in_turn self.old (Replied reply) ≡ false →
-            IfOk result (λ deeds. deeds ≡ []) }
-        ensures kept { is_in_turn self.old (Replied reply) ≡ false →
-            OnOk result (self.new ≡ self.old) }
         ensures writable { IfOk result (All IsWritable) }
     {
         match (self.awaited.take(), reply) {
@@ -109,11 +115,26 @@ impl Association {
             (Some(PendingResponse::Get(awaited, syntax)), Reply::Gotten(reply)) => {
                 self.take_gotten(awaited, syntax, reply)
             }
-            (awaited, _) => {
-                self.awaited = awaited;
-                Ok(Deeds::new(self.alloc))
-            }
+            (_, _) => unreachable!(),
         }
+    }
+
+    /// Takes a reply. One that is not awaited changes nothing.
+    pub(crate) fn resume(&mut self, reply: Reply) -> Result<Deeds, AllocError>
+        ensures turned { (titles : List (Title View)) →
+            IsTrue (is_in_turn self.old (Replied reply)) → IfOk result (λ deeds.
+            Turned titles self.old (Replied reply) deeds self.new) }
+        ensures left { OnOk result (self.new.queue ≡ self.old.queue) }
+        ensures ignored { is_in_turn self.old (Replied reply) ≡ false →
+            IfOk result (λ deeds. deeds ≡ []) }
+        ensures kept { is_in_turn self.old (Replied reply) ≡ false →
+            OnOk result (self.new ≡ self.old) }
+        ensures writable { IfOk result (All IsWritable) }
+    {
+        if !self.awaits(&reply) {
+            return Ok(Deeds::new(self.alloc));
+        }
+        self.take(reply)
     }
 
     /// Begins the next of the sub-operations that are left, and behind the last one ends them.
@@ -128,11 +149,11 @@ impl Association {
         retrieval.progress.awaited.see_room();
         match retrieval.begin(self.alloc, self.link.contexts())? {
             Begun::Ended(pdus) => {
-                self.sub = None;
+                put(&mut self.sub, None);
                 sends(self.alloc, pdus)
             }
             Begun::Sent(pdus, sub) => {
-                self.sub = Some(sub);
+                put(&mut self.sub, Some(sub));
                 sends(self.alloc, pdus)
             }
             Begun::Unsent(pdus, retrieval) => {

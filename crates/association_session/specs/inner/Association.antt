@@ -19,7 +19,8 @@ use Rattle.association_session.specs.Talks.{Said}
 use Rattle.association_session.specs.Talks.{Leads}
 use Rattle.archive_model.specs.declared.view.View.{View}
 use Rattle.association_session.specs.Session.{AssociationState, Takes, Stops, IsOpenFor}
-use Rattle.association_services.specs.SubOperation.{Retrieval}
+use Rattle.association_services.specs.SubOperation.{Retrieval, SubOperation}
+use Rattle.association_services.specs.Retrieval.{cancelling}
 
 -- what was agreed, and what came since the last message
 pub record Linked : Type 0 where
@@ -64,3 +65,8 @@ pub record Answered (titles : List (Title View)) (old : AssociationState) (m : M
 abbrev pub pending_of : Option Retrieval → Option PendingResponse
 pending_of None = None
 pending_of (Some retrieval) = Some (pendings.Sending retrieval)
+
+-- a sub-operation behind which no other is begun
+abbrev pub cancelled_in : Option SubOperation → Option SubOperation
+cancelled_in None = None
+cancelled_in (Some sub) = Some (cancelling sub)

@@ -24,7 +24,7 @@ returns-in-Ended-clause-turned c = λ titles.
     c.in-Ended.pdus deeds refl
     (state_is _ c.args.self.now None None (at_place _ _ c.self.view_is) (at_stage _ _ c.self.view_is)
     (at_queue _ _ c.self.view_is)
-    refl (at_awaited _ _ c.self.view_is ∙ c.requires)) sent is.0 is.1)
+    c.put.ensures (at_awaited _ _ c.self.view_is ∙ c.requires)) sent is.0 is.1)
     c.sends.ensures
 
 -- Each PDU of it can be written.
@@ -45,7 +45,7 @@ returns-in-Sent-clause-turned c = λ titles.
     is.0 is.1 is.2 c.in-Sent.pdus c.in-Sent.sub deeds refl
     (state_is _ c.args.self.now (Some c.in-Sent.sub) None (at_place _ _ c.self.view_is) (at_stage _ _ c.self.view_is)
     (at_queue _ _ c.self.view_is)
-    refl (at_awaited _ _ c.self.view_is ∙ c.requires)) sent (c.contexts.ensures ∙ at_contexts _ _ c.self.view_is)
+    c.put-in-Sent.ensures (at_awaited _ _ c.self.view_is ∙ c.requires)) sent (c.contexts.ensures ∙ at_contexts _ _ c.self.view_is)
     is.3 is.4 is.5 is.6)
     c.sends-in-Sent.ensures
 
