@@ -129,7 +129,8 @@ module _ {S : Type 0} (g : Ghosts S) where
       (was.walking clean).shelf
 
   -- nothing is given yet
-  pub walks_on : (h : Held S) (given : List Row) → (HasCleanDisk (state g h) → IsWalking g h given) → HasWalked h h given
+  pub walks_on : (h : Held S) (given : List Row) → (HasCleanDisk (state g h) → IsWalking g h given)
+      → HasWalked h h given
   walks_on h given is = record {
     survives = survives_none (state g h) (λ _. ⊥);
     walking = is;
@@ -207,8 +208,8 @@ module _ {S : Type 0} (g : Ghosts S) where
 
   -- a step, by what `advance` says of itself
   pub stepped : (old new : Held S) (row : Option Row) → (HasCleanDisk (state g new) → Advances g old new row)
-      → HasCleanDisk (state g new) → IsUnchanged (state g old) (state g new) → (given : List Row) → IsWalking g old given
-      → GivesRow g old new given row
+      → HasCleanDisk (state g new) → IsUnchanged (state g old) (state g new) → (given : List Row)
+      → IsWalking g old given → GivesRow g old new given row
   stepped old new (Some row) on clean same given was = record {
     shelf = subst (λ (d : Database). IsShelf d.schema) (sym same.0.now_is) was.shelf;
     is_open = same.0.is_open;
@@ -256,7 +257,8 @@ module _ {S : Type 0} (g : Ghosts S) where
         (plain_all (state g old).now.schema shelf) (refused.err late);
     store = λ late why bad. let told_as : e ≡ Store why = cc in (error, sym is ∙ told_as, refused.err late);
     crash = survives_weaker (state g old) (state g new) _ _
-        (λ _ db. never_commits all_text [] (state g old) db (plain_all (state g old).now.schema shelf)) refused.survives;
+        (λ _ db. never_commits all_text [] (state g old) db (plain_all (state g old).now.schema shelf))
+        refused.survives;
   }
 
   -- One that does.
@@ -265,7 +267,8 @@ module _ {S : Type 0} (g : Ghosts S) where
       → Survives (state g old) (state g mid) (CommitsShowing all_text [] (state g old)) → HasWalked old mid []
   walk_begins old mid shelf begun crash =
       let plain = plain_all (state g old).now.schema shelf in
-      let it : HasCleanDisk (state g mid) → HasGiven g all_text [] mid [] × IsUnchanged (state g old) (state g mid) = λ late.
+      let it : HasCleanDisk (state g mid) → HasGiven g all_text [] mid [] × IsUnchanged (state g old) (state g mid)
+      = λ late.
       begun_plain g all_text [] old mid plain (begun late) in
       record {
         survives = survives_weaker (state g old) (state g mid) _ _

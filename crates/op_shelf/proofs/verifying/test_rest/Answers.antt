@@ -29,16 +29,20 @@ step-requires g c = record { walking = λ clean. (c.rows.invariant.given, c.rows
 -- What is refused at a row is refused as the whole query.
 pub returns-in_err-step-clause-walks : goal.returns-in_err-step-clause-walks
 returns-in_err-step-clause-walks g c =
+    let mid = c.rows.rows.conn.now in
+    let end = c.step.new.rows.conn.now in
     let out = err_from_is_err_and c.from_residual.result c.from_residual.ensures.1 in
-    walks_then g.S.Store c.args.rows.now.conn.now c.rows.rows.conn.now c.step.new.rows.conn.now _ _ c.rows.invariant.walked
-    (rw (out.1, out.2) (walks_refused g.S.Store c.rows.rows.conn.now c.step.new.rows.conn.now _ c.in_err-step.ensures.walks))
+    walks_then g.S.Store c.args.rows.now.conn.now mid end _ _ c.rows.invariant.walked
+    (rw (out.1, out.2) (walks_refused g.S.Store mid end _ c.in_err-step.ensures.walks))
 
 -- Past the last row, those that were tested are the entries of the table.
 pub returns-in_default-clause-walks : goal.returns-in_default-clause-walks
 returns-in_default-clause-walks g c =
+    let mid = c.rows.rows.conn.now in
+    let end = c.step.new.rows.conn.now in
     let step = c.in_ok-step.ensures.walks in
-    walks_then g.S.Store c.args.rows.now.conn.now c.rows.rows.conn.now c.step.new.rows.conn.now _ _ c.rows.invariant.walked
-    (walks_ok g.S.Store c.rows.rows.conn.now c.step.new.rows.conn.now _ step.same step.crash)
+    walks_then g.S.Store c.args.rows.now.conn.now mid end _ _ c.rows.invariant.walked
+    (walks_ok g.S.Store mid end _ step.same step.crash)
 
 pub returns-in_default-clause-tested : goal.returns-in_default-clause-tested
 returns-in_default-clause-tested g c late =

@@ -16,14 +16,15 @@ returns-in_err-rows-clause-walks g c =
     let refused : IsRefused g.S.Store all_text [] c.args.database.now (Err c.in_err-rows.field-0.0)
     c.query.follows.lender-at-none = rw c.in_err-rows.was at held in
     let out = err_from_is_err_and c.from_residual.result c.from_residual.ensures.1 in
-    rw out.1 (begin_fails g.S.Store c.args.database.now c.query.follows.lender-at-none c.in_err-rows.field-0.0 out.0 out.2
-    c.requires.shelf refused)
+    rw out.1 (begin_fails g.S.Store c.args.database.now c.query.follows.lender-at-none c.in_err-rows.field-0.0 out.0
+    out.2 c.requires.shelf refused)
 
 -- No row is given yet.
 pub test_rest-requires : goal.test_rest-requires
 test_rest-requires g c =
-    let begun = walk_begins g.S.Store c.args.database.now c.in_ok-rows.rows.conn.now c.requires.shelf c.in_ok-rows.ensures.begun
-    c.in_ok-rows.ensures.survives in
+    let made = c.in_ok-rows.ensures in
+    let begun = walk_begins g.S.Store c.args.database.now c.in_ok-rows.rows.conn.now c.requires.shelf made.begun
+    made.survives in
     record { walking = begun.walking; none = c.requires.none }
 
 -- The rest is the walk.
@@ -31,7 +32,8 @@ pub returns-clause-walks : goal.returns-clause-walks
 returns-clause-walks g c =
     let first = c.args.database.now in
     let mid = c.in_ok-rows.rows.conn.now in
-    let begun = walk_begins g.S.Store first mid c.requires.shelf c.in_ok-rows.ensures.begun c.in_ok-rows.ensures.survives in
+    let made = c.in_ok-rows.ensures in
+    let begun = walk_begins g.S.Store first mid c.requires.shelf made.begun made.survives in
     let all = walks_then g.S.Store first mid c.test_rest.new.rows.conn.now [] _ begun c.test_rest.ensures.walks in
     subst (λ h. Walks g.S.Store first h c.test_rest.result) (search rules) all
 
@@ -40,7 +42,8 @@ pub returns-clause-tested : goal.returns-clause-tested
 returns-clause-tested g c clean =
     let first = c.args.database.now in
     let mid = c.in_ok-rows.rows.conn.now in
-    let begun = walk_begins g.S.Store first mid c.requires.shelf c.in_ok-rows.ensures.begun c.in_ok-rows.ensures.survives in
+    let made = c.in_ok-rows.ensures in
+    let begun = walk_begins g.S.Store first mid c.requires.shelf made.begun made.survives in
     let late : HasCleanDisk (state g.S.Store c.test_rest.new.rows.conn.now) = search (clean, rules) in
     let early : HasCleanDisk (state g.S.Store mid) = omega (arith, c.test_rest.ensures.walks.crash.clean, late) in
     rows_then g.S.Store first mid [] begun early

@@ -9,7 +9,9 @@ pub returns-in-Ok : goal.returns-in-Ok
 returns-in-Ok g c =
     let read = c.in-Ok.ensures in
     record {
-      all = λ clean. IsPermutation-trans _ _ _ (read.all clean) (IsPermutation-map entry_of _ _ c.put_in_order.ensures.same);
+      all = λ clean.
+          let sorted = IsPermutation-map entry_of _ _ c.put_in_order.ensures.same in
+          IsPermutation-trans _ _ _ (read.all clean) sorted;
       ascending = λ clean. c.put_in_order.ensures.ascending;
       same = read.walks.same;
       refused = λ clean. tt;

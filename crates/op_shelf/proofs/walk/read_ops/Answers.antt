@@ -16,14 +16,15 @@ returns-in_err-rows-clause-walks g c =
     let refused : IsRefused g.S.Store all_text [] c.args.database.now (Err c.in_err-rows.field-0.0)
     c.query.follows.lender-at-none = rw c.in_err-rows.was at held in
     let out = err_from_is_err_and c.from_residual.result c.from_residual.ensures.1 in
-    rw out.1 (begin_fails g.S.Store c.args.database.now c.query.follows.lender-at-none c.in_err-rows.field-0.0 out.0 out.2
-    c.requires.shelf refused)
+    rw out.1 (begin_fails g.S.Store c.args.database.now c.query.follows.lender-at-none c.in_err-rows.field-0.0 out.0
+    out.2 c.requires.shelf refused)
 
 -- No row is given yet.
 pub add_rest-requires : goal.add_rest-requires
 add_rest-requires g c =
-    let begun = walk_begins g.S.Store c.args.database.now c.in_ok-rows.rows.conn.now c.requires.shelf c.in_ok-rows.ensures.begun
-    c.in_ok-rows.ensures.survives in
+    let made = c.in_ok-rows.ensures in
+    let begun = walk_begins g.S.Store c.args.database.now c.in_ok-rows.rows.conn.now c.requires.shelf made.begun
+    made.survives in
     record {
       walking = λ clean. rw c.requires.none (begun.walking clean);
     }
@@ -33,7 +34,8 @@ pub returns-clause-walks : goal.returns-clause-walks
 returns-clause-walks g c =
     let first = c.args.database.now in
     let mid = c.in_ok-rows.rows.conn.now in
-    let begun = walk_begins g.S.Store first mid c.requires.shelf c.in_ok-rows.ensures.begun c.in_ok-rows.ensures.survives in
+    let made = c.in_ok-rows.ensures in
+    let begun = walk_begins g.S.Store first mid c.requires.shelf made.begun made.survives in
     let all = walks_then g.S.Store first mid c.add_rest.new.rows.conn.now [] _ begun c.add_rest.ensures.walks in
     subst (λ h. Walks g.S.Store first h c.add_rest.result) (search rules) all
 
@@ -42,7 +44,8 @@ pub returns-clause-all : goal.returns-clause-all
 returns-clause-all g c clean =
     let first = c.args.database.now in
     let mid = c.in_ok-rows.rows.conn.now in
-    let begun = walk_begins g.S.Store first mid c.requires.shelf c.in_ok-rows.ensures.begun c.in_ok-rows.ensures.survives in
+    let made = c.in_ok-rows.ensures in
+    let begun = walk_begins g.S.Store first mid c.requires.shelf made.begun made.survives in
     let late : HasCleanDisk (state g.S.Store c.add_rest.new.rows.conn.now) = search (clean, rules) in
     let early : HasCleanDisk (state g.S.Store mid) = omega (arith, c.add_rest.ensures.walks.crash.clean, late) in
     rows_then g.S.Store first mid [] begun early (λ rows. OnOk c.add_rest.result (Lists rows c.add_rest.new.ops.items))
@@ -52,7 +55,8 @@ pub returns-clause-bad_row : goal.returns-clause-bad_row
 returns-clause-bad_row g c clean bad =
     let first = c.args.database.now in
     let mid = c.in_ok-rows.rows.conn.now in
-    let begun = walk_begins g.S.Store first mid c.requires.shelf c.in_ok-rows.ensures.begun c.in_ok-rows.ensures.survives in
+    let made = c.in_ok-rows.ensures in
+    let begun = walk_begins g.S.Store first mid c.requires.shelf made.begun made.survives in
     let late : HasCleanDisk (state g.S.Store c.add_rest.new.rows.conn.now) = search (clean, rules) in
     let early : HasCleanDisk (state g.S.Store mid) = omega (arith, c.add_rest.ensures.walks.crash.clean, late) in
     rows_then g.S.Store first mid [] begun early HasBadRow (c.add_rest.ensures.bad_row late bad)
