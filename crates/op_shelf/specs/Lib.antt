@@ -11,3 +11,4 @@ pub mod Refusing
 pub mod States
 pub mod Table
 pub mod Texts
+pub mod Walking

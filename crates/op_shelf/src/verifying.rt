@@ -3,21 +3,22 @@
 ghost use Rattle.std.specs.Prelude.{◌≡◌, ◌⊎◌, [], IfOk, IfErr, IsErrOf, OnOk, OnErr, IsSorted};
 ghost use Rattle.sqlite.specs.Held.{state};
 ghost use Rattle.sqlite.specs.Order.{column};
-ghost use Rattle.sqlite.specs.State.{IsUnchanged, Survives};
+ghost use Rattle.sqlite.specs.State.{HasCleanDisk, IsUnchanged, Survives};
 ghost use Rattle.op_shelf.specs.Damage.{AreVerified, IsTested, text_in, bytes_in, damage_of, damaged_cmp};
 ghost use Rattle.op_shelf.specs.Fault.{IfStore, IsNoStore};
 ghost use Rattle.op_shelf.specs.States.{IfClean, KeepsAll, Spares, IsNotShown, IsUnready, rows_of};
 ghost use Rattle.op_shelf.specs.Table.{IsShelf};
 ghost use Rattle.op_shelf.specs.Texts.{all_text};
+ghost use Rattle.op_shelf.specs.Walking.{IsWalking, Walks};
 
 use crate::damaged::{Damaged, Testing, Verified, put_in_order};
 use crate::fault::{ShelfFault, StoreCause};
 use crate::rows::op_of;
 use crate::shelf::Shelf;
 use crate::table::is_ready;
-use crate::walk::MOST_ROWS;
+use crate::walk::{MOST_ROWS, step};
 use sqlite::types::ValueRef;
-use sqlite::{Alter, Connection, Row};
+use sqlite::{Alter, Connection, Row, Rows};
 use std::alloc::{AllocError, Global};
 
 /// The text in the first column.
@@ -63,37 +64,50 @@ fn test_one(alloc: Global, entry: &Row, damaged: &mut Vec<Damaged>) -> Result<()
     }
 }
 
-/// Tests all entries, in the order of the table. Each row is let go before the next is read.
+/// Tests the entries that are to come, and tells how many there were. Each row is let go before the
+/// next is read.
+fn test_rest<S: Alter, T: Testing>(
+    rows: &mut Rows<'_, S>,
+    alloc: Global,
+    hearing: &T,
+    damaged: &mut Vec<Damaged>,
+) -> Result<u64, ShelfFault>
+    requires walking { HasCleanDisk (state S.Store rows.old.conn.now)
+        → IsWalking S.Store rows.old.conn.now [] }
+    requires none { damaged.old.items ≡ [] }
+    ensures same_reference { rows.new.conn.ghost_name ≡ rows.old.conn.ghost_name }
+    ensures walks { Walks S.Store rows.old.conn.now rows.new.conn.now result }
+    ensures tested { IfClean S.Store rows.old.conn.now rows.new.conn.now (λ s t. IfOk result
+        (λ operations. AreVerified (rows_of s) operations damaged.new.items)) }
+    ensures row { ¬ IsErrOf result ShelfFault.BadRow }
+{
+    'rows: for operations in 0..MOST_ROWS {
+        step(rows)?;
+        let Some(row) = rows.get() else {
+            return Ok(operations);
+        };
+        test_one(alloc, row, damaged)?;
+        hearing.has_tested(operations + 1);
+    }
+    Err(ShelfFault::Memory)
+}
+
+/// Tests all entries, in the order of the table.
 fn test_rows<S: Alter, T: Testing>(
     database: &mut Connection<S>,
     alloc: Global,
     hearing: &T,
-) -> Result<Verified, ShelfFault>
+    damaged: &mut Vec<Damaged>,
+) -> Result<u64, ShelfFault>
     requires shelf { IsShelf (state S.Store database.old).now.schema }
+    requires none { damaged.old.items ≡ [] }
+    ensures walks { Walks S.Store database.old database.new result }
     ensures tested { IfClean S.Store database.old database.new (λ s t. IfOk result
-        (λ told. AreVerified (rows_of s) told.operations told.damaged.items)) }
-    ensures same { IfClean S.Store database.old database.new (λ s t.
-        OnOk result (IsUnchanged s t)) }
-    ensures refused { IfClean S.Store database.old database.new (λ s t. OnErr result (Spares s t)) }
+        (λ operations. AreVerified (rows_of s) operations damaged.new.items)) }
     ensures row { ¬ IsErrOf result ShelfFault.BadRow }
-    ensures store { IfClean S.Store database.old database.new (λ s t.
-        IfStore result (λ why. IsNotShown why all_text [] s t)) }
-    ensures crash { Survives (state S.Store database.old) (state S.Store database.new) (λ _. ⊥) }
 {
-    let mut damaged = Vec::new(alloc);
     let mut rows = database.query("SELECT digest, kind, body FROM ops2", &[])?;
-    'rows: for operations in 0..MOST_ROWS {
-        rows.advance()?;
-        let Some(row) = rows.get() else {
-            return Ok(Verified {
-                operations,
-                damaged,
-            });
-        };
-        test_one(alloc, row, &mut damaged)?;
-        hearing.has_tested(operations + 1);
-    }
-    Err(ShelfFault::Memory)
+    test_rest(&mut rows, alloc, hearing, damaged)
 }
 
 /// The same, ascending by the texts of the digests.
@@ -114,13 +128,9 @@ fn verify_rows<S: Alter, T: Testing>(
         IfStore result (λ why. IsNotShown why all_text [] s t)) }
     ensures crash { Survives (state S.Store database.old) (state S.Store database.new) (λ _. ⊥) }
 {
-    match test_rows(database, alloc, hearing) {
-        Ok(
-            Verified {
-                operations,
-                mut damaged,
-            },
-        ) => {
+    let mut damaged = Vec::new(alloc);
+    match test_rows(database, alloc, hearing, &mut damaged) {
+        Ok(operations) => {
             put_in_order(&mut damaged);
             Ok(Verified {
                 operations,

@@ -1,136 +1,62 @@
-use Rattle.std.proofs.Common.{◌≡◌, ◌++◌, ◌∷◌, [], map, Some, None, Err, refl, sym, ◌∙◌, subst, rules, arith}
+use Rattle.std.proofs.Common.{[], Err, OnOk, arith, rules, subst}
 use Rattle.std.proofs.lemmas.Result.{err_from_is_err_and}
+use Rattle.sqlite.specs.Given.{IsRefused}
 use Rattle.sqlite.specs.Held.{state}
-use Rattle.sqlite.specs.Given.{HasGiven, GivesOn, IsRefused, row_if}
-use Rattle.sqlite.specs.State.{HasCleanDisk, Survives, FailsToQuery, CommitsShowing}
-use Rattle.sqlite.proofs.Callers.{begun_plain, given_begin, never_commits, unchanged_then}
-use Rattle.sqlite.proofs.StateLemmas.{survives_then, survives_weaker}
-use Rattle.op_shelf.specs.declared.fault.ShelfFault.TheVariants.{Store}
-use Rattle.op_shelf.specs.Entries.{IsEntry, entry_of}
+use Rattle.sqlite.specs.State.{HasCleanDisk}
+use Rattle.op_shelf.specs.Entries.{HasBadRow, Lists}
+use Rattle.op_shelf.specs.Walking.{Walks}
 use Rattle.op_shelf.specs.Texts.{all_text}
-use Rattle.op_shelf.proofs.Back.{query_spares}
-use Rattle.op_shelf.proofs.Queries.{plain_all}
-use Rattle.op_shelf.proofs.Walks.{walked, bad_stands, refused_since}
+use Rattle.op_shelf.proofs.Walks.{begin_fails, rows_then, walk_begins, walks_then}
 use Rattle.op_shelf.proofs.walk.read_ops.Goals as goal
 
 -- A query that does not begin leaves what it found, or rolls back.
-pub returns-in_err-rows-clause-refused : goal.returns-in_err-rows-clause-refused
-returns-in_err-rows-clause-refused g c clean =
-    let old = state g.S.Store c.args.database.now in
-    let new = state g.S.Store c.query.follows.lender-at-none in
+pub returns-in_err-rows-clause-walks : goal.returns-in_err-rows-clause-walks
+returns-in_err-rows-clause-walks g c =
     let held = c.query.follows.holds-at-none in
     let refused : IsRefused g.S.Store all_text [] c.args.database.now (Err c.in_err-rows.field-0.0)
     c.query.follows.lender-at-none = rw c.in_err-rows.was at held in
-    let told : FailsToQuery all_text [] old new c.in_err-rows.field-0.0 = refused.err clean in
     let out = err_from_is_err_and c.from_residual.result c.from_residual.ensures.1 in
-    rw out.1 (query_spares all_text [] old new c.in_err-rows.field-0.0 (plain_all old.now.schema c.requires.shelf) told)
-
--- It names its cause.
-pub returns-in_err-rows-clause-store : goal.returns-in_err-rows-clause-store
-returns-in_err-rows-clause-store g c clean why bad =
-    let old = state g.S.Store c.args.database.now in
-    let new = state g.S.Store c.query.follows.lender-at-none in
-    let held = c.query.follows.holds-at-none in
-    let refused : IsRefused g.S.Store all_text [] c.args.database.now (Err c.in_err-rows.field-0.0)
-    c.query.follows.lender-at-none = rw c.in_err-rows.was at held in
-    let told : FailsToQuery all_text [] old new c.in_err-rows.field-0.0 = refused.err clean in
-    let out = err_from_is_err_and c.from_residual.result c.from_residual.ensures.1 in
-    let is : out.0 ≡ Store why = (let both = sym out.1 ∙ bad in cc) in
-    (c.in_err-rows.field-0.0, sym out.2 ∙ is, told)
-
--- It commits nothing.
-pub returns-in_err-rows-clause-crash : goal.returns-in_err-rows-clause-crash
-returns-in_err-rows-clause-crash g c =
-    let old = state g.S.Store c.args.database.now in
-    let new = state g.S.Store c.query.follows.lender-at-none in
-    let held = c.query.follows.holds-at-none in
-    let kept : Survives old new (CommitsShowing all_text [] old) = search rules in
-    survives_weaker old new _ _ (λ _ db. never_commits all_text [] old db (plain_all old.now.schema c.requires.shelf))
-    kept
+    rw out.1 (begin_fails g.S.Store c.args.database.now c.query.follows.lender-at-none c.in_err-rows.field-0.0 out.0
+    out.2 c.requires.shelf refused)
 
 -- No row is given yet.
-pub rows-init : goal.rows-init
-rows-init g c =
-    let old = state g.S.Store c.args.database.now in
+pub add_rest-requires : goal.add_rest-requires
+add_rest-requires g c =
     let made = c.in_ok-rows.ensures in
-    let plain = plain_all old.now.schema c.requires.shelf in (
-      refl,
-      survives_weaker old _ _ _ (λ _ db. never_commits all_text [] old db plain) made.survives,
-      λ clean. rw c.new-ops.ensures.items (begun_plain g.S.Store _ _ c.args.database.now _ plain (made.begun clean)),
-    )
+    let begun = walk_begins g.S.Store c.args.database.now c.in_ok-rows.rows.conn.now c.requires.shelf made.begun
+    made.survives in
+    record {
+      walking = λ clean. rw c.requires.none (begun.walking clean);
+    }
 
--- What is refused at a row is refused as the whole query.
-pub returns-in_err-advance-clause-store : goal.returns-in_err-advance-clause-store
-returns-in_err-advance-clause-store g c clean why bad =
-    let first = state g.S.Store c.args.database.now in
-    let mid = state g.S.Store c.rows.rows.conn.now in
-    let end = c.advance.new.self.conn.now in
-    let same : end ≡ c.database-in_err-advance-1.given.0 = search rules in
-    let late : HasCleanDisk (state g.S.Store end) = rw same clean in
-    let was = c.rows.invariant in
-    let early : HasCleanDisk mid = omega (arith, c.advance.ensures.survives.clean, late) in
-    let e = c.in_err-advance.field-0.0 in
-    let refused = c.in_err-advance.ensures.err late all_text [] (map entry_of c.rows.ops.items) (was.2 early).0 in
-    let told = refused_since first mid c.requires.shelf (was.2 early).1 was.1.counts was.1.limit (state g.S.Store end) e
-    refused in
-    let out = err_from_is_err_and c.from_residual-in_err-advance.result c.from_residual-in_err-advance.ensures.1 in
-    let is : out.0 ≡ Store why = (let both = sym out.1 ∙ bad in cc) in
-    (e, sym out.2 ∙ is, subst (λ h. FailsToQuery all_text [] first (state g.S.Store h) e) same told)
+-- The rest is the walk.
+pub returns-clause-walks : goal.returns-clause-walks
+returns-clause-walks g c =
+    let first = c.args.database.now in
+    let mid = c.in_ok-rows.rows.conn.now in
+    let made = c.in_ok-rows.ensures in
+    let begun = walk_begins g.S.Store first mid c.requires.shelf made.begun made.survives in
+    let all = walks_then g.S.Store first mid c.add_rest.new.rows.conn.now [] _ begun c.add_rest.ensures.walks in
+    subst (λ h. Walks g.S.Store first h c.add_rest.result) (search rules) all
 
--- Past the last row, those that were given are the entries of the table.
-pub returns-in_default-clause-all : goal.returns-in_default-clause-all
-returns-in_default-clause-all g c clean =
-    let first = state g.S.Store c.args.database.now in
-    let mid = state g.S.Store c.rows.rows.conn.now in
-    let end = c.advance.new.self.conn.now in
-    let given = map entry_of c.rows.ops.items in
-    let late : HasCleanDisk (state g.S.Store end) = search (clean, rules) in
-    let early : HasCleanDisk mid = omega (arith, c.advance.ensures.survives.clean, late) in
-    let was = c.rows.invariant.2 early in
-    let none : row_if c.advance.new.self.has_row end ≡ None = search rules in
-    let shown = subst (GivesOn g.S.Store all_text [] c.rows.rows.conn.now end given) none
-    (c.in_ok-advance.ensures.ok late all_text [] given was.0) in
-    walked first mid c.requires.shelf was.1 (state g.S.Store end) given shown
+-- What it read is the table's.
+pub returns-clause-all : goal.returns-clause-all
+returns-clause-all g c clean =
+    let first = c.args.database.now in
+    let mid = c.in_ok-rows.rows.conn.now in
+    let made = c.in_ok-rows.ensures in
+    let begun = walk_begins g.S.Store first mid c.requires.shelf made.begun made.survives in
+    let late : HasCleanDisk (state g.S.Store c.add_rest.new.rows.conn.now) = search (clean, rules) in
+    let early : HasCleanDisk (state g.S.Store mid) = omega (arith, c.add_rest.ensures.walks.crash.clean, late) in
+    rows_then g.S.Store first mid [] begun early (λ rows. OnOk c.add_rest.result (Lists rows c.add_rest.new.ops.items))
+    (c.add_rest.ensures.all late)
 
--- A row that is none of an operation stands in the table.
-pub returns-in_err-add_op-clause-bad_row : goal.returns-in_err-add_op-clause-bad_row
-returns-in_err-add_op-clause-bad_row g c clean bad =
-    let first = state g.S.Store c.args.database.now in
-    let mid = state g.S.Store c.rows.rows.conn.now in
-    let end = c.advance.new.self.conn.now in
-    let given = map entry_of c.rows.ops.items in
-    let row = c.in-Some.row.now in
-    let late : HasCleanDisk (state g.S.Store end) = search (clean, rules) in
-    let early : HasCleanDisk mid = omega (arith, c.advance.ensures.survives.clean, late) in
-    let was = c.rows.invariant.2 early in
-    let here : row_if c.advance.new.self.has_row end ≡ Some row = search rules in
-    let more : HasGiven g.S.Store all_text [] end (given ++ row ∷ []) = subst
-    (GivesOn g.S.Store all_text [] c.rows.rows.conn.now end given) here
-    (c.in_ok-advance.ensures.ok late all_text [] given was.0) in
-    let still = unchanged_then first mid (state g.S.Store end) was.1 (c.in_ok-advance.ensures.same late) in
-    let none : ¬ IsEntry row = search (bad, rules) in
-    bad_stands first (state g.S.Store end) c.requires.shelf still given row
-    (given_begin g.S.Store all_text [] end (given ++ row ∷ []) more) none
-
--- One row more is the entry of one operation more.
-pub rows-preserved : goal.rows-preserved
-rows-preserved g c =
-    let first = state g.S.Store c.args.database.now in
-    let mid = state g.S.Store c.rows.rows.conn.now in
-    let end = c.advance.new.self.conn.now in
-    let ops = c.rows.ops.items in
-    let row = c.in-Some.row.now in
-    let was = c.rows.invariant in
-    let moved = c.in_ok-advance.ensures in (
-      moved.same_reference ∙ was.0,
-      survives_then first mid (state g.S.Store end) _ _ _ (λ _ db none. none) (λ _ db none. none) was.1 moved.survives,
-      λ late.
-          let early : HasCleanDisk mid = omega (arith, moved.survives.clean, late) in
-          let here : row_if c.advance.new.self.has_row end ≡ Some row = search rules in
-          let more : HasGiven g.S.Store all_text [] end (map entry_of ops ++ row ∷ []) = subst
-          (GivesOn g.S.Store all_text [] c.rows.rows.conn.now end (map entry_of ops)) here
-          (moved.ok late all_text [] (map entry_of ops) (was.2 early).0) in (
-            subst (HasGiven g.S.Store all_text [] end) (sym c.in_ok-add_op.ensures.added) more,
-            unchanged_then first mid (state g.S.Store end) (was.2 early).1 (moved.same late),
-          ),
-    )
+pub returns-clause-bad_row : goal.returns-clause-bad_row
+returns-clause-bad_row g c clean bad =
+    let first = c.args.database.now in
+    let mid = c.in_ok-rows.rows.conn.now in
+    let made = c.in_ok-rows.ensures in
+    let begun = walk_begins g.S.Store first mid c.requires.shelf made.begun made.survives in
+    let late : HasCleanDisk (state g.S.Store c.add_rest.new.rows.conn.now) = search (clean, rules) in
+    let early : HasCleanDisk (state g.S.Store mid) = omega (arith, c.add_rest.ensures.walks.crash.clean, late) in
+    rows_then g.S.Store first mid [] begun early HasBadRow (c.add_rest.ensures.bad_row late bad)
