@@ -1,12 +1,12 @@
 //! The file of a site's shelf.
 
-use crate::folder::{is_folder, open_log};
+use crate::folder::{is_folder, on_folder};
 use crate::output::{
     CommandFault, FileCause, Note, file_cause_in_error, file_cause_of, is_other, lacks_log,
 };
 use crate::refused::{Refused, note};
 use op_shelf::{Shelf, ShelfFault, StoreCause, make_ready};
-use shelved_site::{ArchiveStore, FileShelf, Store, of_shelf};
+use shelved_site::Store;
 use sqlite::{Alter, Connection, Error, FileFrom, FileStore, Start, Wary};
 use std::alloc::AllocError;
 use std::fs;
@@ -14,6 +14,9 @@ use std::fs::{File, OpenOptions};
 use std::io::{ErrorKind, Read};
 use std::os::unix::fs::MetadataExt;
 use std::rt::HostRuntime;
+
+/// A shelf in a file, of which nothing is supposed.
+type FileShelf = Shelf<FileStore<FileFrom<Wary>>>;
 
 /// How many bytes of a file tell what it holds.
 const FRONT: u64 = 20;
@@ -165,7 +168,7 @@ fn shelf_in<'a, S: Start>(
 
 /// Opens the shelf in a file, of which nothing is supposed. The file is made where it is not there;
 /// one of another kind is refused before anything is made beside it.
-pub fn open_shelf<'a>(rt: &HostRuntime, file: &'a str) -> Result<FileShelf, Refused<'a>> {
+fn open_shelf<'a>(rt: &HostRuntime, file: &'a str) -> Result<FileShelf, Refused<'a>> {
     if let Some(front) = front_of(rt, file) {
         if is_other(front.as_slice()) {
             let fault = CommandFault::Shelf(ShelfFault::Store(StoreCause::Other));
@@ -176,21 +179,26 @@ pub fn open_shelf<'a>(rt: &HostRuntime, file: &'a str) -> Result<FileShelf, Refu
     shelf_in(rt, file, Wary)
 }
 
-/// Opens the operations in a file or a folder. What is not there is made: as a folder where its
-/// name ends with a slash, and else as a file.
-fn open_store<'a>(rt: &HostRuntime, file: &'a str) -> Result<ArchiveStore, Refused<'a>> {
-    if is_folder(rt, file) {
-        return open_log(rt, file);
-    }
-    Ok(of_shelf(open_shelf(rt, file)?))
+/// Does a command's work on the operations in a file, which is made where it is not there.
+fn on_shelf<'a, W: OnStore + Drop>(
+    rt: &HostRuntime,
+    file: &'a str,
+    work: W,
+) -> Result<W::Told, Refused<'a>> {
+    let shelf = open_shelf(rt, file)?;
+    Ok(work.on(shelf))
 }
 
-/// Does a command's work on the operations in a file or a folder.
+/// Does a command's work on the operations in a file or a folder. What is not there is made: as a
+/// folder where its name ends with a slash, and else as a file. Each kind of store is named by a
+/// function of its own.
 pub fn on_file<'a, W: OnStore + Drop>(
     rt: &HostRuntime,
     file: &'a str,
     work: W,
 ) -> Result<W::Told, Refused<'a>> {
-    let store = open_store(rt, file)?;
-    Ok(work.on(store))
+    if is_folder(rt, file) {
+        return on_folder(rt, file, work);
+    }
+    on_shelf(rt, file, work)
 }

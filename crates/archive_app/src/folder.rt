@@ -3,12 +3,12 @@
 ghost use Rattle.std.specs.Prelude.{IsTrue};
 ghost use Rattle.archive_app.specs.Notes.{names_folder as names_folder_in};
 
-use crate::file::is_new;
+use crate::file::{OnStore, is_new};
 use crate::output::{CommandFault, FileCause, file_cause_of, names_folder};
 use crate::refused::Refused;
 use op_log::{FolderFault, FolderLog, LogFault, open_folder};
 use op_shelf::{ShelfFault, StoreCause};
-use shelved_site::{ArchiveStore, of_log, shelf_fault};
+use shelved_site::{KeptLog, shelf_fault};
 use std::alloc::AllocError;
 use std::fs;
 use std::rt::HostRuntime;
@@ -97,14 +97,19 @@ fn refusal_of<'a>(rt: &HostRuntime, folder: &'a str) -> Option<Refused<'a>> {
 
 /// Opens the log in a folder, of which nothing is supposed. The folder is made where it is not
 /// there; one that has something else in it is refused before anything is made.
-pub fn log_in<'a>(rt: &HostRuntime, folder: &'a str) -> Result<FolderLog, Refused<'a>> {
+fn log_in<'a>(rt: &HostRuntime, folder: &'a str) -> Result<FolderLog, Refused<'a>> {
     if let Some(refused) = refusal_of(rt, folder) {
         return Err(refused);
     }
     open_folder(rt, folder).map_err(|fault| refused(folder, fault))
 }
 
-/// Opens that log as what an archive stands in.
-pub fn open_log<'a>(rt: &HostRuntime, folder: &'a str) -> Result<ArchiveStore, Refused<'a>> {
-    Ok(of_log(rt.alloc(), log_in(rt, folder)?))
+/// Does a command's work on the operations in a folder.
+pub fn on_folder<'a, W: OnStore + Drop>(
+    rt: &HostRuntime,
+    folder: &'a str,
+    work: W,
+) -> Result<W::Told, Refused<'a>> {
+    let log = log_in(rt, folder)?;
+    Ok(work.on(KeptLog::of(rt.alloc(), log)))
 }

@@ -13,6 +13,7 @@ mod output;
 mod progress;
 mod refused;
 mod report;
+mod seats;
 mod serve;
 mod simulate;
 mod verifying;

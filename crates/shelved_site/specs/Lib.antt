@@ -1,5 +1,4 @@
 pub mod Corrections
-pub mod Either
 pub mod Fingerprints
 pub mod Keeping
 pub mod Moving

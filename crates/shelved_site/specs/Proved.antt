@@ -1,3 +1,2 @@
 -- The proofs of the laws, which the implementations of the traits name. No clause cites them.
-pub mod Eithers
 pub mod Shelves

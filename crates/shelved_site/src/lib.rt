@@ -5,9 +5,7 @@
 //! Nothing here opens a file: each call takes the store that its caller opened.
 #![tactic(auto)]
 
-mod archive;
 mod correcting;
-mod either;
 mod fault;
 mod fingerprinting;
 mod keeping;
@@ -22,9 +20,7 @@ mod taking;
 mod telling;
 mod verifying;
 
-pub use archive::{ArchiveStore, FileOrFolder, FileShelf, Held, of_log, of_shelf};
 pub use correcting::{Corrected, correct_on};
-pub use either::ShelfOrLog;
 pub use fault::ShelvedFault;
 pub use fingerprinting::{equal_sets_have_equal_fingerprints, fingerprint};
 pub use keeping::KeptLog;
