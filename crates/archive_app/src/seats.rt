@@ -7,7 +7,7 @@ use command_words::Serving;
 use std::marker::Model;
 
 /// How many passes a server has: 1 to 64.
-#[derive(Clone, Copy)]
+#[derive(Drop)]
 pub struct Seats(usize);
 
 impl Model for Seats {
@@ -33,8 +33,8 @@ impl Seats {
         )
     }
 
-    pub fn count(self) -> usize
-        ensures count { result ≡ self }
+    pub fn count(&self) -> usize
+        ensures count { result ≡ self.now }
         ensures places { (1 ≤ result) × (result ≤ 64) }
     {
         self.0
