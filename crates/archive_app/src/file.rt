@@ -168,7 +168,7 @@ fn shelf_in<'a, S: Start>(
 
 /// Opens the shelf in a file, of which nothing is supposed. The file is made where it is not there;
 /// one of another kind is refused before anything is made beside it.
-fn open_shelf<'a>(rt: &HostRuntime, file: &'a str) -> Result<FileShelf, Refused<'a>> {
+pub fn open_shelf<'a>(rt: &HostRuntime, file: &'a str) -> Result<FileShelf, Refused<'a>> {
     if let Some(front) = front_of(rt, file) {
         if is_other(front.as_slice()) {
             let fault = CommandFault::Shelf(ShelfFault::Store(StoreCause::Other));

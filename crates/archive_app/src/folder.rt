@@ -97,7 +97,7 @@ fn refusal_of<'a>(rt: &HostRuntime, folder: &'a str) -> Option<Refused<'a>> {
 
 /// Opens the log in a folder, of which nothing is supposed. The folder is made where it is not
 /// there; one that has something else in it is refused before anything is made.
-fn log_in<'a>(rt: &HostRuntime, folder: &'a str) -> Result<FolderLog, Refused<'a>> {
+pub fn log_in<'a>(rt: &HostRuntime, folder: &'a str) -> Result<FolderLog, Refused<'a>> {
     if let Some(refused) = refusal_of(rt, folder) {
         return Err(refused);
     }

@@ -13,7 +13,6 @@ mod output;
 mod progress;
 mod refused;
 mod report;
-mod seats;
 mod serve;
 mod simulate;
 mod verifying;

@@ -7,12 +7,12 @@ ghost use Rattle.command_words.specs.Words.{HasPlaces};
 ghost use Rattle.shelved_site.specs.Sites.{IsSiteOf};
 
 use crate::ending::ended_with_input;
-use crate::file::{OnStore, on_file};
+use crate::file::open_shelf;
+use crate::folder::{is_folder, log_in};
 use crate::listening::{Listening, exchanging_of, listen_first, listen_to, paging_at, say_where};
 use crate::output::CommandFault;
 use crate::progress::Progress;
 use crate::refused::{Refused, about};
-use crate::seats::Seats;
 use anyhow::Result as Printed;
 use archive_model::View;
 use archive_server::{Entrance, Exchanging, Manner, Paging, Peer, ServeFault, Served, serve_on};
@@ -20,8 +20,10 @@ use association_run::OpenGate;
 use command_words::Serving;
 use log::Log;
 use octets::{ListOf, Octets};
-use shelved_site::{Store, hub_on};
+use op_shelf::Shelf;
+use shelved_site::{KeptLog, Store, hub_on};
 use site_hub::{CloseFault, HubFault, HubName, Keeper, Opened, Pass, Snapshot, close};
+use sqlite::Alter;
 use std::alloc::{AllocError, Global};
 use std::io::Print;
 use std::marker::Brand;
@@ -254,6 +256,17 @@ fn hub_of<'r, R: Wait, S: Store>(
     Ok(opened)
 }
 
+/// A pass for each worker, for each worker of exchanges, for each peer, and for pages.
+fn passes_for(serving: &Serving<'_>) -> usize
+    requires places { HasPlaces serving.now }
+    ensures { (1 ≤ result) × (result ≤ 64) }
+{
+    serving.workers as usize
+        + serving.exchange_workers as usize
+        + serving.peers.len()
+        + serving.paging()
+}
+
 /// Opens the hub of the site in a store, and listens where nobody does yet.
 fn open_site<'a, 'r, R: Net<Listener = TcpListener, Stream = TcpStream> + Wait, S: Store>(
     host: &HostRuntime,
@@ -331,10 +344,12 @@ fn serve_store<
     rt: &R,
     serving: &Serving<'a>,
     store: &mut S,
-    seats: Seats,
     listening: Option<Listening>,
-) -> Printed<Result<Count, Refused<'a>>> {
-    let site = match open_site(host, rt, serving, store, seats.count(), listening) {
+) -> Printed<Result<Count, Refused<'a>>>
+    requires places { HasPlaces serving.now }
+{
+    let passes = passes_for(serving);
+    let site = match open_site(host, rt, serving, store, passes, listening) {
         Ok(site) => site,
         Err(fault) => return Ok(Err(fault)),
     };
@@ -343,10 +358,8 @@ fn serve_store<
     Ok(about(serving.file, serve_site(host, rt, store, site, serving)))
 }
 
-/// A server whose store is not open, with what listens already.
-#[derive(Drop)]
-struct Opening<
-    'h,
+/// What was served of the operations on a shelf over any store.
+fn serve_on_shelf<
     'a,
     R: Net<Listener = TcpListener, Stream = TcpStream>
         + Threads
@@ -355,16 +368,21 @@ struct Opening<
         + Print
         + Log
         + Sync,
-> {
-    host: &'h HostRuntime,
-    rt: &'h R,
-    serving: &'h Serving<'a>,
-    seats: Seats,
+    S: Alter + Drop + Send,
+>(
+    host: &HostRuntime,
+    rt: &R,
+    serving: &Serving<'a>,
+    shelf: &mut Shelf<S>,
     listening: Option<Listening>,
+) -> Printed<Result<Count, Refused<'a>>>
+    requires places { HasPlaces serving.now }
+{
+    serve_store(host, rt, serving, shelf, listening)
 }
 
-impl<
-    'h,
+/// What was served of those in a file.
+fn serve_shelf<
     'a,
     R: Net<Listener = TcpListener, Stream = TcpStream>
         + Threads
@@ -373,22 +391,49 @@ impl<
         + Print
         + Log
         + Sync,
-> OnStore for Opening<'h, 'a, R> {
-    type Told = Printed<Result<Count, Refused<'a>>>;
-
-    fn on<S: Store + Drop + Send>(self, mut store: S) -> Printed<Result<Count, Refused<'a>>> {
-        let Opening {
-            host,
-            rt,
-            serving,
-            seats,
-            listening,
-        } = self;
-        serve_store(host, rt, serving, &mut store, seats, listening)
+>(
+    host: &HostRuntime,
+    rt: &R,
+    serving: &Serving<'a>,
+    listening: Option<Listening>,
+) -> Printed<Result<Count, Refused<'a>>>
+    requires places { HasPlaces serving.now }
+{
+    match open_shelf(host, serving.file) {
+        Ok(mut shelf) => serve_on_shelf(host, rt, serving, &mut shelf, listening),
+        Err(fault) => Ok(Err(fault)),
     }
 }
 
-/// What was served of the operations in a file or a folder.
+/// What was served of those in a folder.
+fn serve_log<
+    'a,
+    R: Net<Listener = TcpListener, Stream = TcpStream>
+        + Threads
+        + Wait
+        + Clock
+        + Print
+        + Log
+        + Sync,
+>(
+    host: &HostRuntime,
+    rt: &R,
+    serving: &Serving<'a>,
+    listening: Option<Listening>,
+) -> Printed<Result<Count, Refused<'a>>>
+    requires places { HasPlaces serving.now }
+{
+    match log_in(host, serving.file) {
+        Ok(log) => {
+            let mut kept = KeptLog::of(host.alloc(), log);
+            serve_store(host, rt, serving, &mut kept, listening)
+        }
+        Err(fault) => Ok(Err(fault)),
+    }
+}
+
+/// What was served of the operations in a file or a folder. It is no work on any
+/// store, since the method of a trait can hand none to a thread.
 fn serve_file<
     'a,
     R: Net<Listener = TcpListener, Stream = TcpStream>
@@ -405,18 +450,10 @@ fn serve_file<
         Ok(listening) => listening,
         Err(fault) => return Ok(Err(fault)),
     };
-    let seats = Seats::of(serving);
-    let opening = Opening {
-        host,
-        rt,
-        serving,
-        seats,
-        listening,
-    };
-    match on_file(host, serving.file, opening) {
-        Ok(told) => told,
-        Err(fault) => Ok(Err(fault)),
+    if is_folder(host, serving.file) {
+        return serve_log(host, rt, serving, listening);
     }
+    serve_shelf(host, rt, serving, listening)
 }
 
 /// How serving ended: what its first fault is about.
