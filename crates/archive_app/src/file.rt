@@ -7,16 +7,13 @@ use crate::output::{
 use crate::refused::{Refused, note};
 use op_shelf::{Shelf, ShelfFault, StoreCause, make_ready};
 use shelved_site::Store;
-use sqlite::{Alter, Connection, Error, FileFrom, FileStore, Start, Wary};
+use sqlite::{Alter, Connection, Error, Wary};
 use std::alloc::AllocError;
 use std::fs;
 use std::fs::{File, OpenOptions};
 use std::io::{ErrorKind, Read};
 use std::os::unix::fs::MetadataExt;
 use std::rt::HostRuntime;
-
-/// A shelf in a file, of which nothing is supposed.
-type FileShelf = Shelf<FileStore<FileFrom<Wary>>>;
 
 /// How many bytes of a file tell what it holds.
 const FRONT: u64 = 20;
@@ -154,39 +151,45 @@ pub fn refused<'a>(rt: &HostRuntime, file: &'a str, error: Error) -> Refused<'a>
     }
 }
 
-/// The shelf in the files at a path, of which so much is supposed.
-fn shelf_in<'a, S: Start>(
+/// Refuses a file that is there and of another kind, before anything is made beside it, and says
+/// where one may lack its log.
+pub fn see_kind<'a>(rt: &HostRuntime, file: &'a str) -> Result<(), Refused<'a>> {
+    let Some(front) = front_of(rt, file) else {
+        return Ok(());
+    };
+    if is_other(front.as_slice()) {
+        let fault = CommandFault::Shelf(ShelfFault::Store(StoreCause::Other));
+        return Err(Refused::file(file, fault, FileCause::OtherKind));
+    }
+    note_log(rt, file);
+    Ok(())
+}
+
+/// Does a command's work on the shelf over a connection.
+pub fn on_database<'a, S: Alter + Drop + Send, W: OnStore + Drop>(
     rt: &HostRuntime,
     file: &'a str,
-    start: S,
-) -> Result<Shelf<FileStore<FileFrom<S>>>, Refused<'a>> {
-    match Connection::open_from(rt, file, false, start) {
-        Ok(database) => adopted(rt, file, database),
-        Err((error, _left)) => Err(refused(rt, file, error)),
+    database: Connection<S>,
+    work: W,
+) -> Result<W::Told, Refused<'a>> {
+    match adopted(rt, file, database) {
+        Ok(shelf) => Ok(work.on(shelf)),
+        Err(refused) => Err(refused),
     }
 }
 
-/// Opens the shelf in a file, of which nothing is supposed. The file is made where it is not there;
-/// one of another kind is refused before anything is made beside it.
-pub fn open_shelf<'a>(rt: &HostRuntime, file: &'a str) -> Result<FileShelf, Refused<'a>> {
-    if let Some(front) = front_of(rt, file) {
-        if is_other(front.as_slice()) {
-            let fault = CommandFault::Shelf(ShelfFault::Store(StoreCause::Other));
-            return Err(Refused::file(file, fault, FileCause::OtherKind));
-        }
-        note_log(rt, file);
-    }
-    shelf_in(rt, file, Wary)
-}
-
-/// Does a command's work on the operations in a file, which is made where it is not there.
+/// Does a command's work on the operations in a file, of which nothing is supposed, and which is
+/// made where it is not there.
 fn on_shelf<'a, W: OnStore + Drop>(
     rt: &HostRuntime,
     file: &'a str,
     work: W,
 ) -> Result<W::Told, Refused<'a>> {
-    let shelf = open_shelf(rt, file)?;
-    Ok(work.on(shelf))
+    see_kind(rt, file)?;
+    match Connection::open_from(rt, file, false, Wary) {
+        Ok(database) => on_database(rt, file, database, work),
+        Err((error, _left)) => Err(refused(rt, file, error)),
+    }
 }
 
 /// Does a command's work on the operations in a file or a folder. What is not there is made: as a

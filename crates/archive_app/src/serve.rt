@@ -7,7 +7,7 @@ ghost use Rattle.command_words.specs.Words.{HasPlaces};
 ghost use Rattle.shelved_site.specs.Sites.{IsSiteOf};
 
 use crate::ending::ended_with_input;
-use crate::file::open_shelf;
+use crate::file::{adopted, refused, see_kind};
 use crate::folder::{is_folder, log_in};
 use crate::listening::{Listening, exchanging_of, listen_first, listen_to, paging_at, say_where};
 use crate::output::CommandFault;
@@ -20,10 +20,9 @@ use association_run::OpenGate;
 use command_words::Serving;
 use log::Log;
 use octets::{ListOf, Octets};
-use op_shelf::Shelf;
 use shelved_site::{KeptLog, Store, hub_on};
 use site_hub::{CloseFault, HubFault, HubName, Keeper, Opened, Pass, Snapshot, close};
-use sqlite::Alter;
+use sqlite::{Alter, Connection, Wary};
 use std::alloc::{AllocError, Global};
 use std::io::Print;
 use std::marker::Brand;
@@ -358,8 +357,8 @@ fn serve_store<
     Ok(about(serving.file, serve_site(host, rt, store, site, serving)))
 }
 
-/// What was served of the operations on a shelf over any store.
-fn serve_on_shelf<
+/// What was served of the operations on the shelf over a connection.
+fn serve_database<
     'a,
     R: Net<Listener = TcpListener, Stream = TcpStream>
         + Threads
@@ -373,12 +372,15 @@ fn serve_on_shelf<
     host: &HostRuntime,
     rt: &R,
     serving: &Serving<'a>,
-    shelf: &mut Shelf<S>,
+    database: Connection<S>,
     listening: Option<Listening>,
 ) -> Printed<Result<Count, Refused<'a>>>
     requires places { HasPlaces serving.now }
 {
-    serve_store(host, rt, serving, shelf, listening)
+    match adopted(host, serving.file, database) {
+        Ok(mut shelf) => serve_store(host, rt, serving, &mut shelf, listening),
+        Err(fault) => Ok(Err(fault)),
+    }
 }
 
 /// What was served of those in a file.
@@ -399,9 +401,12 @@ fn serve_shelf<
 ) -> Printed<Result<Count, Refused<'a>>>
     requires places { HasPlaces serving.now }
 {
-    match open_shelf(host, serving.file) {
-        Ok(mut shelf) => serve_on_shelf(host, rt, serving, &mut shelf, listening),
-        Err(fault) => Ok(Err(fault)),
+    if let Err(fault) = see_kind(host, serving.file) {
+        return Ok(Err(fault));
+    }
+    match Connection::open_from(host, serving.file, false, Wary) {
+        Ok(database) => serve_database(host, rt, serving, database, listening),
+        Err((error, _left)) => Ok(Err(refused(host, serving.file, error))),
     }
 }
 

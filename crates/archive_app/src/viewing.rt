@@ -4,13 +4,13 @@
 ghost use Rattle.std.specs.Prelude.{IfOk, IsTrue};
 ghost use Rattle.sqlite_disk.specs.Memory.{memory_is_usable};
 
-use crate::file::{OnStore, adopted, beside, front_of, is_new, note_log, on_file, refused};
+use crate::file::{OnStore, beside, front_of, is_new, note_log, on_database, on_file, refused};
 use crate::folder::is_folder;
 use crate::output::{CommandFault, FileCause, file_cause_of, is_other};
 use crate::refused::Refused;
-use op_shelf::{Shelf, ShelfFault, StoreCause};
+use op_shelf::{ShelfFault, StoreCause};
 use os::RangeLock;
-use sqlite::{Connection, FileStore, Files, Options};
+use sqlite::{Connection, Files, Options};
 use sqlite_disk::{Disk, Memory as InMemory};
 use std::alloc::Global;
 use std::fs::{File, OpenOptions};
@@ -97,21 +97,29 @@ fn unread<'a>(file: &'a str, kind: ErrorKind) -> Refused<'a> {
     }
 }
 
-/// The shelf in a copy of a file.
-fn shelf_of<'a>(
-    rt: &HostRuntime,
-    file: &'a str,
-) -> Result<Shelf<FileStore<InMemory>>, Refused<'a>> {
-    let files = match copied(rt, file) {
-        Ok(files) => files,
-        Err(error) => return Err(unread(file, error.kind())),
-    };
+/// A copy of a file, and how it is opened.
+fn copy_of<'a>(rt: &HostRuntime, file: &'a str) -> Result<(Files<InMemory>, Options), Refused<'a>>
+    ensures log { IfOk result (λ copy. IsTrue (memory_is_usable copy.0.log)) }
+    ensures db { IfOk result (λ copy. IsTrue (memory_is_usable copy.0.db)) }
+{
     let Ok(seed) = RandomState::new(rt) else {
         return Err(unread(file, ErrorKind::Other));
     };
-    let options = Options::new(seed.hash_one(&0u8));
+    match copied(rt, file) {
+        Ok(files) => Ok((files, Options::new(seed.hash_one(&0u8)))),
+        Err(error) => Err(unread(file, error.kind())),
+    }
+}
+
+/// Does a command's work on a copy of the operations in a file.
+fn on_copy<'a, W: OnStore + Drop>(
+    rt: &HostRuntime,
+    file: &'a str,
+    work: W,
+) -> Result<W::Told, Refused<'a>> {
+    let (files, options) = copy_of(rt, file)?;
     match Connection::open_files(rt.alloc(), files, options) {
-        Ok(database) => adopted(rt, file, database),
+        Ok(database) => on_database(rt, file, database, work),
         Err((error, _left)) => Err(refused(rt, file, error)),
     }
 }
@@ -145,6 +153,5 @@ pub fn view_file<'a, W: OnStore + Drop>(
         return on_file(rt, file, work);
     }
     note_log(rt, file);
-    let shelf = shelf_of(rt, file)?;
-    Ok(work.on(shelf))
+    on_copy(rt, file, work)
 }
