@@ -102,13 +102,14 @@ fn copy_of<'a>(rt: &HostRuntime, file: &'a str) -> Result<(Files<InMemory>, Opti
     ensures log { IfOk result (λ copy. IsTrue (memory_is_usable copy.0.log)) }
     ensures db { IfOk result (λ copy. IsTrue (memory_is_usable copy.0.db)) }
 {
+    let files = match copied(rt, file) {
+        Ok(files) => files,
+        Err(error) => return Err(unread(file, error.kind())),
+    };
     let Ok(seed) = RandomState::new(rt) else {
         return Err(unread(file, ErrorKind::Other));
     };
-    match copied(rt, file) {
-        Ok(files) => Ok((files, Options::new(seed.hash_one(&0u8)))),
-        Err(error) => Err(unread(file, error.kind())),
-    }
+    Ok((files, Options::new(seed.hash_one(&0u8))))
 }
 
 /// Does a command's work on a copy of the operations in a file.
