@@ -1,5 +1,5 @@
 -- What holds of a log through a put.
-use Rattle.std.proofs.Common.{◌≡◌, ◌&&◌, ℕ, List, ◌++◌, ◌≤◌, Bool, true, false, length, take, inl, All, IsTrue, refl, ◌∙◌, ap, arith}
+use Rattle.std.proofs.Common.{◌≡◌, ◌&&◌, ℕ, List, ◌++◌, ◌≤◌, Bool, true, false, length, take, inl, All, IsTrue, refl, ◌∙◌, ap, subst, arith}
 use Rattle.std.proofs.Math.Seq.{take-append_seam}
 use Rattle.std.proofs.lemmas.List.Elements.{All-same}
 use Rattle.sqlite_disk.specs.declared.Disk.{Ghosts}
@@ -67,3 +67,26 @@ module _ {H B : Type 0} (gh : Ghosts H) (gb : Ghosts B) (h k : HeadLog H) (a b :
       → GoesOn gh gb (opened gh gb h a old) (opened gh gb k b new)
   goes_on sound was grows clean after =
       record { before = sound; after = after; opens = λ _. was; clean = clean; spared = grows.spared; longer = grows.longer }
+
+-- a read goes on with a log
+module _ {H B : Type 0} (gh : Ghosts H) (gb : Ghosts B) (h : HeadLog H) (a b : BodyLog B) (old : List Head) where
+  pub sound_read : IsSound gh gb (opened gh gb h a old) → Grows gb a b → gb.is_usable (disk_of b) ≡ gb.is_usable (disk_of a)
+      → IsSound gh gb (opened gh gb h b old)
+  sound_read sound grows usable =
+      record {
+        below = below_on (end_of a) (end_of b) old grows.longer sound.below;
+        reach = reaches_on gb a b grows sound.reach;
+        kept = λ clean opens. sound.kept clean (subst (λ (u : Bool). IsTrue (is_up gh h && u)) usable opens);
+      }
+
+  pub goes_reading : IsSound gh gb (opened gh gb h a old) → Grows gb a b → gb.is_usable (disk_of b) ≡ gb.is_usable (disk_of a)
+      → GoesOn gh gb (opened gh gb h a old) (opened gh gb h b old)
+  goes_reading sound grows usable =
+      record {
+        before = sound;
+        after = sound_read sound grows usable;
+        opens = λ opens. subst (λ (u : Bool). IsTrue (is_up gh h && u)) usable opens;
+        clean = λ now. now;
+        spared = grows.spared;
+        longer = grows.longer;
+      }
