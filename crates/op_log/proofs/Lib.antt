@@ -2,6 +2,7 @@ pub mod Cutting
 pub mod Faults
 pub mod Fitting
 pub mod Fresh
+pub mod Going
 pub mod Growing
 pub mod Keeping
 pub mod Lists

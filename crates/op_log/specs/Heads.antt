@@ -43,8 +43,10 @@ pub record Head : Type 0 where
 -- a head is stored as its parts
 abbrev pub head_code : Coded Head
 head_code =
-    code_by (List ℕ × (List ℕ × (ℕ × ℕ))) (coded× (coded_list coded_ℕ) (coded× (coded_list coded_ℕ) (coded× coded_ℕ coded_ℕ)))
-    (λ h. (h.digest, (h.front, (h.at, h.size)))) (λ p. record { digest = p.0; front = p.1.0; at = p.1.1.0; size = p.1.1.1 })
+    code_by (List ℕ × (List ℕ × (ℕ × ℕ)))
+    (coded× (coded_list coded_ℕ) (coded× (coded_list coded_ℕ) (coded× coded_ℕ coded_ℕ)))
+    (λ h. (h.digest, (h.front, (h.at, h.size))))
+    (λ p. record { digest = p.0; front = p.1.0; at = p.1.1.0; size = p.1.1.1 })
     (λ _. refl)
 
 -- the head of an entry

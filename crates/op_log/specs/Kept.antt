@@ -48,7 +48,8 @@ HasBody file e = 0 < length (body_of e.0) → Holds file e.1 (body_of e.0)
 
 -- the data set lies there, below an offset
 abbrev pub IsHeld : {B : Type 0} → Ghosts B → B → ℕ → Entry → Type 0
-IsHeld g disk end e = 0 < length (body_of e.0) → Holds (g.seen disk) e.1 (body_of e.0) × (e.1 + length (body_of e.0) ≤ end)
+IsHeld g disk end e =
+    0 < length (body_of e.0) → Holds (g.seen disk) e.1 (body_of e.0) × (e.1 + length (body_of e.0) ≤ end)
 
 -- and does so, whatever a crash leaves
 abbrev pub IsLasting : {B : Type 0} → Ghosts B → B → ℕ → Entry → Type 0
@@ -66,4 +67,5 @@ Has g disk end heads op =
 
 -- the same of two files
 abbrev pub AreOf : List Head → List ℕ → Op → Type 0
-AreOf heads bodies op = (at : ℕ) × (first_under (digest_of op) heads ≡ Some (head_of (op, at))) × HasBody bodies (op, at)
+AreOf heads bodies op =
+    (at : ℕ) × (first_under (digest_of op) heads ≡ Some (head_of (op, at))) × HasBody bodies (op, at)

@@ -70,7 +70,8 @@ opened gh gb heads bodies places = record {
 -- a group is too long: it has too many operations, or their heads too many bytes, or a file no room for it
 abbrev pub IsTooLong : {H B : Type 0} → Opened H B → List Op → Type 0
 IsTooLong log ops =
-    (1024 < length ops) ⊎ ((2 ^ 40 ≤ heads_long ops) ⊎ ((2 ^ 60 < log.heads_end) ⊎ (2 ^ 64 ≤ log.bodies_end + bodies_long ops)))
+    (1024 < length ops)
+    ⊎ ((2 ^ 40 ≤ heads_long ops) ⊎ ((2 ^ 60 < log.heads_end) ⊎ (2 ^ 64 ≤ log.bodies_end + bodies_long ops)))
 
 -- what holds through a call: what holds of a log, and nothing is written over
 pub record GoesOn {H B : Type 0} (gh : Ghosts H) (gb : Ghosts B) (old new : Opened H B) : Type 0 where

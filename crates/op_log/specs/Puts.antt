@@ -23,11 +23,12 @@ module _ {B : Type 0} (g : Ghosts B) (disk : B) (end : ℕ) where
   HasParts digest front body heads =
       (at : ℕ) × (first_under digest heads ≡ Some (head_from digest front body at)) × LiesAt at body
 
-  -- A put makes one head more, where none has the digest; or it finds the operation, as long as the disk returns what was
-  -- written, and makes none.
+  -- A put makes one head more, where none has the digest; or it finds the operation, as long as the disk returns what
+  -- was written, and makes none.
   abbrev pub PutsParts : List ℕ → List ℕ → List ℕ → List Head → Kept → List Head → Type 0
   PutsParts digest front body old New new = (first_under digest old ≡ None)
-      × ((at : ℕ) × (new ≡ old ++ head_from digest front body at ∷ []) × IsSpelled (head_from digest front body at) × LiesAt at body)
+      × ((at : ℕ) × (new ≡ old ++ head_from digest front body at ∷ []) × IsSpelled (head_from digest front body at)
+      × LiesAt at body)
   PutsParts digest front body old Known new = (IsTrue (g.is_clean disk) → HasParts digest front body old) × (new ≡ old)
 
   -- the same of an operation
@@ -61,7 +62,8 @@ abbrev pub LeavesEither : {H : Type 0} → Ghosts H → H → List Head → List
 LeavesEither g disk old new = (c : List ℕ) → g.may_leave disk c → StandsFor c old ⊎ StandsFor c new
 
 -- what a crash left of two files stands for all that puts make, and has each data set that was in the file
-pub record LeavesAllOf {B : Type 0} (g : Ghosts B) (bodies : B) (end : ℕ) (old : List Head) (ops : List Op) (h b : List ℕ) : Type 0
+pub record LeavesAllOf {B : Type 0} (g : Ghosts B) (bodies : B) (end : ℕ) (old : List Head) (ops : List Op)
+    (h b : List ℕ) : Type 0
   where
     pub kepts : List Kept
     pub heads : List Head
@@ -72,4 +74,5 @@ pub record LeavesAllOf {B : Type 0} (g : Ghosts B) (bodies : B) (end : ℕ) (old
 -- whatever a crash leaves of both files stands for the heads from before, or for all that puts make
 abbrev pub LeavesAllOrNone : {H B : Type 0} → Ghosts H → Ghosts B → H → B → ℕ → List Head → List Op → Type 0
 LeavesAllOrNone gh gb heads bodies end old ops =
-    (h b : List ℕ) → gh.may_leave heads h → gb.may_leave bodies b → StandsFor h old ⊎ LeavesAllOf gb bodies end old ops h b
+    (h b : List ℕ) → gh.may_leave heads h → gb.may_leave bodies b
+    → StandsFor h old ⊎ LeavesAllOf gb bodies end old ops h b

@@ -46,7 +46,8 @@ pub record AreSettled {B : Type 0} (g : Ghosts B) (bodies : BodyLog B) (old new 
     (ops : List Op) : Type 0 where
   pub heads : HasHeads old new [] group.text.items
   pub put : PutsAll g (disk_of bodies) (end_of bodies) old ops group.kepts.items new
-  pub lasting : (e : Entry) → IsHeld g (disk_of bodies) (end_of bodies) e → IsLasting g (disk_of bodies) (end_of bodies) e
+  pub lasting : (e : Entry) → IsHeld g (disk_of bodies) (end_of bodies) e
+      → IsLasting g (disk_of bodies) (end_of bodies) e
 
 -- the heads in memory are those from before, and perhaps more, whose data sets lie in the file
 pub record KeepsPlaces {B : Type 0} (g : Ghosts B) (old new : BodyLog B) (before after : List Head) : Type 0 where
@@ -65,7 +66,8 @@ Reaches g bodies end = IsTrue (g.is_clean (disk_of bodies)) → end ≤ length (
 
 -- the count of the disk's failures stays at `Ok`, and rises where `Disk` is told of a file that reaches so far
 abbrev pub Counts : {B V : Type 0} → Ghosts B → ℕ → BodyLog B → BodyLog B → Result V LogFault → Type 0
-Counts g end old new result = CountsAsIf (Reaches g old end) Disk result (g.faults (disk_of old)) (g.faults (disk_of new))
+Counts g end old new result =
+    CountsAsIf (Reaches g old end) Disk result (g.faults (disk_of old)) (g.faults (disk_of new))
 
 -- the file is as usable as it was, and only one that was not is told as closed
 pub record Uses {B V : Type 0} (g : Ghosts B) (old new : BodyLog B) (result : Result V LogFault) : Type 0 where

@@ -6,9 +6,10 @@ use Rattle.op_log.specs.declared.fault.LogFault.TheVariants.{Disk}
 use Rattle.op_log.specs.Heads.{Head}
 use Rattle.op_log.specs.Kept.{Has, IsBelow, first_under}
 use Rattle.op_log.specs.Loaded.{HasBadHead}
-use Rattle.op_log.specs.Log.{Opened}
+use Rattle.op_log.specs.Log.{GoesOn, IsSound, Opened, opened}
 use Rattle.op_log.specs.Places.{head_by}
 use Rattle.op_log.proofs.Faults.{counts_as}
+use Rattle.op_log.proofs.Going.{goes_nowhere, goes_reading, sound_read}
 use Rattle.op_log.proofs.Growing.{reaches_less}
 use Rattle.op_log.proofs.Lookups.{among}
 use Rattle.op_log.proofs.log.OpLog.load.Goals as goal
@@ -33,10 +34,13 @@ pub returns-in_err-op-clause-disk : goal.returns-in_err-op-clause-disk
 returns-in_err-op-clause-disk g c =
     let bodies = c.self.inside.bodies in
     let h = head_by c.args.digest.now c.in-Some.place.now in
-    let low = among (IsBelow (end_of bodies)) c.self.inside.places c.args.digest.now h c.in-Some.ensures.found c.self.invariant.below in
+    let low = among (IsBelow (end_of bodies)) c.self.inside.places c.args.digest.now h c.in-Some.ensures.found
+    c.self.invariant.below in
     let new = g.B.Disk.faults (disk_of c.load_at.new.bodies) in
-    subst (λ (o : Opened g.row.H.Denot g.row.B.Denot). CountsAs Disk c.from_residual.result (g.B.Disk.faults o.bodies) new) c.self.view_is
-    (counts_as c.from_residual.result c.in_err-op.field-0.0 (g.B.Disk.faults (disk_of bodies)) new c.from_residual.ensures.1
+    subst (λ (o : Opened g.row.H.Denot g.row.B.Denot). CountsAs Disk c.from_residual.result
+    (g.B.Disk.faults o.bodies) new) c.self.view_is
+    (counts_as c.from_residual.result c.in_err-op.field-0.0 (g.B.Disk.faults (disk_of bodies)) new
+    c.from_residual.ensures.1
     λ told. c.in_err-op.ensures.disk told (reaches_less g.B.Disk bodies (h.at + h.size) low c.self.invariant.reach))
 
 -- What was read is the operation of the first head with the digest.
@@ -46,7 +50,47 @@ returns-clause-found g c clean =
     let place = c.in-Some.place.now in
     let places = c.self.inside.places in
     let first = c.in-Some.ensures.found in
-    let low = among (IsBelow (end_of c.self.inside.bodies)) places c.args.digest.now (head_by c.args.digest.now place) first c.self.invariant.below in
+    let low = among (IsBelow (end_of c.self.inside.bodies)) places c.args.digest.now (head_by
+    c.args.digest.now place) first c.self.invariant.below in
     let size = ap (λ (k : Head). k.size) it.head in
-    subst (λ (o : Opened g.row.H.Denot g.row.B.Denot). Has g.B.Disk o.bodies o.bodies_end o.places c.in_ok-op.op) c.self.view_is
-    (place.at, ap (λ (d : List ℕ). first_under d places) c.in_ok-op.ensures.told ∙ first ∙ ap Some it.head, λ some. (it.held some, omega (arith, low, size)))
+    subst (λ (o : Opened g.row.H.Denot g.row.B.Denot). Has g.B.Disk o.bodies o.bodies_end o.places c.in_ok-op.op)
+    c.self.view_is (
+      place.at,
+      ap (λ (d : List ℕ). first_under d places) c.in_ok-op.ensures.told ∙ first
+          ∙ ap Some it.head,
+      λ some. (it.held some, omega (arith, low, size)),
+    )
+
+-- Nothing was read.
+pub returns-in_default-clause-goes_on : goal.returns-in_default-clause-goes_on
+returns-in_default-clause-goes_on g c =
+    goes_nowhere g.H.Disk g.B.Disk c.args.self.now
+    (subst (λ (o : Opened g.row.H.Denot g.row.B.Denot). IsSound g.H.Disk g.B.Disk o) c.self.view_is c.self.invariant)
+
+-- A read goes on with the log.
+pub returns-in_err-op-clause-goes_on : goal.returns-in_err-op-clause-goes_on
+returns-in_err-op-clause-goes_on g c =
+    let old = c.self.inside in
+    let new = c.load_at.new.bodies in
+    subst (λ (o : Opened g.row.H.Denot g.row.B.Denot). GoesOn g.H.Disk g.B.Disk o
+    (opened g.H.Disk g.B.Disk old.heads new old.places))
+    c.self.view_is
+    (goes_reading g.H.Disk g.B.Disk old.heads old.bodies new old.places c.self.invariant c.load_at.ensures.grows
+    c.load_at.ensures.uses.usable)
+
+pub returns-clause-goes_on : goal.returns-clause-goes_on
+returns-clause-goes_on g c =
+    let old = c.self.inside in
+    let new = c.load_at.new.bodies in
+    subst (λ (o : Opened g.row.H.Denot g.row.B.Denot). GoesOn g.H.Disk g.B.Disk o
+    (opened g.H.Disk g.B.Disk old.heads new old.places))
+    c.self.view_is
+    (goes_reading g.H.Disk g.B.Disk old.heads old.bodies new old.places c.self.invariant c.load_at.ensures.grows
+    c.load_at.ensures.uses.usable)
+
+pub invariant_of-self : goal.invariant_of-self
+invariant_of-self g c =
+    let old = c.self.inside in
+    sound_read g.H.Disk g.B.Disk old.heads old.bodies c.load_at.new.bodies old.places c.self.invariant
+    c.load_at.ensures.grows
+    c.load_at.ensures.uses.usable
