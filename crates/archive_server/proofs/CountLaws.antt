@@ -206,3 +206,14 @@ served_last ledger compared each ends jobs job before after pass accepted fault 
     (served_with (WasWritten compared) tasks results task deeds may
     (written_more deeds.clerk.known compared begins)
     (subst (λ (l : List (List ℕ)). HaveServed (WasWritten l) tasks results) (sym same) served) one))
+
+-- the same of what these lists and counts are
+pub served_as : {G : Type 0} (these : List ℕ → Type 0) (each : ℕ) (ends : Bool) (jobs jobs' : List (Job G))
+    (before before' passes passes' : List Seat) (accepted accepted' : ℕ) (fault fault' : Option ServeFault)
+    → jobs ≡ jobs' → before ≡ before' → passes ≡ passes' → accepted ≡ accepted' → fault ≡ fault'
+    → HaveServed these (record { before = before'; room = room_of_all each jobs'; ends = ends })
+    (record { passes = passes'; accepted = accepted'; fault = fault' })
+    → HaveServed these (record { before = before; room = room_of_all each jobs; ends = ends })
+    (record { passes = passes; accepted = accepted; fault = fault })
+served_as these each ends jobs jobs' before before' passes passes' accepted accepted' fault fault' a b c d e served =
+    rw (a, b, c, d, e) served

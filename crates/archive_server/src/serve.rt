@@ -1,15 +1,17 @@
 //! The server: a thread for each worker, for each worker of exchanges and for each peer, and the
 //! shelf in the thread that called.
 
-ghost use Rattle.std.specs.Prelude.{◌≡◌, ◌+◌, ◌*◌, ◌<◌, ◌≤◌, ◌⊎◌, [], min, length, is_some, IfOk, IsSome, vec_len};
+ghost use Rattle.std.specs.Prelude.{◌≡◌, ◌+◌, ◌*◌, ◌++◌, ◌∷◌, ◌<◌, ◌≤◌, ◌⊎◌, [], min, length, is_some, IfOk, IsSome, vec_len};
 ghost use Rattle.std.specs.Prelude.{vec_capacity};
 ghost use Rattle.std.specs.Option.{option_or};
+ghost use mathlib.Core.List.{IsPrefix};
 ghost use Rattle.archive_server.specs.Serving.{AllOnward, AreJobs, AreKept, HaveServed, IsKept, WasWritten};
 ghost use Rattle.archive_server.specs.Serving.{places_for, serving_in, paging_in, room_of_all};
 
 use crate::attending::Archive;
 use crate::board::Board;
 use crate::clerk::Clerk;
+use crate::done::Done;
 use crate::entrance::Entrance;
 use crate::exchanging::Exchanging;
 use crate::fault::ServeFault;
@@ -61,9 +63,35 @@ fn with_job(before: Total, accepted: u64, fault: Option<ServeFault>) -> Total
     }
 }
 
+/// What was served, and what one thread more came back with: its pass stands behind the others
+/// again, and what it knows was compared with the ledger.
+fn with_done<H: HubName, N: LedgerName>(
+    before: Total,
+    done: Done<H, N>,
+    ledger: &mut Ledger<N>,
+    passes: &mut Vec<Pass<H>>,
+) -> Total
+    requires room { vec_len passes.old < vec_capacity passes.old }
+    ensures same { ledger.new ≡ ledger.old }
+    ensures begins { IsPrefix done.clerk.known ledger.new }
+    ensures passes { passes.new.items ≡ passes.old.items ++ done.clerk.pass ∷ [] }
+    ensures accepted { result.accepted
+        ≡ min (before.accepted + done.accepted) 18446744073709551615 }
+    ensures fault { result.fault ≡ option_or before.fault done.fault }
+    ensures len { vec_len passes.new ≡ vec_len passes.old + 1 }
+    ensures capacity { vec_capacity passes.new ≡ vec_capacity passes.old }
+{
+    let (clerk, accepted, fault) = done.into_parts();
+    let (pass, extract) = clerk.into_parts();
+    ledger.compare(&extract);
+    passes.push_reserved(pass);
+    with_job(before, accepted, fault)
+}
+
 /// Keeps the shelf until nobody can ask any more.
-fn keep<H: HubName, R: Wait + Drop, S: Wait, K: Keep, N: LedgerName>(
-    hall: &Hall<'_, H, Shown<H>, R, S>,
+fn keep<S: Wait, K: Keep, N: LedgerName>(
+    rt: &S,
+    alloc: Global,
     channels: Channels<N>,
     shelf: &mut K,
     ledger: &mut Ledger<N>,
@@ -77,9 +105,8 @@ fn keep<H: HubName, R: Wait + Drop, S: Wait, K: Keep, N: LedgerName>(
         requests,
     } = channels;
     drop(desk);
-    let rt = hall.archive.rt;
     let mut inbox = Inbox { rt, requests };
-    keep_all(rt, hall.archive.alloc, shelf, ledger, &mut inbox);
+    keep_all(rt, alloc, shelf, ledger, &mut inbox);
 }
 
 /// Starts a thread for each job, each with a pass of its own, the last one first, keeps the shelf
@@ -118,7 +145,7 @@ fn serve_rest<
     ensures room { vec_capacity passes.new ≡ vec_capacity passes.old }
 {
     let Some(job) = jobs.pop() else {
-        keep(hall, channels, shelf, ledger);
+        keep(hall.archive.rt, hall.archive.alloc, channels, shelf, ledger);
         return Total {
             accepted: 0,
             fault: None,
@@ -132,11 +159,8 @@ fn serve_rest<
     let clerk = Clerk::new(pass, ledger.extract());
     let started = start(scope, hall, job, &channels, begun, clerk);
     let before = serve_rest(scope, hall, jobs, channels, shelf, ledger, passes);
-    let (clerk, accepted, fault) = finish(hall.archive.rt, task, started).into_parts();
-    let (pass, extract) = clerk.into_parts();
-    ledger.compare(&extract);
-    passes.push_reserved(pass);
-    with_job(before, accepted, fault)
+    let done = finish(hall.archive.rt, task, started);
+    with_done(before, done, ledger, passes)
 }
 
 /// What came of serving.
