@@ -1,10 +1,12 @@
 -- A content's data set is read again, and what coercion leaves of its values.
-use Rattle.std.proofs.Common.{◌≡◌, ◌≢◌, ℕ, List, [], ◌∷◌, map, Bool, true, false, ◌||◌, Option, Some, None, refl, sym}
-use Rattle.std.proofs.Common.{ap, ◌∙◌, ◌⊎◌, inl, inr}
-use Rattle.std.specs.Prelude.{not, if◌then◌else◌}
+use Rattle.std.proofs.Common.{◌≡◌, ◌≢◌, ℕ, List, [], ◌∷◌, Bool, true, false, ◌||◌, Option, Some, None, refl, sym}
+use Rattle.std.proofs.Common.{ap, ◌∙◌, ◌⊎◌, inl, inr, subst}
+use Rattle.std.specs.Prelude.{not, if◌then◌else◌, is_some, ◌==◌}
 use Rattle.std.specs.List.{list_any}
+use Rattle.std.specs.Option.{option_map}
 use Rattle.std.proofs.Math.Dec.{eqb}
 use Rattle.std.proofs.Math.Logic.{∥∥₁_elim}
+use Rattle.std.proofs.lemmas.Bool.{eqb-true}
 use Rattle.std.proofs.lemmas.Bool.Decides.{eqb_tells}
 use Rattle.octets.specs.Gives.{Told}
 use Rattle.data_set.specs.declared.fault.SetFault.{SetFault}
@@ -15,10 +17,13 @@ use Rattle.data_set.specs.Tree.{Tree}
 use Rattle.data_set.specs.Tags.{is_group_length}
 use Rattle.data_set.specs.Texts.{HasFault}
 use Rattle.octets.specs.Padding.{trimmed}
-use Rattle.dictionary.specs.Elements.{vr_in_table}
+use Rattle.dictionary.specs.declared.role.Entity.{Entity}
+use Rattle.dictionary.specs.Elements.{Line, vr_in_table, role_in_table}
+use Rattle.dictionary.specs.Roles.{corrected_tags, correction_of}
+use Rattle.dictionary.proofs.Lines.{BearsOut, of_table}
 use Rattle.data_set.specs.Values.{value_in}
 use Rattle.data_set.specs.Converted.{with_value}
-use Rattle.data_set.specs.Corrections.{corrected_tags, vr_among, correction_vr_of}
+use Rattle.data_set.specs.Corrections.{correction_vr_of}
 use Rattle.data_set.proofs.Sets.{fault_or_spelled}
 use Rattle.data_set.proofs.ValueLaws.{put_value, other_value}
 use Rattle.operation.specs.declared.op.Op.{Op}
@@ -28,6 +33,7 @@ use Rattle.archive_model.specs.Attributes.{attribute}
 use Rattle.archive_model.specs.Members.{Has}
 use Rattle.archive_model.specs.Coercion.{is_changed, put_attribute, with_attribute, with_attributes, coerced}
 use Rattle.archive_model.specs.Coercion.{CoercedHasAttributes, CoercedKeepsOthers, OwnIsNotCoerced}
+use Rattle.archive_model.proofs.MemberLaws.{any_has}
 use Rattle.archive_model.proofs.ModelLaws.{same_itself}
 
 told_fault : (s : Syntax) (text : List ℕ) (f : SetFault) → f ≢ Memory → Told is_memory f (HasFault s text)
@@ -115,22 +121,29 @@ values_kept ops c tag element none (t ∷ tags) ts = values_kept ops c tag eleme
         ∙ ap (value_in tag) (not_put ops c tag ts none)
     step (inr apart) = other_kept ops c t tag (correction_vr_of t) ts element apart.1
 
+-- a line of an attribute that may be corrected has its tag among them
+abbrev is_listed : Line → Bool
+is_listed line = not (is_some (correction_of line.role)) || list_any (λ one. one == line.tag) corrected_tags
+
+listed : BearsOut (λ tag vr role. Has corrected_tags tag) is_listed
+listed line entity passed is =
+    let at = any_has (λ one. one == line.tag) corrected_tags (subst (λ (o : Option Entity). (not (is_some o)
+    || list_any (λ one. one == line.tag) corrected_tags) ≡ true) is passed) in
+    subst (λ (t : ℕ). Has corrected_tags t) (eqb-true at.0 line.tag at.2) at.1
+
 -- a tag with a value representation is one of those that may be corrected
-has_vr : (tag : ℕ) (vr : List ℕ) (tags : List ℕ) → vr_among tag (map (λ (t : ℕ). (t, vr_in_table t)) tags) ≡ Some vr
-    → Has tags tag
-has_vr tag vr [] e = absurd cc
-has_vr tag vr (t ∷ tags) e = step (eqb_tells tag t) (has_vr tag vr tags)
+has_vr : (tag : ℕ) (vr : List ℕ) → correction_vr_of tag ≡ Some vr → Has corrected_tags tag
+has_vr tag vr e = by (correction_of (role_in_table tag)) refl e
   where
-    step : ((eqb tag t ≡ true) × (tag ≡ t)) ⊎ ((eqb tag t ≡ false) × (tag ≢ t))
-        → (vr_among tag (map (λ (t : ℕ). (t, vr_in_table t)) tags) ≡ Some vr → Has tags tag) → Has (t ∷ tags) tag
-    step (inl is) later = inl is.1
-    step (inr apart) later = inr (later (ap (λ (b : Bool). if b then Some (vr_in_table t) else vr_among
-        tag (map (λ (t : ℕ). (t, vr_in_table t)) tags)) (sym apart.0) ∙ e))
+    by : (o : Option Entity) → correction_of (role_in_table tag) ≡ o → option_map (λ x. vr_in_table tag) o ≡ Some vr
+        → Has corrected_tags tag
+    by None is e = absurd cc
+    by (Some entity) is e = of_table (λ tag vr role. Has corrected_tags tag) is_listed listed refl tag entity is
 
 pub coerced_has_attributes : CoercedHasAttributes
 unfolding coerced
 coerced_has_attributes ops c ts tag vr element e changed = values_put ops c tag vr element e changed corrected_tags
-    ts (inl (has_vr tag vr corrected_tags e))
+    ts (inl (has_vr tag vr e))
 
 pub coerced_keeps_others : CoercedKeepsOthers
 unfolding coerced

@@ -3,7 +3,7 @@ use Rattle.std.proofs.Common.{◌≡◌, ℕ, List, Some, None, refl, sym, ap, �
 use Rattle.std.specs.Prelude.{◌&&◌, not, if◌then◌else◌}
 use Rattle.std.specs.List.{filter_map}
 use Rattle.octets.specs.Texts.{same}
-use Rattle.data_set.specs.Corrections.{corrected_tags}
+use Rattle.dictionary.specs.Roles.{corrected_tags}
 use Rattle.operation.specs.declared.op.Op.{Op}
 use Rattle.operation.specs.Parts.{ContentParts, own_value}
 use Rattle.operation.specs.RecordParts.{ContentRecordParts, content_record}

@@ -8,7 +8,8 @@ use Rattle.std.specs.List.{filter_map, cons_option, list_any}
 use Rattle.data_set.specs.Tree.{Tree}
 use Rattle.data_set.specs.Written.{text_of}
 use Rattle.data_set.specs.Reading.{elements_in}
-use Rattle.data_set.specs.Corrections.{corrected_tags, correction_vr_of}
+use Rattle.dictionary.specs.Roles.{corrected_tags}
+use Rattle.data_set.specs.Corrections.{correction_vr_of}
 use Rattle.data_set.specs.Converted.{with_value}
 use Rattle.data_set.proofs.Reading.{spelled_in}
 use Rattle.operation.specs.declared.op.Op.{Op}

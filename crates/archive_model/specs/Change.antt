@@ -6,7 +6,8 @@ use Rattle.operation.specs.Corrections.{is_corrected}
 abbrev pub ChangeParts : Type 0
 ChangeParts = ℕ × List ℕ
 
--- whether a correction may give an attribute a value: it is one of the eleven, and the value has at most 64 bytes
+-- whether a correction may give an attribute a value: it is one that may be corrected, and the value has at most 64
+-- bytes
 abbrev pub is_change : ℕ → List ℕ → Bool
 is_change tag value = is_corrected tag && nat_le (length value) 64
 

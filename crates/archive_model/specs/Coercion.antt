@@ -7,7 +7,8 @@ use Rattle.data_set.specs.Tags.{is_group_length}
 use Rattle.data_set.specs.Texts.{Spells}
 use Rattle.data_set.specs.Values.{value_in}
 use Rattle.data_set.specs.Converted.{with_value}
-use Rattle.data_set.specs.Corrections.{corrected_tags, correction_vr_of}
+use Rattle.dictionary.specs.Roles.{corrected_tags}
+use Rattle.data_set.specs.Corrections.{correction_vr_of}
 use Rattle.operation.specs.declared.op.Op.{Op}
 use Rattle.operation.specs.Parts.{ContentParts, own_value}
 use Rattle.archive_model.specs.Texts.{same}

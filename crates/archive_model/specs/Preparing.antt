@@ -1,7 +1,7 @@
 -- What a C-GET prepares over a set, which is the list of its operations ascending by digest (PS3.4, C.4.3).
 use Rattle.std.specs.Prelude.{ℕ, List, Option, Some, None, if◌then◌else◌, map}
 use Rattle.std.specs.List.{filter_map}
-use Rattle.data_set.specs.Corrections.{corrected_tags}
+use Rattle.dictionary.specs.Roles.{corrected_tags}
 use Rattle.operation.specs.declared.op.Op.{Op}
 use Rattle.operation.specs.Parts.{ContentParts}
 use Rattle.archive_model.specs.declared.view.View.{View}

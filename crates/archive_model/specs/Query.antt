@@ -4,8 +4,7 @@ use Rattle.std.specs.Prelude.{Some, None, Result, Ok, Err, if◌then◌else◌}
 use Rattle.std.specs.List.{filter_map, list_any}
 use Rattle.std.specs.Cmp.Lexicographic.{pointwise}
 use Rattle.octets.specs.Gives.{◌>>=◌}
-use Rattle.dictionary.specs.declared.elements.TheConstants.{QUERY_RETRIEVE_LEVEL, RETRIEVE_AE_TITLE}
-use Rattle.dictionary.specs.declared.elements.TheConstants.{SERIES_INSTANCE_UID, SPECIFIC_CHARACTER_SET}
+use Rattle.dictionary.specs.declared.elements.TheConstants.{QUERY_RETRIEVE_LEVEL, SERIES_INSTANCE_UID}
 use Rattle.dictionary.specs.declared.elements.TheConstants.{STUDY_INSTANCE_UID}
 use Rattle.data_set.specs.Tree.{Tree, tag_of}
 use Rattle.data_set.specs.Values.{value_of_tree, value_in}
@@ -14,11 +13,12 @@ use Rattle.archive_model.specs.declared.fault.QueryFault.{QueryFault}
 use Rattle.archive_model.specs.declared.fault.QueryFault.TheVariants.{NoLevel, MissingUpperKey, BadKey}
 use Rattle.archive_model.specs.declared.key.Level.{Level}
 use Rattle.archive_model.specs.declared.key.Level.TheVariants.{Study, Series, Image}
-use Rattle.key_matching.specs.declared.matching.Matching.{Matching}
-use Rattle.key_matching.specs.declared.matching.Matching.TheVariants.{Dates, Times, WildCard, Name, Uids, Single}
-use Rattle.key_matching.specs.declared.matching.Matching.TheVariants.{Answered}
+use Rattle.dictionary.specs.declared.role.Matching.{Matching}
+use Rattle.dictionary.specs.declared.role.Matching.TheVariants.{Dates, Times, WildCard, Name, Uids, Single}
+use Rattle.dictionary.specs.declared.role.Matching.TheVariants.{Answered}
 use Rattle.archive_model.specs.declared.asked.Asked.{Asked}
 use Rattle.archive_model.specs.declared.query.Query.{Query}
+use Rattle.archive_model.specs.Column.{is_in_each_row, is_upper_key}
 use Rattle.archive_model.specs.Key.{matching_of, has_study_above, has_series_above, word_of}
 use Rattle.key_matching.specs.Matches.{is_universal, is_of_form}
 
@@ -61,9 +61,7 @@ key_text t = text_or_empty (value_of_tree t)
 -- and the unique keys above the level are no keys that are asked.
 abbrev pub is_counted : Level → ℕ → Bool
 is_counted level tag =
-    not (tag % 65536 == 0 || tag == SPECIFIC_CHARACTER_SET || tag == QUERY_RETRIEVE_LEVEL || tag == RETRIEVE_AE_TITLE
-    || (has_study_above level && tag == STUDY_INSTANCE_UID)
-    || (has_series_above level && tag == SERIES_INSTANCE_UID))
+    not (tag % 65536 == 0 || is_in_each_row tag || is_upper_key level tag)
 
 abbrev pub is_answered_only : Matching → Bool
 is_answered_only Answered = true

@@ -14,7 +14,7 @@ use Rattle.operation.specs.Parts.{ContentParts}
 use Rattle.archive_model.specs.Texts.{same}
 use Rattle.archive_model.specs.Contents.{study_of, series_of}
 use Rattle.archive_model.specs.Covered.{is_among}
-use Rattle.key_matching.specs.declared.matching.Matching.TheVariants.{Uids}
+use Rattle.dictionary.specs.declared.role.Matching.TheVariants.{Uids}
 use Rattle.key_matching.specs.Matches.{is_of_form, parts}
 use Rattle.archive_model.specs.declared.fault.QueryFault.{QueryFault}
 use Rattle.archive_model.specs.declared.fault.QueryFault.TheVariants.{BadKey}

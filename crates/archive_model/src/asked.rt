@@ -1,6 +1,6 @@
 //! What a query asks of each row.
 
-use key_matching::Matching;
+use dictionary::Matching;
 use octets::Octets;
 
 /// A supported key of a query, trimmed.

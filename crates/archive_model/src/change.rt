@@ -29,7 +29,7 @@ impl Model for Change {
 
 impl Change {
     /// The change of an attribute to a value, or `None` where no correction may give it one: the
-    /// attribute is none of the eleven, or the value has more than 64 bytes.
+    /// attribute is none that may be corrected, or the value has more than 64 bytes.
     pub fn of(alloc: Global, tag: u32, value: &[u8]) -> Result<Option<Change>, AllocError>
         ensures { IfOk result (λ change. change ≡ checked_change tag value.now) }
     {

@@ -38,10 +38,10 @@ pub use answers::{Answers, AnswersMut};
 pub use asked::Asked;
 pub use change::Change;
 pub use corrected::corrected_tags;
+pub use dictionary::Matching;
 pub use fault::QueryFault;
 pub use index::title_code;
 pub use key::Level;
-pub use key_matching::Matching;
 pub use keys::{modality, patient, series, study};
 pub use laws::{
     an_audit_shows_every_pick, coercion_puts_in_what_differs, representatives_have_the_least_uid,

@@ -13,6 +13,7 @@ use Rattle.data_set.specs.Set.{Set}
 use Rattle.operation.specs.declared.op.Op.{Op}
 use Rattle.operation.specs.declared.op.Op.TheVariants.{Content as a_content}
 use Rattle.operation.specs.Contents.{IsContent, Describes, offence, has_uids, names_itself, note_offence}
+use Rattle.dictionary.specs.Elements.{role_in_table}
 use Rattle.operation.specs.Corrections.{is_corrected}
 use Rattle.operation.proofs.Bounds.{instance_short, passed}
 use Rattle.operation.proofs.KeyValueLaws.{kept_names}
@@ -34,9 +35,9 @@ use Rattle.archive_model.specs.Attributes.{attribute, corrected}
 use Rattle.archive_model.proofs.MemberLaws.{has_filter, filter_has, has_any, any_has, has_map, map_has, found_has}
 use Rattle.archive_model.proofs.MemberLaws.{has_all, filter_map_has}
 use Rattle.archive_model.proofs.ModelLaws.{same_is, same_itself as same_equal, pick_is_content, content_has}
-use Rattle.key_matching.specs.declared.matching.Matching.{Matching}
-use Rattle.key_matching.specs.declared.matching.Matching.TheVariants.{Dates, Times, WildCard, Name, Uids, Single}
-use Rattle.key_matching.specs.declared.matching.Matching.TheVariants.{Answered}
+use Rattle.dictionary.specs.declared.role.Matching.{Matching}
+use Rattle.dictionary.specs.declared.role.Matching.TheVariants.{Dates, Times, WildCard, Name, Uids, Single}
+use Rattle.dictionary.specs.declared.role.Matching.TheVariants.{Answered}
 use Rattle.key_matching.specs.Matches.{is_universal, parts, matches, is_match_by, is_same_part}
 use Rattle.study_index.specs.Keys.{has}
 use Rattle.study_index.specs.Live.{pick_at, is_of_study, is_of_series}
@@ -604,6 +605,19 @@ is_uids_of Uids e = refl
 is_uids_of Single e = absurd (false≢true e)
 is_uids_of Answered e = absurd (false≢true e)
 
+-- no correction is for a UID
+study_stays : is_corrected STUDY_INSTANCE_UID ≡ false
+unfolding role_in_table
+study_stays = refl
+
+series_stays : is_corrected SERIES_INSTANCE_UID ≡ false
+unfolding role_in_table
+series_stays = refl
+
+instance_stays : is_corrected SOP_INSTANCE_UID ≡ false
+unfolding role_in_table
+instance_stays = refl
+
 module _ (ops : List Op) (lawful : AreLawful ops) (called : List ℕ) (q : Query) where
   -- a content whose UID a key does not match has no row, where no correction is for that attribute
   unmatched : (tag : ℕ) → is_corrected tag ≡ false → (a : Asked) → find (is_list_of tag) q.asked ≡ Some a
@@ -662,7 +676,8 @@ module _ (ops : List Op) (lawful : AreLawful ops) (called : List ℕ) (q : Query
       (filter_alike _ _ (at_study l (is_study_match ops q)) cs)
   by_study (Some a) l f cs among =
       of_matching (matches Uids a.key)
-      (λ c h e. unmatched STUDY_INSTANCE_UID refl a f c (ap (matches Uids a.key) (sym (study_is l c)) ∙ e)) cs among
+      (λ c h e. unmatched STUDY_INSTANCE_UID study_stays a f c (ap (matches Uids a.key) (sym (study_is l c)) ∙ e))
+      cs among
       ∙ ap (λ (xs : List ContentParts). rows_among ops called q (named q xs))
       (filter_alike _ _ (at_study l (matches Uids a.key)) cs)
 
@@ -671,7 +686,8 @@ module _ (ops : List Op) (lawful : AreLawful ops) (called : List ℕ) (q : Query
   by_series None l f cs among = of_named cs
   by_series (Some a) l f cs among =
       of_matching (matches Uids a.key)
-      (λ c h e. unmatched SERIES_INSTANCE_UID refl a f c (ap (matches Uids a.key) (sym (series_is c)) ∙ e)) cs among
+      (λ c h e. unmatched SERIES_INSTANCE_UID series_stays a f c (ap (matches Uids a.key) (sym (series_is c)) ∙ e))
+      cs among
       ∙ ap (λ x. rows_among ops called q (named q (filter (λ c. is_named q c && matches Uids a.key (uid_at x c)) cs))) l
     where
       series_is : (c : ContentParts) → uid_at q.level c ≡ series_of c
@@ -682,7 +698,7 @@ module _ (ops : List Op) (lawful : AreLawful ops) (called : List ℕ) (q : Query
   by_image None l f cs among = of_named cs
   by_image (Some a) l f cs among =
       of_matching (matches Uids a.key)
-      (λ c h e. unmatched SOP_INSTANCE_UID refl a f c (ap (matches Uids a.key)
+      (λ c h e. unmatched SOP_INSTANCE_UID instance_stays a f c (ap (matches Uids a.key)
       (own_instance c (content_lawful ops lawful c h) ∙ sym (instance_is c)) ∙ e)) cs among
       ∙ ap (λ x. rows_among ops called q (named q (filter (λ c. is_named q c && matches Uids a.key (uid_at x c)) cs))) l
     where

@@ -38,7 +38,7 @@ use Rattle.archive_query.proofs.AscendingLaws.{Text, Rises, Below, ascending_ris
 use Rattle.archive_query.proofs.CandidateLaws.{one_has, has_one, is_kept, is_study_match, kept_by, kept_at}
 use Rattle.archive_query.proofs.CandidateLaws.{shown_pick, rows_of_kept}
 use Rattle.archive_query.proofs.CandidateLaws.{is_walked_study, walked_to}
-use Rattle.key_matching.specs.declared.matching.Matching.TheVariants.{Uids}
+use Rattle.dictionary.specs.declared.role.Matching.TheVariants.{Uids}
 use Rattle.key_matching.specs.Matches.{matches}
 use Rattle.archive_query.proofs.FirstLaws.{IsFor, has_flat, flat_has, own, stands_in_study, stands_in_all, taken_shown}
 use Rattle.archive_query.proofs.GroupingLaws.{AtLeast}

@@ -15,7 +15,8 @@ use Rattle.operation.specs.declared.op.Op.{Op}
 use Rattle.operation.specs.declared.op.Op.TheVariants.{Content as a_content, Correction as a_correction}
 use Rattle.operation.specs.declared.target.Target.{Target}
 use Rattle.operation.specs.declared.target.Target.TheVariants.{Study, Patient, Series}
-use Rattle.operation.specs.Corrections.{is_corrected, is_of_series, is_tag_for}
+use Rattle.operation.specs.Corrections.{is_tag_for}
+use Rattle.operation.proofs.TagLaws.{series_tag}
 use Rattle.operation.specs.Parts.{ContentParts, CorrectionParts, own_value}
 use Rattle.octets.specs.Members.{Has}
 use Rattle.octets.specs.Texts.{text_cmp}
@@ -150,8 +151,7 @@ module _ (ops : List Op) (index : IndexValue) (is : IsIndexOf ops index) where
         ∙ homed c h)
     by_target tag t c h k kh same_tag within (Series key) e to =
         let for_it = ap (λ (x : Target). is_tag_for x k.tag) (sym e) ∙ tag_is_for k (lawful_of ops lawful k kh) in
-        let of_it = ap is_of_series (sym same_tag) ∙ (both (is_corrected k.tag) (is_of_series k.tag) for_it).1 in
-        let tie : tag ≡ SERIES_DESCRIPTION = eqb-true tag SERIES_DESCRIPTION of_it in
+        let tie : tag ≡ SERIES_DESCRIPTION = sym same_tag ∙ series_tag key k.tag for_it in
         absurd (false≢true (ap is_led_tag (sym tie) ∙ t))
 
     enough_by : (tag : ℕ) → is_led_tag tag ≡ true → (c : ContentParts) → Has (contents ops) c

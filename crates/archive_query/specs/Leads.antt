@@ -4,9 +4,9 @@ use Rattle.std.specs.Prelude.{None, IfSome}
 use Rattle.std.specs.List.{list_any, list_all}
 use Rattle.std.specs.declared.cmp.Ordering.TheVariants.{Less}
 use Rattle.octets.specs.Members.{Has}
-use Rattle.key_matching.specs.declared.matching.Matching.{Matching}
-use Rattle.key_matching.specs.declared.matching.Matching.TheVariants.{Dates, Times, WildCard, Name, Uids, Single}
-use Rattle.key_matching.specs.declared.matching.Matching.TheVariants.{Answered}
+use Rattle.dictionary.specs.declared.role.Matching.{Matching}
+use Rattle.dictionary.specs.declared.role.Matching.TheVariants.{Dates, Times, WildCard, Name, Uids, Single}
+use Rattle.dictionary.specs.declared.role.Matching.TheVariants.{Answered}
 use Rattle.key_matching.specs.Matches.{is_universal, is_match_by}
 use Rattle.key_matching.specs.Range.{is_until}
 use Rattle.key_matching.specs.WildCard.{star, question_mark}

@@ -70,6 +70,7 @@ fn changes_under(
 }
 
 /// What corrections change of a content, by ascending tag.
+#[tactic(auto, unfolding(dictionary::specs::Elements::role_in_table))]
 pub fn changes(alloc: Global, site: &Site, content: &Content) -> Result<ListOf<Change>, AllocError>
     ensures { IfOk result (λ changes. changes ≡ changes_for (ops_of site.now) content.now) }
 {

@@ -1,5 +1,6 @@
 -- What a correction of fewer parts tells of those that it has.
 use Rattle.std.proofs.Common.{◌≡◌, refl, ap, ◌∙◌, ℕ, List, [], Bool, true, false, ◌&&◌}
+use Rattle.dictionary.specs.Elements.{role_in_table}
 use Rattle.operation.specs.declared.target.Target.{Target}
 use Rattle.operation.specs.declared.target.Target.TheVariants.{Study, Patient, Series}
 use Rattle.operation.specs.Corrections.{is_correction, is_key, is_tag_for, is_plain}
@@ -33,6 +34,7 @@ unfolding is_correction is_plain
 valueless target tag = first_two (is_key target) (is_tag_for target tag)
 
 tag_is : (target : Target) → is_tag_for target (tag_for target) ≡ true
+unfolding role_in_table
 tag_is (Study key) = refl
 tag_is (Patient key) = refl
 tag_is (Series key) = refl

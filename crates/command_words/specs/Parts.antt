@@ -2,10 +2,13 @@
 use Rattle.std.specs.Prelude.{ℕ, List, length, Bool, not, ◌&&◌, ◌||◌, ◌==◌, Option, Some, None}
 use Rattle.std.specs.Prelude.{if◌then◌else◌}
 use Rattle.std.specs.List.{list_any}
-use Rattle.dictionary.specs.declared.elements.TheConstants.{STUDY_DATE, STUDY_TIME, PATIENT_BIRTH_DATE, PATIENT_NAME}
-use Rattle.dictionary.specs.declared.elements.TheConstants.{SERIES_DESCRIPTION}
-use Rattle.key_matching.specs.declared.matching.Matching.{Matching}
-use Rattle.key_matching.specs.declared.matching.Matching.TheVariants.{Dates, Times}
+use Rattle.dictionary.specs.declared.elements.TheConstants.{PATIENT_NAME, SERIES_DESCRIPTION}
+use Rattle.dictionary.specs.declared.role.Role.{Role}
+use Rattle.dictionary.specs.declared.role.Role.TheVariants.{Plain, Kept, Counted, Key as a_key, Corrected}
+use Rattle.dictionary.specs.Elements.{role_in_table}
+use Rattle.dictionary.specs.declared.role.Matching.{Matching}
+use Rattle.dictionary.specs.declared.role.Matching.TheVariants.{Dates, Times, WildCard, Name, Uids, Single}
+use Rattle.dictionary.specs.declared.role.Matching.TheVariants.{Answered}
 use Rattle.key_matching.specs.Matches.{is_of_form}
 use Rattle.key_matching.specs.Range.{is_dash}
 use Rattle.operation.specs.declared.target.Target.{Target}
@@ -28,11 +31,25 @@ bad_part_of change =
     else (if not (is_tag_for change.target change.tag) then Some Tag
     else (if not (is_plain change.value) then Some Value else None))
 
+abbrev pub moment_of : Matching → Option Matching
+moment_of Dates = Some Dates
+moment_of Times = Some Times
+moment_of WildCard = None
+moment_of Name = None
+moment_of Uids = None
+moment_of Single = None
+moment_of Answered = None
+
+abbrev pub moment_in : Role → Option Matching
+moment_in Plain = None
+moment_in Kept = None
+moment_in (Counted entity) = None
+moment_in (a_key entity matching) = None
+moment_in (Corrected entity matching) = moment_of matching
+
 -- how keys match the attributes that hold dates and times and can be corrected
 abbrev pub matching_of : ℕ → Option Matching
-matching_of tag =
-    if tag == STUDY_DATE || tag == PATIENT_BIRTH_DATE then Some Dates
-    else (if tag == STUDY_TIME then Some Times else None)
+matching_of tag = moment_in (role_in_table tag)
 
 -- what parts the ends of a range
 abbrev pub has_dash : List ℕ → Bool

@@ -4,10 +4,11 @@ ghost use Rattle.std.specs.Prelude.{◌≡◌, IfOk, IsTrue};
 ghost use Rattle.operation.specs.Corrections.{is_correction, is_key, is_tag_for, is_plain};
 ghost use Rattle.command_words.specs.Parts.{bad_part_of, tag_for as tag_for_in, has_dash as has_dash_in};
 ghost use Rattle.command_words.specs.Parts.{is_one as is_one_in, matching_of as matching_in, unmatched_by};
+ghost use Rattle.command_words.specs.Parts.{moment_of as moment_of_in};
 
 use crate::Change;
-use dictionary::{PATIENT_BIRTH_DATE, PATIENT_NAME, SERIES_DESCRIPTION, STUDY_DATE, STUDY_TIME};
-use key_matching::{Matching, is_of_form};
+use dictionary::{Matching, PATIENT_NAME, Role, SERIES_DESCRIPTION, role_of};
+use key_matching::is_of_form;
 use octets::Octets;
 use operation::{OpFault, Stamp, Target, correction_of};
 use std::alloc::{AllocError, Global};
@@ -93,15 +94,27 @@ pub fn bad_part(alloc: Global, change: &Change) -> Result<Option<Part>, AllocErr
     Ok(None)
 }
 
+fn moment_of(matching: Matching) -> Option<Matching>
+    ensures { result ≡ moment_of_in matching }
+{
+    match matching {
+        Matching::Dates => Some(Matching::Dates),
+        Matching::Times => Some(Matching::Times),
+        Matching::WildCard => None,
+        Matching::Name => None,
+        Matching::Uids => None,
+        Matching::Single => None,
+        Matching::Answered => None,
+    }
+}
+
 /// How keys match the attributes that hold dates and times and can be corrected.
 fn matching_of(tag: u32) -> Option<Matching>
     ensures { result ≡ matching_in tag }
 {
-    match tag {
-        STUDY_DATE => Some(Matching::Dates),
-        PATIENT_BIRTH_DATE => Some(Matching::Dates),
-        STUDY_TIME => Some(Matching::Times),
-        _ => None,
+    match role_of(tag) {
+        Role::Corrected(_, matching) => moment_of(matching),
+        Role::Plain | Role::Kept | Role::Counted(_) | Role::Key(_, _) => None,
     }
 }
 

@@ -1,14 +1,15 @@
 -- A value put into a data set in its place leaves a data set of the grammar.
 use Rattle.std.proofs.Common.{◌≡◌, ℕ, ◌+◌, ◌%◌, ◌<◌, ◌≤◌, ◌^◌, Bool, true, false, cond, List, [], ◌∷◌, ◌++◌, length}
 use Rattle.std.proofs.Common.{Option, Some, None, refl, sym, ap, subst, arith, length-append}
-use Rattle.std.specs.Prelude.{◌==◌, nat_lt}
-use Rattle.std.proofs.lemmas.Bool.{eqb-true, ltb-true, lt-ltb, le-ltb}
+use Rattle.std.specs.Prelude.{◌==◌, nat_lt, not, ◌&&◌, ◌||◌, is_some}
+use Rattle.std.specs.List.{list_all}
+use Rattle.std.specs.Option.{option_map}
+use Rattle.std.proofs.lemmas.Bool.{eqb-true, ltb-true, lt-ltb, le-ltb, and_parts, not-true}
 use lib.Chars.{codes}
-use Rattle.dictionary.specs.declared.elements.TheConstants.{ACCESSION_NUMBER, PATIENT_BIRTH_DATE, PATIENT_ID}
-use Rattle.dictionary.specs.declared.elements.TheConstants.{PATIENT_NAME, PATIENT_SEX, REFERRING_PHYSICIAN_NAME}
-use Rattle.dictionary.specs.declared.elements.TheConstants.{SERIES_DESCRIPTION, STUDY_DATE, STUDY_DESCRIPTION, STUDY_ID}
-use Rattle.dictionary.specs.declared.elements.TheConstants.{STUDY_TIME}
-use Rattle.dictionary.specs.Elements.{vr_in_table}
+use Rattle.dictionary.specs.declared.role.Entity.{Entity}
+use Rattle.dictionary.specs.Elements.{Line, table, vr_in_table, role_in_table}
+use Rattle.dictionary.specs.Roles.{correction_of}
+use Rattle.dictionary.proofs.Lines.{BearsOut, of_table}
 use Rattle.data_set.specs.declared.syntax.Syntax.{Syntax}
 use Rattle.data_set.specs.declared.syntax.Syntax.TheVariants.{Implicit, Explicit}
 use Rattle.data_set.specs.Tree.{Tree, Trees, leaf, tree, tag_of, trees_of, list_trees}
@@ -20,7 +21,7 @@ use Rattle.data_set.specs.Texts.{deepest}
 use Rattle.data_set.specs.Written.{AreTrees, IsSet, IsTree, MayStand}
 use Rattle.data_set.specs.Values.{pad_of, padded}
 use Rattle.data_set.specs.Converted.{vr_in, converted_tree, converted_trees, below, above, with_element}
-use Rattle.data_set.specs.Corrections.{corrections, vr_among, correction_vr_of}
+use Rattle.data_set.specs.Corrections.{correction_vr_of}
 use Rattle.data_set.proofs.Lists.{trees_back}
 use Rattle.data_set.proofs.ConvertedLaws.{NoLater, skip, tag_above, converted_tag, own_tree, own_trees}
 
@@ -62,57 +63,56 @@ may_put tag a b lt item group listed cap_a cap_b short sq un Explicit q size abo
       is_inner = rw (sq, un) refl;
     }
 
-abbrev AllRows : (ℕ → List ℕ → Type 0) → List (ℕ × List ℕ) → Type 0
-AllRows P [] = Unit {0}
-AllRows P (x ∷ xs) = P x.0 x.1 × AllRows P xs
+-- whether an attribute may stand anywhere with its value representation
+abbrev may_stand : ℕ → List ℕ → Bool
+may_stand tag [] = false
+may_stand tag (a ∷ []) = false
+may_stand tag (a ∷ b ∷ []) =
+    nat_lt tag (2 ^ 32) && (not (is_item_tag tag) && (not (is_reserved_group tag) && (not (is_listed tag)
+    && (is_capital a && (is_capital b && (is_short a b && (not (is_name a b (codes "SQ"))
+    && not (is_name a b (codes "UN")))))))))
+may_stand tag (a ∷ b ∷ c ∷ vr) = false
+
+stands : (tag : ℕ) (vr : List ℕ) → may_stand tag vr ≡ true → MayPut tag vr
+stands tag [] t = absurd cc
+stands tag (a ∷ []) t = absurd cc
+stands tag (a ∷ b ∷ []) t =
+    let small = and_parts _ _ t in
+    let item = and_parts _ _ small.1 in
+    let group = and_parts _ _ item.1 in
+    let listed = and_parts _ _ group.1 in
+    let first = and_parts _ _ listed.1 in
+    let second = and_parts _ _ first.1 in
+    let short = and_parts _ _ second.1 in
+    let names = and_parts _ _ short.1 in
+    may_put tag a b (ltb-true tag (2 ^ 32) small.0) (not-true _ item.0) (not-true _ group.0) (not-true _ listed.0)
+    first.0 second.0 short.0 (not-true _ names.0) (not-true _ names.1)
+stands tag (a ∷ b ∷ c ∷ vr) t = absurd cc
+
+-- a line of the table: where it may be corrected, it may stand anywhere
+abbrev line_stands : Line → Bool
+line_stands line = not (is_some (correction_of line.role)) || may_stand line.tag line.vr
+
+all_stand : list_all line_stands table ≡ true
+unfolding is_short
+all_stand = refl
+
+borne_out : BearsOut (λ tag vr role. MayPut tag vr) line_stands
+borne_out line entity t is = stands line.tag line.vr
+    (subst (λ (o : Option Entity). (not (is_some o) || may_stand line.tag line.vr) ≡ true) is t)
 
 some_is : (u v : List ℕ) → Some u ≡ Some v → u ≡ v
 some_is u v same = cc
 
-found : (P : ℕ → List ℕ → Type 0) (rows : List (ℕ × List ℕ)) (tag : ℕ) (vr : List ℕ) → AllRows P rows
-    → vr_among tag rows ≡ Some vr → P tag vr
-found P [] tag vr all e = absurd cc
-found P (x ∷ xs) tag vr all e = by_test (tag == x.0) (eqb-true tag x.0) (λ is. found P xs tag vr all.1 is) e
+-- so it is of any attribute that may be corrected
+corrected_stands : (tag : ℕ) (vr : List ℕ) → correction_vr_of tag ≡ Some vr → MayPut tag vr
+corrected_stands tag vr e = by (correction_of (role_in_table tag)) refl e
   where
-    by_test : (b : Bool) → (b ≡ true → tag ≡ x.0) → (vr_among tag xs ≡ Some vr → P tag vr) → cond b (Some x.1)
-        (vr_among tag xs) ≡ Some vr → P tag vr
-    by_test true same more is = subst (λ (t : ℕ). P t vr) (sym (same refl))
-        (subst (λ (v : List ℕ). P x.0 v) (some_is x.1 vr is) all.0)
-    by_test false same more is = more is
-
-all_may : AllRows MayPut corrections
-unfolding is_short vr_in_table
-all_may = (
-  may_put STUDY_DATE 68 65 (omega arith) refl refl refl refl refl refl refl refl,
-  (
-    may_put STUDY_TIME 84 77 (omega arith) refl refl refl refl refl refl refl refl,
-    (
-      may_put ACCESSION_NUMBER 83 72 (omega arith) refl refl refl refl refl refl refl refl,
-      (
-        may_put REFERRING_PHYSICIAN_NAME 80 78 (omega arith) refl refl refl refl refl refl refl refl,
-        (
-          may_put STUDY_DESCRIPTION 76 79 (omega arith) refl refl refl refl refl refl refl refl,
-          (
-            may_put SERIES_DESCRIPTION 76 79 (omega arith) refl refl refl refl refl refl refl refl,
-            (
-              may_put PATIENT_NAME 80 78 (omega arith) refl refl refl refl refl refl refl refl,
-              (
-                may_put PATIENT_ID 76 79 (omega arith) refl refl refl refl refl refl refl refl,
-                (
-                  may_put PATIENT_BIRTH_DATE 68 65 (omega arith) refl refl refl refl refl refl refl refl,
-                  (
-                    may_put PATIENT_SEX 67 83 (omega arith) refl refl refl refl refl refl refl refl,
-                    (may_put STUDY_ID 83 72 (omega arith) refl refl refl refl refl refl refl refl, tt),
-                  ),
-                ),
-              ),
-            ),
-          ),
-        ),
-      ),
-    ),
-  ),
-)
+    by : (o : Option Entity) → correction_of (role_in_table tag) ≡ o → option_map (λ x. vr_in_table tag) o ≡ Some vr
+        → MayPut tag vr
+    by None is e = absurd cc
+    by (Some entity) is e = subst (λ (v : List ℕ). MayPut tag v) (some_is (vr_in_table tag) vr e)
+        (of_table (λ tag vr role. MayPut tag vr) line_stands borne_out all_stand tag entity is)
 
 padded_length : (vr value : List ℕ) → length (padded vr value) ≤ length value + 1
 padded_length vr value = by_test (length value % 2 == 0)
@@ -212,6 +212,6 @@ pub replaced_set : (s : Syntax) (ts : List Tree) (tag : ℕ) (vr value : List �
 unfolding IsSet
 replaced_set s ts tag vr value are corrected short =
     let new = leaf tag (vr_in s (Some vr)) (padded vr value) in
-    let may : MayPut tag vr = found MayPut corrections tag vr all_may corrected in
+    let may : MayPut tag vr = corrected_stands tag vr corrected in
     let fits : length (padded vr value) < 2 ^ 16 = omega (arith, padded_length vr value) in
     put_are deepest s new (λ q up. may s q (length (padded vr value)) up fits) ts None None (λ tag' up. up) refl are

@@ -1,5 +1,6 @@
 pub mod Agree
 pub mod Elements
+pub mod Roles
 pub mod Commands
 pub mod Statuses
 pub mod Tags

@@ -3,7 +3,9 @@
 //! A tag is one number, group first: (0008,0018) is `0x0008_0018`.
 
 ghost use Rattle.std.specs.Prelude.{◌≡◌};
-ghost use Rattle.dictionary.specs.Elements.{vr_in_table};
+ghost use Rattle.dictionary.specs.Elements.{vr_in_table, role_in_table};
+
+use crate::role::{Entity, Matching, Role};
 
 /// (0008,0005) Specific Character Set, CS
 pub const SPECIFIC_CHARACTER_SET: u32 = 0x0008_0005;
@@ -116,44 +118,63 @@ pub const ITEM_DELIMITATION_ITEM: u32 = 0xfffe_e00d;
 /// (FFFE,E0DD) Sequence Delimitation Item
 pub const SEQUENCE_DELIMITATION_ITEM: u32 = 0xfffe_e0dd;
 
+/// The line of a tag in the table: its value representation, and what it is to this archive. An
+/// element without a line has UN, and is nothing to it.
+#[tactic(auto, unfolding(crate::specs::Elements::vr_in_table, crate::specs::Elements::role_in_table))]
+fn line_of(tag: u32) -> ([u8; 2], Role)
+    ensures vr { result.0 ≡ vr_in_table tag }
+    ensures role { result.1 ≡ role_in_table tag }
+{
+    use Entity::{Instance, Patient, Series, Study};
+    use Matching::{Dates, Name, Single, Times, Uids, WildCard};
+    use Role::{Corrected, Counted, Kept, Key, Plain};
+    match tag {
+        SPECIFIC_CHARACTER_SET => (*b"CS", Kept),
+        SOP_CLASS_UID => (*b"UI", Key(Instance, Uids)),
+        SOP_INSTANCE_UID => (*b"UI", Key(Instance, Uids)),
+        STUDY_DATE => (*b"DA", Corrected(Study, Dates)),
+        STUDY_TIME => (*b"TM", Corrected(Study, Times)),
+        ACCESSION_NUMBER => (*b"SH", Corrected(Study, WildCard)),
+        QUERY_RETRIEVE_LEVEL => (*b"CS", Plain),
+        RETRIEVE_AE_TITLE => (*b"AE", Plain),
+        MODALITY => (*b"CS", Key(Series, WildCard)),
+        MODALITIES_IN_STUDY => (*b"CS", Counted(Study)),
+        REFERRING_PHYSICIAN_NAME => (*b"PN", Corrected(Study, WildCard)),
+        CODE_VALUE => (*b"SH", Plain),
+        CODING_SCHEME_DESIGNATOR => (*b"SH", Plain),
+        STUDY_DESCRIPTION => (*b"LO", Corrected(Study, WildCard)),
+        SERIES_DESCRIPTION => (*b"LO", Corrected(Series, WildCard)),
+        REFERENCED_SERIES_SEQUENCE => (*b"SQ", Plain),
+        REFERENCED_SOP_INSTANCE_UID => (*b"UI", Plain),
+        REFERENCED_SOP_SEQUENCE => (*b"SQ", Plain),
+        PATIENT_NAME => (*b"PN", Corrected(Patient, Name)),
+        PATIENT_ID => (*b"LO", Corrected(Patient, WildCard)),
+        PATIENT_BIRTH_DATE => (*b"DA", Corrected(Patient, Dates)),
+        PATIENT_SEX => (*b"CS", Corrected(Patient, WildCard)),
+        STUDY_INSTANCE_UID => (*b"UI", Key(Study, Uids)),
+        SERIES_INSTANCE_UID => (*b"UI", Key(Series, Uids)),
+        STUDY_ID => (*b"SH", Corrected(Study, WildCard)),
+        SERIES_NUMBER => (*b"IS", Key(Series, Single)),
+        INSTANCE_NUMBER => (*b"IS", Key(Instance, Single)),
+        NUMBER_OF_STUDY_RELATED_SERIES => (*b"IS", Counted(Study)),
+        NUMBER_OF_STUDY_RELATED_INSTANCES => (*b"IS", Counted(Study)),
+        NUMBER_OF_SERIES_RELATED_INSTANCES => (*b"IS", Counted(Series)),
+        CONCEPT_NAME_CODE_SEQUENCE => (*b"SQ", Plain),
+        CURRENT_REQUESTED_PROCEDURE_EVIDENCE_SEQUENCE => (*b"SQ", Plain),
+        _ => (*b"UN", Plain),
+    }
+}
+
 /// The value representation of an element that this archive knows, and UN of any other.
-#[tactic(auto, unfolding(crate::specs::Elements::vr_in_table))]
 pub fn vr_of(tag: u32) -> [u8; 2]
     ensures { result ≡ vr_in_table tag }
 {
-    match tag {
-        SPECIFIC_CHARACTER_SET => *b"CS",
-        SOP_CLASS_UID => *b"UI",
-        SOP_INSTANCE_UID => *b"UI",
-        STUDY_DATE => *b"DA",
-        STUDY_TIME => *b"TM",
-        ACCESSION_NUMBER => *b"SH",
-        QUERY_RETRIEVE_LEVEL => *b"CS",
-        RETRIEVE_AE_TITLE => *b"AE",
-        MODALITY => *b"CS",
-        MODALITIES_IN_STUDY => *b"CS",
-        REFERRING_PHYSICIAN_NAME => *b"PN",
-        CODE_VALUE => *b"SH",
-        CODING_SCHEME_DESIGNATOR => *b"SH",
-        STUDY_DESCRIPTION => *b"LO",
-        SERIES_DESCRIPTION => *b"LO",
-        REFERENCED_SERIES_SEQUENCE => *b"SQ",
-        REFERENCED_SOP_INSTANCE_UID => *b"UI",
-        REFERENCED_SOP_SEQUENCE => *b"SQ",
-        PATIENT_NAME => *b"PN",
-        PATIENT_ID => *b"LO",
-        PATIENT_BIRTH_DATE => *b"DA",
-        PATIENT_SEX => *b"CS",
-        STUDY_INSTANCE_UID => *b"UI",
-        SERIES_INSTANCE_UID => *b"UI",
-        STUDY_ID => *b"SH",
-        SERIES_NUMBER => *b"IS",
-        INSTANCE_NUMBER => *b"IS",
-        NUMBER_OF_STUDY_RELATED_SERIES => *b"IS",
-        NUMBER_OF_STUDY_RELATED_INSTANCES => *b"IS",
-        NUMBER_OF_SERIES_RELATED_INSTANCES => *b"IS",
-        CONCEPT_NAME_CODE_SEQUENCE => *b"SQ",
-        CURRENT_REQUESTED_PROCEDURE_EVIDENCE_SEQUENCE => *b"SQ",
-        _ => *b"UN",
-    }
+    line_of(tag).0
+}
+
+/// What an attribute is to this archive.
+pub fn role_of(tag: u32) -> Role
+    ensures { result ≡ role_in_table tag }
+{
+    line_of(tag).1
 }

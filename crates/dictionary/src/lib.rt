@@ -8,6 +8,7 @@
 mod commands;
 mod elements;
 mod laws;
+mod role;
 mod statuses;
 mod tags;
 mod titles;
@@ -31,12 +32,13 @@ pub use elements::{
     REFERENCED_SOP_SEQUENCE, REFERRING_PHYSICIAN_NAME, RETRIEVE_AE_TITLE,
     SEQUENCE_DELIMITATION_ITEM, SERIES_DESCRIPTION, SERIES_INSTANCE_UID, SERIES_NUMBER,
     SOP_CLASS_UID, SOP_INSTANCE_UID, SPECIFIC_CHARACTER_SET, STUDY_DATE, STUDY_DESCRIPTION,
-    STUDY_ID, STUDY_INSTANCE_UID, STUDY_TIME, vr_of,
+    STUDY_ID, STUDY_INSTANCE_UID, STUDY_TIME, role_of, vr_of,
 };
 pub use laws::{
     commands_are_those_of_the_standard, statuses_are_those_of_the_standard,
     tags_are_those_of_the_standard, texts_are_those_of_the_standard,
 };
+pub use role::{Entity, Matching, Role};
 pub use statuses::{
     FIRST_WARNING_STATUS, LAST_WARNING_STATUS, STATUS_CANCELED, STATUS_CANNOT_UNDERSTAND,
     STATUS_DATA_SET_DOES_NOT_MATCH, STATUS_OUT_OF_RESOURCES, STATUS_PENDING,

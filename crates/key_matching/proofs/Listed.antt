@@ -15,9 +15,9 @@ use Rattle.octets.specs.Members.{Has}
 use Rattle.octets.specs.Padding.{trimmed}
 use Rattle.octets.specs.Texts.{same, text_cmp, ascending}
 use Rattle.octets.proofs.TextLemmas.{in_ascending, ascending_holds, tied_texts, ascending_sorted}
-use Rattle.key_matching.specs.declared.matching.Matching.{Matching}
-use Rattle.key_matching.specs.declared.matching.Matching.TheVariants.{Dates, Times, WildCard, Name, Uids, Single}
-use Rattle.key_matching.specs.declared.matching.Matching.TheVariants.{Answered}
+use Rattle.dictionary.specs.declared.role.Matching.{Matching}
+use Rattle.dictionary.specs.declared.role.Matching.TheVariants.{Dates, Times, WildCard, Name, Uids, Single}
+use Rattle.dictionary.specs.declared.role.Matching.TheVariants.{Answered}
 use Rattle.key_matching.specs.Matches.{is_same_part, is_universal, parts, matches}
 use Rattle.key_matching.specs.Prepared.{is_uids, members_in}
 

@@ -2,9 +2,9 @@
 use Rattle.std.specs.Prelude.{◌≡◌, ℕ, List, [], map, Bool, true, false, if◌then◌else◌}
 use Rattle.octets.specs.Padding.{trimmed}
 use Rattle.octets.specs.Texts.{ascending}
-use Rattle.key_matching.specs.declared.matching.Matching.{Matching}
-use Rattle.key_matching.specs.declared.matching.Matching.TheVariants.{Dates, Times, WildCard, Name, Uids, Single}
-use Rattle.key_matching.specs.declared.matching.Matching.TheVariants.{Answered}
+use Rattle.dictionary.specs.declared.role.Matching.{Matching}
+use Rattle.dictionary.specs.declared.role.Matching.TheVariants.{Dates, Times, WildCard, Name, Uids, Single}
+use Rattle.dictionary.specs.declared.role.Matching.TheVariants.{Answered}
 use Rattle.key_matching.specs.Matches.{parts}
 
 -- whether a key lists UIDs

@@ -4,13 +4,12 @@
 //! folds or has a `?` takes up to its length times that of the value.
 #![tactic(auto)]
 
-mod matching;
 mod prepared;
 mod range;
 mod value_match;
 mod wild_card;
 
-pub use matching::Matching;
+pub use dictionary::Matching;
 pub use prepared::{PreparedKey, is_uids};
 pub use range::ends;
 pub use value_match::{is_of_form, is_universal, matches, members_of};

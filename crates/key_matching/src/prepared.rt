@@ -7,8 +7,8 @@ ghost use Rattle.octets.specs.Texts.{same, text_cmp, ascending as ascending_of};
 ghost use Rattle.key_matching.specs.Matches.{is_universal as is_universal_in, matches as matches_in};
 ghost use Rattle.key_matching.specs.Prepared.{is_uids as is_uids_in, members_in};
 
-use crate::matching::Matching;
 use crate::value_match::{is_universal, matches, members_of};
+use dictionary::Matching;
 use octets::{Octets, ascending};
 use std::alloc::{AllocError, Global};
 use std::cmp::Ordering;
@@ -25,7 +25,7 @@ pub struct PreparedKey<'a> {
 
 impl<'a> Model for PreparedKey<'a> {
     ghost use Rattle.std.specs.Prelude.{List, ℕ};
-    ghost use Rattle.key_matching.specs.declared.matching.Matching.{Matching};
+    ghost use Rattle.dictionary.specs.declared.role.Matching.{Matching};
     ghost use Rattle.key_matching.specs.Prepared.{HasMembers};
 
     ghost Value = { Matching × List ℕ };

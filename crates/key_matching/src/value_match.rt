@@ -9,9 +9,9 @@ ghost use Rattle.key_matching.specs.Matches.{is_uid_part as is_uid_part_in, is_s
 ghost use Rattle.key_matching.specs.Matches.{is_of_form as is_of_form_in, is_match_by as is_match_by_in};
 ghost use Rattle.key_matching.specs.Matches.{matches as matches_in};
 
-use crate::matching::Matching;
 use crate::range::{Moment, is_in_range, is_range};
 use crate::wild_card::is_wild_match;
+use dictionary::Matching;
 use octets::{Octets, is_uid, trimmed};
 use std::alloc::{AllocError, Global};
 

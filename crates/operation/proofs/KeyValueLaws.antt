@@ -10,10 +10,11 @@ use Rattle.std.specs.Option.{option_map}
 use Rattle.dictionary.specs.declared.elements.TheConstants.{SOP_CLASS_UID, SOP_INSTANCE_UID, SPECIFIC_CHARACTER_SET}
 use Rattle.octets.proofs.TextLemmas.{tied_texts}
 use Rattle.octets.specs.Padding.{is_padding, is_space, without_padding, trimmed}
+use Rattle.dictionary.specs.Roles.{kept_tags}
 use Rattle.data_set.specs.Lengths.{FitsTree, FitsTrees}
 use Rattle.data_set.specs.Tree.{Tree, leaf, node, tag_of, trees_of}
 use Rattle.data_set.specs.Values.{value_of_tree, with_tag, and_then, value_in}
-use Rattle.operation.specs.Contents.{is_value, known_tags, names_itself, tagged, values_in}
+use Rattle.operation.specs.Contents.{is_value, names_itself, tagged, values_in}
 use Rattle.operation.specs.KeyValues.{bytes_of, values_at}
 use Rattle.operation.specs.Parts.{value_at, value_or_empty}
 use Rattle.operation.proofs.Bounds.{both}
@@ -153,7 +154,7 @@ kept_class : (class instance : List ℕ) (elements : List Tree) → names_itself
     → value_at SOP_CLASS_UID (values_in elements) ≡ Some class
 kept_class class instance elements names =
     let other = value_in SPECIFIC_CHARACTER_SET elements in
-    let behind = filter_map (λ tag. tagged tag elements) (drop 2 known_tags) in
+    let behind = filter_map (λ tag. tagged tag elements) (drop 2 kept_tags) in
     ap (λ (own : Option (List ℕ)). value_at SOP_CLASS_UID (in_front SPECIFIC_CHARACTER_SET other (in_front SOP_CLASS_UID
     own behind))) (named_is class (value_in SOP_CLASS_UID elements) (both _ _ names).0) ∙ own_class other behind class
 
@@ -162,7 +163,7 @@ kept_instance : (class instance : List ℕ) (elements : List Tree) → names_its
 kept_instance class instance elements names =
     let other = value_in SPECIFIC_CHARACTER_SET elements in
     let one = value_in SOP_CLASS_UID elements in
-    let behind = filter_map (λ tag. tagged tag elements) (drop 3 known_tags) in
+    let behind = filter_map (λ tag. tagged tag elements) (drop 3 kept_tags) in
     ap (λ (own : Option (List ℕ)). value_at SOP_INSTANCE_UID (in_front SPECIFIC_CHARACTER_SET other (in_front
     SOP_CLASS_UID one (in_front SOP_INSTANCE_UID own behind))))
     (named_is instance (value_in SOP_INSTANCE_UID elements) (both _ _ names).1) ∙ own_instance other one behind instance

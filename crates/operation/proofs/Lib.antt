@@ -1,4 +1,5 @@
 pub mod Bounds
+pub mod TagLaws
 pub mod ContentLaws
 pub mod ExistenceLaws
 pub mod KeyValueLaws

@@ -23,7 +23,8 @@ use Rattle.operation.specs.Fault.{is_memory}
 use Rattle.operation.specs.Reading.{IsReading, IsMade, IsFaultOf, IsOp, HasFault, is_pad, is_padded, draft_at, parts_at}
 use Rattle.operation.specs.Reading.{correction_at}
 use Rattle.operation.specs.Spelling.{spelling, target_text, draft_text, correction_text}
-use Rattle.operation.proofs.Bounds.{both, class_uid, instance_uid, body_short, value_short, tag_small}
+use Rattle.operation.proofs.Bounds.{both, class_uid, instance_uid, body_short, value_short}
+use Rattle.operation.proofs.TagLaws.{tag_small}
 use Rattle.operation.proofs.ContentLaws.{outcome_once}
 use Rattle.operation.proofs.ReadingLaws.{draft_again, parts_again}
 

@@ -9,6 +9,7 @@ use Rattle.std.specs.Option.{option_map}
 use Rattle.std.proofs.lemmas.Bool.{eqb-true}
 use Rattle.std.proofs.Math.Logic.{∥∥₁_elim}
 use Rattle.dictionary.specs.declared.elements.TheConstants.{SOP_CLASS_UID, SOP_INSTANCE_UID}
+use Rattle.dictionary.specs.Roles.{kept_tags}
 use Rattle.data_set.specs.Tree.{Tree}
 use Rattle.data_set.specs.Values.{value_in}
 use Rattle.data_set.specs.declared.syntax.Syntax.{Syntax}
@@ -18,7 +19,7 @@ use Rattle.rejection_note.specs.Notes.{note_in}
 use Rattle.operation.specs.declared.draft.Draft.{Draft}
 use Rattle.operation.specs.declared.op.Op.TheVariants.{Content as a_content}
 use Rattle.operation.specs.Code.{text_code}
-use Rattle.operation.specs.Contents.{IsContent, draft_of, has_uids, known_tags, names_itself, note_offence, offence}
+use Rattle.operation.specs.Contents.{IsContent, draft_of, has_uids, names_itself, note_offence, offence}
 use Rattle.operation.specs.Contents.{tagged}
 use Rattle.operation.specs.Parts.{ContentParts, value_at, value_or_empty}
 use Rattle.operation.specs.Spelling.{digest_of}
@@ -95,11 +96,11 @@ again (t ∷ tags) all es are =
     (again tags all es (λ tag has. are tag (inr has)))
 
 -- The values of a content are those under the tags that queries know.
-pub all_values : (c : ContentParts) → IsContent c → filter_map (own_under c.values) known_tags ≡ c.values
+pub all_values : (c : ContentParts) → IsContent c → filter_map (own_under c.values) kept_tags ≡ c.values
 all_values c is =
     ∥∥₁_elim is (Coded-set (coded_list (coded× coded_ℕ text_code)) _ _) (λ d.
-    ap (λ (values : List (ℕ × List ℕ)). filter_map (own_under values) known_tags) d.1.values
-    ∙ again known_tags known_tags d.0 (λ tag has. has) ∙ sym d.1.values)
+    ap (λ (values : List (ℕ × List ℕ)). filter_map (own_under values) kept_tags) d.1.values
+    ∙ again kept_tags kept_tags d.0 (λ tag has. has) ∙ sym d.1.values)
 
 -- ---- class and instance
 

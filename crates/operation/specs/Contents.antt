@@ -1,15 +1,12 @@
 -- Which contents there are (docs/DECISIONS.md, "Contents").
-use Rattle.std.specs.Prelude.{◌≡◌, ℕ, ◌<◌, ◌≤◌, List, [], ◌∷◌, length, Bool, false, not, ◌&&◌, Option, Some, None}
+use Rattle.std.specs.Prelude.{◌≡◌, ℕ, ◌<◌, ◌≤◌, List, length, Bool, false, not, ◌&&◌, Option, Some, None}
 use Rattle.std.specs.Prelude.{Result, Ok, Err, nat_eq, if◌then◌else◌}
 use Rattle.std.specs.List.{filter_map}
 use Rattle.std.specs.Option.{option_map}
 use Rattle.std.specs.Cmp.Lexicographic.{pointwise}
-use Rattle.dictionary.specs.declared.elements.TheConstants.{ACCESSION_NUMBER, INSTANCE_NUMBER, MODALITY}
-use Rattle.dictionary.specs.declared.elements.TheConstants.{PATIENT_BIRTH_DATE, PATIENT_ID, PATIENT_NAME, PATIENT_SEX}
-use Rattle.dictionary.specs.declared.elements.TheConstants.{REFERRING_PHYSICIAN_NAME, SERIES_DESCRIPTION}
-use Rattle.dictionary.specs.declared.elements.TheConstants.{SERIES_INSTANCE_UID, SERIES_NUMBER, SOP_CLASS_UID}
-use Rattle.dictionary.specs.declared.elements.TheConstants.{SOP_INSTANCE_UID, SPECIFIC_CHARACTER_SET, STUDY_DATE}
-use Rattle.dictionary.specs.declared.elements.TheConstants.{STUDY_DESCRIPTION, STUDY_ID, STUDY_INSTANCE_UID, STUDY_TIME}
+use Rattle.dictionary.specs.declared.elements.TheConstants.{SERIES_INSTANCE_UID, SOP_CLASS_UID, SOP_INSTANCE_UID}
+use Rattle.dictionary.specs.declared.elements.TheConstants.{STUDY_INSTANCE_UID}
+use Rattle.dictionary.specs.Roles.{kept_tags}
 use Rattle.data_set.specs.Tree.{Tree}
 use Rattle.data_set.specs.Texts.{Spells}
 use Rattle.octets.specs.Uid.{is_uid_text}
@@ -33,19 +30,12 @@ IsShort draft = length draft.body ≤ longest
 
 -- ---- the values that are kept
 
--- the elements that queries know, ascending
-abbrev pub known_tags : List ℕ
-known_tags =
-    SPECIFIC_CHARACTER_SET ∷ SOP_CLASS_UID ∷ SOP_INSTANCE_UID ∷ STUDY_DATE ∷ STUDY_TIME ∷ ACCESSION_NUMBER ∷ MODALITY
-    ∷ REFERRING_PHYSICIAN_NAME ∷ STUDY_DESCRIPTION ∷ SERIES_DESCRIPTION ∷ PATIENT_NAME ∷ PATIENT_ID ∷ PATIENT_BIRTH_DATE
-    ∷ PATIENT_SEX ∷ STUDY_INSTANCE_UID ∷ SERIES_INSTANCE_UID ∷ STUDY_ID ∷ SERIES_NUMBER ∷ INSTANCE_NUMBER ∷ []
-
 abbrev pub tagged : ℕ → List Tree → Option (ℕ × List ℕ)
 tagged tag elements = option_map (λ value. (tag, value)) (value_in tag elements)
 
 -- their trimmed values; none where the element is missing or holds items
 abbrev pub values_in : List Tree → List (ℕ × List ℕ)
-values_in elements = filter_map (λ tag. tagged tag elements) known_tags
+values_in elements = filter_map (λ tag. tagged tag elements) kept_tags
 
 -- ---- what a content's elements must say
 

@@ -1,8 +1,12 @@
 -- Which corrections there are (docs/DECISIONS.md, "Corrections").
 use Rattle.std.specs.Prelude.{ℕ, ◌<◌, ◌^◌, List, length, Bool, true, false, not, ◌&&◌, ◌||◌, ◌==◌, nat_le, Option, Some}
-use Rattle.std.specs.Prelude.{None, Result, Ok, Err, IsTrue, slice_get, is_some, if◌then◌else◌, ◌-◌, ◌/◌}
+use Rattle.std.specs.Prelude.{None, Result, Ok, Err, IsTrue, slice_get, is_some, if◌then◌else◌, ◌-◌}
 use Rattle.std.specs.List.{list_all}
-use Rattle.dictionary.specs.declared.elements.TheConstants.{SERIES_DESCRIPTION}
+use Rattle.dictionary.specs.declared.role.Entity.{Entity}
+use Rattle.dictionary.specs.declared.role.Entity.TheVariants.{Patient as a_patient, Study as a_study}
+use Rattle.dictionary.specs.declared.role.Entity.TheVariants.{Series as a_series, Instance as an_instance}
+use Rattle.dictionary.specs.Elements.{role_in_table}
+use Rattle.dictionary.specs.Roles.{correction_of}
 use Rattle.data_set.specs.Corrections.{correction_vr_of}
 use Rattle.octets.specs.Uid.{is_uid_text}
 use Rattle.operation.specs.declared.fault.OpFault.{OpFault}
@@ -11,23 +15,30 @@ use Rattle.operation.specs.declared.target.Target.{Target}
 use Rattle.operation.specs.declared.target.Target.TheVariants.{Study, Patient, Series}
 use Rattle.operation.specs.Parts.{CorrectionParts}
 
--- The eleven attributes that can be corrected are those whose value representation is known.
+-- The attributes that can be corrected are those whose value representation is known.
 abbrev pub is_corrected : ℕ → Bool
 is_corrected tag = is_some (correction_vr_of tag)
 
--- group 0010, that of the patient's attributes
-abbrev pub is_of_patient : ℕ → Bool
-is_of_patient tag = tag / 65536 == 0x0010
+-- A study's correction is for an attribute of the study or of its patient, that of a patient or of a series for one of
+-- its own.
+abbrev pub is_entity_for : Target → Option Entity → Bool
+is_entity_for target None = false
+is_entity_for (Study key) (Some a_patient) = true
+is_entity_for (Study key) (Some a_study) = true
+is_entity_for (Study key) (Some a_series) = false
+is_entity_for (Study key) (Some an_instance) = false
+is_entity_for (Patient key) (Some a_patient) = true
+is_entity_for (Patient key) (Some a_study) = false
+is_entity_for (Patient key) (Some a_series) = false
+is_entity_for (Patient key) (Some an_instance) = false
+is_entity_for (Series key) (Some a_patient) = false
+is_entity_for (Series key) (Some a_study) = false
+is_entity_for (Series key) (Some a_series) = true
+is_entity_for (Series key) (Some an_instance) = false
 
--- the one attribute of a series
-abbrev pub is_of_series : ℕ → Bool
-is_of_series tag = tag == SERIES_DESCRIPTION
-
--- A study's correction is for any of them but that of a series, a patient's for one of the patient.
+-- The table tells of which entity an attribute is that can be corrected.
 abbrev pub is_tag_for : Target → ℕ → Bool
-is_tag_for (Study key) tag = is_corrected tag && not (is_of_series tag)
-is_tag_for (Patient key) tag = is_corrected tag && is_of_patient tag
-is_tag_for (Series key) tag = is_corrected tag && is_of_series tag
+is_tag_for target tag = is_entity_for target (correction_of (role_in_table tag))
 
 -- whether a target is a series
 abbrev pub is_series : Target → Bool

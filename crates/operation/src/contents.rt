@@ -19,46 +19,18 @@ use crate::fault::OpFault;
 use crate::key_values::{KeyValues, values_under};
 use bytes::Bytes;
 use data_set::{DataSet, Element, Syntax, read, value_of};
-use dictionary::{
-    ACCESSION_NUMBER, INSTANCE_NUMBER, MODALITY, PATIENT_BIRTH_DATE, PATIENT_ID, PATIENT_NAME,
-    PATIENT_SEX, REFERRING_PHYSICIAN_NAME, SERIES_DESCRIPTION, SERIES_INSTANCE_UID, SERIES_NUMBER,
-    SOP_CLASS_UID, SOP_INSTANCE_UID, SPECIFIC_CHARACTER_SET, STUDY_DATE, STUDY_DESCRIPTION,
-    STUDY_ID, STUDY_INSTANCE_UID, STUDY_TIME,
-};
+use dictionary::{Role, SERIES_INSTANCE_UID, SOP_CLASS_UID, SOP_INSTANCE_UID, STUDY_INSTANCE_UID};
 use octets::{LONGEST_DATA_SET, Octets, is_uid, without_padding};
 use rejection_note::{Note, note_of};
 use std::alloc::{AllocError, Global};
 use std::sync::Arc;
-
-/// The elements that queries know, ascending.
-const KNOWN_TAGS: [u32; 19] = [
-    SPECIFIC_CHARACTER_SET,
-    SOP_CLASS_UID,
-    SOP_INSTANCE_UID,
-    STUDY_DATE,
-    STUDY_TIME,
-    ACCESSION_NUMBER,
-    MODALITY,
-    REFERRING_PHYSICIAN_NAME,
-    STUDY_DESCRIPTION,
-    SERIES_DESCRIPTION,
-    PATIENT_NAME,
-    PATIENT_ID,
-    PATIENT_BIRTH_DATE,
-    PATIENT_SEX,
-    STUDY_INSTANCE_UID,
-    SERIES_INSTANCE_UID,
-    STUDY_ID,
-    SERIES_NUMBER,
-    INSTANCE_NUMBER,
-];
 
 /// What a content keeps of its elements.
 fn key_values(alloc: Global, elements: &[Element]) -> Result<KeyValues, AllocError>
     requires { FitsTrees (trees_of elements.now) }
     ensures { IfOk result (λ values. values ≡ values_in elements.now) }
 {
-    values_under(alloc, &KNOWN_TAGS, elements)
+    values_under(alloc, Role::kept_tags(), elements)
 }
 
 fn has_uid(elements: &[Element], tag: u32) -> bool

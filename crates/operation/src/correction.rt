@@ -1,22 +1,18 @@
 //! Corrections of attributes.
 
-ghost use Rattle.std.specs.Prelude.{◌≡◌, ◌≤◌, ◌↔◌, length, List, ℕ, IfOk, IsTrue};
+ghost use Rattle.std.specs.Prelude.{◌≡◌, ◌≤◌, ◌↔◌, length, List, ℕ, IfOk, IsTrue, Some};
 ghost use Rattle.std.specs.List.{list_all};
 ghost use Rattle.operation.specs.Parts.{CorrectionParts, key_of};
-ghost use Rattle.operation.specs.Corrections.{is_tag_for, is_text_byte, has_outer_space, is_plain, is_key, checked};
-ghost use Rattle.operation.specs.Corrections.{is_correction, IsCorrection};
+ghost use Rattle.operation.specs.Corrections.{is_entity_for, is_tag_for, is_text_byte, has_outer_space, is_plain};
+ghost use Rattle.operation.specs.Corrections.{is_key, checked, is_correction, IsCorrection};
 
 use crate::fault::OpFault;
 use crate::stamp::Stamp;
 use crate::target::Target;
-use data_set::correction_vr;
-use dictionary::SERIES_DESCRIPTION;
+use dictionary::{Entity, role_of};
 use octets::{Octets, is_uid};
 use std::alloc::{AllocError, Global};
 use std::marker::Model;
-
-/// The group of the patient's attributes (PS3.6, section 6).
-const PATIENT_GROUP: u32 = 0x0010;
 
 /// A stamped value for one attribute of a study, a patient or a series.
 #[derive(Debug, Drop)]
@@ -51,14 +47,23 @@ impl Model for Correction {
     }) };
 }
 
+/// Whether an attribute of an entity may be corrected for a target.
+fn may_have_entity(target: &Target, entity: Entity) -> bool
+    ensures { result ≡ is_entity_for target.now (Some entity) }
+{
+    match target {
+        Target::Study(_) => matches!(entity, Entity::Patient | Entity::Study),
+        Target::Patient(_) => matches!(entity, Entity::Patient),
+        Target::Series(_) => matches!(entity, Entity::Series),
+    }
+}
+
 fn may_have_tag(target: &Target, tag: u32) -> bool
     ensures { result ≡ is_tag_for target.now tag }
 {
-    let is_corrected = correction_vr(tag).is_some();
-    match target {
-        Target::Study(_) => is_corrected && tag != SERIES_DESCRIPTION,
-        Target::Patient(_) => is_corrected && tag / 65536 == PATIENT_GROUP,
-        Target::Series(_) => is_corrected && tag == SERIES_DESCRIPTION,
+    match role_of(tag).correction() {
+        None => false,
+        Some(entity) => may_have_entity(target, entity),
     }
 }
 
@@ -110,8 +115,8 @@ fn is_lawful(target: &Target, tag: u32, value: &[u8], stamp: Stamp) -> bool
         && stamp.site >= 1
 }
 
-/// The correction of these parts: of one of eleven attributes, of a study or a series under its UID
-/// or of a patient under the trimmed stored Patient ID, from counter and site 1 on
+/// The correction of these parts: of an attribute that can be corrected, of a study or a series
+/// under its UID or of a patient under the trimmed stored Patient ID, from counter and site 1 on
 /// (docs/DECISIONS.md, "Corrections").
 pub fn correction_of(
     target: Target,

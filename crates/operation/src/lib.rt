@@ -37,8 +37,8 @@ pub use fault::OpFault;
 pub use hashing::digest;
 pub use kept_value::KeptValue;
 pub use laws::{
-    a_series_is_corrected_by_its_description_alone, a_text_has_one_outcome,
-    each_text_has_an_outcome, spellings_tell_operations_apart,
+    a_patient_is_corrected_in_its_group_alone, a_series_is_corrected_by_its_description_alone,
+    a_text_has_one_outcome, each_text_has_an_outcome, spellings_tell_operations_apart,
 };
 pub use op::Op;
 pub use record::Record;

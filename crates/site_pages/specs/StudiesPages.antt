@@ -11,8 +11,8 @@ use Rattle.data_set.specs.Set.{Set}
 use Rattle.operation.specs.declared.op.Op.{Op}
 use Rattle.operation.specs.Parts.{ContentParts}
 use Rattle.archive_model.specs.declared.view.View.TheVariants.{Archive}
-use Rattle.key_matching.specs.declared.matching.Matching.{Matching}
-use Rattle.key_matching.specs.declared.matching.Matching.TheVariants.{Dates, WildCard, Name, Answered}
+use Rattle.dictionary.specs.declared.role.Matching.{Matching}
+use Rattle.dictionary.specs.declared.role.Matching.TheVariants.{Dates, WildCard, Name, Answered}
 use Rattle.key_matching.specs.Matches.{is_universal, is_of_form, matches, parts}
 use Rattle.archive_model.specs.declared.asked.Asked.{Asked}
 use Rattle.archive_model.specs.declared.query.Query.{Query}

@@ -12,8 +12,8 @@ use Rattle.operation.specs.Parts.{ContentParts, value_or_empty}
 use Rattle.archive_model.specs.Contents.{pick, study_of}
 use Rattle.archive_model.specs.Groups.{in_study}
 use Rattle.archive_model.specs.declared.view.View.TheVariants.{Archive}
-use Rattle.key_matching.specs.declared.matching.Matching.{Matching}
-use Rattle.key_matching.specs.declared.matching.Matching.TheVariants.{Dates, WildCard, Name, Answered}
+use Rattle.dictionary.specs.declared.role.Matching.{Matching}
+use Rattle.dictionary.specs.declared.role.Matching.TheVariants.{Dates, WildCard, Name, Answered}
 use Rattle.archive_model.specs.declared.asked.Asked.{Asked}
 use Rattle.archive_model.specs.declared.query.Query.{Query}
 use Rattle.archive_model.specs.declared.key.Level.TheVariants.{Study}

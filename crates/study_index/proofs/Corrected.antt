@@ -12,6 +12,7 @@ use Rattle.operation.specs.declared.target.Target.TheVariants.{Study, Patient, S
 use Rattle.operation.specs.Parts.{ContentParts, CorrectionParts, key_of}
 use Rattle.operation.specs.Corrections.{is_correction, is_tag_for, is_corrected}
 use Rattle.operation.proofs.Bounds.{both, key_short}
+use Rattle.operation.proofs.TagLaws.{tag_corrected}
 use Rattle.octets.specs.Texts.{same}
 use Rattle.octets.specs.Members.{Has}
 use Rattle.archive_model.specs.Contents.{study_of, patient_of, series_of}
@@ -283,11 +284,6 @@ module _ (ops : List Op) (index : IndexValue) (is : IsIndexOf ops index) (lawful
 
 -- ---- attributes that no correction is for
 
-corrected_tag : (target : Target) (tag : ℕ) → is_tag_for target tag ≡ true → is_corrected tag ≡ true
-corrected_tag (Study key) tag e = (both _ _ e).0
-corrected_tag (Patient key) tag e = (both _ _ e).0
-corrected_tag (Series key) tag e = (both _ _ e).0
-
 tags_are : (a b : ℕ) → (a == b) ≡ true → a ≡ b
 tags_are a b e = eqb-true a b e
 
@@ -300,7 +296,7 @@ none_for c tag (k ∷ ks) all other =
     ∙ none_for c tag ks (λ x h. all x (inr h)) other
   where
     by : (b : Bool) → (k.tag == tag) ≡ b → (b && is_target_of c k.target) ≡ false
-    by true e = absurd (false≢true (sym other ∙ ap is_corrected (sym (tags_are k.tag tag e)) ∙ corrected_tag k.target
+    by true e = absurd (false≢true (sym other ∙ ap is_corrected (sym (tags_are k.tag tag e)) ∙ tag_corrected k.target
         k.tag (tag_is_for k (all k (inl refl)))))
     by false e = refl
 

@@ -1,6 +1,6 @@
 use Rattle.std.proofs.Common.{◌≡◌, drop}
 use Rattle.std.specs.List.{list_any}
-use Rattle.key_matching.specs.declared.matching.Matching.TheVariants.{WildCard}
+use Rattle.dictionary.specs.declared.role.Matching.TheVariants.{WildCard}
 use Rattle.key_matching.specs.Matches.{matches}
 use Rattle.site_pages.proofs.listing.has_modality.Given as goal
 
