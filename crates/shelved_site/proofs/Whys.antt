@@ -1,12 +1,15 @@
 -- Why a log refuses, from what is told of each fault.
 use Rattle.std.proofs.Common.{◌≡◌, ℕ, List, refl, false}
+use Rattle.std.specs.Prelude.{◌⊎◌}
 use Rattle.sqlite_disk.specs.declared.Disk.{Ghosts}
+use Rattle.sqlite_disk.specs.Disk.{MoreFaults}
 use Rattle.operation.specs.declared.op.Op.{Op}
 use Rattle.op_log.specs.declared.fault.LogFault.{LogFault}
 use Rattle.op_log.specs.declared.fault.LogFault.TheVariants as of_log
-use Rattle.op_log.specs.Fault.{IsOfLook}
+use Rattle.op_log.specs.Fault.{IsOfLook, IsOfPut}
 use Rattle.op_log.specs.Loaded.{HasBadHead}
 use Rattle.op_log.specs.Log.{IsTooLong, Opened}
+use Rattle.op_log.specs.Puts.{ComesToClash}
 use Rattle.shelved_site.specs.Refusing.{LogRefusesAll, LogRefusesGroup}
 use Rattle.shelved_site.specs.Telling.{fault_of}
 
@@ -25,12 +28,15 @@ log_why g log of_log.Memory look closed bad = tt
 
 -- what a put tells of a log, in a shelf's words
 pub group_why : {H B : Type 0} (gh : Ghosts H) (gb : Ghosts B) (old new : Opened H B) (ops : List Op) (f : LogFault)
-    → (f ≡ of_log.Closed → old.is_open ≡ false) → (f ≡ of_log.TooLong → IsTooLong old ops)
+    → IsOfPut f → (f ≡ of_log.Closed → old.is_open ≡ false) → (f ≡ of_log.TooLong → IsTooLong old ops)
+    → (f ≡ of_log.Disk → MoreFaults (gh.faults old.heads) (gh.faults new.heads)
+    ⊎ MoreFaults (gb.faults old.bodies) (gb.faults new.bodies))
+    → (f ≡ of_log.Collision → ComesToClash gb new.bodies new.bodies_end old.places ops)
     → LogRefusesGroup gh gb old new ops (fault_of f)
-group_why gh gb old new ops of_log.Disk closed long = tt
-group_why gh gb old new ops of_log.Closed closed long = closed refl
-group_why gh gb old new ops of_log.TooLong closed long = λ up. long refl
-group_why gh gb old new ops (of_log.DamagedHeads at) closed long = tt
-group_why gh gb old new ops (of_log.DamagedBody at) closed long = tt
-group_why gh gb old new ops of_log.Collision closed long = tt
-group_why gh gb old new ops of_log.Memory closed long = tt
+group_why gh gb old new ops of_log.Disk put closed long disk clash = disk refl
+group_why gh gb old new ops of_log.Closed put closed long disk clash = closed refl
+group_why gh gb old new ops of_log.TooLong put closed long disk clash = λ up. long refl
+group_why gh gb old new ops (of_log.DamagedHeads at) put closed long disk clash = absurd put
+group_why gh gb old new ops (of_log.DamagedBody at) put closed long disk clash = absurd put
+group_why gh gb old new ops of_log.Collision put closed long disk clash = clash refl
+group_why gh gb old new ops of_log.Memory put closed long disk clash = tt

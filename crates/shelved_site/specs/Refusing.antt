@@ -3,9 +3,11 @@ use Rattle.std.specs.Prelude.{◌≡◌, ◌⊎◌, ◌∷◌, [], ℕ, List, po
 use Rattle.sqlite.specs.declared.types.Value.TheVariants.{Int}
 use Rattle.sqlite.specs.State.{State}
 use Rattle.sqlite_disk.specs.declared.Disk.{Ghosts}
+use Rattle.sqlite_disk.specs.Disk.{MoreFaults}
 use Rattle.operation.specs.declared.op.Op.{Op}
 use Rattle.op_log.specs.Loaded.{HasBadHead}
 use Rattle.op_log.specs.Log.{IsTooLong, Opened}
+use Rattle.op_log.specs.Puts.{ComesToClash}
 use Rattle.op_shelf.specs.declared.fault.ShelfFault.{ShelfFault}
 use Rattle.op_shelf.specs.declared.fault.ShelfFault.TheVariants.{Store, BadRow, Memory}
 use Rattle.op_shelf.specs.declared.fault.StoreCause.TheVariants as cause
@@ -36,14 +38,15 @@ LogRefusesAll g log (Store cause.Other) = ⊥
 LogRefusesAll g log BadRow = (at : ℕ) × HasBadHead (g.seen log.bodies) log.places at
 LogRefusesAll g log Memory = Unit {0}
 
--- a log that is asked to keep a group: it is closed, or the group is longer than one may be; or its disk refused, or
--- memory was refused, or another operation has a digest of the group
+-- a log that is asked to keep a group: it is closed, or the group is longer than one may be; or one of its disks
+-- refused in this call, or another operation has the digest of one of the group, or memory was refused
 abbrev pub LogRefusesGroup : {H B : Type 0} → Ghosts H → Ghosts B → Opened H B → Opened H B → List Op → ShelfFault
     → Type 0
-LogRefusesGroup gh gb old new ops (Store cause.Failed) = Unit {0}
+LogRefusesGroup gh gb old new ops (Store cause.Failed) =
+    MoreFaults (gh.faults old.heads) (gh.faults new.heads) ⊎ MoreFaults (gb.faults old.bodies) (gb.faults new.bodies)
 LogRefusesGroup gh gb old new ops (Store cause.Closed) = old.is_open ≡ false
 LogRefusesGroup gh gb old new ops (Store cause.Full) = ⊥
 LogRefusesGroup gh gb old new ops (Store cause.Damaged) = ⊥
 LogRefusesGroup gh gb old new ops (Store cause.Other) = IsUp gh gb new → IsTooLong old ops
-LogRefusesGroup gh gb old new ops BadRow = Unit {0}
+LogRefusesGroup gh gb old new ops BadRow = ComesToClash gb new.bodies new.bodies_end old.places ops
 LogRefusesGroup gh gb old new ops Memory = Unit {0}

@@ -1,4 +1,4 @@
-use Rattle.std.proofs.Common.{rules, ◌≡◌, ◌<◌, ◌++◌, ◌∷◌, [], ℕ, List, Bool, cond, length, refl, sym, ap, ◌∙◌, arith}
+use Rattle.std.proofs.Common.{rules, ◌<◌, ◌++◌, ◌∷◌, [], ℕ, List, cond, length, refl, sym, ap, ◌∙◌, arith}
 use Rattle.std.proofs.Common.{slice_get}
 use Rattle.std.proofs.lemmas.Result.{err_from_is_err_and}
 use Rattle.op_log.specs.Heads.{Head}

@@ -68,5 +68,7 @@ returns-in-Err-clause-why g c =
     let old = c.args.self.now.log in
     let new = c.put_many.new.self in
     let why = group_why g.H.Disk g.B.Disk old new c.args.ops.now c.in-Err.refused
-    (λ is. (c.in-Err.ensures.closed).0 (ap Err is)) (λ is. c.in-Err.ensures.too_long (ap Err is)) in
+    c.in-Err.ensures.only (λ is. (c.in-Err.ensures.closed).0 (ap Err is))
+    (λ is. c.in-Err.ensures.too_long (ap Err is))
+    (λ is. c.in-Err.ensures.disk (ap Err is)) (λ is. c.in-Err.ensures.collision (ap Err is)) in
     subst (λ (told : ShelfFault). LogRefusesGroup g.H.Disk g.B.Disk old new c.args.ops.now told) (sym c.fault.ensures) why
