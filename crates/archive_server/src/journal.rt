@@ -256,6 +256,7 @@ impl Display for Outcome {
                     taken,
                     finished,
                     agreed,
+                    whole: _,
                 },
             ) => {
                 let finished = if finished { "yes" } else { "no" };

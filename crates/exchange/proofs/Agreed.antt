@@ -95,7 +95,7 @@ module _ {H : Type 0} (holds : H → Map) (alone : H → Type 0) (heard told : L
       is_t = ap (λ (x : Side). x.agreed) does.same
   next (tasks.Offer places) fit does = record {
     here = λ e. both_none told more (know.here (no_places s.agreed places (sym is_t ∙ e)).0)
-        (no_differ _ more does.1.answers (λ p e. let c : Differ p ≡ Have _ = e in absurd cc));
+        (no_differ _ more does.1.answers.0 (λ p e. let c : Differ p ≡ Have _ = e in absurd cc));
     there = λ e. let is = no_places s.agreed places (sym is_t ∙ e) in
         both_none heard (frame ∷ []) (know.there is.0)
         (one_differ places (frame ∷ []) (ap (λ (f : Frame). f ∷ []) fit.0) is.1);

@@ -46,7 +46,7 @@ kept_few p xs = subst (λ (n : ℕ). n ≤ length xs) (sym (length-filter p xs))
 -- ---- what fits
 
 -- It is all, or the first, or those of whole places.
-of_fitting : (P : List (List ℕ) → Type 0) (most : ℕ) (digests : List (List ℕ))
+pub of_fitting : (P : List (List ℕ) → Type 0) (most : ℕ) (digests : List (List ℕ))
     → (nat_lt most (length digests) ≡ false → P digests) → P (take most digests) → P (whole_places most digests)
     → P (fitting most digests)
 unfolding fitting
@@ -59,7 +59,7 @@ of_fitting P most digests all front whole =
     by true e false = whole
     by false e b = all e
 
-not_more : (a b : ℕ) → nat_lt a b ≡ false → b ≤ a
+pub not_more : (a b : ℕ) → nat_lt a b ≡ false → b ≤ a
 not_more a b e = grind arith
 
 -- It is not more than may be told, comes of what is held, and ascends as that does.

@@ -4,7 +4,7 @@ use Rattle.std.proofs.Common.{sym, ap, subst, ◌∙◌}
 use Rattle.std.proofs.Common.{◌≤◌, length, arith}
 use Rattle.std.specs.Prelude.{◌⊎◌, ◌↔◌, IsTrue, filter}
 use Rattle.octets.specs.Members.{Has}
-use Rattle.archive_model.proofs.MemberLaws.{has_filter}
+use Rattle.archive_model.proofs.MemberLaws.{has_filter, filter_has}
 use Rattle.operation.specs.declared.op.Op.{Op}
 use Rattle.operation.specs.Spelling.{digest_of}
 use Rattle.site_state.specs.Site.{Map, IsSite, held_at}
@@ -37,6 +37,7 @@ use Rattle.exchange.specs.Joined.{ExchangeGivesAll, ExchangeMakesEqual}
 use Rattle.exchange.specs.Parts.{told_in}
 use Rattle.exchange.proofs.Said.{offered_in_sorted}
 use Rattle.exchange.proofs.PartLaws.{fitting_has}
+use Rattle.exchange.proofs.Parted.{seen_fits}
 use Rattle.exchange.proofs.Once.{texts_once}
 use Rattle.exchange.proofs.Turns.{later_of}
 use Rattle.exchange.proofs.Goings.{is_met, has_shown, Goes, goes}
@@ -159,11 +160,14 @@ module _ {X Y : Type 0} (holds_x : X → Map) (alone_x : X → Type 0) (role_x :
   offering : Offering holds_y alone_y from_y.holder y.heard y.told y.side to_y.holder
   offering = offering_talk holds_y alone_y role_y from_y.holder y.heard y.told y.side to_y.holder y.talk
 
-  shown : IsShown Two role_y (alone_y from_y.holder) (holds_y from_y.holder) y.heard y.told (holds_y to_y.holder)
-  shown = subst (λ (r : Role). IsShown Two r (alone_y from_y.holder) (holds_y from_y.holder) y.heard y.told
-      (holds_y to_y.holder)) (role_talk holds_y alone_y role_y from_y.holder y.heard y.told y.side to_y.holder y.talk)
-      (subst (λ (v : Version). IsShown v y.side.role (alone_y from_y.holder) (holds_y from_y.holder) y.heard y.told
-      (holds_y to_y.holder)) version_y (offering.some (ap (λ (a : Awaited). has_shown y.side.role a) y.over)))
+  shown : IsShown Two role_y (alone_y from_y.holder) (y.side.whole ≡ true) (holds_y from_y.holder) y.heard y.told
+      (holds_y to_y.holder)
+  shown = subst (λ (r : Role). IsShown Two r (alone_y from_y.holder) (y.side.whole ≡ true) (holds_y from_y.holder)
+      y.heard y.told (holds_y to_y.holder))
+      (role_talk holds_y alone_y role_y from_y.holder y.heard y.told y.side to_y.holder y.talk)
+      (subst (λ (v : Version). IsShown v y.side.role (alone_y from_y.holder) (y.side.whole ≡ true)
+      (holds_y from_y.holder) y.heard y.told (holds_y to_y.holder)) version_y
+      (offering.some (ap (λ (a : Awaited). has_shown y.side.role a) y.over)))
 
   -- what nobody else changes was offered as it began, or as it ended
   lone : alone_y from_y.holder → shown.had ≡ lone_offer role_y (holds_y from_y.holder) (holds_y to_y.holder)
@@ -195,7 +199,8 @@ module _ {X Y : Type 0} (holds_x : X → Map) (alone_x : X → Type 0) (role_x :
   places = places_of against.0 shown.had
 
   -- the set of which the HAVE was told
-  had : (n : Map) × WasTold Two (alone_y from_y.holder) places y.told shown.had (holds_y to_y.holder) n
+  had : (n : Map) × WasTold Two (alone_y from_y.holder) (y.side.whole ≡ true) places y.told shown.had
+      (holds_y to_y.holder) n
   had = shown.offers places (subst (λ (l : List Frame). Has l (Differ places)) there against.1.said)
 
   -- what it tells whole was offered
@@ -230,7 +235,19 @@ module _ {X Y : Type 0} (holds_x : X → Map) (alone_x : X → Type 0) (role_x :
   none_fits none = subst (λ (p : List ℕ). length (offered_in Two p had.0) ≤ MOST_DIGESTS) (sym none)
       (omega (arith, none_in (offered Two had.0)))
 
-  pub was_gained : WasGained holds_x alone_x from_x to_x ended_x x.told holds_y alone_y role_y from_y to_y y.told
+  -- what a side says that tells so fits
+  sent : IsTrue ended_y.whole → AllFits against.0 shown.had had.0
+  sent is = had.1.fits (sym y.whole ∙ is)
+
+  -- so does what was heard by one that tells so
+  came : IsTrue ended_x.whole → AllFits against.0 shown.had had.0
+  came is = seen_fits places (offered_in Two places had.0)
+      (λ d h. (filter_has (is_in places) (offered Two had.0) d h).1)
+      (x.seen_whole is places (told_in Two places had.0) against.1.said
+      (subst (λ (l : List Frame). Has l (Have (told_in Two places had.0))) back had.1.said))
+
+  pub was_gained : WasGained holds_x alone_x from_x to_x ended_x x.told holds_y alone_y role_y from_y to_y ended_y
+      y.told
   was_gained = record {
     offer = shown.had;
     was_offered = record {
@@ -243,10 +260,18 @@ module _ {X Y : Type 0} (holds_x : X → Map) (alone_x : X → Type 0) (role_x :
     compared = against.0;
     was_compared = against.1;
     had = had.0;
-    was_told = had.1;
+    was_told = record {
+      since = had.1.since;
+      until = had.1.until;
+      said = had.1.said;
+      fits = sent;
+      same = had.1.same;
+    };
     part = part_gained;
     gained = gained;
     fits = λ is. none_fits ((x.agreed.0 is).here _ against.1.said);
+    came = came;
+    sent = sent;
     agreed = λ is. (no_place_is_equal (offered Two against.0) (offered Two shown.had)).0
         ((x.agreed.0 is).here _ against.1.said);
   }
@@ -322,11 +347,11 @@ module _ {A B : Type 0} (holds_a : A → Map) (alone_a : A → Type 0) (holds_b 
   agree_too : Agree (holds_a to_a.holder) (holds_b to_b.holder)
   agree_too = agree_back (holds_b to_b.holder) (holds_a to_a.holder) agree
 
-  gives_a : WasGained holds_a alone_a from_a to_a ended_a a.told holds_b alone_b Callee from_b to_b b.told
+  gives_a : WasGained holds_a alone_a from_a to_a ended_a a.told holds_b alone_b Callee from_b to_b ended_b b.told
   gives_a = was_gained holds_a alone_a Caller from_a to_a ended_a a holds_b alone_b Callee from_b to_b ended_b b there
       back version_a meets.0 agree
 
-  gives_b : WasGained holds_b alone_b from_b to_b ended_b b.told holds_a alone_a Caller from_a to_a a.told
+  gives_b : WasGained holds_b alone_b from_b to_b ended_b b.told holds_a alone_a Caller from_a to_a ended_a a.told
   gives_b = was_gained holds_b alone_b Callee from_b to_b ended_b b holds_a alone_a Caller from_a to_a ended_a a back
       there meets.0 version_a agree_too
 

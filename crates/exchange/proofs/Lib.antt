@@ -12,8 +12,10 @@ pub mod Refusals
 pub mod Holders
 pub mod Agreed
 pub mod Outcomes
+pub mod Wholes
 pub mod Readings
 pub mod Runs
+pub mod Repeated
 pub mod Turns
 pub mod Writings
 pub mod Frames

@@ -1,6 +1,6 @@
 -- What a side offered, and what it gave.
 use Rattle.std.proofs.Common.{inl, inr, ◌≡◌, ℕ, List, [], ◌∷◌, ◌++◌, Bool, true, false, cond, Option, Some, None, refl}
-use Rattle.std.proofs.Common.{sym, ap, subst, ◌∙◌, append_assoc, append-nil}
+use Rattle.std.proofs.Common.{sym, ap, subst, ◌∙◌, append_assoc, append-nil, ◌≤◌, length, arith}
 use Rattle.std.specs.Prelude.{◌⊎◌}
 use Rattle.octets.specs.Members.{Has}
 use Rattle.archive_model.proofs.MemberLaws.{filter_map_has}
@@ -10,8 +10,9 @@ use Rattle.site_state.specs.Site.{Map, IsSite, held_at}
 use Rattle.exchange_frames.specs.declared.frame.Frame.{Frame}
 use Rattle.exchange_frames.specs.declared.frame.Frame.TheVariants.{Have, Want, Give, End, Buckets, Differ, Hello}
 use Rattle.exchange.specs.declared.version.Version.{Version}
-use Rattle.exchange.specs.Held.{is_spoken, if_spoken, given, offered, HasGrown}
-use Rattle.exchange.specs.Parts.{told_in}
+use Rattle.exchange.specs.Held.{is_spoken, if_spoken, given, offered, offered_in, HasGrown}
+use Rattle.exchange_frames.specs.declared.reader.TheConstants.{MOST_DIGESTS}
+use Rattle.exchange.specs.Parts.{told_in, do_fit}
 use Rattle.exchange.specs.Joined.{WasTold}
 use Rattle.exchange.specs.Buckets.{bucket_list}
 use Rattle.exchange.proofs.Rounds.{own_digest}
@@ -29,17 +30,19 @@ use Rattle.exchange.proofs.Holders.{idles_of, idles_same, looked_same}
 use Rattle.exchange.proofs.Turns.{later_of, later, Fits, fits}
 use Rattle.exchange.proofs.Goings.{has_shown, Goes, goes}
 use Rattle.exchange.proofs.Outcomes.{has_left, has_right, has_split, other_has, one_is, none_has_one}
+use Rattle.exchange.proofs.Wholes.{both_true}
 
 -- BUCKETS were said of a set, and each DIFFER that was heard was answered over one that holds it. What nobody else
 -- changes was shown as it began, or as it is now.
-pub record IsShown (version : Version) (role : Role) (lone : Type 0) (start : Map) (heard told : List Frame) (now : Map)
-    : Type 0 where
+pub record IsShown (version : Version) (role : Role) (lone whole : Type 0) (start : Map) (heard told : List Frame)
+    (now : Map) : Type 0 where
   pub had : Map
   pub own : IsSite had
   pub since : HasGrown start had
   pub until : HasGrown had now
   pub said : Has told (Buckets (bucket_list (offered version had)))
-  pub offers : (places : List ℕ) → Has heard (Differ places) → (n : Map) × WasTold version lone places told had now n
+  pub offers : (places : List ℕ) → Has heard (Differ places) → (n : Map)
+      × WasTold version lone whole places told had now n
   pub first : lone → later_of role ≡ true → had ≡ start
   pub last : lone → later_of role ≡ false → had ≡ now
 
@@ -52,8 +55,11 @@ pub record Offering {H : Type 0} (holds : H → Map) (alone : H → Type 0) (sta
     pub grown : HasGrown (holds start) (holds k)
     pub none : has_shown t.role t.awaited ≡ false → (places : List ℕ) → Has heard (Differ places) → ⊥
     pub some : has_shown t.role t.awaited ≡ true
-        → IsShown t.round.version t.role (alone start) (holds start) heard told (holds k)
+        → IsShown t.round.version t.role (alone start) (t.whole ≡ true) (holds start) heard told (holds k)
     pub gave : (op : Op) → Has told (Give op) → held_at (holds k) (digest_of op) ≡ Some op
+
+fit_few : (digests : List (List ℕ)) → do_fit digests ≡ true → length digests ≤ MOST_DIGESTS
+fit_few digests e = grind arith
 
 true_or_false : (b c : Bool) → b ≡ c → b ≡ true → c ≡ false → ⊥
 true_or_false b c e is isnt = let clash : true ≡ false = sym is ∙ e ∙ isnt in absurd cc
@@ -110,20 +116,24 @@ module _ {H : Type 0} (holds : H → Map) (alone : H → Type 0) (start : H) (he
 
   -- what was told stays told
   told_on : (version : Version) (places : List ℕ) (offer n : Map) → HasGrown (holds h) (holds k)
-      → WasTold version (alone start) places told offer (holds h) n
-      → WasTold version (alone start) places (told ++ more) offer (holds k) n
-  told_on version places offer n grown was = record {
+      → (t.whole ≡ true → s.whole ≡ true)
+      → WasTold version (alone start) (s.whole ≡ true) places told offer (holds h) n
+      → WasTold version (alone start) (t.whole ≡ true) places (told ++ more) offer (holds k) n
+  told_on version places offer n grown back was = record {
     since = was.since;
     until = λ d op e. grown d op (was.until d op e);
     said = has_left told more _ was.said;
+    fits = λ e. was.fits (back e);
     same = was.same;
   }
 
-  shown_on : (version : Version) → HasGrown (holds h) (holds k) → ((places : List ℕ) → Differ places ≡ frame → ⊥)
+  shown_on : (version : Version) → HasGrown (holds h) (holds k) → (t.whole ≡ true → s.whole ≡ true)
+      → ((places : List ℕ) → Differ places ≡ frame → ⊥)
       → (alone start → later_of s.role ≡ false → holds h ≡ holds k)
-      → IsShown version s.role (alone start) (holds start) heard told (holds h)
-      → IsShown version s.role (alone start) (holds start) (heard ++ frame ∷ []) (told ++ more) (holds k)
-  shown_on version grown other same was = record {
+      → IsShown version s.role (alone start) (s.whole ≡ true) (holds start) heard told (holds h)
+      → IsShown version s.role (alone start) (t.whole ≡ true) (holds start) (heard ++ frame ∷ []) (told ++ more)
+      (holds k)
+  shown_on version grown back other same was = record {
     first = was.first;
     last = λ lone turn. was.last lone turn ∙ same lone turn;
     had = was.had;
@@ -132,7 +142,7 @@ module _ {H : Type 0} (holds : H → Map) (alone : H → Type 0) (start : H) (he
     until = λ d op e. grown d op (was.until d op e);
     said = has_left told more _ was.said;
     offers = λ places p. let n = was.offers places (other_has heard frame (Differ places) (other places) p) in
-        (n.0, told_on version places was.had n.0 grown n.1);
+        (n.0, told_on version places was.had n.0 grown back n.1);
   }
 
   old_gift : ((op : Op) → Has more (Give op) → ⊥) → (op : Op) → Has (told ++ more) (Give op) → Has told (Give op)
@@ -144,20 +154,20 @@ module _ {H : Type 0} (holds : H → Map) (alone : H → Type 0) (start : H) (he
 
   -- what neither shows, offers nor gives leaves what is known
   on : t.round.version ≡ s.round.version → t.role ≡ s.role → has_shown t.role t.awaited ≡ has_shown s.role s.awaited
-      → HasGrown (holds h) (holds k) → ((places : List ℕ) → Differ places ≡ frame → ⊥)
-      → ((op : Op) → Has more (Give op) → ⊥) → (alone start → alone k)
+      → HasGrown (holds h) (holds k) → (t.whole ≡ true → s.whole ≡ true)
+      → ((places : List ℕ) → Differ places ≡ frame → ⊥) → ((op : Op) → Has more (Give op) → ⊥) → (alone start → alone k)
       → (alone start → later t.role t.awaited ≡ true → holds k ≡ holds start)
       → (alone start → has_shown s.role s.awaited ≡ true → later_of s.role ≡ false → holds h ≡ holds k)
       → Offering holds alone start (heard ++ frame ∷ []) (told ++ more) t k
-  on version role same grown other no_give here early still = record {
+  on version role same grown back other no_give here early still = record {
     here = here;
     early = early;
     grown = λ d op e. grown d op (know.grown d op e);
     none = λ e places p. know.none (sym same ∙ e) places (other_has heard frame (Differ places) (other places) p);
-    some = λ e. subst (λ (r : Role). IsShown t.round.version r (alone start) (holds start) (heard ++ frame ∷ [])
-        (told ++ more) (holds k)) (sym role)
-        (subst (λ (v : Version). IsShown v s.role (alone start) (holds start) (heard ++ frame ∷ []) (told ++ more)
-        (holds k)) (sym version) (shown_on s.round.version grown other
+    some = λ e. subst (λ (r : Role). IsShown t.round.version r (alone start) (t.whole ≡ true) (holds start)
+        (heard ++ frame ∷ []) (told ++ more) (holds k)) (sym role)
+        (subst (λ (v : Version). IsShown v s.role (alone start) (t.whole ≡ true) (holds start) (heard ++ frame ∷ [])
+        (told ++ more) (holds k)) (sym version) (shown_on s.round.version grown back other
         (λ lone turn. still lone (sym same ∙ e) turn) (know.some (sym same ∙ e))));
     gave = λ op p. grown (digest_of op) op (know.gave op (old_gift no_give op p));
   }
@@ -173,8 +183,8 @@ module _ {H : Type 0} (holds : H → Map) (alone : H → Type 0) (start : H) (he
     grown = λ d op e. (idles_of does.1).grown d op (know.grown d op e);
     none = λ e. absurd (let clash : true ≡ false = sym (ap (λ (x : Side). has_shown x.role x.awaited) does.0)
         ∙ e in cc);
-    some = λ _. subst (λ (x : Side). IsShown x.round.version x.role (alone start) (holds start) (heard ++ frame ∷ [])
-        (told ++ more) (holds k))
+    some = λ _. subst (λ (x : Side). IsShown x.round.version x.role (alone start) (t.whole ≡ true) (holds start)
+        (heard ++ frame ∷ []) (told ++ more) (holds k))
         (sym does.0) (record {
           had = does.1.had;
           first = λ lone turn. looked_same does.1 (know.here lone) ∙ begins lone turn;
@@ -202,8 +212,8 @@ module _ {H : Type 0} (holds : H → Map) (alone : H → Type 0) (start : H) (he
     grown = λ d op e. (idles_of does.1).grown d op (know.grown d op e);
     none = λ e. absurd (let clash : true ≡ false = sym (ap (λ (x : Side). has_shown x.role x.awaited) does.0)
         ∙ e in cc);
-    some = λ _. subst (λ (x : Side). IsShown x.round.version x.role (alone start) (holds start) (heard ++ frame ∷ [])
-        (told ++ more) (holds k))
+    some = λ _. subst (λ (x : Side). IsShown x.round.version x.role (alone start) (t.whole ≡ true) (holds start)
+        (heard ++ frame ∷ []) (told ++ more) (holds k))
         (sym does.0) (record {
           had = was.had;
           first = was.first;
@@ -214,12 +224,15 @@ module _ {H : Type 0} (holds : H → Map) (alone : H → Type 0) (start : H) (he
           said = has_left told more _ was.said;
           offers = λ p q. by p (has_split heard (frame ∷ []) (Differ p) q);
         });
-    gave = λ op p. (idles_of does.1).grown (digest_of op) op (know.gave op (old_gift (no_gift _ more does.1.answers
+    gave = λ op p. (idles_of does.1).grown (digest_of op) op (know.gave op (old_gift (no_gift _ more does.1.answers.0
         (λ o e. let clash : Give o ≡ Have _ = e in absurd cc)) op p));
   }
     where
-      was : IsShown s.round.version s.role (alone start) (holds start) heard told (holds h)
+      was : IsShown s.round.version s.role (alone start) (s.whole ≡ true) (holds start) heard told (holds h)
       was = know.some (ap (λ (a : Awaited). has_shown s.role a) awaited)
+
+      both : t.whole ≡ true → (s.whole ≡ true) × (do_fit (offered_in s.round.version places does.1.had) ≡ true)
+      both e = both_true s.whole (do_fit (offered_in s.round.version places does.1.had)) (sym does.1.answers.1 ∙ e)
 
       -- what nobody else changes is still what was shown
       stood : (b : Bool) → later_of s.role ≡ b → alone start → holds h ≡ was.had
@@ -228,9 +241,9 @@ module _ {H : Type 0} (holds : H → Map) (alone : H → Type 0) (start : H) (he
       stood false turn lone = sym (was.last lone turn)
 
       by : (p : List ℕ) → Has heard (Differ p) ⊎ Has (frame ∷ []) (Differ p) → (n : Map)
-          × WasTold s.round.version (alone start) p (told ++ more) was.had (holds k) n
+          × WasTold s.round.version (alone start) (t.whole ≡ true) p (told ++ more) was.had (holds k) n
       by p (inl l) = let n = was.offers p l in
-          (n.0, told_on s.round.version p was.had n.0 (idles_of does.1).grown n.1)
+          (n.0, told_on s.round.version p was.had n.0 (idles_of does.1).grown (λ e. (both e).0) n.1)
       by p (inr r) =
           let one : Differ p ≡ Differ places = one_is frame (Differ p) (frame ∷ []) refl r ∙ is in
           let same : p ≡ places = cc in (
@@ -239,8 +252,10 @@ module _ {H : Type 0} (holds : H → Map) (alone : H → Type 0) (start : H) (he
               since = λ d op e. does.1.was_had.since d op (was.until d op e);
               until = does.1.was_had.until;
               said = has_right told more _ (subst (λ (l : List Frame). Has l (Have (told_in s.round.version p
-                  does.1.had))) (sym does.1.answers)
+                  does.1.had))) (sym does.1.answers.0)
                   (inl (ap (λ (q : List ℕ). Have (told_in s.round.version q does.1.had)) same)));
+              fits = λ e. subst (λ (q : List ℕ). length (offered_in s.round.version q does.1.had) ≤ MOST_DIGESTS)
+                  (sym same) (fit_few _ (both e).1);
               same = λ lone. looked_same does.1 (know.here lone) ∙ stood (later_of s.role) refl lone;
             },
           )
@@ -255,10 +270,10 @@ module _ {H : Type 0} (holds : H → Map) (alone : H → Type 0) (start : H) (he
     early = idle_early (idles_of does.looks) back;
     grown = λ d op e. (idles_of does.looks).grown d op (know.grown d op e);
     none = λ e. absurd (let clash : true ≡ false = sym after ∙ e in cc);
-    some = λ _. subst (λ (x : Side). IsShown x.round.version x.role (alone start) (holds start) (heard ++ frame ∷ [])
-        (told ++ more) (holds k))
+    some = λ _. subst (λ (x : Side). IsShown x.round.version x.role (alone start) (t.whole ≡ true) (holds start)
+        (heard ++ frame ∷ []) (told ++ more) (holds k))
         (sym does.same)
-        (shown_on s.round.version (idles_of does.looks).grown
+        (shown_on s.round.version (idles_of does.looks).grown (λ e. sym (ap (λ (x : Side). x.whole) does.same) ∙ e)
         (λ places e. let clash : Differ places ≡ Want want = e ∙ is in absurd cc)
         (λ lone turn. sym (does.looks.stays (know.here lone)).1)
         (know.some (ap (λ (a : Awaited). has_shown s.role a) went.0)));
@@ -300,6 +315,7 @@ module _ {H : Type 0} (holds : H → Map) (alone : H → Type 0) (start : H) (he
   next (tasks.Compare buckets) fit went does = on (ap (λ (x : Side). x.round.version) does.same)
       (ap (λ (x : Side). x.role) does.same)
       (ap (λ (x : Side). has_shown x.role x.awaited) does.same ∙ went) (idles_of does.looks).grown
+      (λ e. sym (ap (λ (x : Side). x.whole) does.same) ∙ e)
       (λ places e. let clash : Differ places ≡ Buckets buckets = e ∙ fit.0 in absurd cc)
       (no_gift _ more does.says (λ o e. let clash : Give o ≡ Differ _ = e in absurd cc))
       (idle_here (idles_of does.looks)) (idle_early (idles_of does.looks) (λ l. fit.1))
@@ -309,6 +325,7 @@ module _ {H : Type 0} (holds : H → Map) (alone : H → Type 0) (start : H) (he
   next (tasks.Ask have) fit went does = on does.version (ap (λ (x : Side). x.role) does.same)
       (ap (λ (x : Side). has_shown x.role x.awaited) does.same
       ∙ sym (ap (λ (a : Awaited). has_shown s.role a) went)) (idles_of does.looks).grown
+      (λ e. (both_true s.whole _ (sym (ap (λ (x : Side). x.whole) does.same) ∙ e)).0)
       (λ places e. let clash : Differ places ≡ Have have = e ∙ fit in absurd cc)
       (no_gift _ more does.says (λ o e. let clash : Give o ≡ Want _ = e in absurd cc))
       (idle_here (idles_of does.looks))
@@ -319,6 +336,7 @@ module _ {H : Type 0} (holds : H → Map) (alone : H → Type 0) (start : H) (he
   next (tasks.Take op) fit went does = on (ap (λ (x : Side). x.round.version) does.same)
       (ap (λ (x : Side). x.role) does.same)
       (ap (λ (x : Side). has_shown x.role x.awaited) does.same) does.takes.takes.grown
+      (λ e. sym (ap (λ (x : Side). x.whole) does.same) ∙ e)
       (λ places e. let clash : Differ places ≡ Give op = e ∙ fit.0 in absurd cc)
       (λ o p. none_has_one (Give o) more does.says p)
       (λ lone. (does.takes.takes.stays (know.here lone)).0)
@@ -334,6 +352,7 @@ module _ {H : Type 0} (holds : H → Map) (alone : H → Type 0) (start : H) (he
   next tasks.Rest fit went does = on (ap (λ (x : Side). x.round.version) does.0) (ap (λ (x : Side). x.role) does.0)
       (ap (λ (x : Side). has_shown x.role x.awaited) does.0 ∙ sym went.1
       ∙ sym (ap (λ (a : Awaited). has_shown s.role a) went.0)) (idles_same holds alone h k does.2).grown
+      (λ e. sym (ap (λ (x : Side). x.whole) does.0) ∙ e)
       (λ places e. let clash : Differ places ≡ End = e ∙ fit in absurd cc)
       (λ o p. none_has_one (Give o) more does.1 p) (idle_here (idles_same holds alone h k does.2))
       (λ lone l. let clash : false ≡ true = sym (ap (λ (x : Side). later x.role x.awaited) does.0) ∙ l in absurd cc)
@@ -385,7 +404,8 @@ offering_start holds alone OldCaller h told s k d = record {
   early = λ lone l. (d.1.stays lone).1;
   grown = (idles_of d.1).grown;
   none = λ e places p. p;
-  some = λ _. subst (λ (x : Side). IsShown x.round.version x.role (alone h) (holds h) [] told (holds k))
+  some = λ _. subst (λ (x : Side). IsShown x.round.version x.role (alone h) (s.whole ≡ true) (holds h) [] told
+      (holds k))
       (sym d.0) (record {
         had = d.1.had;
         first = λ lone turn. looked_same d.1 lone;

@@ -241,7 +241,7 @@ module _ {H : Type 0} (holds : H → Map) (alone : H → Type 0) (s : Side) (h :
         have,
         then.0,
         then.1,
-        begun _ does.1.answers ∙ ap (λ (l : List Frame). Have have ∷ l) then.2,
+        begun _ does.1.answers.0 ∙ ap (λ (l : List Frame). Have have ∷ l) then.2,
         then.3,
       )
   next (tasks.Ask have) lead fit does =

@@ -359,7 +359,7 @@ module _ {H : Type 0} (holds : H → Map) (alone : H → Type 0) (start : H) (he
       (λ d. ap (λ (x : Side). asked_at d x.round) does.0)
       (λ op e. let c : Differ places ≡ Give op = sym fit.0 ∙ e in absurd cc)
       (λ x e. let c : Differ places ≡ Have x = sym fit.0 ∙ e in absurd cc)
-      (λ w q. let c : Want w ≡ Have _ = one_is _ (Want w) more does.1.answers q in absurd cc)
+      (λ w q. let c : Want w ≡ Have _ = one_is _ (Want w) more does.1.answers.0 q in absurd cc)
       (idles_of does.1)
       (shown_still holds alone start heard told s h know frame more t k (ap (λ (x : Side). x.round.version) does.0)
       (idles_of does.1).grown
@@ -368,7 +368,7 @@ module _ {H : Type 0} (holds : H → Map) (alone : H → Type 0) (start : H) (he
       (know.fresh (fit.1 ∙ sym (ap (λ (x : Side). later x.role x.awaited) does.0) ∙ l))
       (λ b e. let c : Differ places ≡ Buckets b = sym fit.0 ∙ e in absurd cc)
       (λ op e. let c : Differ places ≡ Give op = sym fit.0 ∙ e in absurd cc)
-      (λ w q. let c : Want w ≡ Have _ = one_is _ (Want w) more does.1.answers q in absurd cc))
+      (λ w q. let c : Want w ≡ Have _ = one_is _ (Want w) more does.1.answers.0 q in absurd cc))
 
   knows_give : (want : List (List ℕ)) → Fits s.role s.awaited (tasks.Give want) frame
       → Does holds alone (tasks.Give want) s h more t k

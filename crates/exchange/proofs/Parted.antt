@@ -1,11 +1,11 @@
 -- By each exchange in parts two sites come to hold the same in one place more.
 use Rattle.std.proofs.Common.{inl, inr, ◌≡◌, ◌≤◌, ◌<◌, ◌+◌, ℕ, zero, suc, List, [], ◌∷◌, Bool, true, false, cond}
-use Rattle.std.proofs.Common.{length}
+use Rattle.std.proofs.Common.{length, take}
 use Rattle.std.proofs.Common.{Some, get_or, arith, refl, sym, ap, subst, ◌∙◌}
 use Rattle.std.proofs.lemmas.Bool.{eqb-true}
 use Rattle.std.specs.Prelude.{◌⊎◌, ◌==◌, filter, not, nat_lt}
 use Rattle.std.specs.Cmp.Lexicographic.{nat_list_cmp_total}
-use Rattle.std.specs.List.{range_with_len}
+use Rattle.std.specs.List.{range_with_len, list_all}
 use Rattle.std.specs.List.Sorted.{IsStrictlySortedBy}
 use Rattle.std.specs.Ordering.{ordering_reverse}
 use Rattle.std.specs.declared.cmp.Ordering.TheVariants.{Less, Greater}
@@ -13,7 +13,7 @@ use Rattle.std.proofs.lemmas.List.Kept.{IsStrictlySortedBy-filter}
 use Rattle.sha2.specs.Sha256.{sha256}
 use Rattle.octets.specs.Members.{Has}
 use Rattle.archive_model.proofs.ModelLaws.{same_is, same_itself}
-use Rattle.archive_model.proofs.MemberLaws.{any_has, has_any, has_filter, filter_has, filter_map_has}
+use Rattle.archive_model.proofs.MemberLaws.{any_has, has_all, has_any, has_filter, filter_has, filter_map_has}
 use Rattle.operation.specs.declared.op.Op.{Op}
 use Rattle.site_state.specs.Site.{Map, IsSite, held_at, digest_cmp}
 use Rattle.site_state.specs.Union.{Agree}
@@ -24,9 +24,11 @@ use Rattle.exchange.specs.Held.{place_of, is_in, offered, offered_in, lacked, gi
 use Rattle.exchange.specs.Buckets.{bucket_list, is_unequal, unequal}
 use Rattle.exchange.specs.Laws.{BucketsTell, digests_at}
 use Rattle.exchange.specs.RunLaws.{differing}
-use Rattle.exchange.specs.Parts.{IsWhole}
-use Rattle.exchange.specs.PartLaws.{FittingTells, IsPart, EachPlaceFits, AgreeBelow, PartsEnd, part_of}
-use Rattle.exchange.proofs.Fittings.{fitting_few, fitting_from}
+use Rattle.exchange_frames.specs.declared.reader.TheConstants.{MOST_DIGESTS}
+use Rattle.exchange.specs.Parts.{IsWhole, place_behind, whole_places, tells_of, is_seen_whole}
+use Rattle.exchange.specs.PartLaws.{FittingTells, SeenFits, IsPart, EachPlaceFits, AgreeBelow, PartsEnd, part_of}
+use Rattle.exchange.proofs.Fittings.{fitting_few, fitting_from, of_fitting, not_more}
+use Rattle.exchange.proofs.Wholes.{both_true}
 use Rattle.exchange.proofs.PartLaws.{fitting_has}
 use Rattle.exchange.proofs.Places.{first_le}
 use Rattle.exchange.proofs.Said.{of_all, offered_sorted, offered_in_sorted, offered_small}
@@ -143,6 +145,43 @@ first_whole most n ds rise low few = by (decide (length ds) most)
         further : (place_of (get_or ds most []) ≤ n) ⊎ (n < place_of (get_or ds most [])) → IsWhole most ds n
         further (inl high) = absurd (omega (arith, few, crowded n most ds rise low more high))
         further (inr lt) = inr lt
+
+-- ---- what is seen to be told whole
+
+-- where fewer than so many are the first so many, they are all
+taken_all : {X : Type 0} (n : ℕ) (xs : List X) → length (take n xs) < n → length xs ≤ n
+taken_all zero xs lt = absurd (omega (arith, lt))
+taken_all (suc n) [] lt = omega arith
+taken_all (suc n) (x ∷ xs) lt = omega (arith, taken_all n xs (omega (arith, lt)))
+
+is_less : (a b : ℕ) → nat_lt a b ≡ true → a < b
+is_less a b e = grind arith
+
+-- of the place that does not fit whole nothing is told
+not_told : (most : ℕ) (digests : List (List ℕ)) (p : ℕ) → p ≡ place_behind most digests
+    → tells_of (whole_places most digests) p ≡ true → ⊥
+not_told most digests p is tells =
+    let d = any_has (λ x. place_of x == p) (whole_places most digests) tells in
+    let kept = filter_has (λ x. not (place_of x == place_behind most digests)) (take most digests) d.0 d.1 in
+    let same : (place_of d.0 == place_behind most digests) ≡ true =
+    subst (λ (q : ℕ). (place_of d.0 == q) ≡ true) is d.2 in
+    let clash : false ≡ true = ap not (sym same) ∙ kept.1 in absurd cc
+
+-- A HAVE that is seen to have all has all.
+pub seen_fits : SeenFits
+seen_fits places digests each = of_fitting (λ ds. is_seen_whole places ds ≡ true → length digests ≤ MOST_DIGESTS)
+    MOST_DIGESTS digests (λ e seen. not_more MOST_DIGESTS (length digests) e)
+    (λ seen. taken_all MOST_DIGESTS digests (is_less _ _ (both_true _ _ seen).0))
+    (λ seen. by (decide (length digests) MOST_DIGESTS) (both_true _ _ seen).1)
+  where
+    by : (length digests ≤ MOST_DIGESTS) ⊎ (MOST_DIGESTS < length digests)
+        → list_all (tells_of (whole_places MOST_DIGESTS digests)) places ≡ true → length digests ≤ MOST_DIGESTS
+    by (inl few) all = few
+    by (inr more) all =
+        let first = each (get_or digests MOST_DIGESTS []) (has_get MOST_DIGESTS digests more) in
+        let p = any_has (λ x. x == place_behind MOST_DIGESTS digests) places first in
+        absurd (not_told MOST_DIGESTS digests p.0 (eqb-true p.0 (place_behind MOST_DIGESTS digests) p.2)
+        (has_all (tells_of (whole_places MOST_DIGESTS digests)) places p.0 all p.1))
 
 -- ---- half an exchange
 

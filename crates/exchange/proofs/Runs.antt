@@ -37,6 +37,7 @@ use Rattle.exchange.specs.Saying.{WroteFront, WhyUnsaid, AreSayable}
 use Rattle.exchange.specs.Run.{Ends, ends, NoneFailed, CountsFailures, Exchanged, EndsEarly}
 use Rattle.exchange.specs.Run.{Progress, Turned}
 use Rattle.exchange.proofs.Agreed.{agreed_ends}
+use Rattle.exchange.proofs.Wholes.{seen_whole_ends}
 use Rattle.exchange.proofs.Frames.{frames_more, told_frames, first_frames}
 use Rattle.exchange.proofs.Holders.{idles_same}
 use Rattle.exchange.proofs.Outcomes.{outcome_of}
@@ -432,9 +433,9 @@ err_begun (Err e) A P Q old new a p f to = to e a p f
 pub ended : {H : Type 0} (holds : H → Map) (alone : H → Type 0) (role : Role) (from to : Ends H) (side : Side)
     (reads n : ℕ) (e : Ended) → Progress holds alone role from to side reads n → side.awaited ≡ awaits.Nothing
     → e.given ≡ side.given → e.taken ≡ side.taken → (IsTrue e.finished ↔ IsFinished side.round)
-    → e.agreed ≡ side.agreed
+    → e.agreed ≡ side.agreed → e.whole ≡ side.whole
     → Exchanged holds alone role from to e
-ended holds alone role from to side reads n e so over given taken finished agreed =
+ended holds alone role from to side reads n e so over given taken finished agreed whole =
     let comes_to = outcome_of holds alone role from.holder so.heard so.told side to.holder so.talk in
     record {
       heard = so.heard;
@@ -453,6 +454,9 @@ ended holds alone role from to side reads n e so over given taken finished agree
       have = λ is. comes_to.have (finished.0 is);
       shown = λ theirs heard. let was = comes_to.shown theirs heard in (was.0, was.1, λ is. was.2 (finished.0 is));
       agreed = agreed_ends holds alone role from.holder so.heard so.told side to.holder so.talk e.agreed agreed;
+      whole = whole;
+      seen_whole = λ is. seen_whole_ends holds alone role from.holder so.heard so.told side to.holder so.talk
+          (sym whole ∙ is);
       failed = so.failed;
     }
 

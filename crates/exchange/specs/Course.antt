@@ -15,8 +15,8 @@ use Rattle.exchange.specs.declared.fault.ExchangeFault.TheVariants.{BadFrame}
 use Rattle.exchange.specs.declared.fault.HolderFault.{HolderFault}
 use Rattle.exchange.specs.declared.fault.HolderFault.TheVariants.{Refused}
 use Rattle.exchange.specs.Fault.{of_holder}
-use Rattle.exchange.specs.Held.{offered, lacked, given, HasGrown, Looks}
-use Rattle.exchange.specs.Parts.{told_in}
+use Rattle.exchange.specs.Held.{offered, offered_in, lacked, given, HasGrown, Looks}
+use Rattle.exchange.specs.Parts.{told_in, do_fit, is_seen_whole}
 use Rattle.exchange.specs.Buckets.{bucket_list, unequal}
 use Rattle.exchange.specs.Round.{RoundState, asked_at, is_among, refusal_of, with_given, TakesAsked}
 use Rattle.exchange.specs.declared.role.Role.{Role}
@@ -51,6 +51,8 @@ start_of role = record {
   given = 0;
   taken = 0;
   agreed = true;
+  places = [];
+  whole = true;
 }
 
 -- a side that settled a version
@@ -95,22 +97,23 @@ Shows holds alone s before told t after =
     (t ≡ record s { awaited = awaits.Differ })
     × Looks holds alone before after (λ m. told ≡ Buckets (bucket_list (offered s.round.version m)) ∷ [])
 
--- DIFFER with the places in which a set that is held has other buckets
+-- DIFFER with the places in which a set that is held has other buckets; they are kept
 pub record Compares {H : Type 0} (holds : H → Map) (alone : H → Type 0) (buckets : List (List ℕ)) (s : Side)
     (before : H) (told : List Frame) (t : Side) (after : H) : Type 0 where
   pub places : List ℕ
   pub looks : Looks holds alone before after (λ m. places
       ≡ unequal (bucket_list (offered s.round.version m)) buckets)
   pub says : told ≡ Differ places ∷ []
-  pub same : t ≡ record s { awaited = awaits.Have; agreed = agreed_with s.agreed places }
+  pub same : t ≡ record s { awaited = awaits.Have; agreed = agreed_with s.agreed places; places = places }
 
--- HAVE of what is held in these places, or of what fits of it
+-- HAVE of what is held in these places, or of what fits of it, and whether all did
 abbrev pub Offers : {H : Type 0} → (H → Map) → (H → Type 0) → List ℕ → Side → H → List Frame → Side → H → Type 0
 Offers holds alone places s before told t after =
-    (t ≡ record s { awaited = awaits.Want; agreed = agreed_with s.agreed places })
-    × Looks holds alone before after (λ m. told ≡ Have (told_in s.round.version places m) ∷ [])
+    (t ≡ record s { awaited = awaits.Want; agreed = agreed_with s.agreed places; whole = t.whole })
+    × Looks holds alone before after (λ m. (told ≡ Have (told_in s.round.version places m) ∷ [])
+    × (t.whole ≡ (s.whole && do_fit (offered_in s.round.version places m))))
 
--- WANT of what is not held of a HAVE, which is asked for from then on
+-- WANT of what is not held of a HAVE, which is asked for from then on, and whether the HAVE is seen to have all
 pub record Asks {H : Type 0} (holds : H → Map) (alone : H → Type 0) (have : List (List ℕ)) (s : Side) (before : H)
     (told : List Frame) (t : Side) (after : H) : Type 0 where
   pub want : List (List ℕ)
@@ -119,7 +122,7 @@ pub record Asks {H : Type 0} (holds : H → Map) (alone : H → Type 0) (have : 
   pub asked : (digest : List ℕ) → asked_at digest t.round
       ≡ cond (is_among digest want) (Some false) (asked_at digest s.round)
   pub version : t.round.version ≡ s.round.version
-  pub same : t ≡ record s { awaited = awaits.Give; round = t.round }
+  pub same : t ≡ record s { awaited = awaits.Give; round = t.round; whole = s.whole && is_seen_whole s.places have }
 
 -- a GIVE of each operation that is held of those wanted, and END
 pub record Gives {H : Type 0} (holds : H → Map) (alone : H → Type 0) (want : List (List ℕ)) (s : Side) (before : H)

@@ -45,12 +45,13 @@ pub record WasOffered {H : Type 0} (holds : H → Map) (alone : H → Type 0) (r
   pub lone : alone from.holder → offer ≡ lone_offer role (holds from.holder) (holds to.holder)
 
 -- the set of which a HAVE was told, in some places, once another was offered: its holder had it since. One that nobody
--- else changes is the one that was offered.
-pub record WasTold (version : Version) (lone : Type 0) (places : List ℕ) (told : List Frame) (offer now had : Map)
-    : Type 0 where
+-- else changes is the one that was offered. Where the side tells that all fitted, the HAVE has all.
+pub record WasTold (version : Version) (lone whole : Type 0) (places : List ℕ) (told : List Frame)
+    (offer now had : Map) : Type 0 where
   pub since : HasGrown offer had
   pub until : HasGrown had now
   pub said : Has told (Have (told_in version places had))
+  pub fits : whole → length (offered_in version places had) ≤ MOST_DIGESTS
   pub same : lone → had ≡ offer
 
 -- the places in which a set that was compared has other buckets than the one that was offered
@@ -74,23 +75,26 @@ HoldsPart Part m n = (digest : List ℕ) (op : Op) → Part digest → held_at m
 -- What one side offered, what the other side compared with it, and of what a HAVE was told then. Where the exchange
 -- of the other is finished it holds in the end what was offered in the places that do not differ, and in those of
 -- which the HAVE has all, if unequal digests of a place have unequal buckets in these two sets: so all that was
--- offered, where what is held in the places that differ fits into one HAVE. Where it agrees their buckets are equal,
--- and so it does not agree where that does not fit.
+-- offered, where what is held in the places that differ fits into one HAVE: so it does where either side tells that all
+-- fitted. Where it agrees their buckets are equal, and so it does not agree where that does not fit.
 pub record WasGained {X Y : Type 0} (holds_x : X → Map) (alone_x : X → Type 0) (from_x to_x : Ends X) (ended_x : Ended)
     (told_x : List Frame) (holds_y : Y → Map) (alone_y : Y → Type 0) (role_y : Role) (from_y to_y : Ends Y)
-    (told_y : List Frame) : Type 0 where
+    (ended_y : Ended) (told_y : List Frame) : Type 0 where
   pub offer : Map
   pub was_offered : WasOffered holds_y alone_y role_y from_y to_y told_y offer
   pub compared : Map
   pub was_compared
       : WasCompared holds_x alone_x Two (offered Two offer) from_x.holder told_x to_x.holder compared
   pub had : Map
-  pub was_told : WasTold Two (alone_y from_y.holder) (places_of compared offer) told_y offer (holds_y to_y.holder) had
+  pub was_told : WasTold Two (alone_y from_y.holder) (IsTrue ended_y.whole) (places_of compared offer) told_y offer
+      (holds_y to_y.holder) had
   pub part : IsTrue ended_x.finished → BucketsTell (offered Two compared) (offered Two offer)
       → HoldsPart (IsInPart compared offer had) offer (holds_x to_x.holder)
   pub gained : IsTrue ended_x.finished → BucketsTell (offered Two compared) (offered Two offer)
       → AllFits compared offer had → HasGrown offer (holds_x to_x.holder)
   pub fits : IsTrue ended_x.agreed → AllFits compared offer had
+  pub came : IsTrue ended_x.whole → AllFits compared offer had
+  pub sent : IsTrue ended_y.whole → AllFits compared offer had
   pub agreed : IsTrue ended_x.agreed → bucket_list (offered Two compared) ≡ bucket_list (offered Two offer)
 
 -- A side that is finished holds in the end all that the other side offered, so all that this held as the exchange
@@ -100,8 +104,10 @@ ExchangeGivesAll {A} {B} holds_a alone_a holds_b alone_b =
     (from_a to_a : Ends A) (ended_a : Ended) (from_b to_b : Ends B) (ended_b : Ended)
     → (run : AreJoined holds_a alone_a from_a to_a ended_a holds_b alone_b from_b to_b ended_b)
     → Agree (holds_b to_b.holder) (holds_a to_a.holder)
-    → WasGained holds_a alone_a from_a to_a ended_a run.caller.told holds_b alone_b Callee from_b to_b run.callee.told
-    × WasGained holds_b alone_b from_b to_b ended_b run.callee.told holds_a alone_a Caller from_a to_a run.caller.told
+    → WasGained holds_a alone_a from_a to_a ended_a run.caller.told holds_b alone_b Callee from_b to_b ended_b
+    run.callee.told
+    × WasGained holds_b alone_b from_b to_b ended_b run.callee.told holds_a alone_a Caller from_a to_a ended_a
+    run.caller.told
     × (IsTrue ended_a.agreed ↔ IsTrue ended_b.agreed)
 
 -- Two sides that are finished, and that nobody else changes, hold the same in the end, if unequal digests of a place

@@ -14,5 +14,6 @@ pub mod Saying
 pub mod RunLaws
 pub mod Order
 pub mod Run
+pub mod Repeating
 pub mod PartLaws
 pub mod Joined

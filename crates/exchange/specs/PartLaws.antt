@@ -1,13 +1,14 @@
 -- What exchanges in parts come to.
-use Rattle.std.specs.Prelude.{◌≡◌, ◌≤◌, ◌<◌, ◌+◌, ◌↔◌, ℕ, List, length, Some}
+use Rattle.std.specs.Prelude.{◌≡◌, ◌≤◌, ◌<◌, ◌+◌, ◌↔◌, ℕ, List, length, Some, true}
 use Rattle.octets.specs.Members.{Has}
 use Rattle.operation.specs.declared.op.Op.{Op}
 use Rattle.site_state.specs.Site.{Map, IsSite, held_at, digest_cmp}
 use Rattle.std.specs.List.Sorted.{IsStrictlySortedBy}
 use Rattle.site_state.specs.Union.{Agree}
 use Rattle.exchange.specs.declared.version.Version.TheVariants.{Two}
-use Rattle.exchange.specs.Held.{place_of, offered, offered_in, lacked, given}
-use Rattle.exchange.specs.Parts.{fitting, IsWhole}
+use Rattle.exchange_frames.specs.declared.reader.TheConstants.{MOST_DIGESTS}
+use Rattle.exchange.specs.Held.{place_of, is_in, offered, offered_in, lacked, given}
+use Rattle.exchange.specs.Parts.{fitting, IsWhole, is_seen_whole}
 use Rattle.exchange.specs.Laws.{BucketsTell, GainsOnly, IsAnswered, digests_at}
 use Rattle.exchange.specs.RunLaws.{differing}
 
@@ -19,6 +20,12 @@ pub record FittingTells : Type 0 where
       → Has digests digest
   pub whole : (most : ℕ) (digests : List (List ℕ)) (digest : List ℕ) → IsStrictlySortedBy digest_cmp digests
       → Has digests digest → IsWhole most digests (place_of digest) → Has (fitting most digests) digest
+
+-- A HAVE that is seen to have all that is held in some places has it.
+abbrev pub SeenFits : Type 0
+SeenFits =
+    (places : List ℕ) (digests : List (List ℕ)) → ((d : List ℕ) → Has digests d → is_in places d ≡ true)
+    → is_seen_whole places (fitting MOST_DIGESTS digests) ≡ true → length digests ≤ MOST_DIGESTS
 
 -- what a set is told of another, by a HAVE of so many digests at most, once it was compared with its buckets
 abbrev pub part_of : ℕ → Map → Map → List (List ℕ)

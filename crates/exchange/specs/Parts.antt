@@ -1,6 +1,7 @@
 -- Which of the digests that are held in the places of a DIFFER a HAVE has, where they are more than it may have.
-use Rattle.std.specs.Prelude.{ℕ, ◌≤◌, ◌<◌, ◌⊎◌, ◌==◌, nat_lt, not, List, [], filter, length, take, get_or}
+use Rattle.std.specs.Prelude.{ℕ, ◌≤◌, ◌<◌, ◌⊎◌, ◌==◌, nat_lt, Bool, not, ◌&&◌, List, [], filter, length, take, get_or}
 use Rattle.std.specs.Prelude.{if◌then◌else◌}
+use Rattle.std.specs.List.{list_all, list_any}
 use Rattle.site_state.specs.Site.{Map}
 use Rattle.exchange_frames.specs.declared.reader.TheConstants.{MOST_DIGESTS}
 use Rattle.exchange.specs.declared.version.Version.{Version}
@@ -28,3 +29,16 @@ IsWhole most digests place = (length digests ≤ most) ⊎ (place < place_behind
 -- what a HAVE tells of what is held in some places
 abbrev pub told_in : Version → List ℕ → Map → List (List ℕ)
 told_in version places m = fitting MOST_DIGESTS (offered_in version places m)
+
+-- whether a HAVE has all of some digests
+abbrev pub do_fit : List (List ℕ) → Bool
+do_fit digests = not (nat_lt MOST_DIGESTS (length digests))
+
+-- whether a HAVE has a digest of a place
+abbrev pub tells_of : List (List ℕ) → ℕ → Bool
+tells_of have place = list_any (λ d. place_of d == place) have
+
+-- Whether a HAVE that answers a DIFFER of these places is seen to have all: it has fewer digests than it may have, and
+-- some of each place. One that has not all is full, or has none of the place that did not fit.
+abbrev pub is_seen_whole : List ℕ → List (List ℕ) → Bool
+is_seen_whole places have = nat_lt (length have) MOST_DIGESTS && list_all (tells_of have) places

@@ -20,6 +20,7 @@ use Rattle.exchange.specs.Tasks.{task_for}
 use Rattle.exchange.specs.Course.{Talks, Idles, IsOfHolder, Why, HasRefused}
 use Rattle.exchange.specs.Hearing.{texts, AreFrames, WhyUnheard}
 use Rattle.exchange.specs.RunLaws.{Outcome, IsGivenAll, HoldsWhatWasOffered, HoldsWhatWasShown, NoPlaceDiffers}
+use Rattle.exchange.specs.RunLaws.{AreSeenWhole}
 use Rattle.exchange.specs.Saying.{IsFront, WhyUnsaid}
 
 -- the holder, what the reader has left, what the writer holds, and how often each of the devices failed
@@ -76,6 +77,8 @@ pub record Exchanged {H : Type 0} (holds : H → Map) (alone : H → Type 0) (ro
   pub have : IsTrue ended.finished → HoldsWhatWasOffered (holds to.holder) heard
   pub shown : HoldsWhatWasShown holds alone side.round.version (IsTrue ended.finished) from.holder heard told to.holder
   pub agreed : IsTrue ended.agreed ↔ NoPlaceDiffers heard told
+  pub whole : ended.whole ≡ side.whole
+  pub seen_whole : IsTrue ended.whole → AreSeenWhole heard told
   pub failed : NoneFailed from to
 
 -- ---- an exchange that was broken off

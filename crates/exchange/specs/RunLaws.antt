@@ -9,6 +9,7 @@ use Rattle.exchange_frames.specs.declared.frame.Frame.TheVariants.{Have, Want, G
 use Rattle.exchange.specs.declared.version.Version.{Version}
 use Rattle.exchange.specs.Held.{offered, place_of, is_in, HasGrown, WasHad}
 use Rattle.exchange.specs.Buckets.{bucket_list, unequal}
+use Rattle.exchange.specs.Parts.{is_seen_whole}
 use Rattle.exchange.specs.Laws.{BucketsTell}
 use Rattle.exchange.specs.Round.{IsFinished}
 use Rattle.exchange.specs.declared.side.Side.{Side}
@@ -73,6 +74,12 @@ NoneDiffers frames = (places : List ℕ) → Has frames (Differ places) → plac
 pub record NoPlaceDiffers (heard told : List Frame) : Type 0 where
   pub here : NoneDiffers told
   pub there : NoneDiffers heard
+
+-- Each HAVE that was heard is seen to have all that is held in the places of a DIFFER that was said.
+abbrev pub AreSeenWhole : List Frame → List Frame → Type 0
+AreSeenWhole heard told =
+    (places : List ℕ) (have : List (List ℕ)) → Has told (Differ places) → Has heard (Have have)
+    → is_seen_whole places have ≡ true
 
 -- An operation that a holder has gained, which nobody else changes, was given, and was asked for.
 abbrev pub GainsOnlyGiven : Map → List Frame → List Frame → Map → Type 0

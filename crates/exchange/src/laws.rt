@@ -1,7 +1,7 @@
 //! What rounds come to: laws, said as contracts of functions with nothing to do.
 
 ghost use Rattle.exchange.specs.Laws.{RoundGivesAll, RoundByBucketsGivesAll, RoundsMakeEqual, RoundSaysFrames};
-ghost use Rattle.exchange.specs.PartLaws.{FittingTells, PartsEnd};
+ghost use Rattle.exchange.specs.PartLaws.{FittingTells, SeenFits, PartsEnd};
 ghost use Rattle.exchange.specs.Laws.{EqualDigestsTell, EqualPlacesTell, NoPlaceIsEqual};
 
 /// After a round in which each operation that was given was taken, the one side holds all that the
@@ -37,6 +37,12 @@ pub fn rounds_each_way_make_sites_equal()
 /// that, and each place before that of the first digest that does not fit whole.
 pub fn a_have_tells_what_fits()
     ensures { FittingTells }
+{}
+
+/// A HAVE that answers a DIFFER, and is neither full nor without a digest of one of its places, has
+/// all that was held in them.
+pub fn a_have_that_is_seen_to_have_all_has_it()
+    ensures { SeenFits }
 {}
 
 /// Where a HAVE has room for any one place, each exchange in parts makes two sites hold the same in

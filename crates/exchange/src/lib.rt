@@ -18,6 +18,7 @@ mod holder;
 mod laws;
 mod numbers;
 mod parts;
+mod repeating;
 mod role;
 mod round;
 mod run;
@@ -38,11 +39,13 @@ pub use exchange_frames::{
 pub use fault::{ExchangeFault, HolderFault};
 pub use holder::Holder;
 pub use laws::{
-    a_have_tells_what_fits, a_round_by_buckets_gives_all, a_round_gives_all,
-    buckets_that_differ_nowhere_are_equal, equal_digests_meet_the_premise_of_buckets,
-    exchanges_in_parts_end, rounds_each_way_make_sites_equal, what_a_round_says_is_a_frame,
+    a_have_tells_what_fits, a_have_that_is_seen_to_have_all_has_it, a_round_by_buckets_gives_all,
+    a_round_gives_all, buckets_that_differ_nowhere_are_equal,
+    equal_digests_meet_the_premise_of_buckets, exchanges_in_parts_end,
+    rounds_each_way_make_sites_equal, what_a_round_says_is_a_frame,
 };
 pub use numbers::numbers_are_these;
+pub use repeating::{MOST_EXCHANGES, repeated_exchanges_end};
 pub use role::{Ended, Role};
 pub use round::Round;
 pub use run::run_exchange;

@@ -2,10 +2,11 @@
 
 ghost use Rattle.std.specs.Prelude.{◌≡◌, ◌==◌, not, filter, IfOk};
 ghost use Rattle.exchange.specs.Held.{place_of};
-ghost use Rattle.exchange.specs.Parts.{fitting as fitting_in};
+ghost use Rattle.exchange.specs.Parts.{fitting as fitting_in, tells_of as tells_of_in};
+ghost use Rattle.exchange.specs.Parts.{is_seen_whole as is_seen_whole_in};
 
 use crate::buckets::place_of_digest;
-use exchange_frames::{DIGEST_LENGTH, Digests, DigestsMut};
+use exchange_frames::{DIGEST_LENGTH, Digests, DigestsMut, MOST_DIGESTS};
 use operation::Digest;
 use std::alloc::{AllocError, Global};
 
@@ -58,4 +59,32 @@ pub(crate) fn fitting(alloc: Global, held: Digests, most: usize) -> Result<Diges
         return copied(alloc, &arrays[..most]);
     }
     Ok(whole)
+}
+
+/// Whether one of some digests begins with a byte.
+fn tells_of(arrays: &[[u8; DIGEST_LENGTH]], place: usize) -> bool
+    ensures { result ≡ tells_of_in arrays.now place }
+{
+    for bytes in arrays {
+        if place_of_digest(&Digest::of(*bytes)) == place {
+            return true;
+        }
+    }
+    false
+}
+
+/// Whether a HAVE that answers a DIFFER of these places is seen to have all that is held in them.
+pub(crate) fn is_seen_whole(places: &[u8], have: &Digests) -> bool
+    ensures { result ≡ is_seen_whole_in places.now have.now }
+{
+    if have.len() >= MOST_DIGESTS {
+        return false;
+    }
+    let arrays = have.as_arrays();
+    for place in places {
+        if !tells_of(arrays, *place as usize) {
+            return false;
+        }
+    }
+    true
 }

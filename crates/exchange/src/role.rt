@@ -24,4 +24,9 @@ pub struct Ended {
     /// Whether the lists of buckets were equal, those that this side compared and those that the
     /// peer did: each told of what its side held then, of what the version that was spoken knows.
     pub agreed: bool,
+    /// Whether all that differed is seen to have fitted: the HAVE that this side said had all that
+    /// it held in the places of the DIFFER, and the one that it heard was not full and had some of
+    /// each place. A callee, which hears its HAVE before it has given anything, misses a place too
+    /// of which it alone holds something.
+    pub whole: bool,
 }

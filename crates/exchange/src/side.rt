@@ -1,6 +1,6 @@
 //! One side of an exchange, as a machine: frames come in and frames go out.
 
-ghost use Rattle.std.specs.Prelude.{◌≡◌, ◌∷◌, [], ◌<◌, ◌^◌, ◌-◌, ◌↔◌, IfErr, IsErrOf, IsTrue};
+ghost use Rattle.std.specs.Prelude.{◌≡◌, ◌∷◌, [], ◌<◌, ◌^◌, ◌-◌, ◌↔◌, ◌&&◌, IfErr, IsErrOf, IsTrue};
 ghost use Rattle.exchange_frames.specs.declared.frame.Frame.TheVariants.{Hello};
 ghost use Rattle.exchange.specs.declared.task.Awaited.TheVariants as awaits;
 ghost use Rattle.exchange.specs.declared.task.Task.TheVariants as tasks;
@@ -8,17 +8,18 @@ ghost use Rattle.exchange.specs.Tasks.{task_for};
 ghost use Rattle.exchange.specs.Course.{Performs, SetOut, Why, IsOfHolder, HasRefused, frames_of, next_after_gifts};
 ghost use Rattle.exchange.specs.Course.{news, settled, start_of};
 ghost use Rattle.exchange.specs.Course.{agreed_with as agreed_in};
+ghost use Rattle.exchange.specs.Parts.{do_fit, is_seen_whole as is_seen_whole_in};
 ghost use Rattle.exchange.specs.Round.{IsFinished};
 
 use crate::fault::ExchangeFault;
 use crate::holder::Holder;
-use crate::parts::fitting;
+use crate::parts::{fitting, is_seen_whole};
 use crate::role::{Ended, Role};
 use crate::round::Round;
 use crate::task::{Awaited, Task, task_of};
 use crate::version::Version;
 use exchange_frames::{Digests, Frame, MOST_DIGESTS};
-use octets::ListOf;
+use octets::{ListOf, Octets};
 use operation::{Digest, Op, Taken};
 use std::alloc::Global;
 
@@ -42,6 +43,10 @@ pub(crate) struct Side {
     given: u64,
     taken: u64,
     agreed: bool,
+    /// The places of the DIFFER that it said.
+    places: Octets,
+    /// Whether all fitted so far.
+    whole: bool,
 }
 
 // It is written out, so that a caller does not prove again how each part is dropped.
@@ -54,6 +59,8 @@ impl Drop for Side {
             given: _,
             taken: _,
             agreed: _,
+            places: _,
+            whole: _,
         } = self;
     }
 }
@@ -85,6 +92,20 @@ fn agreed_with(agreed: bool, places: &[u8]) -> bool
     agreed && places.is_empty()
 }
 
+/// Whether all fitted, where a HAVE is told of these.
+fn whole_with(whole: bool, held: &Digests) -> bool
+    ensures { result ≡ (whole && do_fit held.now) }
+{
+    whole && held.len() <= MOST_DIGESTS
+}
+
+/// Whether all fitted, where this HAVE was heard for a DIFFER of these places.
+fn seen_whole_with(whole: bool, places: &[u8], have: &Digests) -> bool
+    ensures { result ≡ (whole && is_seen_whole_in places.now have.now) }
+{
+    whole && is_seen_whole(places, have)
+}
+
 /// How many operations are new.
 fn count_of(taken: Taken) -> u64
     ensures value { result ≡ news taken }
@@ -107,6 +128,8 @@ impl Side {
             given: 0,
             taken: 0,
             agreed: true,
+            places: Octets::of(Vec::new(alloc)),
+            whole: true,
         }
     }
 
@@ -123,12 +146,14 @@ impl Side {
         ensures taken { result.taken ≡ self.now.taken }
         ensures finished { IsTrue result.finished ↔ IsFinished self.now.round }
         ensures agreed { result.agreed ≡ self.now.agreed }
+        ensures whole { result.whole ≡ self.now.whole }
     {
         Ended {
             given: self.given,
             taken: self.taken,
             finished: self.round.finished(),
             agreed: self.agreed,
+            whole: self.whole,
         }
     }
 
@@ -251,6 +276,7 @@ impl Side {
             H.refuses_take (tasks.Compare buckets.now) holder.old holder.new }
     {
         let places = self.round.on_buckets(alloc, holder, buckets)?;
+        self.places = places.copy(alloc)?;
         self.agreed = agreed_with(self.agreed, places.as_slice());
         self.awaited = Awaited::Have;
         Ok(Said::One(Frame::Differ(places)))
@@ -271,7 +297,9 @@ impl Side {
             H.refuses_take (tasks.Offer places.now) holder.old holder.new }
     {
         let held = self.round.on_differ(alloc, holder, places)?;
+        let whole = whole_with(self.whole, &held);
         let have = fitting(alloc, held, MOST_DIGESTS)?;
+        self.whole = whole;
         self.agreed = agreed_with(self.agreed, places);
         self.awaited = Awaited::Want;
         Ok(Said::One(Frame::Have(have)))
@@ -291,6 +319,7 @@ impl Side {
             H.refuses_take (tasks.Ask have.now) holder.old holder.new }
     {
         let want = self.round.on_have(alloc, holder, have)?;
+        self.whole = seen_whole_with(self.whole, self.places.as_slice(), have);
         self.awaited = Awaited::Give;
         Ok(Said::One(Frame::Want(want)))
     }

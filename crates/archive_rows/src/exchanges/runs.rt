@@ -98,6 +98,7 @@ fn put_ended(out: &mut String, ended: Ended) -> Result<(), AllocError> {
         taken,
         finished,
         agreed: _,
+        whole: _,
     } = ended;
     out.push_str(if finished { "finished" } else { "unfinished" })?;
     write!(out, ", {given} given, {taken} taken")

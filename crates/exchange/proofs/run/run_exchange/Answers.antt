@@ -6,7 +6,7 @@ use Rattle.exchange.proofs.run.run_exchange.Goals as goal
 pub returns-then-is_over-clause-ok : goal.returns-then-is_over-clause-ok
 returns-then-is_over-clause-ok g c = ended g.H.Holder.holds g.H.Holder.alone c.args.role _ _ c.loop.side c.loop.reads
     c.loop.counter _ c.loop.invariant (c.is_over.ensures.0 c.if-is_over.true) c.ended.ensures.given
-    c.ended.ensures.taken c.ended.ensures.finished c.ended.ensures.agreed
+    c.ended.ensures.taken c.ended.ensures.finished c.ended.ensures.agreed c.ended.ensures.whole
 
 -- Each of so many turns read a byte or more.
 pub returns-clause-err : goal.returns-clause-err
