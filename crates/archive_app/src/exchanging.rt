@@ -9,9 +9,10 @@ use crate::serve::wait_of;
 use archive_server::{NetFault, Wire};
 use command_words::Exchanging;
 use devices::Counted;
-use exchange::{Ended, ExchangeFault};
+use exchange::{Ended, ExchangeFault, MOST_EXCHANGES, Role};
 use hub_exchange::{Behind, exchange_on};
 use shelved_site::{Store, site_on};
+use site_state::Site;
 use std::net::{Net, TcpListener, TcpStream};
 use std::rt::HostRuntime;
 
@@ -51,7 +52,23 @@ fn say_agreement(rt: &HostRuntime, ended: Ended) {
     let _ = eprintln!(rt; "agree {agree}");
 }
 
-/// An exchange with the site at an address, over a connection if it is made already.
+/// One exchange over a connection, with a site on its store.
+fn exchange_over<S: Store + Drop + Send>(
+    rt: &HostRuntime,
+    role: Role,
+    wire: &Wire,
+    site: Site,
+    store: S,
+) -> Behind<S> {
+    let progress = Progress::of(rt);
+    let mut reader = Reading::new(Counted::new(wire), progress);
+    let mut writer = Writing::new(Counted::new(wire), progress);
+    let behind = exchange_on(rt.alloc(), role, &mut reader, &mut writer, site, store);
+    wire.part(rt);
+    behind
+}
+
+/// The exchanges with the site at an address, the first over a connection if it is made already.
 #[derive(Drop)]
 struct Meeting<'h, 'a, R: Net<Listener = TcpListener, Stream = TcpStream>> {
     rt: &'h HostRuntime,
@@ -70,28 +87,36 @@ impl<'h, 'a, R: Net<Listener = TcpListener, Stream = TcpStream>> OnStore for Mee
             exchanging,
             connected,
         } = self;
-        let alloc = rt.alloc();
         let progress = Progress::of(rt);
         progress.begins(exchanging.file);
-        let site = about(exchanging.file, site_on(alloc, &mut store, &progress))?;
-        let wire = match connected {
-            Some(wire) => wire,
-            None => connect_to(net, exchanging)?,
-        };
-        let mut reader = Reading::new(Counted::new(&wire), progress);
-        let mut writer = Writing::new(Counted::new(&wire), progress);
-        let role = exchanging.role;
-        let Behind {
-            site: _,
-            shelf: _,
-            ended,
-        } = exchange_on(alloc, role, &mut reader, &mut writer, site, store);
-        wire.part(rt);
-        told_of(exchanging.peer, wire.is_silent(), ended)
+        let mut site = about(exchanging.file, site_on(rt.alloc(), &mut store, &progress))?;
+        let mut made = connected;
+        let mut all = Ended::NONE;
+        for _ in 0..MOST_EXCHANGES {
+            let wire = match made.take() {
+                Some(wire) => wire,
+                None => connect_to(net, exchanging)?,
+            };
+            let Behind {
+                site: next,
+                shelf,
+                ended,
+            } = exchange_over(rt, exchanging.role, &wire, site, store);
+            let last = told_of(exchanging.peer, wire.is_silent(), ended)?;
+            all = all.with_last(last);
+            if !all.is_followed(last) {
+                return Ok(all);
+            }
+            site = next;
+            store = shelf;
+        }
+        Ok(all)
     }
 }
 
-/// Exchanges the operations in a file with the site at an address, and says what came of it.
+/// Exchanges the operations in a file with the site at an address, and says what came of it. Where
+/// not all fits into one exchange another follows, over a connection of its own, until both agree
+/// or one brings nothing; what is said then is said of all of them.
 ///
 /// What is taken is in the store before it counts as given, and stays there whatever comes after.
 /// Refusals come in this order: the store, the site, the connection, the exchange. Where the file
