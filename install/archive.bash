@@ -5,9 +5,9 @@ _archive() {
         words="serve exchange correct report move verify simulate help --help --version"
     else
         case "${COMP_WORDS[1]} $before" in
-            *\ --listen | *\ --exchange | *\ --page | *\ --peer | *\ --every | *\ --allow | *\ --exchange-allow | *\ --page-allow | *\ --calling | *\ --quality-calling | *\ --audit-calling | *\ --idle | *\ --exchange-workers | *\ --workers | *\ --each | *\ --rounds | *\ --site) return ;;
+            *\ --listen | *\ --exchange | *\ --page | *\ --desk | *\ --peer | *\ --every | *\ --allow | *\ --exchange-allow | *\ --page-allow | *\ --desk-allow | *\ --calling | *\ --quality-calling | *\ --audit-calling | *\ --idle | *\ --exchange-workers | *\ --workers | *\ --each | *\ --rounds | *\ --site) return ;;
             *\ --peer-version) words="1 2" ;;
-            serve\ *) words="--listen --workers --each --exchange --rounds --exchange-workers --page --peer --every --allow --exchange-allow --page-allow --calling --quality-calling --audit-calling --idle --until-end-of-input --verbose --help" ;;
+            serve\ *) words="--listen --workers --each --exchange --rounds --exchange-workers --page --desk --site --peer --every --allow --exchange-allow --page-allow --desk-allow --calling --quality-calling --audit-calling --idle --until-end-of-input --verbose --help" ;;
             exchange\ *) words="--peer --peer-version --idle --help" ;;
             correct\ *) words="--site study patient series --help" ;;
             report\ *) words="--fingerprint --conflicts --rejected --corrections --studies --tsv --help" ;;

@@ -104,7 +104,13 @@ def try_words(refusals):
                  ["--workers", "63", "--each", "1", "--exchange", f"127.0.0.1:{free_port()}", "--rounds", "1"],
                  [*SERVED, "--rounds", "1"], [*SERVED, "--exchange", f"127.0.0.1:{free_port()}"],
                  [*SERVED, "--every", "1"], [*SERVED, "--page-allow", "10.0.0.0/8"],
-                 ["--workers", "64", "--each", "1", "--page", f"127.0.0.1:{free_port()}"]):
+                 ["--workers", "64", "--each", "1", "--page", f"127.0.0.1:{free_port()}"],
+                 [*SERVED, "--site", "1"], [*SERVED, "--desk", f"127.0.0.1:{free_port()}"],
+                 [*SERVED, "--desk-allow", "10.0.0.0/8"],
+                 *([*SERVED, "--desk", f"127.0.0.1:{free_port()}", "--site", site] for site in ("0", "65536", "x")),
+                 ["--workers", "64", "--each", "1", "--desk", f"127.0.0.1:{free_port()}", "--site", "1"],
+                 ["--workers", "63", "--each", "1", "--page", f"127.0.0.1:{free_port()}", "--desk",
+                  f"127.0.0.1:{free_port()}", "--site", "1"]):
         refusals.refused("serve " + " ".join(more), refusals.serve(refusals.new(), "", *more), 2, None)
     for address in ("localhost:11112", "127.0.0.1", "127.0.0.1:", "127.0.0.1:65536", "127.0.0.256:11112",
                     "[::1]:11112", ":11112", "11112", "127.0.0.1:11112 ", "tcp://127.0.0.1:11112"):
@@ -112,13 +118,14 @@ def try_words(refusals):
         refusals.refused(f"exchange --peer {address!r}", ["exchange", refusals.new(), "--peer", address], 2, None)
         refusals.refused(f"serve --exchange {address!r}", refusals.serve(
             refusals.new(), "", *SERVED, "--exchange", address, "--rounds", "1"), 2, None)
-        for option in ("--peer", "--page"):
+        for option, beside in (("--peer", []), ("--page", []), ("--desk", ["--site", "1"])):
             refusals.refused(f"serve {option} {address!r}", refusals.serve(
-                refusals.new(), "", *SERVED, option, address), 2, None)
+                refusals.new(), "", *SERVED, option, address, *beside), 2, None)
     for network in ("10.0.0.0/33", "10.0.0", "10.0.0.0/", "10.0.0.256", "::1/128", "localhost"):
-        for option in ("--allow", "--exchange-allow", "--page-allow"):
+        for option in ("--allow", "--exchange-allow", "--page-allow", "--desk-allow"):
             refusals.refused(f"serve {option} {network!r}", refusals.serve(
-                refusals.new(), "", *SERVED, "--page", f"127.0.0.1:{free_port()}", option, network), 2, None)
+                refusals.new(), "", *SERVED, "--page", f"127.0.0.1:{free_port()}", "--desk",
+                f"127.0.0.1:{free_port()}", "--site", "1", option, network), 2, None)
     many = [w for port in range(1, 65) for w in ("--peer", f"127.0.0.1:{port}")]
     refusals.refused("serve with a worker and 64 peers", refusals.serve(refusals.new(), "", *SERVED, *many), 2, None)
     for words in ([], ["nothing"], ["report"], ["exchange", refusals.new()], ["move", refusals.new()],
@@ -285,6 +292,8 @@ def try_addresses(refusals, archive):
             refusals.new(), "", *SERVED, "--exchange", used, "--rounds", "1"), 1, in_use)
         refusals.refused("serve --page on a port in use", refusals.serve(
             refusals.new(), "", *SERVED, "--page", used), 1, in_use)
+        refusals.refused("serve --desk on a port in use", refusals.serve(
+            refusals.new(), "", *SERVED, "--desk", used, "--site", "1"), 1, in_use)
     taken = ":".join(archive.at())
     refusals.refused("serve on a port of the archive", refusals.serve(refusals.new(), taken), 1,
                      lines("fault net 1", taken, "the port is in use"))

@@ -4,59 +4,27 @@ use crate::folder::is_absent;
 use crate::output::{CommandFault, listen_cause_of};
 use crate::refused::Refused;
 use anyhow::Result as Printed;
-use archive_server::{Entrance, Exchanging, NetFault, Paging};
+use archive_server::NetFault;
 use command_words::Serving;
 use std::hash::RandomState;
 use std::io::Print;
 use std::net::{Net, TcpListener, TcpStream};
 use std::rt::HostRuntime;
 
-/// Where pages are asked for, and keys that nobody can guess.
+/// Where requests of HTTP come in, and keys that nobody can guess.
 #[derive(Drop)]
-pub struct PageDoor {
-    listener: TcpListener,
-    keys: RandomState,
+pub struct HttpDoor {
+    pub listener: TcpListener,
+    pub keys: RandomState,
 }
 
-/// Where associations come in, and exchanges, and where pages are asked for.
+/// Where associations come in, and exchanges, where pages are asked for, and where corrections are.
 #[derive(Drop)]
 pub struct Listening {
     pub associations: TcpListener,
     pub exchanges: Option<TcpListener>,
-    pub pages: Option<PageDoor>,
-}
-
-/// Where exchanges come in, and how many are served.
-pub fn exchanging_of<'a>(
-    listening: &'a Listening,
-    serving: &'a Serving<'_>,
-) -> Option<Exchanging<'a>> {
-    match &listening.exchanges {
-        None => None,
-        Some(listener) => Some(Exchanging {
-            entrance: Entrance {
-                listener,
-                allowed: serving.exchange_allowed.as_slice(),
-            },
-            rounds: serving.rounds as u64,
-            workers: serving.exchange_workers,
-        }),
-    }
-}
-
-/// Where pages are asked for, if anywhere. The site is called as its file is.
-pub fn paging_at<'a>(listening: &'a Listening, serving: &'a Serving<'_>) -> Option<Paging<'a>> {
-    match &listening.pages {
-        None => None,
-        Some(door) => Some(Paging {
-            entrance: Entrance {
-                listener: &door.listener,
-                allowed: serving.page_networks(),
-            },
-            name: serving.file.as_bytes(),
-            keys: door.keys,
-        }),
-    }
+    pub pages: Option<HttpDoor>,
+    pub desk: Option<HttpDoor>,
 }
 
 /// A listener at an address.
@@ -85,22 +53,30 @@ fn listener_of<'a, R: Net<Listener = TcpListener, Stream = TcpStream>>(
     Ok(Some(bound(rt, exchange)?))
 }
 
-/// Where pages are asked for, if anywhere.
-fn page_door_of<'a, R: Net<Listener = TcpListener, Stream = TcpStream>>(
+/// Where requests of HTTP come in, if anywhere.
+fn door_of<'a, R: Net<Listener = TcpListener, Stream = TcpStream>>(
     host: &HostRuntime,
     rt: &R,
-    page: Option<&'a str>,
-) -> Result<Option<PageDoor>, Refused<'a>> {
-    let Some(address) = page else {
+    address: Option<&'a str>,
+) -> Result<Option<HttpDoor>, Refused<'a>> {
+    let Some(address) = address else {
         return Ok(None);
     };
     let listener = bound(rt, address)?;
     match RandomState::new(host) {
-        Ok(keys) => Ok(Some(PageDoor { listener, keys })),
+        Ok(keys) => Ok(Some(HttpDoor { listener, keys })),
         Err(error) => {
             let fault = CommandFault::Net(NetFault::Listen);
             Err(Refused::net(address, fault, listen_cause_of(error.kind())))
         }
+    }
+}
+
+/// Where corrections are asked for, if anywhere.
+fn desk_address<'a>(serving: &Serving<'a>) -> Option<&'a str> {
+    match serving.desk {
+        None => None,
+        Some(desk) => Some(desk.address),
     }
 }
 
@@ -112,10 +88,12 @@ pub fn listen_to<'a, R: Net<Listener = TcpListener, Stream = TcpStream>>(
 ) -> Result<Listening, Refused<'a>> {
     let associations = bound(rt, serving.listen)?;
     let exchanges = listener_of(rt, serving.exchange, serving.rounds)?;
+    let pages = door_of(host, rt, serving.page)?;
     Ok(Listening {
         associations,
         exchanges,
-        pages: page_door_of(host, rt, serving.page)?,
+        pages,
+        desk: door_of(host, rt, desk_address(serving))?,
     })
 }
 
@@ -141,11 +119,22 @@ fn say_address<R: Print>(rt: &R, word: &str, listener: &TcpListener, named: &str
     Ok(())
 }
 
-/// Prints where pages are asked for, as a browser takes it.
-fn say_page<R: Print>(rt: &R, listener: &TcpListener, named: &str) -> Printed<()> {
-    match listener.local_addr() {
-        Ok(address) => println!(rt; "pages http://{address}/")?,
-        Err(_unknown) => println!(rt; "pages http://{named}/")?,
+/// Prints where requests of HTTP come in, as a client takes it, if anywhere: a word, and what is asked
+/// for first.
+fn say_door<R: Print>(
+    rt: &R,
+    word: &str,
+    door: &Option<HttpDoor>,
+    named: Option<&str>,
+    path: &str,
+) -> Printed<()> {
+    let Some(door) = door else {
+        return Ok(());
+    };
+    let named = named.unwrap_or("");
+    match door.listener.local_addr() {
+        Ok(address) => println!(rt; "{word} http://{address}{path}")?,
+        Err(_unknown) => println!(rt; "{word} http://{named}{path}")?,
     }
     Ok(())
 }
@@ -156,8 +145,12 @@ pub fn say_where<R: Print>(rt: &R, listening: &Listening, serving: &Serving<'_>)
     if let Some(listener) = &listening.exchanges {
         say_address(rt, "exchanging", listener, serving.exchange)?;
     }
-    match &listening.pages {
-        None => Ok(()),
-        Some(door) => say_page(rt, &door.listener, serving.page.unwrap_or("")),
-    }
+    say_door(rt, "pages", &listening.pages, serving.page, "/")?;
+    say_door(
+        rt,
+        "desk",
+        &listening.desk,
+        desk_address(serving),
+        "/correct",
+    )
 }

@@ -3,6 +3,7 @@
 
 mod answering;
 mod correct;
+mod duties;
 mod ending;
 mod exchanging;
 mod file;

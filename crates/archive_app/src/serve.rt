@@ -2,20 +2,21 @@
 //! 9.1).
 
 ghost use Rattle.std.specs.Prelude.{◌≡◌, ◌≤◌, ◌<◌, ◌+◌, not, ◌==◌, vec_len, IfOk};
-ghost use Rattle.archive_server.specs.Serving.{places_for, serving_in, paging_in};
+ghost use Rattle.archive_server.specs.Serving.{others_in};
 ghost use Rattle.command_words.specs.Words.{HasPlaces};
 ghost use Rattle.shelved_site.specs.Sites.{IsSiteOf};
 
+use crate::duties::{duties_of, passes_for, workers_of};
 use crate::ending::ended_with_input;
 use crate::file::{adopted, refused, see_kind};
 use crate::folder::{is_folder, log_in};
-use crate::listening::{Listening, exchanging_of, listen_first, listen_to, paging_at, say_where};
+use crate::listening::{Listening, listen_first, listen_to, say_where};
 use crate::output::CommandFault;
 use crate::progress::Progress;
 use crate::refused::{Refused, about};
 use anyhow::Result as Printed;
 use archive_model::View;
-use archive_server::{Entrance, Exchanging, Manner, Paging, Peer, ServeFault, Served, serve_on};
+use archive_server::{Entrance, Manner, Peer, ServeFault, Served, serve_on};
 use association_run::OpenGate;
 use command_words::Serving;
 use log::Log;
@@ -34,7 +35,7 @@ use std::thread::Threads;
 use std::time::{Clock, Duration};
 use ul_state::{Title, Titles};
 
-/// The number of the site of a server, which makes no correction.
+/// The number of the site for a keeper that makes no correction: a desk has the number that is named.
 const SITE: u16 = 1;
 
 /// A called title, which those may call that are named for it.
@@ -128,37 +129,6 @@ fn peers_of<'a>(alloc: Global, serving: &'a Serving<'_>) -> Result<Vec<Peer<'a>>
     Ok(peers)
 }
 
-/// How many passes are left for workers, where some serve exchanges, one calls each peer, and some
-/// answer with pages.
-fn workers_of(passes: usize, exchanges: usize, peers: usize, pages: usize) -> usize
-    ensures { 0 < result → passes ≡ places_for result exchanges peers pages }
-{
-    passes
-        .saturating_sub(pages)
-        .saturating_sub(peers)
-        .saturating_sub(exchanges)
-}
-
-/// How many passes answer with pages.
-fn paging_of(pages: Option<Paging<'_>>) -> usize
-    ensures { result ≡ paging_in pages.entry }
-{
-    match pages {
-        None => 0,
-        Some(_) => 1,
-    }
-}
-
-/// How many passes serve exchanges.
-fn serving_of(exchange: Option<Exchanging<'_>>) -> usize
-    ensures { result ≡ serving_in exchange.entry }
-{
-    match exchange {
-        None => 0,
-        Some(exchanging) => exchanging.workers as usize,
-    }
-}
-
 /// How many associations a worker accepts: with no number more than it can.
 fn each_of(serving: &Serving<'_>) -> u64 {
     match serving.each {
@@ -201,38 +171,22 @@ fn serve_hub<
         listener: &listening.associations,
         allowed: serving.allowed.as_slice(),
     };
-    let (exchange, pages) = (
-        exchanging_of(listening, serving),
-        paging_at(listening, serving),
-    );
     let each = each_of(serving);
     let peers = peers_of(alloc, serving)?;
+    let duties = duties_of(listening, serving, peers.as_slice());
     let (keeper, passes) = match opened.named::<H>() {
         Ok(hub) => hub,
         Err(fault) => return Err(CommandFault::Hub(fault)),
     };
     // A keeper is dropped by the lock that holds it.
     let keeper = Mutex::new(keeper);
-    let exchanges = serving_of(exchange);
-    let workers = workers_of(passes.len(), exchanges, peers.len(), paging_of(pages));
+    let workers = workers_of(passes.len(), &duties);
     if workers == 0 {
         return Err(CommandFault::Hub(HubFault::Torn));
     }
     let gates = Vec::from_elem(alloc, OpenGate, workers)?;
     let served = serve_on(
-        rt,
-        alloc,
-        entrance,
-        exchange,
-        peers.as_slice(),
-        pages,
-        &titles,
-        gates,
-        each,
-        &keeper,
-        passes,
-        store,
-        manner,
+        rt, alloc, entrance, duties, &titles, gates, each, &keeper, passes, store, manner,
     );
     Ok(closed_behind(served, keeper.into_inner()))
 }
@@ -253,17 +207,6 @@ fn hub_of<'r, R: Wait, S: Store>(
     progress.begins(file);
     let opened = hub_on(host.alloc(), rt, store, SITE, passes, &progress)?;
     Ok(opened)
-}
-
-/// A pass for each worker, for each worker of exchanges, for each peer, and for pages.
-fn passes_for(serving: &Serving<'_>) -> usize
-    requires places { HasPlaces serving.now }
-    ensures { (1 ≤ result) × (result ≤ 64) }
-{
-    serving.workers as usize
-        + serving.exchange_workers as usize
-        + serving.peers.len()
-        + serving.paging()
 }
 
 /// Opens the hub of the site in a store, and listens where nobody does yet.

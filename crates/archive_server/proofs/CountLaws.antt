@@ -165,13 +165,15 @@ moved_on xs ys zs x y n is was =
     let grown : length (xs ++ x ∷ []) ≡ length xs + 1 = length-append xs (x ∷ []) in
     let left : length ys ≡ suc (length zs) = ap (λ l. length l) is in omega (arith, grown, left, was)
 
--- the jobs of the workers, and three times more behind them
-pub jobs_and_more : {G : Type 0} (workers many more most : ℕ) (w x y z : List (Job G)) → AreJobs workers 0 w
-    → AddsBeside many w x → AddsBeside more x y → AddsBeside most y z → AreJobs workers (many + more + most) z
-jobs_and_more workers many more most w x y z first one two three = record {
+-- the jobs of the workers, and four times more behind them
+pub jobs_and_more : {G : Type 0} (workers many more most last : ℕ) (v w x y z : List (Job G)) → AreJobs workers 0 v
+    → AddsBeside many v w → AddsBeside more w x → AddsBeside most x y → AddsBeside last y z
+    → AreJobs workers (many + more + most + last) z
+jobs_and_more workers many more most last v w x y z first one two three four = record {
   count =
-      let a = first.count in let b = one.more in let c = two.more in let d = three.more in omega (arith, a, b, c, d);
-  room = λ each. three.room each ∙ (two.room each ∙ (one.room each ∙ first.room each));
+      let a = first.count in let b = one.more in let c = two.more in let d = three.more in let e = four.more in
+      omega (arith, a, b, c, d, e);
+  room = λ each. four.room each ∙ (three.room each ∙ (two.room each ∙ (one.room each ∙ first.room each)));
 }
 
 -- the last job with the last pass, whose thread was joined last: what it knew was compared with the whole ledger

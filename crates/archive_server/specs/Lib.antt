@@ -1,6 +1,7 @@
 pub mod Answers
 pub mod Calling
 pub mod Cause
+pub mod Correcting
 pub mod Done
 pub mod Entering
 pub mod Fault

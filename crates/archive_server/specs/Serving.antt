@@ -5,10 +5,11 @@ use mathlib.Core.List.{IsPrefix}
 use Rattle.site_hub.specs.Hub.{Seat}
 use Rattle.archive_server.specs.Done.{Standing, Deeds}
 use Rattle.archive_server.specs.declared.fault.ServeFault.{ServeFault}
+use Rattle.command_words.specs.Words.{threads_at}
+use Rattle.archive_server.specs.declared.duties.Duties.{Duties}
 use Rattle.archive_server.specs.declared.exchanging.Exchanging.{Exchanging}
-use Rattle.archive_server.specs.declared.paging.Paging.{Paging}
 use Rattle.archive_server.specs.declared.job.Job.{Job}
-use Rattle.archive_server.specs.declared.job.Job.TheVariants.{Associations, Exchanges, Calls, Pages}
+use Rattle.archive_server.specs.declared.job.Job.TheVariants.{Associations, Exchanges, Calls, Pages, Corrects}
 pub use Rattle.hub_exchange.specs.Putting.{IsKept, AreKept, WasWritten}
 pub use Rattle.hub_exchange.specs.Onward.{IsOnward}
 
@@ -31,6 +32,7 @@ room_of each (Associations gate) = each
 room_of each (Exchanges exchanging) = 0
 room_of each (Calls peer) = 0
 room_of each (Pages paging) = 0
+room_of each (Corrects correcting) = 0
 
 -- how many all jobs may
 abbrev pub room_of_all : {G : Type 0} → ℕ → List (Job G) → ℕ
@@ -75,14 +77,11 @@ abbrev pub serving_in : Option Exchanging → ℕ
 serving_in None = 0
 serving_in (Some exchanging) = exchanging.workers
 
--- how many threads answer with pages
-abbrev pub paging_in : Option Paging → ℕ
-paging_in None = 0
-paging_in (Some paging) = 1
-
--- a pass for each gate, for each thread that serves exchanges, for each peer, and for pages
-abbrev pub places_for : ℕ → ℕ → ℕ → ℕ → ℕ
-places_for gates exchanges peers pages = gates + (exchanges + peers + pages)
+-- how many threads a server has beside its workers: those that serve exchanges, one for each peer, one for pages, and
+-- one for the desk
+abbrev pub others_in : Duties → ℕ
+others_in duties =
+    serving_in duties.exchange + length duties.peers.now + threads_at duties.pages + threads_at duties.desk
 
 -- so many jobs more, none of which accepts associations
 pub record AddsBeside {G : Type 0} (many : ℕ) (before after : List (Job G)) : Type 0 where

@@ -5,10 +5,12 @@ ghost use Rattle.std.specs.Io.KnownBytes.{Appends, Consumes};
 ghost use Rattle.std.specs.Option.{option_or};
 ghost use Rattle.http_server.specs.History.{History, IsServed, IsDone};
 ghost use Rattle.site_pages.specs.Serving.{page_config};
+ghost use Rattle.site_desk.specs.Serving.{desk_config};
 ghost use Rattle.association_run.specs.Parts.{sides};
 ghost use Rattle.exchange.specs.Run.{ends};
 ghost use Rattle.exchange.specs.declared.role.Role.TheVariants.{Callee};
 ghost use Rattle.command_words.specs.Networks.{may_come};
+ghost use Rattle.archive_server.specs.Correcting.{at_desk, AreAnswered};
 ghost use Rattle.archive_server.specs.Done.{Attends, Converses, HasOnlyLooked, fault_of_run, fault_of_exchange};
 ghost use Rattle.archive_server.specs.Serving.{HasGoneOn};
 ghost use Rattle.archive_server.specs.Telling.{AreTold};
@@ -20,15 +22,18 @@ use crate::entrance::Entrance;
 use crate::fault::{NetFault, ServeFault};
 use crate::known::Known;
 use crate::paging::Paging;
+use crate::told_desk::tell_desk;
 use crate::told_pages::tell_pages;
 use association_run::{End, Gate, Outbox, RunFault};
 use devices::{Sink, Source};
 use exchange::{Ended, ExchangeFault, Role};
 use hub_exchange::{LedgerName, Put};
 use log::Log;
+use site_desk::Stamps;
 use site_hub::{HubName, Shows};
 use site_pages::Tally;
 use std::alloc::Global;
+use std::hash::RandomState;
 use std::io;
 use std::io::{Read, Write};
 use std::marker::Model;
@@ -258,6 +263,50 @@ impl<H: HubName, N: LedgerName> Done<H, N> {
         let (pass, served) = tell_pages(alloc, paging, known, pass, reader, writer);
         let clerk = Clerk::new(pass, extract);
         (Done::with_one(clerk, accepted, failed, fault), served)
+    }
+
+    /// One more that came to the desk, over any reader and writer. A connection that broke is no
+    /// fault.
+    pub fn with_corrections<
+        T: Shows<H>,
+        R: Wait + Drop,
+        S: Wait,
+        P: Put<N> + Copy,
+        I: Read,
+        O: Write,
+    >(
+        self,
+        archive: &Archive<'_, H, T, R, S>,
+        shelf: P,
+        keys: RandomState,
+        stamps: Stamps,
+        reader: &mut I,
+        writer: &mut O,
+    ) -> (Done<H, N>, Stamps, io::Result<()>)
+        requires room { self.accepted + self.failed < 2 ^ 64 - 1 }
+        ensures served { (h : History) × ∥ IsServed desk_config h ∥₁
+            × AreAnswered H.opening (at_desk self.clerk stamps) (at_desk result.0.clerk result.1) h
+            × Consumes (I.remaining reader.old) (I.remaining reader.new) h.received
+            × Appends (O.contents writer.old) (O.contents writer.new) h.sent
+            × OnOk result.2 (IsDone h) }
+        ensures accepted { result.0.accepted ≡ self.accepted + 1 }
+        ensures failed { result.0.failed ≡ self.failed }
+        ensures fault { result.0.fault ≡ self.fault }
+    {
+        let Done {
+            clerk,
+            accepted,
+            failed,
+            fault,
+        } = self;
+        let (clerk, stamps, served) = tell_desk(
+            archive, shelf, keys, stamps, reader, writer, clerk,
+        );
+        (
+            Done::with_one(clerk, accepted, failed, fault),
+            stamps,
+            served,
+        )
     }
 
     /// One peer more that may not come in here. It counts as accepted.

@@ -10,7 +10,7 @@ use crate::done::Done;
 use crate::entrance::{Entered, Entrance, accept_from};
 use crate::journal::{Whence, tell_exchange, tell_turned_away};
 use crate::keeping::Asking;
-use crate::message::{Desk, Request};
+use crate::message::{Reach, Request};
 use crate::refusing::Telling;
 use crate::wire::Wire;
 use crate::worker::Hall;
@@ -133,7 +133,7 @@ pub(crate) fn exchange_all<
 >(
     hall: &Hall<'_, H, T, R, S>,
     exchanging: Exchanging<'_>,
-    desk: Desk<N>,
+    reach: Reach<N>,
     clerk: Clerk<H, N>,
 ) -> Done<H, N>
     ensures onward { HasGoneOn clerk result.clerk }
@@ -145,7 +145,7 @@ pub(crate) fn exchange_all<
         if !is_left || hall.manner.is_ended() {
             return done;
         }
-        done = next_exchange(hall, exchanging.entrance, &desk.to, done);
+        done = next_exchange(hall, exchanging.entrance, &reach.to, done);
     }
     done
 }

@@ -1,14 +1,17 @@
 //! What the threads of a server do, each with a pass of its own.
 
-ghost use Rattle.std.specs.Prelude.{◌≡◌, ◌+◌, length, is_some, IfOk, vec_len};
-ghost use Rattle.archive_server.specs.Serving.{AddsBeside, AreJobs, HasServed, room_of, serving_in, paging_in};
+ghost use Rattle.std.specs.Prelude.{◌≡◌, length, is_some, IfOk, vec_len};
+ghost use Rattle.command_words.specs.Words.{threads_at};
+ghost use Rattle.archive_server.specs.Serving.{AddsBeside, AreJobs, HasServed, room_of, serving_in, others_in};
 
 use crate::clerk::Clerk;
+use crate::correcting::{Correcting, correct_all};
 use crate::done::Done;
+use crate::duties::Duties;
 use crate::exchanging::{Exchanging, exchange_all};
 use crate::fault::ServeFault;
 use crate::meeting::{Peer, meet_all};
-use crate::message::Desk;
+use crate::message::Reach;
 use crate::paging::{Paging, page_all};
 use crate::worker::{Hall, work};
 use association_run::{Gate, RunFault};
@@ -33,6 +36,8 @@ pub(crate) enum Job<'a, G> {
     Calls(Peer<'a>),
     /// It answers who comes for a page, until nobody accepts any more.
     Pages(Paging<'a>),
+    /// It serves who comes to correct, likewise.
+    Corrects(Correcting<'a>),
 }
 
 impl<G> Job<'_, G> {
@@ -55,7 +60,7 @@ impl<G> Job<'_, G> {
     {
         match self {
             Job::Associations(_) => each,
-            Job::Exchanges(_) | Job::Calls(_) | Job::Pages(_) => 0,
+            Job::Exchanges(_) | Job::Calls(_) | Job::Pages(_) | Job::Corrects(_) => 0,
         }
     }
 }
@@ -80,7 +85,7 @@ pub(crate) fn attend<
 >(
     hall: &Hall<'_, H, Shown<H>, R, S>,
     job: Job<'_, G>,
-    desk: Desk<N>,
+    reach: Reach<N>,
     ended: Receiver<()>,
     clerk: Clerk<H, N>,
 ) -> Done<H, N>
@@ -91,13 +96,14 @@ pub(crate) fn attend<
     }) result }
 {
     match job {
-        Job::Associations(gate) => work(hall, desk, gate, clerk),
-        Job::Exchanges(exchanging) => beside(exchange_all(hall, exchanging, desk, clerk)),
-        Job::Calls(peer) => beside(meet_all(hall, peer, desk, ended, clerk)),
+        Job::Associations(gate) => work(hall, reach, gate, clerk),
+        Job::Exchanges(exchanging) => beside(exchange_all(hall, exchanging, reach, clerk)),
+        Job::Calls(peer) => beside(meet_all(hall, peer, reach, ended, clerk)),
         Job::Pages(paging) => {
-            drop(desk);
+            drop(reach);
             beside(page_all(hall, paging, ended, clerk))
         }
+        Job::Corrects(correcting) => beside(correct_all(hall, correcting, reach, ended, clerk)),
     }
 }
 
@@ -149,7 +155,7 @@ fn with_pages<'x, G: Drop>(
     pages: Option<Paging<'x>>,
 ) -> Result<Vec<Job<'x, G>>, AllocError>
     ensures { IfOk result (λ jobs.
-        AddsBeside (paging_in pages.entry) before.entry.items jobs.items) }
+        AddsBeside (threads_at pages.entry) before.entry.items jobs.items) }
 {
     let Some(paging) = pages else {
         return Ok(before);
@@ -159,19 +165,35 @@ fn with_pages<'x, G: Drop>(
     Ok(jobs)
 }
 
+/// These jobs, and behind them that of the thread of the desk.
+fn with_desk<'x, G: Drop>(
+    before: Vec<Job<'x, G>>,
+    desk: Option<Correcting<'x>>,
+) -> Result<Vec<Job<'x, G>>, AllocError>
+    ensures { IfOk result (λ jobs.
+        AddsBeside (threads_at desk.entry) before.entry.items jobs.items) }
+{
+    let Some(correcting) = desk else {
+        return Ok(before);
+    };
+    let mut jobs = before;
+    jobs.push(Job::Corrects(correcting))?;
+    Ok(jobs)
+}
+
 /// All jobs, by the places of their passes: those of the workers, those of the threads that serve
-/// exchanges, those of the threads that call peers, and that of the thread of pages.
+/// exchanges, those of the threads that call peers, that of the thread of pages, and that of the
+/// thread of the desk.
 pub(crate) fn jobs_of<'x, G: Drop>(
     alloc: Global,
     gates: Vec<G>,
-    exchange: Option<Exchanging<'x>>,
-    peers: &[Peer<'x>],
-    pages: Option<Paging<'x>>,
+    duties: Duties<'x>,
 ) -> Result<Vec<Job<'x, G>>, AllocError>
-    ensures { IfOk result (λ jobs. AreJobs (vec_len gates)
-        (serving_in exchange.entry + length peers.now + paging_in pages.entry) jobs.items) }
+    ensures { IfOk result (λ jobs.
+        AreJobs (vec_len gates) (others_in duties.entry) jobs.items) }
 {
-    let serving = with_exchanges(workers(alloc, gates)?, exchange)?;
-    let jobs = with_pages(with_peers(serving, peers)?, pages)?;
+    let serving = with_exchanges(workers(alloc, gates)?, duties.exchange)?;
+    let calling = with_peers(serving, duties.peers)?;
+    let jobs = with_desk(with_pages(calling, duties.pages)?, duties.desk)?;
     Ok(jobs)
 }

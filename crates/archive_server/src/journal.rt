@@ -332,6 +332,21 @@ pub(crate) fn tell_visit<S: Clock + Log>(
     info!(rt; target: "page", "{moment} from {peer} sent {sent}{broken}");
 }
 
+/// Tells that who came to the desk was answered with so many bytes, likewise.
+pub(crate) fn tell_corrected<S: Clock + Log>(
+    rt: &S,
+    manner: Manner<'_>,
+    peer: Whence,
+    wire: &Wire,
+    sent: u64,
+) {
+    if !manner.is_verbose {
+        return;
+    }
+    let (moment, broken) = (Moment::now(rt), Break::of(wire));
+    info!(rt; target: "desk", "{moment} from {peer} sent {sent}{broken}");
+}
+
 /// Tells that a peer was turned away before a byte of it was read, likewise.
 pub(crate) fn tell_turned_away<S: Clock + Log>(rt: &S, manner: Manner<'_>, peer: SocketAddr) {
     if !manner.is_verbose {

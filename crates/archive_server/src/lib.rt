@@ -5,9 +5,10 @@
 //! association stores is put on the shelf, then taken by the hub, then answered; and so is what a
 //! peer gives in an exchange: for those that peers call there is a listener, and some threads with a
 //! pass each, and for each peer that the server calls again and again a thread and a pass. Pages of
-//! the site have a listener, a thread and a pass, which only looks. Who serves may say how long the
-//! server waits for a peer at most, name a word by which somebody ends the server, and ask for a
-//! line on each association and exchange.
+//! the site have a listener, a thread and a pass, which only looks. The desk, at which an
+//! administrator corrects, has the same and the way to the shelf, which has what is answered with a
+//! stamp. Who serves may say how long the server waits for a peer at most, name a word by which
+//! somebody ends the server, and ask for a line on each association and exchange.
 #![tactic(auto)]
 
 mod answers;
@@ -17,7 +18,9 @@ mod calling;
 mod cause;
 mod clerk;
 mod conversing;
+mod correcting;
 mod done;
+mod duties;
 mod ends;
 mod entrance;
 mod exchanging;
@@ -37,6 +40,7 @@ mod refusing;
 mod samples;
 mod serve;
 mod starting;
+mod told_desk;
 mod told_pages;
 mod visit;
 mod wire;
@@ -46,6 +50,8 @@ pub use attending::{Archive, Attended, serve_association};
 pub use cause::words_of_shelf;
 pub use clerk::Clerk;
 pub use conversing::{Conversed, serve_exchange};
+pub use correcting::Correcting;
+pub use duties::Duties;
 pub use entrance::Entrance;
 pub use exchanging::Exchanging;
 pub use fault::{NetFault, ServeFault};

@@ -9,7 +9,7 @@ use crate::clerk::Clerk;
 use crate::done::Done;
 use crate::exchanging::exchange_over;
 use crate::journal::tell_unreached;
-use crate::message::{Desk, Request};
+use crate::message::{Reach, Request};
 use crate::wire::Wire;
 use crate::worker::Hall;
 use crossbeam_channel::{Receiver, RecvTimeoutError, Sender};
@@ -141,7 +141,7 @@ pub(crate) fn meet_all<
 >(
     hall: &Hall<'_, H, T, R, S>,
     peer: Peer<'_>,
-    desk: Desk<N>,
+    reach: Reach<N>,
     ended: Receiver<()>,
     clerk: Clerk<H, N>,
 ) -> Done<H, N>
@@ -149,6 +149,6 @@ pub(crate) fn meet_all<
 {
     let rt = hall.archive.rt;
     let mut still = Still { rt, ended: &ended };
-    let onward = call_again(hall, peer.address, peer.every, &desk.to, &mut still, clerk);
+    let onward = call_again(hall, peer.address, peer.every, &reach.to, &mut still, clerk);
     Done::nothing(onward, None)
 }

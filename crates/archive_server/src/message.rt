@@ -22,21 +22,21 @@ pub(crate) struct Reply<N: LedgerName> {
 /// What a thread holds: the way to the shelf, and where it accepts, what tells by its being there
 /// that somebody still does. Nothing is ever sent on that.
 #[derive(Drop)]
-pub(crate) struct Desk<N: LedgerName> {
+pub(crate) struct Reach<N: LedgerName> {
     pub to: Sender<Request<N>>,
     pub still: Option<Sender<()>>,
 }
 
-impl<N: LedgerName> Desk<N> {
+impl<N: LedgerName> Reach<N> {
     /// One more of it, for one more thread, which accepts or does not.
-    pub fn another(&self, accepts: bool) -> Result<Desk<N>, AllocError> {
+    pub fn another(&self, accepts: bool) -> Result<Reach<N>, AllocError> {
         let to = self.to.clone()?;
         match &self.still {
-            Some(still) if accepts => Ok(Desk {
+            Some(still) if accepts => Ok(Reach {
                 to,
                 still: Some(still.clone()?),
             }),
-            _ => Ok(Desk { to, still: None }),
+            _ => Ok(Reach { to, still: None }),
         }
     }
 }

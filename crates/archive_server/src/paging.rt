@@ -91,12 +91,12 @@ fn with_entered<H: HubName, T: Shows<H>, R: Wait + Drop, S: Wait + Clock + Log, 
 }
 
 /// Whether nobody came within a turn.
-fn is_nobody(came: &io::Result<Entered>) -> bool {
+pub(crate) fn is_nobody(came: &io::Result<Entered>) -> bool {
     matches!(came, Err(error) if is_cut_off(error))
 }
 
 /// How long is waited before the next accept: not at all, but for a turn behind one that failed.
-fn pause_behind_accept(came: &io::Result<Entered>) -> Duration {
+pub(crate) fn pause_behind_accept(came: &io::Result<Entered>) -> Duration {
     match came {
         Ok(_entered) => Duration::ZERO,
         Err(_error) => turn(),
@@ -154,7 +154,7 @@ fn accept_again<
 }
 
 /// Lets each accept of a listener end after a turn, in which nobody came.
-fn lets_accepts_end(listener: &TcpListener) -> io::Result<()> {
+pub(crate) fn lets_accepts_end(listener: &TcpListener) -> io::Result<()> {
     // A socket's time to receive is also that of an accept.
     TcpStream::from(OwnedFd::from(listener.try_clone()?)).set_read_timeout(Some(turn()))
 }

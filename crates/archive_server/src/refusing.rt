@@ -95,26 +95,46 @@ pub(crate) fn told_store<S: Clock + Log>(rt: &S, fault: ShelfFault) -> PortFault
     refused
 }
 
-/// Tells that the shelf refused an operation of a peer, and hands its answer on.
-fn told_put<S: Clock + Log, T>(rt: &S, kept: Result<T, ShelfFault>) -> Result<T, ShelfFault>
+/// Tells that the shelf refused what it was given, and hands its answer on.
+fn told_put<S: Clock + Log, T>(
+    rt: &S,
+    what: &str,
+    kept: Result<T, ShelfFault>,
+) -> Result<T, ShelfFault>
     ensures { result ≡ kept }
 {
     if let Err(fault) = &kept {
         let (moment, words) = (Moment::now(rt), words_of(Why::Shelf(*fault)));
-        error!(rt; target: "archive", "{moment} operation of a peer refused: {words}");
+        error!(rt; target: "archive", "{moment} {what} refused: {words}");
     }
     kept
 }
 
-/// The way of an exchange to the shelf, which tells what the shelf refuses.
+/// The way of an exchange, or of the desk, to the shelf, which tells what the shelf refuses.
 pub(crate) struct Telling<'a, N: LedgerName, S: Wait + Clock + Log> {
     rt: &'a S,
+    /// What it gives the shelf, in words.
+    what: &'static str,
     way: Asking<'a, N, S>,
 }
 
 impl<'a, N: LedgerName, S: Wait + Clock + Log> Telling<'a, N, S> {
+    /// The way of an exchange.
     pub fn new(rt: &'a S, way: Asking<'a, N, S>) -> Telling<'a, N, S> {
-        Telling { rt, way }
+        Telling {
+            rt,
+            what: "operation of a peer",
+            way,
+        }
+    }
+
+    /// The way of the desk.
+    pub fn of_desk(rt: &'a S, way: Asking<'a, N, S>) -> Telling<'a, N, S> {
+        Telling {
+            rt,
+            what: "correction",
+            way,
+        }
     }
 }
 
@@ -132,6 +152,6 @@ impl<'a, N: LedgerName, S: Wait + Clock + Log> Put<N> for Telling<'a, N, S> {
     ghost refuses = { λ before after _ _. Rose before.way.refusals after.way.refusals };
 
     fn put(&mut self, op: &Digested) -> Result<Shelved<N>, ShelfFault> {
-        told_put(self.rt, self.way.put(op))
+        told_put(self.rt, self.what, self.way.put(op))
     }
 }

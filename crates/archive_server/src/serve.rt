@@ -1,28 +1,26 @@
 //! The server: a thread for each worker, for each worker of exchanges and for each peer, and the
 //! shelf in the thread that called.
 
-ghost use Rattle.std.specs.Prelude.{◌≡◌, ◌+◌, ◌*◌, ◌++◌, ◌∷◌, ◌<◌, ◌≤◌, ◌⊎◌, [], min, length, is_some, IfOk, IsSome};
+ghost use Rattle.std.specs.Prelude.{◌≡◌, ◌+◌, ◌*◌, ◌++◌, ◌∷◌, ◌<◌, ◌≤◌, ◌⊎◌, [], min, is_some, IfOk, IsSome};
 ghost use Rattle.std.specs.Prelude.{vec_len};
 ghost use Rattle.std.specs.Prelude.{vec_capacity};
 ghost use Rattle.std.specs.Option.{option_or};
 ghost use mathlib.Core.List.{IsPrefix};
 ghost use Rattle.archive_server.specs.Serving.{AllOnward, AreJobs, AreKept, HaveServed, IsKept, WasWritten};
-ghost use Rattle.archive_server.specs.Serving.{places_for, serving_in, paging_in, room_of_all};
+ghost use Rattle.archive_server.specs.Serving.{others_in, room_of_all};
 
 use crate::attending::Archive;
 use crate::board::Board;
 use crate::clerk::Clerk;
 use crate::done::Done;
+use crate::duties::Duties;
 use crate::entrance::Entrance;
-use crate::exchanging::Exchanging;
 use crate::fault::ServeFault;
 use crate::health::Health;
 use crate::job::{Job, jobs_of};
 use crate::keeping::{Inbox, keep_all};
 use crate::manner::Manner;
-use crate::meeting::Peer;
-use crate::message::Desk;
-use crate::paging::Paging;
+use crate::message::Reach;
 use crate::starting::{Begun, Channels, finish, start};
 use crate::worker::Hall;
 use archive_model::View;
@@ -101,11 +99,11 @@ fn keep<S: Wait, K: Keep, N: LedgerName>(
     ensures kept { AreKept K.is_up K.holds K.lasts ledger.new shelf.new }
 {
     let Channels {
-        desk,
+        reach,
         ended: _,
         requests,
     } = channels;
-    drop(desk);
+    drop(reach);
     let mut inbox = Inbox { rt, requests };
     keep_all(rt, alloc, shelf, ledger, &mut inbox);
 }
@@ -172,8 +170,8 @@ pub struct Served<H: HubName> {
     /// The passes, each in its place.
     pub passes: Vec<Pass<H>>,
     /// The first fault, by worker and then by its own order; behind them that of an exchange that
-    /// was served, and behind it that of a thread for a peer which was refused, and that of the thread
-    /// of pages. A peer that is not reached is no fault.
+    /// was served, and behind it that of a thread for a peer which was refused, and those of the
+    /// threads of pages and of the desk. A peer that is not reached is no fault.
     pub fault: Option<ServeFault>,
 }
 
@@ -334,7 +332,7 @@ fn channels_of<N: LedgerName>(alloc: Global) -> Result<Channels<N>, AllocError> 
     let (to, requests) = bounded(alloc, WAITING)?;
     let (still, ended) = bounded(alloc, 1)?;
     Ok(Channels {
-        desk: Desk {
+        reach: Reach {
             to,
             still: Some(still),
         },
@@ -400,10 +398,11 @@ fn serve_named<
 }
 
 /// Serves associations that come in at an entrance, `each` in a thread for each gate, with the pass
-/// of its place; with `exchange` so many exchanges in all, in as many threads as it says, with the
-/// next passes; and meanwhile calls each peer again and again, in a thread for each, with the passes
-/// behind; and with `pages` answers who comes for a page, in one thread, with the last pass. The
-/// thread that calls keeps the shelf. Whoever may end it in this manner ends it early.
+/// of its place. Its duties beside them: so many exchanges in all, in as many threads as is said,
+/// with the next passes; meanwhile each peer is called again and again, in a thread for each, with
+/// the passes behind; who comes for a page is answered, and who comes to correct, each in one
+/// thread, with the last passes. The thread that calls keeps the shelf. Whoever may end it in this
+/// manner ends it early.
 pub fn serve_on<
     'x,
     H: HubName + Send + Sync,
@@ -415,9 +414,7 @@ pub fn serve_on<
     rt: &'x S,
     alloc: Global,
     entrance: Entrance<'x>,
-    exchange: Option<Exchanging<'x>>,
-    peers: &'x [Peer<'x>],
-    pages: Option<Paging<'x>>,
+    duties: Duties<'x>,
     titles: &'x Titles<View>,
     gates: Vec<G>,
     each: u64,
@@ -427,8 +424,7 @@ pub fn serve_on<
     manner: Manner<'x>,
 ) -> Served<H>
     requires some { 0 < vec_len gates }
-    requires places { vec_len passes
-        ≡ places_for (vec_len gates) (serving_in exchange) (length peers.now) (paging_in pages) }
+    requires places { vec_len passes ≡ vec_len gates + others_in duties }
     // What became a pass's own lies on the shelf that was lent, and every crash leaves it there.
     ensures back { AllOnward (IsKept K.is_up K.holds K.lasts shelf.new) passes.items
         result.passes.items }
@@ -436,7 +432,7 @@ pub fn serve_on<
     ensures all { IsSome manner.entry.ending ⊎ IsSome result.fault
         ⊎ (result.accepted ≡ min (vec_len gates * each) 18446744073709551615) }
 {
-    let Ok(jobs) = jobs_of(alloc, gates, exchange, peers, pages) else {
+    let Ok(jobs) = jobs_of(alloc, gates, duties) else {
         return refused(passes);
     };
     let hall = Hall {
@@ -451,7 +447,7 @@ pub fn serve_on<
         manner,
         begun: AtomicU64::new(0),
         health: Health::new(),
-        board: Board::new(rt, alloc, peers),
+        board: Board::new(rt, alloc, duties.peers),
     };
     serve_named::<Brand, H, R, S, K, G>(Blank::new(), &hall, jobs, shelf, passes)
 }

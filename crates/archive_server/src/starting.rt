@@ -7,7 +7,7 @@ use crate::clerk::Clerk;
 use crate::done::Done;
 use crate::fault::ServeFault;
 use crate::job::{Job, attend};
-use crate::message::{Desk, Request};
+use crate::message::{Reach, Request};
 use crate::worker::Hall;
 use association_run::Gate;
 use core::thread::Stack;
@@ -29,7 +29,7 @@ const STACK: usize = 8_388_608;
 /// The channels of a server.
 #[derive(Drop)]
 pub(crate) struct Channels<N: LedgerName> {
-    pub desk: Desk<N>,
+    pub reach: Reach<N>,
     pub ended: Receiver<()>,
     pub requests: Receiver<Request<N>>,
 }
@@ -37,7 +37,7 @@ pub(crate) struct Channels<N: LedgerName> {
 /// What a thread holds of the channels, and where it is told that it may begin.
 #[derive(Drop)]
 struct Place<N: LedgerName> {
-    desk: Desk<N>,
+    reach: Reach<N>,
     ended: Receiver<()>,
     told: Receiver<()>,
 }
@@ -105,7 +105,7 @@ fn place_of<N: LedgerName>(
 ) -> Result<(Place<N>, Sender<()>), AllocError> {
     let (begin, told) = bounded(alloc, 1)?;
     let place = Place {
-        desk: channels.desk.another(accepts)?,
+        reach: channels.reach.another(accepts)?,
         ended: channels.ended.clone()?,
         told,
     };
@@ -131,11 +131,11 @@ fn attend_at<
       ends = is_some hall.now.manner.ending;
     }) result }
 {
-    let Place { desk, ended, told } = place;
+    let Place { reach, ended, told } = place;
     if told.recv(hall.archive.rt).is_err() {
         return Done::nothing(clerk, Some(job.refusal()));
     }
-    attend(hall, job, desk, ended, clerk)
+    attend(hall, job, reach, ended, clerk)
 }
 
 /// Starts a thread for a job, whose results keep a promise, and tells it that it may begin. A job

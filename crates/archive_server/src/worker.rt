@@ -16,7 +16,7 @@ use crate::heard::{Heard, Said};
 use crate::journal::{Finish, Whence, tell_association, tell_not_accepted, tell_turned_away};
 use crate::keeping::Asking;
 use crate::manner::Manner;
-use crate::message::{Desk, Request};
+use crate::message::{Reach, Request};
 use crate::wire::Wire;
 use association_run::{Gate, Outbox, RunFault};
 use crossbeam_channel::Sender;
@@ -168,7 +168,7 @@ pub(crate) fn work<
     S: Wait + Clock + Log,
     N: LedgerName,
     G: Gate + Drop,
->(hall: &Hall<'_, H, T, R, S>, desk: Desk<N>, mut gate: G, clerk: Clerk<H, N>) -> Done<H, N>
+>(hall: &Hall<'_, H, T, R, S>, reach: Reach<N>, mut gate: G, clerk: Clerk<H, N>) -> Done<H, N>
     ensures served { HasServed (record {
       before = clerk.pass;
       room = hall.now.each;
@@ -183,7 +183,7 @@ pub(crate) fn work<
         if hall.manner.is_ended() {
             return done;
         }
-        done = next(hall, &desk.to, &mut gate, &mut outbox, done);
+        done = next(hall, &reach.to, &mut gate, &mut outbox, done);
     }
     done
 }

@@ -1,13 +1,13 @@
 //! Servers as all tests serve: one call of `serve_on`, and one hub that is named.
 
-ghost use Rattle.std.specs.Prelude.{◌≡◌, ◌<◌, ◌≤◌, IsTrue, IfSome, length, vec_len};
-ghost use Rattle.archive_server.specs.Serving.{places_for, serving_in};
+ghost use Rattle.std.specs.Prelude.{◌≡◌, ◌+◌, ◌<◌, ◌≤◌, IsTrue, IfSome, length, vec_len};
+ghost use Rattle.archive_server.specs.Serving.{serving_in};
 
 use crate::doors::{Door, Doors};
 use crate::hubs::{Shared, titles_of};
 use crate::shelves::Counting;
 use crate::visitors::{Visitors, visit};
-use archive_server::{Entrance, Exchanging, Manner, Peer, serve_on};
+use archive_server::{Duties, Entrance, Exchanging, Manner, Peer, serve_on};
 use log::Log;
 use site_hub::{HubName, Opened, Pass, open};
 use site_state::Site;
@@ -76,8 +76,8 @@ fn places(service: Service<'_>) -> Option<usize>
 /// Whether a server has a worker, and as many passes as it takes.
 fn has_places(service: Service<'_>, passes: usize) -> bool
     ensures { IsTrue result → (0 < service.entry.workers)
-        × (passes ≡ places_for service.entry.workers (serving_in service.entry.exchange)
-        (length service.entry.peers.now) 0) }
+        × (passes ≡ service.entry.workers + (serving_in service.entry.exchange
+        + length service.entry.peers.now)) }
 {
     let Some(count) = service.workers.checked_add(service.peers.len()) else {
         return false;
@@ -101,8 +101,8 @@ fn serve<
     shelf: &mut Counting,
 ) -> Option<u64>
     requires some { 0 < service.workers }
-    requires places { vec_len passes ≡ places_for service.workers (serving_in service.exchange)
-        (length service.peers.now) 0 }
+    requires places { vec_len passes
+        ≡ service.workers + (serving_in service.exchange + length service.peers.now) }
 {
     let titles = titles_of(alloc).ok()?;
     let door = Door {
@@ -114,13 +114,17 @@ fn serve<
         idle: None,
         is_verbose: false,
     };
+    let duties = Duties {
+        exchange: service.exchange,
+        peers: service.peers,
+        pages: None,
+        desk: None,
+    };
     let served = serve_on(
         rt,
         alloc,
         service.entrance,
-        service.exchange,
-        service.peers,
-        None,
+        duties,
         &titles,
         gates,
         service.each,
@@ -164,8 +168,8 @@ fn run<
         || visit(rt, alloc, visitors),
         || -> Option<u64>
             requires { (0 < service.workers)
-                × (vec_len passes ≡ places_for service.workers (serving_in service.exchange)
-                (length service.peers.now) 0) }
+                × (vec_len passes
+                ≡ service.workers + (serving_in service.exchange + length service.peers.now)) }
         { serve(rt, alloc, service, &keeper, passes, shelf) },
     );
     Ok((held?, accepted))

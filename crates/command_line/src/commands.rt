@@ -54,7 +54,9 @@ again; one that does not answer is called again all the same. A peer that says
 nothing for --idle seconds is let go.
 
 With --page it answers browsers of this machine with what the site holds, or of
-the networks of --page-allow.
+the networks of --page-allow. With --desk an administrator of this machine, or of
+the networks of --desk-allow, corrects attributes while it runs; --site is the
+number of the site, which no other site may have.
 
 With --allow only peers of these networks may come, such as 10.1.0.0/16; a
 connection from elsewhere is closed unread. With --calling only requestors that
@@ -115,6 +117,15 @@ pub(crate) const IDLE: Row = Row {
     ..VALUE
 };
 
+/// The number of the site that makes a correction.
+pub(crate) const SITE_NUMBER: Row = Row {
+    name: "site",
+    value: "N",
+    form: Form::Number(1, 65_535),
+    line: "The number of the site, 1 to 65535",
+    ..VALUE
+};
+
 /// An option that names a table, of which one may be given.
 const TABLE: Row = Row {
     group: Some("table"),
@@ -160,12 +171,8 @@ const REPORT_ROWS: &[Row] = &[
 const CORRECT_ROWS: &[Row] = &[
     FILE,
     Row {
-        name: "site",
-        value: "N",
-        form: Form::Number(1, 65_535),
         needed: true,
-        line: "The number of the site, 1 to 65535",
-        ..VALUE
+        ..SITE_NUMBER
     },
     Row {
         name: "TARGET",

@@ -1,22 +1,25 @@
 //! What the words of a command ask for.
 
-ghost use Rattle.std.specs.Prelude.{◌≡◌, ◌+◌, ◌≤◌, IsTrue, IfOk, IfSome};
-ghost use Rattle.command_words.specs.Words.{HasSite, HasPlaces, IsInRange, paging_of};
+ghost use Rattle.std.specs.Prelude.{◌≡◌, ◌+◌, ◌≤◌, IsTrue, IsNone, IfOk, IfSome, vec_len};
+ghost use Rattle.command_words.specs.Words.{HasSite, HasPlaces, HasDeskSite, IsInRange, threads_at};
 
 use crate::commands::EXCHANGE_ROWS;
-use crate::refusals::{BAD_FORM, BAD_NETWORK, Refusal, TOO_MANY, WITHOUT_COMMAND, refusal_of};
+use crate::refusals::{
+    BAD_FORM, BAD_NETWORK, BAD_SITE, Refusal, TOO_MANY, WITHOUT_COMMAND, refusal_of,
+};
 use crate::rows::Row;
 use crate::serve::SERVE_ROWS;
 use clap::ArgMatches;
 use command_words::{
-    Asked, Correcting, Exchanging, Moving, Network, Reporting, Serving, Verifying, change_in,
-    read_network,
+    Asked, Correcting, DeskAt, Exchanging, Moving, Network, Reporting, Serving, Verifying,
+    change_in, read_network,
 };
 use exchange::Role;
 use site_tables::Table;
 use std::alloc::{AllocError, AllocFailed, Global};
 
-/// The most workers, workers of exchanges, peers and pages of a server together: each has a pass.
+/// The most passes of a server: each worker, worker of exchanges and peer has one, the page and the
+/// desk too.
 const MOST_PASSES: usize = 64;
 
 /// Why the words of a command ask for nothing.
@@ -135,14 +138,22 @@ fn idle_in(found: &ArgMatches<'_>) -> u32 {
     number(found, "idle").unwrap_or(60)
 }
 
-/// What a server has beside its workers, where pages are asked for or not: so many peers and pages.
-fn others_of(peers: usize, page: Option<&str>) -> Option<usize>
-    ensures { IfSome result (λ others. others ≡ peers + paging_of page.entry) }
+/// Where corrections are asked for, if anywhere. The site has number 0 where none is named.
+fn desk_in<'a>(found: &ArgMatches<'a>) -> Option<DeskAt<'a>> {
+    let address = found.get_str("desk")?;
+    Some(DeskAt {
+        address,
+        site: short(found, "site").unwrap_or(0),
+    })
+}
+
+/// What a server has beside its workers: its peers, its page and its desk, where it has these.
+fn others_of(serving: &Serving<'_>) -> Option<usize>
+    ensures { IfSome result (λ others. others
+        ≡ vec_len serving.now.peers + threads_at serving.now.page + threads_at serving.now.desk) }
 {
-    match page {
-        None => Some(peers),
-        Some(_) => peers.checked_add(1),
-    }
+    let more = serving.peers.len().checked_add(serving.paging())?;
+    more.checked_add(serving.correcting())
 }
 
 /// Whether these workers, those of exchanges and these others are no more than a hub has passes
@@ -158,12 +169,36 @@ fn fits(workers: u16, exchange_workers: u16, others: usize) -> bool
 fn has_places(serving: &Serving<'_>) -> bool
     ensures { IsTrue result → HasPlaces serving.now }
 {
-    match others_of(serving.peers.len(), serving.page) {
+    match others_of(serving) {
         None => false,
         Some(others) => {
             serving.workers != 0 && fits(serving.workers, serving.exchange_workers, others)
         }
     }
+}
+
+/// Whether a site that is corrected at a desk has a number.
+fn has_desk_site(serving: &Serving<'_>) -> bool
+    ensures { IsTrue result → HasDeskSite serving.now.desk }
+{
+    match serving.desk {
+        None => true,
+        Some(desk) => desk.site != 0,
+    }
+}
+
+/// Why there is no such server, by its numbers.
+fn refusal_in(serving: &Serving<'_>) -> Option<Refusal>
+    ensures places { IsNone result → HasPlaces serving.now }
+    ensures site { IsNone result → HasDeskSite serving.now.desk }
+{
+    if !has_desk_site(serving) {
+        return Some(BAD_SITE);
+    }
+    if !has_places(serving) {
+        return Some(TOO_MANY);
+    }
+    None
 }
 
 /// Reads the networks of an option.
@@ -199,6 +234,7 @@ fn read_lists<'a>(found: &ArgMatches<'a>, serving: &mut Serving<'a>) -> Result<(
     read_networks(found, "allow", &mut serving.allowed)?;
     read_networks(found, "exchange-allow", &mut serving.exchange_allowed)?;
     read_networks(found, "page-allow", &mut serving.page_allowed)?;
+    read_networks(found, "desk-allow", &mut serving.desk_allowed)?;
     read_texts(found, "calling", &mut serving.callers)?;
     read_texts(found, "quality-calling", &mut serving.quality_callers)?;
     read_texts(found, "audit-calling", &mut serving.audit_callers)
@@ -215,11 +251,13 @@ fn server_of<'a>(alloc: Global, found: &ArgMatches<'a>) -> Serving<'a> {
         rounds: rounds_in(found),
         exchange_workers: exchange_workers_in(found),
         page: found.get_str("page"),
+        desk: desk_in(found),
         peers: Vec::new(alloc),
         every: number(found, "every").unwrap_or(60),
         allowed: Vec::new(alloc),
         exchange_allowed: Vec::new(alloc),
         page_allowed: Vec::new(alloc),
+        desk_allowed: Vec::new(alloc),
         callers: Vec::new(alloc),
         quality_callers: Vec::new(alloc),
         audit_callers: Vec::new(alloc),
@@ -231,15 +269,16 @@ fn server_of<'a>(alloc: Global, found: &ArgMatches<'a>) -> Serving<'a> {
 
 /// What the words behind `serve` ask for, if its values have their form and its numbers room.
 fn read_serve<'a>(alloc: Global, found: &ArgMatches<'a>) -> Result<Serving<'a>, Unread>
-    ensures { IfOk result HasPlaces }
+    ensures places { IfOk result HasPlaces }
+    ensures site { IfOk result (λ serving. HasDeskSite serving.desk) }
 {
     tested(found, SERVE_ROWS)?;
     let mut serving = server_of(alloc, found);
     read_lists(found, &mut serving)?;
-    if !has_places(&serving) {
-        return Err(Unread::Refused(TOO_MANY));
+    match refusal_in(&serving) {
+        Some(refusal) => Err(Unread::Refused(refusal)),
+        None => Ok(serving),
     }
-    Ok(serving)
 }
 
 /// What the words behind `exchange` ask for, if its address has its form.

@@ -22,13 +22,16 @@ pub(crate) const BAD_EXCHANGE: &str =
 pub(crate) const BAD_PAGE: &str =
     "--page wants an IPv4 address, a colon and a port, such as 127.0.0.1:11180";
 
+pub(crate) const BAD_DESK: &str =
+    "--desk wants an IPv4 address, a colon and a port, such as 127.0.0.1:11181";
+
 pub(crate) const BAD_PEER: &str =
     "--peer wants an IPv4 address, a colon and a port, such as 127.0.0.1:11113";
 
 pub(crate) const BAD_NETWORK: Refusal = Refusal {
     kind: ErrorKind::InvalidValue,
-    text: "--allow, --exchange-allow and --page-allow want an IPv4 address, or one with a slash and \
-        how many bits count",
+    text: "--allow, --exchange-allow, --page-allow and --desk-allow want an IPv4 address, or one \
+        with a slash and how many bits count",
 };
 
 const BAD_TITLE: Refusal = Refusal {
@@ -43,7 +46,12 @@ pub(crate) const BAD_FORM: Refusal = Refusal {
 
 pub(crate) const TOO_MANY: Refusal = Refusal {
     kind: ErrorKind::InvalidValue,
-    text: "--workers, --exchange-workers, the peers and the page are 64 at most together",
+    text: "--workers, --exchange-workers, the peers, the page and the desk are 64 at most together",
+};
+
+pub(crate) const BAD_SITE: Refusal = Refusal {
+    kind: ErrorKind::InvalidValue,
+    text: "--desk wants --site, a number from 1 to 65535",
 };
 
 pub(crate) const WITHOUT_COMMAND: Refusal = Refusal {

@@ -1,7 +1,7 @@
 //! The words and options of a server.
 
-use crate::commands::{FILE, IDLE};
-use crate::refusals::{BAD_EXCHANGE, BAD_LISTEN, BAD_PAGE, BAD_PEER};
+use crate::commands::{FILE, IDLE, SITE_NUMBER};
+use crate::refusals::{BAD_DESK, BAD_EXCHANGE, BAD_LISTEN, BAD_PAGE, BAD_PEER};
 use crate::rows::{FLAG, Form, Row, VALUE, VALUES};
 
 /// An option of where a server listens and how much it serves.
@@ -112,6 +112,23 @@ pub(crate) const SERVE_ROWS: &[Row] = &[
         ..LISTENING
     },
     Row {
+        name: "desk",
+        value: "ADDR",
+        form: Form::Address(BAD_DESK),
+        beside: Some("site"),
+        line: "Where corrections are asked for [default: nowhere]",
+        whole: Some(
+            "Where an administrator asks for corrections of the running site, by \
+            HTTP{n}{n}[default: nowhere]",
+        ),
+        ..LISTENING
+    },
+    Row {
+        beside: Some("desk"),
+        heading: Some("Listening"),
+        ..SITE_NUMBER
+    },
+    Row {
         name: "peer",
         value: "ADDR",
         form: Form::Address(BAD_PEER),
@@ -156,6 +173,16 @@ pub(crate) const SERVE_ROWS: &[Row] = &[
         line: "A network of pages [default: 127.0.0.0/8]",
         whole: Some(
             "A network from which pages may be asked for, which can be given \
+            again{n}{n}[default: 127.0.0.0/8]",
+        ),
+        ..NETWORK
+    },
+    Row {
+        name: "desk-allow",
+        beside: Some("desk"),
+        line: "A network of corrections [default: 127.0.0.0/8]",
+        whole: Some(
+            "A network from which corrections may be asked for, which can be given \
             again{n}{n}[default: 127.0.0.0/8]",
         ),
         ..NETWORK

@@ -7,6 +7,7 @@ use Rattle.site_script.specs.Commands.{target_in}
 use Rattle.site_script.specs.Names.{tag_in}
 use Rattle.command_words.specs.declared.Change.{Change}
 use Rattle.command_words.specs.declared.Correcting.{Correcting}
+use Rattle.command_words.specs.declared.DeskAt.{DeskAt}
 use Rattle.command_words.specs.declared.Serving.{Serving}
 use Rattle.command_words.specs.declared.Asked.{Asked}
 use Rattle.command_words.specs.declared.Asked.TheVariants.{Simulate, Report, Correct, Serve, Exchange, Move, Verify}
@@ -23,15 +24,20 @@ change_in kind key tag value = change_for (target_in kind key) (tag_in tag) valu
 abbrev pub HasSite : Correcting → Type 0
 HasSite correcting = 1 ≤ correcting.site
 
--- how many threads answer with pages, where they are asked for somewhere or nowhere
-abbrev pub paging_of : {A : Type 0} → Option A → ℕ
-paging_of None = 0
-paging_of (Some address) = 1
+-- how many threads answer what is asked for at one address, or nowhere
+abbrev pub threads_at : {A : Type 0} → Option A → ℕ
+threads_at None = 0
+threads_at (Some address) = 1
 
--- a server has a worker, and its workers, those of exchanges, its peers and its page are 64 at most
+-- a server has a worker, and its workers, those of exchanges, its peers, its page and its desk are 64 at most
 abbrev pub HasPlaces : Serving → Type 0
-HasPlaces serving = (1 ≤ serving.workers)
-    × (serving.workers + serving.exchange_workers + vec_len serving.peers + paging_of serving.page ≤ 64)
+HasPlaces serving = (1 ≤ serving.workers) × (serving.workers + serving.exchange_workers + vec_len serving.peers
+    + threads_at serving.page + threads_at serving.desk ≤ 64)
+
+-- a site that is corrected at a desk has a number from 1 on
+abbrev pub HasDeskSite : Option DeskAt → Type 0
+HasDeskSite None = Unit {0}
+HasDeskSite (Some desk) = 1 ≤ desk.site
 
 -- those who are named, or else these
 abbrev pub named_or : {A : Type 0} → List A → List A → List A
@@ -49,7 +55,7 @@ abbrev pub IsInRange : Asked → Type 0
 IsInRange Simulate = Unit {0}
 IsInRange (Report reporting) = Unit {0}
 IsInRange (Correct correcting) = HasSite correcting
-IsInRange (Serve serving) = HasPlaces serving
+IsInRange (Serve serving) = HasPlaces serving × HasDeskSite serving.desk
 IsInRange (Exchange exchanging) = Unit {0}
 IsInRange (Move moving) = Unit {0}
 IsInRange (Verify verifying) = Unit {0}

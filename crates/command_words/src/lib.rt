@@ -2,7 +2,7 @@
 #![tactic(auto)]
 
 ghost use Rattle.std.specs.Prelude.{◌≡◌, IfOk};
-ghost use Rattle.command_words.specs.Words.{change_in as change_in_words, callers_for, named_or, paging_of};
+ghost use Rattle.command_words.specs.Words.{change_in as change_in_words, callers_for, named_or, threads_at};
 ghost use Rattle.command_words.specs.declared.TheConstants.{LOOPBACK};
 
 mod networks;
@@ -42,6 +42,14 @@ const LOOPBACK: &[Network] = &[Network {
     bits: 8,
 }];
 
+/// Where corrections of a running site are asked for, and the number of the site, which their
+/// stamps carry.
+#[derive(Clone, Copy, Debug)]
+pub struct DeskAt<'a> {
+    pub address: &'a str,
+    pub site: u16,
+}
+
 /// The operations in a file or a folder, served at an address by so many workers.
 #[derive(Debug, Drop)]
 pub struct Serving<'a> {
@@ -58,6 +66,8 @@ pub struct Serving<'a> {
     pub exchange_workers: u16,
     /// Where pages are asked for. Where it is left out nothing is listened for them.
     pub page: Option<&'a str>,
+    /// Where corrections are asked for, likewise.
+    pub desk: Option<DeskAt<'a>>,
     /// The sites that are called for an exchange, again and again.
     pub peers: Vec<&'a str>,
     /// The seconds between an exchange with one of them and the next.
@@ -68,6 +78,8 @@ pub struct Serving<'a> {
     pub exchange_allowed: Vec<Network>,
     /// From where pages may be asked for. Where none is named, from this machine alone.
     pub page_allowed: Vec<Network>,
+    /// From where corrections may be, likewise.
+    pub desk_allowed: Vec<Network>,
     /// The calling titles that may ask for an association. Where none is named any may.
     pub callers: Vec<&'a str>,
     /// Those that may call QUALITY, and AUDIT. Where none is named those above may.
@@ -136,6 +148,16 @@ pub enum Asked<'a> {
     Verify(Verifying<'a>),
 }
 
+/// The networks that are named, or this machine alone where none is.
+fn named_or_loopback(networks: &[Network]) -> &[Network]
+    ensures { result.now ≡ named_or networks.now LOOPBACK.now }
+{
+    if networks.is_empty() {
+        return LOOPBACK;
+    }
+    networks
+}
+
 impl<'a> Serving<'a> {
     /// The calling titles that may call the title of a view. Where none is named any may.
     pub fn callers_of(&self, view: View) -> &[&'a str]
@@ -155,9 +177,19 @@ impl<'a> Serving<'a> {
 
     /// How many threads answer with pages: one where they are asked for somewhere.
     pub fn paging(&self) -> usize
-        ensures { result ≡ paging_of self.now.page }
+        ensures { result ≡ threads_at self.now.page }
     {
         match self.page {
+            None => 0,
+            Some(_) => 1,
+        }
+    }
+
+    /// How many threads serve who comes to correct, likewise.
+    pub fn correcting(&self) -> usize
+        ensures { result ≡ threads_at self.now.desk }
+    {
+        match self.desk {
             None => 0,
             Some(_) => 1,
         }
@@ -167,10 +199,14 @@ impl<'a> Serving<'a> {
     pub fn page_networks(&self) -> &[Network]
         ensures { result.now ≡ named_or self.now.page_allowed.items LOOPBACK.now }
     {
-        if self.page_allowed.is_empty() {
-            return LOOPBACK;
-        }
-        self.page_allowed.as_slice()
+        named_or_loopback(self.page_allowed.as_slice())
+    }
+
+    /// The networks from which corrections may be asked for.
+    pub fn desk_networks(&self) -> &[Network]
+        ensures { result.now ≡ named_or self.now.desk_allowed.items LOOPBACK.now }
+    {
+        named_or_loopback(self.desk_allowed.as_slice())
     }
 }
 

@@ -1,12 +1,13 @@
 use Rattle.std.proofs.Common.{refl, sym, subst}
 use Rattle.std.proofs.Math.Nat.{add-zero}
-use Rattle.archive_server.specs.Serving.{AddsBeside, paging_in}
+use Rattle.command_words.specs.Words.{threads_at}
+use Rattle.archive_server.specs.Serving.{AddsBeside}
 use Rattle.archive_server.proofs.CountLaws.{one_beside}
 use Rattle.archive_server.proofs.job.with_pages.Goals as goal
 
 -- The thread of pages accepts no associations.
 pub returns : goal.returns
 returns g c =
-    subst (λ pages. AddsBeside (paging_in pages) c.args.before.items c.push.new.self.items) (sym c.in-Some.is)
+    subst (λ pages. AddsBeside (threads_at pages) c.args.before.items c.push.new.self.items) (sym c.in-Some.is)
     (subst (λ jobs. AddsBeside 1 c.args.before.items jobs) (sym c.in_ok-push.ensures.items)
     (one_beside 0 _ _ _ (λ each. refl) (record { more = sym (add-zero _); room = λ each. refl })))
