@@ -73,5 +73,5 @@ pub corrected_gone : (opening : Map) (site : ℕ) (before after : Standing) → 
     → HasGoneOn before after
 corrected_gone opening site before after corrected =
     let goes = chain_goes opening corrected.1.0 (at_desk before (record { site = site; last = 0 }))
-        (at_desk after corrected.0) corrected.1.1 in
+    (at_desk after corrected.0) corrected.1.1 in
     record { onward = goes.onward; known = goes.known }
