@@ -53,7 +53,7 @@ fn say_agreement(rt: &HostRuntime, ended: Ended) {
 }
 
 /// One exchange over a connection, with a site on its store.
-fn exchange_over<S: Store + Drop + Send>(
+fn exchange_over<S: Store + Drop>(
     rt: &HostRuntime,
     role: Role,
     wire: &Wire,
