@@ -12,8 +12,9 @@ use Rattle.std.proofs.lemmas.Map.{lookup-none}
 use Rattle.std.proofs.lemmas.Map.Keys.{sorted_tail}
 use Rattle.std.proofs.lemmas.Map.Steps.{set_value_same}
 use Rattle.std.proofs.lemmas.Map.Entries.{none_below_head}
+use Rattle.std.proofs.lemmas.Option.{same_Some as some_same}
 use Rattle.join_laws.specs.MapOf.{put_joined}
-use Rattle.join_laws.specs.Proved.Maps.{none_is_not_some, some_same}
+use Rattle.join_laws.specs.Proved.Maps.{none_is_not_some}
 
 module _ {K J : Type 0} {R : K → K → Ordering} (o : IsTotalOrder R) (join : J → J → J) (k : K) (w : J) where
   -- an insertion where the key is absent

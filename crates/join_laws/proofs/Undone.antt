@@ -19,9 +19,10 @@ use Rattle.std.proofs.lemmas.Map.Entries.{none_below_head, All-lookup}
 use Rattle.join_laws.specs.Laws.{IsExact, joined_options}
 use Rattle.join_laws.specs.MapOf.{put_joined}
 use Rattle.join_laws.specs.Proved.Sets.{same_keys, sorted-insert_key, has-insert_key}
-use Rattle.join_laws.specs.Proved.Maps.{lookup-put_joined, none_is_not_some, some_same, equal_from_is_eq}
+use Rattle.join_laws.specs.Proved.Maps.{lookup-put_joined, none_is_not_some, equal_from_is_eq}
 use Rattle.std.specs.Prelude.{All, IfSome}
 use Rattle.std.proofs.lemmas.List.Elements.{All-cons, All-head, All-tail}
+use Rattle.std.proofs.lemmas.Option.{same_Some as some_same}
 
 pub not_true : (b : Bool) → true ≡ not b → b ≡ false
 not_true true h = absurd (true≢false h)

@@ -1,26 +1,16 @@
 -- A key is in a union exactly where one of the two sets has it.
-use Rattle.std.specs.Prelude.{◌≡◌, ◌↔◌, ◌⊎◌, Bool, true, false, ◌||◌, List, Contains}
-use Rattle.std.proofs.Common.{refl, sym, ap, ◌∙◌, inl, inr}
+use Rattle.std.specs.Prelude.{◌≡◌, ◌↔◌, ◌⊎◌, Bool, true, ◌||◌, List, Contains}
+use Rattle.std.proofs.Common.{sym, ◌∙◌, inl, inr}
 use Rattle.std.specs.Cmp.{IsTotalOrder}
 use Rattle.std.specs.List.{list_any}
 use Rattle.std.specs.declared.cmp.Ordering.{Ordering}
 use Rattle.std.specs.BTreeMap.{is_at}
 use Rattle.std.specs.BTreeSet.{BTreeSet}
 use Rattle.std.proofs.lemmas.Map.Views.{btree_set_contains_iff}
+use Rattle.std.proofs.lemmas.Bool.{or_left as or_first, or_right as or_second, or_cases as one_or_other}
 use Rattle.join_laws.specs.Laws.{IsExact}
 use Rattle.join_laws.specs.GrowSet.{union_of}
 use Rattle.join_laws.specs.Proved.Sets.{has-union}
-
-one_or_other : (a b : Bool) → (a || b) ≡ true → (a ≡ true) ⊎ (b ≡ true)
-one_or_other true b h = inl refl
-one_or_other false b h = inr h
-
-or_first : (a b : Bool) → a ≡ true → (a || b) ≡ true
-or_first a b h = ap (λ v. v || b) h
-
-or_second : (a b : Bool) → b ≡ true → (a || b) ≡ true
-or_second true b h = refl
-or_second false b h = h
 
 module _ {K : Type 0} {R : K → K → Ordering} (o : IsTotalOrder R) (exact : IsExact R) (key : K) where
   contains : (ks : List K) → (list_any (is_at (R key)) ks ≡ true) ↔ Contains ks key

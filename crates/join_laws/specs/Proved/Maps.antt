@@ -15,6 +15,7 @@ use Rattle.std.proofs.lemmas.List.Elements.{All-nil, All-cons, All-head, All-tai
 use Rattle.std.proofs.lemmas.Map.{lookup-none}
 use Rattle.std.proofs.lemmas.Map.Keys.{IsDistinct-from_sorted, sorted_tail}
 use Rattle.std.proofs.lemmas.Map.Entries.{lookup_head, lookup_tail, none_below_head, none_past_head, All-lookup}
+use Rattle.std.proofs.lemmas.Option.{same_Some as some_same}
 use Rattle.join_laws.specs.Laws.{IsExact, JoinLaws, SummaryLaws, joined_options}
 use Rattle.join_laws.specs.MapOf.{IsMapOf, put_joined, map_joined, entry_of}
 use Rattle.join_laws.specs.Proved.Options.{option_laws}
@@ -42,9 +43,6 @@ joined_none join (Some x) = refl
 
 pub none_is_not_some : {J : Type 0} (v : J) → Some v ≡ None → ⊥
 none_is_not_some v h = cc
-
-pub some_same : {J : Type 0} (v w : J) → Some v ≡ Some w → v ≡ w
-some_same v w h = cc
 
 -- ---- what holds of each value
 pub All-put_joined : {K J : Type 0} (R : K → K → Ordering) (join : J → J → J) (P : J → Type 0)

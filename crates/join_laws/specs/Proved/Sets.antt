@@ -10,24 +10,11 @@ use Rattle.std.specs.declared.cmp.Ordering.TheVariants.{Less, Equal, Greater}
 use Rattle.std.specs.BTreeMap.{is_at}
 use Rattle.std.specs.BTreeSet.{BTreeSet, insert_key}
 use Rattle.std.proofs.lemmas.Map.Lookups.{btree_set_from_contains}
+use mathlib.Core.Bool.{or-false as or_false, or_comm, or_assoc}
 use Rattle.join_laws.specs.Laws.{IsExact, JoinLaws, SummaryLaws}
 use Rattle.join_laws.specs.GrowSet.{union_of, only}
 
 -- ---- tests
-or_false : (a : Bool) → (a || false) ≡ a
-or_false true = refl
-or_false false = refl
-
-or_comm : (a b : Bool) → (a || b) ≡ (b || a)
-or_comm true true = refl
-or_comm true false = refl
-or_comm false true = refl
-or_comm false false = refl
-
-or_assoc : (a b c : Bool) → ((a || b) || c) ≡ (a || (b || c))
-or_assoc true b c = refl
-or_assoc false b c = refl
-
 or_same : (a : Bool) → (a || a) ≡ a
 or_same true = refl
 or_same false = refl

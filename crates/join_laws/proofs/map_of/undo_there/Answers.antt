@@ -2,8 +2,9 @@ use Rattle.std.proofs.Common.{◌≡◌, ◌∙◌, sym, ap}
 use Rattle.std.specs.BTreeMap.{is_at}
 use Rattle.std.specs.Map.{lookup, set_value}
 use Rattle.std.proofs.lemmas.List.Elements.{All-same}
+use Rattle.std.proofs.lemmas.Option.{same_Some as some_same}
 use Rattle.join_laws.proofs.Undone.{held_at, set_value-put_joined, lookup_itself, All-set_value}
-use Rattle.join_laws.specs.Proved.Maps.{some_same, none_is_not_some}
+use Rattle.join_laws.specs.Proved.Maps.{none_is_not_some}
 use Rattle.join_laws.proofs.map_of.undo_there.Goals as goal
 
 -- the value goes back to what it was
