@@ -1,16 +1,17 @@
 -- A bisection of the members of a list, which ascend, finds what is listed.
-use Rattle.std.proofs.Common.{◌≡◌, ℕ, zero, suc, ◌<◌, ◌≤◌, ◌+◌, Bool, true, false, ◌||◌, List, [], ◌∷◌, length}
+use Rattle.std.proofs.Common.{◌≡◌, ℕ, zero, suc, ◌<◌, ◌+◌, Bool, true, false, ◌||◌, List, [], ◌∷◌, length}
 use Rattle.std.proofs.Common.{get_or, map}
-use Rattle.std.proofs.Common.{Result, Ok, Err, refl, sym, ap, subst, ◌∙◌, arith, inl, inr, ◌⊎◌, ltb}
+use Rattle.std.proofs.Common.{Result, Ok, Err, refl, sym, ap, subst, ◌∙◌, arith, inl, inr}
 use Rattle.std.specs.Prelude.{is_ok, nat_eq, ◌==◌, if◌then◌else◌}
-use Rattle.std.proofs.lemmas.Bool.{eq-eqb}
+use Rattle.std.proofs.lemmas.Bool.{eq-eqb, cases_lt}
 use Rattle.std.specs.List.{list_any, AllByRecursion}
 use Rattle.std.specs.List.Sorted.{IsBinarySearchResult, IsSearchInRange, IsSortedBy, IsStrictlySortedBy}
 use Rattle.std.specs.Ordering.{is_eq, is_lt, ordering_reverse}
 use Rattle.std.specs.declared.cmp.Ordering.TheVariants.{Less}
 use Rattle.std.specs.Cmp.Lexicographic.{nat_list_cmp_total, texts_ties}
 use Rattle.std.proofs.lemmas.List.Sorted.{searchable_from_sorted}
-use Rattle.std.proofs.lemmas.Bool.{ltb-true, ltb-false, false≢true}
+use Rattle.std.proofs.lemmas.Bool.{false≢true}
+use Rattle.std.specs.Cmp.{both_ways as one_truth}
 use Rattle.octets.specs.Members.{Has}
 use Rattle.octets.specs.Padding.{trimmed}
 use Rattle.octets.specs.Texts.{same, text_cmp, ascending}
@@ -67,17 +68,10 @@ found_by_halves text xs value (Ok i) up bound position =
 found_by_halves text xs value (Err i) up bound position =
     let parts = position (searchable_from_sorted nat_list_cmp_total text xs value up) in
     sym (none_at (λ x. same (text x) value) xs (λ k d within. texts_ties (text (get_or xs k d)) value
-    ∙ elim (split k i) [
+    ∙ elim (cases_lt k i) [
       | inl below ↦ ap is_eq (parts.0 k d (omega arith) below)
       | inr above ↦ ap is_eq (parts.1 k d above within)
     ]))
-  where
-    split_by : (b : Bool) (k i : ℕ) → ltb k i ≡ b → (k < i) ⊎ (i ≤ k)
-    split_by true k i e = inl (ltb-true k i e)
-    split_by false k i e = inr (ltb-false k i e)
-
-    split : (k i : ℕ) → (k < i) ⊎ (i ≤ k)
-    split k i = split_by (ltb k i) k i refl
 
 -- ---- in their order, the members are the same
 
@@ -106,11 +100,6 @@ is_any value (x ∷ xs) (inr h) = later (same x value) (is_any value xs h)
     later : (b : Bool) → list_any (λ m. same m value) xs ≡ true → (b || list_any (λ m. same m value) xs) ≡ true
     later true e = refl
     later false e = e
-
-one_truth : (a b : Bool) → (a ≡ true → b ≡ true) → (b ≡ true → a ≡ true) → a ≡ b
-one_truth true b f g = sym (f refl)
-one_truth false true f g = g refl
-one_truth false false f g = refl
 
 pub in_order : (value : List ℕ) (xs : List (List ℕ)) → list_any (λ m. same m value) (ascending xs)
     ≡ list_any (λ m. same m value) xs

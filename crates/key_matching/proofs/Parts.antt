@@ -2,8 +2,9 @@
 use Rattle.std.proofs.Common.{◌≡◌, ◌<◌, ◌≤◌, ◌+◌, ℕ, suc, List, [], ◌∷◌, length, take, drop, Bool, true, false, cond}
 use Rattle.std.proofs.Common.{nat_lt, Option, Some, None, ◌||◌, ◌&&◌, refl, sym, ap, ◌∙◌, arith}
 use Rattle.std.specs.List.{position, position_or_len, slice_split, onto_first, list_any, list_all}
-use Rattle.std.proofs.lemmas.Bool.{ltb-true, ltb-false}
+use Rattle.std.proofs.lemmas.Bool.{ltb-true, ltb-false, or_left as or_yes, and_left as and_no}
 use Rattle.std.proofs.lemmas.List.Splits.{slice_split_first}
+use mathlib.Core.Bool.{or-false as or_none, and-true as and_none}
 use Rattle.key_matching.specs.Matches.{is_backslash, parts}
 
 one_part_by : (x : ℕ) (xs : List ℕ) (b : Bool) → is_backslash x ≡ b → (length xs ≤ position_or_len is_backslash xs
@@ -49,25 +50,9 @@ or_no : (a b : Bool) → a ≡ false → (a || b) ≡ b
 or_no true b h = cc
 or_no false b h = refl
 
-or_yes : (a b : Bool) → a ≡ true → (a || b) ≡ true
-or_yes true b h = refl
-or_yes false b h = cc
-
-and_no : (a b : Bool) → a ≡ false → (a && b) ≡ false
-and_no true b h = cc
-and_no false b h = refl
-
 and_yes : (a b : Bool) → a ≡ true → (a && b) ≡ b
 and_yes true b h = refl
 and_yes false b h = cc
-
-or_none : (a : Bool) → (a || false) ≡ a
-or_none true = refl
-or_none false = refl
-
-and_none : (a : Bool) → (a && true) ≡ a
-and_none true = refl
-and_none false = refl
 
 pub any_here : (p : List ℕ → Bool) (key : List ℕ) (at : ℕ) → Some at ≡ position is_backslash key
     → p (take at key) ≡ true → list_any p (parts key) ≡ true

@@ -3,42 +3,21 @@ use Rattle.std.proofs.Common.{◌≡◌, ◌<◌, ◌≤◌, ◌+◌, ◌-◌, �
 use Rattle.std.proofs.Common.{true}
 use Rattle.std.proofs.Common.{false, not, ◌&&◌, ◌||◌, ◌==◌, Option, Some, None, refl, sym, ap, ◌∙◌, arith}
 use Rattle.std.proofs.Common.{length-drop, get_or}
-use Rattle.std.proofs.lemmas.Bool.{eqb-true, eq-eqb}
+use Rattle.std.proofs.lemmas.Bool.{eqb-true, eq-eqb, and_from as and_both, false_from_ne_true as never}
 use Rattle.std.proofs.lemmas.List.{drop_all}
 use Rattle.std.specs.List.{list_all}
+use Rattle.std.specs.Cmp.{first_so as and_left, second_so as and_rest}
+use Rattle.std.proofs.lemmas.Bool.{and_right as and_off}
+use mathlib.Core.Bool.{or-true as or_true, or-false}
 use Rattle.memchr.specs.Find.{FindsNeedle, OccursAt}
 use Rattle.memchr.proofs.lemmas.MatchLemmas.{OccursAt-split, OccursAt-from_part}
 use Rattle.key_matching.specs.WildCard.{star, is_byte_match, is_wild_match}
 use Rattle.key_matching.specs.WildCardFront.{IsStarless, is_itself, is_front, IsFirstPlace}
 use Rattle.key_matching.proofs.WildCards.{at_star, too_short, or_false}
 
-and_left : (a b : Bool) → (a && b) ≡ true → a ≡ true
-and_left true b h = refl
-and_left false b h = cc
-
-and_rest : (a b : Bool) → (a && b) ≡ true → b ≡ true
-and_rest true b h = h
-and_rest false b h = cc
-
 and_none : (a b c : Bool) → (a && b) ≡ false → (b ≡ false → c ≡ false) → (a && c) ≡ false
 and_none true b c h f = f h
 and_none false b c h f = refl
-
-and_off : (a b : Bool) → b ≡ false → (a && b) ≡ false
-and_off true b h = h
-and_off false b h = refl
-
-and_both : (a b : Bool) → a ≡ true → b ≡ true → (a && b) ≡ true
-and_both true b h k = k
-and_both false b h k = cc
-
-or_true : (a : Bool) → (a || true) ≡ true
-or_true true = refl
-or_true false = refl
-
-never : (b : Bool) → (b ≡ true → ⊥) → b ≡ false
-never true no_way = absurd (no_way refl)
-never false no_way = refl
 
 -- ---- a front that matches leaves the rest, and one that does not refuses the whole
 
@@ -127,11 +106,7 @@ alone : (folds : Bool) (key value : List ℕ) → IsStarless (length key) key �
 alone folds key [] s h = whole_front folds key [] s h
 alone folds key (v ∷ value) s h =
     ap (λ b. is_wild_match folds key (v ∷ value) || b) (too_few folds key value s (omega (arith, h)))
-    ∙ or_none (is_wild_match folds key (v ∷ value)) ∙ whole_front folds key (v ∷ value) s h
-  where
-    or_none : (a : Bool) → (a || false) ≡ a
-    or_none true = refl
-    or_none false = refl
+    ∙ or-false (is_wild_match folds key (v ∷ value)) ∙ whole_front folds key (v ∷ value) s h
 
 pub at_end : (folds : Bool) (key value : List ℕ) → IsStarless (length key) key → length key ≤ length value
     → is_wild_match folds (star ∷ key) value ≡ is_front folds key (drop (length value - length key) value)

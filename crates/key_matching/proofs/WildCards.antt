@@ -1,10 +1,11 @@
 -- What a `*` matches, and the greedy step: the last `*` alone need be tried again.
 use Rattle.std.proofs.Common.{◌≡◌, ◌<◌, ◌≤◌, ℕ, zero, suc, List, [], ◌∷◌, length, drop, get_or, Bool, true}
-use Rattle.std.proofs.Common.{false, not, ◌&&◌, ◌||◌, ◌==◌, refl, sym, ap, ◌∙◌, arith, ◌⊎◌, inl, inr, drop-cons}
+use Rattle.std.proofs.Common.{false, not, ◌&&◌, ◌||◌, ◌==◌, refl, sym, ap, ◌∙◌, arith, inl, inr, drop-cons}
 use Rattle.std.proofs.Common.{length-drop, add-zero}
-use Rattle.std.proofs.lemmas.Bool.{eqb-true}
+use Rattle.std.proofs.lemmas.Bool.{eqb-true, or_left, or_right, or_cases}
 use Rattle.std.proofs.lemmas.List.{drop_all, get_or-drop}
 use Rattle.std.proofs.Math.Seq.{drop-nil}
+use Rattle.std.specs.Cmp.{second_so as and_right, both_ways as both}
 use Rattle.key_matching.specs.WildCard.{star, is_byte_match, is_wild_match}
 use Rattle.key_matching.specs.WildCardFront.{IsStarless, IsStuck}
 
@@ -39,31 +40,9 @@ stuck_here folds (suc n) (k ∷ key) (v ∷ value) h g e = stuck_here folds n ke
 
 -- ---- tests
 
-pub or_cases : (a b : Bool) → (a || b) ≡ true → (a ≡ true) ⊎ (b ≡ true)
-or_cases true b h = inl refl
-or_cases false b h = inr h
-
-or_left : (a b : Bool) → a ≡ true → (a || b) ≡ true
-or_left true b h = refl
-or_left false b h = cc
-
-or_right : (a b : Bool) → b ≡ true → (a || b) ≡ true
-or_right true b h = refl
-or_right false b h = h
-
 pub or_false : (a b : Bool) → a ≡ false → (a || b) ≡ b
 or_false true b h = cc
 or_false false b h = refl
-
-pub and_right : (a b : Bool) → (a && b) ≡ true → b ≡ true
-and_right true b h = h
-and_right false b h = cc
-
-both : (a b : Bool) → (a ≡ true → b ≡ true) → (b ≡ true → a ≡ true) → a ≡ b
-both true true f g = refl
-both true false f g = sym (f refl)
-both false true f g = g refl
-both false false f g = refl
 
 -- ---- what a match says of a front
 
