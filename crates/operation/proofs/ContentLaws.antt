@@ -4,6 +4,7 @@ use Rattle.std.proofs.Common.{Err, refl, sym, ap, subst, ◌∙◌, ◌⊎◌, i
 use Rattle.std.specs.Prelude.{not, if◌then◌else◌}
 use Rattle.std.specs.Coded.{Coded-set}
 use Rattle.std.proofs.Math.Logic.{∥∥₁_elim}
+use Rattle.std.proofs.lemmas.Option.{same_Some, none-some}
 use Rattle.octets.specs.Gives.{Tells, Told, Gives}
 use Rattle.octets.proofs.ByteLaws.{tells_map}
 use Rattle.data_set.specs.Tree.{Tree}
@@ -131,10 +132,7 @@ ways draft Memory r = inr (inr r)
 ways draft Shape r = inr (inr r)
 
 some_is : (f g : OpFault) (o : Option OpFault) → o ≡ Some f → o ≡ Some g → f ≡ g
-some_is f g o a b = same f g (sym a ∙ b)
-  where
-    same : (f g : OpFault) → Some f ≡ Some g → f ≡ g
-    same f g e = cc
+some_is f g o a b = same_Some f g (sym a ∙ b)
 
 one_offence : (draft : Draft) (f g : OpFault) → Offends draft f → Offends draft g → f ≡ g
 one_offence draft f g a b =
@@ -156,10 +154,7 @@ one_refusal draft f g a b = both (ways draft f a) (ways draft g b)
     both (inr (inr x)) (inr (inr y)) = one_offence draft f g x.1 y.1
 
 none_is : (f : OpFault) (o : Option OpFault) → o ≡ Some f → o ≡ None → ⊥
-none_is f o a b = apart f (sym a ∙ b)
-  where
-    apart : (f : OpFault) → Some f ≡ None → ⊥
-    apart f e = cc
+none_is f o a b = none-some f (sym b ∙ a)
 
 described_or_refused : (c : ContentParts) (elements : List Tree) (f : OpFault) → Describes elements c
     → Ways (draft_of c) f → ⊥

@@ -7,6 +7,8 @@ use Rattle.std.proofs.lemmas.List.{take_all, take-append-le, drop-append-le, tak
 use Rattle.std.proofs.lemmas.List.{at_drop_more, nil_from_length, length-drop, length-take}
 use Rattle.std.specs.List.{filter_map, cons_option, prefix_len, suffix_len}
 use Rattle.std.specs.Option.{option_map}
+use Rattle.std.proofs.lemmas.Option.{same_Some as some_is, none-some as none_is}
+use Rattle.std.proofs.lemmas.Bool.{and_parts as both}
 use Rattle.dictionary.specs.declared.elements.TheConstants.{SOP_CLASS_UID, SOP_INSTANCE_UID, SPECIFIC_CHARACTER_SET}
 use Rattle.octets.proofs.TextLemmas.{tied_texts}
 use Rattle.octets.specs.Padding.{is_padding, is_space, without_padding, trimmed}
@@ -17,7 +19,6 @@ use Rattle.data_set.specs.Values.{value_of_tree, with_tag, and_then, value_in}
 use Rattle.operation.specs.Contents.{is_value, names_itself, tagged, values_in}
 use Rattle.operation.specs.KeyValues.{bytes_of, values_at}
 use Rattle.operation.specs.Parts.{value_at, value_or_empty}
-use Rattle.operation.proofs.Bounds.{both}
 
 -- ---- one value more
 
@@ -104,12 +105,6 @@ trimmed_short value = omega (
   length-drop (prefix_len is_space (without_padding value)) (without_padding value),
   length-take (length value - suffix_len is_padding value) value,
 )
-
-some_is : (a b : List ℕ) → Some a ≡ Some b → a ≡ b
-some_is a b e = cc
-
-none_is : (a : List ℕ) → None ≡ Some a → ⊥
-none_is a e = cc
 
 short_tree : (t : Tree) (value : List ℕ) → FitsTree t → value_of_tree t ≡ Some value → length value < 4294967296
 short_tree (leaf tag vr stored) value fits is =

@@ -1,4 +1,4 @@
-use Rattle.std.proofs.Common.{◌≡◌, true, false, sym, ◌∙◌}
+use Rattle.std.proofs.Common.{◌≡◌, true, false, sym, ◌∙◌, true≢false}
 use Rattle.operation.specs.KeyValues.{values_at}
 use Rattle.operation.proofs.KeyValueLaws.{one_text}
 use Rattle.operation.proofs.key_values.KeyValues.equals.Goals as goal
@@ -20,11 +20,8 @@ returns-then-same_places c =
 -- The places differ, and values that fill their texts have one list of places.
 pub returns-else-same_places : goal.returns-else-same_places
 returns-else-same_places c = (
-  λ is. absurd (apart (sym is ∙ c.if-same_places.false)),
+  λ is. absurd (true≢false (sym is ∙ c.if-same_places.false)),
   λ e.
       let one = one_text _ _ _ _ c.self.invariant c.other.invariant (c.self.view_is ∙ e ∙ sym c.other.view_is) in
       c.same_places.ensures.1 (c.as_slice.ensures ∙ one.0 ∙ sym c.as_slice-2.ensures),
 )
-  where
-    apart : true ≡ false → ⊥
-    apart e = cc
