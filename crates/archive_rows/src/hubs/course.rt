@@ -1,8 +1,7 @@
 //! Two passes of a hub that goes on where memory is refused to it, until it is closed.
 
-use crate::figures::elements::NAME;
-use crate::figures::hub::Shared;
-use crate::figures::images::{CT, IMAGE_LENGTH, image, study};
+use crate::hubs::hub::Shared;
+use crate::hubs::images::{CT, image, study};
 use anyhow::{Result, anyhow};
 use archive_model::View;
 use archive_query::{Accepted, Accepts, Level, Selection};
@@ -14,6 +13,9 @@ use site_hub::{
 use site_state::Site;
 use std::alloc::Global;
 use std::sync::{Mutex, Wait};
+
+/// (0010,0010) Patient's Name
+const NAME: u32 = 0x0010_0010;
 
 /// What a call answered: a number, or why it was refused.
 pub type Came = Result<u64, HubFault>;
@@ -185,10 +187,7 @@ fn done<H: HubName, T: Shows<H>, R: Wait>(
     two: &mut Pass<H>,
     course: &mut Course,
 ) -> Result<()> {
-    let (first, second) = (
-        image(alloc, 0, 1, IMAGE_LENGTH)?,
-        image(alloc, 1, 1, IMAGE_LENGTH)?,
-    );
+    let (first, second) = (image(alloc, 0)?, image(alloc, 1)?);
     course.stored.0 = stored(rt, keeper, one, two, first, 1);
     course.stored.1 = stored(rt, keeper, one, two, second, 2);
     course.corrected.0 = corrected(rt, alloc, keeper, two)?;
@@ -221,7 +220,7 @@ fn entries(alloc: Global, course: &Course) -> Result<Vec<Logged>> {
     let stored = [course.stored.0, course.stored.1];
     for (k, came) in stored.iter().enumerate() {
         if placed(*came) == 1 {
-            let image = image(alloc, k as u64, 1, IMAGE_LENGTH)?;
+            let image = image(alloc, k as u64)?;
             let digest = *image.digest();
             entries.push(Logged { pass: 1, digest })?;
         }

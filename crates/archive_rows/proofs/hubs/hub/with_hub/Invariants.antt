@@ -1,4 +1,4 @@
-use Rattle.archive_rows.proofs.figures.hub.with_hub.Given as goal
+use Rattle.archive_rows.proofs.hubs.hub.with_hub.Given as goal
 
 -- the hub that was just opened
 abbrev pub ghosts-run : goal.ghosts-run

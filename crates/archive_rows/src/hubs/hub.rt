@@ -1,9 +1,8 @@
 //! A new hub, and what is done with it.
 ghost use Rattle.std.specs.Prelude.{◌≡◌};
 
-use crate::figures::asked::{Finds, asked};
-use crate::figures::course::{Course, gone_on};
-use crate::figures::looks::{Looks, Work, worked};
+use crate::hubs::course::{Course, gone_on};
+use crate::hubs::looks::{Looks, worked};
 use anyhow::{Result, anyhow};
 use operation::Digested;
 use site_hub::{HubName, Keeper, Opened, open};
@@ -19,14 +18,10 @@ pub type Shared<'a, H, T, R> = Mutex<Keeper<H, T, &'a R>>;
 /// What is done with a hub, and where what came of it is written.
 #[derive(Drop)]
 pub enum Task<'a> {
-    /// It is held.
-    Hold,
     /// Two passes go on until the hub is closed.
     Course(Global, &'a mut Course),
-    /// Passes look, while another publishes.
-    Looks(&'a Work, &'a mut Vec<Digested>, &'a mut [Looks; 4]),
-    /// A pass asks.
-    Finds(&'a Finds<'a>),
+    /// Four passes look, while another publishes.
+    Looks(&'a mut Vec<Digested>, &'a mut [Looks; 4]),
 }
 
 fn run<H: HubName + Send + Sync, R: Threads + Wait + Sync>(
@@ -44,22 +39,13 @@ fn run<H: HubName + Send + Sync, R: Threads + Wait + Sync>(
     };
     let keeper = Mutex::new(keeper);
     match task {
-        Task::Hold => Ok(()),
         Task::Course(alloc, course) => gone_on(rt, alloc, keeper, passes, course),
-        Task::Looks(work, images, looks) => {
-            worked(rt, &keeper, work, images, looks, passes.as_mut_slice())
-        }
-        Task::Finds(finds) => asked(finds, passes.as_mut_slice()),
+        Task::Looks(images, looks) => worked(rt, &keeper, images, looks, passes.as_mut_slice()),
     }
 }
 
-/// Does this with a new hub of five passes, which holds a site.
-pub fn with_hub<R: Threads + Wait + Sync>(
-    rt: &R,
-    alloc: Global,
-    site: Site,
-    task: Task<'_>,
-) -> Result<()> {
-    let opened = open(alloc, rt, site, 1, 5)?;
+/// Does this with a new hub of five passes, which holds nothing.
+pub fn with_hub<R: Threads + Wait + Sync>(rt: &R, alloc: Global, task: Task<'_>) -> Result<()> {
+    let opened = open(alloc, rt, Site::new(alloc), 1, 5)?;
     run::<Brand, R>(rt, opened, task)
 }

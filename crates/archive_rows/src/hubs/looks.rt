@@ -1,9 +1,7 @@
 //! Passes that look without pause, and one that publishes.
 
-use crate::figures::hub::Shared;
+use crate::hubs::hub::Shared;
 use anyhow::{Result, anyhow};
-use archive_model::View;
-use archive_query::Query;
 use operation::Digested;
 use site_hub::{HubName, Pass, Question, Shows, store_digested};
 use site_state::Site;
@@ -11,31 +9,6 @@ use std::alloc::{AllocError, Global};
 use std::sync::Wait;
 use std::sync::atomic::{AtomicU64, Ordering};
 use std::thread::{Threads, join, yield_now};
-
-/// The most passes that look.
-pub const MOST_READERS: usize = 4;
-
-/// What passes that look do.
-pub struct Work {
-    /// What each asks for, one after the other and again. Where there is nothing it asks how many
-    /// operations are held.
-    pub queries: Vec<Query>,
-    /// How many passes look.
-    pub readers: usize,
-    /// How often each of them looks at most.
-    pub most: u64,
-}
-
-// It is written out, so that a caller does not prove again how each part is dropped.
-impl Drop for Work {
-    fn drop(self) {
-        let Work {
-            queries: _,
-            readers: _,
-            most: _,
-        } = self;
-    }
-}
 
 /// What the publisher and the passes that look tell each other.
 #[derive(Drop)]
@@ -84,40 +57,20 @@ impl Question<u64> for Held {
     }
 }
 
-/// One look, if it is answered: how many operations it told of, which is 0 of a find. Behind the
-/// look for a number another thread may run, so that few looks are cut off where there are less
-/// processors than threads.
-fn look<H: HubName>(pass: &mut Pass<H>, query: Option<&Query>) -> Option<u64> {
-    let Some(query) = query else {
-        let held = pass.look(&Held).ok();
-        yield_now();
-        return held;
-    };
-    match pass.find(View::Archive, b"ARCHIVE", query) {
-        Ok(_rows) => Some(0),
-        Err(_refused) => None,
-    }
-}
-
-/// What is asked in a turn.
-fn query_in(queries: &[Query], turn: u64) -> Option<&Query> {
-    let many = queries.len() as u64;
-    if many == 0 {
-        return None;
-    }
-    queries.get((turn % many) as usize)
-}
-
-/// The first of some passes looks without pause, and last of all once all is published.
-fn look_on<H: HubName>(work: &Work, signs: &Signs, passes: &mut [Pass<H>]) -> Looks {
+/// The first of some passes looks without pause, and last of all once all is published. Behind each
+/// look another thread may run, so that few looks are cut off where there are less processors than
+/// threads.
+fn look_on<H: HubName>(signs: &Signs, passes: &mut [Pass<H>]) -> Looks {
     let mut looks = NONE;
     let Some(pass) = passes.first_mut() else {
         return looks;
     };
     signs.looking.fetch_add(1, Ordering::SeqCst);
-    for turn in 0..work.most {
+    for _ in 0..u64::MAX {
         let is_last = signs.ended.load(Ordering::SeqCst) != 0;
-        if let Some(held) = look(pass, query_in(work.queries.as_slice(), turn)) {
+        let held = pass.look(&Held).ok();
+        yield_now();
+        if let Some(held) = held {
             looks.note(held);
             if is_last {
                 break;
@@ -130,23 +83,17 @@ fn look_on<H: HubName>(work: &Work, signs: &Signs, passes: &mut [Pass<H>]) -> Lo
 /// Two passes look, where there are two.
 fn look_both<H: HubName + Send + Sync, R: Threads + Sync>(
     rt: &R,
-    work: &Work,
     signs: &Signs,
     passes: &mut [Pass<H>],
 ) -> (Looks, Looks) {
     let one = passes.len().min(1);
     let (first, second) = passes.split_at_mut(one);
-    join(
-        rt,
-        || look_on(work, signs, first),
-        || look_on(work, signs, second),
-    )
+    join(rt, || look_on(signs, first), || look_on(signs, second))
 }
 
 /// Four passes look, where there are four.
 fn look_all<H: HubName + Send + Sync, R: Threads + Sync>(
     rt: &R,
-    work: &Work,
     signs: &Signs,
     passes: &mut [Pass<H>],
 ) -> [Looks; 4] {
@@ -154,8 +101,8 @@ fn look_all<H: HubName + Send + Sync, R: Threads + Sync>(
     let (first, second) = passes.split_at_mut(two);
     let ((a, b), (c, d)) = join(
         rt,
-        || look_both(rt, work, signs, first),
-        || look_both(rt, work, signs, second),
+        || look_both(rt, signs, first),
+        || look_both(rt, signs, second),
     );
     [a, b, c, d]
 }
@@ -183,8 +130,7 @@ fn publish<H: HubName, T: Shows<H>, R: Wait>(
     Ok(())
 }
 
-/// Publishes once all look, and tells them when it has ended. With nothing to publish they look as
-/// often as they may.
+/// Publishes once all look, and tells them when it has ended.
 fn publish_to_all<H: HubName, T: Shows<H>, R: Wait>(
     rt: &R,
     keeper: &Shared<'_, H, T, R>,
@@ -196,20 +142,16 @@ fn publish_to_all<H: HubName, T: Shows<H>, R: Wait>(
     let Some(pass) = passes.first_mut() else {
         return Err(anyhow!("no pass that publishes"));
     };
-    if images.is_empty() {
-        return Ok(());
-    }
     all_look(signs, readers);
     let published = publish(rt, keeper, pass, images);
     signs.ended.store(1, Ordering::SeqCst);
     published
 }
 
-/// The first pass publishes, while others look, and what the looks of each told is noted.
+/// The first pass publishes, while four others look, and what the looks of each told is noted.
 pub fn worked<H: HubName + Send + Sync, T: Shows<H>, R: Threads + Wait + Sync>(
     rt: &R,
     keeper: &Shared<'_, H, T, R>,
-    work: &Work,
     images: &mut Vec<Digested>,
     looks: &mut [Looks; 4],
     passes: &mut [Pass<H>],
@@ -217,7 +159,7 @@ pub fn worked<H: HubName + Send + Sync, T: Shows<H>, R: Threads + Wait + Sync>(
     let images = images.split_off(0)?;
     let one = passes.len().min(1);
     let (writers, others) = passes.split_at_mut(one);
-    let many = others.len().min(work.readers);
+    let many = others.len().min(4);
     let (readers, _idle) = others.split_at_mut(many);
     let signs = Signs {
         looking: AtomicU64::new(0),
@@ -225,7 +167,7 @@ pub fn worked<H: HubName + Send + Sync, T: Shows<H>, R: Threads + Wait + Sync>(
     };
     let (told, published) = join(
         rt,
-        || look_all(rt, work, &signs, readers),
+        || look_all(rt, &signs, readers),
         || publish_to_all(rt, keeper, images, &signs, many, writers),
     );
     *looks = told;
