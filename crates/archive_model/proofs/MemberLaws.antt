@@ -1,22 +1,13 @@
 -- Members of lists that are made of lists.
 use Rattle.std.proofs.Common.{◌≡◌, ℕ, List, [], ◌∷◌, Bool, true, false, cond, Option, Some, None, refl, sym, ap, ◌∙◌}
 use Rattle.std.proofs.Common.{subst, inl, inr, ◌⊎◌, map}
-use Rattle.std.specs.Prelude.{◌↔◌, ◌&&◌, ◌||◌, nat_eq}
+use Rattle.std.specs.Prelude.{◌↔◌, ◌||◌, nat_eq}
 use Rattle.std.proofs.lemmas.Bool.{false≢true}
 use Rattle.std.specs.List.{filter, filter_map, cons_option, find, list_any, list_all}
+use Rattle.std.specs.Cmp.{first_so as and_first, second_so as and_second}
+use Rattle.std.proofs.lemmas.Option.{same_Some}
+use mathlib.Core.Bool.{or-true as or_second}
 use Rattle.octets.specs.Members.{Has}
-
-and_first : (a b : Bool) → (a && b) ≡ true → a ≡ true
-and_first true b e = refl
-and_first false b e = absurd (false≢true e)
-
-and_second : (a b : Bool) → (a && b) ≡ true → b ≡ true
-and_second true b e = e
-and_second false b e = absurd (false≢true e)
-
-or_second : (a : Bool) → (a || true) ≡ true
-or_second true = refl
-or_second false = refl
 
 given : {Y : Type 0} (r : Option Y) (y : Y) (ys : List Y) → r ≡ Some y → Has (cons_option r ys) y
 given None y ys e = absurd cc
@@ -32,13 +23,10 @@ module _ {X : Type 0} where
   has_all p (y ∷ ys) x all (inl e) = ap p e ∙ and_first (p y) (list_all p ys) all
   has_all p (y ∷ ys) x all (inr later) = has_all p ys x (and_second (p y) (list_all p ys) all) later
 
-  some_same : (x y : X) → Some x ≡ Some y → x ≡ y
-  some_same x y e = cc
-
   found_first : (p : X → Bool) (y x : X) (ys : List X) (b : Bool) → p y ≡ b
       → (find p ys ≡ Some x → Has ys x × (p x ≡ true)) → cond b (Some y) (find p ys) ≡ Some x → Has (y ∷ ys) x
       × (p x ≡ true)
-  found_first p y x ys true is later e = (inl (sym (some_same y x e)), ap p (sym (some_same y x e)) ∙ is)
+  found_first p y x ys true is later e = (inl (sym (same_Some y x e)), ap p (sym (same_Some y x e)) ∙ is)
   found_first p y x ys false is later e = (inr (later e).0, (later e).1)
 
   pub found_has : (p : X → Bool) (xs : List X) (x : X) → find p xs ≡ Some x → Has xs x × (p x ≡ true)

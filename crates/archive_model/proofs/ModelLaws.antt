@@ -1,10 +1,10 @@
 -- What the definitions mean, member by member.
 use Rattle.std.proofs.Common.{◌≡◌, ℕ, ◌<◌, ◌≤◌, List, [], ◌∷◌, Bool, true, false, cond, Option, Some, None, IsTrue}
 use Rattle.std.proofs.Common.{refl, sym, ap, ◌∙◌, subst, inl, inr, ◌⊎◌, map, length, arith}
-use Rattle.std.specs.Prelude.{◌↔◌, ◌&&◌, ◌||◌, nat_eq, nat_lt, ◌==◌, if◌then◌else◌}
-use Rattle.std.proofs.lemmas.Bool.{false≢true}
+use Rattle.std.specs.Prelude.{◌↔◌, ◌||◌, nat_eq, nat_lt, ◌==◌, if◌then◌else◌}
+use Rattle.std.proofs.lemmas.Bool.{false≢true, and_parts as and_true, and_from as true_and}
 use borrow.Author.Tests.{ltb-true, lt-ltb, eq-eqb}
-use Rattle.std.specs.Ordering.{nat_cmp, is_eq, is_le, is_lt, ordering_then, ordering_reverse, match_ordering}
+use Rattle.std.specs.Ordering.{nat_cmp, is_le, is_lt, ordering_then, ordering_reverse, match_ordering}
 use Rattle.std.specs.declared.cmp.Ordering.{Ordering}
 use Rattle.std.specs.declared.cmp.Ordering.TheVariants.{Less, Equal, Greater}
 use Rattle.std.specs.Cmp.{IsTotalOrder, tied_itself, alike_right}
@@ -12,6 +12,7 @@ use Rattle.std.specs.Cmp.Lexicographic.{slice_cmp, nat_list_cmp_total, nat_list_
 use Rattle.std.specs.FinMap.{nat_cmp-IsAntisymmetric, slice_cmp-IsAntisymmetric}
 use Rattle.std.specs.List.{filter, filter_map, cons_option, find, list_any, list_all, AllByRecursion}
 use Rattle.std.specs.List.Sorted.{IsStrictlySortedBy}
+use Rattle.std.proofs.lemmas.Option.{same_Some as some_content}
 use Rattle.rejection_note.specs.declared.note.Note.{Note}
 use Rattle.rejection_note.specs.declared.title.NoteTitle.{NoteTitle}
 use Rattle.rejection_note.specs.declared.title.NoteTitle.TheVariants.{Quality, Safety, Worklist, Expired}
@@ -46,11 +47,6 @@ same_is a b e = (bytes_decides a b).0 e
 
 pub same_itself : (a b : List ℕ) → a ≡ b → same a b ≡ true
 same_itself a b e = (bytes_decides a b).1 e
-
-tie_is : (r : Ordering) → is_eq r ≡ true → r ≡ Equal
-tie_is Less e = absurd (false≢true e)
-tie_is Equal e = refl
-tie_is Greater e = absurd (false≢true e)
 
 text_tie : (a b : List ℕ) → text_cmp a b ≡ Equal → a ≡ b
 text_tie a b e = slice_cmp-IsAntisymmetric nat_cmp-IsAntisymmetric a b e
@@ -103,9 +99,6 @@ content_is (a_correction k) c e = absurd cc
 pub content_has : (ops : List Op) (c : ContentParts) → Has (contents ops) c → Has ops (a_content c)
 content_has ops c has = let at = filter_map_has content_in ops c has in subst (Has ops) (content_is at.0 c at.2) at.1
 
-some_content : (x c : ContentParts) → Some x ≡ Some c → x ≡ c
-some_content x c e = cc
-
 le_itself : (d : List ℕ) → is_le (text_cmp d d) ≡ true
 le_itself d = ap is_le (tied_itself nat_list_cmp_total d)
 
@@ -136,13 +129,6 @@ pick_is_least uid (a_content x ∷ ops) c d up e has inst = least_first uid x c 
 pick_is_least uid (a_correction k ∷ ops) c d up e has inst = pick_is_least uid ops c d up.1 e has inst
 
 -- ---- what is covered
-
-and_true : (a b : Bool) → (a && b) ≡ true → (a ≡ true) × (b ≡ true)
-and_true true b e = (refl, e)
-and_true false b e = absurd (false≢true e)
-
-true_and : (a b : Bool) → a ≡ true → b ≡ true → (a && b) ≡ true
-true_and a b p q = ap (λ x. x && b) p ∙ q
 
 among_has : (uids : List (List ℕ)) (uid : List ℕ) → is_among uids uid ≡ true → Has uids uid
 among_has uids uid e = let at = any_has (λ u. same u uid) uids e in subst (Has uids) (same_is at.0 uid at.2) at.1

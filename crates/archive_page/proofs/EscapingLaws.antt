@@ -8,6 +8,7 @@ use Rattle.std.specs.Option.{option_map}
 use Rattle.std.specs.Str.{is_utf8}
 use Rattle.std.proofs.lemmas.Str.{digit_value-digit_char}
 use Rattle.std.proofs.lemmas.List.Folds.{list_all-append}
+use Rattle.std.proofs.lemmas.Bool.{and_from as both}
 use Rattle.archive_page.specs.Characters.{text_of}
 use Rattle.archive_page.proofs.CharacterLaws.{utf8_stays}
 use Rattle.archive_page.specs.Escaping.{is_delimiter, is_control_byte, is_plain, escape_byte, escaped}
@@ -40,11 +41,6 @@ plain_is_no_ampersand b h = last (is_control_byte b) (is_delimiter b) (b == 38) 
 
 digit_is_harmless : (d : ℕ) → d < 16 → harmless (digit_char d) ≡ true
 digit_is_harmless d lt = grind (arith, lt)
-
-both : (a b : Bool) → a ≡ true → b ≡ true → (a && b) ≡ true
-both true true p q = refl
-both true false p q = q
-both false b p q = p
 
 by_plain : (b : ℕ) (is : Bool) → is_plain b ≡ is → list_all harmless (escape_byte b) ≡ true
 unfolding escape_byte

@@ -1,8 +1,8 @@
 -- The candidates of a query are enough: no row is lost.
 use Rattle.std.proofs.Common.{◌≡◌, ℕ, Bool, true, false, cond, List, [], ◌∷◌, map, take, length, Option, Some, None}
-use Rattle.std.proofs.Common.{refl, sym, ap, subst, ◌∙◌, inl, inr, arith}
+use Rattle.std.proofs.Common.{refl, sym, ap, subst, ◌∙◌, inl, inr}
 use Rattle.std.specs.Prelude.{◌&&◌, ◌||◌, ◌==◌, not, is_some, IfSome, if◌then◌else◌}
-use Rattle.std.proofs.lemmas.Bool.{eqb-true, false≢true}
+use Rattle.std.proofs.lemmas.Bool.{eqb-true, false≢true, and_parts as and_both, or_left as or_first}
 use Rattle.std.specs.List.{filter, filter_map, cons_option, find, list_any, list_all, AllByRecursion}
 use Rattle.std.specs.List.Sorted.{IsStrictlySortedBy}
 use Rattle.std.specs.Option.{option_map}
@@ -21,7 +21,7 @@ use Rattle.rejection_note.specs.Notes.{note_in}
 use Rattle.data_set.specs.Tree.{Tree}
 use Rattle.std.specs.Coded.{Coded-set, coded_list, coded_ℕ}
 use Rattle.std.proofs.Math.Logic.{∥∥₁_elim}
-use Rattle.std.proofs.lemmas.List.{take_all}
+use Rattle.std.proofs.lemmas.List.{take_all, nil_from_length as nothing}
 use Rattle.join_laws.specs.GrowSet.{union_of}
 use Rattle.operation.specs.Parts.{ContentParts, own_value}
 use Rattle.octets.specs.Members.{Has as IsOne}
@@ -61,6 +61,7 @@ use Rattle.archive_query.specs.Candidates.{AreCandidates}
 use Rattle.archive_query.specs.Found.{AreEnough}
 use Rattle.archive_query.specs.Leads.{IsLedBy, is_candidate, is_of_none, IsChosen}
 use Rattle.std.specs.Cmp.Lexicographic.{nat_list_cmp_total}
+use Rattle.std.proofs.lemmas.Bool.{or_right as or_second, not-true as not_true}
 use Rattle.join_laws.specs.Proved.Sets.{has-union}
 use Rattle.octets.proofs.TextLemmas.{in_ascending}
 use Rattle.archive_query.proofs.DistinctLaws.{any_ascending}
@@ -260,29 +261,9 @@ kept_at Image ops q c = kept_of (find (is_list_of SOP_INSTANCE_UID) q.asked) q c
 abbrev pub is_kept : List Op → Query → ContentParts → Bool
 is_kept ops q c = kept_at q.level ops q c
 
-and_both : (a b : Bool) → (a && b) ≡ true → (a ≡ true) × (b ≡ true)
-and_both true b e = (refl, e)
-and_both false b e = absurd (false≢true e)
-
-not_true : (a : Bool) → not a ≡ true → a ≡ false
-not_true true e = absurd (false≢true e)
-not_true false e = refl
-
 either_of : {P : Type 0} (a b : Bool) → (a || b) ≡ true → (a ≡ true → P) → (b ≡ true → P) → P
 either_of true b e f g = f refl
 either_of false b e f g = g e
-
-or_second : (a b : Bool) → b ≡ true → (a || b) ≡ true
-or_second true b e = refl
-or_second false b e = e
-
-or_first : (a b : Bool) → a ≡ true → (a || b) ≡ true
-or_first true b e = refl
-or_first false b e = absurd (false≢true e)
-
-nothing : (t : Text) → length t ≡ 0 → t ≡ []
-nothing [] e = refl
-nothing (x ∷ xs) e = absurd (omega arith)
 
 none_long : (t : Text) → (length t == 0) ≡ true → t ≡ []
 none_long t e = nothing t (eqb-true (length t) 0 e)

@@ -1,9 +1,9 @@
 -- Where the dates of a range stand.
-use Rattle.std.proofs.Common.{◌≡◌, ℕ, ◌<◌, Bool, true, false, [], ◌∷◌, ◌++◌, map, take, length, refl, sym, ap, ◌∙◌}
+use Rattle.std.proofs.Common.{◌≡◌, ℕ, ◌<◌, Bool, true, false, [], ◌++◌, map, take, length, refl, sym, ap, ◌∙◌}
 use Rattle.std.proofs.Common.{inl, inr, ◌⊎◌, arith}
 use Rattle.std.specs.Prelude.{◌&&◌, ◌||◌, ◌==◌, not}
-use Rattle.std.proofs.lemmas.Bool.{eqb-true, false≢true}
-use Rattle.std.proofs.lemmas.List.{take_all}
+use Rattle.std.proofs.lemmas.Bool.{eqb-true, false≢true, and_parts as both, and_from as both_true, not-true as not_true}
+use Rattle.std.proofs.lemmas.List.{take_all, nil_from_length as nothing}
 use Rattle.std.specs.Cmp.{nat_cmp_is}
 use Rattle.std.proofs.lemmas.Cmp.{tied_itself, nat_cmp_total}
 use Rattle.std.specs.Ordering.{nat_cmp, is_le, ordering_then}
@@ -22,15 +22,11 @@ use Rattle.study_index.specs.Leads.{Lead, a_lead, lead_cmp, led_byte, is_folded,
 use Rattle.study_index.specs.Leads.{IsWithin, IsBehind, LeadWalk, is_walked, may_have}
 use Rattle.archive_query.specs.Leads.{is_dates, IsUpTo}
 use Rattle.archive_query.proofs.LeadEnough.{all_kept, le_none}
-use Rattle.archive_query.proofs.TextLeads.{both, not_true, both_true, kind_after, before_end, walked, none_stands}
+use Rattle.archive_query.proofs.TextLeads.{kind_after, before_end, walked, none_stands}
 
 either : {P : Type 0} (a b : Bool) → (a || b) ≡ true → (a ≡ true → P) → (b ≡ true → P) → P
 either true b e f g = f refl
 either false b e f g = g e
-
-nothing : (t : Text) → length t ≡ 0 → t ≡ []
-nothing [] e = refl
-nothing (x ∷ xs) e = absurd (omega arith)
 
 eight : (t : Text) → is_date t ≡ true → length t ≡ 8
 eight t e = eqb-true (length t) 8 (both (length t == 8) (are_digits t) e).0

@@ -1,14 +1,10 @@
 -- In their order, each once, texts have the same members.
-use Rattle.std.proofs.Common.{◌≡◌, ℕ, Bool, true, false, List, refl, sym}
+use Rattle.std.proofs.Common.{◌≡◌, ℕ, Bool, List}
 use Rattle.std.specs.List.{list_any}
+use Rattle.std.specs.Cmp.{both_ways as one_truth}
 use Rattle.octets.specs.Texts.{ascending}
 use Rattle.octets.proofs.TextLemmas.{in_ascending, ascending_holds}
 use Rattle.archive_model.proofs.MemberLaws.{has_any, any_has}
-
-one_truth : (a b : Bool) → (a ≡ true → b ≡ true) → (b ≡ true → a ≡ true) → a ≡ b
-one_truth true b f g = sym (f refl)
-one_truth false true f g = g refl
-one_truth false false f g = refl
 
 pub any_ascending : (p : List ℕ → Bool) (xs : List (List ℕ)) → list_any p (ascending xs) ≡ list_any p xs
 any_ascending p xs = one_truth (list_any p (ascending xs)) (list_any p xs)

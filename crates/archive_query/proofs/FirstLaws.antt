@@ -2,7 +2,7 @@
 use Rattle.std.proofs.Common.{◌≡◌, ℕ, ◌<◌, Bool, true, false, List, [], ◌∷◌, ◌++◌, take, length, Option, Some}
 use Rattle.std.proofs.Common.{None, zero, suc, refl, sym, ap, subst, ◌∙◌, inl, inr, ◌⊎◌, arith}
 use Rattle.std.specs.Prelude.{◌&&◌, nat_lt, is_some, if◌then◌else◌}
-use Rattle.std.proofs.lemmas.Bool.{false≢true, ltb-true}
+use Rattle.std.proofs.lemmas.Bool.{false≢true, ltb-true, and_parts}
 use Rattle.std.proofs.lemmas.List.{take_all}
 use Rattle.std.proofs.lemmas.List.Kept.{IsStrictlySortedBy-filter}
 use Rattle.std.specs.List.{flat_map, cons_option, AllByRecursion}
@@ -78,10 +78,6 @@ short_whole text known e short = take_all 64 text (omega (arith, below 64 text (
 
 whole_is : (a b known : Text) → take 64 a ≡ known → take 64 b ≡ known → length known < 64 → a ≡ b
 whole_is a b known e f short = sym (short_whole a known e short) ∙ e ∙ sym f ∙ short_whole b known f short
-
-and_parts : (a b : Bool) → (a && b) ≡ true → (a ≡ true) × (b ≡ true)
-and_parts true b e = (refl, e)
-and_parts false b e = absurd (false≢true e)
 
 -- ---- what stands for what
 

@@ -9,6 +9,8 @@ use Rattle.std.specs.Map.{lookup}
 use Rattle.std.specs.BTreeMap.{is_at}
 use Rattle.std.specs.Ordering.{is_eq}
 use Rattle.std.proofs.lemmas.Cmp.{nat_list_cmp_total, tied_itself}
+use Rattle.std.proofs.lemmas.Option.{same_Some as same_content}
+use Rattle.std.proofs.lemmas.List.{nil_from_length as no_entries}
 use Rattle.operation.specs.declared.op.Op.{Op}
 use Rattle.operation.specs.Parts.{ContentParts, CorrectionParts, own_value}
 use Rattle.octets.specs.Members.{Has}
@@ -84,10 +86,6 @@ none_fixed ops c none (a ∷ asked) =
     corrected (own_value c a.tag) (greatest (filter (corrects c a.tag) ks))) none in
     ap (λ (b : Bool). cons_option (if b then None else Some (a.tag, attribute ops c a.tag)) (fixes_of ops asked c))
     (same_itself (attribute ops c a.tag) (own_value c a.tag) own) ∙ none_fixed ops c none asked
-
-no_entries : {X : Type 0} (xs : List X) → length xs ≡ 0 → xs ≡ []
-no_entries [] e = refl
-no_entries (x ∷ xs) e = absurd (omega (arith, e))
 
 pub none_needed : (ops : List Op) (asked : List Asked) (cs : List ContentParts) → length (corrections ops) ≡ 0
     → AreFixes ops asked cs []
@@ -224,9 +222,6 @@ put_some old new under (f ∷ fs) e puts uid = ap these_or_none (puts uid) ∙ b
     by false = refl
 
 -- ---- what is shown is shown at its own UID
-
-same_content : (c d : ContentParts) → Some c ≡ Some d → c ≡ d
-same_content c d e = cc
 
 shown_instance : (view : View) (ops : List Op) (uid : List ℕ) (c : ContentParts) → shown_at view ops uid ≡ Some c
     → c.instance ≡ uid

@@ -1,7 +1,7 @@
 -- What a stable sort by a key makes of the groups of a list.
 use Rattle.std.proofs.Common.{inl, inr, ◌≡◌, ℕ, zero, suc, ◌+◌, ◌<◌, ◌≤◌, Bool, true, false, not, ◌&&◌, cond, List, []}
 use Rattle.std.proofs.Common.{◌∷◌, ◌++◌, length, get_or, take, drop, refl, sym, ap, subst, ◌∙◌, Less, Equal, Greater}
-use Rattle.std.proofs.Common.{arith, append_assoc, length-drop, ◌-◌}
+use Rattle.std.proofs.Common.{arith, append_assoc, length-drop, ◌-◌, append-nil as append_empty}
 use Rattle.std.specs.Prelude.{map}
 use Rattle.std.specs.List.{filter}
 use Rattle.std.specs.List.Sorted.{IsSortedBy, IsStableBy, ties}
@@ -55,10 +55,6 @@ under_other key k other [] are less = refl
 under_other key k other (x ∷ run) (is, are) less =
     let test : same (key x) other ≡ false = ap (λ (t : Text). same t other) is ∙ less_not_same k other less in
     rw (test, under_other key k other run are less) refl
-
-append_empty : {X : Type 0} (xs : List X) → xs ++ [] ≡ xs
-append_empty [] = refl
-append_empty (x ∷ xs) = ap (λ (ys : List _). x ∷ ys) (append_empty xs)
 
 first_under : {X : Type 0} (key : X → Text) (k : Text) (run after : List X) → AllAre key k run → Above key k after
     → under key k (run ++ after) ≡ run

@@ -2,7 +2,7 @@
 use Rattle.std.proofs.Common.{◌≡◌, ℕ, Bool, true, false, cond, List, [], ◌∷◌, map, length, Option, Some, None}
 use Rattle.std.proofs.Common.{refl, sym, ap, subst, ◌∙◌, inl, inr}
 use Rattle.std.specs.Prelude.{◌==◌, ◌||◌, is_some, if◌then◌else◌}
-use Rattle.std.proofs.lemmas.Bool.{eqb-true, false≢true}
+use Rattle.std.proofs.lemmas.Bool.{eqb-true, false≢true, or_parts}
 use Rattle.std.proofs.lemmas.Cmp.{upto}
 use Rattle.std.specs.List.{filter, filter_map, list_any, join_with_byte}
 use Rattle.std.specs.Option.{option_map}
@@ -51,10 +51,6 @@ none_of p xs none x h = by (p x) refl
 
 module _ (value : ContentParts → ℕ → List ℕ) (called : List ℕ) (q : Query) (none : is_counted q ≡ false)
     (c : ContentParts) where
-  not_either : (a b : Bool) → (a || b) ≡ false → (a ≡ false) × (b ≡ false)
-  not_either true b e = absurd (false≢true (sym e))
-  not_either false b e = (refl, e)
-
   not_counted : (tag : ℕ) → is_asked q tag ≡ true → is_counted_tag tag ≡ false
   not_counted tag asked =
       let at = any_has (λ a. a.tag == tag) q.asked asked in
@@ -64,11 +60,11 @@ module _ (value : ContentParts → ℕ → List ℕ) (called : List ℕ) (q : Qu
   -- what is asked is an attribute of the first
   of_first : (cs : List ContentParts) (tag : ℕ) → is_asked q tag ≡ true → asked_value value cs c tag ≡ value c tag
   of_first cs tag asked =
-      let outer = not_either (tag == MODALITIES_IN_STUDY || tag == NUMBER_OF_STUDY_RELATED_SERIES ||
+      let outer = or_parts (tag == MODALITIES_IN_STUDY || tag == NUMBER_OF_STUDY_RELATED_SERIES ||
       tag == NUMBER_OF_STUDY_RELATED_INSTANCES) (tag == NUMBER_OF_SERIES_RELATED_INSTANCES) (not_counted tag asked) in
-      let middle = not_either (tag == MODALITIES_IN_STUDY || tag == NUMBER_OF_STUDY_RELATED_SERIES)
+      let middle = or_parts (tag == MODALITIES_IN_STUDY || tag == NUMBER_OF_STUDY_RELATED_SERIES)
       (tag == NUMBER_OF_STUDY_RELATED_INSTANCES) outer.0 in
-      let inner = not_either (tag == MODALITIES_IN_STUDY) (tag == NUMBER_OF_STUDY_RELATED_SERIES) middle.0 in
+      let inner = or_parts (tag == MODALITIES_IN_STUDY) (tag == NUMBER_OF_STUDY_RELATED_SERIES) middle.0 in
       ap (λ b. if b then join_with_byte 0x5c (modalities_of cs)
       else if tag == NUMBER_OF_STUDY_RELATED_SERIES then decimal (length (ascending (map series_of cs)))
       else if tag == NUMBER_OF_STUDY_RELATED_INSTANCES || tag == NUMBER_OF_SERIES_RELATED_INSTANCES

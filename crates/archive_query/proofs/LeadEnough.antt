@@ -2,8 +2,8 @@
 -- content's study, whatever is picked or hidden.
 use Rattle.std.proofs.Common.{◌≡◌, ℕ, Bool, true, false, List, [], ◌∷◌, map, take, Option, Some, None, inl, inr}
 use Rattle.std.proofs.Common.{refl, sym, ap, subst, ◌∙◌}
-use Rattle.std.specs.Prelude.{◌&&◌, ◌||◌, ◌==◌, not}
-use Rattle.std.proofs.lemmas.Bool.{eqb-true, false≢true}
+use Rattle.std.specs.Prelude.{◌&&◌, ◌==◌, not}
+use Rattle.std.proofs.lemmas.Bool.{eqb-true, false≢true, and_parts as both, or_left as first_of}
 use Rattle.std.specs.List.{filter}
 use Rattle.std.specs.Ordering.{is_eq, is_le, ordering_then}
 use Rattle.std.specs.declared.cmp.Ordering.TheVariants.{Less, Equal, Greater}
@@ -39,13 +39,6 @@ use Rattle.study_index.specs.Leads.{value_front, value_end}
 use Rattle.study_index.specs.Proved.Leads.{lead_total, lead_exact}
 use Rattle.study_index.proofs.Corrected.{lawful_of, tag_is_for}
 use Rattle.archive_query.specs.Leads.{is_led_tag}
-
-both : (a b : Bool) → (a && b) ≡ true → (a ≡ true) × (b ≡ true)
-both true b e = (refl, e)
-both false b e = absurd (false≢true e)
-
-first_of : (a b : Bool) → a ≡ true → (a || b) ≡ true
-first_of a b h = ap (λ x. x || b) h
 
 itself : (t : Text) → text_cmp t t ≡ Equal
 itself t = tied_itself nat_list_cmp_total t

@@ -4,11 +4,12 @@ use Rattle.std.proofs.Common.{Bool, true, false, refl, sym, ap, ◌∙◌, arith
 use Rattle.std.specs.Prelude.{◌&&◌, ◌||◌, IfSome}
 use Rattle.std.specs.BTreeMap.{is_at}
 use Rattle.std.specs.BTreeSet.{insert_key}
+use mathlib.Core.Bool.{and-false as not_any, or-false as or_none}
 use Rattle.octets.specs.Members.{Has}
 use Rattle.octets.specs.Texts.{text_cmp}
 use Rattle.study_index.specs.Keys.{has}
 use Rattle.study_index.specs.Proved.Picks.{text_exact}
-use Rattle.study_index.proofs.KeyLaws.{or_none, same_key}
+use Rattle.study_index.proofs.KeyLaws.{same_key}
 use Rattle.study_index.proofs.LeadLaws.{put_in}
 use Rattle.study_index.specs.Live.{Text}
 use Rattle.study_index.specs.Index.{IndexValue}
@@ -39,10 +40,6 @@ has_at (x ∷ xs) zero d within = inl refl
 has_at (x ∷ xs) (suc i) d within = inr (has_at xs i d (omega arith))
 
 -- ---- what is put in of some, where it passes a test
-
-not_any : (b : Bool) → (b && false) ≡ false
-not_any true = refl
-not_any false = refl
 
 passes_none : (p : Text → Bool) (one : Text) → p one ≡ false → (u : Text) → (p u && is_at (text_cmp u) one) ≡ false
 passes_none p one out u = by (is_at (text_cmp u) one) refl

@@ -5,7 +5,8 @@ use Rattle.std.proofs.Common.{length-append}
 use Rattle.std.specs.List.{filter_map, cons_option}
 use Rattle.std.specs.Option.{option_map}
 use Rattle.std.specs.Prelude.{codes}
-use Rattle.std.proofs.lemmas.Bool.{ltb-true, leb-true, lt-ltb}
+use Rattle.std.proofs.lemmas.Bool.{ltb-true, leb-true, lt-ltb, and_from as and_both, not-true as off}
+use Rattle.std.specs.Cmp.{first_so as left, second_so as right}
 use Rattle.dictionary.specs.Elements.{vr_in_table}
 use Rattle.data_set.specs.declared.syntax.Syntax.TheVariants.{Explicit}
 use Rattle.data_set.specs.Tree.{Tree, trees_of}
@@ -60,18 +61,6 @@ padded_is_short vr value h = padded_by (length value % 2 == 0) value (pad_of vr)
 
 -- ---- one element
 
-left : (a b : Bool) → (a && b) ≡ true → a ≡ true
-left true b h = refl
-left false b h = cc
-
-right : (a b : Bool) → (a && b) ≡ true → b ≡ true
-right true b h = h
-right false b h = cc
-
-off : (a : Bool) → not a ≡ true → a ≡ false
-off true h = cc
-off false h = refl
-
 no_length : (size : ℕ) → size < 65536 → (size == 4294967295) ≡ false
 no_length size h = grind arith
 
@@ -101,10 +90,6 @@ may_stand previous tag (a ∷ b ∷ []) size above small item reserved named fit
     }
 
 -- ---- all of them
-
-and_both : (a b : Bool) → a ≡ true → b ≡ true → (a && b) ≡ true
-and_both true b g h = h
-and_both false b g h = cc
 
 above_both : (previous : Option ℕ) (tag next : ℕ) → is_above previous tag ≡ true → is_above (Some tag) next ≡ true
     → is_above previous next ≡ true

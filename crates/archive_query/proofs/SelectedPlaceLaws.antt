@@ -1,7 +1,7 @@
 -- The candidates of a selection are enough: nothing of it is lost.
-use Rattle.std.proofs.Common.{◌≡◌, Bool, true, false, List, take, Option, Some, refl, sym, ap, subst, ◌∙◌}
-use Rattle.std.specs.Prelude.{◌&&◌, ◌||◌, not, Result, Ok, Err, OnOk}
-use Rattle.std.proofs.lemmas.Bool.{false≢true}
+use Rattle.std.proofs.Common.{◌≡◌, true, List, take, Option, Some, sym, ap, subst, ◌∙◌}
+use Rattle.std.specs.Prelude.{◌||◌, not, Result, Ok, Err, OnOk}
+use Rattle.std.proofs.lemmas.Bool.{and_parts as and_both, or_right as or_second}
 use Rattle.std.specs.List.{filter_map}
 use Rattle.std.specs.List.Sorted.{IsStrictlySortedBy}
 use Rattle.std.specs.Option.{option_map}
@@ -36,14 +36,6 @@ use Rattle.archive_model.specs.Selection.{is_within, is_selected, selected}
 use Rattle.archive_query.specs.SelectedPlaces.{ReachesAll}
 
 -- ---- tests
-
-and_both : (a b : Bool) → (a && b) ≡ true → (a ≡ true) × (b ≡ true)
-and_both true b e = (refl, e)
-and_both false b e = absurd (false≢true e)
-
-or_second : (a b : Bool) → b ≡ true → (a || b) ≡ true
-or_second true b e = refl
-or_second false b e = e
 
 -- what follows from a fact, where a call was not refused
 pub on_ok : {X E P Q : Type 0} (r : Result X E) → (P → Q) → OnOk r P → OnOk r Q

@@ -1,8 +1,9 @@
 -- The rows of what is shown first of each series of a study are those of all its series, where no count is asked.
-use Rattle.std.proofs.Common.{◌≡◌, Bool, true, false, List, ℕ, take, Some, refl, sym, ap, subst, ◌∙◌}
+use Rattle.std.proofs.Common.{◌≡◌, false, List, ℕ, take, Some, sym, ap, subst, ◌∙◌}
 use Rattle.std.specs.Prelude.{◌&&◌, ◌||◌, not, map}
 use Rattle.std.specs.List.Sorted.{IsStrictlySortedBy}
 use Rattle.std.specs.Map.{keys_of}
+use mathlib.Core.Bool.{and-true as and_true}
 use Rattle.octets.specs.Members.{Has as IsOne}
 use Rattle.octets.specs.Texts.{same, text_cmp}
 use Rattle.operation.specs.declared.op.Op.{Op}
@@ -27,10 +28,6 @@ use Rattle.archive_query.proofs.AscendingLaws.{Text, ascending_rises}
 use Rattle.archive_query.proofs.FirstLaws.{stands_in_study, taken_shown}
 use Rattle.archive_query.proofs.FirstRows.{up_shown, shown_own, in_shown}
 use Rattle.archive_query.proofs.HeadLaws.{ups, up_filter, StandsFor, firsts_alike, rows_by_firsts}
-
-and_true : (b : Bool) → (b && true) ≡ b
-and_true true = refl
-and_true false = refl
 
 module _ (view : View) (ops : List Op) (index : IndexValue) (is : IsIndexOf ops index)
     (up : IsStrictlySortedBy text_cmp (keys_of index.picks)) (q : Query) (none : is_counted q ≡ false)

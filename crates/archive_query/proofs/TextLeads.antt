@@ -2,7 +2,7 @@
 use Rattle.std.proofs.Common.{◌≡◌, ℕ, zero, suc, Bool, true, false, [], ◌∷◌, ◌++◌, map, take, drop, length}
 use Rattle.std.proofs.Common.{refl, sym, ap, subst, ◌∙◌, inl, inr, ◌⊎◌, arith}
 use Rattle.std.specs.Prelude.{◌&&◌, ◌||◌, ◌==◌, not, nat_le, if◌then◌else◌}
-use Rattle.std.proofs.lemmas.Bool.{eqb-true, false≢true, leb-true, leb-false}
+use Rattle.std.proofs.lemmas.Bool.{eqb-true, false≢true, leb-true, leb-false, and_parts as both, and_from as both_true}
 use Rattle.std.proofs.lemmas.List.{take_all, take-append-drop, length-map, length-take-le, append_assoc}
 use Rattle.std.proofs.lemmas.List.Folds.{list_all_more}
 use Rattle.std.proofs.Common.{get_or, ◌+◌, ◌<◌, ◌≤◌}
@@ -12,6 +12,7 @@ use Rattle.std.specs.Ordering.{nat_cmp, is_le, ordering_then, ordering_reverse}
 use Rattle.std.specs.declared.cmp.Ordering.{Ordering}
 use Rattle.std.specs.declared.cmp.Ordering.TheVariants.{Less}
 use Rattle.std.proofs.lemmas.Cmp.{tied_itself, nat_cmp_total}
+use Rattle.std.proofs.lemmas.Bool.{or_right as later, not-true as not_true}
 use Rattle.octets.specs.Texts.{same, text_cmp}
 use Rattle.archive_model.proofs.ModelLaws.{same_itself}
 use Rattle.dictionary.specs.declared.role.Matching.{Matching}
@@ -26,14 +27,6 @@ use Rattle.study_index.specs.Leads.{IsWithin, IsBehind, LeadWalk, is_walked, beg
 use Rattle.study_index.specs.Proved.Leads.{lead_total}
 use Rattle.archive_query.specs.Leads.{is_plain, is_text_key, value_walk, IsFrontWalk, IsRunOf, IsNeedleOf}
 use Rattle.archive_query.proofs.LeadEnough.{value_within}
-
-pub both : (a b : Bool) → (a && b) ≡ true → (a ≡ true) × (b ≡ true)
-both true b e = (refl, e)
-both false b e = absurd (false≢true e)
-
-pub not_true : (a : Bool) → not a ≡ true → a ≡ false
-not_true true e = absurd (false≢true e)
-not_true false e = refl
 
 -- a byte is folded alike for a match and for a lead
 capital_is : (byte : ℕ) → capital byte ≡ to_ascii_uppercase byte
@@ -118,10 +111,6 @@ kind_after kind key (inr two) = ap (λ n. ordering_then (nat_cmp 0 n) (text_cmp 
 pub before_end : (lead end : Lead) → lead_cmp lead end ≡ Less → not (is_le (lead_cmp end lead)) ≡ true
 before_end lead end less = ap (λ o. not (is_le o)) (lead_total.antisymm end lead ∙ ap ordering_reverse less)
 
-pub both_true : (a b : Bool) → a ≡ true → b ≡ true → (a && b) ≡ true
-both_true true b p q = q
-both_true false b p q = absurd (false≢true p)
-
 -- what begins with a text is between its front and what stands behind it
 begins_within : (tag : ℕ) (value text rest : Text) (end : Lead) → as_led tag value ≡ text ++ rest → IsBehind tag text end
     → IsWithin (is_between (value_front tag text) end) tag value
@@ -152,10 +141,6 @@ begins : (run text : Text) → take (length run) text ≡ run → has_run run te
 begins run [] e = ap (same run) e ∙ same_itself run run refl
 begins run (t ∷ text) e = ap (λ (r : Text). same run r || has_run run text) e
     ∙ ap (λ b. b || has_run run text) (same_itself run run refl)
-
-later : (a b : Bool) → b ≡ true → (a || b) ≡ true
-later true b e = refl
-later false b e = e
 
 -- what a `*` matches, or a byte, with what is behind it
 by_star : (r vs : Text) (x : ℕ) (b p q c d : Bool) → (p ≡ true → has_run r (x ∷ vs) ≡ true)

@@ -2,7 +2,7 @@
 use Rattle.std.proofs.Common.{◌≡◌, ℕ, ◌<◌, Bool, true, false, List, [], ◌∷◌, ◌++◌, refl, sym, subst, ◌∙◌, inl, inr}
 use Rattle.std.proofs.Common.{arith}
 use Rattle.std.specs.Prelude.{◌&&◌, ◌||◌, ◌==◌, not}
-use Rattle.std.proofs.lemmas.Bool.{eqb-true}
+use Rattle.std.proofs.lemmas.Bool.{eqb-true, and_parts as both, not-true as not_true}
 use Rattle.dictionary.specs.declared.elements.TheConstants.{ACCESSION_NUMBER, PATIENT_ID, PATIENT_NAME, STUDY_DATE}
 use Rattle.dictionary.specs.declared.elements.TheConstants.{STUDY_ID}
 use Rattle.octets.specs.Members.{Has}
@@ -14,7 +14,6 @@ use Rattle.study_index.specs.Leads.{led_tags, LeadWalk, is_walked, IsWithin}
 use Rattle.archive_query.specs.Leads.{is_led_tag, is_text_key, is_dates, is_walkable, IsWalkFor, IsChosen}
 use Rattle.archive_query.specs.Leads.{AreChosenWalks}
 use Rattle.archive_model.specs.declared.query.Query.{Query}
-use Rattle.archive_query.proofs.TextLeads.{both, not_true}
 
 split : (asked : Asked) → is_walkable asked ≡ true → (is_led_tag asked.tag ≡ true) × (is_universal asked.key ≡ false)
     × ((is_text_key asked.matching asked.tag || is_dates asked.matching asked.tag) ≡ true)

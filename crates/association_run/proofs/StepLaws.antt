@@ -5,6 +5,7 @@ use Rattle.std.proofs.Common.{arith}
 use Rattle.std.specs.Prelude.{IsSome, option_to_list}
 use Rattle.std.specs.List.{list_any}
 use Rattle.std.proofs.lemmas.List.Folds.{list_any-append}
+use mathlib.Core.Bool.{or_assoc}
 use Rattle.pdu.specs.declared.pdv.Pdv.{Pdv}
 use Rattle.operation.specs.declared.op.Op.{Op}
 use Rattle.ul_state.specs.declared.event.Event.{Event}
@@ -295,10 +296,6 @@ or_more true b c d = refl
 or_more false true c d = refl
 or_more false false true d = refl
 or_more false false false d = refl
-
-pub or_assoc : (a b c : Bool) → ((a || b) || c) ≡ (a || (b || c))
-or_assoc true b c = refl
-or_assoc false b c = refl
 
 aborted_on : (before event r now to : Bool) (done deeds : List Deed)
     → now ≡ (before || (event || list_any is_abort done)) → r ≡ false → to ≡ (now || (r || list_any is_abort deeds))

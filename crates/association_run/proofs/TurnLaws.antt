@@ -7,6 +7,8 @@ use Rattle.std.proofs.Math.Arith.{lt_of_le-ne}
 use Rattle.std.proofs.lemmas.List.Folds.{list_any-append}
 use Rattle.std.specs.List.{list_any}
 use Rattle.std.specs.Io.KnownBytes.{Consumes, IsAtEnd}
+use Rattle.std.proofs.lemmas.List.{nil_from_length as no_bytes}
+use mathlib.Core.Bool.{or-false as or_none}
 use Rattle.pdu.specs.declared.pdv.Pdv.{Pdv}
 use Rattle.pdu.specs.declared.fault.PduFault.{PduFault}
 use Rattle.pdu.specs.declared.fault.PduFault.TheVariants as faults
@@ -146,10 +148,6 @@ or_four false true true d = refl
 or_four false true false d = refl
 or_four false false true d = refl
 or_four false false false d = refl
-
-or_none : (a : Bool) → (a || false) ≡ a
-or_none true = refl
-or_none false = refl
 
 aborted_push : (pieces : List Piece) (done : List Deed) (piece : Piece) (deeds : List Deed) (before after : Bool)
     → before ≡ was_aborted pieces done → after ≡ (before || (is_abort_piece piece || list_any is_abort deeds))
@@ -706,10 +704,6 @@ read_dropping r0 r1 state before after count dropping r cut = elim r.brought as 
   | inl adds ↦ absurd (let e = sym cut ∙ adds.1 in cc)
   | inr drops ↦ dropping drops.0
 ]
-
-no_bytes : (bytes : List ℕ) → length bytes ≡ 0 → bytes ≡ []
-no_bytes [] none = refl
-no_bytes (b ∷ bytes) none = absurd (omega (arith, none))
 
 -- a read that brought nothing
 still_unfinished : (before after : Intake) (bytes : List ℕ) → bytes ≡ [] → Adds before bytes after ⊎ Drops before bytes

@@ -6,6 +6,8 @@ use Rattle.std.proofs.lemmas.Bool.Decides.{nat_tests}
 use Rattle.std.specs.List.{list_all, suffix_len}
 use Rattle.std.proofs.lemmas.List.Sums.{suffix_len_is}
 use Rattle.std.proofs.lemmas.List.Folds.{list_all_at}
+use Rattle.std.proofs.lemmas.Bool.{and_from as both}
+use Rattle.std.specs.Cmp.{first_so as left, second_so as right}
 use Rattle.octets.specs.Padding.{is_padding}
 use Rattle.octets.specs.Uid.{is_uid_byte, is_uid_text}
 use Rattle.operation.specs.Contents.{IsContent}
@@ -33,18 +35,6 @@ byte_graphic b e = grind (arith, nat_tests)
 
 byte_plain : (b : ℕ) → is_uid_byte b ≡ true → is_padding b ≡ false
 byte_plain b e = grind (arith, nat_tests)
-
-left : (a b : Bool) → (a && b) ≡ true → a ≡ true
-left true b e = refl
-left false b e = absurd cc
-
-right : (a b : Bool) → (a && b) ≡ true → b ≡ true
-right true b e = e
-right false b e = absurd cc
-
-both : (a b : Bool) → a ≡ true → b ≡ true → (a && b) ≡ true
-both true b p q = q
-both false b p q = absurd cc
 
 all_graphic : (u : List ℕ) → list_all is_uid_byte u ≡ true → list_all is_graphic u ≡ true
 all_graphic [] e = refl

@@ -4,6 +4,8 @@ use Rattle.std.proofs.Common.{ap, ◌∙◌, inl, inr, subst}
 use Rattle.std.specs.Prelude.{nat_lt, is_some, ◌||◌, ◌&&◌, not}
 use Rattle.std.specs.List.{list_any, filter}
 use Rattle.std.specs.Option.{option_map}
+use Rattle.std.proofs.lemmas.Option.{same_Some}
+use Rattle.std.proofs.lemmas.Bool.{or_parts as either_false, or_from as none_before}
 use Rattle.octets.specs.Texts.{same}
 use Rattle.data_set.specs.declared.syntax.Syntax.{Syntax}
 use Rattle.data_set.specs.declared.syntax.Syntax.TheVariants.{Implicit, Explicit}
@@ -90,17 +92,9 @@ entries all (c ∷ cs) class syntax =
     entry_by (same c.abstract_syntax class) all c.abstract_syntax class syntax
     (form_for (map (accepted_on all) cs) class syntax) (is_of_class class cs) refl (entries all cs class syntax)
 
-either_false : (a b : Bool) → (a || b) ≡ false → (a ≡ false) × (b ≡ false)
-either_false true b e = absurd cc
-either_false false b e = (refl, e)
-
 other_takes_none : (b c d : Bool) → b ≡ false → (b && c && d) ≡ false
 other_takes_none true c d e = absurd cc
 other_takes_none false c d e = refl
-
-none_before : (a b : Bool) → a ≡ false → b ≡ false → (a || b) ≡ false
-none_before true b p q = absurd cc
-none_before false b p q = q
 
 -- No context of another class takes its data sets.
 none_takes : (class : List ℕ) (explicit : Bool) (cs : List Context) → is_of_class class cs ≡ false
@@ -146,17 +140,14 @@ lesser_on true c cs class explicit told id takes on is = subst (λ n. IsOn (c �
 lesser_on false c cs class explicit told id takes on is =
     record { context = c; there = inl refl; takes = takes; is = is }
 
-same_id : (x y : ℕ) → Some x ≡ Some y → x ≡ y
-same_id x y e = cc
-
 first_on : (found : Option ℕ) (c : Context) (cs : List Context) (class : List ℕ) (explicit : Bool) (id : ℕ)
     → takes_class class explicit c ≡ true → ((n : ℕ) → found ≡ Some n → IsOn cs class explicit n)
     → Some (lesser c.id found) ≡ Some id → IsOn (c ∷ cs) class explicit id
 first_on None c cs class explicit id takes on e =
-    record { context = c; there = inl refl; takes = takes; is = same_id c.id id e }
+    record { context = c; there = inl refl; takes = takes; is = same_Some c.id id e }
 first_on (Some told) c cs class explicit id takes on e =
     lesser_on (nat_lt told c.id) c cs class explicit told id takes (on told refl)
-    (same_id (cond (nat_lt told c.id) told c.id) id e)
+    (same_Some (cond (nat_lt told c.id) told c.id) id e)
 
 least_by : (b : Bool) (found : Option ℕ) (c : Context) (cs : List Context) (class : List ℕ) (explicit : Bool) (id : ℕ)
     → takes_class class explicit c ≡ b → ((n : ℕ) → found ≡ Some n → IsOn cs class explicit n)
@@ -172,9 +163,6 @@ least_on (c ∷ cs) class explicit id e =
     least_by (takes_class class explicit c) (least_id class explicit cs) c cs class explicit id refl
     (λ n. least_on cs class explicit n) e
 
-same_way : (x y : Way) → Some x ≡ Some y → x ≡ y
-same_way x y e = cc
-
 own_on : (id : Option ℕ) (contexts : List Context) (class : List ℕ) (syntax : Syntax) (others : Option Way) (way : Way)
     → ((n : ℕ) → id ≡ Some n → IsOn contexts class (is_explicit syntax) n)
     → (others ≡ Some way → IsOn contexts class (is_explicit (syntax_of way.form syntax)) way.context)
@@ -182,7 +170,7 @@ own_on : (id : Option ℕ) (contexts : List Context) (class : List ℕ) (syntax 
 own_on None contexts class syntax others way on other e = other e
 own_on (Some n) contexts class syntax others way on other e =
     subst (λ (w : Way). IsOn contexts class (is_explicit (syntax_of w.form syntax)) w.context)
-    (same_way _ way e) (on n refl)
+    (same_Some _ way e) (on n refl)
 
 converted_is_on : (id : Option ℕ) (contexts : List Context) (class : List ℕ) (syntax : Syntax) (way : Way)
     → ((n : ℕ) → id ≡ Some n → IsOn contexts class false n) → converted_on id ≡ Some way
@@ -190,7 +178,7 @@ converted_is_on : (id : Option ℕ) (contexts : List Context) (class : List ℕ)
 converted_is_on None contexts class syntax way on e = absurd cc
 converted_is_on (Some n) contexts class syntax way on e =
     subst (λ (w : Way). IsOn contexts class (is_explicit (syntax_of w.form syntax)) w.context)
-    (same_way _ way e) (on n refl)
+    (same_Some _ way e) (on n refl)
 
 -- The context takes the class, in the syntax in which the content is sent.
 pub way_is_on : WayIsOn

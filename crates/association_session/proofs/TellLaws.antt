@@ -242,10 +242,6 @@ told_all titles now new a kind rows left status mid deeds has within sub stage n
 
 -- ---- what is left
 
-pub empty_of : (left : List Set) → length left ≡ 0 → left ≡ []
-empty_of [] e = refl
-empty_of (row ∷ left) e = absurd (omega (arith, e))
-
 -- ---- what can be written
 
 pub all_put : (old new : List Deed) (ps : List Pdu) → All IsWritable old → All IsPdu ps → new ≡ old ++ map Send ps

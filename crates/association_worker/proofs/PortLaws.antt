@@ -7,6 +7,7 @@ use Rattle.std.specs.Cmp.{tied_itself}
 use Rattle.std.specs.Cmp.Lexicographic.{nat_list_cmp_total}
 use Rattle.std.specs.BTreeMap.{is_at}
 use Rattle.std.specs.FinMap.{get, get-insert}
+use Rattle.std.proofs.lemmas.Option.{same_Some as some_is}
 use Rattle.operation.specs.declared.op.Op.{Op}
 use Rattle.operation.specs.Spelling.{digest_of}
 use Rattle.operation.specs.declared.taken.Taken.{Taken}
@@ -63,9 +64,6 @@ pub holds_now : (m n : Map) (op : Op) (taken : Taken) → Takes m op (Ok taken) 
 holds_now m n op taken takes = of_ops n (digest_of op) op (taken_at m n op taken takes)
 
 -- ---- what is held, and what is new
-
-some_is : (x o : Op) → Some x ≡ Some o → x ≡ o
-some_is x o e = cc
 
 own_digest : (r : Option Op) (d : List ℕ) (o : Op) → r ≡ Some o → IfSome r (λ x. d ≡ digest_of x) → d ≡ digest_of o
 own_digest r d o e own = subst (λ (s : Option Op). IfSome s (λ x. d ≡ digest_of x)) e own

@@ -1,5 +1,6 @@
 -- What a correction of fewer parts tells of those that it has.
 use Rattle.std.proofs.Common.{◌≡◌, refl, ap, ◌∙◌, ℕ, List, [], Bool, true, false, ◌&&◌}
+use mathlib.Core.Bool.{and-true as only_first}
 use Rattle.dictionary.specs.Elements.{role_in_table}
 use Rattle.operation.specs.declared.target.Target.{Target}
 use Rattle.operation.specs.declared.target.Target.TheVariants.{Study, Patient, Series}
@@ -18,10 +19,6 @@ first_three true true true = refl
 first_three true true false = refl
 first_three true false c = refl
 first_three false b c = refl
-
-only_first : (a : Bool) → (a && true) ≡ a
-only_first true = refl
-only_first false = refl
 
 -- A correction without a value is lawful where its key and its tag are.
 valueless : (target : Target) (tag : ℕ) → is_correction (record {

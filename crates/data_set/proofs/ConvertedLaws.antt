@@ -2,7 +2,7 @@
 use Rattle.std.proofs.Common.{◌≡◌, ℕ, zero, suc, Bool, true, false, not, ◌&&◌, ◌||◌, cond, List, [], ◌∷◌, length}
 use Rattle.std.proofs.Common.{Option, Some, None, refl, sym, ap, subst, ◌∙◌, arith}
 use Rattle.std.specs.Prelude.{◌==◌}
-use Rattle.std.proofs.lemmas.Bool.{ltb-true, lt-ltb}
+use Rattle.std.proofs.lemmas.Bool.{ltb-true, lt-ltb, not-false as not_false, or_parts as or_false}
 use Rattle.data_set.specs.declared.fault.SetFault.TheVariants.{Order, Group, BadVr, Undefined}
 use Rattle.data_set.specs.declared.syntax.Syntax.{Syntax}
 use Rattle.data_set.specs.declared.syntax.Syntax.TheVariants.{Implicit, Explicit}
@@ -15,7 +15,6 @@ use Rattle.data_set.specs.Texts.{deepest}
 use Rattle.data_set.specs.Written.{AreRows, AreTrees, IsSet, IsTree, MayStand}
 use Rattle.data_set.specs.Converted.{converted, converted_rows, converted_tree, converted_trees}
 use Rattle.data_set.proofs.Offences.{guard_none}
-use Rattle.data_set.proofs.HeaderLaws.{or_false, not_false}
 use Rattle.data_set.proofs.Fitting.{size_fits}
 use Rattle.data_set.proofs.Lists.{trees_back}
 

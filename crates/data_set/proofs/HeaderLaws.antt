@@ -5,8 +5,10 @@ use Rattle.std.proofs.Common.{arith, MatchBool}
 use Rattle.std.specs.Prelude.{◌==◌, IfOk}
 use Rattle.std.specs.Borrow.{Bor}
 use Rattle.std.specs.Int.{w16, w32, from_le_bytes, to_le_bytes}
-use Rattle.std.proofs.lemmas.Bool.{eqb-true}
+use Rattle.std.proofs.lemmas.Bool.{eqb-true, and_parts as and_true, not-true as not_true, not-false as not_false}
 use Rattle.std.proofs.lemmas.Nat.{le_bytes_2, le_bytes_4, from_le_bytes-to_le_bytes_2, from_le_bytes-to_le_bytes_4}
+use Rattle.std.proofs.lemmas.Bool.{or_parts as or_false}
+use mathlib.Core.Bool.{and-false as and_false}
 use Rattle.data_set.specs.declared.fault.SetFault.{SetFault}
 use Rattle.data_set.specs.declared.fault.SetFault.TheVariants.{Truncated, Order, Depth, Undefined, BadVr, Group}
 use Rattle.data_set.specs.declared.syntax.Syntax.{Syntax}
@@ -43,22 +45,6 @@ implicit_again tag size rest lt fits =
     let s = from_le_bytes-to_le_bytes_4 size fits in
     ap (λ (p : ℕ × ℕ). Ok (header p.0 None p.1, rest)) (ap (λ (x : ℕ). (x, from_le_bytes w32 (to_le_bytes w32 size))) t
     ∙ ap (λ (y : ℕ). (tag, y)) s)
-
-pub or_false : (a b : Bool) → (a || b) ≡ false → (a ≡ false) × (b ≡ false)
-or_false true b e = absurd cc
-or_false false b e = (refl, e)
-
-pub not_false : (b : Bool) → not b ≡ false → b ≡ true
-not_false true e = refl
-not_false false e = absurd cc
-
-pub and_true : (a b : Bool) → (a && b) ≡ true → (a ≡ true) × (b ≡ true)
-and_true true b e = (refl, e)
-and_true false b e = absurd cc
-
-and_false : (b : Bool) → (b && false) ≡ false
-and_false true = refl
-and_false false = refl
 
 -- what is known of a header in which nothing offends
 pub record Faultless (previous : Option ℕ) (tag : ℕ) (vr : Option (List ℕ)) : Type 0 where
@@ -242,10 +228,6 @@ long_takes tag g0 g1 e0 e1 a b (r0 ∷ r1 ∷ l0 ∷ l1 ∷ l2 ∷ l3 ∷ rest) 
       parts = ap (λ (g : List ℕ). g ++ (a ∷ b ∷ r0 ∷ r1 ∷ l0 ∷ l1 ∷ l2 ∷ l3 ∷ rest)) (sym t);
     })
 long_takes tag g0 g1 e0 e1 a b _ x fits lt t is e = absurd cc
-
-not_true : (b : Bool) → not b ≡ true → b ≡ false
-not_true true e = absurd cc
-not_true false e = refl
 
 names_short : (tag : ℕ) (vr : List ℕ) (text : List ℕ) (x : Header × List ℕ) → short_size tag vr text ≡ Ok x
     → (x.0.tag ≡ tag) × (x.0.vr ≡ Some vr)

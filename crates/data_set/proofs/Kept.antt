@@ -3,7 +3,7 @@ use Rattle.std.proofs.Common.{inl, inr, ◌≤◌, ◌≡◌, ◌≢◌, ◌⊎�
 use Rattle.std.proofs.Common.{◌∷◌, length, take, drop, Option, Some, None, Result, Ok, Err, refl, sym, ap, subst, ◌∙◌}
 use Rattle.std.proofs.Common.{arith}
 use Rattle.std.specs.Prelude.{◌==◌}
-use Rattle.std.proofs.lemmas.Bool.{eqb-true}
+use Rattle.std.proofs.lemmas.Bool.{eqb-true, and_parts as and_true}
 use Rattle.data_set.specs.declared.fault.SetFault.{SetFault}
 use Rattle.data_set.specs.declared.syntax.Syntax.{Syntax}
 use Rattle.data_set.specs.declared.syntax.Syntax.TheVariants.{Implicit, Explicit}
@@ -21,7 +21,6 @@ use Rattle.data_set.specs.Spelling.{Begins, FitsHead}
 use Rattle.data_set.specs.Texts.{All_of, Body, ElementOver, Given, HasContent, IsElement, IsItem, Spells, Takes}
 use Rattle.data_set.specs.Texts.{deepest, after_tag, behind, closing_of, no_order, place_of}
 use Rattle.data_set.specs.Written.{AreRows, AreTrees, Deeper, IsSet, IsTree, MayStand}
-use Rattle.data_set.proofs.HeaderLaws.{and_true}
 
 some_if : (b : Bool) (x inner : Syntax) → cond b (Some x) None ≡ Some inner → Some x ≡ Some inner
 some_if true x inner e = e

@@ -1,6 +1,7 @@
 -- A text is read in one way: whatever is read from it, or offends in it, is so once.
 use Rattle.std.proofs.Common.{inl, inr, ◌≡◌, ℕ, zero, suc, List, [], ◌∷◌, Option, Some, None, Result, Ok, Err, refl}
 use Rattle.std.proofs.Common.{sym, ap, subst, ◌∙◌}
+use Rattle.std.proofs.lemmas.Option.{same_Some as some_is}
 use Rattle.data_set.specs.declared.fault.SetFault.{SetFault}
 use Rattle.data_set.specs.declared.syntax.Syntax.{Syntax}
 use Rattle.data_set.specs.declared.header.Closing.{Closing}
@@ -30,9 +31,6 @@ err_is A f g e = cc
 
 ok_or_err : {A : Type 0} (x : A) (f : SetFault) → given_ok x ≡ given_err A f → ⊥
 ok_or_err x f e = cc
-
-some_is : (x y : List ℕ) → Some x ≡ Some y → x ≡ y
-some_is x y e = cc
 
 some_or_none : (o : Option (List ℕ)) (x : List ℕ) → o ≡ Some x → o ≡ None → ⊥
 some_or_none o x a b = cc

@@ -4,6 +4,7 @@ use Rattle.std.proofs.Common.{length, take, drop, Option, Some, None, Ok, Err, r
 use Rattle.std.specs.Prelude.{◌==◌}
 use Rattle.std.proofs.lemmas.List.{length-append, length-drop}
 use Rattle.std.specs.Int.{w32, to_le_bytes}
+use Rattle.std.proofs.lemmas.Option.{same_Some as some_is}
 use Rattle.octets.specs.Bytes.{IsBytes}
 use Rattle.octets.specs.Gives.{◌>>=◌}
 use Rattle.octets.proofs.ByteLaws.{IsBytes-drop, IsBytes-tail}
@@ -56,9 +57,6 @@ begins_left : (syntax : Syntax) (previous : Option ℕ) (text : List ℕ) (front
     → Begins syntax previous text front rest → IsBytes text → IsBytes rest × (length rest < length text)
 begins_left syntax previous text front rest begins fits =
     behind_front (tag_text front.tag) begins.head rest text begins.parts (omega arith) fits
-
-some_is : (x y : List ℕ) → Some x ≡ Some y → x ≡ y
-some_is x y e = cc
 
 cond_some : (b : Bool) (x y : List ℕ) → cond b (Some x) None ≡ Some y → x ≡ y
 cond_some true x y e = some_is x y e

@@ -5,6 +5,7 @@ use Rattle.std.proofs.Common.{length-append}
 use Rattle.std.specs.Prelude.{◌==◌, ◌&&◌}
 use Rattle.std.specs.Int.{w32, to_le_bytes}
 use Rattle.std.proofs.lemmas.List.{length-drop}
+use Rattle.std.proofs.lemmas.Option.{same_Some as some_is}
 use Rattle.data_set.specs.declared.fault.SetFault.{SetFault}
 use Rattle.data_set.specs.declared.syntax.Syntax.{Syntax}
 use Rattle.data_set.specs.declared.header.Front.{Front}
@@ -24,9 +25,6 @@ use Rattle.data_set.specs.Reading.{elements_of, elements_in}
 use Rattle.data_set.proofs.HeaderLaws.{front_again, item_again}
 
 -- ---- what is read is shorter
-
-some_is : (x y : List ℕ) → Some x ≡ Some y → x ≡ y
-some_is x y e = cc
 
 by_end : (b : Bool) (x rest after : List ℕ) → cond b (Some x) None ≡ Some after → length x ≤ length rest
     → length after ≤ length rest

@@ -4,7 +4,8 @@ use Rattle.std.proofs.Common.{Option, Some, None, refl, sym, ap, subst, arith, l
 use Rattle.std.specs.Prelude.{◌==◌, nat_lt, not, ◌&&◌, ◌||◌, is_some}
 use Rattle.std.specs.List.{list_all}
 use Rattle.std.specs.Option.{option_map}
-use Rattle.std.proofs.lemmas.Bool.{eqb-true, ltb-true, lt-ltb, le-ltb, and_parts, not-true}
+use Rattle.std.proofs.lemmas.Bool.{eqb-true, ltb-true, lt-ltb, le-ltb, and_parts, not-true, false_from_ne_true}
+use Rattle.std.proofs.lemmas.Option.{same_Some as some_is}
 use lib.Chars.{codes}
 use Rattle.dictionary.specs.declared.role.Entity.{Entity}
 use Rattle.dictionary.specs.Elements.{Line, table, vr_in_table, role_in_table}
@@ -32,11 +33,8 @@ MayPut tag vr = (s : Syntax) (q : Option ℕ) (size : ℕ) → is_above q tag �
     → MayStand s q tag (vr_in s (Some vr)) size None
 
 small : (size : ℕ) → size < 2 ^ 16 → (size == undefined_length) ≡ false
-small size lt = other (size == undefined_length) (λ e. absurd (omega (arith, eqb-true size undefined_length e)))
-  where
-    other : (b : Bool) → (b ≡ true → ⊥) → b ≡ false
-    other true no_way = absurd (no_way refl)
-    other false no_way = refl
+small size lt =
+    false_from_ne_true (size == undefined_length) (λ e. omega (arith, eqb-true size undefined_length e))
 
 may_put : (tag a b : ℕ) → tag < 2 ^ 32 → is_item_tag tag ≡ false → is_reserved_group tag ≡ false → is_listed tag ≡ false
     → is_capital a ≡ true → is_capital b ≡ true → is_short a b ≡ true → is_name a b (codes "SQ") ≡ false
@@ -100,9 +98,6 @@ all_stand = refl
 borne_out : BearsOut (λ tag vr role. MayPut tag vr) line_stands
 borne_out line entity t is = stands line.tag line.vr
     (subst (λ (o : Option Entity). (not (is_some o) || may_stand line.tag line.vr) ≡ true) is t)
-
-some_is : (u v : List ℕ) → Some u ≡ Some v → u ≡ v
-some_is u v same = cc
 
 -- so it is of any attribute that may be corrected
 corrected_stands : (tag : ℕ) (vr : List ℕ) → correction_vr_of tag ≡ Some vr → MayPut tag vr

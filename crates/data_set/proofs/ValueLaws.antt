@@ -1,6 +1,6 @@
 -- What values and items are read from data sets that were made of others.
 use Rattle.std.proofs.Common.{◌≡◌, ◌≢◌, ℕ, ◌+◌, ◌-◌, ◌%◌, ◌≤◌, Bool, true, false, cond, List, [], ◌∷◌, ◌++◌, length}
-use Rattle.std.proofs.Common.{take, drop, Option, Some, None, refl, sym, ap, ◌∙◌, arith, length-append}
+use Rattle.std.proofs.Common.{take, drop, Option, Some, None, refl, sym, ap, ◌∙◌, arith, length-append, true≢false}
 use Rattle.std.specs.Prelude.{◌==◌, nat_lt, filter}
 use Rattle.std.specs.Option.{option_map, option_or}
 use Rattle.std.specs.List.{prefix_len, suffix_len}
@@ -28,11 +28,8 @@ same_tag s tag t = ap (λ (x : ℕ). x == tag) (sym (converted_tag s t))
 differs : (t tag : ℕ) → is_group_length t ≡ true → is_group_length tag ≡ false → (t == tag) ≡ false
 differs t tag yes_length no_length = by_test (t == tag) (eqb-true t tag)
   where
-    true_false : true ≡ false → ⊥
-    true_false e = cc
-
     by_test : (b : Bool) → (b ≡ true → t ≡ tag) → b ≡ false
-    by_test true same = absurd (true_false (sym yes_length ∙ ap is_group_length (same refl) ∙ no_length))
+    by_test true same = absurd (true≢false (sym yes_length ∙ ap is_group_length (same refl) ∙ no_length))
     by_test false same = refl
 
 converted_one : (s : Syntax) (tag : ℕ) → is_group_length tag ≡ false → (t : Tree) (ts : List Tree)

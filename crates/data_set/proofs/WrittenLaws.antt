@@ -1,10 +1,10 @@
 -- What is written is read again.
-use Rattle.std.proofs.Common.{◌≡◌, ℕ, zero, suc, ◌^◌, ◌<◌, Bool, true, false, ◌||◌, cond, List, [], ◌∷◌, ◌++◌, length}
+use Rattle.std.proofs.Common.{◌≡◌, ℕ, zero, suc, ◌^◌, ◌<◌, Bool, true, false, cond, List, [], ◌∷◌, ◌++◌, length}
 use Rattle.std.proofs.Common.{Option, Some, None, Ok, refl, sym, ap, subst, ◌∙◌, append_assoc, arith, MatchBool}
-use Rattle.std.proofs.Common.{length-append}
+use Rattle.std.proofs.Common.{length-append, true≢false}
 use Rattle.std.specs.Prelude.{◌==◌, nat_le}
 use Rattle.std.specs.Int.{w16, w32, from_le_bytes, to_le_bytes}
-use Rattle.std.proofs.lemmas.Bool.{eqb-true, le-leb}
+use Rattle.std.proofs.lemmas.Bool.{eqb-true, le-leb, or_right}
 use Rattle.std.proofs.lemmas.List.{take_at, drop_at, append-nil}
 use Rattle.data_set.specs.declared.syntax.Syntax.{Syntax}
 use Rattle.data_set.specs.declared.header.Front.{Front}
@@ -93,10 +93,7 @@ head_here tag (Some (a ∷ b ∷ c ∷ vr)) size head rest lt is = absurd is
 -- where an element may stand, or an item, no end stands
 differ : (tag other : ℕ) → is_item_tag tag ≡ false → is_item_tag other ≡ true → (b : Bool) → (b ≡ true → tag ≡ other)
     → b ≡ false
-differ tag other plain is_item true same = absurd (true_false (sym is_item ∙ ap is_item_tag (sym (same refl)) ∙ plain))
-  where
-    true_false : true ≡ false → ⊥
-    true_false e = cc
+differ tag other plain is_item true same = absurd (true≢false (sym is_item ∙ ap is_item_tag (sym (same refl)) ∙ plain))
 differ tag other plain is_item false same = refl
 
 pub no_end_filled : (tag : ℕ) (text : List ℕ) → is_item_tag tag ≡ false → TagAt tag text → end_at Filled text ≡ None
@@ -129,10 +126,6 @@ unfolding end_at
 filled_ends = refl
 
 -- ---- elements and items
-
-or_right : (a b : Bool) → b ≡ true → (a || b) ≡ true
-or_right true b e = refl
-or_right false b e = e
 
 value_place : (value rest : List ℕ) → is_place (length value) (value ++ rest) ≡ true
 value_place value rest = or_right (length value == undefined_length) (nat_le (length value) (length (value ++ rest)))

@@ -1,6 +1,7 @@
 -- A text spells at most one command.
-use Rattle.std.proofs.Common.{◌≡◌, ℕ, List, Some, Result, Ok, Err, refl, sym, ap, subst, ◌∙◌}
+use Rattle.std.proofs.Common.{◌≡◌, ℕ, List, Result, Ok, Err, refl, sym, ap, subst, ◌∙◌}
 use Rattle.std.specs.Prelude.{IfOk, IfErr}
+use Rattle.std.proofs.lemmas.Option.{same_Some as some_is}
 use Rattle.dimse.specs.declared.command.Command.{Command}
 use Rattle.dimse.specs.declared.fault.DimseFault.{DimseFault}
 use Rattle.dimse.specs.declared.fault.DimseFault.TheVariants.{BadContext, Interleaved, BadCommand, TooLong, Memory}
@@ -10,9 +11,6 @@ use Rattle.dimse.specs.Fault.{Gives}
 use Rattle.dimse.specs.Command.{Says, SpellsElements, Spells}
 use Rattle.dimse.specs.Refusal.{IsRefusal, RefusesCommand}
 use Rattle.dimse.proofs.TextLaws.{one_list}
-
-some_is : (m n : ℕ) → Some m ≡ Some n → m ≡ n
-some_is m n e = cc
 
 abbrev remade : Command → Command
 remade c = record {

@@ -3,6 +3,7 @@ use Rattle.std.proofs.Common.{◌≡◌, ◌≢◌, ℕ, Bool, true, false, not,
 use Rattle.std.proofs.Common.{Option, Some, None, Result, Ok, Err, refl, sym, ap, subst, ◌∙◌, append_assoc}
 use Rattle.std.proofs.Common.{length-append, arith}
 use Rattle.std.specs.Prelude.{MatchBool, ◌==◌, ◌&&◌}
+use Rattle.std.proofs.lemmas.Bool.{and_parts as and_true, and_from as both_true, not-true as not_true, both_ways}
 use Rattle.pdu.specs.declared.pdv.Pdv.{Pdv}
 use Rattle.pdu.specs.declared.context.Context.{Context}
 use Rattle.dimse.specs.declared.command.Command.{Command}
@@ -18,7 +19,7 @@ use Rattle.dimse.specs.Assembly.{IsCause, Feeds}
 use Rattle.dimse.specs.Messages.{Run, fresh, messages, first_fault, HadMemory}
 use Rattle.dimse.specs.Texts.{same_flag, go_together, as_one, before_texts, texts_in}
 use Rattle.dimse.proofs.StepLaws.{refusal, same_fault}
-use Rattle.dimse.proofs.RunLaws.{Faultless, faultless_parts, and_true, not_true, same_number, refused_again, run_ends}
+use Rattle.dimse.proofs.RunLaws.{Faultless, faultless_parts, same_number, refused_again, run_ends}
 use Rattle.dimse.proofs.SpelledLaws.{spelled_is_answered, where_false}
 
 abbrev Answer : Type 0
@@ -94,13 +95,10 @@ fault_of_both contexts stage p q f t e =
     subst (λ (b : Bool). fault_of contexts stage (value q.context b p.last p.fragment) ≡ Some f) t.kind here in
     fault_stays contexts stage q.context q.command p.last q.last p.fragment q.fragment f there
 
-apart : (b : Bool) → b ≡ true → b ≡ false → ⊥
-apart b is not = cc
-
 -- A fragment that is not the last ends no command set.
 not_ended : (stage : Stage) (p q : Pdv) → Together p q → EndsNoCommand stage p → ⊥
-not_ended Between p q t ends = apart p.last ends.0 t.goes_on
-not_ended (InCommand k text) p q t ends = apart p.last ends.0 t.goes_on
+not_ended Between p q t ends = both_ways p.last t.goes_on ends.0
+not_ended (InCommand k text) p q t ends = both_ways p.last t.goes_on ends.0
 not_ended (InDataSet k c text) p q t ends = ends
 not_ended Failed p q t ends = ends
 
@@ -128,9 +126,6 @@ same_faults a b c d e p q r = rw (p, q, r) refl
 
 same_test : (m n : ℕ) → m ≡ n → (m == n) ≡ true
 same_test m n e = grind (arith, e)
-
-both_true : (a b : Bool) → a ≡ true → b ≡ true → (a && b) ≡ true
-both_true a b p q = rw (p, q) refl
 
 regrouped : (limit : ℕ) (text fragment rest : List ℕ) → ltb limit (length ((text ++ fragment) ++ rest)) ≡ ltb
     limit (length (text ++ (fragment ++ rest)))

@@ -1,10 +1,10 @@
 -- What an assembler answers is what the fragments spell.
 use Rattle.std.proofs.Common.{◌≡◌, ◌≢◌, ℕ, ◌≤◌, Bool, true, false, not, cond, List, [], ◌∷◌, ◌++◌, length, Option, Some}
 use Rattle.std.proofs.Common.{None, Result, Ok, Err, refl, sym, ap, subst, ◌∙◌, append_assoc, append-nil, arith, lit≤}
-use Rattle.std.specs.Prelude.{OnErr, All, MatchBool, ◌==◌, ◌&&◌}
+use Rattle.std.specs.Prelude.{OnErr, All, MatchBool, ◌==◌}
 use Rattle.std.specs.List.{AllByRecursion}
 use Rattle.std.proofs.lemmas.List.Elements.{All-from_recursion}
-use Rattle.std.proofs.lemmas.Bool.{ltb-false}
+use Rattle.std.proofs.lemmas.Bool.{ltb-false, and_parts as and_true, not-true as not_true}
 use Rattle.pdu.specs.declared.pdv.Pdv.{Pdv}
 use Rattle.pdu.specs.declared.context.Context.{Context}
 use Rattle.dimse.specs.declared.command.Command.{Command}
@@ -52,14 +52,6 @@ faultless_is contexts Between p f = rw (f.accepted, f.place, f.room) refl
 faultless_is contexts (InCommand context text) p f = rw (f.accepted, f.place, f.room) refl
 faultless_is contexts (InDataSet context command text) p f = rw (f.accepted, f.place, f.room) refl
 faultless_is contexts Failed p f = absurd (let e = f.place in cc)
-
-pub and_true : (a b : Bool) → (a && b) ≡ true → (a ≡ true) × (b ≡ true)
-and_true true b e = (refl, e)
-and_true false b e = absurd cc
-
-pub not_true : (b : Bool) → not b ≡ true → b ≡ false
-not_true true e = absurd cc
-not_true false e = refl
 
 pub same_number : (m n : ℕ) → (m == n) ≡ true → m ≡ n
 same_number m n e = grind (arith, e)

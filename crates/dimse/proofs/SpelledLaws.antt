@@ -3,7 +3,7 @@ use Rattle.std.proofs.Common.{◌≡◌, ◌≢◌, ℕ, ◌≤◌, Bool, true, 
 use Rattle.std.proofs.Common.{Result, Ok, Err, refl, sym, ap, subst, ◌∙◌, append_assoc, append-nil, length-append}
 use Rattle.std.proofs.Common.{arith}
 use Rattle.std.specs.Prelude.{IfSome, MatchBool, MatchOption, ◌==◌}
-use Rattle.std.proofs.lemmas.Bool.{le-ltb}
+use Rattle.std.proofs.lemmas.Bool.{le-ltb, both_ways}
 use Rattle.pdu.specs.declared.pdv.Pdv.{Pdv}
 use Rattle.pdu.specs.declared.context.Context.{Context}
 use Rattle.dimse.specs.declared.command.Command.{Command}
@@ -173,11 +173,8 @@ open_leads contexts context text stage p g not_last = record {
   only = λ n s takes.
       let t = where_false p.last _ _ not_last (goes_advances contexts context text stage p n s g takes) in
       (t.0, t.1 ∙ ap (λ (k : ℕ). InCommand k (text ++ p.fragment)) g.of_context);
-  read = λ ends. let last = (goes_ends contexts context text stage p g ends).0 in both p.last last not_last;
+  read = λ ends. let last = (goes_ends contexts context text stage p g ends).0 in both_ways p.last not_last last;
 }
-  where
-    both : (b : Bool) → b ≡ true → b ≡ false → ⊥
-    both b t f = cc
 
 -- what a whole command set ends, and leaves
 abbrev ended : ℕ → Command → Bool → Option Message

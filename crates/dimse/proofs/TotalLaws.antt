@@ -6,6 +6,7 @@ use Rattle.std.specs.Prelude.{MatchBool}
 use Rattle.std.specs.List.{list_all}
 use Rattle.std.proofs.lemmas.List.{drop_at}
 use Rattle.std.proofs.lemmas.List.Concat.{flat_map-cons}
+use Rattle.std.proofs.lemmas.Bool.{both_ways}
 use Rattle.octets.specs.Bytes.{IsBytes}
 use Rattle.octets.proofs.ByteLaws.{IsBytes-drop, IsBytes-tail}
 use Rattle.pdu.specs.declared.pdv.Pdv.{Pdv}
@@ -128,9 +129,6 @@ made es field data_set_type = record {
 no_number : (o p : Option ℕ) (n : ℕ) → o ≡ None → o ≡ Some n → ⊥
 no_number o p n none some = cc
 
-apart : (b : Bool) → b ≡ true → b ≡ false → ⊥
-apart b is not = cc
-
 one_number : (o : Option ℕ) (m n : ℕ) → o ≡ Some m → o ≡ Some n → m ≡ n
 one_number o m n p q = cc
 
@@ -168,8 +166,8 @@ says_some es = by_lawful (list_all is_lawful es) refl
       },
     )
     by_complete field data_set_type false lawful f d lacks =
-        inr (λ c s. apart (is_complete c) s.complete (ap is_complete (says_made es field data_set_type c f d s)
-        ∙ lacks))
+        inr (λ c s. both_ways (is_complete c) (ap is_complete (says_made es field data_set_type c f d s)
+        ∙ lacks) s.complete)
 
     by_type : (field : ℕ) (o : Option ℕ) → list_all is_lawful es ≡ true → number_of es COMMAND_FIELD ≡ Some field
         → number_of es COMMAND_DATA_SET_TYPE ≡ o → SaysSome es
@@ -184,7 +182,7 @@ says_some es = by_lawful (list_all is_lawful es) refl
 
     by_lawful : (b : Bool) → list_all is_lawful es ≡ b → SaysSome es
     by_lawful true is = by_field (number_of es COMMAND_FIELD) is refl
-    by_lawful false is = inr (λ c s. apart (list_all is_lawful es) s.lawful is)
+    by_lawful false is = inr (λ c s. both_ways (list_all is_lawful es) is s.lawful)
 
 -- ---- texts
 

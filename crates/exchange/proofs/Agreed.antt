@@ -1,8 +1,9 @@
 -- Whether no place differed.
 use Rattle.std.proofs.Common.{inl, inr, ◌≡◌, ℕ, List, [], ◌∷◌, ◌++◌, Bool, true, false, refl, sym, ap, subst, ◌∙◌}
-use Rattle.std.proofs.Common.{append_assoc, append-nil, length, arith}
+use Rattle.std.proofs.Common.{append_assoc, append-nil, length}
 use Rattle.std.specs.Prelude.{◌⊎◌, ◌↔◌, IsTrue}
 use Rattle.std.proofs.lemmas.Bool.{eqb-true}
+use Rattle.std.proofs.lemmas.List.{nil_from_length as none_long}
 use Rattle.octets.specs.Members.{Has}
 use Rattle.operation.specs.declared.op.Op.{Op}
 use Rattle.site_state.specs.Site.{Map}
@@ -24,10 +25,6 @@ record Agreeing (heard told : List Frame) (s : Side) : Type 0 where
   here : s.agreed ≡ true → NoneDiffers told
   there : s.agreed ≡ true → NoneDiffers heard
   all : NoneDiffers heard → NoneDiffers told → s.agreed ≡ true
-
-none_long : (places : List ℕ) → length places ≡ 0 → places ≡ []
-none_long [] e = refl
-none_long (p ∷ places) e = absurd (omega (arith, e))
 
 no_places : (agreed : Bool) (places : List ℕ) → agreed_with agreed places ≡ true → (agreed ≡ true) × (places ≡ [])
 no_places true places e = (refl, none_long places (eqb-true (length places) 0 e))

@@ -1,7 +1,7 @@
 -- Where an asked digest stands, and what is told of it.
 use Rattle.std.proofs.Common.{◌≡◌, ◌≢◌, ℕ, zero, suc, ◌<◌, ◌≤◌, List, [], ◌∷◌, ◌++◌, Bool, true, false, cond}
 use Rattle.std.proofs.Common.{Option, Some, None, Result, Ok, Err, length, get_or, replicate, refl, sym, ap, ◌∙◌}
-use Rattle.std.proofs.Common.{arith, inl, inr, ◌⊎◌, ltb}
+use Rattle.std.proofs.Common.{arith, inl, inr}
 use Rattle.std.specs.Prelude.{◌||◌, ◌==◌, slice_set}
 use Rattle.std.specs.List.Sorted.{IsBinarySearchResult, IsSearchInRange, IsStrictlySortedBy}
 use Rattle.std.specs.Map.{set_value}
@@ -14,7 +14,8 @@ use Rattle.std.specs.declared.cmp.Ordering.{Ordering}
 use Rattle.std.specs.declared.cmp.Ordering.TheVariants.{Less, Equal, Greater}
 use Rattle.std.specs.Cmp.Lexicographic.{nat_list_cmp_total, texts_ties, same_text}
 use Rattle.std.proofs.lemmas.List.{get_or_default}
-use Rattle.std.proofs.lemmas.Bool.{ltb-true, ltb-false}
+use Rattle.std.proofs.lemmas.Bool.{cases_lt as split}
+use Rattle.std.proofs.lemmas.Cmp.{is_eq_index as eq_index}
 use Rattle.octets.specs.Texts.{text_cmp}
 use Rattle.site_state.specs.Site.{digest_cmp}
 use Rattle.exchange_frames.specs.Spelling.{ascends}
@@ -23,13 +24,6 @@ use Rattle.exchange.specs.Round.{asked_in, is_among}
 use Rattle.exchange.proofs.Said.{ascends_sorted}
 
 -- ---- comparing both ways
-
-split_by : (b : Bool) (k i : ℕ) → ltb k i ≡ b → (k < i) ⊎ (i ≤ k)
-split_by true k i e = inl (ltb-true k i e)
-split_by false k i e = inr (ltb-false k i e)
-
-pub split : (k i : ℕ) → (k < i) ⊎ (i ≤ k)
-split k i = split_by (ltb k i) k i refl
 
 turned_eq : (o : Ordering) → is_eq (ordering_reverse o) ≡ is_eq o
 turned_eq Less = refl
@@ -181,11 +175,6 @@ halved ds x (Err i) rise bound position =
     ]))
 
 -- ---- what is told of all
-
-eq_index : (o : Ordering) → is_eq o ≡ (ordering_index o == 1)
-eq_index Less = refl
-eq_index Equal = refl
-eq_index Greater = refl
 
 -- what was compared and is equal is here
 pub is_here : (ds : List (List ℕ)) (i : ℕ) (x : List ℕ) → i < length ds → (e : List ℕ)

@@ -9,6 +9,7 @@ use Rattle.std.specs.Ordering.{is_eq}
 use Rattle.std.specs.Cmp.{tied_itself}
 use Rattle.std.specs.Cmp.Lexicographic.{nat_list_cmp_total}
 use Rattle.std.specs.FinMap.{entries}
+use Rattle.std.proofs.lemmas.Bool.{not-false as negated}
 use Rattle.sha2.specs.Sha256.{sha256, digest_bytes}
 use Rattle.octets.specs.Members.{Has}
 use Rattle.archive_model.proofs.ModelLaws.{same_is, same_itself}
@@ -87,10 +88,6 @@ pub offered_held : (version : Version) (m : Map) (d : List ℕ) → Has (offered
     × (held_at m d ≡ Some p)
 offered_held version m d h = let found = spoken_held version d (entries m) h in
     (found.0, sym (held_entries m d) ∙ found.1)
-
-pub negated : (b : Bool) → not b ≡ false → b ≡ true
-negated true e = refl
-negated false e = absurd cc
 
 pub round_by_buckets_gives_all : RoundByBucketsGivesAll
 unfolding unequal

@@ -2,6 +2,7 @@
 use Rattle.std.proofs.Common.{inl, inr, ◌≡◌, ℕ, List, [], ◌∷◌, ◌++◌, Bool, true, false, cond, Option, Some, None, refl}
 use Rattle.std.proofs.Common.{sym, ap, subst, ◌∙◌, append_assoc, append-nil, ◌≤◌, length, arith}
 use Rattle.std.specs.Prelude.{◌⊎◌}
+use Rattle.std.proofs.lemmas.Bool.{and_parts as both_true}
 use Rattle.octets.specs.Members.{Has}
 use Rattle.archive_model.proofs.MemberLaws.{filter_map_has}
 use Rattle.operation.specs.declared.op.Op.{Op}
@@ -30,7 +31,6 @@ use Rattle.exchange.proofs.Holders.{idles_of, idles_same, looked_same}
 use Rattle.exchange.proofs.Turns.{later_of, later, Fits, fits}
 use Rattle.exchange.proofs.Goings.{has_shown, Goes, goes}
 use Rattle.exchange.proofs.Outcomes.{has_left, has_right, has_split, other_has, one_is, none_has_one}
-use Rattle.exchange.proofs.Wholes.{both_true}
 
 -- BUCKETS were said of a set, and each DIFFER that was heard was answered over one that holds it. What nobody else
 -- changes was shown as it began, or as it is now.

@@ -1,5 +1,5 @@
 -- What an exchange comes to, frame by frame.
-use Rattle.std.proofs.Common.{inl, inr, ◌≡◌, ◌<◌, ◌≤◌, ◌+◌, ℕ, zero, suc, eqb, arith, List, [], ◌∷◌, ◌++◌, Bool, true}
+use Rattle.std.proofs.Common.{inl, inr, ◌≡◌, ◌<◌, ℕ, arith, List, [], ◌∷◌, ◌++◌, Bool, true}
 use Rattle.std.proofs.Common.{false, cond, Option, Some, None}
 use Rattle.std.proofs.Common.{Result, Ok, Err, refl, sym, ap, subst, ◌∙◌, append_assoc, append-nil}
 use Rattle.std.specs.Prelude.{◌⊎◌, ◌==◌, OnOk, is_some, IsSome, not, if◌then◌else◌, ⊤}
@@ -11,6 +11,7 @@ use Rattle.std.specs.FinMap.{get-insert}
 use Rattle.std.specs.Cmp.{eq_by_cmp_equiv, tied_itself}
 use Rattle.std.specs.Cmp.Lexicographic.{nat_list_cmp_total}
 use Rattle.std.proofs.lemmas.Map.{lookup-set_value}
+use Rattle.std.proofs.lemmas.Bool.{not-false as negated}
 use Rattle.octets.specs.Members.{Has}
 use Rattle.archive_model.proofs.ModelLaws.{same_is}
 use Rattle.archive_model.proofs.MemberLaws.{has_any, any_has, has_filter, filter_has}
@@ -30,7 +31,7 @@ use Rattle.exchange.specs.Held.{TakesAlone}
 use Rattle.exchange.specs.Buckets.{bucket_list, is_unequal, unequal}
 use Rattle.exchange.specs.Laws.{BucketsTell}
 use Rattle.exchange.specs.Round.{RoundState, asked_at, asked_in, is_among, by_holder, IsFinished}
-use Rattle.exchange.proofs.Bucketed.{bucket_at, offered_held}
+use Rattle.exchange.proofs.Bucketed.{bucket_at, offered_held, range_has, eqb_itself}
 use Rattle.exchange.specs.declared.role.Role.{Role}
 use Rattle.exchange.specs.declared.role.Role.TheVariants.{Caller, Callee, OldCaller}
 use Rattle.exchange.specs.declared.side.Side.{Side}
@@ -733,22 +734,6 @@ knows_talk holds alone role before heard told t k talk =
 
 -- ---- what it comes to
 
-places_has : (n a p : ℕ) → a ≤ p → p < a + n → Has (range_with_len a n) p
-places_has zero a p low high = absurd (omega arith)
-places_has (suc n) a p low high = by (eqb p a) refl (places_has n (a + 1) p)
-  where
-    by : (b : Bool) → eqb p a ≡ b → (a + 1 ≤ p → p < (a + 1) + n → Has (range_with_len (a + 1) n) p)
-        → Has (range_with_len a (suc n)) p
-    by true e rest = inl (let is : p ≡ a = grind arith in is)
-    by false e rest = let more : a + 1 ≤ p = grind arith in inr (rest more (omega arith))
-
-negated : (b : Bool) → not b ≡ false → b ≡ true
-negated true e = refl
-negated false e = absurd cc
-
-eqb_itself : (n : ℕ) → eqb n n ≡ true
-eqb_itself n = grind arith
-
 module _ {H : Type 0} (holds : H → Map) (alone : H → Type 0) (before : H) (heard told : List Frame) (side : Side)
     (k : H)
     (know : Knows holds alone before heard told side k) where
@@ -800,7 +785,7 @@ module _ {H : Type 0} (holds : H → Map) (alone : H → Type 0) (before : H) (h
           → IsHeld (holds k) d
       by true e =
           let there = has_filter (is_unequal (bucket_list (offered side.round.version m)) (bucket_list theirs))
-          (range_with_len 0 256) place (places_has 256 0 place (omega arith)
+          (range_with_len 0 256) place (range_has 256 0 place (omega arith)
           (omega (arith, small))) e in
           let in_places = has_any (λ q. q == place) _ place there (eqb_itself place) in
           let offer = offers in_places in

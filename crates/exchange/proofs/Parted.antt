@@ -2,7 +2,7 @@
 use Rattle.std.proofs.Common.{inl, inr, ◌≡◌, ◌≤◌, ◌<◌, ◌+◌, ℕ, zero, suc, List, [], ◌∷◌, Bool, true, false, cond}
 use Rattle.std.proofs.Common.{length, take}
 use Rattle.std.proofs.Common.{Some, get_or, arith, refl, sym, ap, subst, ◌∙◌}
-use Rattle.std.proofs.lemmas.Bool.{eqb-true}
+use Rattle.std.proofs.lemmas.Bool.{eqb-true, and_parts as both_true, not-false as negated}
 use Rattle.std.specs.Prelude.{◌⊎◌, ◌==◌, filter, not, nat_lt}
 use Rattle.std.specs.Cmp.Lexicographic.{nat_list_cmp_total}
 use Rattle.std.specs.List.{range_with_len, list_all}
@@ -28,12 +28,11 @@ use Rattle.exchange_frames.specs.declared.reader.TheConstants.{MOST_DIGESTS}
 use Rattle.exchange.specs.Parts.{IsWhole, place_behind, whole_places, tells_of, is_seen_whole}
 use Rattle.exchange.specs.PartLaws.{FittingTells, SeenFits, IsPart, EachPlaceFits, AgreeBelow, PartsEnd, part_of}
 use Rattle.exchange.proofs.Fittings.{fitting_few, fitting_from, of_fitting, not_more}
-use Rattle.exchange.proofs.Wholes.{both_true}
 use Rattle.exchange.proofs.PartLaws.{fitting_has}
 use Rattle.exchange.proofs.Places.{first_le}
 use Rattle.exchange.proofs.Said.{of_all, offered_sorted, offered_in_sorted, offered_small}
 use Rattle.exchange.proofs.Rounds.{offered_has, own_digest, had_is_held, same_option, spoken_some}
-use Rattle.exchange.proofs.Bucketed.{offered_held, bucket_at, range_has, in_range, negated, eqb_itself}
+use Rattle.exchange.proofs.Bucketed.{offered_held, bucket_at, range_has, in_range, eqb_itself}
 
 pub fitting_tells : FittingTells
 fitting_tells = record { few = fitting_few; only = fitting_from; whole = fitting_has }

@@ -3,7 +3,7 @@ use Rattle.std.proofs.Common.{inl, inr, ◌≡◌, ℕ, zero, suc, ◌+◌, ◌<
 use Rattle.std.proofs.Common.{eqb, length, refl, sym, ap, ◌∙◌, arith, append_assoc}
 use Rattle.std.proofs.lemmas.List.{append-nil}
 use Rattle.std.proofs.Math.ListN.{replicate}
-use Rattle.std.proofs.lemmas.Bool.{false≢true}
+use Rattle.std.proofs.lemmas.Bool.{false≢true, eqb-true}
 use Rattle.std.specs.Prelude.{◌⊎◌, filter, ◌&&◌, ◌==◌, not, nat_lt, if◌then◌else◌}
 use Rattle.std.specs.BTreeMap.Range.{range_contains, entries_between}
 use Rattle.std.specs.Cmp.Lexicographic.{slice_cmp}
@@ -47,9 +47,6 @@ zeros_first (suc n) (r ∷ rest) le = by (eqb r 0) refl (zeros_first n rest (ome
 cmp_greater : (a b : ℕ) → b < a → nat_cmp a b ≡ Greater
 cmp_greater a b lt = grind arith
 
-same_place : (a b : ℕ) → eqb b a ≡ true → b ≡ a
-same_place a b e = grind arith
-
 -- a digest that begins with a byte is not before the front of that
 from_front : (p : ℕ) (d : List ℕ) → length d ≡ 32 → (place_of d == p) ≡ true
     → is_le (digest_cmp (p ∷ replicate 31 0) d) ≡ true
@@ -64,7 +61,7 @@ before_end : (q p : ℕ) (zs d : List ℕ) → p < q → length d ≡ 32 → (pl
 before_end q p zs [] lt long at = absurd (omega (arith, long))
 before_end q p zs (b ∷ rest) lt long at =
     ap (λ (o : Ordering). is_le (ordering_then o (slice_cmp nat_cmp zs rest)))
-    (cmp_greater q b (omega (arith, lt, same_place p b at)))
+    (cmp_greater q b (omega (arith, lt, eqb-true b p at)))
 
 in_range : (p : ℕ) (d : List ℕ) → length d ≡ 32 → (place_of d == p) ≡ true
     → range_contains digest_cmp (Included (front_at p)) (end_at p) d ≡ true
@@ -207,7 +204,7 @@ next_place places n (d ∷ ds) sorted = part (is_in places) (has_at places n) (f
         ⊎ ((from_place n d ≡ true) × (at_place n d ≡ false) × (from_place (n + 1) d ≡ true)
         × (filter (at_place n) ds ≡ [])))
     by (inl c) = inl (ap not c.0, c.1, ap not c.2)
-    by (inr (inl c)) = inr (inl (ap not c.0, c.1, ap not c.2, ap (has_at places) (same_place n (place_of d) c.1)))
+    by (inr (inl c)) = inr (inl (ap not c.0, c.1, ap not c.2, ap (has_at places) (eqb-true (place_of d) n c.1)))
     by (inr (inr c)) = inr (inr (ap not c.0, c.1, ap not c.2, none_there n d ds c.2 sorted.0))
 
 all_from : (ds : List (List ℕ)) → filter (from_place 0) ds ≡ ds

@@ -1,11 +1,8 @@
 -- When no exchange follows.
 use Rattle.std.proofs.Common.{◌≡◌, Bool, true, false, refl, ap, ◌∙◌}
 use Rattle.std.specs.Prelude.{not, nat_lt, ◌&&◌, ◌||◌}
+use mathlib.Core.Bool.{and-false as and_false}
 use Rattle.exchange.specs.Repeating.{has_brought, RepeatsEnd}
-
-and_false : (b : Bool) → (b && false) ≡ false
-and_false true = refl
-and_false false = refl
 
 last_false : (a b c : Bool) → (a && (b && (c && false))) ≡ false
 last_false true true c = and_false c

@@ -2,12 +2,13 @@
 use Rattle.std.proofs.Common.{inl, inr, ◌≡◌, ◌≤◌, ◌+◌, ℕ, List, [], ◌∷◌, ◌++◌, length, Bool, true, false}
 use Rattle.std.proofs.Common.{Option, Some, None, Result, Ok, Err, refl, sym, ap, subst, ◌∙◌, append_assoc, append-nil}
 use Rattle.std.proofs.Common.{arith}
-use Rattle.std.specs.Prelude.{◌↔◌, IfErr, OnOk, OnErr, MatchBool, IsTrue, ◌||◌, if◌then◌else◌}
+use Rattle.std.specs.Prelude.{◌↔◌, IfErr, OnOk, OnErr, MatchBool, IsTrue, if◌then◌else◌}
 use Rattle.std.specs.List.{list_any}
 use Rattle.std.specs.Io.KnownBytes.{Appends, Consumes}
 use Rattle.std.proofs.KnownBytes.{Appends-trans, Consumes-nil, Consumes-trans}
 use Rattle.std.proofs.lemmas.Grind.{flat_map-append}
 use Rattle.std.proofs.lemmas.List.{length-append}
+use Rattle.std.proofs.lemmas.Bool.{or_right as any_or}
 use Rattle.devices.specs.Failures.{Rose}
 use Rattle.operation.specs.declared.taken.Taken.{Taken}
 use Rattle.operation.specs.declared.taken.Taken.TheVariants.{New, Known}
@@ -212,10 +213,6 @@ pub unsaid_refused : (frames : List Frame) (r : Result (Unit {0}) ExchangeFault)
 unsaid_refused frames r why e = subst (λ (x : Result (Unit {0}) ExchangeFault). IfErr x (WhyUnsaid frames)) e why
 
 -- ---- why
-
-any_or : (a b : Bool) → b ≡ true → (a || b) ≡ true
-any_or true b e = refl
-any_or false b e = e
 
 any_behind : (frames more : List Frame) → list_any is_too_long more ≡ true
     → list_any is_too_long (frames ++ more) ≡ true

@@ -1,7 +1,8 @@
 -- Whether each HAVE that was heard is seen to have all.
-use Rattle.std.proofs.Common.{inl, inr, ◌≡◌, ℕ, List, [], ◌∷◌, ◌++◌, Bool, true, false, refl, sym, ap, subst, ◌∙◌}
+use Rattle.std.proofs.Common.{inl, inr, ◌≡◌, ℕ, List, [], ◌∷◌, ◌++◌, true, false, refl, sym, ap, subst, ◌∙◌}
 use Rattle.std.proofs.Common.{append_assoc, append-nil}
-use Rattle.std.specs.Prelude.{◌⊎◌, ◌&&◌}
+use Rattle.std.specs.Prelude.{◌⊎◌}
+use Rattle.std.proofs.lemmas.Bool.{and_parts as both_true}
 use Rattle.octets.specs.Members.{Has}
 use Rattle.operation.specs.declared.op.Op.{Op}
 use Rattle.site_state.specs.Site.{Map}
@@ -25,10 +26,6 @@ record Seeing (heard told : List Frame) (s : Side) : Type 0 where
       × ((x : List (List ℕ)) → Has heard (Have x) → ⊥)
   one : (p : List ℕ) → Has told (Differ p) → p ≡ s.places
   all : s.whole ≡ true → AreSeenWhole heard told
-
-pub both_true : (a b : Bool) → (a && b) ≡ true → (a ≡ true) × (b ≡ true)
-both_true true b e = (refl, e)
-both_true false b e = absurd (let clash : false ≡ true = e in cc)
 
 -- no DIFFER among these
 no_differ : (x : Frame) (more : List Frame) → more ≡ x ∷ [] → ((p : List ℕ) → Differ p ≡ x → ⊥) → (p : List ℕ)

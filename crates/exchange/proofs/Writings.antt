@@ -1,5 +1,5 @@
 -- Texts that are written one after another.
-use Rattle.std.proofs.Common.{◌≡◌, ◌≤◌, ℕ, arith, length, List, [], ◌∷◌, ◌++◌, take, drop, Bool, true, false}
+use Rattle.std.proofs.Common.{◌≡◌, ◌≤◌, ℕ, arith, length, List, [], ◌∷◌, ◌++◌, take, drop, true, false}
 use Rattle.std.proofs.Common.{Option, Result, Ok, Err}
 use Rattle.std.proofs.Common.{refl, sym, ap, subst, ◌∙◌, append_assoc, append-nil}
 use Rattle.std.specs.Prelude.{OnOk, OnErr}
@@ -7,6 +7,7 @@ use Rattle.std.specs.List.{list_any}
 use Rattle.std.specs.Io.KnownBytes.{Appends}
 use Rattle.std.proofs.KnownBytes.{Appends-nil, Appends-trans}
 use Rattle.std.proofs.lemmas.List.{take-append-drop}
+use Rattle.std.proofs.lemmas.Bool.{false_from_ne_true as not_true}
 use Rattle.operation.specs.declared.op.Op.{Op}
 use Rattle.exchange_frames.specs.declared.fault.FrameFault.{FrameFault}
 use Rattle.exchange_frames.specs.declared.frame.Frame.{Frame}
@@ -95,10 +96,6 @@ gave_last w0 w1 w2 all rest is p q = subst (λ (t : List ℕ). WroteFront w0 w2 
     (wrote_then w0 w1 w2 p.0 (text_of End) p.1 q)
 
 -- ---- what is known of frames that were written
-
-not_true : (b : Bool) → (b ≡ true → ⊥) → b ≡ false
-not_true true never = absurd (never refl)
-not_true false never = refl
 
 pub sayable_is : {X : Type 0} (frame : Frame) (x : X) (fault : FrameFault)
     → (is_too_long frame ≡ true → Ok x ≡ Err fault) → GivesLawful frame → IsSayable frame

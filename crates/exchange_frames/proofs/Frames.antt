@@ -4,9 +4,10 @@ use Rattle.std.proofs.Common.{length, Option, Some, None, refl, sym, ap, subst, 
 use Rattle.std.specs.Option.{option_map}
 use Rattle.std.specs.Int.{w16, w32, from_be_bytes, to_be_bytes}
 use Rattle.std.specs.Ordering.{nat_cmp}
-use Rattle.std.proofs.lemmas.Bool.{ltb-false, le-ltb, eqb-true}
+use Rattle.std.proofs.lemmas.Bool.{ltb-false, le-ltb, eqb-true, eq-eqb as eqb_is}
 use Rattle.std.proofs.lemmas.Bool.Decides.{nat_tests}
 use Rattle.std.proofs.lemmas.Nat.{be_bytes_2, be_bytes_4, from_be_bytes-to_be_bytes_2, from_be_bytes-to_be_bytes_4}
+use Rattle.std.proofs.lemmas.Option.{cond_some as one_passed}
 use Rattle.octets.specs.Bytes.{IsBytes}
 use Rattle.octets.specs.Texts.{text_cmp}
 use Rattle.octets.proofs.ByteLaws.{IsBytes-two, IsBytes-four}
@@ -20,9 +21,6 @@ use Rattle.exchange_frames.proofs.Lists.{cut_again, text_length, cut_length, cut
 
 eqb_refl : (n : ℕ) → eqb n n ≡ true
 eqb_refl n = grind arith
-
-eqb_is : (n m : ℕ) → n ≡ m → eqb n m ≡ true
-eqb_is n m e = subst (λ (k : ℕ). eqb n k ≡ true) e (eqb_refl n)
 
 -- both tests were passed
 passed : {X : Type 0} (b c : Bool) (x y : X) → cond b (cond c (Some x) None) None ≡ Some y → (b ≡ true) × (c ≡ true)
@@ -73,10 +71,6 @@ pub counted_few : (ds : List (List ℕ)) → IsCounted ds → counts_too_many (c
 counted_few ds is = rw (from_be_bytes-to_be_bytes_4 (length ds) (omega (arith, is.short))) (le-ltb _ _ is.short)
 
 -- ---- the others
-
-one_passed : {X : Type 0} (b : Bool) (x y : X) → cond b (Some x) None ≡ Some y → (b ≡ true) × (x ≡ y)
-one_passed true x y e = (refl, cc)
-one_passed false x y e = absurd cc
 
 buckets_takes : (body : List ℕ) (ds : List (List ℕ)) → buckets_at body ≡ Some ds → (digests_text ds ≡ body)
     × (length ds ≡ 256) × AreDigests ds

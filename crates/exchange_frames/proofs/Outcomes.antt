@@ -1,8 +1,9 @@
 -- A body comes to one outcome.
-use Rattle.std.proofs.Common.{◌≡◌, ℕ, Bool, true, false, List, ◌∷◌, ◌++◌, length, drop, get_or, Option, Some, None}
+use Rattle.std.proofs.Common.{◌≡◌, ℕ, false, List, ◌∷◌, ◌++◌, length, drop, get_or, Option, Some, None}
 use Rattle.std.proofs.Common.{Result, Ok, Err, refl, sym, ap, subst, ◌∙◌, inl, inr}
 use Rattle.std.specs.Prelude.{◌⊎◌, IfOk}
 use Rattle.std.specs.Int.{w32, to_be_bytes}
+use Rattle.std.proofs.lemmas.Bool.{both_ways}
 use Rattle.octets.specs.Bytes.{IsBytes}
 use Rattle.octets.specs.Gives.{Gives, Tells}
 use Rattle.octets.proofs.ByteLaws.{tells_map}
@@ -55,9 +56,6 @@ frame_once f g kind body p q = by_kind (given f) (given g)
 
 -- ---- one outcome
 
-opposite : (b : Bool) → b ≡ true → b ≡ false → ⊥
-opposite b p q = absurd cc
-
 abbrev failed : FrameFault → Answer
 failed e = Err e
 
@@ -65,15 +63,15 @@ fault_once : (kind : ℕ) (body : List ℕ) (d e : FrameFault) → HasFault kind
     → failed d ≡ failed e
 fault_once kind body BadFrame BadFrame p q = refl
 fault_once kind body TooLong TooLong p q = refl
-fault_once kind body BadFrame TooLong p q = absurd (opposite (is_long kind body) q p.0)
-fault_once kind body TooLong BadFrame p q = absurd (opposite (is_long kind body) p q.0)
+fault_once kind body BadFrame TooLong p q = absurd (both_ways (is_long kind body) p.0 q)
+fault_once kind body TooLong BadFrame p q = absurd (both_ways (is_long kind body) q.0 p)
 fault_once kind body Memory e p q = absurd p
 fault_once kind body d Memory p q = absurd q
 
 frame_or_fault : (kind : ℕ) (body : List ℕ) (f : Frame) (e : FrameFault) → IsBodyOf f kind body → HasFault kind body e
     → ⊥
 frame_or_fault kind body f BadFrame p q = q.1 f p
-frame_or_fault kind body f TooLong p q = opposite (is_long kind body) q (frame_few f kind body p)
+frame_or_fault kind body f TooLong p q = both_ways (is_long kind body) (frame_few f kind body p) q
 frame_or_fault kind body f Memory p q = q
 
 pub outcome_once : (kind : ℕ) (body : List ℕ) (r s : Answer) → IsOutcome kind body r → IsOutcome kind body s → s ≡ r

@@ -4,6 +4,7 @@ use Rattle.std.proofs.Common.{refl, sym, ap, subst, ◌∙◌}
 use Rattle.std.specs.FinMap.{get-insert}
 use Rattle.std.specs.Cmp.Lexicographic.{nat_list_cmp_total}
 use Rattle.std.specs.Ordering.{eq_by_cmp}
+use Rattle.std.proofs.lemmas.Option.{same_Some as some_is}
 use Rattle.operation.specs.declared.op.Op.{Op}
 use Rattle.operation.specs.declared.taken.Taken.{Taken}
 use Rattle.operation.specs.declared.taken.Taken.TheVariants.{New, Known}
@@ -30,9 +31,6 @@ gains_weaker : (these those : Op → Type 0) (before after : Map) → ((op : Op)
 gains_weaker these those before after all gains digest op held =
     elim (gains digest op held) as (λ _. (held_at before digest ≡ Some op) ⊎ those op)
     [ inl there ↦ inl there | inr new ↦ inr (all op new) ]
-
-some_is : (x o : Op) → Some x ≡ Some o → x ≡ o
-some_is x o e = cc
 
 -- one operation more, which is one of these
 gains_one : (these : Op → Type 0) (m : Map) (op : Op) → these op → GainsOnly these m (with_op m op)

@@ -1,6 +1,6 @@
 -- What a file of heads keeps through a group that is added.
 use Rattle.std.proofs.Common.{◌≡◌, inl, inr, ℕ, List, [], ◌∷◌, ◌++◌, length, map, All, refl, sym, ◌∙◌, ap, subst, arith}
-use Rattle.std.proofs.lemmas.List.{append-nil, map-append}
+use Rattle.std.proofs.lemmas.List.{append-nil, map-append, nil_from_length}
 use Rattle.std.proofs.Common.{Result, Ok, Err, OnErr, OnOk}
 use Rattle.sqlite_disk.specs.declared.Disk.{Ghosts}
 use Rattle.head_log.specs.Groups.{IsReady}
@@ -22,12 +22,8 @@ no_heads (h ∷ heads) is =
 
 pub same_heads : (old new : List Head) (text : List ℕ) → HasHeads old new [] text → length text ≡ 0 → new ≡ old
 same_heads old new text it none =
-    let empty = no_heads it.heads (no_bytes (group_text it.heads) (ap length (sym it.text_is) ∙ none)) in
+    let empty = no_heads it.heads (nil_from_length (group_text it.heads) (ap length (sym it.text_is) ∙ none)) in
     it.new_is ∙ ap (λ (hs : List Head). old ++ hs) empty ∙ append-nil old
-  where
-    no_bytes : (xs : List ℕ) → length xs ≡ 0 → xs ≡ []
-    no_bytes [] is = refl
-    no_bytes (x ∷ xs) is = absurd (omega (arith, is))
 
 -- the groups with one more, as texts
 pub texts_more : (groups : List (List Head)) (heads : List Head) (text : List ℕ) → text ≡ group_text heads

@@ -5,6 +5,7 @@ use Rattle.std.proofs.Common.{IsPermutation, refl, sym, ap, subst, ◌∙◌}
 use Rattle.std.proofs.lemmas.List.{length-map}
 use Rattle.std.specs.Ordering.{is_eq}
 use Rattle.std.proofs.lemmas.List.Sorted.{IsPermutation-map, length_permutation}
+use mathlib.Core.Bool.{and-true as and_true}
 use Rattle.sqlite.specs.declared.types.Value.{Value}
 use Rattle.sqlite.specs.declared.types.Value.TheVariants.{Null, Int, Real, Text, Blob}
 use Rattle.sqlite.specs.Order.{Row, column, value_cmp}
@@ -31,10 +32,6 @@ use Rattle.op_shelf.proofs.Texts.{Serves, all_is, all_query, held_is, held_query
 truth_of : (b : Bool) → is_true (from_truth (Some b)) ≡ b
 truth_of true = refl
 truth_of false = refl
-
-and_true : (b : Bool) → (b && true) ≡ b
-and_true true = refl
-and_true false = refl
 
 -- WHERE finds a text, and an integer, by the order of values
 text_is : (v : Value) (t : List ℕ) → (is_true (binary (Compare Eq Binary) v (Text t)) && true) ≡ is_eq

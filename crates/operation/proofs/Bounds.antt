@@ -3,6 +3,7 @@ use Rattle.std.proofs.Common.{rules, ◌≡◌, ℕ, ◌≤◌, List, length, Bo
 use Rattle.std.specs.Prelude.{◌&&◌, not, nat_le, Option, Some, None, if◌then◌else◌}
 use Rattle.std.specs.Coded.{Coded-set, coded_bool, le_prop}
 use Rattle.std.proofs.Math.Logic.{∥∥₁_elim}
+use Rattle.std.proofs.lemmas.Bool.{and_parts as both}
 use Rattle.data_set.specs.Tree.{Tree}
 use Rattle.octets.specs.Uid.{is_uid_text}
 use Rattle.rejection_note.specs.Notes.{note_in}
@@ -15,10 +16,6 @@ use Rattle.operation.specs.Parts.{ContentParts, CorrectionParts, key_of}
 use Rattle.operation.specs.Corrections.{is_correction, is_key, is_plain, IsCorrection}
 use Rattle.operation.specs.Contents.{offence, has_uids, names_itself, note_offence, Describes, IsContent, draft_of}
 use Rattle.operation.specs.Contents.{longest}
-
-pub both : (a b : Bool) → (a && b) ≡ true → (a ≡ true) × (b ≡ true)
-both true b e = (refl, e)
-both false b e = absurd cc
 
 pub le_from_test : (a b : ℕ) → nat_le a b ≡ true → a ≤ b
 le_from_test a b e = search rules

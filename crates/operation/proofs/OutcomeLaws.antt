@@ -5,6 +5,7 @@ use Rattle.std.proofs.lemmas.Bool.Decides.{nat_tests}
 use Rattle.std.specs.Prelude.{not, slice_get, ◌==◌, ◌&&◌, nat_le}
 use Rattle.std.specs.Int.{w16, w32, w64, to_be_bytes}
 use Rattle.std.specs.List.{list_all}
+use Rattle.std.proofs.lemmas.Bool.{and_parts as both}
 use Rattle.octets.specs.Gives.{◌>>=◌, Tells, Gives}
 use Rattle.octets.proofs.ByteLaws.{tells_map}
 use Rattle.octets.specs.Uid.{is_uid_text, is_uid_byte}
@@ -23,7 +24,7 @@ use Rattle.operation.specs.Fault.{is_memory}
 use Rattle.operation.specs.Reading.{IsReading, IsMade, IsFaultOf, IsOp, HasFault, is_pad, is_padded, draft_at, parts_at}
 use Rattle.operation.specs.Reading.{correction_at}
 use Rattle.operation.specs.Spelling.{spelling, target_text, draft_text, correction_text}
-use Rattle.operation.proofs.Bounds.{both, class_uid, instance_uid, body_short, value_short}
+use Rattle.operation.proofs.Bounds.{class_uid, instance_uid, body_short, value_short}
 use Rattle.operation.proofs.TagLaws.{tag_small}
 use Rattle.operation.proofs.ContentLaws.{outcome_once}
 use Rattle.operation.proofs.ReadingLaws.{draft_again, parts_again}

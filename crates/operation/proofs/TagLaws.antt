@@ -3,7 +3,7 @@ use Rattle.std.proofs.Common.{◌≡◌, ℕ, ◌<◌, ◌^◌, [], List, Bool, 
 use Rattle.std.specs.Prelude.{◌&&◌, ◌||◌, not, nat_lt, is_some, ◌==◌, ◌/◌, ◌↔◌, IsTrue, Option, Some, None}
 use Rattle.std.specs.List.{list_all}
 use Rattle.std.specs.Option.{option_map}
-use Rattle.std.proofs.lemmas.Bool.{eqb-true, ltb-true, false≢true}
+use Rattle.std.proofs.lemmas.Bool.{eqb-true, ltb-true, false≢true, and_parts as both}
 use Rattle.dictionary.specs.declared.role.Entity.{Entity}
 use Rattle.dictionary.specs.declared.role.Entity.TheVariants.{Patient as a_patient, Study as a_study}
 use Rattle.dictionary.specs.declared.role.Entity.TheVariants.{Series as a_series, Instance as an_instance}
@@ -15,7 +15,6 @@ use Rattle.operation.specs.declared.target.Target.{Target}
 use Rattle.operation.specs.declared.target.Target.TheVariants.{Study, Patient, Series}
 use Rattle.operation.specs.Parts.{CorrectionParts}
 use Rattle.operation.specs.Corrections.{is_correction, is_corrected, is_entity_for, is_tag_for, is_series, IsCorrection}
-use Rattle.operation.proofs.Bounds.{both}
 
 -- ---- any of them
 

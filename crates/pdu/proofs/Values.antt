@@ -5,6 +5,7 @@ use Rattle.std.proofs.Common.{Err, refl, sym, ap, subst, ◌∙◌, arith}
 use Rattle.std.specs.List.{list_all}
 use Rattle.std.specs.Int.{w16, w32, from_be_bytes}
 use Rattle.std.proofs.lemmas.List.{take_at, drop_at, take-append-drop, length-take, nil_from_length}
+use Rattle.std.proofs.lemmas.Bool.{and_parts as and_true, eqb-true as eq_of_test, eq-eqb as test_of_eq}
 use Rattle.octets.specs.Gives.{◌>>=◌}
 use Rattle.octets.proofs.ByteLaws.{bind_ok, guard_end, ok_is, done}
 use Rattle.pdu.specs.declared.item.TheConstants.{ABSTRACT_SYNTAX, TRANSFER_SYNTAX, MAXIMUM_LENGTH, IMPLEMENTATION_CLASS}
@@ -58,12 +59,6 @@ length-again n content (a, b, c, d, is, parts) = ap length_at parts ∙ ap Ok is
 
 abbrev role : List ℕ → ℕ → ℕ → Role
 role class scu scp = record { class = class; scu = scu; scp = scp }
-
-eq_of_test : (m n : ℕ) → eqb m n ≡ true → m ≡ n
-eq_of_test m n e = grind arith
-
-test_of_eq : (m n : ℕ) → m ≡ n → eqb m n ≡ true
-test_of_eq m n e = grind arith
 
 two_last : (size : ℕ) (rest : List ℕ) → length rest ≡ size + 2 → rest ≡ take size rest ++ get_or rest size 0 ∷ get_or
     rest (size + 1) 0 ∷ []
@@ -227,10 +222,6 @@ user-again v text h =
     ∙ ap (λ (o : Option (List ℕ)). Ok (user v.maximum_length o v.roles)) h.implementation_class)
 
 -- ---- presentation contexts
-
-and_true : (a b : Bool) → (a && b) ≡ true → (a ≡ true) × (b ≡ true)
-and_true true b e = (refl, e)
-and_true false b e = absurd cc
 
 some_of_test : (n : ℕ) → not (eqb n 0) ≡ true → n ≢ 0
 some_of_test zero e z = absurd cc

@@ -1,6 +1,6 @@
 -- The site that took some operations, one after another.
-use Rattle.std.proofs.Common.{◌≡◌, inl, inr, List, [], ◌∷◌, ◌++◌, Some, None, Option, Ok}
-use Rattle.std.proofs.Common.{refl, sym, ap, subst, ◌∙◌, length, arith}
+use Rattle.std.proofs.Common.{◌≡◌, inl, inr, List, [], ◌∷◌, ◌++◌, Some, None, Option, Ok, append-nil as ends}
+use Rattle.std.proofs.Common.{refl, sym, ap, subst, ◌∙◌}
 use Rattle.std.specs.FinMap.{empty, get-empty}
 use Rattle.site_state.specs.Site.{digest_cmp}
 use Rattle.archive_model.specs.Members.{Has}
@@ -18,15 +18,6 @@ holding_more m (x ∷ ops) op = holding_more (with_op m x) ops op
 moved : (done : List Op) (op : Op) (rest : List Op) → (done ++ op ∷ []) ++ rest ≡ done ++ (op ∷ rest)
 moved [] op rest = refl
 moved (x ∷ done) op rest = ap (λ (ops : List Op). x ∷ ops) (moved done op rest)
-
--- no operations are left
-pub nothing_left : (ops : List Op) → length ops ≡ 0 → ops ≡ []
-nothing_left [] none = refl
-nothing_left (op ∷ ops) none = absurd (omega (arith, none))
-
-ends : (ops : List Op) → ops ++ [] ≡ ops
-ends [] = refl
-ends (op ∷ ops) = ap (λ (more : List Op). op ∷ more) (ends ops)
 
 -- all were met
 pub all_met : (done ops : List Op) → done ++ [] ≡ ops → done ≡ ops

@@ -5,6 +5,7 @@ use Rattle.std.specs.Prelude.{IfSome}
 use Rattle.std.specs.Cmp.Lexicographic.{nat_list_cmp_total}
 use Rattle.std.specs.BTreeMap.{is_at}
 use Rattle.std.specs.FinMap.{get, get-insert}
+use Rattle.std.proofs.lemmas.Option.{same_Some as some_is}
 use Rattle.operation.specs.declared.op.Op.{Op}
 use Rattle.operation.specs.Spelling.{digest_of}
 use Rattle.operation.specs.declared.taken.Taken.{Taken}
@@ -50,9 +51,6 @@ pub clash : (m : Map) (o other : Op) (d : List ℕ) → d ≡ digest_of o → he
 clash m o other d own held differs = (other, subst (λ k. held_at m k ≡ Some other) own held, differs)
 
 -- ---- what every history keeps
-
-some_is : (x o : Op) → Some x ≡ Some o → x ≡ o
-some_is x o e = cc
 
 -- an operation that was taken clashes with nothing
 pub none_other : (m : Map) (o : Op) (taken : Taken) → WasHeld m o taken → HasNoOther m (digest_of o) o

@@ -6,7 +6,7 @@ use Rattle.std.specs.Prelude.{not, ◌||◌, ◌&&◌, nat_lt, nat_le}
 use Rattle.std.specs.Int.{w32, from_be_bytes}
 use Rattle.std.specs.Option.{option_map}
 use Rattle.std.specs.List.{suffix_len}
-use Rattle.std.proofs.lemmas.Bool.{eqb-false, ltb-false, lt-ltb, leb-true}
+use Rattle.std.proofs.lemmas.Bool.{eqb-false, ltb-false, lt-ltb, leb-true, and_parts as both}
 use Rattle.std.proofs.lemmas.List.{length-take}
 use Rattle.octets.specs.Padding.{trimmed}
 use Rattle.data_set.specs.declared.syntax.Syntax.TheVariants.{Implicit}
@@ -122,11 +122,6 @@ behind_weighs [] = omega arith
 behind_weighs (u ∷ uids) = omega arith
 
 -- ---- tags
-
-both : (a b : Bool) → (a && b) ≡ true → (a ≡ true) × (b ≡ true)
-both true true e = (refl, refl)
-both true false e = (refl, e)
-both false b e = absurd cc
 
 -- a digit is below 16
 abbrev Small : Option ℕ → Type 0

@@ -4,7 +4,7 @@ use Rattle.std.proofs.Common.{◌∙◌}
 use Rattle.std.proofs.Common.{◌==◌, append_assoc, arith}
 use Rattle.std.specs.Prelude.{nat_le, nat_lt}
 use Rattle.std.specs.List.{join_with_byte}
-use Rattle.std.proofs.lemmas.List.{append-nil, length-append}
+use Rattle.std.proofs.lemmas.List.{append-nil, length_push as one_longer}
 use Rattle.std.proofs.lemmas.Bool.{eqb-true}
 use Rattle.std.proofs.lemmas.Bool.Decides.{nat_tests}
 use Rattle.site_script.specs.Commands.{command_of}
@@ -62,9 +62,6 @@ still_long n m is long = grind (arith, nat_tests)
 
 still_fits : (n m : ℕ) → m ≡ n + 1 → nat_le 65536 n ≡ false → nat_lt 65536 m ≡ false
 still_fits n m is room = grind (arith, nat_tests)
-
-one_longer : (front : List ℕ) (b : ℕ) → length (front ++ b ∷ []) ≡ length front + 1
-one_longer front b = length-append front (b ∷ [])
 
 print_more : (state : State) (front : List ℕ) (lines : List (List ℕ)) → HasFirst lines
     → printed_of state (front ∷ lines)

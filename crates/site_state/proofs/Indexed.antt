@@ -12,6 +12,7 @@ use Rattle.std.specs.FinMap.{entries, entries_sorted}
 use Rattle.std.specs.List.{AllByRecursion}
 use Rattle.std.specs.List.Sorted.{IsStrictlySortedBy}
 use Rattle.std.specs.Map.{keys_of, values_of}
+use Rattle.std.proofs.lemmas.Option.{same_Some as some_is}
 use Rattle.operation.specs.declared.op.Op.{Op}
 use Rattle.operation.specs.Spelling.{digest_of}
 use Rattle.octets.specs.Members.{Has}
@@ -115,9 +116,6 @@ index_none es v none is = is ∙ ap index_value (tree_ops (of_entries []) [] ref
 pub index_kept : (es fs : List (List ℕ × Op)) (v w : IndexValue) → of_entries fs ≡ of_entries es → w ≡ v
     → HasIndex (of_entries es) v → HasIndex (of_entries fs) w
 index_kept es fs v w same is was = is ∙ was ∙ ap (λ m. index_value (ops_of m)) (sym same)
-
-some_is : (x o : Op) → Some x ≡ Some o → x ≡ o
-some_is x o e = cc
 
 -- the index of a site that took an operation
 pub index_taken : (es fs : List (List ℕ × Op)) (d : List ℕ) (o : Op) (v w : IndexValue)

@@ -1,8 +1,10 @@
 -- What is looked up in the index of a site is what its operations say.
 use Rattle.std.proofs.Common.{◌≡◌, ℕ, List, Bool, true, false, Option, Some, None, refl, sym, ap, subst, ◌∙◌}
-use Rattle.std.specs.Prelude.{IfSome, ◌&&◌, ◌||◌}
-use Rattle.std.proofs.lemmas.Bool.{false≢true}
+use Rattle.std.specs.Prelude.{IfSome, ◌||◌}
+use Rattle.std.proofs.lemmas.Bool.{and_parts as and_both, and_from as both_and, or_left as first_true}
 use Rattle.std.specs.Option.{option_map}
+use Rattle.std.proofs.lemmas.Bool.{or_right as second_true}
+use Rattle.std.specs.Cmp.{both_ways}
 use Rattle.rejection_note.specs.declared.title.NoteTitle.{NoteTitle}
 use Rattle.rejection_note.specs.declared.title.NoteTitle.TheVariants.{Quality, Safety, Worklist, Expired}
 use Rattle.operation.specs.declared.op.Op.{Op}
@@ -20,7 +22,6 @@ use Rattle.archive_model.proofs.ModelLaws.{content_has, pick_is_content, covered
 use Rattle.study_index.specs.Live.{Pick, pick_at}
 use Rattle.study_index.specs.Index.{IndexValue, Fix, fix_of, pick_of}
 use Rattle.study_index.specs.Definition.{IsIndexOf}
-use Rattle.study_index.proofs.Studies.{both_ways}
 use Rattle.site_state.specs.Site.{Map, IsSite, held_at, ops_of}
 use Rattle.site_state.specs.Hidden.{hides_under, is_hidden, content_held}
 use Rattle.site_state.proofs.Indexed.{ops_held}
@@ -66,28 +67,12 @@ module _ (m : Map) (index : IndexValue) (site : IsSite m) (is : IsIndexOf (ops_o
 
 -- ---- what is covered
 
-and_both : (a b : Bool) → (a && b) ≡ true → (a ≡ true) × (b ≡ true)
-and_both true b e = (refl, e)
-and_both false b e = absurd (false≢true e)
-
-both_and : (a b : Bool) → a ≡ true → b ≡ true → (a && b) ≡ true
-both_and true b p q = q
-both_and false b p q = absurd (false≢true p)
-
 one_of_four : {P : Type 0} (a b c d : Bool) → (((a || b) || c) || d) ≡ true → (a ≡ true → P) → (b ≡ true → P)
     → (c ≡ true → P) → (d ≡ true → P) → P
 one_of_four true b c d e f g h k = f refl
 one_of_four false true c d e f g h k = g refl
 one_of_four false false true d e f g h k = h refl
 one_of_four false false false d e f g h k = k e
-
-second_true : (a b : Bool) → b ≡ true → (a || b) ≡ true
-second_true true b e = refl
-second_true false b e = e
-
-first_true : (a b : Bool) → a ≡ true → (a || b) ≡ true
-first_true true b e = refl
-first_true false b e = absurd (false≢true e)
 
 -- a UID is covered where notes of one of the four titles hide it
 pub covered_is : (view : View) (ops : List Op) (uid : List ℕ) → is_hidden view ops uid ≡ is_covered view ops uid

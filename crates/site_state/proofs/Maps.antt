@@ -1,12 +1,11 @@
 -- What the entries of a tree are as a finite map.
 use Rattle.std.proofs.Common.{◌≡◌, ◌≢◌, ℕ, List, [], ◌∷◌, Bool, true, false, cond, Option, Some, None, IsTrue, refl}
-use Rattle.std.proofs.Common.{sym, ap, subst, ◌∙◌, arith, length, Bor}
+use Rattle.std.proofs.Common.{sym, ap, subst, ◌∙◌, Bor}
 use Rattle.std.specs.Prelude.{IfSome, is_some}
 use Rattle.std.proofs.lemmas.Bool.{false≢true}
 use Rattle.std.specs.Ordering.{is_eq}
-use Rattle.std.specs.declared.cmp.Ordering.{Ordering}
-use Rattle.std.specs.declared.cmp.Ordering.TheVariants.{Less, Equal, Greater}
-use Rattle.std.specs.Cmp.{eq_by_cmp_equiv, tied_itself}
+use Rattle.std.specs.declared.cmp.Ordering.TheVariants.{Less}
+use Rattle.std.specs.Cmp.{eq_by_cmp_equiv, tied_itself, Equal-is}
 use Rattle.std.specs.Cmp.Lexicographic.{nat_list_cmp_total}
 use Rattle.std.specs.BTreeMap.{is_at}
 use Rattle.std.specs.FinMap.{entries, entries-insert, len-entries, len-empty, put, get, insert, from_entries, empty}
@@ -16,6 +15,7 @@ use Rattle.std.specs.Option.{option_copied}
 use Rattle.std.specs.Map.{lookup, keys_of, values_of}
 use Rattle.std.specs.List.{AllByRecursion}
 use Rattle.std.specs.List.Sorted.{IsStrictlySortedBy}
+use Rattle.std.proofs.lemmas.List.{nil_from_length as nothing}
 use Rattle.operation.specs.declared.op.Op.{Op}
 use Rattle.operation.specs.Spelling.{digest_of}
 use Rattle.site_state.specs.Site.{digest_cmp, Map, IsSite, ops_of, digests_of, held_at}
@@ -49,14 +49,9 @@ pub none_is_site : (es : List (List ℕ × Op)) → es ≡ [] → IsSite (from_e
 none_is_site es e d = subst (λ (r : Option Op). IfSome r (λ o. d ≡ digest_of o))
     (sym (get_held es d ∙ ap (λ (xs : List (List ℕ × Op)). held xs d) e)) tt
 
-eq_is : (r : Ordering) → is_eq r ≡ true → r ≡ Equal
-eq_is Less e = absurd (false≢true e)
-eq_is Equal e = refl
-eq_is Greater e = absurd (false≢true e)
-
 -- digests that tie are one
 pub tied : (d e : List ℕ) → is_at (digest_cmp d) e ≡ true → d ≡ e
-tied d e is = slice_cmp-IsAntisymmetric nat_cmp-IsAntisymmetric d e (eq_is _ is)
+tied d e is = slice_cmp-IsAntisymmetric nat_cmp-IsAntisymmetric d e ((Equal-is _).0 is)
 
 -- a digest ties with itself
 pub apart : (d e : List ℕ) → is_at (digest_cmp d) e ≡ false → d ≢ e
@@ -85,10 +80,6 @@ found_at m es d r view found = ap (λ (x : Map). get x d) (sym view) ∙ get_hel
 pub some_is : {X : Type 0} (o : Option X) → (IsTrue (is_some o) → o ≢ None) × (o ≢ None → IsTrue (is_some o))
 some_is None = (λ t e. absurd (false≢true t), λ n. absurd (n refl))
 some_is (Some x) = (λ t e. absurd cc, λ n. refl)
-
-nothing : {X : Type 0} (xs : List X) → length xs ≡ 0 → xs ≡ []
-nothing [] e = refl
-nothing (x ∷ xs) e = absurd (omega arith)
 
 put_first : (k : List ℕ) (v : Op) (es : List (List ℕ × Op)) → AllByRecursion (λ d. digest_cmp k d ≡ Less) (keys_of es)
     → put digest_cmp k v es ≡ (k, v) ∷ es

@@ -13,6 +13,7 @@ use Rattle.std.specs.FinMap.Entries.{below_all}
 use Rattle.std.specs.List.{AllByRecursion}
 use Rattle.std.specs.List.Sorted.{IsStrictlySortedBy}
 use Rattle.std.specs.Map.{keys_of, values_of}
+use Rattle.std.proofs.lemmas.Option.{same_Some as is_one}
 use Rattle.operation.specs.declared.op.Op.{Op}
 use Rattle.operation.specs.declared.op.Op.TheVariants.{Content as a_content, Correction as a_correction}
 use Rattle.operation.specs.Spelling.{digest_of}
@@ -89,9 +90,6 @@ between : (a b : ℕ) → a ≤ b → b ≤ a → a ≡ b
 between a b p q = omega (arith, p, q)
 
 -- ---- an operation more
-
-is_one : (x o : Op) → Some x ≡ Some o → x ≡ o
-is_one x o e = cc
 
 added_below : (m : Map) (x o : Op) (d : List ℕ) (b : Bool) → cond b (Some x) (held_at m d) ≡ Some o
     → counter_of o ≤ max (top_counter_of (ops_of m)) (counter_of x)

@@ -12,6 +12,7 @@ use Rattle.std.specs.Map.{keys_of, values_of}
 use Rattle.std.specs.List.{AllByRecursion}
 use Rattle.std.specs.List.Sorted.{IsStrictlySortedBy}
 use Rattle.std.specs.FinMap.{entries, get-entries, get-empty, empty}
+use Rattle.std.proofs.lemmas.Option.{same_Some as some_is}
 use Rattle.operation.specs.declared.op.Op.{Op}
 use Rattle.operation.specs.Spelling.{digest_of}
 use Rattle.site_state.specs.Site.{Map, digest_cmp, of_entries, held_at, IsSite, HasOther, HasNoOther}
@@ -152,9 +153,6 @@ all_added m fs none = sym (ap (λ xs. union m (of_entries xs)) none ∙ same_sit
 -- where both have a digest they have one operation
 abbrev pub AgreeOver : List (List ℕ × Op) → List (List ℕ × Op) → Type 0
 AgreeOver es fs = (d : List ℕ) (o p : Op) → held_at (of_entries es) d ≡ Some o → held fs d ≡ Some p → o ≡ p
-
-some_is : (o p : Op) → Some o ≡ Some p → o ≡ p
-some_is o p e = cc
 
 agree_at : (es fs : List (List ℕ × Op)) (k : List ℕ) (x : Op) → HasNoOther (of_entries es) k x → AgreeOver es fs
     → (d : List ℕ) (o p : Op) (b : Bool) → is_at (digest_cmp d) k ≡ b → held_at (of_entries es) d ≡ Some o

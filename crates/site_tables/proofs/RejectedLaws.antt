@@ -4,7 +4,7 @@ use Rattle.std.proofs.Common.{Bool, true, false, cond, map}
 use Rattle.std.specs.Prelude.{◌&&◌, ◌||◌}
 use Rattle.std.specs.List.{flat_map, cons_option, filter, list_any, join_with_byte}
 use Rattle.std.specs.Fmt.{decimal}
-use Rattle.std.proofs.lemmas.Bool.{false≢true}
+use Rattle.std.proofs.lemmas.Bool.{and_parts as both}
 use Rattle.std.proofs.lemmas.List.Folds.{list_any-append}
 use Rattle.rejection_note.specs.declared.note.Note.{Note}
 use Rattle.octets.specs.Members.{Has}
@@ -178,10 +178,6 @@ is_it uid q c = is_naming uid c && same c.instance q
 
 abbrev Names : Text → List ContentParts → List Text
 Names uid notes = map (λ c. c.instance) (filter (is_naming uid) notes)
-
-both : (a b : Bool) → (a && b) ≡ true → (a ≡ true) × (b ≡ true)
-both true b e = (refl, e)
-both false b e = absurd (false≢true e)
 
 any_named : (uid q : Text) (notes : List ContentParts) → Has (Names uid notes) q → list_any (is_it uid q) notes ≡ true
 any_named uid q notes has =

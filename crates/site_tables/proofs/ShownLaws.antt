@@ -1,13 +1,14 @@
 -- What is shown of a table are lines of characters, none of which is a control character.
 use Rattle.std.proofs.Common.{◌≡◌, ℕ, zero, suc, ◌+◌, List, [], ◌∷◌, ◌++◌, refl, sym, ap, ◌∙◌, map, length, replicate}
 use Rattle.std.proofs.Common.{Bool, true, false, if◌then◌else◌, ◌||◌, ◌==◌, arith}
-use Rattle.std.specs.Prelude.{not, ◌&&◌}
+use Rattle.std.specs.Prelude.{not}
 use Rattle.std.specs.Char.{is_control, encode_utf8}
 use Rattle.std.specs.List.{flat_map, list_all}
 use Rattle.std.proofs.lemmas.Grind.{flat_map-append}
 use Rattle.std.proofs.lemmas.List.{length-map}
 use Rattle.std.proofs.lemmas.List.Elements.{All-map}
 use Rattle.std.proofs.lemmas.List.Folds.{list_all-append, flat_map-map}
+use Rattle.std.proofs.lemmas.Bool.{and_from as both_plain}
 use Rattle.bstr.specs.Utf8.{lossy_chars}
 use Rattle.site_tables.specs.Aligned.{shown_char, shown_text, gap, cells_from, widths, aligned}
 use Rattle.site_tables.specs.Shown.{IsShown, AreLines}
@@ -18,11 +19,6 @@ none_shown = record { chars = []; plain = refl; spelled = refl }
 space_shown : IsShown (32 ∷ [])
 unfolding encode_utf8
 space_shown = record { chars = 32 ∷ []; plain = refl; spelled = refl }
-
-both_plain : (a b : Bool) → a ≡ true → b ≡ true → (a && b) ≡ true
-both_plain true true p q = refl
-both_plain true false p q = q
-both_plain false b p q = p
 
 -- one behind the other
 both_shown : (a b : List ℕ) → IsShown a → IsShown b → IsShown (a ++ b)

@@ -5,6 +5,7 @@ use Rattle.std.specs.Prelude.{replicate}
 use Rattle.std.specs.List.{slice_get}
 use Rattle.std.specs.Option.{option_map}
 use Rattle.std.specs.FinMap.{empty}
+use Rattle.std.proofs.lemmas.Option.{same_Some as some_is}
 use Rattle.data_set.specs.Set.{Set}
 use Rattle.operation.specs.declared.op.Op.{Op}
 use Rattle.archive_model.specs.Members.{Has, SameMembers}
@@ -35,9 +36,6 @@ use Rattle.site_world.proofs.Taken.{Front, front_itself, front_front, run_stays,
 use Rattle.site_world.proofs.Fitting.{Fits, run_fits, fits_apart}
 
 -- ---- looks
-
-some_is : {X : Type 0} (x y : X) → Some x ≡ Some y → x ≡ y
-some_is x y e = cc
 
 -- where a run stands before a step, the step, and the run behind it
 pub record Stands (old new : WorldState) (steps : List Step) (answers : List (Result Seen WorldFault)) (i : ℕ)

@@ -1,18 +1,13 @@
 -- A code tells its values apart.
 use Rattle.std.proofs.Common.{◌≡◌, ◌≢◌, ℕ, Bool, true, false, ◌==◌, refl, sym, ap, subst, ◌∙◌}
-use Rattle.std.specs.Prelude.{◌&&◌, IsTrue}
-use Rattle.std.proofs.lemmas.Bool.{eqb-true, eq-eqb}
+use Rattle.std.specs.Prelude.{IsTrue}
+use Rattle.std.proofs.lemmas.Bool.{eqb-true, eq-eqb, and_parts as both}
 use base.Stored.{Gv, gnil, gnum, gcons}
 use Rattle.operation.specs.declared.op.Op.{Op}
 use Rattle.operation.specs.OpCode.{op_code}
 use Rattle.site_state.specs.Site.{Map}
 use Rattle.site_world.specs.Laws.{SameOpIsEquality, SameSiteIsEquality}
 use Rattle.site_world.specs.Same.{same_code, same_op, same_site, map_code}
-
-both : (a b : Bool) → (a && b) ≡ true → (a ≡ true) × (b ≡ true)
-both true true e = (refl, refl)
-both true false e = (refl, e)
-both false b e = absurd cc
 
 one_number : (n : ℕ) → (n == n) ≡ true
 one_number n = eq-eqb n n refl

@@ -9,6 +9,7 @@ use Rattle.std.specs.Cmp.Lexicographic.{nat_list_cmp_total}
 use Rattle.std.specs.BTreeMap.{is_at}
 use Rattle.std.specs.FinMap.{get-insert}
 use Rattle.std.proofs.lemmas.Bool.{eqb-true}
+use Rattle.std.proofs.lemmas.Option.{same_Some as one_of}
 use Rattle.operation.specs.declared.op.Op.{Op}
 use Rattle.operation.specs.declared.op.Op.TheVariants.{Correction as a_correction}
 use Rattle.operation.specs.Spelling.{digest_of}
@@ -52,9 +53,6 @@ Fits m [] = Unit {0}
 Fits m (o ∷ ops) = Free m o × Fits (with_op m o) ops
 
 -- ---- what fits stays
-
-one_of : (x y : Op) → Some x ≡ Some y → x ≡ y
-one_of x y e = cc
 
 added : (m : Map) (o : Op) (d : List ℕ) → held_at (with_op m o) d
     ≡ cond (is_at (digest_cmp d) (digest_of o)) (Some o) (held_at m d)

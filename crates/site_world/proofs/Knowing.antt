@@ -6,6 +6,7 @@ use Rattle.std.specs.Option.{option_map}
 use Rattle.std.specs.FinMap.{empty, get-empty}
 use Rattle.std.proofs.lemmas.Bool.{eqb-true}
 use Rattle.std.proofs.lemmas.List.{nil_from_length}
+use Rattle.std.proofs.lemmas.Option.{same_Some as same_some}
 use Rattle.octets.specs.Members.{Has}
 use Rattle.operation.specs.declared.op.Op.{Op}
 use Rattle.operation.specs.declared.op.Op.TheVariants.{Correction as a_correction}
@@ -119,9 +120,6 @@ left_false false c e = absurd cc
 bare : (sent : List Message) (n : ℕ) (m : Map) → has_begun sent n m ≡ false → ops_of m ≡ []
 bare sent n m e =
     nil_from_length (ops_of m) (eqb-true (length (ops_of m)) 0 (left_false (length (ops_of m) == 0) (has_met sent n) e))
-
-same_some : {X : Type 0} (x y : X) → Some x ≡ Some y → x ≡ y
-same_some x y e = cc
 
 fair_aging : (w : WorldState) (n : ℕ) (m : Map) (b : Bool) → has_begun w.sent n m ≡ b → site_at w.sites n ≡ Some m
     → Fair w n (cond b (only (Err OldSite)) (record { seen = Ok Aged; brings = None; sends = []; ages = Some n }))

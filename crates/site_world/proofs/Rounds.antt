@@ -7,6 +7,7 @@ use Rattle.std.specs.Option.{option_map}
 use Rattle.std.proofs.lemmas.Bool.{eqb-true, eq-eqb, false≢true}
 use Rattle.std.proofs.lemmas.List.{append-nil, length-append}
 use Rattle.std.proofs.Common.{append_assoc, arith}
+use Rattle.std.proofs.lemmas.Option.{same_Some as same_some}
 use Rattle.octets.specs.Members.{Has}
 use Rattle.operation.specs.declared.op.Op.{Op}
 use Rattle.operation.specs.declared.taken.Taken.{Taken}
@@ -462,9 +463,6 @@ is_to a b says = by (a == b) (eq-eqb b b refl)
     by : (c : Bool) → (b == b) ≡ true → (c || (b == b)) ≡ true
     by true e = refl
     by false e = e
-
-same_some : (x y : Map) → Some x ≡ Some y → x ≡ y
-same_some x y e = cc
 
 -- What was given is held in the end.
 gifts_taken : (mid next new : WorldState) (a b : ℕ) (wish : List (List ℕ)) (gifts : List ℕ) (rest : List Step)

@@ -1,7 +1,7 @@
 -- Steps at one site are steps of the world.
 use Rattle.std.proofs.Common.{◌≡◌, ◌<◌, ℕ, suc, zero, List, [], ◌∷◌, ◌++◌, Option, Some, None, Result, Bool, true}
 use Rattle.std.proofs.Common.{false, refl, sym, ap, subst, ◌∙◌, length, slice_set, slice_index_or}
-use Rattle.std.proofs.lemmas.Option.{slice_get_read}
+use Rattle.std.proofs.lemmas.Option.{slice_get_read, same_Some}
 use Rattle.std.proofs.lemmas.Bool.{eqb-true}
 use Rattle.std.specs.Prelude.{MatchBool, ◌==◌, ◌+◌, Ok, Err, OnOk, not, cond, min}
 use Rattle.std.specs.List.{slice_get}
@@ -45,10 +45,7 @@ the_world sites sent old = record { sites = sites; sent = sent; aged = old }
 
 set_again : {X : Type 0} (xs : List X) (k : ℕ) (x : X) → slice_get xs k ≡ Some x → slice_set xs k x ≡ xs
 set_again [] k x e = refl
-set_again (y ∷ xs) zero x e = ap (λ z. z ∷ xs) (is x y (sym e))
-  where
-    is : {Y : Type 0} (a b : Y) → Some a ≡ Some b → a ≡ b
-    is a b p = cc
+set_again (y ∷ xs) zero x e = ap (λ z. z ∷ xs) (same_Some x y (sym e))
 set_again (y ∷ xs) (suc k) x e = ap (λ ys. y ∷ ys) (set_again xs k x e)
 
 -- what was brought to the site that stands at a place

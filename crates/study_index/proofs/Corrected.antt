@@ -2,16 +2,17 @@
 use Rattle.std.proofs.Common.{rules, ◌≡◌, ◌≤◌, ℕ, List, [], ◌∷◌, Bool, true, false, cond, Option, Some, None, IsTrue}
 use Rattle.std.proofs.Common.{refl, sym, ap, ◌∙◌, subst, inl, inr}
 use Rattle.std.specs.Prelude.{◌&&◌, ◌==◌, if◌then◌else◌, nat_le, length}
-use Rattle.std.proofs.lemmas.Bool.{eqb-true, false≢true}
+use Rattle.std.proofs.lemmas.Bool.{eqb-true, false≢true, and_parts as both}
 use Rattle.std.specs.Option.{option_map}
 use Rattle.std.specs.List.{filter}
+use Rattle.std.specs.Cmp.{second_so as and_second, both_ways}
 use Rattle.operation.specs.declared.op.Op.{Op}
 use Rattle.operation.specs.declared.op.Op.TheVariants.{Content as a_content, Correction as a_correction}
 use Rattle.operation.specs.declared.target.Target.{Target}
 use Rattle.operation.specs.declared.target.Target.TheVariants.{Study, Patient, Series}
 use Rattle.operation.specs.Parts.{ContentParts, CorrectionParts, key_of}
 use Rattle.operation.specs.Corrections.{is_correction, is_tag_for, is_corrected}
-use Rattle.operation.proofs.Bounds.{both, key_short}
+use Rattle.operation.proofs.Bounds.{key_short}
 use Rattle.operation.proofs.TagLaws.{tag_corrected}
 use Rattle.octets.specs.Texts.{same}
 use Rattle.octets.specs.Members.{Has}
@@ -28,7 +29,6 @@ use Rattle.study_index.specs.Index.{latest_at}
 use Rattle.study_index.specs.Definition.{IsIndexOf, IsLawful, AreLawful}
 use Rattle.study_index.specs.Proved.Indexes.{fix_total, fix_exact}
 use Rattle.study_index.proofs.Definitions.{greatest_more}
-use Rattle.study_index.proofs.Studies.{both_ways}
 
 abbrev later_of : Option Fix → Option Fix → Option Fix
 later_of = greatest_of fix_cmp
@@ -56,10 +56,6 @@ third_of k a b c = ap (greatest_of fix_cmp a) (sym (assoc b k c) ∙ ap (λ x. g
 same_turned : (t u : Text) → same t u ≡ same u t
 same_turned t u = both_ways (same t u) (same u t) (λ e. same_itself u t (sym (same_is t u e)))
     (λ e. same_itself t u (sym (same_is u t e)))
-
-and_none : (b : Bool) → (b && false) ≡ false
-and_none true = refl
-and_none false = refl
 
 -- the greatest of those that pass a test, as an index has it
 abbrev last : (CorrectionParts → Bool) → List CorrectionParts → Option Fix
@@ -213,10 +209,6 @@ pub lawful_of : (ops : List Op) → AreLawful ops → (k : CorrectionParts) → 
 lawful_of ops all k h =
     let at = filter_map_has correction_in ops k h in
     subst IsLawful (correction_is at.0 k at.2) (all at.0 at.1)
-
-and_second : (a b : Bool) → (a && b) ≡ true → b ≡ true
-and_second true b e = e
-and_second false b e = absurd (false≢true e)
 
 same_key_of : (mine yours : Target) → is_same_target mine yours ≡ true → key_of mine ≡ key_of yours
 same_key_of (Study a) (Study b) e = same_is a b e

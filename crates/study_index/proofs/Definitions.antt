@@ -13,6 +13,7 @@ use Rattle.std.specs.Ordering.{nat_cmp, is_eq, is_lt, is_le, ordering_then, orde
 use Rattle.std.specs.declared.cmp.Ordering.{Ordering}
 use Rattle.std.specs.declared.cmp.Ordering.TheVariants.{Less, Equal, Greater}
 use Rattle.std.specs.BTreeMap.{is_at}
+use mathlib.Core.Bool.{or-false as or_none}
 use Rattle.rejection_note.specs.declared.note.Note.{Note}
 use Rattle.rejection_note.specs.declared.title.NoteTitle.{NoteTitle}
 use Rattle.operation.specs.declared.op.Op.{Op}
@@ -48,7 +49,7 @@ use Rattle.study_index.specs.Proved.Indexes.{copy_total, copy_exact, naming_tota
 use Rattle.study_index.specs.Proved.Indexes.{fix_key_exact, fix_exact, index_laws, index_summary_laws}
 use Rattle.study_index.specs.Leads.{Lead, lead_cmp, leads_of, is_lead}
 use Rattle.study_index.specs.Proved.Leads.{lead_total, lead_exact}
-use Rattle.study_index.proofs.KeyLaws.{or_none, at_either}
+use Rattle.study_index.proofs.KeyLaws.{at_either}
 use Rattle.study_index.proofs.Trees.{pick_at-joined}
 
 -- the index of a list of operations

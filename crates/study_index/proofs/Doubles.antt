@@ -2,7 +2,7 @@
 use Rattle.std.specs.Prelude.{◌≡◌, Bool, true, false, cond, ◌&&◌, ◌||◌, nat_lt, List, [], ◌∷◌, length, Option, None}
 use Rattle.std.specs.Prelude.{Some}
 use Rattle.std.proofs.Common.{refl, sym, ap, ◌∙◌, arith}
-use mathlib.Core.Bool.{true≢false}
+use mathlib.Core.Bool.{true≢false, and-false as none_here, or_comm as or_swapped, or_assoc}
 use borrow.Author.Tests.{lt-ltb}
 use Rattle.std.specs.List.{filter, AllByRecursion}
 use Rattle.std.specs.List.Sorted.{IsStrictlySortedBy}
@@ -43,10 +43,6 @@ are_two (x ∷ y ∷ xs) = sym (lt-ltb 1 (length (x ∷ y ∷ xs)) (omega arith)
 abbrev pub repeats : Option Copy → List Copy → Text → Bool
 repeats before [] uid = false
 repeats before (c ∷ cs) uid = (is_next_copy before c && is_copy_of uid c) || repeats (Some c) cs uid
-
-none_here : (b : Bool) → (b && false) ≡ false
-none_here true = refl
-none_here false = refl
 
 -- copies ascend by UID
 uid_up : (b c : Copy) → copy_cmp b c ≡ Less → same b.uid c.uid ≡ false → text_cmp b.uid c.uid ≡ Less
@@ -131,16 +127,6 @@ all_counted (c ∷ cs) uid up = counted c cs uid up ∙ by (same c.uid uid) ∙ 
     by false = refl
 
 -- ---- one more copy is seen
-
-or_assoc : (a b c : Bool) → ((a || b) || c) ≡ (a || (b || c))
-or_assoc true b c = refl
-or_assoc false b c = refl
-
-or_swapped : (a b : Bool) → (a || b) ≡ (b || a)
-or_swapped true true = refl
-or_swapped true false = refl
-or_swapped false true = refl
-or_swapped false false = refl
 
 pub or_none : (a : Bool) → a ≡ (a || false)
 or_none true = refl

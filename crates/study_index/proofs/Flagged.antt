@@ -14,6 +14,7 @@ use Rattle.std.specs.Cmp.Lexicographic.{nat_list_cmp_total}
 use Rattle.std.proofs.lemmas.Cmp.{tied_itself}
 use Rattle.std.proofs.lemmas.List.{length-map}
 use Rattle.std.proofs.lemmas.List.Kept.{IsStrictlySortedBy-filter}
+use Rattle.std.specs.Cmp.{both_ways, Equal-is}
 use Rattle.operation.specs.declared.op.Op.{Op}
 use Rattle.operation.specs.declared.op.Op.TheVariants.{Content as a_content, Correction as a_correction}
 use Rattle.operation.specs.Spelling.{digest_of}
@@ -35,7 +36,6 @@ use Rattle.study_index.specs.Copies.{is_copy_of, is_doubled}
 use Rattle.study_index.specs.Proved.Picks.{text_exact}
 use Rattle.study_index.specs.Proved.Indexes.{copy_total, copy_exact}
 use Rattle.study_index.proofs.Definitions.{has_copy, held, at_copy}
-use Rattle.study_index.proofs.Studies.{both_ways}
 
 -- ---- the digests of the copies of a UID
 
@@ -137,13 +137,8 @@ module _ (ops : List Op) (up : Ascend ops) (index : IndexValue) (is : IsIndexOf 
       back : has text_cmp (flagged ops) uid ≡ true → is_flagged ops uid ≡ true
       back h =
           let at = any_has (is_at (text_cmp uid)) (flagged ops) h in
-          ap (is_flagged ops) (text_exact uid at.0 (tie (text_cmp uid at.0) at.2))
+          ap (is_flagged ops) (text_exact uid at.0 ((Equal-is (text_cmp uid at.0)).0 at.2))
           ∙ (filter_has (is_flagged ops) (instances ops) at.0 at.1).1
-        where
-          tie : (o : Ordering) → is_eq o ≡ true → o ≡ Equal
-          tie Less e = absurd (true≢false (sym e))
-          tie Equal e = refl
-          tie Greater e = absurd (true≢false (sym e))
 
   -- UIDs that ascend and are those of two copies are the flagged ones
   pub flagged_are : (uids : List Text) → IsStrictlySortedBy text_cmp uids

@@ -1,7 +1,7 @@
 -- Lists of keys, and what is put in and taken out of them.
 use Rattle.std.specs.Prelude.{◌≡◌, ℕ, ◌+◌, ◌<◌, Bool, true, false, cond, not, ◌&&◌, ◌||◌, List, [], ◌∷◌, ◌++◌}
 use Rattle.std.proofs.Common.{refl, sym, ap, ◌∙◌, take, drop, length, get_or}
-use mathlib.Core.Bool.{true≢false}
+use mathlib.Core.Bool.{true≢false, or-false as or_none}
 use Rattle.std.specs.Cmp.{IsTotalOrder}
 use Rattle.std.specs.Ordering.{is_eq, ordering_reverse}
 use Rattle.std.specs.declared.cmp.Ordering.{Ordering}
@@ -10,21 +10,12 @@ use Rattle.std.specs.BTreeMap.{is_at}
 use Rattle.std.proofs.lemmas.Cmp.{tied_itself}
 use Rattle.std.proofs.lemmas.List.{take-append-drop, take_more}
 use Rattle.std.proofs.lemmas.List.Folds.{list_any-append}
+use Rattle.std.proofs.lemmas.Bool.{or_left as or_true}
 use Rattle.join_laws.specs.Laws.{IsExact}
 use Rattle.join_laws.specs.Proved.Maps.{equal_from_is_eq}
 use Rattle.study_index.specs.Keys.{has}
 
 -- ---- tests
-pub or_none : (a : Bool) → (a || false) ≡ a
-or_none true = refl
-or_none false = refl
-
-pub or_assoc : (a b c : Bool) → ((a || b) || c) ≡ (a || (b || c))
-or_assoc true b c = refl
-or_assoc false b c = refl
-
-or_true : (a b : Bool) → a ≡ true → (a || b) ≡ true
-or_true a b h = ap (λ c. c || b) h
 
 is_eq_reverse : (o : Ordering) → is_eq (ordering_reverse o) ≡ is_eq o
 is_eq_reverse Less = refl

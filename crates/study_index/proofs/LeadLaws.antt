@@ -18,21 +18,15 @@ use Rattle.std.specs.BTreeMap.{is_at}
 use Rattle.std.specs.BTreeSet.{insert_key}
 use Rattle.std.proofs.lemmas.Cmp.{tied_itself, nat_cmp_total}
 use Rattle.std.proofs.lemmas.List.Folds.{list_any-append}
+use mathlib.Core.Bool.{or-false as or_none, or_comm, or_assoc}
 use Rattle.join_laws.specs.Proved.Sets.{has-insert_key}
 use Rattle.octets.specs.Texts.{text_cmp}
 use Rattle.study_index.specs.Keys.{has}
 use Rattle.study_index.specs.Proved.Picks.{text_exact}
-use Rattle.study_index.proofs.KeyLaws.{or_none, or_assoc}
 use Rattle.study_index.specs.Leads.{Text, Lead, a_lead, lead_cmp, is_between, is_led, leads_to, home_front, home_end}
 use Rattle.study_index.specs.Leads.{IsBehind}
 use Rattle.study_index.specs.Leads.{is_folded, led_byte, as_led, is_walked, walk_of, begins_with, has_run, may_have}
 use Rattle.study_index.specs.Proved.Leads.{lead_total}
-
-or_comm : (a b : Bool) → (a || b) ≡ (b || a)
-or_comm true true = refl
-or_comm true false = refl
-or_comm false true = refl
-or_comm false false = refl
 
 pub put_in : (ks : List Text) (k s : Text) → has text_cmp (insert_key text_cmp ks k) s ≡ (has text_cmp ks s || is_at
     (text_cmp s) k)

@@ -11,6 +11,8 @@ use Rattle.std.specs.declared.cmp.Ordering.TheVariants.{Less, Equal, Greater}
 use Rattle.std.specs.BTreeMap.{is_at}
 use Rattle.std.specs.Cmp.Lexicographic.{nat_list_cmp_total}
 use Rattle.std.proofs.lemmas.Cmp.{tied_itself}
+use Rattle.std.proofs.lemmas.Bool.{and_parts as and_both}
+use Rattle.std.specs.Cmp.{both_ways}
 use Rattle.octets.specs.Members.{Has}
 use Rattle.octets.specs.Texts.{same, text_cmp}
 use Rattle.archive_model.proofs.MemberLaws.{any_has, has_any, filter_has, has_filter, map_has, has_map}
@@ -22,13 +24,6 @@ use Rattle.study_index.specs.Live.{front_of, end_of, is_between, is_of_series, f
 use Rattle.study_index.specs.Proved.Picks.{text_exact, place_exact, place_total}
 use Rattle.study_index.proofs.KeyLaws.{at_itself, same_key}
 use Rattle.study_index.proofs.Walks.{picked, listed, IsListed}
-
--- tests that hold of the same are one
-pub both_ways : (a b : Bool) → (a ≡ true → b ≡ true) → (b ≡ true → a ≡ true) → a ≡ b
-both_ways true true f g = refl
-both_ways true false f g = sym (f refl)
-both_ways false true f g = g refl
-both_ways false false f g = refl
 
 -- ---- orders
 
@@ -46,11 +41,6 @@ neither : (o : Ordering) → is_gt o ≡ false → is_gt (ordering_reverse o) �
 neither Less h k = absurd (true≢false k)
 neither Equal h k = refl
 neither Greater h k = absurd (true≢false h)
-
-pub and_both : (a b : Bool) → (a && b) ≡ true → (a ≡ true) × (b ≡ true)
-and_both true true h = (refl, refl)
-and_both true false h = absurd (true≢false (sym h))
-and_both false b h = absurd (true≢false (sym h))
 
 le_none : (t : Text) (o : Ordering) → is_le o ≡ true → is_le (ordering_then (text_cmp [] t) o) ≡ true
 le_none [] o h = h

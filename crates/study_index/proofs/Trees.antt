@@ -2,7 +2,7 @@
 use Rattle.std.specs.Prelude.{◌≡◌, Bool, true, false, cond, not, ◌&&◌, ◌||◌, List, [], ◌∷◌, ◌++◌, fold, Option, None}
 use Rattle.std.specs.Prelude.{Some}
 use Rattle.std.proofs.Common.{refl, sym, ap, ◌∙◌}
-use mathlib.Core.Bool.{true≢false}
+use mathlib.Core.Bool.{true≢false, and-false as and_none, or-false as or_none, or_assoc}
 use Rattle.std.specs.List.Sorted.{IsStrictlySortedBy}
 use Rattle.std.specs.Map.{keys_of, lookup}
 use Rattle.std.specs.Cmp.Lexicographic.{nat_list_cmp_total}
@@ -23,7 +23,7 @@ use Rattle.study_index.specs.Live.{Text, Pick, Place, a_place, pick_cmp, place_c
 use Rattle.study_index.specs.Live.{picks_joined}
 use Rattle.study_index.specs.Live.{place_of, place_at, tree_of, is_moved, gained, lost, gains, losses}
 use Rattle.study_index.specs.Proved.Picks.{text_exact, place_exact, place_total}
-use Rattle.study_index.proofs.KeyLaws.{or_none, or_assoc, has-append, same_key}
+use Rattle.study_index.proofs.KeyLaws.{has-append, same_key}
 
 pub same_places : (xs ys : List Place) → IsStrictlySortedBy place_cmp xs → IsStrictlySortedBy place_cmp ys
     → ((q : Place) → has place_cmp xs q ≡ has place_cmp ys q) → xs ≡ ys
@@ -115,10 +115,6 @@ stays (Some p) = ap (λ b. not (b && same p.series p.series)) (same_itself p.stu
 has_cond : (m : Bool) (q : Place) (ps : List Place) → has place_cmp (cond m ps []) q ≡ (m && has place_cmp ps q)
 has_cond true q ps = refl
 has_cond false q ps = refl
-
-and_none : (m : Bool) → (m && false) ≡ false
-and_none true = refl
-and_none false = refl
 
 module _ (picks others : List (Text × Option Pick)) (s : IsStrictlySortedBy text_cmp (keys_of picks))
     (t : IsStrictlySortedBy text_cmp (keys_of others)) (q : Place) where

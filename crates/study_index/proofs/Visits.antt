@@ -13,6 +13,8 @@ use Rattle.std.specs.declared.cmp.Ordering.TheVariants.{Less, Equal, Greater}
 use Rattle.std.specs.BTreeMap.{is_at}
 use Rattle.std.specs.Cmp.Lexicographic.{nat_list_cmp_total}
 use Rattle.std.proofs.lemmas.Cmp.{tied_itself}
+use Rattle.std.proofs.lemmas.Bool.{and_parts as and_both}
+use Rattle.std.specs.Cmp.{both_ways}
 use Rattle.octets.specs.Members.{Has}
 use Rattle.octets.specs.Texts.{same, text_cmp}
 use Rattle.octets.proofs.TextLemmas.{in_ascending}
@@ -35,7 +37,6 @@ use Rattle.study_index.specs.Walk.{IsWalk, IsWalkOfStudy, IsWalkOf, visited_in_s
 use Rattle.study_index.specs.Walk.{place_in, places_of}
 use Rattle.study_index.specs.Proved.Picks.{text_exact, place_exact, place_total}
 use Rattle.study_index.proofs.KeyLaws.{at_itself, same_key}
-use Rattle.study_index.proofs.Studies.{both_ways, and_both}
 use Rattle.study_index.proofs.Trees.{same_places}
 
 -- ---- lists

@@ -5,6 +5,7 @@ use Rattle.std.specs.Prelude.{filter}
 use Rattle.std.specs.Int.{w32, to_be_bytes}
 use Rattle.std.specs.List.{AllByRecursion, list_any, IsDistinct}
 use Rattle.std.proofs.lemmas.Map.Steps.{length-le_from_distinct_below}
+use Rattle.std.proofs.lemmas.Bool.{or_parts as neither, eqb-true as equal_of}
 use Rattle.pdu.specs.declared.user.Role.{Role}
 use Rattle.pdu.specs.declared.user.UserInformation.{UserInformation}
 use Rattle.pdu.specs.declared.context.ProposedContext.{ProposedContext}
@@ -25,10 +26,6 @@ no_other : (a b : Bool) → not a && b ≡ true → (a ≡ false) × (b ≡ true
 no_other true b e = absurd cc
 no_other false b e = (refl, e)
 
-neither : (a b : Bool) → (a || b) ≡ false → (a ≡ false) × (b ≡ false)
-neither true b e = absurd cc
-neither false b e = (refl, e)
-
 the_other : (a b : Bool) → a ≡ false → (a || b) ≡ true → b ≡ true
 the_other true b is e = absurd cc
 the_other false b is e = e
@@ -45,9 +42,6 @@ unfolding IsDistinct
 distinct [] e = tt
 distinct (n ∷ ns) e = let both = no_other (is_among n ns) (are_distinct ns) e in
     (none_equal n ns both.0, distinct ns both.1)
-
-equal_of : (m n : ℕ) → eqb m n ≡ true → m ≡ n
-equal_of m n e = grind (arith, e)
 
 below : (cs : List ProposedContext) → AllByRecursion HasByteId cs → (n : ℕ)
     → list_any (eqb n) (map (λ c. c.id) cs) ≡ true → n < 256

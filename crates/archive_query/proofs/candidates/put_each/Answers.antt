@@ -1,10 +1,10 @@
 use Rattle.std.proofs.Common.{◌∙◌, ap, sym, List, Bool}
 use Rattle.std.specs.Prelude.{◌||◌}
 use Rattle.std.specs.List.{list_any}
+use mathlib.Core.Bool.{or-false as or_none, or_assoc}
 use Rattle.octets.specs.Texts.{text_cmp}
 use Rattle.study_index.specs.Keys.{has}
 use Rattle.study_index.specs.Live.{Text, pick_at, is_of_study}
-use Rattle.study_index.proofs.KeyLaws.{or_none, or_assoc}
 use Rattle.archive_query.proofs.candidates.put_each.Goals as goal
 
 -- What is of one study more is in.

@@ -1,9 +1,9 @@
 use Rattle.std.proofs.Common.{◌∙◌, ap, []}
 use Rattle.std.specs.Prelude.{◌||◌}
+use mathlib.Core.Bool.{or_assoc}
 use Rattle.octets.specs.Texts.{text_cmp}
 use Rattle.study_index.specs.Keys.{has}
 use Rattle.study_index.specs.Live.{Text, pick_at, is_of_series}
-use Rattle.study_index.proofs.KeyLaws.{or_assoc}
 use Rattle.archive_query.specs.Candidates.{is_of_some_series}
 use Rattle.archive_query.proofs.candidates.put_listed_series.Goals as goal
 

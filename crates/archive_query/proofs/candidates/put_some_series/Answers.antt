@@ -2,10 +2,10 @@ use Rattle.std.proofs.Common.{◌∙◌, ap, sym, arith, take}
 use Rattle.std.specs.Prelude.{◌||◌}
 use Rattle.std.specs.List.{list_any}
 use Rattle.std.proofs.lemmas.List.Folds.{list_any_more}
+use mathlib.Core.Bool.{or_assoc}
 use Rattle.octets.specs.Texts.{text_cmp}
 use Rattle.study_index.specs.Keys.{has}
 use Rattle.study_index.specs.Live.{Text, pick_at, is_of_series}
-use Rattle.study_index.proofs.KeyLaws.{or_assoc}
 use Rattle.archive_query.proofs.candidates.put_some_series.Goals as goal
 
 -- What is of one series more is in.

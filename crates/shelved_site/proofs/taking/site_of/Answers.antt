@@ -1,11 +1,12 @@
 use Rattle.std.proofs.Common.{◌≡◌, ◌++◌, [], Err, subst, ap, sym, ◌∙◌, length, arith}
 use Rattle.std.proofs.lemmas.Result.{err_from_is_err_and}
 use Rattle.std.specs.Vec.Iter.{into_iter_items}
+use Rattle.std.proofs.lemmas.List.{nil_from_length as nothing_left}
 use Rattle.site_state.specs.declared.fault.SiteFault.{SiteFault}
 use Rattle.site_state.specs.declared.fault.SiteFault.TheVariants.{Collision}
 use Rattle.site_state.specs.Site.{Takes}
 use Rattle.site_state.specs.Laws.{after_taking}
-use Rattle.shelved_site.proofs.Takings.{taken_next, clash_is_among, nothing_left, all_met}
+use Rattle.shelved_site.proofs.Takings.{taken_next, clash_is_among, all_met}
 use Rattle.shelved_site.proofs.taking.site_of.Goals as goal
 
 -- None was met.

@@ -1,9 +1,10 @@
 use Rattle.std.proofs.Common.{Bool, refl, subst}
+use Rattle.std.proofs.lemmas.List.{nil_from_length as empty_of}
 use Rattle.association_session.specs.declared.pending_response.PendingResponse.TheVariants as pendings
 use Rattle.association_session.specs.inner.Telling.{TellsTurn}
 use Rattle.association_session.specs.inner.Association.{owing}
 use Rattle.association_session.proofs.HearLaws.{at_awaited, at_place, at_sub, at_stage, at_queue}
-use Rattle.association_session.proofs.TellLaws.{told_some, told_all, empty_of}
+use Rattle.association_session.proofs.TellLaws.{told_some, told_all}
 use Rattle.association_session.proofs.association.Association.tell_rows.Goals as goal
 
 -- The last rows are told, and their end.

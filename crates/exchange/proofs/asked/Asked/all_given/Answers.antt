@@ -1,8 +1,8 @@
 use Rattle.std.proofs.Common.{◌≡◌, [], length, get_or, sym, ap, ◌∙◌, refl, arith, inl, inr}
-use Rattle.std.proofs.lemmas.Bool.{false≢true}
+use Rattle.std.proofs.lemmas.Bool.{false≢true, cases_lt as split}
 use Rattle.std.proofs.lemmas.List.{get_or_default}
 use Rattle.exchange.specs.Round.{asked_in}
-use Rattle.exchange.proofs.Askings.{none_left, split}
+use Rattle.exchange.proofs.Askings.{none_left}
 use Rattle.exchange.proofs.asked.Asked.all_given.Goals as goal
 
 -- This one is not asked for still, and none before.
