@@ -9,6 +9,7 @@ use Rattle.ul_state.specs.declared.event.Event.TheVariants as events
 use Rattle.ul_state.specs.declared.table.State.{State}
 use Rattle.ul_state.specs.declared.table.State.TheVariants.{Sta1, Sta2, Sta6, Sta13}
 use Rattle.ul_state.specs.declared.titles.Title.{Title}
+use Rattle.ul_state.specs.Acceptor.{action_on}
 use Rattle.dimse.specs.declared.message.Message.{Message}
 use Rattle.dimse.specs.declared.status.Status.{Status}
 use Rattle.association_services.specs.declared.call.Call.TheVariants.{Find}
@@ -35,7 +36,7 @@ use Rattle.data_set.specs.declared.syntax.Syntax.{Syntax}
 use Rattle.dimse.specs.declared.status.Status.TheVariants.{UnableToPerformSubOperations}
 use Rattle.pdu.specs.declared.context.Context.{Context}
 use Rattle.archive_model.specs.declared.prepared.Prepared.{Prepared}
-use Rattle.association_session.specs.Row.{Within, met, deeds_of, action_on}
+use Rattle.association_session.specs.Row.{Within, met, deeds_of}
 use Rattle.association_services.specs.Store.{status_of_reply}
 use Rattle.association_session.specs.Talks.{Heard, Met, Said, Goes, GoesBy, Then, Tells, TellsRows, FollowsStore}
 use Rattle.association_session.specs.Talks.{FollowsFind}
@@ -193,10 +194,10 @@ pub answered : (titles : List (Title View)) (w : Within) (sub : Option SubOperat
     (a : List Deed) → Talks titles w sub us rs a → AreAnswered a
 answered titles w sub [] rs a p = none_answered a p
 answered titles w sub (Met event ∷ us) rs a p =
-    subst (λ (t : List Deed). AreAnswered t) (sym p.1) (row_answered (action_on titles w.state event)
+    subst (λ (t : List Deed). AreAnswered t) (sym p.1) (row_answered (action_on w.state titles event)
     p.0 (answered titles (met titles w event) sub us rs p.0 p.2))
 answered titles w sub (Said m ∷ us) rs a p =
-    in_state_answered w.state sub w m (action_on titles w.state events.LocalAbort) (λ next. Talks titles w next us)
+    in_state_answered w.state sub w m (action_on w.state titles events.LocalAbort) (λ next. Talks titles w next us)
     (Talks titles (met titles w events.LocalAbort) None us) (Talks titles w sub us) rs a
     (λ next rs' x. answered titles w next us rs' x)
     (λ rs' x. answered titles (met titles w events.LocalAbort) None us rs' x)

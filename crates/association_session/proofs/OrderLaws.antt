@@ -15,7 +15,7 @@ use Rattle.ul_state.specs.declared.table.State.TheVariants.{Sta1, Sta2, Sta6, St
 use Rattle.ul_state.specs.declared.titles.Title.{Title}
 use Rattle.ul_state.specs.Decision.{value_for}
 use Rattle.ul_state.specs.Table.{next_of}
-use Rattle.ul_state.specs.Acceptor.{kind_for}
+use Rattle.ul_state.specs.Acceptor.{action_on, kind_for}
 use Rattle.dimse.specs.declared.message.Message.{Message}
 use Rattle.dimse.specs.declared.status.Status.{Status}
 use Rattle.association_services.specs.declared.call.Call.TheVariants.{Store, Find, Get}
@@ -47,7 +47,7 @@ use Rattle.data_set.specs.declared.syntax.Syntax.{Syntax}
 use Rattle.dimse.specs.declared.status.Status.TheVariants.{UnableToPerformSubOperations}
 use Rattle.pdu.specs.declared.context.Context.{Context}
 use Rattle.archive_model.specs.declared.prepared.Prepared.{Prepared}
-use Rattle.association_session.specs.Row.{Within, row, met, deeds_of, action_on}
+use Rattle.association_session.specs.Row.{Within, row, met, deeds_of}
 use Rattle.association_services.specs.Store.{status_of_reply}
 use Rattle.association_session.specs.Talks.{Heard, Met, Said, Goes, GoesBy, Then, Tells, TellsRows, FollowsStore}
 use Rattle.association_session.specs.Talks.{FollowsFind}
@@ -396,10 +396,10 @@ pub replied : (titles : List (Title View)) (w : Within) (sub : Option SubOperati
     (a : List Deed) → Talks titles w sub us rs a → IsReplied rs a
 replied titles w sub [] rs a p = none_replied rs a p
 replied titles w sub (Met event ∷ us) rs a p =
-    subst (λ (t : List Deed). IsReplied rs t) (sym p.1) (row_replied rs (action_on titles w.state event)
+    subst (λ (t : List Deed). IsReplied rs t) (sym p.1) (row_replied rs (action_on w.state titles event)
     p.0 (replied titles (met titles w event) sub us rs p.0 p.2))
 replied titles w sub (Said m ∷ us) rs a p =
-    in_state_replied w.state sub w m (action_on titles w.state events.LocalAbort) (λ next. Talks titles w next us)
+    in_state_replied w.state sub w m (action_on w.state titles events.LocalAbort) (λ next. Talks titles w next us)
     (Talks titles (met titles w events.LocalAbort) None us) (Talks titles w sub us) rs a
     (λ next rs' x. replied titles w next us rs' x)
     (λ rs' x. replied titles (met titles w events.LocalAbort) None us rs' x) (λ rs' x. replied titles w sub us rs' x) p

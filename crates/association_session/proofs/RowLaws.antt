@@ -14,12 +14,12 @@ use Rattle.ul_state.specs.declared.table.State.TheVariants.{Sta1, Sta2, Sta6, St
 use Rattle.ul_state.specs.declared.titles.Title.{Title}
 use Rattle.ul_state.specs.Decision.{value_for}
 use Rattle.ul_state.specs.Table.{next_of}
-use Rattle.ul_state.specs.Acceptor.{kind_for}
+use Rattle.ul_state.specs.Acceptor.{action_on, kind_for}
 use Rattle.association_session.specs.declared.deed.Deed.{Deed}
 use Rattle.association_session.specs.declared.event.SessionEvent.TheVariants.{Heard as IsHeard, GoesOn}
 use Rattle.association_session.specs.Projections.{state_after}
 use Rattle.association_session.specs.declared.pending_response.PendingResponse.{PendingResponse}
-use Rattle.association_session.specs.Row.{row, deeds_of, values_of, action_on}
+use Rattle.association_session.specs.Row.{row, deeds_of, values_of}
 use Rattle.association_session.specs.Session.{AssociationState, HearsValues, Turned, Takes, Owes, Stops, entered}
 use Rattle.association_session.specs.Session.{is_left}
 use Rattle.association_session.specs.Talks.{Met, Leads}
@@ -133,7 +133,7 @@ met_only titles now new event deeds idle is row_is = record {
   takes = subst (λ (t : List Deed). Takes titles now (Met event ∷ []) [] t new) (sym row_is)
       (takes_row titles now new event idle is);
   stops = subst (λ (t : List Deed). Stops t new.awaited) (sym row_is)
-      (row_stops (action_on titles now.within.state event) new.awaited (ap (λ (t : AssociationState). t.awaited) is
+      (row_stops (action_on now.within.state titles event) new.awaited (ap (λ (t : AssociationState). t.awaited) is
       ∙ idle));
   state = ap (λ (t : AssociationState). t.within.state) is ∙ sym (row_state titles now.within.state event)
       ∙ sym (ap (λ (t : List Deed). state_after now.within.state t) row_is);
@@ -149,7 +149,7 @@ pub heard_on : (titles : List (Title View)) (now mid new : AssociationState) (ev
     deeds new
 heard_on titles now mid new event deeds idle is left turned =
     let none : row titles now.within.state event ≡ [] =
-    left_row (action_on titles now.within.state event) (entered titles now event).within.state
+    left_row (action_on now.within.state titles event) (entered titles now event).within.state
     (ap (λ (t : AssociationState). is_left t.within.state t.queue) (sym is) ∙ left) in
     let mid_idle : mid.awaited ≡ None = ap (λ (t : AssociationState). t.awaited) is ∙ idle in
     record {

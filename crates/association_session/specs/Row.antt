@@ -11,8 +11,8 @@ use Rattle.ul_state.specs.declared.table.State.{State}
 use Rattle.ul_state.specs.declared.table.State.TheVariants.{Sta2}
 use Rattle.ul_state.specs.declared.titles.Title.{Title}
 use Rattle.ul_state.specs.declared.acceptor.Settled.{Settled}
-use Rattle.ul_state.specs.Table.{action_of, next_of, opens}
-use Rattle.ul_state.specs.Acceptor.{kind_for, action_for, settled_by}
+use Rattle.ul_state.specs.Table.{next_of, opens}
+use Rattle.ul_state.specs.Acceptor.{kind_for, action_on, settled_by}
 use Rattle.association_session.specs.declared.deed.Deed.{Deed}
 use Rattle.association_session.specs.declared.deed.Deed.TheVariants.{Send, Close}
 use Rattle.association_session.specs.declared.limit.TheConstants.{MOST_SENT, SENT_WITHOUT_LIMIT}
@@ -40,9 +40,6 @@ opening = record { state = Sta2; settled = None; link = NO_LINK }
 
 -- ---- the table's row for an event
 
-abbrev pub action_on : List (Title View) → State → Event → Option Action
-action_on titles state event = action_for (action_of state (kind_for titles event)) (kind_for titles event) titles event
-
 -- Values that are handed on are heard, and nothing is done yet.
 abbrev pub deeds_of : Option Action → List Deed
 deeds_of (Some (actions.Send pdu)) = Send pdu ∷ []
@@ -58,11 +55,11 @@ values_of None = []
 
 -- what is done on an event
 abbrev pub row : List (Title View) → State → Event → List Deed
-row titles state event = deeds_of (action_on titles state event)
+row titles state event = deeds_of (action_on state titles event)
 
 -- the values that are handed on
 abbrev pub handed_on : List (Title View) → State → Event → List Pdv
-handed_on titles state event = values_of (action_on titles state event)
+handed_on titles state event = values_of (action_on state titles event)
 
 -- ---- what an acceptance agrees
 

@@ -2,8 +2,8 @@
 
 ghost use Rattle.std.specs.Prelude.{◌≡◌, IfOk, OnOk, IfSome, All};
 ghost use Rattle.ul_state.specs.Table.{next_of, opens};
-ghost use Rattle.ul_state.specs.Acceptor.{kind_for, settled_by, HasLawfulPdu, CanBeWritten};
-ghost use Rattle.association_session.specs.Row.{action_on, agreed_by, limit_in, deeds_of, values_of};
+ghost use Rattle.ul_state.specs.Acceptor.{action_on, kind_for, settled_by, HasLawfulPdu, CanBeWritten};
+ghost use Rattle.association_session.specs.Row.{agreed_by, limit_in, deeds_of, values_of};
 ghost use Rattle.association_session.specs.Session.{stage_by, IsWritable};
 
 use crate::deed::Deed;
@@ -16,24 +16,6 @@ use octets::ListOf;
 use pdu::Pdv;
 use std::alloc::{AllocError, Global};
 use ul_state::{Acceptor, Action, Event, State, Titles};
-
-/// What an acceptor asks on an event.
-fn ask_acceptor(
-    acceptor: &mut Acceptor<View>,
-    titles: &Titles<View>,
-    event: Event,
-) -> Result<Option<Action>, AllocError>
-    ensures action { IfOk result (λ action.
-        action ≡ action_on titles.now.list acceptor.old.state event) }
-    ensures next { OnOk result (acceptor.new.state
-        ≡ next_of acceptor.old.state (kind_for titles.now.list event)) }
-    ensures settled { OnOk result (acceptor.new.settled
-        ≡ settled_by acceptor.old.state titles.now.list event acceptor.old.settled) }
-    ensures lawful { HasLawfulPdu event → IfOk result (λ action. IfSome action CanBeWritten) }
-{
-    let actions = acceptor.on(titles, event)?;
-    Ok(actions.into_vec().pop())
-}
 
 /// Whether the association is established between these states.
 fn is_opened(before: State, after: State) -> bool
@@ -51,7 +33,7 @@ pub(crate) fn turn(
     event: Event,
 ) -> Result<Option<Action>, AllocError>
     ensures action { IfOk result (λ action.
-        action ≡ action_on titles.now.list acceptor.old.state event) }
+        action ≡ action_on acceptor.old.state titles.now.list event) }
     ensures next { OnOk result (acceptor.new.state
         ≡ next_of acceptor.old.state (kind_for titles.now.list event)) }
     ensures settled { OnOk result (acceptor.new.settled
@@ -64,7 +46,7 @@ pub(crate) fn turn(
 {
     let before = acceptor.state();
     let limit = limit_of(&event);
-    let action = ask_acceptor(acceptor, titles, event)?;
+    let action = acceptor.on(titles, event)?;
     let opened = is_opened(before, acceptor.state());
     link.agree(alloc, opened, acceptor.accepted(), limit)?;
     Ok(action)

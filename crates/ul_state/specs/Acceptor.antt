@@ -1,5 +1,5 @@
 -- What an event is to the machine, and what is sent on it.
-use Rattle.std.specs.Prelude.{List, [], ◌∷◌, Option, Some, None, Result, Ok, Err, option_to_list, ⊤}
+use Rattle.std.specs.Prelude.{List, [], ◌∷◌, Option, Some, None, Result, Ok, Err, ⊤}
 use Rattle.pdu.specs.declared.value.Pdu.{Pdu}
 use Rattle.pdu.specs.declared.value.Pdu.TheVariants as pdus
 use Rattle.pdu.specs.declared.fault.PduFault.{PduFault}
@@ -82,9 +82,6 @@ action_for does.Close kind titles event = Some actions.Close
 -- what is asked of the caller on an event, where anything is: the row's action
 abbrev pub action_on : {V : Type 0} → State → List (Title V) → Event → Option Action
 action_on state titles event = action_for (action_of state (kind_for titles event)) (kind_for titles event) titles event
-
-abbrev pub actions_for : {V : Type 0} → State → List (Title V) → Event → List Action
-actions_for state titles event = option_to_list (action_on state titles event)
 
 -- where an event leads
 abbrev pub state_on : {V : Type 0} → State → List (Title V) → Event → State

@@ -1,13 +1,13 @@
 //! The machine of one connection, on the side that is called (PS3.8, section 9.2).
 
-ghost use Rattle.std.specs.Prelude.{◌≡◌, ◌≢◌, IfOk, IfSome, OnOk, OnErr, All, None, option_to_list};
+ghost use Rattle.std.specs.Prelude.{◌≡◌, ◌≢◌, IfOk, IfSome, OnOk, OnErr, None};
 ghost use Rattle.std.specs.Option.{option_copied};
 ghost use Rattle.pdu.specs.declared.value.Pdu.TheVariants.{Abort};
 ghost use Rattle.ul_state.specs.declared.event.Action.TheVariants.{Send};
 ghost use Rattle.ul_state.specs.declared.table.ActionKind.TheVariants.{HandOn};
 ghost use Rattle.ul_state.specs.declared.table.State.TheVariants.{Sta2};
 ghost use Rattle.ul_state.specs.Acceptor.{kind_for, kind_for_pdu, acceptance_for, rejection_for, hand_for};
-ghost use Rattle.ul_state.specs.Acceptor.{action_for, actions_for, state_on, settled_for, settled_by, HasLawfulPdu};
+ghost use Rattle.ul_state.specs.Acceptor.{action_for, action_on, state_on, settled_for, settled_by, HasLawfulPdu};
 ghost use Rattle.ul_state.specs.Acceptor.{CanBeWritten};
 
 use crate::answer::{accept_of, contexts_of};
@@ -15,7 +15,7 @@ use crate::decision::admission;
 use crate::event::{Action, Event};
 use crate::table::{ActionKind, Kind, State, reason_of, row};
 use crate::titles::{Titles, trimmed};
-use octets::{ListOf, Octets};
+use octets::Octets;
 use pdu::{Contexts, Pdu, PduFault};
 use std::alloc::{AllocError, Global};
 
@@ -63,18 +63,19 @@ impl<V: Copy> Acceptor<V> {
         self.settled.as_ref()
     }
 
-    /// Takes one event. What is done, and the next state, are those of the table's row: at most one
-    /// action, and for a P-DATA-TF of an association its values, be they none or many.
-    pub fn on(&mut self, titles: &Titles<V>, event: Event) -> Result<ListOf<Action>, AllocError>
-        ensures done { IfOk result (λ actions.
-            actions ≡ actions_for self.old.state titles.now.list event) }
+    /// Takes one event. What is done, if anything is, and the next state are those of the table's
+    /// row; for a P-DATA-TF of an association its values are handed on, be they none or many.
+    pub fn on(&mut self, titles: &Titles<V>, event: Event) -> Result<Option<Action>, AllocError>
+        ensures done { IfOk result (λ action.
+            action ≡ action_on self.old.state titles.now.list event) }
         ensures next { OnOk result (self.new.state
             ≡ state_on self.old.state titles.now.list event) }
         ensures settled { OnOk result (self.new.settled
             ≡ settled_by self.old.state titles.now.list event self.old.settled) }
         ensures refused { OnErr result (self.new ≡ self.old) }
         // What is sent can be written, where the PDU that was read can.
-        ensures lawful { HasLawfulPdu event → IfOk result (All CanBeWritten) }
+        ensures lawful { HasLawfulPdu event →
+            IfOk result (λ action. IfSome action CanBeWritten) }
     {
         let kind = kind_of(titles, &event);
         let (does, next) = row(self.state, kind);
@@ -82,24 +83,13 @@ impl<V: Copy> Acceptor<V> {
             ActionKind::SendAccept => settle(self.alloc, titles, &event)?,
             _ => None,
         };
-        let actions = listed(self.alloc, action(self.alloc, titles, does, kind, event)?)?;
+        let action = action(self.alloc, titles, does, kind, event)?;
         if does == ActionKind::SendAccept {
             self.settled = settled;
         }
         self.state = next;
-        Ok(actions)
+        Ok(action)
     }
-}
-
-fn listed(alloc: Global, action: Option<Action>) -> Result<ListOf<Action>, AllocError>
-    ensures { IfOk result (λ actions. actions ≡ option_to_list action) }
-{
-    let mut actions = ListOf::new(alloc);
-    let Some(action) = action else {
-        return Ok(actions);
-    };
-    actions.push(action)?;
-    Ok(actions)
 }
 
 fn kind_of<V: Copy>(titles: &Titles<V>, event: &Event) -> Kind

@@ -1,7 +1,7 @@
 //! Rows of requests and of an acceptor's events.
 
 ghost use Rattle.pdu.specs.Spelling.{IsPdu};
-ghost use Rattle.std.specs.Prelude.{IfOk, All};
+ghost use Rattle.std.specs.Prelude.{IfOk, IfSome};
 ghost use Rattle.ul_state.specs.Acceptor.{CanBeWritten, HasLawfulPdu};
 
 use crate::text::{RowFault, bytes_of, put_bytes};
@@ -135,21 +135,21 @@ fn put_action(alloc: Global, out: &mut String, action: &Action) -> Result<(), Al
 fn put_done(
     alloc: Global,
     out: &mut String,
-    actions: &[Action],
+    action: Option<Action>,
     state: State,
 ) -> Result<(), AllocError>
-    requires { All CanBeWritten actions.now }
+    requires { IfSome action CanBeWritten }
 {
-    for action in actions {
-        put_action(alloc, out, action)?;
+    if let Some(action) = action {
+        put_action(alloc, out, &action)?;
         out.push_str(", ")?;
     }
     write!(out, "{state:?}")
 }
 
 /// Puts how many values are handed on.
-fn put_handed(out: &mut String, actions: &[Action]) -> Result<(), AllocError> {
-    let [Action::Hand(values)] = actions else {
+fn put_handed(out: &mut String, action: Option<Action>) -> Result<(), AllocError> {
+    let Some(Action::Hand(values)) = action else {
         return out.push_str("nothing is handed on");
     };
     let count = values.len();
@@ -192,8 +192,8 @@ impl Acceptors {
     fn put_event(&mut self, out: &mut String, event: Event) -> Result<(), AllocError>
         requires { HasLawfulPdu event }
     {
-        let actions = self.acceptor.on(&self.titles, event)?;
-        put_done(self.alloc, out, actions.as_slice(), self.acceptor.state())
+        let action = self.acceptor.on(&self.titles, event)?;
+        put_done(self.alloc, out, action, self.acceptor.state())
     }
 
     /// Puts what is decided on a request, and what the acceptor does on any other PDU.
@@ -220,8 +220,8 @@ impl Acceptors {
     /// `no-values`: what the acceptor hands on of a P-DATA-TF without a value.
     fn put_no_values(&mut self, out: &mut String) -> Result<(), AllocError> {
         let event = Event::Got(Pdu::PData(ListOf::new(self.alloc)));
-        let actions = self.acceptor.on(&self.titles, event)?;
-        put_handed(out, actions.as_slice())
+        let action = self.acceptor.on(&self.titles, event)?;
+        put_handed(out, action)
     }
 
     /// `settled`: what an acceptance has settled.
