@@ -119,8 +119,8 @@ fn say_address<R: Print>(rt: &R, word: &str, listener: &TcpListener, named: &str
     Ok(())
 }
 
-/// Prints where requests of HTTP come in, as a client takes it, if anywhere: a word, and what is asked
-/// for first.
+/// Prints where requests of HTTP come in, as a client takes it, if anywhere: a word, and what is
+/// asked for first.
 fn say_door<R: Print>(
     rt: &R,
     word: &str,

@@ -35,7 +35,7 @@ use std::thread::Threads;
 use std::time::{Clock, Duration};
 use ul_state::{Title, Titles};
 
-/// The number of the site for a keeper that makes no correction: a desk has the number that is named.
+/// The number of the site for a keeper that makes no correction: a desk has that which is named.
 const SITE: u16 = 1;
 
 /// A called title, which those may call that are named for it.

@@ -37,7 +37,8 @@ AreSamplesOf opening seat known samples =
     (samples ≡ []) ⊎ (samples ≡ samples_in (reading_in (counts_of (ops_of (set_of opening seat.seen))) known))
 
 -- A source of pages that is called so was made of a look of a pass, and of what its server knows.
-pub record IsSourceOf (opening : Map) (site : List ℕ) (known : Knowledge) (seat : Seat) (source : HubSource) : Type 0 where
+pub record IsSourceOf (opening : Map) (site : List ℕ) (known : Knowledge) (seat : Seat) (source : HubSource)
+    : Type 0 where
   pub looked : HasLooked seat source.pass
   pub name : source.name ≡ site
   pub fault : source.fault ≡ known.refusal

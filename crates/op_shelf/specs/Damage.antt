@@ -68,7 +68,8 @@ pub record IsToldFirst (entry : Row) (told : List Damaged) (rest : List Damaged 
 -- of some entries just those are told that are none of an operation, in their order
 abbrev pub AreTested : List Row → List Damaged → Type 0
 AreTested [] told = told ≡ []
-AreTested (entry ∷ rest) told = (IsEntry entry × AreTested rest told) ⊎ IsToldFirst entry told (λ more. AreTested rest more)
+AreTested (entry ∷ rest) told = (IsEntry entry × AreTested rest told)
+    ⊎ IsToldFirst entry told (λ more. AreTested rest more)
 
 -- an entry was tested, and is told behind others where it is none of an operation
 abbrev pub IsTested : Row → List Damaged → List Damaged → Type 0

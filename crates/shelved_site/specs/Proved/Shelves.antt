@@ -16,5 +16,6 @@ same_entry : (a b : Op) → spelling a ≡ spelling b → entry_of a ≡ entry_o
 same_entry a b same = ap₂ entry_by (digest_texts a b same) same
 
 -- what has the one has the other
-pub alike_in : (all : List Row) (a b : Op) → spelling a ≡ spelling b → Contains all (entry_of a) → Contains all (entry_of b)
+pub alike_in : (all : List Row) (a b : Op) → spelling a ≡ spelling b → Contains all (entry_of a)
+    → Contains all (entry_of b)
 alike_in all a b same held = subst (λ (e : Row). Contains all e) (same_entry a b same) held

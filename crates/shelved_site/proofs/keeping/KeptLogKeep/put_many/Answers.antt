@@ -36,6 +36,7 @@ returns-in-Ok-clause-durable g c up =
     let new = c.put_many.new.self in
     all_last g.H.Disk g.B.Disk old new c.put_many.ensures.goes_on up c.args.ops.now c.in-Ok.told.items c.in-Ok.ensures.put c.in-Ok.ensures.lasting
 
+-- What lasted before lasts on behind the group.
 pub returns-in-Ok-clause-kept : goal.returns-in-Ok-clause-kept
 returns-in-Ok-clause-kept g c up other was =
     let old = c.args.self.now.log in
@@ -48,6 +49,7 @@ pub returns-in-Err-clause-refused : goal.returns-in-Err-clause-refused
 returns-in-Err-clause-refused g c up =
     same_of g.H.Disk g.B.Disk c.args.self.now.log c.put_many.new.self c.put_many.ensures.goes_on up c.in-Err.ensures.refused
 
+-- What lasted before lasts on where none is put.
 pub returns-in-Err-clause-kept : goal.returns-in-Err-clause-kept
 returns-in-Err-clause-kept g c up other was =
     let old = c.args.self.now.log in
