@@ -15,6 +15,8 @@ use Rattle.association_run.specs.declared.fault.RunFault.TheVariants as run
 use Rattle.exchange.specs.declared.fault.ExchangeFault.TheVariants as exchange
 use Rattle.archive_server.specs.declared.fault.NetFault.TheVariants as net
 use Rattle.archive_server.specs.Cause.{words_of_shelf}
+use Rattle.site_desk.specs.declared.ask_fault.AskFault.TheVariants as ask
+use Rattle.site_desk.specs.Faults.{words_of as words_of_desk}
 use Rattle.archive_app.specs.declared.output.ending.CommandFault.{CommandFault}
 use Rattle.archive_app.specs.declared.output.ending.CommandFault.TheVariants as fault
 use Rattle.archive_app.specs.declared.output.cause.FileCause.{FileCause}
@@ -90,6 +92,11 @@ words_of_fault (fault.Exchange exchange.Refused) = codes "an operation was refus
 words_of_fault (fault.Net net.Listen) = codes "nothing can listen there"
 words_of_fault (fault.Net net.Accept) = codes "a connection could not be accepted"
 words_of_fault (fault.Net net.Connect) = codes "it could not be reached"
+words_of_fault (fault.Ask ask.Broken) = codes "the connection broke off"
+words_of_fault (fault.Ask ask.TooLong) = codes "its answer is longer than 64 MiB"
+words_of_fault (fault.Ask ask.NoAnswer) = codes "it answered what no running site does"
+words_of_fault (fault.Ask ask.Memory) = codes "memory was refused"
+words_of_fault (fault.Ask (ask.Refused why)) = words_of_desk why
 
 -- Of a shelf it is said that the disk is full exactly where its database said that there is no room.
 abbrev pub SaysFullOfAFullDisk : Type 0

@@ -13,13 +13,23 @@ use Rattle.archive_server.specs.Fault.{number_of as number_of_net}
 use Rattle.shelved_site.specs.declared.fault.ShelvedFault.{ShelvedFault}
 use Rattle.shelved_site.specs.declared.fault.ShelvedFault.TheVariants.{Shelf as of_shelf, Site as of_site}
 use Rattle.shelved_site.specs.declared.fault.ShelvedFault.TheVariants.{Hub as of_hub}
+use Rattle.site_desk.specs.declared.ask_fault.AskFault.{AskFault}
+use Rattle.site_desk.specs.declared.ask_fault.AskFault.TheVariants.{Broken, TooLong, NoAnswer, Memory, Refused}
 use Rattle.archive_app.specs.declared.output.ending.CommandFault.{CommandFault}
 use Rattle.archive_app.specs.declared.output.ending.CommandFault.TheVariants.{Simulate, Shelf, Site, Hub, Run}
-use Rattle.archive_app.specs.declared.output.ending.CommandFault.TheVariants.{Exchange, Net}
+use Rattle.archive_app.specs.declared.output.ending.CommandFault.TheVariants.{Exchange, Net, Ask}
 
 -- the line of a fault: whose it is, and its public number there, which is below 10
 abbrev pub fault_line : List ℕ → ℕ → List ℕ
 fault_line whose number = codes "fault " ++ (whose ++ (32 ∷ (48 + number) ∷ []))
+
+-- the line where a running site was asked in vain
+abbrev pub line_of_ask : AskFault → List ℕ
+line_of_ask Broken = fault_line (codes "ask") 1
+line_of_ask TooLong = fault_line (codes "ask") 2
+line_of_ask NoAnswer = fault_line (codes "ask") 3
+line_of_ask Memory = fault_line (codes "ask") 4
+line_of_ask (Refused fault) = fault_line (codes "ask") 5
 
 -- the line on standard error of a command that did not do what it was asked for
 abbrev pub line_of_fault : CommandFault → List ℕ
@@ -30,6 +40,7 @@ line_of_fault (Hub fault) = fault_line (codes "hub") (number_of_hub fault)
 line_of_fault (Run fault) = fault_line (codes "run") (number_of_run fault)
 line_of_fault (Exchange fault) = fault_line (codes "exchange") (number_of_exchange fault)
 line_of_fault (Net fault) = fault_line (codes "net") (number_of_net fault)
+line_of_fault (Ask fault) = line_of_ask fault
 
 -- the fault of a site on a shelf as a command tells it
 abbrev pub fault_of_shelved : ShelvedFault → CommandFault

@@ -1,7 +1,9 @@
 //! What a command line asks for, done.
 
 ghost use Rattle.command_words.specs.Words.{IsInRange};
+ghost use Rattle.command_line.specs.There.{IsWellAsked};
 
+use crate::asking::{correct_at, report_at};
 use crate::correct::correct;
 use crate::exchanging::exchange;
 use crate::moving::move_operations;
@@ -11,6 +13,7 @@ use crate::serve::serve;
 use crate::simulate::answer_script;
 use crate::verifying::verify;
 use anyhow::Result;
+use command_line::Wanted;
 use command_words::Asked;
 use log::Log;
 use std::alloc::Global;
@@ -32,8 +35,8 @@ fn printed<'a, T: Drop>(alloc: Global, ended: std::result::Result<T, Refused<'a>
     }
 }
 
-/// Does what a command line asks for. It fails where standard output does.
-pub fn answer<
+/// Does what a command line asks for here. It fails where standard output does.
+fn answer<
     'a,
     R: Net<Listener = TcpListener, Stream = TcpStream>
         + Threads
@@ -53,5 +56,26 @@ pub fn answer<
         Asked::Move(moving) => Ok(move_operations(rt, moving)),
         Asked::Verify(verifying) => Ok(printed(rt.alloc(), verify(rt, verifying)?)),
         Asked::Serve(serving) => Ok(printed(rt.alloc(), serve(rt, host, &serving)?)),
+    }
+}
+
+/// Does what a command line asks for, here or of a running site. It fails where standard output
+/// does.
+pub fn answer_wanted<
+    'a,
+    R: Net<Listener = TcpListener, Stream = TcpStream>
+        + Threads
+        + Wait
+        + Clock
+        + Print
+        + Log
+        + Sync,
+>(rt: &HostRuntime, host: &R, wanted: Wanted<'a>) -> Result<Answered<'a>>
+    requires asked { IsWellAsked wanted }
+{
+    match wanted {
+        Wanted::Here(asked) => answer(rt, host, asked),
+        Wanted::CorrectAt(correcting) => Ok(correct_at(rt, host, correcting)),
+        Wanted::ReportAt(reporting) => Ok(report_at(rt, host, reporting)),
     }
 }

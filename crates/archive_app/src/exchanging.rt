@@ -16,16 +16,18 @@ use site_state::Site;
 use std::net::{Net, TcpListener, TcpStream};
 use std::rt::HostRuntime;
 
-fn connect_to<'a, R: Net<Listener = TcpListener, Stream = TcpStream>>(
+/// A connection to an address, on which each wait lasts so many seconds at most.
+pub fn connect_to<'a, R: Net<Listener = TcpListener, Stream = TcpStream>>(
     net: &R,
-    exchanging: Exchanging<'a>,
+    address: &'a str,
+    idle: u32,
 ) -> Result<Wire, Refused<'a>> {
-    match Wire::to(net, exchanging.peer, wait_of(exchanging.idle)) {
+    match Wire::to(net, address, wait_of(idle)) {
         Ok(wire) => Ok(wire),
         Err(error) => {
             let fault = CommandFault::Net(NetFault::Connect);
             let cause = reach_cause_of(error.kind());
-            Err(Refused::net(exchanging.peer, fault, cause))
+            Err(Refused::net(address, fault, cause))
         }
     }
 }
@@ -95,7 +97,7 @@ impl<'h, 'a, R: Net<Listener = TcpListener, Stream = TcpStream>> OnStore for Mee
         for _ in 0..MOST_EXCHANGES {
             let wire = match made.take() {
                 Some(wire) => wire,
-                None => connect_to(net, exchanging)?,
+                None => connect_to(net, exchanging.peer, exchanging.idle)?,
             };
             let Behind {
                 site: next,
@@ -130,7 +132,7 @@ pub fn exchange<'a, R: Net<Listener = TcpListener, Stream = TcpStream>>(
 ) -> Result<Vec<u8>, Refused<'a>> {
     let file = exchanging.file;
     let connected = match is_absent(rt, file) {
-        true => Some(connect_to(net, exchanging)?),
+        true => Some(connect_to(net, exchanging.peer, exchanging.idle)?),
         false => None,
     };
     let meeting = Meeting {

@@ -2,6 +2,7 @@
 #![tactic(auto)]
 
 mod answering;
+mod asking;
 mod correct;
 mod duties;
 mod ending;
@@ -19,7 +20,7 @@ mod simulate;
 mod verifying;
 mod viewing;
 
-use crate::answering::{Answered, answer};
+use crate::answering::{Answered, answer_wanted};
 use crate::output::{ending_of, status_of_refusal};
 use crate::refused::Refused;
 use anyhow::Result;
@@ -66,7 +67,7 @@ fn run<
     let words: Vec<String> = env::args(rt)?.collect(rt.alloc())?;
     let words: Vec<&str> = words.iter().map(|word| word.as_str()).collect(rt.alloc())?;
     match read_words(rt.alloc(), words.as_slice()) {
-        Ok(asked) => told(rt, answer(rt, host, asked)?),
+        Ok(wanted) => told(rt, answer_wanted(rt, host, wanted)?),
         Err(error) => {
             error.print(rt)?;
             if is_want_of_memory(&error) {

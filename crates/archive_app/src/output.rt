@@ -11,6 +11,7 @@ pub use cause::{
     listen_cause_of, reach_cause_of, words_of,
 };
 pub use ending::{CommandFault, Ending, ending_of, status_of_refusal};
+pub(crate) use lines::put_count;
 pub use lines::{line_of_stamp, lines_of, lines_of_exchange, lines_of_move};
 pub use notes::{Note, is_other, lacks_log, names_folder, words_of_note};
 pub use verified::{ended_of_verify, lines_of_verify};

@@ -9,7 +9,7 @@ use command_words::Reporting;
 use shelved_site::{Report, ShelvedFault, Store, report_of, report_on, table_on};
 use site_state::Site;
 use site_tables::{Row, Table, align, separate};
-use std::alloc::Global;
+use std::alloc::{AllocError, Global};
 use std::rt::HostRuntime;
 
 /// The report of no operations.
@@ -81,6 +81,19 @@ fn rows_in<'a>(
     about(file, view_file(rt, file, Telling { alloc, table })?)
 }
 
+/// The rows of a table as text.
+pub fn text_of(
+    alloc: Global,
+    table: Table,
+    rows: &[Row],
+    is_separated: bool,
+) -> Result<Vec<u8>, AllocError> {
+    if is_separated {
+        return separate(alloc, table.heading(), rows);
+    }
+    align(alloc, table.heading(), rows)
+}
+
 /// A table of the site whose operations are in a file.
 fn told<'a>(
     rt: &HostRuntime,
@@ -90,11 +103,10 @@ fn told<'a>(
     is_separated: bool,
 ) -> Result<Vec<u8>, Refused<'a>> {
     let rows = rows_in(rt, file, is_absent, table)?;
-    let heading = table.heading();
-    if is_separated {
-        return about(file, separate(rt.alloc(), heading, rows.as_slice()));
-    }
-    about(file, align(rt.alloc(), heading, rows.as_slice()))
+    about(
+        file,
+        text_of(rt.alloc(), table, rows.as_slice(), is_separated),
+    )
 }
 
 /// The report of the operations in a file, of which nothing is changed. One that is not there has

@@ -1,6 +1,6 @@
 //! The commands of the program, with their words and options.
 
-use crate::refusals::BAD_PEER;
+use crate::refusals::{BAD_AT, BAD_PEER};
 use crate::rows::{CommandRow, FLAG, Form, Row, VALUE, WORD, command_of};
 use crate::serve::SERVE_ROWS;
 use clap::Command;
@@ -29,7 +29,13 @@ two contents or more. With one of --conflicts, --rejected, --corrections and
 by tabs. FILE is only read; one that is not there is told as one that has
 nothing.
 
-Example: archive report ops.db --studies";
+With --at FILE is left out: the running site whose pages are at ADDR tells the
+table, as its text of UTF-8, or how many operations, contents and corrections it
+has; its pages tell no fingerprint, and without a table neither how many
+corrections are of series nor which UIDs are flagged.
+
+Examples: archive report ops.db --studies
+          archive report --at 127.0.0.1:11180 --studies";
 
 const CORRECT: &str = "Corrects an attribute of a study, a patient or a series";
 
@@ -39,7 +45,11 @@ where it is not there, and prints the correction's stamp once it is stored. It
 warns of a date or a time that no query matches, and of a target of which FILE
 has nothing.
 
-Example: archive correct ops.db --site 1 study 1.2.1 00100010 ROE^ANN";
+With --at FILE and --site are left out: the running site whose desk is at ADDR
+makes the correction, and warns of nothing.
+
+Examples: archive correct ops.db --site 1 study 1.2.1 00100010 ROE^ANN
+          archive correct --at 127.0.0.1:11181 study 1.2.1 00100010 ROE^ANN";
 
 const SERVE: &str = "Serves FILE to DICOM clients, and exchanges with other sites";
 
@@ -126,14 +136,31 @@ pub(crate) const SITE_NUMBER: Row = Row {
     ..VALUE
 };
 
+/// Where a running site is asked, in the place of a file.
+const AT: Row = Row {
+    name: "at",
+    value: "ADDR",
+    form: Form::Address(BAD_AT),
+    line: "Where a running site is asked, in place of FILE",
+    ..VALUE
+};
+
 /// An option that names a table, of which one may be given.
 const TABLE: Row = Row {
     group: Some("table"),
     ..FLAG
 };
 
-const REPORT_ROWS: &[Row] = &[
-    FILE,
+/// The words and options of `report`.
+pub(crate) const REPORT_ROWS: &[Row] = &[
+    Row {
+        without: Some("at"),
+        ..FILE
+    },
+    Row {
+        without: Some("fingerprint"),
+        ..AT
+    },
     Row {
         name: "conflicts",
         line: "The contents of UIDs that have two or more",
@@ -168,10 +195,14 @@ const REPORT_ROWS: &[Row] = &[
     },
 ];
 
-const CORRECT_ROWS: &[Row] = &[
+/// The words and options of `correct`. With `--at` each word stands in the place of the one before
+/// it, so that the last place is empty.
+pub(crate) const CORRECT_ROWS: &[Row] = &[
     FILE,
+    AT,
     Row {
         needed: true,
+        without: Some("at"),
         ..SITE_NUMBER
     },
     Row {
@@ -191,6 +222,7 @@ const CORRECT_ROWS: &[Row] = &[
     },
     Row {
         name: "VALUE",
+        without: Some("at"),
         line: "Its new value, behind -- where it begins with -",
         ..WORD
     },

@@ -3,21 +3,22 @@
 
 ghost use Rattle.std.specs.Prelude.{◌≡◌, ◌↔◌, IsTrue, IfOk};
 ghost use Rattle.clap.specs.Values.{kind_of};
-ghost use Rattle.command_words.specs.Words.{IsInRange};
+ghost use Rattle.command_line.specs.There.{IsWellAsked};
 
 mod commands;
 mod reading;
 mod refusals;
 mod rows;
 mod serve;
+mod there;
 
 use crate::commands::archive_command;
-use crate::reading::{Unread, read_command};
+use crate::reading::{Unread, read_wanted};
 use crate::refusals::Refusal;
 use clap::error::ErrorKind;
 use clap::{ArgMatches, Command, Error};
-use command_words::Asked;
 use std::alloc::{AllocError, Global};
+pub use there::{CorrectingAt, ReportingAt, Wanted};
 
 /// Whether words were refused for want of memory, and not for what they say.
 pub fn is_want_of_memory(error: &Error) -> bool
@@ -44,20 +45,20 @@ fn asked_of<'a>(
     alloc: Global,
     command: &mut Command<'a>,
     words: &'a [&'a str],
-) -> Result<Asked<'a>, Error>
-    ensures ranges { IfOk result IsInRange }
+) -> Result<Wanted<'a>, Error>
+    ensures asked { IfOk result IsWellAsked }
 {
     let found = matches_of(command, words)?;
-    match read_command(alloc, &found) {
-        Ok(asked) => Ok(asked),
+    match read_wanted(alloc, &found) {
+        Ok(wanted) => Ok(wanted),
         Err(Unread::Refused(refusal)) => Err(refused(command, refusal)?),
         Err(Unread::Memory) => Err(Error::from(AllocError)),
     }
 }
 
 /// What the words of a command line ask for, the program's name first.
-pub fn read_words<'a>(alloc: Global, words: &'a [&'a str]) -> Result<Asked<'a>, Error>
-    ensures ranges { IfOk result IsInRange }
+pub fn read_words<'a>(alloc: Global, words: &'a [&'a str]) -> Result<Wanted<'a>, Error>
+    ensures asked { IfOk result IsWellAsked }
 {
     let mut command = archive_command(alloc)?;
     asked_of(alloc, &mut command, words)

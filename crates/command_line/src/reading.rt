@@ -2,13 +2,15 @@
 
 ghost use Rattle.std.specs.Prelude.{◌≡◌, ◌+◌, ◌≤◌, IsTrue, IsNone, IfOk, IfSome, vec_len};
 ghost use Rattle.command_words.specs.Words.{HasSite, HasPlaces, HasDeskSite, IsInRange, threads_at};
+ghost use Rattle.command_line.specs.There.{NamesChange, IsWellAsked};
 
-use crate::commands::EXCHANGE_ROWS;
+use crate::commands::{CORRECT_ROWS, EXCHANGE_ROWS, REPORT_ROWS};
 use crate::refusals::{
     BAD_FORM, BAD_NETWORK, BAD_SITE, Refusal, TOO_MANY, WITHOUT_COMMAND, refusal_of,
 };
 use crate::rows::Row;
 use crate::serve::SERVE_ROWS;
+use crate::there::{CorrectingAt, ReportingAt, Wanted};
 use clap::ArgMatches;
 use command_words::{
     Asked, Correcting, DeskAt, Exchanging, Moving, Network, Reporting, Serving, Verifying,
@@ -312,7 +314,7 @@ fn read_verify<'a>(found: &ArgMatches<'a>) -> Verifying<'a> {
 }
 
 /// What the words of a command ask for, if they have their form.
-pub(crate) fn read_command<'a>(alloc: Global, found: &ArgMatches<'a>) -> Result<Asked<'a>, Unread>
+fn read_command<'a>(alloc: Global, found: &ArgMatches<'a>) -> Result<Asked<'a>, Unread>
     ensures ranges { IfOk result IsInRange }
 {
     match found.subcommand() {
@@ -325,4 +327,60 @@ pub(crate) fn read_command<'a>(alloc: Global, found: &ArgMatches<'a>) -> Result<
         Some(("simulate", _found)) => Ok(Asked::Simulate),
         _ => Err(Unread::Refused(WITHOUT_COMMAND)),
     }
+}
+
+/// What the words behind `correct --at` ask for, if they have its form. The file is left out, so
+/// that each word stands in the place of the one before it.
+fn read_correct_at<'a>(
+    alloc: Global,
+    found: &ArgMatches<'a>,
+    at: &'a str,
+) -> Result<CorrectingAt<'a>, Unread>
+    ensures { IfOk result NamesChange }
+{
+    tested(found, CORRECT_ROWS)?;
+    let target = text(found, "FILE");
+    let key = text(found, "TARGET");
+    let tag = text(found, "KEY");
+    let value = text(found, "TAG");
+    match change_in(alloc, target, key, tag, value)? {
+        None => Err(Unread::Refused(BAD_FORM)),
+        Some(_change) => Ok(CorrectingAt {
+            at,
+            target,
+            key,
+            tag,
+            value,
+        }),
+    }
+}
+
+/// What the words behind `report --at` ask for, if the address has its form.
+fn read_report_at<'a>(found: &ArgMatches<'a>, at: &'a str) -> Result<ReportingAt<'a>, Unread> {
+    tested(found, REPORT_ROWS)?;
+    Ok(ReportingAt {
+        at,
+        table: table_in(found),
+        separated: has(found, "tsv"),
+    })
+}
+
+/// What the words of a command ask for, here or of a running site.
+pub(crate) fn read_wanted<'a>(alloc: Global, found: &ArgMatches<'a>) -> Result<Wanted<'a>, Unread>
+    ensures asked { IfOk result IsWellAsked }
+{
+    match found.subcommand() {
+        Some(("report", words)) => {
+            if let Some(at) = words.get_str("at") {
+                return Ok(Wanted::ReportAt(read_report_at(words, at)?));
+            }
+        }
+        Some(("correct", words)) => {
+            if let Some(at) = words.get_str("at") {
+                return Ok(Wanted::CorrectAt(read_correct_at(alloc, words, at)?));
+            }
+        }
+        _ => {}
+    }
+    Ok(Wanted::Here(read_command(alloc, found)?))
 }

@@ -28,6 +28,9 @@ pub(crate) const BAD_DESK: &str =
 pub(crate) const BAD_PEER: &str =
     "--peer wants an IPv4 address, a colon and a port, such as 127.0.0.1:11113";
 
+pub(crate) const BAD_AT: &str =
+    "--at wants an IPv4 address, a colon and a port, such as 127.0.0.1:11181";
+
 pub(crate) const BAD_NETWORK: Refusal = Refusal {
     kind: ErrorKind::InvalidValue,
     text: "--allow, --exchange-allow, --page-allow and --desk-allow want an IPv4 address, or one \

@@ -2,3 +2,5 @@ pub mod DeskLaws
 pub mod FieldLaws
 pub mod MakingLaws
 pub mod RequestLaws
+pub mod SendingLaws
+pub mod TabledLaws

@@ -4,7 +4,10 @@ pub mod Faults
 pub mod Forms
 pub mod Making
 pub mod Objects
+pub mod Outcomes
 pub mod Posting
 pub mod Requests
 pub mod Responses
+pub mod Sending
 pub mod Serving
+pub mod Tabled

@@ -50,7 +50,7 @@ pub struct Made {
 }
 
 /// The line of a stamp.
-fn line_of(alloc: Global, made: Made) -> Result<Octets, AllocError>
+pub(crate) fn line_of(alloc: Global, made: Made) -> Result<Octets, AllocError>
     ensures { IfOk result (λ line. line ≡ stamp_line made) }
 {
     let mut line = Vec::from_slice(alloc, b"stamp ")?;
@@ -62,10 +62,10 @@ fn line_of(alloc: Global, made: Made) -> Result<Octets, AllocError>
 }
 
 /// A reason as a line.
-fn line_of_fault(alloc: Global, fault: DeskFault) -> Result<Octets, AllocError>
+pub(crate) fn line_of_fault(alloc: Global, fault: DeskFault) -> Result<Octets, AllocError>
     ensures { IfOk result (λ line. line ≡ refusal_line fault) }
 {
-    let mut line = Vec::from_slice(alloc, fault.words())?;
+    let mut line = Vec::from_slice(alloc, fault.words().as_bytes())?;
     line.push(b'\n')?;
     Ok(Octets::of(line))
 }

@@ -56,33 +56,33 @@ impl From<AllocError> for DeskFault {
 
 impl DeskFault {
     /// The reason, in words.
-    pub fn words(self) -> &'static [u8]
+    pub fn words(self) -> &'static str
         ensures { result.now ≡ words_of self }
     {
         match self {
-            DeskFault::NoPath => b"there is no such path: a correction is posted to /correct",
-            DeskFault::NoPost => b"a correction is asked for by POST",
-            DeskFault::HasOrigin => b"no page in a browser may correct",
+            DeskFault::NoPath => "there is no such path: a correction is posted to /correct",
+            DeskFault::NoPost => "a correction is asked for by POST",
+            DeskFault::HasOrigin => "no page in a browser may correct",
             DeskFault::NoKind =>
-                b"a correction is application/x-www-form-urlencoded or application/json",
+                "a correction is application/x-www-form-urlencoded or application/json",
             DeskFault::NoForm =>
-                b"a form has target, key, tag and value, each once, and nothing else",
-            DeskFault::NoObject => { b"an object has target, key, tag and value, each a string" }
+                "a form has target, key, tag and value, each once, and nothing else",
+            DeskFault::NoObject => { "an object has target, key, tag and value, each a string" }
             DeskFault::NoChange => {
-                b"TARGET is study, patient or series, and TAG eight hexadecimal digits"
+                "TARGET is study, patient or series, and TAG eight hexadecimal digits"
             }
-            DeskFault::BadKey => b"KEY is no UID, or no Patient ID, that a target can have",
-            DeskFault::BadTag => b"TAG is no attribute of this target that can be corrected",
+            DeskFault::BadKey => "KEY is no UID, or no Patient ID, that a target can have",
+            DeskFault::BadTag => "TAG is no attribute of this target that can be corrected",
             DeskFault::BadValue => {
-                b"VALUE is longer than 64, or has a byte or an outer space that it may not have"
+                "VALUE is longer than 64, or has a byte or an outer space that it may not have"
             }
-            DeskFault::NoSite => b"the site has no number",
-            DeskFault::StampsSpent => b"the last counter of stamps is used",
-            DeskFault::Shelf => b"the shelf refused the correction",
-            DeskFault::Busy => b"its workers do not agree on what it has: try again",
+            DeskFault::NoSite => "the site has no number",
+            DeskFault::StampsSpent => "the last counter of stamps is used",
+            DeskFault::Shelf => "the shelf refused the correction",
+            DeskFault::Busy => "its workers do not agree on what it has: try again",
             DeskFault::Unshown =>
-                b"it is stored, and shown once the site is started again at the latest",
-            DeskFault::Memory => b"memory was refused",
+                "it is stored, and shown once the site is started again at the latest",
+            DeskFault::Memory => "memory was refused",
         }
     }
 

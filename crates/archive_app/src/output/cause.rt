@@ -11,6 +11,7 @@ use archive_server::{NetFault, words_of_shelf};
 use association_run::RunFault;
 use command_words::Part;
 use exchange::ExchangeFault;
+use site_desk::AskFault;
 use site_hub::HubFault;
 use site_simulation::SimFault;
 use site_state::SiteFault;
@@ -244,6 +245,18 @@ fn words_of_refused(fault: NetFault) -> &'static str
     }
 }
 
+fn words_of_ask(fault: AskFault) -> &'static str
+    ensures { result.now ≡ words_of_fault (CommandFault.Ask fault) }
+{
+    match fault {
+        AskFault::Broken => "the connection broke off",
+        AskFault::TooLong => "its answer is longer than 64 MiB",
+        AskFault::NoAnswer => "it answered what no running site does",
+        AskFault::Memory => "memory was refused",
+        AskFault::Refused(why) => why.words(),
+    }
+}
+
 fn words_of_fault(fault: CommandFault) -> &'static str
     ensures { result.now ≡ words_of_fault fault }
 {
@@ -255,6 +268,7 @@ fn words_of_fault(fault: CommandFault) -> &'static str
         CommandFault::Run(fault) => words_of_run(fault),
         CommandFault::Exchange(fault) => words_of_exchange(fault),
         CommandFault::Net(fault) => words_of_refused(fault),
+        CommandFault::Ask(fault) => words_of_ask(fault),
     }
 }
 

@@ -8,9 +8,10 @@ ghost use Rattle.site_hub.specs.Fault.{number_of as number_of_hub};
 ghost use Rattle.association_run.specs.Fault.{number_of as number_of_run};
 ghost use Rattle.exchange.specs.Fault.{number_of_exchange};
 ghost use Rattle.archive_server.specs.Fault.{number_of as number_of_net};
+ghost use Rattle.archive_app.specs.Ending.{line_of_ask};
 ghost use Rattle.archive_app.specs.Ending.{fault_line, line_of_fault, fault_of_shelved, fault_of_served};
 ghost use Rattle.archive_app.specs.declared.output.ending.CommandFault.TheVariants.{Simulate, Shelf, Site, Hub};
-ghost use Rattle.archive_app.specs.declared.output.ending.CommandFault.TheVariants.{Exchange};
+ghost use Rattle.archive_app.specs.declared.output.ending.CommandFault.TheVariants.{Exchange, Ask};
 ghost use Rattle.site_state.specs.declared.fault.SiteFault.TheVariants.{Memory};
 
 use archive_server::{NetFault, ServeFault};
@@ -18,6 +19,7 @@ use association_run::RunFault;
 use exchange::ExchangeFault;
 use op_shelf::ShelfFault;
 use shelved_site::ShelvedFault;
+use site_desk::AskFault;
 use site_hub::HubFault;
 use site_simulation::SimFault;
 use site_state::SiteFault;
@@ -42,6 +44,8 @@ pub enum CommandFault {
     Exchange(ExchangeFault),
     #[error("the network refused")]
     Net(NetFault),
+    #[error("a running site was asked in vain")]
+    Ask(AskFault),
 }
 
 impl From<SimFault> for CommandFault {
@@ -105,6 +109,14 @@ impl From<ExchangeFault> for CommandFault {
 
     fn from(fault: ExchangeFault) -> CommandFault {
         CommandFault::Exchange(fault)
+    }
+}
+
+impl From<AskFault> for CommandFault {
+    ghost from_gives = { λ fault e. e ≡ Ask fault };
+
+    fn from(fault: AskFault) -> CommandFault {
+        CommandFault::Ask(fault)
     }
 }
 
@@ -212,6 +224,18 @@ fn line_of_net(fault: NetFault) -> &'static str
     }
 }
 
+fn line_of_ask(fault: AskFault) -> &'static str
+    ensures { result.now ≡ line_of_ask fault }
+{
+    match fault {
+        AskFault::Broken => "fault ask 1",
+        AskFault::TooLong => "fault ask 2",
+        AskFault::NoAnswer => "fault ask 3",
+        AskFault::Memory => "fault ask 4",
+        AskFault::Refused(_) => "fault ask 5",
+    }
+}
+
 /// The line of a fault: whose it is, and its number there. It takes no memory.
 fn line_of(fault: CommandFault) -> &'static str
     ensures { result.now ≡ line_of_fault fault }
@@ -224,6 +248,7 @@ fn line_of(fault: CommandFault) -> &'static str
         CommandFault::Run(fault) => line_of_run(fault),
         CommandFault::Exchange(fault) => line_of_exchange(fault),
         CommandFault::Net(fault) => line_of_net(fault),
+        CommandFault::Ask(fault) => line_of_ask(fault),
     }
 }
 

@@ -1,0 +1,43 @@
+//! Why a running site was asked in vain.
+
+use crate::DeskFault;
+use std::alloc::{AllocError, AllocFailed};
+use thiserror::Error;
+
+/// Why a running site was asked in vain.
+#[derive(Clone, Copy, Debug, PartialEq, Eq, Error)]
+pub enum AskFault {
+    #[error("the connection broke off")]
+    Broken,
+    #[error("the answer is longer than is read")]
+    TooLong,
+    #[error("the answer is none of a site")]
+    NoAnswer,
+    #[error("there is no memory left")]
+    Memory,
+    /// The desk made no correction, for this reason.
+    #[error("the desk refused")]
+    Refused(DeskFault),
+}
+
+impl From<AllocError> for AskFault {
+    ghost use Rattle.std.specs.Prelude.{◌≡◌};
+    ghost use Rattle.site_desk.specs.declared.ask_fault.AskFault.TheVariants.{Memory};
+
+    ghost from_gives = { λ _ e. e ≡ Memory };
+
+    fn from(_error: AllocError) -> AskFault {
+        AskFault::Memory
+    }
+}
+
+impl<T: Drop> From<AllocFailed<T>> for AskFault {
+    ghost use Rattle.std.specs.Prelude.{◌≡◌};
+    ghost use Rattle.site_desk.specs.declared.ask_fault.AskFault.TheVariants.{Memory};
+
+    ghost from_gives = { λ _ e. e ≡ Memory };
+
+    fn from(_error: AllocFailed<T>) -> AskFault {
+        AskFault::Memory
+    }
+}
