@@ -4,7 +4,7 @@ use Rattle.std.specs.Option.{option_and_then}
 use Rattle.std.specs.Str.{IsUtf8}
 use Rattle.json.specs.Lex.{tokens}
 use Rattle.json.specs.Token.{Token}
-use Rattle.json.specs.Json.{document, value, items, members, if_last}
+use Rattle.json.specs.Json.{value, items, members, if_last}
 use Rattle.site_desk.specs.declared.words.Words.{Words}
 use Rattle.site_desk.specs.Objects.{words_in}
 use Rattle.site_desk.specs.Sending.{member_of, correction_object, IsBodyOf}
@@ -18,5 +18,6 @@ unfolding member_of correction_object value items members
 words_again words = refl
 
 -- a desk reads four words of what is written of them
-pub is_body : (words : Words) (body : List ℕ) → IsUtf8 body → tokens body ≡ correction_object words → IsBodyOf words body
+pub is_body : (words : Words) (body : List ℕ) → IsUtf8 body → tokens body ≡ correction_object words
+    → IsBodyOf words body
 is_body words body utf8 object = (utf8, ap words_of object ∙ words_again words)

@@ -43,4 +43,5 @@ target_of path page = path ++ codes "?page=" ++ decimal page
 -- the request for the page of a number at a path of an address
 unfoldable pub get_text : List ℕ → List ℕ → ℕ → List ℕ
 get_text address path page =
-    codes "GET " ++ target_of path page ++ codes " HTTP/1.1\r\nconnection: close\r\nhost: " ++ address ++ codes "\r\n\r\n"
+    codes "GET " ++ target_of path page ++ codes " HTTP/1.1\r\nconnection: close\r\nhost: " ++ address
+    ++ codes "\r\n\r\n"

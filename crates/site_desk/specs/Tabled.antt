@@ -1,5 +1,5 @@
 -- A table that a page tells in JSON.
-use Rattle.std.specs.Prelude.{◌≡◌, ℕ, List, [], ◌∷◌, Option, Some, None, map, codes}
+use Rattle.std.specs.Prelude.{◌≡◌, ℕ, List, [], ◌∷◌, Option, Some, map, codes}
 use Rattle.std.specs.Option.{option_and_then}
 use Rattle.httparse.specs.Grammar.{ResponseHead, ReadsResponse}
 use Rattle.json.specs.Json.{Json, Items, no_items, item, array, document}
