@@ -6,7 +6,7 @@ ghost use Rattle.operation.specs.Spelling.{digest_of};
 ghost use Rattle.hub_exchange.specs.Putting.{IsKept, AreKept};
 
 use crate::health::Health;
-use crate::message::{Reply, Request};
+use crate::message::Request;
 use crossbeam_channel::{Receiver, Sender, bounded};
 use hub_exchange::{Ledger, LedgerName, Put, Shelved, put_all, put_shown, shown};
 use op_shelf::{Keep, ShelfFault, StoreCause};
@@ -24,7 +24,7 @@ const GROUP_BYTES: usize = 8 << 20;
 #[derive(Drop)]
 struct Group<N: LedgerName> {
     ops: Vec<Digested>,
-    replies: Vec<Sender<Reply<N>>>,
+    replies: Vec<Sender<Result<Shelved<N>, ShelfFault>>>,
     bytes: usize,
 }
 
@@ -80,12 +80,12 @@ fn body_len(op: &Digested) -> usize {
 fn answer<N: LedgerName, S: Wait>(
     rt: &S,
     op: &Digested,
-    to: &Sender<Reply<N>>,
+    to: &Sender<Result<Shelved<N>, ShelfFault>>,
     kept: Result<Shelved<N>, ShelfFault>,
 )
     requires own { IfOk kept (λ shelved. shelved.digest ≡ digest_of op.now) }
 {
-    let _ = to.send(rt, Reply { kept });
+    let _ = to.send(rt, kept);
 }
 
 /// Puts an operation alone, and answers.
@@ -94,7 +94,7 @@ fn keep_one<K: Keep, N: LedgerName, S: Wait>(
     shelf: &mut K,
     ledger: &mut Ledger<N>,
     op: &Digested,
-    to: &Sender<Reply<N>>,
+    to: &Sender<Result<Shelved<N>, ShelfFault>>,
 )
     requires kept { AreKept K.is_up K.holds K.lasts ledger.old shelf.old }
     ensures kept { AreKept K.is_up K.holds K.lasts ledger.new shelf.new }
@@ -109,7 +109,7 @@ fn answer_all<K: Keep, N: LedgerName, S: Wait>(
     shelf: &K,
     ledger: &mut Ledger<N>,
     ops: &[Digested],
-    replies: &[Sender<Reply<N>>],
+    replies: &[Sender<Result<Shelved<N>, ShelfFault>>],
 )
     requires put { All (λ op. IsKept K.is_up K.holds K.lasts shelf.now (digest_of op)) ops.now }
     requires kept { AreKept K.is_up K.holds K.lasts ledger.old shelf.now }
@@ -273,7 +273,7 @@ pub(crate) fn ask<N: LedgerName, S: Wait>(
     if to.send(rt, request).is_err() {
         return Err(ShelfFault::Store(StoreCause::Other));
     }
-    let Ok(Reply { kept }) = answer.recv(rt) else {
+    let Ok(kept) = answer.recv(rt) else {
         return Err(ShelfFault::Store(StoreCause::Other));
     };
     of_this(op.digest(), kept)

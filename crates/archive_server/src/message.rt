@@ -6,17 +6,11 @@ use op_shelf::ShelfFault;
 use operation::Digested;
 use std::alloc::AllocError;
 
-/// Asks for a put.
+/// Asks for a put, and says where what the shelf answers is awaited.
 #[derive(Drop)]
 pub(crate) struct Request<N: LedgerName> {
     pub op: Digested,
-    pub reply: Sender<Reply<N>>,
-}
-
-/// What the shelf answered to a put.
-#[derive(Drop)]
-pub(crate) struct Reply<N: LedgerName> {
-    pub kept: Result<Shelved<N>, ShelfFault>,
+    pub reply: Sender<Result<Shelved<N>, ShelfFault>>,
 }
 
 /// What a thread holds: the way to the shelf, and where it accepts, what tells by its being there
