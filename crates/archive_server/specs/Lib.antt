@@ -1,4 +1,5 @@
 pub mod Answers
+pub mod Asking
 pub mod Calling
 pub mod Cause
 pub mod Correcting

@@ -7,13 +7,13 @@ ghost use Rattle.archive_server.specs.Calling.{GoesOnWhileServed};
 ghost use Rattle.archive_server.specs.Correcting.{at_desk, HasAnswered, HasCorrected};
 ghost use Rattle.archive_server.specs.Entering.{IsAsAllowed};
 
+use crate::asking::Asking;
 use crate::calling::Pauses;
 use crate::clerk::Clerk;
 use crate::done::Done;
 use crate::entrance::{Entered, Entrance, accept_from};
 use crate::fault::{NetFault, ServeFault};
 use crate::journal::{Whence, tell_corrected, tell_not_accepted, tell_turned_away};
-use crate::keeping::Asking;
 use crate::meeting::Still;
 use crate::message::{Reach, Request};
 use crate::paging::{is_nobody, lets_accepts_end, pause_behind_accept};

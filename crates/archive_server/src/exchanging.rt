@@ -4,12 +4,12 @@ ghost use Rattle.std.specs.Prelude.{◌≡◌, ◌+◌, ◌-◌, ◌<◌, ◌≤
 ghost use Rattle.command_words.specs.Networks.{may_come};
 ghost use Rattle.archive_server.specs.Serving.{HasGoneOn};
 
+use crate::asking::Asking;
 use crate::clerk::Clerk;
 use crate::conversing::{Conversed, serve_exchange};
 use crate::done::Done;
 use crate::entrance::{Entered, Entrance, accept_from};
 use crate::journal::{Whence, tell_exchange, tell_turned_away};
-use crate::keeping::Asking;
 use crate::message::{Reach, Request};
 use crate::refusing::Telling;
 use crate::wire::Wire;

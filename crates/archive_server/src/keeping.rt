@@ -1,17 +1,15 @@
-//! The thread that keeps the shelf, and how workers reach it.
+//! The thread that keeps the shelf.
 
 ghost use Rattle.std.specs.Prelude.{◌≡◌, ◌++◌, ◌∷◌, [], All, IfOk, IsNone, ⊤};
-ghost use Rattle.devices.specs.Failures.{Rose};
 ghost use Rattle.operation.specs.Spelling.{digest_of};
 ghost use Rattle.hub_exchange.specs.Putting.{IsKept, AreKept};
 
-use crate::health::Health;
 use crate::message::Request;
-use crossbeam_channel::{Receiver, Sender, bounded};
-use hub_exchange::{Ledger, LedgerName, Put, Shelved, put_all, put_shown, shown};
-use op_shelf::{Keep, ShelfFault, StoreCause};
-use operation::{Digest, Digested, Op};
-use std::alloc::{AllocError, Global};
+use crossbeam_channel::{Receiver, Sender};
+use hub_exchange::{Ledger, LedgerName, Shelved, put_all, put_shown, shown};
+use op_shelf::{Keep, ShelfFault};
+use operation::{Digested, Op};
+use std::alloc::Global;
 use std::sync::Wait;
 
 /// How many requests are put as one group, at most.
@@ -239,102 +237,4 @@ pub(crate) fn keep_all<K: Keep, N: LedgerName, S: Wait, Q: Requests<N>>(
         }
     }
     unreachable!()
-}
-
-/// An answer, where it is of the operation that was asked for.
-fn of_this<N: LedgerName>(
-    digest: &Digest,
-    kept: Result<Shelved<N>, ShelfFault>,
-) -> Result<Shelved<N>, ShelfFault>
-    ensures { IfOk result (λ shelved. shelved.digest ≡ digest.now) }
-{
-    let shelved = kept?;
-    if shelved.digest.as_bytes().as_slice() == digest.as_bytes().as_slice() {
-        return Ok(shelved);
-    }
-    Err(ShelfFault::Store(StoreCause::Other))
-}
-
-/// Asks for a put, and waits for the answer. Nothing is hashed, and the bytes of a data set are
-/// shared with the shelf's thread.
-pub(crate) fn ask<N: LedgerName, S: Wait>(
-    rt: &S,
-    alloc: Global,
-    to: &Sender<Request<N>>,
-    op: &Digested,
-) -> Result<Shelved<N>, ShelfFault>
-    ensures { IfOk result (λ shelved. shelved.digest ≡ digest_of op.now) }
-{
-    let (reply, answer) = bounded(alloc, 1)?;
-    let request = Request {
-        op: op.copy(alloc)?,
-        reply,
-    };
-    if to.send(rt, request).is_err() {
-        return Err(ShelfFault::Store(StoreCause::Other));
-    }
-    let Ok(kept) = answer.recv(rt) else {
-        return Err(ShelfFault::Store(StoreCause::Other));
-    };
-    of_this(op.digest(), kept)
-}
-
-/// The way to the shelf of another thread, on which is noted what each put comes to. No contract of
-/// a channel says when it is closed, so each put that comes back refused is counted here, and
-/// nothing else raises the count.
-pub(crate) struct Asking<'a, N: LedgerName, S: Wait> {
-    rt: &'a S,
-    alloc: Global,
-    to: &'a Sender<Request<N>>,
-    health: &'a Health,
-    pub refusals: u64,
-}
-
-impl<'a, N: LedgerName, S: Wait> Asking<'a, N, S> {
-    pub fn new(
-        rt: &'a S,
-        alloc: Global,
-        to: &'a Sender<Request<N>>,
-        health: &'a Health,
-    ) -> Asking<'a, N, S> {
-        Asking {
-            rt,
-            alloc,
-            to,
-            health,
-            refusals: 0,
-        }
-    }
-
-    fn refuse(&mut self)
-        ensures { Rose self.old.refusals self.new.refusals }
-    {
-        self.refusals = self.refusals.saturating_add(1);
-    }
-}
-
-impl<'a, N: LedgerName, S: Wait> Clone for Asking<'a, N, S> {
-    fn clone(&self) -> Result<Asking<'a, N, S>, AllocError> {
-        Ok(*self)
-    }
-}
-
-impl<'a, N: LedgerName, S: Wait> Copy for Asking<'a, N, S> {}
-
-impl<'a, N: LedgerName, S: Wait> Put<N> for Asking<'a, N, S> {
-    ghost use Rattle.devices.specs.Failures.{Rose};
-
-    ghost refuses = { λ before after _ _. Rose before.refusals after.refusals };
-
-    fn put(&mut self, op: &Digested) -> Result<Shelved<N>, ShelfFault> {
-        let kept = ask(self.rt, self.alloc, self.to, op);
-        self.health.note(&kept);
-        match kept {
-            Ok(shelved) => Ok(shelved),
-            Err(fault) => {
-                self.refuse();
-                Err(fault)
-            }
-        }
-    }
 }

@@ -12,6 +12,7 @@
 #![tactic(auto)]
 
 mod answers;
+mod asking;
 mod attending;
 mod board;
 mod calling;
@@ -31,6 +32,7 @@ mod job;
 mod journal;
 mod keeping;
 mod known;
+mod line;
 mod manner;
 mod meeting;
 mod message;

@@ -5,9 +5,9 @@ ghost use Rattle.std.specs.Prelude.{◌≡◌};
 ghost use Rattle.archive_server.specs.Fault.{port_fault_of};
 ghost use Rattle.archive_server.specs.Refusing.{status_of, words_of_site, words_of};
 
+use crate::asking::Asking;
 use crate::cause::words_of_shelf;
 use crate::journal::Moment;
-use crate::keeping::Asking;
 use association_session::PortFault;
 use hub_exchange::{LedgerName, Put, Shelved};
 use log::{Log, error};
@@ -147,9 +147,10 @@ impl<'a, N: LedgerName, S: Wait + Clock + Log> Clone for Telling<'a, N, S> {
 impl<'a, N: LedgerName, S: Wait + Clock + Log> Copy for Telling<'a, N, S> {}
 
 impl<'a, N: LedgerName, S: Wait + Clock + Log> Put<N> for Telling<'a, N, S> {
-    ghost use Rattle.devices.specs.Failures.{Rose};
+    ghost use Rattle.archive_server.specs.Asking.{RefusesOverChannel};
 
-    ghost refuses = { λ before after _ _. Rose before.way.refusals after.way.refusals };
+    ghost refuses = { λ before after op fault.
+        RefusesOverChannel before.way.line.tried after.way.line.tried op fault };
 
     fn put(&mut self, op: &Digested) -> Result<Shelved<N>, ShelfFault> {
         told_put(self.rt, self.what, self.way.put(op))

@@ -5,6 +5,7 @@ ghost use Rattle.command_words.specs.Networks.{may_come};
 ghost use Rattle.archive_server.specs.Serving.{HasGoneOn, HasServed};
 
 use crate::answers::Answers;
+use crate::asking::Asking;
 use crate::attending::Archive;
 use crate::board::Board;
 use crate::clerk::Clerk;
@@ -14,7 +15,6 @@ use crate::fault::ServeFault;
 use crate::health::Health;
 use crate::heard::{Heard, Said};
 use crate::journal::{Finish, Whence, tell_association, tell_not_accepted, tell_turned_away};
-use crate::keeping::Asking;
 use crate::manner::Manner;
 use crate::message::{Reach, Request};
 use crate::wire::Wire;

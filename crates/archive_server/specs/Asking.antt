@@ -1,0 +1,26 @@
+-- Why a put over a line to the shelf's thread comes back refused.
+use Rattle.std.specs.Prelude.{ℕ, ◌≢◌, ◌⊎◌, List}
+use Rattle.devices.specs.Failures.{Rose}
+use Rattle.operation.specs.declared.op.Op.{Op}
+use Rattle.operation.specs.Spelling.{digest_of}
+use Rattle.op_shelf.specs.declared.fault.ShelfFault.{ShelfFault}
+use Rattle.archive_server.specs.declared.line.Tried.{Tried}
+
+-- one of these digests is not that of the operation
+abbrev pub IsOfAnother : (List ℕ → Type 0) → Op → Type 0
+IsOfAnother these op = (digest : List ℕ) × (these digest × (digest ≢ digest_of op))
+
+-- The line failed, or the thread answered this refusal, or that it put another operation.
+abbrev pub RefusesOver : {L : Type 0} → (L → ℕ) → (L → L → List ℕ → Type 0) → (L → L → ShelfFault → Type 0) → L → L
+    → Op → ShelfFault → Type 0
+RefusesOver failures put refused before after op fault =
+    Rose (failures before) (failures after) ⊎ refused before after fault ⊎ IsOfAnother (put before after) op
+
+-- one answer more came
+abbrev pub WasAnswered : Tried → Tried → Type 0
+WasAnswered before after = Rose before.answers after.answers
+
+-- the same of a channel, of which no contract says what it brings
+abbrev pub RefusesOverChannel : Tried → Tried → Op → ShelfFault → Type 0
+RefusesOverChannel = RefusesOver (λ (tried : Tried). tried.failures) (λ before after _. WasAnswered before after)
+    (λ before after _. WasAnswered before after)
