@@ -5,7 +5,7 @@ ghost use Rattle.archive_server.specs.Serving.{others_in, serving_in};
 ghost use Rattle.command_words.specs.Words.{HasPlaces, threads_at as threads_at_one};
 
 use crate::listening::Listening;
-use archive_server::{Correcting, Duties, Entrance, Exchanging, Paging, Peer};
+use archive_server::{Correcting, Duties, Entrance, Exchanging, Gauges, Paging, Peer};
 use command_words::Serving;
 
 /// Where exchanges come in, and how many are served.
@@ -24,7 +24,11 @@ fn exchanging_of<'a>(listening: &'a Listening, serving: &'a Serving<'_>) -> Opti
 }
 
 /// Where pages are asked for, if anywhere. The site is called as its file is.
-fn paging_at<'a>(listening: &'a Listening, serving: &'a Serving<'_>) -> Option<Paging<'a>> {
+fn paging_at<'a>(
+    listening: &'a Listening,
+    serving: &'a Serving<'_>,
+    gauges: &'a Gauges,
+) -> Option<Paging<'a>> {
     match &listening.pages {
         None => None,
         Some(door) => Some(Paging {
@@ -34,6 +38,7 @@ fn paging_at<'a>(listening: &'a Listening, serving: &'a Serving<'_>) -> Option<P
             },
             name: serving.file.as_bytes(),
             keys: door.keys,
+            gauges,
         }),
     }
 }
@@ -58,11 +63,12 @@ pub fn duties_of<'a>(
     listening: &'a Listening,
     serving: &'a Serving<'_>,
     peers: &'a [Peer<'a>],
+    gauges: &'a Gauges,
 ) -> Duties<'a> {
     Duties {
         exchange: exchanging_of(listening, serving),
         peers,
-        pages: paging_at(listening, serving),
+        pages: paging_at(listening, serving, gauges),
         desk: correcting_at(listening, serving),
     }
 }

@@ -27,7 +27,7 @@ pub fn is_folder(rt: &HostRuntime, file: &str) -> bool
 }
 
 /// The path of a file in a folder.
-fn within(rt: &HostRuntime, folder: &str, name: &str) -> Result<String, AllocError> {
+pub fn within(rt: &HostRuntime, folder: &str, name: &str) -> Result<String, AllocError> {
     format!(in rt.alloc(); "{folder}/{name}")
 }
 

@@ -9,6 +9,7 @@ mod ending;
 mod exchanging;
 mod file;
 mod folder;
+mod gauges;
 mod listening;
 mod moving;
 mod output;

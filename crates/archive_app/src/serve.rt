@@ -10,6 +10,7 @@ use crate::duties::{duties_of, passes_for, workers_of};
 use crate::ending::ended_with_input;
 use crate::file::{adopted, refused, see_kind};
 use crate::folder::{is_folder, log_in};
+use crate::gauges::gauges_of;
 use crate::listening::{Listening, listen_first, listen_to, say_where};
 use crate::output::CommandFault;
 use crate::progress::Progress;
@@ -152,8 +153,8 @@ fn serve_hub<
     R: Net<Listener = TcpListener, Stream = TcpStream> + Threads + Wait + Clock + Log + Sync,
     S: Store + Send,
 >(
+    host: &HostRuntime,
     rt: &R,
-    alloc: Global,
     store: &mut S,
     opened: Opened<&R>,
     listening: &Listening,
@@ -166,6 +167,7 @@ fn serve_hub<
     requires passes { opened.passes ≡ H.passes }
     requires site { S.is_clean store.old → IsSiteOf (S.lists store.old) H.opening }
 {
+    let alloc = host.alloc();
     let titles = titles(alloc, serving)?;
     let entrance = Entrance {
         listener: &listening.associations,
@@ -173,7 +175,8 @@ fn serve_hub<
     };
     let each = each_of(serving);
     let peers = peers_of(alloc, serving)?;
-    let duties = duties_of(listening, serving, peers.as_slice());
+    let gauges = gauges_of(host, serving.file);
+    let duties = duties_of(listening, serving, peers.as_slice(), &gauges);
     let (keeper, passes) = match opened.named::<H>() {
         Ok(hub) => hub,
         Err(fault) => return Err(CommandFault::Hub(fault)),
@@ -267,7 +270,7 @@ fn serve_site<
         idle: wait_of(serving.idle),
         is_verbose: serving.is_verbose,
     };
-    serve_hub::<Brand, R, S>(rt, host.alloc(), store, opened, &listening, serving, manner)
+    serve_hub::<Brand, R, S>(host, rt, store, opened, &listening, serving, manner)
 }
 
 /// Serves the site in a store, once it listens and says so.

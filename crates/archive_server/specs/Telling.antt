@@ -10,15 +10,17 @@ use Rattle.archive_page.specs.declared.fact.Fact.{Fact}
 use Rattle.archive_page.specs.declared.metrics.Sample.{Sample}
 use Rattle.site_pages.specs.declared.meters.Meters.{Meters}
 use Rattle.site_pages.specs.declared.samples.Reading.{Reading}
+use Rattle.site_pages.specs.declared.samples.Sizes.{Sizes}
 use Rattle.site_pages.specs.Samples.{samples_in}
 use Rattle.site_pages.specs.HubPages.{HubSource, AnswersFrom}
 
 -- what a server knows of itself: why its shelf refuses, if it does, what it has counted, how many seconds ago it began,
--- and what stands on its site's page
+-- how much it takes of its machine, and what stands on its site's page
 pub record Knowledge : Type 0 where
   pub refusal : Option (List ℕ)
   pub meters : Meters
   pub uptime : ℕ
+  pub sizes : Sizes
   pub facts : List Fact
 
 -- what is told of a site that holds so many operations, to who measures it
@@ -29,6 +31,7 @@ reading_in counts known = record {
   corrections = counts.corrections;
   takes = is_none known.refusal;
   now = known.uptime;
+  sizes = known.sizes;
 }
 
 -- Samples of all that is counted over what a pass has seen, or none where that can't be told.

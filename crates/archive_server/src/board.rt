@@ -6,7 +6,7 @@ use association_run::{End, RunFault};
 use exchange::{Ended, ExchangeFault};
 use octets::Octets;
 use site_pages::{
-    Meeting, Met, Meters, Tally, Way, association_end_of, facts_of, met_of, not_reached,
+    Meeting, Met, Meters, Sizes, Tally, Way, association_end_of, facts_of, met_of, not_reached,
     note_meeting,
 };
 use std::alloc::{AllocError, Global};
@@ -116,13 +116,15 @@ impl Board {
         self.noted(rt, address, not_reached(self.second(rt)));
     }
 
-    /// What the server knows of itself now, of which the shelf refuses for this reason, if it does.
+    /// What the server knows of itself now, which takes so much of its machine and of which the shelf
+    /// refuses for this reason, if it does.
     /// Where memory is refused nothing stands on the page of its site.
     pub fn known<S: Wait + Clock>(
         &self,
         rt: &S,
         alloc: Global,
         refusal: Option<&'static str>,
+        sizes: Sizes,
     ) -> Known {
         let now = self.second(rt);
         let meters = *self.meters.lock(rt);
@@ -135,6 +137,7 @@ impl Board {
             refusal,
             meters,
             uptime: now,
+            sizes,
             facts,
         }
     }

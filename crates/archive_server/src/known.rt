@@ -1,7 +1,7 @@
 //! What a server knows of itself as it answers for a page.
 
 use archive_page::Fact;
-use site_pages::Meters;
+use site_pages::{Meters, Sizes};
 use std::marker::Model;
 
 /// What a server knows of itself as it answers for a page.
@@ -11,6 +11,7 @@ pub(crate) struct Known {
     pub meters: Meters,
     /// How many seconds ago it began.
     pub uptime: u64,
+    pub sizes: Sizes,
     /// What stands on the page of its site.
     pub facts: Vec<Fact>,
 }
@@ -25,6 +26,7 @@ impl Model for Known {
       refusal = option_copied k.refusal;
       meters = k.meters;
       uptime = k.uptime;
+      sizes = k.sizes;
       facts = k.facts.items;
     } };
 }
@@ -35,6 +37,7 @@ impl Drop for Known {
             refusal: _,
             meters: _,
             uptime: _,
+            sizes: _,
             facts: _,
         } = self;
     }

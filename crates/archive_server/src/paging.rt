@@ -12,6 +12,7 @@ use crate::clerk::Clerk;
 use crate::done::Done;
 use crate::entrance::{Entered, Entrance, accept_from};
 use crate::fault::{NetFault, ServeFault};
+use crate::gauges::Gauges;
 use crate::journal::{Whence, tell_not_accepted, tell_turned_away, tell_visit};
 use crate::meeting::Still;
 use crate::visit::{Visit, turn};
@@ -36,6 +37,8 @@ pub struct Paging<'a> {
     pub name: &'a [u8],
     /// Keys that nobody can guess, for the tables that a request is read into.
     pub keys: RandomState,
+    /// By which it tells how much it takes of its machine.
+    pub gauges: &'a Gauges,
 }
 
 /// What the thread has done, and one connection more, of a peer that may come in here. Behind it the
@@ -55,7 +58,9 @@ fn with_visitor<H: HubName, T: Shows<H>, R: Wait + Drop, S: Wait + Clock + Log, 
     ensures failed { result.failed ≡ done.failed }
 {
     let (rt, alloc, idle) = (hall.archive.rt, hall.archive.alloc, hall.manner.idle);
-    let known = hall.board.known(rt, alloc, hall.health.words());
+    let known = hall
+        .board
+        .known(rt, alloc, hall.health.words(), paging.gauges.sizes());
     let mut reader = Visit::new(rt, wire, ended, idle);
     let mut writer = Visit::new(rt, wire, ended, idle);
     let (done, _answered) = done.with_pages(alloc, paging, &known, &mut reader, &mut writer);

@@ -21,6 +21,7 @@ fn reading_of(counts: Counts, known: &Known) -> Reading
         corrections: counts.corrections as u64,
         takes: known.refusal.is_none(),
         now: known.uptime,
+        sizes: known.sizes,
     }
 }
 

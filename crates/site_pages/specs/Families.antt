@@ -21,6 +21,8 @@ kind_of family.OperationsGiven = Counter
 kind_of family.OperationsTaken = Counter
 kind_of family.WorkersBusy = Gauge
 kind_of family.Uptime = Gauge
+kind_of family.ResidentMemory = Gauge
+kind_of family.StoreBytes = Gauge
 kind_of family.SinceAgreed = Gauge
 
 -- their name
@@ -39,6 +41,8 @@ name_of family.OperationsGiven = codes "wiersomp_operations_given_total"
 name_of family.OperationsTaken = codes "wiersomp_operations_taken_total"
 name_of family.WorkersBusy = codes "wiersomp_workers_busy"
 name_of family.Uptime = codes "wiersomp_uptime_seconds"
+name_of family.ResidentMemory = codes "process_resident_memory_bytes"
+name_of family.StoreBytes = codes "wiersomp_store_bytes"
 name_of family.SinceAgreed = codes "wiersomp_seconds_since_agreed"
 
 -- what they count
@@ -57,4 +61,6 @@ help_of family.OperationsGiven = codes "Operations that exchanges gave."
 help_of family.OperationsTaken = codes "Operations that exchanges took and that were new."
 help_of family.WorkersBusy = codes "Threads that serve an association or an exchange now."
 help_of family.Uptime = codes "Seconds since the server began."
+help_of family.ResidentMemory = codes "Bytes of memory that the process has resident."
+help_of family.StoreBytes = codes "Bytes of the files that the operations stand in."
 help_of family.SinceAgreed = codes "Seconds since the last exchange that agreed ended."

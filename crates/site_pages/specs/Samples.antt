@@ -91,6 +91,11 @@ unfoldable pub moment_samples : Reading → List Sample
 moment_samples reading =
     sample_in family.WorkersBusy reading.meters.busy ∷ sample_in family.Uptime reading.now ∷ []
 
+-- a sample of what is known, and none of what is not
+unfoldable pub known_samples : Family → Option ℕ → List Sample
+known_samples f None = []
+known_samples f (Some value) = sample_in f value ∷ []
+
 -- how many seconds ago an exchange agreed last, if one did
 unfoldable pub since_samples : Option ℕ → ℕ → List Sample
 since_samples None now = []
@@ -102,4 +107,6 @@ samples_in reading =
     held_samples reading ++ association_samples reading.meters.ends ++ store_samples reading.meters.asked
     ++ find_samples reading.meters.asked ++ served_samples reading.meters.served
     ++ called_samples reading.meters.called ++ operation_samples reading.meters ++ moment_samples reading
+    ++ known_samples family.ResidentMemory reading.sizes.resident
+    ++ known_samples family.StoreBytes reading.sizes.stored
     ++ since_samples reading.meters.agreed reading.now

@@ -22,6 +22,8 @@ pub(crate) enum Family {
     OperationsTaken,
     WorkersBusy,
     Uptime,
+    ResidentMemory,
+    StoreBytes,
     SinceAgreed,
 }
 
@@ -39,6 +41,7 @@ impl Family {
             Family::ExchangesServed | Family::ExchangesCalled => SampleKind::Counter,
             Family::OperationsGiven | Family::OperationsTaken => SampleKind::Counter,
             Family::WorkersBusy | Family::Uptime | Family::SinceAgreed => SampleKind::Gauge,
+            Family::ResidentMemory | Family::StoreBytes => SampleKind::Gauge,
         }
     }
 
@@ -61,6 +64,8 @@ impl Family {
             Family::OperationsTaken => b"wiersomp_operations_taken_total",
             Family::WorkersBusy => b"wiersomp_workers_busy",
             Family::Uptime => b"wiersomp_uptime_seconds",
+            Family::ResidentMemory => b"process_resident_memory_bytes",
+            Family::StoreBytes => b"wiersomp_store_bytes",
             Family::SinceAgreed => b"wiersomp_seconds_since_agreed",
         }
     }
@@ -86,6 +91,8 @@ impl Family {
             Family::OperationsTaken => b"Operations that exchanges took and that were new.",
             Family::WorkersBusy => b"Threads that serve an association or an exchange now.",
             Family::Uptime => b"Seconds since the server began.",
+            Family::ResidentMemory => b"Bytes of memory that the process has resident.",
+            Family::StoreBytes => b"Bytes of the files that the operations stand in.",
             Family::SinceAgreed => b"Seconds since the last exchange that agreed ended.",
         }
     }

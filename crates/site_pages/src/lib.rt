@@ -43,7 +43,7 @@ pub use listing::listed;
 pub use looking::{CountsOf, StudiesOf, StudyOf, TableOf};
 pub use meters::{Met, Meters, Way};
 pub use pages::Pages;
-pub use samples::{Reading, samples_of};
+pub use samples::{Reading, Sizes, samples_of};
 pub use searching::{Searched, query_of, search_of};
 pub use serving::serve_pages;
 pub use source::Source;

@@ -3,7 +3,7 @@
 ghost use Rattle.std.specs.Prelude.{◌≡◌, ◌++◌, IfOk, OnOk};
 ghost use Rattle.site_pages.specs.Samples.{sample_in, labelled_in, held_samples, association_samples, store_samples};
 ghost use Rattle.site_pages.specs.Samples.{find_samples, served_samples, called_samples, operation_samples};
-ghost use Rattle.site_pages.specs.Samples.{moment_samples, since_samples, samples_in};
+ghost use Rattle.site_pages.specs.Samples.{moment_samples, known_samples, since_samples, samples_in};
 
 use crate::ends::{AssociationEnds, ExchangeEnds};
 use crate::families::Family;
@@ -12,6 +12,15 @@ use crate::tally::Tally;
 use archive_page::{Label, Sample};
 use octets::Octets;
 use std::alloc::{AllocError, Global};
+
+/// How much a server takes of its machine, where that is known.
+#[derive(Clone, Copy)]
+pub struct Sizes {
+    /// The bytes of memory that its process has resident.
+    pub resident: Option<u64>,
+    /// The bytes of the files that its operations stand in.
+    pub stored: Option<u64>,
+}
 
 /// What a server tells of itself to who measures it.
 #[derive(Clone, Copy)]
@@ -24,6 +33,7 @@ pub struct Reading {
     pub takes: bool,
     /// How many seconds ago the server began.
     pub now: u64,
+    pub sizes: Sizes,
 }
 
 /// A sample that stands alone under its name.
@@ -169,6 +179,21 @@ fn of_moments(alloc: Global, reading: Reading) -> Result<Vec<Sample>, AllocError
     Ok(samples)
 }
 
+/// A size, where it is known.
+#[tactic(auto, unfolding(crate::specs::Samples::known_samples))]
+fn of_known(alloc: Global, family: Family, size: Option<u64>) -> Result<Vec<Sample>, AllocError>
+    ensures { IfOk result (λ samples. samples.items ≡ known_samples family size) }
+{
+    let mut samples = Vec::new(alloc);
+    match size {
+        None => Ok(samples),
+        Some(bytes) => {
+            samples.push(sample(alloc, family, bytes)?)?;
+            Ok(samples)
+        }
+    }
+}
+
 /// How many seconds ago an exchange agreed last, if one did.
 #[tactic(auto, unfolding(crate::specs::Samples::since_samples))]
 fn of_agreed(alloc: Global, agreed: Option<u64>, now: u64) -> Result<Vec<Sample>, AllocError>
@@ -208,6 +233,12 @@ pub fn samples_of(alloc: Global, reading: Reading) -> Result<Vec<Sample>, AllocE
     put_all(&mut out, of_called(alloc, meters.called)?)?;
     put_all(&mut out, of_operations(alloc, meters)?)?;
     put_all(&mut out, of_moments(alloc, reading)?)?;
+    let sizes = reading.sizes;
+    put_all(
+        &mut out,
+        of_known(alloc, Family::ResidentMemory, sizes.resident)?,
+    )?;
+    put_all(&mut out, of_known(alloc, Family::StoreBytes, sizes.stored)?)?;
     put_all(&mut out, of_agreed(alloc, meters.agreed, reading.now)?)?;
     Ok(out)
 }
