@@ -5,4 +5,3 @@ pub mod ExistenceLaws
 pub mod KeyValueLaws
 pub mod OutcomeLaws
 pub mod ReadingLaws
-pub mod ValueLaws

@@ -17,6 +17,26 @@ pub record ContentParts : Type 0 where
   pub values : List (ℕ × List ℕ)
   pub note : Option Note
 
+-- a content without its bytes, and how many there are
+pub record KeptParts : Type 0 where
+  pub class : List ℕ
+  pub instance : List ℕ
+  pub syntax : Syntax
+  pub size : ℕ
+  pub values : List (ℕ × List ℕ)
+  pub note : Option Note
+
+-- the same with its bytes
+abbrev pub with_body : KeptParts → List ℕ → ContentParts
+with_body kept body = record {
+  class = kept.class;
+  instance = kept.instance;
+  syntax = kept.syntax;
+  body = body;
+  values = kept.values;
+  note = kept.note;
+}
+
 -- a stamped value for one attribute of a study, a patient or a series
 pub record CorrectionParts : Type 0 where
   pub target : Target

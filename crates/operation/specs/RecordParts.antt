@@ -3,7 +3,7 @@ use Rattle.std.specs.Prelude.{ℕ, List, length, Option}
 use Rattle.data_set.specs.declared.syntax.Syntax.{Syntax}
 use Rattle.rejection_note.specs.declared.note.Note.{Note}
 use Rattle.operation.specs.declared.op.Op.TheVariants.{Content as a_content}
-use Rattle.operation.specs.Parts.{ContentParts}
+use Rattle.operation.specs.Parts.{ContentParts, KeptParts}
 use Rattle.operation.specs.Spelling.{digest_of}
 
 -- a content without its bytes, with its digest, and how many bytes there are
@@ -26,4 +26,16 @@ content_record c = record {
   size = length c.body;
   values = c.values;
   note = c.note;
+}
+
+-- what is kept of a content of this digest
+abbrev pub under_digest : List ℕ → KeptParts → ContentRecordParts
+under_digest digest kept = record {
+  digest = digest;
+  class = kept.class;
+  instance = kept.instance;
+  syntax = kept.syntax;
+  size = kept.size;
+  values = kept.values;
+  note = kept.note;
 }

@@ -1,9 +1,7 @@
 -- What is kept of an operation.
-use Rattle.std.specs.Prelude.{ℕ, List, Option}
-use Rattle.std.specs.Option.{option_map}
+use Rattle.std.specs.Prelude.{ℕ, List}
 use Rattle.operation.specs.declared.op.Op.{Op}
 use Rattle.operation.specs.declared.op.Op.TheVariants.{Content as a_content, Correction as a_correction}
-use Rattle.operation.specs.Parts.{value_at}
 use Rattle.operation.specs.Spelling.{digest_of}
 use Rattle.operation.specs.declared.record.Record.{Record}
 use Rattle.operation.specs.declared.record.Record.TheVariants.{Content as kept_content, Correction as kept_correction}
@@ -18,7 +16,3 @@ record_of (a_correction k) = kept_correction k
 abbrev pub digest_in : Record → List ℕ
 digest_in (kept_content r) = r.digest
 digest_in (kept_correction k) = digest_of (a_correction k)
-
--- the value that stands under a tag, with the tag
-abbrev pub own_under : List (ℕ × List ℕ) → ℕ → Option (ℕ × List ℕ)
-own_under values tag = option_map (λ value. (tag, value)) (value_at tag values)

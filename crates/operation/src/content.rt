@@ -5,7 +5,7 @@ ghost use Rattle.std.specs.Option.{option_map, option_copied};
 ghost use Rattle.operation.specs.Parts.{value_at, own_value};
 ghost use Rattle.operation.specs.Contents.{IsContent};
 
-use crate::key_values::KeyValues;
+use crate::kept::{Kept, same_notes};
 use bytes::Bytes;
 use data_set::Syntax;
 use dictionary::{SOP_CLASS_UID, SOP_INSTANCE_UID};
@@ -14,45 +14,19 @@ use std::alloc::{AllocError, Global};
 use std::marker::Model;
 use std::sync::Arc;
 
-/// What all copies of a content share. Its class and its instance are values that it keeps.
-#[derive(Debug, Drop)]
-pub(crate) struct Stored {
-    pub syntax: Syntax,
-    pub body: Bytes,
-    pub values: KeyValues,
-    pub note: Option<Note>,
-}
-
-impl Model for Stored {
-    ghost use Rattle.dictionary.specs.declared.elements.TheConstants.{SOP_CLASS_UID, SOP_INSTANCE_UID};
-    ghost use Rattle.operation.specs.Parts.{ContentParts, value_at, value_or_empty};
-    ghost use Rattle.operation.specs.Code.{content_code};
-
-    ghost Value = { ContentParts };
-
-    ghost coded = { content_code };
-
-    ghost view = { λ c. record {
-      class = value_or_empty (value_at SOP_CLASS_UID c.values);
-      instance = value_or_empty (value_at SOP_INSTANCE_UID c.values);
-      syntax = c.syntax;
-      body = c.body;
-      values = c.values;
-      note = c.note;
-    } };
-}
-
 /// A stored data set with its SOP class, SOP instance and transfer syntax (PS3.4, annex B).
 ///
-/// Its copies share its bytes and all that it keeps of them.
+/// Its copies share its bytes, and they and its records all that is kept of them.
 #[derive(Debug, Drop)]
 pub struct Content {
-    pub(crate) stored: Arc<Stored, Global>,
+    pub(crate) kept: Arc<Kept, Global>,
+    pub(crate) body: Bytes,
 }
 
 impl Model for Content {
+    ghost use Rattle.std.specs.Prelude.{◌≡◌, length};
     ghost use Rattle.std.specs.Arc.{arc_value};
-    ghost use Rattle.operation.specs.Parts.{ContentParts};
+    ghost use Rattle.operation.specs.Parts.{ContentParts, with_body};
     ghost use Rattle.operation.specs.Code.{content_code};
     ghost use Rattle.operation.specs.Contents.{IsContent};
 
@@ -60,20 +34,10 @@ impl Model for Content {
 
     ghost coded = { content_code };
 
-    ghost view = { λ c. arc_value c.stored };
+    ghost view = { λ c. with_body (arc_value c.kept) c.body };
 
-    ghost invariant = { λ c. IsContent (arc_value c.stored) };
-}
-
-fn same_notes(this: &Option<Note>, other: &Option<Note>) -> bool
-    ensures { IsTrue result ↔ (this.now ≡ other.now) }
-{
-    match (this, other) {
-        (None, None) => true,
-        (Some(a), Some(b)) => a.equals(b),
-        (None, Some(_)) => false,
-        (Some(_), None) => false,
-    }
+    ghost invariant = { λ c. IsContent (with_body (arc_value c.kept) c.body)
+        × ((arc_value c.kept).size ≡ length c.body) };
 }
 
 impl Content {
@@ -82,7 +46,8 @@ impl Content {
         ensures { IfOk result (λ copy. copy ≡ self.now) }
     {
         Ok(Content {
-            stored: Arc::try_clone(&self.stored)?,
+            kept: Arc::try_clone(&self.kept)?,
+            body: self.body.clone()?,
         })
     }
 
@@ -90,30 +55,30 @@ impl Content {
     pub fn equals(&self, other: &Content) -> bool
         ensures { IsTrue result ↔ (self.now ≡ other.now) }
     {
-        self.stored.syntax == other.stored.syntax
-            && self.stored.body.as_slice() == other.stored.body.as_slice()
-            && self.stored.values.equals(&other.stored.values)
-            && same_notes(&self.stored.note, &other.stored.note)
+        self.kept.syntax == other.kept.syntax
+            && self.body.as_slice() == other.body.as_slice()
+            && self.kept.values.equals(&other.kept.values)
+            && same_notes(&self.kept.note, &other.kept.note)
     }
 
     pub fn class(&self) -> &[u8]
         ensures value { result.now ≡ self.now.class }
         ensures short { length result.now ≤ 64 }
     {
-        self.stored.values.value_or_empty(SOP_CLASS_UID)
+        self.kept.values.value_or_empty(SOP_CLASS_UID)
     }
 
     pub fn instance(&self) -> &[u8]
         ensures value { result.now ≡ self.now.instance }
         ensures short { length result.now ≤ 64 }
     {
-        self.stored.values.value_or_empty(SOP_INSTANCE_UID)
+        self.kept.values.value_or_empty(SOP_INSTANCE_UID)
     }
 
     pub fn syntax(&self) -> Syntax
         ensures { result ≡ self.now.syntax }
     {
-        self.stored.syntax
+        self.kept.syntax
     }
 
     /// The bytes of the data set, as they came.
@@ -122,27 +87,27 @@ impl Content {
         ensures short { length result.now ≤ 67108864 }
         ensures content { IsContent self.now }
     {
-        &self.stored.body
+        &self.body
     }
 
     /// The content's own trimmed value of an element that queries know, if it has one.
     pub fn value(&self, tag: u32) -> Option<&[u8]>
         ensures { option_map (λ v. v.now) result ≡ value_at tag self.now.values }
     {
-        self.stored.values.value(tag)
+        self.kept.values.value(tag)
     }
 
     /// The same, empty where the element is missing or holds items.
     pub fn own_value(&self, tag: u32) -> &[u8]
         ensures { result.now ≡ own_value self.now tag }
     {
-        self.stored.values.value_or_empty(tag)
+        self.kept.values.value_or_empty(tag)
     }
 
     /// What the content says as a rejection note, if it is one.
     pub fn note(&self) -> &Option<Note>
         ensures { result.now ≡ self.now.note }
     {
-        &self.stored.note
+        &self.kept.note
     }
 }

@@ -13,9 +13,10 @@ ghost use Rattle.operation.specs.Parts.{ContentParts};
 ghost use Rattle.operation.specs.Contents.{has_uids, names_itself, is_uid_value, is_value, values_in, IsOutcome};
 ghost use Rattle.operation.specs.Contents.{IsContent, IsRefused, IsShort, draft_of, drafted, kept_of};
 
-use crate::content::{Content, Stored};
+use crate::content::Content;
 use crate::draft::Draft;
 use crate::fault::OpFault;
+use crate::kept::Kept;
 use crate::key_values::{KeyValues, values_under};
 use bytes::Bytes;
 use data_set::{DataSet, Element, Syntax, read, value_of};
@@ -108,14 +109,15 @@ pub fn content_from(alloc: Global, draft: Draft) -> Result<Content, OpFault>
 {
     let (values, note) = kept_of_draft(alloc, &draft)?;
     let Draft { syntax, body, .. } = draft;
-    let stored = Stored {
+    let kept = Kept {
         syntax,
-        body,
+        size: body.len(),
         values,
         note,
     };
     Ok(Content {
-        stored: Arc::new(alloc, stored)?,
+        kept: Arc::new(alloc, kept)?,
+        body,
     })
 }
 

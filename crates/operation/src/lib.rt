@@ -14,7 +14,7 @@ mod draft;
 mod encoding;
 mod fault;
 mod hashing;
-mod kept_value;
+mod kept;
 mod key_values;
 mod laws;
 mod op;
@@ -23,7 +23,6 @@ mod record_laws;
 mod stamp;
 mod taken;
 mod target;
-mod values;
 
 pub use content::Content;
 pub use content_record::ContentRecord;
@@ -35,7 +34,6 @@ pub use digests::Digest;
 pub use encoding::encode;
 pub use fault::OpFault;
 pub use hashing::digest;
-pub use kept_value::KeptValue;
 pub use laws::{
     a_patient_is_corrected_in_its_group_alone, a_series_is_corrected_by_its_description_alone,
     a_text_has_one_outcome, each_text_has_an_outcome, spellings_tell_operations_apart,

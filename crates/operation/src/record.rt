@@ -3,7 +3,7 @@
 ghost use Rattle.std.specs.Prelude.{◌≡◌, ◌↔◌, IfOk, IsTrue};
 ghost use Rattle.operation.specs.Records.{record_of};
 
-use crate::content_record::{ContentRecord, kept_of};
+use crate::content_record::ContentRecord;
 use crate::{Correction, Digested, Op};
 use std::alloc::{AllocError, Global};
 
@@ -21,7 +21,7 @@ impl Record {
         ensures { IfOk result (λ kept. kept ≡ record_of op.now) }
     {
         match op.op() {
-            Op::Content(content) => Ok(Record::Content(kept_of(alloc, op.digest(), content)?)),
+            Op::Content(content) => Ok(Record::Content(ContentRecord::of(op.digest(), content)?)),
             Op::Correction(correction) => Ok(Record::Correction(correction.copy(alloc)?)),
         }
     }

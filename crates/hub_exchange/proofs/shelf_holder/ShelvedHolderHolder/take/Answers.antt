@@ -19,6 +19,11 @@ pub invariant_of-self-in-Err-2 : goal.invariant_of-self-in-Err-2
 invariant_of-self-in-Err-2 g c =
     spared g.K.Keep.is_up g.K.Keep.lasts _ _ _ _ _ c.self.invariant c.put_digested.ensures.up c.put_digested.ensures.kept
 
+-- And where it is told of a correction.
+pub invariant_of-self-in-Err-3 : goal.invariant_of-self-in-Err-3
+invariant_of-self-in-Err-3 g c =
+    spared g.K.Keep.is_up g.K.Keep.lasts _ _ _ _ _ c.self.invariant c.put_digested.ensures.up c.put_digested.ensures.kept
+
 -- What the shelf has kept only the site refuses, which changes nothing.
 pub returns-in-Ok-clause-why : goal.returns-in-Ok-clause-why
 returns-in-Ok-clause-why g c = rw (← c.self.view_is) (refused_on_shelf g.K.Keep.refuses _ _ _ _

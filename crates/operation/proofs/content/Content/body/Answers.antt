@@ -5,8 +5,8 @@ use Rattle.operation.proofs.content.Content.body.Goals as goal
 
 -- A content keeps it true of its parts that its data set is short.
 pub returns-clause-short : goal.returns-clause-short
-returns-clause-short c = body_short _ (subst IsContent (sym (c.behind-self.view_is ∙ c.deref.ensures)) c.self.invariant)
+returns-clause-short c = body_short _ c.self.invariant.0
 
 -- The parts behind the model are those that the type keeps a content.
 pub returns-clause-content : goal.returns-clause-content
-returns-clause-content c = subst IsContent c.self.view_is c.self.invariant
+returns-clause-content c = subst IsContent c.self.view_is c.self.invariant.0
