@@ -12,6 +12,7 @@ pub mod Groups
 pub mod Index
 pub mod Key
 pub mod Laws
+pub mod Listed
 pub mod Members
 pub mod Prepared
 pub mod Preparing

@@ -21,6 +21,7 @@ mod index;
 mod key;
 mod keys;
 mod laws;
+mod listed;
 mod parts;
 mod prepared;
 mod query;
@@ -49,6 +50,7 @@ pub use laws::{
     what_a_note_names_is_covered, what_is_flagged_has_two_contents,
     what_is_shown_is_picked_and_uncovered,
 };
+pub use listed::Listed;
 pub use parts::content;
 pub use prepared::Prepared;
 pub use query::{Query, level_of, upper_uid};

@@ -8,3 +8,4 @@ pub mod SelectedPlaces
 pub mod Changes
 pub mod Made
 pub mod SendingLaws
+pub mod Listing

@@ -6,7 +6,9 @@
 //!
 //! What a C-GET sends is what a view shows of a selection, corrected, in a transfer syntax that is
 //! accepted. A data set that needs no change is the stored one, whose bytes are shared with the
-//! site. `prepare` finds what is to be sent and makes no data set; `get` makes them all at once.
+//! site. `list` finds what is to be sent and holds no byte of a data set, so that each can be loaded
+//! when its turn comes; `prepare` finds the same with the data sets as they are stored, and `get`
+//! makes them all at once.
 #![tactic(auto)]
 
 mod candidates;
@@ -21,6 +23,7 @@ mod grouping;
 mod groups;
 mod keys;
 mod laws;
+mod listing;
 mod prepared;
 mod preparing;
 mod rows;
@@ -31,8 +34,8 @@ mod sending_laws;
 mod walks;
 
 pub use archive_model::{
-    Accepted, Accepts, Answer, Answers, Asked, Level, Matching, Prepared, Query, QueryFault,
-    Selection, Sending, level_of, upper_uid,
+    Accepted, Accepts, Answer, Answers, Asked, Level, Listed, Matching, Prepared, Query,
+    QueryFault, Selection, Sending, level_of, upper_uid,
 };
 pub use candidates::{put_some_series, put_studies, shown_of};
 pub use finding::{Found, find, rows_found, take};
@@ -40,6 +43,7 @@ pub use fixes::Fixes;
 pub use getting::get;
 pub use groups::uid_at;
 pub use laws::same_sites_answer_alike;
+pub use listing::list;
 pub use prepared::PreparedQuery;
 pub use preparing::prepare;
 pub use sending_laws::{

@@ -3,6 +3,8 @@
 ghost use Rattle.std.specs.Prelude.{◌≡◌, IfOk, map};
 ghost use Rattle.site_state.specs.Site.{ops_of};
 ghost use Rattle.archive_model.specs.Preparing.{prepared_for, prepared_of};
+ghost use Rattle.archive_model.specs.Selection.{selected as selected_in};
+ghost use Rattle.archive_model.specs.Shown.{shown};
 
 use crate::candidates::shown_of;
 use crate::changes::changes;
@@ -39,6 +41,22 @@ fn prepared_all(
     Ok(found)
 }
 
+/// What is shown and selected, by ascending SOP Instance UID.
+pub(crate) fn shown_selected<'a>(
+    alloc: Global,
+    site: &'a Site,
+    view: View,
+    selection: &Selection,
+) -> Result<Vec<&'a Content>, AllocError>
+    ensures { IfOk result (λ found. map (λ c. c.now) found.items ≡
+        selected_in selection.now (shown view (ops_of site.now))) }
+{
+    let uids = candidates(alloc, site.index(), selection)?;
+    let contents = shown_of(alloc, site, view, &uids)?;
+    let found = selected(alloc, selection, &contents)?;
+    Ok(found)
+}
+
 /// What a C-GET is to send of a selection in a view, by ascending SOP Instance UID: each content
 /// that is shown and selected, with what corrections change of it.
 ///
@@ -53,10 +71,7 @@ pub fn prepare(
     ensures prepared { IfOk result (λ found.
         found.items ≡ prepared_of view selection.now (ops_of site.now)) }
 {
-    site.see_lawful();
-    let uids = candidates(alloc, site.index(), selection)?;
-    let shown = shown_of(alloc, site, view, &uids)?;
-    let selected = selected(alloc, selection, &shown)?;
-    let found = prepared_all(alloc, site, &selected)?;
+    let contents = shown_selected(alloc, site, view, selection)?;
+    let found = prepared_all(alloc, site, &contents)?;
     Ok(found)
 }

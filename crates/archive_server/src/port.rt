@@ -7,19 +7,20 @@ ghost use Rattle.devices.specs.Failures.{Rose};
 ghost use Rattle.site_state.specs.Site.{ops_of};
 ghost use Rattle.site_hub.specs.History.{set_of};
 ghost use Rattle.site_hub.specs.Hub.{Seat, IsLater};
-ghost use Rattle.association_run.specs.Port.{Stores, Finds, Gets};
+ghost use Rattle.association_run.specs.Port.{Stores, Finds, Gets, Loads};
+ghost use Rattle.association_worker.specs.Port.{IsUnheld};
 ghost use Rattle.archive_server.specs.Refusing.{RefusesStore};
 ghost use Rattle.archive_server.specs.Serving.{IsOnward, WasWritten};
 
-use crate::refusing::{told, told_store};
-use archive_model::{Answers, Prepared, Query, Selection, View};
+use crate::refusing::{told, told_load, told_store};
+use archive_model::{Answers, Listed, Query, Selection, View};
 use association_run::Port;
 use association_session::PortFault;
 use association_worker::{AtEntry, HubPort};
 use hub_exchange::{Extract, LedgerName, Put, Shelved};
 use log::Log;
 use octets::ListOf;
-use operation::{Content, Digested, Op, Taken};
+use operation::{Content, ContentRecord, Digested, Op, Taken};
 use site_hub::{HubName, Keeper, Pass, Shows};
 use site_pages::Tally;
 use std::marker::Model;
@@ -69,9 +70,9 @@ impl<
     ghost invariant = { λ p. IsOnward (WasWritten p.extract) E.seat p.hub };
 }
 
-/// How many images were prepared.
-fn length_of<E>(prepared: &Result<ListOf<Prepared>, E>) -> u64 {
-    match prepared {
+/// How many images were listed.
+fn length_of<E>(listed: &Result<ListOf<Listed>, E>) -> u64 {
+    match listed {
         Ok(images) => images.len() as u64,
         Err(_fault) => 0,
     }
@@ -198,15 +199,28 @@ impl<
         told(self.rt, "find", rows)
     }
 
-    fn get(&mut self, view: View, selection: &Selection) -> Result<ListOf<Prepared>, PortFault>
+    fn get(&mut self, view: View, selection: &Selection) -> Result<ListOf<Listed>, PortFault>
         ensures gets { Gets (λ (s : Seat). ops_of (set_of H.opening s.seen))
             (λ (s : Seat). s.mine) self.old
             (record { view = view; selection = selection.now }) result self.new }
         ensures busy { result ≡ Err PortFault.Busy → Rose self.old.refused self.new.refused }
         ensures later { IsLater self.old self.new }
     {
-        let prepared = self.hub.prepared(view, selection);
-        self.tally.got(length_of(&prepared));
-        told(self.rt, "get", prepared)
+        let listed = self.hub.listed(view, selection);
+        self.tally.got(length_of(&listed));
+        told(self.rt, "get", listed)
+    }
+
+    fn load(&mut self, asked: &ContentRecord) -> Result<Content, PortFault>
+        ensures loads { Loads (λ (s : Seat). ops_of (set_of H.opening s.seen))
+            (λ (s : Seat). s.mine) self.old asked.now result self.new }
+        // The shelf is told of only where no content of the record is held.
+        ensures shelf { result ≡ Err PortFault.Shelf → IsUnheld
+            (ops_of (set_of H.opening self.new.seen)) asked.now }
+        ensures busy { result ≡ Err PortFault.Busy → Rose self.old.refused self.new.refused }
+        ensures later { IsLater self.old self.new }
+    {
+        let loaded = self.hub.content(asked);
+        told_load(self.rt, loaded)
     }
 }

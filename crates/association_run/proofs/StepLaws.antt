@@ -1,6 +1,6 @@
 -- What a session is told up to the end of a PDU, and what is done for it.
-use Rattle.std.proofs.Common.{◌≡◌, ◌≢◌, ℕ, ◌+◌, ◌<◌, Bool, true, false, ◌||◌, List, [], ◌∷◌, ◌++◌, length, Option, Some}
-use Rattle.std.proofs.Common.{None, Result, Ok, Err, inl, inr, ◌⊎◌, refl, sym, ap, subst, ◌∙◌, append_assoc, append-nil}
+use Rattle.std.proofs.Common.{◌≡◌, ◌≢◌, ℕ, ◌+◌, ◌<◌, ◌≤◌, Bool, true, false, ◌||◌, List, [], ◌∷◌, ◌++◌, length, Option}
+use Rattle.std.proofs.Common.{Some, None, Result, Ok, Err, inl, inr, ◌⊎◌, refl, sym, ap, subst, ◌∙◌, append_assoc, append-nil}
 use Rattle.std.proofs.Common.{arith}
 use Rattle.std.specs.Prelude.{IsSome, option_to_list}
 use Rattle.std.specs.List.{list_any}
@@ -24,15 +24,16 @@ use Rattle.association_session.specs.declared.event.SessionEvent.TheVariants as 
 use Rattle.association_services.specs.declared.reply.Reply.{Reply}
 use Rattle.association_session.specs.Projections.{calls_in}
 use Rattle.association_services.specs.declared.call.Call.{Call}
-use Rattle.association_services.specs.declared.call.Call.TheVariants.{Store, Find, Get}
+use Rattle.association_services.specs.declared.call.Call.TheVariants.{Store, Find, Get, Load}
 use Rattle.association_session.specs.declared.pending_response.PendingResponse.{PendingResponse}
 use Rattle.association_session.specs.declared.pending_response.PendingResponse.TheVariants as pendings
-use Rattle.association_services.specs.declared.reply.Reply.TheVariants.{Stored, Found, Gotten}
-use Rattle.association_session.specs.PendingResponse.{IsAnswered, Fits, left_of, tells_rows}
-use Rattle.association_session.specs.Session.{Awaits, IsToldBy, IsFewer, FewerFor}
+use Rattle.association_services.specs.declared.reply.Reply.TheVariants.{Stored, Found, Gotten, Loaded}
+use Rattle.association_session.specs.PendingResponse.{IsAnswered, IsAnsweredOrLoads, Fits, left_of, tells_rows}
+use Rattle.association_session.specs.PendingResponse.{is_telling, takes_reply}
+use Rattle.association_session.specs.Session.{Awaits, IsToldBy, IsFewer, FewerFor, FewerBehind}
 use Rattle.association_session.proofs.TellLaws.{rows_go}
 use Rattle.association_session.proofs.SendLaws.{begins_go}
-use Rattle.association_run.specs.inner.Steps.{IsQuiet, Hearing, GoesOnWith, BreaksWith}
+use Rattle.association_run.specs.inner.Steps.{is_loaded, row_input, due, IsQuiet, Hearing, GoesOnWith, BreaksWith}
 use Rattle.association_session.specs.Row.{Within, met}
 use Rattle.association_session.specs.Session.{AssociationState, SessionState, Turned, Takes, Owes, OwedAt, Stops}
 use Rattle.association_session.specs.Session.{heard_in, is_left, in_turn, is_in_turn, is_abort, is_release}
@@ -72,18 +73,22 @@ asked_pends ops own old new (Store content) None r w p = absurd w
 asked_pends ops own old new (Store content) (Some (pendings.Store a)) (Stored reply) w p = refl
 asked_pends ops own old new (Store content) (Some (pendings.Store a)) (Found reply) w p = absurd p
 asked_pends ops own old new (Store content) (Some (pendings.Store a)) (Gotten reply) w p = absurd p
+asked_pends ops own old new (Store content) (Some (pendings.Store a)) (Loaded reply) w p = absurd p
 asked_pends ops own old new (Store content) (Some (pendings.Find a kind)) r w p = absurd w
 asked_pends ops own old new (Store content) (Some (pendings.Rows telling)) r w p = absurd w
 asked_pends ops own old new (Store content) (Some (pendings.Get a syntax)) r w p = absurd w
 asked_pends ops own old new (Store content) (Some (pendings.Sending left)) r w p = absurd w
+asked_pends ops own old new (Store content) (Some (pendings.Load loading)) r w p = absurd w
 asked_pends ops own old new (Find finding) None r w p = absurd w
 asked_pends ops own old new (Find finding) (Some (pendings.Store a)) r w p = absurd w
 asked_pends ops own old new (Find finding) (Some (pendings.Find a kind)) (Found reply) w p = refl
 asked_pends ops own old new (Find finding) (Some (pendings.Find a kind)) (Stored reply) w p = absurd p
 asked_pends ops own old new (Find finding) (Some (pendings.Find a kind)) (Gotten reply) w p = absurd p
+asked_pends ops own old new (Find finding) (Some (pendings.Find a kind)) (Loaded reply) w p = absurd p
 asked_pends ops own old new (Find finding) (Some (pendings.Rows telling)) r w p = absurd w
 asked_pends ops own old new (Find finding) (Some (pendings.Get a syntax)) r w p = absurd w
 asked_pends ops own old new (Find finding) (Some (pendings.Sending left)) r w p = absurd w
+asked_pends ops own old new (Find finding) (Some (pendings.Load loading)) r w p = absurd w
 asked_pends ops own old new (Get getting) None r w p = absurd w
 asked_pends ops own old new (Get getting) (Some (pendings.Store a)) r w p = absurd w
 asked_pends ops own old new (Get getting) (Some (pendings.Find a kind)) r w p = absurd w
@@ -91,7 +96,19 @@ asked_pends ops own old new (Get getting) (Some (pendings.Rows telling)) r w p =
 asked_pends ops own old new (Get getting) (Some (pendings.Get a syntax)) (Gotten reply) w p = refl
 asked_pends ops own old new (Get getting) (Some (pendings.Get a syntax)) (Stored reply) w p = absurd p
 asked_pends ops own old new (Get getting) (Some (pendings.Get a syntax)) (Found reply) w p = absurd p
+asked_pends ops own old new (Get getting) (Some (pendings.Get a syntax)) (Loaded reply) w p = absurd p
 asked_pends ops own old new (Get getting) (Some (pendings.Sending left)) r w p = absurd w
+asked_pends ops own old new (Get getting) (Some (pendings.Load loading)) r w p = absurd w
+asked_pends ops own old new (Load asked) None r w p = absurd w
+asked_pends ops own old new (Load asked) (Some (pendings.Store a)) r w p = absurd w
+asked_pends ops own old new (Load asked) (Some (pendings.Find a kind)) r w p = absurd w
+asked_pends ops own old new (Load asked) (Some (pendings.Rows telling)) r w p = absurd w
+asked_pends ops own old new (Load asked) (Some (pendings.Get a syntax)) r w p = absurd w
+asked_pends ops own old new (Load asked) (Some (pendings.Sending left)) r w p = absurd w
+asked_pends ops own old new (Load asked) (Some (pendings.Load loading)) (Loaded reply) w p = refl
+asked_pends ops own old new (Load asked) (Some (pendings.Load loading)) (Stored reply) w p = absurd p
+asked_pends ops own old new (Load asked) (Some (pendings.Load loading)) (Found reply) w p = absurd p
+asked_pends ops own old new (Load asked) (Some (pendings.Load loading)) (Gotten reply) w p = absurd p
 
 -- The reply of the call that ends them is that which is awaited.
 pends_of : {P : Type 0} (ops : P → List Op) (own : P → List (List ℕ)) (old new : P) (ds : List Deed)
@@ -118,7 +135,8 @@ rests_for titles w sub (Some (pendings.Rows telling)) fits = rows_go telling.awa
     telling.status (Talks titles w sub [] []) fits refl
 rests_for titles w sub (Some (pendings.Get a syntax)) fits = ([], refl)
 rests_for titles w sub (Some (pendings.Sending r)) fits = begins_go w.link.contexts r.progress r.left
-    (λ next. Talks titles w next [] []) fits (λ next. refl)
+    (λ next. Talks titles w next []) fits (λ next. refl)
+rests_for titles w sub (Some (pendings.Load loading)) fits = ([], refl)
 
 -- What was done so far begins what is owed by what came so far.
 pub takes_front : (titles : List (Title View)) (a b : AssociationState) (h : List Heard) (r : List Reply)
@@ -166,6 +184,7 @@ none_pends (Some (pendings.Find a kind)) (Some r) answered pends = absurd answer
 none_pends (Some (pendings.Rows telling)) (Some r) answered pends = absurd cc
 none_pends (Some (pendings.Get a syntax)) (Some r) answered pends = absurd answered
 none_pends (Some (pendings.Sending left)) (Some r) answered pends = absurd cc
+none_pends (Some (pendings.Load loading)) (Some r) answered pends = absurd answered
 
 left_open : (s : State) (queue : List Pdv) → is_left s queue ≡ true → s ≡ Sta6
 left_open Sta1 queue e = absurd cc
@@ -315,21 +334,38 @@ released_on before now to done deeds so goes =
 
 -- ---- what is left to be done
 
-abbrev due : Option Reply → ℕ
-due None = 0
-due (Some reply) = 1
-
 -- the values that are left, twice, and the reply that is to be told
 abbrev pub weight : List Pdv → Option Reply → ℕ
 weight queue pending = length queue + length queue + due pending
 
-due_of : (pending : Option Reply) (reply : Reply) → reply ∷ [] ≡ option_to_list pending → due pending ≡ 1
-due_of None reply e = absurd cc
-due_of (Some r) reply e = refl
-
 few : (pending : Option Reply) → due pending < 2
 few None = omega arith
-few (Some reply) = omega arith
+few (Some (Stored reply)) = omega arith
+few (Some (Found reply)) = omega arith
+few (Some (Gotten reply)) = omega arith
+few (Some (Loaded reply)) = omega arith
+
+-- A reply that is told where no row is left, and nothing is to be loaded, was due.
+due_of : (a : Option PendingResponse) (left : Bool) (pending : Option Reply) (reply : Reply) → IsQuiet a
+    → in_turn a left (inputs.Replied reply) ≡ true → reply ∷ [] ≡ option_to_list pending → due pending ≡ 1
+due_of None left pending reply quiet turn e = absurd cc
+due_of (Some a) left None reply quiet turn e = absurd cc
+due_of (Some a) left (Some r) reply quiet turn e = ap (λ (t : List Reply). due_in t) (sym e) ∙ by a reply quiet turn
+  where
+    due_in : List Reply → ℕ
+    due_in [] = 0
+    due_in (x ∷ xs) = due (Some x)
+
+    by : (p : PendingResponse) (x : Reply) → IsQuiet (Some p) → takes_reply p x ≡ true → due (Some x) ≡ 1
+    by p (Stored x) quiet turn = refl
+    by p (Found x) quiet turn = refl
+    by p (Gotten x) quiet turn = refl
+    by (pendings.Store a) (Loaded x) quiet turn = absurd cc
+    by (pendings.Find a kind) (Loaded x) quiet turn = absurd cc
+    by (pendings.Rows telling) (Loaded x) quiet turn = absurd cc
+    by (pendings.Get a syntax) (Loaded x) quiet turn = absurd cc
+    by (pendings.Sending r) (Loaded x) quiet turn = absurd cc
+    by (pendings.Load loading) (Loaded x) quiet turn = absurd quiet
 
 lighter : (old new : List Pdv) (pending behind : Option Reply) → new ≡ old → due pending ≡ 1 → behind ≡ None
     → weight new behind < weight old pending
@@ -337,6 +373,13 @@ lighter old new pending behind same one none =
     let f : length new ≡ length old = ap (λ (t : List Pdv). length t) same in
     let g : due behind ≡ 0 = ap due none in
     omega (arith, f, g, one)
+
+-- Rows leave the values, and no more is due behind them.
+pub no_heavier : (queue new : List Pdv) (pending behind : Option Reply) (most : ℕ) → new ≡ queue
+    → due behind ≤ due pending → weight queue pending < most → weight new behind < most
+no_heavier queue new pending behind most same less lighter =
+    let f : length new ≡ length queue = ap (λ (t : List Pdv). length t) same in
+    omega (arith, f, less, lighter)
 
 -- Values that are heard on become fewer, where no row is left.
 fewer_left : (a : Option PendingResponse) (old new : AssociationState) (left : Bool) → IsQuiet a
@@ -347,6 +390,7 @@ fewer_left (Some (pendings.Find a kind)) old new left quiet turn fewer = absurd 
 fewer_left (Some (pendings.Rows telling)) old new left quiet turn fewer = absurd quiet
 fewer_left (Some (pendings.Get a syntax)) old new left quiet turn fewer = absurd cc
 fewer_left (Some (pendings.Sending r)) old new left quiet turn fewer = absurd quiet
+fewer_left (Some (pendings.Load loading)) old new left quiet turn fewer = absurd quiet
 
 falls_by : {P : Type 0} (ops : P → List Op) (own : P → List (List ℕ)) (titles : List (Title View))
     (now then : Sides P) (s : SessionState) (input : SessionEvent) (pending behind : Option Reply)
@@ -357,8 +401,8 @@ falls_by : {P : Type 0} (ops : P → List Op) (own : P → List (List ℕ)) (tit
 falls_by ops own titles now then s (inputs.Heard event) pending behind t quiet next turn pends =
     absurd (let e = next.2 in cc)
 falls_by ops own titles now then s (inputs.Replied reply) pending behind t quiet next turn pends =
-    lighter s.association.queue t.association.queue pending behind turn.fewer (due_of pending reply next.3)
-    (none_pends t.association.awaited behind turn.turned.told pends)
+    lighter s.association.queue t.association.queue pending behind turn.fewer.0 (due_of s.association.awaited
+    (is_left s.association.within.state s.association.queue) pending reply quiet next.0 next.3) (none_pends t.association.awaited behind turn.turned.told pends)
 falls_by ops own titles now then s inputs.GoesOn pending behind t quiet next turn pends =
     let f : length t.association.queue < length s.association.queue = fewer_left s.association.awaited s.association
     t.association (is_left s.association.within.state s.association.queue) quiet next.0 turn.fewer in
@@ -373,6 +417,25 @@ state_then s (Send pdu ∷ done) deeds = state_then (state_by_pdu s pdu) done de
 state_then s (Reach moment ∷ done) deeds = state_then s done deeds
 state_then s (Ask call ∷ done) deeds = state_then s done deeds
 state_then s (Close ∷ done) deeds = state_then Sta1 done deeds
+
+or_false : (b : Bool) → (b || false) ≡ b
+or_false true = refl
+or_false false = refl
+
+-- Behind rows and sub-operations that are begun, the reply of a load alone is to be told.
+loaded_only : (a : Option PendingResponse) (pending : Option Reply) → IsAnsweredOrLoads a → Pends a pending
+    → due pending ≡ 0
+loaded_only a None answered pends = refl
+loaded_only None (Some r) answered pends = absurd pends
+loaded_only (Some (pendings.Store a)) (Some r) answered pends = absurd answered
+loaded_only (Some (pendings.Find a kind)) (Some r) answered pends = absurd answered
+loaded_only (Some (pendings.Rows telling)) (Some r) answered pends = absurd cc
+loaded_only (Some (pendings.Get a syntax)) (Some r) answered pends = absurd answered
+loaded_only (Some (pendings.Sending left)) (Some r) answered pends = absurd cc
+loaded_only (Some (pendings.Load loading)) (Some (Loaded reply)) answered pends = refl
+loaded_only (Some (pendings.Load loading)) (Some (Stored reply)) answered pends = absurd cc
+loaded_only (Some (pendings.Load loading)) (Some (Found reply)) answered pends = absurd cc
+loaded_only (Some (pendings.Load loading)) (Some (Gotten reply)) answered pends = absurd cc
 
 -- ---- with the port, the writer and the gate
 
@@ -492,6 +555,7 @@ module _ {P : Type 0} (ops : P → List Op) (own : P → List (List ℕ)) (title
   idle_of (Some (pendings.Rows telling)) left answered e = absurd cc
   idle_of (Some (pendings.Get a syntax)) left answered e = absurd answered
   idle_of (Some (pendings.Sending r)) left answered e = absurd cc
+  idle_of (Some (pendings.Load loading)) left answered e = absurd answered
 
   idle_left : (a : Option PendingResponse) (left : Bool) → a ≡ None → in_turn a left inputs.GoesOn ≡ false
       → left ≡ false
@@ -613,80 +677,129 @@ module _ {P : Type 0} (ops : P → List Op) (own : P → List (List ℕ)) (title
 
   -- ---- rows
 
-  telling_next : (s : AssociationState) (a : Option PendingResponse) (pending : Option Reply) → s.awaited ≡ a
-      → tells_rows a ≡ true → Pends a pending → IsNext s pending (Some inputs.GoesOn) × (pending ≡ None)
-  telling_next s None pending is e pends = absurd cc
-  telling_next s (Some (pendings.Store a)) pending is e pends = absurd cc
-  telling_next s (Some (pendings.Find a kind)) pending is e pends = absurd cc
-  telling_next s (Some (pendings.Rows telling)) None is e pends = (
-    (
-      ap (λ (o : Option PendingResponse). in_turn o (is_left s.within.state s.queue) inputs.GoesOn) is,
-      tt,
-      refl,
-      refl,
-    ),
+  -- What tells rows and sub-operations on is in turn: no reply is to be told, or what was loaded.
+  row_next : (s : AssociationState) (a : Option PendingResponse) (pending : Option Reply) → s.awaited ≡ a
+      → (tells_rows a || is_loaded pending) ≡ true → Pends a pending → IsNext s pending (Some (row_input pending))
+  row_next s None None is e pends = absurd cc
+  row_next s None (Some reply) is e pends = absurd pends
+  row_next s (Some due) None is e pends = (
+    ap (λ (o : Option PendingResponse). in_turn o (is_left s.within.state s.queue) inputs.GoesOn) is
+        ∙ sym (or_false (is_telling due)) ∙ e,
+    tt,
+    refl,
     refl,
   )
-  telling_next s (Some (pendings.Rows telling)) (Some reply) is e pends = absurd cc
-  telling_next s (Some (pendings.Get a syntax)) pending is e pends = absurd cc
-  telling_next s (Some (pendings.Sending r)) None is e pends = (
-    (
-      ap (λ (o : Option PendingResponse). in_turn o (is_left s.within.state s.queue) inputs.GoesOn) is,
-      tt,
-      refl,
-      refl,
-    ),
+  row_next s (Some due) (Some reply) is e pends = (
+    ap (λ (o : Option PendingResponse). in_turn o (is_left s.within.state s.queue) (inputs.Replied reply)) is ∙ pends,
+    tt,
+    refl,
     refl,
   )
-  telling_next s (Some (pendings.Sending r)) (Some reply) is e pends = absurd cc
-
-  answered_on : (old new : Option PendingResponse) → tells_rows old ≡ true → IsToldBy inputs.GoesOn old new
-      → IsAnswered new
-  answered_on None new e told = absurd cc
-  answered_on (Some due) new e told = told
 
   -- Some rows more are told.
-  pub tells_on : (now mid then : Sides P) (s m : SessionState) (behind : Option Reply) (t : SessionState)
-      → GoesOnWith ops own titles now mid s m → tells_rows m.association.awaited ≡ true
-      → DidTurn ops own titles mid then m inputs.GoesOn behind t → GoesOnWith ops own titles now then s t
-  tells_on now mid then s m behind t so telling turn = λ old from event pending h.
-      let here = so old from event pending h in
-      let next = telling_next m.association m.association.awaited pending refl telling here.pends in
-      let on = goes_on old mid then from event pending m inputs.GoesOn behind t here next.0 turn in
-      let none = none_pends t.association.awaited behind (answered_on m.association.awaited t.association.awaited
-      telling
-      turn.turned.told) on.pends in
-      subst (λ (p : Option Reply). Hearing ops own titles old then from event p t) (none ∙ sym next.1) on
+  pub tells_on : (now mid then : Sides P) (s m : SessionState) (pending at behind : Option Reply) (t : SessionState)
+      → GoesOnWith ops own titles now mid s pending m at
+      → (tells_rows m.association.awaited || is_loaded at) ≡ true
+      → DidTurn ops own titles mid then m (row_input at) behind t
+      → GoesOnWith ops own titles now then s pending t behind
+  tells_on now mid then s m pending at behind t so telling turn = λ old from event h.
+      let here = so old from event h in
+      goes_on old mid then from event at m (row_input at) behind t here (row_next m.association m.association.awaited at
+      refl telling here.pends) turn
 
   -- Of the deeds for some rows a front was done.
-  pub tells_broke : (now mid then : Sides P) (s m : SessionState)
-      → GoesOnWith ops own titles now mid s m → tells_rows m.association.awaited ≡ true
-      → BrokeTurn ops own titles mid then m inputs.GoesOn → BreaksWith ops own titles now then s
-  tells_broke now mid then s m so telling broke = λ old from event pending h.
-      let here = so old from event pending h in
-      let next = telling_next m.association m.association.awaited pending refl telling here.pends in
-      fails_on old mid then from event pending m inputs.GoesOn here next.0 broke
+  pub tells_broke : (now mid then : Sides P) (s m : SessionState) (pending at : Option Reply)
+      → GoesOnWith ops own titles now mid s pending m at
+      → (tells_rows m.association.awaited || is_loaded at) ≡ true
+      → BrokeTurn ops own titles mid then m (row_input at) → BreaksWith ops own titles now then s pending
+  tells_broke now mid then s m pending at so telling broke = λ old from event h.
+      let here = so old from event h in
+      fails_on old mid then from event at m (row_input at) here (row_next m.association m.association.awaited at refl
+      telling here.pends) broke
 
-fewer_rows : (a : Option PendingResponse) (old new : AssociationState) → tells_rows a ≡ true → FewerFor a old new
+  -- The reply that is to be told behind a turn is that which is awaited.
+  pub pends_behind : (mid then : Sides P) (m : SessionState) (input : SessionEvent) (behind : Option Reply)
+      (t : SessionState) → DidTurn ops own titles mid then m input behind t → Pends t.association.awaited behind
+  pends_behind mid then m input behind t turn = pends_of ops own mid.port then.port turn.deeds t.association.awaited
+      behind turn.turned.stops turn.did.history
+
+  -- Behind a row, and behind what was loaded, no reply is due.
+  pub none_due : (mid then : Sides P) (m : SessionState) (at behind : Option Reply) (t : SessionState)
+      → Pends m.association.awaited at → (tells_rows m.association.awaited || is_loaded at) ≡ true
+      → DidTurn ops own titles mid then m (row_input at) behind t → due behind ≡ 0
+  none_due mid then m at behind t pends telling turn = by m.association.awaited at pends telling turn.turned.told
+    where
+      there : Pends t.association.awaited behind
+      there = pends_behind mid then m (row_input at) behind t turn
+
+      by : (a : Option PendingResponse) (r : Option Reply) → Pends a r → (tells_rows a || is_loaded r) ≡ true
+          → IsToldBy (row_input r) a t.association.awaited → due behind ≡ 0
+      by None None pends e told = absurd cc
+      by None (Some reply) pends e told = absurd pends
+      by (Some p) None pends e told = loaded_only t.association.awaited behind told there
+      by (Some p) (Some reply) pends e told = ap due (none_pends t.association.awaited behind told there)
+
+or_split : (a b : Bool) → (a || b) ≡ false → (a ≡ false) × (b ≡ false)
+or_split true b e = absurd cc
+or_split false b e = (refl, e)
+
+-- Where no row is told, and nothing is to be told that was loaded, none is left.
+pub quiet_of : (a : Option PendingResponse) (pending : Option Reply) → Pends a pending
+    → (tells_rows a || is_loaded pending) ≡ false → IsQuiet a
+quiet_of None pending pends e = tt
+quiet_of (Some (pendings.Store a)) pending pends e = tt
+quiet_of (Some (pendings.Find a kind)) pending pends e = tt
+quiet_of (Some (pendings.Rows telling)) pending pends e = absurd cc
+quiet_of (Some (pendings.Get a syntax)) pending pends e = tt
+quiet_of (Some (pendings.Sending r)) pending pends e = absurd cc
+quiet_of (Some (pendings.Load loading)) None pends e = absurd pends
+quiet_of (Some (pendings.Load loading)) (Some (Loaded reply)) pends e = absurd cc
+quiet_of (Some (pendings.Load loading)) (Some (Stored reply)) pends e = absurd cc
+quiet_of (Some (pendings.Load loading)) (Some (Found reply)) pends e = absurd cc
+quiet_of (Some (pendings.Load loading)) (Some (Gotten reply)) pends e = absurd cc
+
+-- What tells rows on is in turn.
+pub told_in_turn : (a : Option PendingResponse) (left : Bool) (pending : Option Reply) → Pends a pending
+    → (tells_rows a || is_loaded pending) ≡ true → in_turn a left (row_input pending) ≡ true
+told_in_turn None left None pends e = absurd cc
+told_in_turn None left (Some reply) pends e = absurd pends
+told_in_turn (Some due) left None pends e = sym (or_false (is_telling due)) ∙ e
+told_in_turn (Some due) left (Some reply) pends e = pends
+
+fewer_loaded : (a : Option PendingResponse) (r : Reply) (new : AssociationState) → Pends a (Some r)
+    → (tells_rows a || is_loaded (Some r)) ≡ true → FewerBehind a new.awaited → left_of new.awaited < left_of a
+fewer_loaded None r new pends e fewer = absurd pends
+fewer_loaded (Some (pendings.Store a)) (Loaded reply) new pends e fewer = absurd cc
+fewer_loaded (Some (pendings.Store a)) (Stored reply) new pends e fewer = absurd cc
+fewer_loaded (Some (pendings.Store a)) (Found reply) new pends e fewer = absurd cc
+fewer_loaded (Some (pendings.Store a)) (Gotten reply) new pends e fewer = absurd cc
+fewer_loaded (Some (pendings.Find a kind)) (Loaded reply) new pends e fewer = absurd cc
+fewer_loaded (Some (pendings.Find a kind)) (Stored reply) new pends e fewer = absurd cc
+fewer_loaded (Some (pendings.Find a kind)) (Found reply) new pends e fewer = absurd cc
+fewer_loaded (Some (pendings.Find a kind)) (Gotten reply) new pends e fewer = absurd cc
+fewer_loaded (Some (pendings.Rows telling)) r new pends e fewer = absurd cc
+fewer_loaded (Some (pendings.Get a syntax)) (Loaded reply) new pends e fewer = absurd cc
+fewer_loaded (Some (pendings.Get a syntax)) (Stored reply) new pends e fewer = absurd cc
+fewer_loaded (Some (pendings.Get a syntax)) (Found reply) new pends e fewer = absurd cc
+fewer_loaded (Some (pendings.Get a syntax)) (Gotten reply) new pends e fewer = absurd cc
+fewer_loaded (Some (pendings.Sending left)) r new pends e fewer = absurd cc
+fewer_loaded (Some (pendings.Load loading)) r new pends e fewer = fewer
+
+fewer_rows : (a : Option PendingResponse) (pending : Option Reply) (old new : AssociationState) → old.awaited ≡ a
+    → Pends a pending → (tells_rows a || is_loaded pending) ≡ true → IsFewer (row_input pending) old new
     → (new.queue ≡ old.queue) × (left_of new.awaited < left_of old.awaited)
-fewer_rows None old new e fewer = absurd cc
-fewer_rows (Some due) old new e fewer = fewer
+fewer_rows None None old new is pends e fewer = absurd cc
+fewer_rows None (Some reply) old new is pends e fewer = absurd pends
+fewer_rows (Some due) None old new is pends e fewer =
+    subst (λ (a : Option PendingResponse). FewerFor a old new) is fewer
+fewer_rows (Some due) (Some reply) old new is pends e fewer = (
+  fewer.0,
+  subst (λ (a : Option PendingResponse). left_of new.awaited < left_of a) (sym is) (fewer_loaded (Some due) reply new
+      pends e (subst (λ (a : Option PendingResponse). FewerBehind a new.awaited) is fewer.1)),
+)
 
--- Rows that are told on become fewer, and the values stay.
-pub rows_fewer : (old new : AssociationState) → tells_rows old.awaited ≡ true → IsFewer inputs.GoesOn old new
+-- Rows that are told on, and sub-operations, become fewer, and the values stay.
+pub rows_fewer : (pending : Option Reply) (old new : AssociationState) → Pends old.awaited pending
+    → (tells_rows old.awaited || is_loaded pending) ≡ true → IsFewer (row_input pending) old new
     → (new.queue ≡ old.queue) × (left_of new.awaited < left_of old.awaited)
-rows_fewer old new e fewer = fewer_rows old.awaited old new e fewer
-
--- Where no rows are told, none is left.
-pub quiet_of : (a : Option PendingResponse) → tells_rows a ≡ false → IsQuiet a
-quiet_of None e = tt
-quiet_of (Some (pendings.Store a)) e = tt
-quiet_of (Some (pendings.Find a kind)) e = tt
-quiet_of (Some (pendings.Rows telling)) e = absurd cc
-quiet_of (Some (pendings.Get a syntax)) e = tt
-quiet_of (Some (pendings.Sending r)) e = absurd cc
-
-pub told_in_turn : (a : Option PendingResponse) (left : Bool) → tells_rows a ≡ true
-    → in_turn a left inputs.GoesOn ≡ true
-told_in_turn None left e = absurd cc
-told_in_turn (Some due) left e = e
+rows_fewer pending old new pends e fewer = fewer_rows old.awaited pending old new refl pends e fewer

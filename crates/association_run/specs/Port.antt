@@ -3,21 +3,23 @@ use Rattle.std.specs.Prelude.{◌≡◌, ◌≢◌, ◌⊎◌, ⊤, ℕ, List, [
 use Rattle.octets.specs.Members.{Has}
 use Rattle.data_set.specs.Set.{Set}
 use Rattle.archive_model.specs.Rows.{rows_of}
-use Rattle.archive_model.specs.declared.prepared.Prepared.{Prepared}
-use Rattle.archive_model.specs.Preparing.{prepared_of}
+use Rattle.archive_model.specs.declared.listed.Listed.{Listed}
+use Rattle.archive_model.specs.Listed.{list_of, IsOfRecord}
 use Rattle.operation.specs.declared.op.Op.{Op}
 use Rattle.operation.specs.declared.op.Op.TheVariants.{Content}
+use Rattle.operation.specs.Parts.{ContentParts}
+use Rattle.operation.specs.RecordParts.{ContentRecordParts}
 use Rattle.operation.specs.Spelling.{digest_of}
 use Rattle.operation.specs.declared.taken.Taken.TheVariants.{New, Known}
 use Rattle.operation.specs.declared.taken.Taken.{Taken}
 use Rattle.association_services.specs.declared.call.Call.{Call}
-use Rattle.association_services.specs.declared.call.Call.TheVariants.{Store, Find, Get}
+use Rattle.association_services.specs.declared.call.Call.TheVariants.{Store, Find, Get, Load}
 use Rattle.association_services.specs.declared.call.Finding.{Finding}
 use Rattle.association_services.specs.declared.call.Getting.{Getting}
 use Rattle.association_services.specs.declared.reply.PortFault.{PortFault}
 use Rattle.association_services.specs.declared.reply.PortFault.TheVariants.{Memory, Busy, Collision, Shelf}
 use Rattle.association_services.specs.declared.reply.Reply.{Reply}
-use Rattle.association_services.specs.declared.reply.Reply.TheVariants.{Stored, Found, Gotten}
+use Rattle.association_services.specs.declared.reply.Reply.TheVariants.{Stored, Found, Gotten, Loaded}
 
 -- ---- one call
 
@@ -106,24 +108,43 @@ pub record Finds {P : Type 0} (ops : P → List Op) (own : P → List (List ℕ)
 
 -- how a get ends
 pub record Gets {P : Type 0} (ops : P → List Op) (own : P → List (List ℕ)) (before : P) (getting : Getting)
-    (reply : Result (List Prepared) PortFault) (after : P) : Type 0 where
+    (reply : Result (List Listed) PortFault) (after : P) : Type 0 where
   pub kept : Keeps ops before after
   pub own_kept : own after ≡ own before
   -- what is to be sent over all that is held then, ascending by SOP Instance UID
-  pub replied : MatchResult reply (λ prepared. prepared ≡ prepared_of getting.view getting.selection (ops after))
+  pub replied : MatchResult reply (λ listed. listed ≡ list_of getting.view getting.selection (ops after))
       IsFindFault
+
+-- the faults of a load: the same two, or the shelf could not bring the content
+abbrev pub IsLoadFault : PortFault → Type 0
+IsLoadFault fault = IsFindFault fault ⊎ (fault ≡ Shelf)
+
+-- how a load of the content of a record ends
+pub record Loads {P : Type 0} (ops : P → List Op) (own : P → List (List ℕ)) (before : P) (asked : ContentRecordParts)
+    (reply : Result ContentParts PortFault) (after : P) : Type 0 where
+  pub kept : Keeps ops before after
+  pub own_kept : own after ≡ own before
+  -- what was loaded is of the record, and is held
+  pub replied : MatchResult reply (λ content. IsOfRecord asked content × Has (ops after) (Content content)) IsLoadFault
 
 -- how a call ends: its reply is of its kind
 abbrev pub Replies : {P : Type 0} → (P → List Op) → (P → List (List ℕ)) → P → Call → Reply → P → Type 0
 Replies ops own before (Store content) (Stored reply) after = Stores ops own before (Content content) reply after
 Replies ops own before (Store content) (Found reply) after = ⊥
 Replies ops own before (Store content) (Gotten reply) after = ⊥
+Replies ops own before (Store content) (Loaded reply) after = ⊥
 Replies ops own before (Find finding) (Found reply) after = Finds ops own before finding reply after
 Replies ops own before (Find finding) (Stored reply) after = ⊥
 Replies ops own before (Find finding) (Gotten reply) after = ⊥
+Replies ops own before (Find finding) (Loaded reply) after = ⊥
 Replies ops own before (Get getting) (Gotten reply) after = Gets ops own before getting reply after
 Replies ops own before (Get getting) (Stored reply) after = ⊥
 Replies ops own before (Get getting) (Found reply) after = ⊥
+Replies ops own before (Get getting) (Loaded reply) after = ⊥
+Replies ops own before (Load asked) (Loaded reply) after = Loads ops own before asked reply after
+Replies ops own before (Load asked) (Stored reply) after = ⊥
+Replies ops own before (Load asked) (Found reply) after = ⊥
+Replies ops own before (Load asked) (Gotten reply) after = ⊥
 
 -- ---- calls, one after another
 

@@ -1,12 +1,14 @@
 //! What a session asks, done in order.
 
-ghost use Rattle.std.specs.Prelude.{◌≡◌, [], IfOk, OnErr, OnOk, All, IsTrue, option_to_list};
+ghost use Rattle.std.specs.Prelude.{◌≡◌, ◌≤◌, ◌||◌, [], IfOk, OnErr, OnOk, All, IsTrue, option_to_list};
+ghost use Rattle.association_session.specs.PendingResponse.{tells_rows};
 ghost use Rattle.association_session.specs.Session.{IsSound, IsWritable, is_in_turn};
 ghost use Rattle.association_run.specs.Fault.{CountedWhere};
 ghost use Rattle.association_run.specs.Parts.{Performs};
 ghost use Rattle.association_run.specs.inner.Faults.{fails_write};
 ghost use Rattle.association_run.specs.inner.Steps.{Halts, BreaksOff, Pends, IsNext, IsQuiet, DidTurn, BrokeTurn};
 ghost use Rattle.association_run.specs.inner.Steps.{CanHear, HeardWhole, HeardFront, GoesOnWith, BreaksWith};
+ghost use Rattle.association_run.specs.inner.Steps.{is_loaded as is_loaded_reply, row_input as row_input_for, due};
 
 use crate::fault::WriteFault;
 use crate::port::Port;
@@ -85,28 +87,62 @@ fn next(session: &Session, pending: Option<Reply>) -> Option<SessionEvent>
     None
 }
 
-/// Tells all the rows that are left and begins the sub-operations that are left, some at a time.
+/// Whether a content is to be told that was loaded for a sub-operation.
+fn is_loaded(pending: &Option<Reply>) -> bool
+    ensures { result ≡ is_loaded_reply pending.now }
+{
+    match pending {
+        None => false,
+        Some(Reply::Loaded(_)) => true,
+        Some(Reply::Stored(_) | Reply::Found(_) | Reply::Gotten(_)) => false,
+    }
+}
+
+/// Whether rows are told on, or sub-operations.
+fn tells_on(session: &Session, pending: &Option<Reply>) -> bool
+    ensures { result ≡
+        (tells_rows session.now.association.awaited || is_loaded_reply pending.now) }
+{
+    session.is_telling() || is_loaded(pending)
+}
+
+/// What tells rows on, and sub-operations: the content that was loaded for one, and else that the
+/// session goes on.
+fn row_input(pending: Option<Reply>) -> SessionEvent
+    ensures { result ≡ row_input_for pending }
+{
+    match pending {
+        None => SessionEvent::GoesOn,
+        Some(reply) => SessionEvent::Replied(reply),
+    }
+}
+
+/// Tells all the rows that are left and begins the sub-operations that are left, some at a time,
+/// each with what was loaded for it. The answer is the reply that is to be told next.
 fn tell_rows<P: Port, S: Sided<P>>(
     session: &mut Session,
     titles: &Titles<View>,
+    pending: Option<Reply>,
     sides: &mut S,
-) -> Result<(), WriteFault>
-    ensures ok { OnOk result (GoesOnWith P.ops P.own titles.now.list (S.at sides.old)
-        (S.at sides.new) session.old session.new) }
+) -> Result<Option<Reply>, WriteFault>
+    requires { Pends session.old.association.awaited pending }
+    ensures ok { IfOk result (GoesOnWith P.ops P.own titles.now.list (S.at sides.old)
+        (S.at sides.new) session.old pending session.new) }
     ensures err { OnErr result (BreaksWith P.ops P.own titles.now.list (S.at sides.old)
-        (S.at sides.new) session.old) }
+        (S.at sides.new) session.old pending) }
     ensures quiet { OnOk result (IsQuiet session.new.association.awaited) }
     ensures left { OnOk result
         (session.new.association.queue ≡ session.old.association.queue) }
+    ensures due { IfOk result (λ behind. due behind ≤ due pending) }
     ensures write { CountedWhere (fails_write result) (S.failures sides.old)
         (S.failures sides.new) }
     ensures same { S.which sides.new ≡ S.which sides.old }
 {
-    while session.is_telling() {
-        let reply = tell(session, titles, SessionEvent::GoesOn, sides)?;
-        drop(reply);
+    let mut pending = pending;
+    while tells_on(session, &pending) {
+        pending = tell(session, titles, row_input(pending), sides)?;
     }
-    Ok(())
+    Ok(pending)
 }
 
 /// Tells the session of a PDU, and does all the deeds for it.
@@ -125,11 +161,11 @@ pub(crate) fn hear<P: Port, S: Sided<P>>(
         (S.failures sides.new) }
     ensures same { S.which sides.new ≡ S.which sides.old }
 {
-    let mut pending = tell(session, titles, SessionEvent::Heard(event), sides)?;
-    tell_rows(session, titles, sides)?;
+    let first = tell(session, titles, SessionEvent::Heard(event), sides)?;
+    let mut pending = tell_rows(session, titles, first, sides)?;
     while let Some(input) = next(session, pending) {
-        pending = tell(session, titles, input, sides)?;
-        tell_rows(session, titles, sides)?;
+        let replied = tell(session, titles, input, sides)?;
+        pending = tell_rows(session, titles, replied, sides)?;
     }
     Ok(())
 }

@@ -22,7 +22,7 @@ mod sides;
 pub use end::End;
 pub use fault::RunFault;
 pub use gate::{Gate, OpenGate};
-pub use laws::a_get_carries_what_is_sent_of_the_set;
+pub use laws::{a_get_carries_what_is_sent_of_the_set, a_load_brings_what_was_listed};
 pub use numbers::limits_are_these;
 pub use outbox::Outbox;
 pub use port::Port;

@@ -3,12 +3,12 @@
 ghost use Rattle.std.specs.Prelude.{List, ℕ};
 ghost use Rattle.operation.specs.declared.op.Op.{Op};
 ghost use Rattle.operation.specs.declared.op.Op.TheVariants.{Content as a_content};
-ghost use Rattle.association_run.specs.Port.{Stores, Finds, Gets};
+ghost use Rattle.association_run.specs.Port.{Stores, Finds, Gets, Loads};
 
-use archive_model::{Answers, Prepared, Query, Selection, View};
+use archive_model::{Answers, Listed, Query, Selection, View};
 use association_session::PortFault;
 use octets::ListOf;
-use operation::{Content, Taken};
+use operation::{Content, ContentRecord, Taken};
 
 /// A site, as one association sees it. Others may store between two steps, and nothing that is held
 /// is lost.
@@ -30,8 +30,13 @@ pub trait Port {
             (record { called = called.now; view = view; query = query.now }) result self.new };
 
     /// What is to be sent of a selection, by ascending SOP Instance UID, in one look: over all that
-    /// is held when it ends.
-    fn get(&mut self, view: View, selection: &Selection) -> Result<ListOf<Prepared>, PortFault>
+    /// is held when it ends. It holds no byte of a data set.
+    fn get(&mut self, view: View, selection: &Selection) -> Result<ListOf<Listed>, PortFault>
         ensures { Gets ops own self.old (record { view = view; selection = selection.now }) result
             self.new };
+
+    /// The content of a record. One that is told is held; `Shelf` is told where it could not be
+    /// brought.
+    fn load(&mut self, asked: &ContentRecord) -> Result<Content, PortFault>
+        ensures { Loads ops own self.old asked.now result self.new };
 }

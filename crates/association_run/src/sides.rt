@@ -88,6 +88,7 @@ fn ask_port<P: Port>(port: &mut P, call: Call) -> Reply
             Reply::Found(rows)
         }
         Call::Get(getting) => Reply::Gotten(port.get(getting.view, &getting.selection)),
+        Call::Load(asked) => Reply::Loaded(port.load(&asked)),
     }
 }
 

@@ -9,13 +9,10 @@ use Rattle.dimse.specs.Sending.{Sends, IsSending, size_of}
 use Rattle.association_services.specs.declared.service.RowKind.{RowKind}
 use Rattle.association_services.specs.Find.{AreRows}
 use Rattle.association_services.specs.Response.{Awaited}
-use Rattle.association_services.specs.Retrieval.{SendsOn, way_for, sub_operation, failing, RespondsIfLeft}
+use Rattle.association_services.specs.Retrieval.{RespondsIfLeft, RespondsBy}
 use Rattle.association_services.specs.SubOperation.{Retrieval}
-use Rattle.association_services.specs.Retrieval.{RespondsBy, ByWay, Both}
 use Rattle.association_services.specs.declared.retrieval.Progress.{Progress}
-use Rattle.association_services.specs.declared.way.Way.{Way}
-use Rattle.pdu.specs.declared.context.Context.{Context}
-use Rattle.archive_model.specs.declared.prepared.Prepared.{Prepared}
+use Rattle.archive_model.specs.declared.listed.Listed.{Listed}
 
 -- Each is a P-DATA-TF.
 abbrev pub AreData : List Pdu → Type 0
@@ -60,27 +57,11 @@ rows_data a kind [] ps p = subst (λ (t : List Pdu). AreData t) (sym p) tt
 rows_data a kind (row ∷ rows) ps p = subst (λ (t : List Pdu). AreData t) (sym p.4)
     (data_append p.0 p.1 (sending_data _ _ p.0 p.2) (rows_data a kind rows p.1 p.3))
 
-pub if_left_data : (g : Progress) (left : List Prepared) (ps : List Pdu) → RespondsIfLeft g left ps → AreData ps
+pub if_left_data : (g : Progress) (left : List Listed) (ps : List Pdu) → RespondsIfLeft g left ps → AreData ps
 if_left_data g [] ps p = subst (λ (t : List Pdu). AreData t) (sym p) tt
 if_left_data g (x ∷ left) ps p = sending_data _ _ ps p
 
-by_way_data : (way : Option Way) (F : Way → List Pdu → Type 0) (G : List Pdu → Type 0) (ps : List Pdu)
-    → ((k : Way) (x : List Pdu) → F k x → AreData x) → ((x : List Pdu) → G x → AreData x) → ByWay way F G ps
-    → AreData ps
-by_way_data None F G ps sent unsent p = unsent ps p
-by_way_data (Some way) F G ps sent unsent p = sent way ps p
-
-pub sends_on_data : (contexts : List Context) (g : Progress) (left : List Prepared) (ps : List Pdu)
-    → SendsOn contexts g left ps → AreData ps
-sends_on_data contexts g [] ps p = sending_data _ _ ps p
-sends_on_data contexts g (x ∷ left) ps p =
-    by_way_data (way_for contexts x) (λ way. IsSending (sub_operation g way x) g.awaited.limit)
-    (Both (RespondsIfLeft (failing g x) left) (SendsOn contexts (failing g x) left)) ps
-    (λ way y. sending_data (sub_operation g way x) g.awaited.limit y)
-    (λ y q. subst (λ (t : List Pdu). AreData t) (sym q.4) (data_append q.0 q.1 (if_left_data (failing g x) left q.0 q.2)
-    (sends_on_data contexts (failing g x) left q.1 q.3))) p
-
-pub responds_by_data : (cancelled : Bool) (g : Progress) (left : List Prepared) (ps : List Pdu)
+pub responds_by_data : (cancelled : Bool) (g : Progress) (left : List Listed) (ps : List Pdu)
     (next : Option Retrieval) → RespondsBy cancelled g left ps next → AreData ps
 responds_by_data true g left ps next p = sending_data _ _ ps p.0
 responds_by_data false g left ps next p = if_left_data g left ps p.0

@@ -27,12 +27,10 @@ use Rattle.association_services.specs.declared.service.Service.TheVariants.{Igno
 use Rattle.association_services.specs.declared.service.Service.TheVariants.{Queried, Fetched}
 use Rattle.association_services.specs.Find.{AreRows, queried_by, ServesIdentifier, ServesFind, find_refusal}
 use Rattle.association_services.specs.Get.{fetched_by, get_refusal, ServesSelection, ServesGet}
-use Rattle.association_services.specs.Retrieval.{SendsOn, way_for}
 use Rattle.association_services.specs.SubOperation.{Retrieval}
-use Rattle.association_services.specs.Retrieval.{sub_operation, failing, RespondsIfLeft, RespondsBy, ByWay, Both}
+use Rattle.association_services.specs.Retrieval.{RespondsIfLeft, RespondsBy}
 use Rattle.association_services.specs.declared.retrieval.Progress.{Progress}
-use Rattle.association_services.specs.declared.way.Way.{Way}
-use Rattle.archive_model.specs.declared.prepared.Prepared.{Prepared}
+use Rattle.archive_model.specs.declared.listed.Listed.{Listed}
 use Rattle.archive_model.specs.Selection.{selection_of}
 use Rattle.association_services.specs.Response.{Awaited, Responds}
 use Rattle.association_services.specs.Context.{syntax_of}
@@ -70,7 +68,7 @@ body_once size context None a b p q = p ∙ sym q
 body_once size context (Some text) a b p q = sends_once size context false text a b p q
 
 -- A message is sent in one list of PDUs.
-sending_once : (m : Message) (max : ℕ) (a b : List Pdu) → IsSending m max a → IsSending m max b → a ≡ b
+pub sending_once : (m : Message) (max : ℕ) (a b : List Pdu) → IsSending m max a → IsSending m max b → a ≡ b
 sending_once m max a b p q =
     let first : p.of_command ≡ q.of_command = sends_once _ _ _ _ p.of_command q.of_command p.command q.command in
     let rest : p.of_data ≡ q.of_data = body_once (size_of max) m.context m.body p.of_data q.of_data p.data_set
@@ -178,37 +176,14 @@ serves_on_once settled (Some context) command body a b p q = kind_once (kind_of 
 
 -- ---- the PDUs of sub-operations
 
-if_left_once : (g : Progress) (left : List Prepared) (a b : List Pdu) → RespondsIfLeft g left a
+pub if_left_once : (g : Progress) (left : List Listed) (a b : List Pdu) → RespondsIfLeft g left a
     → RespondsIfLeft g left b
     → a ≡ b
 if_left_once g [] a b p q = p ∙ sym q
 if_left_once g (x ∷ left) a b p q = sending_once _ _ a b p q
 
-both_once : (F G : List Pdu → Type 0) (a b : List Pdu) → ((x y : List Pdu) → F x → F y → x ≡ y)
-    → ((x y : List Pdu) → G x → G y → x ≡ y) → Both F G a → Both F G b → a ≡ b
-both_once F G a b once then p q =
-    p.4 ∙ ap (λ (t : List Pdu). t ++ p.1) (once p.0 q.0 p.2 q.2) ∙ ap (λ (t : List Pdu). q.0 ++ t)
-    (then p.1 q.1 p.3 q.3) ∙ sym q.4
-
-by_way_once : (way : Option Way) (F : Way → List Pdu → Type 0) (G : List Pdu → Type 0) (a b : List Pdu)
-    → ((k : Way) (x y : List Pdu) → F k x → F k y → x ≡ y) → ((x y : List Pdu) → G x → G y → x ≡ y)
-    → ByWay way F G a → ByWay way F G b → a ≡ b
-by_way_once None F G a b sent unsent p q = unsent a b p q
-by_way_once (Some way) F G a b sent unsent p q = sent way a b p q
-
--- What is sent for the sub-operations that are left is one list of PDUs.
-pub sends_on_once : (contexts : List Context) (g : Progress) (left : List Prepared) (a b : List Pdu)
-    → SendsOn contexts g left a → SendsOn contexts g left b → a ≡ b
-sends_on_once contexts g [] a b p q = sending_once _ _ a b p q
-sends_on_once contexts g (x ∷ left) a b p q =
-    by_way_once (way_for contexts x) (λ way. IsSending (sub_operation g way x) g.awaited.limit)
-    (Both (RespondsIfLeft (failing g x) left) (SendsOn contexts (failing g x) left)) a b
-    (λ way y z. sending_once (sub_operation g way x) g.awaited.limit y z)
-    (λ y z. both_once (RespondsIfLeft (failing g x) left) (SendsOn contexts (failing g x) left) y z
-    (if_left_once (failing g x) left) (sends_on_once contexts (failing g x) left)) p q
-
 -- Behind a sub-operation one list of PDUs is sent, and one C-GET goes on.
-pub responds_by_once : (cancelled : Bool) (g : Progress) (left : List Prepared) (a b : List Pdu)
+pub responds_by_once : (cancelled : Bool) (g : Progress) (left : List Listed) (a b : List Pdu)
     (m n : Option Retrieval) → RespondsBy cancelled g left a m → RespondsBy cancelled g left b n → (a ≡ b) × (m ≡ n)
 responds_by_once true g left a b m n p q = (sending_once _ _ a b p.0 q.0, p.1 ∙ sym q.1)
 responds_by_once false g left a b m n p q = (if_left_once g left a b p.0 q.0, p.1 ∙ sym q.1)

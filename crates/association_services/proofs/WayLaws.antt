@@ -1,7 +1,7 @@
--- On which context a content goes out, and what is accepted there.
+-- On which context a content goes out, what is accepted there, and what is carried of what was loaded.
 use Rattle.std.proofs.Common.{◌≡◌, ℕ, Bool, true, false, cond, List, [], ◌∷◌, map, Option, Some, None, refl, sym}
-use Rattle.std.proofs.Common.{ap, ◌∙◌, inl, inr, subst}
-use Rattle.std.specs.Prelude.{nat_lt, is_some, ◌||◌, ◌&&◌, not}
+use Rattle.std.proofs.Common.{ap, ◌∙◌, inl, inr, subst, Result, Ok, Err}
+use Rattle.std.specs.Prelude.{nat_lt, is_some, ◌||◌, ◌&&◌, not, ⊤}
 use Rattle.std.specs.List.{list_any, filter}
 use Rattle.std.specs.Option.{option_map}
 use Rattle.std.proofs.lemmas.Option.{same_Some}
@@ -9,22 +9,40 @@ use Rattle.std.proofs.lemmas.Bool.{or_parts as either_false, or_from as none_bef
 use Rattle.octets.specs.Texts.{same}
 use Rattle.data_set.specs.declared.syntax.Syntax.{Syntax}
 use Rattle.data_set.specs.declared.syntax.Syntax.TheVariants.{Implicit, Explicit}
-use Rattle.archive_model.proofs.ModelLaws.{same_is}
+use Rattle.archive_model.proofs.MemberLaws.{filter_has}
+use Rattle.archive_model.proofs.ModelLaws.{same_is, pick_is_content, content_has, shown_are_picks}
+use Rattle.std.specs.Cmp.Lexicographic.{bytes_decides}
 use Rattle.pdu.specs.declared.context.Context.{Context}
+use Rattle.octets.specs.Members.{Has}
 use Rattle.operation.specs.declared.op.Op.{Op}
+use Rattle.operation.specs.declared.op.Op.TheVariants.{Content as a_content}
+use Rattle.operation.specs.Parts.{ContentParts}
+use Rattle.operation.specs.RecordParts.{ContentRecordParts, content_record}
+use Rattle.operation.specs.Spelling.{digest_of}
 use Rattle.archive_model.specs.declared.view.View.{View}
+use Rattle.archive_model.specs.declared.selection.Selection.{Selection}
+use Rattle.ul_state.specs.Titles.{is_text}
+use Rattle.archive_model.specs.declared.listed.Listed.{Listed}
 use Rattle.archive_model.specs.declared.accepts.Form.{Form}
 use Rattle.archive_model.specs.declared.prepared.Prepared.{Prepared}
 use Rattle.archive_model.specs.declared.sending.Sending.{Sending}
 use Rattle.archive_model.specs.Accepts.{form_by, form_for, syntax_of}
+use Rattle.archive_model.specs.Listed.{listed, with_content, list_of}
 use Rattle.archive_model.specs.Prepared.{made, made_body}
+use Rattle.archive_model.specs.Preparing.{prepared_for, prepared_of}
+use Rattle.archive_model.specs.Selection.{is_selected, selected}
+use Rattle.archive_model.specs.Shown.{shown}
 use Rattle.archive_model.proofs.PreparedLaws.{sent_is_made}
+use Rattle.association_services.specs.declared.reply.PortFault.{PortFault}
+use Rattle.association_services.specs.declared.reply.Reply.{Reply}
+use Rattle.association_services.specs.declared.reply.Reply.TheVariants.{Stored, Found, Gotten, Loaded}
 use Rattle.association_services.specs.declared.retrieval.Progress.{Progress}
 use Rattle.association_services.specs.declared.way.Way.{Way}
 use Rattle.association_services.specs.Accepted.{takes_any, accepted_on, accepts_of, FormIsAccepted, is_explicit, IsOn}
-use Rattle.association_services.specs.Accepted.{WayIsOn, is_carried, carried_of, Carries, CarriedIsSent}
+use Rattle.association_services.specs.Accepted.{WayIsOn, is_carried, carried_first, carried_for, carried_by, carried_of}
+use Rattle.association_services.specs.Accepted.{Carries, AreAllApart, BringsIts, BringsBy, BringsEach, CarriedIsSent}
 use Rattle.association_services.specs.Get.{takes_class, lesser, least_id, converted_on, own_or, way_of}
-use Rattle.association_services.specs.Retrieval.{way_for, sub_operation}
+use Rattle.association_services.specs.Retrieval.{way_for, sub_operation, is_same_syntax, is_as_listed, loaded_for}
 
 abbrev form_of : Way → Form
 form_of way = way.form
@@ -190,48 +208,200 @@ way_is_on contexts class Explicit way e =
     (least_on contexts class true)
     (converted_is_on (least_id class false contexts) contexts class Explicit way (least_on contexts class false)) e
 
+-- ---- what was loaded
+
+same_syntax : (a b : Syntax) → is_same_syntax a b ≡ true → a ≡ b
+same_syntax Implicit Implicit e = refl
+same_syntax Explicit Explicit e = refl
+same_syntax Implicit Explicit e = absurd cc
+same_syntax Explicit Implicit e = absurd cc
+
+syntax_itself : (a : Syntax) → is_same_syntax a a ≡ true
+syntax_itself Implicit = refl
+syntax_itself Explicit = refl
+
+all_three : (a b c : Bool) → (a && b && c) ≡ true → (a ≡ true) × (b ≡ true) × (c ≡ true)
+all_three true true true e = (refl, refl, refl)
+all_three true true false e = absurd cc
+all_three true false c e = absurd cc
+all_three false b c e = absurd cc
+
+three_so : (a b c : Bool) → a ≡ true → b ≡ true → c ≡ true → (a && b && c) ≡ true
+three_so true true true p q r = refl
+three_so true true false p q r = absurd cc
+three_so true false c p q r = absurd cc
+three_so false b c p q r = absurd cc
+
+-- What is sent is of the class, the instance and the transfer syntax that were listed.
+pub record IsAsListed (l : Listed) (p : Prepared) : Type 0 where
+  pub class : p.content.class ≡ l.content.class
+  pub instance : p.content.instance ≡ l.content.instance
+  pub syntax : p.content.syntax ≡ l.content.syntax
+
+loaded_by : (b : Bool) (l : Listed) (c : ContentParts) (p : Prepared) → is_as_listed l c ≡ b
+    → cond b (Some (with_content l c)) None ≡ Some p → IsAsListed l p
+loaded_by true l c p is e =
+    let three = all_three (is_text c.class l.content.class) (is_text c.instance l.content.instance)
+    (is_same_syntax c.syntax l.content.syntax) is in
+    subst (λ (q : Prepared). IsAsListed l q) (same_Some (with_content l c) p e) (record {
+      class = same_is c.class l.content.class three.0;
+      instance = same_is c.instance l.content.instance three.1;
+      syntax = same_syntax c.syntax l.content.syntax three.2;
+    })
+loaded_by false l c p is e = absurd cc
+
+pub loaded_as_listed : (l : Listed) (reply : Result ContentParts PortFault) (p : Prepared) → loaded_for l reply ≡ Some p
+    → IsAsListed l p
+loaded_as_listed l (Ok c) p e = loaded_by (is_as_listed l c) l c p refl e
+loaded_as_listed l (Err fault) p e = absurd cc
+
+-- So it has the way of what was listed.
+loaded_way : (contexts : List Context) (l : Listed) (reply : Result ContentParts PortFault) (p : Prepared)
+    → loaded_for l reply ≡ Some p → way_of contexts p.content.class p.content.syntax ≡ way_for contexts l
+loaded_way contexts l reply p e =
+    let is = loaded_as_listed l reply p e in
+    ap (λ (class : List ℕ). way_of contexts class p.content.syntax) is.class
+    ∙ ap (λ (syntax : Syntax). way_of contexts l.content.class syntax) is.syntax
+
+-- Its own content is as it was listed.
+own_is_listed : (p : Prepared) → is_as_listed (listed p) p.content ≡ true
+own_is_listed p = three_so (is_text p.content.class p.content.class) (is_text p.content.instance p.content.instance)
+    (is_same_syntax p.content.syntax p.content.syntax) ((bytes_decides p.content.class p.content.class).1 refl)
+    ((bytes_decides p.content.instance p.content.instance).1 refl) (syntax_itself p.content.syntax)
+
+own_loaded : (p : Prepared) → loaded_for (listed p) (Ok p.content) ≡ Some p
+own_loaded p = ap (λ (b : Bool). cond b (Some p) None) (own_is_listed p)
+
 -- ---- what sub-operations carry
 
 -- What is made of an instance has the form of its way,
-made_on : (contexts : List Context) (p : Prepared) (way : Option Way) → way_for contexts p ≡ way
+made_on : (contexts : List Context) (p : Prepared) (way : Option Way)
+    → way_of contexts p.content.class p.content.syntax ≡ way
     → (made (accepts_of contexts) p).body ≡ made_body p (option_map form_of way)
 made_on contexts p way e =
     ap (made_body p) (sym (form_is_accepted contexts p.content.class p.content.syntax) ∙ ap (option_map form_of) e)
 
-carried_by : (b : Bool) (first : Sending) (rest : List Sending) → is_carried first ≡ b
-    → filter is_carried (first ∷ rest) ≡ cond b (first ∷ filter is_carried rest) (filter is_carried rest)
-carried_by true first rest e = rw e refl
-carried_by false first rest e = rw e refl
+-- so one that has a way and was loaded is carried next,
+pub carried_next : (contexts : List Context) (l : Listed) (ls : List Listed) (way : Way)
+    (reply : Result ContentParts PortFault) (rs : List Reply) (p : Prepared) → way_for contexts l ≡ Some way
+    → loaded_for l reply ≡ Some p
+    → carried_of contexts (l ∷ ls) (Loaded reply ∷ rs) ≡ made (accepts_of contexts) p ∷ carried_of contexts ls rs
+carried_next contexts l ls way reply rs p e loaded =
+    ap (λ (w : Option Way). carried_by w (accepts_of contexts) l (carried_of contexts ls) (Loaded reply ∷ rs)) e
+    ∙ ap (λ (o : Option Prepared). carried_first (accepts_of contexts) o (carried_of contexts ls rs)) loaded
 
--- so one that has a way is carried next,
-pub carried_next : (contexts : List Context) (p : Prepared) (ps : List Prepared) (way : Way)
-    → way_for contexts p ≡ Some way
-    → carried_of contexts (p ∷ ps) ≡ made (accepts_of contexts) p ∷ carried_of contexts ps
-carried_next contexts p ps way e =
-    carried_by true (made (accepts_of contexts) p) (map (made (accepts_of contexts)) ps)
-    (ap (λ (b : Option (Syntax × List ℕ)). is_some b) (made_on contexts p (Some way) e))
+-- one that was not loaded is not,
+pub carried_unloaded : (contexts : List Context) (l : Listed) (ls : List Listed) (way : Way)
+    (reply : Result ContentParts PortFault) (rs : List Reply) → way_for contexts l ≡ Some way
+    → loaded_for l reply ≡ None → carried_of contexts (l ∷ ls) (Loaded reply ∷ rs) ≡ carried_of contexts ls rs
+carried_unloaded contexts l ls way reply rs e loaded =
+    ap (λ (w : Option Way). carried_by w (accepts_of contexts) l (carried_of contexts ls) (Loaded reply ∷ rs)) e
+    ∙ ap (λ (o : Option Prepared). carried_first (accepts_of contexts) o (carried_of contexts ls rs)) loaded
 
--- and one that has none is not.
-pub carried_not : (contexts : List Context) (p : Prepared) (ps : List Prepared) → way_for contexts p ≡ None
-    → carried_of contexts (p ∷ ps) ≡ carried_of contexts ps
-carried_not contexts p ps e =
-    carried_by false (made (accepts_of contexts) p) (map (made (accepts_of contexts)) ps)
-    (ap (λ (b : Option (Syntax × List ℕ)). is_some b) (made_on contexts p None e))
+-- and neither is one that has no way.
+pub carried_not : (contexts : List Context) (l : Listed) (ls : List Listed) (rs : List Reply)
+    → way_for contexts l ≡ None → carried_of contexts (l ∷ ls) rs ≡ carried_of contexts ls rs
+carried_not contexts l ls rs e =
+    ap (λ (w : Option Way). carried_by w (accepts_of contexts) l (carried_of contexts ls) rs) e
 
 -- A sub-operation carries what is made of its instance.
-pub sub_carries : (contexts : List Context) (g : Progress) (p : Prepared) (way : Way) → way_for contexts p ≡ Some way
+pub sub_carries : (contexts : List Context) (g : Progress) (l : Listed) (way : Way)
+    (reply : Result ContentParts PortFault) (p : Prepared) → way_for contexts l ≡ Some way → loaded_for l reply ≡ Some p
     → Carries contexts (made (accepts_of contexts) p) (sub_operation g way p)
-sub_carries contexts g p way e = record {
-  syntax = syntax_of way.form p.content.syntax;
-  text = _;
-  body = made_on contexts p (Some way) e;
-  request = refl;
-  class = refl;
-  instance = refl;
-  data_set = refl;
-  context = way_is_on contexts p.content.class p.content.syntax way e;
-}
+sub_carries contexts g l way reply p e loaded =
+    let its_way : way_of contexts p.content.class p.content.syntax ≡ Some way = loaded_way contexts l reply p loaded
+    ∙ e in
+    record {
+      syntax = syntax_of way.form p.content.syntax;
+      text = _;
+      body = made_on contexts p (Some way) its_way;
+      request = refl;
+      class = refl;
+      instance = refl;
+      data_set = refl;
+      context = way_is_on contexts p.content.class p.content.syntax way its_way;
+    }
+
+-- ---- what is carried of a set
+
+kept_by : (b : Bool) (first : Sending) (rest : List Sending) → is_carried first ≡ b
+    → filter is_carried (first ∷ rest) ≡ cond b (first ∷ filter is_carried rest) (filter is_carried rest)
+kept_by true first rest e = rw e refl
+kept_by false first rest e = rw e refl
+
+-- what is made of prepared instances, where an accepted transfer syntax serves
+abbrev made_of : List Context → List Prepared → List Sending
+made_of contexts ps = filter is_carried (map (made (accepts_of contexts)) ps)
+
+-- A content of the set with the record of another one is that one.
+same_content : (ops : List Op) (a b : ContentParts) → AreAllApart ops → Has ops (a_content a) → Has ops (a_content b)
+    → content_record a ≡ content_record b → a ≡ b
+same_content ops a b apart p q e =
+    let one : digest_of (a_content a) ≡ digest_of (a_content b) = ap (λ (r : ContentRecordParts). r.digest) e in
+    let same : a_content a ≡ a_content b = apart (a_content a) (a_content b) p q one in
+    cc
+
+first_carried : (ops : List Op) (contexts : List Context) (p : Prepared) (ps : List Prepared) (way : Way)
+    (others : List Reply → List Sending) (rs : List Reply) (Others : List Reply → Type 0) → AreAllApart ops
+    → Has ops (a_content p.content) → way_for contexts (listed p) ≡ Some way
+    → ((rs : List Reply) → Others rs → others rs ≡ made_of contexts ps) → BringsIts ops (listed p) Others rs
+    → carried_for (accepts_of contexts) (listed p) others rs ≡ made_of contexts (p ∷ ps)
+first_carried ops contexts p ps way others [] Others apart there e goes brings = absurd brings
+first_carried ops contexts p ps way others (Loaded (Ok content) ∷ rs) Others apart there e goes brings =
+    ap (λ (c : ContentParts). carried_first (accepts_of contexts) (loaded_for (listed p) (Ok c)) (others rs))
+    (same_content ops content p.content apart brings.1 there brings.0)
+    ∙ ap (λ (o : Option Prepared). carried_first (accepts_of contexts) o (others rs)) (own_loaded p)
+    ∙ ap (λ (t : List Sending). made (accepts_of contexts) p ∷ t) (goes rs brings.2)
+    ∙ sym (kept_by true (made (accepts_of contexts) p) (map (made (accepts_of contexts)) ps)
+    (ap (λ (b : Option (Syntax × List ℕ)). is_some b) (made_on contexts p (Some way) e)))
+first_carried ops contexts p ps way others (Loaded (Err fault) ∷ rs) Others apart there e goes brings = absurd brings
+first_carried ops contexts p ps way others (Stored reply ∷ rs) Others apart there e goes brings = absurd brings
+first_carried ops contexts p ps way others (Found reply ∷ rs) Others apart there e goes brings = absurd brings
+first_carried ops contexts p ps way others (Gotten reply ∷ rs) Others apart there e goes brings = absurd brings
+
+each_carried : (way : Option Way) (ops : List Op) (contexts : List Context) (p : Prepared) (ps : List Prepared)
+    (others : List Reply → List Sending) (rs : List Reply) (Others : List Reply → Type 0) → AreAllApart ops
+    → Has ops (a_content p.content) → way_for contexts (listed p) ≡ way
+    → ((rs : List Reply) → Others rs → others rs ≡ made_of contexts ps) → BringsBy way ops (listed p) Others rs
+    → carried_by way (accepts_of contexts) (listed p) others rs ≡ made_of contexts (p ∷ ps)
+each_carried None ops contexts p ps others rs Others apart there e goes brings =
+    goes rs brings
+    ∙ sym (kept_by false (made (accepts_of contexts) p) (map (made (accepts_of contexts)) ps)
+    (ap (λ (b : Option (Syntax × List ℕ)). is_some b) (made_on contexts p None e)))
+each_carried (Some way) ops contexts p ps others rs Others apart there e goes brings =
+    first_carried ops contexts p ps way others rs Others apart there e goes brings
+
+-- Their contents are of the set.
+abbrev AreOf : List Op → List Prepared → Type 0
+AreOf ops [] = ⊤
+AreOf ops (p ∷ ps) = Has ops (a_content p.content) × AreOf ops ps
+
+-- Where each load brought its own, all are carried that an accepted transfer syntax serves.
+all_carried : (ops : List Op) (contexts : List Context) (ps : List Prepared) (rs : List Reply) → AreAllApart ops
+    → AreOf ops ps → BringsEach ops contexts (map listed ps) rs
+    → carried_of contexts (map listed ps) rs ≡ made_of contexts ps
+all_carried ops contexts [] rs apart are brings = refl
+all_carried ops contexts (p ∷ ps) rs apart are brings =
+    each_carried (way_for contexts (listed p)) ops contexts p ps (carried_of contexts (map listed ps)) rs
+    (BringsEach ops contexts (map listed ps)) apart are.0 refl
+    (λ rs' b. all_carried ops contexts ps rs' apart are.1 b) brings
+
+all_of : (ops : List Op) (cs : List ContentParts) → ((c : ContentParts) → Has cs c → Has ops (a_content c))
+    → AreOf ops (map (prepared_for ops) cs)
+all_of ops [] of = tt
+all_of ops (c ∷ cs) of = (of c (inl refl), all_of ops cs (λ d has. of d (inr has)))
+
+-- What is shown and selected is of the set.
+selected_of : (view : View) (selection : Selection) (ops : List Op) (c : ContentParts)
+    → Has (selected selection (shown view ops)) c → Has ops (a_content c)
+selected_of view selection ops c has =
+    let there = (filter_has (is_selected selection) (shown view ops) c has).0 in
+    let picked = ((shown_are_picks view ops c).0 there).0 in
+    content_has ops c (pick_is_content c.instance ops c picked).0
 
 pub carried_is_sent : CarriedIsSent
-carried_is_sent contexts view selection ops =
-    ap (λ (t : List Sending). filter is_carried t) (sym (sent_is_made view selection (accepts_of contexts) ops))
+unfolding list_of prepared_of
+carried_is_sent contexts view selection ops rs apart brings =
+    all_carried ops contexts (prepared_of view selection ops) rs apart
+    (all_of ops (selected selection (shown view ops)) (selected_of view selection ops)) brings
+    ∙ ap (λ (t : List Sending). filter is_carried t) (sym (sent_is_made view selection (accepts_of contexts) ops))

@@ -1,8 +1,9 @@
 -- The sub-operations of a C-GET (PS3.7, 9.1.3; PS3.4, C.4.3; docs/DECISIONS.md, "What a message is answered").
-use Rattle.std.specs.Prelude.{◌≡◌, ℕ, ◌+◌, Bool, true, false, ◌&&◌, List, [], ◌∷◌, ◌++◌, length, Option, Some}
+use Rattle.std.specs.Prelude.{◌≡◌, ℕ, ◌+◌, Bool, true, false, ◌&&◌, List, [], ◌∷◌, length, Option, Some}
 use Rattle.std.specs.Prelude.{None}
 use Rattle.std.specs.Prelude.{Result, Ok, Err, ◌==◌, if◌then◌else◌, nat_le, is_some}
 use Rattle.data_set.specs.declared.syntax.Syntax.{Syntax}
+use Rattle.data_set.specs.declared.syntax.Syntax.TheVariants.{Implicit, Explicit}
 use Rattle.dictionary.specs.declared.commands.TheConstants.{C_CANCEL_RQ, C_STORE_RQ, C_STORE_RSP}
 use Rattle.dimse.specs.declared.command.Command.{Command}
 use Rattle.dimse.specs.declared.command.TheConstants.{DATA_SET_FOLLOWS}
@@ -14,32 +15,39 @@ use Rattle.dimse.specs.Sending.{IsSending}
 use Rattle.dimse.specs.Status.{status_code}
 use Rattle.pdu.specs.declared.context.Context.{Context}
 use Rattle.pdu.specs.declared.value.Pdu.{Pdu}
+use Rattle.operation.specs.Parts.{ContentParts}
+use Rattle.ul_state.specs.Titles.{is_text}
+use Rattle.archive_model.specs.declared.listed.Listed.{Listed}
 use Rattle.archive_model.specs.declared.prepared.Prepared.{Prepared}
+use Rattle.archive_model.specs.Listed.{with_content}
 use Rattle.archive_model.specs.Prepared.{text_in}
 use Rattle.association_services.specs.declared.counts.Counts.{Counts}
 use Rattle.association_services.specs.declared.counts.Outcome.{Outcome}
 use Rattle.association_services.specs.declared.counts.Outcome.TheVariants.{Failed}
 use Rattle.association_services.specs.declared.reply.PortFault.{PortFault}
 use Rattle.association_services.specs.declared.retrieval.Begun.{Begun}
-use Rattle.association_services.specs.declared.retrieval.Begun.TheVariants.{Ended, Sent, Unsent}
+use Rattle.association_services.specs.declared.retrieval.Begun.TheVariants.{Ended, Loads}
+use Rattle.association_services.specs.declared.retrieval.Begun.TheVariants as begins
+use Rattle.association_services.specs.declared.loading.Brought.{Brought}
+use Rattle.association_services.specs.declared.loading.Brought.TheVariants.{Sent, Unsent}
 use Rattle.association_services.specs.declared.retrieval.Meaning.{Meaning}
 use Rattle.association_services.specs.declared.retrieval.Meaning.TheVariants.{Cancelled, Performed, Unawaited}
 use Rattle.association_services.specs.declared.retrieval.Progress.{Progress}
 use Rattle.association_services.specs.declared.retrieval.TheConstants.{MOST_SUB_OPERATIONS}
 use Rattle.association_services.specs.declared.way.Way.{Way}
 use Rattle.association_services.specs.Response.{Awaited}
-use Rattle.association_services.specs.SubOperation.{Retrieval, SubOperation}
+use Rattle.association_services.specs.SubOperation.{Retrieval, Loading, SubOperation}
 use Rattle.association_services.specs.Get.{counted, failed_set, final_status, outcome_of, way_of}
 
 -- ---- where a C-GET is
 
 -- what the port replied, where it is no fault and no more than can be counted
-abbrev pub few_of : Bool → List Prepared → Option (List Prepared)
-few_of true prepared = Some prepared
-few_of false prepared = None
+abbrev pub few_of : Bool → List Listed → Option (List Listed)
+few_of true listed = Some listed
+few_of false listed = None
 
-abbrev pub few_in : Result (List Prepared) PortFault → Option (List Prepared)
-few_in (Ok prepared) = few_of (nat_le (length prepared) MOST_SUB_OPERATIONS) prepared
+abbrev pub few_in : Result (List Listed) PortFault → Option (List Listed)
+few_in (Ok listed) = few_of (nat_le (length listed) MOST_SUB_OPERATIONS) listed
 few_in (Err fault) = None
 
 -- none was begun
@@ -89,7 +97,7 @@ abbrev pub CountsIn : Progress → Status → Option ℕ → Option (List ℕ) �
 CountsIn g status remaining body pdus = IsSending (counting g status remaining body) g.awaited.limit pdus
 
 -- behind a sub-operation a pending response, where some are left
-abbrev pub RespondsIfLeft : Progress → List Prepared → List Pdu → Type 0
+abbrev pub RespondsIfLeft : Progress → List Listed → List Pdu → Type 0
 RespondsIfLeft g [] pdus = pdus ≡ []
 RespondsIfLeft g (p ∷ ps) pdus = CountsIn g Pending (Some (length (p ∷ ps))) None pdus
 
@@ -98,7 +106,7 @@ abbrev pub RespondsEnd : Progress → List Pdu → Type 0
 RespondsEnd g pdus = CountsIn g (final_status g.counts) None (failed_set g.syntax g.counts.failed) pdus
 
 -- the last response, where a C-CANCEL was heard
-abbrev pub RespondsCancel : Progress → List Prepared → List Pdu → Type 0
+abbrev pub RespondsCancel : Progress → List Listed → List Pdu → Type 0
 RespondsCancel g left pdus = CountsIn g Cancel (Some (length left)) (failed_set g.syntax g.counts.failed) pdus
 
 -- ---- its sub-operations
@@ -128,42 +136,38 @@ sub_operation g way p = record {
   body = Some (text_in way.form p);
 }
 
+-- where it is behind the sub-operation of this instance, which failed
+abbrev pub failed : Progress → List ℕ → Progress
+failed g instance = with_counts g (counted Failed instance g.counts)
+
 -- one that fails unsent
-abbrev pub failing : Progress → Prepared → Progress
-failing g p = with_counts g (counted Failed p.content.instance g.counts)
+abbrev pub failing : Progress → Listed → Progress
+failing g p = failed g p.content.instance
 
 -- one that is sent, and whose response is awaited
-abbrev pub sending : Progress → Prepared → List Prepared → SubOperation
+abbrev pub sending : Progress → Listed → List Listed → SubOperation
 sending g p ps = record { progress = with_sent g; left = ps; instance = p.content.instance; cancelled = false }
 
-abbrev pub way_for : List Context → Prepared → Option Way
+abbrev pub way_for : List Context → Listed → Option Way
 way_for contexts p = way_of contexts p.content.class p.content.syntax
 
--- By whether there is a way to send it.
-abbrev pub ByWay : Option Way → (Way → List Pdu → Type 0) → (List Pdu → Type 0) → List Pdu → Type 0
-ByWay None Via Else pdus = Else pdus
-ByWay (Some way) Via Else pdus = Via way pdus
+-- ---- what is loaded for one
 
--- These PDUs, and then those.
-abbrev pub Both : (List Pdu → Type 0) → (List Pdu → Type 0) → List Pdu → Type 0
-Both First Rest pdus = (first rest : List Pdu) × First first × Rest rest × (pdus ≡ first ++ rest)
+abbrev pub is_same_syntax : Syntax → Syntax → Bool
+is_same_syntax Implicit Implicit = true
+is_same_syntax Explicit Explicit = true
+is_same_syntax Implicit Explicit = false
+is_same_syntax Explicit Implicit = false
 
--- What is sent for those that are left, up to a sub-operation whose response is awaited, or to the last response. Those
--- that no context takes fail unsent.
-abbrev pub SendsOn : List Context → Progress → List Prepared → List Pdu → Type 0
-SendsOn contexts g [] pdus = RespondsEnd g pdus
-SendsOn contexts g (p ∷ ps) pdus = ByWay (way_for contexts p)
-    (λ way. IsSending (sub_operation g way p) g.awaited.limit)
-    (Both (RespondsIfLeft (failing g p) ps) (SendsOn contexts (failing g p) ps)) pdus
+-- whether a content is of the class, the instance and the transfer syntax that were listed
+abbrev pub is_as_listed : Listed → ContentParts → Bool
+is_as_listed p c = is_text c.class p.content.class && is_text c.instance p.content.instance
+    && is_same_syntax c.syntax p.content.syntax
 
-abbrev pub begun_by : Option Way → SubOperation → Option SubOperation → Option SubOperation
-begun_by None sub others = others
-begun_by (Some way) sub others = Some sub
-
--- the sub-operation whose response is then awaited
-abbrev pub begun : List Context → Progress → List Prepared → Option SubOperation
-begun contexts g [] = None
-begun contexts g (p ∷ ps) = begun_by (way_for contexts p) (sending g p ps) (begun contexts (failing g p) ps)
+-- what is sent, where the port's reply to the load is a content that is as it was listed
+abbrev pub loaded_for : Listed → Result ContentParts PortFault → Option Prepared
+loaded_for p (Ok content) = if is_as_listed p content then Some (with_content p content) else None
+loaded_for p (Err fault) = None
 
 -- ---- what is heard within it
 
@@ -189,23 +193,37 @@ abbrev pub cancelling : SubOperation → SubOperation
 cancelling sub = record { progress = sub.progress; left = sub.left; instance = sub.instance; cancelled = true }
 
 -- what is responded behind a sub-operation, and what goes on then
-abbrev pub RespondsBy : Bool → Progress → List Prepared → List Pdu → Option Retrieval → Type 0
+abbrev pub RespondsBy : Bool → Progress → List Listed → List Pdu → Option Retrieval → Type 0
 RespondsBy true g left pdus next = RespondsCancel g left pdus × (next ≡ None)
 RespondsBy false g left pdus next = RespondsIfLeft g left pdus × (next ≡ Some (record { progress = g; left = left }))
 
 -- ---- one step
 
--- what one step begins: the last response; a sub-operation; or one that fails unsent, and what is left behind it
+-- what one step begins: the last response; a sub-operation, whose content is to be loaded; or one that fails unsent,
+-- and what is left behind it
 abbrev pub Begins : List Context → Retrieval → Begun → Type 0
 Begins contexts r (Ended pdus) = (r.left ≡ []) × RespondsEnd r.progress pdus
-Begins contexts r (Sent pdus sub) = (p : Prepared) × (ps : List Prepared) × (way : Way) × (r.left ≡ p ∷ ps)
-    × (way_for contexts p ≡ Some way) × IsSending (sub_operation r.progress way p) r.progress.awaited.limit pdus
-    × (sub ≡ sending r.progress p ps)
-Begins contexts r (Unsent pdus next) = (p : Prepared) × (ps : List Prepared) × (r.left ≡ p ∷ ps)
+Begins contexts r (Loads asked loading) = (p : Listed) × (ps : List Listed) × (way : Way) × (r.left ≡ p ∷ ps)
+    × (way_for contexts p ≡ Some way) × (asked ≡ p.content)
+    × (loading ≡ record { progress = r.progress; listed = p; left = ps; way = way })
+Begins contexts r (begins.Unsent pdus next) = (p : Listed) × (ps : List Listed) × (r.left ≡ p ∷ ps)
     × (way_for contexts p ≡ None) × RespondsIfLeft (failing r.progress p) ps pdus
     × (next ≡ record { progress = failing r.progress p; left = ps })
 
 abbrev pub pdus_begun : Begun → List Pdu
 pdus_begun (Ended pdus) = pdus
-pdus_begun (Sent pdus sub) = pdus
-pdus_begun (Unsent pdus next) = pdus
+pdus_begun (Loads asked loading) = []
+pdus_begun (begins.Unsent pdus next) = pdus
+
+-- what the port's reply to a load brings: the sub-operation; or it fails unsent
+abbrev pub Brings : Loading → Result ContentParts PortFault → Brought → Type 0
+Brings l reply (Sent pdus sub) = (p : Prepared) × (loaded_for l.listed reply ≡ Some p)
+    × IsSending (sub_operation l.progress l.way p) l.progress.awaited.limit pdus
+    × (sub ≡ sending l.progress l.listed l.left)
+Brings l reply (Unsent pdus next) = (loaded_for l.listed reply ≡ None)
+    × RespondsIfLeft (failing l.progress l.listed) l.left pdus
+    × (next ≡ record { progress = failing l.progress l.listed; left = l.left })
+
+abbrev pub pdus_brought : Brought → List Pdu
+pdus_brought (Sent pdus sub) = pdus
+pdus_brought (Unsent pdus next) = pdus

@@ -2,7 +2,7 @@
 
 use archive_model::{Query, Selection, View};
 use octets::Octets;
-use operation::Content;
+use operation::{Content, ContentRecord};
 
 /// What a C-FIND asks.
 #[derive(Debug, Drop)]
@@ -28,4 +28,6 @@ pub enum Call {
     Store(Content),
     Find(Finding),
     Get(Getting),
+    /// The content of a record.
+    Load(ContentRecord),
 }

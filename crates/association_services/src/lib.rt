@@ -4,7 +4,8 @@
 //! call of the port, which holds the images. The tables are `specs/Echo.antt`, `specs/Store.antt`,
 //! `specs/Find.antt` and `specs/Get.antt`, and `specs/Service.antt` above them. What the port
 //! replied is told by `status_for`, `found` and `few`. A C-GET goes on from there as a `Retrieval`,
-//! and as a `SubOperation` while the response to one of its C-STOREs is awaited. The state of the
+//! as a `Loading` while the content of its next sub-operation is awaited of the port, and as a
+//! `SubOperation` while the response to one of its C-STOREs is awaited. The state of the
 //! association, and the order of its messages, have no part in any of it.
 #![tactic(auto)]
 
@@ -16,6 +17,7 @@ mod echo;
 mod find;
 mod get;
 mod laws;
+mod loading;
 mod reply;
 mod retrieval;
 mod service;
@@ -27,6 +29,7 @@ pub use call::{Call, Finding, Getting};
 pub use counts::Outcome;
 pub use find::{found, row_text};
 pub use laws::a_content_goes_out_as_its_contexts_accept;
+pub use loading::{Brought, Loading};
 pub use reply::{PortFault, Reply};
 pub use retrieval::{Begun, MOST_SUB_OPERATIONS, Meaning, Progress, Retrieval, SubOperation, few};
 pub use service::{RowKind, Service, serve};

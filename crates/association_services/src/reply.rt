@@ -3,12 +3,12 @@
 ghost use Rattle.std.specs.Prelude.{◌≡◌};
 ghost use Rattle.association_services.specs.Reply.{number_of};
 
-use archive_model::{Answers, Prepared};
+use archive_model::{Answers, Listed};
 use octets::ListOf;
-use operation::Taken;
+use operation::{Content, Taken};
 use thiserror::Error;
 
-/// Why a port took no content, or found no rows or instances.
+/// Why a port took or brought no content, or found no rows or instances.
 #[derive(Clone, Copy, Debug, PartialEq, Eq, Error)]
 pub enum PortFault {
     /// Memory was refused: a content may have been taken or not.
@@ -20,8 +20,8 @@ pub enum PortFault {
     /// The site holds another operation under the content's digest.
     #[error("another operation has the same digest")]
     Collision,
-    /// The content could not be kept on disk.
-    #[error("the shelf refused the content")]
+    /// The content could not be kept on disk, or could not be brought from there.
+    #[error("the shelf refused the content, or could not bring it")]
     Shelf,
 }
 
@@ -47,5 +47,7 @@ pub enum Reply {
     /// To a find: the rows.
     Found(Result<Answers, PortFault>),
     /// To a get: what is to be sent, by ascending SOP Instance UID.
-    Gotten(Result<ListOf<Prepared>, PortFault>),
+    Gotten(Result<ListOf<Listed>, PortFault>),
+    /// To a load: the content of which that is the record.
+    Loaded(Result<Content, PortFault>),
 }

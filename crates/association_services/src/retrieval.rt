@@ -1,6 +1,6 @@
 //! A C-GET whose sub-operations are performed (PS3.7, section 9.1.3; PS3.4, section C.4.3).
 
-ghost use Rattle.std.specs.Prelude.{◌≡◌, ◌<◌, ◌≤◌, IfOk, IfSome, All, length};
+ghost use Rattle.std.specs.Prelude.{◌≡◌, ◌<◌, ◌≤◌, ◌+◌, IfOk, IfSome, All, length};
 ghost use Rattle.pdu.specs.Spelling.{IsPdu};
 ghost use Rattle.dimse.specs.Sending.{IsSending};
 ghost use Rattle.association_services.specs.Get.{all_counted, counted};
@@ -8,18 +8,20 @@ ghost use Rattle.association_services.specs.SubOperation.{IsBound};
 ghost use Rattle.association_services.specs.Retrieval.{few_in, with_counts, with_sent, setting_out, counting};
 ghost use Rattle.association_services.specs.Retrieval.{CountsIn, RespondsIfLeft, RespondsEnd, RespondsCancel};
 ghost use Rattle.association_services.specs.Retrieval.{sub_operation, is_named, meaning_of, performed, cancelling};
-ghost use Rattle.association_services.specs.Retrieval.{RespondsBy, Begins, pdus_begun};
+ghost use Rattle.association_services.specs.Retrieval.{failed, RespondsBy, Begins, pdus_begun};
 
 use crate::awaited::Awaited;
 use crate::counts::{Counts, Outcome, outcome_for};
+use crate::loading::Loading;
 use crate::reply::PortFault;
 use crate::way::{Way, way_for};
-use archive_model::Prepared;
+use archive_model::{Listed, Prepared};
 use bytes::Bytes;
 use data_set::Syntax;
 use dictionary::{C_CANCEL_RQ, C_STORE_RQ, C_STORE_RSP};
 use dimse::{Command, DATA_SET_FOLLOWS, Fragments, Message, Status};
 use octets::{ListOf, Octets};
+use operation::ContentRecord;
 use pdu::Context;
 use std::alloc::{AllocError, Global};
 use std::collections::VecDeque;
@@ -40,11 +42,12 @@ pub struct Progress {
     pub(crate) counts: Counts,
 }
 
-/// What is to be sent for a C-GET, in order, while the response to no sub-operation is awaited.
+/// What is to be sent for a C-GET, in order, while no content is awaited of the port, and the
+/// response to no sub-operation.
 #[derive(Drop)]
 pub struct Retrieval {
     pub progress: Progress,
-    pub(crate) left: VecDeque<Prepared>,
+    pub(crate) left: VecDeque<Listed>,
 }
 
 /// A sub-operation whose response is awaited.
@@ -52,7 +55,7 @@ pub struct Retrieval {
 pub struct SubOperation {
     pub progress: Progress,
     /// What is to be sent behind it.
-    pub(crate) left: VecDeque<Prepared>,
+    pub(crate) left: VecDeque<Listed>,
     pub(crate) instance: Octets,
     /// Whether a C-CANCEL was heard.
     pub(crate) cancelled: bool,
@@ -112,8 +115,8 @@ fn names(id: Option<u16>, named: Option<u16>) -> bool
 pub enum Begun {
     /// Nothing was left: these are the last response.
     Ended(Fragments),
-    /// These bring the sub-operation, whose response is awaited.
-    Sent(Fragments, SubOperation),
+    /// The next has a way: its content is to be loaded by this record.
+    Loads(ContentRecord, Loading),
     /// One failed unsent, which these tell, and this is left.
     Unsent(Fragments, Retrieval),
 }
@@ -166,7 +169,7 @@ impl Progress {
     fn respond_if_left(
         &self,
         alloc: Global,
-        left: &VecDeque<Prepared>,
+        left: &VecDeque<Listed>,
     ) -> Result<Fragments, AllocError>
         requires { IsBound self.now (length left.now.items) }
         ensures sent { IfOk result (λ pdus. RespondsIfLeft self.now left.now.items pdus) }
@@ -192,7 +195,7 @@ impl Progress {
     fn respond_cancel(
         &self,
         alloc: Global,
-        left: &VecDeque<Prepared>,
+        left: &VecDeque<Listed>,
     ) -> Result<Fragments, AllocError>
         requires { IsBound self.now (length left.now.items) }
         ensures sent { IfOk result (λ pdus. RespondsCancel self.now left.now.items pdus) }
@@ -229,7 +232,12 @@ impl Progress {
     }
 
     /// Its PDUs.
-    fn bring(&self, alloc: Global, way: Way, prepared: &Prepared) -> Result<Fragments, AllocError>
+    pub(crate) fn bring(
+        &self,
+        alloc: Global,
+        way: Way,
+        prepared: &Prepared,
+    ) -> Result<Fragments, AllocError>
         requires { self.now.sent < MOST_SUB_OPERATIONS }
         ensures sent { IfOk result (λ pdus. IsSending (sub_operation self.now way prepared.now)
             self.now.awaited.limit pdus) }
@@ -263,7 +271,7 @@ impl Progress {
     }
 
     /// One sub-operation more was sent.
-    fn send(self) -> Progress
+    pub(crate) fn send(self) -> Progress
         requires { self.sent < MOST_SUB_OPERATIONS }
         ensures { result ≡ with_sent self }
     {
@@ -283,14 +291,14 @@ impl Progress {
 }
 
 /// What the port replied to a get, where it is no fault and no more than can be counted.
-pub fn few(reply: Result<ListOf<Prepared>, PortFault>) -> Option<ListOf<Prepared>>
+pub fn few(reply: Result<ListOf<Listed>, PortFault>) -> Option<ListOf<Listed>>
     ensures few { result ≡ few_in reply }
-    ensures bound { IfSome result (λ prepared. length prepared ≤ MOST_SUB_OPERATIONS) }
+    ensures bound { IfSome result (λ listed. length listed ≤ MOST_SUB_OPERATIONS) }
 {
     match reply {
-        Ok(prepared) => {
-            if prepared.len() <= MOST_SUB_OPERATIONS {
-                return Some(prepared);
+        Ok(listed) => {
+            if listed.len() <= MOST_SUB_OPERATIONS {
+                return Some(listed);
             }
             None
         }
@@ -298,17 +306,31 @@ pub fn few(reply: Result<ListOf<Prepared>, PortFault>) -> Option<ListOf<Prepared
     }
 }
 
+/// Fails the sub-operation of this instance unsent: its PDUs are the pending response where some are left, and these
+/// go on.
+pub(crate) fn fail(
+    alloc: Global,
+    progress: Progress,
+    instance: Octets,
+    left: VecDeque<Listed>,
+) -> Result<(Fragments, Retrieval), AllocError>
+    requires { IsBound progress (length left.items + 1) }
+    ensures told { IfOk result (λ x. RespondsIfLeft (failed progress instance) left.items x.0) }
+    ensures next { IfOk result (λ x.
+        x.1 ≡ record { progress = failed progress instance; left = left.items }) }
+    ensures lawful { IfOk result (λ x. All IsPdu x.0) }
+{
+    let progress = progress.count(Outcome::Failed, instance)?;
+    let pdus = progress.respond_if_left(alloc, &left)?;
+    Ok((pdus, Retrieval { progress, left }))
+}
+
 impl Retrieval {
     /// A C-GET of which no sub-operation was begun: what it is to be sent, and the transfer syntax
     /// of its context, in which its last response names the instances that failed.
-    pub fn of(
-        alloc: Global,
-        awaited: Awaited,
-        syntax: Syntax,
-        prepared: ListOf<Prepared>,
-    ) -> Retrieval
-        requires { length prepared ≤ MOST_SUB_OPERATIONS }
-        ensures { result ≡ record { progress = setting_out awaited syntax; left = prepared } }
+    pub fn of(alloc: Global, awaited: Awaited, syntax: Syntax, listed: ListOf<Listed>) -> Retrieval
+        requires { length listed ≤ MOST_SUB_OPERATIONS }
+        ensures { result ≡ record { progress = setting_out awaited syntax; left = listed } }
     {
         Retrieval {
             progress: Progress {
@@ -317,37 +339,36 @@ impl Retrieval {
                 sent: 0,
                 counts: Counts::new(alloc),
             },
-            left: VecDeque::from_vec(prepared.into_vec()),
+            left: VecDeque::from_vec(listed.into_vec()),
         }
     }
 
     /// Begins the next sub-operation, on the context that takes its instance in the requestor's SCP
-    /// role (PS3.7, section D.3.3.4), fails it where none does, or ends the C-GET where none is
-    /// left. Each PDU can be written.
+    /// role (PS3.7, section D.3.3.4), for which its content is to be loaded; fails it where none
+    /// does; or ends the C-GET where none is left. Each PDU can be written.
     pub fn begin(self, alloc: Global, contexts: &[Context]) -> Result<Begun, AllocError>
         ensures begun { IfOk result (Begins contexts.now self) }
         ensures lawful { IfOk result (λ begun. All IsPdu (pdus_begun begun)) }
     {
         let Retrieval { progress, mut left } = self;
-        let Some(prepared) = left.pop_front() else {
+        let Some(listed) = left.pop_front() else {
             return Ok(Begun::Ended(progress.respond_end(alloc)?));
         };
-        let instance = Octets::from_slice(alloc, prepared.instance())?;
-        match way_for(contexts, prepared.class(), prepared.syntax()) {
+        match way_for(contexts, listed.class(), listed.syntax()) {
             None => {
-                let progress = progress.count(Outcome::Failed, instance)?;
-                let pdus = progress.respond_if_left(alloc, &left)?;
-                Ok(Begun::Unsent(pdus, Retrieval { progress, left }))
+                let instance = Octets::from_slice(alloc, listed.instance())?;
+                let (pdus, retrieval) = fail(alloc, progress, instance, left)?;
+                Ok(Begun::Unsent(pdus, retrieval))
             }
             Some(way) => {
-                let pdus = progress.bring(alloc, way, &prepared)?;
-                let sub = SubOperation {
-                    progress: progress.send(),
+                let record = listed.content.copy()?;
+                let loading = Loading {
+                    progress,
+                    listed,
                     left,
-                    instance,
-                    cancelled: false,
+                    way,
                 };
-                Ok(Begun::Sent(pdus, sub))
+                Ok(Begun::Loads(record, loading))
             }
         }
     }

@@ -19,28 +19,34 @@ use Rattle.association_services.specs.declared.call.Finding.{Finding}
 use Rattle.association_session.specs.declared.deed.Moment.TheVariants.{FindAnswered}
 use Rattle.association_services.specs.declared.service.RowKind.{RowKind}
 use Rattle.association_services.specs.declared.reply.Reply.{Reply}
-use Rattle.association_services.specs.declared.reply.Reply.TheVariants.{Stored, Found, Gotten}
+use Rattle.association_services.specs.declared.reply.Reply.TheVariants.{Stored, Found, Gotten, Loaded}
 use Rattle.association_services.specs.declared.service.Service.{Service}
 use Rattle.association_services.specs.declared.service.Service.TheVariants.{Ignored, Broken, Responded, Asked, Queried}
 use Rattle.association_services.specs.declared.service.Service.TheVariants.{Fetched}
 use Rattle.association_session.specs.Answered.{Answers as FindAnswers, AreAnswered}
 use Rattle.association_services.specs.Find.{row_status, rows_in, status_of_found}
 use Rattle.association_services.specs.Response.{Awaited}
-use Rattle.association_services.specs.Retrieval.{few_in, setting_out, begun, meaning_of}
+use Rattle.association_services.specs.Retrieval.{few_in, setting_out, way_for, loaded_for, failing, sending}
+use Rattle.association_services.specs.Retrieval.{sub_operation}
+use Rattle.association_services.specs.Retrieval.{meaning_of, cancelling, RespondsIfLeft, RespondsEnd}
 use Rattle.association_services.specs.SubOperation.{Retrieval, SubOperation}
-use Rattle.association_services.specs.Retrieval.{cancelling}
 use Rattle.association_services.specs.declared.retrieval.Meaning.{Meaning}
 use Rattle.association_services.specs.declared.retrieval.Meaning.TheVariants.{Cancelled, Performed, Unawaited}
 use Rattle.association_services.specs.declared.retrieval.Progress.{Progress}
 use Rattle.data_set.specs.declared.syntax.Syntax.{Syntax}
 use Rattle.dimse.specs.declared.status.Status.TheVariants.{UnableToPerformSubOperations}
 use Rattle.pdu.specs.declared.context.Context.{Context}
+use Rattle.archive_model.specs.declared.listed.Listed.{Listed}
 use Rattle.archive_model.specs.declared.prepared.Prepared.{Prepared}
+use Rattle.association_services.specs.declared.way.Way.{Way}
+use Rattle.dimse.specs.Sending.{IsSending}
 use Rattle.association_session.specs.Row.{Within, met, deeds_of}
 use Rattle.association_services.specs.Store.{status_of_reply}
 use Rattle.association_session.specs.Talks.{Heard, Met, Said, Goes, GoesBy, Then, Tells, TellsRows, FollowsStore}
 use Rattle.association_session.specs.Talks.{FollowsFind}
-use Rattle.association_session.specs.Talks.{FollowsGet, BeginsFew, Begins, Does, InState, GoesOnBy, Performs}
+use Rattle.association_session.specs.Talks.{Sends, SendsLoaded, FollowsLoad, Fails, LoadsBy, Begins, FollowsGet}
+use Rattle.association_session.specs.Talks.{BeginsFew}
+use Rattle.association_session.specs.Talks.{Does, InState, GoesOnBy, Performs}
 use Rattle.association_session.specs.Talks.{Attends}
 use Rattle.association_session.specs.Talks.{Talks, Serves, awaiting}
 use Rattle.association_session.proofs.StatusLaws.{served_kind}
@@ -74,6 +80,7 @@ store_answered awaited R (Stored reply ∷ rs) x goes p = tells_answered awaited
     (goes rs) p
 store_answered awaited R (Found reply ∷ rs) x goes p = absurd p
 store_answered awaited R (Gotten reply ∷ rs) x goes p = absurd p
+store_answered awaited R (Loaded reply ∷ rs) x goes p = absurd p
 
 rows_answered : (awaited : Awaited) (kind : RowKind) (rows : List Set) (status : Status) (R : List Deed → Type 0)
     (a : List Deed) → ((x : List Deed) → R x → AreAnswered x) → TellsRows awaited kind rows status R a → AreAnswered a
@@ -112,34 +119,67 @@ find_answered finding awaited kind R (Found reply ∷ rs) x goes partial p = (
 )
 find_answered finding awaited kind R (Stored reply ∷ rs) x goes partial p = absurd p
 find_answered finding awaited kind R (Gotten reply ∷ rs) x goes partial p = absurd p
+find_answered finding awaited kind R (Loaded reply ∷ rs) x goes partial p = absurd p
 
 -- what goes on has its answers, whichever sub-operation is awaited
 abbrev Goes_on_by : GoesBy → Type 0
 Goes_on_by R = (next : Option SubOperation) (rs : List Reply) (x : List Deed) → R next rs x → AreAnswered x
 
-begins_answered : (contexts : List Context) (g : Progress) (left : List Prepared)
-    (R : Option SubOperation → List Deed → Type 0) (a : List Deed)
-    → ((next : Option SubOperation) (x : List Deed) → R next x → AreAnswered x) → Begins contexts g left R a
-    → AreAnswered a
-begins_answered contexts g left R a goes p = subst (λ (t : List Deed). AreAnswered t) (sym p.2.1)
-    (sends_answered p.0 p.2.0 (goes (begun contexts g left) p.2.0 p.2.2))
+send_answered : (Are : List Pdu → Type 0) (R : List Deed → Type 0) (a : List Deed)
+    → ((x : List Deed) → R x → AreAnswered x) → Sends Are R a → AreAnswered a
+send_answered Are R a goes p = subst (λ (t : List Deed). AreAnswered t) (sym p.2.1)
+    (sends_answered p.0 p.2.0 (goes p.2.0 p.2.2))
 
-few_answered : (few : Option (List Prepared)) (contexts : List Context) (awaited : Awaited) (syntax : Syntax)
-    (R : Option SubOperation → List Deed → Type 0) (R' : List Deed → Type 0) (a : List Deed)
-    → ((next : Option SubOperation) (x : List Deed) → R next x → AreAnswered x)
-    → ((x : List Deed) → R' x → AreAnswered x) → BeginsFew contexts awaited syntax few R R' a → AreAnswered a
-few_answered None contexts awaited syntax R R' a goes refused p = tells_answered awaited UnableToPerformSubOperations R'
-    a refused p
-few_answered (Some prepared) contexts awaited syntax R R' a goes refused p = begins_answered contexts (setting_out
-    awaited syntax) prepared R a goes p
+loaded_answered : (loaded : Option Prepared) (g : Progress) (way : Way) (R R' : List Deed → Type 0) (a : List Deed)
+    → ((x : List Deed) → R x → AreAnswered x) → ((x : List Deed) → R' x → AreAnswered x)
+    → SendsLoaded loaded g way R R' a → AreAnswered a
+loaded_answered None g way R R' a sent unsent p = unsent a p
+loaded_answered (Some prepared) g way R R' a sent unsent p =
+    send_answered (IsSending (sub_operation g way prepared) g.awaited.limit) R a sent p
+
+load_answered : (g : Progress) (l : Listed) (way : Way) (R R' : Goes) (rs : List Reply) (x : List Deed) → Goes_on R
+    → Goes_on R' → FollowsLoad g l way R R' rs x → AreAnswered x
+load_answered g l way R R' [] x sent unsent p = none_answered x p
+load_answered g l way R R' (Loaded reply ∷ rs) x sent unsent p =
+    loaded_answered (loaded_for l reply) g way (R rs) (R' rs) x (sent rs) (unsent rs) p
+load_answered g l way R R' (Stored reply ∷ rs) x sent unsent p = absurd p
+load_answered g l way R R' (Found reply ∷ rs) x sent unsent p = absurd p
+load_answered g l way R R' (Gotten reply ∷ rs) x sent unsent p = absurd p
+
+loads_answered : (way : Option Way) (g : Progress) (l : Listed) (R R' : Goes) (rs : List Reply) (a : List Deed)
+    → Goes_on R → Goes_on R' → LoadsBy way g l R R' rs a → AreAnswered a
+loads_answered None g l R R' rs a sent unsent p = unsent rs a p
+loads_answered (Some way) g l R R' rs a sent unsent p = subst (λ (t : List Deed). AreAnswered t) (sym p.1)
+    (load_answered g l way R R' rs p.0 sent unsent p.2)
+
+fails_answered : (g : Progress) (left : List Listed) (R : Goes) → Goes_on R → Goes_on (Fails g left R)
+fails_answered g left R goes rs a p = send_answered (RespondsIfLeft g left) (R rs) a (goes rs) p
+
+begins_answered : (contexts : List Context) (g : Progress) (left : List Listed) (R : GoesBy) → Goes_on_by R
+    → Goes_on (Begins contexts g left R)
+begins_answered contexts g [] R goes rs a p = send_answered (RespondsEnd g) (R None rs) a (goes None rs) p
+begins_answered contexts g (l ∷ left) R goes rs a p =
+    loads_answered (way_for contexts l) g l (R (Some (sending g l left)))
+    (Fails (failing g l) left (Begins contexts (failing g l) left R)) rs a (goes (Some (sending g l left)))
+    (fails_answered (failing g l) left (Begins contexts (failing g l) left R)
+    (begins_answered contexts (failing g l) left R goes)) p
+
+few_answered : (few : Option (List Listed)) (contexts : List Context) (awaited : Awaited) (syntax : Syntax) (R : GoesBy)
+    (R' : Goes) (rs : List Reply) (a : List Deed) → Goes_on_by R → Goes_on R'
+    → BeginsFew contexts awaited syntax few R R' rs a → AreAnswered a
+few_answered None contexts awaited syntax R R' rs a goes refused p = tells_answered awaited UnableToPerformSubOperations
+    (R' rs) a (refused rs) p
+few_answered (Some left) contexts awaited syntax R R' rs a goes refused p =
+    begins_answered contexts (setting_out awaited syntax) left R goes rs a p
 
 get_answered : (contexts : List Context) (awaited : Awaited) (syntax : Syntax) (R : GoesBy) (rs : List Reply)
     (x : List Deed) → Goes_on_by R → FollowsGet contexts awaited syntax R (R None) rs x → AreAnswered x
 get_answered contexts awaited syntax R [] x goes p = none_answered x p
-get_answered contexts awaited syntax R (Gotten reply ∷ rs) x goes p = few_answered (few_in reply) contexts awaited
-    syntax (λ next. R next rs) (R None rs) x (λ next. goes next rs) (goes None rs) p
+get_answered contexts awaited syntax R (Gotten reply ∷ rs) x goes p =
+    few_answered (few_in reply) contexts awaited syntax R (R None) rs x goes (goes None) p
 get_answered contexts awaited syntax R (Stored reply ∷ rs) x goes p = absurd p
 get_answered contexts awaited syntax R (Found reply ∷ rs) x goes p = absurd p
+get_answered contexts awaited syntax R (Loaded reply ∷ rs) x goes p = absurd p
 
 does_answered : (w : Within) (m : Message) (service : Service) (contexts : List Context) (awaited : Awaited)
     (action : Option Action) (R : GoesBy) (R' : Goes) (rs : List Reply) (a : List Deed) → Serves w m service
@@ -160,8 +200,7 @@ does_answered w m (Fetched getting syntax) contexts awaited action R R' rs a ser
 goes_on_answered : (next : Option Retrieval) (contexts : List Context) (R : GoesBy) (rs : List Reply) (a : List Deed)
     → Goes_on_by R → GoesOnBy next contexts R rs a → AreAnswered a
 goes_on_answered None contexts R rs a goes p = goes None rs a p
-goes_on_answered (Some r) contexts R rs a goes p = begins_answered contexts r.progress r.left (λ next. R next rs) a
-    (λ next. goes next rs) p
+goes_on_answered (Some r) contexts R rs a goes p = begins_answered contexts r.progress r.left R goes rs a p
 
 performs_answered : (meaning : Meaning) (sub : SubOperation) (contexts : List Context) (action : Option Action)
     (R : GoesBy) (R' : Goes) (rs : List Reply) (a : List Deed) → Goes_on_by R → Goes_on R'

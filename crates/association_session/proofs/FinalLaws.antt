@@ -15,7 +15,7 @@ use Rattle.ul_state.specs.Decision.{value_for}
 use Rattle.dimse.specs.declared.message.Message.{Message}
 use Rattle.dimse.specs.declared.status.Status.{Status}
 use Rattle.operation.specs.Parts.{ContentParts}
-use Rattle.association_services.specs.declared.call.Call.TheVariants.{Store, Find, Get}
+use Rattle.association_services.specs.declared.call.Call.TheVariants.{Store, Find, Get, Load}
 use Rattle.association_session.specs.declared.deed.Deed.{Deed}
 use Rattle.association_session.specs.declared.deed.Deed.TheVariants.{Send, Reach, Ask, Close}
 use Rattle.association_session.specs.declared.deed.Moment.TheVariants.{InStore, FindAnswered}
@@ -24,25 +24,26 @@ use Rattle.association_services.specs.declared.service.RowKind.{RowKind}
 use Rattle.data_set.specs.Set.{Set}
 use Rattle.pdu.specs.declared.value.Pdu.{Pdu}
 use Rattle.association_services.specs.declared.reply.Reply.{Reply}
-use Rattle.association_services.specs.declared.reply.Reply.TheVariants.{Stored, Found, Gotten}
+use Rattle.association_services.specs.declared.reply.Reply.TheVariants.{Stored, Found, Gotten, Loaded}
 use Rattle.association_services.specs.declared.service.Service.{Service}
 use Rattle.association_services.specs.declared.service.Service.TheVariants.{Ignored, Broken, Responded, Asked}
 use Rattle.association_services.specs.declared.service.Service.TheVariants.{Queried, Fetched}
 use Rattle.association_services.specs.Find.{AreRows, row_text, rows_in, status_of_found}
 use Rattle.association_session.specs.Finals.{data_in, Requested, plain, selecting, RespondsTo}
 use Rattle.association_session.specs.Finals.{SendsOnTheWay, SendsLast, AreResponded, RequestsBy, Precedes, Replied}
+use Rattle.association_session.specs.Finals.{RequestsLoaded, RepliedLoad, RequestsByWay, RequestsBegun}
 use Rattle.association_session.specs.Finals.{FewRequests, RepliedGet, RequestFor}
-use Rattle.association_session.specs.Finals.{next_of_get, RequestWithin, RequestOf, RequestIn, Requests, open_in}
+use Rattle.association_session.specs.Finals.{RequestsBehind, RequestWithin, RequestOf, RequestIn, Requests, open_in}
 use Rattle.association_session.specs.Finals.{EndsInCall, IsOpen, HasResponses}
 use Rattle.association_services.specs.Get.{final_status, failed_set}
 use Rattle.association_session.specs.Order.{IsOrderly}
 use Rattle.association_services.specs.SubOperation.{Retrieval, SubOperation}
 use Rattle.association_services.specs.Retrieval.{few_in, setting_out, counting, RespondsIfLeft, RespondsBy}
-use Rattle.association_services.specs.Retrieval.{sub_operation}
-use Rattle.association_services.specs.Retrieval.{failing, sending, way_for, ByWay, Both, SendsOn, begun, begun_by}
+use Rattle.association_services.specs.Retrieval.{sub_operation, failing, sending, way_for, loaded_for}
 use Rattle.association_services.specs.Retrieval.{meaning_of, performed, cancelling}
 use Rattle.association_services.specs.declared.counts.Outcome.{Outcome}
 use Rattle.association_services.specs.declared.call.Call.{Call}
+use Rattle.association_services.specs.declared.reply.PortFault.{PortFault}
 use Rattle.association_services.specs.declared.call.Getting.{Getting}
 use Rattle.association_services.specs.declared.retrieval.Meaning.{Meaning}
 use Rattle.association_services.specs.declared.retrieval.Meaning.TheVariants.{Cancelled, Performed, Unawaited}
@@ -54,13 +55,14 @@ use Rattle.dimse.specs.declared.status.Status.TheVariants.{Cancel, Pending, Unab
 use Rattle.dimse.specs.Response.{response_of}
 use Rattle.dimse.specs.Sending.{IsSending}
 use Rattle.pdu.specs.declared.context.Context.{Context}
+use Rattle.archive_model.specs.declared.listed.Listed.{Listed}
 use Rattle.archive_model.specs.declared.prepared.Prepared.{Prepared}
 use Rattle.archive_model.specs.declared.sending.Sending.{Sending}
 use Rattle.archive_model.specs.Prepared.{made}
 use Rattle.ul_state.specs.Acceptor.{kind_for, settled_by}
 use Rattle.ul_state.specs.Table.{next_of, opens}
 use Rattle.ul_state.specs.declared.acceptor.Settled.{Settled}
-use Rattle.association_services.proofs.DataLaws.{AreData, sending_data, rows_data, sends_on_data, responds_by_data}
+use Rattle.association_services.proofs.DataLaws.{AreData, sending_data, rows_data, if_left_data, responds_by_data}
 use Rattle.association_session.proofs.OrderLaws.{orderly}
 use Rattle.association_session.proofs.SelectedLaws.{selected_in, counts_add_up, starts_with_all, unsent_keeps_all}
 use Rattle.association_session.proofs.SelectedLaws.{sent_keeps_all, performed_keeps_all}
@@ -68,13 +70,15 @@ use Rattle.association_services.proofs.StatusLaws.{stored_final, found_final, co
 use Rattle.association_session.proofs.StatusLaws.{served_final, served_pending, served_get}
 use Rattle.association_services.specs.Accepted.{accepts_of, carried_of, Carries}
 use Rattle.association_services.specs.Response.{Awaited, is_pending, response_to, response_with}
-use Rattle.association_services.proofs.WayLaws.{carried_next, carried_not, sub_carries}
+use Rattle.association_services.proofs.WayLaws.{carried_next, carried_unloaded, carried_not, sub_carries}
 use Rattle.association_session.specs.Row.{Link, Within, row, met, agreed_by, limit_in}
 use Rattle.association_session.specs.Selected.{selected_by, remaining_in, TellsNoCounts}
 use Rattle.association_services.specs.Store.{status_of_reply}
 use Rattle.association_session.specs.Talks.{Heard, Met, Said, Goes, GoesBy, Then, Tells, TellsRows, FollowsStore}
 use Rattle.association_session.specs.Talks.{FollowsFind}
-use Rattle.association_session.specs.Talks.{FollowsGet, BeginsFew, Begins, Does, InState, Attends, Performs, GoesOnBy}
+use Rattle.association_session.specs.Talks.{SendsLoaded, FollowsLoad, Fails, LoadsBy, Begins, FollowsGet, BeginsFew}
+use Rattle.association_session.specs.Talks.{Does}
+use Rattle.association_session.specs.Talks.{InState, Attends, Performs, GoesOnBy}
 use Rattle.association_session.specs.Talks.{Talks}
 use Rattle.association_session.specs.Talks.{Serves, awaiting}
 use Rattle.archive_model.specs.declared.view.View.{View}
@@ -198,10 +202,10 @@ requesting contexts a selected carried = record {
 }
 
 -- but those of a C-GET, which add up to what it selected.
-abbrev request_in : List Context → Progress → List Prepared → Requested
-request_in contexts g left = selecting contexts g.awaited (selected_in g left) left
+abbrev request_in : List Context → Progress → List Listed → List Reply → Requested
+request_in contexts g left rs = selecting contexts g.awaited (selected_in g left) left rs
 
-counting_is : (g : Progress) (left : List Prepared) (status : Status) (remaining : Option ℕ) (body : Option (List ℕ))
+counting_is : (g : Progress) (left : List Listed) (status : Status) (remaining : Option ℕ) (body : Option (List ℕ))
     (b : Bool) → is_pending status ≡ b → remaining_in remaining ≡ length left
     → RespondsTo g.awaited (Some (selected_in g left)) b (counting g status remaining body)
 unfolding response_of
@@ -214,31 +218,42 @@ counting_is g left status remaining body b e told = record {
   counts = counts_add_up g left status remaining body told;
 }
 
--- What it selected stays when one fails unsent, and what it is to carry;
-unsent_same : (contexts : List Context) (g : Progress) (x : Prepared) (left : List Prepared)
-    → way_for contexts x ≡ None → request_in contexts (failing g x) left ≡ request_in contexts g (x ∷ left)
-unsent_same contexts g x left none =
-    ap (λ (n : ℕ). selecting contexts g.awaited n left) (unsent_keeps_all g x left)
+-- What it selected stays when one fails that has no way, and what it is to carry;
+unsent_same : (contexts : List Context) (g : Progress) (x : Listed) (left : List Listed) (rs : List Reply)
+    → way_for contexts x ≡ None → request_in contexts (failing g x) left rs ≡ request_in contexts g (x ∷ left) rs
+unsent_same contexts g x left rs none =
+    ap (λ (n : ℕ). selecting contexts g.awaited n left rs) (unsent_keeps_all g x left)
     ∙ ap (λ (carried : List Sending). requesting contexts g.awaited (selected_in g (x ∷ left)) carried)
-    (sym (carried_not contexts x left none))
+    (sym (carried_not contexts x left rs none))
+
+-- when one fails that was not loaded;
+unloaded_same : (contexts : List Context) (g : Progress) (x : Listed) (left : List Listed) (way : Way)
+    (reply : Result ContentParts PortFault) (rs : List Reply) → way_for contexts x ≡ Some way
+    → loaded_for x reply ≡ None
+    → request_in contexts (failing g x) left rs ≡ request_in contexts g (x ∷ left) (Loaded reply ∷ rs)
+unloaded_same contexts g x left way reply rs is none =
+    ap (λ (n : ℕ). selecting contexts g.awaited n left rs) (unsent_keeps_all g x left)
+    ∙ ap (λ (carried : List Sending). requesting contexts g.awaited (selected_in g (x ∷ left)) carried)
+    (sym (carried_unloaded contexts x left way reply rs is none))
 
 -- when one is sent, it was the next to be carried;
-sent_same : (contexts : List Context) (g : Progress) (x : Prepared) (left : List Prepared) (way : Way)
-    → way_for contexts x ≡ Some way
-    → requesting contexts g.awaited (selected_by (sending g x left)) (made (accepts_of contexts) x ∷ carried_of contexts
-    left) ≡ request_in contexts g (x ∷ left)
-sent_same contexts g x left way is =
-    ap (λ (n : ℕ). requesting contexts g.awaited n (made (accepts_of contexts) x ∷ carried_of contexts left))
+sent_same : (contexts : List Context) (g : Progress) (x : Listed) (left : List Listed) (way : Way)
+    (reply : Result ContentParts PortFault) (rs : List Reply) (p : Prepared) → way_for contexts x ≡ Some way
+    → loaded_for x reply ≡ Some p
+    → requesting contexts g.awaited (selected_by (sending g x left)) (made (accepts_of contexts) p ∷ carried_of contexts
+    left rs) ≡ request_in contexts g (x ∷ left) (Loaded reply ∷ rs)
+sent_same contexts g x left way reply rs p is loaded =
+    ap (λ (n : ℕ). requesting contexts g.awaited n (made (accepts_of contexts) p ∷ carried_of contexts left rs))
     (sent_keeps_all g x left)
     ∙ ap (λ (carried : List Sending). requesting contexts g.awaited (selected_in g (x ∷ left)) carried)
-    (sym (carried_next contexts x left way is))
+    (sym (carried_next contexts x left way reply rs p is loaded))
 
 -- and it stays when that has its response.
-performed_same : (contexts : List Context) (sub : SubOperation) (outcome : Outcome)
-    → request_in contexts (performed sub outcome) sub.left
-    ≡ selecting contexts sub.progress.awaited (selected_by sub) sub.left
-performed_same contexts sub outcome =
-    ap (λ (n : ℕ). selecting contexts sub.progress.awaited n sub.left) (performed_keeps_all sub outcome)
+performed_same : (contexts : List Context) (sub : SubOperation) (outcome : Outcome) (rs : List Reply)
+    → request_in contexts (performed sub outcome) sub.left rs
+    ≡ selecting contexts sub.progress.awaited (selected_by sub) sub.left rs
+performed_same contexts sub outcome rs =
+    ap (λ (n : ℕ). selecting contexts sub.progress.awaited n sub.left rs) (performed_keeps_all sub outcome)
 
 module _ (Open : Awaited → Type 0) where
   -- one pending response more on the way
@@ -305,45 +320,15 @@ module _ (Open : Awaited → Type 0) where
       (response_with_is a kind.status (row_text kind.syntax r) true pending) are.2
       (rows_way a kind rows requests are.1 rest pending are.3 p))
 
-  left_way : (contexts : List Context) (g : Progress) (left : List Prepared) (requests : List Requested)
-      (ps rest : List Pdu) → RespondsIfLeft g left ps → AreResponded Open (request_in contexts g left ∷ requests) rest
-      → AreResponded Open (request_in contexts g left ∷ requests) (ps ++ rest)
-  left_way contexts g [] requests ps rest none p =
-      subst (λ (t : List Pdu). AreResponded Open (request_in contexts g [] ∷ requests) (t ++ rest)) (sym none) p
-  left_way contexts g (x ∷ left) requests ps rest sent p = way_more (request_in contexts g (x ∷ left)) (counting g
+  left_way : (contexts : List Context) (g : Progress) (left : List Listed) (rs : List Reply)
+      (requests : List Requested) (ps rest : List Pdu) → RespondsIfLeft g left ps
+      → AreResponded Open (request_in contexts g left rs ∷ requests) rest
+      → AreResponded Open (request_in contexts g left rs ∷ requests) (ps ++ rest)
+  left_way contexts g [] rs requests ps rest none p =
+      subst (λ (t : List Pdu). AreResponded Open (request_in contexts g [] rs ∷ requests) (t ++ rest)) (sym none) p
+  left_way contexts g (x ∷ left) rs requests ps rest sent p = way_more (request_in contexts g (x ∷ left) rs) (counting g
       Pending (Some (length (x ∷ left))) None) requests ps rest (counting_is g (x ∷ left) Pending
       (Some (length (x ∷ left))) None true refl refl) sent p
-
-  begun_by_way : (way : Option Way) (contexts : List Context) (g : Progress) (x : Prepared) (left : List Prepared)
-      (requests : List Requested) (ps rest : List Pdu) → way_for contexts x ≡ way
-      → ((qs : List Pdu) → SendsOn contexts (failing g x) left qs
-      → AreResponded Open (open_in contexts (begun contexts (failing g x) left) requests) rest
-      → AreResponded Open (request_in contexts (failing g x) left ∷ requests) (qs ++ rest))
-      → ByWay way (λ k. IsSending (sub_operation g k x) g.awaited.limit)
-      (Both (RespondsIfLeft (failing g x) left) (SendsOn contexts (failing g x) left)) ps
-      → AreResponded Open (open_in contexts (begun_by way (sending g x left) (begun contexts (failing g x) left))
-      requests) rest
-      → AreResponded Open (request_in contexts g (x ∷ left) ∷ requests) (ps ++ rest)
-  begun_by_way None contexts g x left requests ps rest is goes sent p =
-      subst (λ (r : Requested). AreResponded Open (r ∷ requests) (ps ++ rest)) (unsent_same contexts g x left is)
-      (subst (λ (t : List Pdu). AreResponded Open (request_in contexts (failing g x) left ∷ requests) t)
-      (sym (append_assoc sent.0 sent.1 rest) ∙ ap (λ (t : List Pdu). t ++ rest) (sym sent.4))
-      (left_way contexts (failing g x) left requests sent.0 (sent.1 ++ rest) sent.2 (goes sent.1 sent.3 p)))
-  begun_by_way (Some way) contexts g x left requests ps rest is goes sent p =
-      subst (λ (r : Requested). AreResponded Open (r ∷ requests) (ps ++ rest)) (sent_same contexts g x left way is)
-      (way_carries contexts g.awaited (selected_by (sending g x left)) (made (accepts_of contexts) x)
-      (carried_of contexts left) (sub_operation g way x) requests ps rest (sub_carries contexts g x way is) sent p)
-
-  -- Sub-operations are begun, and behind them stands what is responded then.
-  begun_way : (contexts : List Context) (g : Progress) (left : List Prepared) (requests : List Requested)
-      (ps rest : List Pdu) → SendsOn contexts g left ps
-      → AreResponded Open (open_in contexts (begun contexts g left) requests) rest
-      → AreResponded Open (request_in contexts g left ∷ requests) (ps ++ rest)
-  begun_way contexts g [] requests ps rest sent p = way_last (request_in contexts g []) (counting g (final_status
-      g.counts) None (failed_set g.syntax g.counts.failed)) requests ps rest (counting_is g [] (final_status g.counts)
-      None (failed_set g.syntax g.counts.failed) false (counts_final g.counts) refl) sent p
-  begun_way contexts g (x ∷ left) requests ps rest sent p = begun_by_way (way_for contexts x) contexts g x left
-      requests ps rest refl (λ qs. begun_way contexts (failing g x) left requests qs rest) sent p
 
 -- What is open stays so behind other deeds.
 last_map : (Open Wide : Awaited → Type 0) (r : Requested) (requests : List Requested) (rest : List Pdu)
@@ -409,61 +394,51 @@ IsGetIn state sub = IfSome sub (λ s. (s.progress.awaited.command.field ≡ C_GE
 abbrev IsGetOf : Option SubOperation → Type 0
 IsGetOf sub = IsGetIn Sta6 sub
 
-begun_by_get : (way : Option Way) (sub : SubOperation) (others : Option SubOperation)
-    → sub.progress.awaited.command.field ≡ C_GET_RQ → IsGetOf others → IsGetOf (begun_by way sub others)
-begun_by_get None sub others is more = more
-begun_by_get (Some way) sub others is more = (is, tt)
-
-begun_get : (contexts : List Context) (g : Progress) (left : List Prepared) → g.awaited.command.field ≡ C_GET_RQ
-    → IsGetOf (begun contexts g left)
-begun_get contexts g [] is = tt
-begun_get contexts g (x ∷ left) is = begun_by_get (way_for contexts x) (sending g x left) (begun contexts (failing g x)
-    left) is (begun_get contexts (failing g x) left is)
-
 -- of these deeds each of these requests, behind that of the sub-operation that is awaited, has its responses
-abbrev Have : List Context → Option SubOperation → List Deed → List Requested → Type 0
-Have contexts sub ds requests = AreResponded (IsOpen ds) (open_in contexts sub requests) (data_in ds)
+abbrev Have : List Context → Option SubOperation → List Reply → List Deed → List Requested → Type 0
+Have contexts sub rs ds requests = AreResponded (IsOpen ds) (open_in contexts sub rs requests) (data_in ds)
 
 -- the same behind deeds that send no P-DATA-TF
-have_before : (contexts : List Context) (sub : Option SubOperation) (now ds : List Deed) (requests : List Requested)
-    → data_in (now ++ ds) ≡ data_in ds → Have contexts sub ds requests → Have contexts sub (now ++ ds) requests
-have_before contexts sub now ds requests quiet p =
-    subst (λ (t : List Pdu). AreResponded (IsOpen (now ++ ds)) (open_in contexts sub requests) t) (sym quiet)
-    (responded_map (IsOpen ds) (IsOpen (now ++ ds)) (open_in contexts sub requests) (data_in ds) (open_behind now ds)
-    p)
+have_before : (contexts : List Context) (sub : Option SubOperation) (rs : List Reply) (now ds : List Deed)
+    (requests : List Requested) → data_in (now ++ ds) ≡ data_in ds → Have contexts sub rs ds requests
+    → Have contexts sub rs (now ++ ds) requests
+have_before contexts sub rs now ds requests quiet p =
+    subst (λ (t : List Pdu). AreResponded (IsOpen (now ++ ds)) (open_in contexts sub rs requests) t) (sym quiet)
+    (responded_map (IsOpen ds) (IsOpen (now ++ ds)) (open_in contexts sub rs requests) (data_in ds)
+    (open_behind now ds) p)
 
 -- what has its responses, for what is replied
 abbrev HaveAll : List Context → Option SubOperation → (List Reply → List Requested → Type 0) → Goes → Type 0
 HaveAll contexts sub Asks R = (rs : List Reply) (x : List Deed) → R rs x → (requests : List Requested)
-    × Asks rs requests × Have contexts sub x requests
+    × Asks rs requests × Have contexts sub rs x requests
 
 abbrev HaveBy : State → List Context → RequestsBy → GoesBy → Type 0
 HaveBy state contexts Asks R =
     (next : Option SubOperation) → IsGetIn state next → HaveAll contexts next (Asks next) (R next)
 
 -- messages of a C-GET behind which it goes on
-sent_have : (contexts : List Context) (r : Requested) (next : Option SubOperation) (pdus : List Pdu) (rest : List Deed)
-    (requests : List Requested) → AreData pdus → Have contexts next rest requests
-    → ((Open : Awaited → Type 0) → AreResponded Open (open_in contexts next requests) (data_in rest)
+sent_have : (contexts : List Context) (r : Requested) (next : Option SubOperation) (rs : List Reply) (pdus : List Pdu)
+    (rest : List Deed) (requests : List Requested) → AreData pdus → Have contexts next rs rest requests
+    → ((Open : Awaited → Type 0) → AreResponded Open (open_in contexts next rs requests) (data_in rest)
     → AreResponded Open (r ∷ requests) (pdus ++ data_in rest))
     → AreResponded (IsOpen (map Send pdus ++ rest)) (r ∷ requests) (data_in (map Send pdus ++ rest))
-sent_have contexts r next pdus rest requests are_data p goes =
+sent_have contexts r next rs pdus rest requests are_data p goes =
     subst (λ (t : List Pdu). AreResponded (IsOpen (map Send pdus ++ rest)) (r ∷ requests) t)
     (sym (data_behind pdus rest are_data))
     (goes (IsOpen (map Send pdus ++ rest)) (responded_map (IsOpen rest) (IsOpen (map Send pdus ++ rest))
-    (open_in contexts next requests) (data_in rest) (open_behind (map Send pdus) rest) p))
+    (open_in contexts next rs requests) (data_in rest) (open_behind (map Send pdus) rest) p))
 
 tells_have : (a : Awaited) (status : Status) (Asks : List Requested → Type 0) (R : List Deed → Type 0) (ds : List Deed)
     → is_pending status ≡ false
-    → ((x : List Deed) → R x → (requests : List Requested) × Asks requests × Have [] None x requests)
+    → ((x : List Deed) → R x → (requests : List Requested) × Asks requests × Have [] None [] x requests)
     → Tells a status R ds
-    → (requests : List Requested) × Asks requests × Have [] None ds (plain a ∷ requests)
+    → (requests : List Requested) × Asks requests × Have [] None [] ds (plain a ∷ requests)
 tells_have a status Asks R ds final goes p =
     let q = goes p.2.0 p.2.2 in (
       q.0,
       q.1,
-      subst (λ (t : List Deed). Have [] None t (plain a ∷ q.0)) (sym p.2.1)
-          (sent_have [] (plain a) None p.0 p.2.0 q.0 (sending_data _ _ p.0 p.1) q.2
+      subst (λ (t : List Deed). Have [] None [] t (plain a ∷ q.0)) (sym p.2.1)
+          (sent_have [] (plain a) None [] p.0 p.2.0 q.0 (sending_data _ _ p.0 p.1) q.2
           (λ Open x. way_last Open (plain a) (response_to a status) q.0 p.0 (data_in p.2.0)
           (response_to_is a status false final)
           p.1 x)),
@@ -471,20 +446,20 @@ tells_have a status Asks R ds final goes p =
 
 rows_have : (a : Awaited) (kind : RowKind) (rows : List Set) (status : Status) (Asks : List Requested → Type 0)
     (R : List Deed → Type 0) (ds : List Deed) → is_pending kind.status ≡ true → is_pending status ≡ false
-    → ((x : List Deed) → R x → (requests : List Requested) × Asks requests × Have [] None x requests)
+    → ((x : List Deed) → R x → (requests : List Requested) × Asks requests × Have [] None [] x requests)
     → TellsRows a kind rows status R ds
-    → (requests : List Requested) × Asks requests × Have [] None ds (plain a ∷ requests)
+    → (requests : List Requested) × Asks requests × Have [] None [] ds (plain a ∷ requests)
 rows_have a kind rows status Asks R ds pending final goes p =
     let q = tells_have a status Asks (Then (Reach FindAnswered ∷ []) R) p.2.0 final
     (λ x r. let s = goes r.0 r.2 in (
       s.0,
       s.1,
-      subst (λ (t : List Deed). Have [] None t s.0) (sym r.1)
-          (have_before [] None (Reach FindAnswered ∷ []) r.0 s.0 refl s.2),
+      subst (λ (t : List Deed). Have [] None [] t s.0) (sym r.1)
+          (have_before [] None [] (Reach FindAnswered ∷ []) r.0 s.0 refl s.2),
     )) p.2.2 in (
       q.0,
       q.1,
-      subst (λ (t : List Deed). Have [] None t (plain a ∷ q.0)) (sym p.2.1)
+      subst (λ (t : List Deed). Have [] None [] t (plain a ∷ q.0)) (sym p.2.1)
           (subst (λ (t : List Pdu). AreResponded (IsOpen (map Send p.0 ++ p.2.0)) (plain a ∷ q.0) t)
           (sym (data_behind p.0 p.2.0 (rows_data a kind rows p.0 p.1)))
           (rows_way (IsOpen (map Send p.0 ++ p.2.0)) a kind rows q.0 p.0 (data_in p.2.0) pending p.1
@@ -492,90 +467,197 @@ rows_have a kind rows status Asks R ds pending final goes p =
           (open_behind (map Send p.0) p.2.0) q.2))),
     )
 
-begins_have : (contexts : List Context) (g : Progress) (left : List Prepared)
-    (Asks : Option SubOperation → List Requested → Type 0) (R : Option SubOperation → List Deed → Type 0)
-    (ds : List Deed) → g.awaited.command.field ≡ C_GET_RQ
-    → ((next : Option SubOperation) → IsGetOf next → (x : List Deed) → R next x → (requests : List Requested)
-    × Asks next requests × Have contexts next x requests)
-    → Begins contexts g left R ds
-    → (requests : List Requested) × Asks (begun contexts g left) requests
-    × Have [] None ds (request_in contexts g left ∷ requests)
-begins_have contexts g left Asks R ds is goes p =
-    let next = begun contexts g left in
-    let q = goes next (begun_get contexts g left is) p.2.0 p.2.2 in (
-      q.0,
-      q.1,
-      subst (λ (t : List Deed). Have [] None t (request_in contexts g left ∷ q.0)) (sym p.2.1)
-          (sent_have contexts (request_in contexts g left) next p.0 p.2.0 q.0 (sends_on_data contexts g left p.0 p.1)
-          q.2
-          (λ Open x. begun_way Open contexts g left q.0 p.0 (data_in p.2.0) p.1 x)),
-    )
-
 -- a request whose call has no reply yet
-unreplied : (a : Awaited) (now : List Deed) (call : Call) (rest : List Deed) → data_in (now ++ Ask call ∷ []) ≡ []
-    → rest ≡ [] → Have [] None ((now ++ Ask call ∷ []) ++ rest) (plain a ∷ [])
-unreplied a now call rest quiet none =
+unreplied : (r : Requested) (now : List Deed) (call : Call) (rest : List Deed) → data_in (now ++ Ask call ∷ []) ≡ []
+    → rest ≡ [] → Have [] None [] ((now ++ Ask call ∷ []) ++ rest) (r ∷ [])
+unreplied r now call rest quiet none =
     let whole : (now ++ Ask call ∷ []) ++ rest ≡ now ++ Ask call ∷ [] = ap (λ (t : List Deed). (now ++ Ask call ∷ [])
     ++ t) none ∙ append-nil (now ++ Ask call ∷ []) in
-    subst (λ (t : List Deed). Have [] None t (plain a ∷ [])) (sym whole)
-    (subst (λ (t : List Pdu). AreResponded (IsOpen (now ++ Ask call ∷ [])) (plain a ∷ []) t) (sym quiet)
-    (way_open (IsOpen (now ++ Ask call ∷ [])) (plain a) (inl (now, call, refl))))
+    subst (λ (t : List Deed). Have [] None [] t (r ∷ [])) (sym whole)
+    (subst (λ (t : List Pdu). AreResponded (IsOpen (now ++ Ask call ∷ [])) (r ∷ []) t) (sym quiet)
+    (way_open (IsOpen (now ++ Ask call ∷ [])) r (inl (now, call, refl))))
 
 asked_have : (a : Awaited) (content : ContentParts) (Asks : List Reply → List Requested → Type 0) (R : Goes)
     (rs : List Reply) (rest : List Deed) → HaveAll [] None Asks R → FollowsStore a R rs rest
     → (requests : List Requested) × Replied Asks rs requests
-    × Have [] None (Reach InStore ∷ Ask (Store content) ∷ rest) (plain a ∷ requests)
-asked_have a content Asks R [] rest goes p = ([], refl, unreplied a (Reach InStore ∷ []) (Store content) rest refl p)
+    × Have [] None [] (Reach InStore ∷ Ask (Store content) ∷ rest) (plain a ∷ requests)
+asked_have a content Asks R [] rest goes p = (
+  [],
+  refl,
+  unreplied (plain a) (Reach InStore ∷ []) (Store content) rest
+      refl p,
+)
 asked_have a content Asks R (Stored reply ∷ rs) rest goes p =
     let q = tells_have a (status_of_reply reply) (Asks rs) (R rs) rest (stored_final reply) (goes rs) p in
-    (q.0, q.1, have_before [] None (Reach InStore ∷ Ask (Store content) ∷ []) rest (plain a ∷ q.0) refl q.2)
+    (q.0, q.1, have_before [] None [] (Reach InStore ∷ Ask (Store content) ∷ []) rest (plain a ∷ q.0) refl q.2)
 asked_have a content Asks R (Found reply ∷ rs) rest goes p = absurd p
 asked_have a content Asks R (Gotten reply ∷ rs) rest goes p = absurd p
+asked_have a content Asks R (Loaded reply ∷ rs) rest goes p = absurd p
 
 queried_have : (a : Awaited) (finding : Finding) (kind : RowKind) (Asks : List Reply → List Requested → Type 0)
     (R : Goes) (rs : List Reply) (rest : List Deed) → is_pending kind.status ≡ true → HaveAll [] None Asks R
     → FollowsFind a kind R rs rest
     → (requests : List Requested) × Replied Asks rs requests
-    × Have [] None (Ask (Find finding) ∷ rest) (plain a ∷ requests)
-queried_have a finding kind Asks R [] rest pending goes p = ([], refl, unreplied a [] (Find finding) rest refl p)
+    × Have [] None [] (Ask (Find finding) ∷ rest) (plain a ∷ requests)
+queried_have a finding kind Asks R [] rest pending goes p =
+    ([], refl, unreplied (plain a) [] (Find finding) rest refl p)
 queried_have a finding kind Asks R (Found reply ∷ rs) rest pending goes p =
     let q = rows_have a kind (rows_in reply) (status_of_found reply) (Asks rs) (R rs) rest pending (found_final reply)
     (goes rs) p in
-    (q.0, q.1, have_before [] None (Ask (Find finding) ∷ []) rest (plain a ∷ q.0) refl q.2)
+    (q.0, q.1, have_before [] None [] (Ask (Find finding) ∷ []) rest (plain a ∷ q.0) refl q.2)
 queried_have a finding kind Asks R (Stored reply ∷ rs) rest pending goes p = absurd p
 queried_have a finding kind Asks R (Gotten reply ∷ rs) rest pending goes p = absurd p
+queried_have a finding kind Asks R (Loaded reply ∷ rs) rest pending goes p = absurd p
 
-few_have : (few : Option (List Prepared)) (contexts : List Context) (a : Awaited) (syntax : Syntax)
-    (Asks : Option SubOperation → List Requested → Type 0) (R : Option SubOperation → List Deed → Type 0)
-    (rest : List Deed) → a.command.field ≡ C_GET_RQ
-    → ((next : Option SubOperation) → IsGetOf next → (x : List Deed) → R next x → (requests : List Requested)
-    × Asks next requests × Have contexts next x requests)
-    → BeginsFew contexts a syntax few R (R None) rest
-    → (requests : List Requested) × FewRequests few contexts a syntax Asks requests × Have [] None rest requests
-few_have None contexts a syntax Asks R rest is goes p =
-    let q = tells_have a UnableToPerformSubOperations (Asks None) (R None) rest refl (goes None tt) p in
+-- sub-operations that are left behind one that failed unsent
+fails_have : (contexts : List Context) (g : Progress) (left : List Listed) (Asks : List Reply → List Requested → Type 0)
+    (R : Goes) (rs : List Reply) (ds : List Deed)
+    → ((rs : List Reply) (x : List Deed) → R rs x → (requests : List Requested) × Asks rs requests
+    × Have [] None [] x (request_in contexts g left rs ∷ requests))
+    → Fails g left R rs ds
+    → (requests : List Requested) × Asks rs requests × Have [] None [] ds (request_in contexts g left rs ∷ requests)
+fails_have contexts g left Asks R rs ds goes p =
+    let q = goes rs p.2.0 p.2.2 in
+    let r = request_in contexts g left rs in
+    let all = map Send p.0 ++ p.2.0 in (
+      q.0,
+      q.1,
+      subst (λ (t : List Deed). Have [] None [] t (r ∷ q.0)) (sym p.2.1)
+          (subst (λ (t : List Pdu). AreResponded (IsOpen all) (r ∷ q.0) t)
+          (sym (data_behind p.0 p.2.0 (if_left_data g left p.0 p.1)))
+          (left_way (IsOpen all) contexts g left rs q.0 p.0 (data_in p.2.0) p.1
+          (responded_map (IsOpen p.2.0) (IsOpen all) (r ∷ q.0) (data_in p.2.0) (open_behind (map Send p.0) p.2.0)
+          q.2))),
+    )
+
+-- what is done behind a load
+loaded_have : (loaded : Option Prepared) (contexts : List Context) (g : Progress) (x : Listed) (left : List Listed)
+    (way : Way) (reply : Result ContentParts PortFault) (rs : List Reply)
+    (Asks Others : List Reply → List Requested → Type 0) (R R' : Goes) (ds : List Deed) → way_for contexts x ≡ Some way
+    → loaded_for x reply ≡ loaded → HaveAll contexts (Some (sending g x left)) Asks R
+    → ((rs : List Reply) (y : List Deed) → R' rs y → (requests : List Requested) × Others rs requests
+    × Have [] None [] y (request_in contexts (failing g x) left rs ∷ requests))
+    → SendsLoaded loaded g way (R rs) (R' rs) ds
+    → (requests : List Requested) × RequestsLoaded loaded (Asks rs) (Others rs) requests
+    × Have [] None [] ds (request_in contexts g (x ∷ left) (Loaded reply ∷ rs) ∷ requests)
+loaded_have None contexts g x left way reply rs Asks Others R R' ds is none sent unsent p =
+    let q = unsent rs ds p in (
+      q.0,
+      q.1,
+      subst (λ (r : Requested). Have [] None [] ds (r ∷ q.0)) (unloaded_same contexts g x left way reply rs is none)
+          q.2,
+    )
+loaded_have (Some prepared) contexts g x left way reply rs Asks Others R R' ds is some sent unsent p =
+    let q = sent rs p.2.0 p.2.2 in
+    let r = request_in contexts g (x ∷ left) (Loaded reply ∷ rs) in (
+      q.0,
+      q.1,
+      subst (λ (t : List Deed). Have [] None [] t (r ∷ q.0)) (sym p.2.1)
+          (sent_have contexts r (Some (sending g x left)) rs p.0 p.2.0 q.0 (sending_data _ _ p.0 p.1) q.2
+          (λ Open y. subst (λ (k : Requested). AreResponded Open (k ∷ q.0) (p.0 ++ data_in p.2.0))
+          (sent_same contexts g x left way reply rs prepared is some)
+          (way_carries Open contexts g.awaited (selected_by (sending g x left)) (made (accepts_of contexts) prepared)
+          (carried_of contexts left rs) (sub_operation g way prepared) q.0 p.0 (data_in p.2.0)
+          (sub_carries contexts g x way reply prepared is some) p.1 y))),
+    )
+
+load_have : (contexts : List Context) (g : Progress) (x : Listed) (left : List Listed) (way : Way)
+    (Asks Others : List Reply → List Requested → Type 0) (R R' : Goes) (rs : List Reply) (rest : List Deed)
+    → way_for contexts x ≡ Some way → HaveAll contexts (Some (sending g x left)) Asks R
+    → ((rs : List Reply) (y : List Deed) → R' rs y → (requests : List Requested) × Others rs requests
+    × Have [] None [] y (request_in contexts (failing g x) left rs ∷ requests))
+    → FollowsLoad g x way R R' rs rest
+    → (requests : List Requested) × RepliedLoad x Asks Others rs requests
+    × Have [] None [] (Ask (Load x.content) ∷ rest) (request_in contexts g (x ∷ left) rs ∷ requests)
+load_have contexts g x left way Asks Others R R' [] rest is sent unsent p =
+    ([], refl, unreplied (request_in contexts g (x ∷ left) []) [] (Load x.content) rest refl p)
+load_have contexts g x left way Asks Others R R' (Loaded reply ∷ rs) rest is sent unsent p =
+    let q = loaded_have (loaded_for x reply) contexts g x left way reply rs Asks Others R R' rest is refl sent unsent p
+    in (
+      q.0,
+      q.1,
+      have_before [] None [] (Ask (Load x.content) ∷ []) rest
+          (request_in contexts g (x ∷ left) (Loaded reply ∷ rs) ∷ q.0) refl q.2,
+    )
+load_have contexts g x left way Asks Others R R' (Stored reply ∷ rs) rest is sent unsent p = absurd p
+load_have contexts g x left way Asks Others R R' (Found reply ∷ rs) rest is sent unsent p = absurd p
+load_have contexts g x left way Asks Others R R' (Gotten reply ∷ rs) rest is sent unsent p = absurd p
+
+loads_have : (way : Option Way) (contexts : List Context) (g : Progress) (x : Listed) (left : List Listed)
+    (Asks Others : List Reply → List Requested → Type 0) (R R' : Goes) (rs : List Reply) (ds : List Deed)
+    → way_for contexts x ≡ way → HaveAll contexts (Some (sending g x left)) Asks R
+    → ((rs : List Reply) (y : List Deed) → R' rs y → (requests : List Requested) × Others rs requests
+    × Have [] None [] y (request_in contexts (failing g x) left rs ∷ requests))
+    → LoadsBy way g x R R' rs ds
+    → (requests : List Requested) × RequestsByWay way x Asks Others rs requests
+    × Have [] None [] ds (request_in contexts g (x ∷ left) rs ∷ requests)
+loads_have None contexts g x left Asks Others R R' rs ds is sent unsent p =
+    let q = unsent rs ds p in (
+      q.0,
+      q.1,
+      subst (λ (r : Requested). Have [] None [] ds (r ∷ q.0)) (unsent_same contexts g x left rs is) q.2,
+    )
+loads_have (Some way) contexts g x left Asks Others R R' rs ds is sent unsent p =
+    let q = load_have contexts g x left way Asks Others R R' rs p.0 is sent unsent p.2 in (
+      q.0,
+      q.1,
+      subst (λ (t : List Deed). Have [] None [] t (request_in contexts g (x ∷ left) rs ∷ q.0)) (sym p.1) q.2,
+    )
+
+-- Sub-operations are begun, and behind them stands what is responded then.
+begins_have : (contexts : List Context) (g : Progress) (left : List Listed) (Asks : RequestsBy) (R : GoesBy)
+    (rs : List Reply) (ds : List Deed) → g.awaited.command.field ≡ C_GET_RQ → HaveBy Sta6 contexts Asks R
+    → Begins contexts g left R rs ds
+    → (requests : List Requested) × RequestsBegun contexts g left Asks rs requests
+    × Have [] None [] ds (request_in contexts g left rs ∷ requests)
+begins_have contexts g [] Asks R rs ds is goes p =
+    let q = goes None tt rs p.2.0 p.2.2 in
+    let body = failed_set g.syntax g.counts.failed in
+    let last = counting g (final_status g.counts) None body in (
+      q.0,
+      q.1,
+      subst (λ (t : List Deed). Have [] None [] t (request_in contexts g [] rs ∷ q.0)) (sym p.2.1)
+          (sent_have [] (request_in contexts g [] rs) None [] p.0 p.2.0 q.0 (sending_data _ _ p.0 p.1) q.2
+          (λ Open x. way_last Open (request_in contexts g [] rs) last q.0 p.0 (data_in p.2.0)
+          (counting_is g [] (final_status g.counts) None body false (counts_final g.counts) refl) p.1 x)),
+    )
+begins_have contexts g (x ∷ left) Asks R rs ds is goes p =
+    loads_have (way_for contexts x) contexts g x left (Asks (Some (sending g x left)))
+    (RequestsBegun contexts (failing g x) left Asks) (R (Some (sending g x left)))
+    (Fails (failing g x) left (Begins contexts (failing g x) left R)) rs ds refl
+    (goes (Some (sending g x left)) (is, tt))
+    (λ rs' y. fails_have contexts (failing g x) left (RequestsBegun contexts (failing g x) left Asks)
+    (Begins contexts (failing g x) left R) rs' y (λ rs'' z. begins_have contexts (failing g x) left Asks R rs'' z is
+    goes)) p
+
+few_have : (few : Option (List Listed)) (contexts : List Context) (a : Awaited) (syntax : Syntax) (Asks : RequestsBy)
+    (R : GoesBy) (rs : List Reply) (rest : List Deed) → a.command.field ≡ C_GET_RQ → HaveBy Sta6 contexts Asks R
+    → BeginsFew contexts a syntax few R (R None) rs rest
+    → (requests : List Requested) × FewRequests few contexts a syntax Asks rs requests × Have [] None [] rest requests
+few_have None contexts a syntax Asks R rs rest is goes p =
+    let q = tells_have a UnableToPerformSubOperations (Asks None rs) (R None rs) rest refl (goes None tt rs) p in
     (plain a ∷ q.0, (q.0, refl, q.1), q.2)
-few_have (Some prepared) contexts a syntax Asks R rest is goes p =
-    let q = begins_have contexts (setting_out a syntax) prepared Asks R rest is goes p in (
-      selecting contexts a (length prepared) prepared ∷ q.0,
+few_have (Some left) contexts a syntax Asks R rs rest is goes p =
+    let q = begins_have contexts (setting_out a syntax) left Asks R rs rest is goes p in (
+      selecting contexts a (length left) left rs ∷ q.0,
       (q.0, refl, q.1),
-      subst (λ (r : Requested). Have [] None rest (r ∷ q.0))
-          (ap (λ (n : ℕ). selecting contexts a n prepared) (starts_with_all a syntax prepared)) q.2,
+      subst (λ (r : Requested). Have [] None [] rest (r ∷ q.0))
+          (ap (λ (n : ℕ). selecting contexts a n left rs) (starts_with_all a syntax left)) q.2,
     )
 
 fetched_have : (contexts : List Context) (a : Awaited) (getting : Getting) (syntax : Syntax) (Asks : RequestsBy)
     (R : GoesBy) (rs : List Reply) (rest : List Deed) → a.command.field ≡ C_GET_RQ
     → HaveBy Sta6 contexts Asks R → FollowsGet contexts a syntax R (R None) rs rest
     → (requests : List Requested) × RepliedGet contexts a syntax Asks rs requests
-    × Have [] None (Ask (Get getting) ∷ rest) requests
+    × Have [] None [] (Ask (Get getting) ∷ rest) requests
 fetched_have contexts a getting syntax Asks R [] rest is goes p =
-    (plain a ∷ [], refl, unreplied a [] (Get getting) rest refl p)
+    (plain a ∷ [], refl, unreplied (plain a) [] (Get getting) rest refl p)
 fetched_have contexts a getting syntax Asks R (Gotten reply ∷ rs) rest is goes p =
-    let q = few_have (few_in reply) contexts a syntax (λ next. Asks next rs) (λ next. R next rs) rest is
-    (λ next get. goes next get rs) p in
-    (q.0, q.1, have_before [] None (Ask (Get getting) ∷ []) rest q.0 refl q.2)
+    let q = few_have (few_in reply) contexts a syntax Asks R rs rest is goes p in
+    (q.0, q.1, have_before [] None [] (Ask (Get getting) ∷ []) rest q.0 refl q.2)
 fetched_have contexts a getting syntax Asks R (Stored reply ∷ rs) rest is goes p = absurd p
 fetched_have contexts a getting syntax Asks R (Found reply ∷ rs) rest is goes p = absurd p
+fetched_have contexts a getting syntax Asks R (Loaded reply ∷ rs) rest is goes p = absurd p
 
 closed_quiet : (ds : List Deed) → IsOrderly Sta1 ds → data_in ds ≡ []
 closed_quiet [] p = refl
@@ -605,12 +687,12 @@ module _ (titles : List (Title View)) where
 
   -- one request more
   more : (ds now rest : List Deed) (a : Awaited) (Asks : List Requested → Type 0) → ds ≡ now ++ rest
-      → (requests : List Requested) × Asks requests × Have [] None (now ++ rest) (plain a ∷ requests)
-      → (requests : List Requested) × Precedes (plain a) Asks requests × Have [] None ds requests
+      → (requests : List Requested) × Asks requests × Have [] None [] (now ++ rest) (plain a ∷ requests)
+      → (requests : List Requested) × Precedes (plain a) Asks requests × Have [] None [] ds requests
   more ds now rest a Asks is q = (
     plain a ∷ q.0,
     (q.0, refl, q.1),
-    subst (λ (t : List Deed). Have [] None t (plain a ∷ q.0)) (sym is)
+    subst (λ (t : List Deed). Have [] None [] t (plain a ∷ q.0)) (sym is)
         q.2,
   )
 
@@ -619,13 +701,13 @@ module _ (titles : List (Title View)) where
       → Serves w m service → HaveBy Sta6 w.link.contexts Asks R → HaveAll [] None Gone R'
       → Does service w.link.contexts (awaiting w.link m) (row titles w.state events.LocalAbort) R R' rs ds
       → (requests : List Requested) × RequestFor service w.link.contexts (awaiting w.link m) Asks Gone rs requests
-      × Have [] None ds requests
+      × Have [] None [] ds requests
   does_have w m Ignored Asks Gone R R' rs ds serves goes gone p = goes None tt rs ds p
   does_have w m Broken Asks Gone R R' rs ds serves goes gone p =
       let q = gone rs p.0 p.2 in (
         q.0,
         q.1,
-        subst (λ (t : List Deed). Have [] None t q.0) (sym p.1) (have_before [] None (row titles w.state
+        subst (λ (t : List Deed). Have [] None [] t q.0) (sym p.1) (have_before [] None [] (row titles w.state
             events.LocalAbort) p.0 q.0 (row_quiet titles w.state events.LocalAbort p.0) q.2),
       )
   does_have w m (Responded status) Asks Gone R R' rs ds serves goes gone p =
@@ -641,35 +723,37 @@ module _ (titles : List (Title View)) where
   does_have w m (Fetched getting syntax) Asks Gone R R' rs ds serves goes gone p =
       let q = fetched_have w.link.contexts (awaiting w.link m) getting syntax Asks R rs p.0
       (served_get w m getting syntax serves) goes p.2 in
-      (q.0, q.1, subst (λ (t : List Deed). Have [] None t q.0) (sym p.1) q.2)
+      (q.0, q.1, subst (λ (t : List Deed). Have [] None [] t q.0) (sym p.1) q.2)
 
-  by_have : (cancelled : Bool) (contexts : List Context) (g : Progress) (left : List Prepared) (pdus : List Pdu)
+  by_have : (cancelled : Bool) (contexts : List Context) (g : Progress) (left : List Listed) (pdus : List Pdu)
       (next : Option Retrieval) (Asks : RequestsBy) (R : GoesBy) (rs : List Reply) (ds : List Deed)
       → g.awaited.command.field ≡ C_GET_RQ → RespondsBy cancelled g left pdus next → HaveBy Sta6 contexts Asks R
       → Then (map Send pdus) (GoesOnBy next contexts R rs) ds
-      → (requests : List Requested) × Asks (next_of_get cancelled contexts g left) rs requests
-      × Have [] None ds (request_in contexts g left ∷ requests)
+      → (requests : List Requested) × RequestsBehind cancelled contexts g left Asks rs requests
+      × Have [] None [] ds (request_in contexts g left rs ∷ requests)
   by_have true contexts g left pdus next Asks R rs ds is told goes p =
       let body = failed_set g.syntax g.counts.failed in
+      let r = request_in contexts g left rs in
       let q = goes None tt rs p.0 (subst (λ (n : Option Retrieval). GoesOnBy n contexts R rs p.0) told.1 p.2) in (
         q.0,
         q.1,
-        subst (λ (t : List Deed). Have [] None t (request_in contexts g left ∷ q.0)) (sym p.1)
-            (sent_have [] (request_in contexts g left) None pdus p.0 q.0 (sending_data _ _ pdus told.0) q.2
-            (λ Open x. way_last Open (request_in contexts g left) (counting g Cancel (Some (length left)) body) q.0 pdus
+        subst (λ (t : List Deed). Have [] None [] t (r ∷ q.0)) (sym p.1)
+            (sent_have [] r None [] pdus p.0 q.0 (sending_data _ _ pdus told.0) q.2
+            (λ Open x. way_last Open r (counting g Cancel (Some (length left)) body) q.0 pdus
             (data_in p.0) (counting_is g left Cancel (Some (length left)) body false refl refl) told.0 x)),
       )
   by_have false contexts g left pdus next Asks R rs ds is told goes p =
-      let q = begins_have contexts g left (λ n. Asks n rs) (λ n. R n rs) p.0 is (λ n get. goes n get rs)
-      (subst (λ (n : Option Retrieval). GoesOnBy n contexts R rs p.0) told.1 p.2) in (
+      let q = begins_have contexts g left Asks R rs p.0 is goes
+      (subst (λ (n : Option Retrieval). GoesOnBy n contexts R rs p.0) told.1 p.2) in
+      let r = request_in contexts g left rs in
+      let all = map Send pdus ++ p.0 in (
         q.0,
         q.1,
-        subst (λ (t : List Deed). Have [] None t (request_in contexts g left ∷ q.0)) (sym p.1)
-            (subst (λ (t : List Pdu). AreResponded (IsOpen (map Send pdus ++ p.0)) (request_in contexts g left ∷ q.0)
-            t) (sym (data_behind pdus p.0 (responds_by_data false g left pdus next told)))
-            (left_way (IsOpen (map Send pdus ++ p.0)) contexts g left q.0 pdus (data_in p.0) told.0
-            (responded_map (IsOpen p.0) (IsOpen (map Send pdus ++ p.0)) (request_in contexts g left ∷ q.0) (data_in p.0)
-            (open_behind (map Send pdus) p.0) q.2))),
+        subst (λ (t : List Deed). Have [] None [] t (r ∷ q.0)) (sym p.1)
+            (subst (λ (t : List Pdu). AreResponded (IsOpen all) (r ∷ q.0) t)
+            (sym (data_behind pdus p.0 (responds_by_data false g left pdus next told)))
+            (left_way (IsOpen all) contexts g left rs q.0 pdus (data_in p.0) told.0
+            (responded_map (IsOpen p.0) (IsOpen all) (r ∷ q.0) (data_in p.0) (open_behind (map Send pdus) p.0) q.2))),
       )
 
   performs_have : (w : Within) (meaning : Meaning) (sub : SubOperation) (Asks : RequestsBy)
@@ -678,23 +762,23 @@ module _ (titles : List (Title View)) where
       → ((rs : List Reply) (x : List Deed) → R' rs x → data_in x ≡ [])
       → Performs meaning sub w.link.contexts (row titles w.state events.LocalAbort) R R' rs ds
       → (requests : List Requested) × RequestWithin meaning sub w.link.contexts Asks Gone rs requests
-      × Have w.link.contexts (Some sub) ds requests
+      × Have w.link.contexts (Some sub) rs ds requests
   performs_have w Cancelled sub Asks Gone R R' rs ds is goes gone quiet p = goes (Some (cancelling sub)) is rs ds p
   performs_have w Unawaited sub Asks Gone R R' rs ds is goes gone quiet p =
       let no_data : data_in ds ≡ [] = ap data_in p.1 ∙ row_quiet titles w.state events.LocalAbort p.0
       ∙ quiet rs p.0 p.2 in (
         [],
         refl,
-        subst (λ (t : List Pdu). AreResponded (IsOpen ds) (open_in w.link.contexts (Some sub) []) t)
+        subst (λ (t : List Pdu). AreResponded (IsOpen ds) (open_in w.link.contexts (Some sub) rs []) t)
             (sym no_data) (way_open (IsOpen ds) (selecting w.link.contexts sub.progress.awaited (selected_by sub)
-            sub.left) (inr is.0)),
+            sub.left rs) (inr is.0)),
       )
   performs_have w (Performed outcome) sub Asks Gone R R' rs ds is goes gone quiet p =
       let q = by_have sub.cancelled w.link.contexts (performed sub outcome) sub.left p.0 p.1 Asks R rs ds is.0 p.2
       goes p.3 in (
         q.0,
         q.1,
-        subst (λ (r : Requested). Have [] None ds (r ∷ q.0)) (performed_same w.link.contexts sub outcome) q.2,
+        subst (λ (r : Requested). Have [] None [] ds (r ∷ q.0)) (performed_same w.link.contexts sub outcome rs) q.2,
       )
 
   attends_have : (sub : Option SubOperation) (w : Within) (m : Message) (us : List Heard) (rs : List Reply)
@@ -705,7 +789,7 @@ module _ (titles : List (Title View)) where
       → Attends sub w m (row titles w.state events.LocalAbort) (λ next. Talks titles w next us)
       (Talks titles (met titles w events.LocalAbort) None us) rs ds
       → (requests : List Requested) × RequestOf sub w m (λ next. Requests titles w next us)
-      (Requests titles (met titles w events.LocalAbort) None us) rs requests × Have w.link.contexts sub ds requests
+      (Requests titles (met titles w events.LocalAbort) None us) rs requests × Have w.link.contexts sub rs ds requests
   attends_have None w m us rs ds opened is goes gone p =
       let q = does_have w m p.0 (λ next. Requests titles w next us) (Requests titles (met titles w events.LocalAbort)
       None us) (λ next. Talks titles w next us) (Talks titles (met titles w events.LocalAbort) None us) rs ds p.1 goes
@@ -726,17 +810,17 @@ module _ (titles : List (Title View)) where
       (Talks titles (met titles w events.LocalAbort) None us)) (Talks titles w sub us) rs ds
       → (requests : List Requested) × RequestIn s (RequestOf sub w m (λ next. Requests titles w next us)
       (Requests titles (met titles w events.LocalAbort) None us)) (Requests titles w sub us) rs requests
-      × Have w.link.contexts sub ds requests
+      × Have w.link.contexts sub rs ds requests
   said_have Sta1 sub w m us rs ds opened is goes gone p = goes sub is rs ds p
   said_have Sta2 sub w m us rs ds opened is goes gone p = goes sub is rs ds p
   said_have Sta6 sub w m us rs ds opened is goes gone p = attends_have sub w m us rs ds opened is goes gone p
   said_have Sta13 sub w m us rs ds opened is goes gone p = goes sub is rs ds p
 
-  none_have : (state : State) (contexts : List Context) (sub : Option SubOperation) → IsGetIn state sub
-      → Have contexts sub [] []
-  none_have state contexts None is = refl
-  none_have state contexts (Some sub) is =
-      way_open (IsOpen []) (selecting contexts sub.progress.awaited (selected_by sub) sub.left) (inr is.0)
+  none_have : (state : State) (contexts : List Context) (sub : Option SubOperation) (rs : List Reply)
+      → IsGetIn state sub → Have contexts sub rs [] []
+  none_have state contexts None rs is = refl
+  none_have state contexts (Some sub) rs is =
+      way_open (IsOpen []) (selecting contexts sub.progress.awaited (selected_by sub) sub.left rs) (inr is.0)
 
   -- What was agreed stays,
   still_asked : (state : State) (request : Request) (r : Result View Reject) → value_for titles request ≡ r
@@ -795,12 +879,12 @@ module _ (titles : List (Title View)) where
   get_met w event None is = tt
   get_met w event (Some sub) is = (is.0, still_settled w.state event is.1)
 
-  have_met : (w : Within) (event : Event) (sub : Option SubOperation) (ds : List Deed) (requests : List Requested)
-      → IsGetIn w.state sub → Have (met titles w event).link.contexts sub ds requests
-      → Have w.link.contexts sub ds requests
-  have_met w event None ds requests is p = p
-  have_met w event (Some sub) ds requests is p =
-      subst (λ (l : Link). Have l.contexts (Some sub) ds requests) (agreed_before w.state (next_of w.state (kind_for
+  have_met : (w : Within) (event : Event) (sub : Option SubOperation) (rs : List Reply) (ds : List Deed)
+      (requests : List Requested) → IsGetIn w.state sub → Have (met titles w event).link.contexts sub rs ds requests
+      → Have w.link.contexts sub rs ds requests
+  have_met w event None rs ds requests is p = p
+  have_met w event (Some sub) rs ds requests is p =
+      subst (λ (l : Link). Have l.contexts (Some sub) rs ds requests) (agreed_before w.state (next_of w.state (kind_for
       titles event)) (limit_in event) (settled_by w.state titles event w.settled) w.link is.1) p
 
   pub responded : (us : List Heard) (w : Within) (sub : Option SubOperation) (rs : List Reply) (ds : List Deed)
@@ -808,16 +892,16 @@ module _ (titles : List (Title View)) where
   responded [] w sub rs ds is p = (
     [],
     refl,
-    subst (λ (t : List Deed). Have w.link.contexts sub t []) (sym p) (none_have w.state w.link.contexts sub
-        is),
+    subst (λ (t : List Deed). Have w.link.contexts sub rs t []) (sym p)
+        (none_have w.state w.link.contexts sub rs is),
   )
   responded (Met event ∷ us) w sub rs ds is p =
       let q = responded us (met titles w event) sub rs p.0 (get_met w event sub is) p.2 in (
         q.0,
         q.1,
-        subst (λ (t : List Deed). Have w.link.contexts sub t q.0) (sym p.1) (have_before w.link.contexts sub
+        subst (λ (t : List Deed). Have w.link.contexts sub rs t q.0) (sym p.1) (have_before w.link.contexts sub rs
             (row titles w.state event) p.0 q.0 (row_quiet titles w.state event p.0)
-            (have_met w event sub p.0 q.0 is q.2)),
+            (have_met w event sub rs p.0 q.0 is q.2)),
       )
   responded (Said m ∷ us) w sub rs ds is p = said_have w.state sub w m us rs ds refl is
       (λ next get rs' x. responded us w next rs' x get)

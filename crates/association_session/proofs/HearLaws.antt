@@ -27,7 +27,7 @@ use Rattle.association_services.specs.declared.service.RowKind.{RowKind}
 use Rattle.association_session.specs.declared.pending_response.Telling.{Telling}
 use Rattle.association_session.specs.declared.event.SessionEvent.{SessionEvent}
 use Rattle.association_services.specs.declared.reply.PortFault.{PortFault}
-use Rattle.association_session.specs.PendingResponse.{IsAnswered, Fits}
+use Rattle.association_session.specs.PendingResponse.{IsAnswered, IsAnsweredOrLoads, Fits}
 use Rattle.association_services.specs.Find.{rows_in, status_of_found}
 use Rattle.association_services.proofs.DataLaws.{AreData, sending_data}
 use Rattle.association_session.proofs.DataLaws.{data_state}
@@ -46,7 +46,7 @@ use Rattle.association_session.specs.Projections.{state_after}
 use Rattle.association_services.specs.Response.{Awaited, FitsLimit}
 use Rattle.association_services.specs.Retrieval.{few_in, setting_out}
 use Rattle.association_services.specs.SubOperation.{Retrieval, SubOperation}
-use Rattle.archive_model.specs.declared.prepared.Prepared.{Prepared}
+use Rattle.archive_model.specs.declared.listed.Listed.{Listed}
 use Rattle.data_set.specs.declared.syntax.Syntax.{Syntax}
 use Rattle.dimse.specs.declared.status.Status.TheVariants.{UnableToPerformSubOperations}
 use Rattle.association_session.specs.Row.{Within, Link, row, met, agreed_by, limit_in, handed_on}
@@ -250,6 +250,15 @@ none_fits a none = subst (λ (o : Option PendingResponse). Fits o) (sym none) tt
 
 pub none_answered : (a : Option PendingResponse) → a ≡ None → IsAnswered a
 none_answered a none = subst (λ (o : Option PendingResponse). IsAnswered o) (sym none) tt
+
+pub answered_or_loads : (a : Option PendingResponse) → IsAnswered a → IsAnsweredOrLoads a
+answered_or_loads None answered = tt
+answered_or_loads (Some (pendings.Store awaited)) answered = absurd answered
+answered_or_loads (Some (pendings.Find awaited kind)) answered = absurd answered
+answered_or_loads (Some (pendings.Rows telling)) answered = tt
+answered_or_loads (Some (pendings.Get awaited syntax)) answered = absurd answered
+answered_or_loads (Some (pendings.Sending r)) answered = tt
+answered_or_loads (Some (pendings.Load l)) answered = absurd answered
 
 told_from : (event : SessionEvent) (old : Option PendingResponse) → IsToldBy event old None
 told_from (Replied reply) old = tt
@@ -735,14 +744,14 @@ found_rows titles now new awaited kind telling reply deeds has within sub stage 
 
 -- a reply to a get: its sub-operations are left to be begun
 pub gotten_left : (titles : List (Title View)) (now new : AssociationState) (awaited : Awaited) (syntax : Syntax)
-    (reply : Result (List Prepared) PortFault) (prepared : List Prepared) (retrieval : Retrieval) (deeds : List Deed)
+    (reply : Result (List Listed) PortFault) (listed : List Listed) (retrieval : Retrieval) (deeds : List Deed)
     → now.awaited ≡ Some (pendings.Get awaited syntax) → new.within ≡ now.within → new.sub ≡ now.sub
     → new.stage ≡ now.stage → new.awaited ≡ Some (pendings.Sending retrieval) → new.queue ≡ now.queue
-    → few_in reply ≡ Some prepared → retrieval ≡ record { progress = setting_out awaited syntax; left = prepared }
+    → few_in reply ≡ Some listed → retrieval ≡ record { progress = setting_out awaited syntax; left = listed }
     → FitsLimit awaited.limit → deeds ≡ [] → Turned titles now (Replied (Gotten reply)) deeds new
-gotten_left titles now new awaited syntax reply prepared retrieval deeds has within sub stage pending queue few is fits
+gotten_left titles now new awaited syntax reply listed retrieval deeds has within sub stage pending queue few is fits
     none =
-    let left : PendingResponse = pendings.Sending (record { progress = setting_out awaited syntax; left = prepared }) in
+    let left : PendingResponse = pendings.Sending (record { progress = setting_out awaited syntax; left = listed }) in
     let pending_is : new.awaited ≡ Some left = pending ∙ ap (λ (t : Retrieval). Some (pendings.Sending t)) is in
     record {
       said = [];
@@ -755,8 +764,8 @@ gotten_left titles now new awaited syntax reply prepared retrieval deeds has wit
           (subst (λ (t : List Deed). FollowsGet now.within.link.contexts awaited syntax
           (λ next. Talks titles now.within next us) (Talks titles now.within now.sub us) (Gotten reply ∷ rs)
           (t ++ rest)) (sym none)
-          (subst (λ (o : Option (List Prepared)). BeginsFew now.within.link.contexts awaited syntax o
-          (λ next. Talks titles now.within next us rs) (Talks titles now.within now.sub us rs) rest) (sym few)
+          (subst (λ (o : Option (List Listed)). BeginsFew now.within.link.contexts awaited syntax o
+          (λ next. Talks titles now.within next us) (Talks titles now.within now.sub us) rs rest) (sym few)
           (owed_at titles new now.within now.sub (Some left) us rs rest within sub pending_is owed)));
       stops = subst (λ (t : List Deed). Stops t new.awaited) (sym none)
           (subst (λ (a : Option PendingResponse). IsAnswered a) (sym pending_is) tt);
@@ -769,7 +778,7 @@ gotten_left titles now new awaited syntax reply prepared retrieval deeds has wit
 
 -- a reply to a get that is refused
 pub gotten_none : (titles : List (Title View)) (now new : AssociationState) (awaited shown : Awaited) (syntax : Syntax)
-    (reply : Result (List Prepared) PortFault) (deeds : List Deed)
+    (reply : Result (List Listed) PortFault) (deeds : List Deed)
     → now.awaited ≡ Some (pendings.Get awaited syntax) → new.within ≡ now.within → new.sub ≡ now.sub
     → new.stage ≡ now.stage → new.awaited ≡ None → new.queue ≡ now.queue → shown ≡ awaited → few_in reply ≡ None
     → IsTold shown UnableToPerformSubOperations deeds → Turned titles now (Replied (Gotten reply)) deeds new
@@ -784,8 +793,8 @@ gotten_none titles now new awaited shown syntax reply deeds has within sub stage
           subst (λ (a : Option PendingResponse). OwedAt titles now.within now.sub a us (Gotten reply ∷ rs)
           (deeds ++ rest))
           (sym has)
-          (subst (λ (o : Option (List Prepared)). BeginsFew now.within.link.contexts awaited syntax o
-          (λ next. Talks titles now.within next us rs) (Talks titles now.within now.sub us rs) (deeds ++ rest))
+          (subst (λ (o : Option (List Listed)). BeginsFew now.within.link.contexts awaited syntax o
+          (λ next. Talks titles now.within next us) (Talks titles now.within now.sub us) rs (deeds ++ rest))
           (sym few)
           (tells awaited UnableToPerformSubOperations deeds rest (Talks titles now.within now.sub us rs) told_here
           (owed_at titles new now.within now.sub None us rs rest within sub none owed)));

@@ -18,7 +18,7 @@ use Rattle.ul_state.specs.Table.{next_of}
 use Rattle.ul_state.specs.Acceptor.{action_on, kind_for}
 use Rattle.dimse.specs.declared.message.Message.{Message}
 use Rattle.dimse.specs.declared.status.Status.{Status}
-use Rattle.association_services.specs.declared.call.Call.TheVariants.{Store, Find, Get}
+use Rattle.association_services.specs.declared.call.Call.TheVariants.{Store, Find, Get, Load}
 use Rattle.association_session.specs.declared.deed.Deed.{Deed}
 use Rattle.association_session.specs.declared.deed.Deed.TheVariants.{Send, Reach, Ask}
 use Rattle.association_session.specs.declared.deed.Moment.TheVariants.{InStore, FindAnswered}
@@ -27,18 +27,19 @@ use Rattle.association_services.specs.declared.service.RowKind.{RowKind}
 use Rattle.data_set.specs.Set.{Set}
 use Rattle.operation.specs.Parts.{ContentParts}
 use Rattle.association_services.specs.declared.reply.Reply.{Reply}
-use Rattle.association_services.specs.declared.reply.Reply.TheVariants.{Stored, Found, Gotten}
+use Rattle.association_services.specs.declared.reply.Reply.TheVariants.{Stored, Found, Gotten, Loaded}
 use Rattle.association_services.specs.declared.service.Service.{Service}
 use Rattle.association_services.specs.declared.service.Service.TheVariants.{Ignored, Broken, Responded, Asked}
 use Rattle.association_services.specs.declared.service.Service.TheVariants.{Queried, Fetched}
 use Rattle.association_services.specs.Find.{rows_in, status_of_found}
-use Rattle.association_services.proofs.DataLaws.{sending_data, rows_data, sends_on_data, responds_by_data}
+use Rattle.association_services.proofs.DataLaws.{AreData, sending_data, rows_data, if_left_data, responds_by_data}
 use Rattle.association_session.proofs.DataLaws.{data_orderly}
 use Rattle.association_session.specs.Order.{IsOrderly, IsReplied}
 use Rattle.association_services.specs.Response.{Awaited}
-use Rattle.association_services.specs.Retrieval.{few_in, setting_out, begun, meaning_of}
+use Rattle.association_services.specs.Retrieval.{few_in, setting_out, way_for, loaded_for, failing, sending}
+use Rattle.association_services.specs.Retrieval.{sub_operation}
+use Rattle.association_services.specs.Retrieval.{meaning_of, performed, cancelling, RespondsIfLeft, RespondsEnd}
 use Rattle.association_services.specs.SubOperation.{Retrieval, SubOperation}
-use Rattle.association_services.specs.Retrieval.{performed, cancelling}
 use Rattle.association_services.specs.declared.call.Getting.{Getting}
 use Rattle.association_services.specs.declared.retrieval.Meaning.{Meaning}
 use Rattle.association_services.specs.declared.retrieval.Meaning.TheVariants.{Cancelled, Performed, Unawaited}
@@ -46,12 +47,17 @@ use Rattle.association_services.specs.declared.retrieval.Progress.{Progress}
 use Rattle.data_set.specs.declared.syntax.Syntax.{Syntax}
 use Rattle.dimse.specs.declared.status.Status.TheVariants.{UnableToPerformSubOperations}
 use Rattle.pdu.specs.declared.context.Context.{Context}
+use Rattle.archive_model.specs.declared.listed.Listed.{Listed}
 use Rattle.archive_model.specs.declared.prepared.Prepared.{Prepared}
+use Rattle.association_services.specs.declared.way.Way.{Way}
+use Rattle.dimse.specs.Sending.{IsSending}
 use Rattle.association_session.specs.Row.{Within, row, met, deeds_of}
 use Rattle.association_services.specs.Store.{status_of_reply}
 use Rattle.association_session.specs.Talks.{Heard, Met, Said, Goes, GoesBy, Then, Tells, TellsRows, FollowsStore}
 use Rattle.association_session.specs.Talks.{FollowsFind}
-use Rattle.association_session.specs.Talks.{FollowsGet, BeginsFew, Begins, Does, InState, GoesOnBy, Performs}
+use Rattle.association_session.specs.Talks.{Sends, SendsLoaded, FollowsLoad, Fails, LoadsBy, Begins, FollowsGet}
+use Rattle.association_session.specs.Talks.{BeginsFew}
+use Rattle.association_session.specs.Talks.{Does, InState, GoesOnBy, Performs}
 use Rattle.association_session.specs.Talks.{Attends, Talks}
 use Rattle.association_session.specs.Talks.{awaiting}
 use Rattle.archive_model.specs.declared.view.View.{View}
@@ -145,6 +151,7 @@ store_orderly awaited R (Stored reply ∷ rs) a goes p = tells_orderly awaited (
     a (goes rs) p
 store_orderly awaited R (Found reply ∷ rs) a goes p = absurd p
 store_orderly awaited R (Gotten reply ∷ rs) a goes p = absurd p
+store_orderly awaited R (Loaded reply ∷ rs) a goes p = absurd p
 
 find_orderly : (awaited : Awaited) (kind : RowKind) (R : Goes) (rs : List Reply) (a : List Deed)
     → ((rs : List Reply) (x : List Deed) → R rs x → IsOrderly Sta6 x) → FollowsFind awaited kind R rs a
@@ -154,32 +161,7 @@ find_orderly awaited kind R (Found reply ∷ rs) a goes p = rows_orderly awaited
     (status_of_found reply) (R rs) a (goes rs) p
 find_orderly awaited kind R (Stored reply ∷ rs) a goes p = absurd p
 find_orderly awaited kind R (Gotten reply ∷ rs) a goes p = absurd p
-
-begins_orderly : (contexts : List Context) (g : Progress) (left : List Prepared)
-    (R : Option SubOperation → List Deed → Type 0) (a : List Deed)
-    → ((next : Option SubOperation) (x : List Deed) → R next x → IsOrderly Sta6 x) → Begins contexts g left R a
-    → IsOrderly Sta6 a
-begins_orderly contexts g left R a goes p =
-    subst (λ (t : List Deed). IsOrderly Sta6 t) (sym p.2.1)
-    (data_orderly p.0 p.2.0 (sends_on_data contexts g left p.0 p.1) (goes (begun contexts g left) p.2.0 p.2.2))
-
-few_orderly : (few : Option (List Prepared)) (contexts : List Context) (awaited : Awaited) (syntax : Syntax)
-    (R : Option SubOperation → List Deed → Type 0) (R' : List Deed → Type 0) (a : List Deed)
-    → ((next : Option SubOperation) (x : List Deed) → R next x → IsOrderly Sta6 x)
-    → ((x : List Deed) → R' x → IsOrderly Sta6 x) → BeginsFew contexts awaited syntax few R R' a → IsOrderly Sta6 a
-few_orderly None contexts awaited syntax R R' a goes refused p = tells_orderly awaited UnableToPerformSubOperations R'
-    a refused p
-few_orderly (Some prepared) contexts awaited syntax R R' a goes refused p = begins_orderly contexts (setting_out
-    awaited syntax) prepared R a goes p
-
-get_orderly : (contexts : List Context) (awaited : Awaited) (syntax : Syntax) (R : GoesBy) (rs : List Reply)
-    (a : List Deed) → ((next : Option SubOperation) (rs : List Reply) (x : List Deed) → R next rs x → IsOrderly Sta6 x)
-    → FollowsGet contexts awaited syntax R (R None) rs a → IsOrderly Sta6 a
-get_orderly contexts awaited syntax R [] a goes p = subst (λ (t : List Deed). IsOrderly Sta6 t) (sym p) tt
-get_orderly contexts awaited syntax R (Gotten reply ∷ rs) a goes p = few_orderly (few_in reply) contexts awaited syntax
-    (λ next. R next rs) (R None rs) a (λ next. goes next rs) (goes None rs) p
-get_orderly contexts awaited syntax R (Stored reply ∷ rs) a goes p = absurd p
-get_orderly contexts awaited syntax R (Found reply ∷ rs) a goes p = absurd p
+find_orderly awaited kind R (Loaded reply ∷ rs) a goes p = absurd p
 
 -- what goes on is orderly, whichever sub-operation is awaited
 abbrev OrderlyBy : State → GoesBy → Type 0
@@ -187,6 +169,68 @@ OrderlyBy s R = (next : Option SubOperation) (rs : List Reply) (x : List Deed) �
 
 abbrev OrderlyGone : State → Goes → Type 0
 OrderlyGone s R = (rs : List Reply) (x : List Deed) → R rs x → IsOrderly s x
+
+sends_orderly : (Are : List Pdu → Type 0) (R : List Deed → Type 0) (a : List Deed)
+    → ((ps : List Pdu) → Are ps → AreData ps) → ((x : List Deed) → R x → IsOrderly Sta6 x) → Sends Are R a
+    → IsOrderly Sta6 a
+sends_orderly Are R a are_data goes p =
+    subst (λ (t : List Deed). IsOrderly Sta6 t) (sym p.2.1)
+    (data_orderly p.0 p.2.0 (are_data p.0 p.1) (goes p.2.0 p.2.2))
+
+loaded_orderly : (loaded : Option Prepared) (g : Progress) (way : Way) (R R' : List Deed → Type 0) (a : List Deed)
+    → ((x : List Deed) → R x → IsOrderly Sta6 x) → ((x : List Deed) → R' x → IsOrderly Sta6 x)
+    → SendsLoaded loaded g way R R' a → IsOrderly Sta6 a
+loaded_orderly None g way R R' a sent unsent p = unsent a p
+loaded_orderly (Some prepared) g way R R' a sent unsent p =
+    sends_orderly (IsSending (sub_operation g way prepared) g.awaited.limit) R a
+    (sending_data (sub_operation g way prepared) g.awaited.limit) sent p
+
+load_orderly : (g : Progress) (l : Listed) (way : Way) (R R' : Goes) (rs : List Reply) (a : List Deed)
+    → OrderlyGone Sta6 R → OrderlyGone Sta6 R' → FollowsLoad g l way R R' rs a → IsOrderly Sta6 a
+load_orderly g l way R R' [] a sent unsent p = subst (λ (t : List Deed). IsOrderly Sta6 t) (sym p) tt
+load_orderly g l way R R' (Loaded reply ∷ rs) a sent unsent p =
+    loaded_orderly (loaded_for l reply) g way (R rs) (R' rs) a (sent rs) (unsent rs) p
+load_orderly g l way R R' (Stored reply ∷ rs) a sent unsent p = absurd p
+load_orderly g l way R R' (Found reply ∷ rs) a sent unsent p = absurd p
+load_orderly g l way R R' (Gotten reply ∷ rs) a sent unsent p = absurd p
+
+loads_orderly : (way : Option Way) (g : Progress) (l : Listed) (R R' : Goes) (rs : List Reply) (a : List Deed)
+    → OrderlyGone Sta6 R → OrderlyGone Sta6 R' → LoadsBy way g l R R' rs a → IsOrderly Sta6 a
+loads_orderly None g l R R' rs a sent unsent p = unsent rs a p
+loads_orderly (Some way) g l R R' rs a sent unsent p = subst (λ (t : List Deed). IsOrderly Sta6 t) (sym p.1)
+    (tt, load_orderly g l way R R' rs p.0 sent unsent p.2)
+
+fails_orderly : (g : Progress) (left : List Listed) (R : Goes) → OrderlyGone Sta6 R
+    → OrderlyGone Sta6 (Fails g left R)
+fails_orderly g left R goes rs a p =
+    sends_orderly (RespondsIfLeft g left) (R rs) a (if_left_data g left) (goes rs) p
+
+begins_orderly : (contexts : List Context) (g : Progress) (left : List Listed) (R : GoesBy) → OrderlyBy Sta6 R
+    → OrderlyGone Sta6 (Begins contexts g left R)
+begins_orderly contexts g [] R goes rs a p =
+    sends_orderly (RespondsEnd g) (R None rs) a (λ ps. sending_data _ _ ps) (goes None rs) p
+begins_orderly contexts g (l ∷ left) R goes rs a p =
+    loads_orderly (way_for contexts l) g l (R (Some (sending g l left)))
+    (Fails (failing g l) left (Begins contexts (failing g l) left R)) rs a (goes (Some (sending g l left)))
+    (fails_orderly (failing g l) left (Begins contexts (failing g l) left R)
+    (begins_orderly contexts (failing g l) left R goes)) p
+
+few_orderly : (few : Option (List Listed)) (contexts : List Context) (awaited : Awaited) (syntax : Syntax) (R : GoesBy)
+    (R' : Goes) (rs : List Reply) (a : List Deed) → OrderlyBy Sta6 R → OrderlyGone Sta6 R'
+    → BeginsFew contexts awaited syntax few R R' rs a → IsOrderly Sta6 a
+few_orderly None contexts awaited syntax R R' rs a goes refused p = tells_orderly awaited UnableToPerformSubOperations
+    (R' rs) a (refused rs) p
+few_orderly (Some left) contexts awaited syntax R R' rs a goes refused p =
+    begins_orderly contexts (setting_out awaited syntax) left R goes rs a p
+
+get_orderly : (contexts : List Context) (awaited : Awaited) (syntax : Syntax) (R : GoesBy) (rs : List Reply)
+    (a : List Deed) → OrderlyBy Sta6 R → FollowsGet contexts awaited syntax R (R None) rs a → IsOrderly Sta6 a
+get_orderly contexts awaited syntax R [] a goes p = subst (λ (t : List Deed). IsOrderly Sta6 t) (sym p) tt
+get_orderly contexts awaited syntax R (Gotten reply ∷ rs) a goes p =
+    few_orderly (few_in reply) contexts awaited syntax R (R None) rs a goes (goes None) p
+get_orderly contexts awaited syntax R (Stored reply ∷ rs) a goes p = absurd p
+get_orderly contexts awaited syntax R (Found reply ∷ rs) a goes p = absurd p
+get_orderly contexts awaited syntax R (Loaded reply ∷ rs) a goes p = absurd p
 
 does_orderly : (titles : List (Title View)) (service : Service) (contexts : List Context) (awaited : Awaited)
     (R : GoesBy) (R' : Goes) (rs : List Reply) (a : List Deed) → OrderlyBy Sta6 R → OrderlyGone Sta13 R'
@@ -210,8 +254,7 @@ does_orderly titles (Fetched getting syntax) contexts awaited R R' rs a goes gon
 goes_on_orderly : (next : Option Retrieval) (contexts : List Context) (R : GoesBy) (rs : List Reply) (a : List Deed)
     → OrderlyBy Sta6 R → GoesOnBy next contexts R rs a → IsOrderly Sta6 a
 goes_on_orderly None contexts R rs a goes p = goes None rs a p
-goes_on_orderly (Some r) contexts R rs a goes p = begins_orderly contexts r.progress r.left (λ next. R next rs) a
-    (λ next. goes next rs) p
+goes_on_orderly (Some r) contexts R rs a goes p = begins_orderly contexts r.progress r.left R goes rs a p
 
 performs_orderly : (titles : List (Title View)) (meaning : Meaning) (sub : SubOperation) (contexts : List Context)
     (R : GoesBy) (R' : Goes) (rs : List Reply) (a : List Deed) → OrderlyBy Sta6 R → OrderlyGone Sta13 R'
@@ -301,6 +344,7 @@ stores_replied awaited R (Stored reply ∷ rs) x content goes p = tells_replied 
     x (goes rs) p
 stores_replied awaited R (Found reply ∷ rs) x content goes p = absurd p
 stores_replied awaited R (Gotten reply ∷ rs) x content goes p = absurd p
+stores_replied awaited R (Loaded reply ∷ rs) x content goes p = absurd p
 
 finds_replied : (awaited : Awaited) (kind : RowKind) (R : Goes) (rs : List Reply) (x : List Deed) (finding : Finding)
     → ((rs : List Reply) (x : List Deed) → R rs x → IsReplied rs x) → FollowsFind awaited kind R rs x
@@ -310,22 +354,7 @@ finds_replied awaited kind R (Found reply ∷ rs) x finding goes p = rows_replie
     (status_of_found reply) rs (R rs) x (goes rs) p
 finds_replied awaited kind R (Stored reply ∷ rs) x finding goes p = absurd p
 finds_replied awaited kind R (Gotten reply ∷ rs) x finding goes p = absurd p
-
-begins_replied : (contexts : List Context) (g : Progress) (left : List Prepared) (rs : List Reply)
-    (R : Option SubOperation → List Deed → Type 0) (a : List Deed)
-    → ((next : Option SubOperation) (x : List Deed) → R next x → IsReplied rs x) → Begins contexts g left R a
-    → IsReplied rs a
-begins_replied contexts g left rs R a goes p = subst (λ (t : List Deed). IsReplied rs t) (sym p.2.1)
-    (sends_replied rs p.0 p.2.0 (goes (begun contexts g left) p.2.0 p.2.2))
-
-few_replied : (few : Option (List Prepared)) (contexts : List Context) (awaited : Awaited) (syntax : Syntax)
-    (rs : List Reply) (R : Option SubOperation → List Deed → Type 0) (R' : List Deed → Type 0) (a : List Deed)
-    → ((next : Option SubOperation) (x : List Deed) → R next x → IsReplied rs x)
-    → ((x : List Deed) → R' x → IsReplied rs x) → BeginsFew contexts awaited syntax few R R' a → IsReplied rs a
-few_replied None contexts awaited syntax rs R R' a goes refused p = tells_replied awaited UnableToPerformSubOperations
-    rs R' a refused p
-few_replied (Some prepared) contexts awaited syntax rs R R' a goes refused p = begins_replied contexts (setting_out
-    awaited syntax) prepared rs R a goes p
+finds_replied awaited kind R (Loaded reply ∷ rs) x finding goes p = absurd p
 
 -- behind a call nothing is done before its reply, whichever sub-operation is awaited
 abbrev RepliedBy : GoesBy → Type 0
@@ -334,14 +363,62 @@ RepliedBy R = (next : Option SubOperation) (rs : List Reply) (x : List Deed) →
 abbrev RepliedGone : Goes → Type 0
 RepliedGone R = (rs : List Reply) (x : List Deed) → R rs x → IsReplied rs x
 
+send_replied : (Are : List Pdu → Type 0) (rs : List Reply) (R : List Deed → Type 0) (a : List Deed)
+    → ((x : List Deed) → R x → IsReplied rs x) → Sends Are R a → IsReplied rs a
+send_replied Are rs R a goes p = subst (λ (t : List Deed). IsReplied rs t) (sym p.2.1)
+    (sends_replied rs p.0 p.2.0 (goes p.2.0 p.2.2))
+
+loaded_replied : (loaded : Option Prepared) (g : Progress) (way : Way) (rs : List Reply) (R R' : List Deed → Type 0)
+    (a : List Deed) → ((x : List Deed) → R x → IsReplied rs x) → ((x : List Deed) → R' x → IsReplied rs x)
+    → SendsLoaded loaded g way R R' a → IsReplied rs a
+loaded_replied None g way rs R R' a sent unsent p = unsent a p
+loaded_replied (Some prepared) g way rs R R' a sent unsent p =
+    send_replied (IsSending (sub_operation g way prepared) g.awaited.limit) rs R a sent p
+
+load_replied : (g : Progress) (l : Listed) (way : Way) (R R' : Goes) (rs : List Reply) (x : List Deed)
+    → RepliedGone R → RepliedGone R' → FollowsLoad g l way R R' rs x → IsReplied rs (Ask (Load l.content) ∷ x)
+load_replied g l way R R' [] x sent unsent p = p
+load_replied g l way R R' (Loaded reply ∷ rs) x sent unsent p =
+    loaded_replied (loaded_for l reply) g way rs (R rs) (R' rs) x (sent rs) (unsent rs) p
+load_replied g l way R R' (Stored reply ∷ rs) x sent unsent p = absurd p
+load_replied g l way R R' (Found reply ∷ rs) x sent unsent p = absurd p
+load_replied g l way R R' (Gotten reply ∷ rs) x sent unsent p = absurd p
+
+loads_replied : (way : Option Way) (g : Progress) (l : Listed) (R R' : Goes) (rs : List Reply) (a : List Deed)
+    → RepliedGone R → RepliedGone R' → LoadsBy way g l R R' rs a → IsReplied rs a
+loads_replied None g l R R' rs a sent unsent p = unsent rs a p
+loads_replied (Some way) g l R R' rs a sent unsent p = subst (λ (t : List Deed). IsReplied rs t) (sym p.1)
+    (load_replied g l way R R' rs p.0 sent unsent p.2)
+
+fails_replied : (g : Progress) (left : List Listed) (R : Goes) → RepliedGone R → RepliedGone (Fails g left R)
+fails_replied g left R goes rs a p = send_replied (RespondsIfLeft g left) rs (R rs) a (goes rs) p
+
+begins_replied : (contexts : List Context) (g : Progress) (left : List Listed) (R : GoesBy) → RepliedBy R
+    → RepliedGone (Begins contexts g left R)
+begins_replied contexts g [] R goes rs a p = send_replied (RespondsEnd g) rs (R None rs) a (goes None rs) p
+begins_replied contexts g (l ∷ left) R goes rs a p =
+    loads_replied (way_for contexts l) g l (R (Some (sending g l left)))
+    (Fails (failing g l) left (Begins contexts (failing g l) left R)) rs a (goes (Some (sending g l left)))
+    (fails_replied (failing g l) left (Begins contexts (failing g l) left R)
+    (begins_replied contexts (failing g l) left R goes)) p
+
+few_replied : (few : Option (List Listed)) (contexts : List Context) (awaited : Awaited) (syntax : Syntax) (R : GoesBy)
+    (R' : Goes) (rs : List Reply) (a : List Deed) → RepliedBy R → RepliedGone R'
+    → BeginsFew contexts awaited syntax few R R' rs a → IsReplied rs a
+few_replied None contexts awaited syntax R R' rs a goes refused p = tells_replied awaited UnableToPerformSubOperations
+    rs (R' rs) a (refused rs) p
+few_replied (Some left) contexts awaited syntax R R' rs a goes refused p =
+    begins_replied contexts (setting_out awaited syntax) left R goes rs a p
+
 gets_replied : (contexts : List Context) (awaited : Awaited) (syntax : Syntax) (R : GoesBy) (rs : List Reply)
     (x : List Deed) (getting : Getting) → RepliedBy R → FollowsGet contexts awaited syntax R (R None) rs x
     → IsReplied rs (Ask (Get getting) ∷ x)
 gets_replied contexts awaited syntax R [] x getting goes p = p
-gets_replied contexts awaited syntax R (Gotten reply ∷ rs) x getting goes p = few_replied (few_in reply) contexts
-    awaited syntax rs (λ next. R next rs) (R None rs) x (λ next. goes next rs) (goes None rs) p
+gets_replied contexts awaited syntax R (Gotten reply ∷ rs) x getting goes p =
+    few_replied (few_in reply) contexts awaited syntax R (R None) rs x goes (goes None) p
 gets_replied contexts awaited syntax R (Stored reply ∷ rs) x getting goes p = absurd p
 gets_replied contexts awaited syntax R (Found reply ∷ rs) x getting goes p = absurd p
+gets_replied contexts awaited syntax R (Loaded reply ∷ rs) x getting goes p = absurd p
 
 does_replied : (service : Service) (contexts : List Context) (awaited : Awaited) (action : Option Action) (R : GoesBy)
     (R' : Goes) (rs : List Reply) (a : List Deed) → RepliedBy R → RepliedGone R'
@@ -362,8 +439,7 @@ does_replied (Fetched getting syntax) contexts awaited action R R' rs a goes gon
 goes_on_replied : (next : Option Retrieval) (contexts : List Context) (R : GoesBy) (rs : List Reply) (a : List Deed)
     → RepliedBy R → GoesOnBy next contexts R rs a → IsReplied rs a
 goes_on_replied None contexts R rs a goes p = goes None rs a p
-goes_on_replied (Some r) contexts R rs a goes p = begins_replied contexts r.progress r.left rs (λ next. R next rs) a
-    (λ next. goes next rs) p
+goes_on_replied (Some r) contexts R rs a goes p = begins_replied contexts r.progress r.left R goes rs a p
 
 performs_replied : (meaning : Meaning) (sub : SubOperation) (contexts : List Context) (action : Option Action)
     (R : GoesBy) (R' : Goes) (rs : List Reply) (a : List Deed) → RepliedBy R → RepliedGone R'

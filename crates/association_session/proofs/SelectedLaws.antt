@@ -6,7 +6,7 @@ use Rattle.archive_model.specs.declared.view.View.{View}
 use Rattle.data_set.specs.declared.syntax.Syntax.{Syntax}
 use Rattle.dimse.specs.declared.status.Status.{Status}
 use Rattle.pdu.specs.declared.value.Pdu.{Pdu}
-use Rattle.archive_model.specs.declared.prepared.Prepared.{Prepared}
+use Rattle.archive_model.specs.declared.listed.Listed.{Listed}
 use Rattle.ul_state.specs.declared.event.Event.TheVariants.{LocalAbort}
 use Rattle.ul_state.specs.declared.table.State.{State}
 use Rattle.ul_state.specs.declared.table.State.TheVariants.{Sta1, Sta2, Sta6, Sta13}
@@ -32,7 +32,7 @@ use Rattle.association_session.specs.Talks.{Heard, Goes, Then, GoesOnBy, Perform
 -- ---- its counts
 
 -- how many instances it selected: those that ended, and those that are left
-abbrev pub selected_in : Progress → List Prepared → ℕ
+abbrev pub selected_in : Progress → List Listed → ℕ
 selected_in g left = all_counted g.counts + length left
 
 -- one more is counted
@@ -43,7 +43,7 @@ counted_more Warned uid k = omega arith
 counted_more Failed uid k = omega (arith, length-append k.failed (uid ∷ []))
 
 -- In each response the counts add up to the instances that were selected,
-pub counts_add_up : (g : Progress) (left : List Prepared) (status : Status) (remaining : Option ℕ)
+pub counts_add_up : (g : Progress) (left : List Listed) (status : Status) (remaining : Option ℕ)
     (body : Option (List ℕ)) → remaining_in remaining ≡ length left
     → AddsUp (selected_in g left) (counting g status remaining body)
 counts_add_up g left status remaining body told = record {
@@ -57,16 +57,16 @@ counts_add_up g left status remaining body told = record {
 }
 
 -- and these stay: all that the port replied are selected at first; one that fails unsent leaves as many,
-pub starts_with_all : (a : Awaited) (syntax : Syntax) (prepared : List Prepared)
-    → selected_in (setting_out a syntax) prepared ≡ length prepared
-starts_with_all a syntax prepared = omega arith
+pub starts_with_all : (a : Awaited) (syntax : Syntax) (left : List Listed)
+    → selected_in (setting_out a syntax) left ≡ length left
+starts_with_all a syntax left = omega arith
 
-pub unsent_keeps_all : (g : Progress) (p : Prepared) (left : List Prepared) → selected_in (failing g p) left
+pub unsent_keeps_all : (g : Progress) (p : Listed) (left : List Listed) → selected_in (failing g p) left
     ≡ selected_in g (p ∷ left)
 unsent_keeps_all g p left = omega (arith, counted_more Failed p.content.instance g.counts)
 
 -- one that is sent does,
-pub sent_keeps_all : (g : Progress) (p : Prepared) (left : List Prepared) → selected_by (sending g p left)
+pub sent_keeps_all : (g : Progress) (p : Listed) (left : List Listed) → selected_by (sending g p left)
     ≡ selected_in g (p ∷ left)
 sent_keeps_all g p left = omega arith
 
@@ -77,7 +77,7 @@ performed_keeps_all sub outcome = omega (arith, counted_more outcome sub.instanc
 
 -- ---- a C-CANCEL
 
-cancelled_next : (b : Bool) (g : Progress) (left : List Prepared) (pdus : List Pdu) (next : Option Retrieval) → b ≡ true
+cancelled_next : (b : Bool) (g : Progress) (left : List Listed) (pdus : List Pdu) (next : Option Retrieval) → b ≡ true
     → RespondsBy b g left pdus next → RespondsCancel g left pdus × (next ≡ None)
 cancelled_next true g left pdus next is p = p
 cancelled_next false g left pdus next is p = absurd cc

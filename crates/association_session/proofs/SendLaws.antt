@@ -1,7 +1,7 @@
--- Sub-operations that are begun, one in each turn, and what is heard within a C-GET.
-use Rattle.std.proofs.Common.{◌≡◌, ℕ, ◌<◌, ◌≤◌, suc, Bool, true, false, List, [], ◌∷◌, ◌++◌, map, length}
-use Rattle.std.proofs.Common.{Option, Some}
-use Rattle.std.proofs.Common.{None, refl, sym, ap, subst, ◌∙◌, append_assoc, arith}
+-- Sub-operations that are begun, one in each turn, what is loaded for them, and what is heard within a C-GET.
+use Rattle.std.proofs.Common.{◌≡◌, ℕ, ◌≤◌, Bool, true, false, List, [], ◌∷◌, ◌++◌, map, length}
+use Rattle.std.proofs.Common.{Option, Some, Result}
+use Rattle.std.proofs.Common.{None, refl, sym, ap, subst, ◌∙◌}
 use Rattle.std.specs.Prelude.{IsSome}
 use Rattle.archive_model.specs.declared.view.View.{View}
 use Rattle.dimse.specs.declared.message.Message.{Message}
@@ -9,13 +9,15 @@ use Rattle.dimse.specs.declared.status.Status.TheVariants.{Pending}
 use Rattle.dimse.specs.Sending.{IsSending}
 use Rattle.pdu.specs.declared.context.Context.{Context}
 use Rattle.pdu.specs.declared.value.Pdu.{Pdu}
+use Rattle.archive_model.specs.declared.listed.Listed.{Listed}
 use Rattle.archive_model.specs.declared.prepared.Prepared.{Prepared}
+use Rattle.operation.specs.RecordParts.{ContentRecordParts}
 use Rattle.ul_state.specs.declared.event.Event.TheVariants.{LocalAbort}
 use Rattle.ul_state.specs.declared.table.State.TheVariants.{Sta6}
 use Rattle.ul_state.specs.declared.titles.Title.{Title}
 use Rattle.association_services.specs.declared.counts.Outcome.{Outcome}
 use Rattle.association_session.specs.declared.deed.Deed.{Deed}
-use Rattle.association_services.specs.declared.call.Call.TheVariants.{Store, Find, Get}
+use Rattle.association_services.specs.declared.call.Call.TheVariants.{Store, Find, Get, Load}
 use Rattle.association_session.specs.declared.deed.Deed.TheVariants.{Send, Reach, Ask}
 use Rattle.association_services.specs.declared.call.Finding.{Finding}
 use Rattle.association_services.specs.declared.call.Getting.{Getting}
@@ -32,111 +34,78 @@ use Rattle.pdu.specs.declared.pdv.Pdv.{Pdv}
 use Rattle.ul_state.specs.declared.acceptor.Settled.{Settled}
 use Rattle.association_session.specs.declared.pending_response.PendingResponse.{PendingResponse}
 use Rattle.association_session.specs.declared.pending_response.PendingResponse.TheVariants as pendings
-use Rattle.association_session.specs.declared.event.SessionEvent.TheVariants.{GoesOn}
+use Rattle.association_session.specs.declared.event.SessionEvent.TheVariants.{GoesOn, Replied}
+use Rattle.association_services.specs.declared.reply.PortFault.{PortFault}
 use Rattle.association_services.specs.declared.reply.Reply.{Reply}
+use Rattle.association_services.specs.declared.reply.Reply.TheVariants.{Loaded}
+use Rattle.ul_state.specs.declared.table.State.{State}
 use Rattle.association_services.specs.declared.retrieval.Meaning.{Meaning}
 use Rattle.association_services.specs.declared.retrieval.Meaning.TheVariants.{Cancelled, Performed, Unawaited}
 use Rattle.association_services.specs.declared.retrieval.Progress.{Progress}
 use Rattle.association_services.specs.declared.way.Way.{Way}
-use Rattle.association_session.specs.PendingResponse.{IsAnswered, Fits, left_of}
+use Rattle.association_session.specs.PendingResponse.{IsAnswered, IsAnsweredOrLoads, Fits}
 use Rattle.association_session.specs.inner.Association.{pending_of}
 use Rattle.association_services.specs.Get.{final_status, failed_set}
 use Rattle.association_session.specs.Projections.{state_after}
 use Rattle.association_services.specs.Response.{FitsLimit}
-use Rattle.association_services.specs.Retrieval.{counting, sub_operation, failing, sending, way_for, ByWay, Both}
-use Rattle.association_services.specs.Retrieval.{SendsOn}
-use Rattle.association_services.specs.Retrieval.{RespondsIfLeft, RespondsEnd, RespondsBy, begun, begun_by, meaning_of}
+use Rattle.association_services.specs.Retrieval.{counting, sub_operation, failing, sending, way_for, loaded_for}
+use Rattle.association_services.specs.Retrieval.{RespondsIfLeft, RespondsEnd, RespondsBy, meaning_of}
 use Rattle.association_services.specs.Retrieval.{performed, cancelling}
 use Rattle.association_session.specs.Row.{Within, row}
-use Rattle.association_session.specs.Session.{AssociationState, Turned, OwedFor, OwedAt, Stops, IsToldBy}
+use Rattle.association_session.specs.Session.{AssociationState, Turned, FollowsLoading, OwedFor, OwedAt, Stops}
+use Rattle.association_session.specs.Session.{IsToldBy, started}
 use Rattle.association_session.specs.inner.Association.{Answered}
-use Rattle.association_session.specs.Session.{IsFewer, FewerFor, entered}
-use Rattle.association_services.specs.SubOperation.{Retrieval, SubOperation}
-use Rattle.association_session.specs.Talks.{Goes, GoesBy, Then, Begins, GoesOnBy, Performs, Attends, Talks, awaiting}
+use Rattle.association_session.specs.Session.{entered}
+use Rattle.association_services.specs.SubOperation.{Retrieval, Loading, SubOperation}
+use Rattle.association_session.specs.Talks.{Goes, GoesBy, SendsLoaded, Fails, LoadsBy, Begins, GoesOnBy, Performs}
+use Rattle.association_session.specs.Talks.{Attends, Talks, awaiting}
 use Rattle.association_services.proofs.DataLaws.{AreData, sending_data, if_left_data, responds_by_data}
 use Rattle.association_session.proofs.DataLaws.{data_state}
 use Rattle.association_session.proofs.HearLaws.{still, owed_at, sends_halt, answered_broken, answered_sent}
-use Rattle.association_session.proofs.HearLaws.{answered_asked}
+use Rattle.association_session.proofs.HearLaws.{answered_asked, answered_or_loads}
 use Rattle.association_services.proofs.ResponseLaws.{sending_goes}
-use Rattle.association_session.proofs.TellLaws.{sends_join}
 
 -- ---- what is left can be sent
 
-if_left_goes : (g : Progress) (left : List Prepared) → 8 ≤ g.awaited.limit → (ps : List Pdu) × RespondsIfLeft g left ps
+if_left_goes : (g : Progress) (left : List Listed) → 8 ≤ g.awaited.limit → (ps : List Pdu) × RespondsIfLeft g left ps
 if_left_goes g [] least = ([], refl)
 if_left_goes g (x ∷ left) least =
     sending_goes (counting g Pending (Some (length (x ∷ left))) None) g.awaited.limit least
 
-by_way_goes : (way : Option Way) (F : Way → List Pdu → Type 0) (G : List Pdu → Type 0)
-    → ((k : Way) → (ps : List Pdu) × F k ps) → (ps : List Pdu) × G ps → (ps : List Pdu) × ByWay way F G ps
-by_way_goes None F G sent other = other
-by_way_goes (Some way) F G sent other = sent way
+fails_go : (g : Progress) (left : List Listed) (R : Goes) → 8 ≤ g.awaited.limit → (rest : List Deed) × R [] rest
+    → (rest : List Deed) × Fails g left R [] rest
+fails_go g left R least goes =
+    let p = if_left_goes g left least in
+    (map Send p.0 ++ goes.0, (p.0, p.1, (goes.0, refl, goes.1)))
 
-sends_on_go : (contexts : List Context) (g : Progress) (left : List Prepared) → 8 ≤ g.awaited.limit → (ps : List Pdu)
-    × SendsOn contexts g left ps
-sends_on_go contexts g [] least = sending_goes (counting g (final_status g.counts) None (failed_set g.syntax
-    g.counts.failed)) g.awaited.limit least
-sends_on_go contexts g (x ∷ left) least =
-    let first = if_left_goes (failing g x) left least in
-    let rest = sends_on_go contexts (failing g x) left least in
-    by_way_goes (way_for contexts x) (λ way. IsSending (sub_operation g way x) g.awaited.limit)
-    (Both (RespondsIfLeft (failing g x) left) (SendsOn contexts (failing g x) left))
-    (λ way. sending_goes (sub_operation g way x) g.awaited.limit least)
-    (first.0 ++ rest.0, (first.0, rest.0, first.1, rest.1, refl))
+loads_go : (way : Option Way) (g : Progress) (x : Listed) (R R' : Goes) → (rest : List Deed) × R' [] rest
+    → (rest : List Deed) × LoadsBy way g x R R' [] rest
+loads_go None g x R R' goes = goes
+loads_go (Some way) g x R R' goes = (Ask (Load x.content) ∷ [], ([], refl, refl))
 
-pub begins_go : (contexts : List Context) (g : Progress) (left : List Prepared)
-    (R : Option SubOperation → List Deed → Type 0) → FitsLimit g.awaited.limit
-    → ((next : Option SubOperation) → R next []) → (rest : List Deed) × Begins contexts g left R rest
-begins_go contexts g left R fits goes =
-    let p = sends_on_go contexts g left fits.0 in
-    (map Send p.0 ++ [], (p.0, p.1, ([], refl, goes (begun contexts g left))))
-
--- ---- one step
-
--- a sub-operation that is sent
-sent_begins : (way : Option Way) (k : Way) (contexts : List Context) (g : Progress) (x : Prepared)
-    (left : List Prepared)
-    (R : Option SubOperation → List Deed → Type 0) (ps : List Pdu) (rest : List Deed) → way ≡ Some k
-    → IsSending (sub_operation g k x) g.awaited.limit ps → R (Some (sending g x left)) rest
-    → (qs : List Pdu) × ByWay way (λ l. IsSending (sub_operation g l x) g.awaited.limit)
-    (Both (RespondsIfLeft (failing g x) left) (SendsOn contexts (failing g x) left)) qs
-    × Then (map Send qs) (R (begun_by way (sending g x left) (begun contexts (failing g x) left))) (map Send ps ++ rest)
-sent_begins None k contexts g x left R ps rest is sent goes = absurd cc
-sent_begins (Some l) k contexts g x left R ps rest is sent goes =
-    let same : k ≡ l = cc in
-    (ps, subst (λ (j : Way). IsSending (sub_operation g j x) g.awaited.limit ps) same sent, (rest, refl, goes))
-
--- one that fails unsent
-unsent_begins : (way : Option Way) (contexts : List Context) (g : Progress) (x : Prepared) (left : List Prepared)
-    (R : Option SubOperation → List Deed → Type 0) (ps : List Pdu) (rest : List Deed) → way ≡ None
-    → RespondsIfLeft (failing g x) left ps → Begins contexts (failing g x) left R rest
-    → (qs : List Pdu) × ByWay way (λ l. IsSending (sub_operation g l x) g.awaited.limit)
-    (Both (RespondsIfLeft (failing g x) left) (SendsOn contexts (failing g x) left)) qs
-    × Then (map Send qs) (R (begun_by way (sending g x left) (begun contexts (failing g x) left))) (map Send ps ++ rest)
-unsent_begins None contexts g x left R ps rest is told p = (
-  ps ++ p.0,
-  (ps, p.0, told, p.1, refl),
-  (
-    p.2.0,
-    ap (λ (t : List Deed). map Send ps ++ t) p.2.1 ∙ sym (append_assoc (map Send ps) (map Send p.0) p.2.0)
-        ∙ ap (λ (t : List Deed). t ++ p.2.0) (sym (sends_join ps p.0)),
-    p.2.2,
-  ),
-)
-unsent_begins (Some way) contexts g x left R ps rest is told p = absurd cc
+pub begins_go : (contexts : List Context) (g : Progress) (left : List Listed) (R : GoesBy) → FitsLimit g.awaited.limit
+    → ((next : Option SubOperation) → R next [] []) → (rest : List Deed) × Begins contexts g left R [] rest
+begins_go contexts g [] R fits goes =
+    let p = sending_goes (counting g (final_status g.counts) None (failed_set g.syntax g.counts.failed)) g.awaited.limit
+    fits.0 in
+    (map Send p.0 ++ [], (p.0, p.1, ([], refl, goes None)))
+begins_go contexts g (x ∷ left) R fits goes =
+    loads_go (way_for contexts x) g x (R (Some (sending g x left)))
+    (Fails (failing g x) left (Begins contexts (failing g x) left R))
+    (fails_go (failing g x) left (Begins contexts (failing g x) left R) fits.0
+    (begins_go contexts (failing g x) left R fits goes))
 
 -- ---- turns
 
--- PDUs of a C-GET that are sent in a turn
-sends_turn : (titles : List (Title View)) (now new : AssociationState) (r : Retrieval) (ps : List Pdu)
-    (deeds : List Deed) (sub : Option SubOperation) (pending : Option PendingResponse)
-    → now.awaited ≡ Some (pendings.Sending r)
+-- what is done in a turn of a C-GET, and leaves the values
+goes_turn : (titles : List (Title View)) (now new : AssociationState) (r : Retrieval) (ds deeds : List Deed)
+    (sub : Option SubOperation) (pending : Option PendingResponse) → now.awaited ≡ Some (pendings.Sending r)
     → new ≡ record { within = now.within; sub = sub; stage = now.stage; awaited = pending; queue = now.queue }
-    → deeds ≡ map Send ps → AreData ps → IsAnswered pending → Fits pending
+    → deeds ≡ ds → Stops ds pending → ((s : State) → state_after s ds ≡ s) → IsAnsweredOrLoads pending → Fits pending
     → ((R : GoesBy) (rs : List Reply) (rest : List Deed) → OwedFor now.within.link.contexts pending R (R sub) rs rest
-    → Begins now.within.link.contexts r.progress r.left (λ next. R next rs) (map Send ps ++ rest))
+    → Begins now.within.link.contexts r.progress r.left R rs (ds ++ rest))
     → Turned titles now GoesOn deeds new
-sends_turn titles now new r ps deeds sub pending has is sent are_data answered fits begins =
+goes_turn titles now new r ds deeds sub pending has is done stops stays answered fits begins =
     let within : new.within ≡ now.within = ap (λ (t : AssociationState). t.within) is in
     let awaited : new.awaited ≡ pending = ap (λ (t : AssociationState). t.awaited) is in
     record {
@@ -147,21 +116,33 @@ sends_turn titles now new r ps deeds sub pending has is sent are_data answered f
       takes = λ us rs rest owed.
           subst (λ (o : Option PendingResponse). OwedAt titles now.within now.sub o us rs (deeds ++ rest)) (sym has)
           (subst (λ (t : List Deed). Begins now.within.link.contexts r.progress r.left
-          (λ next. Talks titles now.within next us rs) (t ++ rest)) (sym sent)
+          (λ next. Talks titles now.within next us) rs (t ++ rest)) (sym done)
           (begins (λ next. Talks titles now.within next us) rs rest
           (owed_at titles new now.within sub pending us rs rest within (ap (λ (t : AssociationState). t.sub) is) awaited
           owed)));
-      stops = subst (λ (t : List Deed). Stops t new.awaited) (sym sent)
-          (subst (λ (a : Option PendingResponse). Stops (map Send ps) a) (sym awaited)
-          (sends_halt ps pending answered));
+      stops = subst (λ (t : List Deed). Stops t new.awaited) (sym done)
+          (subst (λ (a : Option PendingResponse). Stops ds a) (sym awaited) stops);
       state = ap (λ (w : Within). w.state) within
-          ∙ sym (ap (λ (t : List Deed). state_after now.within.state t) sent ∙ data_state now.within.state ps are_data);
+          ∙ sym (ap (λ (t : List Deed). state_after now.within.state t) done ∙ stays now.within.state);
       told = subst (λ (o : Option PendingResponse). IsToldBy GoesOn o new.awaited) (sym has)
-          (subst (λ (o : Option PendingResponse). IsAnswered o) (sym awaited) answered);
+          (subst (λ (o : Option PendingResponse). IsAnsweredOrLoads o) (sym awaited) answered);
       opened = λ before some. ap (λ (w : Within). w.state) within
           ∙ before (subst (λ (o : Option PendingResponse). IsSome o) (sym has) refl);
       fits = subst (λ (a : Option PendingResponse). Fits a) (sym awaited) fits;
     }
+
+-- PDUs that are sent in it
+sends_turn : (titles : List (Title View)) (now new : AssociationState) (r : Retrieval) (ps : List Pdu)
+    (deeds : List Deed) (sub : Option SubOperation) (pending : Option PendingResponse)
+    → now.awaited ≡ Some (pendings.Sending r)
+    → new ≡ record { within = now.within; sub = sub; stage = now.stage; awaited = pending; queue = now.queue }
+    → deeds ≡ map Send ps → AreData ps → IsAnswered pending → Fits pending
+    → ((R : GoesBy) (rs : List Reply) (rest : List Deed) → OwedFor now.within.link.contexts pending R (R sub) rs rest
+    → Begins now.within.link.contexts r.progress r.left R rs (map Send ps ++ rest))
+    → Turned titles now GoesOn deeds new
+sends_turn titles now new r ps deeds sub pending has is sent are_data answered fits begins =
+    goes_turn titles now new r (map Send ps) deeds sub pending has is sent (sends_halt ps pending answered)
+    (λ s. data_state s ps are_data) (answered_or_loads pending answered) fits begins
 
 pub ended_turn : (titles : List (Title View)) (now new : AssociationState) (r : Retrieval) (ps : List Pdu)
     (deeds : List Deed) → now.awaited ≡ Some (pendings.Sending r)
@@ -169,28 +150,46 @@ pub ended_turn : (titles : List (Title View)) (now new : AssociationState) (r : 
     → deeds ≡ map Send ps → r.left ≡ [] → RespondsEnd r.progress ps → Turned titles now GoesOn deeds new
 ended_turn titles now new r ps deeds has is sent none told =
     sends_turn titles now new r ps deeds None None has is sent (sending_data _ _ ps told) tt tt
-    (λ R rs rest owed. subst (λ (t : List Prepared). Begins now.within.link.contexts r.progress t (λ next. R next rs)
+    (λ R rs rest owed. subst (λ (t : List Listed). Begins now.within.link.contexts r.progress t R rs
     (map Send ps ++ rest)) (sym none) (ps, told, (rest, refl, owed)))
 
-pub sent_turn : (titles : List (Title View)) (now new : AssociationState) (r : Retrieval) (contexts : List Context)
-    (x : Prepared) (left : List Prepared) (way : Way) (ps : List Pdu) (sub : SubOperation) (deeds : List Deed)
+-- The port is asked to load the next one.
+pub loads_turn : (titles : List (Title View)) (now new : AssociationState) (r : Retrieval) (contexts : List Context)
+    (x : Listed) (left : List Listed) (way : Way) (asked : ContentRecordParts) (loading : Loading) (deeds : List Deed)
     → now.awaited ≡ Some (pendings.Sending r)
-    → new ≡ record { within = now.within; sub = Some sub; stage = now.stage; awaited = None; queue = now.queue }
-    → deeds ≡ map Send ps → contexts ≡ now.within.link.contexts → r.left ≡ x ∷ left → way_for contexts x ≡ Some way
-    → IsSending (sub_operation r.progress way x) r.progress.awaited.limit ps → sub ≡ sending r.progress x left
-    → Turned titles now GoesOn deeds new
-sent_turn titles now new r contexts x left way ps sub deeds has is sent same some there told sub_is =
-    let there_now : way_for now.within.link.contexts x ≡ Some way = ap (λ (cs : List Context). way_for cs x) (sym same)
-    ∙ there in
-    sends_turn titles now new r ps deeds (Some sub) None has is sent (sending_data _ _ ps told) tt tt
-    (λ R rs rest owed. subst (λ (t : List Prepared). Begins now.within.link.contexts r.progress t (λ next. R next rs)
-    (map Send ps ++ rest)) (sym some)
-    (sent_begins (way_for now.within.link.contexts x) way now.within.link.contexts r.progress x left
-    (λ next. R next rs) ps rest there_now told
-    (subst (λ (s : SubOperation). R (Some s) rs rest) sub_is owed)))
+    → new ≡ record {
+      within = now.within;
+      sub = now.sub;
+      stage = now.stage;
+      awaited = Some (pendings.Load loading);
+      queue = now.queue;
+    }
+    → deeds ≡ Ask (Load asked) ∷ [] → contexts ≡ now.within.link.contexts → r.left ≡ x ∷ left
+    → way_for contexts x ≡ Some way → asked ≡ x.content
+    → loading ≡ record { progress = r.progress; listed = x; left = left; way = way }
+    → FitsLimit r.progress.awaited.limit → Turned titles now GoesOn deeds new
+loads_turn titles now new r contexts x left way asked loading deeds has is asks same some there of loads fits =
+    let cs = now.within.link.contexts in
+    let there_now : way_for cs x ≡ Some way = ap (λ (k : List Context). way_for k x) (sym same) ∙ there in
+    let g = r.progress in
+    let l : Loading = record { progress = g; listed = x; left = left; way = way } in
+    let pending : Option PendingResponse = Some (pendings.Load l) in
+    goes_turn titles now new r (Ask (Load x.content) ∷ []) deeds now.sub pending has
+    (is ∙ ap (λ (k : Loading). record {
+      within = now.within;
+      sub = now.sub;
+      stage = now.stage;
+      awaited = Some (pendings.Load k);
+      queue = now.queue;
+    }) loads)
+    (asks ∙ ap (λ (k : ContentRecordParts). Ask (Load k) ∷ []) of) (refl, tt) (λ s. refl) tt fits
+    (λ R rs rest owed. subst (λ (t : List Listed). Begins cs g t R rs (Ask (Load x.content) ∷ rest)) (sym some)
+    (subst (λ (w : Option Way). LoadsBy w g x (R (Some (sending g x left)))
+    (Fails (failing g x) left (Begins cs (failing g x) left R)) rs (Ask (Load x.content) ∷ rest)) (sym there_now)
+    (rest, refl, owed)))
 
 pub unsent_turn : (titles : List (Title View)) (now new : AssociationState) (r : Retrieval) (contexts : List Context)
-    (x : Prepared) (left : List Prepared) (ps : List Pdu) (next : Retrieval) (deeds : List Deed)
+    (x : Listed) (left : List Listed) (ps : List Pdu) (next : Retrieval) (deeds : List Deed)
     → now.awaited ≡ Some (pendings.Sending r)
     → new ≡ record {
       within = now.within;
@@ -204,41 +203,110 @@ pub unsent_turn : (titles : List (Title View)) (now new : AssociationState) (r :
     → next ≡ record { progress = failing r.progress x; left = left } → FitsLimit r.progress.awaited.limit
     → Turned titles now GoesOn deeds new
 unsent_turn titles now new r contexts x left ps next deeds has is sent same some there told next_is fits =
-    let there_now : way_for now.within.link.contexts x ≡ None = ap (λ (cs : List Context). way_for cs x) (sym same)
-    ∙ there in
+    let cs = now.within.link.contexts in
+    let there_now : way_for cs x ≡ None = ap (λ (k : List Context). way_for k x) (sym same) ∙ there in
+    let g = r.progress in
     sends_turn titles now new r ps deeds now.sub (Some (pendings.Sending next)) has is sent
-    (if_left_data (failing r.progress x) left ps told) tt
+    (if_left_data (failing g x) left ps told) tt
     (subst (λ (n : Retrieval). FitsLimit n.progress.awaited.limit) (sym next_is) fits)
-    (λ R rs rest owed. subst (λ (t : List Prepared). Begins now.within.link.contexts r.progress t (λ n. R n rs)
-    (map Send ps ++ rest)) (sym some)
-    (unsent_begins (way_for now.within.link.contexts x) now.within.link.contexts r.progress x left (λ n. R n rs) ps rest
-    there_now told
-    (subst (λ (n : Retrieval). Begins now.within.link.contexts n.progress n.left (λ k. R k rs) rest) next_is owed)))
+    (λ R rs rest owed. subst (λ (t : List Listed). Begins cs g t R rs (map Send ps ++ rest)) (sym some)
+    (subst (λ (w : Option Way). LoadsBy w g x (R (Some (sending g x left)))
+    (Fails (failing g x) left (Begins cs (failing g x) left R)) rs (map Send ps ++ rest)) (sym there_now) (
+      ps,
+      told,
+      (
+        rest,
+        refl,
+        subst (λ (n : Retrieval). Begins cs n.progress n.left R rs rest) next_is owed,
+      ),
+    )))
 
--- ---- what is left becomes fewer
+-- ---- the reply to a load
 
-pub fewer_none : (now new : AssociationState) (r : Retrieval) → now.awaited ≡ Some (pendings.Sending r)
-    → new.awaited ≡ None
-    → new.queue ≡ now.queue → IsFewer GoesOn now new
-fewer_none now new r has none queue =
-    subst (λ (o : Option PendingResponse). FewerFor o now new) (sym has) (
-      queue,
-      subst (λ (o : Option PendingResponse). left_of new.awaited < left_of o) (sym has)
-          (subst (λ (o : Option PendingResponse). left_of o < suc (length r.left)) (sym none) (omega arith)),
-    )
+-- PDUs that are sent for it
+loaded_turn : (titles : List (Title View)) (now new : AssociationState) (l : Loading)
+    (reply : Result ContentParts PortFault) (ps : List Pdu) (deeds : List Deed) (sub : Option SubOperation)
+    (pending : Option PendingResponse) → now.awaited ≡ Some (pendings.Load l)
+    → new ≡ record { within = now.within; sub = sub; stage = now.stage; awaited = pending; queue = now.queue }
+    → deeds ≡ map Send ps → AreData ps → IsAnswered pending → Fits pending
+    → ((R : GoesBy) (rs : List Reply) (rest : List Deed) → OwedFor now.within.link.contexts pending R (R sub) rs rest
+    → FollowsLoading now.within.link.contexts l R (Loaded reply ∷ rs) (map Send ps ++ rest))
+    → Turned titles now (Replied (Loaded reply)) deeds new
+loaded_turn titles now new l reply ps deeds sub pending has is sent are_data answered fits follows =
+    let within : new.within ≡ now.within = ap (λ (t : AssociationState). t.within) is in
+    let awaited : new.awaited ≡ pending = ap (λ (t : AssociationState). t.awaited) is in
+    record {
+      said = [];
+      values = still (started titles now (Replied (Loaded reply))) new within
+          (ap (λ (t : AssociationState). t.stage) is) (ap (λ (t : AssociationState). t.queue) is);
+      leads = within;
+      takes = λ us rs rest owed.
+          subst (λ (o : Option PendingResponse). OwedAt titles now.within now.sub o us (Loaded reply ∷ rs)
+          (deeds ++ rest)) (sym has)
+          (subst (λ (t : List Deed). FollowsLoading now.within.link.contexts l (λ next. Talks titles now.within next us)
+          (Loaded reply ∷ rs) (t ++ rest)) (sym sent)
+          (follows (λ next. Talks titles now.within next us) rs rest
+          (owed_at titles new now.within sub pending us rs rest within (ap (λ (t : AssociationState). t.sub) is) awaited
+          owed)));
+      stops = subst (λ (t : List Deed). Stops t new.awaited) (sym sent)
+          (subst (λ (a : Option PendingResponse). Stops (map Send ps) a) (sym awaited)
+          (sends_halt ps pending answered));
+      state = ap (λ (w : Within). w.state) within
+          ∙ sym (ap (λ (t : List Deed). state_after now.within.state t) sent ∙ data_state now.within.state ps are_data);
+      told = subst (λ (o : Option PendingResponse). IsAnswered o) (sym awaited) answered;
+      opened = λ before some. ap (λ (w : Within). w.state) within
+          ∙ before (subst (λ (o : Option PendingResponse). IsSome o) (sym has) refl);
+      fits = subst (λ (a : Option PendingResponse). Fits a) (sym awaited) fits;
+    }
 
-pub fewer_one : (now new : AssociationState) (r next : Retrieval) (x : Prepared) (left : List Prepared)
-    → now.awaited ≡ Some (pendings.Sending r) → new.awaited ≡ Some (pendings.Sending next) → new.queue ≡ now.queue
-    → r.left ≡ x ∷ left → next.left ≡ left → IsFewer GoesOn now new
-fewer_one now new r next x left has pending queue some rest =
-    let one : length r.left ≡ suc (length left) = ap length some in
-    let other : length next.left ≡ length left = ap length rest in
-    subst (λ (o : Option PendingResponse). FewerFor o now new) (sym has) (
-      queue,
-      subst (λ (o : Option PendingResponse). left_of new.awaited < left_of o) (sym has)
-          (subst (λ (o : Option PendingResponse). left_of o < suc (length r.left)) (sym pending)
-          (omega (arith, one, other))),
-    )
+-- what was loaded is sent
+pub brought_sent : (titles : List (Title View)) (now new : AssociationState) (l : Loading)
+    (reply : Result ContentParts PortFault) (x : Prepared) (ps : List Pdu) (sub : SubOperation) (deeds : List Deed)
+    → now.awaited ≡ Some (pendings.Load l)
+    → new ≡ record { within = now.within; sub = Some sub; stage = now.stage; awaited = None; queue = now.queue }
+    → deeds ≡ map Send ps → loaded_for l.listed reply ≡ Some x
+    → IsSending (sub_operation l.progress l.way x) l.progress.awaited.limit ps
+    → sub ≡ sending l.progress l.listed l.left → Turned titles now (Replied (Loaded reply)) deeds new
+brought_sent titles now new l reply x ps sub deeds has is sent loaded told sub_is =
+    let g = failing l.progress l.listed in
+    loaded_turn titles now new l reply ps deeds (Some sub) None has is sent (sending_data _ _ ps told) tt tt
+    (λ R rs rest owed. subst (λ (o : Option Prepared). SendsLoaded o l.progress l.way
+    (R (Some (sending l.progress l.listed l.left)) rs)
+    (Fails g l.left (Begins now.within.link.contexts g l.left R) rs) (map Send ps ++ rest)) (sym loaded)
+    (ps, told, (rest, refl, subst (λ (s : SubOperation). R (Some s) rs rest) sub_is owed)))
+
+-- nothing was loaded: it fails unsent
+pub brought_unsent : (titles : List (Title View)) (now new : AssociationState) (l : Loading)
+    (reply : Result ContentParts PortFault) (ps : List Pdu) (next : Retrieval) (deeds : List Deed)
+    → now.awaited ≡ Some (pendings.Load l)
+    → new ≡ record {
+      within = now.within;
+      sub = now.sub;
+      stage = now.stage;
+      awaited = Some (pendings.Sending next);
+      queue = now.queue;
+    }
+    → deeds ≡ map Send ps → loaded_for l.listed reply ≡ None
+    → RespondsIfLeft (failing l.progress l.listed) l.left ps
+    → next ≡ record { progress = failing l.progress l.listed; left = l.left } → FitsLimit l.progress.awaited.limit
+    → Turned titles now (Replied (Loaded reply)) deeds new
+brought_unsent titles now new l reply ps next deeds has is sent none told next_is fits =
+    let g = failing l.progress l.listed in
+    let cs = now.within.link.contexts in
+    loaded_turn titles now new l reply ps deeds now.sub (Some (pendings.Sending next)) has is sent
+    (if_left_data g l.left ps told) tt
+    (subst (λ (n : Retrieval). FitsLimit n.progress.awaited.limit) (sym next_is) fits)
+    (λ R rs rest owed. subst (λ (o : Option Prepared). SendsLoaded o l.progress l.way
+    (R (Some (sending l.progress l.listed l.left)) rs) (Fails g l.left (Begins cs g l.left R) rs)
+    (map Send ps ++ rest)) (sym none) (
+      ps,
+      told,
+      (
+        rest,
+        refl,
+        subst (λ (n : Retrieval). Begins cs n.progress n.left R rs rest) next_is owed,
+      ),
+    ))
 
 -- ---- what is heard within a C-GET
 
@@ -302,7 +370,7 @@ pending_answered : (next : Option Retrieval) → IsAnswered (pending_of next)
 pending_answered None = tt
 pending_answered (Some r) = tt
 
-pending_fits : (cancelled : Bool) (g : Progress) (left : List Prepared) (ps : List Pdu) (next : Option Retrieval)
+pending_fits : (cancelled : Bool) (g : Progress) (left : List Listed) (ps : List Pdu) (next : Option Retrieval)
     → RespondsBy cancelled g left ps next → FitsLimit g.awaited.limit → Fits (pending_of next)
 pending_fits true g left ps next p fits = subst (λ (n : Option Retrieval). Fits (pending_of n)) (sym p.1) tt
 pending_fits false g left ps next p fits = subst (λ (n : Option Retrieval). Fits (pending_of n)) (sym p.1) fits

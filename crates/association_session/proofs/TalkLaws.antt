@@ -12,35 +12,41 @@ use Rattle.dimse.specs.declared.status.Status.{Status}
 use Rattle.archive_model.specs.declared.view.View.{View}
 use Rattle.data_set.specs.Set.{Set}
 use Rattle.data_set.specs.declared.syntax.Syntax.{Syntax}
-use Rattle.association_services.specs.declared.call.Call.TheVariants.{Store, Find, Get}
+use Rattle.association_services.specs.declared.call.Call.TheVariants.{Store, Find, Get, Load}
 use Rattle.association_session.specs.declared.deed.Deed.{Deed}
 use Rattle.association_session.specs.declared.deed.Deed.TheVariants.{Send, Reach, Ask}
 use Rattle.association_session.specs.declared.deed.Moment.TheVariants.{InStore, FindAnswered}
 use Rattle.association_services.specs.declared.service.RowKind.{RowKind}
 use Rattle.association_services.specs.declared.reply.Reply.{Reply}
-use Rattle.association_services.specs.declared.reply.Reply.TheVariants.{Stored, Found, Gotten}
+use Rattle.association_services.specs.declared.reply.Reply.TheVariants.{Stored, Found, Gotten, Loaded}
 use Rattle.association_services.specs.declared.service.Service.{Service}
 use Rattle.association_services.specs.declared.service.Service.TheVariants.{Ignored, Broken, Responded, Asked}
 use Rattle.association_services.specs.declared.service.Service.TheVariants.{Queried, Fetched}
 use Rattle.association_services.specs.Find.{rows_in, status_of_found}
 use Rattle.association_session.specs.Projections.{IsFront}
-use Rattle.association_services.specs.Retrieval.{few_in, setting_out, begun}
+use Rattle.association_services.specs.Retrieval.{few_in, setting_out, way_for, loaded_for, failing, sending}
+use Rattle.association_services.specs.Retrieval.{sub_operation}
+use Rattle.association_services.specs.Retrieval.{meaning_of, performed, cancelling, RespondsIfLeft, RespondsEnd}
 use Rattle.association_services.specs.SubOperation.{Retrieval, SubOperation}
-use Rattle.association_services.specs.Retrieval.{meaning_of, performed, cancelling}
 use Rattle.association_services.specs.declared.retrieval.Meaning.{Meaning}
 use Rattle.association_services.specs.declared.retrieval.Meaning.TheVariants.{Cancelled, Performed, Unawaited}
 use Rattle.association_services.specs.declared.retrieval.Progress.{Progress}
 use Rattle.dimse.specs.declared.status.Status.TheVariants.{UnableToPerformSubOperations}
+use Rattle.archive_model.specs.declared.listed.Listed.{Listed}
 use Rattle.archive_model.specs.declared.prepared.Prepared.{Prepared}
+use Rattle.association_services.specs.declared.way.Way.{Way}
+use Rattle.dimse.specs.Sending.{IsSending}
 use Rattle.association_services.specs.Response.{Awaited}
-use Rattle.association_services.proofs.OnceLaws.{response_once, rows_once, serves_on_once, sends_on_once}
+use Rattle.association_services.proofs.OnceLaws.{response_once, rows_once, serves_on_once, sending_once, if_left_once}
 use Rattle.association_services.proofs.OnceLaws.{responds_by_once}
 use Rattle.association_session.specs.Row.{Within, row, met}
 use Rattle.association_services.specs.Context.{context_in}
 use Rattle.association_services.specs.Store.{status_of_reply}
 use Rattle.association_session.specs.Talks.{Heard, Met, Said, Goes, GoesBy, Then, Tells, TellsRows, FollowsStore}
 use Rattle.association_session.specs.Talks.{FollowsFind}
-use Rattle.association_session.specs.Talks.{FollowsGet, BeginsFew, Begins, Does, InState, Answers, GoesOnBy, Performs}
+use Rattle.association_session.specs.Talks.{Sends, SendsLoaded, FollowsLoad, Fails, LoadsBy, Begins, FollowsGet}
+use Rattle.association_session.specs.Talks.{BeginsFew}
+use Rattle.association_session.specs.Talks.{Does, InState, Answers, GoesOnBy, Performs}
 use Rattle.association_session.specs.Talks.{Attends, Talks, Serves, awaiting}
 
 -- A message is answered in one way.
@@ -90,6 +96,7 @@ store_front awaited R S (Stored reply ∷ rs) others a b goes p q = tells_front 
     (S (rs ++ others)) a b (goes rs others) p q
 store_front awaited R S (Found reply ∷ rs) others a b goes p q = absurd p
 store_front awaited R S (Gotten reply ∷ rs) others a b goes p q = absurd p
+store_front awaited R S (Loaded reply ∷ rs) others a b goes p q = absurd p
 
 find_front : (awaited : Awaited) (kind : RowKind) (R S : Goes) (rs others : List Reply) (a b : List Deed) → GoOn R S
     → FollowsFind awaited kind R rs a → FollowsFind awaited kind S (rs ++ others) b → IsFront a b
@@ -98,29 +105,69 @@ find_front awaited kind R S (Found reply ∷ rs) others a b goes p q = rows_fron
     (status_of_found reply) (R rs) (S (rs ++ others)) a b (goes rs others) p q
 find_front awaited kind R S (Stored reply ∷ rs) others a b goes p q = absurd p
 find_front awaited kind R S (Gotten reply ∷ rs) others a b goes p q = absurd p
+find_front awaited kind R S (Loaded reply ∷ rs) others a b goes p q = absurd p
 
 -- These go on as those do, whichever sub-operation is awaited.
 abbrev pub GoOnBy : GoesBy → GoesBy → Type 0
 GoOnBy R S = (next : Option SubOperation) → GoOn (R next) (S next)
 
-begins_front : (contexts : List Context) (g : Progress) (left : List Prepared)
-    (R S : Option SubOperation → List Deed → Type 0) (a b : List Deed)
-    → ((next : Option SubOperation) (x y : List Deed) → R next x → S next y → IsFront x y)
-    → Begins contexts g left R a → Begins contexts g left S b → IsFront a b
-begins_front contexts g left R S a b goes p q =
-    let next = begun contexts g left in
-    then_front (map Send p.0) (R next) (S next) a b (goes next) p.2 (subst (λ (t : List Pdu). Then (map Send t) (S next)
-    b) (sym (sends_on_once contexts g left p.0 q.0 p.1 q.1)) q.2)
+-- what is sent in one list of PDUs, and then goes on
+sends_front : (Are : List Pdu → Type 0) (R S : List Deed → Type 0) (a b : List Deed)
+    → ((ps qs : List Pdu) → Are ps → Are qs → ps ≡ qs) → ((x y : List Deed) → R x → S y → IsFront x y)
+    → Sends Are R a → Sends Are S b → IsFront a b
+sends_front Are R S a b once goes p q =
+    then_front (map Send p.0) R S a b goes p.2
+    (subst (λ (t : List Pdu). Then (map Send t) S b) (sym (once p.0 q.0 p.1 q.1)) q.2)
 
-few_front : (few : Option (List Prepared)) (contexts : List Context) (awaited : Awaited) (syntax : Syntax)
-    (R S : Option SubOperation → List Deed → Type 0) (R' S' : List Deed → Type 0) (a b : List Deed)
-    → ((next : Option SubOperation) (x y : List Deed) → R next x → S next y → IsFront x y)
-    → ((x y : List Deed) → R' x → S' y → IsFront x y)
-    → BeginsFew contexts awaited syntax few R R' a → BeginsFew contexts awaited syntax few S S' b → IsFront a b
-few_front None contexts awaited syntax R S R' S' a b goes refused p q = tells_front awaited
-    UnableToPerformSubOperations R' S' a b refused p q
-few_front (Some prepared) contexts awaited syntax R S R' S' a b goes refused p q = begins_front contexts (setting_out
-    awaited syntax) prepared R S a b goes p q
+loaded_front : (loaded : Option Prepared) (g : Progress) (way : Way) (R S R' S' : List Deed → Type 0) (a b : List Deed)
+    → ((x y : List Deed) → R x → S y → IsFront x y) → ((x y : List Deed) → R' x → S' y → IsFront x y)
+    → SendsLoaded loaded g way R R' a → SendsLoaded loaded g way S S' b → IsFront a b
+loaded_front None g way R S R' S' a b sent unsent p q = unsent a b p q
+loaded_front (Some prepared) g way R S R' S' a b sent unsent p q =
+    sends_front (IsSending (sub_operation g way prepared) g.awaited.limit) R S a b
+    (sending_once (sub_operation g way prepared) g.awaited.limit) sent p q
+
+load_front : (g : Progress) (l : Listed) (way : Way) (R S R' S' : Goes) (rs others : List Reply) (a b : List Deed)
+    → GoOn R S → GoOn R' S' → FollowsLoad g l way R R' rs a → FollowsLoad g l way S S' (rs ++ others) b → IsFront a b
+load_front g l way R S R' S' [] others a b sent unsent p q = none_front a b p
+load_front g l way R S R' S' (Loaded reply ∷ rs) others a b sent unsent p q =
+    loaded_front (loaded_for l reply) g way (R rs) (S (rs ++ others)) (R' rs) (S' (rs ++ others)) a b (sent rs others)
+    (unsent rs others) p q
+load_front g l way R S R' S' (Stored reply ∷ rs) others a b sent unsent p q = absurd p
+load_front g l way R S R' S' (Found reply ∷ rs) others a b sent unsent p q = absurd p
+load_front g l way R S R' S' (Gotten reply ∷ rs) others a b sent unsent p q = absurd p
+
+fails_front : (g : Progress) (left : List Listed) (R S : Goes) → GoOn R S → GoOn (Fails g left R) (Fails g left S)
+fails_front g left R S goes rs others a b p q =
+    sends_front (RespondsIfLeft g left) (R rs) (S (rs ++ others)) a b (if_left_once g left) (goes rs others) p q
+
+loads_front : (way : Option Way) (g : Progress) (l : Listed) (R S R' S' : Goes) → GoOn R S → GoOn R' S'
+    → GoOn (LoadsBy way g l R R') (LoadsBy way g l S S')
+loads_front None g l R S R' S' sent unsent rs others a b p q = unsent rs others a b p q
+loads_front (Some way) g l R S R' S' sent unsent rs others a b p q =
+    then_front (Ask (Load l.content) ∷ []) (FollowsLoad g l way R R' rs) (FollowsLoad g l way S S' (rs ++ others)) a b
+    (λ x y. load_front g l way R S R' S' rs others x y sent unsent) p q
+
+begins_front : (contexts : List Context) (g : Progress) (left : List Listed) (R S : GoesBy) → GoOnBy R S
+    → GoOn (Begins contexts g left R) (Begins contexts g left S)
+begins_front contexts g [] R S goes rs others a b p q =
+    sends_front (RespondsEnd g) (R None rs) (S None (rs ++ others)) a b (λ ps qs. sending_once _ _ ps qs)
+    (goes None rs others) p q
+begins_front contexts g (l ∷ left) R S goes rs others a b p q =
+    loads_front (way_for contexts l) g l (R (Some (sending g l left))) (S (Some (sending g l left)))
+    (Fails (failing g l) left (Begins contexts (failing g l) left R))
+    (Fails (failing g l) left (Begins contexts (failing g l) left S)) (goes (Some (sending g l left)))
+    (fails_front (failing g l) left (Begins contexts (failing g l) left R) (Begins contexts (failing g l) left S)
+    (begins_front contexts (failing g l) left R S goes)) rs others a b p q
+
+few_front : (few : Option (List Listed)) (contexts : List Context) (awaited : Awaited) (syntax : Syntax)
+    (R S : GoesBy) (R' S' : Goes) (rs others : List Reply) (a b : List Deed) → GoOnBy R S → GoOn R' S'
+    → BeginsFew contexts awaited syntax few R R' rs a → BeginsFew contexts awaited syntax few S S' (rs ++ others) b
+    → IsFront a b
+few_front None contexts awaited syntax R S R' S' rs others a b goes refused p q = tells_front awaited
+    UnableToPerformSubOperations (R' rs) (S' (rs ++ others)) a b (refused rs others) p q
+few_front (Some left) contexts awaited syntax R S R' S' rs others a b goes refused p q =
+    begins_front contexts (setting_out awaited syntax) left R S goes rs others a b p q
 
 get_front : (contexts : List Context) (awaited : Awaited) (syntax : Syntax) (R S : GoesBy) (R' S' : Goes)
     (rs others : List Reply) (a b : List Deed) → GoOnBy R S → GoOn R' S'
@@ -128,10 +175,10 @@ get_front : (contexts : List Context) (awaited : Awaited) (syntax : Syntax) (R S
     → IsFront a b
 get_front contexts awaited syntax R S R' S' [] others a b goes refused p q = none_front a b p
 get_front contexts awaited syntax R S R' S' (Gotten reply ∷ rs) others a b goes refused p q =
-    few_front (few_in reply) contexts awaited syntax (λ next. R next rs) (λ next. S next (rs ++ others)) (R' rs)
-    (S' (rs ++ others)) a b (λ next. goes next rs others) (refused rs others) p q
+    few_front (few_in reply) contexts awaited syntax R S R' S' rs others a b goes refused p q
 get_front contexts awaited syntax R S R' S' (Stored reply ∷ rs) others a b goes refused p q = absurd p
 get_front contexts awaited syntax R S R' S' (Found reply ∷ rs) others a b goes refused p q = absurd p
+get_front contexts awaited syntax R S R' S' (Loaded reply ∷ rs) others a b goes refused p q = absurd p
 
 does_front : (service : Service) (contexts : List Context) (awaited : Awaited) (abort : List Deed) (R S : GoesBy)
     (R' S' : Goes) (rs others : List Reply) (a b : List Deed) → GoOnBy R S → GoOn R' S'
@@ -167,8 +214,8 @@ goes_on_front : (next : Option Retrieval) (contexts : List Context) (R S : GoesB
     (a b : List Deed) → GoOnBy R S → GoesOnBy next contexts R rs a → GoesOnBy next contexts S (rs ++ others) b
     → IsFront a b
 goes_on_front None contexts R S rs others a b goes p q = goes None rs others a b p q
-goes_on_front (Some r) contexts R S rs others a b goes p q = begins_front contexts r.progress r.left
-    (λ next. R next rs) (λ next. S next (rs ++ others)) a b (λ next. goes next rs others) p q
+goes_on_front (Some r) contexts R S rs others a b goes p q =
+    begins_front contexts r.progress r.left R S goes rs others a b p q
 
 performs_front : (meaning : Meaning) (sub : SubOperation) (contexts : List Context) (abort : List Deed) (R S : GoesBy)
     (R' S' : Goes) (rs others : List Reply) (a b : List Deed) → GoOnBy R S → GoOn R' S'

@@ -17,7 +17,7 @@ use Rattle.association_session.specs.declared.pending_response.PendingResponse.{
 use Rattle.association_session.specs.declared.pending_response.PendingResponse.TheVariants as pendings
 use Rattle.association_services.specs.declared.service.RowKind.{RowKind}
 use Rattle.association_session.specs.declared.event.SessionEvent.TheVariants.{GoesOn}
-use Rattle.association_session.specs.PendingResponse.{IsAnswered, Fits}
+use Rattle.association_session.specs.PendingResponse.{IsAnswered, IsAnsweredOrLoads, Fits}
 use Rattle.association_services.specs.Find.{RespondsRow, AreRows, row_text}
 use Rattle.association_session.specs.Projections.{state_after}
 use Rattle.association_services.specs.Response.{Awaited, FitsLimit, response_to, response_with}
@@ -29,7 +29,7 @@ use Rattle.association_session.specs.Talks.{TellsRows, Talks}
 use Rattle.association_services.proofs.DataLaws.{rows_data, sending_data}
 use Rattle.association_session.proofs.DataLaws.{data_then, data_state}
 use Rattle.association_services.proofs.ResponseLaws.{sending_goes}
-use Rattle.association_session.proofs.HearLaws.{still, owed_at, none_pending, none_fits, none_answered}
+use Rattle.association_session.proofs.HearLaws.{still, owed_at, none_pending, none_fits, none_answered, told_none}
 
 -- ---- rows, one after another
 
@@ -202,7 +202,7 @@ told_some titles now new a kind rows left status deeds has within sub stage pend
       ∙ sym (ap (λ (t : List Deed). state_after now.within.state t) some.deeds
       ∙ data_state now.within.state some.responses (rows_data a kind some.told some.responses some.are));
   told = subst (λ (o : Option PendingResponse). IsToldBy GoesOn o new.awaited) (sym has)
-      (subst (λ (o : Option PendingResponse). IsAnswered o) (sym pending) tt);
+      (subst (λ (o : Option PendingResponse). IsAnsweredOrLoads o) (sym pending) tt);
   opened = λ before more. ap (λ (w : Within). w.state) within
       ∙ before (subst (λ (o : Option PendingResponse). IsSome o) (sym has) refl);
   fits = subst (λ (o : Option PendingResponse). Fits o) (sym pending) fits;
@@ -234,8 +234,7 @@ told_all titles now new a kind rows left status mid deeds has within sub stage n
           ∙ data_then now.within.state some.responses (map Send end.0 ++ Reach FindAnswered ∷ [])
           (rows_data a kind rows some.responses are)
           ∙ data_then now.within.state end.0 (Reach FindAnswered ∷ []) (sending_data _ _ end.0 end.1));
-      told = subst (λ (o : Option PendingResponse). IsToldBy GoesOn o new.awaited) (sym has)
-          (none_answered new.awaited none);
+      told = told_none GoesOn now.awaited new.awaited none;
       opened = λ before more. absurd (none_pending new.awaited none more);
       fits = none_fits new.awaited none;
     }

@@ -3,7 +3,7 @@ use Rattle.std.specs.Prelude.{◌≡◌, ◌⊎◌, List, [], ◌∷◌, ◌++�
 use Rattle.data_set.specs.Set.{Set}
 use Rattle.pdu.specs.declared.value.Pdu.{Pdu}
 use Rattle.dimse.specs.declared.status.Status.{Status}
-use Rattle.association_services.specs.declared.call.Call.TheVariants.{Store, Find, Get}
+use Rattle.association_services.specs.declared.call.Call.TheVariants.{Store, Find, Get, Load}
 use Rattle.association_session.specs.declared.deed.Deed.{Deed}
 use Rattle.association_session.specs.declared.deed.Deed.TheVariants.{Send, Reach, Ask, Close}
 use Rattle.association_services.specs.declared.call.Finding.{Finding}
@@ -33,6 +33,7 @@ AreAnswered [] = ⊤
 AreAnswered (Ask (Find finding) ∷ ds) = ((ds ≡ []) ⊎ Answers finding ds) × AreAnswered ds
 AreAnswered (Ask (Store content) ∷ ds) = AreAnswered ds
 AreAnswered (Ask (Get getting) ∷ ds) = AreAnswered ds
+AreAnswered (Ask (Load asked) ∷ ds) = AreAnswered ds
 AreAnswered (Send pdu ∷ ds) = AreAnswered ds
 AreAnswered (Reach moment ∷ ds) = AreAnswered ds
 AreAnswered (Close ∷ ds) = AreAnswered ds

@@ -13,25 +13,27 @@ use Rattle.dimse.specs.declared.message.Message.{Message}
 use Rattle.dimse.specs.Sending.{IsSending}
 use Rattle.dimse.specs.Status.{status_code}
 use Rattle.pdu.specs.declared.context.Context.{Context}
+use Rattle.archive_model.specs.declared.listed.Listed.{Listed}
 use Rattle.archive_model.specs.declared.prepared.Prepared.{Prepared}
 use Rattle.archive_model.specs.declared.sending.Sending.{Sending}
 use Rattle.dimse.specs.declared.status.Status.{Status}
 use Rattle.association_services.specs.declared.call.Call.{Call}
 use Rattle.association_session.specs.declared.deed.Deed.{Deed}
 use Rattle.association_services.specs.declared.reply.Reply.{Reply}
-use Rattle.association_services.specs.declared.reply.Reply.TheVariants.{Stored, Found, Gotten}
+use Rattle.association_services.specs.declared.reply.Reply.TheVariants.{Stored, Found, Gotten, Loaded}
 use Rattle.association_services.specs.declared.retrieval.Meaning.{Meaning}
 use Rattle.association_services.specs.declared.retrieval.Meaning.TheVariants.{Cancelled, Performed, Unawaited}
 use Rattle.association_services.specs.declared.retrieval.Progress.{Progress}
 use Rattle.association_session.specs.declared.deed.Deed.TheVariants.{Send, Reach, Ask, Close}
+use Rattle.association_services.specs.declared.way.Way.{Way}
 use Rattle.association_services.specs.declared.service.Service.{Service}
 use Rattle.association_services.specs.declared.service.Service.TheVariants.{Ignored, Broken, Responded, Asked}
 use Rattle.association_services.specs.declared.service.Service.TheVariants.{Queried, Fetched}
 use Rattle.association_services.specs.Accepted.{carried_of, Carries}
 use Rattle.association_services.specs.Response.{Awaited, is_pending}
 use Rattle.association_services.specs.SubOperation.{SubOperation}
-use Rattle.association_services.specs.Retrieval.{few_in, setting_out, begun, meaning_of, performed}
-use Rattle.association_services.specs.Retrieval.{cancelling}
+use Rattle.association_services.specs.Retrieval.{few_in, setting_out, way_for, loaded_for, failing, sending, meaning_of}
+use Rattle.association_services.specs.Retrieval.{performed, cancelling}
 use Rattle.association_session.specs.Row.{Within, met}
 use Rattle.association_session.specs.Selected.{selected_by, CountsFor}
 use Rattle.association_session.specs.Talks.{Heard, Met, Said, Serves, awaiting}
@@ -63,13 +65,13 @@ pub record Requested : Type 0 where
 abbrev pub plain : Awaited → Requested
 plain a = record { awaited = a; selected = None; contexts = []; carried = [] }
 
--- one that selected so many, of which these are left
-abbrev pub selecting : List Context → Awaited → ℕ → List Prepared → Requested
-selecting contexts a selected left = record {
+-- one that selected so many, of which these are left, for the port's replies to their loads
+abbrev pub selecting : List Context → Awaited → ℕ → List Listed → List Reply → Requested
+selecting contexts a selected left rs = record {
   awaited = a;
   selected = Some selected;
   contexts = contexts;
-  carried = carried_of contexts left;
+  carried = carried_of contexts left rs;
 }
 
 -- a response to a request, on its context: a pending one, or the last; its counts add up to what was selected
@@ -121,20 +123,49 @@ abbrev pub Replied : (List Reply → List Requested → Type 0) → List Reply �
 Replied Goes [] requests = requests ≡ []
 Replied Goes (r ∷ rs) requests = Goes rs requests
 
--- a C-GET selected all that the port replied, and where these are no few nothing; what it is to carry is made of them
-abbrev pub FewRequests : Option (List Prepared) → List Context → Awaited → Syntax → (Option SubOperation
-    → List Requested → Type 0) → List Requested → Type 0
-FewRequests None contexts a syntax Goes requests = Precedes (plain a) (Goes None) requests
-FewRequests (Some prepared) contexts a syntax Goes requests =
-    Precedes (selecting contexts a (length prepared) prepared)
-    (Goes (begun contexts (setting_out a syntax) prepared)) requests
+-- those behind the port's reply to a load, by what it brought; where it did not reply yet, no more
+abbrev pub RequestsLoaded : Option Prepared → (List Requested → Type 0) → (List Requested → Type 0) → List Requested
+    → Type 0
+RequestsLoaded None Sent Unsent requests = Unsent requests
+RequestsLoaded (Some prepared) Sent Unsent requests = Sent requests
+
+abbrev pub RepliedLoad : Listed → (List Reply → List Requested → Type 0) → (List Reply → List Requested → Type 0)
+    → List Reply → List Requested → Type 0
+RepliedLoad p Sent Unsent [] requests = requests ≡ []
+RepliedLoad p Sent Unsent (Loaded reply ∷ rs) requests =
+    RequestsLoaded (loaded_for p reply) (Sent rs) (Unsent rs) requests
+RepliedLoad p Sent Unsent (Stored reply ∷ rs) requests = ⊥
+RepliedLoad p Sent Unsent (Found reply ∷ rs) requests = ⊥
+RepliedLoad p Sent Unsent (Gotten reply ∷ rs) requests = ⊥
+
+abbrev pub RequestsByWay : Option Way → Listed → (List Reply → List Requested → Type 0)
+    → (List Reply → List Requested → Type 0) → List Reply → List Requested → Type 0
+RequestsByWay None p Sent Unsent rs requests = Unsent rs requests
+RequestsByWay (Some way) p Sent Unsent rs requests = RepliedLoad p Sent Unsent rs requests
+
+-- those behind a C-GET whose sub-operations that are left are begun
+abbrev pub RequestsBegun : List Context → Progress → List Listed → RequestsBy → List Reply → List Requested → Type 0
+RequestsBegun contexts g [] Goes rs requests = Goes None rs requests
+RequestsBegun contexts g (p ∷ ps) Goes rs requests =
+    RequestsByWay (way_for contexts p) p (Goes (Some (sending g p ps))) (RequestsBegun contexts (failing g p) ps Goes)
+    rs requests
+
+-- a C-GET selected all that the port replied, and where these are no few nothing; what it is to carry is made of what
+-- was loaded of them
+abbrev pub FewRequests : Option (List Listed) → List Context → Awaited → Syntax → RequestsBy → List Reply
+    → List Requested → Type 0
+FewRequests None contexts a syntax Goes rs requests = Precedes (plain a) (Goes None rs) requests
+FewRequests (Some listed) contexts a syntax Goes rs requests =
+    Precedes (selecting contexts a (length listed) listed rs)
+    (RequestsBegun contexts (setting_out a syntax) listed Goes rs) requests
 
 abbrev pub RepliedGet : List Context → Awaited → Syntax → RequestsBy → List Reply → List Requested → Type 0
 RepliedGet contexts a syntax Goes [] requests = requests ≡ plain a ∷ []
-RepliedGet contexts a syntax Goes (Gotten reply ∷ rs) requests = FewRequests (few_in reply) contexts a syntax
-    (λ next. Goes next rs) requests
+RepliedGet contexts a syntax Goes (Gotten reply ∷ rs) requests =
+    FewRequests (few_in reply) contexts a syntax Goes rs requests
 RepliedGet contexts a syntax Goes (Stored reply ∷ rs) requests = ⊥
 RepliedGet contexts a syntax Goes (Found reply ∷ rs) requests = ⊥
+RepliedGet contexts a syntax Goes (Loaded reply ∷ rs) requests = ⊥
 
 -- what is to be responded of a message that is served so, and then of what stands behind it
 abbrev pub RequestFor : Service → List Context → Awaited → RequestsBy → (List Reply → List Requested → Type 0)
@@ -147,10 +178,11 @@ RequestFor (Queried finding kind) contexts a Goes Gone rs requests = Precedes (p
     requests
 RequestFor (Fetched getting syntax) contexts a Goes Gone rs requests = RepliedGet contexts a syntax Goes rs requests
 
--- what goes on of a C-GET that is cancelled or not
-abbrev pub next_of_get : Bool → List Context → Progress → List Prepared → Option SubOperation
-next_of_get true contexts g left = None
-next_of_get false contexts g left = begun contexts g left
+-- those behind a C-GET that is cancelled or not
+abbrev pub RequestsBehind : Bool → List Context → Progress → List Listed → RequestsBy → List Reply → List Requested
+    → Type 0
+RequestsBehind true contexts g left Goes rs requests = Goes None rs requests
+RequestsBehind false contexts g left Goes rs requests = RequestsBegun contexts g left Goes rs requests
 
 -- Within a C-GET there is no other request, and any other message ends the association.
 abbrev pub RequestWithin : Meaning → SubOperation → List Context → RequestsBy → (List Reply → List Requested → Type 0)
@@ -158,7 +190,7 @@ abbrev pub RequestWithin : Meaning → SubOperation → List Context → Request
 RequestWithin Cancelled sub contexts Goes Gone rs requests = Goes (Some (cancelling sub)) rs requests
 RequestWithin Unawaited sub contexts Goes Gone rs requests = requests ≡ []
 RequestWithin (Performed outcome) sub contexts Goes Gone rs requests =
-    Goes (next_of_get sub.cancelled contexts (performed sub outcome) sub.left) rs requests
+    RequestsBehind sub.cancelled contexts (performed sub outcome) sub.left Goes rs requests
 
 abbrev pub RequestOf : Option SubOperation → Within → Message → RequestsBy → (List Reply → List Requested → Type 0)
     → List Reply → List Requested → Type 0
@@ -186,10 +218,10 @@ Requests titles w sub (Said m ∷ us) rs requests =
     (Requests titles w sub us) rs requests
 
 -- the C-GET whose sub-operation is awaited, and then these
-abbrev pub open_in : List Context → Option SubOperation → List Requested → List Requested
-open_in contexts None requests = requests
-open_in contexts (Some sub) requests =
-    selecting contexts sub.progress.awaited (selected_by sub) sub.left ∷ requests
+abbrev pub open_in : List Context → Option SubOperation → List Reply → List Requested → List Requested
+open_in contexts None rs requests = requests
+open_in contexts (Some sub) rs requests =
+    selecting contexts sub.progress.awaited (selected_by sub) sub.left rs ∷ requests
 
 -- A call is the last deed.
 abbrev pub EndsInCall : List Deed → Type 0
@@ -204,4 +236,4 @@ IsOpen ds a = EndsInCall ds ⊎ (a.command.field ≡ C_GET_RQ)
 abbrev pub HasResponses : List (Title View) → Within → Option SubOperation → List Heard → List Reply → List Deed
     → Type 0
 HasResponses titles w sub us rs ds = (requests : List Requested) × Requests titles w sub us rs requests
-    × AreResponded (IsOpen ds) (open_in w.link.contexts sub requests) (data_in ds)
+    × AreResponded (IsOpen ds) (open_in w.link.contexts sub rs requests) (data_in ds)

@@ -63,7 +63,7 @@ EndsBy (Performed outcome) titles w sub us rs deeds = (pdus : List Pdu)
 EndsBy Unawaited titles w sub us rs deeds = Then (row titles w.state LocalAbort)
     (Talks titles (met titles w LocalAbort) None us rs) deeds
 
--- Once a C-CANCEL was heard no sub-operation is begun.
+-- Once a C-CANCEL was heard no sub-operation is begun, and so nothing is loaded for one.
 abbrev pub CancelEnds : Type 0
 CancelEnds = (titles : List (Title View)) (w : Within) (sub : SubOperation) (m : Message) (us : List Heard)
     (rs : List Reply) (deeds : List Deed) → w.state ≡ Sta6 → sub.cancelled ≡ true

@@ -22,18 +22,20 @@ use Rattle.dimse.specs.Messages.{Run, HadMemory}
 use Rattle.association_session.specs.declared.pending_response.PendingResponse.{PendingResponse}
 use Rattle.association_session.specs.declared.pending_response.PendingResponse.TheVariants as pendings
 use Rattle.association_services.specs.declared.call.Call.{Call}
-use Rattle.association_services.specs.declared.call.Call.TheVariants.{Store, Find, Get}
+use Rattle.association_services.specs.declared.call.Call.TheVariants.{Store, Find, Get, Load}
 use Rattle.association_session.specs.declared.deed.Deed.{Deed}
 use Rattle.association_session.specs.declared.deed.Deed.TheVariants.{Send, Reach, Ask, Close}
 use Rattle.association_session.specs.declared.event.SessionEvent.{SessionEvent}
 use Rattle.association_session.specs.declared.event.SessionEvent.TheVariants as inputs
 use Rattle.association_services.specs.declared.reply.Reply.{Reply}
-use Rattle.association_session.specs.PendingResponse.{takes_reply, is_telling, IsAnswered, left_of, Fits}
+use Rattle.association_session.specs.PendingResponse.{takes_reply, is_telling, IsAnswered, IsAnsweredOrLoads, left_of}
+use Rattle.association_session.specs.PendingResponse.{Fits}
 use Rattle.association_session.specs.Projections.{state_after}
-use Rattle.association_services.specs.SubOperation.{SubOperation}
+use Rattle.association_services.specs.Retrieval.{failing, sending}
+use Rattle.association_services.specs.SubOperation.{Loading, SubOperation}
 use Rattle.association_session.specs.Row.{Within, met, handed_on, opening, NO_LINK}
 use Rattle.association_session.specs.Talks.{Heard, Met, Said, Goes, GoesBy, FollowsStore, FollowsFind, FollowsGet}
-use Rattle.association_session.specs.Talks.{TellsRows, Begins, Talks, Leads}
+use Rattle.association_session.specs.Talks.{FollowsLoad, TellsRows, Fails, Begins, Talks, Leads}
 use Rattle.archive_model.specs.declared.view.View.{View}
 
 -- ---- where a session is
@@ -68,6 +70,12 @@ closed = record {
 
 -- ---- what is still to be done
 
+-- what is done on the port's reply to a load, and behind it
+abbrev pub FollowsLoading : List Context → Loading → GoesBy → Goes
+FollowsLoading contexts l gets =
+    FollowsLoad l.progress l.listed l.way (gets (Some (sending l.progress l.listed l.left)))
+    (Fails (failing l.progress l.listed) l.left (Begins contexts (failing l.progress l.listed) l.left gets))
+
 abbrev pub OwedFor : List Context → Option PendingResponse → GoesBy → Goes → Goes
 OwedFor contexts None gets goes = goes
 OwedFor contexts (Some (pendings.Store awaited)) gets goes = FollowsStore awaited goes
@@ -75,8 +83,8 @@ OwedFor contexts (Some (pendings.Find awaited kind)) gets goes = FollowsFind awa
 OwedFor contexts (Some (pendings.Rows telling)) gets goes =
     λ rs deeds. TellsRows telling.awaited telling.kind telling.rows telling.status (goes rs) deeds
 OwedFor contexts (Some (pendings.Get awaited syntax)) gets goes = FollowsGet contexts awaited syntax gets goes
-OwedFor contexts (Some (pendings.Sending r)) gets goes =
-    λ rs deeds. Begins contexts r.progress r.left (λ next. gets next rs) deeds
+OwedFor contexts (Some (pendings.Sending r)) gets goes = Begins contexts r.progress r.left gets
+OwedFor contexts (Some (pendings.Load l)) gets goes = FollowsLoading contexts l gets
 
 -- the same, at a place, with a sub-operation whose response is awaited
 abbrev pub OwedAt : List (Title View) → Within → Option SubOperation → Option PendingResponse → List Heard → Goes
@@ -101,19 +109,29 @@ Awaits (Store content) (Some (pendings.Find awaited kind)) = ⊥
 Awaits (Store content) (Some (pendings.Rows telling)) = ⊥
 Awaits (Store content) (Some (pendings.Get awaited syntax)) = ⊥
 Awaits (Store content) (Some (pendings.Sending r)) = ⊥
+Awaits (Store content) (Some (pendings.Load l)) = ⊥
 Awaits (Store content) None = ⊥
 Awaits (Find finding) (Some (pendings.Find awaited kind)) = ⊤
 Awaits (Find finding) (Some (pendings.Store awaited)) = ⊥
 Awaits (Find finding) (Some (pendings.Rows telling)) = ⊥
 Awaits (Find finding) (Some (pendings.Get awaited syntax)) = ⊥
 Awaits (Find finding) (Some (pendings.Sending r)) = ⊥
+Awaits (Find finding) (Some (pendings.Load l)) = ⊥
 Awaits (Find finding) None = ⊥
 Awaits (Get getting) (Some (pendings.Get awaited syntax)) = ⊤
 Awaits (Get getting) (Some (pendings.Store awaited)) = ⊥
 Awaits (Get getting) (Some (pendings.Find awaited kind)) = ⊥
 Awaits (Get getting) (Some (pendings.Rows telling)) = ⊥
 Awaits (Get getting) (Some (pendings.Sending r)) = ⊥
+Awaits (Get getting) (Some (pendings.Load l)) = ⊥
 Awaits (Get getting) None = ⊥
+Awaits (Load asked) (Some (pendings.Load l)) = ⊤
+Awaits (Load asked) (Some (pendings.Store awaited)) = ⊥
+Awaits (Load asked) (Some (pendings.Find awaited kind)) = ⊥
+Awaits (Load asked) (Some (pendings.Rows telling)) = ⊥
+Awaits (Load asked) (Some (pendings.Get awaited syntax)) = ⊥
+Awaits (Load asked) (Some (pendings.Sending r)) = ⊥
+Awaits (Load asked) None = ⊥
 
 -- A call is the last deed, and its reply is awaited. So is a close, and nothing is awaited.
 abbrev pub Stops : List Deed → Option PendingResponse → Type 0
@@ -206,12 +224,12 @@ in_turn None left inputs.GoesOn = left
 abbrev pub is_in_turn : AssociationState → SessionEvent → Bool
 is_in_turn s event = in_turn s.awaited (is_left s.within.state s.queue) event
 
--- Behind a reply, and behind rows and sub-operations that are begun, no call is made.
+-- Behind a reply no call is made, and behind rows and sub-operations that are begun none but the load of the next one.
 abbrev pub IsToldBy : SessionEvent → Option PendingResponse → Option PendingResponse → Type 0
 IsToldBy (inputs.Replied reply) old new = IsAnswered new
 IsToldBy (inputs.Heard event) old new = ⊤
 IsToldBy inputs.GoesOn None new = ⊤
-IsToldBy inputs.GoesOn (Some pending) new = IsAnswered new
+IsToldBy inputs.GoesOn (Some pending) new = IsAnsweredOrLoads new
 
 -- Something is still to be told only while the association is established.
 abbrev pub IsOpenFor : AssociationState → Type 0
@@ -230,14 +248,25 @@ pub record Turned (titles : List (Title View)) (old : AssociationState) (event :
   pub opened : IsOpenFor old → IsOpenFor new
   pub fits : Fits new.awaited
 
--- Rows that are told on become fewer, and else values that are heard on; a reply and rows leave the values.
+-- Rows that are told on become fewer, and sub-operations that are left, and else values that are heard on; a reply and
+-- rows leave the values.
 abbrev pub FewerFor : Option PendingResponse → AssociationState → AssociationState → Type 0
 FewerFor None old new = length new.queue < length old.queue
 FewerFor (Some pending) old new = (new.queue ≡ old.queue) × (left_of new.awaited < left_of old.awaited)
 
+-- Behind the reply to a load fewer are left.
+abbrev pub FewerBehind : Option PendingResponse → Option PendingResponse → Type 0
+FewerBehind None new = ⊤
+FewerBehind (Some (pendings.Store awaited)) new = ⊤
+FewerBehind (Some (pendings.Find awaited kind)) new = ⊤
+FewerBehind (Some (pendings.Rows telling)) new = ⊤
+FewerBehind (Some (pendings.Get awaited syntax)) new = ⊤
+FewerBehind (Some (pendings.Sending r)) new = ⊤
+FewerBehind (Some (pendings.Load l)) new = left_of new < left_of (Some (pendings.Load l))
+
 abbrev pub IsFewer : SessionEvent → AssociationState → AssociationState → Type 0
 IsFewer (inputs.Heard event) old new = ⊤
-IsFewer (inputs.Replied reply) old new = new.queue ≡ old.queue
+IsFewer (inputs.Replied reply) old new = (new.queue ≡ old.queue) × FewerBehind old.awaited new.awaited
 IsFewer inputs.GoesOn old new = FewerFor old.awaited old new
 
 -- ---- how it ends

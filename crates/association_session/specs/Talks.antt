@@ -3,6 +3,7 @@
 -- It hears PDUs, and behind each P-DATA-TF that is handed on the messages that it ends. What each message is answered
 -- is a table, a line a service: `ServesKind` of `association_services`, over a table for each service. A C-GET hands on
 -- the sub-operation whose response it awaits, so that its responses and its C-CANCEL are heard by the same recursion.
+-- What it sends is loaded by its port, each in its turn.
 use Rattle.std.specs.Prelude.{◌≡◌, ◌⊎◌, List, [], ◌∷◌, ◌++◌, map, Option, Some, None}
 use Rattle.pdu.specs.declared.value.Pdu.{Pdu}
 use Rattle.ul_state.specs.declared.event.Event.{Event}
@@ -11,31 +12,36 @@ use Rattle.ul_state.specs.declared.table.State.{State}
 use Rattle.ul_state.specs.declared.table.State.TheVariants.{Sta1, Sta2, Sta6, Sta13}
 use Rattle.ul_state.specs.declared.titles.Title.{Title}
 use Rattle.dimse.specs.declared.message.Message.{Message}
+use Rattle.dimse.specs.Sending.{IsSending}
 use Rattle.dimse.specs.declared.status.Status.{Status}
 use Rattle.dimse.specs.declared.status.Status.TheVariants.{UnableToPerformSubOperations}
 use Rattle.pdu.specs.declared.context.Context.{Context}
 use Rattle.data_set.specs.declared.syntax.Syntax.{Syntax}
+use Rattle.archive_model.specs.declared.listed.Listed.{Listed}
 use Rattle.archive_model.specs.declared.prepared.Prepared.{Prepared}
 use Rattle.data_set.specs.Set.{Set}
-use Rattle.association_services.specs.declared.call.Call.TheVariants.{Store, Find, Get}
+use Rattle.association_services.specs.declared.call.Call.TheVariants.{Store, Find, Get, Load}
 use Rattle.association_session.specs.declared.deed.Deed.{Deed}
 use Rattle.association_session.specs.declared.deed.Deed.TheVariants.{Send, Reach, Ask}
 use Rattle.association_session.specs.declared.deed.Moment.TheVariants.{InStore, FindAnswered}
 use Rattle.association_services.specs.declared.service.RowKind.{RowKind}
 use Rattle.association_services.specs.declared.reply.Reply.{Reply}
-use Rattle.association_services.specs.declared.reply.Reply.TheVariants.{Stored, Found, Gotten}
+use Rattle.association_services.specs.declared.reply.Reply.TheVariants.{Stored, Found, Gotten, Loaded}
 use Rattle.association_services.specs.declared.retrieval.Meaning.{Meaning}
 use Rattle.association_services.specs.declared.retrieval.Meaning.TheVariants.{Cancelled, Performed, Unawaited}
 use Rattle.association_services.specs.declared.retrieval.Progress.{Progress}
+use Rattle.association_services.specs.declared.way.Way.{Way}
 use Rattle.association_services.specs.declared.service.Service.{Service}
 use Rattle.association_services.specs.declared.service.Service.TheVariants.{Ignored, Broken, Responded, Asked}
 use Rattle.association_services.specs.declared.service.Service.TheVariants.{Queried, Fetched}
 use Rattle.association_services.specs.Context.{context_in}
 use Rattle.association_services.specs.Find.{AreRows, rows_in, status_of_found}
 use Rattle.association_services.specs.Response.{Awaited, Responds}
-use Rattle.association_services.specs.Retrieval.{few_in, setting_out, SendsOn, begun, meaning_of}
+use Rattle.association_services.specs.Retrieval.{few_in, setting_out, way_for, loaded_for, failing, sending}
+use Rattle.association_services.specs.Retrieval.{sub_operation}
+use Rattle.association_services.specs.Retrieval.{meaning_of, performed, cancelling, RespondsIfLeft, RespondsEnd}
+use Rattle.association_services.specs.Retrieval.{RespondsBy}
 use Rattle.association_services.specs.SubOperation.{Retrieval, SubOperation}
-use Rattle.association_services.specs.Retrieval.{performed, cancelling, RespondsBy}
 use Rattle.association_session.specs.Row.{Link, Within, row, met}
 use Rattle.association_services.specs.Service.{ServesOn}
 use Rattle.association_services.specs.Store.{status_of_reply}
@@ -72,11 +78,42 @@ TellsRows awaited kind rows status Rest deeds = (responses : List Pdu) × AreRow
 abbrev pub GoesBy : Type 1
 GoesBy = Option SubOperation → Goes
 
--- The sub-operations that are left are begun, and it goes on with the one whose response is then awaited.
-abbrev pub Begins : List Context → Progress → List Prepared → (Option SubOperation → List Deed → Type 0) → List Deed
+-- These PDUs are sent, and then it goes on.
+abbrev pub Sends : (List Pdu → Type 0) → (List Deed → Type 0) → List Deed → Type 0
+Sends Are Rest deeds = (pdus : List Pdu) × Are pdus × Then (map Send pdus) Rest deeds
+
+-- Of a sub-operation what was loaded is sent, or else it goes as it goes behind one that fails unsent.
+abbrev pub SendsLoaded : Option Prepared → Progress → Way → (List Deed → Type 0) → (List Deed → Type 0) → List Deed
     → Type 0
-Begins contexts g left Rest deeds = (pdus : List Pdu) × SendsOn contexts g left pdus
-    × Then (map Send pdus) (Rest (begun contexts g left)) deeds
+SendsLoaded None g way Sent Unsent deeds = Unsent deeds
+SendsLoaded (Some prepared) g way Sent Unsent deeds =
+    Sends (IsSending (sub_operation g way prepared) g.awaited.limit) Sent deeds
+
+-- what is done on the port's reply to a load; where none came yet, nothing is done
+abbrev pub FollowsLoad : Progress → Listed → Way → Goes → Goes → Goes
+FollowsLoad g p way sent unsent [] deeds = deeds ≡ []
+FollowsLoad g p way sent unsent (Loaded reply ∷ rs) deeds =
+    SendsLoaded (loaded_for p reply) g way (sent rs) (unsent rs) deeds
+FollowsLoad g p way sent unsent (Stored reply ∷ rs) deeds = ⊥
+FollowsLoad g p way sent unsent (Found reply ∷ rs) deeds = ⊥
+FollowsLoad g p way sent unsent (Gotten reply ∷ rs) deeds = ⊥
+
+-- A sub-operation fails unsent: it is responded that it did, where others are left, and then it goes on.
+abbrev pub Fails : Progress → List Listed → Goes → Goes
+Fails g left goes rs deeds = Sends (RespondsIfLeft g left) (goes rs) deeds
+
+-- The port is asked to load what has a way to be sent; what has none fails unsent.
+abbrev pub LoadsBy : Option Way → Progress → Listed → Goes → Goes → Goes
+LoadsBy None g p sent unsent rs deeds = unsent rs deeds
+LoadsBy (Some way) g p sent unsent rs deeds =
+    Then (Ask (Load p.content) ∷ []) (FollowsLoad g p way sent unsent rs) deeds
+
+-- The sub-operations that are left are begun, up to one whose response is then awaited, or to the last response.
+abbrev pub Begins : List Context → Progress → List Listed → GoesBy → Goes
+Begins contexts g [] gets rs deeds = Sends (RespondsEnd g) (gets None rs) deeds
+Begins contexts g (p ∷ ps) gets rs deeds =
+    LoadsBy (way_for contexts p) g p (gets (Some (sending g p ps)))
+    (Fails (failing g p) ps (Begins contexts (failing g p) ps gets)) rs deeds
 
 -- what is done on the port's reply to a store; where none came yet, nothing is done
 abbrev pub FollowsStore : Awaited → Goes → Goes
@@ -84,6 +121,7 @@ FollowsStore awaited goes [] deeds = deeds ≡ []
 FollowsStore awaited goes (Stored reply ∷ rs) deeds = Tells awaited (status_of_reply reply) (goes rs) deeds
 FollowsStore awaited goes (Found reply ∷ rs) deeds = ⊥
 FollowsStore awaited goes (Gotten reply ∷ rs) deeds = ⊥
+FollowsStore awaited goes (Loaded reply ∷ rs) deeds = ⊥
 
 -- what is done on its reply to a find
 abbrev pub FollowsFind : Awaited → RowKind → Goes → Goes
@@ -92,21 +130,23 @@ FollowsFind awaited kind goes (Found reply ∷ rs) deeds = TellsRows awaited kin
     (goes rs) deeds
 FollowsFind awaited kind goes (Stored reply ∷ rs) deeds = ⊥
 FollowsFind awaited kind goes (Gotten reply ∷ rs) deeds = ⊥
+FollowsFind awaited kind goes (Loaded reply ∷ rs) deeds = ⊥
 
 -- Its instances are sent, or else it is told that no sub-operation can be performed.
-abbrev pub BeginsFew : List Context → Awaited → Syntax → Option (List Prepared) → (Option SubOperation → List Deed
-    → Type 0) → (List Deed → Type 0) → List Deed → Type 0
-BeginsFew contexts awaited syntax None Rest Refused deeds = Tells awaited UnableToPerformSubOperations Refused deeds
-BeginsFew contexts awaited syntax (Some prepared) Rest Refused deeds = Begins contexts (setting_out awaited syntax)
-    prepared Rest deeds
+abbrev pub BeginsFew : List Context → Awaited → Syntax → Option (List Listed) → GoesBy → Goes → Goes
+BeginsFew contexts awaited syntax None gets refused rs deeds =
+    Tells awaited UnableToPerformSubOperations (refused rs) deeds
+BeginsFew contexts awaited syntax (Some listed) gets refused rs deeds =
+    Begins contexts (setting_out awaited syntax) listed gets rs deeds
 
 -- what is done on its reply to a get
 abbrev pub FollowsGet : List Context → Awaited → Syntax → GoesBy → Goes → Goes
 FollowsGet contexts awaited syntax gets goes [] deeds = deeds ≡ []
-FollowsGet contexts awaited syntax gets goes (Gotten reply ∷ rs) deeds = BeginsFew contexts awaited syntax
-    (few_in reply) (λ next. gets next rs) (goes rs) deeds
+FollowsGet contexts awaited syntax gets goes (Gotten reply ∷ rs) deeds =
+    BeginsFew contexts awaited syntax (few_in reply) gets goes rs deeds
 FollowsGet contexts awaited syntax gets goes (Stored reply ∷ rs) deeds = ⊥
 FollowsGet contexts awaited syntax gets goes (Found reply ∷ rs) deeds = ⊥
+FollowsGet contexts awaited syntax gets goes (Loaded reply ∷ rs) deeds = ⊥
 
 -- ---- what is done for a message
 
@@ -140,7 +180,7 @@ Answers w m abort gets gone rs deeds = (service : Service) × Serves w m service
 -- ends; any other message is an abort of the local user.
 abbrev pub GoesOnBy : Option Retrieval → List Context → GoesBy → Goes
 GoesOnBy None contexts gets rs deeds = gets None rs deeds
-GoesOnBy (Some r) contexts gets rs deeds = Begins contexts r.progress r.left (λ next. gets next rs) deeds
+GoesOnBy (Some r) contexts gets rs deeds = Begins contexts r.progress r.left gets rs deeds
 
 abbrev pub Performs : Meaning → SubOperation → List Context → List Deed → GoesBy → Goes → Goes
 Performs Cancelled sub contexts abort gets gone rs deeds = gets (Some (cancelling sub)) rs deeds

@@ -61,10 +61,11 @@ pub fn a_response_stands_behind_its_call()
 /// In every response to a C-GET whose sub-operations are performed the completed, failed, warning
 /// and remaining ones add up to the instances that the port replied; no other response counts any.
 ///
-/// The sub-operations of a C-GET carry what a C-GET sends of the instances that the port replied,
-/// in order, where just those transfer syntaxes are accepted which the presentation contexts
-/// accept: none is passed over but those for which none of them serves. Each goes out on a context
-/// that takes its class, in the transfer syntax in which it is sent.
+/// The sub-operations of a C-GET carry what a C-GET sends of the contents that the port loaded for
+/// the instances that it listed, in order, where just those transfer syntaxes are accepted which
+/// the presentation contexts accept: none is passed over but those that no context takes, and those
+/// whose load brought no content of that class, instance and transfer syntax. Each goes out on a
+/// context that takes its class, in the transfer syntax in which it is sent.
 pub fn each_request_has_one_response()
     ensures { (titles : List (Title View)) (w : Within) (heard : List Heard)
         (replies : List Reply) (deeds : List Deed) → Talks titles w None heard replies deeds →
@@ -80,8 +81,8 @@ pub fn no_row_of_a_partial_query_is_a_full_one()
         Talks titles w sub heard replies deeds → AreAnswered deeds }
 {}
 
-/// Once the C-CANCEL of a C-GET was heard no sub-operation is begun: behind the response that is
-/// awaited stands the last response.
+/// Once the C-CANCEL of a C-GET was heard no sub-operation is begun, and nothing is loaded: behind
+/// the response that is awaited stands the last response.
 pub fn a_cancelled_get_begins_no_more()
     ensures { CancelEnds }
 {}

@@ -5,7 +5,7 @@ ghost use Rattle.association_session.specs.PendingResponse.{takes_reply, is_tell
 ghost use Rattle.association_session.specs.inner.Association.{cancelled_in, pending_of};
 
 use archive_model::Answers;
-use association_services::{Awaited, Reply, Retrieval, RowKind, SubOperation};
+use association_services::{Awaited, Loading, Reply, Retrieval, RowKind, SubOperation};
 use data_set::Syntax;
 use dimse::Status;
 
@@ -31,6 +31,8 @@ pub(crate) enum PendingResponse {
     Get(Awaited, Syntax),
     /// Sub-operations that are left.
     Sending(Retrieval),
+    /// What the port's reply to a load brings of a sub-operation.
+    Load(Loading),
 }
 
 /// Whether the port's reply is awaited, and is one of this kind.
@@ -41,14 +43,21 @@ pub(crate) fn takes(pending: &PendingResponse, reply: &Reply) -> bool
         (PendingResponse::Store(_), Reply::Stored(_)) => true,
         (PendingResponse::Store(_), Reply::Found(_)) => false,
         (PendingResponse::Store(_), Reply::Gotten(_)) => false,
+        (PendingResponse::Store(_), Reply::Loaded(_)) => false,
         (PendingResponse::Find(_, _), Reply::Found(_)) => true,
         (PendingResponse::Find(_, _), Reply::Stored(_)) => false,
         (PendingResponse::Find(_, _), Reply::Gotten(_)) => false,
+        (PendingResponse::Find(_, _), Reply::Loaded(_)) => false,
         (PendingResponse::Rows(_), _) => false,
         (PendingResponse::Get(_, _), Reply::Gotten(_)) => true,
         (PendingResponse::Get(_, _), Reply::Stored(_)) => false,
         (PendingResponse::Get(_, _), Reply::Found(_)) => false,
+        (PendingResponse::Get(_, _), Reply::Loaded(_)) => false,
         (PendingResponse::Sending(_), _) => false,
+        (PendingResponse::Load(_), Reply::Loaded(_)) => true,
+        (PendingResponse::Load(_), Reply::Stored(_)) => false,
+        (PendingResponse::Load(_), Reply::Found(_)) => false,
+        (PendingResponse::Load(_), Reply::Gotten(_)) => false,
     }
 }
 
@@ -62,6 +71,7 @@ pub(crate) fn is_telling(pending: &PendingResponse) -> bool
         PendingResponse::Rows(_) => true,
         PendingResponse::Get(_, _) => false,
         PendingResponse::Sending(_) => true,
+        PendingResponse::Load(_) => false,
     }
 }
 

@@ -4,23 +4,25 @@ ghost use Rattle.std.specs.Prelude.{◌≡◌, [], IfOk, OnOk, IsTrue, All, List
 ghost use Rattle.ul_state.specs.declared.titles.Title.{Title};
 ghost use Rattle.association_session.specs.declared.event.SessionEvent.TheVariants.{Replied, GoesOn};
 ghost use Rattle.association_session.specs.declared.pending_response.PendingResponse.TheVariants as pendings;
-ghost use Rattle.association_services.specs.declared.reply.Reply.TheVariants.{Stored, Found, Gotten};
+ghost use Rattle.association_services.specs.declared.reply.Reply.TheVariants.{Stored, Found, Gotten, Loaded};
 ghost use Rattle.association_session.specs.Session.{is_in_turn, Turned, IsWritable, IsFewer};
 ghost use Rattle.association_session.specs.inner.Association.{owing};
 ghost use Rattle.archive_model.specs.declared.view.View.{View};
 
 use crate::association::Association;
+use crate::deed::Deed;
 use crate::deeds::Deeds;
 use crate::pending_response::{PendingResponse, Telling, put, takes};
-use crate::telling::{respond, sends, tell};
-use archive_model::{Answers, Prepared};
+use crate::telling::{one, respond, sends, tell};
+use archive_model::{Answers, Listed};
 use association_services::{
-    Awaited, Begun, PortFault, Reply, Retrieval, RowKind, few, found, status_for,
+    Awaited, Begun, Brought, Call, Loading, PortFault, Reply, Retrieval, RowKind, few, found,
+    status_for,
 };
 use data_set::Syntax;
 use dimse::Status;
 use octets::ListOf;
-use operation::Taken;
+use operation::{Content, Taken};
 use std::alloc::AllocError;
 
 impl Association {
@@ -69,7 +71,7 @@ impl Association {
         &mut self,
         awaited: Awaited,
         syntax: Syntax,
-        reply: Result<ListOf<Prepared>, PortFault>,
+        reply: Result<ListOf<Listed>, PortFault>,
     ) -> Result<Deeds, AllocError>
         requires { self.old.awaited ≡ None }
         ensures turned { (titles : List (Title View)) → IfOk result (λ deeds.
@@ -79,12 +81,40 @@ impl Association {
         ensures writable { IfOk result (All IsWritable) }
     {
         awaited.see_room();
-        let Some(prepared) = few(reply) else {
+        let Some(listed) = few(reply) else {
             return respond(self.alloc, &awaited, Status::UnableToPerformSubOperations);
         };
-        let retrieval = Retrieval::of(self.alloc, awaited, syntax, prepared);
+        let retrieval = Retrieval::of(self.alloc, awaited, syntax, listed);
         self.owe(PendingResponse::Sending(retrieval));
         Ok(Deeds::new(self.alloc))
+    }
+
+    /// Sends what was loaded for a sub-operation, or fails it unsent and leaves the others to be
+    /// begun.
+    fn take_loaded(
+        &mut self,
+        loading: Loading,
+        reply: Result<Content, PortFault>,
+    ) -> Result<Deeds, AllocError>
+        requires { self.old.awaited ≡ None }
+        ensures turned { (titles : List (Title View)) → IfOk result (λ deeds.
+            Turned titles (owing self.old (pendings.Load loading)) (Replied (Loaded reply))
+            deeds self.new) }
+        ensures fewer { OnOk result (IsFewer (Replied (Loaded reply))
+            (owing self.old (pendings.Load loading)) self.new) }
+        ensures writable { IfOk result (All IsWritable) }
+    {
+        loading.progress.awaited.see_room();
+        match loading.bring(self.alloc, reply)? {
+            Brought::Sent(pdus, sub) => {
+                put(&mut self.sub, Some(sub));
+                sends(self.alloc, pdus)
+            }
+            Brought::Unsent(pdus, left) => {
+                self.owe(PendingResponse::Sending(left));
+                sends(self.alloc, pdus)
+            }
+        }
     }
 
     /// Whether this reply is awaited.
@@ -102,7 +132,7 @@ impl Association {
         requires { IsTrue (is_in_turn self.old (Replied reply)) }
         ensures turned { (titles : List (Title View)) → IfOk result (λ deeds.
             Turned titles self.old (Replied reply) deeds self.new) }
-        ensures left { OnOk result (self.new.queue ≡ self.old.queue) }
+        ensures fewer { OnOk result (IsFewer (Replied reply) self.old self.new) }
         ensures writable { IfOk result (All IsWritable) }
     {
         match (self.awaited.take(), reply) {
@@ -115,6 +145,9 @@ impl Association {
             (Some(PendingResponse::Get(awaited, syntax)), Reply::Gotten(reply)) => {
                 self.take_gotten(awaited, syntax, reply)
             }
+            (Some(PendingResponse::Load(loading)), Reply::Loaded(reply)) => {
+                self.take_loaded(loading, reply)
+            }
             (_, _) => unreachable!(),
         }
     }
@@ -124,7 +157,8 @@ impl Association {
         ensures turned { (titles : List (Title View)) →
             IsTrue (is_in_turn self.old (Replied reply)) → IfOk result (λ deeds.
             Turned titles self.old (Replied reply) deeds self.new) }
-        ensures left { OnOk result (self.new.queue ≡ self.old.queue) }
+        ensures fewer { IsTrue (is_in_turn self.old (Replied reply)) →
+            OnOk result (IsFewer (Replied reply) self.old self.new) }
         ensures ignored { is_in_turn self.old (Replied reply) ≡ false →
             IfOk result (λ deeds. deeds ≡ []) }
         ensures kept { is_in_turn self.old (Replied reply) ≡ false →
@@ -137,7 +171,8 @@ impl Association {
         self.take(reply)
     }
 
-    /// Begins the next of the sub-operations that are left, and behind the last one ends them.
+    /// Begins the next of the sub-operations that are left, for which the port is asked its content;
+    /// and behind the last one ends them.
     pub(crate) fn send_on(&mut self, retrieval: Retrieval) -> Result<Deeds, AllocError>
         requires { self.old.awaited ≡ None }
         ensures turned { (titles : List (Title View)) → IfOk result (λ deeds.
@@ -152,9 +187,9 @@ impl Association {
                 put(&mut self.sub, None);
                 sends(self.alloc, pdus)
             }
-            Begun::Sent(pdus, sub) => {
-                put(&mut self.sub, Some(sub));
-                sends(self.alloc, pdus)
+            Begun::Loads(asked, loading) => {
+                self.owe(PendingResponse::Load(loading));
+                one(self.alloc, Deed::Ask(Call::Load(asked)))
             }
             Begun::Unsent(pdus, retrieval) => {
                 self.owe(PendingResponse::Sending(retrieval));

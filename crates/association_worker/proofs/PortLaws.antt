@@ -1,6 +1,6 @@
 -- What the site of a port holds after a store, and why one is refused.
-use Rattle.std.proofs.Common.{◌≡◌, ◌⊎◌, ◌++◌, ◌∷◌, [], ℕ, List, Bool, true, false, cond, Option, Some, None, Result, Ok}
-use Rattle.std.proofs.Common.{Err, IfOk, OnOk, OnErr, IfErr, inl, inr, refl, sym, ap, subst, ◌∙◌}
+use Rattle.std.proofs.Common.{◌≡◌, ◌≢◌, ◌⊎◌, ◌++◌, ◌∷◌, [], ℕ, List, Bool, true, false, cond, Option, Some, None, Result}
+use Rattle.std.proofs.Common.{Ok, Err, IfOk, OnOk, OnErr, IfErr, inl, inr, refl, sym, ap, subst, ◌∙◌}
 use Rattle.std.specs.Prelude.{IfSome}
 use Rattle.std.specs.Ordering.{is_eq}
 use Rattle.std.specs.Cmp.{tied_itself}
@@ -19,15 +19,18 @@ use Rattle.site_state.proofs.Same.{of_ops}
 use Rattle.octets.specs.Members.{Has}
 use Rattle.data_set.specs.Set.{Set}
 use Rattle.archive_model.specs.Rows.{rows_of}
-use Rattle.archive_model.specs.declared.prepared.Prepared.{Prepared}
-use Rattle.archive_model.specs.Preparing.{prepared_of}
+use Rattle.archive_model.specs.declared.listed.Listed.{Listed}
+use Rattle.archive_model.specs.Listed.{list_of, IsOfRecord}
+use Rattle.operation.specs.declared.op.Op.TheVariants.{Content as a_content}
+use Rattle.operation.specs.Parts.{ContentParts}
+use Rattle.operation.specs.RecordParts.{ContentRecordParts, content_record}
 use Rattle.association_services.specs.declared.call.Finding.{Finding}
 use Rattle.association_services.specs.declared.call.Getting.{Getting}
 use Rattle.association_services.specs.declared.reply.PortFault.{PortFault}
 use Rattle.association_services.specs.declared.reply.PortFault.TheVariants.{Memory, Busy, Collision, Shelf}
 use Rattle.association_run.specs.Port.{AreHeld, HasNoneAt, HasOtherAt, HasAdded, TakesInto, IsTaken, IsClashed}
-use Rattle.association_run.specs.Port.{ComesOf, Leaves, Stores, Finds, Gets, IsFindFault}
-use Rattle.association_worker.specs.Port.{PortParts}
+use Rattle.association_run.specs.Port.{ComesOf, Leaves, Stores, Finds, Gets, Loads, IsFindFault, IsLoadFault}
+use Rattle.association_worker.specs.Port.{PortParts, IsUnheld}
 
 other_at : (m : Map) (d q : List ℕ) (op o : Op) (b : Bool) → is_at (digest_cmp q) d ≡ b → get m d ≡ None
     → get m q ≡ Some o → cond b (Some op) (get m q) ≡ Some o
@@ -69,7 +72,7 @@ own_digest : (r : Option Op) (d : List ℕ) (o : Op) → r ≡ Some o → IfSome
 own_digest r d o e own = subst (λ (s : Option Op). IfSome s (λ x. d ≡ digest_of x)) e own
 
 -- what a site holds lies under its own digest
-at_own : (m : Map) (o : Op) → IsSite m → Has (ops_of m) o → held_at m (digest_of o) ≡ Some o
+pub at_own : (m : Map) (o : Op) → IsSite m → Has (ops_of m) o → held_at m (digest_of o) ≡ Some o
 at_own m o site has =
     let there = ops_held m o has in
     ap (held_at m) (sym (own_digest (held_at m there.0) there.0 o there.1 (site there.0))) ∙ there.1
@@ -173,18 +176,58 @@ finds_as old new finding (Err fault) same found memory = record {
   replied = inl memory;
 }
 
--- A look changes nothing, and what is to be sent is that over all that is held.
-pub gets_as : (old new : PortParts) (getting : Getting) (reply : Result (List Prepared) PortFault) → new ≡ old
-    → IfOk reply (λ prepared. prepared ≡ prepared_of getting.view getting.selection (ops_of old.site))
+-- A look changes nothing, and what is listed is that over all that is held.
+pub gets_as : (old new : PortParts) (getting : Getting) (reply : Result (List Listed) PortFault) → new ≡ old
+    → IfOk reply (λ listed. listed ≡ list_of getting.view getting.selection (ops_of old.site))
     → IfErr reply (λ fault. fault ≡ Memory)
     → Gets (λ (p : PortParts). ops_of p.site) (λ (p : PortParts). p.own) old getting reply new
-gets_as old new getting (Ok prepared) same found fault = record {
+gets_as old new getting (Ok listed) same found fault = record {
   kept = λ o held. subst (λ (p : PortParts). Has (ops_of p.site) o) (sym same) held;
   own_kept = ap (λ (p : PortParts). p.own) same;
-  replied = found ∙ ap (λ (p : PortParts). prepared_of getting.view getting.selection (ops_of p.site)) (sym same);
+  replied = found ∙ ap (λ (p : PortParts). list_of getting.view getting.selection (ops_of p.site)) (sym same);
 }
 gets_as old new getting (Err fault) same found memory = record {
   kept = λ o held. subst (λ (p : PortParts). Has (ops_of p.site) o) (sym same) held;
   own_kept = ap (λ (p : PortParts). p.own) same;
   replied = inl memory;
 }
+
+-- ---- loads
+
+-- the faults of a load of what is held
+pub load_fault : (fault : PortFault) → (fault ≡ Memory) ⊎ (fault ≡ Shelf) → IsLoadFault fault
+load_fault fault (inl is) = inl (inl is)
+load_fault fault (inr is) = inr is
+
+-- A look changes nothing, and what is loaded is held.
+pub loads_as : (old new : PortParts) (asked : ContentRecordParts) (reply : Result ContentParts PortFault) → new ≡ old
+    → IfOk reply (λ content. (held_at old.site asked.digest ≡ Some (a_content content)) × IsOfRecord asked content)
+    → IfErr reply (λ fault. (fault ≡ Memory) ⊎ (fault ≡ Shelf))
+    → Loads (λ (p : PortParts). ops_of p.site) (λ (p : PortParts). p.own) old asked reply new
+loads_as old new asked (Ok content) same loaded fault = record {
+  kept = λ o held. subst (λ (p : PortParts). Has (ops_of p.site) o) (sym same) held;
+  own_kept = ap (λ (p : PortParts). p.own) same;
+  replied = (
+    loaded.1,
+    subst (λ (p : PortParts). Has (ops_of p.site) (a_content content)) (sym same)
+        (of_ops old.site asked.digest (a_content content) loaded.0),
+  );
+}
+loads_as old new asked (Err fault) same loaded told = record {
+  kept = λ o held. subst (λ (p : PortParts). Has (ops_of p.site) o) (sym same) held;
+  own_kept = ap (λ (p : PortParts). p.own) same;
+  replied = load_fault fault told;
+}
+
+-- what is held of a record lies under its digest
+pub held_of : (m : Map) (asked : ContentRecordParts) (content : ContentParts) → IsSite m
+    → Has (ops_of m) (a_content content) → content_record content ≡ asked
+    → held_at m asked.digest ≡ Some (a_content content)
+held_of m asked content site has same =
+    ap (λ (r : ContentRecordParts). held_at m r.digest) (sym same) ∙ at_own m (a_content content) site has
+
+-- so none is held where what lies there is none
+pub unheld : (m : Map) (asked : ContentRecordParts) → IsSite m
+    → ((content : ContentParts) → held_at m asked.digest ≡ Some (a_content content) → content_record content ≢ asked)
+    → IsUnheld (ops_of m) asked
+unheld m asked site none content has same = none content (held_of m asked content site has same) same

@@ -1,7 +1,12 @@
 -- Sites as ports.
-use Rattle.std.specs.Prelude.{ℕ, List, Result, Ok, Err, refl}
+use Rattle.std.specs.Prelude.{◌≢◌, ℕ, List, Result, Ok, Err, refl}
 use Rattle.std.specs.FinMap as finmap
 use Rattle.std.specs.Coded.{Coded, code_by, coded×, coded_ℕ, coded_list}
+use Rattle.octets.specs.Members.{Has}
+use Rattle.operation.specs.declared.op.Op.{Op}
+use Rattle.operation.specs.declared.op.Op.TheVariants.{Content as a_content}
+use Rattle.operation.specs.Parts.{ContentParts}
+use Rattle.operation.specs.RecordParts.{ContentRecordParts, content_record}
 use Rattle.operation.specs.OpCode.{op_code}
 use Rattle.operation.specs.declared.taken.Taken.{Taken}
 use Rattle.site_state.specs.declared.fault.SiteFault.{SiteFault}
@@ -42,3 +47,7 @@ reply_to (Err fault) = Err (fault_of_hub fault)
 abbrev pub port_code : Coded PortParts
 port_code = code_by (Map × List (List ℕ)) (coded× (finmap.code (coded_list coded_ℕ) op_code)
     (coded_list (coded_list coded_ℕ))) (λ p. (p.site, p.own)) (λ p. record { site = p.0; own = p.1 }) (λ _. refl)
+
+-- No content of this record is held.
+abbrev pub IsUnheld : List Op → ContentRecordParts → Type 0
+IsUnheld held asked = (content : ContentParts) → Has held (a_content content) → content_record content ≢ asked

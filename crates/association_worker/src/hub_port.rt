@@ -6,16 +6,17 @@ ghost use Rattle.devices.specs.Failures.{Rose};
 ghost use Rattle.site_state.specs.Site.{ops_of};
 ghost use Rattle.site_hub.specs.History.{set_of};
 ghost use Rattle.site_hub.specs.Hub.{Seat, IsLater};
-ghost use Rattle.association_run.specs.Port.{Stores, Finds, Gets};
+ghost use Rattle.association_run.specs.Port.{Stores, Finds, Gets, Loads};
+ghost use Rattle.association_worker.specs.Port.{IsUnheld};
 
 use crate::at_entry::AtEntry;
 use crate::looker::Looker;
 use crate::shared_keeper::SharedKeeper;
-use archive_model::{Answers, Prepared, Query, Selection, View};
+use archive_model::{Answers, Listed, Query, Selection, View};
 use association_run::Port;
 use association_session::PortFault;
 use octets::ListOf;
-use operation::{Content, Digested, Op, Taken};
+use operation::{Content, ContentRecord, Digested, Op, Taken};
 use site_hub::{HubName, Keeper, Pass, Shows};
 use std::marker::Model;
 use std::sync::{Mutex, Wait};
@@ -95,19 +96,28 @@ impl<'a, H: HubName, T: Shows<H>, R: Wait + Drop, S: Wait, E: AtEntry> HubPort<'
         self.looker.rows(called, view, query)
     }
 
-    /// What the pass is to send of a selection, in one look.
-    pub fn prepared(
-        &mut self,
-        view: View,
-        selection: &Selection,
-    ) -> Result<ListOf<Prepared>, PortFault>
+    /// What the pass lists of a selection, in one look.
+    pub fn listed(&mut self, view: View, selection: &Selection) -> Result<ListOf<Listed>, PortFault>
         ensures gets { Gets (λ (s : Seat). ops_of (set_of H.opening s.seen))
             (λ (s : Seat). s.mine) self.old
             (record { view = view; selection = selection.now }) result self.new }
         ensures busy { result ≡ Err PortFault.Busy → Rose self.old.refused self.new.refused }
         ensures later { IsLater self.old self.new }
     {
-        self.looker.prepared(view, selection)
+        self.looker.listed(view, selection)
+    }
+
+    /// The content of a record, in one look. The shelf is told of only where none of the record is
+    /// held.
+    pub fn content(&mut self, asked: &ContentRecord) -> Result<Content, PortFault>
+        ensures loads { Loads (λ (s : Seat). ops_of (set_of H.opening s.seen))
+            (λ (s : Seat). s.mine) self.old asked.now result self.new }
+        ensures shelf { result ≡ Err PortFault.Shelf → IsUnheld
+            (ops_of (set_of H.opening self.new.seen)) asked.now }
+        ensures busy { result ≡ Err PortFault.Busy → Rose self.old.refused self.new.refused }
+        ensures later { IsLater self.old self.new }
+    {
+        self.looker.load(asked)
     }
 }
 
@@ -141,13 +151,24 @@ impl<'a, H: HubName, T: Shows<H>, R: Wait + Drop, S: Wait, E: AtEntry> Port
         self.rows(called, view, query)
     }
 
-    fn get(&mut self, view: View, selection: &Selection) -> Result<ListOf<Prepared>, PortFault>
+    fn get(&mut self, view: View, selection: &Selection) -> Result<ListOf<Listed>, PortFault>
         ensures gets { Gets (λ (s : Seat). ops_of (set_of H.opening s.seen))
             (λ (s : Seat). s.mine) self.old
             (record { view = view; selection = selection.now }) result self.new }
         ensures busy { result ≡ Err PortFault.Busy → Rose self.old.refused self.new.refused }
         ensures later { IsLater self.old self.new }
     {
-        self.prepared(view, selection)
+        self.listed(view, selection)
+    }
+
+    fn load(&mut self, asked: &ContentRecord) -> Result<Content, PortFault>
+        ensures loads { Loads (λ (s : Seat). ops_of (set_of H.opening s.seen))
+            (λ (s : Seat). s.mine) self.old asked.now result self.new }
+        ensures shelf { result ≡ Err PortFault.Shelf → IsUnheld
+            (ops_of (set_of H.opening self.new.seen)) asked.now }
+        ensures busy { result ≡ Err PortFault.Busy → Rose self.old.refused self.new.refused }
+        ensures later { IsLater self.old self.new }
+    {
+        self.content(asked)
     }
 }

@@ -7,6 +7,7 @@
 
 mod at_entry;
 mod hub_port;
+mod loaded;
 mod looker;
 mod shared_keeper;
 mod site_port;

@@ -1,21 +1,24 @@
 //! A site in memory as a port.
 
-ghost use Rattle.std.specs.Prelude.{◌≡◌, ◌⊎◌, ◌++◌, ◌∷◌, [], Ok, Err, OnOk, OnErr, IfOk, IfErr};
+ghost use Rattle.std.specs.Prelude.{◌≡◌, ◌≢◌, ◌⊎◌, ◌++◌, ◌∷◌, [], Ok, Err, Some, None, OnOk, OnErr, IfOk, IfErr};
 ghost use Rattle.std.specs.FinMap as finmap;
 ghost use Rattle.operation.specs.declared.op.Op.TheVariants.{Content as AContent};
 ghost use Rattle.operation.specs.Spelling.{digest_of};
+ghost use Rattle.operation.specs.Parts.{ContentParts};
+ghost use Rattle.operation.specs.RecordParts.{content_record};
 ghost use Rattle.archive_model.specs.Rows.{rows_of};
-ghost use Rattle.site_state.specs.Site.{IsSite, Takes, IsClash, ops_of};
-ghost use Rattle.archive_model.specs.Preparing.{prepared_of};
-ghost use Rattle.association_run.specs.Port.{Stores, Finds, Gets};
-ghost use Rattle.association_worker.specs.Port.{PortParts, fault_of_site};
+ghost use Rattle.site_state.specs.Site.{IsSite, Takes, IsClash, ops_of, held_at};
+ghost use Rattle.archive_model.specs.Listed.{list_of, IsOfRecord};
+ghost use Rattle.association_run.specs.Port.{Stores, Finds, Gets, Loads};
+ghost use Rattle.association_worker.specs.Port.{PortParts, fault_of_site, IsUnheld};
 
-use archive_model::{Answers, Prepared, Query, Selection, View};
-use archive_query::{find, prepare};
+use crate::loaded::loaded;
+use archive_model::{Answers, Listed, Query, Selection, View};
+use archive_query::{find, list};
 use association_run::Port;
 use association_session::PortFault;
 use octets::ListOf;
-use operation::{Content, Digest, Digested, Op, Taken};
+use operation::{Content, ContentRecord, Digest, Digested, Op, Taken};
 use site_state::{Site, SiteFault};
 use std::alloc::Global;
 use std::marker::Model;
@@ -59,6 +62,22 @@ fn put_digest(own: &mut Vec<Digest>, op: &Digested) -> Result<(), PortFault>
     }
 }
 
+/// The content of a record, out of the operation that is held under its digest.
+fn loaded_copy(alloc: Global, op: &Op, asked: &ContentRecord) -> Result<Content, PortFault>
+    requires { asked.now.digest ≡ digest_of op.now }
+    ensures loaded { IfOk result (λ content.
+        (op.now ≡ AContent content) × IsOfRecord asked.now content) }
+    ensures shelf { result ≡ Err PortFault.Shelf → (content : ContentParts) →
+        op.now ≡ AContent content → content_record content ≢ asked.now }
+    ensures fault { IfErr result (λ fault.
+        (fault ≡ PortFault.Memory) ⊎ (fault ≡ PortFault.Shelf)) }
+{
+    match op.copy(alloc) {
+        Ok(op) => loaded(op, asked),
+        Err(_refused) => Err(PortFault::Memory),
+    }
+}
+
 impl SitePort {
     /// A site that holds nothing. It takes no memory.
     pub fn new(alloc: Global) -> SitePort
@@ -97,15 +116,37 @@ impl SitePort {
         }
     }
 
-    /// What the site is to send of a selection.
-    pub fn prepared(&self, view: View, selection: &Selection) -> Result<ListOf<Prepared>, PortFault>
-        ensures prepared { IfOk result (λ prepared. prepared ≡
-            prepared_of view selection.now (ops_of self.now.site)) }
+    /// What the site lists of a selection.
+    pub fn listed(&self, view: View, selection: &Selection) -> Result<ListOf<Listed>, PortFault>
+        ensures listed { IfOk result (λ listed. listed ≡
+            list_of view selection.now (ops_of self.now.site)) }
         ensures fault { IfErr result (λ fault. fault ≡ PortFault.Memory) }
     {
-        match prepare(self.alloc, &self.site, view, selection) {
-            Ok(prepared) => Ok(ListOf::of(prepared)),
+        match list(self.alloc, &self.site, view, selection) {
+            Ok(listed) => Ok(ListOf::of(listed)),
             Err(_refused) => Err(PortFault::Memory),
+        }
+    }
+
+    /// The content of a record, which shares the bytes of the data set with the site. There is none
+    /// exactly where the shelf is told of.
+    pub fn content(&self, asked: &ContentRecord) -> Result<Content, PortFault>
+        ensures loaded { IfOk result (λ content. (held_at self.now.site asked.now.digest
+            ≡ Some (AContent content)) × IsOfRecord asked.now content) }
+        ensures none { held_at self.now.site asked.now.digest ≡ None →
+            result ≡ Err PortFault.Shelf }
+        ensures shelf { result ≡ Err PortFault.Shelf → (content : ContentParts) →
+            held_at self.now.site asked.now.digest ≡ Some (AContent content) →
+            content_record content ≢ asked.now }
+        ensures fault { IfErr result (λ fault.
+            (fault ≡ PortFault.Memory) ⊎ (fault ≡ PortFault.Shelf)) }
+        // Each operation lies under its own digest.
+        ensures lawful { IsSite self.now.site }
+    {
+        self.site.see_lawful();
+        match self.site.op(asked.digest()) {
+            None => Err(PortFault::Shelf),
+            Some(op) => loaded_copy(self.alloc, op, asked),
         }
     }
 
@@ -173,16 +214,32 @@ impl Port for SitePort {
         self.rows(called, view, query)
     }
 
-    fn get(&mut self, view: View, selection: &Selection) -> Result<ListOf<Prepared>, PortFault>
+    fn get(&mut self, view: View, selection: &Selection) -> Result<ListOf<Listed>, PortFault>
         ensures gets { Gets (λ (p : PortParts). ops_of p.site) (λ (p : PortParts). p.own) self.old
             (record { view = view; selection = selection.now }) result self.new }
 
-        // It is the site's own `prepare`, and is never busy.
-        ensures prepared { IfOk result (λ prepared. prepared ≡
-            prepared_of view selection.now (ops_of self.old.site)) }
+        // It is the site's own `list`, and is never busy.
+        ensures listed { IfOk result (λ listed. listed ≡
+            list_of view selection.now (ops_of self.old.site)) }
         ensures fault { IfErr result (λ fault. fault ≡ PortFault.Memory) }
         ensures kept { self.new ≡ self.old }
     {
-        self.prepared(view, selection)
+        self.listed(view, selection)
+    }
+
+    fn load(&mut self, asked: &ContentRecord) -> Result<Content, PortFault>
+        ensures loads { Loads (λ (p : PortParts). ops_of p.site) (λ (p : PortParts). p.own) self.old
+            asked.now result self.new }
+
+        // It is never busy, and the shelf is told of exactly where none of the record is held.
+        ensures none { held_at self.old.site asked.now.digest ≡ None →
+            result ≡ Err PortFault.Shelf }
+        ensures shelf { result ≡ Err PortFault.Shelf →
+            IsUnheld (ops_of self.old.site) asked.now }
+        ensures fault { IfErr result (λ fault.
+            (fault ≡ PortFault.Memory) ⊎ (fault ≡ PortFault.Shelf)) }
+        ensures kept { self.new ≡ self.old }
+    {
+        self.content(asked)
     }
 }

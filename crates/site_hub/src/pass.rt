@@ -3,7 +3,7 @@ ghost use Rattle.std.specs.Prelude.{◌≡◌, ◌⊎◌, Err, IfOk, IfErr};
 ghost use mathlib.Core.List.{IsPrefix};
 ghost use Rattle.site_state.specs.Site.{ops_of, held_at, digests_of};
 ghost use Rattle.archive_model.specs.Rows.{rows_of};
-ghost use Rattle.archive_model.specs.Preparing.{prepared_of};
+ghost use Rattle.archive_model.specs.Listed.{list_of};
 ghost use Rattle.archive_model.specs.Sending.{Gets};
 ghost use Rattle.site_hub.specs.Fault.{IsLookFault};
 ghost use Rattle.site_hub.specs.History.{set_of, missing_from, IsHistory};
@@ -12,13 +12,13 @@ ghost use Rattle.site_hub.specs.Refused.{Tells};
 
 use crate::book::{Front, HubName};
 use crate::fault::HubFault;
-use crate::questions::{AllDigests, Finding, Getting, Missing, OpOf, Preparing};
+use crate::questions::{AllDigests, Finding, Getting, Listing, Missing, OpOf};
 use crate::refusals::Refusals;
 use crate::snapshot::Snapshot;
 use crate::told::Told;
 use archive_model::View;
 use archive_query::{
-    Accepts, Answers, Prepared, PreparedQuery, Query, Selection, Sending, rows_found,
+    Accepts, Answers, Listed, PreparedQuery, Query, Selection, Sending, rows_found,
 };
 use left_right::ReadHandle;
 use operation::{Digest, Op};
@@ -137,17 +137,17 @@ impl<H: HubName> Pass<H> {
         })
     }
 
-    /// What a C-GET is to send, before it is made (PS3.4, section C.4.3): it shares the bytes of
-    /// each data set with the site.
-    pub fn prepare(&mut self, view: View, selection: &Selection) -> Result<Vec<Prepared>, HubFault>
-        ensures prepared { IfOk result (λ found. found.items ≡ prepared_of view selection.now
+    /// What a C-GET lists, before any data set is loaded (PS3.4, section C.4.3): it holds no byte of
+    /// one.
+    pub fn list(&mut self, view: View, selection: &Selection) -> Result<Vec<Listed>, HubFault>
+        ensures listed { IfOk result (λ found. found.items ≡ list_of view selection.now
             (ops_of (set_of H.opening self.new.seen))) }
         ensures looked { HasLooked self.old self.new }
         ensures fault { IfErr result IsLookFault }
         ensures busy { result ≡ Err HubFault.Busy → HasKept self.old self.new }
         ensures counted { Tells result self.old.refused self.new.refused }
     {
-        self.look(&Preparing { view, selection })
+        self.look(&Listing { view, selection })
     }
 
     /// Those of some digests that are not held, in the order given.

@@ -4,15 +4,13 @@ ghost use Rattle.std.specs.Option.{option_copied};
 ghost use Rattle.site_state.specs.Site.{ops_of, held_at, digests_of};
 ghost use Rattle.archive_model.specs.Rows.{rows_of};
 ghost use Rattle.archive_query.specs.Found.{rows_found};
-ghost use Rattle.archive_model.specs.Preparing.{prepared_of};
+ghost use Rattle.archive_model.specs.Listed.{list_of};
 ghost use Rattle.archive_model.specs.Sending.{Gets};
 ghost use Rattle.site_hub.specs.History.{missing_from};
 
 use crate::looking::Question;
 use archive_model::View;
-use archive_query::{
-    Accepts, Found, Prepared, PreparedQuery, Selection, Sending, get, prepare, take,
-};
+use archive_query::{Accepts, Found, Listed, PreparedQuery, Selection, Sending, get, list, take};
 use operation::{Digest, Op};
 use site_state::Site;
 use std::alloc::{AllocError, Global};
@@ -50,19 +48,19 @@ impl<'a> Question<Vec<Sending>> for Getting<'a> {
     }
 }
 
-/// Asks for what a C-GET is to send.
+/// Asks for what a C-GET lists.
 #[derive(Clone, Copy)]
-pub(crate) struct Preparing<'a> {
+pub(crate) struct Listing<'a> {
     pub view: View,
     pub selection: &'a Selection,
 }
 
-impl<'a> Question<Vec<Prepared>> for Preparing<'a> {
+impl<'a> Question<Vec<Listed>> for Listing<'a> {
     ghost answers = { λ q set found.
-        found.items ≡ prepared_of q.view q.selection.now (ops_of set) };
+        found.items ≡ list_of q.view q.selection.now (ops_of set) };
 
-    fn answer(&self, alloc: Global, site: &Site) -> Result<Vec<Prepared>, AllocError> {
-        prepare(alloc, site, self.view, self.selection)
+    fn answer(&self, alloc: Global, site: &Site) -> Result<Vec<Listed>, AllocError> {
+        list(alloc, site, self.view, self.selection)
     }
 }
 

@@ -1,6 +1,6 @@
 -- What is done on one event of a session, and on one PDU.
-use Rattle.std.specs.Prelude.{◌≡◌, ◌≢◌, ◌⊎◌, ℕ, true, false, ◌||◌, List, [], ◌∷◌, ◌++◌, Option, Some, None, IsTrue}
-use Rattle.std.specs.Prelude.{option_to_list, ⊤}
+use Rattle.std.specs.Prelude.{◌≡◌, ◌≢◌, ◌⊎◌, ℕ, Bool, true, false, ◌||◌, List, [], ◌∷◌, ◌++◌, Option, Some, None}
+use Rattle.std.specs.Prelude.{IsTrue, option_to_list, ⊤}
 use Rattle.std.specs.List.{list_any}
 use Rattle.operation.specs.declared.op.Op.{Op}
 use Rattle.pdu.specs.declared.pdv.Pdv.{Pdv}
@@ -11,6 +11,7 @@ use Rattle.association_session.specs.declared.deed.Deed.TheVariants.{Send, Reach
 use Rattle.association_session.specs.declared.event.SessionEvent.{SessionEvent}
 use Rattle.association_session.specs.declared.event.SessionEvent.TheVariants as inputs
 use Rattle.association_services.specs.declared.reply.Reply.{Reply}
+use Rattle.association_services.specs.declared.reply.Reply.TheVariants.{Stored, Found, Gotten, Loaded}
 use Rattle.association_session.specs.Projections.{IsFront, state_after}
 use Rattle.association_session.specs.declared.pending_response.PendingResponse.{PendingResponse}
 use Rattle.association_session.specs.declared.pending_response.PendingResponse.TheVariants as pendings
@@ -41,7 +42,28 @@ BreaksOff ops own old new deeds = (done : List Deed) × (part : List ℕ) × Beg
 
 -- ---- one event of a session
 
--- No row is left to be told, and no sub-operation to be begun.
+-- whether a content is to be told that was loaded for a sub-operation
+abbrev pub is_loaded : Option Reply → Bool
+is_loaded None = false
+is_loaded (Some (Loaded reply)) = true
+is_loaded (Some (Stored reply)) = false
+is_loaded (Some (Found reply)) = false
+is_loaded (Some (Gotten reply)) = false
+
+-- what tells rows on, and sub-operations: the content that was loaded for one, and else that the session goes on
+abbrev pub row_input : Option Reply → SessionEvent
+row_input None = inputs.GoesOn
+row_input (Some reply) = inputs.Replied reply
+
+-- how many replies are to be told that no row or sub-operation awaits
+abbrev pub due : Option Reply → ℕ
+due None = 0
+due (Some (Loaded reply)) = 0
+due (Some (Stored reply)) = 1
+due (Some (Found reply)) = 1
+due (Some (Gotten reply)) = 1
+
+-- No row is left to be told, and no sub-operation to be begun or to be loaded.
 abbrev pub IsQuiet : Option PendingResponse → Type 0
 IsQuiet None = ⊤
 IsQuiet (Some (pendings.Store awaited)) = ⊤
@@ -49,6 +71,7 @@ IsQuiet (Some (pendings.Find awaited kind)) = ⊤
 IsQuiet (Some (pendings.Rows telling)) = ⊥
 IsQuiet (Some (pendings.Get awaited syntax)) = ⊤
 IsQuiet (Some (pendings.Sending retrieval)) = ⊥
+IsQuiet (Some (pendings.Load loading)) = ⊥
 
 -- The reply that is to be told next is that of the call that is awaited.
 abbrev pub Pends : Option PendingResponse → Option Reply → Type 0
@@ -156,16 +179,16 @@ pub record Hearing {P : Type 0} (ops : P → List Op) (own : P → List (List �
     pub aborted : s.aborted ≡ (from.aborted || (is_abort_event (inputs.Heard event) || list_any is_abort done))
     pub released : s.released ≡ (from.released || list_any is_release done)
 
--- Whatever was heard and done so far, the session goes on with it.
+-- Whatever was heard and done so far, the session goes on with it, from the reply that was to be told to the next.
 abbrev pub GoesOnWith : {P : Type 0} → (P → List Op) → (P → List (List ℕ)) → List (Title View) → Sides P → Sides P
-    → SessionState → SessionState → Type 0
-GoesOnWith {P = P} ops own titles now then s t =
-    (old : Sides P) (from : SessionState) (event : Event) (pending : Option Reply)
-    → Hearing ops own titles old now from event pending s → Hearing ops own titles old then from event pending t
+    → SessionState → Option Reply → SessionState → Option Reply → Type 0
+GoesOnWith {P = P} ops own titles now then s pending t behind =
+    (old : Sides P) (from : SessionState) (event : Event)
+    → Hearing ops own titles old now from event pending s → Hearing ops own titles old then from event behind t
 
 -- Whatever was heard and done so far, it is broken off.
 abbrev pub BreaksWith : {P : Type 0} → (P → List Op) → (P → List (List ℕ)) → List (Title View) → Sides P → Sides P
-    → SessionState → Type 0
-BreaksWith {P = P} ops own titles now then s =
-    (old : Sides P) (from : SessionState) (event : Event) (pending : Option Reply)
+    → SessionState → Option Reply → Type 0
+BreaksWith {P = P} ops own titles now then s pending =
+    (old : Sides P) (from : SessionState) (event : Event)
     → Hearing ops own titles old now from event pending s → HeardFront ops own titles old then from.association event

@@ -18,6 +18,6 @@ returns-in_default-clause-turned c = λ titles.
 pub returns-clause-turned : goal.returns-clause-turned
 returns-clause-turned c = λ titles.
     gotten_left titles (owing c.args.self.now (pendings.Get c.args.awaited c.args.syntax)) _ c.args.awaited
-    c.args.syntax c.args.reply c.in-Some.prepared c.of-retrieval.result c.new.result refl (at_place _ _ c.owe.ensures)
+    c.args.syntax c.args.reply c.in-Some.listed c.of-retrieval.result c.new.result refl (at_place _ _ c.owe.ensures)
     (at_sub _ _ c.owe.ensures) (at_stage _ _ c.owe.ensures) (at_awaited _ _ c.owe.ensures) (at_queue _ _ c.owe.ensures)
     (sym c.few.ensures.few ∙ c.in-Some.is) c.of-retrieval.ensures c.see_room.ensures c.new.ensures
