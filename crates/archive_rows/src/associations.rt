@@ -10,7 +10,7 @@ use crate::text::{RowFault, byte_of, number_of, parted, put_numbered};
 use association_run::RunFault;
 use association_session::PortFault;
 use many::{Kind, put_many};
-use ports::Refusal;
+use ports::{Refusal, Unloaded};
 use runs::{Setting, put_run};
 use sessions::Sessions;
 use std::alloc::{AllocError, Global};
@@ -105,15 +105,20 @@ impl Associations {
         self.put_given(out, name, values)
     }
 
-    /// `port site|memory|busy|shelf`: a site, or a port that refuses with this fault.
+    /// `port site|memory|busy|shelf|first-load|loads`: a site; a port that refuses with this fault;
+    /// or a site whose shelf does not bring what is loaded first, or what is loaded at all.
     fn put_port(&mut self, out: &mut String, word: &str) -> Result<(), RowFault> {
-        self.setting.refusal = match word {
-            "site" => None,
-            "memory" => Some(Refusal::Memory),
-            "busy" => Some(Refusal::Busy),
-            "shelf" => Some(Refusal::Shelf),
+        let (refusal, unloaded) = match word {
+            "site" => (None, None),
+            "memory" => (Some(Refusal::Memory), None),
+            "busy" => (Some(Refusal::Busy), None),
+            "shelf" => (Some(Refusal::Shelf), None),
+            "first-load" => (None, Some(Unloaded::First)),
+            "loads" => (None, Some(Unloaded::All)),
             _ => return Err(RowFault::BadWord),
         };
+        self.setting.refusal = refusal;
+        self.setting.unloaded = unloaded;
         Ok(out.push_str("a port")?)
     }
 

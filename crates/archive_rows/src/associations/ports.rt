@@ -3,12 +3,12 @@
 ghost use Rattle.std.specs.Prelude.{None};
 
 use crate::text::put_bytes;
-use archive_model::{Answers, Prepared, Query, Selection, View};
+use archive_model::{Answers, Listed, Query, Selection, View};
 use association_run::{Gate, Port};
 use association_session::{Moment, PortFault};
 use association_worker::*;
 use octets::ListOf;
-use operation::{Content, Taken};
+use operation::{Content, ContentRecord, Taken};
 use std::alloc::{AllocError, Global};
 use std::marker::Model;
 
@@ -20,10 +20,20 @@ pub enum Refusal {
     Shelf,
 }
 
-/// A site in memory, or one that refuses. It notes what it was asked.
+/// Which loads a port refuses, of a site that refuses nothing else: the first of them, or all.
+#[derive(Clone, Copy, Debug, PartialEq, Eq)]
+pub enum Unloaded {
+    First,
+    All,
+}
+
+/// A site in memory, or one that refuses. It notes what it was asked; loads it notes where it
+/// refuses some.
 pub struct AskedPort {
     port: SitePort,
     refusal: Option<Refusal>,
+    unloaded: Option<Unloaded>,
+    loads: u64,
     asked: String,
 }
 
@@ -32,6 +42,8 @@ impl Drop for AskedPort {
         let AskedPort {
             port: _,
             refusal: _,
+            unloaded: _,
+            loads: _,
             asked: _,
         } = self;
     }
@@ -61,11 +73,28 @@ fn note_get(asked: &mut String, selection: &Selection) -> Result<(), AllocError>
     Ok(())
 }
 
+/// Whether a load is refused, which is noted and counted where some are.
+fn is_refused(
+    asked: &mut String,
+    loads: &mut u64,
+    unloaded: Option<Unloaded>,
+    record: &ContentRecord,
+) -> Result<bool, AllocError> {
+    let Some(unloaded) = unloaded else {
+        return Ok(false);
+    };
+    note(asked, "load", record.instance())?;
+    *loads = loads.saturating_add(1);
+    Ok(unloaded == Unloaded::All || *loads == 1)
+}
+
 impl AskedPort {
-    pub fn new(alloc: Global, refusal: Option<Refusal>) -> AskedPort {
+    pub fn new(alloc: Global, refusal: Option<Refusal>, unloaded: Option<Unloaded>) -> AskedPort {
         AskedPort {
             port: SitePort::new(alloc),
             refusal,
+            unloaded,
+            loads: 0,
             asked: String::new(alloc),
         }
     }
@@ -115,7 +144,7 @@ impl Port for AskedPort {
         }
     }
 
-    fn get(&mut self, view: View, selection: &Selection) -> Result<ListOf<Prepared>, PortFault> {
+    fn get(&mut self, view: View, selection: &Selection) -> Result<ListOf<Listed>, PortFault> {
         if note_get(&mut self.asked, selection).is_err() {
             return Err(PortFault::Memory);
         }
@@ -123,6 +152,14 @@ impl Port for AskedPort {
             None => self.port.get(view, selection),
             Some(Refusal::Busy) => Err(PortFault::Busy),
             Some(_) => Err(PortFault::Memory),
+        }
+    }
+
+    fn load(&mut self, asked: &ContentRecord) -> Result<Content, PortFault> {
+        match is_refused(&mut self.asked, &mut self.loads, self.unloaded, asked) {
+            Ok(false) => self.port.load(asked),
+            Ok(true) => Err(PortFault::Shelf),
+            Err(_refused) => Err(PortFault::Memory),
         }
     }
 }

@@ -1,6 +1,6 @@
 //! Associations over devices in memory: bytes in, bytes out.
 
-use crate::associations::ports::{AskedPort, Passed, Refusal};
+use crate::associations::ports::{AskedPort, Passed, Refusal, Unloaded};
 use crate::associations::words::Words;
 use crate::messages::title_of;
 use archive_model::View;
@@ -36,6 +36,7 @@ impl Way {
 /// What an association meets: the port, what an earlier peer has sent it, and the titles.
 pub struct Setting {
     pub refusal: Option<Refusal>,
+    pub unloaded: Option<Unloaded>,
     pub before: Vec<u8>,
     titles: Titles<View>,
 }
@@ -44,6 +45,7 @@ impl Drop for Setting {
     fn drop(self) {
         let Setting {
             refusal: _,
+            unloaded: _,
             before: _,
             titles: _,
         } = self;
@@ -64,6 +66,7 @@ impl Setting {
     pub fn new(alloc: Global) -> Result<Setting, AllocError> {
         Ok(Setting {
             refusal: None,
+            unloaded: None,
             before: Vec::new(alloc),
             titles: titles_of(alloc)?,
         })
@@ -128,7 +131,7 @@ fn port_behind(
     outbox: &mut Outbox,
     setting: &Setting,
 ) -> Result<AskedPort, AllocError> {
-    let port = AskedPort::new(alloc, setting.refusal);
+    let port = AskedPort::new(alloc, setting.refusal, setting.unloaded);
     if setting.before.is_empty() {
         return Ok(port);
     }

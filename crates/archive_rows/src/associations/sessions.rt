@@ -34,6 +34,10 @@ fn put_call(words: &Words, out: &mut String, call: &Call) -> Result<(), AllocErr
             put_bytes(out, finding.called.as_slice())
         }
         Call::Get(_) => out.push_str("get"),
+        Call::Load(asked) => {
+            out.push_str("load ")?;
+            put_bytes(out, asked.instance())
+        }
     }
 }
 

@@ -169,11 +169,11 @@ fn sent<H: HubName>(alloc: Global, pass: &mut Pass<H>) -> Result<Came> {
     }
 }
 
-/// How many images of the first study a pass is to send.
-fn prepared<H: HubName>(alloc: Global, pass: &mut Pass<H>) -> Result<Came> {
+/// How many images of the first study a pass lists.
+fn listed<H: HubName>(alloc: Global, pass: &mut Pass<H>) -> Result<Came> {
     let selection = selection(alloc)?;
-    match pass.prepare(View::Archive, &selection) {
-        Ok(prepared) => Ok(Ok(prepared.len() as u64)),
+    match pass.list(View::Archive, &selection) {
+        Ok(listed) => Ok(Ok(listed.len() as u64)),
         Err(fault) => Ok(Err(fault)),
     }
 }
@@ -193,7 +193,7 @@ fn done<H: HubName, T: Shows<H>, R: Wait>(
     course.corrected.0 = corrected(rt, alloc, keeper, two)?;
     course.corrected.1 = corrected(rt, alloc, keeper, two)?;
     course.held = held(two);
-    course.sent = (sent(alloc, two)?, prepared(alloc, two)?);
+    course.sent = (sent(alloc, two)?, listed(alloc, two)?);
     Ok(())
 }
 
