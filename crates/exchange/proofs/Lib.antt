@@ -19,6 +19,7 @@ pub mod Repeated
 pub mod Turns
 pub mod Writings
 pub mod Frames
+pub mod Gifts
 pub mod Goings
 pub mod Offers
 pub mod Orders

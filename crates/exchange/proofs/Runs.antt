@@ -2,20 +2,17 @@
 use Rattle.std.proofs.Common.{inl, inr, ◌≡◌, ◌≤◌, ◌+◌, ℕ, List, [], ◌∷◌, ◌++◌, length, Bool, true, false}
 use Rattle.std.proofs.Common.{Option, Some, None, Result, Ok, Err, refl, sym, ap, subst, ◌∙◌, append_assoc, append-nil}
 use Rattle.std.proofs.Common.{arith}
-use Rattle.std.specs.Prelude.{◌↔◌, IfErr, OnOk, OnErr, MatchBool, IsTrue, if◌then◌else◌}
-use Rattle.std.specs.List.{list_any}
+use Rattle.std.specs.Prelude.{◌↔◌, IfErr, OnOk, MatchBool, IsTrue, if◌then◌else◌}
 use Rattle.std.specs.Io.KnownBytes.{Appends, Consumes}
 use Rattle.std.proofs.KnownBytes.{Appends-trans, Consumes-nil, Consumes-trans}
 use Rattle.std.proofs.lemmas.Grind.{flat_map-append}
 use Rattle.std.proofs.lemmas.List.{length-append}
-use Rattle.std.proofs.lemmas.Bool.{or_right as any_or}
 use Rattle.devices.specs.Failures.{Rose}
 use Rattle.operation.specs.declared.taken.Taken.{Taken}
 use Rattle.operation.specs.declared.taken.Taken.TheVariants.{New, Known}
 use Rattle.site_state.specs.Site.{Map}
 use Rattle.exchange_frames.specs.declared.frame.Frame.{Frame}
 use Rattle.exchange_frames.specs.Spelling.{text_of}
-use Rattle.exchange_frames.specs.Writing.{is_too_long}
 use Rattle.exchange.specs.declared.fault.ExchangeFault.{ExchangeFault}
 use Rattle.exchange.specs.declared.fault.ExchangeFault.TheVariants.{BadFrame, TooLong, Stranger, Io, Memory, Turns}
 use Rattle.exchange.specs.declared.fault.ExchangeFault.TheVariants.{Refused}
@@ -32,15 +29,19 @@ use Rattle.exchange.specs.declared.task.Awaited.TheVariants as awaits
 use Rattle.exchange.specs.declared.task.Task.{Task}
 use Rattle.exchange.specs.declared.task.Task.TheVariants as tasks
 use Rattle.exchange.specs.Tasks.{task_for}
-use Rattle.exchange.specs.Course.{news, Does, DoesAll, SetsOut, Talks, Idles, IsOfHolder, Why}
+use Rattle.exchange.specs.declared.side.Said.{Said}
+use Rattle.exchange.specs.Course.{news, frames_of, Does, DoesAll, SetsOut, Performs, SetOut, HoldsGifts, Loads, Talks}
+use Rattle.exchange.specs.Course.{Idles, IsOfHolder, Why}
 use Rattle.exchange.specs.Hearing.{texts, is_io, Heard, Unheard, WhyUnheard, Fails}
-use Rattle.exchange.specs.Saying.{WroteFront, WhyUnsaid, AreSayable}
+use Rattle.exchange.specs.Saying.{WroteFront, WhyUnsaid, AreSayable, Speaks}
 use Rattle.exchange.specs.Run.{Ends, ends, NoneFailed, CountsFailures, Exchanged, EndsEarly}
 use Rattle.exchange.specs.Run.{Progress, Turned}
 use Rattle.exchange.proofs.Agreed.{agreed_ends}
 use Rattle.exchange.proofs.Wholes.{seen_whole_ends}
 use Rattle.exchange.proofs.Frames.{frames_more, told_frames, first_frames}
+use Rattle.exchange.proofs.Gifts.{does_loads, sets_out_loads, loads_idle}
 use Rattle.exchange.proofs.Holders.{idles_same}
+use Rattle.exchange.proofs.Writings.{texts_more, why_behind, unsaid_turns}
 use Rattle.exchange.proofs.Outcomes.{outcome_of}
 use Rattle.exchange.proofs.Turns.{fits}
 
@@ -49,9 +50,6 @@ use Rattle.exchange.proofs.Turns.{fits}
 pub texts_then : (frames : List Frame) (frame : Frame) → texts (frames ++ frame ∷ []) ≡ texts frames ++ text_of frame
 texts_then frames frame = flat_map-append text_of frames (frame ∷ [])
     ∙ ap (λ (t : List ℕ). texts frames ++ t) (append-nil (text_of frame))
-
-pub texts_more : (frames more : List Frame) → texts (frames ++ more) ≡ texts frames ++ texts more
-texts_more frames more = flat_map-append text_of frames more
 
 some_text : (frame : Frame) → 1 ≤ length (text_of frame)
 unfolding text_of
@@ -199,35 +197,11 @@ quiet_turns : (fault : ExchangeFault) → quiet fault ≡ true → fault ≡ Tur
 unfolding quiet
 quiet_turns fault q e = let f : quiet Turns ≡ true = subst (λ (x : ExchangeFault). quiet x ≡ true) e q in cc
 
-unsaid_turns : (frames : List Frame) (fault : ExchangeFault) → WhyUnsaid frames fault → fault ≡ Turns → ⊥
-unsaid_turns frames fault why e = subst (λ (x : ExchangeFault). WhyUnsaid frames x) e why
-
--- no frame that was not heard or not said is a refusal
+-- no frame that was not heard is a refusal
 pub unheard_refused : (r : Option (List ℕ)) (text : List ℕ) (fault : ExchangeFault) → WhyUnheard r text fault
     → err fault ≡ err Refused → ⊥
 unheard_refused r text fault why e =
     let is : fault ≡ Refused = cc in subst (λ (x : ExchangeFault). WhyUnheard r text x) is why
-
-pub unsaid_refused : (frames : List Frame) (r : Result (Unit {0}) ExchangeFault) → IfErr r (WhyUnsaid frames)
-    → r ≡ err Refused → ⊥
-unsaid_refused frames r why e = subst (λ (x : Result (Unit {0}) ExchangeFault). IfErr x (WhyUnsaid frames)) e why
-
--- ---- why
-
-any_behind : (frames more : List Frame) → list_any is_too_long more ≡ true
-    → list_any is_too_long (frames ++ more) ≡ true
-any_behind [] more e = e
-any_behind (f ∷ frames) more e = any_or (is_too_long f) _ (any_behind frames more e)
-
-why_behind : (frames more : List Frame) (fault : ExchangeFault) → WhyUnsaid more fault
-    → WhyUnsaid (frames ++ more) fault
-why_behind frames more BadFrame why = why
-why_behind frames more TooLong why = any_behind frames more why
-why_behind frames more Stranger why = why
-why_behind frames more Io why = why
-why_behind frames more Memory why = why
-why_behind frames more Turns why = why
-why_behind frames more Refused why = why
 
 -- ---- a turn
 
@@ -328,17 +302,17 @@ module _ {H : Type 0} (holds : H → Map) (alone : H → Type 0) (role : Role) (
       }
 
       -- Of the answer a front was written.
-      pub unsaid_breaks : (w1 : Option (List ℕ)) (wf1 : ℕ) (fault : ExchangeFault) → WroteFront w w1 (texts more)
-          → WhyUnsaid more fault → MatchBool (is_io fault) (Rose wf wf1) (wf1 ≡ wf)
-          → EndsEarly holds alone role from (ends k r1 w1 rf1 wf1) fault
-      unsaid_breaks w1 wf1 fault wrote why failed = inr (record {
+      pub unsaid_breaks : (j : H) (w1 : Option (List ℕ)) (wf1 : ℕ) (fault : ExchangeFault) → Idles holds alone k j
+          → WroteFront w w1 (texts more) → WhyUnsaid more fault → MatchBool (is_io fault) (Rose wf wf1) (wf1 ≡ wf)
+          → EndsEarly holds alone role from (ends j r1 w1 rf1 wf1) fault
+      unsaid_breaks j w1 wf1 fault idle wrote why failed = inr (record {
         heard = so.heard ++ frame ∷ [];
         told = so.told ++ more;
         side = u;
         mid = k;
         talk = talk_too;
         comes_to = outcome_of holds alone role from.holder (so.heard ++ frame ∷ []) (so.told ++ more) u k talk_too;
-        idle = idles_same holds alone k k refl;
+        idle = idle;
         rest = [];
         read = subst (λ (t : List ℕ). Consumes from.left r1 t) (sym (append-nil (texts (so.heard ++ frame ∷ []))))
             read_too;
@@ -351,15 +325,25 @@ module _ {H : Type 0} (holds : H → Map) (alone : H → Type 0) (role : Role) (
         );
         why = inr (inr (refl, why_behind so.told more fault why));
         turns = λ e. absurd (unsaid_turns more fault why e);
-        failed = counts_writer from (ends k r1 w1 rf1 wf1) fault (subst (λ (x : ℕ). MatchBool (is_io fault) (Rose x wf1)
+        failed = counts_writer from (ends j r1 w1 rf1 wf1) fault (subst (λ (x : ℕ). MatchBool (is_io fault) (Rose x wf1)
             (wf1 ≡ x)) so.failed.1 failed) (same ∙ so.failed.0);
       })
 
-      pub said_turned : (w1 : Option (List ℕ)) (wf1 : ℕ) (r : Result (Unit {0}) ExchangeFault)
-          → OnOk r (Appends w w1 (texts more)) → OnErr r (WroteFront w w1 (texts more)) → IfErr r (WhyUnsaid more)
-          → OnOk r (AreSayable more) → Fails r wf wf1 → Turned holds alone role from (ends k r1 w1 rf1 wf1) u left n r
-      said_turned w1 wf1 (Ok x) ok err why sayable failed = answered w1 wf1 ok sayable failed
-      said_turned w1 wf1 (Err fault) ok err why sayable failed = unsaid_breaks w1 wf1 fault err why failed
+    -- What is said for it was said, or a front of it; the holder has loaded what was given.
+    pub said_turned : (k j : H) (u : Side) (said : Said) (w1 : Option (List ℕ)) (wf1 : ℕ)
+        (r : Result (Unit {0}) ExchangeFault)
+        → Performs holds alone (task_for side.awaited frame side.role) side h (Ok said) u k
+        → Loads holds alone said k j → (HoldsGifts (holds k) said → Speaks w w1 (frames_of (holds k) said) r)
+        → Fails r wf wf1 → Turned holds alone role from (ends j r1 w1 rf1 wf1) u left n r
+    said_turned k j u said w1 wf1 (Ok x) does loads speaks failed =
+        let spoke = speaks does.1 in
+        answered j (frames_of (holds k) said) u
+        (does_loads holds alone (task_for side.awaited frame side.role) said side h u k j does.0 loads)
+        w1 wf1 spoke.0 spoke.1 failed
+    said_turned k j u said w1 wf1 (Err fault) does loads speaks failed =
+        let spoke = speaks does.1 in
+        unsaid_breaks k (frames_of (holds k) said) u does.0 j w1 wf1 fault (loads_idle holds alone said k j loads)
+        spoke.0 spoke.1 failed
 
 -- ---- the first words
 
@@ -392,17 +376,17 @@ module _ {H : Type 0} (holds : H → Map) (alone : H → Type 0) (role : Role) (
     failed = (refl, fine);
   }
 
-  pub unbegun : (fault : ExchangeFault) → WroteFront w0 w1 (texts told) → WhyUnsaid told fault
-      → MatchBool (is_io fault) (Rose wf0 wf1) (wf1 ≡ wf0)
-      → EndsEarly holds alone role (ends h left w0 rf wf0) (ends k left w1 rf wf1) fault
-  unbegun fault wrote why failed = inr (record {
+  pub unbegun : (j : H) (fault : ExchangeFault) → Idles holds alone k j → WroteFront w0 w1 (texts told)
+      → WhyUnsaid told fault → MatchBool (is_io fault) (Rose wf0 wf1) (wf1 ≡ wf0)
+      → EndsEarly holds alone role (ends h left w0 rf wf0) (ends j left w1 rf wf1) fault
+  unbegun j fault idle wrote why failed = inr (record {
     heard = [];
     told = told;
     side = s;
     mid = k;
     talk = opening;
     comes_to = outcome_of holds alone role h [] told s k opening;
-    idle = idles_same holds alone k k refl;
+    idle = idle;
     rest = [];
     read = Consumes-nil left;
     out = wrote.0;
@@ -410,19 +394,29 @@ module _ {H : Type 0} (holds : H → Map) (alone : H → Type 0) (role : Role) (
     front = wrote.2;
     why = inr (inr (refl, why));
     turns = λ e. absurd (unsaid_turns told fault why e);
-    failed = counts_writer (ends h left w0 rf wf0) (ends k left w1 rf wf1) fault failed refl;
+    failed = counts_writer (ends h left w0 rf wf0) (ends j left w1 rf wf1) fault failed refl;
   })
 
-pub ok_begun : {X : Type 0} (r : Result X ExchangeFault) (A B : Type 0) (old new : ℕ) → OnOk r A → Fails r old new
-    → (A → new ≡ old → B) → OnOk r B
-ok_begun (Ok x) A B old new p f to = to p f
-ok_begun (Err e) A B old new p f to = tt
+-- The first words were said, or a front of them.
+module _ {H : Type 0} (holds : H → Map) (alone : H → Type 0) (role : Role) (h k j : H) (said : Said) (s : Side)
+    (w0 w1 : Option (List ℕ)) (wf0 wf1 : ℕ) (out : SetOut holds alone role h (Ok said) s k)
+    (loads : Loads holds alone said k j) where
+  pub set_out_ok : (r : Result (Unit {0}) ExchangeFault)
+      → (HoldsGifts (holds k) said → Speaks w0 w1 (frames_of (holds k) said) r) → Fails r wf0 wf1
+      → OnOk r ((left : Option (List ℕ)) (rf : ℕ)
+      → Progress holds alone role (ends h left w0 rf wf0) (ends j left w1 rf wf1) s MOST_READS 0)
+  set_out_ok (Ok x) speaks failed = λ left rf. begun holds alone role h j left w0 w1 rf wf0 wf1
+      (frames_of (holds k) said) s (sets_out_loads holds alone role said h s k j out.0 loads) (speaks out.1).0 failed
+  set_out_ok (Err fault) speaks failed = tt
 
-pub err_begun : {X : Type 0} (r : Result X ExchangeFault) (A : Type 0) (P Q : ExchangeFault → Type 0) (old new : ℕ)
-    → OnErr r A → IfErr r P → Fails r old new
-    → ((e : ExchangeFault) → A → P e → MatchBool (is_io e) (Rose old new) (new ≡ old) → Q e) → IfErr r Q
-err_begun (Ok x) A P Q old new a p f to = tt
-err_begun (Err e) A P Q old new a p f to = to e a p f
+  pub set_out_err : (r : Result (Unit {0}) ExchangeFault)
+      → (HoldsGifts (holds k) said → Speaks w0 w1 (frames_of (holds k) said) r) → Fails r wf0 wf1
+      → IfErr r (λ fault. (left : Option (List ℕ)) (rf : ℕ)
+      → EndsEarly holds alone role (ends h left w0 rf wf0) (ends j left w1 rf wf1) fault)
+  set_out_err (Ok x) speaks failed = tt
+  set_out_err (Err fault) speaks failed = λ left rf. unbegun holds alone role h k left w0 w1 rf wf0 wf1
+      (frames_of (holds k) said) s out.0 j fault (loads_idle holds alone said k j loads) (speaks out.1).0
+      (speaks out.1).1 failed
 
 -- ---- the end
 

@@ -1,25 +1,30 @@
 -- Texts that are written one after another.
-use Rattle.std.proofs.Common.{◌≡◌, ◌≤◌, ℕ, arith, length, List, [], ◌∷◌, ◌++◌, take, drop, true, false}
+use Rattle.std.proofs.Common.{inl, inr, ◌≡◌, ℕ, List, [], ◌∷◌, ◌++◌, take, drop, Bool, true, false}
 use Rattle.std.proofs.Common.{Option, Result, Ok, Err}
 use Rattle.std.proofs.Common.{refl, sym, ap, subst, ◌∙◌, append_assoc, append-nil}
-use Rattle.std.specs.Prelude.{OnOk, OnErr}
+use Rattle.std.specs.Prelude.{OnOk, OnErr, IfErr, ◌||◌}
 use Rattle.std.specs.List.{list_any}
 use Rattle.std.specs.Io.KnownBytes.{Appends}
 use Rattle.std.proofs.KnownBytes.{Appends-nil, Appends-trans}
+use Rattle.std.proofs.lemmas.Grind.{flat_map-append}
 use Rattle.std.proofs.lemmas.List.{take-append-drop}
+use Rattle.std.proofs.lemmas.Bool.{or_right as any_or}
 use Rattle.std.proofs.lemmas.Bool.{false_from_ne_true as not_true}
-use Rattle.operation.specs.declared.op.Op.{Op}
 use Rattle.exchange_frames.specs.declared.fault.FrameFault.{FrameFault}
 use Rattle.exchange_frames.specs.declared.frame.Frame.{Frame}
-use Rattle.exchange_frames.specs.declared.frame.Frame.TheVariants.{Give, End}
+use Rattle.exchange_frames.specs.declared.frame.Frame.TheVariants.{Give}
 use Rattle.exchange_frames.specs.Spelling.{text_of}
 use Rattle.exchange_frames.specs.Writing.{is_too_long}
+use Rattle.exchange.proofs.Outcomes.{has_left, has_right}
+use Rattle.exchange.specs.declared.fault.HolderFault.{HolderFault}
+use Rattle.exchange.specs.declared.fault.HolderFault.TheVariants as holders
+use Rattle.exchange.specs.Fault.{of_holder}
 use Rattle.exchange.specs.declared.fault.ExchangeFault.{ExchangeFault}
 use Rattle.exchange.specs.declared.fault.ExchangeFault.TheVariants.{BadFrame, TooLong, Stranger, Io, Memory, Turns}
 use Rattle.exchange.specs.declared.fault.ExchangeFault.TheVariants.{Refused}
-use Rattle.exchange.specs.Course.{gifts_of}
 use Rattle.exchange.specs.Hearing.{texts}
-use Rattle.exchange.specs.Saying.{IsFront, WroteFront, WhyUnsaid, GivesLawful, IsSayable, AreSayable}
+use Rattle.exchange.specs.Saying.{IsFront, WroteFront, WhyUnwritten, WhyUnsaid, GivesLawful, IsSayable, AreSayable}
+use Rattle.exchange.specs.Saying.{Speaks}
 
 pub on_ok_map : {X E : Type 0} (r : Result X E) (A B : Type 0) → (A → B) → OnOk r A → OnOk r B
 on_ok_map (Ok x) A B to p = to p
@@ -56,44 +61,118 @@ wrote_then w0 w1 w2 x y a p = (
   (p.2.0, ap (λ (t : List ℕ). x ++ t) p.2.1 ∙ sym (append_assoc x p.0 p.2.0)),
 )
 
--- ---- GIVEs
+-- ---- why
 
--- a text was written, behind which those of the rest make the whole
-abbrev pub GaveSome : Option (List ℕ) → Option (List ℕ) → List Op → List Op → Type 0
-GaveSome w0 w1 all rest = (out : List ℕ) × Appends w0 w1 out × (out ++ texts (gifts_of rest) ≡ texts (gifts_of all))
+or_either : (b c d : Bool) → (c ≡ true → d ≡ true) → (b || c) ≡ true → (b || d) ≡ true
+or_either true c d to e = refl
+or_either false c d to e = to e
 
-pub gave_none : (w : Option (List ℕ)) (all rest : List Op) → rest ≡ all → GaveSome w w all rest
-gave_none w all rest is = ([], Appends-nil w, ap (λ (ops : List Op). texts (gifts_of ops)) is)
+any_before : (frames more : List Frame) → list_any is_too_long frames ≡ true
+    → list_any is_too_long (frames ++ more) ≡ true
+any_before [] more e = absurd cc
+any_before (f ∷ frames) more e = or_either (is_too_long f) _ _ (any_before frames more) e
 
-pub gave_one : (w0 w1 w2 : Option (List ℕ)) (all rest left : List Op) (op : Op) → rest ≡ op ∷ left
-    → GaveSome w0 w1 all rest → Appends w1 w2 (text_of (Give op)) → GaveSome w0 w2 all left
-gave_one w0 w1 w2 all rest left op is p q = (
-  p.0 ++ text_of (Give op),
-  Appends-trans w0 w1 w2 p.0 (text_of (Give op)) p.1 q,
-  append_assoc p.0 (text_of (Give op)) (texts (gifts_of left))
-      ∙ ap (λ (ops : List Op). p.0 ++ texts (gifts_of ops)) (sym is) ∙ p.2,
+any_behind : (frames more : List Frame) → list_any is_too_long more ≡ true
+    → list_any is_too_long (frames ++ more) ≡ true
+any_behind [] more e = e
+any_behind (f ∷ frames) more e = any_or (is_too_long f) _ (any_behind frames more e)
+
+unwritten_by : (few many : List Frame) (fault : ExchangeFault)
+    → (list_any is_too_long few ≡ true → list_any is_too_long many ≡ true) → WhyUnwritten few fault
+    → WhyUnwritten many fault
+unwritten_by few many BadFrame long why = why
+unwritten_by few many TooLong long why = long why
+unwritten_by few many Stranger long why = why
+unwritten_by few many Io long why = why
+unwritten_by few many Memory long why = why
+unwritten_by few many Turns long why = why
+unwritten_by few many Refused long why = why
+
+why_before : (frames more : List Frame) (fault : ExchangeFault) → WhyUnsaid frames fault
+    → WhyUnsaid (frames ++ more) fault
+why_before frames more fault (inl why) = inl (unwritten_by frames (frames ++ more) fault (any_before frames more) why)
+why_before frames more fault (inr why) =
+    inr (why.0, (why.1.0, has_left frames more (Give why.1.0) why.1.1))
+
+pub why_behind : (frames more : List Frame) (fault : ExchangeFault) → WhyUnsaid more fault
+    → WhyUnsaid (frames ++ more) fault
+why_behind frames more fault (inl why) = inl (unwritten_by more (frames ++ more) fault (any_behind frames more) why)
+why_behind frames more fault (inr why) =
+    inr (why.0, (why.1.0, has_right frames more (Give why.1.0) why.1.1))
+
+pub unsaid_turns : (frames : List Frame) (fault : ExchangeFault) → WhyUnsaid frames fault → fault ≡ Turns → ⊥
+unsaid_turns frames fault (inl why) e = subst (λ (x : ExchangeFault). WhyUnwritten frames x) e why
+unsaid_turns frames fault (inr why) e = no_turns why.0.0 (sym why.0.1 ∙ e)
+  where
+    no_turns : (cause : HolderFault) → of_holder cause ≡ Turns → ⊥
+    no_turns holders.Memory is = cc
+    no_turns holders.Refused is = cc
+
+-- What could not be written no holder refused.
+pub unwritten_refused : (frames : List Frame) (r : Result (Unit {0}) ExchangeFault) → IfErr r (WhyUnwritten frames)
+    → r ≡ Err Refused → ⊥
+unwritten_refused frames r why e =
+    subst (λ (x : Result (Unit {0}) ExchangeFault). IfErr x (WhyUnwritten frames)) e why
+
+pub long_one : (frame : Frame) → is_too_long frame ≡ true → list_any is_too_long (frame ∷ []) ≡ true
+long_one frame is = rw is refl
+
+-- ---- frames, one after another
+
+pub texts_more : (frames more : List Frame) → texts (frames ++ more) ≡ texts frames ++ texts more
+texts_more frames more = flat_map-append text_of frames more
+
+sayable_more : (frames more : List Frame) → AreSayable frames → AreSayable more → AreSayable (frames ++ more)
+sayable_more [] more are too = too
+sayable_more (f ∷ frames) more are too = (are.0, sayable_more frames more are.1 too)
+
+-- Of all frames the rest is still to be written: those before it were.
+abbrev pub SpokeSome : Option (List ℕ) → Option (List ℕ) → List Frame → List Frame → Type 0
+SpokeSome w0 w1 all rest = (told : List Frame) × (all ≡ told ++ rest) × Appends w0 w1 (texts told) × AreSayable told
+
+module _ (w0 w1 w2 : Option (List ℕ)) (all first more : List Frame) (so : SpokeSome w0 w1 all (first ++ more)) where
+  pub spoke_on : Appends w1 w2 (texts first) × AreSayable first → SpokeSome w0 w2 all more
+  spoke_on p = (
+    so.0 ++ first,
+    so.1 ∙ sym (append_assoc so.0 first more),
+    subst (λ (t : List ℕ). Appends w0 w2 t) (sym (texts_more so.0 first))
+        (Appends-trans w0 w1 w2 (texts so.0) (texts first) so.2 p.0),
+    sayable_more so.0 first so.3 p.1,
+  )
+
+  all_text : texts all ≡ texts so.0 ++ (texts first ++ texts more)
+  all_text = ap (λ (frames : List Frame). texts frames) so.1 ∙ texts_more so.0 (first ++ more)
+      ∙ ap (λ (t : List ℕ). texts so.0 ++ t) (texts_more first more)
+
+  pub breaks_off : (fault : ExchangeFault) → WroteFront w1 w2 (texts first) × WhyUnsaid first fault
+      → WroteFront w0 w2 (texts all) × WhyUnsaid all fault
+  breaks_off fault p = (
+    subst (λ (t : List ℕ). WroteFront w0 w2 t) (sym all_text)
+        (wrote_then w0 w1 w2 (texts so.0) (texts first ++ texts more) so.2
+        (wrote_more w1 w2 (texts first) (texts more) p.0)),
+    subst (λ (frames : List Frame). WhyUnsaid frames fault) (sym so.1)
+        (why_behind so.0 (first ++ more) fault (why_before first more fault p.1)),
+  )
+
+pub spoke_all : (w0 w1 w2 : Option (List ℕ)) (all rest : List Frame) → SpokeSome w0 w1 all rest
+    → (r : Result (Unit {0}) ExchangeFault) → Speaks w1 w2 rest r → Speaks w0 w2 all r
+spoke_all w0 w1 w2 all rest so (Ok x) p = (
+  subst (λ (t : List ℕ). Appends w0 w2 t) (sym (ap (λ (frames : List Frame). texts frames) so.1 ∙ texts_more so.0 rest))
+      (Appends-trans w0 w1 w2 (texts so.0) (texts rest) so.2 p.0),
+  subst (λ (frames : List Frame). AreSayable frames) (sym so.1) (sayable_more so.0 rest so.3 p.1),
 )
+spoke_all w0 w1 w2 all rest so (Err fault) p =
+    let same = ap (λ (l : List Frame). so.0 ++ l) (sym (append-nil rest)) in
+    breaks_off w0 w1 w2 all rest [] (so.0, so.1 ∙ same, so.2, so.3) fault p
 
-pub gave_front : (w0 w1 w2 : Option (List ℕ)) (all rest left : List Op) (op : Op) → rest ≡ op ∷ left
-    → GaveSome w0 w1 all rest → WroteFront w1 w2 (text_of (Give op)) → WroteFront w0 w2 (texts (gifts_of all))
-gave_front w0 w1 w2 all rest left op is p q =
-    let more = wrote_more w1 w2 (text_of (Give op)) (texts (gifts_of left)) q in
-    subst (λ (t : List ℕ). WroteFront w0 w2 t) (ap (λ (ops : List Op). p.0 ++ texts (gifts_of ops)) (sym is) ∙ p.2)
-    (wrote_then w0 w1 w2 p.0 (text_of (Give op) ++ texts (gifts_of left)) p.1 more)
-
-pub gave_all : (w0 w1 w2 : Option (List ℕ)) (all rest : List Op) → rest ≡ [] → GaveSome w0 w1 all rest
-    → Appends w1 w2 (text_of End) → Appends w0 w2 (texts (gifts_of all))
-gave_all w0 w1 w2 all rest is p q = subst (λ (t : List ℕ). Appends w0 w2 t)
-    (ap (λ (t : List ℕ). p.0 ++ t) (sym (append-nil (text_of End)))
-    ∙ ap (λ (ops : List Op). p.0 ++ texts (gifts_of ops)) (sym is) ∙ p.2)
-    (Appends-trans w0 w1 w2 p.0 (text_of End) p.1 q)
-
-pub gave_last : (w0 w1 w2 : Option (List ℕ)) (all rest : List Op) → rest ≡ [] → GaveSome w0 w1 all rest
-    → WroteFront w1 w2 (text_of End) → WroteFront w0 w2 (texts (gifts_of all))
-gave_last w0 w1 w2 all rest is p q = subst (λ (t : List ℕ). WroteFront w0 w2 t)
-    (ap (λ (t : List ℕ). p.0 ++ t) (sym (append-nil (text_of End)))
-    ∙ ap (λ (ops : List Op). p.0 ++ texts (gifts_of ops)) (sym is) ∙ p.2)
-    (wrote_then w0 w1 w2 p.0 (text_of End) p.1 q)
+-- One frame was written, or a front of it.
+pub speaks_one : (w0 w1 : Option (List ℕ)) (frame : Frame) (r : Result (Unit {0}) ExchangeFault)
+    → OnOk r (Appends w0 w1 (text_of frame)) → OnErr r (WroteFront w0 w1 (text_of frame))
+    → IfErr r (WhyUnwritten (frame ∷ [])) → OnOk r (IsSayable frame) → Speaks w0 w1 (frame ∷ []) r
+speaks_one w0 w1 frame (Ok x) ok err why sayable =
+    (subst (λ (t : List ℕ). Appends w0 w1 t) (sym (append-nil (text_of frame))) ok, (sayable, tt))
+speaks_one w0 w1 frame (Err fault) ok err why sayable =
+    (subst (λ (t : List ℕ). WroteFront w0 w1 t) (sym (append-nil (text_of frame))) err, inl why)
 
 -- ---- what is known of frames that were written
 
@@ -101,38 +180,3 @@ pub sayable_is : {X : Type 0} (frame : Frame) (x : X) (fault : FrameFault)
     → (is_too_long frame ≡ true → Ok x ≡ Err fault) → GivesLawful frame → IsSayable frame
 sayable_is frame x fault never lawful =
     (not_true (is_too_long frame) (λ is. let clash : Ok x ≡ Err fault = never is in absurd cc), lawful)
-
-pub sayable_all : (all rest : List Op) → rest ≡ all → AreSayable (gifts_of rest) → AreSayable (gifts_of all)
-sayable_all all rest is p = subst (λ (ops : List Op). AreSayable (gifts_of ops)) is p
-
-pub sayable_one : (all rest left : List Op) (op : Op) → rest ≡ op ∷ left
-    → (AreSayable (gifts_of rest) → AreSayable (gifts_of all)) → IsSayable (Give op) → AreSayable (gifts_of left)
-    → AreSayable (gifts_of all)
-sayable_one all rest left op is was one p =
-    was (subst (λ (ops : List Op). AreSayable (gifts_of ops)) (sym is) (one, p))
-
-pub sayable_end : (all rest : List Op) → rest ≡ [] → (AreSayable (gifts_of rest) → AreSayable (gifts_of all))
-    → IsSayable End → AreSayable (gifts_of all)
-sayable_end all rest is was one =
-    was (subst (λ (ops : List Op). AreSayable (gifts_of ops)) (sym is) (one, tt))
-
--- ---- why
-
-pub long_one : (frame : Frame) → is_too_long frame ≡ true → list_any is_too_long (frame ∷ []) ≡ true
-long_one frame is = rw is refl
-
--- a frame that is never too long was not written for another reason
-pub other_why : (frame : Frame) (frames : List Frame) (fault : ExchangeFault) → is_too_long frame ≡ false
-    → WhyUnsaid (frame ∷ []) fault → WhyUnsaid frames fault
-other_why frame frames BadFrame short why = why
-other_why frame frames TooLong short why = absurd (let clash : false ≡ true = rw short at why in cc)
-other_why frame frames Stranger short why = why
-other_why frame frames Io short why = why
-other_why frame frames Memory short why = why
-other_why frame frames Turns short why = why
-other_why frame frames Refused short why = why
-
--- a list that is no longer than none is empty
-pub none_left : {A : Type 0} (xs : List A) → length xs ≤ 0 → xs ≡ []
-none_left [] few = refl
-none_left (x ∷ xs) few = absurd (omega (arith, few))

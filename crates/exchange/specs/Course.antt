@@ -1,6 +1,6 @@
 -- What a side says for the frames that it hears, each over a set that its holder has then.
 use Rattle.std.specs.Prelude.{◌≡◌, ◌⊎◌, ℕ, ◌+◌, List, [], ◌∷◌, ◌++◌, map, length, Some, None, Result, Ok, Err}
-use Rattle.std.specs.Prelude.{Bool, true, false, cond, ◌&&◌, ◌==◌}
+use Rattle.std.specs.Prelude.{Bool, true, false, cond, ◌&&◌, ◌==◌, ⊤}
 use Rattle.operation.specs.declared.op.Op.{Op}
 use Rattle.operation.specs.declared.taken.Taken.{Taken}
 use Rattle.operation.specs.declared.taken.Taken.TheVariants.{New, Known}
@@ -15,10 +15,11 @@ use Rattle.exchange.specs.declared.fault.ExchangeFault.TheVariants.{BadFrame}
 use Rattle.exchange.specs.declared.fault.HolderFault.{HolderFault}
 use Rattle.exchange.specs.declared.fault.HolderFault.TheVariants.{Refused}
 use Rattle.exchange.specs.Fault.{of_holder}
-use Rattle.exchange.specs.Held.{offered, offered_in, lacked, given, HasGrown, Looks}
+use Rattle.exchange.specs.Held.{offered, offered_in, lacked, given, ops_at, HasGrown, Looks}
 use Rattle.exchange.specs.Parts.{told_in, do_fit, is_seen_whole}
 use Rattle.exchange.specs.Buckets.{bucket_list, unequal}
 use Rattle.exchange.specs.Round.{RoundState, asked_at, is_among, refusal_of, with_given, TakesAsked}
+use Rattle.exchange.specs.RunLaws.{HoldsAll}
 use Rattle.exchange.specs.declared.role.Role.{Role}
 use Rattle.exchange.specs.declared.role.Role.TheVariants.{Caller, Callee, OldCaller}
 use Rattle.exchange.specs.declared.side.Said.{Said}
@@ -69,11 +70,17 @@ next_after_gifts OldCaller = awaits.Buckets
 abbrev pub gifts_of : List Op → List Frame
 gifts_of ops = map (λ op. Give op) ops ++ End ∷ []
 
--- the frames that are said
-abbrev pub frames_of : Said → List Frame
-frames_of says.Nothing = []
-frames_of (says.One frame) = frame ∷ []
-frames_of (says.Gifts ops) = gifts_of ops
+-- the frames that are said, where the operations that are given come from a set
+abbrev pub frames_of : Map → Said → List Frame
+frames_of m says.Nothing = []
+frames_of m (says.One frame) = frame ∷ []
+frames_of m (says.Gifts digests) = gifts_of (ops_at m digests)
+
+-- A set has what is to be given.
+abbrev pub HoldsGifts : Map → Said → Type 0
+HoldsGifts m says.Nothing = ⊤
+HoldsGifts m (says.One frame) = ⊤
+HoldsGifts m (says.Gifts digests) = HoldsAll m digests
 
 -- whether no place differed, where it did not before, and buckets differ in these
 abbrev pub agreed_with : Bool → List ℕ → Bool
@@ -165,14 +172,16 @@ SetsOut holds alone OldCaller before told s after = Shows holds alone (start_of 
 
 -- ---- what a machine does
 
--- A task was done, or refused; then nothing was taken.
+-- A task was done, and the holder has what is to be given; or it was refused, and then nothing was taken.
 abbrev pub Performs : {H : Type 0} → (H → Map) → (H → Type 0) → Task → Side → H → Result Said ExchangeFault → Side → H
     → Type 0
-Performs holds alone task s before (Ok said) t after = Does holds alone task s before (frames_of said) t after
+Performs holds alone task s before (Ok said) t after =
+    Does holds alone task s before (frames_of (holds after) said) t after × HoldsGifts (holds after) said
 Performs holds alone task s before (Err fault) t after = Idles holds alone before after
 
 abbrev pub SetOut : {H : Type 0} → (H → Map) → (H → Type 0) → Role → H → Result Said ExchangeFault → Side → H → Type 0
-SetOut holds alone role before (Ok said) t after = SetsOut holds alone role before (frames_of said) t after
+SetOut holds alone role before (Ok said) t after =
+    SetsOut holds alone role before (frames_of (holds after) said) t after × HoldsGifts (holds after) said
 SetOut holds alone role before (Err fault) t after = Idles holds alone before after
 
 -- The holder refused, or memory did.
@@ -199,6 +208,12 @@ abbrev pub HasRefused : {H : Type 0} → (H → H → HolderFault → Type 0) �
     → H → Type 0
 HasRefused refuses_look refuses_take (tasks.Take op) before after = refuses_take before after op Refused
 HasRefused refuses_look refuses_take task before after = refuses_look before after Refused
+
+-- what a holder does as a side speaks: it is asked for nothing, but to load what is given
+abbrev pub Loads : {H : Type 0} → (H → Map) → (H → Type 0) → Said → H → H → Type 0
+Loads holds alone says.Nothing before after = after ≡ before
+Loads holds alone (says.One frame) before after = after ≡ before
+Loads holds alone (says.Gifts digests) before after = Idles holds alone before after
 
 -- ---- frames, one after another
 

@@ -1,6 +1,6 @@
 -- What a holder has, which of it a version speaks of, and how the holder's calls answer.
 use Rattle.std.specs.Prelude.{◌≡◌, ℕ, ◌==◌, Bool, true, false, not, List, filter, slice_index, Option, Some, None}
-use Rattle.std.specs.Prelude.{Result, Ok, Err, OnOk, if◌then◌else◌}
+use Rattle.std.specs.Prelude.{Result, Ok, Err, OnOk, if◌then◌else◌, is_some}
 use Rattle.std.specs.List.{list_any, filter_map}
 use Rattle.std.specs.FinMap as finmap
 use Rattle.std.specs.Map.{keys_of}
@@ -76,6 +76,18 @@ if_spoken version (Some op) = if is_spoken version op then Some op else None
 -- the operations under some digests that a set has and a version speaks of, in the order given
 abbrev pub given : Version → List (List ℕ) → Map → List Op
 given version digests m = filter_map (λ digest. if_spoken version (held_at m digest)) digests
+
+-- whether a set has an operation under a digest of which a version speaks
+abbrev pub is_held : Version → Map → List ℕ → Bool
+is_held version m digest = is_some (if_spoken version (held_at m digest))
+
+-- the digests of those that are given, in the order given
+abbrev pub held_of : Version → List (List ℕ) → Map → List (List ℕ)
+held_of version digests m = filter (is_held version m) digests
+
+-- the operations that a set has under some digests
+abbrev pub ops_at : Map → List (List ℕ) → List Op
+ops_at m digests = filter_map (held_at m) digests
 
 -- why a site does not take an operation: memory was refused where nothing of its digest is held, or another operation
 -- of its digest is

@@ -7,6 +7,7 @@ use Rattle.site_state.specs.Site.{Map}
 use Rattle.exchange_frames.specs.declared.frame.Frame.{Frame}
 use Rattle.exchange_frames.specs.Spelling.{text_of, IsFrame}
 use Rattle.exchange.specs.declared.fault.HolderFault.{HolderFault}
+use Rattle.exchange.specs.declared.fault.HolderFault.TheVariants as holders
 use Rattle.exchange.specs.declared.fault.ExchangeFault.{ExchangeFault}
 use Rattle.exchange.specs.declared.fault.ExchangeFault.TheVariants.{BadFrame, TooLong, Stranger, Io, Memory, Turns}
 use Rattle.exchange.specs.declared.fault.ExchangeFault.TheVariants.{Refused}
@@ -84,7 +85,7 @@ pub record Exchanged {H : Type 0} (holds : H → Map) (alone : H → Type 0) (ro
 -- ---- an exchange that was broken off
 
 -- Why it was: behind the frames that were heard came a text that is no frame, or no text, once all was said; or a frame
--- that was refused; or what is said could not be written.
+-- that was refused; or what is said could not be written, or not be loaded.
 abbrev pub WhyBroke : Option (List ℕ) → Side → List Frame → List ℕ → List ℕ → ExchangeFault → Type 0
 WhyBroke r1 side told rest out fault =
     ((out ≡ texts told) × WhyUnheard r1 rest fault)
@@ -122,14 +123,15 @@ pub record Unbegun {H : Type 0} (holds : H → Map) (alone : H → Type 0) (from
 abbrev pub EndsEarly : {H : Type 0} → (H → Map) → (H → Type 0) → Role → Ends H → Ends H → ExchangeFault → Type 0
 EndsEarly holds alone role from to fault = Unbegun holds alone from to fault ⊎ BrokenOff holds alone role from to fault
 
--- The last that was asked of a holder it refused, for another cause than want of memory.
+-- The last that was asked of a holder it refused, for another cause than want of memory: what a task asks for, or to
+-- load the operation under a digest.
 pub record WasRefused {H : Type 0} (holds : H → Map) (alone : H → Type 0)
-    (refuses_look : H → H → HolderFault → Type 0) (refuses_take : H → H → Op → HolderFault → Type 0) (after : H)
-    : Type 0 where
-  pub task : Task
+    (refuses_look : H → H → HolderFault → Type 0) (refuses_take : H → H → Op → HolderFault → Type 0)
+    (refuses_load : H → H → List ℕ → HolderFault → Type 0) (after : H) : Type 0 where
   pub before : H
   pub idle : Idles holds alone before after
-  pub refused : HasRefused refuses_look refuses_take task before after
+  pub refused : ((task : Task) × HasRefused refuses_look refuses_take task before after)
+      ⊎ ((digest : List ℕ) × refuses_load before after digest holders.Refused)
 
 -- ---- turns
 

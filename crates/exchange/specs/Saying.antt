@@ -1,7 +1,9 @@
 -- How frames are written to a device, and why they were not.
-use Rattle.std.specs.Prelude.{◌≡◌, ℕ, List, ◌++◌, Option, true, false, ⊤}
+use Rattle.std.specs.Prelude.{◌≡◌, ◌⊎◌, ℕ, List, ◌++◌, Option, Result, Ok, Err, true, false, ⊤}
 use Rattle.std.specs.List.{list_any, AllByRecursion}
 use Rattle.std.specs.Io.KnownBytes.{Appends}
+use Rattle.octets.specs.Members.{Has}
+use Rattle.operation.specs.declared.op.Op.{Op}
 use Rattle.exchange_frames.specs.declared.frame.Frame.{Frame}
 use Rattle.exchange_frames.specs.declared.frame.Frame.TheVariants.{Have, Want, Give, End, Buckets, Differ, Hello}
 use Rattle.exchange_frames.specs.Spelling.{IsFrame}
@@ -9,6 +11,8 @@ use Rattle.exchange_frames.specs.Writing.{is_too_long}
 use Rattle.exchange.specs.declared.fault.ExchangeFault.{ExchangeFault}
 use Rattle.exchange.specs.declared.fault.ExchangeFault.TheVariants.{BadFrame, TooLong, Stranger, Io, Memory, Turns}
 use Rattle.exchange.specs.declared.fault.ExchangeFault.TheVariants.{Refused}
+use Rattle.exchange.specs.Course.{IsOfHolder}
+use Rattle.exchange.specs.Hearing.{texts}
 
 -- these come first in all
 abbrev pub IsFront : List ℕ → List ℕ → Type 0
@@ -19,14 +23,22 @@ abbrev pub WroteFront : Option (List ℕ) → Option (List ℕ) → List ℕ →
 WroteFront w0 w1 text = (out : List ℕ) × Appends w0 w1 out × IsFront out text
 
 -- Why frames were not written: the device failed, memory was refused, or one of them is longer than is written.
+abbrev pub WhyUnwritten : List Frame → ExchangeFault → Type 0
+WhyUnwritten frames BadFrame = ⊥
+WhyUnwritten frames TooLong = list_any is_too_long frames ≡ true
+WhyUnwritten frames Stranger = ⊥
+WhyUnwritten frames Io = ⊤
+WhyUnwritten frames Memory = ⊤
+WhyUnwritten frames Turns = ⊥
+WhyUnwritten frames Refused = ⊥
+
+-- A GIVE is among these frames.
+abbrev pub HasGive : List Frame → Type 0
+HasGive frames = (op : Op) × Has frames (Give op)
+
+-- Why frames were not said: they were not written, or the holder refused to load an operation that is given.
 abbrev pub WhyUnsaid : List Frame → ExchangeFault → Type 0
-WhyUnsaid frames BadFrame = ⊥
-WhyUnsaid frames TooLong = list_any is_too_long frames ≡ true
-WhyUnsaid frames Stranger = ⊥
-WhyUnsaid frames Io = ⊤
-WhyUnsaid frames Memory = ⊤
-WhyUnsaid frames Turns = ⊥
-WhyUnsaid frames Refused = ⊥
+WhyUnsaid frames fault = WhyUnwritten frames fault ⊎ (IsOfHolder fault × HasGive frames)
 
 -- The operation of a GIVE is one that can be read.
 abbrev pub GivesLawful : Frame → Type 0
@@ -44,3 +56,8 @@ IsSayable frame = (is_too_long frame ≡ false) × GivesLawful frame
 
 abbrev pub AreSayable : List Frame → Type 0
 AreSayable frames = AllByRecursion IsSayable frames
+
+-- All of some frames were written, or a front of them, and why no more.
+abbrev pub Speaks : Option (List ℕ) → Option (List ℕ) → List Frame → Result (Unit {0}) ExchangeFault → Type 0
+Speaks w0 w1 frames (Ok x) = Appends w0 w1 (texts frames) × AreSayable frames
+Speaks w0 w1 frames (Err fault) = WroteFront w0 w1 (texts frames) × WhyUnsaid frames fault

@@ -1,10 +1,10 @@
 //! What an exchange asks of a site.
 
-ghost use Rattle.std.specs.Prelude.{◌≡◌, IfErr, MatchResult};
+ghost use Rattle.std.specs.Prelude.{◌≡◌, List, ℕ, IfErr, MatchResult};
 ghost use Rattle.operation.specs.declared.op.Op.{Op};
-ghost use Rattle.site_state.specs.Site.{Map};
+ghost use Rattle.site_state.specs.Site.{Map, held_at};
 ghost use Rattle.exchange.specs.declared.fault.HolderFault.{HolderFault};
-ghost use Rattle.exchange.specs.Held.{offered, offered_in, lacked, given, Looks, TakesIn};
+ghost use Rattle.exchange.specs.Held.{offered, offered_in, lacked, held_of, Looks, TakesIn};
 ghost use Rattle.exchange.specs.Buckets.{bucket_list};
 
 use crate::fault::HolderFault;
@@ -28,6 +28,9 @@ pub trait Holder {
 
     // Why it may refuse to take an operation.
     ghost refuses_take: { Self → Self → Op → HolderFault → Type 0 };
+
+    // Why it may refuse to load the operation under a digest.
+    ghost refuses_load: { Self → Self → List ℕ → HolderFault → Type 0 };
 
     /// The digests of all operations that a version speaks of, ascending.
     fn digests(&mut self, alloc: Global, version: Version) -> Result<Digests, HolderFault>
@@ -59,17 +62,23 @@ pub trait Holder {
             (λ missing. missing ≡ lacked m digests.now)
             (refuses_look self.old self.new)) };
 
-    /// The operations under some digests that are held and that a version speaks of, in the order
-    /// given. The bytes of data sets are shared.
-    fn ops(
+    /// Those of some digests under which an operation is held that a version speaks of, in the
+    /// order given. No operation is loaded.
+    fn held(
         &mut self,
         alloc: Global,
         version: Version,
         digests: &Digests,
-    ) -> Result<ListOf<Op>, HolderFault>
+    ) -> Result<Digests, HolderFault>
         ensures { Looks holds alone self.old self.new (λ m. MatchResult result
-            (λ ops. ops ≡ given version digests.now m)
+            (λ held. held ≡ held_of version digests.now m)
             (refuses_look self.old self.new)) };
+
+    /// The operation under a digest, if one is held. What is in memory is shared.
+    fn load(&mut self, alloc: Global, digest: &Digest) -> Result<Option<Op>, HolderFault>
+        ensures { Looks holds alone self.old self.new (λ m. MatchResult result
+            (λ op. op ≡ held_at m digest.now)
+            (refuses_load self.old self.new digest.now)) };
 
     /// Takes an operation, once.
     fn take(&mut self, op: Digested) -> Result<Taken, HolderFault>

@@ -53,7 +53,7 @@ pub use run_laws::{
     a_side_says_its_frames_in_order, an_exchange_gives_all, an_exchange_makes_holders_equal,
 };
 pub use site_holder::{
-    buckets_of_site, differ_of_site, digests_of_site, digests_of_site_in, missing_of_site,
-    ops_of_site,
+    buckets_of_site, differ_of_site, digests_of_site, digests_of_site_in, held_of_site,
+    missing_of_site, op_of_site, ops_of_site,
 };
 pub use version::Version;

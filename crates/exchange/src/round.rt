@@ -3,7 +3,7 @@
 ghost use Rattle.std.specs.Prelude.{◌≡◌, ◌≢◌, ◌↔◌, [], List, ℕ, Some, None, Err, cond, false, IfOk, OnOk, OnErr};
 ghost use Rattle.std.specs.Prelude.{IsErrOf, IsTrue, MatchResult};
 ghost use Rattle.operation.specs.Spelling.{digest_of};
-ghost use Rattle.exchange.specs.Held.{offered, offered_in, lacked, given, Looks};
+ghost use Rattle.exchange.specs.Held.{offered, offered_in, lacked, held_of, Looks};
 ghost use Rattle.exchange.specs.Buckets.{bucket_list, unequal as unequal_in};
 ghost use Rattle.exchange.specs.Round.{asked_at, is_among, with_given, refusal_of, IsFinished, TakesAsked, MemoryOr};
 
@@ -135,18 +135,19 @@ impl Round {
         Ok(want)
     }
 
-    /// The operations that are given for a WANT: those of it that are held, in its order.
+    /// The digests of the operations that are given for a WANT: those of it that are held, in its
+    /// order.
     pub fn on_want<H: Holder>(
         &self,
         alloc: Global,
         holder: &mut H,
         want: &Digests,
-    ) -> Result<ListOf<Op>, HolderFault>
+    ) -> Result<Digests, HolderFault>
         ensures { Looks H.holds H.alone holder.old holder.new (λ m. MatchResult result
-            (λ ops. ops ≡ given self.now.version want.now m)
+            (λ held. held ≡ held_of self.now.version want.now m)
             (H.refuses_look holder.old holder.new)) }
     {
-        holder.ops(alloc, self.version, want)
+        holder.held(alloc, self.version, want)
     }
 
     /// The first reason for which an operation that was given is not taken.

@@ -34,10 +34,10 @@ fn set_out<W: Sink, H: Holder>(
         (ends holder.old left (W.contents writer.old) failed (W.failures writer.old))
         (ends holder.new left (W.contents writer.new) failed (W.failures writer.new)) fault) }
     ensures refused { IsErrOf result ExchangeFault.Refused → WasRefused H.holds H.alone
-        H.refuses_look H.refuses_take holder.new }
+        H.refuses_look H.refuses_take H.refuses_load holder.new }
 {
     let said = side.set_out(alloc, holder)?;
-    say(alloc, writer, said)
+    say(alloc, writer, holder, said)
 }
 
 /// One turn: a frame is heard, and what it calls for is said.
@@ -57,11 +57,11 @@ fn take_turn<R: Source, W: Sink, H: Holder>(
         (ends holder.new (R.remaining reader.new) (W.contents writer.new)
         (R.failures reader.new) (W.failures writer.new)) side.new reads.new n result }
     ensures refused { IsErrOf result ExchangeFault.Refused → WasRefused H.holds H.alone
-        H.refuses_look H.refuses_take holder.new }
+        H.refuses_look H.refuses_take H.refuses_load holder.new }
 {
     let frame = hear(alloc, reader, reads)?;
     let said = side.on(alloc, holder, frame)?;
-    say(alloc, writer, said)
+    say(alloc, writer, holder, said)
 }
 
 /// Takes part in an exchange: offers what the holder has, and asks for what it lacks and takes it,
@@ -70,7 +70,8 @@ fn take_turn<R: Source, W: Sink, H: Holder>(
 /// `BadFrame` is told of a stream that ends too soon, of bytes that are no frame, and of a frame
 /// out of its turn; `TooLong` of a frame that is longer than is read or written; `Stranger` of an
 /// operation that was not asked for; `Turns` after 4,294,967,296 reads. What was taken before a
-/// fault stays.
+/// fault stays. An operation that is given is loaded as its GIVE is written, so a holder that
+/// refuses to load one ends the exchange behind the GIVEs before it.
 pub fn run_exchange<R: Source, W: Sink, H: Holder>(
     alloc: Global,
     role: Role,
@@ -89,7 +90,7 @@ pub fn run_exchange<R: Source, W: Sink, H: Holder>(
         (ends holder.new (R.remaining reader.new) (W.contents writer.new)
         (R.failures reader.new) (W.failures writer.new))) }
     ensures refused { IsErrOf result ExchangeFault.Refused → WasRefused H.holds H.alone
-        H.refuses_look H.refuses_take holder.new }
+        H.refuses_look H.refuses_take H.refuses_load holder.new }
 {
     let mut side = Side::new(alloc, role);
     let mut reads = MOST_READS;

@@ -1,20 +1,25 @@
 //! Writing frames to a device.
 
-ghost use Rattle.std.specs.Prelude.{◌≡◌, ◌∷◌, [], IfErr, OnOk, OnErr, ◌++◌};
+ghost use Rattle.std.specs.Prelude.{◌≡◌, ◌∷◌, [], Some, IfErr, IsErrOf, OnOk, OnErr, ◌++◌};
 ghost use Rattle.std.specs.Io.KnownBytes.{Appends};
+ghost use Rattle.operation.specs.declared.op.Op.{Op as Operation};
+ghost use Rattle.site_state.specs.Site.{held_at};
 ghost use Rattle.exchange_frames.specs.declared.frame.Frame.TheVariants.{Give};
 ghost use Rattle.exchange_frames.specs.Spelling.{text_of};
 ghost use Rattle.exchange.specs.declared.fault.ExchangeFault.TheVariants.{Io};
-ghost use Rattle.exchange.specs.Course.{frames_of, gifts_of};
-ghost use Rattle.exchange.specs.Hearing.{Fails, texts};
-ghost use Rattle.exchange.specs.Saying.{WroteFront, WhyUnsaid, GivesLawful, IsSayable, AreSayable};
+ghost use Rattle.exchange.specs.Course.{frames_of, gifts_of, Idles, HoldsGifts, Loads};
+ghost use Rattle.exchange.specs.Hearing.{Fails};
+ghost use Rattle.exchange.specs.Held.{ops_at};
+ghost use Rattle.exchange.specs.Run.{WasRefused};
+ghost use Rattle.exchange.specs.RunLaws.{HoldsAll};
+ghost use Rattle.exchange.specs.Saying.{WroteFront, WhyUnwritten, GivesLawful, IsSayable, Speaks};
 
-use crate::fault::ExchangeFault;
+use crate::fault::{ExchangeFault, HolderFault};
+use crate::holder::Holder;
 use crate::side::Said;
 use devices::{Sink, put_all};
-use exchange_frames::{Frame, a_give_is_a_frame, write_frame};
-use octets::ListOf;
-use operation::Op;
+use exchange_frames::{Digests, Frame, a_give_is_a_frame, write_frame};
+use operation::{Digest, Op};
 use std::alloc::Global;
 
 /// Writes the whole of some bytes.
@@ -61,7 +66,7 @@ fn say_frame<W: Sink>(alloc: Global, writer: &mut W, frame: &Frame) -> Result<()
         (text_of frame.now)) }
     ensures err { OnErr result (WroteFront (W.contents writer.old) (W.contents writer.new)
         (text_of frame.now)) }
-    ensures why { IfErr result (WhyUnsaid (frame.now ∷ [])) }
+    ensures why { IfErr result (WhyUnwritten (frame.now ∷ [])) }
     ensures sayable { OnOk result (IsSayable frame.now) }
     ensures failed { Fails result (W.failures writer.old) (W.failures writer.new) }
 {
@@ -77,7 +82,7 @@ fn say_give<W: Sink>(alloc: Global, writer: &mut W, op: Op) -> Result<(), Exchan
         (text_of (Give op))) }
     ensures err { OnErr result (WroteFront (W.contents writer.old) (W.contents writer.new)
         (text_of (Give op))) }
-    ensures why { IfErr result (WhyUnsaid (Give op ∷ [])) }
+    ensures why { IfErr result (WhyUnwritten (Give op ∷ [])) }
     ensures sayable { OnOk result (IsSayable (Give op)) }
     ensures failed { Fails result (W.failures writer.old) (W.failures writer.new) }
 {
@@ -85,35 +90,67 @@ fn say_give<W: Sink>(alloc: Global, writer: &mut W, op: Op) -> Result<(), Exchan
     say_frame(alloc, writer, &frame)
 }
 
-/// Writes a GIVE of each operation, and END.
-fn say_gifts<W: Sink>(alloc: Global, writer: &mut W, ops: ListOf<Op>) -> Result<(), ExchangeFault>
-    ensures ok { OnOk result (Appends (W.contents writer.old) (W.contents writer.new)
-        (texts (gifts_of ops))) }
-    ensures err { OnErr result (WroteFront (W.contents writer.old) (W.contents writer.new)
-        (texts (gifts_of ops))) }
-    ensures why { IfErr result (WhyUnsaid (gifts_of ops)) }
-    ensures sayable { OnOk result (AreSayable (gifts_of ops)) }
+/// Loads the operation under a digest and writes its GIVE. Where none is held nothing is written.
+fn load_and_give<W: Sink, H: Holder>(
+    alloc: Global,
+    writer: &mut W,
+    holder: &mut H,
+    digest: &Digest,
+) -> Result<(), ExchangeFault>
+    ensures speaks { (op : Operation) → held_at (H.holds holder.old) digest.now ≡ Some op
+        → Speaks (W.contents writer.old) (W.contents writer.new) (Give op ∷ []) result }
     ensures failed { Fails result (W.failures writer.old) (W.failures writer.new) }
+    ensures idle { Idles H.holds H.alone holder.old holder.new }
+    ensures refused { IsErrOf result ExchangeFault.Refused
+        → H.refuses_load holder.old holder.new digest.now HolderFault.Refused }
 {
-    for op in ops.into_vec() {
-        say_give(alloc, writer, op)?;
+    match holder.load(alloc, digest)? {
+        Some(op) => say_give(alloc, writer, op),
+        None => Ok(()),
+    }
+}
+
+/// Writes a GIVE of the operation under each digest, and END. Each is loaded when its turn comes,
+/// and none is kept.
+fn say_gifts<W: Sink, H: Holder>(
+    alloc: Global,
+    writer: &mut W,
+    holder: &mut H,
+    digests: &Digests,
+) -> Result<(), ExchangeFault>
+    ensures speaks { HoldsAll (H.holds holder.old) digests.now
+        → Speaks (W.contents writer.old) (W.contents writer.new)
+        (gifts_of (ops_at (H.holds holder.old) digests.now)) result }
+    ensures failed { Fails result (W.failures writer.old) (W.failures writer.new) }
+    ensures idle { Idles H.holds H.alone holder.old holder.new }
+    ensures refused { IsErrOf result ExchangeFault.Refused → WasRefused H.holds H.alone
+        H.refuses_look H.refuses_take H.refuses_load holder.new }
+{
+    let arrays = digests.as_arrays();
+    for bytes in arrays {
+        load_and_give(alloc, writer, holder, &Digest::of(*bytes))?;
     }
     say_frame(alloc, writer, &Frame::End)
 }
 
-/// Writes what a side says.
-pub(crate) fn say<W: Sink>(alloc: Global, writer: &mut W, said: Said) -> Result<(), ExchangeFault>
-    ensures ok { OnOk result (Appends (W.contents writer.old) (W.contents writer.new)
-        (texts (frames_of said))) }
-    ensures err { OnErr result (WroteFront (W.contents writer.old) (W.contents writer.new)
-        (texts (frames_of said))) }
-    ensures why { IfErr result (WhyUnsaid (frames_of said)) }
-    ensures sayable { OnOk result (AreSayable (frames_of said)) }
+/// Writes what a side says, of which the holder loads what is given.
+pub(crate) fn say<W: Sink, H: Holder>(
+    alloc: Global,
+    writer: &mut W,
+    holder: &mut H,
+    said: Said,
+) -> Result<(), ExchangeFault>
+    ensures speaks { HoldsGifts (H.holds holder.old) said
+        → Speaks (W.contents writer.old) (W.contents writer.new)
+        (frames_of (H.holds holder.old) said) result }
     ensures failed { Fails result (W.failures writer.old) (W.failures writer.new) }
+    ensures loads { Loads H.holds H.alone said holder.old holder.new }
+    ensures refused { IsErrOf result ExchangeFault.Refused → WasRefused H.holds H.alone
+        H.refuses_look H.refuses_take H.refuses_load holder.new }
 {
     match said {
         Said::Nothing => Ok(()),
         Said::One(frame) => say_frame(alloc, writer, &frame),
-        Said::Gifts(ops) => say_gifts(alloc, writer, ops),
+        Said::Gifts(digests) => say_gifts(alloc, writer, holder, &digests),
     }
 }

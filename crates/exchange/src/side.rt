@@ -1,11 +1,12 @@
 //! One side of an exchange, as a machine: frames come in and frames go out.
 
-ghost use Rattle.std.specs.Prelude.{◌≡◌, ◌∷◌, [], ◌<◌, ◌^◌, ◌-◌, ◌↔◌, ◌&&◌, IfErr, IsErrOf, IsTrue};
+ghost use Rattle.std.specs.Prelude.{◌≡◌, ◌<◌, ◌^◌, ◌-◌, ◌↔◌, ◌&&◌, IfErr, IsErrOf, IsTrue};
 ghost use Rattle.exchange_frames.specs.declared.frame.Frame.TheVariants.{Hello};
+ghost use Rattle.exchange.specs.declared.side.Said.TheVariants as says;
 ghost use Rattle.exchange.specs.declared.task.Awaited.TheVariants as awaits;
 ghost use Rattle.exchange.specs.declared.task.Task.TheVariants as tasks;
 ghost use Rattle.exchange.specs.Tasks.{task_for};
-ghost use Rattle.exchange.specs.Course.{Performs, SetOut, Why, IsOfHolder, HasRefused, frames_of, next_after_gifts};
+ghost use Rattle.exchange.specs.Course.{Performs, SetOut, Why, IsOfHolder, HasRefused, next_after_gifts};
 ghost use Rattle.exchange.specs.Course.{news, settled, start_of};
 ghost use Rattle.exchange.specs.Course.{agreed_with as agreed_in};
 ghost use Rattle.exchange.specs.Parts.{do_fit, is_seen_whole as is_seen_whole_in};
@@ -19,7 +20,7 @@ use crate::round::Round;
 use crate::task::{Awaited, Task, task_of};
 use crate::version::Version;
 use exchange_frames::{Digests, Frame, MOST_DIGESTS};
-use octets::{ListOf, Octets};
+use octets::Octets;
 use operation::{Digest, Op, Taken};
 use std::alloc::Global;
 
@@ -31,8 +32,8 @@ pub(crate) const OWN_VERSION: u16 = 2;
 pub(crate) enum Said {
     Nothing,
     One(Frame),
-    /// A GIVE of each operation, and END.
-    Gifts(ListOf<Op>),
+    /// A GIVE of the operation under each digest, and END.
+    Gifts(Digests),
 }
 
 /// A side, and where it is in its exchange.
@@ -254,7 +255,7 @@ impl Side {
 
     /// Settles a version, and says HELLO.
     fn meet(&mut self, alloc: Global, version: Version) -> Said
-        ensures said { frames_of result ≡ Hello OWN_VERSION ∷ [] }
+        ensures said { result ≡ says.One (Hello OWN_VERSION) }
         ensures next { self.new ≡ record (settled version self.old) { awaited = awaits.Buckets } }
     {
         self.round = Round::new(alloc, version);
@@ -337,10 +338,10 @@ impl Side {
         ensures refused { IsErrOf result ExchangeFault.Refused → HasRefused H.refuses_look
             H.refuses_take (tasks.Give want.now) holder.old holder.new }
     {
-        let ops = self.round.on_want(alloc, holder, want)?;
-        self.given = ops.len() as u64;
+        let held = self.round.on_want(alloc, holder, want)?;
+        self.given = held.len() as u64;
         self.awaited = after_gifts(self.role);
-        Ok(Said::Gifts(ops))
+        Ok(Said::Gifts(held))
     }
 
     /// Takes the operation of a GIVE.
@@ -359,7 +360,7 @@ impl Side {
 
     /// The exchange is over.
     fn rest(&mut self) -> Said
-        ensures said { frames_of result ≡ [] }
+        ensures said { result ≡ says.Nothing }
         ensures next { self.new ≡ record self.old { awaited = awaits.Nothing } }
     {
         self.awaited = Awaited::Nothing;

@@ -2,8 +2,8 @@
 
 ghost use Rattle.std.specs.Prelude.{◌≡◌, ◌↔◌, ◌++◌, ◌==◌, IfOk, IfErr, OnOk, Err, filter, ⊤};
 ghost use Rattle.site_state.specs.Site.{IsClash, held_at};
-ghost use Rattle.exchange.specs.Held.{offered, offered_in, spoken_of, place_of, lacked, given, if_spoken, TakesIn};
-ghost use Rattle.exchange.specs.Held.{RefusesTake};
+ghost use Rattle.exchange.specs.Held.{offered, offered_in, spoken_of, place_of, lacked, held_of, is_held, given, if_spoken};
+ghost use Rattle.exchange.specs.Held.{TakesIn, RefusesTake};
 ghost use Rattle.exchange.specs.Buckets.{bucket_list, unequal as unequal_in};
 ghost use Rattle.exchange.specs.Places.{front_at, end_at};
 
@@ -146,6 +146,49 @@ pub fn missing_of_site(alloc: Global, site: &Site, digests: &Digests) -> Result<
     Ok(frozen)
 }
 
+/// Whether a site has an operation under a digest of which a version speaks.
+fn has_spoken(version: Version, site: &Site, digest: &Digest) -> bool
+    ensures { result ≡ is_held version site.now digest.now }
+{
+    match site.op(digest) {
+        None => false,
+        Some(op) => version.speaks(op),
+    }
+}
+
+/// Those of some digests under which a site has an operation of which a version speaks, in the
+/// order given.
+pub fn held_of_site(
+    alloc: Global,
+    version: Version,
+    site: &Site,
+    digests: &Digests,
+) -> Result<Digests, AllocError>
+    ensures { IfOk result (λ held. held ≡ held_of version digests.now site.now) }
+{
+    let mut held = DigestsMut::with_capacity(alloc, digests.len())?;
+    let arrays = digests.as_arrays();
+    for bytes in arrays {
+        let digest = Digest::of(*bytes);
+        if has_spoken(version, site, &digest) {
+            held.push(&digest)?;
+        }
+    }
+    let frozen = held.freeze()?;
+    Ok(frozen)
+}
+
+/// A second owner of the operation under a digest, if a site has one. The bytes of its data set are
+/// shared.
+pub fn op_of_site(alloc: Global, site: &Site, digest: &Digest) -> Result<Option<Op>, AllocError>
+    ensures { IfOk result (λ op. op ≡ held_at site.now digest.now) }
+{
+    match site.op(digest) {
+        None => Ok(None),
+        Some(op) => Ok(Some(op.copy(alloc)?)),
+    }
+}
+
 /// A second owner of the operation of a digest, if it is held and a version speaks of it.
 fn op_of(
     alloc: Global,
@@ -201,6 +244,8 @@ impl Holder for Site {
 
     ghost refuses_take = { λ before _ op fault. RefusesTake before op fault };
 
+    ghost refuses_load = { λ _ _ _ fault. fault ≡ Memory };
+
     fn digests(&mut self, alloc: Global, version: Version) -> Result<Digests, HolderFault> {
         self.see_lawful();
         Ok(digests_of_site(alloc, version, self)?)
@@ -226,14 +271,19 @@ impl Holder for Site {
         Ok(missing_of_site(alloc, self, digests)?)
     }
 
-    fn ops(
+    fn held(
         &mut self,
         alloc: Global,
         version: Version,
         digests: &Digests,
-    ) -> Result<ListOf<Op>, HolderFault> {
+    ) -> Result<Digests, HolderFault> {
         self.see_lawful();
-        Ok(ops_of_site(alloc, version, self, digests)?)
+        Ok(held_of_site(alloc, version, self, digests)?)
+    }
+
+    fn load(&mut self, alloc: Global, digest: &Digest) -> Result<Option<Op>, HolderFault> {
+        self.see_lawful();
+        Ok(op_of_site(alloc, self, digest)?)
     }
 
     fn take(&mut self, op: Digested) -> Result<Taken, HolderFault>

@@ -1,12 +1,13 @@
 //! What an exchange asks of a site, in one look each.
 
 ghost use Rattle.std.specs.Prelude.{◌≡◌, IfOk};
-ghost use Rattle.exchange.specs.Held.{offered, offered_in, lacked, given};
+ghost use Rattle.site_state.specs.Site.{held_at};
+ghost use Rattle.exchange.specs.Held.{offered, offered_in, lacked, held_of};
 ghost use Rattle.exchange.specs.Buckets.{bucket_list};
 
 use exchange::{
-    Digests, Version, buckets_of_site, digests_of_site, digests_of_site_in, missing_of_site,
-    ops_of_site,
+    Digests, Version, buckets_of_site, digests_of_site, digests_of_site_in, held_of_site,
+    missing_of_site, op_of_site,
 };
 use octets::ListOf;
 use operation::{Digest, Op};
@@ -71,17 +72,31 @@ impl<'a> Question<Digests> for Missing<'a> {
     }
 }
 
-/// Asks for the operations under some digests that a version speaks of.
+/// Asks which of some digests are held, of whose operations a version speaks.
 #[derive(Clone, Copy)]
-pub(crate) struct Wanted<'a> {
+pub(crate) struct Held<'a> {
     pub version: Version,
     pub digests: &'a Digests,
 }
 
-impl<'a> Question<ListOf<Op>> for Wanted<'a> {
-    ghost answers = { λ q m ops. ops ≡ given q.version q.digests.now m };
+impl<'a> Question<Digests> for Held<'a> {
+    ghost answers = { λ q m held. held ≡ held_of q.version q.digests.now m };
 
-    fn answer(&self, alloc: Global, site: &Site) -> Result<ListOf<Op>, AllocError> {
-        ops_of_site(alloc, self.version, site, self.digests)
+    fn answer(&self, alloc: Global, site: &Site) -> Result<Digests, AllocError> {
+        held_of_site(alloc, self.version, site, self.digests)
+    }
+}
+
+/// Asks for the operation under a digest. Its bytes are shared.
+#[derive(Clone, Copy)]
+pub(crate) struct Load<'a> {
+    pub digest: &'a Digest,
+}
+
+impl<'a> Question<Option<Op>> for Load<'a> {
+    ghost answers = { λ q m op. op ≡ held_at m q.digest.now };
+
+    fn answer(&self, alloc: Global, site: &Site) -> Result<Option<Op>, AllocError> {
+        op_of_site(alloc, site, self.digest)
     }
 }

@@ -9,7 +9,7 @@ ghost use Rattle.hub_exchange.specs.Fault.{refusal_of, reply_to, RefusesLook, Re
 ghost use Rattle.hub_exchange.specs.Onward.{IsOnward};
 ghost use Rattle.hub_exchange.specs.Putting.{WasWritten};
 
-use crate::asking::{All, Buckets, In, Missing, Wanted};
+use crate::asking::{All, Buckets, Held, In, Load, Missing};
 use crate::putting::{Put, Shelved, refusal_of_shelf};
 use crate::{Extract, LedgerName};
 use association_worker::AtEntry;
@@ -187,6 +187,8 @@ impl<
     // The shelf refused to put it, or the hub to take it: then the pass has seen nothing more.
     ghost refuses_take = { RefusesAtHub P.refuses H.opening };
 
+    ghost refuses_load = { λ before after _ fault. RefusesLook before after fault };
+
     fn digests(&mut self, _alloc: Global, version: Version) -> Result<Digests, HolderFault> {
         look(&mut self.pass, &All { version })
     }
@@ -208,13 +210,17 @@ impl<
         look(&mut self.pass, &Missing { digests })
     }
 
-    fn ops(
+    fn held(
         &mut self,
         _alloc: Global,
         version: Version,
         digests: &Digests,
-    ) -> Result<ListOf<Op>, HolderFault> {
-        look(&mut self.pass, &Wanted { version, digests })
+    ) -> Result<Digests, HolderFault> {
+        look(&mut self.pass, &Held { version, digests })
+    }
+
+    fn load(&mut self, _alloc: Global, digest: &Digest) -> Result<Option<Op>, HolderFault> {
+        look(&mut self.pass, &Load { digest })
     }
 
     fn take(&mut self, op: Digested) -> Result<Taken, HolderFault>

@@ -92,6 +92,8 @@ impl<K: Keep + Drop, E: AtOpening> Holder for ShelvedHolder<K, E> {
     // The shelf refused to put it, or the site to take it.
     ghost refuses_take = { RefusesOnShelf K.refuses };
 
+    ghost refuses_load = { λ _ _ _ fault. fault ≡ Memory };
+
     fn digests(&mut self, alloc: Global, version: Version) -> Result<Digests, HolderFault> {
         Holder::digests(&mut self.site, alloc, version)
     }
@@ -113,13 +115,17 @@ impl<K: Keep + Drop, E: AtOpening> Holder for ShelvedHolder<K, E> {
         Holder::missing(&mut self.site, alloc, digests)
     }
 
-    fn ops(
+    fn held(
         &mut self,
         alloc: Global,
         version: Version,
         digests: &Digests,
-    ) -> Result<ListOf<Op>, HolderFault> {
-        Holder::ops(&mut self.site, alloc, version, digests)
+    ) -> Result<Digests, HolderFault> {
+        Holder::held(&mut self.site, alloc, version, digests)
+    }
+
+    fn load(&mut self, alloc: Global, digest: &Digest) -> Result<Option<Op>, HolderFault> {
+        Holder::load(&mut self.site, alloc, digest)
     }
 
     fn take(&mut self, op: Digested) -> Result<Taken, HolderFault> {

@@ -1,36 +1,28 @@
 use Rattle.std.proofs.Common.{inl, refl}
 use Rattle.std.proofs.KnownBytes.{Appends-nil, Consumes-nil}
-use Rattle.exchange.proofs.Runs.{begun, unbegun, ok_begun, err_begun, unsaid_refused}
+use Rattle.exchange.proofs.Runs.{set_out_ok, set_out_err}
 use Rattle.std.proofs.lemmas.Result.{err_from_is_err_and}
 use Rattle.exchange.specs.declared.task.Task.TheVariants as tasks
-use Rattle.exchange.specs.Course.{frames_of}
 use Rattle.exchange.proofs.run.set_out.Goals as goal
 
 -- The first words were said.
 pub returns-clause-ok : goal.returns-clause-ok
-returns-clause-ok g c = ok_begun c.say.result _ _ _ _ c.say.ensures.ok c.say.ensures.failed
-    (λ wrote fine left failed. begun g.H.Holder.holds g.H.Holder.alone c.args.side.now.role _ _ left _ _ failed _ _ _ _
-    c.in_ok-said.ensures.did wrote fine)
+returns-clause-ok g c = set_out_ok g.H.Holder.holds g.H.Holder.alone c.args.side.now.role _ _ _ c.in_ok-said.said
+    _ _ _ _ _ c.in_ok-said.ensures.did c.say.ensures.loads c.say.result c.say.ensures.speaks c.say.ensures.failed
 
 -- A front of them was.
 pub returns-clause-err : goal.returns-clause-err
-returns-clause-err g c = err_begun c.say.result _ _ _ _ _ c.say.ensures.err c.say.ensures.why c.say.ensures.failed
-    (λ e wrote why fails left failed. unbegun g.H.Holder.holds g.H.Holder.alone c.args.side.now.role _ _ left _ _ failed
-    _ _ _ _ c.in_ok-said.ensures.did e wrote why fails)
-
--- What could not be written no holder refused.
-pub returns-clause-refused : goal.returns-clause-refused
-returns-clause-refused g c = λ is. absurd (unsaid_refused (frames_of c.in_ok-said.said) c.say.result c.say.ensures.why is)
+returns-clause-err g c = set_out_err g.H.Holder.holds g.H.Holder.alone c.args.side.now.role _ _ _ c.in_ok-said.said
+    _ _ _ _ _ c.in_ok-said.ensures.did c.say.ensures.loads c.say.result c.say.ensures.speaks c.say.ensures.failed
 
 -- The holder refused to tell its buckets.
 pub returns-in_err-said-clause-refused : goal.returns-in_err-said-clause-refused
 returns-in_err-said-clause-refused g c =
     let e = err_from_is_err_and c.from_residual.result c.from_residual.ensures.1 in
     rw (e.1, e.2) (λ is. record {
-      task = tasks.Show;
       before = c.args.holder.now;
       idle = c.in_err-said.ensures.did;
-      refused = c.in_err-said.ensures.refused cc;
+      refused = inl (tasks.Show, c.in_err-said.ensures.refused cc);
     })
 
 -- Nothing was said then.

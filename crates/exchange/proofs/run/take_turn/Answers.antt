@@ -1,6 +1,6 @@
+use Rattle.std.proofs.Common.{inl}
 use Rattle.std.proofs.lemmas.Result.{err_from_is_err_and}
-use Rattle.exchange.proofs.Runs.{unheard_breaks, refused_breaks, said_turned, unheard_refused, unsaid_refused}
-use Rattle.exchange.specs.Course.{frames_of}
+use Rattle.exchange.proofs.Runs.{unheard_breaks, refused_breaks, said_turned, unheard_refused}
 use Rattle.exchange.specs.Tasks.{task_for}
 use Rattle.exchange.proofs.run.take_turn.Goals as goal
 
@@ -23,10 +23,12 @@ returns-in_err-said g c =
           c.args.side.now _ n so _ c.in_ok-frame.frame c.in_ok-frame.ensures.ok _ c.in_ok-frame.ensures.failed _ _
           c.in_err-said.ensures.did c.in_err-said.ensures.why);
       refused = rw (e.1, e.2) (λ is. record {
-        task = task_for c.args.side.now.awaited c.in_ok-frame.frame c.args.side.now.role;
         before = c.args.holder.now;
         idle = c.in_err-said.ensures.did;
-        refused = c.in_err-said.ensures.refused cc;
+        refused = inl (
+          task_for c.args.side.now.awaited c.in_ok-frame.frame c.args.side.now.role,
+          c.in_err-said.ensures.refused cc,
+        );
       });
     }
 
@@ -34,7 +36,7 @@ returns-in_err-said g c =
 pub returns : goal.returns
 returns g c = record {
   turn = λ role from n so. said_turned g.H.Holder.holds g.H.Holder.alone role from _ _ _ _ _ _ c.args.side.now _ n so _
-      c.in_ok-frame.frame c.in_ok-frame.ensures.ok _ c.in_ok-frame.ensures.failed _ _ _ c.in_ok-said.ensures.did _ _
-      c.say.result c.say.ensures.ok c.say.ensures.err c.say.ensures.why c.say.ensures.sayable c.say.ensures.failed;
-  refused = λ is. absurd (unsaid_refused (frames_of c.in_ok-said.said) c.say.result c.say.ensures.why is);
+      c.in_ok-frame.frame c.in_ok-frame.ensures.ok _ c.in_ok-frame.ensures.failed _ _ _ c.in_ok-said.said _ _
+      c.say.result c.in_ok-said.ensures.did c.say.ensures.loads c.say.ensures.speaks c.say.ensures.failed;
+  refused = c.say.ensures.refused;
 }

@@ -1,0 +1,15 @@
+use Rattle.hub_exchange.proofs.Gains.{looked}
+use Rattle.hub_exchange.proofs.shelf_holder.ShelvedHolderHolder.load.Goals as goal
+
+-- A look gains nothing.
+pub invariant_of-self : goal.invariant_of-self
+invariant_of-self g c = looked g.K.Keep.is_up g.K.Keep.lasts _ _ _ _ _ (c.load.ensures.stays tt).1 c.self.invariant
+
+-- What the site answers the holder answers.
+pub returns : goal.returns
+returns g c = let look = c.load.ensures in record {
+  had = look.had;
+  was_had = rw (← c.self.view_is) look.was_had;
+  answers = look.answers;
+  stays = λ _. (tt, rw (← c.self.view_is) ((look.stays tt).1));
+}
