@@ -2,6 +2,7 @@ pub mod Answers
 pub mod Desks
 pub mod Faults
 pub mod Forms
+pub mod Heard
 pub mod Making
 pub mod Objects
 pub mod Outcomes

@@ -1,9 +1,9 @@
 //! What a desk answered, read by who asked.
 
 ghost use Rattle.std.specs.Prelude.{◌≡◌, IfOk, IfErr, IfSome};
-ghost use Rattle.httparse.specs.Grammar.{ResponseHead, ReadsResponse};
 ghost use Rattle.site_desk.specs.Answers.{stamp_line, refusal_line};
-ghost use Rattle.site_desk.specs.Outcomes.{TellsRefusal};
+ghost use Rattle.site_desk.specs.Heard.{HasBody};
+ghost use Rattle.site_desk.specs.Outcomes.{all_faults, fault_by, TellsRefusal};
 
 use crate::answer::{Made, line_of, line_of_fault};
 use crate::ask_fault::AskFault;
@@ -12,7 +12,9 @@ use crate::heard::body_of;
 use std::alloc::{AllocError, Global};
 
 /// All that a desk refuses for.
-fn faults() -> &'static [DeskFault] {
+fn faults() -> &'static [DeskFault]
+    ensures { result.now ≡ all_faults }
+{
     &[
         DeskFault::NoPath,
         DeskFault::NoPost,
@@ -60,9 +62,11 @@ fn made_by(alloc: Global, line: &[u8]) -> Result<Option<Made>, AllocError>
 
 /// The reason of which this is the line, if it is that of one.
 fn fault_by(alloc: Global, line: &[u8]) -> Result<Option<DeskFault>, AllocError>
-    ensures { IfOk result (λ found. IfSome found (λ fault. line.now ≡ refusal_line fault)) }
+    ensures found { IfOk result (λ found. IfSome found (λ fault. line.now ≡ refusal_line fault)) }
+    ensures first { IfOk result (λ found. found ≡ fault_by line.now all_faults) }
 {
-    for fault in faults() {
+    let all = faults();
+    for fault in all {
         let told = line_of_fault(alloc, *fault)?;
         if told.as_slice() == line {
             return Ok(Some(*fault));
@@ -73,11 +77,10 @@ fn fault_by(alloc: Global, line: &[u8]) -> Result<Option<DeskFault>, AllocError>
 
 /// The stamp that a desk answered, or its reason, where its answer is there in whole.
 pub fn outcome_of(alloc: Global, text: &[u8]) -> Result<Made, AskFault>
-    ensures made { IfOk result (λ made. (head : ResponseHead)
-        × ReadsResponse text.now head (stamp_line made)) }
+    ensures made { IfOk result (λ made. HasBody text.now (stamp_line made)) }
     ensures refused { IfErr result (TellsRefusal text.now) }
 {
-    let Ok(line) = body_of(text) else {
+    let Some(line) = body_of(text) else {
         return Err(AskFault::NoAnswer);
     };
     if let Some(made) = made_by(alloc, line)? {

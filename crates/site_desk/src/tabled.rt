@@ -1,11 +1,13 @@
 //! A table that a page of a running site tells in JSON.
 
-ghost use Rattle.std.specs.Prelude.{◌≡◌, IfOk, IfSome, Some, map};
+ghost use Rattle.std.specs.Prelude.{◌≡◌, [], IfOk, IfErr, MatchOption, None, map, ℕ, List, IsUtf8};
+ghost use Rattle.std.specs.Prelude.{option_map};
 ghost use Rattle.std.specs.Option.{option_copied};
-ghost use Rattle.json.specs.Json.{array};
 ghost use Rattle.json.specs.Value.{value_view, items_view};
-ghost use Rattle.json.specs.Find.{get};
-ghost use Rattle.site_desk.specs.Tabled.{cell_at, cells_at, Tells, IsToldBy};
+ghost use Rattle.json.specs.Find.{as_str};
+ghost use Rattle.site_desk.specs.Tabled.{is_text, place_from, gathered, list_in, cell_at, cells_at};
+ghost use Rattle.site_desk.specs.Tabled.{places_below, rows_at, CountsPages, Tells, IsToldBy};
+ghost use Rattle.site_desk.specs.Tabled.{TellsNone, IsNumberOf, cell_behind, told_of};
 
 use crate::ask_fault::AskFault;
 use crate::heard::body_of;
@@ -20,23 +22,26 @@ pub struct Told {
     pub pages: u64,
 }
 
-/// The text of a cell, if it is one.
-fn cell<'a>(row: &Value<'a>, place: usize) -> Option<&'a [u8]>
-    ensures { option_copied result ≡ cell_at (value_view row.now) place }
+/// Whether a value is this text.
+fn is_text(value: &Value<'_>, name: &str) -> bool
+    ensures { result ≡ is_text name.now (as_str (value_view value.now)) }
 {
-    let cell = row.at(place)?;
-    let text = cell.as_str()?;
-    Some(text.as_bytes())
+    match value.as_str() {
+        None => false,
+        Some(text) => text.as_bytes() == name.as_bytes(),
+    }
 }
 
-/// Where a column of a name stands.
-fn place_of(columns: &Value<'_>, name: &str) -> Option<usize>
-    ensures { IfSome result (λ place. cell_at (value_view columns.now) place ≡ Some name.now) }
+/// Where the first column of a name stands.
+fn place_of(columns: &[Value<'_>], name: &str) -> Option<usize>
+    ensures { result ≡ place_from name.now 0 (map value_view columns.now) }
 {
-    for place in 0..64 {
-        if cell(columns, place) == Some(name.as_bytes()) {
+    let mut place = 0;
+    for column in columns {
+        if is_text(column, name) {
             return Some(place);
         }
+        place += 1;
     }
     None
 }
@@ -44,12 +49,11 @@ fn place_of(columns: &Value<'_>, name: &str) -> Option<usize>
 /// Where the columns of a heading stand.
 fn places_of(
     alloc: Global,
-    columns: &Value<'_>,
+    columns: &[Value<'_>],
     heading: &[&str],
 ) -> Result<Option<Vec<usize>>, AllocError>
-    ensures { IfOk result (λ found. IfSome found (λ places.
-        map (cell_at (value_view columns.now)) places.items
-        ≡ map (λ name. Some name.now) heading.now)) }
+    ensures { IfOk result (λ found. option_map (λ places. places.items) found ≡ gathered []
+        (map (λ name. place_from name.now 0 (map value_view columns.now)) heading.now)) }
 {
     let mut places = Vec::new(alloc);
     for name in heading {
@@ -61,14 +65,22 @@ fn places_of(
     Ok(Some(places))
 }
 
+/// The text of a cell, if it is one.
+fn cell<'a>(row: &Value<'a>, place: usize) -> Option<&'a [u8]>
+    ensures { option_copied result ≡ cell_at (value_view row.now) place }
+{
+    let cell = row.at(place)?;
+    let text = cell.as_str()?;
+    Some(text.as_bytes())
+}
+
 /// The cells of a row at these places, if each is a text.
 fn row_in(
     alloc: Global,
     places: &[usize],
     row: &Value<'_>,
 ) -> Result<Option<ListOf<Octets>>, AllocError>
-    ensures { IfOk result (λ found. IfSome found (λ cells.
-        map (λ text. Some text) cells ≡ cells_at places.now (value_view row.now))) }
+    ensures { IfOk result (λ found. found ≡ cells_at places.now (value_view row.now)) }
 {
     let mut cells = ListOf::new(alloc);
     for place in places {
@@ -86,8 +98,8 @@ fn rows_in(
     places: &[usize],
     list: &[Value<'_>],
 ) -> Result<Option<Vec<ListOf<Octets>>>, AllocError>
-    ensures { IfOk result (λ found. IfSome found (λ rows. map (map (λ text. Some text)) rows.items
-        ≡ map (λ row. cells_at places.now (value_view row)) list.now)) }
+    ensures { IfOk result (λ found. option_map (λ rows. rows.items) found
+        ≡ gathered [] (map (λ row. cells_at places.now (value_view row)) list.now)) }
 {
     let mut rows = Vec::with_capacity(alloc, list.len())?;
     for value in list {
@@ -101,8 +113,8 @@ fn rows_in(
 
 /// The member of a name, if it is a list.
 fn list<'v, 'a>(value: &'v Value<'a>, name: &str) -> Option<&'v [Value<'a>]>
-    ensures { IfSome result (λ list. get name.now (value_view value.now)
-        ≡ Some (array (items_view list.now))) }
+    ensures { option_map (λ list. items_view list.now) result
+        ≡ list_in name.now (value_view value.now) }
 {
     match value.get(name)? {
         Value::Array(list) => Some(list.as_slice()),
@@ -110,69 +122,121 @@ fn list<'v, 'a>(value: &'v Value<'a>, name: &str) -> Option<&'v [Value<'a>]>
     }
 }
 
-/// The rows of a table, each with the cells below the names of a heading.
-fn rows_below(
+/// Where the columns of a heading stand in a table.
+fn places_below(
     alloc: Global,
     heading: &[&str],
     value: &Value<'_>,
-) -> Result<Option<Vec<ListOf<Octets>>>, AllocError>
-    ensures { IfOk result (λ found. IfSome found (λ rows.
-        Tells (map (λ name. name.now) heading.now) (value_view value.now) rows.items)) }
+) -> Result<Option<Vec<usize>>, AllocError>
+    ensures { IfOk result (λ found. option_map (λ places. places.items) found
+        ≡ places_below (map (λ name. name.now) heading.now) (value_view value.now)) }
 {
-    let Some(columns) = value.get("columns") else {
+    let Some(columns) = list(value, "columns") else {
         return Ok(None);
     };
+    places_of(alloc, columns, heading)
+}
+
+/// The rows of a table, each with the cells at these places.
+fn rows_at(
+    alloc: Global,
+    places: &[usize],
+    value: &Value<'_>,
+) -> Result<Option<Vec<ListOf<Octets>>>, AllocError>
+    ensures { IfOk result (λ found. option_map (λ rows. rows.items) found
+        ≡ rows_at places.now (value_view value.now)) }
+{
     let Some(list) = list(value, "rows") else {
         return Ok(None);
     };
-    let Some(places) = places_of(alloc, columns, heading)? else {
-        return Ok(None);
-    };
-    let Some(rows) = rows_in(alloc, places.as_slice(), list)? else {
-        return Ok(None);
-    };
-    Ok(Some(rows))
+    rows_in(alloc, places, list)
 }
 
-/// How many pages there are: one where none is said.
-fn pages_in(value: &Value<'_>) -> u64 {
+/// How many pages there are: one where none is said, and `None` where what is said is no number.
+fn pages_in(value: &Value<'_>) -> Option<u64>
+    ensures { CountsPages (value_view value.now) result }
+{
     match value.get("pages") {
-        None => 1,
-        Some(pages) => pages.as_u64().unwrap_or(1),
+        None => Some(1),
+        Some(pages) => pages.as_u64(),
     }
 }
 
-/// The rows that an answer tells, which is there in whole, in order, each with the cells below the
-/// names of a heading.
-pub fn page_of(alloc: Global, heading: &[&str], text: &[u8]) -> Result<Told, AskFault>
-    ensures { IfOk result (λ told.
-        IsToldBy (map (λ name. name.now) heading.now) text.now told.rows.items) }
+/// The rows below a heading, and the number of pages, that a value tells.
+fn told_by(alloc: Global, heading: &[&str], value: &Value<'_>) -> Result<Option<Told>, AllocError>
+    ensures { IfOk result (λ found. MatchOption found
+        ((rows : List (List (List ℕ))) (pages : ℕ) →
+        ¬ (Tells (map (λ name. name.now) heading.now) (value_view value.now) rows pages))
+        (λ told. Tells (map (λ name. name.now) heading.now) (value_view value.now)
+        told.rows.items told.pages)) }
 {
-    let body = body_of(text)?;
+    let Some(pages) = pages_in(value) else {
+        return Ok(None);
+    };
+    let Some(places) = places_below(alloc, heading, value)? else {
+        return Ok(None);
+    };
+    let Some(rows) = rows_at(alloc, places.as_slice(), value)? else {
+        return Ok(None);
+    };
+    Ok(Some(Told { rows, pages }))
+}
+
+/// The rows that an answer tells, which is there in whole, in order, each with the cells below the
+/// names of a heading, and how many pages it tells there are: one where it says none. An answer
+/// whose number of pages is no number is none of a site.
+pub fn page_of(alloc: Global, heading: &[&str], text: &[u8]) -> Result<Told, AskFault>
+    ensures told { IfOk result (λ told.
+        IsToldBy (map (λ name. name.now) heading.now) text.now told.rows.items told.pages) }
+    ensures none { IfErr result (TellsNone (map (λ name. name.now) heading.now) text.now) }
+{
+    let Some(body) = body_of(text) else {
+        return Err(AskFault::NoAnswer);
+    };
     let mut scratch = Scratch::new(alloc);
     let value = match Value::from_slice(alloc, body, &mut scratch) {
         Ok(value) => value,
         Err(Error::OutOfMemory) => return Err(AskFault::Memory),
-        Err(_invalid) => return Err(AskFault::NoAnswer),
+        Err(Error::Invalid) => return Err(AskFault::NoAnswer),
+        // Neither is told of a value.
+        Err(Error::TooLong | Error::DuplicateKey) => return Err(AskFault::NoAnswer),
     };
-    match rows_below(alloc, heading, &value)? {
+    match told_by(alloc, heading, &value)? {
         None => Err(AskFault::NoAnswer),
-        Some(rows) => Ok(Told {
-            rows,
-            pages: pages_in(&value),
-        }),
+        Some(told) => Ok(told),
     }
 }
 
-/// The number in the second cell of the first row that has a word in the first.
-pub fn number_in(rows: &[ListOf<Octets>], word: &[u8]) -> Option<u64> {
+/// The second of two cells, where the first is a word.
+fn cell_behind<'a>(row: &'a ListOf<Octets>, word: &[u8]) -> Option<&'a [u8]>
+    ensures { option_copied result ≡ cell_behind word.now row.now }
+{
+    match row.as_slice() {
+        [first, second] if first.as_slice() == word => Some(second.as_slice()),
+        _ => None,
+    }
+}
+
+/// The number that a text writes in decimal digits.
+fn number(text: &[u8]) -> Option<u64>
+    ensures number { IsUtf8 text.now → IsNumberOf text.now result }
+    ensures no_text { ¬ (IsUtf8 text.now) → result ≡ None }
+{
+    let text = str::from_utf8(text).ok()?;
+    text.parse::<u64>().ok()
+}
+
+/// The number in the second cell of the first row of two cells that has a word in the first, or
+/// `None` where there is no such row, or no number in it.
+pub fn number_in(rows: &[ListOf<Octets>], word: &[u8]) -> Option<u64>
+    ensures number { MatchOption (told_of word.now rows.now) (result ≡ None)
+        (λ text. IsUtf8 text → IsNumberOf text result) }
+    ensures no_text { MatchOption (told_of word.now rows.now) (result ≡ None)
+        (λ text. ¬ (IsUtf8 text) → result ≡ None) }
+{
     for row in rows {
-        let cells = row.as_slice();
-        if cells.len() == 2 && cells[0].as_slice() == word {
-            return str::from_utf8(cells[1].as_slice())
-                .ok()?
-                .parse::<u64>()
-                .ok();
+        if let Some(text) = cell_behind(row, word) {
+            return number(text);
         }
     }
     None
