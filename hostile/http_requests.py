@@ -7,6 +7,8 @@ with something wrong about it, its last word is wrong as soon as it is cut, and 
 import json
 from urllib.parse import urlencode
 
+from spoiling import flipped_in, front_of
+
 PATHS = ["/", "/studies", "/studies.json", "/rejected", "/conflicts.json", "/corrections", "/site.json", "/style.css",
          "/health", "/correct", "/nothing", "/studies?page=2", "/studies?PatientName=DOE*&StudyDate=20240101-"]
 
@@ -22,15 +24,11 @@ def p_lawful(dice):
 
 def p_flipped(dice):
     method = dice.choice(["GET", "HEAD", "POST"])
-    raw = bytearray(asked(dice, method, "Content-Length: 4\r\nAccept: text/html\r\n", "a=bc"))
-    for _ in range(dice.randint(1, 8)):
-        raw[dice.randrange(len(raw))] = dice.randrange(256)
-    return bytes(raw)
+    return flipped_in(dice, asked(dice, method, "Content-Length: 4\r\nAccept: text/html\r\n", "a=bc"))
 
 
 def p_cut(dice):
-    raw = p_lawful(dice)
-    return raw[:dice.randrange(len(raw))]
+    return front_of(dice, p_lawful(dice))
 
 
 def p_long(dice):
@@ -96,17 +94,13 @@ def wrong(dice):
 
 def d_cut(dice):
     """A correction that ends before its end."""
-    raw = dice.choice([posted(), posted(json.dumps(WORDS), OBJECT)])
-    return raw[:dice.randrange(len(raw))]
+    return front_of(dice, dice.choice([posted(), posted(json.dumps(WORDS), OBJECT)]))
 
 
 def d_flipped(dice):
     """A correction whose value is much too long, so that a few octets don't mend it."""
     words = {"value": "A" * 200, **{n: v for n, v in WORDS.items() if n != "value"}}
-    raw = bytearray(dice.choice([posted(urlencode(words)), posted(json.dumps(words), OBJECT)]))
-    for _ in range(dice.randint(1, 8)):
-        raw[dice.randrange(len(raw))] = dice.randrange(256)
-    return bytes(raw)
+    return flipped_in(dice, dice.choice([posted(urlencode(words)), posted(json.dumps(words), OBJECT)]))
 
 
 def d_values(dice):

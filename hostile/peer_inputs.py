@@ -9,6 +9,7 @@ import sys
 sys.path.insert(0, os.path.join(os.path.dirname(os.path.abspath(__file__)), "..", "clients"))
 from dicom import (  # noqa: E402
     CT_IMAGE, IMPLICIT, STUDY_ROOT_FIND, STUDY_ROOT_GET, VERIFICATION, Association, command, element, image, short, uid)
+from spoiling import flipped_in, front_of  # noqa: E402
 
 CONTEXTS = [(VERIFICATION, [IMPLICIT]), (CT_IMAGE, [IMPLICIT]), (STUDY_ROOT_FIND, [IMPLICIT]),
             (STUDY_ROOT_GET, [IMPLICIT])]
@@ -47,15 +48,11 @@ def lawful(dice):
 
 
 def flipped(dice):
-    raw = bytearray(lawful(dice))
-    for _ in range(dice.randint(1, 8)):
-        raw[dice.randrange(len(raw))] = dice.randrange(256)
-    return bytes(raw)
+    return flipped_in(dice, lawful(dice))
 
 
 def cut(dice):
-    raw = lawful(dice)
-    return raw[:dice.randrange(len(raw))]
+    return front_of(dice, lawful(dice))
 
 
 def lengths(dice):
@@ -168,8 +165,7 @@ def x_flipped(dice):
 
 
 def x_cut(dice):
-    raw = round_of(dice)
-    return raw[:dice.randrange(len(raw))]
+    return front_of(dice, round_of(dice))
 
 
 def x_lengths(dice):
