@@ -26,6 +26,13 @@ words_of_site site.Busy = codes "another worker has the site"
 words_of_site site.Collision = codes "another operation has its digest"
 words_of_site site.Shelf = codes "it could not be kept"
 
+-- what a load is refused for
+abbrev pub words_of_load : PortFault → List ℕ
+words_of_load site.Shelf = codes "it could not be brought"
+words_of_load site.Memory = words_of_site site.Memory
+words_of_load site.Busy = words_of_site site.Busy
+words_of_load site.Collision = words_of_site site.Collision
+
 -- what the archive refuses for: of a shelf, what the shelf had
 abbrev pub words_of : Why → List ℕ
 words_of (Site fault) = words_of_site fault

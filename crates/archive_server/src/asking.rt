@@ -72,7 +72,8 @@ impl<'a, N: LedgerName, S: Wait> Copy for Asking<'a, N, S> {}
 impl<'a, N: LedgerName, S: Wait> Put<N> for Asking<'a, N, S> {
     ghost use Rattle.archive_server.specs.Asking.{RefusesOverChannel};
 
-    ghost refuses = { λ before after op fault. RefusesOverChannel before.line.tried after.line.tried op fault };
+    ghost refuses = { λ before after op fault.
+        RefusesOverChannel before.line.tried after.line.tried op fault };
 
     fn put(&mut self, op: &Digested) -> Result<Shelved<N>, ShelfFault> {
         let kept = put_over(&mut self.line, op);

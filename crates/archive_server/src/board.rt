@@ -116,9 +116,9 @@ impl Board {
         self.noted(rt, address, not_reached(self.second(rt)));
     }
 
-    /// What the server knows of itself now, which takes so much of its machine and of which the shelf
-    /// refuses for this reason, if it does.
-    /// Where memory is refused nothing stands on the page of its site.
+    /// What the server knows of itself now, which takes so much of its machine and of which the
+    /// shelf refuses for this reason, if it does. Where memory is refused nothing stands on the
+    /// page of its site.
     pub fn known<S: Wait + Clock>(
         &self,
         rt: &S,

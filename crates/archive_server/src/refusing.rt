@@ -3,7 +3,7 @@
 
 ghost use Rattle.std.specs.Prelude.{◌≡◌};
 ghost use Rattle.archive_server.specs.Fault.{port_fault_of};
-ghost use Rattle.archive_server.specs.Refusing.{status_of, words_of_site, words_of};
+ghost use Rattle.archive_server.specs.Refusing.{status_of, words_of_site, words_of_load, words_of};
 
 use crate::asking::Asking;
 use crate::cause::words_of_shelf;
@@ -82,6 +82,30 @@ pub(crate) fn told<S: Clock + Log, T>(
 {
     if let Err(fault) = &reply {
         tell_request(rt, request, *fault, Why::Site(*fault));
+    }
+    reply
+}
+
+/// What a load is refused for.
+fn words_of_load(fault: PortFault) -> &'static str
+    ensures { result.now ≡ words_of_load fault }
+{
+    match fault {
+        PortFault::Shelf => "it could not be brought",
+        PortFault::Memory | PortFault::Busy | PortFault::Collision => words_of_site(fault),
+    }
+}
+
+/// Tells that a data set was not loaded, whose sub-operation fails then, and hands the reply on.
+pub(crate) fn told_load<S: Clock + Log, T>(
+    rt: &S,
+    reply: Result<T, PortFault>,
+) -> Result<T, PortFault>
+    ensures { result ≡ reply }
+{
+    if let Err(fault) = &reply {
+        let (moment, words) = (Moment::now(rt), words_of_load(*fault));
+        error!(rt; target: "archive", "{moment} load refused: {words}");
     }
     reply
 }

@@ -3,4 +3,5 @@ use Rattle.archive_server.proofs.port.ServerPortPort.get.Goals as goal
 
 -- A look makes nothing the pass's own.
 pub invariant_of-self : goal.invariant_of-self
-invariant_of-self g c = onward_looked _ _ _ _ c.self.invariant c.prepared-prepared.ensures.later c.prepared-prepared.ensures.gets.own_kept
+invariant_of-self g c = onward_looked _ _ _ _ c.self.invariant c.listed-listed.ensures.later
+    c.listed-listed.ensures.gets.own_kept

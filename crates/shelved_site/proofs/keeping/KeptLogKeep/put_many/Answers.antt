@@ -60,6 +60,7 @@ pub returns-in-Ok-clause-up : goal.returns-in-Ok-clause-up
 returns-in-Ok-clause-up g c up =
     was_up g.H.Disk g.B.Disk c.args.self.now.log c.put_many.new.self c.put_many.ensures.goes_on up
 
+-- What is up behind a refusal was up.
 pub returns-in-Err-clause-up : goal.returns-in-Err-clause-up
 returns-in-Err-clause-up g c up =
     was_up g.H.Disk g.B.Disk c.args.self.now.log c.put_many.new.self c.put_many.ensures.goes_on up
