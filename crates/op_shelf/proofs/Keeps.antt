@@ -1,8 +1,8 @@
 -- What a put makes of the operations that a shelf keeps.
-use Rattle.std.proofs.Common.{◌≡◌, ◌⊎◌, ◌↔◌, ◌<◌, inl, inr, zero, suc, List, [], ◌∷◌, Bool, true, false, cond}
-use Rattle.std.proofs.Common.{All, IfOk, IsTrue, IsPermutation, filter, length, Contains, Ok, Err, Result, OnOk}
+use Rattle.std.proofs.Common.{◌≡◌, ◌⊎◌, ◌↔◌, inl, inr, zero, suc, List, [], ◌∷◌}
+use Rattle.std.proofs.Common.{All, IfOk, IsTrue, IsPermutation, Contains, Ok, Err, Result, OnOk}
 use Rattle.std.proofs.Common.{OnErr, refl, sym}
-use Rattle.std.proofs.Common.{ap, subst, ◌∙◌, arith}
+use Rattle.std.proofs.Common.{ap, subst, arith}
 use Rattle.std.specs.Ordering.{is_eq}
 use Rattle.std.proofs.lemmas.List.Sorted.{IsPermutation-sym, Contains-permutation}
 use Rattle.sqlite.specs.Order.{Row, column, value_cmp}
@@ -22,35 +22,22 @@ use Rattle.op_shelf.specs.Keep.{AreSame, Gains, GainsAll, Finds, with_one}
 use Rattle.op_shelf.specs.Group.{PutsAll, IsPutAll, MayHaveAll}
 use Rattle.op_shelf.specs.States.{rows_of, rows_left, tree_in, among, under, IsPut, IsKnown, KeepsAll, IsUp, Lasts}
 use Rattle.op_shelf.proofs.Groups.{holds_on, all_held}
-use Rattle.op_shelf.proofs.Ops.{same_entry}
-
--- what passes a test is among what it lets through
-lets_through : {X : Type 0} (p : X → Bool) (xs : List X) (x : X) → p x ≡ true → Contains xs x → 0 < length (filter p xs)
-lets_through p [] x passes found = absurd (omega (arith, found.1))
-lets_through p (y ∷ ys) x passes (zero, low, at) = step (p y) (ap p at ∙ passes)
-  where
-    step : (b : Bool) → b ≡ true → 0 < length (cond b (y ∷ filter p ys) (filter p ys))
-    step true e = omega arith
-    step false e = absurd cc
-lets_through p (y ∷ ys) x passes (suc k, low, at) = step (p y) (lets_through p ys x passes (k, omega (arith, low), at))
-  where
-    step : (b : Bool) → 0 < length (filter p ys) → 0 < length (cond b (y ∷ filter p ys) (filter p ys))
-    step true e = omega arith
-    step false e = e
+use Rattle.op_shelf.proofs.Ops.{same_entry, still_there}
 
 -- an entry that is there is among those under its digest
 absent : (all : List Row) (op : Op) → among (digest_text op) all ≡ [] → ¬ Contains all (entry_of op)
 absent all op none held =
     let test = λ (e : Row). is_eq (value_cmp (column e 0) (Text (digest_text op))) in
-    let some = lets_through test all (entry_of op) (ap is_eq (tied_itself value_cmp_total (Text (digest_text op)))) held
+    let there = still_there test all (entry_of op) (ap is_eq (tied_itself value_cmp_total (Text (digest_text op)))) held
     in
-    absurd (omega (arith, some, ap length none))
+    let nowhere : Contains [] (entry_of op) = subst (λ (es : List Row). Contains es (entry_of op)) none there in
+    absurd (omega (arith, nowhere.1))
 
 is_under : (rows : List Row) (op : Op) → under (digest_text op) rows ≡ [] → ¬ Holds rows op
 is_under rows op none held = absent (entries rows) op none held
 
 -- operations of one entry are spelled alike
-alike : (a b : Op) → entry_of a ≡ entry_of b → spelling a ≡ spelling b
+pub alike : (a b : Op) → entry_of a ≡ entry_of b → spelling a ≡ spelling b
 alike a b same = let both : Blob (spelling a) ≡ Blob (spelling b) = ap (λ e. column e 2) same in cc
 
 first_or_later : {X : Type 0} (x : X) (xs : List X) (y : X) → Contains (x ∷ xs) y → (x ≡ y) ⊎ Contains xs y

@@ -4,6 +4,7 @@ mod Damages
 mod Digits
 mod Groups
 mod Keeps
+mod Loads
 mod Made
 mod Migrated
 mod Olders

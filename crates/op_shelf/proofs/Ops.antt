@@ -62,6 +62,21 @@ kept_was p (y ∷ ys) x h = step (p y) h (kept_was p ys x)
     step true (suc k, low, at) rest = later (rest (k, omega (arith, low), at))
     step false found rest = later (rest found)
 
+-- what was there, and passes a test, is still there
+pub still_there : {X : Type 0} (p : X → Bool) (xs : List X) (x : X) → p x ≡ true → Contains xs x → Contains (filter p xs) x
+still_there p [] x passes found = found
+still_there {X = X} p (y ∷ ys) x passes (zero, low, at) = step (p y) (subst (λ (z : X). p z ≡ true) (sym at) passes)
+  where
+    step : (b : Bool) → b ≡ true → Contains (cond b (y ∷ filter p ys) (filter p ys)) x
+    step true e = (0, omega arith, at)
+    step false e = absurd cc
+still_there p (y ∷ ys) x passes (suc k, low, at) =
+    step (p y) (still_there p ys x passes (k, omega (arith, low), at))
+  where
+    step : (b : Bool) → Contains (filter p ys) x → Contains (cond b (y ∷ filter p ys) (filter p ys)) x
+    step true found = (suc found.0, omega (arith, found.1), found.2)
+    step false found = found
+
 -- one more of those so far
 pub all_upto : {X : Type 0} (P : X → Type 0) (xs : List X) (i : ℕ) (x : X) → i < length xs → x ≡ get_or xs i x → P x
     → All P (take i xs) → All P (take (i + 1) xs)

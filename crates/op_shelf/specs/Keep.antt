@@ -1,6 +1,7 @@
--- What a put makes of the operations that are kept.
-use Rattle.std.specs.Prelude.{◌≡◌, ◌⊎◌, ◌↔◌, ◌∷◌, [], List}
+-- What a put makes of the operations that are kept, and what a load finds of them.
+use Rattle.std.specs.Prelude.{◌≡◌, ◌⊎◌, ◌↔◌, ◌∷◌, [], List, Option, None, Some}
 use Rattle.operation.specs.declared.op.Op.{Op}
+use Rattle.operation.specs.Reading.{IsOp}
 use Rattle.operation.specs.Spelling.{spelling}
 use Rattle.op_shelf.specs.declared.kept.Kept.{Kept}
 use Rattle.op_shelf.specs.declared.kept.Kept.TheVariants.{New, Known}
@@ -30,3 +31,8 @@ GainsAll old new [] (kept ∷ kepts) = ⊥
 GainsAll old new (op ∷ ops) [] = ⊥
 GainsAll old new (op ∷ ops) (New ∷ kepts) = (¬ old op) × GainsAll (with_one old op) new ops kepts
 GainsAll old new (op ∷ ops) (Known ∷ kepts) = old op × GainsAll old new ops kepts
+
+-- what was found is spelled as an operation, and is the very one, if that is lawful
+abbrev pub IsFoundAs : Option Op → Op → Type 0
+IsFoundAs None op = ⊥
+IsFoundAs (Some found) op = (spelling found ≡ spelling op) × (IsOp op → found ≡ op)

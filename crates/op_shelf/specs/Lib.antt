@@ -3,6 +3,7 @@ pub mod Entries
 pub mod Fault
 pub mod Group
 pub mod Keep
+pub mod Loading
 pub mod Migration
 pub mod Older
 pub mod Opened

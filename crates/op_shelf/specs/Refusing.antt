@@ -1,4 +1,4 @@
--- Why a shelf does not keep what it is asked to keep.
+-- Why a shelf does not keep what it is asked to keep, or load what it is asked for.
 use Rattle.std.specs.Prelude.{⊤, List, ℕ}
 use Rattle.sqlite.specs.Order.{Row}
 use Rattle.sqlite.specs.Store.{Ghosts}
@@ -7,6 +7,7 @@ use Rattle.operation.specs.declared.op.Op.{Op}
 use Rattle.op_shelf.specs.declared.fault.ShelfFault.{ShelfFault}
 use Rattle.op_shelf.specs.declared.fault.ShelfFault.TheVariants.{Store, BadRow, Memory}
 use Rattle.op_shelf.specs.Group.{FindsOther, IsNotPut}
+use Rattle.op_shelf.specs.Loading.{AreAmiss, IsNotLoaded, at_digest}
 use Rattle.op_shelf.specs.States.{IfClean, HasOther, IsNotKept, rows_of}
 
 -- Of an entry: the database refused it, for this cause, or another one is there under its digest; or memory was
@@ -22,3 +23,10 @@ abbrev pub RefusesGroup : {S : Type 0} → Ghosts S → Held S → Held S → Li
 RefusesGroup g old later ops (Store why) = IfClean g old later (λ s t. IsNotPut g why old later ops)
 RefusesGroup g old later ops BadRow = IfClean g old later (λ s t. FindsOther s ops)
 RefusesGroup g old later ops Memory = ⊤
+
+-- Of a load: the database refused it, for this cause, or what stands under the digest is not the one entry of an
+-- operation that has it; or memory was refused.
+abbrev pub RefusesLoad : {S : Type 0} → Ghosts S → Held S → Held S → List ℕ → ShelfFault → Type 0
+RefusesLoad g old later digest (Store why) = IfClean g old later (λ s t. IsNotLoaded why digest s t)
+RefusesLoad g old later digest BadRow = IfClean g old later (λ s t. AreAmiss digest (at_digest digest (rows_of s)))
+RefusesLoad g old later digest Memory = ⊤

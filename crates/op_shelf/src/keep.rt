@@ -1,18 +1,19 @@
 //! Where a server keeps operations.
 
-ghost use Rattle.std.specs.Prelude.{◌≡◌, All, List, Ok, IfOk, IfErr, OnOk, OnErr};
+ghost use Rattle.std.specs.Prelude.{◌≡◌, ℕ, All, List, Ok, IfOk, IfErr, IfSome, OnOk, OnErr};
 ghost use Rattle.operation.specs.declared.op.Op.{Op as Operation};
+ghost use Rattle.operation.specs.Spelling.{digest_of};
 ghost use Rattle.sqlite.specs.Held.{state};
 ghost use Rattle.op_shelf.specs.declared.fault.ShelfFault.{ShelfFault};
 ghost use Rattle.op_shelf.specs.Entries.{Holds, digest_text, entry_of};
-ghost use Rattle.op_shelf.specs.Keep.{AreSame, Gains, GainsAll, Finds};
-ghost use Rattle.op_shelf.specs.Refusing.{RefusesEntry, RefusesGroup};
+ghost use Rattle.op_shelf.specs.Keep.{AreSame, Gains, GainsAll, Finds, IsFoundAs};
+ghost use Rattle.op_shelf.specs.Refusing.{RefusesEntry, RefusesGroup, RefusesLoad};
 ghost use Rattle.op_shelf.specs.States.{rows_of, IsUp, Lasts};
 
 use crate::fault::ShelfFault;
 use crate::kept::Kept;
 use crate::shelf::Shelf;
-use operation::{Digested, Op};
+use operation::{Digest, Digested, Op};
 use sqlite::Alter;
 
 /// What keeps operations. A server takes any, so that a test can give it one that refuses.
@@ -31,6 +32,9 @@ pub trait Keep {
 
     // Why it may refuse a group.
     ghost refuses_group: { Self → Self → List Operation → ShelfFault → Type 0 };
+
+    // Why it may refuse to load the operation of a digest.
+    ghost refuses_load: { Self → Self → List ℕ → ShelfFault → Type 0 };
 
     /// Keeps an operation.
     fn put(&mut self, op: &Op) -> Result<Kept, ShelfFault>
@@ -81,6 +85,21 @@ pub trait Keep {
         ensures durable { is_up self.new → OnOk result (All (lasts self.new) ops.now) }
         ensures kept { is_up self.new → (other : Operation) → lasts self.old other
             → lasts self.new other };
+
+    /// The operation of a digest, if one is kept. It is read and tested: whatever the disk returns,
+    /// none of another digest is answered.
+    fn load(&mut self, digest: &Digest) -> Result<Option<Digested>, ShelfFault>
+        ensures told { IfOk result (λ found. IfSome found (λ op. digest_of op ≡ digest.now)) }
+        ensures held { is_up self.new → IfOk result (λ found. IfSome found (holds self.old)) }
+        ensures exact { is_up self.new → (op : Operation) → holds self.old op
+            → digest_of op ≡ digest.now → IfOk result (λ found. IsFoundAs found op) }
+        ensures why { IfErr result (refuses_load self.old self.new digest.now) }
+        ensures up { is_up self.new → is_up self.old }
+
+        // Nothing changes, and a crash leaves what it left before.
+        ensures same { is_up self.new → AreSame (holds self.old) (holds self.new) }
+        ensures kept { is_up self.new → (other : Operation) → lasts self.old other
+            → lasts self.new other };
 }
 
 impl<S: Alter> Keep for Shelf<S> {
@@ -95,6 +114,8 @@ impl<S: Alter> Keep for Shelf<S> {
 
     ghost refuses_group = { λ s t ops fault. RefusesGroup S.Store s t ops fault };
 
+    ghost refuses_load = { λ s t digest fault. RefusesLoad S.Store s t digest fault };
+
     fn put(&mut self, op: &Op) -> Result<Kept, ShelfFault> {
         Shelf::put(self, op)
     }
@@ -105,5 +126,9 @@ impl<S: Alter> Keep for Shelf<S> {
 
     fn put_many(&mut self, ops: &[Digested]) -> Result<Vec<Kept>, ShelfFault> {
         Shelf::put_many(self, ops)
+    }
+
+    fn load(&mut self, digest: &Digest) -> Result<Option<Digested>, ShelfFault> {
+        Shelf::load(self, digest)
     }
 }

@@ -10,6 +10,7 @@ mod fault;
 mod group;
 mod keep;
 mod kept;
+mod loading;
 mod migration;
 mod open;
 mod order;

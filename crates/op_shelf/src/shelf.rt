@@ -1,12 +1,16 @@
 //! Shelves.
 
-ghost use Rattle.std.specs.Prelude.{◌≡◌, ◌⊎◌, ◌∷◌, [], pos, map, All, Ok, Err, IfOk, IsErrOf, OnOk, OnErr, IsSorted};
+ghost use Rattle.std.specs.Prelude.{◌≡◌, ◌⊎◌, ◌∷◌, [], pos, map, All, None, Ok, Err, IfOk, IfSome, IsErrOf};
+ghost use Rattle.std.specs.Prelude.{OnOk, OnErr, IsSorted};
 ghost use Rattle.sqlite.specs.declared.types.Value.TheVariants.{Int};
 ghost use Rattle.sqlite.specs.Held.{Held, held_code, state};
 ghost use Rattle.sqlite.specs.State.{IsUnchanged, Survives};
 ghost use Rattle.sqlite.specs.Tree.{Trees};
+ghost use Rattle.operation.specs.Reading.{IsOp};
+ghost use Rattle.operation.specs.Spelling.{digest_of};
 ghost use Rattle.op_shelf.specs.Entries.{Holds, Lists, HasBadRow, entry_of, digest_text};
 ghost use Rattle.op_shelf.specs.Fault.{IfStore};
+ghost use Rattle.op_shelf.specs.Loading.{AreAmiss, IsNotLoaded, at_digest};
 ghost use Rattle.op_shelf.specs.Putting.{PutsEntry, PutsGroup};
 ghost use Rattle.op_shelf.specs.States.{IfClean, IsUnready, KeepsAll, IsNotShown, rows_of, rows_left, count_of};
 ghost use Rattle.op_shelf.specs.States.{digest_cmp};
@@ -15,10 +19,11 @@ ghost use Rattle.op_shelf.specs.Texts.{all_text, kind_text};
 use crate::fault::{ShelfFault, StoreCause};
 use crate::group::put_group;
 use crate::kept::Kept;
+use crate::loading::load_op;
 use crate::statements::kind_rows;
 use crate::table::{is_ready, put_entry};
 use crate::walk::all_ops;
-use operation::{Digested, Op, encode};
+use operation::{Digest, Digested, Op, encode};
 use sqlite::{Alter, Connection};
 use std::alloc::Global;
 use std::marker::Model;
@@ -114,6 +119,32 @@ impl<S: Alter> Shelf<S> {
             return Err(ShelfFault::Store(StoreCause::Other));
         }
         all_ops(&mut self.database, self.alloc)
+    }
+
+    /// The operation of a digest, if one is there. Its row is looked up by the index of the digests
+    /// and tested: whatever the disk returns, none of another digest is answered.
+    pub fn load(&mut self, digest: &Digest) -> Result<Option<Digested>, ShelfFault>
+        ensures told { IfOk result (λ found. IfSome found (λ op. digest_of op ≡ digest.now)) }
+        ensures found { IfClean S.Store self.old self.new (λ s t. IfOk result (λ found.
+            IfSome found (λ op. at_digest digest.now (rows_of s) ≡ entry_of op ∷ []))) }
+        ensures lawful { IfOk result (λ found. IfSome found IsOp) }
+        ensures none { IfClean S.Store self.old self.new (λ s t.
+            result ≡ Ok None → at_digest digest.now (rows_of s) ≡ []) }
+        ensures same { IfClean S.Store self.old self.new (λ s t. OnOk result (IsUnchanged s t)) }
+        ensures refused { IfClean S.Store self.old self.new (λ s t. OnErr result (KeepsAll s t)) }
+
+        // Each fault, only where it is.
+        ensures bad_row { IfClean S.Store self.old self.new (λ s t.
+            IsErrOf result ShelfFault.BadRow
+            → AreAmiss digest.now (at_digest digest.now (rows_of s))) }
+        ensures store { IfClean S.Store self.old self.new (λ s t.
+            IfStore result (λ why. IsNotLoaded why digest.now s t)) }
+        ensures crash { Survives (state S.Store self.old) (state S.Store self.new) (λ _. ⊥) }
+    {
+        if !is_ready(&self.database) {
+            return Err(ShelfFault::Store(StoreCause::Other));
+        }
+        load_op(&mut self.database, self.alloc, digest)
     }
 
     /// How many operations of a kind the table has.
