@@ -152,6 +152,7 @@ pub(crate) fn load_at<B: Disk>(
     place: &Place,
 ) -> Result<Digested, LogFault>
     ensures told { IfOk result (λ op. digest_of op ≡ digest.now) }
+    ensures lawful { IfOk result IsOp }
     ensures found { IfOk result (λ op. IsTrue (B.Disk.is_clean (disk_of bodies.new))
         → IsOf (B.Disk.seen (disk_of bodies.old)) (head_by digest.now place.now) op) }
     // The very operation, as long as the disk returns what was written.

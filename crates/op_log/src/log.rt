@@ -221,6 +221,7 @@ impl<H: Disk, B: Disk> OpLog<H, B> {
     pub fn load(&mut self, digest: &Digest) -> Result<Option<Digested>, LogFault>
         ensures none { result ≡ Ok None ↔ (first_under digest.now self.old.places ≡ None) }
         ensures told { IfOk result (λ found. IfSome found (λ op. digest_of op ≡ digest.now)) }
+        ensures lawful { IfOk result (λ found. IfSome found IsOp) }
         // The very operation that was put, as long as the disk returns what was written.
         ensures exact { IsTrue (B.Disk.is_clean self.new.bodies) → (op : Operation) → IsOp op
             → digest_of op ≡ digest.now
