@@ -3,6 +3,7 @@ pub mod Hashed
 pub mod Holding
 pub mod Keeps
 pub mod KnownLaws
+pub mod Loads
 pub mod Logs
 pub mod Moves
 pub mod Same

@@ -10,7 +10,8 @@ use Rattle.op_log.specs.Fault.{IsOfLook, IsOfPut}
 use Rattle.op_log.specs.Loaded.{HasBadHead}
 use Rattle.op_log.specs.Log.{IsTooLong, Opened}
 use Rattle.op_log.specs.Puts.{ComesToClash}
-use Rattle.shelved_site.specs.Refusing.{LogRefusesAll, LogRefusesGroup}
+use Rattle.op_shelf.specs.declared.fault.ShelfFault.TheVariants.{BadRow}
+use Rattle.shelved_site.specs.Refusing.{LogRefusesAll, LogRefusesGroup, LogRefusesLoad}
 use Rattle.shelved_site.specs.Telling.{fault_of}
 
 -- what a look tells of a log, in a shelf's words
@@ -40,3 +41,17 @@ group_why gh gb old new ops (of_log.DamagedHeads at) put closed long disk clash 
 group_why gh gb old new ops (of_log.DamagedBody at) put closed long disk clash = absurd put
 group_why gh gb old new ops of_log.Collision put closed long disk clash = clash refl
 group_why gh gb old new ops of_log.Memory put closed long disk clash = tt
+
+-- what a load tells of a log, in a shelf's words
+pub load_why : {H B : Type 0} (g : Ghosts B) (old new : Opened H B) (digest : List ℕ) (f : LogFault) → IsOfLook f
+    → (f ≡ of_log.Disk → MoreFaults (g.faults old.bodies) (g.faults new.bodies))
+    → (f ≡ of_log.Closed → g.is_usable old.bodies ≡ false)
+    → ((at : ℕ) → f ≡ of_log.DamagedBody at → LogRefusesLoad g old new digest BadRow)
+    → LogRefusesLoad g old new digest (fault_of f)
+load_why g old new digest of_log.Disk look disk closed bad = disk refl
+load_why g old new digest of_log.Closed look disk closed bad = closed refl
+load_why g old new digest of_log.TooLong look disk closed bad = absurd look
+load_why g old new digest (of_log.DamagedHeads at) look disk closed bad = absurd look
+load_why g old new digest (of_log.DamagedBody at) look disk closed bad = bad at refl
+load_why g old new digest of_log.Collision look disk closed bad = absurd look
+load_why g old new digest of_log.Memory look disk closed bad = tt

@@ -1,11 +1,13 @@
--- Why a store keeps, shows or counts no operations.
-use Rattle.std.specs.Prelude.{◌≡◌, ◌⊎◌, ◌∷◌, [], ℕ, List, pos, false}
+-- Why a store keeps, loads, shows or counts no operations.
+use Rattle.std.specs.Prelude.{◌≡◌, ◌≢◌, ◌⊎◌, ◌∷◌, [], ℕ, List, None, IsTrue, pos, false}
 use Rattle.sqlite.specs.declared.types.Value.TheVariants.{Int}
 use Rattle.sqlite.specs.State.{State}
 use Rattle.sqlite_disk.specs.declared.Disk.{Ghosts}
 use Rattle.sqlite_disk.specs.Disk.{MoreFaults}
 use Rattle.operation.specs.declared.op.Op.{Op}
+use Rattle.op_log.specs.Kept.{first_under}
 use Rattle.op_log.specs.Loaded.{HasBadHead}
+use Rattle.op_log.specs.Loads.{IsUnder}
 use Rattle.op_log.specs.Log.{IsTooLong, Opened}
 use Rattle.op_log.specs.Puts.{ComesToClash}
 use Rattle.op_shelf.specs.declared.fault.ShelfFault.{ShelfFault}
@@ -50,3 +52,15 @@ LogRefusesGroup gh gb old new ops (Store cause.Damaged) = ⊥
 LogRefusesGroup gh gb old new ops (Store cause.Other) = IsUp gh gb new → IsTooLong old ops
 LogRefusesGroup gh gb old new ops BadRow = ComesToClash gb new.bodies new.bodies_end old.places ops
 LogRefusesGroup gh gb old new ops Memory = Unit {0}
+
+-- a log that is asked for the operation of a digest: the disk of data sets refused in this call, or that file is
+-- closed, or a head has the digest and no operation lies there, or memory was refused
+abbrev pub LogRefusesLoad : {H B : Type 0} → Ghosts B → Opened H B → Opened H B → List ℕ → ShelfFault → Type 0
+LogRefusesLoad g old new digest (Store cause.Failed) = MoreFaults (g.faults old.bodies) (g.faults new.bodies)
+LogRefusesLoad g old new digest (Store cause.Closed) = g.is_usable old.bodies ≡ false
+LogRefusesLoad g old new digest (Store cause.Full) = ⊥
+LogRefusesLoad g old new digest (Store cause.Damaged) = ⊥
+LogRefusesLoad g old new digest (Store cause.Other) = ⊥
+LogRefusesLoad g old new digest BadRow =
+    IsTrue (g.is_clean new.bodies) → (first_under digest old.places ≢ None) × ((op : Op) → ¬ IsUnder g digest old op)
+LogRefusesLoad g old new digest Memory = Unit {0}

@@ -5,14 +5,15 @@ ghost use Rattle.std.specs.Prelude.{◌≡◌};
 use crate::telling::{all_kept, fault};
 use op_log::OpLog;
 use op_shelf::{Keep, Kept, ShelfFault, StoreCause};
-use operation::{Digested, Op};
+use operation::{Digest, Digested, Op};
 use sqlite_disk::Disk;
 use std::alloc::Global;
 use std::slice;
 
 /// A log of operations, as a server takes it. What it refuses is told in a shelf's words: the disk,
 /// a log that is closed and a group that is too long as `Store`, what is damaged and another
-/// operation under the digest as `BadRow`.
+/// operation under the digest as `BadRow`. A load reads one data set, and looks its head up in
+/// memory.
 pub struct KeptLog<H: Disk, B: Disk> {
     pub(crate) log: OpLog<H, B>,
     pub(crate) alloc: Global,
@@ -47,7 +48,7 @@ impl<H: Disk + Drop, B: Disk + Drop> KeptLog<H, B> {
 impl<H: Disk, B: Disk> Keep for KeptLog<H, B> {
     ghost use Rattle.std.specs.Prelude.{◌∷◌, []};
     ghost use Rattle.shelved_site.specs.Keeping.{IsUp, Holds, Lasts, log_of};
-    ghost use Rattle.shelved_site.specs.Refusing.{LogRefusesGroup};
+    ghost use Rattle.shelved_site.specs.Refusing.{LogRefusesGroup, LogRefusesLoad};
 
     ghost is_up = { λ s. IsUp H.Disk B.Disk (log_of s) };
 
@@ -60,6 +61,9 @@ impl<H: Disk, B: Disk> Keep for KeptLog<H, B> {
 
     ghost refuses_group = { λ s t ops fault.
         LogRefusesGroup H.Disk B.Disk (log_of s) (log_of t) ops fault };
+
+    ghost refuses_load = { λ s t digest fault.
+        LogRefusesLoad B.Disk (log_of s) (log_of t) digest fault };
 
     fn put(&mut self, op: &Op) -> Result<Kept, ShelfFault> {
         let digested = Digested::of(op.copy(self.alloc)?);
@@ -78,6 +82,13 @@ impl<H: Disk, B: Disk> Keep for KeptLog<H, B> {
         match self.log.put_many(ops) {
             Ok(told) => Ok(all_kept(room, &told)),
             Err(refused) => Err(fault(refused)),
+        }
+    }
+
+    fn load(&mut self, digest: &Digest) -> Result<Option<Digested>, ShelfFault> {
+        match self.log.load(digest) {
+            Ok(found) => Ok(found),
+            Err(unread) => Err(fault(unread)),
         }
     }
 }
