@@ -1,7 +1,7 @@
 //! Shelves that tell nothing of what they hold.
 
 use op_shelf::{Keep, Kept, ShelfFault, StoreCause};
-use operation::{Digested, Op};
+use operation::{Digest, Digested, Op};
 
 /// A shelf that counts what it is asked to keep, and takes so many of it.
 #[derive(Drop)]
@@ -24,6 +24,9 @@ impl Keep for Counting {
 
     ghost refuses_group = { λ _ _ _ _. ⊤ };
 
+    // It loads nothing.
+    ghost refuses_load = { λ _ _ _ _. ⊤ };
+
     fn put(&mut self, _op: &Op) -> Result<Kept, ShelfFault> {
         self.asked = self.asked.saturating_add(1);
         if self.asked <= self.room {
@@ -38,6 +41,10 @@ impl Keep for Counting {
 
     // It takes no group, so each of one comes alone.
     fn put_many(&mut self, _ops: &[Digested]) -> Result<Vec<Kept>, ShelfFault> {
+        Err(ShelfFault::Store(StoreCause::Other))
+    }
+
+    fn load(&mut self, _digest: &Digest) -> Result<Option<Digested>, ShelfFault> {
         Err(ShelfFault::Store(StoreCause::Other))
     }
 }
