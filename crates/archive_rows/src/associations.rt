@@ -1,27 +1,20 @@
 //! Rows of associations: what the peer sends in, what is written and done out.
 
-pub mod many;
 mod ports;
 mod runs;
-mod sessions;
 pub mod words;
 
-use crate::text::{RowFault, byte_of, number_of, parted, put_numbered};
-use association_run::RunFault;
-use association_session::PortFault;
-use many::{Kind, put_many};
+use crate::text::{RowFault, byte_of, number_of, parted};
 use ports::{Refusal, Unloaded};
 use runs::{Setting, put_run};
-use sessions::Sessions;
 use std::alloc::{AllocError, Global};
 use words::{Words, pdu_of, values_of};
 
-/// The words that rows gave, what an association meets, and a session.
+/// The words that rows gave, and what an association meets.
 pub struct Associations {
     alloc: Global,
     words: Words,
     setting: Setting,
-    sessions: Sessions,
 }
 
 impl Drop for Associations {
@@ -30,32 +23,8 @@ impl Drop for Associations {
             alloc: _,
             words: _,
             setting: _,
-            sessions: _,
         } = self;
     }
-}
-
-/// `run-faults`: the numbers of the faults of runs and of ports.
-fn put_faults(out: &mut String) -> Result<(), RowFault> {
-    out.push_str("runs")?;
-    for fault in [
-        RunFault::Read,
-        RunFault::Write,
-        RunFault::Memory,
-        RunFault::Turns,
-    ] {
-        put_numbered(out, fault.number(), fault)?;
-    }
-    out.push_str("\nports")?;
-    for fault in [
-        PortFault::Memory,
-        PortFault::Busy,
-        PortFault::Collision,
-        PortFault::Shelf,
-    ] {
-        put_numbered(out, fault.number(), fault)?;
-    }
-    Ok(())
 }
 
 impl Associations {
@@ -64,7 +33,6 @@ impl Associations {
             alloc,
             words: Words::new(alloc),
             setting: Setting::new(alloc)?,
-            sessions: Sessions::new(alloc)?,
         })
     }
 
@@ -142,12 +110,6 @@ impl Associations {
         )?)
     }
 
-    /// `fronts BYTES`, `writers BYTES`, `readers BYTES`: many runs.
-    fn put_many(&self, out: &mut String, kind: Kind, words: &str) -> Result<(), RowFault> {
-        let input = self.words.bytes_of(words)?;
-        Ok(put_many(self.alloc, out, &self.setting, kind, input.as_slice())?)
-    }
-
     /// Puts what a row of one of these kinds tells.
     pub fn put_row(
         &mut self,
@@ -162,11 +124,7 @@ impl Associations {
             "port" => Some(self.put_port(out, words)),
             "before" => Some(self.put_before(out, words)),
             "run" => Some(self.put_run(out, words)),
-            "fronts" => Some(self.put_many(out, Kind::Fronts, words)),
-            "writers" => Some(self.put_many(out, Kind::Writers, words)),
-            "readers" => Some(self.put_many(out, Kind::Readers, words)),
-            "run-faults" => Some(put_faults(out)),
-            _ => self.sessions.put_row(out, &self.words, kind, words),
+            _ => None,
         }
     }
 }

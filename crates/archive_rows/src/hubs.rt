@@ -1,18 +1,14 @@
 //! Rows of hubs in memory.
 //!
-//! `passes COUNT`: four passes look without pause while so many images are published; no look of
-//! one tells of less than the one before, and the last tells of all. `course`: two passes of a hub
-//! store, correct and look until it is closed, whatever memory is refused to it.
+//! `course`: two passes of a hub store, correct and look until it is closed, whatever memory is
+//! refused to it.
 
 mod course;
 mod hub;
 mod images;
-mod looks;
 
 use crate::hubs::course::{BLANK, Came, Course};
-use crate::hubs::hub::{Task, with_hub};
-use crate::hubs::images::images;
-use crate::hubs::looks::{Looks, NONE};
+use crate::hubs::hub::with_hub;
 use anyhow::{Result, anyhow};
 use std::alloc::{AllocError, Global};
 use std::rt::HostRuntime;
@@ -25,28 +21,6 @@ fn must(holds: bool, what: &str) -> Result<()> {
         return Ok(());
     }
     Err(anyhow!("it does not hold: {what}"))
-}
-
-/// Whether each pass looked while so many were published, saw nothing go, and in the end saw all.
-fn saw_all(looks: &[Looks], count: u64) -> bool {
-    looks
-        .iter()
-        .all(|it| it.answered > 1 && it.fell == 0 && it.last == count)
-}
-
-/// Four passes look without pause while so many images are published.
-pub fn seen<R: Threads + Wait + Sync>(rt: &HostRuntime, host: &R, words: &str) -> Result<()> {
-    let alloc = rt.alloc();
-    let count = words.parse::<u64>()?;
-    let mut images = images(alloc, count)?;
-    let mut looks = [NONE; 4];
-    with_hub(host, alloc, Task::Looks(&mut images, &mut looks))?;
-    must(
-        saw_all(&looks, count),
-        "no look tells of less than the one before, and the last tells of all",
-    )?;
-    println!(rt; "4 passes looked while {count} images were published")?;
-    Ok(())
 }
 
 /// What a call answered, in words.
@@ -95,6 +69,6 @@ fn told_of(rt: &HostRuntime, course: &Course) -> Result<()> {
 pub fn went_on<R: Threads + Wait + Sync>(rt: &HostRuntime, host: &R) -> Result<()> {
     let alloc = rt.alloc();
     let mut course = BLANK;
-    with_hub(host, alloc, Task::Course(alloc, &mut course))?;
+    with_hub(host, alloc, &mut course)?;
     told_of(rt, &course)
 }

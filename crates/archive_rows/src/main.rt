@@ -8,9 +8,7 @@
 mod associations;
 mod exchanges;
 mod hubs;
-mod messages;
 mod operations;
-mod pdus;
 mod rows;
 mod sites;
 mod text;
@@ -31,7 +29,6 @@ fn tell<R: Threads + Wait + Sync>(
     row: &str,
 ) -> Result<()> {
     match parted(row) {
-        ("passes", words) => return hubs::seen(rt, host, words),
         ("course", _) => return hubs::went_on(rt, host),
         _ => {}
     }

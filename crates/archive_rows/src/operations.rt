@@ -1,67 +1,39 @@
-//! Rows of data sets, notes and operations: what each comes to, and what is written of it.
+//! The operations of rows: contents and corrections.
 
-mod contents;
-mod items;
-mod sets;
-
-use crate::text::RowFault;
-use contents::{put_content, put_correction, put_cuts, put_decoded};
-pub use contents::{content_in, correction_in};
-use data_set::SetFault;
-use items::{put_items, put_wide};
-use rejection_note::NoteFault;
-use sets::{put_fronts, put_nested, put_note, put_padded, put_replaced, put_set, put_value};
+use crate::text::{RowFault, bytes_of, octets_of, parted, syntax_of, tag_of, target_of};
+use bytes::Bytes;
+use operation::{Op, OpFault, Stamp, content_of, correction_of};
 use std::alloc::Global;
 
-/// `set-faults`: the numbers of the faults, each in its order.
-fn put_faults(out: &mut String) -> Result<(), RowFault> {
-    out.push_str("sets")?;
-    for fault in [
-        SetFault::Truncated,
-        SetFault::Order,
-        SetFault::Depth,
-        SetFault::Undefined,
-        SetFault::BadVr,
-        SetFault::Group,
-        SetFault::Memory,
-    ] {
-        let number = fault.number();
-        write!(out, " {number} {fault:?}")?;
+/// `CLASS INSTANCE SYNTAX BYTES`: the content of a data set.
+pub fn content_in(alloc: Global, words: &str) -> Result<Result<Op, OpFault>, RowFault> {
+    let (class, words) = parted(words);
+    let (instance, words) = parted(words);
+    let (syntax, words) = parted(words);
+    let class = octets_of(alloc, class)?;
+    let instance = octets_of(alloc, instance)?;
+    let set = Bytes::from_vec(bytes_of(alloc, words)?)?;
+    match content_of(alloc, class, instance, syntax_of(syntax), set) {
+        Ok(content) => Ok(Ok(Op::Content(content))),
+        Err(fault) => Ok(Err(fault)),
     }
-    out.push_str("; notes")?;
-    for fault in [
-        NoteFault::NoTitle,
-        NoteFault::NoReference,
-        NoteFault::Memory,
-    ] {
-        let number = fault.number();
-        write!(out, " {number} {fault:?}")?;
-    }
-    Ok(())
 }
 
-/// Puts what a row of one of these kinds tells.
-pub fn put_row(
-    alloc: Global,
-    out: &mut String,
-    kind: &str,
-    words: &str,
-) -> Option<Result<(), RowFault>> {
-    match kind {
-        "set" => Some(put_set(alloc, out, words)),
-        "set-fronts" => Some(put_fronts(alloc, out, words)),
-        "nested" => Some(put_nested(alloc, out, words)),
-        "items" => Some(put_items(alloc, out, words)),
-        "wide" => Some(put_wide(alloc, out, words)),
-        "value" => Some(put_value(alloc, out, words)),
-        "padded" => Some(put_padded(alloc, out, words)),
-        "replaced" => Some(put_replaced(alloc, out, words)),
-        "note" => Some(put_note(alloc, out, words)),
-        "content" => Some(put_content(alloc, out, words)),
-        "cuts" => Some(put_cuts(alloc, out, words)),
-        "correction" => Some(put_correction(alloc, out, words)),
-        "decode" => Some(put_decoded(alloc, out, words)),
-        "set-faults" => Some(put_faults(out)),
-        _ => None,
+/// `KIND KEY TAG COUNTER SITE VALUE`: a correction.
+pub fn correction_in(alloc: Global, words: &str) -> Result<Result<Op, OpFault>, RowFault> {
+    let (kind, words) = parted(words);
+    let (key, words) = parted(words);
+    let (tag, words) = parted(words);
+    let (counter, words) = parted(words);
+    let (site, words) = parted(words);
+    let tag = tag_of(tag)?;
+    let stamp = Stamp {
+        counter: counter.parse::<u64>()?,
+        site: site.parse::<u16>()?,
+    };
+    let value = octets_of(alloc, words)?;
+    match correction_of(target_of(alloc, kind, key)?, tag, value, stamp) {
+        Ok(correction) => Ok(Ok(Op::Correction(correction))),
+        Err(fault) => Ok(Err(fault)),
     }
 }

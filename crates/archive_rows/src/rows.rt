@@ -2,17 +2,12 @@
 
 use crate::associations::Associations;
 use crate::exchanges::Exchanges;
-use crate::messages::{Acceptors, Messages};
 use crate::sites::Sites;
 use crate::text::{RowFault, parted};
-use crate::{operations, pdus};
 use std::alloc::{AllocError, Global};
 
 /// What rows work on, a part for each family of kinds that keeps something.
 pub struct Rows {
-    alloc: Global,
-    messages: Messages,
-    acceptors: Acceptors,
     sites: Sites,
     associations: Associations,
     exchanges: Exchanges,
@@ -21,9 +16,6 @@ pub struct Rows {
 impl Drop for Rows {
     fn drop(self) {
         let Rows {
-            alloc: _,
-            messages: _,
-            acceptors: _,
             sites: _,
             associations: _,
             exchanges: _,
@@ -34,9 +26,6 @@ impl Drop for Rows {
 impl Rows {
     pub fn new(alloc: Global) -> Result<Rows, AllocError> {
         Ok(Rows {
-            alloc,
-            messages: Messages::new(alloc)?,
-            acceptors: Acceptors::new(alloc)?,
             sites: Sites::new(alloc),
             associations: Associations::new(alloc)?,
             exchanges: Exchanges::new(alloc),
@@ -50,12 +39,8 @@ impl Rows {
         kind: &str,
         words: &str,
     ) -> Option<Result<(), RowFault>> {
-        let alloc = self.alloc;
-        pdus::put_row(alloc, out, kind, words)
-            .or_else(|| self.messages.put_row(out, kind, words))
-            .or_else(|| self.acceptors.put_row(out, kind, words))
-            .or_else(|| operations::put_row(alloc, out, kind, words))
-            .or_else(|| self.sites.put_row(out, kind, words))
+        self.sites
+            .put_row(out, kind, words)
             .or_else(|| self.associations.put_row(out, kind, words))
             .or_else(|| self.exchanges.put_row(out, kind, words))
     }

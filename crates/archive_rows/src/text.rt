@@ -11,4 +11,4 @@ mod writing;
 pub use fault::RowFault;
 pub use names::{byte_of, octets_of, parted, syntax_of, tag_of, target_of};
 pub use reading::{bytes_of, number_of};
-pub use writing::{put_again, put_bytes, put_fault, put_named, put_numbered};
+pub use writing::{put_bytes, put_fault};

@@ -2,7 +2,6 @@
 
 use crate::associations::ports::{AskedPort, Passed, Refusal, Unloaded};
 use crate::associations::words::Words;
-use crate::messages::title_of;
 use archive_model::View;
 use association_run::{End, Outbox, RunFault, run_association};
 use devices::{Store, Supply};
@@ -10,28 +9,8 @@ use octets::{ListOf, Octets};
 use std::alloc::{AllocError, Global};
 use ul_state::{Title, Titles};
 
-/// How many bytes there is room for where no writer is to fail.
+/// How many bytes there is room for, and are read at once where all are.
 const AMPLE: usize = 10_000_000;
-
-/// How an association is read and written: each read gives `piece` bytes at most, the read
-/// `fails_at` fails, and so does a write for which there is no room.
-#[derive(Clone, Copy)]
-pub struct Way {
-    pub piece: usize,
-    pub fails_at: Option<u64>,
-    pub room: usize,
-}
-
-impl Way {
-    /// Reads of so many bytes, and devices that do not fail.
-    pub fn of_pieces(piece: usize) -> Way {
-        Way {
-            piece,
-            fails_at: None,
-            room: AMPLE,
-        }
-    }
-}
 
 /// What an association meets: the port, what an earlier peer has sent it, and the titles.
 pub struct Setting {
@@ -52,8 +31,17 @@ impl Drop for Setting {
     }
 }
 
+/// A title that any may call.
+fn title_of(alloc: Global, name: &[u8], value: View) -> Result<Title<View>, AllocError> {
+    Ok(Title {
+        title: Octets::from_slice(alloc, name)?,
+        value,
+        callers: ListOf::new(alloc),
+    })
+}
+
 /// ARCHIVE, which any may call, and QUALITY, which SCU1 alone may.
-pub fn titles_of(alloc: Global) -> Result<Titles<View>, AllocError> {
+fn titles_of(alloc: Global) -> Result<Titles<View>, AllocError> {
     let mut quality = title_of(alloc, b"QUALITY", View::Quality)?;
     quality.callers.push(Octets::from_slice(alloc, b"SCU1")?)?;
     let mut list = ListOf::new(alloc);
@@ -74,7 +62,7 @@ impl Setting {
 }
 
 /// What a run came to.
-pub struct Ran {
+struct Ran {
     ended: Result<End, RunFault>,
     written: Store,
     passed: Passed,
@@ -92,17 +80,17 @@ impl Drop for Ran {
     }
 }
 
-/// One association over a port.
+/// One association over a port, each read of which gives `piece` bytes at most.
 fn ran_over(
     alloc: Global,
     outbox: &mut Outbox,
     port: AskedPort,
     titles: &Titles<View>,
     input: &[u8],
-    way: Way,
+    piece: usize,
 ) -> Result<Ran, AllocError> {
-    let mut supply = Supply::new(Octets::from_slice(alloc, input)?, way.piece, way.fails_at);
-    let mut written = Store::new(alloc, way.room);
+    let mut supply = Supply::new(Octets::from_slice(alloc, input)?, piece, None);
+    let mut written = Store::new(alloc, AMPLE);
     let mut port = port;
     let mut passed = Passed {
         stores: 0,
@@ -136,27 +124,8 @@ fn port_behind(
         return Ok(port);
     }
     let before = setting.before.as_slice();
-    let earlier = ran_over(
-        alloc,
-        outbox,
-        port,
-        &setting.titles,
-        before,
-        Way::of_pieces(AMPLE),
-    )?;
+    let earlier = ran_over(alloc, outbox, port, &setting.titles, before, AMPLE)?;
     Ok(earlier.into_port())
-}
-
-/// One association, behind that of the earlier peer.
-pub fn run_behind(
-    alloc: Global,
-    setting: &Setting,
-    input: &[u8],
-    way: Way,
-) -> Result<Ran, AllocError> {
-    let mut outbox = Outbox::new(alloc)?;
-    let port = port_behind(alloc, &mut outbox, setting)?;
-    ran_over(alloc, &mut outbox, port, &setting.titles, input, way)
 }
 
 impl Ran {
@@ -169,23 +138,6 @@ impl Ran {
         } = self;
         port.forget();
         port
-    }
-
-    pub fn written(&self) -> &[u8] {
-        self.written.as_slice()
-    }
-
-    /// How many operations are held then.
-    pub fn held(&self) -> usize {
-        self.port.held()
-    }
-
-    /// Puts how it ended.
-    pub fn put_end(&self, out: &mut String) -> Result<(), AllocError> {
-        match self.ended {
-            Ok(end) => write!(out, "{end:?}"),
-            Err(fault) => write!(out, "fault: {fault}"),
-        }
     }
 
     /// Puts which moments of the gate were reached, and how often.
@@ -202,18 +154,21 @@ impl Ran {
 
     /// Puts how it ended and what is held, what was written, and what the port was asked.
     fn put_all(&self, out: &mut String, words: &Words) -> Result<(), AllocError> {
-        self.put_end(out)?;
-        let size = self.written().len();
-        let held = self.held();
+        match self.ended {
+            Ok(end) => write!(out, "{end:?}")?,
+            Err(fault) => write!(out, "fault: {fault}")?,
+        }
+        let size = self.written.as_slice().len();
+        let held = self.port.held();
         write!(out, ", {size} bytes written, {held} held")?;
         self.put_passed(out)?;
         out.push_str(self.port.asked())?;
         out.push_str("\n  written ")?;
-        words.put_told(out, self.written())
+        words.put_told(out, self.written.as_slice())
     }
 }
 
-/// What a run in reads of `piece` bytes tells.
+/// What an association behind that of the earlier peer tells, in reads of `piece` bytes.
 fn told_in(
     alloc: Global,
     setting: &Setting,
@@ -221,7 +176,9 @@ fn told_in(
     input: &[u8],
     piece: usize,
 ) -> Result<String, AllocError> {
-    let ran = run_behind(alloc, setting, input, Way::of_pieces(piece))?;
+    let mut outbox = Outbox::new(alloc)?;
+    let port = port_behind(alloc, &mut outbox, setting)?;
+    let ran = ran_over(alloc, &mut outbox, port, &setting.titles, input, piece)?;
     let mut out = String::new(alloc);
     ran.put_all(&mut out, words)?;
     Ok(out)

@@ -1,6 +1,5 @@
 //! Whole exchanges over devices in memory: bytes in, bytes out.
 
-use crate::associations::many::Ranges;
 use crate::associations::words::Words;
 use crate::exchanges::frames::put_frames;
 use crate::exchanges::pair::{Pair, held_by};
@@ -147,53 +146,6 @@ pub fn put_run(
     write!(out, "{size} bytes: ")?;
     let ran = run_aside(alloc, role, site, input, way)?;
     Ok(ran.put_all(out, words)?)
-}
-
-/// What a side came to for a front of what it is to hear, beside what it writes for all of that.
-fn outcome_of(alloc: Global, answer: &[u8], ran: &Ran) -> Result<String, AllocError> {
-    let written = ran.written.as_slice();
-    let size = written.len();
-    let mut out = String::new(alloc);
-    write!(out, "{size} bytes of ")?;
-    out.push_str(if answer.starts_with(written) {
-        "the answer, "
-    } else {
-        "another answer, "
-    })?;
-    ran.put_end(&mut out)?;
-    Ok(out)
-}
-
-/// Whether a front of a text is tried: each that ends near the ends of the text, and so outside of
-/// its BUCKETS, and each of so many that end inside.
-fn is_tried(end: usize, size: usize, step: usize) -> bool {
-    end < 48 || size.saturating_sub(end) <= 48 || end % step.max(1) == 0
-}
-
-/// Puts what a side tells for what it is to hear, and for fronts of that, by ranges of their
-/// lengths.
-pub fn put_fronts(
-    alloc: Global,
-    out: &mut String,
-    role: Role,
-    site: &Site,
-    input: &[u8],
-    step: usize,
-    way: Way,
-) -> Result<(), RowFault> {
-    let whole = run_aside(alloc, role, site, input, way)?;
-    whole.put_end(out)?;
-    out.push('\n')?;
-    let mut ranges = Ranges::new(alloc);
-    for end in 0..input.len() {
-        if !is_tried(end, input.len(), step) {
-            continue;
-        }
-        let front = input.get(..end).unwrap_or(input);
-        let ran = run_aside(alloc, role, site, front, way)?;
-        ranges.add(out, end, outcome_of(alloc, whole.written.as_slice(), &ran)?)?;
-    }
-    Ok(ranges.put(out)?)
 }
 
 /// What a side with a copy of a site writes for what it hears, unless it was refused memory.

@@ -32,12 +32,3 @@ pub fn image(alloc: Global, k: u64) -> Result<Digested> {
         Err(fault) => Err(anyhow!("no image: {fault}")),
     }
 }
-
-/// The images of so many studies.
-pub fn images(alloc: Global, many: u64) -> Result<Vec<Digested>> {
-    let mut images = Vec::new(alloc);
-    for k in 0..many {
-        images.push(image(alloc, k)?)?;
-    }
-    Ok(images)
-}

@@ -1,8 +1,8 @@
-//! Rows of identifiers: queries and what is found, and selections.
+//! Rows of queries: what is found.
 
 use crate::sites::names::view_of;
 use crate::text::{RowFault, bytes_of, parted, put_bytes, put_fault};
-use archive_query::{Answer, Level, Query, QueryFault, Selection, find};
+use archive_query::{Answer, Query, find};
 use data_set::{DataSet, Element, SetFault, Syntax, read};
 use site_state::Site;
 use std::alloc::{AllocError, Global};
@@ -81,40 +81,6 @@ pub fn put_find(alloc: Global, out: &mut String, site: &Site, words: &str) -> Re
     let identifier = bytes_of(alloc, words)?;
     match read(alloc, Syntax::Implicit, identifier.as_slice()) {
         Ok(set) => Ok(put_query(alloc, out, site, view, &set)?),
-        Err(fault) => Ok(put_bad_set(out, fault)?),
-    }
-}
-
-/// Puts what is selected, or why nothing is.
-fn put_selection(
-    out: &mut String,
-    selection: &Result<Selection, QueryFault>,
-) -> Result<(), AllocError> {
-    let selection = match selection {
-        Ok(selection) => selection,
-        Err(fault) => return put_fault(out, fault.number(), *fault),
-    };
-    let level = match selection.level {
-        Level::Study => "STUDY",
-        Level::Series => "SERIES",
-        Level::Image => "IMAGE",
-    };
-    write!(out, "{level} of study ")?;
-    put_bytes(out, selection.study.as_slice())?;
-    out.push_str(" series ")?;
-    put_bytes(out, selection.series.as_slice())?;
-    for uid in selection.uids.as_slice() {
-        out.push_str("\n  ")?;
-        put_bytes(out, uid.as_slice())?;
-    }
-    Ok(())
-}
-
-/// `select BYTES`: what an identifier selects, in Implicit VR Little Endian.
-pub fn put_select(alloc: Global, out: &mut String, words: &str) -> Result<(), RowFault> {
-    let identifier = bytes_of(alloc, words)?;
-    match read(alloc, Syntax::Implicit, identifier.as_slice()) {
-        Ok(set) => Ok(put_selection(out, &Selection::read(alloc, &set))?),
         Err(fault) => Ok(put_bad_set(out, fault)?),
     }
 }

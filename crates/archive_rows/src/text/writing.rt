@@ -58,26 +58,6 @@ pub fn put_bytes(out: &mut String, bytes: &[u8]) -> Result<(), AllocError> {
     }
 }
 
-/// Puts bytes under a name.
-pub fn put_named(out: &mut String, name: &str, bytes: &[u8]) -> Result<(), AllocError> {
-    write!(out, "{name} ")?;
-    put_bytes(out, bytes)
-}
-
-/// Puts bytes that were written on a line of their own, or that they are those that were read.
-pub fn put_again(
-    out: &mut String,
-    name: &str,
-    written: &[u8],
-    read: &[u8],
-) -> Result<(), AllocError> {
-    write!(out, "\n  {name} ")?;
-    if written == read {
-        return out.push_str("as it was read");
-    }
-    put_bytes(out, written)
-}
-
 /// Puts a fault, with its number.
 pub fn put_fault<F: Display + Copy>(
     out: &mut String,
@@ -85,13 +65,4 @@ pub fn put_fault<F: Display + Copy>(
     fault: F,
 ) -> Result<(), AllocError> {
     write!(out, "fault {number}: {fault}")
-}
-
-/// Puts one of several faults, a line each, with its number.
-pub fn put_numbered<F: Display + Copy>(
-    out: &mut String,
-    number: u8,
-    fault: F,
-) -> Result<(), AllocError> {
-    write!(out, "\n  {number}: {fault}")
 }
