@@ -7,16 +7,6 @@ ghost use Rattle.std.specs.Prelude.{◌≡◌, OnOk, true};
 use std::fmt::{Debug, Display};
 use std::test::Fail;
 
-/// Fails, unless this holds.
-pub fn holds(holds: bool, what: &str) -> Result<(), Fail>
-    ensures { OnOk result (holds ≡ true) }
-{
-    if holds {
-        return Ok(());
-    }
-    Err(Fail::new(format_args!("it does not hold: {what}")))
-}
-
 /// Fails, unless this holds in this case of some.
 pub fn holds_at<C: Copy + Display>(holds: bool, what: &str, case: C) -> Result<(), Fail>
     ensures { OnOk result (holds ≡ true) }
@@ -33,17 +23,4 @@ pub fn equal<T: Copy + Debug + PartialEq>(told: T, wanted: T, what: &str) -> Res
         return Ok(());
     }
     Err(Fail::new(format_args!("{what}: {told:?} is not {wanted:?}")))
-}
-
-/// Fails, unless what was told in this case of some is what is wanted.
-pub fn equal_at<T: Copy + Debug + PartialEq, C: Copy + Display>(
-    told: T,
-    wanted: T,
-    what: &str,
-    case: C,
-) -> Result<(), Fail> {
-    if told == wanted {
-        return Ok(());
-    }
-    Err(Fail::new(format_args!("{what}: {case}: {told:?} is not {wanted:?}")))
 }
