@@ -1,7 +1,7 @@
 //! Two passes of a hub that goes on where memory is refused to it, until it is closed.
 
 use crate::hubs::hub::Shared;
-use crate::hubs::images::{CT, image, study};
+use crate::hubs::images::{CT, FIRST_STUDY, image};
 use anyhow::{Result, anyhow};
 use archive_model::View;
 use archive_query::{Accepted, Accepts, Level, Selection};
@@ -80,8 +80,7 @@ impl Course {
 
 /// The UID of the first study.
 fn first_study(alloc: Global) -> Result<Octets> {
-    let study = study(alloc, 0)?;
-    Ok(Octets::from_slice(alloc, study.as_bytes())?)
+    Ok(Octets::from_slice(alloc, FIRST_STUDY)?)
 }
 
 /// A name that the patient of the first study is given.
@@ -111,7 +110,7 @@ fn selection(alloc: Global) -> Result<Selection> {
 /// CT images in the implicit syntax alone.
 fn accepts(alloc: Global) -> Result<Accepts> {
     let accepted = Accepted {
-        class: Octets::from_slice(alloc, CT.as_bytes())?,
+        class: Octets::from_slice(alloc, CT)?,
         implicit: true,
         explicit: false,
     };
@@ -187,7 +186,7 @@ fn done<H: HubName, T: Shows<H>, R: Wait>(
     two: &mut Pass<H>,
     course: &mut Course,
 ) -> Result<()> {
-    let (first, second) = (image(alloc, 0)?, image(alloc, 1)?);
+    let (first, second) = (image(alloc, b'0')?, image(alloc, b'1')?);
     course.stored.0 = stored(rt, keeper, one, two, first, 1);
     course.stored.1 = stored(rt, keeper, one, two, second, 2);
     course.corrected.0 = corrected(rt, alloc, keeper, two)?;
@@ -217,10 +216,9 @@ fn went_on<H: HubName, T: Shows<H>, R: Wait>(
 /// 1 on.
 fn entries(alloc: Global, course: &Course) -> Result<Vec<Logged>> {
     let mut entries = Vec::new(alloc);
-    let stored = [course.stored.0, course.stored.1];
-    for (k, came) in stored.iter().enumerate() {
-        if placed(*came) == 1 {
-            let image = image(alloc, k as u64)?;
+    for (digit, came) in [(b'0', course.stored.0), (b'1', course.stored.1)] {
+        if placed(came) == 1 {
+            let image = image(alloc, digit)?;
             let digest = *image.digest();
             entries.push(Logged { pass: 1, digest })?;
         }

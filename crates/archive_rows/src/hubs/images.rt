@@ -1,34 +1,36 @@
-//! The images that are published.
+//! The images that are stored.
 
-use crate::operations::content_in;
-use anyhow::{Result, anyhow};
-use operation::Digested;
-use std::alloc::{AllocError, Global};
+use anyhow::Result;
+use bytes::Bytes;
+use operation::{Digested, decode};
+use std::alloc::Global;
 
 /// CT Image Storage
-pub const CT: &str = "1.2.840.10008.5.1.4.1.1.2";
+pub const CT: &[u8] = b"1.2.840.10008.5.1.4.1.1.2";
 
-/// The UID of study k, one of a million: each has as many digits.
-pub fn study(alloc: Global, k: u64) -> Result<String, AllocError> {
-    let number = k % 1_000_000 + 1_000_000;
-    format!(in alloc; "1.2.1.{number}")
-}
+/// The study of the image of digit 0.
+pub const FIRST_STUDY: &[u8] = b"1.2.10.0";
 
-/// The words of an image of study k, as a row has them.
-fn words(alloc: Global, k: u64) -> Result<String, AllocError> {
-    let study = study(alloc, k)?;
-    format!(in alloc;
-        "\"{CT}\" \"{study}.1\" implicit 080016001a000000 \"{CT}\" 00 0800180010000000 \"{study}.1\" 00 \
-        0800600002000000 \"CT\" 1000100008000000 \"DOE^JANE\" 1000200002000000 \"P1\" \
-        20000d000e000000 \"{study}\" 00 20000e0010000000 \"{study}.2\" 00"
-    )
-}
+// The spelling of a CT image (docs/DECISIONS.md, "Spelling of operations"): behind each part stands
+// the digit, by which its instance, study and series are told from those of others.
+const PARTS: &[&[u8]] = &[
+    b"\x01\x191.2.840.10008.5.1.4.1.1.2\x0a1.2.10.1.",
+    b"\x01\x00\x00\x00\x7a\
+      \x08\x00\x16\x00\x1a\x00\x00\x001.2.840.10008.5.1.4.1.1.2\x00\
+      \x08\x00\x18\x00\x0a\x00\x00\x001.2.10.1.",
+    b"\x08\x00\x60\x00\x02\x00\x00\x00CT\
+      \x10\x00\x10\x00\x08\x00\x00\x00DOE^JANE\
+      \x10\x00\x20\x00\x02\x00\x00\x00P1\
+      \x20\x00\x0d\x00\x08\x00\x00\x001.2.10.",
+    b"\x20\x00\x0e\x00\x0a\x00\x00\x001.2.10.2.",
+];
 
-/// An image of study k.
-pub fn image(alloc: Global, k: u64) -> Result<Digested> {
-    let words = words(alloc, k)?;
-    match content_in(alloc, words.as_str())? {
-        Ok(content) => Ok(Digested::of(content)),
-        Err(fault) => Err(anyhow!("no image: {fault}")),
+/// The image of a digit.
+pub fn image(alloc: Global, digit: u8) -> Result<Digested> {
+    let mut text = Vec::new(alloc);
+    for part in PARTS {
+        text.extend_from_slice(part)?;
+        text.push(digit)?;
     }
+    Ok(Digested::of(decode(alloc, Bytes::from_vec(text)?)?))
 }
