@@ -1,0 +1,2 @@
+pub mod StandInLaws
+pub mod StringLaws

@@ -1,0 +1,15 @@
+use Rattle.records.proofs.StandInLaws.{op_has_record, op_is_one, op_is_of_record, op_itself}
+use Rattle.records.proofs.laws.a_stand_in_is_the_operation.Goals as goal
+
+pub returns-clause-record : goal.returns-clause-record
+returns-clause-record c = op_has_record
+
+-- What has the digest is the operation, where no two have one.
+pub returns-clause-one : goal.returns-clause-one
+returns-clause-one c = op_is_one
+
+pub returns-clause-alone : goal.returns-clause-alone
+returns-clause-alone c = op_is_of_record
+
+pub returns-clause-itself : goal.returns-clause-itself
+returns-clause-itself c = op_itself

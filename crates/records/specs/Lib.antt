@@ -1,0 +1,6 @@
+pub mod Code
+pub mod Laws
+pub mod Kinds
+pub mod Parts
+pub mod StandIn
+pub mod Strings
