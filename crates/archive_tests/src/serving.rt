@@ -1,11 +1,12 @@
 //! Servers as all tests serve: one call of `serve_on`, and one hub that is named.
 
-ghost use Rattle.std.specs.Prelude.{◌≡◌, vec_len};
+ghost use Rattle.std.specs.Prelude.{◌≡◌, ◌+◌, ◌<◌, IsTrue, length, vec_len};
+ghost use Rattle.archive_server.specs.Serving.{serving_in};
 
 use crate::shelves::Counting;
 use crate::visitors::{Plan, visit};
 use archive_model::View;
-use archive_server::{Duties, Entrance, Exchanging, Manner, serve_on};
+use archive_server::{Duties, Entrance, Exchanging, Manner, Peer, serve_on};
 use association_run::OpenGate;
 use log::Log;
 use octets::{ListOf, Octets};
@@ -51,48 +52,91 @@ fn titles_of(alloc: Global) -> Result<Titles<View>, AllocError> {
     })
 }
 
-/// Serves with two workers and one more for exchanges, and says how many associations were
-/// accepted, if no fault was told.
+/// Where associations come in, how many workers take them, and how many each takes; where exchanges
+/// come in; and whom the server calls.
+#[derive(Clone, Copy)]
+struct Service<'a> {
+    entrance: Entrance<'a>,
+    workers: usize,
+    each: u64,
+    exchange: Option<Exchanging<'a>>,
+    peers: &'a [Peer<'a>],
+}
+
+/// Where every peer may come.
+fn open_to_all<'a>(listener: &'a TcpListener) -> Entrance<'a> {
+    Entrance {
+        listener,
+        allowed: &[],
+    }
+}
+
+/// How many threads serve exchanges.
+fn serving_of(exchange: Option<Exchanging<'_>>) -> usize
+    ensures { result ≡ serving_in exchange.entry }
+{
+    match exchange {
+        None => 0,
+        Some(exchanging) => exchanging.workers as usize,
+    }
+}
+
+/// Whether a server has a worker, and as many passes as it takes.
+fn has_places(service: Service<'_>, passes: usize) -> bool
+    ensures { IsTrue result → (0 < service.entry.workers)
+        × (passes ≡ service.entry.workers + (serving_in service.entry.exchange
+        + length service.entry.peers.now)) }
+{
+    let Some(count) = service.workers.checked_add(service.peers.len()) else {
+        return false;
+    };
+    match count.checked_add(serving_of(service.exchange)) {
+        Some(more) => service.workers > 0 && passes == more,
+        None => false,
+    }
+}
+
+/// Serves, and says how many associations were accepted, if no fault was told.
 fn serve<
     H: HubName + Send + Sync,
     R: Net<Listener = TcpListener, Stream = TcpStream> + Threads + Wait + Clock + Log + Sync,
 >(
     rt: &R,
     alloc: Global,
-    doors: Doors<'_>,
-    plan: Plan,
+    service: Service<'_>,
     keeper: &Shared<'_, H, R>,
     passes: Vec<Pass<H>>,
     shelf: &mut Counting,
 ) -> Option<u64>
-    requires { vec_len passes ≡ 3 }
+    requires some { 0 < service.workers }
+    requires places { vec_len passes
+        ≡ service.workers + (serving_in service.exchange + length service.peers.now) }
 {
     let titles = titles_of(alloc).ok()?;
-    let gates = vec![in alloc; OpenGate; 2].ok()?;
+    let gates = vec![in alloc; OpenGate; service.workers].ok()?;
     let manner = Manner {
         ending: None,
         idle: None,
         is_verbose: false,
     };
     let duties = Duties {
-        exchange: Some(Exchanging {
-            entrance: Entrance {
-                listener: doors.exchanges,
-                allowed: &[],
-            },
-            rounds: plan.exchanges,
-            workers: 1,
-        }),
-        peers: &[],
+        exchange: service.exchange,
+        peers: service.peers,
         pages: None,
         desk: None,
     };
-    let entrance = Entrance {
-        listener: doors.associations,
-        allowed: &[],
-    };
     let served = serve_on(
-        rt, alloc, entrance, duties, &titles, gates, plan.each, keeper, passes, shelf, manner,
+        rt,
+        alloc,
+        service.entrance,
+        duties,
+        &titles,
+        gates,
+        service.each,
+        keeper,
+        passes,
+        shelf,
+        manner,
     );
     match served.fault {
         None => Some(served.accepted),
@@ -108,9 +152,10 @@ fn run<
     rt: &R,
     alloc: Global,
     opened: Opened<&R>,
+    service: Service<'_>,
+    shelf: &mut Counting,
     doors: Doors<'_>,
     plan: Plan,
-    shelf: &mut Counting,
 ) -> Result<(usize, Option<u64>), Fail>
     requires book { opened.book ≡ H.book }
     requires number { opened.number ≡ H.number }
@@ -121,15 +166,17 @@ fn run<
         return Err(Fail::from("no hub"));
     };
     let keeper = Mutex::new(keeper);
-    if passes.len() != 3 {
+    if !has_places(service, passes.len()) {
         return Err(Fail::from("no pass for each place"));
     }
     let (held, accepted) = join(
         rt,
         || visit(rt, alloc, doors, plan),
         || -> Option<u64>
-            requires { vec_len passes ≡ 3 }
-        { serve(rt, alloc, doors, plan, &keeper, passes, shelf) },
+            requires { (0 < service.workers)
+                × (vec_len passes
+                ≡ service.workers + (serving_in service.exchange + length service.peers.now)) }
+        { serve(rt, alloc, service, &keeper, passes, shelf) },
     );
     Ok((held?, accepted))
 }
@@ -145,9 +192,20 @@ pub(crate) fn served<
         associations: &associations,
         exchanges: &exchanges,
     };
+    let service = Service {
+        entrance: open_to_all(&associations),
+        workers: 2,
+        each: plan.each,
+        exchange: Some(Exchanging {
+            entrance: open_to_all(&exchanges),
+            rounds: plan.exchanges,
+            workers: 1,
+        }),
+        peers: &[],
+    };
     let mut shelf = Counting { asked: 0, room };
     let opened = open(alloc, rt, Site::new(alloc), 1, 3)?;
-    let (held, accepted) = run::<Brand, R>(rt, alloc, opened, doors, plan, &mut shelf)?;
+    let (held, accepted) = run::<Brand, R>(rt, alloc, opened, service, &mut shelf, doors, plan)?;
     Ok(Told {
         held,
         accepted,
