@@ -5,11 +5,9 @@
 use crate::assertions::holds_at;
 use crate::disks::Stops;
 use crate::ops::ops;
-use crate::stored::Stored;
+use crate::stored::{FileShelf, Stored};
 use op_log::OpLog;
-use op_shelf::Shelf;
 use operation::Digested;
-use sqlite::FileStore;
 use sqlite_disk::{Fuse, Memory};
 use std::alloc::Global;
 use std::rt::HostRuntime;
@@ -172,5 +170,5 @@ fn a_stop_of_a_log_parts_no_group_and_loses_nothing(rt: HostRuntime) -> Result<(
 
 #[test]
 fn a_stop_of_a_shelf_parts_no_group_and_loses_nothing(rt: HostRuntime) -> Result<(), Fail> {
-    is_safe::<Fuse<Memory>, Shelf<FileStore<Fuse<Memory>>>>(rt.alloc())
+    is_safe::<Fuse<Memory>, FileShelf<Fuse<Memory>>>(rt.alloc())
 }

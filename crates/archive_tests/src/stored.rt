@@ -63,8 +63,19 @@ fn files_of<D: Stops>(database: Connection<FileStore<D>>) -> (D, D) {
     (log, db)
 }
 
-impl<D: Stops> Stored<D> for Shelf<FileStore<D>> {
-    fn opened(alloc: Global, files: (D, D)) -> Result<Result<Shelf<FileStore<D>>, (D, D)>, Fail> {
+/// A shelf over two files. It is named without the kinds of its database, and dropped in one step.
+pub(crate) struct FileShelf<D: Stops> {
+    shelf: Shelf<FileStore<D>>,
+}
+
+impl<D: Stops> Drop for FileShelf<D> {
+    fn drop(self) {
+        let FileShelf { shelf: _ } = self;
+    }
+}
+
+impl<D: Stops> Stored<D> for FileShelf<D> {
+    fn opened(alloc: Global, files: (D, D)) -> Result<Result<FileShelf<D>, (D, D)>, Fail> {
         let (log, db) = files;
         let files = Files { log, db };
         if !files.may_be_used() {
@@ -85,20 +96,21 @@ impl<D: Stops> Stored<D> for Shelf<FileStore<D>> {
             }
         };
         match ready(alloc, database)? {
-            Ok(shelf) => Ok(Ok(shelf)),
+            Ok(shelf) => Ok(Ok(FileShelf { shelf })),
             Err(database) => Ok(Err(files_of(database))),
         }
     }
 
     fn is_put(&mut self, ops: &[Digested]) -> bool {
-        self.put_many(ops).is_ok()
+        self.shelf.put_many(ops).is_ok()
     }
 
     fn all(&mut self, _alloc: Global) -> Result<Vec<Digested>, Fail> {
-        Ok(Shelf::all(self)?)
+        Ok(self.shelf.all()?)
     }
 
     fn into_files(self) -> (D, D) {
-        files_of(self.into_connection())
+        let FileShelf { shelf } = self;
+        files_of(shelf.into_connection())
     }
 }
