@@ -15,7 +15,7 @@ use crate::fault::{NetFault, ServeFault};
 use crate::gauges::Gauges;
 use crate::journal::{Whence, tell_not_accepted, tell_turned_away, tell_visit};
 use crate::meeting::Still;
-use crate::visit::{Visit, turn};
+use crate::visit::{Visit, rest_behind, turn};
 use crate::wire::{Wire, is_cut_off};
 use crate::worker::Hall;
 use crossbeam_channel::Receiver;
@@ -41,8 +41,13 @@ pub struct Paging<'a> {
     pub gauges: &'a Gauges,
 }
 
+/// Lets stores have their turn behind a page that was made in so long, or until nobody serves.
+fn gives_way<S: Wait + Clock>(rt: &S, ended: &Receiver<()>, made: Duration) {
+    let _ = ended.recv_timeout(rt, rest_behind(made));
+}
+
 /// What the thread has done, and one connection more, of a peer that may come in here. Behind it the
-/// peer may read what was sent last.
+/// peer may read what was sent last, and stores have their turn.
 fn with_visitor<H: HubName, T: Shows<H>, R: Wait + Drop, S: Wait + Clock + Log, N: LedgerName>(
     hall: &Hall<'_, H, T, R, S>,
     paging: Paging<'_>,
@@ -66,6 +71,7 @@ fn with_visitor<H: HubName, T: Shows<H>, R: Wait + Drop, S: Wait + Clock + Log, 
     let (done, _answered) = done.with_pages(alloc, paging, &known, &mut reader, &mut writer);
     tell_visit(rt, hall.manner, Whence::at(peer), wire, writer.count());
     wire.part(rt);
+    gives_way(rt, ended, reader.made_until(&writer));
     done
 }
 

@@ -1,14 +1,15 @@
 //! Who came for a page, as a reader and as a writer: it is waited for in short turns, and between
 //! these it is seen whether anybody still serves.
 
-ghost use Rattle.std.specs.Prelude.{◌≡◌, ◌≤◌};
+ghost use Rattle.std.specs.Prelude.{◌≡◌, ◌≤◌, ◌*◌, min};
+ghost use Rattle.core.specs.Duration.{as_nanos, max_nanos};
 
 use crate::wire::{Wire, is_cut_off};
 use crossbeam_channel::{Receiver, TryRecvError};
 use std::io;
 use std::io::{ErrorKind, Read, Write};
 use std::sync::Wait;
-use std::time::Duration;
+use std::time::{Clock, Duration, Instant};
 
 /// How many milliseconds a turn lasts.
 const TURN: u64 = 250;
@@ -18,6 +19,12 @@ const TURNS_OF_A_SECOND: u64 = 4;
 
 /// How many turns are waited at most, to read and to write: half a minute each.
 const MOST_TURNS: u64 = 120;
+
+/// How many times as long as a page was made is rested behind it.
+const RESTS: u32 = 9;
+
+/// How many seconds are rested at most.
+const MOST_REST: u64 = 2;
 
 /// How long a turn lasts.
 pub(crate) fn turn() -> Duration {
@@ -42,18 +49,34 @@ fn is_over<S: Wait>(rt: &S, ended: &Receiver<()>) -> bool {
     matches!(ended.try_recv(rt), Err(TryRecvError::Disconnected))
 }
 
+/// How long is rested behind a page that was made in so long: a publish waits for the look that is
+/// under way, so pages have a tenth of the time, as long as each is made within a fifth of a second.
+pub(crate) fn rest_behind(made: Duration) -> Duration
+    ensures rest { as_nanos result
+        ≡ min (min (as_nanos made * 9) max_nanos) 2_000_000_000 }
+{
+    let rest = made.saturating_mul(RESTS);
+    if rest.as_secs() < MOST_REST {
+        return rest;
+    }
+    Duration::from_secs(MOST_REST)
+}
+
 /// One way of a connection whose waits last a turn. Each read uses up a turn, and each write that
 /// found no room, so that a peer that sends a byte now and then is let go as well.
 #[derive(Drop)]
-pub(crate) struct Visit<'a, S: Wait> {
+pub(crate) struct Visit<'a, S: Wait + Clock> {
     rt: &'a S,
     wire: &'a Wire,
     ended: &'a Receiver<()>,
     left: u64,
     count: u64,
+    /// When bytes first went this way, and when last, as far as a clock says it.
+    first: Option<Instant>,
+    last: Option<Instant>,
 }
 
-impl<'a, S: Wait> Visit<'a, S> {
+impl<'a, S: Wait + Clock> Visit<'a, S> {
     pub fn new(
         rt: &'a S,
         wire: &'a Wire,
@@ -66,12 +89,22 @@ impl<'a, S: Wait> Visit<'a, S> {
             ended,
             left: turns_in(idle),
             count: 0,
+            first: None,
+            last: None,
         }
     }
 
     /// How many bytes went this way.
     pub fn count(&self) -> u64 {
         self.count
+    }
+
+    /// How long it took from what was read last until something was written, where both were.
+    pub fn made_until(&self, writer: &Visit<'_, S>) -> Duration {
+        match (self.last, writer.first) {
+            (Some(asked), Some(told)) => told.duration_since(asked),
+            _ => Duration::ZERO,
+        }
     }
 
     /// Whether one turn more may be waited, which is then used up.
@@ -89,12 +122,14 @@ impl<'a, S: Wait> Visit<'a, S> {
     {
         if let Ok(count) = done {
             self.count = self.count.saturating_add(count as u64);
+            self.last = Instant::now(self.rt).ok();
+            self.first = self.first.or(self.last);
         }
         self.wire.noted(done)
     }
 }
 
-impl<'a, S: Wait> Read for Visit<'a, S> {
+impl<'a, S: Wait + Clock> Read for Visit<'a, S> {
     fn read(&mut self, buffer: &mut [u8]) -> io::Result<usize> {
         let mut stream = self.wire.stream();
         for _ in 0..MOST_TURNS {
@@ -110,7 +145,7 @@ impl<'a, S: Wait> Read for Visit<'a, S> {
     }
 }
 
-impl<'a, S: Wait> Write for Visit<'a, S> {
+impl<'a, S: Wait + Clock> Write for Visit<'a, S> {
     fn write(&mut self, bytes: &[u8]) -> io::Result<usize> {
         let mut stream = self.wire.stream();
         for _ in 0..MOST_TURNS {
