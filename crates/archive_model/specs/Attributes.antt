@@ -10,10 +10,7 @@ use Rattle.operation.specs.declared.target.Target.TheVariants.{Study, Patient, S
 use Rattle.operation.specs.Parts.{ContentParts, CorrectionParts, own_value}
 use Rattle.octets.specs.Texts.{same, text_cmp}
 use Rattle.archive_model.specs.Contents.{study_of, series_of, patient_of}
-
-abbrev pub correction_in : Op → Option CorrectionParts
-correction_in (a_content c) = None
-correction_in (a_correction k) = Some k
+pub use Rattle.records.specs.Parts.{correction_in}
 
 -- the corrections of a set
 abbrev pub corrections : List Op → List CorrectionParts

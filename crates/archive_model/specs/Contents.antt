@@ -7,10 +7,7 @@ use Rattle.operation.specs.declared.op.Op.{Op}
 use Rattle.operation.specs.declared.op.Op.TheVariants.{Content as a_content, Correction as a_correction}
 use Rattle.operation.specs.Parts.{ContentParts, CorrectionParts, own_value}
 use Rattle.octets.specs.Texts.{same, ascending}
-
-abbrev pub content_in : Op → Option ContentParts
-content_in (a_content c) = Some c
-content_in (a_correction k) = None
+pub use Rattle.records.specs.Parts.{content_in}
 
 -- the contents of a set
 abbrev pub contents : List Op → List ContentParts

@@ -22,7 +22,6 @@ mod key;
 mod keys;
 mod laws;
 mod listed;
-mod parts;
 mod prepared;
 mod query;
 mod reading;
@@ -51,7 +50,6 @@ pub use laws::{
     what_is_shown_is_picked_and_uncovered,
 };
 pub use listed::Listed;
-pub use parts::content;
 pub use prepared::Prepared;
 pub use query::{Query, level_of, upper_uid};
 pub use reading::stored;

@@ -12,10 +12,12 @@ use Rattle.dictionary.specs.declared.elements.TheConstants.{SERIES_INSTANCE_UID,
 use Rattle.data_set.specs.Set.{Set}
 use Rattle.operation.specs.declared.op.Op.{Op}
 use Rattle.operation.specs.declared.op.Op.TheVariants.{Content as a_content}
+use Rattle.records.specs.StandIn.{IsStandIn}
 use Rattle.operation.specs.Contents.{IsContent, Describes, offence, has_uids, names_itself, note_offence}
 use Rattle.dictionary.specs.Elements.{role_in_table}
 use Rattle.operation.specs.Corrections.{is_corrected}
-use Rattle.operation.proofs.Bounds.{instance_short, passed}
+use Rattle.operation.proofs.Bounds.{passed}
+use Rattle.records.proofs.StandInLaws.{instance_of_uid}
 use Rattle.operation.proofs.KeyValueLaws.{kept_names}
 use Rattle.rejection_note.specs.Notes.{note_in}
 use Rattle.data_set.specs.Tree.{Tree}
@@ -217,7 +219,7 @@ enough view ops keep us up has_all_kept =
 
 -- ---- what each content keeps true
 
-content_lawful : (ops : List Op) → AreLawful ops → (c : ContentParts) → IsOne (contents ops) c → IsContent c
+content_lawful : (ops : List Op) → AreLawful ops → (c : ContentParts) → IsOne (contents ops) c → IsStandIn c
 content_lawful ops lawful c h = lawful (a_content c) (content_has ops c h)
 
 names_described : (c : ContentParts) (elements : List Tree) → Describes elements c
@@ -230,6 +232,11 @@ names_described c elements d = (passed (has_uids c.class c.instance elements) (n
 own_instance : (c : ContentParts) → IsContent c → own_value c SOP_INSTANCE_UID ≡ c.instance
 own_instance c is = ∥∥₁_elim is (Coded-set (coded_list coded_ℕ) (own_value c SOP_INSTANCE_UID) c.instance)
     (λ d. (kept_names c.class c.instance d.0 c.values d.1.values (names_described c d.0 d.1)).1)
+
+-- and what stands for it has both
+stood_instance : (c : ContentParts) → IsStandIn c → own_value c SOP_INSTANCE_UID ≡ c.instance
+stood_instance c is = ∥∥₁_elim is (Coded-set (coded_list coded_ℕ) (own_value c SOP_INSTANCE_UID) c.instance)
+    (λ w. subst (λ (q : ContentParts). own_value q SOP_INSTANCE_UID ≡ q.instance) w.2 (own_instance w.0 w.1.0))
 
 -- ---- what a query asks for
 
@@ -417,7 +424,7 @@ module _ (ops : List Op) (index : IndexValue) (is : IsIndexOf ops index) (lawful
       let some = not_true (is_universal a.key) (and_both _ _ key).1 in
       let here = pick_is_content uid ops c e in
       let whole : take 64 c.instance ≡ c.instance =
-      take_all 64 c.instance (instance_short c (content_lawful ops lawful c here.0)) in
+      take_all 64 c.instance (instance_of_uid c (content_lawful ops lawful c here.0)) in
       let listed_is = listed_by a c.instance some both.1 in
       ap (λ b. b && has text_cmp (union_of text_cmp [] (cut_texts (members_of a))) uid)
       (named_in_series q l uid c e both.0)
@@ -680,7 +687,7 @@ module _ (ops : List Op) (lawful : AreLawful ops) (called : List ℕ) (q : Query
   by_image (Some a) l f cs among =
       of_matching (matches Uids a.key)
       (λ c h e. unmatched SOP_INSTANCE_UID instance_stays a f c (ap (matches Uids a.key)
-      (own_instance c (content_lawful ops lawful c h) ∙ sym (instance_is c)) ∙ e)) cs among
+      (stood_instance c (content_lawful ops lawful c h) ∙ sym (instance_is c)) ∙ e)) cs among
       ∙ ap (λ x. rows_among ops called q (named q (filter (λ c. is_named q c && matches Uids a.key (uid_at x c)) cs))) l
     where
       instance_is : (c : ContentParts) → uid_at q.level c ≡ c.instance

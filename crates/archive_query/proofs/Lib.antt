@@ -21,3 +21,4 @@ pub mod ChangeLaws
 pub mod SendingLaws
 pub mod SelectedLaws
 pub mod RetrieveLaws
+pub mod LoadedLaws

@@ -8,4 +8,4 @@ pub mod SelectedPlaces
 pub mod Changes
 pub mod Made
 pub mod SendingLaws
-pub mod Listing
+pub mod Loaded

@@ -24,7 +24,7 @@ use crate::prepared::PreparedQuery;
 use crate::walks::KeyWalk;
 use archive_model::{Level, View};
 use octets::Octets;
-use operation::Content;
+use records::RecordedContent;
 use site_state::Site;
 use std::alloc::{AllocError, Global};
 use std::collections::BTreeSet;
@@ -385,7 +385,7 @@ pub fn shown_of<'a>(
     site: &'a Site,
     view: View,
     uids: &BTreeSet<ShortText>,
-) -> Result<Vec<&'a Content>, AllocError>
+) -> Result<Vec<&'a RecordedContent>, AllocError>
     ensures found { IfOk result (λ found. map (λ c. c.now) found.items
         ≡ filter_map (shown_at view (ops_of site.now)) uids.now.keys) }
     ensures ordered { IfOk result (λ _. IsStrictlySortedBy text_cmp uids.now.keys) }

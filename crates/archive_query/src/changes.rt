@@ -10,13 +10,13 @@ ghost use Rattle.archive_query.specs.Changes.{changed_value as changed_value_in}
 
 use archive_model::{Change, corrected_tags};
 use octets::ListOf;
-use operation::Content;
+use records::RecordedContent;
 use site_state::Site;
 use std::alloc::{AllocError, Global};
 
 /// The value that corrections give an attribute of a content, where it is another than the
 /// content's own.
-fn changed_value<'a>(site: &'a Site, content: &Content, tag: u32) -> Option<&'a [u8]>
+fn changed_value<'a>(site: &'a Site, content: &RecordedContent, tag: u32) -> Option<&'a [u8]>
     ensures value { option_copied result ≡ changed_value_in (ops_of site.now) content.now tag }
     ensures short { IfSome result (λ value. length value.now ≤ 64) }
 {
@@ -37,7 +37,7 @@ fn changed_value<'a>(site: &'a Site, content: &Content, tag: u32) -> Option<&'a 
 fn change(
     alloc: Global,
     site: &Site,
-    content: &Content,
+    content: &RecordedContent,
     tag: u32,
 ) -> Result<Option<Change>, AllocError>
     requires { IsTrue (is_corrected tag) }
@@ -53,7 +53,7 @@ fn change(
 fn changes_under(
     alloc: Global,
     site: &Site,
-    content: &Content,
+    content: &RecordedContent,
     tags: &[u32],
 ) -> Result<Vec<Change>, AllocError>
     requires { IsTrue (list_all is_corrected tags.now) }
@@ -71,7 +71,11 @@ fn changes_under(
 
 /// What corrections change of a content, by ascending tag.
 #[tactic(auto, unfolding(dictionary::specs::Elements::role_in_table))]
-pub fn changes(alloc: Global, site: &Site, content: &Content) -> Result<ListOf<Change>, AllocError>
+pub fn changes(
+    alloc: Global,
+    site: &Site,
+    content: &RecordedContent,
+) -> Result<ListOf<Change>, AllocError>
     ensures { IfOk result (λ changes. changes ≡ changes_for (ops_of site.now) content.now) }
 {
     let changes = changes_under(alloc, site, content, corrected_tags())?;

@@ -16,7 +16,7 @@ use crate::prepared::PreparedQuery;
 use crate::rows::rows_among;
 use archive_model::{Answers, Level, Query, View};
 use join_laws::Join;
-use operation::Content;
+use records::RecordedContent;
 use site_state::Site;
 use std::alloc::{AllocError, Global};
 use std::marker::Model;
@@ -26,7 +26,7 @@ use study_index::ShortText;
 /// site, and the values that corrections give them.
 #[derive(Drop)]
 pub struct Found {
-    contents: Vec<Content>,
+    contents: Vec<RecordedContent>,
     fixes: Fixes,
 }
 
@@ -45,7 +45,7 @@ fn reached_all<'a>(
     site: &'a Site,
     view: View,
     prepared: &PreparedQuery,
-) -> Result<Vec<&'a Content>, AllocError>
+) -> Result<Vec<&'a RecordedContent>, AllocError>
     ensures { IfOk result (λ found. AreEnough view prepared.now (ops_of site.now)
         (map (λ c. c.now) found.items)) }
 {
@@ -63,7 +63,7 @@ fn reached_first<'a>(
     site: &'a Site,
     view: View,
     prepared: &PreparedQuery,
-) -> Result<Vec<&'a Content>, AllocError>
+) -> Result<Vec<&'a RecordedContent>, AllocError>
     requires counted { is_counted_in prepared.now ≡ false }
     requires level { prepared.now.level ≡ Level.Study }
     ensures { IfOk result (λ found. AreEnough view prepared.now (ops_of site.now)
@@ -86,7 +86,7 @@ fn reached_in_study<'a>(
     site: &'a Site,
     view: View,
     prepared: &PreparedQuery,
-) -> Result<Vec<&'a Content>, AllocError>
+) -> Result<Vec<&'a RecordedContent>, AllocError>
     requires counted { is_counted_in prepared.now ≡ false }
     requires level { prepared.now.level ≡ Level.Series }
     ensures { IfOk result (λ found. AreEnough view prepared.now (ops_of site.now)
@@ -110,7 +110,7 @@ fn reached<'a>(
     site: &'a Site,
     view: View,
     prepared: &PreparedQuery,
-) -> Result<Vec<&'a Content>, AllocError>
+) -> Result<Vec<&'a RecordedContent>, AllocError>
     ensures { IfOk result (λ found. AreEnough view prepared.now (ops_of site.now)
         (map (λ c. c.now) found.items)) }
 {
@@ -133,17 +133,23 @@ fn reached<'a>(
 }
 
 /// Second owners of some contents.
-fn copies_of(alloc: Global, contents: &[&Content]) -> Result<Vec<Content>, AllocError>
+fn copies_of(
+    alloc: Global,
+    contents: &[&RecordedContent],
+) -> Result<Vec<RecordedContent>, AllocError>
     ensures { IfOk result (λ copies. copies.items ≡ map (λ c. c.now) contents.now) }
 {
     let mut copies = Vec::with_capacity(alloc, contents.len())?;
     for content in contents {
-        copies.push(content.copy(alloc)?)?;
+        copies.push(content.copy()?)?;
     }
     Ok(copies)
 }
 
-fn references<'a>(alloc: Global, contents: &'a [Content]) -> Result<Vec<&'a Content>, AllocError>
+fn references<'a>(
+    alloc: Global,
+    contents: &'a [RecordedContent],
+) -> Result<Vec<&'a RecordedContent>, AllocError>
     ensures { IfOk result (λ found. map (λ c. c.now) found.items ≡ contents.now) }
 {
     let mut found = Vec::with_capacity(alloc, contents.len())?;

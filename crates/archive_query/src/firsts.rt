@@ -14,7 +14,7 @@ use dictionary::{
     MODALITIES_IN_STUDY, NUMBER_OF_SERIES_RELATED_INSTANCES, NUMBER_OF_STUDY_RELATED_INSTANCES,
     NUMBER_OF_STUDY_RELATED_SERIES,
 };
-use operation::Content;
+use records::RecordedContent;
 use site_state::Site;
 use std::alloc::{AllocError, Global};
 use std::collections::BTreeSet;
@@ -61,7 +61,7 @@ fn put_firsts<'a>(
     site: &'a Site,
     view: View,
     places: &[&Place],
-    found: &mut Vec<&'a Content>,
+    found: &mut Vec<&'a RecordedContent>,
 ) -> Result<(), AllocError>
     ensures { OnOk result (map (λ c. c.now) found.new.items ≡ map (λ c. c.now) found.old.items
         ++ firsts (shown_at view (ops_of site.now)) None (map (λ p. p.now) places.now)) }
@@ -87,7 +87,7 @@ fn put_in_study<'a>(
     index: &Index,
     view: View,
     study: &ShortText,
-    found: &mut Vec<&'a Content>,
+    found: &mut Vec<&'a RecordedContent>,
 ) -> Result<(), AllocError>
     ensures { OnOk result (map (λ c. c.now) found.new.items ≡ map (λ c. c.now) found.old.items
         ++ firsts_in_study (shown_at view (ops_of site.now)) index.now.picks study.now) }
@@ -104,7 +104,7 @@ pub(crate) fn of_study<'a>(
     index: &Index,
     view: View,
     study: &ShortText,
-) -> Result<Vec<&'a Content>, AllocError>
+) -> Result<Vec<&'a RecordedContent>, AllocError>
     ensures { IfOk result (λ found. map (λ c. c.now) found.items ≡ firsts_in_study
         (shown_at view (ops_of site.now)) index.now.picks study.now) }
 {
@@ -120,7 +120,7 @@ fn in_studies<'a>(
     index: &Index,
     view: View,
     studies: &BTreeSet<ShortText>,
-) -> Result<Vec<&'a Content>, AllocError>
+) -> Result<Vec<&'a RecordedContent>, AllocError>
     ensures { IfOk result (λ found. map (λ c. c.now) found.items ≡ flat_map
         (firsts_in_study (shown_at view (ops_of site.now)) index.now.picks) studies.now.keys) }
 {
@@ -138,7 +138,7 @@ pub(crate) fn of_studies<'a>(
     index: &Index,
     view: View,
     studies: Option<&BTreeSet<ShortText>>,
-) -> Result<Vec<&'a Content>, AllocError>
+) -> Result<Vec<&'a RecordedContent>, AllocError>
     ensures { IfOk result (λ found. map (λ c. c.now) found.items ≡ firsts_of
         (shown_at view (ops_of site.now)) index.now.picks
         (option_map (λ s. s.now.keys) studies.entry)) }

@@ -7,7 +7,7 @@ ghost use Rattle.site_state.specs.Site.{ops_of};
 
 use archive_model::{Asked, Query};
 use octets::{ListOf, Octets};
-use operation::Content;
+use records::RecordedContent;
 use site_state::Site;
 use std::alloc::{AllocError, Global};
 use std::collections::BTreeMap;
@@ -59,7 +59,7 @@ fn value_among<'a>(own: &'a [u8], tag: u32, fixes: &'a [Fix]) -> &'a [u8]
 fn fix_of(
     alloc: Global,
     site: &Site,
-    content: &Content,
+    content: &RecordedContent,
     asked: &Asked,
 ) -> Result<Option<Fix>, AllocError>
     ensures { IfOk result (λ fix. fix ≡ fix_at (ops_of site.now) content.now asked.now) }
@@ -79,7 +79,7 @@ fn fixes_of(
     alloc: Global,
     site: &Site,
     query: &Query,
-    content: &Content,
+    content: &RecordedContent,
 ) -> Result<ListOf<Fix>, AllocError>
     ensures { IfOk result (λ fixes. fixes ≡
         fixes_of_in (ops_of site.now) query.now.asked content.now) }
@@ -100,7 +100,7 @@ impl Fixes {
         alloc: Global,
         site: &Site,
         query: &Query,
-        content: &Content,
+        content: &RecordedContent,
     ) -> Result<(), AllocError>
         ensures { OnOk result ((uid : List ℕ) → fixes_under_in self.new uid ≡
             fixes_put self.old content.now.instance
@@ -120,7 +120,7 @@ impl Fixes {
         alloc: Global,
         site: &Site,
         query: &Query,
-        contents: &[&Content],
+        contents: &[&RecordedContent],
     ) -> Result<Fixes, AllocError>
         ensures { IfOk result (λ fixes. AreFixes (ops_of site.now) query.now.asked
             (map (λ c. c.now) contents.now) fixes) }
@@ -138,7 +138,7 @@ impl Fixes {
     }
 
     /// An attribute of a content, corrected.
-    pub(crate) fn attribute<'a>(&'a self, content: &'a Content, tag: u32) -> &'a [u8]
+    pub(crate) fn attribute<'a>(&'a self, content: &'a RecordedContent, tag: u32) -> &'a [u8]
         ensures { result.now ≡ value_by self.now content.now tag }
     {
         let own = content.own_value(tag);

@@ -7,29 +7,29 @@ ghost use Rattle.archive_model.specs.Rows.{uid_at as uid_in};
 
 use crate::groups::uid_at;
 use archive_model::Level;
-use operation::Content;
+use records::RecordedContent;
 use std::alloc::{AllocError, Global};
 use std::cmp::Ordering;
 
-fn by_study(a: &Content, b: &Content) -> Ordering
+fn by_study(a: &RecordedContent, b: &RecordedContent) -> Ordering
     ensures { result ≡ text_cmp (uid_in Level.Study a.now) (uid_in Level.Study b.now) }
 {
     uid_at(Level::Study, a).cmp(uid_at(Level::Study, b))
 }
 
-fn by_series(a: &Content, b: &Content) -> Ordering
+fn by_series(a: &RecordedContent, b: &RecordedContent) -> Ordering
     ensures { result ≡ text_cmp (uid_in Level.Series a.now) (uid_in Level.Series b.now) }
 {
     uid_at(Level::Series, a).cmp(uid_at(Level::Series, b))
 }
 
-fn by_instance(a: &Content, b: &Content) -> Ordering
+fn by_instance(a: &RecordedContent, b: &RecordedContent) -> Ordering
     ensures { result ≡ text_cmp (uid_in Level.Image a.now) (uid_in Level.Image b.now) }
 {
     uid_at(Level::Image, a).cmp(uid_at(Level::Image, b))
 }
 
-fn sort_by_study(contents: &mut Vec<&Content>) -> Result<(), AllocError>
+fn sort_by_study(contents: &mut Vec<&RecordedContent>) -> Result<(), AllocError>
     ensures ascends { OnOk result (Ascends (λ c. uid_in Level.Study c.now) contents.new.items) }
     ensures groups { OnOk result (groups_by (λ c. uid_in Level.Study c.now) contents.new.items
         ≡ groups_by (λ c. uid_in Level.Study c.now) contents.old.items) }
@@ -38,7 +38,7 @@ fn sort_by_study(contents: &mut Vec<&Content>) -> Result<(), AllocError>
     Ok(())
 }
 
-fn sort_by_series(contents: &mut Vec<&Content>) -> Result<(), AllocError>
+fn sort_by_series(contents: &mut Vec<&RecordedContent>) -> Result<(), AllocError>
     ensures ascends { OnOk result (Ascends (λ c. uid_in Level.Series c.now) contents.new.items) }
     ensures groups { OnOk result (groups_by (λ c. uid_in Level.Series c.now) contents.new.items
         ≡ groups_by (λ c. uid_in Level.Series c.now) contents.old.items) }
@@ -47,7 +47,7 @@ fn sort_by_series(contents: &mut Vec<&Content>) -> Result<(), AllocError>
     Ok(())
 }
 
-pub(crate) fn sort_by_instance(contents: &mut Vec<&Content>) -> Result<(), AllocError>
+pub(crate) fn sort_by_instance(contents: &mut Vec<&RecordedContent>) -> Result<(), AllocError>
     ensures ascends { OnOk result (Ascends (λ c. uid_in Level.Image c.now) contents.new.items) }
     ensures groups { OnOk result (groups_by (λ c. uid_in Level.Image c.now) contents.new.items
         ≡ groups_by (λ c. uid_in Level.Image c.now) contents.old.items) }
@@ -59,8 +59,8 @@ pub(crate) fn sort_by_instance(contents: &mut Vec<&Content>) -> Result<(), Alloc
 /// These contents by ascending UID; those of one UID stay in their order.
 pub(crate) fn by_uid<'a>(
     level: Level,
-    contents: Vec<&'a Content>,
-) -> Result<Vec<&'a Content>, AllocError>
+    contents: Vec<&'a RecordedContent>,
+) -> Result<Vec<&'a RecordedContent>, AllocError>
     ensures ascends { IfOk result (λ sorted. Ascends (λ c. uid_in level c.now) sorted.items) }
     ensures groups { IfOk result (λ sorted. groups_by (λ c. uid_in level c.now) sorted.items
         ≡ groups_by (λ c. uid_in level c.now) contents.entry.items) }
@@ -83,7 +83,7 @@ pub(crate) fn by_uid<'a>(
 }
 
 /// How many contents at the front have a UID.
-fn run_length(level: Level, uid: &[u8], contents: &[&Content]) -> usize
+fn run_length(level: Level, uid: &[u8], contents: &[&RecordedContent]) -> usize
     ensures counted { result ≡ leading (λ c. same (uid_in level c.now) uid.now) contents.now }
     ensures within { result ≤ length contents.now }
 {
@@ -98,7 +98,7 @@ fn run_length(level: Level, uid: &[u8], contents: &[&Content]) -> usize
 }
 
 /// The run of one UID at the front.
-fn first_run<'s, 'a>(level: Level, sorted: &'s [&'a Content]) -> &'s [&'a Content]
+fn first_run<'s, 'a>(level: Level, sorted: &'s [&'a RecordedContent]) -> &'s [&'a RecordedContent]
     requires some { 0 < length sorted.now }
     requires ascends { Ascends (λ c. uid_in level c.now) sorted.now }
     ensures run { IsRun (λ c. uid_in level c.now) result.now sorted.now }
@@ -112,8 +112,8 @@ fn first_run<'s, 'a>(level: Level, sorted: &'s [&'a Content]) -> &'s [&'a Conten
 pub(crate) fn groups_of<'s, 'a>(
     alloc: Global,
     level: Level,
-    sorted: &'s [&'a Content],
-) -> Result<Vec<&'s [&'a Content]>, AllocError>
+    sorted: &'s [&'a RecordedContent],
+) -> Result<Vec<&'s [&'a RecordedContent]>, AllocError>
     requires { Ascends (λ c. uid_in level c.now) sorted.now }
     ensures { IfOk result (λ groups. map (λ g. g.now) groups.items ≡
         groups_by (λ c. uid_in level c.now) sorted.now) }

@@ -9,11 +9,11 @@ ghost use Rattle.archive_model.specs.Contents.{series_of as series_in};
 
 use archive_model::{Level, Query, ascending, modality, series, study};
 use octets::Octets;
-use operation::Content;
+use records::RecordedContent;
 use std::alloc::{AllocError, Global};
 
 /// The UID of a content at a level.
-pub fn uid_at(level: Level, content: &Content) -> &[u8]
+pub fn uid_at(level: Level, content: &RecordedContent) -> &[u8]
     ensures { result.now ≡ uid_in level content.now }
 {
     match level {
@@ -24,7 +24,7 @@ pub fn uid_at(level: Level, content: &Content) -> &[u8]
 }
 
 /// Whether a content is of the study and the series that a query names.
-fn is_named(query: &Query, content: &Content) -> bool
+fn is_named(query: &Query, content: &RecordedContent) -> bool
     ensures { result ≡ is_named_in query.now content.now }
 {
     (!query.level.names_study() || study(content) == query.study.as_slice())
@@ -35,14 +35,14 @@ fn is_named(query: &Query, content: &Content) -> bool
 pub(crate) fn named<'a>(
     alloc: Global,
     query: &Query,
-    shown: &[&'a Content],
-) -> Result<Vec<&'a Content>, AllocError>
+    shown: &[&'a RecordedContent],
+) -> Result<Vec<&'a RecordedContent>, AllocError>
     ensures { IfOk result (λ found. map (λ c. c.now) found.items ≡
         named_in query.now (map (λ c. c.now) shown.now)) }
 {
     let mut found = Vec::new(alloc);
     for content in shown {
-        let content: &'a Content = content;
+        let content: &'a RecordedContent = content;
         if is_named(query, content) {
             found.push(content)?;
         }
@@ -51,7 +51,10 @@ pub(crate) fn named<'a>(
 }
 
 /// How many series some contents are of.
-pub(crate) fn count_series(alloc: Global, contents: &[&Content]) -> Result<usize, AllocError>
+pub(crate) fn count_series(
+    alloc: Global,
+    contents: &[&RecordedContent],
+) -> Result<usize, AllocError>
     ensures { IfOk result (λ count. count ≡
         length (ascending_of (map series_in (map (λ c. c.now) contents.now)))) }
 {
@@ -64,7 +67,10 @@ pub(crate) fn count_series(alloc: Global, contents: &[&Content]) -> Result<usize
 }
 
 /// The distinct modalities, but for the empty one, ascending.
-pub(crate) fn modalities_of(alloc: Global, contents: &[&Content]) -> Result<Vec<Octets>, AllocError>
+pub(crate) fn modalities_of(
+    alloc: Global,
+    contents: &[&RecordedContent],
+) -> Result<Vec<Octets>, AllocError>
     ensures { IfOk result (λ found. found.items ≡ modalities_in (map (λ c. c.now) contents.now)) }
 {
     let mut found = Vec::new(alloc);

@@ -7,7 +7,7 @@ ghost use Rattle.archive_model.specs.Rows.{is_key_match_with};
 use crate::fixes::Fixes;
 use archive_model::{Asked, Query};
 use key_matching::PreparedKey;
-use operation::Content;
+use records::RecordedContent;
 use std::alloc::{AllocError, Global};
 use std::marker::Model;
 
@@ -47,7 +47,7 @@ pub(crate) fn keys_of(alloc: Global, query: &Query) -> Result<Vec<Key<'_>>, Allo
 }
 
 /// Whether a key matches an attribute of a representative.
-pub(crate) fn is_key_match(fixes: &Fixes, content: &Content, key: &Key) -> bool
+pub(crate) fn is_key_match(fixes: &Fixes, content: &RecordedContent, key: &Key) -> bool
     ensures { result ≡ is_key_match_with (value_by fixes.now) content.now key.now }
 {
     key.prepared.matches(fixes.attribute(content, key.tag))

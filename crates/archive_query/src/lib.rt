@@ -7,8 +7,8 @@
 //! What a C-GET sends is what a view shows of a selection, corrected, in a transfer syntax that is
 //! accepted. A data set that needs no change is the stored one, whose bytes are shared with the
 //! site. `list` finds what is to be sent and holds no byte of a data set, so that each can be loaded
-//! when its turn comes; `prepare` finds the same with the data sets as they are stored, and `get`
-//! makes them all at once.
+//! when its turn comes; `get` loads and makes them all at once, over a site in memory that has the
+//! whole operations.
 #![tactic(auto)]
 
 mod candidates;
@@ -45,7 +45,7 @@ pub use groups::uid_at;
 pub use laws::same_sites_answer_alike;
 pub use listing::list;
 pub use prepared::PreparedQuery;
-pub use preparing::prepare;
+pub use preparing::shown_selected;
 pub use sending_laws::{
     same_sites_send_alike, what_is_rejected_is_not_sent, what_is_sent_is_computed,
     what_is_sent_is_shown, what_is_sent_reads_again_corrected,

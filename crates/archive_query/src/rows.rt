@@ -25,11 +25,11 @@ use dictionary::{
     SOP_INSTANCE_UID, SPECIFIC_CHARACTER_SET, STUDY_INSTANCE_UID,
 };
 use octets::{Octets, digits, joined};
-use operation::Content;
+use records::RecordedContent;
 use std::alloc::{AllocError, Global};
 
 /// Whether every key matches a representative.
-fn is_match(fixes: &Fixes, keys: &[Key], content: &Content) -> bool
+fn is_match(fixes: &Fixes, keys: &[Key], content: &RecordedContent) -> bool
     ensures { result ≡ list_all (is_key_match_with (value_by fixes.now) content.now) keys.now }
 {
     keys.iter().all(|key| is_key_match(fixes, content, key))
@@ -51,8 +51,8 @@ fn is_asked(query: &Query, tag: u32) -> bool
 fn asked_cell(
     alloc: Global,
     fixes: &Fixes,
-    contents: &[&Content],
-    first: &Content,
+    contents: &[&RecordedContent],
+    first: &RecordedContent,
     tag: u32,
 ) -> Result<Element, AllocError>
     ensures { IfOk result (λ element. element ≡
@@ -79,7 +79,7 @@ fn asked_cell(
 /// The character set of a row's representative, where it has one.
 fn character_set_cell(
     alloc: Global,
-    first: &Content,
+    first: &RecordedContent,
     tag: u32,
 ) -> Result<Option<Element>, AllocError>
     ensures { IfOk result (λ element. element ≡
@@ -97,8 +97,8 @@ fn cell_in_row(
     fixes: &Fixes,
     called: &[u8],
     query: &Query,
-    contents: &[&Content],
-    first: &Content,
+    contents: &[&RecordedContent],
+    first: &RecordedContent,
     tag: u32,
 ) -> Result<Option<Element>, AllocError>
     ensures { IfOk result (λ element. element ≡
@@ -129,8 +129,8 @@ fn cells(
     fixes: &Fixes,
     called: &[u8],
     query: &Query,
-    contents: &[&Content],
-    first: &Content,
+    contents: &[&RecordedContent],
+    first: &RecordedContent,
 ) -> Result<Vec<Element>, AllocError>
     ensures { IfOk result (λ cells. cells.items ≡
         (row_with (value_by fixes.now) called.now query.now (map (λ c. c.now) contents.now)
@@ -153,8 +153,8 @@ fn put_row(
     fixes: &Fixes,
     called: &[u8],
     query: &Query,
-    contents: &[&Content],
-    first: &Content,
+    contents: &[&RecordedContent],
+    first: &RecordedContent,
 ) -> Result<(), AllocError>
     ensures { OnOk result (rows.new ≡ rows.old ++
         row_with (value_by fixes.now) called.now query.now (map (λ c. c.now) contents.now)
@@ -173,7 +173,7 @@ fn put_row_of(
     called: &[u8],
     query: &Query,
     keys: &[Key],
-    contents: &[&Content],
+    contents: &[&RecordedContent],
 ) -> Result<(), AllocError>
     requires { keys.now ≡ query.now.asked }
     ensures { OnOk result (rows.new ≡ rows.old ++ option_to_list
@@ -196,7 +196,7 @@ fn rows_of_groups(
     fixes: &Fixes,
     called: &[u8],
     query: &Query,
-    groups: &[&[&Content]],
+    groups: &[&[&RecordedContent]],
 ) -> Result<Answers, AllocError>
     ensures { IfOk result (λ rows. rows ≡
         filter_map (row_of_with (value_by fixes.now) called.now query.now)
@@ -216,7 +216,7 @@ pub(crate) fn rows_among(
     fixes: &Fixes,
     called: &[u8],
     query: &Query,
-    contents: Vec<&Content>,
+    contents: Vec<&RecordedContent>,
 ) -> Result<Answers, AllocError>
     ensures { IfOk result (λ rows. rows ≡
         rows_with (value_by fixes.now) called.now query.now

@@ -8,11 +8,11 @@ ghost use Rattle.archive_model.specs.Selection.{is_among_these as is_among_these
 use crate::groups::uid_at;
 use archive_model::{Selection, series, study};
 use octets::Octets;
-use operation::Content;
+use records::RecordedContent;
 use std::alloc::{AllocError, Global};
 
 /// Whether a content is of the study and the series that a selection names above its level.
-fn is_within(selection: &Selection, content: &Content) -> bool
+fn is_within(selection: &Selection, content: &RecordedContent) -> bool
     ensures { result ≡ is_within_in selection.now content.now }
 {
     (!selection.level.names_study() || study(content) == selection.study.as_slice())
@@ -28,7 +28,7 @@ fn is_one_of(uids: &[&[u8]], uid: &[u8]) -> bool
 }
 
 /// The same, and its UID at the level is one of these, which ascend.
-fn is_among_these(uids: &[&[u8]], selection: &Selection, content: &Content) -> bool
+fn is_among_these(uids: &[&[u8]], selection: &Selection, content: &RecordedContent) -> bool
     requires { Rises uids.now }
     ensures { result ≡ is_among_these_in (map (λ u. u.now) uids.now) selection.now content.now }
 {
@@ -60,8 +60,8 @@ fn those_among<'a>(
     alloc: Global,
     uids: &[&[u8]],
     selection: &Selection,
-    contents: &[&'a Content],
-) -> Result<Vec<&'a Content>, AllocError>
+    contents: &[&'a RecordedContent],
+) -> Result<Vec<&'a RecordedContent>, AllocError>
     requires { Rises uids.now }
     ensures { IfOk result (λ found. map (λ c. c.now) found.items ≡
         filter (is_among_these_in (map (λ u. u.now) uids.now) selection.now)
@@ -69,7 +69,7 @@ fn those_among<'a>(
 {
     let mut found = Vec::new(alloc);
     for content in contents {
-        let content: &'a Content = content;
+        let content: &'a RecordedContent = content;
         if is_among_these(uids, selection, content) {
             found.push(content)?;
         }
@@ -82,8 +82,8 @@ fn those_among<'a>(
 pub fn selected<'a>(
     alloc: Global,
     selection: &Selection,
-    contents: &[&'a Content],
-) -> Result<Vec<&'a Content>, AllocError>
+    contents: &[&'a RecordedContent],
+) -> Result<Vec<&'a RecordedContent>, AllocError>
     ensures { IfOk result (λ found. map (λ c. c.now) found.items ≡
         selected_in selection.now (map (λ c. c.now) contents.now)) }
 {

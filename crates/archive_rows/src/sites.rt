@@ -13,13 +13,13 @@ use joining::put_folded;
 use operation::{Op, OpFault};
 use running::put_world;
 use sending::put_get;
-use site_state::Site;
+use site_state::WholeSite;
 use std::alloc::Global;
 
 /// A site.
 pub struct Sites {
     alloc: Global,
-    site: Site,
+    site: WholeSite,
 }
 
 impl Drop for Sites {
@@ -32,13 +32,13 @@ impl Sites {
     pub fn new(alloc: Global) -> Sites {
         Sites {
             alloc,
-            site: Site::new(alloc),
+            site: WholeSite::new(alloc),
         }
     }
 
     /// `site`: a new one.
     fn put_new(&mut self, out: &mut String) -> Result<(), RowFault> {
-        self.site = Site::new(self.alloc);
+        self.site = WholeSite::new(self.alloc);
         Ok(out.push_str("a new site")?)
     }
 
@@ -80,7 +80,7 @@ impl Sites {
             "site" => Some(self.put_new(out)),
             "take" => Some(self.put_content(out, words)),
             "correct" => Some(self.put_correction(out, words)),
-            "find" => Some(put_find(alloc, out, &self.site, words)),
+            "find" => Some(put_find(alloc, out, self.site.site(), words)),
             "get" => Some(put_get(alloc, out, &self.site, words)),
             "world" => Some(put_world(alloc, out, &self.site, words)),
             "folded" => Some(put_folded(alloc, out, words)),

@@ -1,5 +1,5 @@
--- Why a put over a line to the shelf's thread comes back refused.
-use Rattle.std.specs.Prelude.{ℕ, ◌≢◌, ◌⊎◌, List}
+-- Why a put, or a load, over a line to the shelf's thread comes back refused.
+use Rattle.std.specs.Prelude.{ℕ, ◌≢◌, ◌⊎◌, List, Option, Some, None}
 use Rattle.devices.specs.Failures.{Rose}
 use Rattle.operation.specs.declared.op.Op.{Op}
 use Rattle.operation.specs.Spelling.{digest_of}
@@ -23,4 +23,21 @@ WasAnswered before after = Rose before.answers after.answers
 -- the same of a channel, of which no contract says what it brings
 abbrev pub RefusesOverChannel : Tried → Tried → Op → ShelfFault → Type 0
 RefusesOverChannel = RefusesOver (λ (tried : Tried). tried.failures) (λ before after _. WasAnswered before after)
+    (λ before after _. WasAnswered before after)
+
+-- This is an operation of another digest.
+abbrev pub IsOfAnotherThan : List ℕ → Option Op → Type 0
+IsOfAnotherThan digest None = ⊥
+IsOfAnotherThan digest (Some op) = digest_of op ≢ digest
+
+-- The line failed, or the thread answered this refusal, or with an operation of another digest.
+abbrev pub RefusesLoadOver : {L : Type 0} → (L → ℕ) → (L → L → Option Op → Type 0) → (L → L → ShelfFault → Type 0) → L
+    → L → List ℕ → ShelfFault → Type 0
+RefusesLoadOver failures loaded refused before after digest fault =
+    Rose (failures before) (failures after) ⊎ refused before after fault
+    ⊎ ((found : Option Op) × (loaded before after found × IsOfAnotherThan digest found))
+
+-- the same of a channel
+abbrev pub RefusesLoadOverChannel : Tried → Tried → List ℕ → ShelfFault → Type 0
+RefusesLoadOverChannel = RefusesLoadOver (λ (tried : Tried). tried.failures) (λ before after _. WasAnswered before after)
     (λ before after _. WasAnswered before after)

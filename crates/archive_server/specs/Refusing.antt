@@ -1,10 +1,12 @@
 -- What the lines of a server say of what it refuses.
-use Rattle.std.specs.Prelude.{◌≡◌, ◌≢◌, ◌⊎◌, ℕ, List, codes}
+use Rattle.std.specs.Prelude.{◌≡◌, ◌≢◌, ◌⊎◌, ⊤, ℕ, List, Option, Some, None, codes}
 use Rattle.devices.specs.Failures.{Rose}
 use Rattle.operation.specs.declared.op.Op.{Op}
+use Rattle.operation.specs.declared.op.Op.TheVariants.{Content as a_content, Correction as a_correction}
+use Rattle.operation.specs.RecordParts.{ContentRecordParts, content_record}
 use Rattle.op_shelf.specs.declared.fault.ShelfFault.{ShelfFault}
 use Rattle.site_hub.specs.Hub.{Seat}
-use Rattle.hub_exchange.specs.Putting.{RefusesPut}
+use Rattle.hub_exchange.specs.Putting.{RefusesPut, RefusesLoad, HasAnswered}
 use Rattle.association_services.specs.declared.reply.PortFault.{PortFault}
 use Rattle.association_services.specs.declared.reply.PortFault.TheVariants as site
 use Rattle.archive_server.specs.declared.refusing.Why.{Why}
@@ -47,3 +49,22 @@ pub record RefusesAsHub (before after : Seat) (fault : PortFault) : Type 0 where
 -- Why a store is refused: the shelf refused to put the operation, or the hub to publish it.
 abbrev pub RefusesStore : {P : Type 0} → (P → P → Op → ShelfFault → Type 0) → Seat → Seat → Op → PortFault → Type 0
 RefusesStore refuses before after op fault = RefusesPut refuses port_fault_of op fault ⊎ RefusesAsHub before after fault
+
+-- There is none, or it is no content of a record.
+abbrev pub IsNoneOf : ContentRecordParts → Option Op → Type 0
+IsNoneOf asked None = ⊤
+IsNoneOf asked (Some (a_content c)) = content_record c ≢ asked
+IsNoneOf asked (Some (a_correction k)) = ⊤
+
+-- why what was found is not loaded: it is no content of the record, or memory was refused for its own
+abbrev pub IsUnlike : ContentRecordParts → Option Op → PortFault → Type 0
+IsUnlike asked found site.Memory = ⊤
+IsUnlike asked found site.Busy = ⊥
+IsUnlike asked found site.Collision = ⊥
+IsUnlike asked found site.Shelf = IsNoneOf asked found
+
+-- Why a content of a record is not loaded: the shelf refused the load, or its answer is unlike it.
+abbrev pub RefusesLoadOf : {P : Type 0} → (P → P → List ℕ → ShelfFault → Type 0)
+    → (P → P → List ℕ → Option Op → Type 0) → ContentRecordParts → PortFault → Type 0
+RefusesLoadOf refuses has_loaded asked fault = RefusesLoad refuses port_fault_of asked.digest fault
+    ⊎ ((found : Option Op) × HasAnswered has_loaded asked.digest found × IsUnlike asked found fault)

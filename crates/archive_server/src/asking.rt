@@ -1,8 +1,8 @@
 //! How workers reach the shelf of another thread.
 
-ghost use Rattle.std.specs.Prelude.{◌≡◌, ◌≢◌, IfErr, IfOk};
+ghost use Rattle.std.specs.Prelude.{◌≡◌, ◌≢◌, IfErr, IfOk, IfSome};
 ghost use Rattle.operation.specs.Spelling.{digest_of};
-ghost use Rattle.archive_server.specs.Asking.{RefusesOver};
+ghost use Rattle.archive_server.specs.Asking.{RefusesOver, RefusesLoadOver, IsOfAnotherThan};
 
 use crate::health::Health;
 use crate::line::{Channel, Line};
@@ -41,6 +41,40 @@ fn put_over<N: LedgerName, L: Line<N>>(
     }
 }
 
+/// What was loaded, where it is the operation that was asked for.
+fn of_asked(digest: &Digest, found: Option<Digested>) -> Result<Option<Digested>, ShelfFault>
+    ensures same { IfOk result (λ answer. answer ≡ found) }
+    ensures own { IfOk result (λ found. IfSome found (λ op. digest_of op ≡ digest.now)) }
+    ensures other { IfErr result (λ _. IsOfAnotherThan digest.now found) }
+{
+    match found {
+        None => Ok(None),
+        Some(op) => {
+            if op.digest().as_bytes().as_slice() == digest.as_bytes().as_slice() {
+                return Ok(Some(op));
+            }
+            Err(ShelfFault::Store(StoreCause::Other))
+        }
+    }
+}
+
+/// Loads the operation of a digest from the shelf at the other end of a line.
+fn load_over<N: LedgerName, L: Line<N>>(
+    line: &mut L,
+    digest: &Digest,
+) -> Result<Option<Digested>, ShelfFault>
+    ensures told { IfOk result (λ found. IfSome found (λ op. digest_of op ≡ digest.now)) }
+    ensures loaded { IfOk result (L.loaded line.old line.new) }
+    ensures why { IfErr result
+        (RefusesLoadOver L.failures L.loaded L.refused line.old line.new digest.now) }
+{
+    match line.ask_load(digest) {
+        Ok(Ok(found)) => of_asked(digest, found),
+        Ok(Err(refused)) => Err(refused),
+        Err(failed) => Err(failed),
+    }
+}
+
 /// The way to the shelf of another thread, on which is noted what each put comes to.
 pub(crate) struct Asking<'a, N: LedgerName, S: Wait> {
     pub line: Channel<'a, N, S>,
@@ -70,14 +104,23 @@ impl<'a, N: LedgerName, S: Wait> Clone for Asking<'a, N, S> {
 impl<'a, N: LedgerName, S: Wait> Copy for Asking<'a, N, S> {}
 
 impl<'a, N: LedgerName, S: Wait> Put<N> for Asking<'a, N, S> {
-    ghost use Rattle.archive_server.specs.Asking.{RefusesOverChannel};
+    ghost use Rattle.archive_server.specs.Asking.{RefusesOverChannel, RefusesLoadOverChannel, WasAnswered};
 
     ghost refuses = { λ before after op fault.
         RefusesOverChannel before.line.tried after.line.tried op fault };
+
+    ghost refuses_load = { λ before after digest fault.
+        RefusesLoadOverChannel before.line.tried after.line.tried digest fault };
+
+    ghost has_loaded = { λ before after _ _. WasAnswered before.line.tried after.line.tried };
 
     fn put(&mut self, op: &Digested) -> Result<Shelved<N>, ShelfFault> {
         let kept = put_over(&mut self.line, op);
         self.health.note(&kept);
         kept
+    }
+
+    fn load(&mut self, digest: &Digest) -> Result<Option<Digested>, ShelfFault> {
+        load_over(&mut self.line, digest)
     }
 }

@@ -4,9 +4,9 @@ ghost use Rattle.std.specs.Prelude.{◌≡◌, ◌++◌, ◌∷◌, [], All, IfO
 ghost use Rattle.operation.specs.Spelling.{digest_of};
 ghost use Rattle.hub_exchange.specs.Putting.{IsKept, AreKept};
 
-use crate::message::Request;
+use crate::message::{LoadRequest, PutRequest, Request};
 use crossbeam_channel::{Receiver, Sender};
-use hub_exchange::{Ledger, LedgerName, Shelved, put_all, put_shown, shown};
+use hub_exchange::{Ledger, LedgerName, Shelved, load_kept, put_all, put_shown, shown};
 use op_shelf::{Keep, ShelfFault};
 use operation::{Digested, Op};
 use std::alloc::Global;
@@ -37,7 +37,7 @@ impl<N: LedgerName> Group<N> {
     }
 
     /// Takes a request in, or hands it back where there is no room.
-    fn take(&mut self, request: Request<N>) -> Option<Request<N>>
+    fn take(&mut self, request: PutRequest<N>) -> Option<PutRequest<N>>
         ensures op { IsNone result → self.new.ops.items ≡ self.old.ops.items ++ request.op ∷ [] }
         ensures reply { IsNone result
             → self.new.replies.items ≡ self.old.replies.items ++ request.reply ∷ [] }
@@ -46,7 +46,7 @@ impl<N: LedgerName> Group<N> {
         if is_full || self.replies.len() >= self.replies.capacity() || self.bytes >= GROUP_BYTES {
             return Some(request);
         }
-        let Request { op, reply } = request;
+        let PutRequest { op, reply } = request;
         self.bytes = self.bytes.saturating_add(body_len(&op));
         // There is room, so neither is refused.
         let Ok(()) = self.ops.push(op) else {
@@ -192,27 +192,86 @@ impl<'a, N: LedgerName, S: Wait> Requests<N> for Inbox<'a, N, S> {
     }
 }
 
-/// Takes in a request and those that wait behind it, and hands back one that finds no room.
+/// Takes in a request and the puts that wait behind it, and hands back one that finds no room, or
+/// is no put.
 fn gather<N: LedgerName, Q: Requests<N>>(
     requests: &mut Q,
-    first: Request<N>,
+    first: PutRequest<N>,
     group: &mut Group<N>,
 ) -> Option<Request<N>> {
     let mut next = first;
     for _ in 0..GROUP {
         if let Some(over) = group.take(next) {
-            return Some(over);
+            return Some(Request::Put(over));
         }
-        let Some(request) = requests.waiting() else {
-            return None;
-        };
-        next = request;
+        match requests.waiting() {
+            None => return None,
+            Some(Request::Put(put)) => next = put,
+            Some(Request::Load(load)) => return Some(Request::Load(load)),
+        }
     }
-    Some(next)
+    Some(Request::Put(next))
 }
 
-/// Serves puts until nobody can ask any more: what waits is one group, with one sync. What is
-/// answered as put is written into the ledger.
+/// Loads an operation, and answers.
+fn load_one<K: Keep, N: LedgerName, S: Wait>(
+    rt: &S,
+    shelf: &mut K,
+    ledger: &Ledger<N>,
+    request: &LoadRequest,
+)
+    requires kept { AreKept K.is_up K.holds K.lasts ledger.now shelf.old }
+    ensures kept { AreKept K.is_up K.holds K.lasts ledger.now shelf.new }
+{
+    let found = load_kept(shelf, ledger, &request.digest);
+    let _ = request.reply.send(rt, found);
+}
+
+/// Serves a request alone.
+fn serve_one<K: Keep, N: LedgerName, S: Wait>(
+    rt: &S,
+    shelf: &mut K,
+    ledger: &mut Ledger<N>,
+    request: Request<N>,
+)
+    requires kept { AreKept K.is_up K.holds K.lasts ledger.old shelf.old }
+    ensures kept { AreKept K.is_up K.holds K.lasts ledger.new shelf.new }
+{
+    match request {
+        Request::Put(put) => keep_one(rt, shelf, ledger, &put.op, &put.reply),
+        Request::Load(load) => load_one(rt, shelf, ledger, &load),
+    }
+}
+
+/// Serves a request: a load alone, and a put with those that wait behind it.
+fn serve<K: Keep, N: LedgerName, S: Wait, Q: Requests<N>>(
+    rt: &S,
+    shelf: &mut K,
+    ledger: &mut Ledger<N>,
+    requests: &mut Q,
+    request: Request<N>,
+    group: &mut Group<N>,
+)
+    requires kept { AreKept K.is_up K.holds K.lasts ledger.old shelf.old }
+    ensures kept { AreKept K.is_up K.holds K.lasts ledger.new shelf.new }
+{
+    let first = match request {
+        Request::Load(load) => {
+            load_one(rt, shelf, ledger, &load);
+            return;
+        }
+        Request::Put(put) => put,
+    };
+    let over = gather(requests, first, group);
+    keep_group(rt, shelf, ledger, group);
+    group.clear();
+    if let Some(request) = over {
+        serve_one(rt, shelf, ledger, request);
+    }
+}
+
+/// Serves puts and loads until nobody can ask any more: the puts that wait are one group, with one
+/// sync. What is answered as put is written into the ledger.
 pub(crate) fn keep_all<K: Keep, N: LedgerName, S: Wait, Q: Requests<N>>(
     rt: &S,
     alloc: Global,
@@ -229,12 +288,7 @@ pub(crate) fn keep_all<K: Keep, N: LedgerName, S: Wait, Q: Requests<N>>(
         let Some(first) = requests.next() else {
             return;
         };
-        let over = gather(requests, first, &mut group);
-        keep_group(rt, shelf, ledger, &group);
-        group.clear();
-        if let Some(Request { op, reply }) = over {
-            keep_one(rt, shelf, ledger, &op, &reply);
-        }
+        serve(rt, shelf, ledger, requests, first, &mut group);
     }
     unreachable!()
 }

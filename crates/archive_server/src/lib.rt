@@ -2,13 +2,14 @@
 //!
 //! Each worker has a thread, a gate and a pass of the hub, and serves associations that it accepts
 //! on a listener that all share. The thread that calls keeps the shelf. A content that an
-//! association stores is put on the shelf, then taken by the hub, then answered; and so is what a
-//! peer gives in an exchange: for those that peers call there is a listener, and some threads with a
-//! pass each, and for each peer that the server calls again and again a thread and a pass. Pages of
-//! the site have a listener, a thread and a pass, which only looks. The desk, at which an
-//! administrator corrects, has the same and the way to the shelf, which has what is answered with a
-//! stamp. Who serves may say how long the server waits for a peer at most, name a word by which
-//! somebody ends the server, and ask for a line on each association and exchange.
+//! association stores is put on the shelf, then its record is taken by the hub, then it is
+//! answered; and so is what a peer gives in an exchange: for those that peers call there is a
+//! listener, and some threads with a pass each, and for each peer that the server calls again and
+//! again a thread and a pass. What is sent or given is loaded from the shelf, and is of a record
+//! that is held. Pages of the site have a listener, a thread and a pass, which only looks. The
+//! desk, at which an administrator corrects, has the same and the way to the shelf, which has what
+//! is answered with a stamp. Who serves may say how long the server waits for a peer at most, name
+//! a word by which somebody ends the server, and ask for a line on each association and exchange.
 #![tactic(auto)]
 
 mod answers;

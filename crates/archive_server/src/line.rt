@@ -1,14 +1,16 @@
 //! The line to the thread that keeps the shelf: a request goes out, and an answer comes back.
 
-ghost use Rattle.std.specs.Prelude.{List, ℕ, IfOk, MatchResult};
+ghost use Rattle.std.specs.Prelude.{List, ℕ, Option, IfOk, OnOk, MatchResult};
 ghost use Rattle.devices.specs.Failures.{Counts};
+ghost use Rattle.operation.specs.declared.op.Op.{Op as AnOp};
 ghost use Rattle.op_shelf.specs.declared.fault.ShelfFault.{ShelfFault as AFault};
+ghost use Rattle.archive_server.specs.Asking.{WasAnswered};
 
-use crate::message::Request;
-use crossbeam_channel::{Sender, bounded};
+use crate::message::{LoadRequest, PutRequest, Request};
+use crossbeam_channel::{Receiver, Sender, bounded};
 use hub_exchange::{LedgerName, Shelved};
 use op_shelf::{ShelfFault, StoreCause};
-use operation::Digested;
+use operation::{Digest, Digested};
 use std::alloc::{AllocError, Global};
 use std::sync::Wait;
 
@@ -23,16 +25,44 @@ pub(crate) trait Line<N: LedgerName> {
     // Between these it answered that the shelf refuses, and why.
     ghost refused: { Self → Self → AFault → Type 0 };
 
+    // Between these it answered this to a load.
+    ghost loaded: { Self → Self → Option AnOp → Type 0 };
+
     /// Asks for a put, and waits for what the thread answers. An outer `Err` is what a failure of
     /// the line is told as.
     fn ask(&mut self, op: &Digested) -> Result<Result<Shelved<N>, ShelfFault>, ShelfFault>
         ensures counted { Counts (failures self.old) (failures self.new) result }
         ensures answered { IfOk result (λ answer. MatchResult answer
             (λ shelved. put self.old self.new shelved.digest) (refused self.old self.new)) };
+
+    /// Asks for the operation of a digest, likewise.
+    fn ask_load(
+        &mut self,
+        digest: &Digest,
+    ) -> Result<Result<Option<Digested>, ShelfFault>, ShelfFault>
+        ensures counted { Counts (failures self.old) (failures self.new) result }
+        ensures answered { IfOk result (λ answer. MatchResult answer
+            (loaded self.old self.new) (refused self.old self.new)) };
 }
 
-/// Sends a request, and waits for its answer. Nothing is hashed, and the bytes of a data set are
-/// shared with the shelf's thread.
+/// Sends a request, and waits for what is answered to it.
+fn awaited<N: LedgerName, S: Wait, T: Drop>(
+    rt: &S,
+    to: &Sender<Request<N>>,
+    request: Request<N>,
+    answer: &Receiver<Result<T, ShelfFault>>,
+) -> Result<Result<T, ShelfFault>, ShelfFault> {
+    if to.send(rt, request).is_err() {
+        return Err(ShelfFault::Store(StoreCause::Other));
+    }
+    match answer.recv(rt) {
+        Ok(answered) => Ok(answered),
+        Err(_closed) => Err(ShelfFault::Store(StoreCause::Other)),
+    }
+}
+
+/// Asks for a put. Nothing is hashed, and the bytes of a data set are shared with the shelf's
+/// thread.
 fn answer_of<N: LedgerName, S: Wait>(
     rt: &S,
     alloc: Global,
@@ -41,13 +71,23 @@ fn answer_of<N: LedgerName, S: Wait>(
 ) -> Result<Result<Shelved<N>, ShelfFault>, ShelfFault> {
     let (reply, answer) = bounded(alloc, 1)?;
     let op = op.copy(alloc)?;
-    if to.send(rt, Request { op, reply }).is_err() {
-        return Err(ShelfFault::Store(StoreCause::Other));
-    }
-    match answer.recv(rt) {
-        Ok(kept) => Ok(kept),
-        Err(_closed) => Err(ShelfFault::Store(StoreCause::Other)),
-    }
+    awaited(rt, to, Request::Put(PutRequest { op, reply }), &answer)
+}
+
+/// Asks for the operation of a digest.
+fn loaded_by<N: LedgerName, S: Wait>(
+    rt: &S,
+    alloc: Global,
+    to: &Sender<Request<N>>,
+    digest: Digest,
+) -> Result<Result<Option<Digested>, ShelfFault>, ShelfFault> {
+    let (reply, answer) = bounded(alloc, 1)?;
+    awaited(
+        rt,
+        to,
+        Request::Load(LoadRequest { digest, reply }),
+        &answer,
+    )
 }
 
 /// How often a line has failed, and how often an answer came over it. Nobody else counts on it.
@@ -55,6 +95,19 @@ fn answer_of<N: LedgerName, S: Wait>(
 pub(crate) struct Tried {
     failures: u64,
     answers: u64,
+}
+
+impl Tried {
+    /// Counts an answer, or that the line failed.
+    fn count<T>(&mut self, answer: &Result<T, ShelfFault>)
+        ensures counted { Counts self.old.failures self.new.failures answer.now }
+        ensures answered { OnOk answer.now (WasAnswered self.old self.new) }
+    {
+        match answer {
+            Ok(_answered) => self.answers = self.answers.saturating_add(1),
+            Err(_fault) => self.failures = self.failures.saturating_add(1),
+        }
+    }
 }
 
 /// The line over the channel of all threads. No contract of a channel says when it is closed, or
@@ -97,12 +150,20 @@ impl<'a, N: LedgerName, S: Wait> Line<N> for Channel<'a, N, S> {
 
     ghost refused = { λ before after _. WasAnswered before.tried after.tried };
 
+    ghost loaded = { λ before after _. WasAnswered before.tried after.tried };
+
     fn ask(&mut self, op: &Digested) -> Result<Result<Shelved<N>, ShelfFault>, ShelfFault> {
         let answer = answer_of(self.rt, self.alloc, self.to, op);
-        match &answer {
-            Ok(_kept) => self.tried.answers = self.tried.answers.saturating_add(1),
-            Err(_fault) => self.tried.failures = self.tried.failures.saturating_add(1),
-        }
+        self.tried.count(&answer);
+        answer
+    }
+
+    fn ask_load(
+        &mut self,
+        digest: &Digest,
+    ) -> Result<Result<Option<Digested>, ShelfFault>, ShelfFault> {
+        let answer = loaded_by(self.rt, self.alloc, self.to, *digest);
+        self.tried.count(&answer);
         answer
     }
 }

@@ -3,14 +3,28 @@
 use crossbeam_channel::Sender;
 use hub_exchange::{LedgerName, Shelved};
 use op_shelf::ShelfFault;
-use operation::Digested;
+use operation::{Digest, Digested};
 use std::alloc::AllocError;
 
 /// Asks for a put, and says where what the shelf answers is awaited.
 #[derive(Drop)]
-pub(crate) struct Request<N: LedgerName> {
+pub(crate) struct PutRequest<N: LedgerName> {
     pub op: Digested,
     pub reply: Sender<Result<Shelved<N>, ShelfFault>>,
+}
+
+/// Asks for the operation of a digest, likewise.
+#[derive(Drop)]
+pub(crate) struct LoadRequest {
+    pub digest: Digest,
+    pub reply: Sender<Result<Option<Digested>, ShelfFault>>,
+}
+
+/// What the thread that keeps the shelf is asked for.
+#[derive(Drop)]
+pub(crate) enum Request<N: LedgerName> {
+    Put(PutRequest<N>),
+    Load(LoadRequest),
 }
 
 /// What a thread holds: the way to the shelf, and where it accepts, what tells by its being there

@@ -1,22 +1,23 @@
 //! The port of an association of a server.
 
-ghost use Rattle.std.specs.Prelude.{◌≡◌, ◌≢◌, Err, IfErr, OnErr};
+ghost use Rattle.std.specs.Prelude.{◌≡◌, ◌≢◌, Err, IfErr, IfOk, IfSome, MatchResult, OnErr};
 ghost use Rattle.operation.specs.declared.op.Op.TheVariants.{Content as a_content};
 ghost use Rattle.operation.specs.Spelling.{digest_of};
 ghost use Rattle.devices.specs.Failures.{Rose};
 ghost use Rattle.site_state.specs.Site.{ops_of};
 ghost use Rattle.site_hub.specs.History.{set_of};
 ghost use Rattle.site_hub.specs.Hub.{Seat, IsLater};
-ghost use Rattle.association_run.specs.Port.{Stores, Finds, Gets, Loads};
-ghost use Rattle.association_worker.specs.Port.{IsUnheld};
-ghost use Rattle.archive_server.specs.Refusing.{RefusesStore};
+ghost use Rattle.association_run.specs.Port.{Stores, Finds, Gets, Loads, IsLoadFault};
+ghost use Rattle.records.specs.StandIn.{op_in};
+ghost use Rattle.archive_model.specs.Listed.{IsOfRecord};
+ghost use Rattle.archive_server.specs.Refusing.{RefusesStore, RefusesLoadOf, IsUnlike};
 ghost use Rattle.archive_server.specs.Serving.{IsOnward, WasWritten};
 
-use crate::refusing::{told, told_load, told_store};
+use crate::refusing::{told, told_load, told_shelf_load, told_store};
 use archive_model::{Answers, Listed, Query, Selection, View};
 use association_run::Port;
 use association_session::PortFault;
-use association_worker::{AtEntry, HubPort};
+use association_worker::{AtEntry, HubPort, loaded};
 use hub_exchange::{Extract, LedgerName, Put, Shelved};
 use log::Log;
 use octets::ListOf;
@@ -78,21 +79,51 @@ fn length_of<E>(listed: &Result<ListOf<Listed>, E>) -> u64 {
     }
 }
 
-/// Lets the hub take what the shelf keeps.
+/// What was found of a digest, where it is a content of the record.
+fn brought(found: Option<Digested>, asked: &ContentRecord) -> Result<Content, PortFault>
+    requires own { IfSome found (λ op. digest_of op ≡ asked.now.digest) }
+    ensures loaded { IfOk result (IsOfRecord asked.now) }
+    ensures unlike { IfErr result (IsUnlike asked.now found) }
+{
+    match found {
+        None => Err(PortFault::Shelf),
+        Some(op) => loaded(op.into_op(), asked),
+    }
+}
+
+/// Loads a content of a record over a way to the shelf, and tells what is refused.
+fn load_over<N: LedgerName, P: Put<N>, S: Clock + Log>(
+    rt: &S,
+    shelf: &mut P,
+    asked: &ContentRecord,
+) -> Result<Content, PortFault>
+    ensures loaded { MatchResult result (IsOfRecord asked.now) IsLoadFault }
+    ensures why { IfErr result (RefusesLoadOf P.refuses_load P.has_loaded asked.now) }
+{
+    match shelf.load(asked.digest()) {
+        Ok(found) => told_load(rt, brought(found, asked)),
+        Err(fault) => Err(told_shelf_load(rt, fault)),
+    }
+}
+
+/// Lets the hub take the record of what the shelf keeps.
 fn publish<H: HubName, T: Shows<H>, R: Wait + Drop, S: Wait, N: LedgerName, E: AtEntry>(
     hub: &mut HubPort<'_, H, T, R, S, E>,
-    op: Digested,
+    op: &Digested,
     shelved: &Shelved<N>,
 ) -> Result<Taken, PortFault>
-    requires { shelved.now.digest ≡ digest_of op }
+    requires { shelved.now.digest ≡ digest_of op.now }
     ensures stores { Stores (λ (s : Seat). ops_of (set_of H.opening s.seen))
-        (λ (s : Seat). s.mine) hub.old op result hub.new }
+        (λ (s : Seat). s.mine) hub.old (op_in op.now) result hub.new }
     ensures refused { OnErr result (hub.new.seen ≡ hub.old.seen) }
     ensures own { result ≢ Err PortFault.Shelf }
     ensures busy { result ≡ Err PortFault.Busy → Rose hub.old.refused hub.new.refused }
     ensures onward { IsOnward (WasWritten shelved.now.extract) hub.old hub.new }
 {
-    hub.take(op)
+    match hub.pass().record(op) {
+        Ok(recorded) => hub.take(recorded),
+        Err(_refused) => Err(PortFault::Memory),
+    }
 }
 
 impl<
@@ -164,7 +195,7 @@ impl<
 
     fn store(&mut self, content: Content) -> Result<Taken, PortFault>
         ensures stores { Stores (λ (s : Seat). ops_of (set_of H.opening s.seen))
-            (λ (s : Seat). s.mine) self.old (a_content content) result self.new }
+            (λ (s : Seat). s.mine) self.old (op_in (a_content content)) result self.new }
         // What the pass has seen published is told as taken, and what is refused the shelf or the hub
         // refused in this call.
         ensures refused { OnErr result (self.new.seen ≡ self.old.seen) }
@@ -176,7 +207,7 @@ impl<
         let mut shelf = *self.shelf;
         match shelf.put(&op) {
             Ok(shelved) => {
-                let taken = publish(&mut self.hub, op, &shelved);
+                let taken = publish(&mut self.hub, &op, &shelved);
                 self.extract.learn(&shelved.extract);
                 self.tally.stored(told(self.rt, "store", taken))
             }
@@ -214,13 +245,11 @@ impl<
     fn load(&mut self, asked: &ContentRecord) -> Result<Content, PortFault>
         ensures loads { Loads (λ (s : Seat). ops_of (set_of H.opening s.seen))
             (λ (s : Seat). s.mine) self.old asked.now result self.new }
-        // The shelf is told of only where no content of the record is held.
-        ensures shelf { result ≡ Err PortFault.Shelf → IsUnheld
-            (ops_of (set_of H.opening self.new.seen)) asked.now }
-        ensures busy { result ≡ Err PortFault.Busy → Rose self.old.refused self.new.refused }
-        ensures later { IsLater self.old self.new }
+        ensures kept { self.new ≡ self.old }
+        // The shelf refused it in this call, or has no content of the record under its digest.
+        ensures why { IfErr result (RefusesLoadOf P.refuses_load P.has_loaded asked.now) }
     {
-        let loaded = self.hub.content(asked);
-        told_load(self.rt, loaded)
+        let mut shelf = *self.shelf;
+        load_over(self.rt, &mut shelf, asked)
     }
 }

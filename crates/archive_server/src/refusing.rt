@@ -12,7 +12,7 @@ use association_session::PortFault;
 use hub_exchange::{LedgerName, Put, Shelved};
 use log::{Log, error};
 use op_shelf::ShelfFault;
-use operation::Digested;
+use operation::{Digest, Digested};
 use std::alloc::AllocError;
 use std::sync::Wait;
 use std::time::Clock;
@@ -119,8 +119,17 @@ pub(crate) fn told_store<S: Clock + Log>(rt: &S, fault: ShelfFault) -> PortFault
     refused
 }
 
-/// Tells that the shelf refused what it was given, and hands its answer on.
-fn told_put<S: Clock + Log, T>(
+/// Tells that the shelf refused a load, and hands on what that is to an association.
+pub(crate) fn told_shelf_load<S: Clock + Log>(rt: &S, fault: ShelfFault) -> PortFault
+    ensures { result ≡ port_fault_of fault }
+{
+    let (moment, words) = (Moment::now(rt), words_of(Why::Shelf(fault)));
+    error!(rt; target: "archive", "{moment} load refused: {words}");
+    fault_of_shelf(fault)
+}
+
+/// Tells what the shelf refused, and hands its answer on.
+fn told_shelf<S: Clock + Log, T>(
     rt: &S,
     what: &str,
     kept: Result<T, ShelfFault>,
@@ -171,12 +180,22 @@ impl<'a, N: LedgerName, S: Wait + Clock + Log> Clone for Telling<'a, N, S> {
 impl<'a, N: LedgerName, S: Wait + Clock + Log> Copy for Telling<'a, N, S> {}
 
 impl<'a, N: LedgerName, S: Wait + Clock + Log> Put<N> for Telling<'a, N, S> {
-    ghost use Rattle.archive_server.specs.Asking.{RefusesOverChannel};
+    ghost use Rattle.archive_server.specs.Asking.{RefusesOverChannel, RefusesLoadOverChannel, WasAnswered};
 
     ghost refuses = { λ before after op fault.
         RefusesOverChannel before.way.line.tried after.way.line.tried op fault };
 
+    ghost refuses_load = { λ before after digest fault.
+        RefusesLoadOverChannel before.way.line.tried after.way.line.tried digest fault };
+
+    ghost has_loaded = { λ before after _ _.
+        WasAnswered before.way.line.tried after.way.line.tried };
+
     fn put(&mut self, op: &Digested) -> Result<Shelved<N>, ShelfFault> {
-        told_put(self.rt, self.what, self.way.put(op))
+        told_shelf(self.rt, self.what, self.way.put(op))
+    }
+
+    fn load(&mut self, digest: &Digest) -> Result<Option<Digested>, ShelfFault> {
+        told_shelf(self.rt, "load", self.way.load(digest))
     }
 }

@@ -203,7 +203,7 @@ pub(crate) fn served<
         }),
         peers: &[],
     };
-    let mut shelf = Counting { asked: 0, room };
+    let mut shelf = Counting::new(alloc, room);
     let opened = open(alloc, rt, Site::new(alloc), 1, 3)?;
     let (held, accepted) = run::<Brand, R>(rt, alloc, opened, service, &mut shelf, doors, plan)?;
     Ok(Told {

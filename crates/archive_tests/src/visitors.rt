@@ -7,7 +7,9 @@ use bytes::Bytes;
 use devices::Counted;
 use exchange::Role;
 use hub_exchange::{Behind, exchange_on};
-use operation::decode;
+use op_shelf::Keep;
+use operation::{Digested, decode};
+use records::RecordedOp;
 use site_state::Site;
 use std::alloc::Global;
 use std::io;
@@ -68,12 +70,14 @@ fn talk_all<R: Net<Listener = TcpListener, Stream = TcpStream>>(
     Ok(())
 }
 
-/// A site with a correction.
-fn with_correction(alloc: Global) -> Result<Site, Fail> {
-    let op = decode(alloc, Bytes::copy_from_slice(alloc, CORRECTION)?)?;
+/// A site with a correction, on a shelf that takes one operation more.
+fn with_correction(alloc: Global) -> Result<(Site, Counting), Fail> {
+    let op = Digested::of(decode(alloc, Bytes::copy_from_slice(alloc, CORRECTION)?)?);
     let mut site = Site::new(alloc);
-    site.take(op)?;
-    Ok(site)
+    site.take(RecordedOp::of(alloc, &op)?)?;
+    let mut shelf = Counting::new(alloc, 2);
+    shelf.put_digested(&op)?;
+    Ok((site, shelf))
 }
 
 /// A site with a correction exchanges with the server, and says how many operations it has then.
@@ -83,8 +87,7 @@ fn exchange_all<R: Net<Listener = TcpListener, Stream = TcpStream>>(
     listener: &TcpListener,
     many: u64,
 ) -> Result<usize, Fail> {
-    let mut site = with_correction(alloc)?;
-    let mut shelf = Counting { asked: 0, room: 1 };
+    let (mut site, mut shelf) = with_correction(alloc)?;
     for _ in 0..many {
         let stream = TcpStream::connect(rt, listener.local_addr()?)?;
         stream.set_nodelay(true)?;

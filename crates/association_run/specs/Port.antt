@@ -10,6 +10,7 @@ use Rattle.operation.specs.declared.op.Op.TheVariants.{Content}
 use Rattle.operation.specs.Parts.{ContentParts}
 use Rattle.operation.specs.RecordParts.{ContentRecordParts}
 use Rattle.operation.specs.Spelling.{digest_of}
+use Rattle.records.specs.StandIn.{op_in}
 use Rattle.operation.specs.declared.taken.Taken.TheVariants.{New, Known}
 use Rattle.operation.specs.declared.taken.Taken.{Taken}
 use Rattle.association_services.specs.declared.call.Call.{Call}
@@ -124,12 +125,13 @@ pub record Loads {P : Type 0} (ops : P → List Op) (own : P → List (List ℕ)
     (reply : Result ContentParts PortFault) (after : P) : Type 0 where
   pub kept : Keeps ops before after
   pub own_kept : own after ≡ own before
-  -- what was loaded is of the record, and is held
-  pub replied : MatchResult reply (λ content. IsOfRecord asked content × Has (ops after) (Content content)) IsLoadFault
+  -- what was loaded is of the record
+  pub replied : MatchResult reply (IsOfRecord asked) IsLoadFault
 
 -- how a call ends: its reply is of its kind
 abbrev pub Replies : {P : Type 0} → (P → List Op) → (P → List (List ℕ)) → P → Call → Reply → P → Type 0
-Replies ops own before (Store content) (Stored reply) after = Stores ops own before (Content content) reply after
+Replies ops own before (Store content) (Stored reply) after = Stores ops own before (op_in (Content content)) reply
+    after
 Replies ops own before (Store content) (Found reply) after = ⊥
 Replies ops own before (Store content) (Gotten reply) after = ⊥
 Replies ops own before (Store content) (Loaded reply) after = ⊥

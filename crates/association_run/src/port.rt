@@ -3,6 +3,7 @@
 ghost use Rattle.std.specs.Prelude.{List, ℕ};
 ghost use Rattle.operation.specs.declared.op.Op.{Op};
 ghost use Rattle.operation.specs.declared.op.Op.TheVariants.{Content as a_content};
+ghost use Rattle.records.specs.StandIn.{op_in};
 ghost use Rattle.association_run.specs.Port.{Stores, Finds, Gets, Loads};
 
 use archive_model::{Answers, Listed, Query, Selection, View};
@@ -13,7 +14,7 @@ use operation::{Content, ContentRecord, Taken};
 /// A site, as one association sees it. Others may store between two steps, and nothing that is held
 /// is lost.
 pub trait Port {
-    // The operations that it holds, ascending by digest.
+    // The operations that it holds, ascending by digest: each stands for all of its record.
     ghost ops: { Self → List Op };
 
     // The digests of the contents that its own stores brought, in order.
@@ -22,7 +23,7 @@ pub trait Port {
     /// Takes a content, in one step, into what is held when its turn comes: others may have stored
     /// before it. It is new where none of its digest is held then, and known where it is.
     fn store(&mut self, content: Content) -> Result<Taken, PortFault>
-        ensures { Stores ops own self.old (a_content content) result self.new };
+        ensures { Stores ops own self.old (op_in (a_content content)) result self.new };
 
     /// The rows that answer a query, in one look: over all that is held when it ends.
     fn find(&mut self, called: &[u8], view: View, query: &Query) -> Result<Answers, PortFault>
@@ -35,7 +36,7 @@ pub trait Port {
         ensures { Gets ops own self.old (record { view = view; selection = selection.now }) result
             self.new };
 
-    /// The content of a record. One that is told is held; `Shelf` is told where it could not be
+    /// A content of a record, from wherever its bytes lie. `Shelf` is told where none could be
     /// brought.
     fn load(&mut self, asked: &ContentRecord) -> Result<Content, PortFault>
         ensures { Loads ops own self.old asked.now result self.new };

@@ -40,7 +40,7 @@ use Rattle.association_services.specs.declared.retrieval.Progress.{Progress}
 use Rattle.association_services.specs.declared.way.Way.{Way}
 use Rattle.association_services.specs.Accepted.{takes_any, accepted_on, accepts_of, FormIsAccepted, is_explicit, IsOn}
 use Rattle.association_services.specs.Accepted.{WayIsOn, is_carried, carried_first, carried_for, carried_by, carried_of}
-use Rattle.association_services.specs.Accepted.{Carries, AreAllApart, BringsIts, BringsBy, BringsEach, CarriedIsSent}
+use Rattle.association_services.specs.Accepted.{Carries, IsApartFrom, BringsIts, BringsBy, BringsEach, CarriedIsSent}
 use Rattle.association_services.specs.Get.{takes_class, lesser, least_id, converted_on, own_or, way_of}
 use Rattle.association_services.specs.Retrieval.{way_for, sub_operation, is_same_syntax, is_as_listed, loaded_for}
 
@@ -333,43 +333,43 @@ kept_by false first rest e = rw e refl
 abbrev made_of : List Context → List Prepared → List Sending
 made_of contexts ps = filter is_carried (map (made (accepts_of contexts)) ps)
 
--- A content of the set with the record of another one is that one.
-same_content : (ops : List Op) (a b : ContentParts) → AreAllApart ops → Has ops (a_content a) → Has ops (a_content b)
+-- A content with the record of one of the set is that one, where they are no two of one digest.
+same_content : (ops : List Op) (a b : ContentParts) → IsApartFrom ops (a_content a) → Has ops (a_content b)
     → content_record a ≡ content_record b → a ≡ b
-same_content ops a b apart p q e =
+same_content ops a b apart there e =
     let one : digest_of (a_content a) ≡ digest_of (a_content b) = ap (λ (r : ContentRecordParts). r.digest) e in
-    let same : a_content a ≡ a_content b = apart (a_content a) (a_content b) p q one in
+    let same : a_content a ≡ a_content b = apart (a_content b) there one in
     cc
 
 first_carried : (ops : List Op) (contexts : List Context) (p : Prepared) (ps : List Prepared) (way : Way)
-    (others : List Reply → List Sending) (rs : List Reply) (Others : List Reply → Type 0) → AreAllApart ops
+    (others : List Reply → List Sending) (rs : List Reply) (Others : List Reply → Type 0)
     → Has ops (a_content p.content) → way_for contexts (listed p) ≡ Some way
     → ((rs : List Reply) → Others rs → others rs ≡ made_of contexts ps) → BringsIts ops (listed p) Others rs
     → carried_for (accepts_of contexts) (listed p) others rs ≡ made_of contexts (p ∷ ps)
-first_carried ops contexts p ps way others [] Others apart there e goes brings = absurd brings
-first_carried ops contexts p ps way others (Loaded (Ok content) ∷ rs) Others apart there e goes brings =
+first_carried ops contexts p ps way others [] Others there e goes brings = absurd brings
+first_carried ops contexts p ps way others (Loaded (Ok content) ∷ rs) Others there e goes brings =
     ap (λ (c : ContentParts). carried_first (accepts_of contexts) (loaded_for (listed p) (Ok c)) (others rs))
-    (same_content ops content p.content apart brings.1 there brings.0)
+    (same_content ops content p.content brings.1 there brings.0)
     ∙ ap (λ (o : Option Prepared). carried_first (accepts_of contexts) o (others rs)) (own_loaded p)
     ∙ ap (λ (t : List Sending). made (accepts_of contexts) p ∷ t) (goes rs brings.2)
     ∙ sym (kept_by true (made (accepts_of contexts) p) (map (made (accepts_of contexts)) ps)
     (ap (λ (b : Option (Syntax × List ℕ)). is_some b) (made_on contexts p (Some way) e)))
-first_carried ops contexts p ps way others (Loaded (Err fault) ∷ rs) Others apart there e goes brings = absurd brings
-first_carried ops contexts p ps way others (Stored reply ∷ rs) Others apart there e goes brings = absurd brings
-first_carried ops contexts p ps way others (Found reply ∷ rs) Others apart there e goes brings = absurd brings
-first_carried ops contexts p ps way others (Gotten reply ∷ rs) Others apart there e goes brings = absurd brings
+first_carried ops contexts p ps way others (Loaded (Err fault) ∷ rs) Others there e goes brings = absurd brings
+first_carried ops contexts p ps way others (Stored reply ∷ rs) Others there e goes brings = absurd brings
+first_carried ops contexts p ps way others (Found reply ∷ rs) Others there e goes brings = absurd brings
+first_carried ops contexts p ps way others (Gotten reply ∷ rs) Others there e goes brings = absurd brings
 
 each_carried : (way : Option Way) (ops : List Op) (contexts : List Context) (p : Prepared) (ps : List Prepared)
-    (others : List Reply → List Sending) (rs : List Reply) (Others : List Reply → Type 0) → AreAllApart ops
+    (others : List Reply → List Sending) (rs : List Reply) (Others : List Reply → Type 0)
     → Has ops (a_content p.content) → way_for contexts (listed p) ≡ way
     → ((rs : List Reply) → Others rs → others rs ≡ made_of contexts ps) → BringsBy way ops (listed p) Others rs
     → carried_by way (accepts_of contexts) (listed p) others rs ≡ made_of contexts (p ∷ ps)
-each_carried None ops contexts p ps others rs Others apart there e goes brings =
+each_carried None ops contexts p ps others rs Others there e goes brings =
     goes rs brings
     ∙ sym (kept_by false (made (accepts_of contexts) p) (map (made (accepts_of contexts)) ps)
     (ap (λ (b : Option (Syntax × List ℕ)). is_some b) (made_on contexts p None e)))
-each_carried (Some way) ops contexts p ps others rs Others apart there e goes brings =
-    first_carried ops contexts p ps way others rs Others apart there e goes brings
+each_carried (Some way) ops contexts p ps others rs Others there e goes brings =
+    first_carried ops contexts p ps way others rs Others there e goes brings
 
 -- Their contents are of the set.
 abbrev AreOf : List Op → List Prepared → Type 0
@@ -377,14 +377,14 @@ AreOf ops [] = ⊤
 AreOf ops (p ∷ ps) = Has ops (a_content p.content) × AreOf ops ps
 
 -- Where each load brought its own, all are carried that an accepted transfer syntax serves.
-all_carried : (ops : List Op) (contexts : List Context) (ps : List Prepared) (rs : List Reply) → AreAllApart ops
+all_carried : (ops : List Op) (contexts : List Context) (ps : List Prepared) (rs : List Reply)
     → AreOf ops ps → BringsEach ops contexts (map listed ps) rs
     → carried_of contexts (map listed ps) rs ≡ made_of contexts ps
-all_carried ops contexts [] rs apart are brings = refl
-all_carried ops contexts (p ∷ ps) rs apart are brings =
+all_carried ops contexts [] rs are brings = refl
+all_carried ops contexts (p ∷ ps) rs are brings =
     each_carried (way_for contexts (listed p)) ops contexts p ps (carried_of contexts (map listed ps)) rs
-    (BringsEach ops contexts (map listed ps)) apart are.0 refl
-    (λ rs' b. all_carried ops contexts ps rs' apart are.1 b) brings
+    (BringsEach ops contexts (map listed ps)) are.0 refl
+    (λ rs' b. all_carried ops contexts ps rs' are.1 b) brings
 
 all_of : (ops : List Op) (cs : List ContentParts) → ((c : ContentParts) → Has cs c → Has ops (a_content c))
     → AreOf ops (map (prepared_for ops) cs)
@@ -401,7 +401,7 @@ selected_of view selection ops c has =
 
 pub carried_is_sent : CarriedIsSent
 unfolding list_of prepared_of
-carried_is_sent contexts view selection ops rs apart brings =
-    all_carried ops contexts (prepared_of view selection ops) rs apart
+carried_is_sent contexts view selection ops rs brings =
+    all_carried ops contexts (prepared_of view selection ops) rs
     (all_of ops (selected selection (shown view ops)) (selected_of view selection ops)) brings
     ∙ ap (λ (t : List Sending). filter is_carried t) (sym (sent_is_made view selection (accepts_of contexts) ops))

@@ -112,15 +112,16 @@ pub record Carries (contexts : List Context) (sending : Sending) (m : Message) :
   pub data_set : m.body ≡ Some text
   pub context : IsOn contexts sending.class (is_explicit syntax) m.context
 
--- No two of these operations have one digest.
-abbrev pub AreAllApart : List Op → Type 0
-AreAllApart ops = (op other : Op) → Has ops op → Has ops other → AreApart op other
+-- An operation and any of these are no two of one digest.
+abbrev pub IsApartFrom : List Op → Op → Type 0
+IsApartFrom ops op = (other : Op) → Has ops other → AreApart op other
 
--- The load of an instance brought a content of its record that the set holds, and then others theirs.
+-- The load of an instance brought a content of its record, which has the digest of no other operation of the set, and
+-- then others theirs.
 abbrev pub BringsIts : List Op → Listed → (List Reply → Type 0) → List Reply → Type 0
 BringsIts ops p Others [] = ⊥
 BringsIts ops p Others (Loaded (Ok content) ∷ rs) =
-    IsOfRecord p.content content × Has ops (a_content content) × Others rs
+    IsOfRecord p.content content × IsApartFrom ops (a_content content) × Others rs
 BringsIts ops p Others (Loaded (Err fault) ∷ rs) = ⊥
 BringsIts ops p Others (Stored reply ∷ rs) = ⊥
 BringsIts ops p Others (Found reply ∷ rs) = ⊥
@@ -136,9 +137,9 @@ BringsEach ops contexts [] rs = ⊤
 BringsEach ops contexts (p ∷ ps) rs = BringsBy (way_for contexts p) ops p (BringsEach ops contexts ps) rs
 
 -- What is carried of the instances that a set lists is what a C-GET over it sends, where just that is accepted which
--- the contexts accept, and each load brought a content of its record from the set.
+-- the contexts accept, and each load brought a content of its record that has the digest of no other of the set.
 abbrev pub CarriedIsSent : Type 0
 CarriedIsSent = (contexts : List Context) (view : View) (selection : Selection) (ops : List Op) (rs : List Reply)
-    → AreAllApart ops → BringsEach ops contexts (list_of view selection ops) rs
+    → BringsEach ops contexts (list_of view selection ops) rs
     → carried_of contexts (list_of view selection ops) rs
     ≡ filter is_carried (sendings_of view selection (accepts_of contexts) ops)

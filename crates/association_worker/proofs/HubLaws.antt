@@ -1,7 +1,6 @@
 -- What a pass of a running site is as a port.
-use Rattle.std.proofs.Common.{◌≡◌, ◌⊎◌, ◌++◌, ◌∷◌, [], ℕ, List, Option, Some, Result, Ok, Err, MatchResult, IfOk, IfErr}
-use Rattle.std.proofs.Common.{OnOk, OnErr, ◌≢◌, inl, inr, refl, sym, ap, subst, ◌∙◌}
-use Rattle.std.specs.Prelude.{IfSome}
+use Rattle.std.proofs.Common.{◌≡◌, ◌⊎◌, ◌++◌, ◌∷◌, [], ℕ, List, Result, Ok, Err, MatchResult, IfOk, IfErr}
+use Rattle.std.proofs.Common.{OnErr, inl, inr, refl, sym, ap, subst, ◌∙◌}
 use mathlib.Core.List.{IsPrefix}
 use Rattle.data_set.specs.Set.{Set}
 use Rattle.operation.specs.declared.op.Op.{Op}
@@ -10,12 +9,8 @@ use Rattle.operation.specs.declared.taken.Taken.{Taken}
 use Rattle.operation.specs.declared.taken.Taken.TheVariants.{New, Known}
 use Rattle.archive_model.specs.Rows.{rows_of}
 use Rattle.archive_model.specs.declared.listed.Listed.{Listed}
-use Rattle.archive_model.specs.Listed.{list_of, IsOfRecord}
-use Rattle.operation.specs.declared.op.Op.TheVariants.{Content as a_content}
-use Rattle.operation.specs.Parts.{ContentParts}
-use Rattle.operation.specs.RecordParts.{ContentRecordParts, content_record}
-use Rattle.octets.specs.Members.{Has}
-use Rattle.site_state.specs.Site.{Map, ops_of, with_op, held_at, Takes}
+use Rattle.archive_model.specs.Listed.{list_of}
+use Rattle.site_state.specs.Site.{Map, ops_of, with_op, Takes}
 use Rattle.site_state.proofs.Indexed.{ops_held}
 use Rattle.site_state.proofs.Same.{of_ops, taking_adds}
 use Rattle.site_hub.specs.declared.entry.Entry.{Entry}
@@ -30,11 +25,11 @@ use Rattle.site_hub.proofs.Histories.{set_of_more, stays, history_is_site}
 use Rattle.association_services.specs.declared.call.Finding.{Finding}
 use Rattle.association_services.specs.declared.call.Getting.{Getting}
 use Rattle.association_services.specs.declared.reply.PortFault.{PortFault}
-use Rattle.association_services.specs.declared.reply.PortFault.TheVariants.{Memory, Busy, Shelf}
+use Rattle.association_services.specs.declared.reply.PortFault.TheVariants.{Busy, Shelf}
 use Rattle.devices.specs.Failures.{Rose}
 use Rattle.association_run.specs.Port as port
-use Rattle.association_worker.specs.Port.{fault_of_hub, reply_to, IsUnheld}
-use Rattle.association_worker.proofs.PortLaws.{leaves, holds_now, other_at_own, taken_at_turn, load_fault, unheld}
+use Rattle.association_worker.specs.Port.{fault_of_hub, reply_to}
+use Rattle.association_worker.proofs.PortLaws.{leaves, holds_now, other_at_own, taken_at_turn}
 
 -- what a beginning of a history holds is held after it
 held_on : (opening : Map) (xs ys : List Entry) → IsHistory opening ys → IsPrefix xs ys
@@ -222,77 +217,3 @@ pass_gets items opening before later getting (Err fault) reply ok err history lo
       getting.view getting.selection (ops_of (set_of opening later.seen))) port.IsFindFault) (sym err)
       (find_fault fault is);
 }
-
--- ---- loads
-
--- What is held under a digest has it.
-pub own_held : (opening : Map) (later : Seat) (digest : List ℕ) (found : Result (Option Op) HubFault)
-    → IsHistory opening later.seen → IfOk found (λ op. op ≡ held_at (set_of opening later.seen) digest)
-    → IfOk found (λ op. IfSome op (λ o. digest ≡ digest_of o))
-own_held opening later digest (Ok op) history holds =
-    subst (λ (r : Option Op). IfSome r (λ o. digest ≡ digest_of o)) (sym holds)
-    (history_is_site opening later.seen history digest)
-own_held opening later digest (Err fault) history holds = tt
-
-loaded_at : (m : Map) (digest : List ℕ) (op : Option Op) (content : ContentParts) → op ≡ held_at m digest
-    → (let found : Result (Option Op) HubFault = Ok op in found ≡ Ok (Some (a_content content)))
-    → held_at m digest ≡ Some (a_content content)
-loaded_at m digest op content holds is = let same : op ≡ Some (a_content content) = cc in sym holds ∙ same
-
--- What a pass loads is loaded at the port.
-pub pass_loads : (opening : Map) (before later : Seat) (asked : ContentRecordParts)
-    (found : Result (Option Op) HubFault) (reply : Result ContentParts PortFault)
-    → IfOk reply (λ content. (found ≡ Ok (Some (a_content content))) × IsOfRecord asked content)
-    → OnOk found (IfErr reply (λ fault. (fault ≡ Memory) ⊎ (fault ≡ Shelf)))
-    → IfErr found (λ fault. reply ≡ Err (fault_of_hub fault))
-    → IsHistory opening later.seen → HasLooked before later
-    → IfOk found (λ op. op ≡ held_at (set_of opening later.seen) asked.digest) → IfErr found IsLookFault
-    → port.Loads (λ (s : Seat). ops_of (set_of opening s.seen)) (λ (s : Seat). s.mine) before asked reply later
-pass_loads opening before later asked (Ok op) (Ok content) loaded fault err history looked holds is = record {
-  kept = held_on opening before.seen later.seen history looked.seen;
-  own_kept = looked.mine;
-  replied = (
-    loaded.1,
-    of_ops (set_of opening later.seen) asked.digest (a_content content)
-        (loaded_at (set_of opening later.seen) asked.digest op content holds loaded.0),
-  );
-}
-pass_loads opening before later asked (Ok op) (Err told) loaded fault err history looked holds is = record {
-  kept = held_on opening before.seen later.seen history looked.seen;
-  own_kept = looked.mine;
-  replied = load_fault told fault;
-}
-pass_loads opening before later asked (Err fault) reply loaded told err history looked holds is = record {
-  kept = held_on opening before.seen later.seen history looked.seen;
-  own_kept = looked.mine;
-  replied = subst (λ (r : Result ContentParts PortFault). MatchResult r (λ content. IsOfRecord asked content
-      × Has (ops_of (set_of opening later.seen)) (a_content content)) port.IsLoadFault) (sym err)
-      (inl (find_fault fault is));
-}
-
--- The shelf is told of only where nothing of the record is held.
-pub pass_unheld : (opening : Map) (later : Seat) (asked : ContentRecordParts) (found : Result (Option Op) HubFault)
-    (reply : Result ContentParts PortFault)
-    → (reply ≡ Err Shelf → (content : ContentParts) → found ≡ Ok (Some (a_content content))
-    → content_record content ≢ asked)
-    → IfErr found (λ fault. reply ≡ Err (fault_of_hub fault))
-    → IsHistory opening later.seen → IfOk found (λ op. op ≡ held_at (set_of opening later.seen) asked.digest)
-    → reply ≡ Err Shelf → IsUnheld (ops_of (set_of opening later.seen)) asked
-pass_unheld opening later asked (Ok op) reply shelf err history holds is =
-    unheld (set_of opening later.seen) asked (history_is_site opening later.seen history)
-    (λ content held. shelf is content (ap (λ (o : Option Op). let r : Result (Option Op) HubFault = Ok o in r)
-    (holds ∙ held)))
-pass_unheld opening later asked (Err fault) reply shelf err history holds is =
-    absurd (no_shelf fault (same_fault (fault_of_hub fault) Shelf reply err is))
-
--- It is busy where the look was.
-pub busy_load : (old new : ℕ) (found : Result (Option Op) HubFault) (reply : Result ContentParts PortFault)
-    → OnOk found (IfErr reply (λ fault. (fault ≡ Memory) ⊎ (fault ≡ Shelf)))
-    → IfErr found (λ fault. reply ≡ Err (fault_of_hub fault)) → Tells found old new → reply ≡ Err Busy → Rose old new
-busy_load old new (Ok op) (Ok content) fault err tells is = absurd cc
-busy_load old new (Ok op) (Err told) fault err tells is = absurd (elim fault as (λ _. ⊥) [
-  | inl memory ↦ cc
-  | inr shelf ↦ cc
-])
-busy_load old new (Err fault) reply told err tells is =
-    busy_fault old new fault tells (same_fault (fault_of_hub fault) Busy reply err is)

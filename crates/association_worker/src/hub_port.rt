@@ -1,28 +1,27 @@
-//! A pass of a running site as a port.
+//! A pass of a running site, as the part of a port that knows no shelf.
 
 ghost use Rattle.std.specs.Prelude.{◌≡◌, ◌≢◌, Err, OnErr};
-ghost use Rattle.operation.specs.declared.op.Op.TheVariants.{Content as a_content};
 ghost use Rattle.devices.specs.Failures.{Rose};
 ghost use Rattle.site_state.specs.Site.{ops_of};
 ghost use Rattle.site_hub.specs.History.{set_of};
 ghost use Rattle.site_hub.specs.Hub.{Seat, IsLater};
-ghost use Rattle.association_run.specs.Port.{Stores, Finds, Gets, Loads};
-ghost use Rattle.association_worker.specs.Port.{IsUnheld};
+ghost use Rattle.association_run.specs.Port.{Stores, Finds, Gets};
 
 use crate::at_entry::AtEntry;
 use crate::looker::Looker;
 use crate::shared_keeper::SharedKeeper;
 use archive_model::{Answers, Listed, Query, Selection, View};
-use association_run::Port;
 use association_session::PortFault;
 use octets::ListOf;
-use operation::{Content, ContentRecord, Digested, Op, Taken};
+use operation::Taken;
+use records::RecordedOp;
 use site_hub::{HubName, Keeper, Pass, Shows};
 use std::marker::Model;
 use std::sync::{Mutex, Wait};
 
-/// A pass with the keeper that all passes share, as the port of one association. Its set is that of
-/// the history that the pass has seen, and its list is the pass's own.
+/// A pass with the keeper that all passes share, as what a port of one association asks of the
+/// site: all but loads. Its set is that of the history that the pass has seen, and its list is the
+/// pass's own.
 ///
 /// What it is asked goes to its `Looker`, which waits for nobody; a store waits for the keeper,
 /// whose lock nothing else here can take.
@@ -72,9 +71,9 @@ impl<'a, H: HubName, T: Shows<H>, R: Wait + Drop, S: Wait, E: AtEntry> HubPort<'
         looker.into_pass()
     }
 
-    /// Takes an operation whose digest is known, at its turn, into what all passes share. What is
-    /// refused was not published: the pass has seen nothing more. No shelf is asked.
-    pub fn take(&mut self, op: Digested) -> Result<Taken, PortFault>
+    /// Takes an operation, at its turn, into what all passes share. What is refused was not
+    /// published: the pass has seen nothing more. No shelf is asked.
+    pub fn take(&mut self, op: RecordedOp) -> Result<Taken, PortFault>
         ensures stores { Stores (λ (s : Seat). ops_of (set_of H.opening s.seen))
             (λ (s : Seat). s.mine) self.old op result self.new }
         ensures refused { OnErr result (self.new.seen ≡ self.old.seen) }
@@ -105,70 +104,5 @@ impl<'a, H: HubName, T: Shows<H>, R: Wait + Drop, S: Wait, E: AtEntry> HubPort<'
         ensures later { IsLater self.old self.new }
     {
         self.looker.listed(view, selection)
-    }
-
-    /// The content of a record, in one look. The shelf is told of only where none of the record is
-    /// held.
-    pub fn content(&mut self, asked: &ContentRecord) -> Result<Content, PortFault>
-        ensures loads { Loads (λ (s : Seat). ops_of (set_of H.opening s.seen))
-            (λ (s : Seat). s.mine) self.old asked.now result self.new }
-        ensures shelf { result ≡ Err PortFault.Shelf → IsUnheld
-            (ops_of (set_of H.opening self.new.seen)) asked.now }
-        ensures busy { result ≡ Err PortFault.Busy → Rose self.old.refused self.new.refused }
-        ensures later { IsLater self.old self.new }
-    {
-        self.looker.load(asked)
-    }
-}
-
-impl<'a, H: HubName, T: Shows<H>, R: Wait + Drop, S: Wait, E: AtEntry> Port
-    for HubPort<'a, H, T, R, S, E> {
-    ghost use Rattle.site_state.specs.Site.{ops_of};
-    ghost use Rattle.site_hub.specs.History.{set_of};
-
-    ghost ops = { λ s. ops_of (set_of H.opening s.seen) };
-
-    ghost own = { λ s. s.mine };
-
-    fn store(&mut self, content: Content) -> Result<Taken, PortFault>
-        ensures stores { Stores (λ (s : Seat). ops_of (set_of H.opening s.seen))
-            (λ (s : Seat). s.mine) self.old (a_content content) result self.new }
-        ensures refused { OnErr result (self.new.seen ≡ self.old.seen) }
-        ensures own { result ≢ Err PortFault.Shelf }
-        ensures busy { result ≡ Err PortFault.Busy → Rose self.old.refused self.new.refused }
-        ensures later { IsLater self.old self.new }
-    {
-        self.take(Digested::of(Op::Content(content)))
-    }
-
-    fn find(&mut self, called: &[u8], view: View, query: &Query) -> Result<Answers, PortFault>
-        ensures finds { Finds (λ (s : Seat). ops_of (set_of H.opening s.seen))
-            (λ (s : Seat). s.mine) self.old
-            (record { called = called.now; view = view; query = query.now }) result self.new }
-        ensures busy { result ≡ Err PortFault.Busy → Rose self.old.refused self.new.refused }
-        ensures later { IsLater self.old self.new }
-    {
-        self.rows(called, view, query)
-    }
-
-    fn get(&mut self, view: View, selection: &Selection) -> Result<ListOf<Listed>, PortFault>
-        ensures gets { Gets (λ (s : Seat). ops_of (set_of H.opening s.seen))
-            (λ (s : Seat). s.mine) self.old
-            (record { view = view; selection = selection.now }) result self.new }
-        ensures busy { result ≡ Err PortFault.Busy → Rose self.old.refused self.new.refused }
-        ensures later { IsLater self.old self.new }
-    {
-        self.listed(view, selection)
-    }
-
-    fn load(&mut self, asked: &ContentRecord) -> Result<Content, PortFault>
-        ensures loads { Loads (λ (s : Seat). ops_of (set_of H.opening s.seen))
-            (λ (s : Seat). s.mine) self.old asked.now result self.new }
-        ensures shelf { result ≡ Err PortFault.Shelf → IsUnheld
-            (ops_of (set_of H.opening self.new.seen)) asked.now }
-        ensures busy { result ≡ Err PortFault.Busy → Rose self.old.refused self.new.refused }
-        ensures later { IsLater self.old self.new }
-    {
-        self.content(asked)
     }
 }

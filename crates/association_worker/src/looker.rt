@@ -1,26 +1,20 @@
 //! A pass of a running site, as the part of a port that is asked what it holds.
 
 ghost use Rattle.std.specs.Prelude.{◌≡◌, ◌≢◌, ◌⊎◌, Ok, Err, Some, IfOk, IfErr, OnOk, OnErr};
-ghost use Rattle.std.specs.Option.{IfSome};
 ghost use Rattle.devices.specs.Failures.{Rose};
-ghost use Rattle.operation.specs.declared.op.Op.TheVariants.{Content as a_content};
-ghost use Rattle.operation.specs.Parts.{ContentParts};
-ghost use Rattle.operation.specs.RecordParts.{content_record};
-ghost use Rattle.operation.specs.Spelling.{digest_of};
-ghost use Rattle.archive_model.specs.Listed.{IsOfRecord};
 ghost use Rattle.site_state.specs.Site.{ops_of};
 ghost use Rattle.site_hub.specs.History.{set_of};
 ghost use Rattle.site_hub.specs.Hub.{Seat, IsLater};
-ghost use Rattle.association_run.specs.Port.{Stores, Finds, Gets, Loads};
-ghost use Rattle.association_worker.specs.Port.{fault_of_hub, reply_to, IsUnheld};
+ghost use Rattle.association_run.specs.Port.{Stores, Finds, Gets};
+ghost use Rattle.association_worker.specs.Port.{fault_of_hub, reply_to};
 
 use crate::at_entry::AtEntry;
-use crate::loaded::loaded;
 use archive_model::{Answers, Listed, Query, Selection, View};
 use association_session::PortFault;
 use octets::ListOf;
-use operation::{Content, ContentRecord, Digested, Op, Taken};
-use site_hub::{HubFault, HubName, Keeper, Pass, Shows, Told, store_digested};
+use operation::Taken;
+use records::RecordedOp;
+use site_hub::{HubFault, HubName, Keeper, Pass, Shows, Told, store};
 use std::marker::{Model, PhantomData};
 use std::sync::{Mutex, Wait};
 
@@ -83,27 +77,6 @@ fn listed_in(found: Result<Vec<Listed>, HubFault>) -> Result<ListOf<Listed>, Por
     }
 }
 
-/// What the answer to a load is to a port: what is held under the digest of a record.
-fn loaded_in(
-    held: Result<Option<Op>, HubFault>,
-    asked: &ContentRecord,
-) -> Result<Content, PortFault>
-    requires own { IfOk held (λ op. IfSome op (λ op. asked.now.digest ≡ digest_of op)) }
-    ensures loaded { IfOk result (λ content.
-        (held ≡ Ok (Some (a_content content))) × IsOfRecord asked.now content) }
-    ensures shelf { result ≡ Err PortFault.Shelf → (content : ContentParts) →
-        held ≡ Ok (Some (a_content content)) → content_record content ≢ asked.now }
-    ensures fault { OnOk held (IfErr result (λ fault.
-        (fault ≡ PortFault.Memory) ⊎ (fault ≡ PortFault.Shelf))) }
-    ensures err { IfErr held (λ fault. result ≡ Err (fault_of_hub fault)) }
-{
-    match held {
-        Ok(Some(op)) => loaded(op, asked),
-        Ok(None) => Err(PortFault::Shelf),
-        Err(fault) => Err(port_fault(fault)),
-    }
-}
-
 impl<H: HubName, E: AtEntry> Looker<H, E> {
     /// The pass of an association that begins with it.
     pub fn new(pass: Pass<H>) -> Looker<H, E>
@@ -159,28 +132,13 @@ impl<H: HubName, E: AtEntry> Looker<H, E> {
         listed_in(found)
     }
 
-    /// The content of a record, in one look: what the pass has listed is still held. The shelf is
-    /// told of only where no content of the record is.
-    pub fn load(&mut self, asked: &ContentRecord) -> Result<Content, PortFault>
-        ensures loads { Loads (λ (s : Seat). ops_of (set_of H.opening s.seen))
-            (λ (s : Seat). s.mine) self.old asked.now result self.new }
-        ensures shelf { result ≡ Err PortFault.Shelf → IsUnheld
-            (ops_of (set_of H.opening self.new.seen)) asked.now }
-        ensures busy { result ≡ Err PortFault.Busy → Rose self.old.refused self.new.refused }
-        ensures later { IsLater self.old self.new }
-    {
-        let held = self.pass.op(asked.digest());
-        self.pass.see_history();
-        loaded_in(held, asked)
-    }
-
     /// Takes an operation for the pass, at its turn, by a keeper that all passes share. What it
     /// refuses is the hub's own: it knows no shelf.
     pub fn take<T: Shows<H>, R: Wait + Drop>(
         &mut self,
         rt: &impl Wait,
         keeper: &Mutex<Keeper<H, T, R>>,
-        op: Digested,
+        op: RecordedOp,
     ) -> Result<Taken, PortFault>
         ensures stores { Stores (λ (s : Seat). ops_of (set_of H.opening s.seen))
             (λ (s : Seat). s.mine) self.old op result self.new }
@@ -189,7 +147,7 @@ impl<H: HubName, E: AtEntry> Looker<H, E> {
         ensures busy { result ≡ Err PortFault.Busy → Rose self.old.refused self.new.refused }
         ensures later { IsLater self.old self.new }
     {
-        let told = store_digested(rt, keeper, &mut self.pass, op);
+        let told = store(rt, keeper, &mut self.pass, op);
         self.pass.see_history();
         reply(told)
     }

@@ -10,7 +10,8 @@ ghost use Rattle.association_run.specs.Port.{Stores};
 use crate::at_entry::AtEntry;
 use crate::looker::Looker;
 use association_session::PortFault;
-use operation::{Digested, Taken};
+use operation::Taken;
+use records::RecordedOp;
 use site_hub::{HubName, Keeper, Shows};
 use std::sync::{Mutex, Wait};
 
@@ -31,7 +32,7 @@ impl<'a, H: HubName, T: Shows<H>, R: Wait + Drop, S: Wait> SharedKeeper<'a, H, T
     pub fn take<E: AtEntry>(
         &self,
         looker: &mut Looker<H, E>,
-        op: Digested,
+        op: RecordedOp,
     ) -> Result<Taken, PortFault>
         ensures stores { Stores (λ (s : Seat). ops_of (set_of H.opening s.seen))
             (λ (s : Seat). s.mine) looker.old op result looker.new }

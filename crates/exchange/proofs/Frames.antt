@@ -8,6 +8,7 @@ use Rattle.exchange_frames.specs.declared.frame.Frame.TheVariants.{Have, Want, D
 use Rattle.exchange_frames.specs.Spelling.{IsFrame}
 use Rattle.exchange.specs.Held.{lacked}
 use Rattle.exchange.proofs.Said.{round_says_frames}
+use Rattle.exchange.proofs.Recorded.{recorded_digests}
 use Rattle.exchange.specs.declared.role.Role.{Role}
 use Rattle.exchange.specs.declared.role.Role.TheVariants.{Caller, Callee, OldCaller}
 use Rattle.exchange.specs.declared.side.Side.{Side}
@@ -50,7 +51,8 @@ told_frames holds alone (tasks.Compare b) s h frame more t k fit lawful d sayabl
     one_frame (Differ d.places) more d.says (subst (λ (p : List ℕ). IsFrame (Differ p)) (sym d.looks.answers)
     (round_says_frames.differ _ b))
 told_frames holds alone (tasks.Offer p) s h frame more t k fit lawful d sayable =
-    one_frame _ more d.1.answers.0 (round_says_frames.part s.round.version p d.1.had d.1.was_had.own)
+    one_frame _ more d.1.answers.0 (round_says_frames.part s.round.version p d.1.had
+    (recorded_digests d.1.had d.1.was_had.own))
 told_frames holds alone (tasks.Ask x) s h frame more t k fit lawful d sayable =
     one_frame (Want d.want) more d.says (want_frame d.looks.had x d.want frame fit lawful d.looks.answers)
 told_frames holds alone (tasks.Give w) s h frame more t k fit lawful d sayable =

@@ -7,7 +7,8 @@ use Rattle.octets.specs.Members.{Has}
 use Rattle.archive_model.proofs.MemberLaws.{has_filter, filter_has}
 use Rattle.operation.specs.declared.op.Op.{Op}
 use Rattle.operation.specs.Spelling.{digest_of}
-use Rattle.site_state.specs.Site.{Map, IsSite, held_at}
+use Rattle.records.specs.StandIn.{op_in}
+use Rattle.site_state.specs.Site.{Map, held_at}
 use Rattle.site_state.specs.Union.{Agree}
 use Rattle.site_state.proofs.Maps.{same_sites}
 use Rattle.exchange_frames.specs.declared.frame.Frame.{Frame}
@@ -19,7 +20,7 @@ use Rattle.exchange.specs.Held.{place_of, is_in, offered, offered_in, HasGrown}
 use Rattle.exchange.specs.Buckets.{bucket_list}
 use Rattle.exchange.specs.Laws.{BucketsTell}
 use Rattle.exchange.proofs.Bucketed.{offered_held, place_small, no_place_is_equal}
-use Rattle.exchange.proofs.Rounds.{offered_has, own_digest, same_option}
+use Rattle.exchange.proofs.Rounds.{offered_has, same_option}
 use Rattle.exchange.specs.declared.role.Role.{Role}
 use Rattle.exchange.specs.declared.role.Role.TheVariants.{Caller, Callee, OldCaller}
 use Rattle.exchange.specs.declared.role.Ended.{Ended}
@@ -30,7 +31,7 @@ use Rattle.exchange.specs.declared.task.Task.{Task}
 use Rattle.exchange.specs.declared.task.Task.TheVariants as tasks
 use Rattle.exchange.specs.Tasks.{task_for}
 use Rattle.exchange.specs.Course.{Does, DoesAll, SetsOut, Talks, start_of}
-use Rattle.exchange.specs.RunLaws.{IsHeld, IsOffered, HoldsWhatWasShown, WasAsked, WasCompared}
+use Rattle.exchange.specs.RunLaws.{IsHeld, IsOffered, HoldsWhatWasShown, WasCompared, StandsForGiven}
 use Rattle.exchange.specs.Run.{Ends, Exchanged}
 use Rattle.exchange.specs.Joined.{AreJoined, WasGained, WasTold, lone_offer, places_of, AllFits, IsInPart, HoldsPart}
 use Rattle.exchange.specs.Joined.{ExchangeGivesAll, ExchangeMakesEqual}
@@ -183,8 +184,8 @@ module _ {X Y : Type 0} (holds_x : X → Map) (alone_x : X → Type 0) (role_x :
   begin : (d : List ℕ) → Has (offered Two shown.had) d → place_of d < 256
   begin d h =
       let op = offered_held Two shown.had d h in
-      subst (λ (q : List ℕ). place_of q < 256) (sym (own_digest shown.had shown.own d op.0 op.1))
-      (place_small op.0)
+      let at = shown.own d op.0 op.1 in
+      subst (λ (q : List ℕ). place_of q < 256) at.1.1 (place_small at.0)
 
   -- what was compared with it
   against : (compared : Map) × WasCompared holds_x alone_x Two (offered Two shown.had) from_x.holder x.told to_x.holder
@@ -284,15 +285,14 @@ module _ {X Y : Type 0} (holds_x : X → Map) (alone_x : X → Type 0) (role_x :
   })
 
   -- what the other side has in the end it has from its begin, or was given it
-  pub has_theirs : IsSite (holds_y to_y.holder) → alone_y from_y.holder → alone_x from_x.holder
-      → IsTrue ended_x.finished
+  pub has_theirs : alone_y from_y.holder → alone_x from_x.holder → IsTrue ended_x.finished
       → BucketsTell (offered Two (holds_x from_x.holder))
       (offered Two (lone_offer role_y (holds_y from_y.holder) (holds_y to_y.holder)))
       → AllFits (holds_x from_x.holder) (lone_offer role_y (holds_y from_y.holder) (holds_y to_y.holder))
       (lone_offer role_y (holds_y from_y.holder) (holds_y to_y.holder))
-      → ((op : Op) → Has x.told (Give op) → held_at (holds_x to_x.holder) (digest_of op) ≡ Some op)
+      → ((op : Op) → Has x.told (Give op) → held_at (holds_x to_x.holder) (digest_of op) ≡ Some (op_in op))
       → HasGrown (holds_y to_y.holder) (holds_x to_x.holder)
-  has_theirs own here here_x finished tell fit gave d op e = by (y.comes_to.only here d op e)
+  has_theirs here here_x finished tell fit gave d op e = by (y.comes_to.only here d op e)
     where
       tells : BucketsTell (offered Two against.0) (offered Two shown.had)
       tells = subst (λ (m : Map). BucketsTell (offered Two m) (offered Two shown.had))
@@ -305,12 +305,12 @@ module _ {X Y : Type 0} (holds_x : X → Map) (alone_x : X → Type 0) (role_x :
           (subst (λ (m : Map). AllFits m shown.had shown.had) (sym (against.1.at_begin here_x))
           (subst (λ (n : Map). AllFits (holds_x from_x.holder) n n) (sym (lone here)) fit))
 
-      by : (held_at (holds_y from_y.holder) d ≡ Some op) ⊎ (Has y.heard (Give op) × WasAsked
-          y.told (digest_of op)) → held_at (holds_x to_x.holder) d ≡ Some op
+      by : (held_at (holds_y from_y.holder) d ≡ Some op) ⊎ StandsForGiven y.heard y.told d op
+          → held_at (holds_x to_x.holder) d ≡ Some op
       by (inl was) = gained finished tells few d op (shown.since d op was)
       by (inr p) =
-          let given = gave op (subst (λ (l : List Frame). Has l (Give op)) (sym there) p.0) in
-          ap (held_at (holds_x to_x.holder)) (own_digest (holds_y to_y.holder) own d op e) ∙ given
+          let given = gave p.0 (subst (λ (l : List Frame). Has l (Give p.0)) (sym there) p.1) in
+          ap (held_at (holds_x to_x.holder)) (sym p.3) ∙ given ∙ ap Some p.4
 
 agree_back : (m n : Map) → Agree m n → Agree n m
 agree_back m n agree d o p at_n at_m = sym (agree d p o at_m at_n)
@@ -365,24 +365,23 @@ module _ {A B : Type 0} (holds_a : A → Map) (alone_a : A → Type 0) (holds_b 
   )
 
   -- what a side was given the other side has
-  gave_a : (op : Op) → Has a.told (Give op) → held_at (holds_a to_a.holder) (digest_of op) ≡ Some op
+  gave_a : (op : Op) → Has a.told (Give op) → held_at (holds_a to_a.holder) (digest_of op) ≡ Some (op_in op)
   gave_a = (offering_talk holds_a alone_a Caller from_a.holder a.heard a.told a.side to_a.holder a.talk).gave
 
-  gave_b : (op : Op) → Has b.told (Give op) → held_at (holds_b to_b.holder) (digest_of op) ≡ Some op
+  gave_b : (op : Op) → Has b.told (Give op) → held_at (holds_b to_b.holder) (digest_of op) ≡ Some (op_in op)
   gave_b = (offering_talk holds_b alone_b Callee from_b.holder b.heard b.told b.side to_b.holder b.talk).gave
 
-  equal : IsSite (holds_a to_a.holder) → IsSite (holds_b to_b.holder) → alone_a from_a.holder → alone_b from_b.holder
-      → IsTrue ended_a.finished → IsTrue ended_b.finished
+  equal : alone_a from_a.holder → alone_b from_b.holder → IsTrue ended_a.finished → IsTrue ended_b.finished
       → BucketsTell (offered Two (holds_b from_b.holder)) (offered Two (holds_a from_a.holder))
       → AllFits (holds_b from_b.holder) (holds_a from_a.holder) (holds_a from_a.holder)
       → BucketsTell (offered Two (holds_a from_a.holder)) (offered Two (holds_b to_b.holder))
       → AllFits (holds_a from_a.holder) (holds_b to_b.holder) (holds_b to_b.holder)
       → holds_a to_a.holder ≡ holds_b to_b.holder
-  equal own_a own_b here_a here_b finished_a finished_b tell_b fit_b tell_a fit_a =
+  equal here_a here_b finished_a finished_b tell_b fit_b tell_a fit_a =
       let to_b_all = has_theirs holds_b alone_b Callee from_b to_b ended_b b holds_a alone_a Caller from_a to_a ended_a
-      a back there meets.0 version_a agree_too own_a here_a here_b finished_b tell_b fit_b gave_b in
+      a back there meets.0 version_a agree_too here_a here_b finished_b tell_b fit_b gave_b in
       let to_a_all = has_theirs holds_a alone_a Caller from_a to_a ended_a a holds_b alone_b Callee from_b to_b ended_b
-      b there back version_a meets.0 agree own_b here_b here_a finished_a tell_a fit_a gave_a in
+      b there back version_a meets.0 agree here_b here_a finished_a tell_a fit_a gave_a in
       same_sites (holds_a to_a.holder) (holds_b to_b.holder)
       (λ d. same_option (held_at (holds_a to_a.holder) d) (held_at (holds_b to_b.holder) d) (to_b_all d) (to_a_all d))
 

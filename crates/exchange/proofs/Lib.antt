@@ -14,6 +14,7 @@ pub mod Agreed
 pub mod Outcomes
 pub mod Wholes
 pub mod Readings
+pub mod Recorded
 pub mod Runs
 pub mod Repeated
 pub mod Turns

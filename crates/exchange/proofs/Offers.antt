@@ -1,22 +1,22 @@
 -- What a side offered, and what it gave.
-use Rattle.std.proofs.Common.{inl, inr, ◌≡◌, ℕ, List, [], ◌∷◌, ◌++◌, Bool, true, false, cond, Option, Some, None, refl}
+use Rattle.std.proofs.Common.{inl, inr, ◌≡◌, ℕ, List, [], ◌∷◌, ◌++◌, Bool, true, false, Some, refl}
 use Rattle.std.proofs.Common.{sym, ap, subst, ◌∙◌, append_assoc, append-nil, ◌≤◌, length, arith}
 use Rattle.std.specs.Prelude.{◌⊎◌}
 use Rattle.std.proofs.lemmas.Bool.{and_parts as both_true}
 use Rattle.octets.specs.Members.{Has}
-use Rattle.archive_model.proofs.MemberLaws.{filter_map_has}
 use Rattle.operation.specs.declared.op.Op.{Op}
 use Rattle.operation.specs.Spelling.{digest_of}
-use Rattle.site_state.specs.Site.{Map, IsSite, held_at}
+use Rattle.records.specs.StandIn.{op_in}
+use Rattle.site_state.specs.Site.{Map, held_at}
 use Rattle.exchange_frames.specs.declared.frame.Frame.{Frame}
 use Rattle.exchange_frames.specs.declared.frame.Frame.TheVariants.{Have, Want, Give, End, Buckets, Differ, Hello}
 use Rattle.exchange.specs.declared.version.Version.{Version}
-use Rattle.exchange.specs.Held.{is_spoken, if_spoken, given, offered, offered_in, HasGrown}
+use Rattle.exchange.specs.Held.{offered, offered_in, held_of, IsRecorded, HasGrown}
 use Rattle.exchange_frames.specs.declared.reader.TheConstants.{MOST_DIGESTS}
 use Rattle.exchange.specs.Parts.{told_in, do_fit}
 use Rattle.exchange.specs.Joined.{WasTold}
 use Rattle.exchange.specs.Buckets.{bucket_list}
-use Rattle.exchange.proofs.Rounds.{own_digest}
+use Rattle.exchange.proofs.Gifts.{loaded_each}
 use Rattle.exchange.specs.declared.role.Role.{Role}
 use Rattle.exchange.specs.declared.role.Role.TheVariants.{Caller, Callee, OldCaller}
 use Rattle.exchange.specs.declared.side.Side.{Side}
@@ -37,7 +37,7 @@ use Rattle.exchange.proofs.Outcomes.{has_left, has_right, has_split, other_has, 
 pub record IsShown (version : Version) (role : Role) (lone whole : Type 0) (start : Map) (heard told : List Frame)
     (now : Map) : Type 0 where
   pub had : Map
-  pub own : IsSite had
+  pub own : IsRecorded had
   pub since : HasGrown start had
   pub until : HasGrown had now
   pub said : Has told (Buckets (bucket_list (offered version had)))
@@ -56,7 +56,7 @@ pub record Offering {H : Type 0} (holds : H → Map) (alone : H → Type 0) (sta
     pub none : has_shown t.role t.awaited ≡ false → (places : List ℕ) → Has heard (Differ places) → ⊥
     pub some : has_shown t.role t.awaited ≡ true
         → IsShown t.round.version t.role (alone start) (t.whole ≡ true) (holds start) heard told (holds k)
-    pub gave : (op : Op) → Has told (Give op) → held_at (holds k) (digest_of op) ≡ Some op
+    pub gave : (op : Op) → Has told (Give op) → held_at (holds k) (digest_of op) ≡ Some (op_in op)
 
 fit_few : (digests : List (List ℕ)) → do_fit digests ≡ true → length digests ≤ MOST_DIGESTS
 fit_few digests e = grind arith
@@ -75,28 +75,6 @@ gift_in [] op (inl e) = absurd (let clash : Give op ≡ End = e in cc)
 gift_in [] op (inr n) = absurd n
 gift_in (o ∷ ops) op (inl e) = inl (let clash : Give op ≡ Give o = e in cc)
 gift_in (o ∷ ops) op (inr h) = inr (gift_in ops op h)
-
-spoken_some : (b : Bool) (r : Option Op) (version : Version) (op o : Op) → r ≡ Some o → if_spoken version r ≡ Some op
-    → is_spoken version o ≡ b → r ≡ Some op
-spoken_some true r version op o is e spoken =
-    let there : (if_spoken version (Some o)) ≡ Some op = ap (if_spoken version) (sym is) ∙ e in
-    let same : Some o ≡ Some op = sym (ap (λ (c : Bool). cond c (Some o) None) spoken) ∙ there in
-    is ∙ same
-spoken_some false r version op o is e spoken =
-    let there : (if_spoken version (Some o)) ≡ Some op = ap (if_spoken version) (sym is) ∙ e in
-    let clash : None ≡ Some op = sym (ap (λ (c : Bool). cond c (Some o) None) spoken) ∙ there in
-    absurd cc
-
-was_held : (version : Version) (op : Op) (r : Option Op) → if_spoken version r ≡ Some op → r ≡ Some op
-was_held version op None e = absurd cc
-was_held version op (Some o) e = spoken_some (is_spoken version o) (Some o) version op o refl e refl
-
-given_held : (version : Version) (want : List (List ℕ)) (m : Map) → IsSite m → (op : Op) → Has (given version want m) op
-    → held_at m (digest_of op) ≡ Some op
-given_held version want m own op h =
-    let made = filter_map_has (λ d. if_spoken version (held_at m d)) want op h in
-    let there = was_held version op (held_at m made.0) made.2 in
-    ap (held_at m) (sym (own_digest m own made.0 op there)) ∙ there
 
 -- ---- a frame more
 
@@ -169,7 +147,7 @@ module _ {H : Type 0} (holds : H → Map) (alone : H → Type 0) (start : H) (he
         (subst (λ (v : Version). IsShown v s.role (alone start) (t.whole ≡ true) (holds start) (heard ++ frame ∷ [])
         (told ++ more) (holds k)) (sym version) (shown_on s.round.version grown back other
         (λ lone turn. still lone (sym same ∙ e) turn) (know.some (sym same ∙ e))));
-    gave = λ op p. grown (digest_of op) op (know.gave op (old_gift no_give op p));
+    gave = λ op p. grown (digest_of op) (op_in op) (know.gave op (old_gift no_give op p));
   }
 
   -- BUCKETS are said.
@@ -197,7 +175,8 @@ module _ {H : Type 0} (holds : H → Map) (alone : H → Type 0) (start : H) (he
           offers = λ places p. absurd (know.none before places
               (other_has heard frame (Differ places) (other places) p));
         });
-    gave = λ op p. (idles_of does.1).grown (digest_of op) op (know.gave op (old_gift (no_gift _ more does.1.answers
+    gave = λ op p. (idles_of does.1).grown (digest_of op) (op_in op) (know.gave op (old_gift (no_gift _ more
+        does.1.answers
         (λ o e. let clash : Give o ≡ Buckets _ = e in absurd cc)) op p));
   }
 
@@ -224,7 +203,8 @@ module _ {H : Type 0} (holds : H → Map) (alone : H → Type 0) (start : H) (he
           said = has_left told more _ was.said;
           offers = λ p q. by p (has_split heard (frame ∷ []) (Differ p) q);
         });
-    gave = λ op p. (idles_of does.1).grown (digest_of op) op (know.gave op (old_gift (no_gift _ more does.1.answers.0
+    gave = λ op p. (idles_of does.1).grown (digest_of op) (op_in op) (know.gave op (old_gift (no_gift _ more
+        does.1.answers.0
         (λ o e. let clash : Give o ≡ Have _ = e in absurd cc)) op p));
   }
     where
@@ -283,12 +263,12 @@ module _ {H : Type 0} (holds : H → Map) (alone : H → Type 0) (start : H) (he
       after : has_shown t.role t.awaited ≡ true
       after = ap (λ (x : Side). has_shown x.role x.awaited) does.same ∙ went.1
 
-      by : (op : Op) → Has told (Give op) ⊎ Has more (Give op) → held_at (holds k) (digest_of op) ≡ Some op
-      by op (inl l) = (idles_of does.looks).grown (digest_of op) op (know.gave op l)
+      by : (op : Op) → Has told (Give op) ⊎ Has more (Give op) → held_at (holds k) (digest_of op) ≡ Some (op_in op)
+      by op (inl l) = (idles_of does.looks).grown (digest_of op) (op_in op) (know.gave op l)
       by op (inr r) =
           let mine = gift_in does.ops op (subst (λ (l : List Frame). Has l (Give op)) does.says r) in
-          does.looks.was_had.until (digest_of op) op (given_held s.round.version want does.looks.had
-          does.looks.was_had.own op (subst (λ (l : List Op). Has l op) does.looks.answers mine))
+          does.looks.was_had.until (digest_of op) (op_in op) (loaded_each does.looks.had
+          (held_of s.round.version want does.looks.had) does.ops does.looks.answers op mine)
 
   next : (task : Task) → Fits s.role s.awaited task frame → Goes s.role s.awaited task
       → Does holds alone task s h more t k → Offering holds alone start (heard ++ frame ∷ []) (told ++ more) t k
@@ -306,7 +286,7 @@ module _ {H : Type 0} (holds : H → Map) (alone : H → Type 0) (start : H) (he
         (λ c. let clash : Differ places ≡ Hello fit.0 = c ∙ fit.1 in absurd cc) p);
     some = λ e. absurd (true_or_false (has_shown t.role t.awaited) (later_of s.role)
         (ap (λ (x : Side). has_shown x.role x.awaited) does.0) e went.1);
-    gave = λ op p. same_grown (digest_of op) op (know.gave op (old_gift (no_gift _ more does.1
+    gave = λ op p. same_grown (digest_of op) (op_in op) (know.gave op (old_gift (no_gift _ more does.1
         (λ o e. let clash : Give o ≡ Hello _ = e in absurd cc)) op p));
   }
     where

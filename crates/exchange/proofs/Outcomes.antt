@@ -19,6 +19,7 @@ use Rattle.operation.specs.declared.op.Op.{Op}
 use Rattle.operation.specs.declared.taken.Taken.{Taken}
 use Rattle.operation.specs.declared.taken.Taken.TheVariants.{New, Known}
 use Rattle.operation.specs.Spelling.{digest_of}
+use Rattle.records.specs.StandIn.{op_in}
 use Rattle.site_state.specs.Site.{Map, held_at, digest_cmp}
 use Rattle.site_state.proofs.Maps.{tied}
 use Rattle.exchange_frames.specs.declared.frame.Frame.{Frame}
@@ -41,7 +42,7 @@ use Rattle.exchange.specs.Tasks.{task_for}
 use Rattle.exchange.specs.Course.{gifts_of, Does, DoesAll, SetsOut, Talks, Idles}
 use Rattle.exchange.specs.RunLaws.{WasAsked, WasGiven, IsGivenAll, IsHeld, HoldsWhatWasOffered}
 use Rattle.exchange.specs.RunLaws.{IsOffered, differing}
-use Rattle.exchange.specs.RunLaws.{WasCompared, GainsOnlyGiven, Outcome}
+use Rattle.exchange.specs.RunLaws.{WasCompared, StandsForGiven, GainsOnlyGiven, Outcome}
 use Rattle.exchange.proofs.Holders.{idles_of, idles_same, grown_both, looked_same}
 use Rattle.exchange.proofs.Turns.{later, Fits, fits}
 
@@ -118,7 +119,7 @@ record Knows {H : Type 0} (holds : H → Map) (alone : H → Type 0) (start : H)
   awaited : (d : List ℕ) → WasAsked told d → IsAsked d t.round
   given : (d : List ℕ) → asked_at d t.round ≡ Some true → WasGiven heard d
   marked : (d : List ℕ) → WasGiven heard d → asked_at d t.round ≡ Some true
-  held : (op : Op) → Has heard (Give op) → held_at (holds k) (digest_of op) ≡ Some op
+  held : (op : Op) → Has heard (Give op) → held_at (holds k) (digest_of op) ≡ Some (op_in op)
   have : (x : List (List ℕ)) (d : List ℕ) → Has heard (Have x) → Has x d → IsHeld (holds k) d ⊎ WasAsked told d
   shown : (b : List (List ℕ)) → Has heard (Buckets b) → (p : List ℕ) × Has told (Differ p)
       × Compared holds alone start t.round.version k b p
@@ -129,6 +130,17 @@ asked_more told more d p = (p.0, has_left told more (Want p.0) p.1, p.2)
 
 given_more : (heard more : List Frame) (d : List ℕ) → WasGiven heard d → WasGiven (heard ++ more) d
 given_more heard more d p = (p.0, has_left heard more (Give p.0) p.1, p.2)
+
+given_on : (heard told fs ms : List Frame) (d : List ℕ) (o : Op) → StandsForGiven heard told d o
+    → StandsForGiven (heard ++ fs) (told ++ ms) d o
+given_on heard told fs ms d o p = (p.0, has_left heard fs (Give p.0) p.1, asked_more told ms d p.2, p.3, p.4)
+
+-- what was held, or given, still was
+gained_on : (m : Map) (heard told fs ms : List Frame) (d : List ℕ) (o : Op)
+    → (held_at m d ≡ Some o) ⊎ StandsForGiven heard told d o
+    → (held_at m d ≡ Some o) ⊎ StandsForGiven (heard ++ fs) (told ++ ms) d o
+gained_on m heard told fs ms d o (inl e) = inl e
+gained_on m heard told fs ms d o (inr p) = inr (given_on heard told fs ms d o p)
 
 held_more : (m n : Map) (d : List ℕ) → HasGrown m n → IsHeld m d → IsHeld n d
 held_more m n d grown p = (p.0, grown d p.0 p.1)
@@ -153,26 +165,20 @@ module _ {H : Type 0} (holds : H → Map) (alone : H → Type 0) (start : H) (he
     grown = λ d op e. idle.grown d op (know.grown d op e);
     only = λ here. let was = know.only here in let stays = idle.stays was.0 in (
       stays.0,
-      λ d op e. by d op (was.1 d op
-          (ap (λ (m : Map). held_at m d) (sym stays.1) ∙ e)),
+      λ d op e. gained_on (holds start) heard told (frame ∷ []) more d op
+          (was.1 d op (ap (λ (m : Map). held_at m d) (sym stays.1) ∙ e)),
     );
     asked = λ d p. asked_more told more d (know.asked d (p.0, sym (same d) ∙ p.1));
     awaited = λ d p. let q = know.awaited d (old_want d p) in (q.0, same d ∙ q.1);
     given = λ d e. given_more heard (frame ∷ []) d (know.given d (sym (same d) ∙ e));
     marked = λ d p. same d ∙ know.marked d (old_give d p);
-    held = λ op p. idle.grown (digest_of op) op (know.held op (other_has heard frame (Give op) (λ e. no_give op (sym e))
-        p));
+    held = λ op p. idle.grown (digest_of op) (op_in op) (know.held op (other_has heard frame (Give op)
+        (λ e. no_give op (sym e)) p));
     have = λ x d p q. held_or x d (know.have x d (other_has heard frame (Have x) (λ e. no_have x (sym e)) p) q);
     shown = shown;
     fresh = fresh;
   }
     where
-      by : (d : List ℕ) (op : Op) → (held_at (holds start) d ≡ Some op) ⊎ (Has heard (Give op) × WasAsked told
-          (digest_of op)) → (held_at (holds start) d ≡ Some op) ⊎ (Has (heard ++ frame ∷ []) (Give op)
-          × WasAsked (told ++ more) (digest_of op))
-      by d op (inl e) = inl e
-      by d op (inr p) = inr (has_left heard (frame ∷ []) (Give op) p.0, asked_more told more (digest_of op) p.1)
-
       old_want : (d : List ℕ) → WasAsked (told ++ more) d → WasAsked told d
       old_want d p = at (has_split told more (Want p.0) p.1)
         where
@@ -214,10 +220,10 @@ module _ {H : Type 0} (holds : H → Map) (alone : H → Type 0) (start : H) (he
   early lone l =
       grown_both (holds h) (holds start) (λ d op e. by d op ((know.only lone).1 d op e)) know.grown
     where
-      by : (d : List ℕ) (op : Op) → (held_at (holds start) d ≡ Some op) ⊎ (Has heard (Give op) × WasAsked told
-          (digest_of op)) → held_at (holds start) d ≡ Some op
+      by : (d : List ℕ) (op : Op) → (held_at (holds start) d ≡ Some op) ⊎ StandsForGiven heard told d op
+          → held_at (holds start) d ≡ Some op
       by d op (inl e) = e
-      by d op (inr p) = absurd ((know.fresh l).no_give op p.0)
+      by d op (inr p) = absurd ((know.fresh l).no_give p.0 p.1)
 
   -- nothing was compared, asked for or given yet
   fresh_still : Fresh heard told → ((b : List (List ℕ)) → frame ≡ Buckets b → ⊥) → ((op : Op) → frame ≡ Give op → ⊥)
@@ -426,15 +432,16 @@ module _ {H : Type 0} (holds : H → Map) (alone : H → Type 0) (start : H) (he
     grown = λ d op e. idle.grown d op (know.grown d op e);
     only = λ here. let was = know.only here in let stays = idle.stays was.0 in (
       stays.0,
-      λ d op e. gained d op (was.1 d op
-          (ap (λ (m : Map). held_at m d) (sym stays.1) ∙ e)),
+      λ d op e. gained_on (holds start) heard told (frame ∷ []) more d op
+          (was.1 d op (ap (λ (m : Map). held_at m d) (sym stays.1) ∙ e)),
     );
     asked = λ d p. asked_by d p.0 (is_among d a.want) refl (sym (a.asked d) ∙ p.1);
     awaited = λ d p. awaited_by d p.0 (has_split told more (Want p.0) p.1) p.2 (is_among d a.want) refl;
     given = λ d e. given_by d (is_among d a.want) (sym (a.asked d) ∙ e);
     marked = λ d p. a.asked d ∙ marked_by d (given_held d (old_give d p)) (is_among d a.want) refl
         (know.marked d (old_give d p));
-    held = λ op p. idle.grown (digest_of op) op (know.held op (other_has heard frame (Give op) (λ e. not_give op e) p));
+    held = λ op p. idle.grown (digest_of op) (op_in op) (know.held op (other_has heard frame (Give op)
+        (λ e. not_give op e) p));
     have = λ y d p q. have_by y d (has_split heard (frame ∷ []) (Have y) p) q;
     shown = shown_still holds alone start heard told s h know frame more t k a.version idle.grown
         (λ b e. let c : Have x ≡ Buckets b = sym fit ∙ e in absurd cc);
@@ -450,12 +457,6 @@ module _ {H : Type 0} (holds : H → Map) (alone : H → Type 0) (start : H) (he
       not_give : (op : Op) → Give op ≡ frame → ⊥
       not_give op e = let c : Give op ≡ Have x = e ∙ fit in absurd cc
 
-      gained : (d : List ℕ) (op : Op) → (held_at (holds start) d ≡ Some op) ⊎ (Has heard (Give op) × WasAsked told
-          (digest_of op)) → (held_at (holds start) d ≡ Some op) ⊎ (Has (heard ++ frame ∷ []) (Give op)
-          × WasAsked (told ++ more) (digest_of op))
-      gained d op (inl e) = inl e
-      gained d op (inr p) = inr (has_left heard (frame ∷ []) (Give op) p.0, asked_more told more (digest_of op) p.1)
-
       old_give : (d : List ℕ) → WasGiven (heard ++ frame ∷ []) d → WasGiven heard d
       old_give d p = (
         p.0,
@@ -464,7 +465,7 @@ module _ {H : Type 0} (holds : H → Map) (alone : H → Type 0) (start : H) (he
       )
 
       given_held : (d : List ℕ) → WasGiven heard d → IsHeld (holds h) d
-      given_held d p = (p.0, ap (held_at (holds h)) p.2 ∙ know.held p.0 p.1)
+      given_held d p = (op_in p.0, ap (held_at (holds h)) p.2 ∙ know.held p.0 p.1)
 
       asked_by : (d : List ℕ) (b c : Bool) → is_among d a.want ≡ c → cond c (Some false) (asked_at d s.round) ≡ Some b
           → WasAsked (told ++ more) d
@@ -569,8 +570,9 @@ module _ {H : Type 0} (holds : H → Map) (alone : H → Type 0) (start : H) (he
       after x = ap (λ (y : Side). asked_at x y.round) d.same
           ∙ marked_at own x s.round.asked (ap is_some is_there.1)
 
-      there : held_at (holds k) own ≡ Some op
-      there = subst (λ (r : Result Taken HolderFault). OnOk r (held_at (holds k) own ≡ Some op)) reply_is takes.held
+      there : held_at (holds k) own ≡ Some (op_in op)
+      there = subst (λ (r : Result Taken HolderFault). OnOk r (held_at (holds k) own ≡ Some (op_in op))) reply_is
+          takes.held
 
       old_want : (x : List ℕ) → WasAsked (told ++ more) x → WasAsked told x
       old_want x p = at (has_split told more (Want p.0) p.1)
@@ -583,31 +585,28 @@ module _ {H : Type 0} (holds : H → Map) (alone : H → Type 0) (start : H) (he
       heard_it = has_right heard (frame ∷ []) (Give op) (inl (sym fit.0))
 
       put_in : (m : Map) (x : List ℕ) (o : Op) (b : Bool) → eq_by_cmp digest_cmp x own ≡ b
-          → cond b (Some op) (held_at m x) ≡ Some o → (held_at m x ≡ Some o) ⊎ (o ≡ op)
-      put_in m x o true at e = inr (let is : op ≡ o = cc in sym is)
+          → cond b (Some (op_in op)) (held_at m x) ≡ Some o → (held_at m x ≡ Some o) ⊎ ((x ≡ own) × (op_in op ≡ o))
+      put_in m x o true at e = inr (tied x own at, cc)
       put_in m x o false at e = inl e
 
       taken_alone : (r : Result Taken HolderFault) → r ≡ Ok d.taken → TakesAlone (holds h) op r (holds k) → (x : List ℕ)
-          (o : Op) → held_at (holds k) x ≡ Some o → (held_at (holds h) x ≡ Some o) ⊎ (o ≡ op)
+          (o : Op) → held_at (holds k) x ≡ Some o → (held_at (holds h) x ≡ Some o) ⊎ ((x ≡ own) × (op_in op ≡ o))
       taken_alone (Ok New) is p x o e = put_in (holds h) x o (eq_by_cmp digest_cmp x own) refl
-          (sym (get-insert nat_list_cmp_total (holds h) own op x) ∙ ap (λ (m : Map). held_at m x) (sym p.1) ∙ e)
+          (sym (get-insert nat_list_cmp_total (holds h) own (op_in op) x) ∙ ap (λ (m : Map). held_at m x) (sym p.1)
+          ∙ e)
       taken_alone (Ok Known) is p x o e = inl (ap (λ (m : Map). held_at m x) (sym p.1) ∙ e)
       taken_alone (Err f) is p x o e = absurd cc
 
       gained : (x : List ℕ) (o : Op) → GainsOnlyGiven (holds start) heard told (holds h)
-          → (held_at (holds h) x ≡ Some o) ⊎ (o ≡ op) → (held_at (holds start) x ≡ Some o)
-          ⊎ (Has (heard ++ frame ∷ []) (Give o) × WasAsked (told ++ more) (digest_of o))
-      gained x o was (inl e) = by (was x o e)
-        where
-          by : (held_at (holds start) x ≡ Some o) ⊎ (Has heard (Give o) × WasAsked told (digest_of o))
-              → (held_at (holds start) x ≡ Some o) ⊎ (Has (heard ++ frame ∷ []) (Give o) × WasAsked (told ++ more)
-              (digest_of o))
-          by (inl q) = inl q
-          by (inr q) = inr (has_left heard (frame ∷ []) (Give o) q.0, asked_more told more (digest_of o) q.1)
+          → (held_at (holds h) x ≡ Some o) ⊎ ((x ≡ own) × (op_in op ≡ o)) → (held_at (holds start) x ≡ Some o)
+          ⊎ StandsForGiven (heard ++ frame ∷ []) (told ++ more) x o
+      gained x o was (inl e) = gained_on (holds start) heard told (frame ∷ []) more x o (was x o e)
       gained x o was (inr is) = inr (
-        subst (λ (y : Op). Has (heard ++ frame ∷ []) (Give y)) (sym is) heard_it,
-        asked_more told more (digest_of o) (subst (λ (y : Op). WasAsked told (digest_of y)) (sym is)
-            (know.asked own is_there)),
+        op,
+        heard_it,
+        asked_more told more x (subst (λ (y : List ℕ). WasAsked told y) (sym is.0) (know.asked own is_there)),
+        sym is.0,
+        is.1,
       )
 
       asked_by : (x : List ℕ) (b c : Bool) → is_at (digest_cmp own) x ≡ c
@@ -642,9 +641,10 @@ module _ {H : Type 0} (holds : H → Map) (alone : H → Type 0) (start : H) (he
           after x ∙ ap (λ z. cond z (Some true) (asked_at x s.round)) (ap (λ y. is_at (digest_cmp own) y) (sym at)
           ∙ ap is_eq (tied_itself nat_list_cmp_total own))
 
-      held_by : (o : Op) → Has heard (Give o) ⊎ Has (frame ∷ []) (Give o) → held_at (holds k) (digest_of o) ≡ Some o
-      held_by o (inl l) = takes.grown (digest_of o) o (know.held o l)
-      held_by o (inr n) = subst (λ (y : Op). held_at (holds k) (digest_of y) ≡ Some y) (sym (own_is o n)) there
+      held_by : (o : Op) → Has heard (Give o) ⊎ Has (frame ∷ []) (Give o)
+          → held_at (holds k) (digest_of o) ≡ Some (op_in o)
+      held_by o (inl l) = takes.grown (digest_of o) (op_in o) (know.held o l)
+      held_by o (inr n) = subst (λ (y : Op). held_at (holds k) (digest_of y) ≡ Some (op_in y)) (sym (own_is o n)) there
 
       or_more : (x : List ℕ) → IsHeld (holds h) x ⊎ WasAsked told x → IsHeld (holds k) x ⊎ WasAsked (told ++ more) x
       or_more x (inl p) = inl (held_more (holds h) (holds k) x takes.grown p)
@@ -752,7 +752,7 @@ module _ {H : Type 0} (holds : H → Map) (alone : H → Type 0) (before : H) (h
   had_or : (d : List ℕ) → IsFinished side.round → IsHeld (holds k) d ⊎ WasAsked told d → IsHeld (holds k) d
   had_or d finished (inl p) = p
   had_or d finished (inr p) =
-      let q = given_all finished d p in (q.0, ap (held_at (holds k)) q.2 ∙ know.held q.0 q.1)
+      let q = given_all finished d p in (op_in q.0, ap (held_at (holds k)) q.2 ∙ know.held q.0 q.1)
 
   had_all : IsFinished side.round → HoldsWhatWasOffered (holds k) heard
   had_all finished x there d has = had_or d finished (know.have x d there has)

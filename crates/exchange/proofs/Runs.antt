@@ -30,16 +30,16 @@ use Rattle.exchange.specs.declared.task.Task.{Task}
 use Rattle.exchange.specs.declared.task.Task.TheVariants as tasks
 use Rattle.exchange.specs.Tasks.{task_for}
 use Rattle.exchange.specs.declared.side.Said.{Said}
-use Rattle.exchange.specs.Course.{news, frames_of, Does, DoesAll, SetsOut, Performs, SetOut, HoldsGifts, Loads, Talks}
+use Rattle.exchange.specs.Course.{news, Does, DoesAll, SetsOut, Performs, SetOut, HoldsGifts, Loads, Talks}
 use Rattle.exchange.specs.Course.{Idles, IsOfHolder, Why}
 use Rattle.exchange.specs.Hearing.{texts, is_io, Heard, Unheard, WhyUnheard, Fails}
-use Rattle.exchange.specs.Saying.{WroteFront, WhyUnsaid, AreSayable, Speaks}
+use Rattle.exchange.specs.Saying.{WroteFront, WhyUnsaid, AreSayable, SpeaksSaid}
 use Rattle.exchange.specs.Run.{Ends, ends, NoneFailed, CountsFailures, Exchanged, EndsEarly}
 use Rattle.exchange.specs.Run.{Progress, Turned}
 use Rattle.exchange.proofs.Agreed.{agreed_ends}
 use Rattle.exchange.proofs.Wholes.{seen_whole_ends}
 use Rattle.exchange.proofs.Frames.{frames_more, told_frames, first_frames}
-use Rattle.exchange.proofs.Gifts.{does_loads, sets_out_loads, loads_idle}
+use Rattle.exchange.proofs.Gifts.{does_loads, sets_out_loads, loads_idle, so_said, so_holds}
 use Rattle.exchange.proofs.Holders.{idles_same}
 use Rattle.exchange.proofs.Writings.{texts_more, why_behind, unsaid_turns}
 use Rattle.exchange.proofs.Outcomes.{outcome_of}
@@ -333,17 +333,18 @@ module _ {H : Type 0} (holds : H → Map) (alone : H → Type 0) (role : Role) (
     pub said_turned : (k j : H) (u : Side) (said : Said) (w1 : Option (List ℕ)) (wf1 : ℕ)
         (r : Result (Unit {0}) ExchangeFault)
         → Performs holds alone (task_for side.awaited frame side.role) side h (Ok said) u k
-        → Loads holds alone said k j → (HoldsGifts (holds k) said → Speaks w w1 (frames_of (holds k) said) r)
+        → Loads holds alone said k j → (HoldsGifts (holds k) said → SpeaksSaid (holds k) said w w1 r)
         → Fails r wf wf1 → Turned holds alone role from (ends j r1 w1 rf1 wf1) u left n r
     said_turned k j u said w1 wf1 (Ok x) does loads speaks failed =
-        let spoke = speaks does.1 in
-        answered j (frames_of (holds k) said) u
-        (does_loads holds alone (task_for side.awaited frame side.role) said side h u k j does.0 loads)
-        w1 wf1 spoke.0 spoke.1 failed
+        let task = task_for side.awaited frame side.role in
+        let spoke = speaks (so_holds (holds k) said _ does) in
+        answered j spoke.0 u
+        (does_loads holds alone task said side h spoke.0 u k j spoke.1 (so_said (holds k) said _ does spoke.0 spoke.1)
+        loads) w1 wf1 spoke.2.0 spoke.2.1 failed
     said_turned k j u said w1 wf1 (Err fault) does loads speaks failed =
-        let spoke = speaks does.1 in
-        unsaid_breaks k (frames_of (holds k) said) u does.0 j w1 wf1 fault (loads_idle holds alone said k j loads)
-        spoke.0 spoke.1 failed
+        let spoke = speaks (so_holds (holds k) said _ does) in
+        unsaid_breaks k spoke.0 u (so_said (holds k) said _ does spoke.0 spoke.1) j w1 wf1 fault
+        (loads_idle holds alone said k j loads) spoke.2.0 spoke.2.1 failed
 
 -- ---- the first words
 
@@ -402,21 +403,23 @@ module _ {H : Type 0} (holds : H → Map) (alone : H → Type 0) (role : Role) (
     (w0 w1 : Option (List ℕ)) (wf0 wf1 : ℕ) (out : SetOut holds alone role h (Ok said) s k)
     (loads : Loads holds alone said k j) where
   pub set_out_ok : (r : Result (Unit {0}) ExchangeFault)
-      → (HoldsGifts (holds k) said → Speaks w0 w1 (frames_of (holds k) said) r) → Fails r wf0 wf1
+      → (HoldsGifts (holds k) said → SpeaksSaid (holds k) said w0 w1 r) → Fails r wf0 wf1
       → OnOk r ((left : Option (List ℕ)) (rf : ℕ)
       → Progress holds alone role (ends h left w0 rf wf0) (ends j left w1 rf wf1) s MOST_READS 0)
-  set_out_ok (Ok x) speaks failed = λ left rf. begun holds alone role h j left w0 w1 rf wf0 wf1
-      (frames_of (holds k) said) s (sets_out_loads holds alone role said h s k j out.0 loads) (speaks out.1).0 failed
+  set_out_ok (Ok x) speaks failed = λ left rf. let spoke = speaks (so_holds (holds k) said _ out) in
+      begun holds alone role h j left w0 w1 rf wf0 wf1 spoke.0 s
+      (sets_out_loads holds alone role said h spoke.0 s k j spoke.1 (so_said (holds k) said _ out spoke.0 spoke.1)
+      loads) spoke.2.0 failed
   set_out_ok (Err fault) speaks failed = tt
 
   pub set_out_err : (r : Result (Unit {0}) ExchangeFault)
-      → (HoldsGifts (holds k) said → Speaks w0 w1 (frames_of (holds k) said) r) → Fails r wf0 wf1
+      → (HoldsGifts (holds k) said → SpeaksSaid (holds k) said w0 w1 r) → Fails r wf0 wf1
       → IfErr r (λ fault. (left : Option (List ℕ)) (rf : ℕ)
       → EndsEarly holds alone role (ends h left w0 rf wf0) (ends j left w1 rf wf1) fault)
   set_out_err (Ok x) speaks failed = tt
-  set_out_err (Err fault) speaks failed = λ left rf. unbegun holds alone role h k left w0 w1 rf wf0 wf1
-      (frames_of (holds k) said) s out.0 j fault (loads_idle holds alone said k j loads) (speaks out.1).0
-      (speaks out.1).1 failed
+  set_out_err (Err fault) speaks failed = λ left rf. let spoke = speaks (so_holds (holds k) said _ out) in
+      unbegun holds alone role h k left w0 w1 rf wf0 wf1 spoke.0 s (so_said (holds k) said _ out spoke.0 spoke.1) j
+      fault (loads_idle holds alone said k j loads) spoke.2.0 spoke.2.1 failed
 
 -- ---- the end
 

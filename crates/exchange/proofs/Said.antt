@@ -26,13 +26,14 @@ use Rattle.exchange_frames.specs.declared.reader.TheConstants.{BUCKET_COUNT, MOS
 use Rattle.exchange_frames.specs.Spelling.{ascends, AreDigests, IsFrame}
 use Rattle.exchange.specs.declared.version.Version.{Version}
 use Rattle.exchange.specs.declared.version.Version.TheVariants.{Two}
-use Rattle.exchange.specs.Held.{is_spoken, place_of, is_in, is_lacking, offered, offered_in, lacked}
+use Rattle.exchange.specs.Held.{is_spoken, place_of, is_in, is_lacking, offered, offered_in, lacked, HasDigests}
 use Rattle.exchange.specs.Buckets.{bucket_of, bucket_list, is_unequal, unequal}
 use Rattle.exchange.specs.Laws.{RoundSaysFrames}
 use Rattle.exchange.specs.Parts.{told_in}
 use Rattle.exchange.proofs.Fittings.{kept_few, fitting_few, fitting_from, fitting_sorted}
 use Rattle.exchange.proofs.Bucketed.{offered_held, place_small}
 use Rattle.exchange.proofs.Rounds.{own_digest}
+use Rattle.exchange.proofs.Recorded.{site_digests}
 
 -- ---- digests
 
@@ -54,10 +55,11 @@ all_spoken : (es : List (List ℕ × Op)) → filter (λ e. is_spoken Two e.1) e
 all_spoken [] = refl
 all_spoken (e ∷ es) = ap (λ xs. e ∷ xs) (all_spoken es)
 
-offered_long : (version : Version) (m : Map) → IsSite m → (d : List ℕ) → Has (offered version m) d → length d ≡ 32
+offered_long : (version : Version) (m : Map) → HasDigests m → (d : List ℕ) → Has (offered version m) d → length d ≡ 32
 offered_long version m own d h =
     let there = offered_held version m d h in
-    ap length (own_digest m own d there.0 there.1) ∙ digest_long there.0
+    let at = own d there.0 there.1 in
+    ap length (sym at.1) ∙ digest_long at.0
 
 pub offered_small : (version : Version) (m : Map) → IsSite m → (d : List ℕ) → Has (offered version m) d
     → place_of d < 256
@@ -68,7 +70,7 @@ offered_small version m own d h =
 -- so do the digests of a set
 pub keys_long : (m : Map) → IsSite m → AllByRecursion (λ d. length d ≡ 32) (keys_of (entries m))
 keys_long m own = all_of (λ d. length d ≡ 32) (keys_of (entries m))
-    (λ d h. offered_long Two m own d (subst (λ (es : List (List ℕ × Op)). Has (keys_of es) d)
+    (λ d h. offered_long Two m (site_digests m own) d (subst (λ (es : List (List ℕ × Op)). Has (keys_of es) d)
     (sym (all_spoken (entries m))) h))
 
 -- ---- lists that ascend
@@ -144,7 +146,7 @@ range_sorted (suc n) a = (range_above n a (a + 1) (omega arith), range_sorted n 
 
 -- ---- frames
 
-have_is : (version : Version) (m : Map) → IsSite m → length (offered version m) ≤ MOST_DIGESTS
+have_is : (version : Version) (m : Map) → HasDigests m → length (offered version m) ≤ MOST_DIGESTS
     → IsFrame (Have (offered version m))
 have_is version m own short = record {
   short = short;
@@ -157,7 +159,7 @@ pub offered_in_sorted : (version : Version) (places : List ℕ) (m : Map)
 offered_in_sorted version places m =
     IsStrictlySortedBy-filter text_cmp (is_in places) (offered version m) (offered_sorted version m)
 
-have_in_is : (version : Version) (places : List ℕ) (m : Map) → IsSite m
+have_in_is : (version : Version) (places : List ℕ) (m : Map) → HasDigests m
     → length (offered_in version places m) ≤ MOST_DIGESTS → IsFrame (Have (offered_in version places m))
 have_in_is version places m own short = record {
   short = short;
@@ -168,7 +170,7 @@ have_in_is version places m own short = record {
 }
 
 -- of some places it is, however many are held there
-part_is : (version : Version) (places : List ℕ) (m : Map) → IsSite m → IsFrame (Have (told_in version places m))
+part_is : (version : Version) (places : List ℕ) (m : Map) → HasDigests m → IsFrame (Have (told_in version places m))
 part_is version places m own = record {
   short = fitting_few MOST_DIGESTS (offered_in version places m);
   whole = all_of (λ d. length d ≡ 32) (told_in version places m)

@@ -122,7 +122,7 @@ long_one frame is = rw is refl
 pub texts_more : (frames more : List Frame) → texts (frames ++ more) ≡ texts frames ++ texts more
 texts_more frames more = flat_map-append text_of frames more
 
-sayable_more : (frames more : List Frame) → AreSayable frames → AreSayable more → AreSayable (frames ++ more)
+pub sayable_more : (frames more : List Frame) → AreSayable frames → AreSayable more → AreSayable (frames ++ more)
 sayable_more [] more are too = too
 sayable_more (f ∷ frames) more are too = (are.0, sayable_more frames more are.1 too)
 

@@ -15,11 +15,10 @@ use Rattle.exchange.specs.declared.fault.ExchangeFault.TheVariants.{BadFrame}
 use Rattle.exchange.specs.declared.fault.HolderFault.{HolderFault}
 use Rattle.exchange.specs.declared.fault.HolderFault.TheVariants.{Refused}
 use Rattle.exchange.specs.Fault.{of_holder}
-use Rattle.exchange.specs.Held.{offered, offered_in, lacked, given, ops_at, HasGrown, Looks}
+use Rattle.exchange.specs.Held.{offered, offered_in, lacked, held_of, AreLoaded, HasGrown, Looks}
 use Rattle.exchange.specs.Parts.{told_in, do_fit, is_seen_whole}
 use Rattle.exchange.specs.Buckets.{bucket_list, unequal}
 use Rattle.exchange.specs.Round.{RoundState, asked_at, is_among, refusal_of, with_given, TakesAsked}
-use Rattle.exchange.specs.RunLaws.{HoldsAll}
 use Rattle.exchange.specs.declared.role.Role.{Role}
 use Rattle.exchange.specs.declared.role.Role.TheVariants.{Caller, Callee, OldCaller}
 use Rattle.exchange.specs.declared.side.Said.{Said}
@@ -70,17 +69,25 @@ next_after_gifts OldCaller = awaits.Buckets
 abbrev pub gifts_of : List Op → List Frame
 gifts_of ops = map (λ op. Give op) ops ++ End ∷ []
 
--- the frames that are said, where the operations that are given come from a set
-abbrev pub frames_of : Map → Said → List Frame
-frames_of m says.Nothing = []
-frames_of m (says.One frame) = frame ∷ []
-frames_of m (says.Gifts digests) = gifts_of (ops_at m digests)
+-- These frames are said, where what a set has stands for the operations that are given.
+abbrev pub IsSaid : Map → Said → List Frame → Type 0
+IsSaid m says.Nothing told = told ≡ []
+IsSaid m (says.One frame) told = told ≡ frame ∷ []
+IsSaid m (says.Gifts digests) told = (ops : List Op) × AreLoaded m digests ops × (told ≡ gifts_of ops)
 
--- A set has what is to be given.
+-- What a set has stands for what is to be given.
 abbrev pub HoldsGifts : Map → Said → Type 0
 HoldsGifts m says.Nothing = ⊤
 HoldsGifts m (says.One frame) = ⊤
-HoldsGifts m (says.Gifts digests) = HoldsAll m digests
+HoldsGifts m (says.Gifts digests) = (ops : List Op) × AreLoaded m digests ops
+
+-- This is so of the frames that are said, whichever operations are loaded for what is given, and what a set has stands
+-- for it.
+abbrev pub IsSoSaid : Map → Said → (List Frame → Type 0) → Type 0
+IsSoSaid m says.Nothing IsSo = IsSo []
+IsSoSaid m (says.One frame) IsSo = IsSo (frame ∷ [])
+IsSoSaid m (says.Gifts digests) IsSo =
+    ((ops : List Op) → AreLoaded m digests ops → IsSo (gifts_of ops)) × HoldsGifts m (says.Gifts digests)
 
 -- whether no place differed, where it did not before, and buckets differ in these
 abbrev pub agreed_with : Bool → List ℕ → Bool
@@ -131,11 +138,11 @@ pub record Asks {H : Type 0} (holds : H → Map) (alone : H → Type 0) (have : 
   pub version : t.round.version ≡ s.round.version
   pub same : t ≡ record s { awaited = awaits.Give; round = t.round; whole = s.whole && is_seen_whole s.places have }
 
--- a GIVE of each operation that is held of those wanted, and END
+-- a GIVE of each operation that is wanted and for which what is held stands, in the order of the WANT, and END
 pub record Gives {H : Type 0} (holds : H → Map) (alone : H → Type 0) (want : List (List ℕ)) (s : Side) (before : H)
     (told : List Frame) (t : Side) (after : H) : Type 0 where
   pub ops : List Op
-  pub looks : Looks holds alone before after (λ m. ops ≡ given s.round.version want m)
+  pub looks : Looks holds alone before after (λ m. AreLoaded m (held_of s.round.version want m) ops)
   pub says : told ≡ gifts_of ops
   pub same : t ≡ record s { awaited = next_after_gifts s.role; given = length ops }
 
@@ -172,16 +179,17 @@ SetsOut holds alone OldCaller before told s after = Shows holds alone (start_of 
 
 -- ---- what a machine does
 
--- A task was done, and the holder has what is to be given; or it was refused, and then nothing was taken.
+-- A task was done, and the holder has what stands for what is to be given; or it was refused, and then nothing was
+-- taken.
 abbrev pub Performs : {H : Type 0} → (H → Map) → (H → Type 0) → Task → Side → H → Result Said ExchangeFault → Side → H
     → Type 0
 Performs holds alone task s before (Ok said) t after =
-    Does holds alone task s before (frames_of (holds after) said) t after × HoldsGifts (holds after) said
+    IsSoSaid (holds after) said (λ told. Does holds alone task s before told t after)
 Performs holds alone task s before (Err fault) t after = Idles holds alone before after
 
 abbrev pub SetOut : {H : Type 0} → (H → Map) → (H → Type 0) → Role → H → Result Said ExchangeFault → Side → H → Type 0
 SetOut holds alone role before (Ok said) t after =
-    SetsOut holds alone role before (frames_of (holds after) said) t after × HoldsGifts (holds after) said
+    IsSoSaid (holds after) said (λ told. SetsOut holds alone role before told t after)
 SetOut holds alone role before (Err fault) t after = Idles holds alone before after
 
 -- The holder refused, or memory did.

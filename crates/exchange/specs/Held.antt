@@ -1,6 +1,6 @@
 -- What a holder has, which of it a version speaks of, and how the holder's calls answer.
-use Rattle.std.specs.Prelude.{◌≡◌, ℕ, ◌==◌, Bool, true, false, not, List, filter, slice_index, Option, Some, None}
-use Rattle.std.specs.Prelude.{Result, Ok, Err, OnOk, if◌then◌else◌, is_some}
+use Rattle.std.specs.Prelude.{◌≡◌, ℕ, ◌==◌, Bool, true, false, not, List, [], ◌∷◌, filter, slice_index}
+use Rattle.std.specs.Prelude.{Option, Some, None, Result, Ok, Err, OnOk, if◌then◌else◌, is_some, ⊤}
 use Rattle.std.specs.List.{list_any, filter_map}
 use Rattle.std.specs.FinMap as finmap
 use Rattle.std.specs.Map.{keys_of}
@@ -11,7 +11,8 @@ use Rattle.operation.specs.declared.target.Target.TheVariants.{Study, Patient, S
 use Rattle.operation.specs.declared.taken.Taken.{Taken}
 use Rattle.operation.specs.declared.taken.Taken.TheVariants.{New, Known}
 use Rattle.operation.specs.Spelling.{digest_of}
-use Rattle.site_state.specs.Site.{Map, IsSite, IsClash, held_at, with_op}
+use Rattle.site_state.specs.Site.{Map, IsClash, held_at}
+use Rattle.records.specs.StandIn.{op_in}
 use Rattle.exchange.specs.declared.version.Version.{Version}
 use Rattle.exchange.specs.declared.version.Version.TheVariants.{One, Two}
 use Rattle.exchange.specs.declared.fault.HolderFault.{HolderFault}
@@ -85,9 +86,37 @@ is_held version m digest = is_some (if_spoken version (held_at m digest))
 abbrev pub held_of : Version → List (List ℕ) → Map → List (List ℕ)
 held_of version digests m = filter (is_held version m) digests
 
--- the operations that a set has under some digests
-abbrev pub ops_at : Map → List (List ℕ) → List Op
-ops_at m digests = filter_map (held_at m) digests
+-- ---- what stands for operations
+
+-- a set with what stands for one operation more, under the digest of this
+abbrev pub with_op_in : Map → Op → Map
+with_op_in m op = finmap.insert m (digest_of op) (op_in op)
+
+-- What a set has under a digest stands for an operation, which has this digest.
+abbrev pub StandsFor : Map → List ℕ → Op → Type 0
+StandsFor m digest op = (held_at m digest ≡ Some (op_in op)) × (digest_of op ≡ digest)
+
+-- what a set has under each digest stands for an operation of this digest
+abbrev pub IsRecorded : Map → Type 0
+IsRecorded m = (digest : List ℕ) (held : Op) → held_at m digest ≡ Some held → (op : Op) × StandsFor m digest op
+
+-- An operation is loaded, for which stands what is held under a digest, or nothing is held under it.
+abbrev pub IsLoaded : Map → List ℕ → Option Op → Type 0
+IsLoaded m digest None = held_at m digest ≡ None
+IsLoaded m digest (Some op) = StandsFor m digest op
+
+-- What is held under some digests stands for these operations, in their order.
+abbrev pub AreLoaded : Map → List (List ℕ) → List Op → Type 0
+AreLoaded m [] [] = ⊤
+AreLoaded m [] (op ∷ ops) = ⊥
+AreLoaded m (digest ∷ digests) [] = ⊥
+AreLoaded m (digest ∷ digests) (op ∷ ops) = StandsFor m digest op × AreLoaded m digests ops
+
+-- each key of a set is the digest of an operation
+abbrev pub HasDigests : Map → Type 0
+HasDigests m = (digest : List ℕ) (held : Op) → held_at m digest ≡ Some held → (op : Op) × (digest_of op ≡ digest)
+
+-- ---- how a holder changes
 
 -- why a site does not take an operation: memory was refused where nothing of its digest is held, or another operation
 -- of its digest is
@@ -95,32 +124,29 @@ abbrev pub RefusesTake : Map → Op → HolderFault → Type 0
 RefusesTake m op Memory = held_at m (digest_of op) ≡ None
 RefusesTake m op Refused = IsClash m op
 
--- ---- how a holder changes
-
 -- what was held under a digest is held under it
 abbrev pub HasGrown : Map → Map → Type 0
 HasGrown before after = (digest : List ℕ) (op : Op) → held_at before digest ≡ Some op → held_at after digest ≡ Some op
 
--- a set that a holder had in between: each operation lies under its own digest
+-- a set that a holder had in between: what lies under a digest stands for an operation of this digest
 pub record WasHad (before had after : Map) : Type 0 where
   pub since : HasGrown before had
   pub until : HasGrown had after
-  pub own : IsSite had
+  pub own : IsRecorded had
 
 -- What a call answered it answered of one set that the holder had during the call; a holder that nobody else changes
--- has
--- not changed.
-pub record Looks {H : Type 0} (holds : H → Map) (alone : H → Type 0) (before after : H) (Answers : Map → Type 0) : Type
-    0 where
+-- has not changed.
+pub record Looks {H : Type 0} (holds : H → Map) (alone : H → Type 0) (before after : H) (Answers : Map → Type 0)
+    : Type 0 where
   pub had : Map
   pub was_had : WasHad (holds before) had (holds after)
   pub answers : Answers had
   pub stays : alone before → alone after × (holds after ≡ holds before)
 
--- how a holder that nobody else changes takes an operation
+-- how a holder that nobody else changes takes an operation: what stands for it, under its digest
 abbrev pub TakesAlone : Map → Op → Result Taken HolderFault → Map → Type 0
-TakesAlone before op (Ok New) after = (held_at before (digest_of op) ≡ None) × (after ≡ with_op before op)
-TakesAlone before op (Ok Known) after = (held_at before (digest_of op) ≡ Some op) × (after ≡ before)
+TakesAlone before op (Ok New) after = (held_at before (digest_of op) ≡ None) × (after ≡ with_op_in before op)
+TakesAlone before op (Ok Known) after = (held_at before (digest_of op) ≡ Some (op_in op)) × (after ≡ before)
 TakesAlone before op (Err fault) after = after ≡ before
 
 -- how a holder takes an operation
@@ -128,8 +154,8 @@ pub record TakesIn {H : Type 0} (holds : H → Map) (alone : H → Type 0) (befo
     (answer : Result Taken HolderFault) (after : H) : Type 0 where
   -- nothing that is held is lost
   pub grown : HasGrown (holds before) (holds after)
-  -- what was taken, new or known, is held
-  pub held : OnOk answer (held_at (holds after) (digest_of op) ≡ Some op)
+  -- what stands for what was taken, new or known, is held
+  pub held : OnOk answer (held_at (holds after) (digest_of op) ≡ Some (op_in op))
   -- and was not held before where it is new
   pub new : answer ≡ Ok New → held_at (holds before) (digest_of op) ≡ None
   pub stays : alone before → alone after × TakesAlone (holds before) op answer (holds after)

@@ -2,14 +2,14 @@
 use Rattle.std.specs.Prelude.{◌≡◌, ◌↔◌, ◌≤◌, ℕ, List, Some, true, length, IsTrue}
 use Rattle.octets.specs.Members.{Has}
 use Rattle.operation.specs.declared.op.Op.{Op}
-use Rattle.site_state.specs.Site.{Map, IsSite, held_at}
+use Rattle.site_state.specs.Site.{Map, held_at}
 use Rattle.site_state.specs.Union.{Agree}
 use Rattle.exchange_frames.specs.declared.frame.Frame.{Frame}
 use Rattle.exchange_frames.specs.declared.frame.Frame.TheVariants.{Have, Buckets}
 use Rattle.exchange_frames.specs.declared.reader.TheConstants.{MOST_DIGESTS}
 use Rattle.exchange.specs.declared.version.Version.{Version}
 use Rattle.exchange.specs.declared.version.Version.TheVariants.{Two}
-use Rattle.exchange.specs.Held.{offered, offered_in, place_of, is_in, HasGrown}
+use Rattle.exchange.specs.Held.{offered, offered_in, place_of, is_in, IsRecorded, HasGrown}
 use Rattle.exchange.specs.Parts.{told_in, IsWhole}
 use Rattle.exchange.specs.Buckets.{bucket_list}
 use Rattle.exchange.specs.Laws.{BucketsTell}
@@ -38,7 +38,7 @@ lone_offer OldCaller first last = first
 -- the set that a side offered: its holder had it since the exchange began, and BUCKETS were said of it
 pub record WasOffered {H : Type 0} (holds : H → Map) (alone : H → Type 0) (role : Role) (from to : Ends H)
     (told : List Frame) (offer : Map) : Type 0 where
-  pub own : IsSite offer
+  pub own : IsRecorded offer
   pub since : HasGrown (holds from.holder) offer
   pub until : HasGrown offer (holds to.holder)
   pub said : Has told (Buckets (bucket_list (offered Two offer)))
@@ -117,8 +117,8 @@ abbrev pub ExchangeMakesEqual : {A B : Type 0} → (A → Map) → (A → Type 0
 ExchangeMakesEqual {A} {B} holds_a alone_a holds_b alone_b =
     (from_a to_a : Ends A) (ended_a : Ended) (from_b to_b : Ends B) (ended_b : Ended)
     → AreJoined holds_a alone_a from_a to_a ended_a holds_b alone_b from_b to_b ended_b
-    → Agree (holds_b to_b.holder) (holds_a to_a.holder) → IsSite (holds_a to_a.holder) → IsSite (holds_b to_b.holder)
-    → alone_a from_a.holder → alone_b from_b.holder → IsTrue ended_a.finished → IsTrue ended_b.finished
+    → Agree (holds_b to_b.holder) (holds_a to_a.holder) → alone_a from_a.holder → alone_b from_b.holder
+    → IsTrue ended_a.finished → IsTrue ended_b.finished
     → BucketsTell (offered Two (holds_b from_b.holder)) (offered Two (holds_a from_a.holder))
     → AllFits (holds_b from_b.holder) (holds_a from_a.holder) (holds_a from_a.holder)
     → BucketsTell (offered Two (holds_a from_a.holder)) (offered Two (holds_b to_b.holder))

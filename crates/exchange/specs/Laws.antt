@@ -10,7 +10,7 @@ use Rattle.exchange_frames.specs.declared.reader.TheConstants.{MOST_DIGESTS, BUC
 use Rattle.exchange_frames.specs.Spelling.{IsFrame}
 use Rattle.exchange.specs.declared.version.Version.{Version}
 use Rattle.exchange.specs.declared.version.Version.TheVariants.{Two}
-use Rattle.exchange.specs.Held.{is_spoken, place_of, offered, offered_in, lacked, given, HasGrown}
+use Rattle.exchange.specs.Held.{is_spoken, place_of, offered, offered_in, lacked, given, HasDigests, HasGrown}
 use Rattle.exchange.specs.Parts.{told_in}
 use Rattle.exchange.specs.Buckets.{bucket_of, bucket_list, unequal}
 
@@ -24,8 +24,7 @@ abbrev pub HoldsEach : Map → List Op → Type 0
 HoldsEach m ops = (op : Op) → Has ops op → held_at m (digest_of op) ≡ Some op
 
 -- How a HAVE was answered: its receiver asked for what it lacked, the other side gave of that what it held then, and
--- the
--- receiver took each operation that was given.
+-- the receiver took each operation that was given.
 pub record IsAnswered (version : Version) (have : List (List ℕ)) (asking giving after : Map) : Type 0 where
   pub grown : HasGrown asking after
   pub taken : HoldsEach after (given version (lacked asking have) giving)
@@ -93,11 +92,11 @@ RoundByBucketsGivesAll =
 -- and what a HAVE tells of some places, however many are held there; BUCKETS and DIFFER of any digests; and the WANT
 -- that answers a HAVE that is a frame.
 pub record RoundSaysFrames : Type 0 where
-  pub offer : (version : Version) (m : Map) → IsSite m → length (offered version m) ≤ MOST_DIGESTS
+  pub offer : (version : Version) (m : Map) → HasDigests m → length (offered version m) ≤ MOST_DIGESTS
       → IsFrame (Have (offered version m))
-  pub offer_in : (version : Version) (places : List ℕ) (m : Map) → IsSite m
+  pub offer_in : (version : Version) (places : List ℕ) (m : Map) → HasDigests m
       → length (offered_in version places m) ≤ MOST_DIGESTS → IsFrame (Have (offered_in version places m))
-  pub part : (version : Version) (places : List ℕ) (m : Map) → IsSite m → IsFrame (Have (told_in version places m))
+  pub part : (version : Version) (places : List ℕ) (m : Map) → HasDigests m → IsFrame (Have (told_in version places m))
   pub buckets : (digests : List (List ℕ)) → IsFrame (Buckets (bucket_list digests))
   pub differ : (own theirs : List (List ℕ)) → IsFrame (Differ (unequal own theirs))
   pub want : (m : Map) (have : List (List ℕ)) → IsFrame (Have have) → IsFrame (Want (lacked m have))

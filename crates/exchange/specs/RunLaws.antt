@@ -7,6 +7,7 @@ use Rattle.site_state.specs.Site.{Map, held_at}
 use Rattle.exchange_frames.specs.declared.frame.Frame.{Frame}
 use Rattle.exchange_frames.specs.declared.frame.Frame.TheVariants.{Have, Want, Give, Buckets, Differ}
 use Rattle.exchange.specs.declared.version.Version.{Version}
+use Rattle.records.specs.StandIn.{op_in}
 use Rattle.exchange.specs.Held.{offered, place_of, is_in, HasGrown, WasHad}
 use Rattle.exchange.specs.Buckets.{bucket_list, unequal}
 use Rattle.exchange.specs.Parts.{is_seen_whole}
@@ -81,18 +82,23 @@ AreSeenWhole heard told =
     (places : List ℕ) (have : List (List ℕ)) → Has told (Differ places) → Has heard (Have have)
     → is_seen_whole places have ≡ true
 
--- An operation that a holder has gained, which nobody else changes, was given, and was asked for.
+-- This stands for an operation of this digest, of which a GIVE was heard, and which was asked for.
+abbrev pub StandsForGiven : List Frame → List Frame → List ℕ → Op → Type 0
+StandsForGiven heard told digest held =
+    (op : Op) × Has heard (Give op) × WasAsked told digest × (digest_of op ≡ digest) × (op_in op ≡ held)
+
+-- What a holder has gained, which nobody else changes, stands for an operation that was given, and was asked for.
 abbrev pub GainsOnlyGiven : Map → List Frame → List Frame → Map → Type 0
 GainsOnlyGiven before heard told after =
-    (digest : List ℕ) (op : Op) → held_at after digest ≡ Some op
-    → (held_at before digest ≡ Some op) ⊎ (Has heard (Give op) × WasAsked told (digest_of op))
+    (digest : List ℕ) (held : Op) → held_at after digest ≡ Some held
+    → (held_at before digest ≡ Some held) ⊎ StandsForGiven heard told digest held
 
 -- what frames that were heard and said come to
 pub record Outcome {H : Type 0} (holds : H → Map) (alone : H → Type 0) (before : H) (heard told : List Frame)
     (side : Side) (after : H) : Type 0 where
   pub grown : HasGrown (holds before) (holds after)
   pub only : alone before → GainsOnlyGiven (holds before) heard told (holds after)
-  pub given : (op : Op) → Has heard (Give op) → held_at (holds after) (digest_of op) ≡ Some op
+  pub given : (op : Op) → Has heard (Give op) → held_at (holds after) (digest_of op) ≡ Some (op_in op)
   pub finished : IsFinished side.round ↔ IsGivenAll heard told
   pub have : IsFinished side.round → HoldsWhatWasOffered (holds after) heard
   pub shown : HoldsWhatWasShown holds alone side.round.version (IsFinished side.round) before heard told after

@@ -1,9 +1,10 @@
 -- How frames are written to a device, and why they were not.
-use Rattle.std.specs.Prelude.{◌≡◌, ◌⊎◌, ℕ, List, ◌++◌, Option, Result, Ok, Err, true, false, ⊤}
+use Rattle.std.specs.Prelude.{◌≡◌, ◌⊎◌, ℕ, List, [], ◌∷◌, ◌++◌, Option, Result, Ok, Err, true, false, ⊤}
 use Rattle.std.specs.List.{list_any, AllByRecursion}
 use Rattle.std.specs.Io.KnownBytes.{Appends}
 use Rattle.octets.specs.Members.{Has}
 use Rattle.operation.specs.declared.op.Op.{Op}
+use Rattle.site_state.specs.Site.{Map}
 use Rattle.exchange_frames.specs.declared.frame.Frame.{Frame}
 use Rattle.exchange_frames.specs.declared.frame.Frame.TheVariants.{Have, Want, Give, End, Buckets, Differ, Hello}
 use Rattle.exchange_frames.specs.Spelling.{IsFrame}
@@ -11,7 +12,9 @@ use Rattle.exchange_frames.specs.Writing.{is_too_long}
 use Rattle.exchange.specs.declared.fault.ExchangeFault.{ExchangeFault}
 use Rattle.exchange.specs.declared.fault.ExchangeFault.TheVariants.{BadFrame, TooLong, Stranger, Io, Memory, Turns}
 use Rattle.exchange.specs.declared.fault.ExchangeFault.TheVariants.{Refused}
-use Rattle.exchange.specs.Course.{IsOfHolder}
+use Rattle.exchange.specs.Held.{StandsFor}
+use Rattle.exchange.specs.declared.side.Said.{Said}
+use Rattle.exchange.specs.Course.{IsOfHolder, IsSaid}
 use Rattle.exchange.specs.Hearing.{texts}
 
 -- these come first in all
@@ -61,3 +64,11 @@ AreSayable frames = AllByRecursion IsSayable frames
 abbrev pub Speaks : Option (List ℕ) → Option (List ℕ) → List Frame → Result (Unit {0}) ExchangeFault → Type 0
 Speaks w0 w1 frames (Ok x) = Appends w0 w1 (texts frames) × AreSayable frames
 Speaks w0 w1 frames (Err fault) = WroteFront w0 w1 (texts frames) × WhyUnsaid frames fault
+
+-- A GIVE was written, or a front of it, of an operation for which stands what a set has under a digest.
+abbrev pub SpeaksGive : Map → List ℕ → Option (List ℕ) → Option (List ℕ) → Result (Unit {0}) ExchangeFault → Type 0
+SpeaksGive m digest w0 w1 result = (op : Op) × StandsFor m digest op × Speaks w0 w1 (Give op ∷ []) result
+
+-- What a side says was written, or a front of it: what is given are operations for which stands what a set has.
+abbrev pub SpeaksSaid : Map → Said → Option (List ℕ) → Option (List ℕ) → Result (Unit {0}) ExchangeFault → Type 0
+SpeaksSaid m said w0 w1 result = (told : List Frame) × IsSaid m said told × Speaks w0 w1 told result

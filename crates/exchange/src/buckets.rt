@@ -10,7 +10,8 @@ ghost use Rattle.exchange.specs.Hashing.{AllHold};
 use crate::version::Version;
 use exchange_frames::BUCKET_COUNT;
 use octets::{ListOf, Octets};
-use operation::{Digest, Op};
+use operation::Digest;
+use records::RecordedOp;
 use sha2::Sha256;
 use std::alloc::{AllocError, Global};
 use std::collections::BTreeMap;
@@ -63,14 +64,14 @@ fn finish(alloc: Global, hashers: Vec<Sha256>) -> Result<ListOf<Digest>, AllocEr
 pub fn buckets_of_tree(
     alloc: Global,
     version: Version,
-    tree: &BTreeMap<Digest, Op>,
+    tree: &BTreeMap<Digest, RecordedOp>,
 ) -> Result<ListOf<Digest>, AllocError>
     ensures { IfOk result (λ buckets. buckets
         ≡ bucket_list (spoken_of version tree.now.entries)) }
 {
     let mut hashers = new_hashers(alloc)?;
     for (digest, op) in tree.iter() {
-        if version.speaks(op) {
+        if version.speaks_of(op) {
             feed(&mut hashers, digest);
         }
     }

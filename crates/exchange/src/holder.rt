@@ -2,9 +2,10 @@
 
 ghost use Rattle.std.specs.Prelude.{◌≡◌, List, ℕ, IfErr, MatchResult};
 ghost use Rattle.operation.specs.declared.op.Op.{Op};
-ghost use Rattle.site_state.specs.Site.{Map, held_at};
+ghost use Rattle.site_state.specs.Site.{Map};
 ghost use Rattle.exchange.specs.declared.fault.HolderFault.{HolderFault};
-ghost use Rattle.exchange.specs.Held.{offered, offered_in, lacked, held_of, Looks, TakesIn};
+ghost use Rattle.exchange.specs.Held.{offered, offered_in, lacked, held_of};
+ghost use Rattle.exchange.specs.Held.{IsLoaded, Looks, TakesIn};
 ghost use Rattle.exchange.specs.Buckets.{bucket_list};
 
 use crate::fault::HolderFault;
@@ -16,8 +17,11 @@ use std::alloc::Global;
 
 /// A set of operations that only grows. Others may add to it between two calls, and during one:
 /// each call answers of one set that was held during it, or refuses as the holder says it may.
+///
+/// A holder may have of an operation only what is kept of it, and load its bytes when they are
+/// asked for. So contracts see under its digest the operation that stands for it.
 pub trait Holder {
-    // What it holds.
+    // What stands for the operations that it holds.
     ghost holds: { Self → Map };
 
     // Nobody else changes it.
@@ -74,10 +78,11 @@ pub trait Holder {
             (λ held. held ≡ held_of version digests.now m)
             (refuses_look self.old self.new)) };
 
-    /// The operation under a digest, if one is held. What is in memory is shared.
+    /// The operation of a digest, if it is held: one for which stands what lies under the digest.
+    /// What is in memory is shared.
     fn load(&mut self, alloc: Global, digest: &Digest) -> Result<Option<Op>, HolderFault>
         ensures { Looks holds alone self.old self.new (λ m. MatchResult result
-            (λ op. op ≡ held_at m digest.now)
+            (IsLoaded m digest.now)
             (refuses_load self.old self.new digest.now)) };
 
     /// Takes an operation, once.

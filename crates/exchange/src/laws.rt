@@ -51,9 +51,9 @@ pub fn exchanges_in_parts_end()
     ensures { PartsEnd }
 {}
 
-/// What a round says of a set of operations, each under its digest, is a frame, so it is written
-/// and read again: BUCKETS, DIFFER and WANT always, HAVE where it has 1,048,576 digests at most, as
-/// it has where it answers a DIFFER.
+/// What a round says of a set, each of whose keys is the digest of an operation, is a frame, so it
+/// is written and read again: BUCKETS, DIFFER and WANT always, HAVE where it has 1,048,576 digests
+/// at most, as it has where it answers a DIFFER.
 pub fn what_a_round_says_is_a_frame()
     ensures { RoundSaysFrames }
 {}

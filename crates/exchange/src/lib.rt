@@ -25,9 +25,10 @@ mod run;
 mod run_laws;
 mod saying;
 mod side;
-mod site_holder;
+mod sites;
 mod task;
 mod version;
+mod whole_sites;
 
 pub use buckets::buckets_of_tree;
 pub use exchange_frames::{
@@ -52,8 +53,11 @@ pub use run::run_exchange;
 pub use run_laws::{
     a_side_says_its_frames_in_order, an_exchange_gives_all, an_exchange_makes_holders_equal,
 };
-pub use site_holder::{
-    buckets_of_site, differ_of_site, digests_of_site, digests_of_site_in, held_of_site,
-    missing_of_site, op_of_site, ops_of_site,
+pub use sites::{
+    buckets_of_site, digests_of_site, digests_of_site_in, held_of_site, missing_of_site,
 };
 pub use version::Version;
+pub use whole_sites::{
+    buckets_of_whole, differ_of_whole, digests_of_whole, digests_of_whole_in, missing_of_whole,
+    op_of_whole, ops_of_whole,
+};

@@ -1,18 +1,18 @@
 //! Writing frames to a device.
 
-ghost use Rattle.std.specs.Prelude.{◌≡◌, ◌∷◌, [], Some, IfErr, IsErrOf, OnOk, OnErr, ◌++◌};
+ghost use Rattle.std.specs.Prelude.{◌≡◌, ◌∷◌, [], IfErr, IsErrOf, OnOk, OnErr, ◌++◌};
 ghost use Rattle.std.specs.Io.KnownBytes.{Appends};
 ghost use Rattle.operation.specs.declared.op.Op.{Op as Operation};
-ghost use Rattle.site_state.specs.Site.{held_at};
 ghost use Rattle.exchange_frames.specs.declared.frame.Frame.TheVariants.{Give};
 ghost use Rattle.exchange_frames.specs.Spelling.{text_of};
 ghost use Rattle.exchange.specs.declared.fault.ExchangeFault.TheVariants.{Io};
-ghost use Rattle.exchange.specs.Course.{frames_of, gifts_of, Idles, HoldsGifts, Loads};
+ghost use Rattle.exchange.specs.declared.side.Said.TheVariants as says;
+ghost use Rattle.exchange.specs.Course.{Idles, HoldsGifts, Loads};
 ghost use Rattle.exchange.specs.Hearing.{Fails};
-ghost use Rattle.exchange.specs.Held.{ops_at};
+ghost use Rattle.exchange.specs.Held.{StandsFor};
 ghost use Rattle.exchange.specs.Run.{WasRefused};
-ghost use Rattle.exchange.specs.RunLaws.{HoldsAll};
-ghost use Rattle.exchange.specs.Saying.{WroteFront, WhyUnwritten, GivesLawful, IsSayable, Speaks};
+ghost use Rattle.exchange.specs.Saying.{WroteFront, WhyUnwritten, GivesLawful, IsSayable};
+ghost use Rattle.exchange.specs.Saying.{SpeaksGive, SpeaksSaid};
 
 use crate::fault::{ExchangeFault, HolderFault};
 use crate::holder::Holder;
@@ -97,8 +97,9 @@ fn load_and_give<W: Sink, H: Holder>(
     holder: &mut H,
     digest: &Digest,
 ) -> Result<(), ExchangeFault>
-    ensures speaks { (op : Operation) → held_at (H.holds holder.old) digest.now ≡ Some op
-        → Speaks (W.contents writer.old) (W.contents writer.new) (Give op ∷ []) result }
+    ensures speaks { (op : Operation) → StandsFor (H.holds holder.old) digest.now op
+        → SpeaksGive (H.holds holder.old) digest.now (W.contents writer.old)
+        (W.contents writer.new) result }
     ensures failed { Fails result (W.failures writer.old) (W.failures writer.new) }
     ensures idle { Idles H.holds H.alone holder.old holder.new }
     ensures refused { IsErrOf result ExchangeFault.Refused
@@ -118,9 +119,9 @@ fn say_gifts<W: Sink, H: Holder>(
     holder: &mut H,
     digests: &Digests,
 ) -> Result<(), ExchangeFault>
-    ensures speaks { HoldsAll (H.holds holder.old) digests.now
-        → Speaks (W.contents writer.old) (W.contents writer.new)
-        (gifts_of (ops_at (H.holds holder.old) digests.now)) result }
+    ensures speaks { HoldsGifts (H.holds holder.old) (says.Gifts digests.now)
+        → SpeaksSaid (H.holds holder.old) (says.Gifts digests.now) (W.contents writer.old)
+        (W.contents writer.new) result }
     ensures failed { Fails result (W.failures writer.old) (W.failures writer.new) }
     ensures idle { Idles H.holds H.alone holder.old holder.new }
     ensures refused { IsErrOf result ExchangeFault.Refused → WasRefused H.holds H.alone
@@ -140,9 +141,8 @@ pub(crate) fn say<W: Sink, H: Holder>(
     holder: &mut H,
     said: Said,
 ) -> Result<(), ExchangeFault>
-    ensures speaks { HoldsGifts (H.holds holder.old) said
-        → Speaks (W.contents writer.old) (W.contents writer.new)
-        (frames_of (H.holds holder.old) said) result }
+    ensures speaks { HoldsGifts (H.holds holder.old) said → SpeaksSaid (H.holds holder.old) said
+        (W.contents writer.old) (W.contents writer.new) result }
     ensures failed { Fails result (W.failures writer.old) (W.failures writer.new) }
     ensures loads { Loads H.holds H.alone said holder.old holder.new }
     ensures refused { IsErrOf result ExchangeFault.Refused → WasRefused H.holds H.alone

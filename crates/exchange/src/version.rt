@@ -4,6 +4,7 @@ ghost use Rattle.std.specs.Prelude.{◌≡◌};
 ghost use Rattle.exchange.specs.Held.{is_of_series as is_a_series_correction, is_spoken, version_of};
 
 use operation::{Op, Target};
+use records::{Parts, RecordedOp};
 
 /// What both sides of an exchange speak.
 #[derive(Clone, Copy, Debug, PartialEq, Eq)]
@@ -36,6 +37,16 @@ impl Version {
             Version::One => !is_of_series(op),
         }
     }
+
+    /// The same of an operation of which the record is held.
+    pub fn speaks_of(self, op: &RecordedOp) -> bool
+        ensures { result ≡ is_spoken self op.now }
+    {
+        match self {
+            Version::Two => true,
+            Version::One => !is_record_of_series(op),
+        }
+    }
 }
 
 fn is_of_series(op: &Op) -> bool
@@ -44,5 +55,16 @@ fn is_of_series(op: &Op) -> bool
     match op {
         Op::Content(_) => false,
         Op::Correction(correction) => matches!(correction.target(), Target::Series(_)),
+    }
+}
+
+fn is_record_of_series(op: &RecordedOp) -> bool
+    ensures { result ≡ is_a_series_correction op.now }
+{
+    match op.parts() {
+        Parts::Content(_) => false,
+        Parts::Correction(recorded) => {
+            matches!(recorded.correction().target(), Target::Series(_))
+        }
     }
 }

@@ -1,6 +1,7 @@
 -- What was put on a shelf, and what was written of it.
 use Rattle.std.proofs.Common.{◌≡◌, ◌⊎◌, ℕ, List, [], ◌∷◌, ◌++◌, length, drop, refl, ap, sym, subst, ◌∙◌, inl, inr}
-use Rattle.std.proofs.Common.{Result, Ok, Err, IfOk, OnErr, All, get_or, arith, append_assoc}
+use Rattle.std.proofs.Common.{Result, Ok, Err, IfOk, IfErr, OnErr, All, get_or, arith, append_assoc}
+use Rattle.std.specs.Prelude.{Option, Some, IfSome}
 use Rattle.std.proofs.Math.Logic.{∥∥₁_elim, ∥∥₁_map, ∥∥₁_prop}
 use Rattle.std.proofs.Math.Seq.{drop-append_seam, drop-length}
 use Rattle.std.proofs.lemmas.List.Elements.{All-cons}
@@ -12,7 +13,9 @@ use Rattle.op_shelf.specs.declared.fault.ShelfFault.{ShelfFault}
 use Rattle.op_shelf.specs.declared.kept.Kept.{Kept}
 use Rattle.op_shelf.specs.declared.kept.Kept.TheVariants as kinds
 use Rattle.op_shelf.specs.Keep.{AreSame, Gains, GainsAll, Finds, with_one}
-use Rattle.hub_exchange.specs.Putting.{IsKept, AreKept, WasWritten, AddsOnly}
+use Rattle.records.specs.StandIn.{op_in}
+use Rattle.exchange.specs.declared.fault.HolderFault.{HolderFault}
+use Rattle.hub_exchange.specs.Putting.{IsKept, AreKept, WasWritten, AddsOnly, refusal_of, IsUnlike, RefusesRecord}
 
 -- what stands behind the beginning of a beginning
 behind_both : {A : Type 0} (xs ys zs : List A) → IsPrefix xs ys → IsPrefix ys zs
@@ -148,6 +151,13 @@ module _ {K : Type 0} (up : K → Type 0) (holds lasts : K → Op → Type 0) (o
   kept_behind_group ops reply items written put same was last all digest has =
       kept_on was (λ now. stays_all holds old new ops reply items (put now) (same now)) last digest (all digest has)
 
+  -- and while one is loaded
+  pub kept_behind_load : (written : List (List ℕ)) → (up new → AreSame (holds old) (holds new)) → (up new → up old)
+      → (up new → (other : Op) → lasts old other → lasts new other) → AreKept up holds lasts written old
+      → AreKept up holds lasts written new
+  kept_behind_load written same was last all digest has =
+      kept_on was (λ now op there. (same now op).0 there) last digest (all digest has)
+
   -- an answer to a put shows that the operation was put
   pub kept_by_put : (op : Op) (kept : Kept) (reply : Result Kept ShelfFault) → reply ≡ Ok kept
       → (up new → reply ≡ Ok kinds.New → Gains (holds old) (holds new) op)
@@ -190,3 +200,28 @@ pub written_kept : {K : Type 0} (up : K → Type 0) (holds lasts : K → Op → 
     → AreKept up holds lasts written shelf → (digest : List ℕ) → WasWritten written digest
     → IsKept up holds lasts shelf digest
 written_kept up holds lasts shelf written all digest stands = ∥∥₁_elim stands ∥∥₁_prop (all digest)
+
+-- ---- loads
+
+-- What was found under a digest has it.
+pub found_stands : (held : Op) (digest : List ℕ) (found : Option Op) (answer : Result Op HolderFault)
+    → IfSome found (λ op. digest_of op ≡ digest) → IfOk answer (λ op. (found ≡ Some op) × (op_in op ≡ held))
+    → IfOk answer (λ op. (op_in op ≡ held) × (digest_of op ≡ digest))
+found_stands held digest found (Ok op) told is =
+    (is.1, subst (λ (r : Option Op). IfSome r (λ o. digest_of o ≡ digest)) is.0 told)
+found_stands held digest found (Err fault) told is = tt
+
+module _ {P : Type 0} (refuses : P → P → List ℕ → ShelfFault → Type 0) (has_loaded : P → P → List ℕ → Option Op → Type 0)
+    (before after : P) (held : Op) (digest : List ℕ) where
+  -- Where it is unlike what is held, that is why.
+  pub found_refused : (found : Option Op) (answer : Result Op HolderFault) → has_loaded before after digest found
+      → IfErr answer (IsUnlike held found) → IfErr answer (RefusesRecord refuses has_loaded held digest)
+  found_refused found (Ok op) loaded why = tt
+  found_refused found (Err fault) loaded why =
+      inr (found, record { before = before; after = after; loaded = loaded }, why)
+
+  -- Where the load was refused, that is.
+  pub load_refused : (cause : ShelfFault) (fault : HolderFault) → refuses before after digest cause
+      → fault ≡ refusal_of cause → RefusesRecord refuses has_loaded held digest fault
+  load_refused cause fault refused told =
+      inl (record { before = before; after = after; cause = cause; refused = refused; told = told })

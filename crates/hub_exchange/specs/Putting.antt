@@ -1,10 +1,12 @@
 -- What a shelf answered, why it refuses, and what a site gains of it.
-use Rattle.std.specs.Prelude.{ℕ, ◌≡◌, ◌⊎◌, List, Some, drop, length}
+use Rattle.std.specs.Prelude.{ℕ, ◌≡◌, ◌≢◌, ◌⊎◌, ⊤, List, Option, None, Some, IfSome, drop, length}
 use Rattle.octets.specs.Members.{Has}
 use Rattle.operation.specs.declared.op.Op.{Op}
 use Rattle.operation.specs.Spelling.{digest_of}
+use Rattle.records.specs.StandIn.{op_in}
 use Rattle.op_shelf.specs.declared.fault.ShelfFault.{ShelfFault}
 use Rattle.op_shelf.specs.declared.fault.ShelfFault.TheVariants as shelf_faults
+use Rattle.op_shelf.specs.Keep.{IsFoundAs}
 use Rattle.site_state.specs.Site.{Map, held_at}
 use Rattle.exchange.specs.declared.fault.HolderFault.{HolderFault}
 use Rattle.exchange.specs.declared.fault.HolderFault.TheVariants.{Memory, Refused}
@@ -30,13 +32,17 @@ WasWritten written digest = ∥ Has written digest ∥₁
 abbrev pub AddsOnly : (List ℕ → Type 0) → List (List ℕ) → List (List ℕ) → Type 0
 AddsOnly these first all = (digest : List ℕ) → Has (drop (length first) all) digest → these digest
 
--- each operation that a site has gained is one of these
-abbrev pub GainsOnly : (Op → Type 0) → Map → Map → Type 0
-GainsOnly these before after = (digest : List ℕ) (op : Op) → held_at after digest ≡ Some op
-    → (held_at before digest ≡ Some op) ⊎ these op
+-- it stands for one of these operations, which has this digest
+abbrev pub StandsForOne : (Op → Type 0) → List ℕ → Op → Type 0
+StandsForOne these digest held = (op : Op) × (op_in op ≡ held) × (digest_of op ≡ digest) × these op
 
--- A shelf and its site have gone on: while the shelf is up, what lasted on it lasts, and so does each operation that
--- the site has gained.
+-- what a site has gained under each digest stands for one of these
+abbrev pub GainsOnly : (Op → Type 0) → Map → Map → Type 0
+GainsOnly these before after = (digest : List ℕ) (held : Op) → held_at after digest ≡ Some held
+    → (held_at before digest ≡ Some held) ⊎ StandsForOne these digest held
+
+-- A shelf and its site have gone on: while the shelf is up, what lasted on it lasts, and so does an operation for which
+-- stands what the site has gained.
 pub record HaveGoneOn {K : Type 0} (is_up : K → Type 0) (lasts : K → Op → Type 0) (lasted : Op → Type 0)
     (before after : Map) (shelf : K) : Type 0 where
   pub kept : is_up shelf → (op : Op) → lasted op → lasts shelf op
@@ -58,8 +64,63 @@ pub record RefusesPut {P F : Type 0} (refuses : P → P → Op → ShelfFault �
   pub refused : refuses before after op cause
   pub told : fault ≡ told_as cause
 
+-- What keeps operations, or a way to it, was asked for the operation of a digest and refused, and the fault is what that
+-- is to whoever asked.
+pub record RefusesLoad {P F : Type 0} (refuses : P → P → List ℕ → ShelfFault → Type 0) (told_as : ShelfFault → F)
+    (digest : List ℕ) (fault : F) : Type 0 where
+  pub before : P
+  pub after : P
+  pub cause : ShelfFault
+  pub refused : refuses before after digest cause
+  pub told : fault ≡ told_as cause
+
+-- It answered with this.
+pub record HasAnswered {P : Type 0} (has_loaded : P → P → List ℕ → Option Op → Type 0) (digest : List ℕ)
+    (found : Option Op) : Type 0 where
+  pub before : P
+  pub after : P
+  pub loaded : has_loaded before after digest found
+
+-- It is no operation for which this one stands.
+abbrev pub IsNotOf : Op → Option Op → Type 0
+IsNotOf held None = ⊤
+IsNotOf held (Some op) = op_in op ≢ held
+
+-- why what was found is not what stands for it: it is no operation of the record, or memory was refused for its own
+abbrev pub IsUnlike : Op → Option Op → HolderFault → Type 0
+IsUnlike held found Memory = ⊤
+IsUnlike held found Refused = IsNotOf held found
+
+-- Why an operation is not loaded for which this one stands: what keeps operations refused the load, or its answer is
+-- unlike it.
+abbrev pub RefusesRecord : {P : Type 0} → (P → P → List ℕ → ShelfFault → Type 0)
+    → (P → P → List ℕ → Option Op → Type 0) → Op → List ℕ → HolderFault → Type 0
+RefusesRecord refuses has_loaded held digest fault = RefusesLoad refuses refusal_of digest fault
+    ⊎ ((found : Option Op) × HasAnswered has_loaded digest found × IsUnlike held found fault)
+
+-- What a shelf answered to a load: while what it tells of its operations holds, one that it has, and the one that it has.
+pub record HasFound {K : Type 0} (is_up : K → Type 0) (holds : K → Op → Type 0) (before after : K) (digest : List ℕ)
+    (found : Option Op) : Type 0 where
+  pub there : is_up after → IfSome found (holds before)
+  pub exact : is_up after → (op : Op) → holds before op → digest_of op ≡ digest → IsFoundAs found op
+
+-- Why a site on a shelf does not load what it holds under a digest, and stays: no operation of the record came of the
+-- shelf.
+pub record RefusesLoadOnShelf {K : Type 0} (is_up : K → Type 0) (holds : K → Op → Type 0)
+    (refuses : K → K → List ℕ → ShelfFault → Type 0) (before after : Map) (digest : List ℕ) (fault : HolderFault)
+    : Type 0 where
+  pub same : after ≡ before
+  pub held : Op
+  pub there : held_at before digest ≡ Some held
+  pub why : RefusesRecord refuses (HasFound is_up holds) held digest fault
+
+-- why a site does not take the record of an operation: it does not take what stands for it, or memory was refused for
+-- the record
+abbrev pub RefusesToRecord : Map → Op → HolderFault → Type 0
+RefusesToRecord m op fault = RefusesTake m (op_in op) fault ⊎ (fault ≡ Memory)
+
 -- Why a site on a shelf does not take an operation, and stays: the shelf refused it, or the site did.
 pub record RefusesOnShelf {K : Type 0} (refuses : K → K → Op → ShelfFault → Type 0) (before after : Map) (op : Op)
     (fault : HolderFault) : Type 0 where
   pub same : after ≡ before
-  pub why : RefusesPut refuses refusal_of op fault ⊎ RefusesTake before op fault
+  pub why : RefusesPut refuses refusal_of op fault ⊎ RefusesToRecord before op fault

@@ -7,10 +7,11 @@ ghost use Rattle.exchange.specs.Buckets.{bucket_list};
 
 use exchange::{
     Digests, Version, buckets_of_site, digests_of_site, digests_of_site_in, held_of_site,
-    missing_of_site, op_of_site,
+    missing_of_site,
 };
 use octets::ListOf;
-use operation::{Digest, Op};
+use operation::Digest;
+use records::RecordedOp;
 use site_hub::Question;
 use site_state::Site;
 use std::alloc::{AllocError, Global};
@@ -87,16 +88,19 @@ impl<'a> Question<Digests> for Held<'a> {
     }
 }
 
-/// Asks for the operation under a digest. Its bytes are shared.
+/// Asks for the record of the operation under a digest.
 #[derive(Clone, Copy)]
-pub(crate) struct Load<'a> {
+pub(crate) struct Recorded<'a> {
     pub digest: &'a Digest,
 }
 
-impl<'a> Question<Option<Op>> for Load<'a> {
+impl<'a> Question<Option<RecordedOp>> for Recorded<'a> {
     ghost answers = { λ q m op. op ≡ held_at m q.digest.now };
 
-    fn answer(&self, alloc: Global, site: &Site) -> Result<Option<Op>, AllocError> {
-        op_of_site(alloc, site, self.digest)
+    fn answer(&self, alloc: Global, site: &Site) -> Result<Option<RecordedOp>, AllocError> {
+        match site.op(self.digest) {
+            None => Ok(None),
+            Some(op) => Ok(Some(op.copy(alloc)?)),
+        }
     }
 }

@@ -44,7 +44,7 @@ fn exchange_with<E: AtOpening, K: Keep + Drop, R: Source, W: Sink>(
         (ends result.site (R.remaining reader.new) (W.contents writer.new)
         (R.failures reader.new) (W.failures writer.new))) }
 {
-    let mut holder = ShelvedHolder::<K, E>::new(site, shelf);
+    let mut holder = ShelvedHolder::<K, E>::new(alloc, site, shelf);
     let ended = run_exchange(alloc, role, reader, writer, &mut holder);
     let (site, shelf) = holder.into_parts();
     Behind { site, shelf, ended }

@@ -5,18 +5,18 @@ ghost use Rattle.operation.specs.Spelling.{digest_of};
 ghost use Rattle.site_hub.specs.History.{set_of};
 ghost use Rattle.site_hub.specs.Hub.{Seat, HasLooked};
 ghost use Rattle.exchange.specs.Held.{Looks, TakesIn};
-ghost use Rattle.hub_exchange.specs.Fault.{refusal_of, reply_to, RefusesLook, RefusesPublish, RefusesAtHub};
+ghost use Rattle.hub_exchange.specs.Fault.{refusal_of, reply_to, RefusesLook, RefusesToPublish, RefusesAtHub};
 ghost use Rattle.hub_exchange.specs.Onward.{IsOnward};
 ghost use Rattle.hub_exchange.specs.Putting.{WasWritten};
 
-use crate::asking::{All, Buckets, Held, In, Load, Missing};
-use crate::putting::{Put, Shelved, refusal_of_shelf};
+use crate::asking::{All, Buckets, Held, In, Missing, Recorded};
+use crate::putting::{Put, Shelved, load_over, refusal_of_shelf};
 use crate::{Extract, LedgerName};
 use association_worker::AtEntry;
 use exchange::{Digests, Holder, HolderFault, Version};
 use octets::ListOf;
 use operation::{Digest, Digested, Op, Taken};
-use site_hub::{HubFault, HubName, Keeper, Pass, Question, Shows, Told, store_digested};
+use site_hub::{HubFault, HubName, Keeper, Pass, Question, Shows, Told, store};
 use std::alloc::Global;
 use std::marker::{Model, PhantomData};
 use std::sync::{Mutex, Wait};
@@ -76,25 +76,30 @@ fn reply<H: HubName>(told: Result<Told<H>, HubFault>) -> Result<Taken, HolderFau
     }
 }
 
-/// Lets the hub take what the shelf keeps, which publishes it.
+/// Lets the hub take the record of what the shelf keeps, which publishes it.
 fn publish<H: HubName, T: Shows<H>, R: Wait + Drop, S: Wait, N: LedgerName>(
     rt: &S,
     keeper: &Mutex<Keeper<H, T, R>>,
     pass: &mut Pass<H>,
-    op: Digested,
+    op: &Digested,
     shelved: &Shelved<N>,
 ) -> Result<Taken, HolderFault>
-    requires { shelved.now.digest ≡ digest_of op }
-    ensures takes { TakesIn (λ (s : Seat). set_of H.opening s.seen) (λ _. ⊥) pass.old op result
-        pass.new }
+    requires { shelved.now.digest ≡ digest_of op.now }
+    ensures takes { TakesIn (λ (s : Seat). set_of H.opening s.seen) (λ _. ⊥) pass.old op.now
+        result pass.new }
     ensures refused { OnErr result (pass.new.seen ≡ pass.old.seen) }
-    ensures why { IfErr result (RefusesPublish H.opening pass.old pass.new op) }
+    ensures why { IfErr result (RefusesToPublish H.opening pass.old pass.new op.now) }
     ensures onward { IsOnward (WasWritten shelved.now.extract) pass.old pass.new }
 {
     let _ = &shelved.digest;
-    let told = store_digested(rt, keeper, pass, op);
-    pass.see_history();
-    reply(told)
+    match pass.record(op) {
+        Ok(recorded) => {
+            let told = store(rt, keeper, pass, recorded);
+            pass.see_history();
+            reply(told)
+        }
+        Err(refused) => Err(of_hub(refused)),
+    }
 }
 
 /// What a pass answers to a question, of the set that it then has seen.
@@ -176,7 +181,7 @@ impl<
     E: AtEntry,
 > Holder for HubHolder<'a, 'b, H, T, R, S, N, P, E> {
     ghost use Rattle.std.specs.Prelude.{◌≡◌};
-    ghost use Rattle.hub_exchange.specs.Fault.{RefusesLook, RefusesAtHub};
+    ghost use Rattle.hub_exchange.specs.Fault.{RefusesLook, RefusesAtHub, RefusesLoadAtHub};
 
     ghost holds = { λ s. set_of H.opening s.seen };
 
@@ -187,7 +192,8 @@ impl<
     // The shelf refused to put it, or the hub to take it: then the pass has seen nothing more.
     ghost refuses_take = { RefusesAtHub P.refuses H.opening };
 
-    ghost refuses_load = { λ before after _ fault. RefusesLook before after fault };
+    // Its look was refused, or no operation of the record came over the way to the shelf.
+    ghost refuses_load = { RefusesLoadAtHub P.refuses_load P.has_loaded H.opening };
 
     fn digests(&mut self, _alloc: Global, version: Version) -> Result<Digests, HolderFault> {
         look(&mut self.pass, &All { version })
@@ -219,8 +225,15 @@ impl<
         look(&mut self.pass, &Held { version, digests })
     }
 
-    fn load(&mut self, _alloc: Global, digest: &Digest) -> Result<Option<Op>, HolderFault> {
-        look(&mut self.pass, &Load { digest })
+    fn load(&mut self, alloc: Global, digest: &Digest) -> Result<Option<Op>, HolderFault> {
+        let Some(held) = look(&mut self.pass, &Recorded { digest })? else {
+            return Ok(None);
+        };
+        let mut shelf = *self.shelf;
+        match load_over(alloc, &mut shelf, digest, &held) {
+            Ok(op) => Ok(Some(op)),
+            Err(fault) => Err(fault),
+        }
     }
 
     fn take(&mut self, op: Digested) -> Result<Taken, HolderFault>
@@ -234,7 +247,7 @@ impl<
         let mut shelf = *self.shelf;
         match shelf.put(&op) {
             Ok(shelved) => {
-                let taken = publish(self.rt, self.keeper, &mut self.pass, op, &shelved);
+                let taken = publish(self.rt, self.keeper, &mut self.pass, &op, &shelved);
                 self.extract.learn(&shelved.extract);
                 taken
             }

@@ -1,15 +1,19 @@
-//! How operations come on a shelf, and what shows that they did.
+//! How operations come on a shelf, what shows that they did, and how they are loaded from it.
 
-ghost use Rattle.std.specs.Prelude.{◌≡◌, All, IfOk, IfErr, OnOk};
+ghost use Rattle.std.specs.Prelude.{◌≡◌, List, ℕ, Some, Option, All, IfOk, IfErr, IfSome, OnOk};
 ghost use Rattle.operation.specs.declared.op.Op.{Op as Operation};
 ghost use Rattle.operation.specs.Spelling.{digest_of};
 ghost use Rattle.op_shelf.specs.declared.fault.ShelfFault.{ShelfFault};
+ghost use Rattle.records.specs.StandIn.{op_in};
 ghost use Rattle.hub_exchange.specs.Putting.{IsKept, AreKept, WasWritten, refusal_of};
+ghost use Rattle.hub_exchange.specs.Putting.{IsUnlike, RefusesRecord, HasFound};
 
 use crate::{Extract, Ledger, LedgerName};
 use exchange::HolderFault;
 use op_shelf::{Keep, ShelfFault};
-use operation::{Digest, Digested};
+use operation::{Digest, Digested, Op};
+use records::RecordedOp;
+use std::alloc::Global;
 
 /// The digest of an operation that a shelf keeps, and a beginning of that shelf's ledger in which
 /// it stands.
@@ -68,15 +72,41 @@ pub fn put_all<K: Keep, N: LedgerName>(
     Ok(())
 }
 
+/// Loads the operation of a digest from a shelf, if one is kept there. What was written into the
+/// shelf's ledger is still kept.
+pub fn load_kept<K: Keep, N: LedgerName>(
+    shelf: &mut K,
+    _ledger: &Ledger<N>,
+    digest: &Digest,
+) -> Result<Option<Digested>, ShelfFault>
+    requires kept { AreKept K.is_up K.holds K.lasts _ledger.now shelf.old }
+    ensures kept { AreKept K.is_up K.holds K.lasts _ledger.now shelf.new }
+    ensures told { IfOk result (λ found. IfSome found (λ op. digest_of op ≡ digest.now)) }
+{
+    shelf.load(digest)
+}
+
 /// A way to the shelf of a ledger.
 pub trait Put<N: LedgerName> {
     // Why it may refuse to put an operation, by what it was before the call and what it is then.
     ghost refuses: { Self → Self → Operation → ShelfFault → Type 0 };
 
+    // Why it may refuse to load the operation of a digest.
+    ghost refuses_load: { Self → Self → List ℕ → ShelfFault → Type 0 };
+
+    // What it answered to a load of a digest.
+    ghost has_loaded: { Self → Self → List ℕ → Option Operation → Type 0 };
+
     /// Puts an operation on the shelf, where it is after `Ok`.
     fn put(&mut self, op: &Digested) -> Result<Shelved<N>, ShelfFault>
         ensures own { IfOk result (λ shelved. shelved.digest ≡ digest_of op.now) }
         ensures why { IfErr result (refuses self.old self.new op.now) };
+
+    /// Loads the operation of a digest from the shelf, if one is kept there.
+    fn load(&mut self, digest: &Digest) -> Result<Option<Digested>, ShelfFault>
+        ensures told { IfOk result (λ found. IfSome found (λ op. digest_of op ≡ digest.now)) }
+        ensures loaded { IfOk result (has_loaded self.old self.new digest.now) }
+        ensures why { IfErr result (refuses_load self.old self.new digest.now) };
 }
 
 /// What a fault of the shelf is to a round: want of memory, or a refusal.
@@ -86,5 +116,56 @@ pub fn refusal_of_shelf(fault: ShelfFault) -> HolderFault
     match fault {
         ShelfFault::Memory => HolderFault::Memory,
         ShelfFault::Store(_) | ShelfFault::BadRow => HolderFault::Refused,
+    }
+}
+
+/// What was found, where it is an operation of the record that is held.
+fn of_record(alloc: Global, found: Option<Digested>, held: &RecordedOp) -> Result<Op, HolderFault>
+    ensures found { IfOk result (λ op. (found ≡ Some op) × (op_in op ≡ held.now)) }
+    ensures unlike { IfErr result (IsUnlike held.now found) }
+{
+    let Some(op) = found else {
+        return Err(HolderFault::Refused);
+    };
+    let recorded = RecordedOp::of(alloc, &op)?;
+    if !recorded.equals(held) {
+        return Err(HolderFault::Refused);
+    }
+    Ok(op.into_op())
+}
+
+/// Loads an operation of the record that is held under a digest, over a way to a shelf.
+pub(crate) fn load_over<N: LedgerName, P: Put<N>>(
+    alloc: Global,
+    shelf: &mut P,
+    digest: &Digest,
+    held: &RecordedOp,
+) -> Result<Op, HolderFault>
+    ensures stands { IfOk result (λ op. (op_in op ≡ held.now) × (digest_of op ≡ digest.now)) }
+    ensures why { IfErr result (RefusesRecord P.refuses_load P.has_loaded held.now digest.now) }
+{
+    match shelf.load(digest) {
+        Ok(found) => of_record(alloc, found, held),
+        Err(fault) => Err(refusal_of_shelf(fault)),
+    }
+}
+
+/// The same from a shelf, on which everything stays.
+pub(crate) fn load_from<K: Keep>(
+    alloc: Global,
+    shelf: &mut K,
+    digest: &Digest,
+    held: &RecordedOp,
+) -> Result<Op, HolderFault>
+    ensures stands { IfOk result (λ op. (op_in op ≡ held.now) × (digest_of op ≡ digest.now)) }
+    ensures why { IfErr result
+        (RefusesRecord K.refuses_load (HasFound K.is_up K.holds) held.now digest.now) }
+    ensures up { K.is_up shelf.new → K.is_up shelf.old }
+    ensures kept { K.is_up shelf.new → (other : Operation) → K.lasts shelf.old other
+        → K.lasts shelf.new other }
+{
+    match shelf.load(digest) {
+        Ok(found) => of_record(alloc, found, held),
+        Err(fault) => Err(refusal_of_shelf(fault)),
     }
 }

@@ -9,6 +9,7 @@ pub mod Lists
 pub mod LoadLaws
 pub mod Lookups
 pub mod Opening
+pub mod Recordings
 pub mod Spellings
 pub mod TestedBodies
 pub mod Walks

@@ -8,6 +8,7 @@ pub mod Loads
 pub mod Log
 pub mod Places
 pub mod Puts
+pub mod Recorded
 pub mod Records
 pub mod Spelled
 pub mod Staged

@@ -23,6 +23,7 @@ mod places;
 mod putting;
 mod record;
 mod record_loading;
+mod recording;
 mod refused;
 mod staging;
 mod verifying;

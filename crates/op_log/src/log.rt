@@ -8,12 +8,14 @@ ghost use Rattle.body_log.specs.Lasts.{Stays};
 ghost use Rattle.operation.specs.declared.op.Op.{Op as Operation};
 ghost use Rattle.operation.specs.Reading.{IsOp};
 ghost use Rattle.operation.specs.Spelling.{digest_of};
+ghost use Rattle.records.specs.StandIn.{op_in};
 ghost use Rattle.op_log.specs.Fault.{IsOfLook, IsOfOpen, IsOfPut};
 ghost use Rattle.op_log.specs.Heads.{Entry, Head};
 ghost use Rattle.op_log.specs.Kept.{Has, HasBody, IsHeld, IsKept, IsLasting, KeepsHeads, StandsFor, first_under};
 ghost use Rattle.op_log.specs.Loaded.{HasBadHead, Lists};
 ghost use Rattle.op_log.specs.Log.{GoesOn, IsSound, IsTooLong, Looks};
 ghost use Rattle.op_log.specs.Puts.{ComesToClash, LeavesAllOrNone, PutsAll};
+ghost use Rattle.op_log.specs.Recorded.{Records};
 ghost use Rattle.op_log.specs.Records.{head_in};
 ghost use Rattle.op_log.specs.Verified.{damaged_in, digests_of, is_whole as is_whole_in};
 ghost use Rattle.op_log.specs.Walking.{AreOfLog};
@@ -25,12 +27,14 @@ use crate::loading::load_at;
 use crate::places::Places;
 use crate::putting::put_group;
 use crate::record::Record;
+use crate::recording::all_records;
 use crate::refused::{Refused, refused_bodies, refused_heads};
 use crate::verifying::{damaged, is_whole};
 use crate::walking::walk;
 use body_log::BodyLog;
 use head_log::HeadLog;
 use operation::{Digest, Digested};
+use records::RecordedOp;
 use sqlite_disk::Disk;
 use std::alloc::Global;
 use std::marker::Model;
@@ -280,6 +284,36 @@ impl<H: Disk, B: Disk> OpLog<H, B> {
         ensures only { IfErr result IsOfLook }
     {
         all_ops(alloc, &mut self.bodies, &self.places)
+    }
+
+    /// The records of all operations, in the order in which these were put. Each operation is read
+    /// and hashed once, to test it, and let go before the next is read. Whatever the disk returns,
+    /// no other is recorded.
+    pub fn records(&mut self, alloc: Global) -> Result<Vec<RecordedOp>, LogFault>
+        ensures told { IfOk result (λ recorded. map digest_of recorded.items
+            ≡ digests_of self.old.places) }
+        // They stand for the very operations that were put, as long as the disk returns what was
+        // written.
+        ensures all { IfOk result (λ recorded. IsTrue (B.Disk.is_clean self.new.bodies)
+            → Records (B.Disk.seen self.old.bodies) self.old.places recorded.items) }
+        ensures exact { IfOk result (λ recorded. IsTrue (B.Disk.is_clean self.new.bodies)
+            → (op : Operation) → IsOp op
+            → Has B.Disk self.old.bodies self.old.bodies_end self.old.places op
+            → Contains recorded.items (op_in op)) }
+        ensures looks { Looks self.old self.new }
+        ensures goes_on { GoesOn H.Disk B.Disk self.old self.new }
+
+        // Each fault, only where it is.
+        ensures damaged { IsTrue (B.Disk.is_clean self.new.bodies) → (n : ℕ)
+            → IsErrOf result (LogFault.DamagedBody n)
+            → HasBadHead (B.Disk.seen self.old.bodies) self.old.places n }
+        ensures closed { IsErrOf result LogFault.Closed
+            → B.Disk.is_usable self.old.bodies ≡ false }
+        ensures disk { CountsAs LogFault.Disk result
+            (B.Disk.faults self.old.bodies) (B.Disk.faults self.new.bodies) }
+        ensures only { IfErr result IsOfLook }
+    {
+        all_records(alloc, &mut self.bodies, &self.places)
     }
 
     /// The digests of the operations whose data sets are none of theirs, in the order of their

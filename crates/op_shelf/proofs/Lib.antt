@@ -12,6 +12,7 @@ mod Ops
 mod Orders
 mod Puts
 mod Queries
+mod Recordings
 mod Schemas
 mod Texts
 mod Walks

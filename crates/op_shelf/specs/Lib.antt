@@ -8,6 +8,7 @@ pub mod Migration
 pub mod Older
 pub mod Opened
 pub mod Putting
+pub mod Recording
 pub mod Refusing
 pub mod States
 pub mod Table

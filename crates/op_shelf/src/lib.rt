@@ -14,6 +14,7 @@ mod loading;
 mod migration;
 mod open;
 mod order;
+mod recording;
 mod rows;
 mod schema;
 mod shelf;

@@ -8,6 +8,7 @@ ghost use Rattle.op_shelf.specs.Entries.{entry_of};
 ghost use Rattle.op_shelf.specs.States.{digest_cmp};
 
 use operation::Digested;
+use records::RecordedOp;
 use std::cmp::Ordering;
 
 fn by_bytes(a: &[u8], b: &[u8]) -> Ordering
@@ -33,10 +34,28 @@ fn by_digest(a: &Digested, b: &Digested) -> Ordering
     )
 }
 
+/// The same of two records.
+fn by_record(a: &RecordedOp, b: &RecordedOp) -> Ordering
+    ensures { result ≡ digest_cmp (entry_of a.now) (entry_of b.now) }
+{
+    by_text(
+        a.digest().as_bytes().as_slice(),
+        b.digest().as_bytes().as_slice(),
+    )
+}
+
 /// Puts operations in the order of the texts of their digests.
 pub(crate) fn put_in_order(ops: &mut Vec<Digested>)
     ensures same { IsPermutation ops.old.items ops.new.items }
     ensures ascending { IsSorted digest_cmp (map entry_of ops.new.items) }
 {
     ops.sort_unstable_by(|a, b| by_digest(a, b));
+}
+
+/// Puts records in the order of the texts of their digests.
+pub(crate) fn put_records_in_order(recorded: &mut Vec<RecordedOp>)
+    ensures same { IsPermutation recorded.old.items recorded.new.items }
+    ensures ascending { IsSorted digest_cmp (map entry_of recorded.new.items) }
+{
+    recorded.sort_unstable_by(|a, b| by_record(a, b));
 }

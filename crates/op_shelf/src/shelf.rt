@@ -12,6 +12,7 @@ ghost use Rattle.op_shelf.specs.Entries.{Holds, Lists, HasBadRow, entry_of, dige
 ghost use Rattle.op_shelf.specs.Fault.{IfStore};
 ghost use Rattle.op_shelf.specs.Loading.{AreAmiss, IsNotLoaded, at_digest};
 ghost use Rattle.op_shelf.specs.Putting.{PutsEntry, PutsGroup};
+ghost use Rattle.op_shelf.specs.Recording.{Records};
 ghost use Rattle.op_shelf.specs.States.{IfClean, IsUnready, KeepsAll, IsNotShown, rows_of, rows_left, count_of};
 ghost use Rattle.op_shelf.specs.States.{digest_cmp};
 ghost use Rattle.op_shelf.specs.Texts.{all_text, kind_text};
@@ -20,10 +21,12 @@ use crate::fault::{ShelfFault, StoreCause};
 use crate::group::put_group;
 use crate::kept::Kept;
 use crate::loading::load_op;
+use crate::recording::all_records;
 use crate::statements::kind_rows;
 use crate::table::{is_ready, put_entry};
 use crate::walk::all_ops;
 use operation::{Digest, Digested, Op, encode};
+use records::RecordedOp;
 use sqlite::{Alter, Connection};
 use std::alloc::Global;
 use std::marker::Model;
@@ -119,6 +122,30 @@ impl<S: Alter> Shelf<S> {
             return Err(ShelfFault::Store(StoreCause::Other));
         }
         all_ops(&mut self.database, self.alloc)
+    }
+
+    /// The records of the operations of the shelf, ascending by digest. Each operation is read and
+    /// hashed once, to test its row, and let go before the next is read. They stand for the
+    /// operations that are there.
+    pub fn records(&mut self) -> Result<Vec<RecordedOp>, ShelfFault>
+        ensures all { IfClean S.Store self.old self.new (λ s t.
+            IfOk result (λ recorded. Records (rows_of s) recorded.items)) }
+        ensures ascending { IfClean S.Store self.old self.new (λ s t.
+            IfOk result (λ recorded. IsSorted digest_cmp (map entry_of recorded.items))) }
+        ensures same { IfClean S.Store self.old self.new (λ s t. OnOk result (IsUnchanged s t)) }
+        ensures refused { IfClean S.Store self.old self.new (λ s t. OnErr result (KeepsAll s t)) }
+
+        // Each fault, only where it is.
+        ensures bad_row { IfClean S.Store self.old self.new (λ s t.
+            IsErrOf result ShelfFault.BadRow → HasBadRow (rows_of s)) }
+        ensures store { IfClean S.Store self.old self.new (λ s t. IfStore result (λ why.
+            IsUnready why s ⊎ IsNotShown why all_text [] s t)) }
+        ensures crash { Survives (state S.Store self.old) (state S.Store self.new) (λ _. ⊥) }
+    {
+        if !is_ready(&self.database) {
+            return Err(ShelfFault::Store(StoreCause::Other));
+        }
+        all_records(&mut self.database, self.alloc)
     }
 
     /// The operation of a digest, if one is there. Its row is looked up by the index of the digests

@@ -6,6 +6,7 @@ pub mod KnownLaws
 pub mod Loads
 pub mod Logs
 pub mod Moves
+pub mod RecordLaws
 pub mod Same
 pub mod Sites
 pub mod Stays

@@ -7,8 +7,8 @@ use Rattle.operation.specs.declared.target.Target.{Target}
 use Rattle.operation.specs.Parts.{CorrectionParts}
 use Rattle.archive_model.specs.Attributes.{is_target_of}
 use Rattle.site_state.specs.Site.{ops_of, top_counter_of}
-use Rattle.site_state.specs.Laws.{after_taking}
 use Rattle.site_hub.specs.Stamps.{next_correction, LAST_COUNTER}
+use Rattle.shelved_site.specs.Sites.{after_recording}
 use Rattle.shelved_site.specs.declared.correcting.Corrected.{Corrected}
 use Rattle.shelved_site.specs.declared.fault.ShelvedFault.{ShelvedFault}
 use Rattle.shelved_site.specs.declared.fault.ShelvedFault.TheVariants.{Shelf, Site, Hub}
@@ -22,23 +22,23 @@ is_of target (a_correction k) = false
 abbrev pub is_known : Target → List Op → Bool
 is_known target ops = list_any (is_of target) ops
 
--- The correction that comes next at the site which took all operations of the store: it has this stamp, and whatever a
--- crash leaves of the store has it afterwards. Whether its target was known there is told.
+-- The correction that comes next at the site of the store: it has this stamp, and whatever a crash leaves of the store
+-- has it afterwards. Whether its target was known there is told.
 pub record IsCorrected (lists : List Op → Type 0) (is_left : Op → Type 0) (number : ℕ) (target : Target) (tag : ℕ)
     (value : List ℕ) (told : Corrected) : Type 0 where
   pub ops : List Op
   pub listed : lists ops
   pub made : CorrectionParts
-  pub next : Ok made ≡ next_correction number (after_taking ops) target tag value
+  pub next : Ok made ≡ next_correction number (after_recording ops) target tag value
   pub stamped : told.stamp ≡ made.stamp
-  pub known : told.is_known ≡ is_known target (ops_of (after_taking ops))
+  pub known : told.is_known ≡ is_known target (ops_of (after_recording ops))
   pub lasts : is_left (a_correction made)
 
 -- a correction with the last counter is in the store
 pub record IsSpent (lists : List Op → Type 0) : Type 0 where
   pub ops : List Op
   pub listed : lists ops
-  pub spent : top_counter_of (ops_of (after_taking ops)) ≡ LAST_COUNTER
+  pub spent : top_counter_of (ops_of (after_recording ops)) ≡ LAST_COUNTER
 
 -- No correction was made in a store: it refused, or its site did, or over its operations none comes next, for this
 -- reason.
@@ -46,4 +46,4 @@ abbrev pub IsUncorrected : (List Op → Type 0) → ℕ → Target → ℕ → L
 IsUncorrected lists number target tag value (Shelf _) = ⊤
 IsUncorrected lists number target tag value (Site _) = ⊤
 IsUncorrected lists number target tag value (Hub fault) =
-    (ops : List Op) × lists ops × (next_correction number (after_taking ops) target tag value ≡ Err fault)
+    (ops : List Op) × lists ops × (next_correction number (after_recording ops) target tag value ≡ Err fault)

@@ -1,16 +1,27 @@
 -- The site of a store.
-use Rattle.std.specs.Prelude.{◌≡◌, List, ⊤}
+use Rattle.std.specs.Prelude.{◌≡◌, List, ⊤, map}
 use Rattle.operation.specs.declared.op.Op.{Op}
+use Rattle.records.specs.StandIn.{op_in}
 use Rattle.site_state.specs.Site.{Map}
 use Rattle.site_state.specs.Laws.{after_taking}
 use Rattle.shelved_site.specs.declared.fault.ShelvedFault.{ShelvedFault}
 use Rattle.shelved_site.specs.declared.fault.ShelvedFault.TheVariants.{Shelf, Site, Hub}
 
--- the site that took all operations of a store, which lists these
+-- records that stand for all operations of a store, which lists these
+pub record AreRecords (lists : List Op → Type 0) (recorded : List Op) : Type 0 where
+  pub ops : List Op
+  pub listed : lists ops
+  pub stand : recorded ≡ map op_in ops
+
+-- what a new site holds once it took what stands for some operations
+abbrev pub after_recording : List Op → Map
+after_recording ops = after_taking (map op_in ops)
+
+-- the site that took what stands for all operations of a store, which lists these
 pub record IsSiteOf (lists : List Op → Type 0) (site : Map) : Type 0 where
   pub ops : List Op
   pub listed : lists ops
-  pub took : site ≡ after_taking ops
+  pub took : site ≡ after_recording ops
 
 -- a fault of a store or of its site, before there is a hub
 abbrev pub IsBeforeHub : ShelvedFault → Type 0

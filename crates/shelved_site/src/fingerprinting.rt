@@ -6,7 +6,8 @@ ghost use Rattle.sha2.specs.Hashers.{Holds256};
 ghost use Rattle.sha2.specs.Sha256.{sha256};
 ghost use Rattle.shelved_site.specs.Fingerprints.{digests_text, fingerprint_of, EqualSetsAreAlike};
 
-use operation::{Digest, Op};
+use operation::Digest;
+use records::RecordedOp;
 use sha2::Sha256;
 use site_state::Site;
 use std::collections::BTreeMap;
@@ -19,7 +20,7 @@ fn feed(hasher: &mut Sha256, digest: &Digest)
 }
 
 /// The hash of the digests of a tree, as they stand in it.
-fn hash_of_tree(tree: &BTreeMap<Digest, Op>) -> Digest
+fn hash_of_tree(tree: &BTreeMap<Digest, RecordedOp>) -> Digest
     ensures { result ≡ sha256 (digests_text (keys_of tree.now.entries)) }
 {
     let mut hasher = <Sha256 as sha2::Digest>::new();

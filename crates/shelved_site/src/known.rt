@@ -7,12 +7,13 @@ ghost use Rattle.archive_model.specs.Attributes.{is_target_of};
 ghost use Rattle.shelved_site.specs.Corrections.{is_of, is_known as is_known_in};
 
 use archive_model::{patient, series, study};
-use operation::{Content, Op, Target};
+use operation::Target;
+use records::{Parts, RecordedContent, RecordedOp};
 use site_state::{Site, SiteFault};
 use std::alloc::Global;
 
 /// Whether a content is one of a target.
-fn is_content_of(content: &Content, target: &Target) -> bool
+fn is_content_of(content: &RecordedContent, target: &Target) -> bool
     ensures { result ≡ is_target_of content.now target.now }
 {
     match target {
@@ -22,17 +23,17 @@ fn is_content_of(content: &Content, target: &Target) -> bool
     }
 }
 
-fn is_of_target(op: &Op, target: &Target) -> bool
+fn is_of_target(op: &RecordedOp, target: &Target) -> bool
     ensures { result ≡ is_of target.now op.now }
 {
-    match op {
-        Op::Content(content) => is_content_of(content, target),
-        Op::Correction(_) => false,
+    match op.parts() {
+        Parts::Content(content) => is_content_of(content, target),
+        Parts::Correction(_) => false,
     }
 }
 
 /// Whether one of some operations is a content of a target.
-fn has_one(ops: &[&Op], target: &Target) -> bool
+fn has_one(ops: &[&RecordedOp], target: &Target) -> bool
     ensures { result ≡ list_any (λ o. is_of target.now o.now) ops.now }
 {
     ops.iter().any(|op| is_of_target(op, target))

@@ -1,4 +1,5 @@
-//! What follows for those who stand on a log.
+//! What follows for those who stand on a log, and for what is told of records: laws, said as
+//! contracts of functions with nothing to do.
 
 ghost use Rattle.std.specs.Prelude.{List, ℕ};
 ghost use Rattle.operation.specs.declared.op.Op.{Op};
@@ -6,6 +7,7 @@ ghost use Rattle.op_shelf.specs.declared.kept.Kept.{Kept};
 ghost use Rattle.op_shelf.specs.Keep.{AreSame, GainsAll};
 ghost use Rattle.op_log.specs.Log.{Opened};
 ghost use Rattle.shelved_site.specs.Keeping.{AreHeld, Lasts};
+ghost use Rattle.shelved_site.specs.RecordLaws.{HoldsTheirRecords, ReportsTheSame, IsFollowedByTheSame, KnowsTheSame};
 
 use op_shelf::Keep;
 use sqlite_disk::Disk;
@@ -22,4 +24,14 @@ pub fn the_same_puts_keep_the_same<A: Keep, B: Keep>()
 pub fn what_lasts_is_left<H: Disk, B: Disk>()
     ensures { (log : Opened H B) (op : Op) → Lasts H.Disk B.Disk log op → (h b : List ℕ)
         → H.Disk.may_leave log.heads h → B.Disk.may_leave log.bodies b → AreHeld h b op }
+{}
+
+/// A site that took what stands for some operations, each of them one of bytes, has under each digest
+/// what stands for the operation that a site has which took these themselves. So its report is the
+/// same, the same correction comes next, and the same targets are known.
+pub fn records_tell_of_their_operations()
+    ensures holds { HoldsTheirRecords }
+    ensures reports { ReportsTheSame }
+    ensures followed { IsFollowedByTheSame }
+    ensures knows { KnowsTheSame }
 {}

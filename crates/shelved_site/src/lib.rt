@@ -24,7 +24,7 @@ pub use correcting::{Corrected, correct_on};
 pub use fault::ShelvedFault;
 pub use fingerprinting::{equal_sets_have_equal_fingerprints, fingerprint};
 pub use keeping::KeptLog;
-pub use laws::{the_same_puts_keep_the_same, what_lasts_is_left};
+pub use laws::{records_tell_of_their_operations, the_same_puts_keep_the_same, what_lasts_is_left};
 pub use moving::{Following, MoveFault, Moved, move_all};
 pub use reporting::{Report, report_of, report_on, table_on};
 pub use store::Store;

@@ -11,6 +11,7 @@ use crate::verifying::test_all;
 use op_log::OpLog;
 use op_shelf::{Keep, Kept, ShelfFault, Testing, Verified};
 use operation::{Digested, Op};
+use records::RecordedOp;
 use sqlite_disk::Disk;
 
 /// Whether an operation whose spelling begins so has a kind.
@@ -97,6 +98,13 @@ impl<H: Disk, B: Disk> Store for KeptLog<H, B> {
     fn all(&mut self) -> Result<Vec<Digested>, ShelfFault> {
         match self.log.all(self.alloc) {
             Ok(ops) => Ok(ops),
+            Err(refused) => Err(fault(refused)),
+        }
+    }
+
+    fn records(&mut self) -> Result<Vec<RecordedOp>, ShelfFault> {
+        match self.log.records(self.alloc) {
+            Ok(recorded) => Ok(recorded),
             Err(refused) => Err(fault(refused)),
         }
     }

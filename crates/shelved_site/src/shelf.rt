@@ -3,6 +3,7 @@
 use crate::store::Store;
 use op_shelf::{Keep, Kept, Shelf, ShelfFault, Testing, Verified};
 use operation::{Digested, Op};
+use records::RecordedOp;
 use sqlite::Alter;
 
 impl<S: Alter> Store for Shelf<S> {
@@ -68,6 +69,10 @@ impl<S: Alter> Store for Shelf<S> {
 
     fn all(&mut self) -> Result<Vec<Digested>, ShelfFault> {
         Shelf::all(self)
+    }
+
+    fn records(&mut self) -> Result<Vec<RecordedOp>, ShelfFault> {
+        Shelf::records(self)
     }
 
     fn count_kind(&mut self, kind: u8) -> Result<u64, ShelfFault> {

@@ -5,9 +5,11 @@ ghost use Rattle.operation.specs.declared.op.Op.{Op as Operation};
 ghost use Rattle.op_shelf.specs.declared.damaged.Damaged.{Damaged as Damage};
 ghost use Rattle.op_shelf.specs.declared.fault.ShelfFault.{ShelfFault as Fault};
 ghost use Rattle.operation.specs.Spelling.{spelling};
+ghost use Rattle.shelved_site.specs.Sites.{AreRecords};
 
 use op_shelf::{Keep, Kept, ShelfFault, Testing, Verified};
 use operation::{Digested, Op};
+use records::RecordedOp;
 
 /// What keeps the operations of an archive and shows all of them: a shelf, or a log.
 pub trait Store: Keep {
@@ -41,6 +43,16 @@ pub trait Store: Keep {
     /// All operations. Each is hashed once, to test it, and comes with its digest.
     fn all(&mut self) -> Result<Vec<Digested>, ShelfFault>
         ensures all { is_clean self.new → IfOk result (λ ops. lists self.old ops.items) }
+        ensures same { is_clean self.new → OnOk result (is_same self.old self.new) }
+        ensures refused { is_clean self.new → OnErr result (spares self.old self.new) }
+        ensures why { is_clean self.new → IfErr result (refuses_all self.old self.new) }
+        ensures clean { is_clean self.new → is_clean self.old };
+
+    /// The records of all operations. Each operation is read and hashed once, to test it, and let
+    /// go before the next is read.
+    fn records(&mut self) -> Result<Vec<RecordedOp>, ShelfFault>
+        ensures all { is_clean self.new
+            → IfOk result (λ recorded. AreRecords (lists self.old) recorded.items) }
         ensures same { is_clean self.new → OnOk result (is_same self.old self.new) }
         ensures refused { is_clean self.new → OnErr result (spares self.old self.new) }
         ensures why { is_clean self.new → IfErr result (refuses_all self.old self.new) }

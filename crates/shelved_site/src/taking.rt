@@ -6,7 +6,7 @@ ghost use Rattle.shelved_site.specs.Sites.{IsSiteOf, IsBeforeHub};
 
 use crate::Store;
 use crate::fault::ShelvedFault;
-use operation::Digested;
+use records::RecordedOp;
 use site_hub::{Opened, open};
 use site_state::{Site, SiteFault};
 use std::alloc::Global;
@@ -25,19 +25,20 @@ impl Hearing for Silence {
     fn has_read(&self, _operations: usize) {}
 }
 
-/// The site that holds some operations, as those of a store at a start. Nothing is hashed.
-pub fn site_of(alloc: Global, ops: Vec<Digested>) -> Result<Site, SiteFault>
-    ensures site { IfOk result (λ site. site ≡ after_taking ops.items) }
-    ensures collision { IsErrOf result SiteFault.Collision → ¬ Apart ops.items }
+/// The site that took some records, as those of a store at a start. Nothing is hashed.
+pub fn site_of(alloc: Global, recorded: Vec<RecordedOp>) -> Result<Site, SiteFault>
+    ensures site { IfOk result (λ site. site ≡ after_taking recorded.items) }
+    ensures collision { IsErrOf result SiteFault.Collision → ¬ Apart recorded.items }
 {
     let mut site = Site::new(alloc);
-    for op in ops {
-        let _taken = site.take_digested(op)?;
+    for op in recorded {
+        let _taken = site.take(op)?;
     }
     Ok(site)
 }
 
-/// The site of a store, which took all its operations. The store stays as it is.
+/// The site of a store, which took the records of all its operations: one data set at a time is in
+/// memory. The store stays as it is.
 pub fn site_on<S: Store, H: Hearing>(
     alloc: Global,
     store: &mut S,
@@ -49,9 +50,9 @@ pub fn site_on<S: Store, H: Hearing>(
     ensures clean { S.is_clean store.new → S.is_clean store.old }
     ensures fault { IfErr result IsBeforeHub }
 {
-    let ops = store.all()?;
-    hearing.has_read(ops.len());
-    let site = site_of(alloc, ops)?;
+    let recorded = store.records()?;
+    hearing.has_read(recorded.len());
+    let site = site_of(alloc, recorded)?;
     Ok(site)
 }
 

@@ -18,7 +18,8 @@ use command_words::{Change, Part, bad_part, change_in};
 use hub_exchange::{Extract, LedgerName, Put, Shelved};
 use op_shelf::ShelfFault;
 use operation::{Correction, Digested, Op, Stamp, correction_of};
-use site_hub::{HubName, Keeper, Pass, Shows, store_digested};
+use records::RecordedOp;
+use site_hub::{HubName, Keeper, Pass, Shows, store};
 use std::alloc::Global;
 use std::sync::{Mutex, Wait};
 
@@ -96,7 +97,7 @@ pub(crate) fn publish<H: HubName, T: Shows<H>, R: Wait + Drop, S: Wait, N: Ledge
     rt: &S,
     keeper: &Mutex<Keeper<H, T, R>>,
     pass: &mut Pass<H>,
-    op: Digested,
+    op: RecordedOp,
     shelved: &Shelved<N>,
 ) -> Result<(), DeskFault>
     requires { shelved.now.digest ≡ digest_of op }
@@ -105,7 +106,7 @@ pub(crate) fn publish<H: HubName, T: Shows<H>, R: Wait + Drop, S: Wait, N: Ledge
     ensures unshown { IfErr result (λ fault. fault ≡ Unshown) }
 {
     let _ = &shelved.digest;
-    match store_digested(rt, keeper, pass, op) {
+    match store(rt, keeper, pass, op) {
         Ok(_told) => Ok(()),
         Err(_fault) => Err(DeskFault::Unshown),
     }
@@ -129,9 +130,12 @@ pub(crate) fn keep<H: HubName, T: Shows<H>, R: Wait + Drop, S: Wait, N: LedgerNa
         ⊎ (((fault ≡ Memory) ⊎ (fault ≡ Shelf)) × (pass.new ≡ pass.old))) }
 {
     let op = Digested::of(Op::Correction(made));
+    let Ok(recorded) = pass.record(&op) else {
+        return Err(DeskFault::Memory);
+    };
     match shelf.put(&op) {
         Ok(shelved) => {
-            let taken = publish(rt, keeper, pass, op, &shelved);
+            let taken = publish(rt, keeper, pass, recorded, &shelved);
             extract.learn(&shelved.extract);
             taken
         }

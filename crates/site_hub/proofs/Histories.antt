@@ -7,17 +7,22 @@ use Rattle.std.specs.BTreeMap.{is_at}
 use Rattle.std.specs.FinMap.{get, get-insert}
 use Rattle.std.proofs.lemmas.Option.{same_Some as some_is}
 use Rattle.operation.specs.declared.op.Op.{Op}
+use Rattle.operation.specs.declared.op.Op.TheVariants.{Content as a_content, Correction as a_correction}
 use Rattle.operation.specs.Spelling.{digest_of}
+use Rattle.records.specs.StandIn.{IsOpIn, op_in}
+use Rattle.records.proofs.StandInLaws.{itself}
+use Rattle.study_index.specs.Definition.{IsLawful}
 use Rattle.operation.specs.declared.taken.Taken.{Taken}
 use Rattle.operation.specs.declared.taken.Taken.TheVariants.{New, Known}
-use Rattle.site_state.specs.Site.{Map, IsSite, HasNoOther, digest_cmp, with_op, held_at, IsClash, Takes}
+use Rattle.site_state.specs.Site.{Map, IsSite, HasLawful, HasNoOther, digest_cmp, with_op, held_at, ops_of, IsClash, Takes}
 use Rattle.site_state.proofs.Maps.{tied}
-use Rattle.site_state.proofs.Same.{taking_adds}
+use Rattle.site_state.proofs.Same.{of_ops, taking_adds}
 use Rattle.site_hub.proofs.Fronts.{one_more}
 use mathlib.Core.List.{IsPrefix}
+use Rattle.octets.specs.Members.{Has}
 use Rattle.site_hub.specs.declared.entry.Entry.{Entry}
 use Rattle.site_hub.specs.declared.entry.Logged.{Logged}
-use Rattle.site_hub.specs.History.{set_of, logged_of, HasNoClash, IsHistory}
+use Rattle.site_hub.specs.History.{set_of, logged_of, HasNoClash, AreKept, IsHistory}
 use Rattle.site_hub.specs.Hub.{WasHeld}
 
 -- one entry more adds its operation
@@ -63,13 +68,23 @@ clashless_more : (m : Map) (log : List Entry) (e : Entry) → HasNoClash m log
 clashless_more m [] e free none = (none, tt)
 clashless_more m (f ∷ log) e free none = (free.0, clashless_more (with_op m f.op) log e free.1 none)
 
+kept_more : (log : List Entry) (e : Entry) → AreKept log → IsLawful e.op → AreKept (log ++ e ∷ [])
+kept_more [] e kept lawful = (lawful, tt)
+kept_more (f ∷ log) e kept lawful = (kept.0, kept_more log e kept.1 lawful)
+
+kept_front : (log rest : List Entry) → AreKept (log ++ rest) → AreKept log
+kept_front [] rest kept = tt
+kept_front (e ∷ log) rest kept = (kept.0, kept_front log rest kept.1)
+
 -- one entry more
 pub history_more : (opening : Map) (log : List Entry) (e : Entry) → IsHistory opening log
-    → HasNoOther (set_of opening log) (digest_of e.op) e.op
+    → HasNoOther (set_of opening log) (digest_of e.op) e.op → IsLawful e.op
     → IsHistory opening (log ++ e ∷ [])
-history_more opening log e history none = record {
+history_more opening log e history none lawful = record {
   opened = history.opened;
+  lawful = history.lawful;
   clashless = clashless_more opening log e history.clashless none;
+  kept = kept_more log e history.kept lawful;
 }
 
 clashless_front : (m : Map) (log rest : List Entry) → HasNoClash m (log ++ rest) → HasNoClash m log
@@ -80,7 +95,9 @@ clashless_front m (e ∷ log) rest free = (free.0, clashless_front (with_op m e.
 pub history_front : (opening : Map) (xs ys : List Entry) → IsPrefix xs ys → IsHistory opening ys → IsHistory opening xs
 history_front opening xs ys pre history = record {
   opened = history.opened;
+  lawful = history.lawful;
   clashless = clashless_front opening xs pre.0 (subst (HasNoClash opening) (sym pre.1) history.clashless);
+  kept = kept_front xs pre.0 (subst AreKept (sym pre.1) history.kept);
 }
 
 -- what is held stays held
@@ -126,3 +143,37 @@ all_are_site m (e ∷ log) site = all_are_site (with_op m e.op) log (with_is_sit
 -- what is held after a history lies under its own digest
 pub history_is_site : (opening : Map) (log : List Entry) → IsHistory opening log → IsSite (set_of opening log)
 history_is_site opening log history = all_are_site opening log history.opened
+
+-- a recorded operation keeps true what every operation of a site does
+pub recorded_is_lawful : (op : Op) → IsOpIn op → IsLawful op
+recorded_is_lawful (a_content c) is = is
+recorded_is_lawful (a_correction k) is = is.lawful
+
+-- and stands for itself
+pub lawful_itself : (op : Op) → IsLawful op → op_in op ≡ op
+lawful_itself (a_content c) is = ap a_content (itself c is)
+lawful_itself (a_correction k) is = refl
+
+with_is_lawful : (m : Map) (o : Op) → HasLawful m → IsLawful o → HasLawful (with_op m o)
+with_is_lawful m o all is d = subst (λ (r : Option Op). IfSome r IsLawful)
+    (sym (get-insert nat_list_cmp_total m (digest_of o) o d)) (by (is_at (digest_cmp d) (digest_of o)))
+  where
+    by : (b : Bool) → IfSome (cond b (Some o) (get m d)) IsLawful
+    by true = is
+    by false = all d
+
+all_are_lawful : (m : Map) (log : List Entry) → HasLawful m → AreKept log → HasLawful (set_of m log)
+all_are_lawful m [] all kept = all
+all_are_lawful m (e ∷ log) all kept = all_are_lawful (with_op m e.op) log (with_is_lawful m e.op all kept.0) kept.1
+
+held_lawful : (m : Map) → ((o : Op) → Has (ops_of m) o → IsLawful o) → HasLawful m
+held_lawful m all d = by (held_at m d) refl
+  where
+    by : (r : Option Op) → held_at m d ≡ r → IfSome r IsLawful
+    by None is = tt
+    by (Some o) is = all o (of_ops m d o is)
+
+-- each operation that is held after a history keeps true what every operation of a site does
+pub history_is_lawful : (opening : Map) (log : List Entry) → IsHistory opening log → HasLawful (set_of opening log)
+history_is_lawful opening log history =
+    all_are_lawful opening log (held_lawful opening history.lawful) history.kept

@@ -3,7 +3,8 @@ use Rattle.std.specs.Prelude.{ℕ, ◌≡◌, ◌<◌, List, [], ◌∷◌, ◌+
 use mathlib.Core.List.{IsPrefix}
 use Rattle.operation.specs.declared.op.Op.{Op}
 use Rattle.operation.specs.Spelling.{digest_of}
-use Rattle.site_state.specs.Site.{Map, IsSite, HasNoOther, with_op, is_missing}
+use Rattle.study_index.specs.Definition.{IsLawful, AreLawful}
+use Rattle.site_state.specs.Site.{Map, IsSite, HasNoOther, ops_of, with_op, is_missing}
 use Rattle.site_state.specs.Laws.{holding}
 use Rattle.site_hub.specs.declared.entry.Entry.{Entry}
 use Rattle.site_hub.specs.declared.entry.Logged.{Logged}
@@ -21,10 +22,18 @@ abbrev pub HasNoClash : Map → List Entry → Type 0
 HasNoClash held [] = ⊤
 HasNoClash held (e ∷ log) = HasNoOther held (digest_of e.op) e.op × HasNoClash (with_op held e.op) log
 
--- what every history of a hub keeps: what is held lies under its own digest, and nothing that is held is lost
+-- the operation of each entry keeps true what every operation of a site does
+abbrev pub AreKept : List Entry → Type 0
+AreKept [] = ⊤
+AreKept (e ∷ log) = IsLawful e.op × AreKept log
+
+-- what every history of a hub keeps: what is held lies under its own digest, nothing that is held is lost, and each
+-- operation keeps true what every operation of a site does
 pub record IsHistory (opening : Map) (log : List Entry) : Type 0 where
   pub opened : IsSite opening
+  pub lawful : AreLawful (ops_of opening)
   pub clashless : HasNoClash opening log
+  pub kept : AreKept log
 
 -- the entry of an operation that is taken for a pass
 abbrev pub entry_of : ℕ → Op → Entry

@@ -2,7 +2,8 @@
 ghost use Rattle.std.specs.Prelude.{◌≡◌, ◌<◌, ◌^◌, ◌++◌, ◌∷◌, ◌⊎◌, [], length, IfSome, IsTrue, false};
 ghost use mathlib.Core.List.{IsPrefix};
 ghost use Rattle.operation.specs.Spelling.{digest_of};
-ghost use Rattle.site_state.specs.Site.{IsSite, HasNoOther};
+ghost use Rattle.study_index.specs.Definition.{AreLawful};
+ghost use Rattle.site_state.specs.Site.{IsSite, HasNoOther, ops_of};
 ghost use Rattle.site_hub.specs.History.{set_of, IsHistory};
 ghost use Rattle.site_hub.specs.Rules.{head_of};
 
@@ -108,6 +109,7 @@ impl Blank {
     pub fn named<H: HubName>(self) -> (Book<H>, Front<H>)
         requires book { self.seen.book ≡ H.book }
         requires opened { IsSite H.opening }
+        requires lawful { AreLawful (ops_of H.opening) }
         ensures { result.1 ≡ [] }
     {
         let Blank { head, seen } = self;
@@ -213,6 +215,7 @@ impl<H: HubName> Front<H> {
             entry.now.op }
         ensures { IfSome result (λ longer. longer ≡ self ++ entry.now ∷ []) }
     {
+        entry.op.see_recorded();
         let Front {
             entries,
             mut seen,

@@ -15,7 +15,8 @@ use crate::pass::Pass;
 use crate::refusals::Refusals;
 use crate::told::Told;
 use octets::Octets;
-use operation::{Correction, Digested, Op, Stamp, Target, correction_of};
+use operation::{Correction, Stamp, Target, correction_of};
+use records::RecordedOp;
 use site_state::Site;
 use std::sync::Wait;
 
@@ -102,7 +103,7 @@ impl<H: HubName, T: Shows<H>, R: Wait + Drop> Keeper<H, T, R> {
         let Ok(kept) = made.copy(pass.alloc) else {
             return Err(HubFault::Memory);
         };
-        let op = Digested::of(Op::Correction(made));
+        let op = RecordedOp::of_correction(made);
         let taken = self.check(&pass.seen, &mut pass.refusals, &op)?;
         let told = self.add(pass, op, taken)?;
         Ok((kept, told))

@@ -1,13 +1,14 @@
 //! Entries of the history.
 
 use octets::ListOf;
-use operation::{Digest, Digested};
+use operation::Digest;
+use records::RecordedOp;
 
 /// An operation that was taken for a pass, with its digest.
 #[derive(Debug)]
 pub struct Entry {
     pub pass: u64,
-    pub op: Digested,
+    pub op: RecordedOp,
 }
 
 // It is written out, so that a caller does not prove again how each part is dropped.

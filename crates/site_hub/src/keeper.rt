@@ -15,7 +15,8 @@ use crate::refusals::Refusals;
 use crate::snapshot::{Item, Snapshot};
 use crate::told::Told;
 use octets::ListOf;
-use operation::{Digested, Taken};
+use operation::Taken;
+use records::RecordedOp;
 use site_state::Site;
 use std::marker::Model;
 use std::sync::Wait;
@@ -93,7 +94,7 @@ impl<H: HubName, T: Shows<H>, R: Wait + Drop> Keeper<H, T, R> {
         &self,
         seen: &Front<H>,
         refusals: &mut Refusals,
-        op: &Digested,
+        op: &RecordedOp,
     ) -> Result<Taken, HubFault>
         requires { self.now.published ≡ self.now.all }
         ensures held { MatchResult result (WasHeld (set_of H.opening self.now.all) op.now)
@@ -108,7 +109,7 @@ impl<H: HubName, T: Shows<H>, R: Wait + Drop> Keeper<H, T, R> {
         match self.pair.site().op(op.digest()) {
             None => Ok(Taken::New),
             Some(held) => {
-                if held.equals(op.op()) {
+                if held.equals(op) {
                     return Ok(Taken::Known);
                 }
                 Err(HubFault::Collision)
@@ -120,7 +121,7 @@ impl<H: HubName, T: Shows<H>, R: Wait + Drop> Keeper<H, T, R> {
     pub(crate) fn add(
         &mut self,
         pass: &mut Pass<H>,
-        op: Digested,
+        op: RecordedOp,
         taken: Taken,
     ) -> Result<Told<H>, HubFault>
         requires shown { self.old.published ≡ self.old.all }
@@ -166,7 +167,7 @@ impl<H: HubName, T: Shows<H>, R: Wait + Drop> Keeper<H, T, R> {
     /// It goes to the back of the history, also where it was held before. A refusal leaves the
     /// history and the pass as they were, save `Pending`; what was pending before may have been
     /// published.
-    pub fn take(&mut self, pass: &mut Pass<H>, op: Digested) -> Result<Told<H>, HubFault>
+    pub fn take(&mut self, pass: &mut Pass<H>, op: RecordedOp) -> Result<Told<H>, HubFault>
         ensures takes { IfOk result (λ told. TakesAt H.opening (at_desk self.old pass.old) op told
             (at_desk self.new pass.new)) }
         ensures refuses { IfErr result (RefusesAt H.opening (at_desk self.old pass.old) op

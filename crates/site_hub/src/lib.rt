@@ -36,6 +36,6 @@ pub use numbers::limits_are_these;
 pub use opened::{Opened, open};
 pub use pair::Shows;
 pub use pass::Pass;
-pub use shared::{correct, store, store_digested};
+pub use shared::{correct, store};
 pub use snapshot::{Item, Snapshot};
 pub use told::Told;

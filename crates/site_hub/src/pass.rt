@@ -4,24 +4,24 @@ ghost use mathlib.Core.List.{IsPrefix};
 ghost use Rattle.site_state.specs.Site.{ops_of, held_at, digests_of};
 ghost use Rattle.archive_model.specs.Rows.{rows_of};
 ghost use Rattle.archive_model.specs.Listed.{list_of};
-ghost use Rattle.archive_model.specs.Sending.{Gets};
 ghost use Rattle.site_hub.specs.Fault.{IsLookFault};
 ghost use Rattle.site_hub.specs.History.{set_of, missing_from, IsHistory};
 ghost use Rattle.site_hub.specs.Hub.{HasKept, HasLooked};
+ghost use Rattle.operation.specs.Spelling.{digest_of};
+ghost use Rattle.records.specs.StandIn.{op_in};
 ghost use Rattle.site_hub.specs.Refused.{Tells};
 
 use crate::book::{Front, HubName};
 use crate::fault::HubFault;
-use crate::questions::{AllDigests, Finding, Getting, Listing, Missing, OpOf};
+use crate::questions::{AllDigests, Finding, Listing, Missing, OpOf};
 use crate::refusals::Refusals;
 use crate::snapshot::Snapshot;
 use crate::told::Told;
 use archive_model::View;
-use archive_query::{
-    Accepts, Answers, Listed, PreparedQuery, Query, Selection, Sending, rows_found,
-};
+use archive_query::{Answers, Listed, PreparedQuery, Query, Selection, rows_found};
 use left_right::ReadHandle;
-use operation::{Digest, Op};
+use operation::{Digest, Digested};
+use records::RecordedOp;
 use std::alloc::Global;
 use std::marker::Model;
 
@@ -86,6 +86,18 @@ impl<H: HubName> Pass<H> {
         self.seen.see_history();
     }
 
+    /// The record of an operation, which a keeper can take for the pass.
+    pub fn record(&self, op: &Digested) -> Result<RecordedOp, HubFault>
+        ensures stands { IfOk result (λ recorded. recorded ≡ op_in op.now) }
+        ensures digest { digest_of (op_in op.now) ≡ digest_of op.now }
+        ensures memory { IfErr result (λ fault. fault ≡ HubFault.Memory) }
+    {
+        match RecordedOp::of(self.alloc, op) {
+            Ok(recorded) => Ok(recorded),
+            Err(_refused) => Err(HubFault::Memory),
+        }
+    }
+
     /// From now on a look holds all that was told.
     pub fn learn(&mut self, told: Told<H>)
         ensures longer { (self.new.seen ≡ self.old.seen) ⊎ (self.new.seen ≡ told.reached) }
@@ -114,27 +126,6 @@ impl<H: HubName> Pass<H> {
             Ok(rows) => Ok(rows),
             Err(_refused) => Err(HubFault::Memory),
         }
-    }
-
-    /// What a C-GET sends (PS3.4, section C.4.3).
-    pub fn get(
-        &mut self,
-        view: View,
-        selection: &Selection,
-        accepts: &Accepts,
-    ) -> Result<Vec<Sending>, HubFault>
-        ensures sendings { IfOk result (λ found. Gets view selection.now accepts.now
-            (ops_of (set_of H.opening self.new.seen)) found.items) }
-        ensures looked { HasLooked self.old self.new }
-        ensures fault { IfErr result IsLookFault }
-        ensures busy { result ≡ Err HubFault.Busy → HasKept self.old self.new }
-        ensures counted { Tells result self.old.refused self.new.refused }
-    {
-        self.look(&Getting {
-            view,
-            selection,
-            accepts,
-        })
     }
 
     /// What a C-GET lists, before any data set is loaded (PS3.4, section C.4.3): it holds no byte of
@@ -175,7 +166,7 @@ impl<H: HubName> Pass<H> {
     }
 
     /// A second owner of the operation of a digest.
-    pub fn op(&mut self, digest: &Digest) -> Result<Option<Op>, HubFault>
+    pub fn op(&mut self, digest: &Digest) -> Result<Option<RecordedOp>, HubFault>
         ensures found { IfOk result (λ op. op ≡
             held_at (set_of H.opening self.new.seen) digest.now) }
         ensures looked { HasLooked self.old self.new }

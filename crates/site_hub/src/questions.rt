@@ -5,13 +5,13 @@ ghost use Rattle.site_state.specs.Site.{ops_of, held_at, digests_of};
 ghost use Rattle.archive_model.specs.Rows.{rows_of};
 ghost use Rattle.archive_query.specs.Found.{rows_found};
 ghost use Rattle.archive_model.specs.Listed.{list_of};
-ghost use Rattle.archive_model.specs.Sending.{Gets};
 ghost use Rattle.site_hub.specs.History.{missing_from};
 
 use crate::looking::Question;
 use archive_model::View;
-use archive_query::{Accepts, Found, Listed, PreparedQuery, Selection, Sending, get, list, take};
-use operation::{Digest, Op};
+use archive_query::{Found, Listed, PreparedQuery, Selection, list, take};
+use operation::Digest;
+use records::RecordedOp;
 use site_state::Site;
 use std::alloc::{AllocError, Global};
 
@@ -28,23 +28,6 @@ impl<'a> Question<Found> for Finding<'a> {
 
     fn answer(&self, alloc: Global, site: &Site) -> Result<Found, AllocError> {
         take(alloc, site, self.view, self.query)
-    }
-}
-
-/// Asks for what a C-GET sends.
-#[derive(Clone, Copy)]
-pub(crate) struct Getting<'a> {
-    pub view: View,
-    pub selection: &'a Selection,
-    pub accepts: &'a Accepts,
-}
-
-impl<'a> Question<Vec<Sending>> for Getting<'a> {
-    ghost answers = { λ q set found.
-        Gets q.view q.selection.now q.accepts.now (ops_of set) found.items };
-
-    fn answer(&self, alloc: Global, site: &Site) -> Result<Vec<Sending>, AllocError> {
-        get(alloc, site, self.view, self.selection, self.accepts)
     }
 }
 
@@ -91,22 +74,22 @@ impl Question<Vec<Digest>> for AllDigests {
     }
 }
 
-/// Asks for a second owner of the operation of a digest.
+/// Asks for a second owner of the record of the operation of a digest.
 #[derive(Clone, Copy)]
 pub(crate) struct OpOf<'a> {
     pub digest: &'a Digest,
 }
 
-impl<'a> Question<Option<Op>> for OpOf<'a> {
+impl<'a> Question<Option<RecordedOp>> for OpOf<'a> {
     ghost answers = { λ q set op. op ≡ held_at set q.digest.now };
 
-    fn answer(&self, alloc: Global, site: &Site) -> Result<Option<Op>, AllocError> {
+    fn answer(&self, alloc: Global, site: &Site) -> Result<Option<RecordedOp>, AllocError> {
         copy_of(alloc, site.op(self.digest))
     }
 }
 
 /// A copy of an operation, if there is one.
-fn copy_of(alloc: Global, op: Option<&Op>) -> Result<Option<Op>, AllocError>
+fn copy_of(alloc: Global, op: Option<&RecordedOp>) -> Result<Option<RecordedOp>, AllocError>
     ensures { IfOk result (λ copy. copy ≡ option_copied op.entry) }
 {
     match op {

@@ -11,29 +11,16 @@ use crate::pair::Shows;
 use crate::pass::Pass;
 use crate::told::Told;
 use octets::Octets;
-use operation::{Correction, Digested, Op, Target};
+use operation::{Correction, Target};
+use records::RecordedOp;
 use std::sync::{Mutex, Wait};
 
-/// Takes an operation for a pass, in any thread. It is hashed before the lock is taken.
+/// Takes an operation for a pass, in any thread. Nothing is hashed.
 pub fn store<H: HubName, T: Shows<H>, R: Wait + Drop>(
     rt: &impl Wait,
     keeper: &Mutex<Keeper<H, T, R>>,
     pass: &mut Pass<H>,
-    op: Op,
-) -> Result<Told<H>, HubFault>
-    ensures takes { IfOk result (λ told. Takes H.opening pass.old op told pass.new) }
-    ensures refuses { IfErr result (Refuses H.opening pass.old op pass.new) }
-    ensures goes_on { GoesOn pass.old pass.new result }
-{
-    store_digested(rt, keeper, pass, Digested::of(op))
-}
-
-/// Takes an operation whose digest is known for a pass, in any thread. Nothing is hashed.
-pub fn store_digested<H: HubName, T: Shows<H>, R: Wait + Drop>(
-    rt: &impl Wait,
-    keeper: &Mutex<Keeper<H, T, R>>,
-    pass: &mut Pass<H>,
-    op: Digested,
+    op: RecordedOp,
 ) -> Result<Told<H>, HubFault>
     ensures takes { IfOk result (λ told. Takes H.opening pass.old op told pass.new) }
     ensures refuses { IfErr result (Refuses H.opening pass.old op pass.new) }

@@ -6,7 +6,7 @@ ghost use Rattle.site_hub.specs.History.{set_of, EndsWith};
 use crate::book::{Front, HubName};
 use crate::entry::Entry;
 use left_right::Absorb;
-use operation::Digested;
+use records::RecordedOp;
 use site_state::Site;
 use std::alloc::{AllocError, Global};
 use std::marker::Model;
@@ -111,14 +111,14 @@ impl<H: HubName> Item<H> {
     }
 }
 
-/// A site takes a copy of an operation, new or known. Nothing is hashed.
+/// A site takes a copy of an operation, new or known.
 #[tactic(auto, using(crate::proofs::Histories::taken_is_added))]
-fn take_copy(alloc: Global, site: &mut Site, op: &Digested) -> Result<(), AllocError>
+fn take_copy(alloc: Global, site: &mut Site, op: &RecordedOp) -> Result<(), AllocError>
     ensures ok { OnOk result (site.new ≡ with_op site.old op.now) }
     ensures kept { OnErr result (site.new ≡ site.old) }
 {
     let op = op.copy(alloc)?;
-    match site.take_digested(op) {
+    match site.take(op) {
         Ok(_taken) => Ok(()),
         Err(_refused) => Err(AllocError),
     }
@@ -131,8 +131,8 @@ impl<H: HubName> Absorb<Item<H>> for Snapshot<H> {
 
     ghost applied = { λ log item. item };
 
-    /// An item that does not come next is refused. The operation comes with its digest, so nothing
-    /// is hashed, and the bytes of a data set are shared.
+    /// An item that does not come next is refused. Nothing is hashed, and what is kept of a content
+    /// is shared.
     fn absorb_first(&mut self, item: &Item<H>, _other: &Snapshot<H>) -> Result<(), AllocError> {
         if !self.front.begins(&item.front) || item.front.len() - self.front.len() != 1 {
             return Err(AllocError);

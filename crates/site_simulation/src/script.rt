@@ -39,7 +39,7 @@ use site_script::{
     Command, CorrectLine, FindLine, GetLine, ImageLine, NoteLine, command_of, image_content,
     note_content, query_in, script_accepts, selection_in,
 };
-use site_state::Site;
+use site_state::WholeSite;
 use site_world::{MOST_SITES, Seen, Step, World, WorldFault};
 use std::alloc::{AllocError, Global};
 use std::marker::Model;
@@ -168,13 +168,13 @@ fn get_of(
 }
 
 /// Whether two sites hold the same.
-fn is_same(a: &Site, b: &Site) -> bool
+fn is_same(a: &WholeSite, b: &WholeSite) -> bool
     ensures { result ≡ same_site a.now b.now }
 {
     a.same(b)
 }
 
-fn same_of(alloc: Global, a: Option<&Site>, b: Option<&Site>) -> Result<Move, AllocError>
+fn same_of(alloc: Global, a: Option<&WholeSite>, b: Option<&WholeSite>) -> Result<Move, AllocError>
     ensures { IfOk result (λ said.
         said ≡ same_move (option_copied a.entry) (option_copied b.entry)) }
 {
@@ -188,7 +188,7 @@ fn same_of(alloc: Global, a: Option<&Site>, b: Option<&Site>) -> Result<Move, Al
     }
 }
 
-fn flagged_of(alloc: Global, site: Option<&Site>) -> Result<Move, AllocError>
+fn flagged_of(alloc: Global, site: Option<&WholeSite>) -> Result<Move, AllocError>
     ensures { IfOk result (λ said. said ≡ flagged_move (option_copied site.entry)) }
 {
     match site {

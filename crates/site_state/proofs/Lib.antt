@@ -9,3 +9,4 @@ pub mod Same
 pub mod Takings
 pub mod Tops
 pub mod Unions
+pub mod Wholes

@@ -4,3 +4,4 @@ pub mod Union
 pub mod Journal
 pub mod Laws
 pub mod Hidden
+pub mod Whole

@@ -5,6 +5,8 @@ ghost use Rattle.site_state.specs.Laws.{TakingAdds, IsCommutative, IsAssociative
 ghost use Rattle.site_state.specs.Laws.{EqualMaps, EqualContents, EqualPicks, EqualCovers, EqualShown, EqualFlagged};
 ghost use Rattle.site_state.specs.Laws.{EqualAttributes, EqualCounts, EqualTops, NoteBeforeIsNoteAfter};
 ghost use Rattle.site_state.specs.Laws.{NamedIsNotShown, TakenIsSite, OperationsAscend, PickHasLeastDigest};
+ghost use Rattle.site_state.specs.Whole.{RecordsAreKept, DigestsAreKept, RowsAreKept, FlaggedAreKept, CountsAreKept};
+ghost use Rattle.site_state.specs.Whole.{TopIsKept};
 
 /// An operation that is taken, new or known, is added to the site.
 pub fn taking_adds_the_operation()
@@ -46,4 +48,16 @@ pub fn operations_ascend_by_digest()
     ensures taken { TakenIsSite }
     ensures ascend { OperationsAscend }
     ensures pick { PickHasLeastDigest }
+{}
+
+/// What stands for the operations of a site, each whole and under its digest, has their records. So
+/// it has their digests, their rows, their flagged SOP Instance UIDs, their counts and their greatest
+/// counter.
+pub fn records_say_the_same()
+    ensures records { RecordsAreKept }
+    ensures digests { DigestsAreKept }
+    ensures rows { RowsAreKept }
+    ensures flagged { FlaggedAreKept }
+    ensures counts { CountsAreKept }
+    ensures top_counter { TopIsKept }
 {}

@@ -21,10 +21,11 @@ ghost use Rattle.site_state.specs.Hidden.{hides_under, is_hidden as is_hidden_in
 use crate::counts::Counts;
 use crate::fault::SiteFault;
 use crate::tree::{do_clash, merge_in, take_in};
-use archive_model::{View, content, hides, is_hiding};
+use archive_model::{View, hides, is_hiding};
 use join_laws::Join;
 use octets::Octets;
-use operation::{Content, Digest, Digested, Op, Taken};
+use operation::{Digest, Taken};
+use records::{Parts, RecordedContent, RecordedOp};
 use rejection_note::NoteTitle;
 use std::alloc::{AllocError, Global};
 use std::collections::{BTreeMap, BTreeSet};
@@ -36,7 +37,7 @@ mod lending;
 /// The operations of a site, each under its digest, with their index and the greatest counter of
 /// its corrections.
 pub struct Site {
-    operations: BTreeMap<Digest, Op>,
+    operations: BTreeMap<Digest, RecordedOp>,
     index: Index,
     top: u64,
     alloc: Global,
@@ -73,27 +74,20 @@ impl Drop for Site {
 }
 
 /// The counter of a correction, and 0 of a content.
-fn counter_of(op: &Op) -> u64
+fn counter_of(op: &RecordedOp) -> u64
     ensures { result ≡ counter_of_op op.now }
 {
-    match op {
-        Op::Content(_) => 0,
-        Op::Correction(correction) => correction.stamp().counter,
+    match op.parts() {
+        Parts::Content(_) => 0,
+        Parts::Correction(recorded) => recorded.correction().stamp().counter,
     }
 }
 
 /// An operation keeps true what it may hold.
-fn see_lawful(op: &Op)
+fn see_lawful(op: &RecordedOp)
     ensures { IsLawful op.now }
 {
-    match op {
-        Op::Content(content) => {
-            let _ = content.body();
-        }
-        Op::Correction(correction) => {
-            let _ = correction.stamp();
-        }
-    }
+    op.see_recorded();
 }
 
 // The bytes of some UIDs, ascending.
@@ -129,15 +123,15 @@ impl Site {
     }
 
     /// The operation of a digest.
-    pub fn op(&self, digest: &Digest) -> Option<&Op>
+    pub fn op(&self, digest: &Digest) -> Option<&RecordedOp>
         ensures found { option_copied result ≡ held_at self.now digest.now }
         ensures own { IfSome result (λ op. digest.now ≡ digest_of op.now) }
     {
         self.operations.get(digest)
     }
 
-    /// Takes an operation, once.
-    pub fn take(&mut self, op: Op) -> Result<Taken, SiteFault>
+    /// Takes an operation, once. Nothing is hashed.
+    pub fn take(&mut self, op: RecordedOp) -> Result<Taken, SiteFault>
         // Each answer, exactly where it is given.
         ensures new { result ≡ Ok Taken.New → held_at self.old (digest_of op) ≡ None }
         ensures known { (result ≡ Ok Taken.Known) ↔ (held_at self.old (digest_of op) ≡ Some op) }
@@ -150,29 +144,12 @@ impl Site {
         ensures kept { OnErr result (self.new ≡ self.old) }
         ensures takes { Takes self.old op result self.new }
     {
-        self.take_digested(Digested::of(op))
-    }
-
-    /// Takes an operation whose digest is known, once. Nothing is hashed.
-    pub fn take_digested(&mut self, op: Digested) -> Result<Taken, SiteFault>
-        // Each answer, exactly where it is given.
-        ensures new { result ≡ Ok Taken.New → held_at self.old (digest_of op) ≡ None }
-        ensures known { (result ≡ Ok Taken.Known) ↔ (held_at self.old (digest_of op) ≡ Some op) }
-        ensures collision { (result ≡ Err SiteFault.Collision) ↔ IsClash self.old op }
-        ensures memory { result ≡ Err SiteFault.Memory → held_at self.old (digest_of op) ≡ None }
-
-        // What the site holds then.
-        ensures added { result ≡ Ok Taken.New → self.new ≡ with_op self.old op }
-        ensures same { result ≡ Ok Taken.Known → self.new ≡ self.old }
-        ensures kept { OnErr result (self.new ≡ self.old) }
-        ensures takes { Takes self.old op result self.new }
-    {
-        let (digest, op) = op.into_parts();
+        let digest = *op.digest();
         self.take_under(digest, op)
     }
 
     /// Takes an operation under its digest.
-    fn take_under(&mut self, digest: Digest, op: Op) -> Result<Taken, SiteFault>
+    fn take_under(&mut self, digest: Digest, op: RecordedOp) -> Result<Taken, SiteFault>
         requires { digest ≡ digest_of op }
         ensures { Takes self.old op result self.new }
     {
@@ -230,17 +207,17 @@ impl Site {
     }
 
     // The content of a digest.
-    fn content_under(&self, digest: &Digest) -> Option<&Content>
+    fn content_under(&self, digest: &Digest) -> Option<&RecordedContent>
         ensures { option_copied result ≡ content_held (held_at self.now digest.now) }
     {
         match self.op(digest) {
             None => None,
-            Some(op) => content(op),
+            Some(op) => op.content(),
         }
     }
 
     /// The pick of a SOP Instance UID, by two look-ups.
-    pub fn pick(&self, uid: &ShortText) -> Option<&Content>
+    pub fn pick(&self, uid: &ShortText) -> Option<&RecordedContent>
         ensures { option_copied result ≡ pick_in uid.now (ops_of self.now) }
     {
         self.see_lawful();
@@ -279,7 +256,7 @@ impl Site {
     }
 
     /// What a view shows of a SOP Instance UID, by look-ups.
-    pub fn shown(&self, view: View, uid: &ShortText) -> Option<&Content>
+    pub fn shown(&self, view: View, uid: &ShortText) -> Option<&RecordedContent>
         ensures { option_copied result ≡ shown_at view (ops_of self.now) uid.now }
     {
         if self.is_covered(view, uid) {
@@ -297,7 +274,7 @@ impl Site {
     }
 
     /// An attribute of a content, corrected, by one look-up for each kind of target.
-    pub fn attribute<'a>(&'a self, content: &'a Content, tag: u32) -> &'a [u8]
+    pub fn attribute<'a>(&'a self, content: &'a RecordedContent, tag: u32) -> &'a [u8]
         ensures { result.now ≡ attribute_in (ops_of self.now) content.now tag }
     {
         self.see_lawful();
@@ -326,7 +303,7 @@ impl Site {
     }
 
     /// Every operation, ascending by digest.
-    pub fn operations(&self, alloc: Global) -> Result<Vec<&Op>, AllocError>
+    pub fn operations(&self, alloc: Global) -> Result<Vec<&RecordedOp>, AllocError>
         ensures { IfOk result (λ ops. map (λ o. o.now) ops.items ≡ ops_of self.now) }
     {
         let mut ops = Vec::with_capacity(alloc, self.operations.len())?;

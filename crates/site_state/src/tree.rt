@@ -10,13 +10,14 @@ ghost use Rattle.site_state.specs.Union.{union, DoClash, Agree};
 ghost use Rattle.site_state.specs.Journal.{without};
 
 use join_laws::Join;
-use operation::{Digest, Op};
+use operation::Digest;
+use records::RecordedOp;
 use std::alloc::{AllocError, Global};
 use std::collections::BTreeMap;
 use study_index::Index;
 
 /// Whether another operation is held under a digest.
-fn has_other(tree: &BTreeMap<Digest, Op>, digest: &Digest, op: &Op) -> bool
+fn has_other(tree: &BTreeMap<Digest, RecordedOp>, digest: &Digest, op: &RecordedOp) -> bool
     ensures { let m = of_entries tree.now.entries in
         MatchBool result (HasOther m digest.now op.now) (HasNoOther m digest.now op.now) }
 {
@@ -27,7 +28,7 @@ fn has_other(tree: &BTreeMap<Digest, Op>, digest: &Digest, op: &Op) -> bool
 }
 
 /// Whether both hold a digest, with different operations.
-pub fn do_clash(these: &BTreeMap<Digest, Op>, those: &BTreeMap<Digest, Op>) -> bool
+pub fn do_clash(these: &BTreeMap<Digest, RecordedOp>, those: &BTreeMap<Digest, RecordedOp>) -> bool
     ensures { let m = of_entries these.now.entries in let n = of_entries those.now.entries in
         MatchBool result (DoClash m n) (Agree m n) }
 {
@@ -40,7 +41,7 @@ pub fn do_clash(these: &BTreeMap<Digest, Op>, those: &BTreeMap<Digest, Op>) -> b
 }
 
 // Takes the operation of a digest out.
-fn take_one_out(tree: &mut BTreeMap<Digest, Op>, digest: &Digest)
+fn take_one_out(tree: &mut BTreeMap<Digest, RecordedOp>, digest: &Digest)
     ensures { of_entries tree.new.entries
         ≡ finmap.remove (of_entries tree.old.entries) digest.now }
 {
@@ -48,7 +49,7 @@ fn take_one_out(tree: &mut BTreeMap<Digest, Op>, digest: &Digest)
 }
 
 // Takes the operations of some digests out, the last one first. This takes no memory.
-fn take_out(tree: &mut BTreeMap<Digest, Op>, added: Vec<&Digest>)
+fn take_out(tree: &mut BTreeMap<Digest, RecordedOp>, added: Vec<&Digest>)
     ensures { of_entries tree.new.entries
         ≡ without added.entry.items (of_entries tree.old.entries) }
 {
@@ -62,10 +63,10 @@ fn take_out(tree: &mut BTreeMap<Digest, Op>, added: Vec<&Digest>)
 // the notes still lead back.
 fn add_copy<'a>(
     alloc: Global,
-    tree: &mut BTreeMap<Digest, Op>,
+    tree: &mut BTreeMap<Digest, RecordedOp>,
     added: &mut Vec<&'a Digest>,
     digest: &'a Digest,
-    op: &Op,
+    op: &RecordedOp,
 ) -> Result<(), AllocError>
     ensures ok { OnOk result (of_entries tree.new.entries
         ≡ union (of_entries tree.old.entries) (of_entries ((digest.now, op.now) ∷ []))) }
@@ -85,8 +86,8 @@ fn add_copy<'a>(
 /// of data sets are shared. A refusal leaves the tree as it was.
 fn add_copies<'a>(
     alloc: Global,
-    tree: &mut BTreeMap<Digest, Op>,
-    source: &'a BTreeMap<Digest, Op>,
+    tree: &mut BTreeMap<Digest, RecordedOp>,
+    source: &'a BTreeMap<Digest, RecordedOp>,
 ) -> Result<Vec<&'a Digest>, AllocError>
     ensures ok { OnOk result (of_entries tree.new.entries
         ≡ union (of_entries tree.old.entries) (of_entries source.now.entries)) }
@@ -107,9 +108,9 @@ fn add_copies<'a>(
 /// Adds what another tree holds, and its index. A refusal leaves both as they were.
 pub fn merge_in(
     alloc: Global,
-    tree: &mut BTreeMap<Digest, Op>,
+    tree: &mut BTreeMap<Digest, RecordedOp>,
     index: &mut Index,
-    source: &BTreeMap<Digest, Op>,
+    source: &BTreeMap<Digest, RecordedOp>,
     other: &Index,
 ) -> Result<(), AllocError>
     ensures merged { OnOk result (of_entries tree.new.entries
@@ -128,7 +129,7 @@ pub fn merge_in(
 
 /// Adds what is held under a digest to an index. A refusal leaves the index as it was.
 fn add_held(
-    tree: &BTreeMap<Digest, Op>,
+    tree: &BTreeMap<Digest, RecordedOp>,
     index: &mut Index,
     digest: Digest,
 ) -> Result<(), AllocError>
@@ -145,10 +146,10 @@ fn add_held(
 /// Puts an operation that is not there under its digest, and adds it to the index. A refusal leaves
 /// both as they were.
 pub fn take_in(
-    tree: &mut BTreeMap<Digest, Op>,
+    tree: &mut BTreeMap<Digest, RecordedOp>,
     index: &mut Index,
     digest: Digest,
-    op: Op,
+    op: RecordedOp,
 ) -> Result<(), AllocError>
     requires own { digest ≡ digest_of op }
     requires absent { entry_at digest tree.now.entries ≡ None }

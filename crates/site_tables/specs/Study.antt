@@ -10,7 +10,6 @@ use Rattle.archive_model.specs.Contents.{series_of}
 use Rattle.archive_model.specs.Shown.{shown, shown_at}
 use Rattle.archive_model.specs.declared.view.View.TheVariants.{Archive, Audit}
 use Rattle.archive_model.specs.declared.key.Level.TheVariants.{Study}
-use Rattle.archive_model.specs.declared.prepared.Prepared.{Prepared}
 use Rattle.archive_model.specs.declared.selection.Selection.{Selection}
 use Rattle.archive_model.specs.Selection.{selected}
 use Rattle.site_tables.specs.declared.corrections.Stamped.{Stamped}
@@ -36,10 +35,6 @@ with_shown ops c = record { content = c; shown = is_some (shown_at Archive ops c
 -- the instances of a study, by ascending SOP Instance UID
 abbrev pub instances_of : List ℕ → List Op → List Instance
 instances_of uid ops = map (with_shown ops) (picks_of uid ops)
-
--- the instance of what a C-GET prepares
-abbrev pub prepared_instance : List Op → Prepared → Instance
-prepared_instance ops p = with_shown ops p.content
 
 -- what a look took of a study: its instances, all notes, and the corrections of a set
 pub record IsTakenStudy (uid : List ℕ) (ops : List Op) (taken : TakenStudy) : Type 0 where

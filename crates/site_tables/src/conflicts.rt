@@ -3,8 +3,6 @@
 ghost use Rattle.std.specs.Prelude.{◌≡◌, ◌++◌, true, IfOk, OnOk, map};
 ghost use Rattle.std.specs.List.{filter_map};
 ghost use Rattle.std.specs.Option.{option_map};
-ghost use Rattle.operation.specs.declared.op.Op.TheVariants.{Content as a_content};
-ghost use Rattle.operation.specs.Spelling.{digest_of};
 ghost use Rattle.archive_model.specs.Contents.{pick as pick_in};
 ghost use Rattle.site_state.specs.Site.{ops_of};
 ghost use Rattle.site_tables.specs.Conflicts.{digest_if, is_this as is_this_in, with_pick as with_pick_in};
@@ -17,7 +15,8 @@ use crate::table::Row;
 use crate::under::{Under, put_in_order, run_under, those_under};
 use archive_model::study;
 use octets::{ListOf, Octets, digits};
-use operation::{Content, Digest, Op, digest};
+use operation::Digest;
+use records::{Parts, RecordedContent, RecordedOp};
 use site_state::Site;
 use std::alloc::{AllocError, Global};
 use study_index::ShortText;
@@ -25,12 +24,12 @@ use study_index::ShortText;
 /// A content of a flagged SOP Instance UID, and the digest of the pick of the UID.
 #[derive(Drop)]
 pub struct Flagged {
-    content: Content,
+    content: RecordedContent,
     pick: Option<Digest>,
 }
 
 /// The digest of the pick of a content's SOP Instance UID.
-fn pick_of(site: &Site, content: &Content) -> Option<Digest>
+fn pick_of(site: &Site, content: &RecordedContent) -> Option<Digest>
     ensures { result ≡ digest_if (pick_in content.now.instance (ops_of site.now)) }
 {
     match site.index().pick(&ShortText::whole(content.instance())) {
@@ -40,33 +39,32 @@ fn pick_of(site: &Site, content: &Content) -> Option<Digest>
 }
 
 /// A second owner of a content, with the digest of the pick of its SOP Instance UID.
-fn with_pick(alloc: Global, site: &Site, content: &Content) -> Result<Flagged, AllocError>
+fn with_pick(site: &Site, content: &RecordedContent) -> Result<Flagged, AllocError>
     ensures { IfOk result (λ flagged. flagged ≡ with_pick_in (ops_of site.now) content.now) }
 {
     Ok(Flagged {
-        content: content.copy(alloc)?,
+        content: content.copy()?,
         pick: pick_of(site, content),
     })
 }
 
 /// Puts an operation that is a content of a SOP Instance UID.
 fn put_conflict(
-    alloc: Global,
     site: &Site,
     uid: &[u8],
-    op: &Op,
+    op: &RecordedOp,
     found: &mut Vec<Flagged>,
 ) -> Result<(), AllocError>
     ensures { OnOk result (found.new.items ≡
         found.old.items ++ conflicts_in (ops_of site.now) uid.now op.now) }
 {
-    match op {
-        Op::Correction(_) => Ok(()),
-        Op::Content(content) => {
+    match op.parts() {
+        Parts::Correction(_) => Ok(()),
+        Parts::Content(content) => {
             if content.instance() != uid {
                 return Ok(());
             }
-            found.push(with_pick(alloc, site, content)?)?;
+            found.push(with_pick(site, content)?)?;
             Ok(())
         }
     }
@@ -74,17 +72,16 @@ fn put_conflict(
 
 /// Puts the contents of a SOP Instance UID among some operations.
 fn put_conflicts(
-    alloc: Global,
     site: &Site,
     uid: &[u8],
-    ops: &[&Op],
+    ops: &[&RecordedOp],
     found: &mut Vec<Flagged>,
 ) -> Result<(), AllocError>
     ensures { OnOk result (found.new.items ≡ found.old.items
         ++ conflicts_among (ops_of site.now) uid.now (map (λ o. o.now) ops.now)) }
 {
     for op in ops {
-        put_conflict(alloc, site, uid, op, found)?;
+        put_conflict(site, uid, op, found)?;
     }
     Ok(())
 }
@@ -98,13 +95,16 @@ fn is_marked(marks: &[Under<'_, Octets>], uid: &[u8]) -> bool
 }
 
 /// An operation under its SOP Instance UID, where it is a content of one of these.
-fn under_instance<'a>(marks: &[Under<'_, Octets>], op: &'a Op) -> Option<Under<'a, Op>>
+fn under_instance<'a>(
+    marks: &[Under<'_, Octets>],
+    op: &'a RecordedOp,
+) -> Option<Under<'a, RecordedOp>>
     requires { AreInOrder marks.now }
     ensures { option_map pair_of result ≡ instance_pair (pairs marks.now) op.now }
 {
-    match op {
-        Op::Correction(_) => None,
-        Op::Content(content) => {
+    match op.parts() {
+        Parts::Correction(_) => None,
+        Parts::Content(content) => {
             if !is_marked(marks, content.instance()) {
                 return None;
             }
@@ -120,8 +120,8 @@ fn under_instance<'a>(marks: &[Under<'_, Octets>], op: &'a Op) -> Option<Under<'
 fn under_instances<'a>(
     alloc: Global,
     marks: &[Under<'_, Octets>],
-    ops: &[&'a Op],
-) -> Result<Vec<Under<'a, Op>>, AllocError>
+    ops: &[&'a RecordedOp],
+) -> Result<Vec<Under<'a, RecordedOp>>, AllocError>
     requires { AreInOrder marks.now }
     ensures { IfOk result (λ found. pairs found.items
         ≡ filter_map (instance_pair (pairs marks.now)) (map (λ o. o.now) ops.now)) }
@@ -139,8 +139,8 @@ fn under_instances<'a>(
 fn by_instance<'a>(
     alloc: Global,
     marks: &[Under<'_, Octets>],
-    ops: &[&'a Op],
-) -> Result<Vec<Under<'a, Op>>, AllocError>
+    ops: &[&'a RecordedOp],
+) -> Result<Vec<Under<'a, RecordedOp>>, AllocError>
     requires { AreInOrder marks.now }
     ensures { IfOk result (λ found. Holds
         (filter_map (instance_pair (pairs marks.now)) (map (λ o. o.now) ops.now)) found.items) }
@@ -179,7 +179,7 @@ fn put_conflicts_of(
     site: &Site,
     uid: &[u8],
     marks: &[Under<'_, Octets>],
-    entries: &[Under<'_, Op>],
+    entries: &[Under<'_, RecordedOp>],
     found: &mut Vec<Flagged>,
 ) -> Result<(), AllocError>
     requires marked { has_under uid.now (pairs marks.now) ≡ true }
@@ -189,7 +189,7 @@ fn put_conflicts_of(
         found.old.items ++ conflicts_of (ops_of site.now) uid.now) }
 {
     let ops = those_under(alloc, entries, uid)?;
-    put_conflicts(alloc, site, uid, &ops, found)
+    put_conflicts(site, uid, &ops, found)
 }
 
 /// Second owners of the contents of each flagged SOP Instance UID, ascending, and of one UID
@@ -218,25 +218,18 @@ fn is_this(other: &Option<Digest>, digest: &Digest) -> bool
     }
 }
 
-/// The digest of a content.
-fn content_digest(alloc: Global, content: &Content) -> Result<Digest, AllocError>
-    ensures { IfOk result (λ digest. digest ≡ digest_of (a_content content.now)) }
-{
-    Ok(digest(&Op::Content(content.copy(alloc)?)))
-}
-
 /// The row of a content of a flagged SOP Instance UID.
 fn row(alloc: Global, flagged: &Flagged) -> Result<Row, AllocError>
     ensures { IfOk result (λ row. row ≡ row_of flagged.now) }
 {
     let content = &flagged.content;
-    let digest = content_digest(alloc, content)?;
+    let digest = content.digest();
     let mut cells = ListOf::new(alloc);
     cells.push(Octets::from_slice(alloc, content.instance())?)?;
-    cells.push(hex_digits(alloc, &digest)?)?;
-    cells.push(digits(alloc, content.body().len() as u64)?)?;
+    cells.push(hex_digits(alloc, digest)?)?;
+    cells.push(digits(alloc, content.size() as u64)?)?;
     cells.push(Octets::from_slice(alloc, study(content))?)?;
-    cells.push(word(alloc, is_this(&flagged.pick, &digest))?)?;
+    cells.push(word(alloc, is_this(&flagged.pick, digest))?)?;
     Ok(cells)
 }
 

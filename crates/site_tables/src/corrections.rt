@@ -5,8 +5,7 @@ ghost use Rattle.std.specs.List.Sorted.{IsPermutation};
 ghost use Rattle.std.specs.Int.{w32, to_be_bytes};
 ghost use Rattle.hex.specs.Hex.{encode_lower};
 ghost use Rattle.operation.specs.Parts.{key_of as key_in};
-ghost use Rattle.archive_model.specs.Attributes.{corrections as corrections_in, correction_in};
-ghost use Rattle.std.specs.Option.{option_copied};
+ghost use Rattle.archive_model.specs.Attributes.{corrections as corrections_in};
 ghost use Rattle.site_state.specs.Site.{ops_of};
 ghost use Rattle.site_tables.specs.Corrections.{kind_word, target_cmp, order_cmp, AreInOrder, counts as counts_in};
 ghost use Rattle.site_tables.specs.Corrections.{with_count as with_count_in, correction_row as row_of};
@@ -15,7 +14,8 @@ ghost use Rattle.site_tables.specs.Corrections.{AreCorrections, AreCorrectionRow
 use crate::cells::word;
 use crate::table::Row;
 use octets::{ListOf, Octets, digits};
-use operation::{Correction, Op, Target};
+use operation::{Correction, Target};
+use records::RecordedOp;
 use site_state::Site;
 use std::alloc::{AllocError, Global};
 use std::cmp::Ordering;
@@ -27,24 +27,17 @@ pub struct Stamped {
     counts: bool,
 }
 
-/// The correction in an operation.
-fn correction(op: &Op) -> Option<&Correction>
-    ensures { option_copied result ≡ correction_in op.now }
-{
-    match op {
-        Op::Content(_) => None,
-        Op::Correction(correction) => Some(correction),
-    }
-}
-
 /// The corrections among some operations.
-fn corrections_of<'a>(alloc: Global, ops: &[&'a Op]) -> Result<Vec<&'a Correction>, AllocError>
+fn corrections_of<'a>(
+    alloc: Global,
+    ops: &[&'a RecordedOp],
+) -> Result<Vec<&'a Correction>, AllocError>
     ensures { IfOk result (λ found. map (λ k. k.now) found.items
         ≡ corrections_in (map (λ o. o.now) ops.now)) }
 {
     let mut found = Vec::new(alloc);
     for op in ops {
-        if let Some(correction) = correction(op) {
+        if let Some(correction) = op.correction() {
             found.push(correction)?;
         }
     }

@@ -18,18 +18,18 @@ use crate::table::Row;
 use crate::under::{Under, put_in_order, those_under};
 use archive_model::title_code;
 use octets::{ListOf, Octets, ascending, digits, joined};
-use operation::{Content, Op};
+use records::{Parts, RecordedContent, RecordedOp};
 use rejection_note::{Note, NoteTitle};
 use site_state::Site;
 use std::alloc::{AllocError, Global};
 
 /// The content in an operation, where it is a note.
-fn note_in(op: &Op) -> Option<&Content>
+fn note_in(op: &RecordedOp) -> Option<&RecordedContent>
     ensures { option_copied result ≡ note_of op.now }
 {
-    match op {
-        Op::Correction(_) => None,
-        Op::Content(content) => match content.note() {
+    match op.parts() {
+        Parts::Correction(_) => None,
+        Parts::Content(content) => match content.note() {
             None => None,
             Some(_) => Some(content),
         },
@@ -37,7 +37,10 @@ fn note_in(op: &Op) -> Option<&Content>
 }
 
 /// The contents among some operations that are notes.
-fn notes_in<'a>(alloc: Global, ops: &[&'a Op]) -> Result<Vec<&'a Content>, AllocError>
+fn notes_in<'a>(
+    alloc: Global,
+    ops: &[&'a RecordedOp],
+) -> Result<Vec<&'a RecordedContent>, AllocError>
     ensures { IfOk result (λ found. map (λ c. c.now) found.items
         ≡ notes_of (map (λ o. o.now) ops.now)) }
 {
@@ -61,7 +64,11 @@ fn put_all(alloc: Global, uids: &mut Vec<Octets>, more: &[Octets]) -> Result<(),
 }
 
 /// Puts what a content names as a note.
-fn put_named(alloc: Global, uids: &mut Vec<Octets>, content: &Content) -> Result<(), AllocError>
+fn put_named(
+    alloc: Global,
+    uids: &mut Vec<Octets>,
+    content: &RecordedContent,
+) -> Result<(), AllocError>
     ensures { OnOk result (uids.new.items ≡ uids.old.items ++ named_by content.now.note) }
 {
     match content.note() {
@@ -71,7 +78,7 @@ fn put_named(alloc: Global, uids: &mut Vec<Octets>, content: &Content) -> Result
 }
 
 /// The UIDs that some notes name, ascending, each once.
-fn uids_named(alloc: Global, notes: &[&Content]) -> Result<Vec<Octets>, AllocError>
+fn uids_named(alloc: Global, notes: &[&RecordedContent]) -> Result<Vec<Octets>, AllocError>
     ensures { IfOk result (λ uids. uids.items ≡ covered_in (map (λ c. c.now) notes.now)) }
 {
     let mut uids = Vec::new(alloc);
@@ -89,7 +96,7 @@ fn is_among(uids: &[Octets], uid: &[u8]) -> bool
 }
 
 /// Whether a content is a note that names a UID.
-fn is_naming(content: &Content, uid: &[u8]) -> bool
+fn is_naming(content: &RecordedContent, uid: &[u8]) -> bool
     ensures { result ≡ is_naming_in uid.now content.now }
 {
     match content.note() {
@@ -111,7 +118,7 @@ fn names_under(title: NoteTitle, uid: &[u8], note: &Option<Note>) -> bool
 }
 
 /// The SOP Instance UIDs of the notes that name a UID, ascending, each once.
-fn naming(alloc: Global, notes: &[&Content], uid: &[u8]) -> Result<Vec<Octets>, AllocError>
+fn naming(alloc: Global, notes: &[&RecordedContent], uid: &[u8]) -> Result<Vec<Octets>, AllocError>
     ensures { IfOk result (λ found. found.items ≡ naming_in uid.now (map (λ c. c.now) notes.now)) }
 {
     let mut found = Vec::new(alloc);
@@ -124,7 +131,7 @@ fn naming(alloc: Global, notes: &[&Content], uid: &[u8]) -> Result<Vec<Octets>, 
 }
 
 /// Whether some note names a UID under a title.
-fn is_titled(notes: &[&Content], uid: &[u8], title: NoteTitle) -> bool
+fn is_titled(notes: &[&RecordedContent], uid: &[u8], title: NoteTitle) -> bool
     ensures { result ≡ is_titled_in uid.now (map (λ c. c.now) notes.now) title }
 {
     for note in notes {
@@ -138,7 +145,7 @@ fn is_titled(notes: &[&Content], uid: &[u8], title: NoteTitle) -> bool
 /// Puts the code of a title under which some note names a UID.
 fn put_code(
     alloc: Global,
-    notes: &[&Content],
+    notes: &[&RecordedContent],
     uid: &[u8],
     title: NoteTitle,
     codes: &mut Vec<Octets>,
@@ -153,7 +160,7 @@ fn put_code(
 }
 
 /// The codes of the titles under which notes name a UID, ascending (PS3.16, CID 7010).
-fn codes(alloc: Global, notes: &[&Content], uid: &[u8]) -> Result<Vec<Octets>, AllocError>
+fn codes(alloc: Global, notes: &[&RecordedContent], uid: &[u8]) -> Result<Vec<Octets>, AllocError>
     ensures { IfOk result (λ codes. codes.items
         ≡ codes_in uid.now (map (λ c. c.now) notes.now)) }
 {
@@ -166,7 +173,12 @@ fn codes(alloc: Global, notes: &[&Content], uid: &[u8]) -> Result<Vec<Octets>, A
 }
 
 /// Puts the cells of a UID that some of these notes name.
-fn put_row(alloc: Global, notes: &[&Content], uid: &[u8], cells: &mut Row) -> Result<(), AllocError>
+fn put_row(
+    alloc: Global,
+    notes: &[&RecordedContent],
+    uid: &[u8],
+    cells: &mut Row,
+) -> Result<(), AllocError>
     ensures { OnOk result
         (cells.new ≡ cells.old ++ row_of (map (λ c. c.now) notes.now) uid.now) }
 {
@@ -181,8 +193,8 @@ fn put_row(alloc: Global, notes: &[&Content], uid: &[u8], cells: &mut Row) -> Re
 /// Puts a note under some UIDs.
 fn put_under<'a>(
     uids: &'a [Octets],
-    note: &'a Content,
-    entries: &mut Vec<Under<'a, Content>>,
+    note: &'a RecordedContent,
+    entries: &mut Vec<Under<'a, RecordedContent>>,
 ) -> Result<(), AllocError>
     ensures { OnOk result (pairs entries.new.items
         ≡ pairs entries.old.items ++ map (λ u. (u, note.now)) uids.now) }
@@ -198,8 +210,8 @@ fn put_under<'a>(
 
 /// Puts a note under each UID that it names.
 fn put_under_named<'a>(
-    note: &'a Content,
-    entries: &mut Vec<Under<'a, Content>>,
+    note: &'a RecordedContent,
+    entries: &mut Vec<Under<'a, RecordedContent>>,
 ) -> Result<(), AllocError>
     ensures { OnOk result (pairs entries.new.items
         ≡ pairs entries.old.items ++ named_pairs note.now) }
@@ -213,8 +225,8 @@ fn put_under_named<'a>(
 /// Some notes, under each UID that they name.
 fn under_named<'a>(
     alloc: Global,
-    notes: &[&'a Content],
-) -> Result<Vec<Under<'a, Content>>, AllocError>
+    notes: &[&'a RecordedContent],
+) -> Result<Vec<Under<'a, RecordedContent>>, AllocError>
     ensures { IfOk result (λ found. pairs found.items
         ≡ flat_map named_pairs (map (λ c. c.now) notes.now)) }
 {
@@ -228,8 +240,8 @@ fn under_named<'a>(
 /// The same, in the order of these UIDs.
 pub(crate) fn by_named<'a>(
     alloc: Global,
-    notes: &[&'a Content],
-) -> Result<Vec<Under<'a, Content>>, AllocError>
+    notes: &[&'a RecordedContent],
+) -> Result<Vec<Under<'a, RecordedContent>>, AllocError>
     ensures { IfOk result (λ found.
         Holds (flat_map named_pairs (map (λ c. c.now) notes.now)) found.items) }
 {
@@ -241,7 +253,7 @@ pub(crate) fn by_named<'a>(
 /// Puts the cells of a UID, by the notes that lie under it.
 pub(crate) fn put_row_at(
     alloc: Global,
-    entries: &[Under<'_, Content>],
+    entries: &[Under<'_, RecordedContent>],
     uid: &[u8],
     cells: &mut Row,
 ) -> Result<(), AllocError>
@@ -253,7 +265,11 @@ pub(crate) fn put_row_at(
 }
 
 /// The row of a UID, by the notes that lie under it.
-fn row_at(alloc: Global, entries: &[Under<'_, Content>], uid: &[u8]) -> Result<Row, AllocError>
+fn row_at(
+    alloc: Global,
+    entries: &[Under<'_, RecordedContent>],
+    uid: &[u8],
+) -> Result<Row, AllocError>
     requires { AreInOrder entries.now }
     ensures { IfOk result (λ row. row ≡ row_by entries.now uid.now) }
 {
@@ -265,7 +281,7 @@ fn row_at(alloc: Global, entries: &[Under<'_, Content>], uid: &[u8]) -> Result<R
 /// The rows of some UIDs.
 fn rows_at(
     alloc: Global,
-    entries: &[Under<'_, Content>],
+    entries: &[Under<'_, RecordedContent>],
     uids: &[Octets],
 ) -> Result<Vec<Row>, AllocError>
     requires { AreInOrder entries.now }
@@ -289,7 +305,7 @@ pub(crate) fn covered_uids(alloc: Global, site: &Site) -> Result<Vec<Octets>, Al
 }
 
 /// Second owners of the notes of a site.
-pub fn take_notes(alloc: Global, site: &Site) -> Result<Vec<Content>, AllocError>
+pub fn take_notes(alloc: Global, site: &Site) -> Result<Vec<RecordedContent>, AllocError>
     ensures { IfOk result (λ notes. notes.items ≡ notes_of (ops_of site.now)) }
 {
     let ops = site.operations(alloc)?;
@@ -302,7 +318,7 @@ pub fn take_notes(alloc: Global, site: &Site) -> Result<Vec<Content>, AllocError
 /// some notes that name it, and the SOP Instance UIDs of these notes.
 pub fn rows_of_uids(
     alloc: Global,
-    taken: &[Content],
+    taken: &[RecordedContent],
     uids: &[Octets],
 ) -> Result<Vec<Row>, AllocError>
     ensures { IfOk result (λ rows. rows.items ≡ map (row_of taken.now) uids.now) }
@@ -314,7 +330,10 @@ pub fn rows_of_uids(
 }
 
 /// The rows of the UIDs that some notes name.
-pub(crate) fn rows_of_notes(alloc: Global, taken: &[Content]) -> Result<Vec<Row>, AllocError>
+pub(crate) fn rows_of_notes(
+    alloc: Global,
+    taken: &[RecordedContent],
+) -> Result<Vec<Row>, AllocError>
     ensures { IfOk result (λ rows. rows.items ≡ rows_in taken.now) }
 {
     let notes = references(alloc, taken)?;

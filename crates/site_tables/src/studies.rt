@@ -24,7 +24,7 @@ use dictionary::{
     STUDY_DATE, STUDY_INSTANCE_UID,
 };
 use octets::{ListOf, Octets, digits};
-use operation::Content;
+use records::RecordedContent;
 use site_state::Site;
 use std::alloc::{AllocError, Global};
 use study_index::ShortText;
@@ -34,7 +34,7 @@ use study_index::ShortText;
 #[derive(Drop)]
 pub struct TakenStudies {
     found: Found,
-    rejected: ListOf<Content>,
+    rejected: ListOf<RecordedContent>,
 }
 
 /// What is told of each study, besides how many of its instances are rejected.
@@ -78,7 +78,7 @@ fn study_query(alloc: Global) -> Result<Query, AllocError>
 }
 
 /// The pick of a SOP Instance UID, which has at most 64 bytes.
-fn pick<'a>(site: &'a Site, uid: &[u8]) -> Option<&'a Content>
+fn pick<'a>(site: &'a Site, uid: &[u8]) -> Option<&'a RecordedContent>
     ensures { option_copied result ≡ pick_of_short (ops_of site.now) uid.now }
 {
     match ShortText::of(uid) {
@@ -88,7 +88,7 @@ fn pick<'a>(site: &'a Site, uid: &[u8]) -> Option<&'a Content>
 }
 
 /// The picks of the UIDs that notes name.
-fn rejected_picks<'a>(alloc: Global, site: &'a Site) -> Result<Vec<&'a Content>, AllocError>
+fn rejected_picks<'a>(alloc: Global, site: &'a Site) -> Result<Vec<&'a RecordedContent>, AllocError>
     ensures { IfOk result (λ found. map (λ c. c.now) found.items
         ≡ rejected_in (ops_of site.now)) }
 {
@@ -105,8 +105,8 @@ fn rejected_picks<'a>(alloc: Global, site: &'a Site) -> Result<Vec<&'a Content>,
 /// Some contents, each under its study.
 fn under_studies<'a>(
     alloc: Global,
-    contents: &[&'a Content],
-) -> Result<Vec<Under<'a, Content>>, AllocError>
+    contents: &[&'a RecordedContent],
+) -> Result<Vec<Under<'a, RecordedContent>>, AllocError>
     ensures { IfOk result (λ found. pairs found.items
         ≡ map study_pair (map (λ c. c.now) contents.now)) }
 {
@@ -123,8 +123,8 @@ fn under_studies<'a>(
 /// The same, in the order of the studies.
 fn by_study<'a>(
     alloc: Global,
-    contents: &[&'a Content],
-) -> Result<Vec<Under<'a, Content>>, AllocError>
+    contents: &[&'a RecordedContent],
+) -> Result<Vec<Under<'a, RecordedContent>>, AllocError>
     ensures { IfOk result (λ found.
         Holds (map study_pair (map (λ c. c.now) contents.now)) found.items) }
 {
@@ -136,7 +136,7 @@ fn by_study<'a>(
 /// How many contents lie under a study, in decimal digits.
 fn count_of_study(
     alloc: Global,
-    entries: &[Under<'_, Content>],
+    entries: &[Under<'_, RecordedContent>],
     uid: &[u8],
 ) -> Result<Octets, AllocError>
     requires { AreInOrder entries.now }
@@ -171,7 +171,7 @@ fn put_values(alloc: Global, set: &DataSet, tags: &[u32], cells: &mut Row) -> Re
 fn row(
     alloc: Global,
     tags: &[u32],
-    entries: &[Under<'_, Content>],
+    entries: &[Under<'_, RecordedContent>],
     set: &DataSet,
 ) -> Result<Row, AllocError>
     requires { AreInOrder entries.now }
@@ -187,7 +187,7 @@ fn row(
 fn rows_at(
     alloc: Global,
     tags: &[u32],
-    entries: &[Under<'_, Content>],
+    entries: &[Under<'_, RecordedContent>],
     answers: &[Answer],
 ) -> Result<Vec<Row>, AllocError>
     requires { AreInOrder entries.now }

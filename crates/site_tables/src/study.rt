@@ -8,7 +8,7 @@ ghost use Rattle.archive_model.specs.Shown.{shown_at};
 ghost use Rattle.archive_model.specs.declared.view.View.TheVariants.{Archive};
 ghost use Rattle.site_state.specs.Site.{ops_of};
 ghost use Rattle.site_tables.specs.Study.{selection_of, with_shown as with_shown_in, instances_of as instances_in};
-ghost use Rattle.site_tables.specs.Study.{prepared_instance, IsTakenStudy};
+ghost use Rattle.site_tables.specs.Study.{IsTakenStudy};
 ghost use Rattle.site_tables.specs.Study.{instance_row as instance_row_of, instance_row_by};
 ghost use Rattle.site_tables.specs.Study.{instance_rows as instance_rows_of};
 ghost use Rattle.site_tables.specs.Study.{is_of as is_of_in, concerns as concerns_in};
@@ -23,9 +23,10 @@ use crate::rejected::{by_named, put_row_at, take_notes};
 use crate::table::Row;
 use crate::under::Under;
 use archive_model::{View, patient, series, study};
-use archive_query::{Level, Prepared, Selection, prepare};
+use archive_query::{Level, Selection, shown_selected};
 use octets::{ListOf, Octets, ascending, joined};
-use operation::{Content, Correction, Target};
+use operation::{Correction, Target};
+use records::RecordedContent;
 use site_state::Site;
 use std::alloc::{AllocError, Global};
 use study_index::ShortText;
@@ -33,7 +34,7 @@ use study_index::ShortText;
 /// An instance of a study, and whether ARCHIVE shows it.
 #[derive(Drop)]
 pub struct Instance {
-    content: Content,
+    content: RecordedContent,
     shown: bool,
 }
 
@@ -41,7 +42,7 @@ pub struct Instance {
 #[derive(Drop)]
 pub struct TakenStudy {
     instances: ListOf<Instance>,
-    notes: ListOf<Content>,
+    notes: ListOf<RecordedContent>,
     corrections: ListOf<Stamped>,
 }
 
@@ -60,7 +61,7 @@ fn selection(alloc: Global, uid: &[u8]) -> Result<Selection, AllocError>
 }
 
 /// Whether ARCHIVE shows the SOP Instance UID of a content.
-fn is_shown(site: &Site, content: &Content) -> bool
+fn is_shown(site: &Site, content: &RecordedContent) -> bool
     ensures { result ≡ is_some (shown_at Archive (ops_of site.now) content.now.instance) }
 {
     match site.shown(View::Archive, &ShortText::whole(content.instance())) {
@@ -70,27 +71,27 @@ fn is_shown(site: &Site, content: &Content) -> bool
 }
 
 /// A second owner of a content, with whether ARCHIVE shows its SOP Instance UID.
-fn with_shown(alloc: Global, site: &Site, content: &Content) -> Result<Instance, AllocError>
+fn with_shown(site: &Site, content: &RecordedContent) -> Result<Instance, AllocError>
     ensures { IfOk result (λ one. one ≡ with_shown_in (ops_of site.now) content.now) }
 {
     Ok(Instance {
-        content: content.copy(alloc)?,
+        content: content.copy()?,
         shown: is_shown(site, content),
     })
 }
 
-/// The instances that were prepared.
-fn prepared_instances(
+/// The instances of some contents.
+fn instances(
     alloc: Global,
     site: &Site,
-    prepared: &[Prepared],
+    contents: &[&RecordedContent],
 ) -> Result<Vec<Instance>, AllocError>
     ensures { IfOk result (λ found. found.items
-        ≡ map (prepared_instance (ops_of site.now)) prepared.now) }
+        ≡ map (with_shown_in (ops_of site.now)) (map (λ c. c.now) contents.now)) }
 {
-    let mut found = Vec::with_capacity(alloc, prepared.len())?;
-    for one in prepared {
-        found.push(with_shown(alloc, site, &one.content)?)?;
+    let mut found = Vec::with_capacity(alloc, contents.len())?;
+    for content in contents {
+        found.push(with_shown(site, content)?)?;
     }
     Ok(found)
 }
@@ -100,15 +101,15 @@ fn take_instances(alloc: Global, site: &Site, uid: &[u8]) -> Result<Vec<Instance
     ensures { IfOk result (λ found. found.items ≡ instances_in uid.now (ops_of site.now)) }
 {
     let selection = selection(alloc, uid)?;
-    let prepared = prepare(alloc, site, View::Audit, &selection)?;
-    let found = prepared_instances(alloc, site, &prepared)?;
+    let contents = shown_selected(alloc, site, View::Audit, &selection)?;
+    let found = instances(alloc, site, &contents)?;
     Ok(found)
 }
 
 /// The row of an instance, by the notes that lie under each UID.
 fn instance_row(
     alloc: Global,
-    entries: &[Under<'_, Content>],
+    entries: &[Under<'_, RecordedContent>],
     instance: &Instance,
 ) -> Result<Row, AllocError>
     requires { AreInOrder entries.now }
@@ -125,7 +126,7 @@ fn instance_row(
 /// The rows of some instances, by the notes that lie under each UID.
 fn instance_rows_at(
     alloc: Global,
-    entries: &[Under<'_, Content>],
+    entries: &[Under<'_, RecordedContent>],
     instances: &[Instance],
 ) -> Result<Vec<Row>, AllocError>
     requires { AreInOrder entries.now }
@@ -140,7 +141,7 @@ fn instance_rows_at(
 }
 
 /// Whether a content is one of a target.
-fn is_target(content: &Content, target: &Target) -> bool
+fn is_target(content: &RecordedContent, target: &Target) -> bool
     ensures { result ≡ is_target_of content.now target.now }
 {
     match target {

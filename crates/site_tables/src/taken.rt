@@ -10,7 +10,7 @@ use crate::rejected::{rows_of_notes, take_notes};
 use crate::studies::{TakenStudies, rows_of_studies, take_studies};
 use crate::table::{Row, Table};
 use octets::ListOf;
-use operation::Content;
+use records::RecordedContent;
 use site_state::Site;
 use std::alloc::{AllocError, Global};
 
@@ -19,7 +19,7 @@ use std::alloc::{AllocError, Global};
 #[derive(Drop)]
 pub enum TakenTable {
     Conflicts(ListOf<Flagged>),
-    Rejected(ListOf<Content>),
+    Rejected(ListOf<RecordedContent>),
     Corrections(ListOf<Stamped>),
     Studies(TakenStudies),
 }

@@ -6,6 +6,7 @@
 
 mod fault;
 mod headline;
+mod looking;
 mod message;
 mod step;
 mod world;

@@ -5,11 +5,11 @@ ghost use Rattle.site_world.specs.Messages.{is_old as is_old_site, has_met as ha
 ghost use Rattle.site_world.specs.Messages.{reaction as reaction_to, has_begun as has_begun_at};
 
 use exchange::{
-    Digests, Version, differ_of_site, digests_of_site_in, missing_of_site, ops_of_site,
+    Digests, Version, differ_of_whole, digests_of_whole_in, missing_of_whole, ops_of_whole,
 };
 use octets::{ListOf, Octets};
 use operation::{Digest, Op};
-use site_state::Site;
+use site_state::WholeSite;
 use std::alloc::{AllocError, Global};
 
 /// What a message says.
@@ -81,7 +81,7 @@ fn has_met(sent: &[Message], number: usize) -> bool
 }
 
 /// Whether a site took something, or a message was sent from it or to it.
-pub fn has_begun(sent: &[Message], number: usize, site: &Site) -> bool
+pub fn has_begun(sent: &[Message], number: usize, site: &WholeSite) -> bool
     ensures { result ≡ has_begun_at sent.now number site.now }
 {
     site.counts().operations != 0 || has_met(sent, number)
@@ -91,27 +91,27 @@ pub fn has_begun(sent: &[Message], number: usize, site: &Site) -> bool
 pub fn comes_of(
     alloc: Global,
     version: Version,
-    site: &Site,
+    site: &WholeSite,
     says: &Says,
 ) -> Result<Reaction, AllocError>
     ensures { IfOk result (λ reaction. reaction ≡ reaction_to version site.now says.now) }
 {
     match says {
         Says::Have(have) => {
-            let want = missing_of_site(alloc, site, have)?;
+            let want = missing_of_whole(alloc, site, have)?;
             Ok(Reaction::Asks(want))
         }
         Says::Want(want) => {
-            let ops = ops_of_site(alloc, version, site, want)?;
+            let ops = ops_of_whole(alloc, version, site, want)?;
             Ok(Reaction::Gives(ops))
         }
         Says::Give(op) => Ok(Reaction::Takes(op.copy(alloc)?)),
         Says::Buckets(buckets) => {
-            let places = differ_of_site(alloc, version, site, buckets.as_slice())?;
+            let places = differ_of_whole(alloc, version, site, buckets.as_slice())?;
             Ok(Reaction::Compares(places))
         }
         Says::Differ(places) => {
-            let have = digests_of_site_in(alloc, version, places.as_slice(), site)?;
+            let have = digests_of_whole_in(alloc, version, places.as_slice(), site)?;
             Ok(Reaction::Offers(have))
         }
     }

@@ -10,8 +10,8 @@ ghost use Rattle.operation.specs.declared.op.Op.{Op};
 ghost use Rattle.site_state.specs.Site.{Map};
 ghost use Rattle.site_world.specs.Steps.{fault_of_site, IsTaken, IsTold, Happens, site_at};
 ghost use Rattle.site_world.specs.Steps.{told_of_taking, told_of_stamping, taken_by};
-ghost use Rattle.site_world.specs.Steps.{told_of_correcting, made_at, title_of as title_of_view};
-ghost use Rattle.site_world.specs.Steps.{told_of_looking, told_of_getting, taken_in, Comes, on_site};
+ghost use Rattle.site_world.specs.Steps.{told_of_correcting, made_at};
+ghost use Rattle.site_world.specs.Steps.{told_of_getting, taken_in, Comes, on_site};
 ghost use Rattle.site_world.specs.Steps.{told_of_giving, told_of_reaction};
 ghost use Rattle.site_world.specs.Messages.{new_world, message_at, version_at as version_at_site};
 ghost use Rattle.site_world.specs.Messages.{version_between as version_between_sites};
@@ -20,14 +20,15 @@ ghost use Rattle.site_world.specs.Messages.{message as message_of, reaction as r
 ghost use Rattle.site_world.specs.Runs.{Outcome, IsNew, Headline};
 
 use crate::fault::WorldFault;
+use crate::looking::look_at;
 use crate::message::{Message, Reaction, Says, comes_of, has_begun, is_old};
 use crate::step::{Seen, Step};
 use archive_model::View;
-use archive_query::{Accepts, Query, Selection, find, get};
-use exchange::{Version, buckets_of_site, digests_of_site};
+use archive_query::{Accepts, Query, Selection, get};
+use exchange::{Version, buckets_of_whole, digests_of_whole};
 use octets::{ListOf, Octets};
 use operation::{Op, Stamp, Target, correction_of};
-use site_state::{Site, SiteFault, Taken};
+use site_state::{SiteFault, Taken, WholeSite};
 use std::alloc::{AllocError, Global};
 use std::marker::Model;
 
@@ -37,7 +38,7 @@ pub const MOST_SITES: usize = 16;
 /// Several sites, at most 16, every message that was sent between them, and which of the sites know
 /// no corrections of series.
 pub struct World {
-    sites: Vec<Site>,
+    sites: Vec<WholeSite>,
     sent: Vec<Message>,
     aged: Vec<usize>,
     alloc: Global,
@@ -83,7 +84,7 @@ fn fault_of(fault: SiteFault) -> WorldFault
 }
 
 /// Hands an operation to a site.
-fn take(site: &mut Site, op: Op) -> Result<Taken, WorldFault>
+fn take(site: &mut WholeSite, op: Op) -> Result<Taken, WorldFault>
     ensures { IsTaken site.old op (taken_by site.old op) result site.new }
 {
     match site.take(op) {
@@ -93,7 +94,7 @@ fn take(site: &mut Site, op: Op) -> Result<Taken, WorldFault>
 }
 
 /// Hands an operation to a site that knows what a version speaks of.
-fn take_in(site: &mut Site, version: Version, op: Op) -> Result<Taken, WorldFault>
+fn take_in(site: &mut WholeSite, version: Version, op: Op) -> Result<Taken, WorldFault>
     ensures { IsTaken site.old op (taken_in version site.old op) result site.new }
 {
     if !version.speaks(&op) {
@@ -103,7 +104,7 @@ fn take_in(site: &mut Site, version: Version, op: Op) -> Result<Taken, WorldFaul
 }
 
 /// A step that takes an operation, at its site.
-fn take_at(site: &mut Site, version: Version, op: Op) -> Result<Seen, WorldFault>
+fn take_at(site: &mut WholeSite, version: Version, op: Op) -> Result<Seen, WorldFault>
     ensures { IsTold site.old (told_of_taking op (taken_in version site.old op)) result site.new }
 {
     match take_in(site, version, op) {
@@ -113,7 +114,12 @@ fn take_at(site: &mut Site, version: Version, op: Op) -> Result<Seen, WorldFault
 }
 
 /// A correction of this stamp, handed to its site.
-fn stamp_at(site: &mut Site, version: Version, stamp: Stamp, op: Op) -> Result<Seen, WorldFault>
+fn stamp_at(
+    site: &mut WholeSite,
+    version: Version,
+    stamp: Stamp,
+    op: Op,
+) -> Result<Seen, WorldFault>
     ensures { IsTold site.old
         (told_of_stamping stamp op (taken_in version site.old op)) result site.new }
 {
@@ -125,7 +131,7 @@ fn stamp_at(site: &mut Site, version: Version, stamp: Stamp, op: Op) -> Result<S
 
 /// A step that makes a correction, at its site, which has this number.
 fn correct_at(
-    site: &mut Site,
+    site: &mut WholeSite,
     version: Version,
     number: u16,
     target: Target,
@@ -149,29 +155,10 @@ fn correct_at(
     stamp_at(site, version, stamp, Op::Correction(made))
 }
 
-/// The called title of a view.
-fn title_of(view: View) -> &'static [u8]
-    ensures { result.now ≡ title_of_view view }
-{
-    match view {
-        View::Archive => b"ARCHIVE",
-        View::Quality => b"QUALITY",
-        View::Audit => b"AUDIT",
-    }
-}
-
-/// A step that asks, at its site.
-fn look_at(alloc: Global, site: &Site, view: View, query: &Query) -> Result<Seen, WorldFault>
-    ensures { IsTold site.now (told_of_looking site.now view query.now) result site.now }
-{
-    let rows = find(alloc, site, view, title_of(view), query)?;
-    Ok(Seen::Rows(ListOf::of(rows.into_vec(alloc)?)))
-}
-
 /// A step that gets, at its site.
 fn get_at(
     alloc: Global,
-    site: &Site,
+    site: &WholeSite,
     view: View,
     selection: &Selection,
     accepts: &Accepts,
@@ -213,7 +200,7 @@ impl World {
         }
         let mut made = Vec::with_capacity(alloc, sites)?;
         for _ in 0..sites {
-            made.push(Site::new(alloc))?;
+            made.push(WholeSite::new(alloc))?;
         }
         Ok(World {
             sites: made,
@@ -224,7 +211,7 @@ impl World {
     }
 
     /// The site of a number, from 1.
-    pub fn site(&self, number: usize) -> Option<&Site>
+    pub fn site(&self, number: usize) -> Option<&WholeSite>
         ensures { option_copied result ≡ site_at self.now.sites number }
     {
         if number == 0 {
@@ -359,7 +346,7 @@ impl World {
             return Err(WorldFault::NoSite);
         };
         let version = self.version_between(from, to);
-        let have = digests_of_site(self.alloc, version, site)?;
+        let have = digests_of_whole(self.alloc, version, site)?;
         Ok(Seen::Offered(self.send(from, to, Says::Have(have))?))
     }
 
@@ -373,12 +360,12 @@ impl World {
             return Err(WorldFault::NoSite);
         };
         let version = self.version_between(from, to);
-        let buckets = buckets_of_site(self.alloc, version, site)?;
+        let buckets = buckets_of_whole(self.alloc, version, site)?;
         Ok(Seen::Offered(self.send(from, to, Says::Buckets(buckets))?))
     }
 
     /// What comes of a message at its site.
-    fn comes_of(&self, message: &Message, site: &Site) -> Result<Reaction, AllocError>
+    fn comes_of(&self, message: &Message, site: &WholeSite) -> Result<Reaction, AllocError>
         ensures { IfOk result (λ did. did ≡ reaction_to (version_between_sites self.now.aged
             message.now.from message.now.to) site.now message.now.says) }
     {

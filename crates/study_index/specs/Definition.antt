@@ -5,10 +5,10 @@ use Rattle.std.specs.Option.{option_map}
 use Rattle.rejection_note.specs.declared.title.NoteTitle.{NoteTitle}
 use Rattle.operation.specs.declared.op.Op.{Op}
 use Rattle.operation.specs.declared.op.Op.TheVariants.{Content as a_content, Correction as a_correction}
-use Rattle.operation.specs.Contents.{IsContent}
 use Rattle.operation.specs.Corrections.{is_correction}
 use Rattle.octets.specs.Members.{Has}
 use Rattle.operation.specs.declared.target.Target.{Target}
+use Rattle.records.specs.StandIn.{IsStandIn}
 use Rattle.archive_model.specs.Contents.{pick}
 use Rattle.archive_model.specs.Index.{code_of, copies, is_titled, fix}
 use Rattle.octets.specs.Texts.{text_cmp}
@@ -36,9 +36,9 @@ pub record IsIndexOf (ops : List Op) (index : IndexValue) : Type 0 where
 abbrev pub index_value : List Op → IndexValue
 index_value = summary_of index_joined nothing index_of
 
--- an operation has what every content, and every correction, keeps true of its parts
+-- an operation stands for one, and a correction is lawful
 abbrev pub IsLawful : Op → Type 0
-IsLawful (a_content c) = IsContent c
+IsLawful (a_content c) = IsStandIn c
 IsLawful (a_correction k) = IsTrue (is_correction k)
 
 -- each of some operations has

@@ -12,11 +12,12 @@ use crate::live_picks::LivePicks;
 use crate::pick::Pick;
 use crate::short_text::ShortText;
 use join_laws::{GrowSet, Join, Undoes};
-use operation::{Content, Digest};
+use operation::Digest;
+use records::RecordedContent;
 use std::alloc::AllocError;
 
 // The SOP Instance UID of a content, and its digest.
-fn copy_of(digest: Digest, content: &Content) -> ContentCopy
+fn copy_of(digest: Digest, content: &RecordedContent) -> ContentCopy
     ensures { result ≡ a_copy content.now.instance digest }
 {
     ContentCopy {
@@ -26,7 +27,7 @@ fn copy_of(digest: Digest, content: &Content) -> ContentCopy
 }
 
 // A content under its digest, with its keys.
-fn pick_in(digest: Digest, content: &Content) -> Pick
+fn pick_in(digest: Digest, content: &RecordedContent) -> Pick
     ensures { result ≡ pick_under digest content.now }
 {
     let keys = Keys::of(content);
@@ -43,7 +44,7 @@ pub fn add_content(
     copies: &mut GrowSet<ContentCopy>,
     live: &mut LivePicks,
     digest: Digest,
-    content: &Content,
+    content: &RecordedContent,
 ) -> Result<(), AllocError>
     requires { digest ≡ digest_of (a_content content.now) }
     ensures copies { OnOk result (copies.new ≡

@@ -35,7 +35,8 @@ use crate::walk::{count_led, given_by, put_led, stored_by};
 use archive_model::{patient, series, study, title_code};
 use join_laws::{Greatest, GrowSet, Join, MapOf, Summary};
 use octets::Octets;
-use operation::{Content, Correction, Digest, Op, Target, digest};
+use operation::{Correction, Digest, Target};
+use records::{Parts, RecordedContent, RecordedOp};
 use rejection_note::{Note, NoteTitle};
 use std::alloc::{AllocError, Global};
 use std::collections::BTreeSet;
@@ -193,7 +194,7 @@ impl Join for Index {
     }
 }
 
-impl Summary<Op> for Index {
+impl Summary<RecordedOp> for Index {
     ghost nothing = { nothing };
 
     ghost of_one = { index_of };
@@ -204,8 +205,8 @@ impl Summary<Op> for Index {
         Index::new(alloc)
     }
 
-    fn add(&mut self, op: &Op) -> Result<(), AllocError> {
-        self.add_under(digest(op), op)
+    fn add(&mut self, op: &RecordedOp) -> Result<(), AllocError> {
+        self.add_under(*op.digest(), op)
     }
 }
 
@@ -242,7 +243,7 @@ impl Index {
 
     // Takes in the copy, the leads and the pick of a content. Its leads are taken out again where
     // the others are refused.
-    fn add_led(&mut self, digest: Digest, content: &Content) -> Result<(), AllocError>
+    fn add_led(&mut self, digest: Digest, content: &RecordedContent) -> Result<(), AllocError>
         requires { digest ≡ digest_of (a_content content.now) }
         ensures ok { OnOk result (self.new ≡ with_content self.old content.now) }
         ensures refused { OnErr result (self.new ≡ self.old) }
@@ -258,7 +259,12 @@ impl Index {
 
     // Takes in a content that is a note. Its titles are taken out again where the content is
     // refused.
-    fn add_note(&mut self, digest: Digest, content: &Content, note: &Note) -> Result<(), AllocError>
+    fn add_note(
+        &mut self,
+        digest: Digest,
+        content: &RecordedContent,
+        note: &Note,
+    ) -> Result<(), AllocError>
         requires digest { digest ≡ digest_of (a_content content.now) }
         requires note { content.now.note ≡ Some note.now }
         ensures ok { OnOk result (self.new ≡
@@ -275,7 +281,7 @@ impl Index {
     }
 
     // Takes in a content that is no note.
-    fn add_image(&mut self, digest: Digest, content: &Content) -> Result<(), AllocError>
+    fn add_image(&mut self, digest: Digest, content: &RecordedContent) -> Result<(), AllocError>
         requires digest { digest ≡ digest_of (a_content content.now) }
         requires image { content.now.note ≡ None }
         ensures ok { OnOk result (self.new ≡
@@ -286,14 +292,14 @@ impl Index {
     }
 
     /// Takes in an operation under its digest. Where memory is refused, the index stays as it was.
-    pub fn add_under(&mut self, digest: Digest, op: &Op) -> Result<(), AllocError>
+    pub fn add_under(&mut self, digest: Digest, op: &RecordedOp) -> Result<(), AllocError>
         requires { digest ≡ digest_of op.now }
         ensures ok { OnOk result (self.new ≡ index_joined self.old (index_of op.now)) }
         ensures refused { OnErr result (self.new ≡ self.old) }
     {
-        match op {
-            Op::Correction(correction) => self.add_correction(correction),
-            Op::Content(content) => match content.note() {
+        match op.parts() {
+            Parts::Correction(recorded) => self.add_correction(recorded.correction()),
+            Parts::Content(content) => match content.note() {
                 Some(note) => self.add_note(digest, content, note),
                 None => self.add_image(digest, content),
             },
@@ -361,7 +367,7 @@ impl Index {
 
     /// Counter, site and value of the correction of an attribute of a content that counts: of those
     /// of its study, its patient and its series the greatest.
-    pub fn latest(&self, content: &Content, tag: u32) -> Option<&Fix>
+    pub fn latest(&self, content: &RecordedContent, tag: u32) -> Option<&Fix>
         ensures { option_copied result ≡ latest_at content.now tag self.now.fixes }
     {
         let of_study = self.fix_under(1, study(content), tag);

@@ -4,7 +4,7 @@ ghost use Rattle.study_index.specs.Index.{keys_of};
 
 use crate::short_text::ShortText;
 use archive_model::{series, study};
-use operation::Content;
+use records::RecordedContent;
 
 /// The study and the series of a content, under which it stands in the list of places.
 ///
@@ -17,7 +17,7 @@ pub struct Keys {
 
 impl Keys {
     /// The keys of a content.
-    pub fn of(content: &Content) -> Keys
+    pub fn of(content: &RecordedContent) -> Keys
         ensures { (result.study, result.series) ≡ keys_of content.now }
     {
         Keys {

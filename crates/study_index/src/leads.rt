@@ -13,7 +13,7 @@ use crate::short_text::ShortText;
 use archive_model::study;
 use dictionary::PATIENT_NAME;
 use join_laws::{Copies, Exact};
-use operation::Content;
+use records::RecordedContent;
 use std::alloc::{AllocError, Global};
 use std::cmp::Ordering;
 use std::marker::Model;
@@ -39,7 +39,7 @@ impl Model for Named {
 #[derive(Drop)]
 pub enum Source {
     /// In a content, which is shared: its own value leads to its study.
-    Stored(Content),
+    Stored(RecordedContent),
     /// In a text, for a correction, or for an end of a walk.
     Given(Arc<Named, Global>),
 }
@@ -158,14 +158,14 @@ fn ended(text: &[u8], byte: u8) -> ShortText
 
 impl Lead {
     /// What leads from a content's own value to its study.
-    pub fn stored(alloc: Global, tag: u32, content: &Content) -> Result<Lead, AllocError>
+    pub fn stored(alloc: Global, tag: u32, content: &RecordedContent) -> Result<Lead, AllocError>
         ensures { IfOk result (λ lead. lead ≡ stored_lead content.now tag) }
     {
         let marks = value_marks(&led(tag, content.own_value(tag)));
         Ok(Lead {
             tag,
             marks,
-            source: Source::Stored(content.copy(alloc)?),
+            source: Source::Stored(content.copy()?),
             alloc,
         })
     }
@@ -333,7 +333,7 @@ impl Ord for Lead {
 impl Copies for Lead {
     fn copy(&self) -> Result<Lead, AllocError> {
         let source = match &self.source {
-            Source::Stored(content) => Source::Stored(content.copy(self.alloc)?),
+            Source::Stored(content) => Source::Stored(content.copy()?),
             Source::Given(named) => Source::Given(Arc::try_clone(named)?),
         };
         Ok(Lead {

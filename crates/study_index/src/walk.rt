@@ -16,7 +16,8 @@ use crate::needle::Needle;
 use crate::short_text::ShortText;
 use dictionary::{ACCESSION_NUMBER, PATIENT_ID, PATIENT_NAME, STUDY_DATE, STUDY_ID};
 use join_laws::{Copies, GrowSet, Summary};
-use operation::{Content, Correction, Target};
+use operation::{Correction, Target};
+use records::RecordedContent;
 use std::alloc::{AllocError, Global};
 use std::collections::BTreeSet;
 use std::ops::Bound;
@@ -25,7 +26,7 @@ use std::ops::Bound;
 fn add_stored(
     alloc: Global,
     leads: &mut GrowSet<Lead>,
-    content: &Content,
+    content: &RecordedContent,
     tags: &[u32],
 ) -> Result<(), AllocError>
     ensures { OnOk result (leads.new ≡
@@ -38,7 +39,7 @@ fn add_stored(
 }
 
 /// What a content gives: its values lead to its study.
-pub fn stored_by(alloc: Global, content: &Content) -> Result<GrowSet<Lead>, AllocError>
+pub fn stored_by(alloc: Global, content: &RecordedContent) -> Result<GrowSet<Lead>, AllocError>
     ensures { IfOk result (λ leads. leads ≡ leads_of (a_content content.now)) }
 {
     let mut leads = GrowSet::empty(alloc);

@@ -115,9 +115,9 @@ impl AskedPort {
 }
 
 impl Port for AskedPort {
-    ghost use Rattle.site_state.specs.Site.{ops_of};
+    ghost use Rattle.association_worker.specs.Port.{recorded_in};
 
-    ghost ops = { λ p. ops_of p.site };
+    ghost ops = { recorded_in };
 
     ghost own = { λ p. p.own };
 

@@ -3,13 +3,13 @@
 use crate::text::RowFault;
 use bytes::Bytes;
 use operation::{Op, OpFault, decode};
-use site_state::Site;
+use site_state::WholeSite;
 use std::alloc::{AllocError, Global};
 
 /// The two sites of an exchange.
 pub struct Pair {
-    pub north: Site,
-    pub south: Site,
+    pub north: WholeSite,
+    pub south: WholeSite,
 }
 
 impl Drop for Pair {
@@ -22,15 +22,15 @@ impl Pair {
     /// Two sites that hold nothing.
     pub fn new(alloc: Global) -> Pair {
         Pair {
-            north: Site::new(alloc),
-            south: Site::new(alloc),
+            north: WholeSite::new(alloc),
+            south: WholeSite::new(alloc),
         }
     }
 
     pub fn copy(&self, alloc: Global) -> Result<Pair, AllocError> {
         Ok(Pair {
-            north: self.north.copy(alloc)?,
-            south: self.south.copy(alloc)?,
+            north: copy_of(alloc, &self.north)?,
+            south: copy_of(alloc, &self.south)?,
         })
     }
 
@@ -43,7 +43,7 @@ impl Pair {
     }
 
     /// `north`, or else the south.
-    pub fn site(&self, name: &str) -> &Site {
+    pub fn site(&self, name: &str) -> &WholeSite {
         if name == "north" {
             &self.north
         } else {
@@ -51,7 +51,7 @@ impl Pair {
         }
     }
 
-    pub fn site_mut(&mut self, name: &str) -> &mut Site {
+    pub fn site_mut(&mut self, name: &str) -> &mut WholeSite {
         if name == "north" {
             &mut self.north
         } else {
@@ -60,8 +60,19 @@ impl Pair {
     }
 }
 
+/// A site that takes each operation of another.
+pub fn copy_of(alloc: Global, site: &WholeSite) -> Result<WholeSite, AllocError> {
+    let mut copy = WholeSite::new(alloc);
+    for op in site.operations(alloc)? {
+        if copy.take(op.copy(alloc)?).is_err() {
+            return Err(AllocError);
+        }
+    }
+    Ok(copy)
+}
+
 /// How many operations a site holds.
-pub fn held_by(site: &Site) -> usize {
+pub fn held_by(site: &WholeSite) -> usize {
     site.counts().operations
 }
 
@@ -78,7 +89,7 @@ fn op_in(alloc: Global, text: &[u8]) -> Result<Op, RowFault> {
 pub fn put_take(
     alloc: Global,
     out: &mut String,
-    site: &mut Site,
+    site: &mut WholeSite,
     text: &[u8],
 ) -> Result<(), RowFault> {
     let op = op_in(alloc, text)?;

@@ -2,12 +2,12 @@
 
 use crate::associations::words::Words;
 use crate::exchanges::frames::put_frames;
-use crate::exchanges::pair::{Pair, held_by};
+use crate::exchanges::pair::{Pair, copy_of, held_by};
 use crate::text::{RowFault, put_fault};
 use devices::{Store, Supply};
 use exchange::{Ended, ExchangeFault, Role, run_exchange};
 use octets::Octets;
-use site_state::Site;
+use site_state::WholeSite;
 use std::alloc::{AllocError, Global};
 
 /// How an exchange is read and written: each read gives `piece` bytes at most, the read `fails_at`
@@ -60,7 +60,7 @@ impl Drop for Ran {
 fn run(
     alloc: Global,
     role: Role,
-    site: &mut Site,
+    site: &mut WholeSite,
     input: &[u8],
     way: Way,
 ) -> Result<Ran, RowFault> {
@@ -83,11 +83,11 @@ fn run(
 fn run_aside(
     alloc: Global,
     role: Role,
-    site: &Site,
+    site: &WholeSite,
     input: &[u8],
     way: Way,
 ) -> Result<Ran, RowFault> {
-    let mut copy = site.copy(alloc)?;
+    let mut copy = copy_of(alloc, site)?;
     run(alloc, role, &mut copy, input, way)
 }
 
@@ -138,7 +138,7 @@ pub fn put_run(
     out: &mut String,
     words: &Words,
     role: Role,
-    site: &Site,
+    site: &WholeSite,
     input: &[u8],
     way: Way,
 ) -> Result<(), RowFault> {
@@ -152,7 +152,7 @@ pub fn put_run(
 fn said(
     alloc: Global,
     role: Role,
-    site: &Site,
+    site: &WholeSite,
     input: &[u8],
     way: Way,
 ) -> Result<Vec<u8>, RowFault> {
@@ -186,7 +186,7 @@ fn put_kept(
     out: &mut String,
     words: &Words,
     role: Role,
-    site: &mut Site,
+    site: &mut WholeSite,
     input: &[u8],
     way: Way,
 ) -> Result<(), RowFault> {

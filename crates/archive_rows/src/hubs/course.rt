@@ -1,10 +1,10 @@
 //! Two passes of a hub that goes on where memory is refused to it, until it is closed.
 
 use crate::hubs::hub::Shared;
-use crate::hubs::images::{CT, FIRST_STUDY, image};
+use crate::hubs::images::{FIRST_IMAGE, FIRST_SERIES, FIRST_STUDY, image};
 use anyhow::{Result, anyhow};
 use archive_model::View;
-use archive_query::{Accepted, Accepts, Level, Selection};
+use archive_query::{Level, Selection};
 use octets::{ListOf, Octets};
 use operation::{Digested, Op, Stamp, Target, correction_of};
 use site_hub::{
@@ -21,8 +21,9 @@ const NAME: u32 = 0x0010_0010;
 pub type Came = Result<u64, HubFault>;
 
 /// What came of two images that the first pass stores, of two corrections that the second makes,
-/// and how many operations this one then holds, and images it sends and is to send of the first
-/// study; and whether the hub, once it is closed, leaves what has its place.
+/// and how many operations this one then holds, and images it is to send of the first study, asked
+/// for by the study and by the image; and whether the hub, once it is closed, leaves what has its
+/// place.
 #[derive(Clone, Copy)]
 pub struct Course {
     pub stored: (Came, Came),
@@ -66,8 +67,8 @@ impl Course {
         is_number(self.corrected.1, both(self.corrected))
     }
 
-    /// Whether the pass holds what has its place, but for a last operation that is pending, and
-    /// sends the image that it holds.
+    /// Whether the pass holds what has its place, but for a last operation that is pending, and is
+    /// to send the image that it holds.
     pub fn is_seen(&self) -> bool {
         let late = u64::from(self.corrected.1 == Err(HubFault::Pending));
         let all = both(self.stored).saturating_add(both(self.corrected));
@@ -96,26 +97,14 @@ fn correction(alloc: Global, counter: u64) -> Result<Digested> {
     Ok(Digested::of(Op::Correction(made)))
 }
 
-/// All of the first study, at the level of studies.
-fn selection(alloc: Global) -> Result<Selection> {
-    let uids = vec![in alloc; first_study(alloc)?]?;
+/// What has this UID, at a level of the first study.
+fn selection(alloc: Global, level: Level, series: &[u8], uid: &[u8]) -> Result<Selection> {
+    let uids = vec![in alloc; Octets::from_slice(alloc, uid)?]?;
     Ok(Selection {
-        level: Level::Study,
+        level,
         study: first_study(alloc)?,
-        series: Octets::from_slice(alloc, b"")?,
+        series: Octets::from_slice(alloc, series)?,
         uids: ListOf::of(uids),
-    })
-}
-
-/// CT images in the implicit syntax alone.
-fn accepts(alloc: Global) -> Result<Accepts> {
-    let accepted = Accepted {
-        class: Octets::from_slice(alloc, CT)?,
-        implicit: true,
-        explicit: false,
-    };
-    Ok(Accepts {
-        list: ListOf::of(vec![in alloc; accepted]?),
     })
 }
 
@@ -128,7 +117,8 @@ fn stored<H: HubName, T: Shows<H>, R: Wait>(
     image: Digested,
     number: u64,
 ) -> Came {
-    let told = store(rt, keeper, one, image.into_op())?;
+    let recorded = one.record(&image)?;
+    let told = store(rt, keeper, one, recorded)?;
     two.learn(told);
     Ok(number)
 }
@@ -159,22 +149,17 @@ fn held<H: HubName>(pass: &mut Pass<H>) -> Came {
     Ok(held.saturating_sub(missing as u64))
 }
 
-/// How many images of the first study a pass sends.
-fn sent<H: HubName>(alloc: Global, pass: &mut Pass<H>) -> Result<Came> {
-    let (selection, accepts) = (selection(alloc)?, accepts(alloc)?);
-    match pass.get(View::Archive, &selection, &accepts) {
-        Ok(sent) => Ok(Ok(sent.len() as u64)),
-        Err(fault) => Ok(Err(fault)),
-    }
+/// How many images of a selection a pass is to send.
+fn listed<H: HubName>(pass: &mut Pass<H>, selection: &Selection) -> Came {
+    let listed = pass.list(View::Archive, selection)?;
+    Ok(listed.len() as u64)
 }
 
-/// How many images of the first study a pass lists.
-fn listed<H: HubName>(alloc: Global, pass: &mut Pass<H>) -> Result<Came> {
-    let selection = selection(alloc)?;
-    match pass.list(View::Archive, &selection) {
-        Ok(listed) => Ok(Ok(listed.len() as u64)),
-        Err(fault) => Ok(Err(fault)),
-    }
+/// How many images of the first study a pass is to send, asked for by the study and by the image.
+fn sent<H: HubName>(alloc: Global, pass: &mut Pass<H>) -> Result<(Came, Came)> {
+    let study = selection(alloc, Level::Study, b"", FIRST_STUDY)?;
+    let image = selection(alloc, Level::Image, FIRST_SERIES, FIRST_IMAGE)?;
+    Ok((listed(pass, &study), listed(pass, &image)))
 }
 
 /// All that the two passes do.
@@ -192,7 +177,7 @@ fn done<H: HubName, T: Shows<H>, R: Wait>(
     course.corrected.0 = corrected(rt, alloc, keeper, two)?;
     course.corrected.1 = corrected(rt, alloc, keeper, two)?;
     course.held = held(two);
-    course.sent = (sent(alloc, two)?, listed(alloc, two)?);
+    course.sent = sent(alloc, two)?;
     Ok(())
 }
 

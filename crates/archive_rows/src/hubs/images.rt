@@ -5,11 +5,14 @@ use bytes::Bytes;
 use operation::{Digested, decode};
 use std::alloc::Global;
 
-/// CT Image Storage
-pub const CT: &[u8] = b"1.2.840.10008.5.1.4.1.1.2";
-
 /// The study of the image of digit 0.
 pub const FIRST_STUDY: &[u8] = b"1.2.10.0";
+
+/// Its series.
+pub const FIRST_SERIES: &[u8] = b"1.2.10.2.0";
+
+/// The image.
+pub const FIRST_IMAGE: &[u8] = b"1.2.10.1.0";
 
 // The spelling of a CT image (docs/DECISIONS.md, "Spelling of operations"): behind each part stands
 // the digit, by which its instance, study and series are told from those of others.

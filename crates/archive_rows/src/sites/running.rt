@@ -1,7 +1,7 @@
 //! Rows of runs of a world.
 
 use crate::text::{RowFault, number_of, parted};
-use site_state::Site;
+use site_state::WholeSite;
 use site_world::{Seen, Step, World, WorldFault};
 use std::alloc::{AllocError, Global};
 
@@ -18,7 +18,7 @@ fn put_answer(out: &mut String, answer: &Result<Seen, WorldFault>) -> Result<(),
 fn add_steps(
     alloc: Global,
     steps: &mut Vec<Step>,
-    site: &Site,
+    site: &WholeSite,
     number: usize,
 ) -> Result<(), AllocError> {
     for op in site.operations(alloc)? {
@@ -60,7 +60,7 @@ fn put_new(
 pub fn put_world(
     alloc: Global,
     out: &mut String,
-    site: &Site,
+    site: &WholeSite,
     words: &str,
 ) -> Result<(), RowFault> {
     let (sites, words) = parted(words);

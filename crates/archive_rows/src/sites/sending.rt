@@ -6,7 +6,7 @@ use archive_query::{Accepted, Accepts, Selection, Sending, get};
 use data_set::Syntax;
 use dictionary::CT_IMAGE_STORAGE;
 use octets::{ListOf, Octets};
-use site_state::Site;
+use site_state::WholeSite;
 use std::alloc::{AllocError, Global};
 
 /// What is accepted of CT Image Storage: entries such as i, e or ie, parted by commas.
@@ -72,7 +72,12 @@ fn put_sendings(out: &mut String, sendings: &[Sending]) -> Result<(), AllocError
 }
 
 /// `get VIEW ACCEPTS LEVEL STUDY SERIES UID..`: what a site sends.
-pub fn put_get(alloc: Global, out: &mut String, site: &Site, words: &str) -> Result<(), RowFault> {
+pub fn put_get(
+    alloc: Global,
+    out: &mut String,
+    site: &WholeSite,
+    words: &str,
+) -> Result<(), RowFault> {
     let (view, words) = parted(words);
     let (accepts, words) = parted(words);
     let (view, _called) = view_of(view);

@@ -1,7 +1,7 @@
 use Rattle.std.proofs.Common.{◌≡◌, List, map, ap, subst, sym, ◌∙◌, Bor}
 use Rattle.std.specs.Option.{option_map}
 use Rattle.operation.specs.Parts.{ContentParts}
-use Rattle.operation.specs.declared.content.Content.{Content}
+use Rattle.records.specs.declared.recorded_content.RecordedContent.{RecordedContent}
 use Rattle.octets.specs.Members.{Has}
 use Rattle.archive_model.specs.Shown.{shown_at}
 use Rattle.site_state.specs.Site.{ops_of}
@@ -19,8 +19,8 @@ returns c =
     let q = c.args.prepared.now in
     let ops = ops_of c.args.site.now in
     let index = c.index-index.result.now in
-    let content_of = λ (x : Bor Content). x.now in
-    let key = λ (x : Bor Content). uid_at Image x.now in
+    let content_of = λ (x : Bor RecordedContent). x.now in
+    let key = λ (x : Bor RecordedContent). uid_at Image x.now in
     let found = c.in_ok-found.found.items in
     let sorted = c.sort_by_instance.new.contents.items in
     let studies = option_map (λ s. s.keys) c.in_ok-studies.studies in
@@ -30,7 +30,7 @@ returns c =
     subst (AreEnough view q ops) (sym (
     c.in_ok-named.ensures
     ∙ ap (λ r. named r (map content_of c.deref.result.now)) c.query.ensures
-    ∙ ap (λ (xs : List (Bor Content)). named q (map content_of xs)) c.deref.ensures.value))
+    ∙ ap (λ (xs : List (Bor RecordedContent)). named q (map content_of xs)) c.deref.ensures.value))
     (first_enough view ops index c.index-index.ensures.says c.see_lawful.ensures.lawful c.held.ensures.picks.0 q
     c.requires.counted c.requires.level studies c.in_ok-studies.ensures (map content_of sorted)
     (ascends_map (λ x. x.instance) content_of sorted c.in_ok-sort_by_instance.ensures.ascends)

@@ -1,6 +1,6 @@
 use Rattle.std.proofs.Common.{List, ℕ, Bool, Bor, map, ap, ◌∙◌}
 use Rattle.std.specs.Prelude.{◌&&◌}
-use Rattle.operation.specs.declared.content.Content.{Content}
+use Rattle.records.specs.declared.recorded_content.RecordedContent.{RecordedContent}
 use Rattle.archive_model.specs.Covered.{is_among}
 use Rattle.archive_model.specs.Rows.{uid_at}
 use Rattle.archive_model.specs.Selection.{is_within, is_among_these, is_selected}
@@ -18,4 +18,4 @@ returns c =
     ap (λ (us : List (Bor (List ℕ))). is_among (map now us) (uid_at s.level p)) c.deref.ensures.value
     ∙ c.in_ok-uids.ensures.members (uid_at s.level p)
     ∙ ap (λ (uids : List (List ℕ)). is_among uids (uid_at s.level p)) c.as_slice.ensures))
-    (map (λ (x : Bor Content). x.now) c.args.contents.now)
+    (map (λ (x : Bor RecordedContent). x.now) c.args.contents.now)

@@ -6,7 +6,7 @@ use Rattle.association_run.proofs.laws.a_get_carries_what_is_sent_of_the_set.Goa
 
 -- The port replied what is listed of its set, and what is sent is made of that and of what was loaded.
 pub returns : goal.returns
-returns g c contexts before after getting listed replies gets apart brings =
+returns g c contexts before after getting listed replies gets brings =
     ap (λ (l : List Listed). carried_of contexts l replies) gets.replied
-    ∙ carried_is_sent contexts getting.view getting.selection (g.P.Port.ops after) replies apart
+    ∙ carried_is_sent contexts getting.view getting.selection (g.P.Port.ops after) replies
     (subst (λ (l : List Listed). BringsEach (g.P.Port.ops after) contexts l replies) gets.replied brings)

@@ -4,9 +4,8 @@ use Rattle.operation.specs.declared.op.Op.TheVariants.{Content as a_content}
 use Rattle.operation.specs.RecordParts.{ContentRecordParts}
 use Rattle.association_run.proofs.laws.a_load_brings_what_was_listed.Goals as goal
 
--- Both are held, under the digest that the record has.
+-- Both have the digest of the record.
 pub returns : goal.returns
-returns g c before after held loaded loads has apart =
-    let same : a_content loaded ≡ a_content held = apart (a_content loaded) (a_content held) loads.replied.1
-    (loads.kept (a_content held) has) (ap (λ (r : ContentRecordParts). r.digest) loads.replied.0) in
+returns g c before after held loaded loads apart =
+    let same : a_content loaded ≡ a_content held = apart (ap (λ (r : ContentRecordParts). r.digest) loads.replied) in
     cc

@@ -6,10 +6,10 @@ use Rattle.exchange.proofs.Hashed.{next_fed, all_fed}
 use Rattle.exchange.proofs.buckets.buckets_of_tree.Goals as goal
 
 -- A digest that is spoken of was hashed.
-pub loop-digest-preserved-then-speaks : goal.loop-digest-preserved-then-speaks
-loop-digest-preserved-then-speaks c =
+pub loop-digest-preserved-then-speaks_of : goal.loop-digest-preserved-then-speaks_of
+loop-digest-preserved-then-speaks_of c =
     next_fed c.args.version _ _ c.in-Some.digest.now c.in-Some.op.now _ _ _ c.loop-digest.invariant
-    c.in-Some.ensures.steps (sym c.speaks.ensures ∙ c.if-speaks.true) c.feed.ensures.fed
+    c.in-Some.ensures.steps (sym c.speaks_of.ensures ∙ c.if-speaks_of.true) c.feed.ensures.fed
 
 -- All were.
 pub returns : goal.returns

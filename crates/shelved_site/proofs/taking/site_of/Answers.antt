@@ -13,14 +13,14 @@ use Rattle.shelved_site.proofs.taking.site_of.Goals as goal
 pub loop-op-init : goal.loop-op-init
 loop-op-init c =
     let gives = c.into_iter-op-iterator.ensures.into_iter_gives in
-    ([], c.new-site.ensures, gives.0, gives.1 ∙ c.args.ops.ok.0 ∙ ap length (sym gives.0))
+    ([], c.new-site.ensures, gives.0, gives.1 ∙ c.args.recorded.ok.0 ∙ ap length (sym gives.0))
 
 -- One more was taken.
 pub loop-op-preserved : goal.loop-op-preserved
 loop-op-preserved c =
     let seen = c.loop-op.invariant in
     let more =
-    taken_next c.loop-op.site c.take_digested.new.self seen.0 (into_iter_items c.next.new.self) c.args.ops.items
+    taken_next c.loop-op.site c.take.new.self seen.0 (into_iter_items c.next.new.self) c.args.recorded.items
     c.in-Some.op c.in_ok-_taken._taken seen.1 (ap (λ left. seen.0 ++ left) (sym c.in-Some.ensures.steps.0) ∙ seen.2)
     c.in_ok-_taken.ensures.takes in
     (more.0, more.1, more.2, omega (arith, seen.3, ap length c.in-Some.ensures.steps.0, c.in-Some.ensures.steps.1))
@@ -31,9 +31,9 @@ returns-in_err-_taken-clause-collision c bad =
     let e = err_from_is_err_and c.from_residual.result c.from_residual.ensures.1 in
     let is : c.in_err-_taken.field-0.0 ≡ Collision = cc in
     let seen = c.loop-op.invariant in
-    clash_is_among c.loop-op.site seen.0 (into_iter_items c.next.new.self) c.args.ops.items c.in-Some.op seen.1
+    clash_is_among c.loop-op.site seen.0 (into_iter_items c.next.new.self) c.args.recorded.items c.in-Some.op seen.1
     (ap (λ left. seen.0 ++ left) (sym c.in-Some.ensures.steps.0) ∙ seen.2)
-    (subst (λ (f : SiteFault). Takes c.loop-op.site c.in-Some.op (Err f) c.take_digested.new.self) is
+    (subst (λ (f : SiteFault). Takes c.loop-op.site c.in-Some.op (Err f) c.take.new.self) is
     c.in_err-_taken.ensures.takes).0
 
 -- All were.
@@ -41,4 +41,4 @@ pub returns-clause-site : goal.returns-clause-site
 returns-clause-site c =
     let seen = c.loop-op.invariant in
     let none : into_iter_items c.loop-op.op-iterator ≡ [] = nothing_left _ (sym seen.3 ∙ c.in-None.ensures.steps.0) in
-    seen.1 ∙ ap after_taking (all_met seen.0 c.args.ops.items (ap (λ left. seen.0 ++ left) (sym none) ∙ seen.2))
+    seen.1 ∙ ap after_taking (all_met seen.0 c.args.recorded.items (ap (λ left. seen.0 ++ left) (sym none) ∙ seen.2))

@@ -7,5 +7,5 @@ use Rattle.shelved_site.proofs.taking.site_of.Given as goal
 -- The site took those that were met, and the others follow them.
 abbrev pub invariant-loop-op : goal.invariant-loop-op
 invariant-loop-op l =
-    (done : List Op) × (l.site ≡ after_taking done) × (done ++ into_iter_items l.op-iterator ≡ l.fn.ops.items)
+    (done : List Op) × (l.site ≡ after_taking done) × (done ++ into_iter_items l.op-iterator ≡ l.fn.recorded.items)
     × (into_iter_len l.op-iterator ≡ length (into_iter_items l.op-iterator))

@@ -7,13 +7,13 @@ use Rattle.site_desk.proofs.MakingLaws.{on_ok}
 use Rattle.site_desk.proofs.making.keep.Goals as goal
 
 -- What was put stands in the beginning of the ledger that came with the answer, and so in what is known then.
-pub returns-in-Ok-clause-stored : goal.returns-in-Ok-clause-stored
-returns-in-Ok-clause-stored g c = on_ok c.publish-taken.result
-    (written_more c.in-Ok.shelved.extract c.learn.new.self c.learn.ensures.that _
-    (subst (WasWritten c.in-Ok.shelved.extract) (c.in-Ok.ensures.own ∙ ap digest_of c.of-op.ensures)
-    c.in-Ok.shelved.written))
+pub returns-in-Ok-put-clause-stored : goal.returns-in-Ok-put-clause-stored
+returns-in-Ok-put-clause-stored g c = on_ok c.publish-taken.result
+    (written_more c.in-Ok-put.shelved.extract c.learn.new.self c.learn.ensures.that _
+    (subst (WasWritten c.in-Ok-put.shelved.extract) (c.in-Ok-put.ensures.own ∙ ap digest_of c.of-op.ensures)
+    c.in-Ok-put.shelved.written))
 
 -- So does what became the pass's own.
-pub returns-in-Ok-clause-onward : goal.returns-in-Ok-clause-onward
-returns-in-Ok-clause-onward g c = onward_known c.in-Ok.shelved.extract c.learn.new.self c.args.pass.now
+pub returns-in-Ok-put-clause-onward : goal.returns-in-Ok-put-clause-onward
+returns-in-Ok-put-clause-onward g c = onward_known c.in-Ok-put.shelved.extract c.learn.new.self c.args.pass.now
     c.publish-taken.new.pass c.learn.ensures.that c.publish-taken.ensures.onward

@@ -3,6 +3,7 @@ use Rattle.std.specs.Prelude.{◌==◌}
 use Rattle.std.specs.List.{filter_map}
 use Rattle.octets.specs.Members.{Has}
 use Rattle.operation.specs.declared.op.Op.{Op}
+use Rattle.records.specs.declared.recorded_op.RecordedOp.{RecordedOp}
 use Rattle.archive_query.proofs.PutIn.{has_at}
 use Rattle.site_tables.specs.declared.under.Under.{Under}
 use Rattle.site_tables.specs.Conflicts.{instance_pair}
@@ -32,7 +33,7 @@ put_conflicts_of-requires-clause-held c =
     let marks = c.deref-in-loop-uid.result.now in
     let entries = c.deref-in-loop-uid-2.result.now in
     let same : c.deref-2.result.now ≡ marks = c.deref-2.ensures.value ∙ sym c.deref-in-loop-uid.ensures.value in
-    let all = ap (λ (os : List (Bor Op)). map (λ o. o.now) os) c.deref-3.ensures.value ∙ c.in_ok-ops.ensures in
+    let all = ap (λ (os : List (Bor RecordedOp)). map (λ o. o.now) os) c.deref-3.ensures.value ∙ c.in_ok-ops.ensures in
     subst (λ (os : List Op). Holds (filter_map (instance_pair (pairs marks)) os) entries) all
     (subst (λ (ms : List (Under (List ℕ))). Holds (filter_map (instance_pair (pairs ms))
     (map (λ o. o.now) c.deref-3.result.now)) entries) same

@@ -1,12 +1,12 @@
 use Rattle.std.proofs.Common.{◌≡◌, List, ℕ, Bor, IfOk, map, ap, subst, ◌∙◌}
-use Rattle.operation.specs.declared.content.Content.{Content}
+use Rattle.records.specs.declared.recorded_content.RecordedContent.{RecordedContent}
 use Rattle.site_tables.specs.Rejected.{covered_uids, rejected_row}
 use Rattle.site_tables.proofs.rejected.rows_of_notes.Goals as goal
 
 -- The UIDs are those that the notes name.
 pub returns : goal.returns
 returns c =
-    let content_of = λ (x : Bor Content). x.now in
+    let content_of = λ (x : Bor RecordedContent). x.now in
     subst (λ (us : List (List ℕ)). IfOk c.rows_of_uids.result (λ rows. rows.items
     ≡ map (rejected_row c.args.taken.now) us))
     (c.deref-2.ensures.value ∙ c.in_ok-uids.ensures

@@ -1,19 +1,19 @@
-use Rattle.std.proofs.Common.{List, ap, map, ◌∙◌}
+use Rattle.std.proofs.Common.{Bor, List, ap, map, ◌∙◌}
+use Rattle.operation.specs.Parts.{ContentParts}
+use Rattle.records.specs.declared.recorded_content.RecordedContent.{RecordedContent}
 use Rattle.site_state.specs.Site.{ops_of}
 use Rattle.archive_model.specs.declared.view.View.TheVariants.{Audit}
-use Rattle.archive_model.specs.declared.prepared.Prepared.{Prepared}
 use Rattle.archive_model.specs.declared.selection.Selection.{Selection}
-use Rattle.archive_model.specs.Preparing.{prepared_of}
-use Rattle.site_tables.specs.Study.{prepared_instance}
-use Rattle.site_tables.proofs.InstanceLaws.{prepared_are}
+use Rattle.archive_model.specs.Selection.{selected}
+use Rattle.archive_model.specs.Shown.{shown}
+use Rattle.site_tables.specs.Study.{with_shown}
 use Rattle.site_tables.proofs.study.take_instances.Goals as goal
 
--- What is prepared of the study is its instances.
+-- What is shown and selected of the study is its picks.
 pub returns : goal.returns
 returns c =
     let ops = ops_of c.args.site.now in
     c.in_ok-found.ensures
-    ∙ ap (λ (ps : List Prepared). map (prepared_instance ops) ps)
-    (c.deref.ensures.value ∙ c.in_ok-prepared.ensures.prepared
-    ∙ ap (λ (s : Selection). prepared_of Audit s ops) c.in_ok-selection.ensures)
-    ∙ prepared_are c.args.uid.now ops
+    ∙ ap (λ (cs : List ContentParts). map (with_shown ops) cs)
+    (ap (map (λ (x : Bor RecordedContent). x.now)) c.deref.ensures.value ∙ c.in_ok-contents.ensures
+    ∙ ap (λ (s : Selection). selected s (shown Audit ops)) c.in_ok-selection.ensures)

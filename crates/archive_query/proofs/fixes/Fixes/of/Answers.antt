@@ -1,6 +1,6 @@
 use Rattle.std.proofs.Common.{◌≡◌, ◌+◌, ◌∷◌, map, drop, suc, ap, subst, sym, ◌∙◌, Bor, arith, add-one, drop-cons}
 use Rattle.std.proofs.lemmas.List.{drop_all}
-use Rattle.operation.specs.declared.content.Content.{Content}
+use Rattle.records.specs.declared.recorded_content.RecordedContent.{RecordedContent}
 use Rattle.archive_model.proofs.MemberLaws.{has_map}
 use Rattle.site_state.specs.declared.counts.Counts.{Counts}
 use Rattle.site_state.specs.Site.{ops_of}
@@ -12,7 +12,7 @@ use Rattle.archive_query.proofs.fixes.Fixes.of.Goals as goal
 pub returns-then-counts-eq0 : goal.returns-then-counts-eq0
 returns-then-counts-eq0 c =
     let ops = ops_of c.args.site.now in
-    let cs = map (λ (x : Bor Content). x.now) c.args.contents.now in
+    let cs = map (λ (x : Bor RecordedContent). x.now) c.args.contents.now in
     subst (AreFixes ops c.args.query.now.asked cs) (sym c.new.ensures.empty)
     (none_needed ops c.args.query.now.asked cs (sym (ap (λ (n : Counts). n.corrections) c.counts.ensures)
     ∙ c.if-counts-eq0.true))
@@ -20,14 +20,14 @@ returns-then-counts-eq0 c =
 -- At first nothing stands anywhere, and all contents are still to come.
 pub loop-content-init : goal.loop-content-init
 loop-content-init c told tells =
-    begin told (map (λ (x : Bor Content). x.now) c.args.contents.now) c.new.result.entries c.new.ensures.empty
+    begin told (map (λ (x : Bor RecordedContent). x.now) c.args.contents.now) c.new.result.entries c.new.ensures.empty
 
 -- The values of one content more stand under its UID.
 pub loop-content-preserved : goal.loop-content-preserved
 loop-content-preserved c told tells =
     let ops = ops_of c.args.site.now in
     let asked = c.args.query.now.asked in
-    let now = λ (y : Bor Content). y.now in
+    let now = λ (y : Bor RecordedContent). y.now in
     let i = c.loop-content.content-index in
     let contents = c.args.contents.now in
     let more = drop (i + 1) contents in
@@ -47,7 +47,7 @@ loop-content-preserved c told tells =
 -- No content is still to come.
 pub returns : goal.returns
 returns c told tells x has =
-    let now = λ (y : Bor Content). y.now in
+    let now = λ (y : Bor RecordedContent). y.now in
     let i = c.loop-content.content-index in
     let contents = c.args.contents.now in
     all_come told (map now contents) c.loop-content.fixes (map now (drop i contents))

@@ -12,8 +12,8 @@ invariant_of-self g c = onward_learned _ _ _ _ _ _ c.learn.ensures.this c.learn.
     c.publish-taken.ensures.onward
 
 -- What the shelf refused leaves the pass as it was.
-pub returns-in-Err-clause-later : goal.returns-in-Err-clause-later
-returns-in-Err-clause-later g c = later_same _ _ (search rules)
+pub returns-clause-later : goal.returns-clause-later
+returns-clause-later g c = later_same _ _ (search rules)
 
 -- What the shelf has kept only the hub refuses.
 pub returns-in-Ok-clause-why : goal.returns-in-Ok-clause-why
@@ -21,8 +21,8 @@ returns-in-Ok-clause-why g c = rw (← c.self.view_is) (rw (c.stored.ensures.sam
     (hub_refused g.P.Put.refuses _ _ _ c.publish-taken.result c.publish-taken.ensures.own c.publish-taken.ensures.busy))
 
 -- The shelf refused it.
-pub returns-in-Err-clause-why : goal.returns-in-Err-clause-why
-returns-in-Err-clause-why g c =
+pub returns-clause-why : goal.returns-clause-why
+returns-clause-why g c =
     let same : c.of-op.result ≡ a_content c.args.content = search rules in
     rw c.stored-in-Err.ensures.same (inl (record {
       before = c.self.inside.shelf.now;

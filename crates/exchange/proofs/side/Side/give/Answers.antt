@@ -1,9 +1,8 @@
-use Rattle.std.proofs.Common.{refl, ap, ◌∙◌, ℕ, List, length}
+use Rattle.std.proofs.Common.{ap, ◌∙◌, ℕ}
 use Rattle.std.proofs.lemmas.Result.{err_from_is_err_and}
 use Rattle.exchange.specs.declared.task.Awaited.{Awaited}
-use Rattle.exchange.specs.Held.{given}
 use Rattle.exchange.specs.Course.{next_after_gifts}
-use Rattle.exchange.proofs.Gifts.{same_gifts, held_later, as_many}
+use Rattle.exchange.proofs.Gifts.{gives_loaded}
 use Rattle.exchange.proofs.Holders.{idles_of, refused_is}
 use Rattle.exchange.proofs.side.Side.give.Goals as goal
 
@@ -19,18 +18,8 @@ returns-in_err-held-clause-refused g c = let p = err_from_is_err_and c.from_resi
 
 -- What is held is given, and is held still.
 pub returns-clause-did : goal.returns-clause-did
-returns-clause-did g c =
-    let looks = c.in_ok-held.ensures in
-    let version = c.args.self.now.round.version in
-    let want = c.args.want.now in (
-      record {
-        ops = given version want looks.had;
-        looks = record { had = looks.had; was_had = looks.was_had; answers = refl; stays = looks.stays };
-        says = same_gifts version looks.had _ looks.was_had.until c.in_ok-held.held want looks.answers;
-        same = ap (λ (a : Awaited). record c.args.self.now { awaited = a; given = c.len.result })
-            c.after_gifts-self.ensures
-            ∙ ap (λ (n : ℕ). record c.args.self.now { awaited = next_after_gifts c.args.self.now.role; given = n })
-            (c.len.ensures ∙ ap (λ (ds : List (List ℕ)). length ds) looks.answers ∙ as_many version looks.had want);
-      },
-      rw looks.answers (held_later version looks.had _ looks.was_had.until want),
-    )
+returns-clause-did g c = gives_loaded g.H.Holder.holds g.H.Holder.alone c.args.want.now c.args.self.now _ _ _ _
+    c.in_ok-held.ensures (ap (λ (a : Awaited). record c.args.self.now { awaited = a; given = c.len.result })
+    c.after_gifts-self.ensures
+    ∙ ap (λ (n : ℕ). record c.args.self.now { awaited = next_after_gifts c.args.self.now.role; given = n })
+    c.len.ensures)

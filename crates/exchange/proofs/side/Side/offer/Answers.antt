@@ -22,20 +22,17 @@ returns-in_err-have-clause-did g c =
 -- Its places were looked at, and what fits of what was held of them is said.
 pub returns-clause-did : goal.returns-clause-did
 returns-clause-did g c = let looks = c.in_ok-held.ensures in (
-  (
-    ap (λ (b : Bool). record c.args.self.now { awaited = awaits.Want; agreed = b; whole = c.whole_with-whole.result })
-        c.agreed_with-self.ensures,
-    record {
-      had = looks.had;
-      was_had = looks.was_had;
-      answers = (
-        ap (λ (x : List (List ℕ)). Have x ∷ []) (c.in_ok-have.ensures ∙ ap (fitting MOST_DIGESTS) looks.answers),
-        c.whole_with-whole.ensures ∙ ap (λ (ds : List (List ℕ)). c.args.self.now.whole && do_fit ds) looks.answers,
-      );
-      stays = looks.stays;
-    },
-  ),
-  tt,
+  ap (λ (b : Bool). record c.args.self.now { awaited = awaits.Want; agreed = b; whole = c.whole_with-whole.result })
+      c.agreed_with-self.ensures,
+  record {
+    had = looks.had;
+    was_had = looks.was_had;
+    answers = (
+      ap (λ (x : List (List ℕ)). Have x ∷ []) (c.in_ok-have.ensures ∙ ap (fitting MOST_DIGESTS) looks.answers),
+      c.whole_with-whole.ensures ∙ ap (λ (ds : List (List ℕ)). c.args.self.now.whole && do_fit ds) looks.answers,
+    );
+    stays = looks.stays;
+  },
 )
 
 -- What the holder refused is told as that.

@@ -14,8 +14,8 @@ returns-in-Ok-clause-why g c = rw (← c.self.view_is) (refused_at_hub g.P.Put.r
     c.publish-taken.result c.publish-taken.ensures.refused c.publish-taken.ensures.why)
 
 -- The shelf refused it.
-pub returns-in-Err-clause-why : goal.returns-in-Err-clause-why
-returns-in-Err-clause-why g c = record {
+pub returns-clause-why : goal.returns-clause-why
+returns-clause-why g c = record {
   seen = refl;
   why = inl (record {
     before = _;

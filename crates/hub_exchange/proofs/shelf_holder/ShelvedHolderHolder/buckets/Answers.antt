@@ -1,15 +1,15 @@
-use Rattle.hub_exchange.proofs.Gains.{looked}
+use Rattle.std.proofs.lemmas.Result.{err_from_is_err_and}
+use Rattle.hub_exchange.proofs.Gains.{of_records}
 use Rattle.hub_exchange.proofs.shelf_holder.ShelvedHolderHolder.buckets.Goals as goal
 
--- A look gains nothing.
-pub invariant_of-self : goal.invariant_of-self
-invariant_of-self g c = looked g.K.Keep.is_up g.K.Keep.lasts _ _ _ _ _ (c.buckets.ensures.stays tt).1 c.self.invariant
+-- A refusal is one of memory.
+pub returns-in_err-buckets_of_site : goal.returns-in_err-buckets_of_site
+returns-in_err-buckets_of_site g c =
+    let p = err_from_is_err_and c.from_residual.result c.from_residual.ensures.1 in
+    let lawful = c.see_lawful.ensures in
+    rw (← c.self.view_is) (of_records c.self.inside.site lawful.own lawful.lawful (rw p.1 p.2))
 
--- What the site answers the holder answers.
+-- What is told of the site the holder tells.
 pub returns : goal.returns
-returns g c = let look = c.buckets.ensures in record {
-  had = look.had;
-  was_had = rw (← c.self.view_is) look.was_had;
-  answers = look.answers;
-  stays = λ _. (tt, rw (← c.self.view_is) ((look.stays tt).1));
-}
+returns g c = let lawful = c.see_lawful.ensures in
+    rw (← c.self.view_is) (of_records c.self.inside.site lawful.own lawful.lawful c.in_ok-buckets_of_site.ensures)

@@ -4,7 +4,7 @@ use Rattle.site_state.specs.Site.{HasNoOther}
 use Rattle.site_hub.specs.declared.entry.Entry.{Entry}
 use Rattle.site_hub.specs.History.{set_of, IsHistory}
 use Rattle.site_hub.proofs.Adding.{adds_moves}
-use Rattle.site_hub.proofs.Histories.{history_more}
+use Rattle.site_hub.proofs.Histories.{history_more, recorded_is_lawful}
 use Rattle.site_hub.proofs.book.Front.add.Goals as goal
 
 -- The entry may be written: the book, the pen and the offer are those of this history, which the step makes longer by
@@ -33,5 +33,6 @@ invariant_of-result g c =
     (sym c.self.view_is) c.requires.clashless in (
       omega (arith, c.self.invariant.0, ap length grown ∙ length-append was (entry ∷ [])),
       search rules,
-      subst (IsHistory opening) (sym grown) (history_more opening was entry c.self.invariant.2 none),
+      subst (IsHistory opening) (sym grown) (history_more opening was entry c.self.invariant.2 none
+          (recorded_is_lawful entry.op c.see_recorded.ensures)),
     )

@@ -1,5 +1,5 @@
 use Rattle.std.proofs.Common.{List, Bor, map, ap, subst, ◌∙◌}
-use Rattle.operation.specs.declared.content.Content.{Content}
+use Rattle.records.specs.declared.recorded_content.RecordedContent.{RecordedContent}
 use Rattle.operation.specs.Parts.{ContentParts}
 use Rattle.site_tables.specs.declared.under.Under.{Under}
 use Rattle.site_tables.specs.Studies.{study_pair, row_by}
@@ -10,7 +10,7 @@ use Rattle.site_tables.proofs.studies.TakenStudies.rows.Goals as goal
 -- The contents that lie under a study are those of the study.
 pub returns : goal.returns
 returns c =
-    let content_of = λ (x : Bor Content). x.now in
+    let content_of = λ (x : Bor RecordedContent). x.now in
     let tags = c.args.tags.now in
     let entries = c.in_ok-entries.entries.items in
     let rejected = c.args.self.now.rejected in

@@ -1,6 +1,6 @@
 use Rattle.std.proofs.Common.{List, Bor, map, ap, subst, ◌∙◌}
 use Rattle.std.specs.List.{flat_map}
-use Rattle.operation.specs.declared.content.Content.{Content}
+use Rattle.records.specs.declared.recorded_content.RecordedContent.{RecordedContent}
 use Rattle.operation.specs.Parts.{ContentParts}
 use Rattle.site_tables.specs.declared.study.Instance.{Instance}
 use Rattle.site_tables.specs.declared.under.Under.{Under}
@@ -13,7 +13,7 @@ use Rattle.site_tables.proofs.study.TakenStudy.instance_rows.Goals as goal
 -- The notes that lie under an instance tell of it what all notes do.
 pub returns : goal.returns
 returns c =
-    let content_of = λ (x : Bor Content). x.now in
+    let content_of = λ (x : Bor RecordedContent). x.now in
     let notes = c.args.self.now.notes in
     let instances = c.args.self.now.instances in
     let entries = c.in_ok-entries.entries.items in

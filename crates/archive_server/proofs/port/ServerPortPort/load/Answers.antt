@@ -1,7 +1,0 @@
-use Rattle.archive_server.proofs.OnwardLaws.{onward_looked}
-use Rattle.archive_server.proofs.port.ServerPortPort.load.Goals as goal
-
--- A look makes nothing the pass's own.
-pub invariant_of-self : goal.invariant_of-self
-invariant_of-self g c = onward_looked _ _ _ _ c.self.invariant c.content-loaded.ensures.later
-    c.content-loaded.ensures.loads.own_kept
