@@ -11,3 +11,4 @@ pub mod Journal
 pub mod Refusing
 pub mod Serving
 pub mod Telling
+pub mod Visiting

@@ -1,7 +1,8 @@
 //! The thread of pages: it answers who comes for one, at an entrance of their own, one after
 //! another, with looks of a pass of its own.
 
-ghost use Rattle.std.specs.Prelude.{◌≡◌, ◌+◌, ◌-◌, ◌<◌, ◌^◌, IfOk, true};
+ghost use Rattle.std.specs.Prelude.{◌≡◌, ◌+◌, ◌-◌, ◌<◌, ◌≤◌, ◌^◌, IfOk, true};
+ghost use Rattle.core.specs.Duration.{as_nanos};
 ghost use Rattle.command_words.specs.Networks.{may_come};
 ghost use Rattle.archive_server.specs.Calling.{GoesOnWhileServed};
 ghost use Rattle.archive_server.specs.Done.{HasOnlyLooked};
@@ -41,13 +42,8 @@ pub struct Paging<'a> {
     pub gauges: &'a Gauges,
 }
 
-/// Lets stores have their turn behind a page that was made in so long, or until nobody serves.
-fn gives_way<S: Wait + Clock>(rt: &S, ended: &Receiver<()>, made: Duration) {
-    let _ = ended.recv_timeout(rt, rest_behind(made));
-}
-
-/// What the thread has done, and one connection more, of a peer that may come in here. Behind it the
-/// peer may read what was sent last, and stores have their turn.
+/// What the thread has done, and one connection more, of a peer that may come in here, which may
+/// read what was sent last. It says how long stores have their turn behind it.
 fn with_visitor<H: HubName, T: Shows<H>, R: Wait + Drop, S: Wait + Clock + Log, N: LedgerName>(
     hall: &Hall<'_, H, T, R, S>,
     paging: Paging<'_>,
@@ -55,12 +51,13 @@ fn with_visitor<H: HubName, T: Shows<H>, R: Wait + Drop, S: Wait + Clock + Log, 
     wire: &Wire,
     peer: SocketAddr,
     done: Done<H, N>,
-) -> Done<H, N>
+) -> (Done<H, N>, Duration)
     requires room { done.accepted + done.failed < 2 ^ 64 - 1 }
     requires allowed { may_come paging.entrance.allowed.now peer ≡ true }
-    ensures looked { HasOnlyLooked done.clerk result.clerk }
-    ensures accepted { result.accepted ≡ done.accepted + 1 }
-    ensures failed { result.failed ≡ done.failed }
+    ensures looked { HasOnlyLooked done.clerk result.0.clerk }
+    ensures accepted { result.0.accepted ≡ done.accepted + 1 }
+    ensures failed { result.0.failed ≡ done.failed }
+    ensures rest { as_nanos result.1 ≤ 2_000_000_000 }
 {
     let (rt, alloc, idle) = (hall.archive.rt, hall.archive.alloc, hall.manner.idle);
     let known = hall
@@ -71,32 +68,33 @@ fn with_visitor<H: HubName, T: Shows<H>, R: Wait + Drop, S: Wait + Clock + Log, 
     let (done, _answered) = done.with_pages(alloc, paging, &known, &mut reader, &mut writer);
     tell_visit(rt, hall.manner, Whence::at(peer), wire, writer.count());
     wire.part(rt);
-    gives_way(rt, ended, reader.made_until(&writer));
-    done
+    (done, rest_behind(reader.made_until(&writer)))
 }
 
-/// What the thread has done, with what came of an accept.
+/// What the thread has done, with what came of an accept, and how long is waited before the next:
+/// behind a page stores have their turn, and behind an accept that failed a turn is let go by.
 fn with_entered<H: HubName, T: Shows<H>, R: Wait + Drop, S: Wait + Clock + Log, N: LedgerName>(
     hall: &Hall<'_, H, T, R, S>,
     paging: Paging<'_>,
     ended: &Receiver<()>,
     came: io::Result<Entered>,
     done: Done<H, N>,
-) -> Done<H, N>
+) -> (Done<H, N>, Duration)
     requires room { done.accepted + done.failed < 2 ^ 64 - 1 }
     requires ruled { IfOk came (IsAsAllowed paging.entrance.allowed.now) }
-    ensures looked { HasOnlyLooked done.clerk result.clerk }
-    ensures used { result.accepted + result.failed ≡ done.accepted + done.failed + 1 }
+    ensures looked { HasOnlyLooked done.clerk result.0.clerk }
+    ensures used { result.0.accepted + result.0.failed ≡ done.accepted + done.failed + 1 }
 {
+    let pause = pause_behind_accept(&came);
     match came {
         Ok(Entered::LetIn(wire, peer)) => with_visitor(hall, paging, ended, &wire, peer, done),
         Ok(Entered::TurnedAway(peer)) => {
             tell_turned_away(hall.archive.rt, hall.manner, peer);
-            done.with_turned_away(paging.entrance, peer)
+            (done.with_turned_away(paging.entrance, peer), pause)
         }
         Err(error) => {
             tell_not_accepted(hall.archive.rt, hall.manner, &error);
-            done.with_none(hall.manner.is_ended())
+            (done.with_none(hall.manner.is_ended()), pause)
         }
     }
 }
@@ -128,8 +126,7 @@ fn accept_one<H: HubName, T: Shows<H>, R: Wait + Drop, S: Wait + Clock + Log, N:
     if is_nobody(&came) {
         return (done, Duration::ZERO);
     }
-    let pause = pause_behind_accept(&came);
-    (with_entered(hall, paging, ended, came, done), pause)
+    with_entered(hall, paging, ended, came, done)
 }
 
 /// Accepts again and again, as long as somebody serves.

@@ -2,7 +2,8 @@
 //! these it is seen whether anybody still serves.
 
 ghost use Rattle.std.specs.Prelude.{◌≡◌, ◌≤◌, ◌*◌, min};
-ghost use Rattle.core.specs.Duration.{as_nanos, max_nanos};
+ghost use Rattle.core.specs.Duration.{as_nanos};
+ghost use Rattle.archive_server.specs.Visiting.{nanos_between};
 
 use crate::wire::{Wire, is_cut_off};
 use crossbeam_channel::{Receiver, TryRecvError};
@@ -52,8 +53,7 @@ fn is_over<S: Wait>(rt: &S, ended: &Receiver<()>) -> bool {
 /// How long is rested behind a page that was made in so long: a publish waits for the look that is
 /// under way, so pages have a tenth of the time, as long as each is made within a fifth of a second.
 pub(crate) fn rest_behind(made: Duration) -> Duration
-    ensures rest { as_nanos result
-        ≡ min (min (as_nanos made * 9) max_nanos) 2_000_000_000 }
+    ensures rest { as_nanos result ≡ min (as_nanos made * 9) 2_000_000_000 }
 {
     let rest = made.saturating_mul(RESTS);
     if rest.as_secs() < MOST_REST {
@@ -71,7 +71,8 @@ pub(crate) struct Visit<'a, S: Wait + Clock> {
     ended: &'a Receiver<()>,
     left: u64,
     count: u64,
-    /// When bytes first went this way, and when last, as far as a clock says it.
+    /// When it was first seen that bytes went this way, or can go no more, and when last that they
+    /// went, as far as a clock says it.
     first: Option<Instant>,
     last: Option<Instant>,
 }
@@ -99,8 +100,10 @@ impl<'a, S: Wait + Clock> Visit<'a, S> {
         self.count
     }
 
-    /// How long it took from what was read last until something was written, where both were.
-    pub fn made_until(&self, writer: &Visit<'_, S>) -> Duration {
+    /// How long it took from what was read last until something was written, or could not be.
+    pub fn made_until(&self, writer: &Visit<'_, S>) -> Duration
+        ensures made { as_nanos result ≡ nanos_between self.now.last writer.now.first }
+    {
         match (self.last, writer.first) {
             (Some(asked), Some(told)) => told.duration_since(asked),
             _ => Duration::ZERO,
@@ -120,10 +123,13 @@ impl<'a, S: Wait + Clock> Visit<'a, S> {
     fn noted(&mut self, done: io::Result<usize>) -> io::Result<usize>
         ensures { result ≡ done }
     {
+        let now = Instant::now(self.rt).ok();
+        self.first = self.first.or(now);
         if let Ok(count) = done {
             self.count = self.count.saturating_add(count as u64);
-            self.last = Instant::now(self.rt).ok();
-            self.first = self.first.or(self.last);
+            if count > 0 {
+                self.last = now;
+            }
         }
         self.wire.noted(done)
     }
