@@ -274,9 +274,7 @@ fn is_of_series(pick: Option<&Pick>, study: &ShortText, series: &ShortText) -> b
 {
     match pick {
         None => false,
-        Some(pick) => {
-            pick.study.as_slice() == study.as_slice() && pick.series.as_slice() == series.as_slice()
-        }
+        Some(pick) => pick.study() == study.as_slice() && pick.series() == series.as_slice(),
     }
 }
 

@@ -48,10 +48,10 @@ fn is_in_series(last: Option<&Place>, place: &Place) -> bool
     match last {
         None => false,
         Some(last) => {
-            last.study().as_slice() == place.study().as_slice()
-                && last.series().as_slice() == place.series().as_slice()
-                && place.study().as_slice().len() < 64
-                && place.series().as_slice().len() < 64
+            last.study() == place.study()
+                && last.series() == place.series()
+                && place.study().len() < 64
+                && place.series().len() < 64
         }
     }
 }
@@ -72,7 +72,7 @@ fn put_firsts<'a>(
         if is_in_series(last, place) {
             continue;
         }
-        if let Some(content) = site.shown(view, place.instance()) {
+        if let Some(content) = site.shown(view, &ShortText::whole(place.instance())) {
             found.push(content)?;
             last = Some(place);
         }

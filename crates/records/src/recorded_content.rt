@@ -12,16 +12,19 @@ ghost use Rattle.records.specs.StandIn.{IsStandIn, stand_in};
 use data_set::Syntax;
 use operation::{Content, ContentRecord, Digest};
 use rejection_note::Note;
-use std::alloc::AllocError;
+use std::alloc::{AllocError, Global};
 use std::marker::Model;
+use std::sync::Arc;
 
 /// A content of which the record alone is held: all but its bytes.
 ///
 /// Contracts see the content that stands for those of this record: the first, in the order of their
 /// bytes. Where no two contents have one digest, it is the content that was recorded.
+///
+/// Its copies share the record with its digest, so that a copy takes 8 bytes.
 #[derive(Debug)]
 pub struct RecordedContent {
-    record: ContentRecord,
+    record: Arc<ContentRecord, Global>,
 }
 
 impl Model for RecordedContent {
@@ -33,9 +36,11 @@ impl Model for RecordedContent {
 
     ghost coded = { content_code };
 
-    ghost view = { λ r. content_of r.record };
+    ghost use Rattle.std.specs.Arc.{arc_value};
 
-    ghost invariant = { λ r. IsRecord r.record };
+    ghost view = { λ r. content_of (arc_value r.record) };
+
+    ghost invariant = { λ r. IsRecord (arc_value r.record) };
 }
 
 // It is written out, so that a caller does not prove again how each part is dropped.
@@ -53,13 +58,17 @@ pub(crate) fn see_bytes(bytes: &[u8])
 impl RecordedContent {
     /// The record of a content, under its digest. Nothing is hashed or copied: all but the digest is
     /// shared with the content.
-    pub fn of(digest: &Digest, content: &Content) -> Result<RecordedContent, AllocError>
+    pub fn of(
+        alloc: Global,
+        digest: &Digest,
+        content: &Content,
+    ) -> Result<RecordedContent, AllocError>
         requires own { digest.now ≡ digest_of (a_content content.now) }
         ensures { IfOk result (λ recorded. recorded ≡ stand_in content.now) }
     {
         see_bytes(content.body().as_slice());
         Ok(RecordedContent {
-            record: ContentRecord::of(digest, content)?,
+            record: Arc::new(alloc, ContentRecord::of(digest, content)?)?,
         })
     }
 
@@ -68,7 +77,7 @@ impl RecordedContent {
         ensures { IfOk result (λ copy. copy ≡ self.now) }
     {
         Ok(RecordedContent {
-            record: self.record.copy()?,
+            record: Arc::try_clone(&self.record)?,
         })
     }
 

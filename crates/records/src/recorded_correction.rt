@@ -7,12 +7,21 @@ ghost use Rattle.operation.specs.declared.op.Op.TheVariants.{Correction as a_cor
 use operation::{Correction, Digest};
 use std::alloc::{AllocError, Global};
 use std::marker::Model;
+use std::sync::Arc;
 
-/// A correction with its own digest. Contracts see the correction.
-#[derive(Debug)]
-pub struct RecordedCorrection {
+/// A digest, and a correction under it.
+#[derive(Debug, Drop)]
+struct UnderDigest {
     digest: Digest,
     correction: Correction,
+}
+
+/// A correction with its own digest. Contracts see the correction.
+///
+/// It stands apart, so that an operation of either kind takes no more than that of a content.
+#[derive(Debug)]
+pub struct RecordedCorrection {
+    kept: Arc<UnderDigest, Global>,
 }
 
 impl Model for RecordedCorrection {
@@ -26,18 +35,18 @@ impl Model for RecordedCorrection {
 
     ghost coded = { correction_code };
 
-    ghost view = { λ k. k.correction };
+    ghost use Rattle.std.specs.Arc.{arc_value};
 
-    ghost invariant = { λ k. k.digest ≡ digest_of (a_correction k.correction) };
+    ghost view = { λ k. (arc_value k.kept).correction };
+
+    ghost invariant = { λ k.
+        (arc_value k.kept).digest ≡ digest_of (a_correction (arc_value k.kept).correction) };
 }
 
 // It is written out, so that a caller does not prove again how each part is dropped.
 impl Drop for RecordedCorrection {
     fn drop(self) {
-        let RecordedCorrection {
-            digest: _,
-            correction: _,
-        } = self;
+        let RecordedCorrection { kept: _ } = self;
     }
 }
 
@@ -51,29 +60,32 @@ impl RecordedCorrection {
         requires own { digest.now ≡ digest_of (a_correction correction.now) }
         ensures { IfOk result (λ recorded. recorded ≡ correction.now) }
     {
-        Ok(RecordedCorrection {
-            digest: *digest,
-            correction: correction.copy(alloc)?,
-        })
+        RecordedCorrection::under(alloc, *digest, correction.copy(alloc)?)
     }
 
     /// A correction under its digest.
-    pub fn under(digest: Digest, correction: Correction) -> RecordedCorrection
+    pub fn under(
+        alloc: Global,
+        digest: Digest,
+        correction: Correction,
+    ) -> Result<RecordedCorrection, AllocError>
         requires own { digest ≡ digest_of (a_correction correction) }
-        ensures { result ≡ correction }
+        ensures { IfOk result (λ recorded. recorded ≡ correction) }
     {
-        RecordedCorrection { digest, correction }
+        Ok(RecordedCorrection {
+            kept: Arc::new(alloc, UnderDigest { digest, correction })?,
+        })
     }
 
     pub fn digest(&self) -> &Digest
         ensures { result.now ≡ digest_of (a_correction self.now) }
     {
-        &self.digest
+        &self.kept.digest
     }
 
     pub fn correction(&self) -> &Correction
         ensures { result.now ≡ self.now }
     {
-        &self.correction
+        &self.kept.correction
     }
 }

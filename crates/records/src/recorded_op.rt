@@ -74,7 +74,7 @@ impl RecordedOp {
         see_whole(op.op());
         let digest = op.digest();
         let parts = match op.op() {
-            Op::Content(content) => Parts::Content(RecordedContent::of(digest, content)?),
+            Op::Content(content) => Parts::Content(RecordedContent::of(alloc, digest, content)?),
             Op::Correction(correction) => {
                 Parts::Correction(RecordedCorrection::of(alloc, digest, correction)?)
             }
@@ -83,14 +83,14 @@ impl RecordedOp {
     }
 
     /// A correction, which is hashed.
-    pub fn of_correction(correction: Correction) -> RecordedOp
-        ensures { result ≡ a_correction correction }
+    pub fn of_correction(alloc: Global, correction: Correction) -> Result<RecordedOp, AllocError>
+        ensures { IfOk result (λ recorded. recorded ≡ a_correction correction) }
     {
         let (digest, op) = Digested::of(Op::Correction(correction)).into_parts();
         match op {
-            Op::Correction(correction) => RecordedOp {
-                parts: Parts::Correction(RecordedCorrection::under(digest, correction)),
-            },
+            Op::Correction(correction) => Ok(RecordedOp {
+                parts: Parts::Correction(RecordedCorrection::under(alloc, digest, correction)?),
+            }),
             Op::Content(_) => unreachable!(),
         }
     }

@@ -103,7 +103,9 @@ impl<H: HubName, T: Shows<H>, R: Wait + Drop> Keeper<H, T, R> {
         let Ok(kept) = made.copy(pass.alloc) else {
             return Err(HubFault::Memory);
         };
-        let op = RecordedOp::of_correction(made);
+        let Ok(op) = RecordedOp::of_correction(pass.alloc, made) else {
+            return Err(HubFault::Memory);
+        };
         let taken = self.check(&pass.seen, &mut pass.refusals, &op)?;
         let told = self.add(pass, op, taken)?;
         Ok((kept, told))

@@ -223,7 +223,7 @@ impl Site {
         self.see_lawful();
         match self.index().pick(uid) {
             None => None,
-            Some(picked) => self.content_under(&picked.digest),
+            Some(picked) => self.content_under(picked.digest()),
         }
     }
 

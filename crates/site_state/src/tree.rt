@@ -1,6 +1,6 @@
 //! Trees of operations, each under a digest: what a site keeps.
 
-ghost use Rattle.std.specs.Prelude.{◌≡◌, [], ◌∷◌, List, ℕ, cond, None, Some, OnOk, OnErr, IfOk, IfSome, MatchBool};
+ghost use Rattle.std.specs.Prelude.{◌≡◌, [], ◌∷◌, List, ℕ, cond, None, Some, OnOk, OnErr, IfOk, MatchBool};
 ghost use Rattle.std.specs.FinMap as finmap;
 ghost use Rattle.std.specs.BTreeMap.{is_at};
 ghost use Rattle.operation.specs.Spelling.{digest_of};
@@ -9,7 +9,7 @@ ghost use Rattle.site_state.specs.Site.{digest_cmp, of_entries, entry_at, index_
 ghost use Rattle.site_state.specs.Union.{union, DoClash, Agree};
 ghost use Rattle.site_state.specs.Journal.{without};
 
-use join_laws::Join;
+use join_laws::{Join, Summary};
 use operation::Digest;
 use records::RecordedOp;
 use std::alloc::{AllocError, Global};
@@ -133,13 +133,12 @@ fn add_held(
     index: &mut Index,
     digest: Digest,
 ) -> Result<(), AllocError>
-    requires { IfSome (entry_at digest tree.now.entries) (λ op. digest ≡ digest_of op) }
     ensures ok { OnOk result (index.new ≡ index_with index.old (entry_at digest tree.now.entries)) }
     ensures kept { OnErr result (index.new ≡ index.old) }
 {
     match tree.get(&digest) {
         None => Ok(()),
-        Some(op) => index.add_under(digest, op),
+        Some(op) => index.add(op),
     }
 }
 

@@ -34,7 +34,7 @@ fn pick_of(site: &Site, content: &RecordedContent) -> Option<Digest>
 {
     match site.index().pick(&ShortText::whole(content.instance())) {
         None => None,
-        Some(picked) => Some(picked.digest),
+        Some(picked) => Some(*picked.digest()),
     }
 }
 

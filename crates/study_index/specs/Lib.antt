@@ -1,10 +1,12 @@
 pub mod Copies
+pub mod CopyView
 pub mod Definition
 pub mod Index
 pub mod Laws
 pub mod Leads
 pub mod LeadView
 pub mod Marks
+pub mod PlaceView
 pub mod Proved
 pub mod Walk
 pub mod Keys

@@ -17,7 +17,7 @@ fn is_next_copy(before: Option<&ContentCopy>, copy: &ContentCopy) -> bool
 {
     match before {
         None => false,
-        Some(before) => before.uid.as_slice() == copy.uid.as_slice(),
+        Some(before) => before.uid() == copy.uid(),
     }
 }
 
@@ -34,7 +34,7 @@ fn put_next(
     if !is_next_copy(before, copy) {
         return Ok(());
     }
-    put_uid(uids, &copy.uid)?;
+    put_uid(uids, &ShortText::whole(copy.uid()))?;
     Ok(())
 }
 

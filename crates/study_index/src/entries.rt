@@ -1,22 +1,50 @@
 //! What an index holds of contents and of notes, beside the picks.
-ghost use Rattle.std.specs.Prelude.{◌≡◌, refl, Some};
+ghost use Rattle.std.specs.Prelude.{◌≡◌, ◌≤◌, IfOk, length, refl, Some};
 ghost use Rattle.std.specs.Ordering.{eq_by_cmp};
 ghost use Rattle.std.specs.Cmp.{partial_equiv_from_equiv, eq_by_cmp_equiv, partial_order_from_total};
-ghost use Rattle.study_index.specs.Index.{copy_cmp, naming_cmp};
+ghost use Rattle.operation.specs.declared.op.Op.TheVariants.{Content as a_content};
+ghost use Rattle.operation.specs.Spelling.{digest_of};
+ghost use Rattle.study_index.specs.Index.{a_copy, copy_cmp, naming_cmp};
 ghost use Rattle.study_index.specs.Proved.Indexes.{copy_total, copy_exact, naming_total, naming_exact};
 
 use crate::short_text::ShortText;
 use join_laws::{Copies, Exact};
 use operation::Digest;
-use std::alloc::AllocError;
+use records::RecordedContent;
+use std::alloc::{AllocError, Global};
 use std::cmp::Ordering;
 use std::marker::Model;
+use std::sync::Arc;
 
-/// A content: its SOP Instance UID and its digest, ordered by the one, then by the other.
+/// A SOP Instance UID and a digest.
 #[derive(Drop)]
-pub struct ContentCopy {
+pub struct CopyParts {
     pub uid: ShortText,
     pub digest: Digest,
+}
+
+impl Model for CopyParts {
+    ghost use Rattle.study_index.specs.Index.{Copy};
+
+    ghost Value = { Copy };
+
+    ghost view = { λ a. record { uid = a.uid; digest = a.digest } };
+}
+
+/// Where the parts of a copy stand.
+#[derive(Drop)]
+pub enum CopySource {
+    /// In a content, which is shared.
+    Stored(RecordedContent),
+    /// Apart, where it is asked whether they are those of a content.
+    Given(Arc<CopyParts, Global>),
+}
+
+/// A content: its SOP Instance UID and its digest, ordered by the one, then by the other.
+///
+/// It shares the content, and keeps no text of its own.
+pub struct ContentCopy {
+    source: CopySource,
 }
 
 impl Model for ContentCopy {
@@ -24,7 +52,62 @@ impl Model for ContentCopy {
 
     ghost Value = { Copy };
 
-    ghost view = { λ a. record { uid = a.uid; digest = a.digest } };
+    ghost use Rattle.study_index.specs.CopyView.{copy_view};
+
+    ghost view = { λ a. copy_view a.source };
+}
+
+// It is written out, so that a caller does not prove again how each part is dropped.
+impl Drop for ContentCopy {
+    fn drop(self) {
+        let ContentCopy { source: _ } = self;
+    }
+}
+
+impl ContentCopy {
+    /// The copy that a content is.
+    pub fn of(content: &RecordedContent) -> Result<ContentCopy, AllocError>
+        ensures { IfOk result (λ copy. copy ≡
+            a_copy content.now.instance (digest_of (a_content content.now))) }
+    {
+        Ok(ContentCopy {
+            source: CopySource::Stored(content.copy()?),
+        })
+    }
+
+    /// A UID and a digest, as a copy.
+    pub fn given(alloc: Global, uid: &ShortText, digest: &Digest) -> Result<ContentCopy, AllocError>
+        ensures { IfOk result (λ copy. copy ≡ a_copy uid.now digest.now) }
+    {
+        let parts = CopyParts {
+            uid: uid.duplicate(),
+            digest: *digest,
+        };
+        Ok(ContentCopy {
+            source: CopySource::Given(Arc::new(alloc, parts)?),
+        })
+    }
+
+    /// The SOP Instance UID.
+    pub fn uid(&self) -> &[u8]
+        ensures value { result.now ≡ self.now.uid }
+        ensures short { length result.now ≤ 64 }
+    {
+        match &self.source {
+            CopySource::Stored(content) => content.instance(),
+            CopySource::Given(parts) => parts.uid.as_slice(),
+        }
+    }
+
+    /// The digest.
+    pub fn digest(&self) -> &Digest
+        ensures { result.now ≡ self.now.digest }
+    {
+        match &self.source {
+            CopySource::Stored(content) => content.digest(),
+            CopySource::Given(parts) => &parts.digest,
+        }
+    }
 }
 
 impl PartialEq for ContentCopy {
@@ -61,17 +144,21 @@ impl Ord for ContentCopy {
     ghost matches_eq = { λ x y. refl };
 
     fn cmp(&self, other: &ContentCopy) -> Ordering {
-        let digests = self.digest.as_bytes().cmp(other.digest.as_bytes());
-        self.uid.cmp(&other.uid).then(digests)
+        match self.uid().cmp(other.uid()) {
+            Ordering::Less => Ordering::Less,
+            Ordering::Equal => self.digest().as_bytes().cmp(other.digest().as_bytes()),
+            Ordering::Greater => Ordering::Greater,
+        }
     }
 }
 
 impl Copies for ContentCopy {
     fn copy(&self) -> Result<ContentCopy, AllocError> {
-        Ok(ContentCopy {
-            uid: self.uid.duplicate(),
-            digest: self.digest,
-        })
+        let source = match &self.source {
+            CopySource::Stored(content) => CopySource::Stored(content.copy()?),
+            CopySource::Given(parts) => CopySource::Given(Arc::try_clone(parts)?),
+        };
+        Ok(ContentCopy { source })
     }
 }
 

@@ -8,7 +8,6 @@ ghost use Rattle.octets.specs.Texts.{text_cmp};
 ghost use Rattle.rejection_note.specs.declared.note.Note.{Note as ANote};
 ghost use Rattle.operation.specs.declared.op.Op.TheVariants.{Content as a_content, Correction as a_correction};
 ghost use Rattle.operation.specs.Parts.{key_of as key_in};
-ghost use Rattle.operation.specs.Spelling.{digest_of};
 ghost use Rattle.archive_model.specs.Index.{code_of};
 ghost use Rattle.join_laws.specs.GrowSet.{union_of};
 ghost use Rattle.study_index.specs.Copies.{is_doubled};
@@ -206,7 +205,13 @@ impl Summary<RecordedOp> for Index {
     }
 
     fn add(&mut self, op: &RecordedOp) -> Result<(), AllocError> {
-        self.add_under(*op.digest(), op)
+        match op.parts() {
+            Parts::Correction(recorded) => self.add_correction(recorded.correction()),
+            Parts::Content(content) => match content.note() {
+                Some(note) => self.add_note(content, note),
+                None => self.add_image(content),
+            },
+        }
     }
 }
 
@@ -243,14 +248,13 @@ impl Index {
 
     // Takes in the copy, the leads and the pick of a content. Its leads are taken out again where
     // the others are refused.
-    fn add_led(&mut self, digest: Digest, content: &RecordedContent) -> Result<(), AllocError>
-        requires { digest ≡ digest_of (a_content content.now) }
+    fn add_led(&mut self, content: &RecordedContent) -> Result<(), AllocError>
         ensures ok { OnOk result (self.new ≡ with_content self.old content.now) }
         ensures refused { OnErr result (self.new ≡ self.old) }
     {
         let stored = stored_by(self.alloc, content)?;
         let led = self.leads.join_noted(&stored)?;
-        if let Err(refused) = add_content(&mut self.copies, &mut self.live, digest, content) {
+        if let Err(refused) = add_content(&mut self.copies, &mut self.live, content) {
             self.leads.take_out(led);
             return Err(refused);
         }
@@ -259,21 +263,15 @@ impl Index {
 
     // Takes in a content that is a note. Its titles are taken out again where the content is
     // refused.
-    fn add_note(
-        &mut self,
-        digest: Digest,
-        content: &RecordedContent,
-        note: &Note,
-    ) -> Result<(), AllocError>
-        requires digest { digest ≡ digest_of (a_content content.now) }
-        requires note { content.now.note ≡ Some note.now }
+    fn add_note(&mut self, content: &RecordedContent, note: &Note) -> Result<(), AllocError>
+        requires { content.now.note ≡ Some note.now }
         ensures ok { OnOk result (self.new ≡
             index_joined self.old (index_of (a_content content.now))) }
         ensures refused { OnErr result (self.new ≡ self.old) }
     {
         let named = titles_in(self.alloc, note)?;
         let added = self.titles.join_noted(&named)?;
-        if let Err(refused) = self.add_led(digest, content) {
+        if let Err(refused) = self.add_led(content) {
             self.titles.take_out(added);
             return Err(refused);
         }
@@ -281,29 +279,13 @@ impl Index {
     }
 
     // Takes in a content that is no note.
-    fn add_image(&mut self, digest: Digest, content: &RecordedContent) -> Result<(), AllocError>
-        requires digest { digest ≡ digest_of (a_content content.now) }
-        requires image { content.now.note ≡ None }
+    fn add_image(&mut self, content: &RecordedContent) -> Result<(), AllocError>
+        requires { content.now.note ≡ None }
         ensures ok { OnOk result (self.new ≡
             index_joined self.old (index_of (a_content content.now))) }
         ensures refused { OnErr result (self.new ≡ self.old) }
     {
-        self.add_led(digest, content)
-    }
-
-    /// Takes in an operation under its digest. Where memory is refused, the index stays as it was.
-    pub fn add_under(&mut self, digest: Digest, op: &RecordedOp) -> Result<(), AllocError>
-        requires { digest ≡ digest_of op.now }
-        ensures ok { OnOk result (self.new ≡ index_joined self.old (index_of op.now)) }
-        ensures refused { OnErr result (self.new ≡ self.old) }
-    {
-        match op.parts() {
-            Parts::Correction(recorded) => self.add_correction(recorded.correction()),
-            Parts::Content(content) => match content.note() {
-                Some(note) => self.add_note(digest, content, note),
-                None => self.add_image(digest, content),
-            },
-        }
+        self.add_led(content)
     }
 
     /// The digest of the pick of a SOP Instance UID, and behind it the pick's study and series.
@@ -314,14 +296,12 @@ impl Index {
     }
 
     /// Whether a digest is that of a content of a SOP Instance UID.
-    pub fn is_copy(&self, uid: &ShortText, digest: &Digest) -> bool
-        ensures { result ≡ has copy_cmp self.now.copies (a_copy uid.now digest.now) }
+    pub fn is_copy(&self, uid: &ShortText, digest: &Digest) -> Result<bool, AllocError>
+        ensures { IfOk result (λ held. held ≡
+            has copy_cmp self.now.copies (a_copy uid.now digest.now)) }
     {
-        let copy = ContentCopy {
-            uid: uid.duplicate(),
-            digest: *digest,
-        };
-        self.copies.get().contains(&copy)
+        let copy = ContentCopy::given(self.alloc, uid, digest)?;
+        Ok(self.copies.get().contains(&copy))
     }
 
     /// Whether a note of a title names a UID.
@@ -469,17 +449,21 @@ impl Index {
     }
 
     /// The least study of all picks past `after` as bytes, or the first where there is none.
-    pub fn next_study(&self, after: Option<&ShortText>) -> Option<&ShortText>
-        ensures { IsNext (HasStudy self.now.picks) (option_copied after.entry)
-            (option_copied result) }
+    pub fn next_study(&self, after: Option<&ShortText>) -> Result<Option<ShortText>, AllocError>
+        ensures { IfOk result (λ next.
+            IsNext (HasStudy self.now.picks) (option_copied after.entry) next) }
     {
         self.live.next_study(after)
     }
 
     /// The least series of a study past `after` as bytes, or the first where there is none.
-    pub fn next_series(&self, study: &ShortText, after: Option<&ShortText>) -> Option<&ShortText>
-        ensures { IsNext (HasSeries self.now.picks study.now) (option_copied after.entry)
-            (option_copied result) }
+    pub fn next_series(
+        &self,
+        study: &ShortText,
+        after: Option<&ShortText>,
+    ) -> Result<Option<ShortText>, AllocError>
+        ensures { IfOk result (λ next.
+            IsNext (HasSeries self.now.picks study.now) (option_copied after.entry) next) }
     {
         self.live.next_series(study, after)
     }
@@ -491,9 +475,10 @@ impl Index {
         study: &ShortText,
         series: &ShortText,
         after: Option<&ShortText>,
-    ) -> Option<&ShortText>
-        ensures { IsNext (HasInstance self.now.picks study.now series.now)
-            (option_copied after.entry) (option_copied result) }
+    ) -> Result<Option<ShortText>, AllocError>
+        ensures { IfOk result (λ next.
+            IsNext (HasInstance self.now.picks study.now series.now)
+            (option_copied after.entry) next) }
     {
         self.live.next_instance(study, series, after)
     }

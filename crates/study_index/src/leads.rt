@@ -9,7 +9,7 @@ ghost use Rattle.study_index.specs.Proved.Leads.{lead_total, lead_exact};
 
 use crate::marks::value_marks;
 use crate::needle::{Needle, byte_as_led};
-use crate::short_text::ShortText;
+use crate::short_text::{ShortText, front};
 use archive_model::study;
 use dictionary::PATIENT_NAME;
 use join_laws::{Copies, Exact};
@@ -112,16 +112,6 @@ pub fn led(tag: u32, value: &[u8]) -> ShortText
     } else {
         text
     }
-}
-
-// At most 64 bytes of a text.
-fn front(text: &[u8]) -> &[u8]
-    ensures { result.now ≡ take 64 text.now }
-{
-    if text.len() > 64 {
-        return &text[..64];
-    }
-    text
 }
 
 // The order of two texts, each byte of them as it is led from.

@@ -4,7 +4,8 @@
 //! repeat is seen in it. `specs/Definition.antt` says what it is from the set alone. Of each SOP
 //! Instance UID it keeps the pick of least digest ([`LivePicks`](live_picks)), and beside the picks
 //! a list of their places, which is a function of them and is never built anew; it is walked by
-//! study, series and instance, which takes no memory.
+//! study, series and instance. Picks, places and leads share the contents, and keep no texts of
+//! their own.
 #![tactic(auto)]
 
 mod adding;
@@ -12,7 +13,6 @@ mod copies;
 mod entries;
 mod fixes;
 mod index;
-mod keys;
 mod laws;
 mod lead_walk;
 mod leads;
@@ -28,7 +28,6 @@ mod walk;
 
 pub use fixes::Fix;
 pub use index::Index;
-pub use keys::Keys;
 pub use laws::a_walk_comes_to_all_places;
 pub use lead_walk::LeadWalk;
 pub use leads::{Lead, led};

@@ -12,12 +12,12 @@ ghost use Rattle.study_index.specs.Live.{gained, lost, gains, losses};
 ghost use Rattle.study_index.specs.Live.{study_start, series_start, instance_start};
 ghost use Rattle.study_index.specs.Live.{HasStudy, HasSeries, HasInstance, IsNext};
 ghost use Rattle.study_index.specs.Keys.{has};
-ghost use Rattle.study_index.specs.Live.{is_of_study, front_of, end_of};
+ghost use Rattle.study_index.specs.Live.{is_of_study, front_of, end_of, a_place};
 ghost use Rattle.study_index.specs.Live.{is_of_series, front_of_series, end_of_series};
 ghost use Rattle.study_index.specs.Proved.Picks.{picks_laws};
 
 use crate::pick::Pick;
-use crate::place::Place;
+use crate::place::{Place, PlaceParts};
 use crate::short_text::ShortText;
 use crate::tree::{first_from, put_all, put_between, put_uid, take_all};
 use join_laws::{Join, Least, MapOf};
@@ -80,8 +80,7 @@ fn lesser<'a>(this: Option<&'a Pick>, other: Option<&'a Pick>) -> Option<&'a Pic
 fn is_elsewhere(before: &Pick, after: &Pick) -> bool
     ensures { result ≡ is_moved (Some before.now) (Some after.now) }
 {
-    !(before.study.as_slice() == after.study.as_slice()
-        && before.series.as_slice() == after.series.as_slice())
+    !(before.study() == after.study() && before.series() == after.series())
 }
 
 fn is_moved(before: Option<&Pick>, after: Option<&Pick>) -> bool
@@ -97,6 +96,7 @@ fn is_moved(before: Option<&Pick>, after: Option<&Pick>) -> bool
 
 // Notes what the list gains and loses where a pick comes in.
 fn note(
+    alloc: Global,
     picks: &Picks,
     fresh: &mut Vec<Place>,
     stale: &mut Vec<Place>,
@@ -116,10 +116,10 @@ fn note(
         return Ok(());
     }
     if let Some(pick) = after {
-        fresh.push(Place::of(instance, pick))?;
+        fresh.push(Place::of(alloc, instance, pick)?)?;
     }
     if let Some(pick) = before {
-        stale.push(Place::of(instance, pick))?;
+        stale.push(Place::of(alloc, instance, pick)?)?;
     }
     Ok(())
 }
@@ -136,7 +136,7 @@ fn changes(
     let mut fresh = Vec::new(alloc);
     let mut stale = Vec::new(alloc);
     for (instance, least) in other {
-        note(picks, &mut fresh, &mut stale, instance, least.get())?;
+        note(alloc, picks, &mut fresh, &mut stale, instance, least.get())?;
     }
     Ok((fresh, stale))
 }
@@ -180,115 +180,120 @@ fn put_keys(
     Ok(())
 }
 
-// Past all that stands in the study `after`.
-fn study_start(after: Option<&ShortText>) -> Bound<Place>
-    ensures { result ≡ study_start (option_copied after.entry) }
-{
-    match after {
-        None => Bound::Unbounded,
-        Some(study) => Bound::Excluded(Place {
-            study: study.duplicate(),
-            study_end: 1,
-            series: ShortText::empty(),
-            series_end: 0,
-            instance: ShortText::empty(),
-        }),
-    }
-}
-
-// In the study, past all that stands in the series `after`.
-fn series_start(study: &ShortText, after: Option<&ShortText>) -> Bound<Place>
-    ensures { result ≡ series_start study.now (option_copied after.entry) }
-{
-    match after {
-        None => Bound::Included(Place {
-            study: study.duplicate(),
-            study_end: 0,
-            series: ShortText::empty(),
-            series_end: 0,
-            instance: ShortText::empty(),
-        }),
-        Some(series) => Bound::Excluded(Place {
-            study: study.duplicate(),
-            study_end: 0,
-            series: series.duplicate(),
-            series_end: 1,
-            instance: ShortText::empty(),
-        }),
-    }
-}
-
 // Where the places of a study begin.
-pub(crate) fn front_of(study: &ShortText) -> Place
-    ensures { result ≡ front_of study.now }
+pub(crate) fn front_of(alloc: Global, study: &ShortText) -> Result<Place, AllocError>
+    ensures { IfOk result (λ front. front ≡ front_of study.now) }
 {
-    Place {
+    let parts = PlaceParts {
         study: study.duplicate(),
         study_end: 0,
         series: ShortText::empty(),
         series_end: 0,
         instance: ShortText::empty(),
-    }
+    };
+    Place::given(alloc, parts)
 }
 
 // Where they end.
-pub(crate) fn end_of(study: &ShortText) -> Place
-    ensures { result ≡ end_of study.now }
+pub(crate) fn end_of(alloc: Global, study: &ShortText) -> Result<Place, AllocError>
+    ensures { IfOk result (λ end. end ≡ end_of study.now) }
 {
-    Place {
+    let parts = PlaceParts {
         study: study.duplicate(),
         study_end: 1,
         series: ShortText::empty(),
         series_end: 0,
         instance: ShortText::empty(),
-    }
+    };
+    Place::given(alloc, parts)
 }
 
-// Where the places of a series of a study begin.
-fn front_of_series(study: &ShortText, series: &ShortText) -> Place
-    ensures { result ≡ front_of_series study.now series.now }
+// Where an instance of a series of a study stands. The places of the series begin at the empty one.
+fn place_at(
+    alloc: Global,
+    study: &ShortText,
+    series: &ShortText,
+    instance: ShortText,
+) -> Result<Place, AllocError>
+    ensures { IfOk result (λ place. place ≡ a_place study.now series.now instance) }
 {
-    Place {
+    let parts = PlaceParts {
         study: study.duplicate(),
         study_end: 0,
         series: series.duplicate(),
         series_end: 0,
-        instance: ShortText::empty(),
-    }
+        instance,
+    };
+    Place::given(alloc, parts)
+}
+
+// Where the places of a series of a study begin.
+fn front_of_series(
+    alloc: Global,
+    study: &ShortText,
+    series: &ShortText,
+) -> Result<Place, AllocError>
+    ensures { IfOk result (λ front. front ≡ front_of_series study.now series.now) }
+{
+    place_at(alloc, study, series, ShortText::empty())
 }
 
 // Where they end.
-fn end_of_series(study: &ShortText, series: &ShortText) -> Place
-    ensures { result ≡ end_of_series study.now series.now }
+fn end_of_series(alloc: Global, study: &ShortText, series: &ShortText) -> Result<Place, AllocError>
+    ensures { IfOk result (λ end. end ≡ end_of_series study.now series.now) }
 {
-    Place {
+    let parts = PlaceParts {
         study: study.duplicate(),
         study_end: 0,
         series: series.duplicate(),
         series_end: 1,
         instance: ShortText::empty(),
+    };
+    Place::given(alloc, parts)
+}
+
+// Past all that stands in the study `after`.
+fn study_start(alloc: Global, after: Option<&ShortText>) -> Result<Bound<Place>, AllocError>
+    ensures { IfOk result (λ start. start ≡ study_start (option_copied after.entry)) }
+{
+    match after {
+        None => Ok(Bound::Unbounded),
+        Some(study) => Ok(Bound::Excluded(end_of(alloc, study)?)),
+    }
+}
+
+// In the study, past all that stands in the series `after`.
+fn series_start(
+    alloc: Global,
+    study: &ShortText,
+    after: Option<&ShortText>,
+) -> Result<Bound<Place>, AllocError>
+    ensures { IfOk result (λ start. start ≡ series_start study.now (option_copied after.entry)) }
+{
+    match after {
+        None => Ok(Bound::Included(front_of(alloc, study)?)),
+        Some(series) => Ok(Bound::Excluded(end_of_series(alloc, study, series)?)),
     }
 }
 
 // In the series of the study, past the instance `after`.
-fn instance_start(study: &ShortText, series: &ShortText, after: Option<&ShortText>) -> Bound<Place>
-    ensures { result ≡ instance_start study.now series.now (option_copied after.entry) }
+fn instance_start(
+    alloc: Global,
+    study: &ShortText,
+    series: &ShortText,
+    after: Option<&ShortText>,
+) -> Result<Bound<Place>, AllocError>
+    ensures { IfOk result (λ start. start ≡
+        instance_start study.now series.now (option_copied after.entry)) }
 {
     match after {
-        None => Bound::Included(Place {
-            study: study.duplicate(),
-            study_end: 0,
-            series: series.duplicate(),
-            series_end: 0,
-            instance: ShortText::empty(),
-        }),
-        Some(instance) => Bound::Excluded(Place {
-            study: study.duplicate(),
-            study_end: 0,
-            series: series.duplicate(),
-            series_end: 0,
-            instance: instance.duplicate(),
-        }),
+        None => Ok(Bound::Included(front_of_series(alloc, study, series)?)),
+        Some(instance) => Ok(Bound::Excluded(place_at(
+            alloc,
+            study,
+            series,
+            instance.duplicate(),
+        )?)),
     }
 }
 
@@ -337,29 +342,36 @@ impl LivePicks {
     }
 
     /// The least study past `after`, or the first where there is none.
-    pub fn next_study(&self, after: Option<&ShortText>) -> Option<&ShortText>
-        ensures { IsNext (HasStudy self.now) (option_copied after.entry) (option_copied result) }
+    pub fn next_study(&self, after: Option<&ShortText>) -> Result<Option<ShortText>, AllocError>
+        ensures { IfOk result (λ next.
+            IsNext (HasStudy self.now) (option_copied after.entry) next) }
     {
         self.picks.held();
-        match first_from(&self.tree, study_start(after)) {
-            None => None,
-            Some(place) => Some(&place.study),
+        let start = study_start(self.alloc, after)?;
+        match first_from(&self.tree, start) {
+            None => Ok(None),
+            Some(place) => Ok(Some(ShortText::whole(place.study()))),
         }
     }
 
     /// The least series of a study past `after`, or the first where there is none.
-    pub fn next_series(&self, study: &ShortText, after: Option<&ShortText>) -> Option<&ShortText>
-        ensures { IsNext (HasSeries self.now study.now) (option_copied after.entry)
-            (option_copied result) }
+    pub fn next_series(
+        &self,
+        study: &ShortText,
+        after: Option<&ShortText>,
+    ) -> Result<Option<ShortText>, AllocError>
+        ensures { IfOk result (λ next.
+            IsNext (HasSeries self.now study.now) (option_copied after.entry) next) }
     {
         self.picks.held();
-        match first_from(&self.tree, series_start(study, after)) {
-            None => None,
+        let start = series_start(self.alloc, study, after)?;
+        match first_from(&self.tree, start) {
+            None => Ok(None),
             Some(place) => {
-                if !place.study.equals(study) {
-                    return None;
+                if !study.has_bytes(place.study()) {
+                    return Ok(None);
                 }
-                Some(&place.series)
+                Ok(Some(ShortText::whole(place.series())))
             }
         }
     }
@@ -370,21 +382,22 @@ impl LivePicks {
         study: &ShortText,
         series: &ShortText,
         after: Option<&ShortText>,
-    ) -> Option<&ShortText>
-        ensures { IsNext (HasInstance self.now study.now series.now) (option_copied after.entry)
-            (option_copied result) }
+    ) -> Result<Option<ShortText>, AllocError>
+        ensures { IfOk result (λ next.
+            IsNext (HasInstance self.now study.now series.now) (option_copied after.entry) next) }
     {
         self.picks.held();
-        match first_from(&self.tree, instance_start(study, series, after)) {
-            None => None,
+        let start = instance_start(self.alloc, study, series, after)?;
+        match first_from(&self.tree, start) {
+            None => Ok(None),
             Some(place) => {
-                if !place.study.equals(study) {
-                    return None;
+                if !study.has_bytes(place.study()) {
+                    return Ok(None);
                 }
-                if !place.series.equals(series) {
-                    return None;
+                if !series.has_bytes(place.series()) {
+                    return Ok(None);
                 }
-                Some(&place.instance)
+                Ok(Some(ShortText::whole(place.instance())))
             }
         }
     }
@@ -399,7 +412,9 @@ impl LivePicks {
             ≡ (has text_cmp uids.old.keys uid || is_of_study study.now (pick_at uid self.now))) }
     {
         self.picks.held();
-        put_between(&self.tree, front_of(study), end_of(study), uids)?;
+        let front = front_of(self.alloc, study)?;
+        let end = end_of(self.alloc, study)?;
+        put_between(&self.tree, front, end, uids)?;
         Ok(())
     }
 
@@ -415,8 +430,9 @@ impl LivePicks {
             || is_of_series study.now series.now (pick_at uid self.now))) }
     {
         self.picks.held();
-        let front = front_of_series(study, series);
-        put_between(&self.tree, front, end_of_series(study, series), uids)?;
+        let front = front_of_series(self.alloc, study, series)?;
+        let end = end_of_series(self.alloc, study, series)?;
+        put_between(&self.tree, front, end, uids)?;
         Ok(())
     }
 

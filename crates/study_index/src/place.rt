@@ -1,21 +1,25 @@
 //! Where a pick stands in the list of places.
-ghost use Rattle.std.specs.Prelude.{◌≡◌, refl, Some};
+ghost use Rattle.std.specs.Prelude.{◌≡◌, ◌≤◌, IfOk, length, refl, Some};
 ghost use Rattle.std.specs.Ordering.{eq_by_cmp, nat_cmp, ordering_then};
 ghost use Rattle.std.specs.Cmp.{partial_equiv_from_equiv, eq_by_cmp_equiv, partial_order_from_total};
 ghost use Rattle.octets.specs.Texts.{text_cmp};
+ghost use Rattle.study_index.specs.Index.{pick_of};
 ghost use Rattle.study_index.specs.Live.{place_cmp, place_of};
 ghost use Rattle.study_index.specs.Proved.Picks.{place_total};
 
 use crate::pick::Pick;
-use crate::short_text::ShortText;
+use crate::short_text::{ShortText, front};
+use archive_model::{series, study};
+use records::RecordedContent;
+use std::alloc::{AllocError, Global};
 use std::cmp::Ordering;
 use std::marker::Model;
+use std::sync::Arc;
 
-/// Study, series and instance. Places are ordered part after part.
-///
-/// The end of a study, and of a series, stands behind all that stands in it.
+/// Study, series and instance, and the ends: the end of a study, and of a series, stands behind all
+/// that stands in it.
 #[derive(Drop)]
-pub struct Place {
+pub struct PlaceParts {
     pub(crate) study: ShortText,
     /// 0, or 1 for the end of the study.
     pub(crate) study_end: u8,
@@ -25,7 +29,7 @@ pub struct Place {
     pub(crate) instance: ShortText,
 }
 
-impl Model for Place {
+impl Model for PlaceParts {
     ghost use Rattle.study_index.specs.Live.{Place};
 
     ghost Value = { Place };
@@ -39,52 +43,139 @@ impl Model for Place {
     } };
 }
 
+/// Where the parts of a place stand.
+#[derive(Drop)]
+pub enum PlaceSource {
+    /// In a content, which is shared: its own study and series, and its own instance.
+    Stored(RecordedContent),
+    /// In texts, for the ends of a range.
+    Given(Arc<PlaceParts, Global>),
+}
+
+/// Study, series and instance. Places are ordered part after part.
+///
+/// One of a content shares the content, and keeps no text of its own.
+pub struct Place {
+    source: PlaceSource,
+}
+
+impl Model for Place {
+    ghost use Rattle.study_index.specs.Live.{Place};
+
+    ghost Value = { Place };
+
+    ghost use Rattle.study_index.specs.PlaceView.{place_view};
+
+    ghost view = { λ p. place_view p.source };
+}
+
+// It is written out, so that a caller does not prove again how each part is dropped.
+impl Drop for Place {
+    fn drop(self) {
+        let Place { source: _ } = self;
+    }
+}
+
 impl Place {
-    /// Where a pick of an instance stands.
-    pub fn of(instance: &ShortText, pick: &Pick) -> Place
-        ensures { result ≡ place_of instance.now pick.now }
+    /// A place of such parts.
+    pub fn given(alloc: Global, parts: PlaceParts) -> Result<Place, AllocError>
+        ensures { IfOk result (λ place. place ≡ parts) }
     {
-        Place {
-            study: pick.study.duplicate(),
+        Ok(Place {
+            source: PlaceSource::Given(Arc::new(alloc, parts)?),
+        })
+    }
+
+    // Where a content stands.
+    fn stored(content: &RecordedContent) -> Result<Place, AllocError>
+        ensures { IfOk result (λ place. place ≡
+            place_of content.now.instance (pick_of content.now)) }
+    {
+        Ok(Place {
+            source: PlaceSource::Stored(content.copy()?),
+        })
+    }
+
+    /// Where a pick of an instance stands. It shares the pick's content, which has the instance.
+    pub fn of(alloc: Global, instance: &ShortText, pick: &Pick) -> Result<Place, AllocError>
+        ensures { IfOk result (λ place. place ≡ place_of instance.now pick.now) }
+    {
+        let content = pick.content();
+        if content.instance() == instance.as_slice() {
+            return Place::stored(content);
+        }
+        let parts = PlaceParts {
+            study: ShortText::whole(pick.study()),
             study_end: 0,
-            series: pick.series.duplicate(),
+            series: ShortText::whole(pick.series()),
             series_end: 0,
             instance: instance.duplicate(),
+        };
+        Place::given(alloc, parts)
+    }
+
+    /// The study, of which an index knows 64 bytes.
+    pub fn study(&self) -> &[u8]
+        ensures value { result.now ≡ self.now.study }
+        ensures short { length result.now ≤ 64 }
+    {
+        match &self.source {
+            PlaceSource::Stored(content) => front(study(content)),
+            PlaceSource::Given(parts) => parts.study.as_slice(),
         }
     }
 
-    /// The study.
-    pub fn study(&self) -> &ShortText
-        ensures { result.now ≡ self.now.study }
+    /// The series, of which an index knows 64 bytes.
+    pub fn series(&self) -> &[u8]
+        ensures value { result.now ≡ self.now.series }
+        ensures short { length result.now ≤ 64 }
     {
-        &self.study
-    }
-
-    /// The series.
-    pub fn series(&self) -> &ShortText
-        ensures { result.now ≡ self.now.series }
-    {
-        &self.series
+        match &self.source {
+            PlaceSource::Stored(content) => front(series(content)),
+            PlaceSource::Given(parts) => parts.series.as_slice(),
+        }
     }
 
     /// The SOP Instance UID.
-    pub fn instance(&self) -> &ShortText
-        ensures { result.now ≡ self.now.instance }
+    pub fn instance(&self) -> &[u8]
+        ensures value { result.now ≡ self.now.instance }
+        ensures short { length result.now ≤ 64 }
     {
-        &self.instance
+        match &self.source {
+            PlaceSource::Stored(content) => content.instance(),
+            PlaceSource::Given(parts) => parts.instance.as_slice(),
+        }
     }
 
-    /// A second owner of the same place. It takes no memory.
-    pub fn duplicate(&self) -> Place
-        ensures { result ≡ self.now }
+    // 0, or 1 for the end of the study.
+    fn study_end(&self) -> u8
+        ensures { result ≡ self.now.study_end }
     {
-        Place {
-            study: self.study.duplicate(),
-            study_end: self.study_end,
-            series: self.series.duplicate(),
-            series_end: self.series_end,
-            instance: self.instance.duplicate(),
+        match &self.source {
+            PlaceSource::Stored(_) => 0,
+            PlaceSource::Given(parts) => parts.study_end,
         }
+    }
+
+    // 0, or 1 for the end of the series.
+    fn series_end(&self) -> u8
+        ensures { result ≡ self.now.series_end }
+    {
+        match &self.source {
+            PlaceSource::Stored(_) => 0,
+            PlaceSource::Given(parts) => parts.series_end,
+        }
+    }
+
+    /// A second owner of the same place.
+    pub fn copy(&self) -> Result<Place, AllocError>
+        ensures { IfOk result (λ copy. copy ≡ self.now) }
+    {
+        let source = match &self.source {
+            PlaceSource::Stored(content) => PlaceSource::Stored(content.copy()?),
+            PlaceSource::Given(parts) => PlaceSource::Given(Arc::try_clone(parts)?),
+        };
+        Ok(Place { source })
     }
 
     // The order of places of one study and one series.
@@ -92,9 +183,9 @@ impl Place {
         ensures { result ≡ ordering_then (nat_cmp self.now.series_end other.now.series_end)
             (text_cmp self.now.instance other.now.instance) }
     {
-        match self.series_end.cmp(&other.series_end) {
+        match self.series_end().cmp(&other.series_end()) {
             Ordering::Less => Ordering::Less,
-            Ordering::Equal => self.instance.cmp(&other.instance),
+            Ordering::Equal => self.instance().cmp(other.instance()),
             Ordering::Greater => Ordering::Greater,
         }
     }
@@ -105,7 +196,7 @@ impl Place {
             (ordering_then (nat_cmp self.now.series_end other.now.series_end)
             (text_cmp self.now.instance other.now.instance)) }
     {
-        match self.series.cmp(&other.series) {
+        match self.series().cmp(other.series()) {
             Ordering::Less => Ordering::Less,
             Ordering::Equal => self.in_series(other),
             Ordering::Greater => Ordering::Greater,
@@ -119,7 +210,7 @@ impl Place {
             (ordering_then (nat_cmp self.now.series_end other.now.series_end)
             (text_cmp self.now.instance other.now.instance))) }
     {
-        match self.study_end.cmp(&other.study_end) {
+        match self.study_end().cmp(&other.study_end()) {
             Ordering::Less => Ordering::Less,
             Ordering::Equal => self.by_series(other),
             Ordering::Greater => Ordering::Greater,
@@ -161,7 +252,7 @@ impl Ord for Place {
     ghost matches_eq = { λ x y. refl };
 
     fn cmp(&self, other: &Place) -> Ordering {
-        match self.study.cmp(&other.study) {
+        match self.study().cmp(other.study()) {
             Ordering::Less => Ordering::Less,
             Ordering::Equal => self.in_study(other),
             Ordering::Greater => Ordering::Greater,

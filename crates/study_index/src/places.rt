@@ -46,7 +46,9 @@ impl LivePicks {
         ensures { IfOk result (λ found. map (λ p. p.now) found.items ≡
             places_in_study study.now self.now) }
     {
-        between(alloc, &self.tree, front_of(study), end_of(study))
+        let front = front_of(alloc, study)?;
+        let end = end_of(alloc, study)?;
+        between(alloc, &self.tree, front, end)
     }
 
     /// The places of all picks, ascending.

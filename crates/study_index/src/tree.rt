@@ -34,7 +34,7 @@ fn put(tree: &mut BTreeSet<Place>, place: &Place) -> Result<(), AllocError>
     ensures ordered { IsStrictlySortedBy place_cmp tree.new.keys }
 {
     let _ = tree.len();
-    tree.insert(place.duplicate())?;
+    tree.insert(place.copy()?)?;
     Ok(())
 }
 
@@ -91,7 +91,7 @@ pub fn put_between(
         (map instance_of (filter (is_between front end) tree.now.keys))) }
 {
     for place in tree.range((Bound::Included(front), Bound::Excluded(end))) {
-        put_uid(uids, &place.instance)?;
+        put_uid(uids, &ShortText::whole(place.instance()))?;
     }
     Ok(())
 }

@@ -4,7 +4,7 @@ use Rattle.octets.specs.Texts.{text_cmp}
 use Rattle.join_laws.specs.Least.{least_of}
 use Rattle.join_laws.specs.MapOf.{put_joined}
 use Rattle.study_index.specs.Live.{pick_cmp}
-use Rattle.study_index.specs.Index.{Copy, a_copy, copy_cmp, pick_under}
+use Rattle.study_index.specs.Index.{copy_cmp}
 use Rattle.study_index.proofs.adding.add_content.Goals as goal
 
 -- The copy was taken in last, and is taken back.
@@ -15,14 +15,13 @@ returns-in-Err-clause-copies_kept c = c.undo.ensures c.args.copies.now c.held.en
 -- The copy is that of the content.
 pub returns-clause-copies : goal.returns-clause-copies
 returns-clause-copies c =
-    c.in_ok-undo.ensures.ok ∙ ap (insert_key copy_cmp c.args.copies.now) c.copy_of-copy.ensures
-    ∙ ap (λ d. insert_key copy_cmp c.args.copies.now (a_copy c.args.content.now.instance d)) c.requires
+    c.in_ok-undo.ensures.ok ∙ ap (insert_key copy_cmp c.args.copies.now) c.in_ok-copy.ensures
 
 -- The pick is that of the content, under its instance.
 pub returns-clause-picks : goal.returns-clause-picks
 returns-clause-picks c =
     c.in_default.ensures.ok
-    ∙ ap (λ i. put_joined text_cmp (least_of pick_cmp) c.args.live.now i (Some c.pick_in.result)) (c.duplicate.ensures
-    ∙ ap (λ (x : Copy). x.uid) (c.copy.view_is ∙ c.copy_of-copy.ensures))
+    ∙ ap (λ i. put_joined text_cmp (least_of pick_cmp) c.args.live.now i (Some c.in_ok-pick.pick))
+    (c.whole.ensures ∙ c.instance.ensures.value)
     ∙ ap (λ p. put_joined text_cmp (least_of pick_cmp) c.args.live.now c.args.content.now.instance (Some p))
-    (c.pick_in.ensures ∙ ap (λ d. pick_under d c.args.content.now) c.requires)
+    c.in_ok-pick.ensures

@@ -1,7 +1,6 @@
 use Rattle.std.proofs.Common.{◌∙◌, ap}
 use Rattle.site_state.specs.Site.{held_at}
 use Rattle.site_state.specs.Hidden.{content_held}
-use Rattle.study_index.specs.Live.{Pick}
 use Rattle.site_state.proofs.Lookups.{none_picked, is_picked}
 use Rattle.site_state.proofs.site.Site.pick.Goals as goal
 
@@ -14,6 +13,6 @@ returns-in-None c = none_picked c.args.self.now c.index.result.now c.see_lawful.
 pub returns-in-Some : goal.returns-in-Some
 returns-in-Some c =
     c.content_under.ensures
-    ∙ ap (λ (p : Pick). content_held (held_at c.args.self.now p.digest)) c.picked.view_is
+    ∙ ap (λ d. content_held (held_at c.args.self.now d)) c.digest.ensures
     ∙ is_picked c.args.self.now c.index.result.now c.see_lawful.ensures.own c.index.ensures.says c.args.uid.now
     c.in-Some.picked.now c.in-Some.ensures

@@ -18,8 +18,8 @@ pub put_between-requires : goal.put_between-requires
 put_between-requires c =
     let study = c.args.study.now in
     let series = c.args.series.now in
-    subst (λ (p : Place). IsLeBy place_cmp p c.end_of_series.result) (sym c.front_of_series-front.ensures)
-    (subst (λ (p : Place). IsLeBy place_cmp (front_of_series study series) p) (sym c.end_of_series.ensures)
+    subst (λ (p : Place). IsLeBy place_cmp p c.in_ok-end.end) (sym c.in_ok-front.ensures)
+    (subst (λ (p : Place). IsLeBy place_cmp (front_of_series study series) p) (sym c.in_ok-end.ensures)
     (series_front_before_end study series))
 
 -- The places between both are those of the picks of the series.
@@ -33,10 +33,10 @@ returns c = λ uid.
     ap (λ ks. has text_cmp ks uid) (
     c.in_ok-put_between.ensures
     ∙ ap (λ (p : Place). union_of text_cmp old
-    (map instance_of (filter (is_between p c.end_of_series.result) c.self.inside.tree.keys)))
-    c.front_of_series-front.ensures
+    (map instance_of (filter (is_between p c.in_ok-end.end) c.self.inside.tree.keys)))
+    c.in_ok-front.ensures
     ∙ ap (λ (p : Place). union_of text_cmp old
-    (map instance_of (filter (is_between front p) c.self.inside.tree.keys))) c.end_of_series.ensures
+    (map instance_of (filter (is_between front p) c.self.inside.tree.keys))) c.in_ok-end.ensures
     ∙ ap (λ (ps : List Place). union_of text_cmp
     old (map instance_of (filter (is_between front (end_of_series study series)) ps))) c.self.invariant)
     ∙ has-union nat_list_cmp_total text_exact uid (map instance_of (filter (is_between front

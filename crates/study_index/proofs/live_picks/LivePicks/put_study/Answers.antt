@@ -16,8 +16,8 @@ use Rattle.study_index.proofs.live_picks.LivePicks.put_study.Goals as goal
 -- The front of a study stands before its end.
 pub put_between-requires : goal.put_between-requires
 put_between-requires c =
-    subst (λ (p : Place). IsLeBy place_cmp p c.end_of.result) (sym c.front_of.ensures)
-    (subst (λ (p : Place). IsLeBy place_cmp (front_of c.args.study.now) p) (sym c.end_of.ensures)
+    subst (λ (p : Place). IsLeBy place_cmp p c.in_ok-end.end) (sym c.in_ok-front.ensures)
+    (subst (λ (p : Place). IsLeBy place_cmp (front_of c.args.study.now) p) (sym c.in_ok-end.ensures)
     (front_before_end c.args.study.now))
 
 -- The places between both are those of the study's picks.
@@ -29,9 +29,9 @@ returns c = λ uid.
     ap (λ ks. has text_cmp ks uid) (
     c.in_ok-put_between.ensures
     ∙ ap (λ (p : Place). union_of text_cmp old
-    (map instance_of (filter (is_between p c.end_of.result) c.self.inside.tree.keys))) c.front_of.ensures
+    (map instance_of (filter (is_between p c.in_ok-end.end) c.self.inside.tree.keys))) c.in_ok-front.ensures
     ∙ ap (λ (p : Place). union_of text_cmp old
-    (map instance_of (filter (is_between (front_of study) p) c.self.inside.tree.keys))) c.end_of.ensures
+    (map instance_of (filter (is_between (front_of study) p) c.self.inside.tree.keys))) c.in_ok-end.ensures
     ∙ ap (λ (ps : List Place). union_of text_cmp
     old (map instance_of (filter (is_between (front_of study) (end_of study)) ps))) c.self.invariant)
     ∙ has-union nat_list_cmp_total text_exact uid (map instance_of (filter (is_between (front_of study) (end_of study))
