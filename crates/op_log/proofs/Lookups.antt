@@ -2,14 +2,15 @@
 use denote.Ref.{Bor}
 use Rattle.std.specs.Option.{option_copied}
 use Rattle.std.proofs.lemmas.List.Elements.{All-head, All-tail}
-use Rattle.std.proofs.Common.{All, IfSome, subst, ◌≡◌, ℕ, List, [], ◌∷◌, ◌++◌, Bool, true, false, cond, nat_eq}
-use Rattle.std.proofs.Common.{Option, Some, None, map, refl, sym, ◌∙◌, ap}
+use Rattle.std.proofs.Common.{All, IfSome, subst, ◌≡◌, ℕ, zero, suc, List, [], ◌∷◌, ◌++◌, Bool, true, false, cond, nat_eq}
+use Rattle.std.proofs.Common.{Option, Some, None, map, refl, sym, ◌∙◌, ap, Contains, arith, true≢false}
 use Rattle.std.proofs.lemmas.List.{map-append}
-use Rattle.std.specs.Map.{lookup}
+use Rattle.std.specs.List.{AllByRecursion, IsDistinct}
+use Rattle.std.specs.Map.{keys_of, lookup}
 use Rattle.std.specs.Cmp.Lexicographic.{pointwise, bytes_decides}
 use Rattle.op_log.specs.declared.place.Place.{Place}
 use Rattle.op_log.specs.Heads.{Head}
-use Rattle.op_log.specs.Kept.{first_under}
+use Rattle.op_log.specs.Kept.{HaveOwnDigests, first_under}
 use Rattle.op_log.specs.Places.{head_at, head_by}
 
 -- a lookup by equal bytes
@@ -119,3 +120,28 @@ among P (x ∷ heads) digest h is all =
     by : (first_under digest heads ≡ Some h → P h) → (b : Bool) → cond b (Some x) (first_under digest heads) ≡ Some h → P h
     by among_later true is = let it : x ≡ h = cc in subst P it (All-head P x heads all)
     by among_later false is = among_later is
+
+-- where the keys are distinct, each head is the first with its digest
+pub own_digests : (entries : List (List ℕ × Place)) → IsDistinct (pointwise nat_eq) (keys_of entries)
+    → HaveOwnDigests (map head_at entries)
+unfolding IsDistinct
+own_digests [] apart h (n, low, at) = absurd (omega (arith, low))
+own_digests (e ∷ entries) (first, rest) h (zero, low, at) =
+    subst (λ (k : Head). first_under k.digest (map head_at (e ∷ entries)) ≡ Some k) at
+    (ap (λ (b : Bool). cond b (Some (head_at e)) (first_under e.0 (map head_at entries)))
+    ((bytes_decides e.0 e.0).1 refl))
+own_digests (e ∷ entries) (first, rest) h (suc n, low, at) =
+    let there : Contains (map head_at entries) h = (n, omega (arith, low), at) in
+    ap (λ (b : Bool). cond b (Some (head_at e)) (first_under h.digest (map head_at entries)))
+    (other entries h first there) ∙ own_digests entries rest h there
+  where
+    none : (x : List ℕ) (b : Bool) → pointwise nat_eq x e.0 ≡ b → pointwise nat_eq e.0 x ≡ false → b ≡ false
+    none x true same apart = absurd (true≢false (sym ((bytes_decides e.0 x).1 (sym ((bytes_decides x e.0).0 same))) ∙ apart))
+    none x false same apart = refl
+
+    other : (es : List (List ℕ × Place)) (h : Head) → AllByRecursion (λ y. pointwise nat_eq e.0 y ≡ false) (keys_of es)
+        → Contains (map head_at es) h → pointwise nat_eq h.digest e.0 ≡ false
+    other [] h all (n, low, at) = absurd (omega (arith, low))
+    other (x ∷ es) h (first, rest) (zero, low, at) =
+        subst (λ (k : Head). pointwise nat_eq k.digest e.0 ≡ false) at (none x.0 _ refl first)
+    other (x ∷ es) h (first, rest) (suc n, low, at) = other es h rest (n, omega (arith, low), at)

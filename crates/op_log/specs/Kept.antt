@@ -1,6 +1,6 @@
 -- What two files keep of operations: one has their heads, in groups, and the other their data sets.
 use Rattle.std.specs.Prelude.{◌≡◌, ◌+◌, ◌≤◌, ◌<◌, ℕ, List, [], ◌∷◌, length, map, All, Option, Some, None}
-use Rattle.std.specs.Prelude.{if◌then◌else◌, nat_eq}
+use Rattle.std.specs.Prelude.{if◌then◌else◌, nat_eq, Contains}
 use Rattle.std.specs.List.{flat_map}
 use Rattle.std.specs.Cmp.Lexicographic.{pointwise}
 use Rattle.sqlite_disk.specs.Disk.{Holds}
@@ -16,6 +16,10 @@ use Rattle.op_log.specs.Heads.{Entry, Head, body_of, head_of, group_text, IsSpel
 abbrev pub first_under : List ℕ → List Head → Option Head
 first_under digest [] = None
 first_under digest (h ∷ heads) = if pointwise nat_eq digest h.digest then Some h else first_under digest heads
+
+-- no two of some heads have one digest: each is the first with its own
+abbrev pub HaveOwnDigests : List Head → Type 0
+HaveOwnDigests heads = (h : Head) → Contains heads h → first_under h.digest heads ≡ Some h
 
 -- the heads of some groups, in order
 abbrev pub joined : List (List Head) → List Head

@@ -19,7 +19,7 @@ use crate::head::{Spelled, size_of};
 use crate::place::Place;
 use body_log::BodyLog;
 use bytes::Bytes;
-use operation::{Digest, Digested, OpFault, decode};
+use operation::{Digest, Digested, Op, OpFault, decode};
 use sqlite_disk::Disk;
 use std::alloc::{AllocError, Global};
 
@@ -111,7 +111,7 @@ fn text_at<B: Disk>(
 }
 
 /// The operation that a text spells, whose data set lies at an offset.
-fn decoded(alloc: Global, text: Vec<u8>, at: usize) -> Result<Digested, LogFault>
+fn decoded(alloc: Global, text: Vec<u8>, at: usize) -> Result<Op, LogFault>
     ensures found { IfOk result (λ op. text.items ≡ spelling op) }
     ensures lawful { IfOk result IsOp }
     ensures damaged { (n : ℕ) → IsErrOf result (LogFault.DamagedBody n) → (op : Operation)
@@ -122,7 +122,7 @@ fn decoded(alloc: Global, text: Vec<u8>, at: usize) -> Result<Digested, LogFault
     ensures only { IfErr result IsOfLook }
 {
     match decode(alloc, Bytes::from_vec(text)?) {
-        Ok(op) => Ok(Digested::of(op)),
+        Ok(op) => Ok(op),
         Err(OpFault::Memory) => Err(LogFault::Memory),
         Err(_) => Err(LogFault::DamagedBody(at)),
     }
@@ -136,15 +136,55 @@ fn has_digest(op: &Digested, digest: &Digest) -> bool
 }
 
 /// Whether the data set of an operation, whose spelling is so long, stands behind a front.
-fn is_behind(op: &Digested, long: usize, front: usize) -> bool
+fn is_behind(op: &Op, long: usize, front: usize) -> bool
     ensures { IsTrue result ↔ (long - size_of op.now ≡ front) }
 {
-    long.saturating_sub(size_of(op.op())) == front
+    long.saturating_sub(size_of(op)) == front
+}
+
+/// The operation that lies at a place. It is not hashed here, so where the disk changed its data
+/// set it may be another one.
+#[tactic(auto, using(crate::proofs::Faults::read_is_look))]
+pub(crate) fn read_at<B: Disk>(
+    alloc: Global,
+    bodies: &mut BodyLog<B>,
+    place: &Place,
+) -> Result<Op, LogFault>
+    ensures lawful { IfOk result IsOp }
+    // Under the digest that it has, it is the one that lies there.
+    ensures found { IfOk result (λ op. IsTrue (B.Disk.is_clean (disk_of bodies.new))
+        → IsOf (B.Disk.seen (disk_of bodies.old)) (head_by (digest_of op) place.now) op) }
+    // The very operation, as long as the disk returns what was written.
+    ensures exact { IsTrue (B.Disk.is_clean (disk_of bodies.new)) → (op : Operation) → IsOp op
+        → head_by (digest_of op) place.now ≡ head_of (op, place.now.at)
+        → HasBody (B.Disk.seen (disk_of bodies.old)) (op, place.now.at)
+        → IfOk result (λ read. read ≡ op) }
+    ensures alike { IsTrue (B.Disk.is_clean (disk_of bodies.new)) → (op : Operation)
+        → head_by (digest_of op) place.now ≡ head_of (op, place.now.at)
+        → HasBody (B.Disk.seen (disk_of bodies.old)) (op, place.now.at)
+        → IfOk result (λ read. spelling read ≡ spelling op) }
+    ensures damaged { IsTrue (B.Disk.is_clean (disk_of bodies.new)) → (op : Operation) → IsOp op
+        → head_by (digest_of op) place.now ≡ head_of (op, place.now.at)
+        → HasBody (B.Disk.seen (disk_of bodies.old)) (op, place.now.at)
+        → (n : ℕ) → ¬ IsErrOf result (LogFault.DamagedBody n) }
+    ensures place { (n : ℕ) → IsErrOf result (LogFault.DamagedBody n) → n ≡ place.now.at }
+    ensures disk { Counts B.Disk (place.now.at + place.now.size) bodies.old bodies.new result }
+    ensures only { IfErr result IsOfLook }
+    ensures seen { B.Disk.seen (disk_of bodies.new) ≡ B.Disk.seen (disk_of bodies.old) }
+    ensures grows { Grows B.Disk bodies.old bodies.new }
+    ensures uses { Uses B.Disk bodies.old bodies.new result }
+{
+    let text = text_at(alloc, bodies, place)?;
+    let long = text.len();
+    let op = decoded(alloc, text, place.at)?;
+    if !is_behind(&op, long, place.front.len()) {
+        return Err(LogFault::DamagedBody(place.at));
+    }
+    Ok(op)
 }
 
 /// The operation with a digest that lies at a place. Whatever the disk returns, no other is
 /// answered.
-#[tactic(auto, using(crate::proofs::Faults::read_is_look))]
 pub(crate) fn load_at<B: Disk>(
     alloc: Global,
     bodies: &mut BodyLog<B>,
@@ -171,13 +211,9 @@ pub(crate) fn load_at<B: Disk>(
     ensures grows { Grows B.Disk bodies.old bodies.new }
     ensures uses { Uses B.Disk bodies.old bodies.new result }
 {
-    let text = text_at(alloc, bodies, place)?;
-    let long = text.len();
-    let op = decoded(alloc, text, place.at)?;
+    let read = read_at(alloc, bodies, place)?;
+    let op = Digested::of(read);
     if !has_digest(&op, digest) {
-        return Err(LogFault::DamagedBody(place.at));
-    }
-    if !is_behind(&op, long, place.front.len()) {
         return Err(LogFault::DamagedBody(place.at));
     }
     Ok(op)

@@ -7,11 +7,12 @@ ghost use Rattle.body_log.specs.Fault.{CountsAs};
 ghost use Rattle.body_log.specs.Lasts.{Stays};
 ghost use Rattle.operation.specs.declared.op.Op.{Op as Operation};
 ghost use Rattle.operation.specs.Reading.{IsOp};
-ghost use Rattle.operation.specs.Spelling.{digest_of};
+ghost use Rattle.operation.specs.Spelling.{digest_of, spelling};
 ghost use Rattle.records.specs.StandIn.{op_in};
 ghost use Rattle.op_log.specs.Fault.{IsOfLook, IsOfOpen, IsOfPut};
 ghost use Rattle.op_log.specs.Heads.{Entry, Head};
-ghost use Rattle.op_log.specs.Kept.{Has, HasBody, IsHeld, IsKept, IsLasting, KeepsHeads, StandsFor, first_under};
+ghost use Rattle.op_log.specs.Kept.{Has, HasBody, HaveOwnDigests, IsHeld, IsKept, IsLasting, KeepsHeads, StandsFor};
+ghost use Rattle.op_log.specs.Kept.{first_under};
 ghost use Rattle.op_log.specs.Loaded.{HasBadHead, Lists};
 ghost use Rattle.op_log.specs.Log.{GoesOn, IsSound, IsTooLong, Looks};
 ghost use Rattle.op_log.specs.Puts.{ComesToClash, LeavesAllOrNone, PutsAll};
@@ -23,7 +24,7 @@ ghost use Rattle.op_log.specs.Walking.{AreOfLog};
 use crate::fault::LogFault;
 use crate::kept::Kept;
 use crate::listing::all_ops;
-use crate::loading::load_at;
+use crate::loading::{load_at, read_at};
 use crate::places::Places;
 use crate::putting::put_group;
 use crate::record::Record;
@@ -33,7 +34,7 @@ use crate::verifying::{damaged, is_whole};
 use crate::walking::walk;
 use body_log::BodyLog;
 use head_log::HeadLog;
-use operation::{Digest, Digested};
+use operation::{Digest, Digested, Op};
 use records::RecordedOp;
 use sqlite_disk::Disk;
 use std::alloc::Global;
@@ -178,6 +179,13 @@ impl<H: Disk, B: Disk> OpLog<H, B> {
         })
     }
 
+    /// No two operations have one digest. Nothing is done: this is a fact for callers.
+    pub fn see_own_digests(&self)
+        ensures { HaveOwnDigests self.now.places }
+    {
+        self.places.see_own_digests();
+    }
+
     /// Puts operations one after another, all or none, and tells of each whether it was there. What
     /// is there is not written again.
     pub fn put_many(&mut self, ops: &[Digested]) -> Result<Vec<Kept>, LogFault>
@@ -255,6 +263,44 @@ impl<H: Disk, B: Disk> OpLog<H, B> {
             return Ok(None);
         };
         let op = load_at(self.places.alloc(), &mut self.bodies, digest, place)?;
+        Ok(Some(op))
+    }
+
+    /// The operation under a digest, as it is read: nobody has hashed it yet, so a damaged data set
+    /// that still reads as an operation is answered as one of another digest.
+    pub fn read(&mut self, digest: &Digest) -> Result<Option<Op>, LogFault>
+        ensures none { result ≡ Ok None ↔ (first_under digest.now self.old.places ≡ None) }
+        ensures lawful { IfOk result (λ found. IfSome found IsOp) }
+        // The very operation that was put, as long as the disk returns what was written.
+        ensures exact { IsTrue (B.Disk.is_clean self.new.bodies) → (op : Operation) → IsOp op
+            → digest_of op ≡ digest.now
+            → Has B.Disk self.old.bodies self.old.bodies_end self.old.places op
+            → IfOk result (λ found. found ≡ Some op) }
+        ensures alike { IsTrue (B.Disk.is_clean self.new.bodies) → (op : Operation)
+            → digest_of op ≡ digest.now
+            → Has B.Disk self.old.bodies self.old.bodies_end self.old.places op
+            → IfOk result (λ found. IfSome found (λ read. spelling read ≡ spelling op)) }
+        ensures damaged { IsTrue (B.Disk.is_clean self.new.bodies) → (op : Operation) → IsOp op
+            → digest_of op ≡ digest.now
+            → Has B.Disk self.old.bodies self.old.bodies_end self.old.places op
+            → (n : ℕ) → ¬ IsErrOf result (LogFault.DamagedBody n) }
+        ensures looks { Looks self.old self.new }
+        ensures goes_on { GoesOn H.Disk B.Disk self.old self.new }
+
+        // Each fault, only where it is.
+        ensures bad { IsTrue (B.Disk.is_clean self.new.bodies) → (n : ℕ)
+            → IsErrOf result (LogFault.DamagedBody n)
+            → HasBadHead (B.Disk.seen self.old.bodies) self.old.places n }
+        ensures closed { IsErrOf result LogFault.Closed
+            → B.Disk.is_usable self.old.bodies ≡ false }
+        ensures disk { CountsAs LogFault.Disk result
+            (B.Disk.faults self.old.bodies) (B.Disk.faults self.new.bodies) }
+        ensures only { IfErr result IsOfLook }
+    {
+        let Some(place) = self.places.find(digest) else {
+            return Ok(None);
+        };
+        let op = read_at(self.places.alloc(), &mut self.bodies, place)?;
         Ok(Some(op))
     }
 

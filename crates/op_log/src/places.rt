@@ -2,7 +2,7 @@
 
 ghost use Rattle.std.specs.Prelude.{◌≡◌, ◌++◌, ◌∷◌, [], None, Some, ◌≤◌, take, length, slice_get, IfSome, OnOk, OnErr};
 ghost use Rattle.std.specs.Option.{option_map};
-ghost use Rattle.op_log.specs.Kept.{first_under};
+ghost use Rattle.op_log.specs.Kept.{HaveOwnDigests, first_under};
 ghost use Rattle.op_log.specs.Places.{head_by};
 
 use crate::place::Place;
@@ -57,6 +57,13 @@ impl Places {
         ensures { result ≡ length self.now }
     {
         self.table.len()
+    }
+
+    /// No two have one digest. Nothing is done: this is a fact for callers.
+    pub(crate) fn see_own_digests(&self)
+        ensures { HaveOwnDigests self.now }
+    {
+        let _ = self.table.len();
     }
 
     /// The place under a digest.

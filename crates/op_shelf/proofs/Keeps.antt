@@ -1,5 +1,5 @@
 -- What a put makes of the operations that a shelf keeps.
-use Rattle.std.proofs.Common.{◌≡◌, ◌⊎◌, ◌↔◌, inl, inr, zero, suc, List, [], ◌∷◌}
+use Rattle.std.proofs.Common.{◌≡◌, ◌⊎◌, ◌↔◌, inl, inr, zero, suc, ℕ, List, [], ◌∷◌}
 use Rattle.std.proofs.Common.{All, IfOk, IsTrue, IsPermutation, Contains, Ok, Err, Result, OnOk}
 use Rattle.std.proofs.Common.{OnErr, refl, sym}
 use Rattle.std.proofs.Common.{ap, subst, arith}
@@ -17,7 +17,7 @@ use Rattle.operation.specs.Spelling.{spelling}
 use Rattle.op_shelf.specs.declared.kept.Kept.{Kept}
 use Rattle.op_shelf.specs.declared.kept.Kept.TheVariants.{New, Known}
 use Rattle.op_shelf.specs.declared.fault.ShelfFault.{ShelfFault}
-use Rattle.op_shelf.specs.Entries.{entries, entry_of, digest_text, Adds, Holds}
+use Rattle.op_shelf.specs.Entries.{entries, entry_by, entry_of, digest_text, Adds, Holds}
 use Rattle.op_shelf.specs.Keep.{AreSame, Gains, GainsAll, Finds, with_one}
 use Rattle.op_shelf.specs.Group.{PutsAll, IsPutAll, MayHaveAll}
 use Rattle.op_shelf.specs.States.{rows_of, rows_left, tree_in, among, under, IsPut, IsKnown, KeepsAll, IsUp, Lasts}
@@ -36,9 +36,12 @@ absent all op none held =
 is_under : (rows : List Row) (op : Op) → under (digest_text op) rows ≡ [] → ¬ Holds rows op
 is_under rows op none held = absent (entries rows) op none held
 
--- operations of one entry are spelled alike
+-- operations of one entry are spelled alike, whatever the digest of the first
+pub alike_by : (text : List ℕ) (a b : Op) → entry_by text (spelling a) ≡ entry_of b → spelling a ≡ spelling b
+alike_by text a b same = let both : Blob (spelling a) ≡ Blob (spelling b) = ap (λ e. column e 2) same in cc
+
 pub alike : (a b : Op) → entry_of a ≡ entry_of b → spelling a ≡ spelling b
-alike a b same = let both : Blob (spelling a) ≡ Blob (spelling b) = ap (λ e. column e 2) same in cc
+alike a b same = alike_by (digest_text a) a b same
 
 first_or_later : {X : Type 0} (x : X) (xs : List X) (y : X) → Contains (x ∷ xs) y → (x ≡ y) ⊎ Contains xs y
 first_or_later x xs y (zero, low, at) = inl at

@@ -4,7 +4,7 @@ mod Damages
 mod Digits
 mod Groups
 mod Keeps
-mod Loads
+pub mod Loads
 mod Made
 mod Migrated
 mod Olders
@@ -16,4 +16,4 @@ mod Recordings
 mod Schemas
 mod Texts
 mod Walks
-mod Whys
+pub mod Whys

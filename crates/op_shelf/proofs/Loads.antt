@@ -14,14 +14,14 @@ use Rattle.sqlite.specs.declared.types.Value.TheVariants.{Text}
 use Rattle.sqlite_value.proofs.OrderLemmas.{value_cmp_total}
 use Rattle.operation.specs.declared.op.Op.{Op}
 use Rattle.operation.specs.Reading.{IsOp}
-use Rattle.operation.specs.Spelling.{digest_of}
+use Rattle.operation.specs.Spelling.{digest_of, spelling}
 use Rattle.operation.proofs.OutcomeLaws.{spelling_once}
 use Rattle.op_shelf.specs.declared.fault.ShelfFault.{ShelfFault}
-use Rattle.op_shelf.specs.Entries.{Holds, digest_text, entries, entry_of}
+use Rattle.op_shelf.specs.Entries.{Holds, digest_text, entries, entry_by, entry_of}
 use Rattle.op_shelf.specs.Keep.{AreSame, IsFoundAs}
 use Rattle.op_shelf.specs.Loading.{AreAmiss, at_digest}
 use Rattle.op_shelf.specs.States.{IsUp, KeepsAll, Lasts, rows_of, tree_in, under}
-use Rattle.op_shelf.proofs.Keeps.{alike}
+use Rattle.op_shelf.proofs.Keeps.{alike, alike_by}
 use Rattle.op_shelf.proofs.Ops.{kept_was, none_in, still_there}
 
 -- operations of one entry have one digest
@@ -50,13 +50,13 @@ one_in (a ∷ []) ys x same is =
     ap (λ y. y ∷ []) (sym (only x a (subst (λ zs. Contains zs a) is there)))
 one_in (a ∷ b ∷ xs) ys x same is = absurd (omega (arith, length_permutation (a ∷ b ∷ xs) ys same, ap length is))
 
--- so what is found among them, or amiss, is so of those
-pub found_in : (all shown : List Row) (r : Result (Option Op) ShelfFault) → IsPermutation all shown
-    → IfOk r (λ found. IfSome found (λ op. shown ≡ entry_of op ∷ []))
-    → IfOk r (λ found. IfSome found (λ op. all ≡ entry_of op ∷ []))
-found_in all shown (Ok None) same one = tt
-found_in all shown (Ok (Some op)) same one = one_in all shown (entry_of op) same one
-found_in all shown (Err e) same one = tt
+-- so what is found among them, with whatever entry, or amiss, is so of those
+pub found_in : (entry : Op → Row) (all shown : List Row) (r : Result (Option Op) ShelfFault) → IsPermutation all shown
+    → IfOk r (λ found. IfSome found (λ op. shown ≡ entry op ∷ []))
+    → IfOk r (λ found. IfSome found (λ op. all ≡ entry op ∷ []))
+found_in entry all shown (Ok None) same one = tt
+found_in entry all shown (Ok (Some op)) same one = one_in all shown (entry op) same one
+found_in entry all shown (Err e) same one = tt
 
 pub amiss_in : (digest : List ℕ) (all shown : List Row) → IsPermutation all shown → AreAmiss digest shown
     → AreAmiss digest all
@@ -79,21 +79,21 @@ pub some_held : (rows : List Row) (digest : List ℕ) (found : Option Op)
 some_held rows digest None one = tt
 some_held rows digest (Some op) one = alone_held rows digest op one
 
--- what is there under the digest is what is found
-pub exact : (rows : List Row) (digest : List ℕ) (r : Result (Option Op) ShelfFault)
+-- What is there under the digest is what is found, by whatever text of a digest its entry has.
+pub exact : (text : Op → List ℕ) (rows : List Row) (digest : List ℕ) (r : Result (Option Op) ShelfFault)
     → (r ≡ Ok None → at_digest digest rows ≡ [])
-    → IfOk r (λ found. IfSome found (λ op. at_digest digest rows ≡ entry_of op ∷ []))
+    → IfOk r (λ found. IfSome found (λ op. at_digest digest rows ≡ entry_by (text op) (spelling op) ∷ []))
     → IfOk r (λ found. IfSome found IsOp) → (op : Op) → Holds rows op → digest_of op ≡ digest
     → IfOk r (λ found. IsFoundAs found op)
-exact rows digest (Ok None) none one lawful op held is =
+exact text rows digest (Ok None) none one lawful op held is =
     let there : Contains [] (entry_of op) = subst (λ (es : List Row). Contains es (entry_of op)) (none refl)
     (own rows op digest held is) in
     absurd (omega (arith, there.1))
-exact rows digest (Ok (Some found)) none one lawful op held is =
+exact text rows digest (Ok (Some found)) none one lawful op held is =
     let there = subst (λ (es : List Row). Contains es (entry_of op)) one (own rows op digest held is) in
-    let same = alike found op (only (entry_of found) (entry_of op) there) in
+    let same = alike_by (text found) found op (only (entry_by (text found) (spelling found)) (entry_of op) there) in
     (same, λ lawful'. spelling_once found op lawful lawful' same)
-exact rows digest (Err e) none one lawful op held is = tt
+exact text rows digest (Err e) none one lawful op held is = tt
 
 module _ (s t : State) {A : Type 0} (r : Result A ShelfFault) (up : IsUp t) (same : OnOk r (IsUnchanged s t))
     (refused : OnErr r (KeepsAll s t)) where

@@ -5,12 +5,12 @@ use Rattle.std.specs.List.{swap}
 use Rattle.std.proofs.lemmas.List.{get_or-map, length-map, map-set}
 use Rattle.std.proofs.lemmas.List.Edits.{swap_is}
 use Rattle.std.proofs.lemmas.List.Sorted.{IsPermutation-keeps, IsPermutation-map, IsPermutation-refl, IsPermutation-swap}
-use Rattle.std.proofs.lemmas.List.Sorted.{IsPermutation-trans}
+use Rattle.std.proofs.lemmas.List.Sorted.{All-permutation, IsPermutation-trans}
 use Rattle.sqlite.specs.Order.{Row}
 use Rattle.operation.specs.declared.op.Op.{Op}
 use Rattle.records.specs.StandIn.{op_in}
 use Rattle.op_shelf.specs.Entries.{entry_of}
-use Rattle.op_shelf.specs.Recording.{Records}
+use Rattle.op_shelf.specs.Recording.{KeepsDigest, Records}
 
 -- two that change places do so in what is made of each
 swapped : {X Y : Type 0} (f : X → Y) (xs : List X) (i j : ℕ) (d : X) → i < length xs → j < length xs
@@ -57,5 +57,6 @@ records_sorted rows recorded sorted was same =
     record {
       ops = back.0;
       listed = IsPermutation-trans _ _ _ was.listed (IsPermutation-map entry_of _ _ back.2);
+      digests = All-permutation KeepsDigest _ _ back.2 was.digests;
       stand = sym back.1;
     }

@@ -24,6 +24,10 @@ digest_text op = encode_lower (digest_of op)
 abbrev pub entry_of : Op → Row
 entry_of op = entry_by (digest_text op) (spelling op)
 
+-- the entry of an operation that stands under some digest, whether that is its own or not
+abbrev pub entry_under : List ℕ → Op → Row
+entry_under digest op = entry_by (encode_lower digest) (spelling op)
+
 -- the entry that a row of the table has behind its rowid
 abbrev pub entry_in : Row → Row
 entry_in row = column row 1 ∷ column row 2 ∷ column row 3 ∷ []

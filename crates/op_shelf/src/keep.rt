@@ -100,6 +100,19 @@ pub trait Keep {
         ensures same { is_up self.new → AreSame (holds self.old) (holds self.new) }
         ensures kept { is_up self.new → (other : Operation) → lasts self.old other
             → lasts self.new other };
+
+    /// What is read under a digest, which nobody has hashed yet: it is that of the digest as long
+    /// as the disk returns what was written. Who takes it hashes it.
+    fn read(&mut self, digest: &Digest) -> Result<Option<Op>, ShelfFault>
+        ensures exact { is_up self.new → (op : Operation) → holds self.old op
+            → digest_of op ≡ digest.now → IfOk result (λ found. IsFoundAs found op) }
+        ensures why { IfErr result (refuses_load self.old self.new digest.now) }
+        ensures up { is_up self.new → is_up self.old }
+
+        // Nothing changes, and a crash leaves what it left before.
+        ensures same { is_up self.new → AreSame (holds self.old) (holds self.new) }
+        ensures kept { is_up self.new → (other : Operation) → lasts self.old other
+            → lasts self.new other };
 }
 
 impl<S: Alter> Keep for Shelf<S> {
@@ -130,5 +143,9 @@ impl<S: Alter> Keep for Shelf<S> {
 
     fn load(&mut self, digest: &Digest) -> Result<Option<Digested>, ShelfFault> {
         Shelf::load(self, digest)
+    }
+
+    fn read(&mut self, digest: &Digest) -> Result<Option<Op>, ShelfFault> {
+        Shelf::read(self, digest)
     }
 }

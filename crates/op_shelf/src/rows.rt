@@ -8,7 +8,7 @@ ghost use Rattle.sqlite.specs.Order.{column};
 ghost use Rattle.operation.specs.Reading.{IsOp};
 ghost use Rattle.operation.specs.Spelling.{spelling};
 ghost use Rattle.operation.specs.declared.op.Op.{Op};
-ghost use Rattle.op_shelf.specs.Entries.{kind_in, entry_by, entry_of, IsEntry};
+ghost use Rattle.op_shelf.specs.Entries.{kind_in, digest_text, entry_by, entry_of, IsEntry};
 ghost use Rattle.op_shelf.specs.Fault.{IsNoStore};
 ghost use Rattle.op_shelf.specs.Older.{IsPair};
 
@@ -142,6 +142,25 @@ pub(crate) fn op_of(alloc: Global, entry: &Row) -> Result<Digested, ShelfFault>
     let op = Digested::of(made);
     let text = op.digest().text(alloc)?;
     if !is_headed(entry, text.as_bytes(), body) {
+        return Err(ShelfFault::BadRow);
+    }
+    Ok(op)
+}
+
+/// The operation of an entry under the text of a digest. It is not hashed here, so where the disk
+/// changed its bytes it may have another digest.
+pub(crate) fn read_of(alloc: Global, entry: &Row, text: &[u8]) -> Result<Op, ShelfFault>
+    ensures found { IfOk result (λ op. entry.now ≡ entry_by text.now (spelling op)) }
+    ensures lawful { IfOk result IsOp }
+    ensures bad { IsErrOf result ShelfFault.BadRow → (op : Op) → IsOp op
+        → digest_text op ≡ text.now → entry.now ≢ entry_of op }
+    ensures only { IfErr result IsNoStore }
+{
+    let Some(body) = body_in(entry) else {
+        return Err(ShelfFault::BadRow);
+    };
+    let op = decoded(alloc, body)?;
+    if !is_headed(entry, text, body) {
         return Err(ShelfFault::BadRow);
     }
     Ok(op)

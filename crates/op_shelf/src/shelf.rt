@@ -8,7 +8,7 @@ ghost use Rattle.sqlite.specs.State.{IsUnchanged, Survives};
 ghost use Rattle.sqlite.specs.Tree.{Trees};
 ghost use Rattle.operation.specs.Reading.{IsOp};
 ghost use Rattle.operation.specs.Spelling.{digest_of};
-ghost use Rattle.op_shelf.specs.Entries.{Holds, Lists, HasBadRow, entry_of, digest_text};
+ghost use Rattle.op_shelf.specs.Entries.{Holds, Lists, HasBadRow, entry_of, entry_under, digest_text};
 ghost use Rattle.op_shelf.specs.Fault.{IfStore};
 ghost use Rattle.op_shelf.specs.Loading.{AreAmiss, IsNotLoaded, at_digest};
 ghost use Rattle.op_shelf.specs.Putting.{PutsEntry, PutsGroup};
@@ -20,7 +20,7 @@ ghost use Rattle.op_shelf.specs.Texts.{all_text, kind_text};
 use crate::fault::{ShelfFault, StoreCause};
 use crate::group::put_group;
 use crate::kept::Kept;
-use crate::loading::load_op;
+use crate::loading::{load_op, read_op};
 use crate::recording::all_records;
 use crate::statements::kind_rows;
 use crate::table::{is_ready, put_entry};
@@ -172,6 +172,32 @@ impl<S: Alter> Shelf<S> {
             return Err(ShelfFault::Store(StoreCause::Other));
         }
         load_op(&mut self.database, self.alloc, digest)
+    }
+
+    /// The operation that is read under a digest, if a row is there. Nobody has hashed it: where
+    /// the disk changed its bytes, and they still read as an operation, it is one of another
+    /// digest.
+    pub fn read(&mut self, digest: &Digest) -> Result<Option<Op>, ShelfFault>
+        ensures found { IfClean S.Store self.old self.new (λ s t. IfOk result (λ found. IfSome found
+            (λ op. at_digest digest.now (rows_of s) ≡ entry_under digest.now op ∷ []))) }
+        ensures lawful { IfOk result (λ found. IfSome found IsOp) }
+        ensures none { IfClean S.Store self.old self.new (λ s t.
+            result ≡ Ok None → at_digest digest.now (rows_of s) ≡ []) }
+        ensures same { IfClean S.Store self.old self.new (λ s t. OnOk result (IsUnchanged s t)) }
+        ensures refused { IfClean S.Store self.old self.new (λ s t. OnErr result (KeepsAll s t)) }
+
+        // Each fault, only where it is.
+        ensures bad_row { IfClean S.Store self.old self.new (λ s t.
+            IsErrOf result ShelfFault.BadRow
+            → AreAmiss digest.now (at_digest digest.now (rows_of s))) }
+        ensures store { IfClean S.Store self.old self.new (λ s t.
+            IfStore result (λ why. IsNotLoaded why digest.now s t)) }
+        ensures crash { Survives (state S.Store self.old) (state S.Store self.new) (λ _. ⊥) }
+    {
+        if !is_ready(&self.database) {
+            return Err(ShelfFault::Store(StoreCause::Other));
+        }
+        read_op(&mut self.database, self.alloc, digest)
     }
 
     /// How many operations of a kind the table has.

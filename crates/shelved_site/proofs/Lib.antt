@@ -3,6 +3,8 @@ pub mod Hashed
 pub mod Holding
 pub mod Keeps
 pub mod KnownLaws
+pub mod Listings
+pub mod Loaded
 pub mod Loads
 pub mod Logs
 pub mod Moves

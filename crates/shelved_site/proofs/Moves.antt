@@ -1,6 +1,6 @@
 -- What groups of puts come to.
 use Rattle.std.proofs.Common.{◌≡◌, ◌⊎◌, ◌↔◌, ◌+◌, ◌≤◌, inl, inr, ◌<◌, ℕ, zero, suc, take, slice_index_or, List, []}
-use Rattle.std.proofs.Common.{◌∷◌, ◌++◌, length, refl, sym, ap, subst, ◌∙◌, arith}
+use Rattle.std.proofs.Common.{◌∷◌, ◌++◌, length, refl, sym, ap, ◌∙◌, arith}
 use Rattle.operation.specs.declared.op.Op.{Op}
 use Rattle.operation.specs.Spelling.{spelling}
 use Rattle.op_shelf.specs.declared.kept.Kept.{Kept}
@@ -134,20 +134,12 @@ pub put_joins : (a b : Op → Type 0) (ops : List Op) (n : ℕ) → IsAlike a �
     → b op ↔ (a op ⊎ IsAmong ops op)
 put_joins a b ops n alike put = joins a b ops put.kepts alike put.gained
 
-among_front : (done rest : List Op) (op : Op) → IsAmong done op → IsAmong (done ++ rest) op
-among_front [] rest op none = absurd none
-among_front (x ∷ done) rest op (inl is) = inl is
-among_front (x ∷ done) rest op (inr among) = inr (among_front done rest op among)
-
 -- where a group is refused, those before it were put
-pub joins_some : (a b c : Op → Type 0) (done rest all : List Op) (n : ℕ) → IsAlike a → done ++ rest ≡ all → ArePut a b done n
-    → AreSame b c → JoinsSome a c all
-joins_some a b c done rest all n alike parts put same =
-    let joined = put_joins a b done n alike put in
+pub joins_some : (a b c : Op → Type 0) (ops : List Op) (n : ℕ) → IsAlike a → ArePut a b ops n → AreSame b c
+    → JoinsSome a c ops
+joins_some a b c ops n alike put same =
+    let joined = put_joins a b ops n alike put in
     record {
       kept = λ op was. (same op).0 ((joined op).1 (inl was));
-      only = λ op held. elim ((joined op).0 ((same op).1 held)) as (λ _. a op ⊎ IsAmong all op) [
-        | inl was ↦ inl was
-        | inr among ↦ inr (subst (λ (ops : List Op). IsAmong ops op) parts (among_front done rest op among))
-      ];
+      only = λ op held. (joined op).0 ((same op).1 held);
     }

@@ -1,11 +1,12 @@
 -- What a move brings.
-use Rattle.std.specs.Prelude.{◌≡◌, ◌⊎◌, ◌↔◌, ◌+◌, ℕ, List, [], ◌∷◌, All, length}
+use Rattle.std.specs.Prelude.{◌≡◌, ◌⊎◌, ◌↔◌, ◌+◌, ◌++◌, ℕ, List, [], ◌∷◌, All, length}
 use Rattle.operation.specs.declared.op.Op.{Op}
-use Rattle.operation.specs.Spelling.{spelling}
+use Rattle.operation.specs.Spelling.{digest_of, spelling}
 use Rattle.op_shelf.specs.declared.kept.Kept.{Kept}
 use Rattle.op_shelf.specs.declared.kept.Kept.TheVariants.{New, Known}
 use Rattle.op_shelf.specs.Keep.{AreSame, GainsAll}
 use Rattle.shelved_site.specs.declared.moving.Moved.{Moved}
+use Rattle.shelved_site.specs.Recorded.{AreLoaded, IsAmongListed}
 
 -- how many of some puts found an operation that was not there
 abbrev pub count_new : List Kept → ℕ
@@ -41,3 +42,30 @@ pub record AreMoved (lists : List Op → Type 0) (old new lasts : Op → Type 0)
 -- A store has what it had. What else it has is one of the operations of a list, or it is as it was.
 abbrev pub HasSome : (List Op → Type 0) → (Op → Type 0) → (Op → Type 0) → Type 0
 HasSome lists old new = AreSame old new ⊎ ((ops : List Op) × lists ops × JoinsSome old new ops)
+
+-- the operations of some records were loaded and put, one after another, and each of them lasts
+pub record AreBrought (lists : List Op → Type 0) (old new lasts : Op → Type 0) (recorded : List Op) (count : ℕ) : Type 0
+  where
+    pub ops : List Op
+    pub loaded : AreLoaded lists recorded ops
+    pub put : ArePut old new ops count
+    pub lasting : All lasts ops
+
+-- those of the first of some records came
+pub record AreBroughtInPart (lists : List Op → Type 0) (old new : Op → Type 0) (recorded : List Op) : Type 0 where
+  pub done : List Op
+  pub rest : List Op
+  pub parts : done ++ rest ≡ recorded
+  pub ops : List Op
+  pub loaded : AreLoaded lists done ops
+  pub joined : JoinsSome old new ops
+
+-- A store that was as it had been had cause to refuse the load of an operation that it lists.
+pub record RefusesListed {S : Type 0} (is_same : S → Type 0) (lists : List Op → Type 0) (refuses : S → List ℕ → Type 0)
+    : Type 0
+  where
+    pub before : S
+    pub same : is_same before
+    pub op : Op
+    pub among : IsAmongListed lists op
+    pub cause : refuses before (digest_of op)

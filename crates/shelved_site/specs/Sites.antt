@@ -1,16 +1,18 @@
 -- The site of a store.
-use Rattle.std.specs.Prelude.{◌≡◌, List, ⊤, map}
+use Rattle.std.specs.Prelude.{◌≡◌, List, ⊤, map, All}
 use Rattle.operation.specs.declared.op.Op.{Op}
 use Rattle.records.specs.StandIn.{op_in}
+use Rattle.op_shelf.specs.Recording.{KeepsDigest}
 use Rattle.site_state.specs.Site.{Map}
 use Rattle.site_state.specs.Laws.{after_taking}
 use Rattle.shelved_site.specs.declared.fault.ShelvedFault.{ShelvedFault}
 use Rattle.shelved_site.specs.declared.fault.ShelvedFault.TheVariants.{Shelf, Site, Hub}
 
--- records that stand for all operations of a store, which lists these
+-- records that stand for all operations of a store, which lists these, and have their digests
 pub record AreRecords (lists : List Op → Type 0) (recorded : List Op) : Type 0 where
   pub ops : List Op
   pub listed : lists ops
+  pub digests : All KeepsDigest ops
   pub stand : recorded ≡ map op_in ops
 
 -- what a new site holds once it took what stands for some operations

@@ -91,4 +91,11 @@ impl<H: Disk, B: Disk> Keep for KeptLog<H, B> {
             Err(unread) => Err(fault(unread)),
         }
     }
+
+    fn read(&mut self, digest: &Digest) -> Result<Option<Op>, ShelfFault> {
+        match self.log.read(digest) {
+            Ok(read) => Ok(read),
+            Err(refusal) => Err(fault(refusal)),
+        }
+    }
 }

@@ -44,6 +44,7 @@ impl<H: Disk, B: Disk> Store for KeptLog<H, B> {
     ghost use Rattle.op_log.specs.Loaded.{Lists};
     ghost use Rattle.op_shelf.specs.Keep.{AreSame};
     ghost use Rattle.shelved_site.specs.Keeping.{IsUp, Holds, Lasts, log_of};
+    ghost use Rattle.shelved_site.specs.Proved.Logs.{lists_in};
     ghost use Rattle.shelved_site.specs.Refusing.{LogRefusesAll};
     ghost use Rattle.shelved_site.specs.Stores.{IsSame, count_in};
     ghost use Rattle.shelved_site.specs.Verifying.{AreVerified};
@@ -69,6 +70,11 @@ impl<H: Disk, B: Disk> Store for KeptLog<H, B> {
     ghost refuses_count = { λ s kind t fault. ⊥ };
 
     ghost alike = { λ s a b same held. (held.0, held.1, sym same ∙ held.2) };
+
+    ghost found_lists = { λ s ops others listed found.
+        lists_in _ (log_of s).places ops others listed found };
+
+    ghost memory_refuses = { λ s t digest. tt };
 
     ghost same_spared = { λ s t same. same.holds };
 
@@ -105,6 +111,15 @@ impl<H: Disk, B: Disk> Store for KeptLog<H, B> {
     fn records(&mut self) -> Result<Vec<RecordedOp>, ShelfFault> {
         match self.log.records(self.alloc) {
             Ok(recorded) => Ok(recorded),
+            Err(refused) => Err(fault(refused)),
+        }
+    }
+
+    fn load_recorded(&mut self, recorded: &RecordedOp) -> Result<Digested, ShelfFault> {
+        self.log.see_own_digests();
+        match self.log.load(recorded.digest()) {
+            Ok(Some(op)) => Ok(op),
+            Ok(None) => Err(ShelfFault::BadRow),
             Err(refused) => Err(fault(refused)),
         }
     }

@@ -1,14 +1,18 @@
 //! Brings the operations of one store into another.
 
-ghost use Rattle.std.specs.Prelude.{◌≡◌, ◌∷◌, [], All, IfErr, IfOk, OnOk, OnErr};
+ghost use Rattle.std.specs.Prelude.{◌≡◌, ◌⊎◌, ◌∷◌, [], All, IfErr, IfOk, OnOk, OnErr};
 ghost use Rattle.operation.specs.declared.op.Op.{Op as Operation};
 ghost use Rattle.op_shelf.specs.declared.fault.ShelfFault.{ShelfFault as Fault};
 ghost use Rattle.op_shelf.specs.Keep.{AreSame};
-ghost use Rattle.shelved_site.specs.Moving.{AreMoved, ArePut, HasSome, JoinsSome, count_new as count_of_new};
+ghost use Rattle.shelved_site.specs.Moving.{AreBrought, AreBroughtInPart, AreMoved, ArePut, HasSome, RefusesListed};
+ghost use Rattle.shelved_site.specs.Moving.{count_new as count_of_new};
+ghost use Rattle.shelved_site.specs.Recorded.{AreLoaded, HasOperation};
 
 use crate::store::Store;
 use op_shelf::{Keep, Kept, ShelfFault};
 use operation::Digested;
+use records::RecordedOp;
+use std::alloc::Global;
 use thiserror::Error;
 
 /// How many operations are put at once.
@@ -74,22 +78,98 @@ fn put_group<T: Store>(to: &mut T, ops: &[Digested]) -> Result<u64, ShelfFault>
     Ok(count_new(&kepts))
 }
 
-/// Puts operations into a store, group after group, and tells how many were not there.
-fn put_groups<T: Store, H: Following>(
-    to: &mut T,
-    ops: &[Digested],
-    hearing: &H,
-) -> Result<u64, ShelfFault>
-    ensures put { T.is_up to.new → IfOk result (ArePut (T.holds to.old) (T.holds to.new) ops.now) }
-    ensures part { T.is_up to.new
-        → OnErr result (JoinsSome (T.holds to.old) (T.holds to.new) ops.now) }
-    ensures lasting { T.is_up to.new → OnOk result (All (T.lasts to.new) ops.now) }
-    ensures kept { T.is_up to.new → (op : Operation) → T.lasts to.old op → T.lasts to.new op }
+/// Loads the operations of a group of records. The store is only read.
+fn load_group<F: Store>(
+    alloc: Global,
+    from: &mut F,
+    recorded: &[RecordedOp],
+) -> Result<Vec<Digested>, ShelfFault>
+    ensures loaded { F.is_clean from.new → (first : F) → F.is_same first from.old
+        → IfOk result (λ ops. AreLoaded (F.lists first) recorded.now ops.items) }
+    ensures same { F.is_clean from.new → (first : F) → F.is_same first from.old
+        → OnOk result (F.is_same first from.new) }
+    ensures refused { F.is_clean from.new → (first : F) → F.is_same first from.old
+        → OnErr result (F.spares first from.new) }
+    ensures why { F.is_clean from.new → (first : F) → F.is_same first from.old
+        → All (HasOperation (F.lists first)) recorded.now → IfErr result (λ told.
+        RefusesListed (F.is_same first) (F.lists first)
+        (λ before digest. F.refuses_load before from.new digest told)) }
+    ensures clean { F.is_clean from.new → F.is_clean from.old }
 {
+    let mut ops = Vec::new(alloc);
+    for one in recorded {
+        let op = from.load_recorded(one)?;
+        ops.push(op)?;
+    }
+    Ok(ops)
+}
+
+/// Brings the operations of a group of records from one store into another, and tells how many were
+/// not there. They are let go behind it.
+fn move_group<F: Store, T: Store>(
+    alloc: Global,
+    from: &mut F,
+    to: &mut T,
+    recorded: &[RecordedOp],
+) -> Result<u64, MoveFault>
+    ensures moved { F.is_clean from.new → T.is_up to.new → (first : F) → F.is_same first from.old
+        → IfOk result (AreBrought (F.lists first) (T.holds to.old) (T.holds to.new) (T.lasts to.new)
+        recorded.now) }
+    ensures refused { T.is_up to.new → OnErr result (AreSame (T.holds to.old) (T.holds to.new)) }
+    ensures up { T.is_up to.new → T.is_up to.old }
+    ensures kept { T.is_up to.new → (op : Operation) → T.lasts to.old op → T.lasts to.new op }
+
+    // The first is only read.
+    ensures same { F.is_clean from.new → (first : F) → F.is_same first from.old
+        → OnOk result (F.is_same first from.new) }
+    ensures read { F.is_clean from.new → (first : F) → F.is_same first from.old
+        → F.spares first from.new }
+    ensures unread { F.is_clean from.new → (first : F) → F.is_same first from.old
+        → All (HasOperation (F.lists first)) recorded.now → IfErr result (λ fault. (told : Fault)
+        → fault ≡ MoveFault.From told → RefusesListed (F.is_same first) (F.lists first)
+        (λ before digest. F.refuses_load before from.new digest told)) }
+    ensures clean { F.is_clean from.new → F.is_clean from.old }
+{
+    let ops = match load_group(alloc, from, recorded) {
+        Ok(ops) => ops,
+        Err(fault) => return Err(MoveFault::From(fault)),
+    };
+    match put_group(to, &ops) {
+        Ok(new) => Ok(new),
+        Err(fault) => Err(MoveFault::To(fault)),
+    }
+}
+
+/// Brings the operations of records from one store into another, group after group, and tells how
+/// many were not there. One group at a time is in memory.
+fn move_groups<F: Store, T: Store, H: Following>(
+    from: &mut F,
+    to: &mut T,
+    recorded: Vec<RecordedOp>,
+    hearing: &H,
+) -> Result<u64, MoveFault>
+    ensures moved { F.is_clean from.new → T.is_up to.new → (first : F) → F.is_same first from.old
+        → IfOk result (AreBrought (F.lists first) (T.holds to.old) (T.holds to.new) (T.lasts to.new)
+        recorded.items) }
+    ensures part { F.is_clean from.new → T.is_up to.new → (first : F) → F.is_same first from.old
+        → OnErr result (AreBroughtInPart (F.lists first) (T.holds to.old) (T.holds to.new)
+        recorded.items) }
+    ensures kept { T.is_up to.new → (op : Operation) → T.lasts to.old op → T.lasts to.new op }
+
+    // The first is only read.
+    ensures read { F.is_clean from.new → (first : F) → F.is_same first from.old
+        → F.spares first from.new }
+    ensures unread { F.is_clean from.new → (first : F) → F.is_same first from.old
+        → All (HasOperation (F.lists first)) recorded.items → IfErr result (λ fault. (told : Fault)
+        → fault ≡ MoveFault.From told → RefusesListed (F.is_same first) (F.lists first)
+        (λ before digest. F.refuses_load before from.new digest told)) }
+    ensures clean { F.is_clean from.new → F.is_clean from.old }
+{
+    let alloc = *recorded.allocator();
     let mut new = 0u64;
     let mut done = 0usize;
-    for group in ops.chunks(GROUP) {
-        let more = put_group(to, group)?;
+    for group in recorded.chunks(GROUP) {
+        let more = move_group(alloc, from, to, group)?;
         new = new.saturating_add(more);
         done = done.saturating_add(group.len());
         hearing.has_put(done);
@@ -99,7 +179,9 @@ fn put_groups<T: Store, H: Following>(
 
 /// Brings all operations of one store into another, group after group, and tells how many there
 /// were and how many of them were new. What is there already is not written again, so that a move
-/// that broke off goes on where it is begun anew. The first is only read.
+/// that broke off goes on where it is begun anew. The first is only read, twice: for the records of
+/// all, which are held meanwhile, and then for the operations themselves, of which one group at a
+/// time is in memory.
 pub fn move_all<F: Store, T: Store, H: Following>(
     from: &mut F,
     to: &mut T,
@@ -113,20 +195,24 @@ pub fn move_all<F: Store, T: Store, H: Following>(
         (HasSome (F.lists from.old) (T.holds to.old) (T.holds to.new)) }
     ensures kept { T.is_up to.new → (op : Operation) → T.lasts to.old op → T.lasts to.new op }
     ensures read { F.is_clean from.new → F.spares from.old from.new }
-    // The first is told as refusing only where it had cause to.
+    // The first is told as refusing only where it had cause to, as its operations were recorded or
+    // one of them was loaded.
     ensures unread { F.is_clean from.new → IfErr result (λ fault. (told : Fault)
-        → fault ≡ MoveFault.From told → F.refuses_all from.old from.new told) }
+        → fault ≡ MoveFault.From told → F.refuses_all from.old from.new told
+        ⊎ RefusesListed (F.is_same from.old) (F.lists from.old)
+        (λ before digest. F.refuses_load before from.new digest told)) }
 {
-    let ops = match from.all() {
-        Ok(ops) => ops,
+    let recorded = match from.records() {
+        Ok(recorded) => recorded,
         Err(fault) => return Err(MoveFault::From(fault)),
     };
-    hearing.has_read(ops.len());
-    match put_groups(to, &ops, hearing) {
+    let operations = recorded.len();
+    hearing.has_read(operations);
+    match move_groups(from, to, recorded, hearing) {
         Ok(new) => Ok(Moved {
-            operations: ops.len() as u64,
+            operations: operations as u64,
             new,
         }),
-        Err(fault) => Err(MoveFault::To(fault)),
+        Err(fault) => Err(fault),
     }
 }

@@ -15,7 +15,7 @@ impl<S: Alter> Store for Shelf<S> {
     ghost use Rattle.op_shelf.specs.States.{KeepsAll, count_of, rows_left, rows_of, tree_in};
     ghost use Rattle.std.proofs.Common.{ap, subst, sym, ◌∙◌};
     ghost use Rattle.sqlite.specs.Effect.{Database};
-    ghost use Rattle.shelved_site.specs.Proved.Shelves.{alike_in};
+    ghost use Rattle.shelved_site.specs.Proved.Shelves.{alike_in, lists_in};
     ghost use Rattle.shelved_site.specs.Refusing.{ShelfRefusesAll, ShelfRefusesCount};
 
     ghost is_clean = { λ s. HasCleanDisk (state S.Store s) };
@@ -40,6 +40,10 @@ impl<S: Alter> Store for Shelf<S> {
         ShelfRefusesCount (state S.Store s) kind (state S.Store t) fault };
 
     ghost alike = { λ s a b same held. alike_in _ a b same held };
+
+    ghost found_lists = { λ s ops others listed found. lists_in _ ops others listed found };
+
+    ghost memory_refuses = { λ s t digest. tt };
 
     ghost same_spared = { λ s t same opens. (same.0.was_open, same.0.now_is) };
 
@@ -73,6 +77,14 @@ impl<S: Alter> Store for Shelf<S> {
 
     fn records(&mut self) -> Result<Vec<RecordedOp>, ShelfFault> {
         Shelf::records(self)
+    }
+
+    fn load_recorded(&mut self, recorded: &RecordedOp) -> Result<Digested, ShelfFault> {
+        match Shelf::load(self, recorded.digest()) {
+            Ok(Some(op)) => Ok(op),
+            Ok(None) => Err(ShelfFault::BadRow),
+            Err(fault) => Err(fault),
+        }
     }
 
     fn count_kind(&mut self, kind: u8) -> Result<u64, ShelfFault> {

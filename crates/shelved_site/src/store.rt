@@ -4,7 +4,9 @@ ghost use Rattle.std.specs.Prelude.{◌≡◌, ℕ, List, IfErr, IfOk, IsErrOf, 
 ghost use Rattle.operation.specs.declared.op.Op.{Op as Operation};
 ghost use Rattle.op_shelf.specs.declared.damaged.Damaged.{Damaged as Damage};
 ghost use Rattle.op_shelf.specs.declared.fault.ShelfFault.{ShelfFault as Fault};
-ghost use Rattle.operation.specs.Spelling.{spelling};
+ghost use Rattle.op_shelf.specs.declared.fault.ShelfFault.TheVariants.{Memory};
+ghost use Rattle.operation.specs.Spelling.{digest_of, spelling};
+ghost use Rattle.shelved_site.specs.Recorded.{AreFoundAs, HasOperation, IsLoaded};
 ghost use Rattle.shelved_site.specs.Sites.{AreRecords};
 
 use op_shelf::{Keep, Kept, ShelfFault, Testing, Verified};
@@ -58,6 +60,16 @@ pub trait Store: Keep {
         ensures why { is_clean self.new → IfErr result (refuses_all self.old self.new) }
         ensures clean { is_clean self.new → is_clean self.old };
 
+    /// The operation of a record that `records` told. It is read and hashed, to test it: whatever the
+    /// disk returns, none of another digest is answered.
+    fn load_recorded(&mut self, recorded: &RecordedOp) -> Result<Digested, ShelfFault>
+        ensures loaded { is_clean self.new → IfOk result (IsLoaded (lists self.old) recorded.now) }
+        ensures same { is_clean self.new → OnOk result (is_same self.old self.new) }
+        ensures refused { is_clean self.new → OnErr result (spares self.old self.new) }
+        ensures why { is_clean self.new → HasOperation (lists self.old) recorded.now
+            → IfErr result (Self.refuses_load self.old self.new (digest_of recorded.now)) }
+        ensures clean { is_clean self.new → is_clean self.old };
+
     /// How many operations of a kind there are.
     fn count_kind(&mut self, kind: u8) -> Result<u64, ShelfFault>
         ensures count { is_clean self.new → IfOk result (λ n. n ≡ count self.old kind) }
@@ -86,6 +98,13 @@ pub trait Store: Keep {
     // Operations that are spelled alike are one.
     ghost alike: { (s : Self) (a b : Operation) → spelling a ≡ spelling b
         → Self.holds s a → Self.holds s b };
+
+    // Where these are listed, so are others that are spelled as they are, and are these, if lawful.
+    ghost found_lists: { (s : Self) (ops others : List Operation) → lists s ops
+        → AreFoundAs others ops → lists s others };
+
+    // Want of memory is cause enough.
+    ghost memory_refuses: { (s t : Self) (digest : List ℕ) → Self.refuses_load s t digest Memory };
 
     // What has not changed is as it was, also over several calls.
     ghost same_spared: { (s t : Self) → is_same s t → spares s t };

@@ -1,70 +1,30 @@
-use Rattle.std.proofs.Common.{rules, ◌≡◌, ◌-◌, ℕ, true, length, sym, subst, ap, ◌∙◌, arith}
-use Rattle.body_log.specs.Log.{disk_of}
-use Rattle.operation.specs.declared.op.Op.{Op}
-use Rattle.operation.specs.Spelling.{spelling}
+use Rattle.std.proofs.Common.{rules, ◌≡◌, List, ℕ, true, sym, subst, ap, ◌∙◌}
 use Rattle.operation.specs.Spelling.{digest_of}
-use Rattle.op_log.specs.Fault.{IsOfRead}
-use Rattle.op_log.specs.declared.fault.LogFault.TheVariants.{DamagedBody}
-use Rattle.op_log.specs.Heads.{Head, body_of, size_of}
-use Rattle.op_log.proofs.Faults.{told_is}
-use Rattle.op_log.proofs.Lists.{front_long, is_of}
-use Rattle.op_log.proofs.Spellings.{same_op, spelled}
+use Rattle.op_log.specs.Heads.{Head, head_of}
+use Rattle.op_log.specs.Places.{head_by}
 use Rattle.op_log.proofs.loading.load_at.Goals as goal
 
--- A read tells no damage.
-pub returns-in_err-text-clause-damaged : goal.returns-in_err-text-clause-damaged
-returns-in_err-text-clause-damaged g c clean op lawful head has n told =
-    let is = told_is c.from_residual.result c.in_err-text.field-0.0 (DamagedBody n) c.from_residual.ensures.1 told in
-    subst IsOfRead is c.in_err-text.ensures.only
+-- The head has the digest of the operation.
+pub returns-in_err-read-clause-damaged : goal.returns-in_err-read-clause-damaged
+returns-in_err-read-clause-damaged g c clean op lawful head has n told =
+    let place = c.args.place.now in
+    let own = subst (λ (d : List ℕ). head_by d place ≡ head_of (op, place.at)) (ap (λ (h : Head). h.digest) head) head in
+    c.read_at.ensures.damaged clean op lawful own has n (search rules)
 
--- What is read is front and data set of the operation, so its spelling.
-pub returns-in_err-op-clause-damaged : goal.returns-in_err-op-clause-damaged
-returns-in_err-op-clause-damaged g c clean op lawful head has n told =
-    let size = ap (λ (h : Head). h.size) head in
-    let front = ap (λ (h : Head). h.front) head in
-    let read = c.in_ok-text.ensures.read clean (body_of op) (sym size) (λ some. has (omega (arith, some, size))) in
-    c.decoded.ensures.damaged n (search rules) op lawful (spelled op c.in_ok-text.text.items c.args.place.now.front read front)
-
+-- What was read is the operation, which has the digest.
 pub returns-then-not-has_digest-clause-damaged : goal.returns-then-not-has_digest-clause-damaged
 returns-then-not-has_digest-clause-damaged g c clean op lawful head has n told =
-    let size = ap (λ (h : Head). h.size) head in
-    let front = ap (λ (h : Head). h.front) head in
-    let read = c.in_ok-text.ensures.read clean (body_of op) (sym size) (λ some. has (omega (arith, some, size))) in
-    let text = spelled op c.in_ok-text.text.items c.args.place.now.front read front in
-    let same = same_op c.in_ok-op.op op c.in_ok-text.text.items c.in_ok-op.ensures.lawful lawful c.in_ok-op.ensures.found text in
-    let digest = ap digest_of same ∙ sym (ap (λ (h : Head). h.digest) head) in
-    let yes : c.has_digest.result ≡ true = c.has_digest.ensures.1 digest in
+    let place = c.args.place.now in
+    let digest = ap (λ (h : Head). h.digest) head in
+    let own = subst (λ (d : List ℕ). head_by d place ≡ head_of (op, place.at)) digest head in
+    let same = c.of-op.ensures ∙ c.in_ok-read.ensures.exact clean op lawful own has in
+    let yes : c.has_digest.result ≡ true = c.has_digest.ensures.1 (ap digest_of same ∙ sym digest) in
     let no = c.if-not-has_digest.true in
     absurd cc
 
--- The data set stands behind the front.
-pub returns-then-not-is_behind-clause-damaged : goal.returns-then-not-is_behind-clause-damaged
-returns-then-not-is_behind-clause-damaged g c clean op lawful head has n told =
-    let size = ap (λ (h : Head). h.size) head in
-    let front = ap (λ (h : Head). h.front) head in
-    let read = c.in_ok-text.ensures.read clean (body_of op) (sym size) (λ some. has (omega (arith, some, size))) in
-    let text = spelled op c.in_ok-text.text.items c.args.place.now.front read front in
-    let same = same_op c.in_ok-op.op op c.in_ok-text.text.items c.in_ok-op.ensures.lawful lawful c.in_ok-op.ensures.found text in
-    let many : c.len-long.result ≡ length c.in_ok-text.text.items = omega (arith, c.len-long.ensures, c.in_ok-text.text.ok) in
-    let long = ap (λ (n : ℕ). n - size_of c.in_ok-op.op) (many ∙ ap length text)
-    ∙ ap (λ (o : Op). length (spelling op) - size_of o) same ∙ sym (front_long op) ∙ ap length (sym front) ∙ sym c.len.ensures in
-    let yes : c.is_behind.result ≡ true = c.is_behind.ensures.1 long in
-    let no = c.if-not-is_behind.true in
-    absurd cc
-
-pub returns-clause-found : goal.returns-clause-found
-returns-clause-found g c clean =
-    let behind : c.is_behind.result ≡ true = cc in
-    let hashed : c.has_digest.result ≡ true = cc in
-    let many : length c.in_ok-text.text.items ≡ c.len-long.result = omega (arith, c.len-long.ensures, c.in_ok-text.text.ok) in
-    let cut = ap (λ (n : ℕ). n - size_of c.in_ok-op.op) many ∙ c.is_behind.ensures.0 behind ∙ c.len.ensures in
-    is_of (g.B.Disk.seen (disk_of c.args.bodies.now)) c.args.place.now c.args.digest.now c.in_ok-text.text.items c.in_ok-op.op
-    c.in_ok-op.ensures.lawful (c.has_digest.ensures.0 hashed) c.in_ok-op.ensures.found cut (c.in_ok-text.ensures.held clean)
-
+-- What was read is the operation.
 pub returns-clause-exact : goal.returns-clause-exact
 returns-clause-exact g c clean op lawful head has =
-    let size = ap (λ (h : Head). h.size) head in
-    let front = ap (λ (h : Head). h.front) head in
-    let read = c.in_ok-text.ensures.read clean (body_of op) (sym size) (λ some. has (omega (arith, some, size))) in
-    let text = spelled op c.in_ok-text.text.items c.args.place.now.front read front in
-    same_op c.in_ok-op.op op c.in_ok-text.text.items c.in_ok-op.ensures.lawful lawful c.in_ok-op.ensures.found text
+    let place = c.args.place.now in
+    let own = subst (λ (d : List ℕ). head_by d place ≡ head_of (op, place.at)) (ap (λ (h : Head). h.digest) head) head in
+    c.of-op.ensures ∙ c.in_ok-read.ensures.exact clean op lawful own has

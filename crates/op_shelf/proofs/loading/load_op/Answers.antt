@@ -15,7 +15,7 @@ returns-clause-found g c clean =
     let rows = rows_of (state g.S.Store c.args.database.now) in
     let name : c.as_str.result.now ≡ encode_lower c.args.digest.now = search rules in
     let same = subst (λ d. IsPermutation (under d rows) c.in_ok-held.held.items) name (c.in_ok-held.ensures.rows clean) in
-    found_in (at_digest c.args.digest.now rows) c.in_ok-held.held.items c.op_in.result same
+    found_in entry_of (at_digest c.args.digest.now rows) c.in_ok-held.held.items c.op_in.result same
     (subst (λ (shown : List Row). IfOk c.op_in.result (λ found. IfSome found (λ op. shown ≡ entry_of op ∷ [])))
     c.deref.ensures.value c.op_in.ensures.found)
 

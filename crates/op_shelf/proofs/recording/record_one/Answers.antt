@@ -7,5 +7,6 @@ pub returns-clause-added : goal.returns-clause-added
 returns-clause-added c = record {
   op = c.in_ok-op.op;
   entry_is = c.in_ok-op.ensures.found;
+  digest = c.of.ensures.digest;
   added = c.in_ok-push.ensures.items ∙ ap (λ (o : Op). c.args.recorded.now.items ++ o ∷ []) c.in_ok-made.ensures.stands;
 }

@@ -1,6 +1,7 @@
 use Rattle.std.proofs.Common.{◌≡◌, ◌++◌, ◌∷◌, [], List, map, Some, None, IsPermutation, refl, sym, ap, ◌∙◌, subst, arith}
 use Rattle.std.proofs.Common.{rules}
 use Rattle.std.proofs.lemmas.List.{map-append}
+use Rattle.std.proofs.lemmas.List.Elements.{All-append, All-cons, All-nil}
 use Rattle.std.proofs.lemmas.Result.{err_from_is_err_and}
 use Rattle.sqlite.specs.Given.{row_if}
 use Rattle.sqlite.specs.Held.{state}
@@ -8,6 +9,7 @@ use Rattle.sqlite.specs.State.{HasCleanDisk}
 use Rattle.operation.specs.declared.op.Op.{Op}
 use Rattle.records.specs.StandIn.{op_in}
 use Rattle.op_shelf.specs.Entries.{IsEntry, entries, entry_of}
+use Rattle.op_shelf.specs.Recording.{KeepsDigest}
 use Rattle.op_shelf.specs.Walking.{GivesRow}
 use Rattle.op_shelf.proofs.Ops.{entries_more}
 use Rattle.op_shelf.proofs.Walks.{HasWalked, walks_on, walks_then, walks_no_store, walked_more, walked_bad, rows_then}
@@ -19,6 +21,7 @@ rows-init g c = record {
   name = refl;
   ops = [];
   walked = walks_on g.S.Store c.args.rows.now.conn.now [] c.requires.walking;
+  digests = All-nil KeepsDigest;
   stand = c.requires.none;
 }
 
@@ -54,6 +57,7 @@ returns-in_default-clause-all g c late =
       listed = rows_then g.S.Store first mid given was.walked early (λ rows. IsPermutation (entries rows) given)
           (subst (GivesRow g.S.Store mid end given) none
           (c.in_ok-step.ensures.gives late given (was.walked.walking early)));
+      digests = was.digests;
       stand = was.stand;
     }
 
@@ -75,6 +79,8 @@ rows-preserved g c =
       walked = subst (HasWalked g.S.Store first end) (sym (entries_more was.ops one.op given row refl one.entry_is))
           (walked_more g.S.Store first mid end given row was.walked step.walks.crash step.walks.same
           (λ late at. subst (GivesRow g.S.Store mid end given) here (step.gives late given at)));
+      digests = All-append KeepsDigest was.ops (one.op ∷ []) was.digests
+          (All-cons KeepsDigest one.op [] one.digest (All-nil KeepsDigest));
       stand = one.added ∙ ap (λ (ops : List Op). ops ++ op_in one.op ∷ []) was.stand
           ∙ sym (map-append op_in was.ops (one.op ∷ []));
     }

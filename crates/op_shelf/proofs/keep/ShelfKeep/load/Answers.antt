@@ -1,5 +1,6 @@
 use Rattle.std.proofs.lemmas.Result.{IfOk-weaker}
 use Rattle.sqlite.specs.Held.{state}
+use Rattle.op_shelf.specs.Entries.{digest_text}
 use Rattle.op_shelf.specs.States.{rows_of}
 use Rattle.op_shelf.proofs.Loads.{some_held, exact, was_up, keeps_same, lasts_on}
 use Rattle.op_shelf.proofs.Whys.{load_why}
@@ -13,7 +14,7 @@ returns-clause-held g c up = IfOk-weaker c.load.result _ _
 -- What is in the table under the digest is found.
 pub returns-clause-exact : goal.returns-clause-exact
 returns-clause-exact g c up =
-    exact (rows_of (state g.S.Store c.args.self.now)) c.args.digest.now c.load.result
+    exact digest_text (rows_of (state g.S.Store c.args.self.now)) c.args.digest.now c.load.result
     (c.load.ensures.none up.clean) (c.load.ensures.found up.clean) c.load.ensures.lawful
 
 -- Each fault comes only where it is.

@@ -1,6 +1,9 @@
-use Rattle.std.proofs.Common.{Err, ap, sym, subst}
+use Rattle.std.proofs.Common.{Err, List, map, ap, sym, subst, ◌∙◌}
+use Rattle.operation.specs.declared.op.Op.{Op}
+use Rattle.operation.specs.Spelling.{digest_of}
 use Rattle.op_shelf.specs.declared.fault.ShelfFault.{ShelfFault}
 use Rattle.shelved_site.specs.Refusing.{LogRefusesAll}
+use Rattle.shelved_site.proofs.Listings.{keep_digests}
 use Rattle.shelved_site.proofs.Logs.{same_of, was_up}
 use Rattle.shelved_site.proofs.Stays.{looked}
 use Rattle.shelved_site.proofs.Whys.{log_why}
@@ -37,5 +40,12 @@ returns-in-Err-clause-why g c up =
 -- What the log recorded are its records.
 pub returns-in-Ok-clause-all : goal.returns-in-Ok-clause-all
 returns-in-Ok-clause-all g c up =
+    let log = c.args.self.now.log in
     let it = c.in-Ok.ensures.all up.bodies in
-    record { ops = it.ops; listed = it.listed; stand = it.stand }
+    record {
+      ops = it.ops;
+      listed = it.listed;
+      digests = keep_digests (g.B.Disk.seen log.bodies) log.places it.ops it.listed
+          (ap (λ (rs : List Op). map digest_of rs) (sym it.stand) ∙ c.in-Ok.ensures.told);
+      stand = it.stand;
+    }

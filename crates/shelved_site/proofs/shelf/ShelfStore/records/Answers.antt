@@ -11,7 +11,7 @@ pub returns-clause-all : goal.returns-clause-all
 returns-clause-all g c clean =
     let lists = Lists (rows_of (state g.S.Store c.args.self.now)) in
     IfOk-weaker c.records.result _ (λ recorded. AreRecords lists recorded.items)
-    (λ recorded it. record { ops = it.ops; listed = it.listed; stand = it.stand }) (c.records.ensures.all clean)
+    (λ recorded it. record { ops = it.ops; listed = it.listed; digests = it.digests; stand = it.stand }) (c.records.ensures.all clean)
 
 -- A disk that is clean afterwards was clean.
 pub returns-clause-clean : goal.returns-clause-clean
