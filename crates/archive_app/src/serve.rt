@@ -146,6 +146,11 @@ pub fn wait_of(seconds: u32) -> Option<Duration> {
     }
 }
 
+/// How many bytes so many mebibytes are.
+fn bytes_of(mebibytes: u32) -> usize {
+    (mebibytes as usize) << 20
+}
+
 /// Serves in threads until each worker has accepted what it may and each exchange was served, and
 /// closes the hub.
 fn serve_hub<
@@ -268,6 +273,7 @@ fn serve_site<
     let manner = Manner {
         ending: ended.as_deref(),
         idle: wait_of(serving.idle),
+        recent: bytes_of(serving.cache),
         is_verbose: serving.is_verbose,
     };
     serve_hub::<Brand, R, S>(host, rt, store, opened, &listening, serving, manner)

@@ -7,6 +7,7 @@ ghost use Rattle.association_run.specs.Parts.{sides};
 ghost use Rattle.archive_server.specs.Done.{Attends};
 ghost use Rattle.archive_server.specs.Serving.{HasGoneOn};
 
+use crate::ahead::Brings;
 use crate::clerk::Clerk;
 use crate::port::ServerPort;
 use archive_model::View;
@@ -49,7 +50,7 @@ fn attend<
     R: Wait + Drop,
     S: Wait + Clock + Log,
     N: LedgerName,
-    P: Put<N> + Copy,
+    P: Put<N> + Brings + Copy,
     I: Source,
     O: Sink,
     G: Gate,
@@ -74,12 +75,12 @@ fn attend<
     ensures turns { IsErrOf result.ended RunFault.Turns → ReadAtLeast 4294967296
         (I.remaining reader.old) (I.remaining reader.new) }
 {
-    let (rt, keeper) = (archive.rt, archive.keeper);
+    let (rt, keeper, alloc) = (archive.rt, archive.keeper, archive.alloc);
     let (pass, mut extract) = clerk.into_parts();
     let known = extract.again();
-    let mut port = ServerPort::<H, T, R, S, N, P, E>::new(rt, keeper, shelf, pass, known);
+    let mut port = ServerPort::<H, T, R, S, N, P, E>::new(rt, keeper, shelf, pass, known, alloc);
     let ended = run_association(
-        archive.alloc,
+        alloc,
         reader,
         outbox,
         writer,
@@ -108,7 +109,7 @@ pub fn serve_association<
     R: Wait + Drop,
     S: Wait + Clock + Log,
     N: LedgerName,
-    P: Put<N> + Copy,
+    P: Put<N> + Brings + Copy,
     I: Source,
     O: Sink,
     G: Gate,

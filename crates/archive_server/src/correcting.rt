@@ -61,7 +61,10 @@ fn with_peer<'x, H: HubName, T: Shows<H>, R: Wait + Drop, S: Wait + Clock + Log,
     ensures failed { result.0.failed ≡ done.failed }
 {
     let (rt, alloc, idle) = (hall.archive.rt, hall.archive.alloc, hall.manner.idle);
-    let shelf = Telling::of_desk(rt, Asking::new(rt, alloc, to, &hall.health));
+    let shelf = Telling::of_desk(
+        rt,
+        Asking::new(rt, alloc, to, &hall.health, &hall.recent, &hall.hashers),
+    );
     let mut reader = Visit::new(rt, wire, ended, idle);
     let mut writer = Visit::new(rt, wire, ended, idle);
     let (done, stamps, _served) = done.with_corrections(

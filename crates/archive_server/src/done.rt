@@ -15,6 +15,7 @@ ghost use Rattle.archive_server.specs.Done.{Attends, Converses, HasOnlyLooked, f
 ghost use Rattle.archive_server.specs.Serving.{HasGoneOn};
 ghost use Rattle.archive_server.specs.Telling.{AreTold};
 
+use crate::ahead::Brings;
 use crate::attending::{Archive, Attended, serve_association};
 use crate::clerk::Clerk;
 use crate::conversing::{Conversed, serve_exchange};
@@ -149,7 +150,7 @@ impl<H: HubName, N: LedgerName> Done<H, N> {
         T: Shows<H>,
         R: Wait + Drop,
         S: Wait + Clock + Log,
-        P: Put<N> + Copy,
+        P: Put<N> + Brings + Copy,
         I: Source,
         O: Sink,
         G: Gate,

@@ -55,7 +55,11 @@ pub(crate) fn exchange_over<
     hall.board.begun(rt);
     let mut reader = Counted::new(wire);
     let mut writer = Counted::new(wire);
-    let shelf = Telling::new(rt, Asking::new(rt, hall.archive.alloc, to, &hall.health));
+    let alloc = hall.archive.alloc;
+    let shelf = Telling::new(
+        rt,
+        Asking::new(rt, alloc, to, &hall.health, &hall.recent, &hall.hashers),
+    );
     let Conversed { clerk, ended } = serve_exchange(
         &hall.archive,
         &shelf,
@@ -90,7 +94,11 @@ fn with_peer<'x, H: HubName, T: Shows<H>, R: Wait + Drop, S: Wait + Clock + Log,
     hall.board.begun(rt);
     let mut reader = Counted::new(&wire);
     let mut writer = Counted::new(&wire);
-    let shelf = Telling::new(rt, Asking::new(rt, hall.archive.alloc, to, &hall.health));
+    let alloc = hall.archive.alloc;
+    let shelf = Telling::new(
+        rt,
+        Asking::new(rt, alloc, to, &hall.health, &hall.recent, &hall.hashers),
+    );
     let (done, ended) = done.with_exchange(&hall.archive, &shelf, &mut reader, &mut writer);
     tell_exchange(rt, hall.manner, whence, &wire, Role::Callee, ended);
     hall.board.served(rt, ended);

@@ -6,7 +6,7 @@ ghost use Rattle.hub_exchange.specs.Putting.{IsKept, AreKept};
 
 use crate::message::{LoadRequest, PutRequest, Request};
 use crossbeam_channel::{Receiver, Sender};
-use hub_exchange::{Ledger, LedgerName, Shelved, load_kept, put_all, put_shown, shown};
+use hub_exchange::{Ledger, LedgerName, Shelved, put_all, put_shown, read_kept, shown};
 use op_shelf::{Keep, ShelfFault};
 use operation::{Digested, Op};
 use std::alloc::Global;
@@ -213,8 +213,8 @@ fn gather<N: LedgerName, Q: Requests<N>>(
     Some(Request::Put(next))
 }
 
-/// Loads an operation, and answers.
-fn load_one<K: Keep, N: LedgerName, S: Wait>(
+/// Reads what lies under a digest, and answers. It hashes nothing.
+fn read_one<K: Keep, N: LedgerName, S: Wait>(
     rt: &S,
     shelf: &mut K,
     ledger: &Ledger<N>,
@@ -223,8 +223,8 @@ fn load_one<K: Keep, N: LedgerName, S: Wait>(
     requires kept { AreKept K.is_up K.holds K.lasts ledger.now shelf.old }
     ensures kept { AreKept K.is_up K.holds K.lasts ledger.now shelf.new }
 {
-    let found = load_kept(shelf, ledger, &request.digest);
-    let _ = request.reply.send(rt, found);
+    let read = read_kept(shelf, ledger, &request.digest);
+    let _ = request.reply.send(rt, read);
 }
 
 /// Serves a request alone.
@@ -239,7 +239,7 @@ fn serve_one<K: Keep, N: LedgerName, S: Wait>(
 {
     match request {
         Request::Put(put) => keep_one(rt, shelf, ledger, &put.op, &put.reply),
-        Request::Load(load) => load_one(rt, shelf, ledger, &load),
+        Request::Load(load) => read_one(rt, shelf, ledger, &load),
     }
 }
 
@@ -257,7 +257,7 @@ fn serve<K: Keep, N: LedgerName, S: Wait, Q: Requests<N>>(
 {
     let first = match request {
         Request::Load(load) => {
-            load_one(rt, shelf, ledger, &load);
+            read_one(rt, shelf, ledger, &load);
             return;
         }
         Request::Put(put) => put,

@@ -6,12 +6,13 @@
 //! answered; and so is what a peer gives in an exchange: for those that peers call there is a
 //! listener, and some threads with a pass each, and for each peer that the server calls again and
 //! again a thread and a pass. What is sent or given is loaded from the shelf, and is of a record
-//! that is held. Pages of the site have a listener, a thread and a pass, which only looks. The
+//! that is held; a C-GET brings some images ahead of their turns, side by side. Pages of the site have a listener, a thread and a pass, which only looks. The
 //! desk, at which an administrator corrects, has the same and the way to the shelf, which has what
 //! is answered with a stamp. Who serves may say how long the server waits for a peer at most, name
 //! a word by which somebody ends the server, and ask for a line on each association and exchange.
 #![tactic(auto)]
 
+mod ahead;
 mod answers;
 mod asking;
 mod attending;
@@ -28,6 +29,7 @@ mod entrance;
 mod exchanging;
 mod fault;
 mod gauges;
+mod hashing;
 mod health;
 mod heard;
 mod job;
@@ -50,6 +52,7 @@ mod visit;
 mod wire;
 mod worker;
 
+pub use ahead::{Brings, Wanted};
 pub use attending::{Archive, Attended, serve_association};
 pub use cause::words_of_shelf;
 pub use clerk::Clerk;

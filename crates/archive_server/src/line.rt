@@ -10,7 +10,7 @@ use crate::message::{LoadRequest, PutRequest, Request};
 use crossbeam_channel::{Receiver, Sender, bounded};
 use hub_exchange::{LedgerName, Shelved};
 use op_shelf::{ShelfFault, StoreCause};
-use operation::{Digest, Digested};
+use operation::{Digest, Digested, Op};
 use std::alloc::{AllocError, Global};
 use std::sync::Wait;
 
@@ -25,7 +25,7 @@ pub(crate) trait Line<N: LedgerName> {
     // Between these it answered that the shelf refuses, and why.
     ghost refused: { Self → Self → AFault → Type 0 };
 
-    // Between these it answered this to a load.
+    // Between these it answered that this was read.
     ghost loaded: { Self → Self → Option AnOp → Type 0 };
 
     /// Asks for a put, and waits for what the thread answers. An outer `Err` is what a failure of
@@ -35,11 +35,8 @@ pub(crate) trait Line<N: LedgerName> {
         ensures answered { IfOk result (λ answer. MatchResult answer
             (λ shelved. put self.old self.new shelved.digest) (refused self.old self.new)) };
 
-    /// Asks for the operation of a digest, likewise.
-    fn ask_load(
-        &mut self,
-        digest: &Digest,
-    ) -> Result<Result<Option<Digested>, ShelfFault>, ShelfFault>
+    /// Asks for what is read under a digest, likewise. Nobody has hashed it yet.
+    fn ask_load(&mut self, digest: &Digest) -> Result<Result<Option<Op>, ShelfFault>, ShelfFault>
         ensures counted { Counts (failures self.old) (failures self.new) result }
         ensures answered { IfOk result (λ answer. MatchResult answer
             (loaded self.old self.new) (refused self.old self.new)) };
@@ -74,13 +71,13 @@ fn answer_of<N: LedgerName, S: Wait>(
     awaited(rt, to, Request::Put(PutRequest { op, reply }), &answer)
 }
 
-/// Asks for the operation of a digest.
-fn loaded_by<N: LedgerName, S: Wait>(
+/// Asks for what is read under a digest.
+pub(crate) fn read_by<N: LedgerName, S: Wait>(
     rt: &S,
     alloc: Global,
     to: &Sender<Request<N>>,
     digest: Digest,
-) -> Result<Result<Option<Digested>, ShelfFault>, ShelfFault> {
+) -> Result<Result<Option<Op>, ShelfFault>, ShelfFault> {
     let (reply, answer) = bounded(alloc, 1)?;
     awaited(
         rt,
@@ -133,6 +130,23 @@ impl<'a, N: LedgerName, S: Wait> Channel<'a, N, S> {
     }
 }
 
+impl<'a, N: LedgerName, S: Wait> Channel<'a, N, S> {
+    /// With what a thread waits.
+    pub fn rt(&self) -> &'a S {
+        self.rt
+    }
+
+    /// Where memory is taken.
+    pub fn alloc(&self) -> Global {
+        self.alloc
+    }
+
+    /// Where requests go out.
+    pub fn to(&self) -> &'a Sender<Request<N>> {
+        self.to
+    }
+}
+
 impl<'a, N: LedgerName, S: Wait> Clone for Channel<'a, N, S> {
     fn clone(&self) -> Result<Channel<'a, N, S>, AllocError> {
         Ok(*self)
@@ -158,11 +172,8 @@ impl<'a, N: LedgerName, S: Wait> Line<N> for Channel<'a, N, S> {
         answer
     }
 
-    fn ask_load(
-        &mut self,
-        digest: &Digest,
-    ) -> Result<Result<Option<Digested>, ShelfFault>, ShelfFault> {
-        let answer = loaded_by(self.rt, self.alloc, self.to, *digest);
+    fn ask_load(&mut self, digest: &Digest) -> Result<Result<Option<Op>, ShelfFault>, ShelfFault> {
+        let answer = read_by(self.rt, self.alloc, self.to, *digest);
         self.tried.count(&answer);
         answer
     }

@@ -5,8 +5,8 @@ ghost use Rattle.std.specs.Prelude.{IsTrue, IsSome};
 use std::sync::atomic::{AtomicBool, Ordering};
 use std::time::Duration;
 
-/// How a server runs: by whom it may be ended, how long it waits for a peer, and whether it tells
-/// what it serves.
+/// How a server runs: by whom it may be ended, how long it waits for a peer, how much it remembers,
+/// and whether it tells what it serves.
 #[derive(Clone, Copy)]
 pub struct Manner<'a> {
     /// Set once the server is to end: then nobody accepts any more, and an accept that fails is no
@@ -15,6 +15,9 @@ pub struct Manner<'a> {
     /// How long each wait for a peer lasts at most: to be connected, for a byte to come, or for room
     /// to write one. Time runs only while the server waits. Where there is none, a wait has no end.
     pub idle: Option<Duration>,
+    /// How many bytes of memory the operations may hold that were put or loaded last: they are not
+    /// read again while they are remembered.
+    pub recent: usize,
     /// Whether each association and each exchange is a line on standard error.
     pub is_verbose: bool,
 }

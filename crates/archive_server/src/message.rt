@@ -3,7 +3,7 @@
 use crossbeam_channel::Sender;
 use hub_exchange::{LedgerName, Shelved};
 use op_shelf::ShelfFault;
-use operation::{Digest, Digested};
+use operation::{Digest, Digested, Op};
 use std::alloc::AllocError;
 
 /// Asks for a put, and says where what the shelf answers is awaited.
@@ -13,11 +13,12 @@ pub(crate) struct PutRequest<N: LedgerName> {
     pub reply: Sender<Result<Shelved<N>, ShelfFault>>,
 }
 
-/// Asks for the operation of a digest, likewise.
+/// Asks for what is read under a digest, likewise. Who asks hashes it, so that the shelf's thread is
+/// free for others meanwhile.
 #[derive(Drop)]
 pub(crate) struct LoadRequest {
     pub digest: Digest,
-    pub reply: Sender<Result<Option<Digested>, ShelfFault>>,
+    pub reply: Sender<Result<Option<Op>, ShelfFault>>,
 }
 
 /// What the thread that keeps the shelf is asked for.

@@ -13,6 +13,7 @@ ghost use Rattle.archive_model.specs.Listed.{IsOfRecord};
 ghost use Rattle.archive_server.specs.Refusing.{RefusesStore, RefusesLoadOf, IsUnlike};
 ghost use Rattle.archive_server.specs.Serving.{IsOnward, WasWritten};
 
+use crate::ahead::{Ahead, Brings};
 use crate::refusing::{told, told_load, told_shelf_load, told_store};
 use archive_model::{Answers, Listed, Query, Selection, View};
 use association_run::Port;
@@ -24,6 +25,7 @@ use octets::ListOf;
 use operation::{Content, ContentRecord, Digested, Op, Taken};
 use site_hub::{HubName, Keeper, Pass, Shows};
 use site_pages::Tally;
+use std::alloc::Global;
 use std::marker::Model;
 use std::sync::{Mutex, Wait};
 use std::time::Clock;
@@ -46,7 +48,9 @@ pub struct ServerPort<
     shelf: &'b P,
     hub: HubPort<'a, H, T, R, S, E>,
     tally: Tally,
+    ahead: Ahead,
     extract: Extract<N>,
+    alloc: Global,
 }
 
 impl<
@@ -76,6 +80,14 @@ fn length_of<E>(listed: &Result<ListOf<Listed>, E>) -> u64 {
     match listed {
         Ok(images) => images.len() as u64,
         Err(_fault) => 0,
+    }
+}
+
+/// What was listed, as it is asked for next.
+fn ahead_of<E>(alloc: Global, listed: &Result<ListOf<Listed>, E>) -> Ahead {
+    match listed {
+        Ok(images) => Ahead::of(alloc, images.as_slice()),
+        Err(_fault) => Ahead::of(alloc, &[]),
     }
 }
 
@@ -144,6 +156,7 @@ impl<
         shelf: &'b P,
         pass: Pass<H>,
         extract: Extract<N>,
+        alloc: Global,
     ) -> ServerPort<'a, 'b, H, T, R, S, N, P, E>
         requires entry { pass ≡ E.seat }
         ensures { result ≡ pass }
@@ -153,7 +166,9 @@ impl<
             shelf,
             hub: HubPort::new(rt, keeper, pass),
             tally: Tally::new(),
+            ahead: Ahead::of(alloc, &[]),
             extract,
+            alloc,
         }
     }
 
@@ -172,7 +187,9 @@ impl<
             shelf: _,
             hub,
             tally: _,
+            ahead: _,
             extract,
+            alloc: _,
         } = self;
         (hub.into_pass(), extract)
     }
@@ -186,7 +203,7 @@ impl<
     R: Wait + Drop,
     S: Wait + Clock + Log,
     N: LedgerName,
-    P: Put<N> + Copy,
+    P: Put<N> + Brings + Copy,
     E: AtEntry,
 > Port for ServerPort<'a, 'b, H, T, R, S, N, P, E> {
     ghost ops = { λ p. ops_of (set_of H.opening p.seen) };
@@ -239,6 +256,7 @@ impl<
     {
         let listed = self.hub.listed(view, selection);
         self.tally.got(length_of(&listed));
+        self.ahead = ahead_of(self.alloc, &listed);
         told(self.rt, "get", listed)
     }
 
@@ -250,6 +268,7 @@ impl<
         ensures why { IfErr result (RefusesLoadOf P.refuses_load P.has_loaded asked.now) }
     {
         let mut shelf = *self.shelf;
+        self.ahead.bring(&shelf, asked.digest());
         load_over(self.rt, &mut shelf, asked)
     }
 }

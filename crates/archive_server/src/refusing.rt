@@ -180,7 +180,7 @@ impl<'a, N: LedgerName, S: Wait + Clock + Log> Clone for Telling<'a, N, S> {
 impl<'a, N: LedgerName, S: Wait + Clock + Log> Copy for Telling<'a, N, S> {}
 
 impl<'a, N: LedgerName, S: Wait + Clock + Log> Put<N> for Telling<'a, N, S> {
-    ghost use Rattle.archive_server.specs.Asking.{RefusesOverChannel, RefusesLoadOverChannel, WasAnswered};
+    ghost use Rattle.archive_server.specs.Asking.{RefusesOverChannel, RefusesLoadOverChannel, WasBrought};
 
     ghost refuses = { λ before after op fault.
         RefusesOverChannel before.way.line.tried after.way.line.tried op fault };
@@ -188,8 +188,9 @@ impl<'a, N: LedgerName, S: Wait + Clock + Log> Put<N> for Telling<'a, N, S> {
     ghost refuses_load = { λ before after digest fault.
         RefusesLoadOverChannel before.way.line.tried after.way.line.tried digest fault };
 
-    ghost has_loaded = { λ before after _ _.
-        WasAnswered before.way.line.tried after.way.line.tried };
+    ghost has_loaded = { λ before after digest found.
+        WasBrought before.way.line.tried after.way.line.tried before.way.remembered
+        after.way.remembered digest found };
 
     fn put(&mut self, op: &Digested) -> Result<Shelved<N>, ShelfFault> {
         told_shelf(self.rt, self.what, self.way.put(op))

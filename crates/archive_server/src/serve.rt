@@ -16,6 +16,7 @@ use crate::done::Done;
 use crate::duties::Duties;
 use crate::entrance::Entrance;
 use crate::fault::ServeFault;
+use crate::hashing::Hashers;
 use crate::health::Health;
 use crate::job::{Job, jobs_of};
 use crate::keeping::{Inbox, keep_all};
@@ -29,6 +30,7 @@ use crossbeam_channel::bounded;
 use hub_exchange::{Blank, Ledger, LedgerName};
 use log::Log;
 use op_shelf::Keep;
+use recent_ops::Recent;
 use site_hub::{HubName, Keeper, Pass, Snapshot as Shown};
 use std::alloc::{AllocError, Global};
 use std::marker::Brand;
@@ -215,6 +217,7 @@ fn serve_all<
       fault = result.served.fault;
     }) }
 {
+    hall.hashers.start(hall.archive.rt, scope);
     let total = serve_rest(
         scope,
         hall,
@@ -224,6 +227,7 @@ fn serve_all<
         &mut ledger,
         &mut passes,
     );
+    hall.hashers.end(hall.archive.rt);
     Back {
         served: Served {
             accepted: total.accepted,
@@ -435,6 +439,12 @@ pub fn serve_on<
     let Ok(jobs) = jobs_of(alloc, gates, duties) else {
         return refused(passes);
     };
+    let Ok(recent) = Recent::new(alloc, manner.recent) else {
+        return refused(passes);
+    };
+    let Ok(hashers) = Hashers::new(alloc) else {
+        return refused(passes);
+    };
     let hall = Hall {
         archive: Archive {
             rt,
@@ -447,6 +457,8 @@ pub fn serve_on<
         manner,
         begun: AtomicU64::new(0),
         health: Health::new(),
+        recent: Mutex::new(recent),
+        hashers,
         board: Board::new(rt, alloc, duties.peers),
     };
     serve_named::<Brand, H, R, S, K, G>(Blank::new(), &hall, jobs, shelf, passes)

@@ -12,6 +12,7 @@ use crate::clerk::Clerk;
 use crate::done::Done;
 use crate::entrance::{Entered, Entrance, accept_from};
 use crate::fault::ServeFault;
+use crate::hashing::Hashers;
 use crate::health::Health;
 use crate::heard::{Heard, Said};
 use crate::journal::{Finish, Whence, tell_association, tell_not_accepted, tell_turned_away};
@@ -23,10 +24,11 @@ use crossbeam_channel::Sender;
 use devices::Counted;
 use hub_exchange::LedgerName;
 use log::Log;
+use recent_ops::Recent;
 use site_hub::{HubName, Shows};
 use std::net::SocketAddr;
-use std::sync::Wait;
 use std::sync::atomic::AtomicU64;
+use std::sync::{Mutex, Wait};
 use std::time::Clock;
 
 /// What all threads share.
@@ -40,6 +42,9 @@ pub(crate) struct Hall<'a, H: HubName, T: Shows<H>, R: Wait + Drop, S: Wait> {
     pub begun: AtomicU64,
     /// Whether the shelf takes what it is given.
     pub health: Health,
+    /// What was put or loaded last.
+    pub recent: Mutex<Recent>,
+    pub hashers: Hashers,
     pub board: Board,
 }
 
@@ -72,7 +77,7 @@ fn with_peer<
     let rt = hall.archive.rt;
     let alloc = hall.archive.alloc;
     let whence = Whence::at(peer);
-    let shelf = Asking::new(rt, alloc, to, &hall.health);
+    let shelf = Asking::new(rt, alloc, to, &hall.health, &hall.recent, &hall.hashers);
     let mut reader = Heard::new(Counted::new(wire));
     let mut writer = Said::new(
         Counted::new(wire),

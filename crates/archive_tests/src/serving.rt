@@ -117,6 +117,7 @@ fn serve<
     let manner = Manner {
         ending: None,
         idle: None,
+        recent: 0,
         is_verbose: false,
     };
     let duties = Duties {

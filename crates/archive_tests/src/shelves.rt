@@ -92,4 +92,11 @@ impl Keep for Counting {
     fn load(&mut self, digest: &Digest) -> Result<Option<Digested>, ShelfFault> {
         found(self.alloc, &self.kept, digest)
     }
+
+    fn read(&mut self, digest: &Digest) -> Result<Option<Op>, ShelfFault> {
+        let Some(op) = found(self.alloc, &self.kept, digest)? else {
+            return Ok(None);
+        };
+        Ok(Some(op.into_op()))
+    }
 }

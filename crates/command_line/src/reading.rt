@@ -263,6 +263,7 @@ fn server_of<'a>(alloc: Global, found: &ArgMatches<'a>) -> Serving<'a> {
         callers: Vec::new(alloc),
         quality_callers: Vec::new(alloc),
         audit_callers: Vec::new(alloc),
+        cache: number(found, "cache").unwrap_or(32),
         idle: idle_in(found),
         ends_with_input: has(found, "until-end-of-input"),
         is_verbose: has(found, "verbose"),

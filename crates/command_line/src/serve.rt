@@ -215,6 +215,19 @@ pub(crate) const SERVE_ROWS: &[Row] = &[
         ..TITLE
     },
     Row {
+        name: "cache",
+        value: "MIB",
+        // Up to a terabyte.
+        form: Form::Number(0, 1_048_576),
+        heading: Some("Cache"),
+        line: "Room for images used last, in MiB [default: 32]",
+        whole: Some(
+            "How much memory images may hold that were stored or sent last, in \
+            MiB,{n}0 to 1048576; they are not read again{n}{n}[default: 32]",
+        ),
+        ..VALUE
+    },
+    Row {
         heading: Some("Ending and telling"),
         ..IDLE
     },

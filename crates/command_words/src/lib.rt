@@ -85,6 +85,8 @@ pub struct Serving<'a> {
     /// Those that may call QUALITY, and AUDIT. Where none is named those above may.
     pub quality_callers: Vec<&'a str>,
     pub audit_callers: Vec<&'a str>,
+    /// The memory that images may hold which were stored or sent last, in MiB.
+    pub cache: u32,
     /// The seconds that a wait for a peer lasts at most. With 0 it has no end.
     pub idle: u32,
     /// Whether the end of standard input ends it.

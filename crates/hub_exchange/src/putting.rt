@@ -4,6 +4,7 @@ ghost use Rattle.std.specs.Prelude.{◌≡◌, List, ℕ, Some, Option, All, IfO
 ghost use Rattle.operation.specs.declared.op.Op.{Op as Operation};
 ghost use Rattle.operation.specs.Spelling.{digest_of};
 ghost use Rattle.op_shelf.specs.declared.fault.ShelfFault.{ShelfFault};
+ghost use Rattle.op_shelf.specs.Keep.{IsFoundAs};
 ghost use Rattle.records.specs.StandIn.{op_in};
 ghost use Rattle.hub_exchange.specs.Putting.{IsKept, AreKept, WasWritten, refusal_of};
 ghost use Rattle.hub_exchange.specs.Putting.{IsUnlike, RefusesRecord, HasFound};
@@ -72,18 +73,21 @@ pub fn put_all<K: Keep, N: LedgerName>(
     Ok(())
 }
 
-/// Loads the operation of a digest from a shelf, if one is kept there. What was written into the
+/// Reads what lies under a digest on a shelf, which nobody has hashed yet. What was written into the
 /// shelf's ledger is still kept.
-pub fn load_kept<K: Keep, N: LedgerName>(
+pub fn read_kept<K: Keep, N: LedgerName>(
     shelf: &mut K,
     _ledger: &Ledger<N>,
     digest: &Digest,
-) -> Result<Option<Digested>, ShelfFault>
+) -> Result<Option<Op>, ShelfFault>
     requires kept { AreKept K.is_up K.holds K.lasts _ledger.now shelf.old }
     ensures kept { AreKept K.is_up K.holds K.lasts _ledger.now shelf.new }
-    ensures told { IfOk result (λ found. IfSome found (λ op. digest_of op ≡ digest.now)) }
+    // What is kept is read, as long as the disk returns what was written.
+    ensures exact { K.is_up shelf.new → (op : Operation) → K.holds shelf.old op
+        → digest_of op ≡ digest.now → IfOk result (λ read. IsFoundAs read op) }
+    ensures why { IfErr result (K.refuses_load shelf.old shelf.new digest.now) }
 {
-    shelf.load(digest)
+    shelf.read(digest)
 }
 
 /// A way to the shelf of a ledger.
