@@ -74,7 +74,8 @@ impl Ahead {
         self.at = self.list.len();
     }
 
-    /// The image with a digest is asked for: it and the next ones are brought, unless that was tried.
+    /// The image with a digest is asked for: it and the next ones are brought, unless that was
+    /// tried.
     pub fn bring<P: Brings>(&mut self, shelf: &P, digest: &Digest) {
         self.reach(digest);
         if self.at < self.next {

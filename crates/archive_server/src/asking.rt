@@ -105,8 +105,8 @@ fn weight_of(op: &Digested, times: usize) -> usize {
     }
 }
 
-/// The way to the shelf of another thread, on which is noted what each put comes to. What was put or
-/// loaded last is remembered, and not asked for again.
+/// The way to the shelf of another thread, on which is noted what each put comes to. What was put
+/// or loaded last is remembered, and not asked for again.
 pub(crate) struct Asking<'a, N: LedgerName, S: Wait> {
     pub line: Channel<'a, N, S>,
     health: &'a Health,
@@ -135,16 +135,23 @@ impl<'a, N: LedgerName, S: Wait> Asking<'a, N, S> {
     }
 
     /// The operation of a digest, if it is remembered. Where memory is refused for it, it is not.
-    fn recall(&mut self, digest: &Digest) -> Option<Digested>
+    fn remembered_as(&self, digest: &Digest) -> Option<Digested>
         ensures told { IfSome result (λ op. digest_of op ≡ digest.now) }
-        ensures counted { IfSome result (λ _. Rose self.old.remembered self.new.remembered) }
-        ensures line { self.new.line ≡ self.old.line }
     {
         let found = self
             .recent
             .lock(self.line.rt())
             .find(self.line.alloc(), digest);
-        let op = found.unwrap_or(None)?;
+        found.unwrap_or(None)
+    }
+
+    /// The same. It is counted.
+    fn recall(&mut self, digest: &Digest) -> Option<Digested>
+        ensures told { IfSome result (λ op. digest_of op ≡ digest.now) }
+        ensures counted { IfSome result (λ _. Rose self.old.remembered self.new.remembered) }
+        ensures line { self.new.line ≡ self.old.line }
+    {
+        let op = self.remembered_as(digest)?;
         self.remembered = self.remembered.saturating_add(1);
         Some(op)
     }
@@ -217,22 +224,13 @@ fn group_of(next: &[Wanted], room: usize) -> (&[Wanted], usize) {
 }
 
 impl<'a, N: LedgerName, S: Wait> Asking<'a, N, S> {
-    /// Whether the operation of a digest is remembered.
-    fn is_remembered(&self, digest: &Digest) -> bool {
-        let found = self
-            .recent
-            .lock(self.line.rt())
-            .find(self.line.alloc(), digest);
-        matches!(found, Ok(Some(_op)))
-    }
-
     /// Reads those that are not remembered, one after another, while others hash what was read, and
     /// says how many these are.
     fn read_all(&self, group: &[Wanted], reply: &Sender<Digested>) -> Result<usize, AllocError> {
         let (rt, alloc) = (self.line.rt(), self.line.alloc());
         let mut count: usize = 0;
         for wanted in group {
-            if self.is_remembered(&wanted.digest) {
+            if self.remembered_as(&wanted.digest).is_some() {
                 continue;
             }
             if let Ok(Ok(Some(op))) = read_by(rt, alloc, self.line.to(), wanted.digest) {
@@ -247,6 +245,8 @@ impl<'a, N: LedgerName, S: Wait> Asking<'a, N, S> {
     fn bring_all(&self, group: &[Wanted]) -> Result<(), AllocError> {
         let (reply, hashed) = bounded(self.line.alloc(), GROUP)?;
         let count = self.read_all(group, &reply)?;
+        // What nobody hashes any more closes the channel, so none is awaited for ever.
+        drop(reply);
         for _ in 0..count {
             match hashed.recv(self.line.rt()) {
                 Ok(op) => self.remember(&op, 1),

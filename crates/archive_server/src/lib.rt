@@ -5,11 +5,13 @@
 //! association stores is put on the shelf, then its record is taken by the hub, then it is
 //! answered; and so is what a peer gives in an exchange: for those that peers call there is a
 //! listener, and some threads with a pass each, and for each peer that the server calls again and
-//! again a thread and a pass. What is sent or given is loaded from the shelf, and is of a record
-//! that is held; a C-GET brings some images ahead of their turns, side by side. Pages of the site have a listener, a thread and a pass, which only looks. The
-//! desk, at which an administrator corrects, has the same and the way to the shelf, which has what
-//! is answered with a stamp. Who serves may say how long the server waits for a peer at most, name
-//! a word by which somebody ends the server, and ask for a line on each association and exchange.
+//! again a thread and a pass. What is sent or given is read from the shelf, hashed by who asks for
+//! it, and is of a record that is held; what was stored or loaded last is remembered, and what a
+//! C-GET asks for next is hashed ahead, by threads that do nothing else. Pages of the site have a
+//! listener, a thread and a pass, which only looks. The desk, at which an administrator corrects,
+//! has the same and the way to the shelf, which has what is answered with a stamp. Who serves may
+//! say how long the server waits for a peer at most, name a word by which somebody ends the server,
+//! and ask for a line on each association and exchange.
 #![tactic(auto)]
 
 mod ahead;

@@ -13,8 +13,8 @@ pub(crate) struct PutRequest<N: LedgerName> {
     pub reply: Sender<Result<Shelved<N>, ShelfFault>>,
 }
 
-/// Asks for what is read under a digest, likewise. Who asks hashes it, so that the shelf's thread is
-/// free for others meanwhile.
+/// Asks for what is read under a digest, likewise. Who asks hashes it, so that the shelf's thread
+/// is free for others meanwhile.
 #[derive(Drop)]
 pub(crate) struct LoadRequest {
     pub digest: Digest,

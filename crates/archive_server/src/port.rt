@@ -30,9 +30,9 @@ use std::marker::Model;
 use std::sync::{Mutex, Wait};
 use std::time::Clock;
 
-/// A pass with the shared keeper, the way to the shelf, and what is known of the shelf's ledger. The
-/// pass goes on from what it was when its association began, and what it stores since stands in the
-/// ledger. Contracts see the pass.
+/// A pass with the shared keeper, the way to the shelf, what is known of the shelf's ledger, and
+/// what is asked for next. The pass goes on from what it was when its association began, and what
+/// it stores since stands in the ledger. Contracts see the pass.
 pub struct ServerPort<
     'a,
     'b,

@@ -405,8 +405,9 @@ fn serve_named<
 /// of its place. Its duties beside them: so many exchanges in all, in as many threads as is said,
 /// with the next passes; meanwhile each peer is called again and again, in a thread for each, with
 /// the passes behind; who comes for a page is answered, and who comes to correct, each in one
-/// thread, with the last passes. The thread that calls keeps the shelf. Whoever may end it in this
-/// manner ends it early.
+/// thread, with the last passes. Threads without a pass, one for each processor, hash what a C-GET
+/// asks for next. The thread that calls keeps the shelf. Whoever may end it in this manner ends it
+/// early.
 pub fn serve_on<
     'x,
     H: HubName + Send + Sync,

@@ -44,6 +44,7 @@ pub(crate) struct Hall<'a, H: HubName, T: Shows<H>, R: Wait + Drop, S: Wait> {
     pub health: Health,
     /// What was put or loaded last.
     pub recent: Mutex<Recent>,
+    /// Who hashes what was read ahead of its turn.
     pub hashers: Hashers,
     pub board: Board,
 }

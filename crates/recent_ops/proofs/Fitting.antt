@@ -9,6 +9,7 @@ use Rattle.lru.specs.LruCache.{last_entry}
 use Rattle.recent_ops.specs.Recent.{Held, keyed, is_under, held_under, total_of, fitting}
 use Rattle.recent_ops.proofs.Lookups.{again, values}
 
+-- what operations take, of one more at either end
 total_cons : (h : Held) (held : List Held) → total_of (h ∷ held) ≡ h.weight + total_of held
 total_cons h held = sum_by-cons (λ x. x.weight) h held
 

@@ -11,6 +11,7 @@ use Rattle.lru.specs.LruCache.{LruCache, promoted, put_entries}
 use Rattle.operation.specs.Spelling.{digest_of}
 use Rattle.recent_ops.specs.Recent.{Held, RecentOps, keyed, is_under, held_under, op_under, without, total_of}
 
+-- under their digests, operations are what they were
 pub values_of_keyed : (held : List Held) → values_of (map keyed held) ≡ held
 values_of_keyed [] = refl
 values_of_keyed (h ∷ held) = ap (λ (hs : List Held). h ∷ hs) (values_of_keyed held)
@@ -19,6 +20,7 @@ values_of_keyed (h ∷ held) = ap (λ (hs : List Held). h ∷ hs) (values_of_key
 pub again : (entries : List (List ℕ × Held)) (held : List Held) → entries ≡ map keyed held → entries ≡ map keyed (values_of entries)
 again entries held is = is ∙ sym (ap (map keyed) (ap values_of is ∙ values_of_keyed held))
 
+-- so the values of such a table are these
 pub values : (entries : List (List ℕ × Held)) (held : List Held) → entries ≡ map keyed held → values_of entries ≡ held
 values entries held is = ap values_of is ∙ values_of_keyed held
 

@@ -60,9 +60,10 @@ pub trait Store: Keep {
         ensures why { is_clean self.new → IfErr result (refuses_all self.old self.new) }
         ensures clean { is_clean self.new → is_clean self.old };
 
-    /// The operation of a record that `records` told. It is read and hashed, to test it: whatever the
-    /// disk returns, none of another digest is answered.
+    /// The operation of a record that `records` told. It is read and hashed, to test it: whatever
+    /// the disk returns, none of another digest is answered.
     fn load_recorded(&mut self, recorded: &RecordedOp) -> Result<Digested, ShelfFault>
+        ensures told { IfOk result (λ op. digest_of op ≡ digest_of recorded.now) }
         ensures loaded { is_clean self.new → IfOk result (IsLoaded (lists self.old) recorded.now) }
         ensures same { is_clean self.new → OnOk result (is_same self.old self.new) }
         ensures refused { is_clean self.new → OnErr result (spares self.old self.new) }
