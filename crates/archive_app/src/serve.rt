@@ -1,10 +1,12 @@
 //! `archive serve`: serves the operations in a file or a folder to DICOM clients (PS3.8, section
 //! 9.1).
 
-ghost use Rattle.std.specs.Prelude.{◌≡◌, ◌≤◌, ◌<◌, ◌+◌, not, ◌==◌, vec_len, IfOk};
+ghost use Rattle.std.specs.Prelude.{◌≡◌, ◌≤◌, ◌<◌, ◌+◌, not, ◌==◌, vec_len, Ok, IfOk};
 ghost use Rattle.archive_server.specs.Serving.{others_in};
 ghost use Rattle.command_words.specs.Words.{HasPlaces};
+ghost use Rattle.shelved_site.specs.Keeping.{IsUp, log_of};
 ghost use Rattle.shelved_site.specs.Sites.{IsSiteOf};
+ghost use Rattle.shelved_site.specs.Stores.{listed_in};
 
 use crate::duties::{duties_of, passes_for, workers_of};
 use crate::ending::ended_with_input;
@@ -22,9 +24,10 @@ use association_run::OpenGate;
 use command_words::Serving;
 use log::Log;
 use octets::{ListOf, Octets};
-use shelved_site::{KeptLog, Store, hub_on};
+use shelved_site::{KeptLog, Store, hub_on, hub_on_log};
 use site_hub::{CloseFault, HubFault, HubName, Keeper, Opened, Pass, Snapshot, close};
 use sqlite::{Alter, Connection, Wary};
+use sqlite_disk::Disk;
 use std::alloc::{AllocError, Global};
 use std::io::Print;
 use std::marker::Brand;
@@ -217,20 +220,35 @@ fn hub_of<'r, R: Wait, S: Store>(
     Ok(opened)
 }
 
-/// Opens the hub of the site in a store, and listens where nobody does yet.
-fn open_site<'a, 'r, R: Net<Listener = TcpListener, Stream = TcpStream> + Wait, S: Store>(
+/// The same of a log.
+fn hub_of_log<'r, R: Wait + Threads + Sync, H: Disk, B: Disk>(
+    host: &HostRuntime,
+    rt: &'r R,
+    file: &str,
+    log: &mut KeptLog<H, B>,
+    passes: usize,
+) -> Result<Opened<&'r R>, CommandFault>
+    requires passes { (1 ≤ passes) × (passes ≤ 64) }
+    ensures site { IsUp H.Disk B.Disk (log_of log.new) → IfOk result (λ opened.
+        IsSiteOf (listed_in B.Disk (log_of log.new)) opened.opening) }
+{
+    let progress = Progress::of(host);
+    progress.begins(file);
+    let opened = hub_on_log(host.alloc(), rt, rt, log, SITE, passes, &progress)?;
+    Ok(opened)
+}
+
+/// A site whose hub was opened, once it listens: here, where nobody does yet.
+fn open_site<'a, 'r, R: Net<Listener = TcpListener, Stream = TcpStream> + Wait>(
     host: &HostRuntime,
     rt: &'r R,
     serving: &Serving<'a>,
-    store: &mut S,
-    passes: usize,
+    opened: Result<Opened<&'r R>, CommandFault>,
     listening: Option<Listening>,
 ) -> Result<(Opened<&'r R>, Listening), Refused<'a>>
-    requires passes { (1 ≤ passes) × (passes ≤ 64) }
-    ensures site { S.is_clean store.new → IfOk result (λ both.
-        IsSiteOf (S.lists store.new) both.0.opening) }
+    ensures same { IfOk result (λ both. opened ≡ Ok both.0) }
 {
-    let opened = match hub_of(host, rt, serving.file, store, passes) {
+    let opened = match opened {
         Ok(opened) => opened,
         Err(fault) => return Err(Refused::of(serving.file, fault)),
     };
@@ -279,7 +297,7 @@ fn serve_site<
     serve_hub::<Brand, R, S>(host, rt, store, opened, &listening, serving, manner)
 }
 
-/// Serves the site in a store, once it listens and says so.
+/// Serves the site in a store, whose hub was opened, once it listens and says so.
 fn serve_store<
     'a,
     R: Net<Listener = TcpListener, Stream = TcpStream>
@@ -295,12 +313,14 @@ fn serve_store<
     rt: &R,
     serving: &Serving<'a>,
     store: &mut S,
+    opened: Result<Opened<&R>, CommandFault>,
     listening: Option<Listening>,
 ) -> Printed<Result<Count, Refused<'a>>>
     requires places { HasPlaces serving.now }
+    requires site { S.is_clean store.old
+        → IfOk opened (λ opened. IsSiteOf (S.lists store.old) opened.opening) }
 {
-    let passes = passes_for(serving);
-    let site = match open_site(host, rt, serving, store, passes, listening) {
+    let site = match open_site(host, rt, serving, opened, listening) {
         Ok(site) => site,
         Err(fault) => return Ok(Err(fault)),
     };
@@ -330,7 +350,10 @@ fn serve_database<
     requires places { HasPlaces serving.now }
 {
     match adopted(host, serving.file, database) {
-        Ok(mut shelf) => serve_store(host, rt, serving, &mut shelf, listening),
+        Ok(mut shelf) => {
+            let opened = hub_of(host, rt, serving.file, &mut shelf, passes_for(serving));
+            serve_store(host, rt, serving, &mut shelf, opened, listening)
+        }
         Err(fault) => Ok(Err(fault)),
     }
 }
@@ -383,14 +406,15 @@ fn serve_log<
     match log_in(host, serving.file) {
         Ok(log) => {
             let mut kept = KeptLog::of(host.alloc(), log);
-            serve_store(host, rt, serving, &mut kept, listening)
+            let opened = hub_of_log(host, rt, serving.file, &mut kept, passes_for(serving));
+            serve_store(host, rt, serving, &mut kept, opened, listening)
         }
         Err(fault) => Ok(Err(fault)),
     }
 }
 
-/// What was served of the operations in a file or a folder. It is no work on any
-/// store, since the method of a trait can hand none to a thread.
+/// What was served of the operations in a file or a folder. It is no work on any store, since the
+/// method of a trait can hand none to a thread.
 fn serve_file<
     'a,
     R: Net<Listener = TcpListener, Stream = TcpStream>

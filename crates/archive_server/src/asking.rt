@@ -5,10 +5,10 @@ ghost use Rattle.operation.specs.Spelling.{digest_of};
 ghost use Rattle.devices.specs.Failures.{Rose};
 ghost use Rattle.archive_server.specs.Asking.{RefusesOver, RefusesLoadOver, IsUnlikeDigest};
 
-use crate::ahead::{Brings, Wanted};
-use crate::hashing::Hashers;
+use crate::ahead::{Brings, Coming, Wanted};
+use crate::hashing::{Hashers, remember};
 use crate::health::Health;
-use crate::line::{Channel, Line, read_by};
+use crate::line::{Channel, Line, read_later};
 use crate::message::Request;
 use crossbeam_channel::{Sender, bounded};
 use hub_exchange::{LedgerName, Put, Shelved};
@@ -18,17 +18,12 @@ use recent_ops::Recent;
 use std::alloc::{AllocError, Global};
 use std::sync::{Mutex, Wait};
 
-/// What an operation that is remembered holds of memory beside its data set, in bytes.
-const BESIDE: usize = 1024;
-
-/// How many images are brought side by side, at most.
-const GROUP: usize = 16;
-
-/// Which part of what can be remembered they may have, so that several clients find theirs again.
+/// Which part of what can be remembered may be on its way to one client, so that several find theirs
+/// again.
 const SHARE: usize = 8;
 
-/// How many bytes they have at least, so that the threads are worth it.
-const WORTH: usize = 1 << 18;
+/// How many bytes an image has at least that is worth another thread.
+const WORTH: usize = 1 << 14;
 
 /// What was put, where it is the operation that was asked for.
 fn of_this<N: LedgerName>(digest: &Digest, shelved: Shelved<N>) -> Result<Shelved<N>, ShelfFault>
@@ -93,18 +88,6 @@ fn load_over<N: LedgerName, L: Line<N>>(
     }
 }
 
-/// How much memory an operation may hold whose data set has a buffer `times` as long, in bytes.
-fn weight_of(op: &Digested, times: usize) -> usize {
-    match op.op() {
-        Op::Content(content) => content
-            .body()
-            .len()
-            .saturating_mul(times)
-            .saturating_add(BESIDE),
-        Op::Correction(_) => BESIDE,
-    }
-}
-
 /// The way to the shelf of another thread, on which is noted what each put comes to. What was put
 /// or loaded last is remembered, and not asked for again.
 pub(crate) struct Asking<'a, N: LedgerName, S: Wait> {
@@ -158,9 +141,8 @@ impl<'a, N: LedgerName, S: Wait> Asking<'a, N, S> {
 
     /// Remembers an operation whose data set has a buffer `times` as long, where there is memory.
     fn remember(&self, op: &Digested, times: usize) {
-        let weight = weight_of(op, times);
         if let Ok(op) = op.copy(self.line.alloc()) {
-            let _ = self.recent.lock(self.line.rt()).keep(op, weight);
+            remember(self.line.rt(), self.recent, op, times);
         }
     }
 }
@@ -208,63 +190,36 @@ impl<'a, N: LedgerName, S: Wait> Put<N> for Asking<'a, N, S> {
     }
 }
 
-/// The first of these that are brought side by side, and how many bytes they have: as many as there
-/// is room for.
-fn group_of(next: &[Wanted], room: usize) -> (&[Wanted], usize) {
-    let (mut count, mut bytes): (usize, usize) = (0, 0);
-    for wanted in next.iter().take(GROUP) {
-        let more = wanted.size.saturating_add(BESIDE).saturating_add(bytes);
-        if more > room {
-            break;
-        }
-        bytes = more;
-        count = count.saturating_add(1);
-    }
-    (next.get(..count).unwrap_or(&[]), bytes)
-}
-
 impl<'a, N: LedgerName, S: Wait> Asking<'a, N, S> {
-    /// Reads those that are not remembered, one after another, while others hash what was read, and
-    /// says how many these are.
-    fn read_all(&self, group: &[Wanted], reply: &Sender<Digested>) -> Result<usize, AllocError> {
+    /// Has an image read and hashed by others.
+    fn ask_others(&self, digest: &Digest) -> Result<Coming, AllocError> {
         let (rt, alloc) = (self.line.rt(), self.line.alloc());
-        let mut count: usize = 0;
-        for wanted in group {
-            if self.remembered_as(&wanted.digest).is_some() {
-                continue;
-            }
-            if let Ok(Ok(Some(op))) = read_by(rt, alloc, self.line.to(), wanted.digest) {
-                self.hashers.hash(rt, op, reply.clone()?);
-                count = count.saturating_add(1);
-            }
-        }
-        Ok(count)
-    }
-
-    /// Brings those that are not remembered.
-    fn bring_all(&self, group: &[Wanted]) -> Result<(), AllocError> {
-        let (reply, hashed) = bounded(self.line.alloc(), GROUP)?;
-        let count = self.read_all(group, &reply)?;
-        // What nobody hashes any more closes the channel, so none is awaited for ever.
-        drop(reply);
-        for _ in 0..count {
-            match hashed.recv(self.line.rt()) {
-                Ok(op) => self.remember(&op, 1),
-                Err(_closed) => break,
-            }
-        }
-        Ok(())
+        let (done, coming) = bounded(alloc, 1)?;
+        let read = read_later(rt, alloc, self.line.to(), *digest)?;
+        self.hashers.hash(rt, read, done);
+        Ok(Coming { done: coming })
     }
 }
 
 impl<'a, N: LedgerName, S: Wait> Brings for Asking<'a, N, S> {
-    fn bring(&self, next: &[Wanted]) -> usize {
-        let room = self.recent.lock(self.line.rt()).room() / SHARE;
-        let (group, bytes) = group_of(next, room);
-        if bytes >= WORTH && self.hashers.are_there() {
-            // What could not be brought is asked for at its turn.
-            let _ = self.bring_all(group);
+    fn room(&self) -> usize {
+        if !self.hashers.are_there() {
+            return 0;
         }
-        group.len()
+        self.recent.lock(self.line.rt()).room() / SHARE
+    }
+
+    fn begin(&self, wanted: &Wanted) -> Option<Coming> {
+        if wanted.size < WORTH || self.remembered_as(&wanted.digest).is_some() {
+            return None;
+        }
+        match self.ask_others(&wanted.digest) {
+            Ok(coming) => Some(coming),
+            Err(_refused) => None,
+        }
+    }
+
+    fn wait(&self, coming: Coming) {
+        let _ = coming.done.recv(self.line.rt());
     }
 }

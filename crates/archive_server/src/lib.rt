@@ -54,7 +54,7 @@ mod visit;
 mod wire;
 mod worker;
 
-pub use ahead::{Brings, Wanted};
+pub use ahead::{Brings, Coming, Wanted};
 pub use attending::{Archive, Attended, serve_association};
 pub use cause::words_of_shelf;
 pub use clerk::Clerk;

@@ -72,7 +72,7 @@ fn answer_of<N: LedgerName, S: Wait>(
 }
 
 /// Asks for what is read under a digest.
-pub(crate) fn read_by<N: LedgerName, S: Wait>(
+fn read_by<N: LedgerName, S: Wait>(
     rt: &S,
     alloc: Global,
     to: &Sender<Request<N>>,
@@ -85,6 +85,19 @@ pub(crate) fn read_by<N: LedgerName, S: Wait>(
         Request::Load(LoadRequest { digest, reply }),
         &answer,
     )
+}
+
+/// Asks for what is read under a digest, and waits for nothing: it comes there, or the channel is let
+/// go.
+pub(crate) fn read_later<N: LedgerName, S: Wait>(
+    rt: &S,
+    alloc: Global,
+    to: &Sender<Request<N>>,
+    digest: Digest,
+) -> Result<Receiver<Result<Option<Op>, ShelfFault>>, AllocError> {
+    let (reply, answer) = bounded(alloc, 1)?;
+    let _ = to.send(rt, Request::Load(LoadRequest { digest, reply }));
+    Ok(answer)
 }
 
 /// How often a line has failed, and how often an answer came over it. Nobody else counts on it.

@@ -217,7 +217,7 @@ fn serve_all<
       fault = result.served.fault;
     }) }
 {
-    hall.hashers.start(hall.archive.rt, scope);
+    hall.hashers.start(hall.archive.rt, scope, &hall.recent);
     let total = serve_rest(
         scope,
         hall,

@@ -1,5 +1,6 @@
 pub mod Cutting
 pub mod Faults
+pub mod Fetching
 pub mod Fitting
 pub mod Fresh
 pub mod Going

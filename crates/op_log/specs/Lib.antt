@@ -1,4 +1,5 @@
 pub mod Fault
+pub mod Fetched
 pub mod Filling
 pub mod Folder
 pub mod Heads

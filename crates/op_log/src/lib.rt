@@ -8,6 +8,8 @@
 
 mod cut;
 mod fault;
+mod fetched;
+mod fetching;
 mod filling;
 mod folder;
 mod folder_fault;

@@ -129,7 +129,7 @@ fn decoded(alloc: Global, text: Vec<u8>, at: usize) -> Result<Op, LogFault>
 }
 
 /// Whether an operation has a digest.
-fn has_digest(op: &Digested, digest: &Digest) -> bool
+pub(crate) fn has_digest(op: &Digested, digest: &Digest) -> bool
     ensures { IsTrue result ↔ (digest_of op.now ≡ digest.now) }
 {
     op.digest().as_bytes().as_slice() == digest.as_bytes().as_slice()

@@ -28,7 +28,7 @@ use crate::loading::{load_at, read_at};
 use crate::places::Places;
 use crate::putting::put_group;
 use crate::record::Record;
-use crate::recording::all_records;
+use crate::recording::{all_records, all_records_with};
 use crate::refused::{Refused, refused_bodies, refused_heads};
 use crate::verifying::{damaged, is_whole};
 use crate::walking::walk;
@@ -39,6 +39,7 @@ use records::RecordedOp;
 use sqlite_disk::Disk;
 use std::alloc::Global;
 use std::marker::Model;
+use std::thread::Threads;
 
 /// The most operations of a group.
 const MOST_OF_A_GROUP: usize = 1024;
@@ -360,6 +361,33 @@ impl<H: Disk, B: Disk> OpLog<H, B> {
         ensures only { IfErr result IsOfLook }
     {
         all_records(alloc, &mut self.bodies, &self.places)
+    }
+
+    /// The same, hashed in as many threads as there are processors, 16 at most. Up to 1,024
+    /// operations are in memory at once, whose data sets have 8 MiB, or one alone.
+    pub fn records_with<R: Threads + Sync>(
+        &mut self,
+        rt: &R,
+        alloc: Global,
+    ) -> Result<Vec<RecordedOp>, LogFault>
+        ensures told { IfOk result (λ recorded. map digest_of recorded.items
+            ≡ digests_of self.old.places) }
+        ensures all { IfOk result (λ recorded. IsTrue (B.Disk.is_clean self.new.bodies)
+            → Records (B.Disk.seen self.old.bodies) self.old.places recorded.items) }
+        ensures looks { Looks self.old self.new }
+        ensures goes_on { GoesOn H.Disk B.Disk self.old self.new }
+
+        // Each fault, only where it is.
+        ensures damaged { IsTrue (B.Disk.is_clean self.new.bodies) → (n : ℕ)
+            → IsErrOf result (LogFault.DamagedBody n)
+            → HasBadHead (B.Disk.seen self.old.bodies) self.old.places n }
+        ensures closed { IsErrOf result LogFault.Closed
+            → B.Disk.is_usable self.old.bodies ≡ false }
+        ensures disk { CountsAs LogFault.Disk result
+            (B.Disk.faults self.old.bodies) (B.Disk.faults self.new.bodies) }
+        ensures only { IfErr result IsOfLook }
+    {
+        all_records_with(rt, alloc, &mut self.bodies, &self.places)
     }
 
     /// The digests of the operations whose data sets are none of theirs, in the order of their

@@ -1,9 +1,12 @@
 //! Records all operations.
 
-ghost use Rattle.std.specs.Prelude.{◌≡◌, ℕ, All, map, IfOk, IfErr, IsTrue, IsErrOf};
+ghost use Rattle.std.specs.Prelude.{◌≡◌, ◌+◌, ◌≤◌, ◌<◌, ℕ, List, Some, All, map, take, drop, length, slice_get};
+ghost use Rattle.std.specs.Prelude.{IfOk, IfErr, IsTrue, IsErrOf, OnOk};
 ghost use Rattle.body_log.specs.Log.{disk_of, end_of};
 ghost use Rattle.operation.specs.Spelling.{digest_of};
 ghost use Rattle.op_log.specs.Fault.{IsOfLook};
+ghost use Rattle.op_log.specs.Fetched.{AreRead, IsReadAt};
+ghost use Rattle.op_log.specs.Heads.{Head};
 ghost use Rattle.op_log.specs.Kept.{IsBelow};
 ghost use Rattle.op_log.specs.Loaded.{HasBadHead};
 ghost use Rattle.op_log.specs.Recorded.{Records};
@@ -11,13 +14,16 @@ ghost use Rattle.op_log.specs.Staged.{Counts, Grows, Uses};
 ghost use Rattle.op_log.specs.Verified.{digests_of};
 
 use crate::fault::LogFault;
-use crate::loading::load_at;
+use crate::fetched::{Fetched, hashed_all};
+use crate::fetching::fetch;
+use crate::loading::{has_digest, load_at};
 use crate::places::Places;
 use body_log::BodyLog;
-use operation::Digest;
+use operation::{Digest, Digested};
 use records::RecordedOp;
 use sqlite_disk::Disk;
 use std::alloc::Global;
+use std::thread::Threads;
 
 /// The records of the operations of all heads, in their order. One data set at a time is in memory.
 pub(crate) fn all_records<B: Disk>(
@@ -45,6 +51,104 @@ pub(crate) fn all_records<B: Disk>(
         let op = load_at(alloc, bodies, &Digest::of(*bytes), place)?;
         let made = RecordedOp::of(alloc, &op)?;
         recorded.push(made)?;
+    }
+    Ok(recorded)
+}
+
+/// Records the operation of the head at an index behind those of the heads before it. What was read
+/// for it is that operation where it has its digest.
+fn record_at(
+    alloc: Global,
+    places: &Places,
+    index: usize,
+    op: &Digested,
+    recorded: &mut Vec<RecordedOp>,
+) -> Result<(), LogFault>
+    requires within { index < length places.now }
+    ensures told { map digest_of recorded.old.items ≡ digests_of (take index places.now)
+        → OnOk result
+        (map digest_of recorded.new.items ≡ digests_of (take (index + 1) places.now)) }
+    ensures all { (file : List ℕ) → (h : Head) → slice_get places.now index ≡ Some h
+        → IsReadAt file h op.now → Records file (take index places.now) recorded.old.items
+        → OnOk result (Records file (take (index + 1) places.now) recorded.new.items) }
+    ensures damaged { (file : List ℕ) → (h : Head) → slice_get places.now index ≡ Some h
+        → IsReadAt file h op.now → (n : ℕ) → IsErrOf result (LogFault.DamagedBody n)
+        → HasBadHead file places.now n }
+    ensures disk { ¬ IsErrOf result LogFault.Disk }
+    ensures open { ¬ IsErrOf result LogFault.Closed }
+    ensures only { IfErr result IsOfLook }
+{
+    let Some((bytes, place)) = places.at(index) else {
+        unreachable!()
+    };
+    if !has_digest(op, &Digest::of(*bytes)) {
+        return Err(LogFault::DamagedBody(place.at));
+    }
+    let made = RecordedOp::of(alloc, op)?;
+    recorded.push(made)?;
+    Ok(())
+}
+
+/// Records operations that were read for the heads from an index on, each in its turn.
+fn record_some(
+    alloc: Global,
+    places: &Places,
+    from: usize,
+    ops: Vec<Fetched>,
+    recorded: &mut Vec<RecordedOp>,
+) -> Result<(), LogFault>
+    requires within { from + length ops.items ≤ length places.now }
+    ensures told { map digest_of recorded.old.items ≡ digests_of (take from places.now)
+        → OnOk result (map digest_of recorded.new.items
+        ≡ digests_of (take (from + length ops.items) places.now)) }
+    ensures all { (file : List ℕ) → Records file (take from places.now) recorded.old.items
+        → AreRead file ops.items (drop from places.now) → OnOk result
+        (Records file (take (from + length ops.items) places.now) recorded.new.items) }
+    ensures damaged { (file : List ℕ) → AreRead file ops.items (drop from places.now) → (n : ℕ)
+        → IsErrOf result (LogFault.DamagedBody n) → HasBadHead file places.now n }
+    ensures disk { ¬ IsErrOf result LogFault.Disk }
+    ensures open { ¬ IsErrOf result LogFault.Closed }
+    ensures only { IfErr result IsOfLook }
+{
+    let most = places.len();
+    let mut index = from;
+    for op in ops {
+        if index >= most {
+            unreachable!()
+        }
+        record_at(alloc, places, index, &op.into_digested(), recorded)?;
+        index += 1;
+    }
+    Ok(())
+}
+
+/// The same as `all_records`. Some operations are read, and hashed side by side, before the first of
+/// them is recorded.
+pub(crate) fn all_records_with<R: Threads + Sync, B: Disk>(
+    rt: &R,
+    alloc: Global,
+    bodies: &mut BodyLog<B>,
+    places: &Places,
+) -> Result<Vec<RecordedOp>, LogFault>
+    ensures told { IfOk result (λ recorded. map digest_of recorded.items ≡ digests_of places.now) }
+    ensures all { IfOk result (λ recorded. IsTrue (B.Disk.is_clean (disk_of bodies.new))
+        → Records (B.Disk.seen (disk_of bodies.old)) places.now recorded.items) }
+    ensures damaged { IsTrue (B.Disk.is_clean (disk_of bodies.new)) → (n : ℕ)
+        → IsErrOf result (LogFault.DamagedBody n)
+        → HasBadHead (B.Disk.seen (disk_of bodies.old)) places.now n }
+    ensures disk { All (IsBelow (end_of bodies.old)) places.now
+        → Counts B.Disk (end_of bodies.old) bodies.old bodies.new result }
+    ensures only { IfErr result IsOfLook }
+    ensures grows { Grows B.Disk bodies.old bodies.new }
+    ensures uses { Uses B.Disk bodies.old bodies.new result }
+{
+    let mut recorded = Vec::with_capacity(alloc, places.len())?;
+    let mut from = 0;
+    'groups: while from < places.len() {
+        let ops = fetch(bodies, places, from)?;
+        let next = from + ops.len();
+        record_some(alloc, places, from, hashed_all(rt, ops), &mut recorded)?;
+        from = next;
     }
     Ok(recorded)
 }

@@ -13,6 +13,10 @@ use Rattle.shelved_site.specs.Keeping.{Holds}
 abbrev pub count_in : ℕ → List Head → ℕ
 count_in kind heads = length (filter (λ h. kind_in h.front == kind) heads)
 
+-- a log lists these operations
+abbrev pub listed_in : {H B : Type 0} → Ghosts B → Opened H B → List Op → Type 0
+listed_in g log ops = Lists (g.seen log.bodies) log.places ops
+
 -- a log was only looked at, and has the same operations
 pub record IsSame {H B : Type 0} (g : Ghosts B) (old new : Opened H B) : Type 0 where
   pub looks : Looks old new

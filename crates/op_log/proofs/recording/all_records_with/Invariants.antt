@@ -1,0 +1,24 @@
+use Rattle.std.proofs.Common.{◌≡◌, ◌≤◌, ◌-◌, IsTrue, length, map, take}
+use Rattle.body_log.specs.Log.{disk_of}
+use Rattle.operation.specs.Spelling.{digest_of}
+use Rattle.op_log.specs.Recorded.{Records}
+use Rattle.op_log.specs.Staged.{Grows}
+use Rattle.op_log.specs.Verified.{digests_of}
+use Rattle.op_log.proofs.recording.all_records_with.Given as goal
+
+-- So many were recorded.
+abbrev pub invariant-groups : goal.invariant-groups
+invariant-groups g l =
+    let d = g.B.Disk in
+    record {
+      grows : Grows d l.fn.bodies l.bodies;
+      seen : d.seen (disk_of l.bodies) ≡ d.seen (disk_of l.fn.bodies);
+      usable : d.is_usable (disk_of l.bodies) ≡ d.is_usable (disk_of l.fn.bodies);
+      calm : d.faults (disk_of l.bodies) ≡ d.faults (disk_of l.fn.bodies);
+      told : map digest_of l.recorded.items ≡ digests_of (take l.from l.places);
+      all : IsTrue (d.is_clean (disk_of l.bodies)) → Records (d.seen (disk_of l.fn.bodies)) (take l.from l.places) l.recorded.items;
+    }
+
+-- With each group fewer are left.
+abbrev pub decreases-groups : goal.decreases-groups
+decreases-groups g l = length l.places - l.from
