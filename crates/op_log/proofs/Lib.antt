@@ -1,6 +1,6 @@
 pub mod Cutting
 pub mod Faults
-pub mod Fetching
+pub mod Fetches
 pub mod Fitting
 pub mod Fresh
 pub mod Going

@@ -10,7 +10,7 @@ use Rattle.op_log.specs.Kept.{HasBody, IsBelow}
 use Rattle.op_log.specs.Loaded.{IsOf}
 use Rattle.op_log.specs.Places.{head_by}
 use Rattle.op_log.proofs.Faults.{counts_on}
-use Rattle.op_log.proofs.Fetching.{drop_get, is_read, read_more}
+use Rattle.op_log.proofs.Fetches.{drop_get, is_read, read_more}
 use Rattle.op_log.proofs.Growing.{grows_twice, reaches_head}
 use Rattle.op_log.proofs.Lists.{at_among}
 use Rattle.op_log.proofs.fetching.fetch.Goals as goal
@@ -39,7 +39,7 @@ returns-in_err-op-clause-disk g c below =
     let heads = c.args.places.now in
     let h = head_by c.in-Some._bytes.now c.in-Some.place.now in
     let low = All-contains (IsBelow (end_of old)) heads h below (at_among heads c.places.index h c.in-Some.ensures.found) in
-    counts_on c.from_residual-in_err-op.result c.in_err-op.field-0.0 (g.B.Disk.faults (disk_of old)) (g.B.Disk.faults (disk_of new)) c.from_residual-in_err-op.ensures.1 λ told reach.
+    counts_on c.from_residual.result c.in_err-op.field-0.0 (g.B.Disk.faults (disk_of old)) (g.B.Disk.faults (disk_of new)) c.from_residual.ensures.1 λ told reach.
     subst (λ (n : ℕ). MoreFaults n (g.B.Disk.faults (disk_of new))) inv.calm
     (c.in_err-op.ensures.disk told (reaches_head g.B.Disk old mid inv.grows (h.at + h.size) low reach))
 
@@ -72,7 +72,8 @@ places-preserved g c =
       count = search rules;
       read = λ clean.
           let it = is_read mid place c.in-Some._bytes.now op (c.in_ok-op.ensures.found clean) (c.in_ok-op.ensures.exact clean) in
-          let at = drop_get heads c.args.from (length c.places.ops.items) ∙ ap (slice_get heads) inv.count ∙ c.in-Some.ensures.found in
+          let at : slice_get (drop c.args.from heads) (length c.places.ops.items) ≡ Some h =
+          drop_get heads c.args.from (length c.places.ops.items) ∙ ap (slice_get heads) inv.count ∙ c.in-Some.ensures.found in
           let more = read_more mid c.places.ops.items (drop c.args.from heads) h op
           (subst (λ (f : List ℕ). AreRead f c.places.ops.items (drop c.args.from heads)) (sym inv.seen) (inv.read (c.read_at.ensures.grows.spared.clean clean))) at it in
           subst (λ (f : List ℕ). AreRead f c.push.new.self.items (drop c.args.from heads)) inv.seen

@@ -1,4 +1,4 @@
-use Rattle.std.proofs.Common.{rules, ◌≡◌, ◌+◌, ℕ, List, length, map, take, drop, subst, sym, ap, ◌∙◌, arith}
+use Rattle.std.proofs.Common.{rules, Err, ◌≡◌, ◌+◌, ℕ, List, length, map, take, drop, subst, sym, ap, ◌∙◌, arith}
 use Rattle.std.proofs.lemmas.List.{take_all}
 use Rattle.sqlite_disk.specs.Disk.{MoreFaults}
 use Rattle.body_log.specs.Log.{disk_of, end_of}
@@ -46,7 +46,7 @@ returns-in_err-record_some-clause-damaged g c clean n told =
 pub returns-in_err-record_some-clause-disk : goal.returns-in_err-record_some-clause-disk
 returns-in_err-record_some-clause-disk g c below =
     counts_on c.from_residual-in_err-record_some.result c.in_err-record_some.field-0.0 (g.B.Disk.faults (disk_of c.args.bodies.now))
-    (g.B.Disk.faults (disk_of c.fetch.new.bodies)) c.from_residual-in_err-record_some.ensures.1 λ told reach. absurd (c.in_err-record_some.ensures.disk told)
+    (g.B.Disk.faults (disk_of c.fetch.new.bodies)) c.from_residual-in_err-record_some.ensures.1 λ told reach. absurd (c.in_err-record_some.ensures.disk (ap Err told))
 
 pub returns-in_err-record_some-clause-grows : goal.returns-in_err-record_some-clause-grows
 returns-in_err-record_some-clause-grows g c =
@@ -59,7 +59,8 @@ groups-preserved g c =
     let file = g.B.Disk.seen (disk_of c.args.bodies.now) in
     let heads = c.args.places.now in
     let same = ap length c.hashed_all.ensures in
-    let next : c.groups.from + length c.hashed_all.result.items ≡ c.next = omega (arith, same, c.in_ok-ops.ops.ok) in
+    let next : c.groups.from + length c.hashed_all.result.items ≡ c.groups.from + c.len-in-groups-2.result =
+    omega (arith, same, c.len-in-groups-2.ensures, c.in_ok-ops.ops.ok) in
     record {
       grows = grows_twice g.B.Disk c.args.bodies.now c.groups.bodies c.fetch.new.bodies inv.grows c.fetch.ensures.grows;
       seen = c.fetch.ensures.seen ∙ inv.seen;

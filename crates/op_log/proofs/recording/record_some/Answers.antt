@@ -6,7 +6,7 @@ use Rattle.operation.specs.Spelling.{digest_of}
 use Rattle.op_log.specs.Fetched.{AreRead}
 use Rattle.op_log.specs.Recorded.{Records}
 use Rattle.op_log.specs.Verified.{digests_of}
-use Rattle.op_log.proofs.Fetching.{first_read}
+use Rattle.op_log.proofs.Fetches.{first_read}
 use Rattle.op_log.proofs.recording.record_some.Goals as goal
 
 -- None was met.
@@ -14,7 +14,7 @@ pub loop-op-init : goal.loop-op-init
 loop-op-init c =
     let gives = c.into_iter-op-iterator.ensures.into_iter_gives in
     record {
-      left = gives.1 ∙ c.args.ops.ok ∙ ap length (sym gives.0);
+      left = gives.1 ∙ c.args.ops.ok.0 ∙ ap length (sym gives.0);
       count = ap (λ (ops : List Op). c.args.from + length ops) gives.0;
       told = λ was. was;
       read = λ file it. subst (λ (ops : List Op). AreRead file ops (drop c.args.from c.args.places.now)) (sym gives.0) it;
@@ -27,7 +27,7 @@ returns-in_err-record_at-clause-damaged c file are n told =
     let heads = c.args.places.now in
     let left = subst (λ (ops : List Op). AreRead file ops (drop c.loop-op.index heads)) c.in-Some.ensures.steps.0 (c.loop-op.invariant.read file are) in
     let first = first_read file heads c.loop-op.index c.in-Some.op (into_iter_items c.next.new.self) left in
-    c.record_at.ensures.damaged file first.head first.at (search rules) n (search rules)
+    c.in_err-record_at.ensures.damaged file first.head first.at (search rules) n (search rules)
 
 -- One more was recorded.
 pub loop-op-preserved : goal.loop-op-preserved

@@ -7,7 +7,7 @@ use Rattle.shelved_site.proofs.Listings.{keep_digests}
 use Rattle.shelved_site.proofs.Logs.{same_of, was_up}
 use Rattle.shelved_site.proofs.Stays.{looked}
 use Rattle.shelved_site.proofs.Whys.{log_why}
-use Rattle.shelved_site.proofs.log_records.KeptLog.records_with.Goals as goal
+use Rattle.shelved_site.proofs.keeping.KeptLog.records_with.Goals as goal
 
 -- The log was only looked at.
 pub returns-in-Ok-clause-same : goal.returns-in-Ok-clause-same
