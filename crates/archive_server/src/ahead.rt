@@ -18,8 +18,8 @@ pub struct Wanted {
     pub size: usize,
 }
 
-/// An image on its way. Nothing is sent over the channel: its other end is let go once the image has
-/// come, or is known not to.
+/// An image on its way. Nothing is sent over the channel: its other end is let go once the image
+/// has come, or is known not to.
 #[derive(Drop)]
 pub struct Coming {
     pub(crate) done: Receiver<()>,

@@ -18,8 +18,8 @@ use recent_ops::Recent;
 use std::alloc::{AllocError, Global};
 use std::sync::{Mutex, Wait};
 
-/// Which part of what can be remembered may be on its way to one client, so that several find theirs
-/// again.
+/// Which part of what can be remembered may be on its way to one client, so that several find
+/// theirs again.
 const SHARE: usize = 8;
 
 /// How many bytes an image has at least that is worth another thread.

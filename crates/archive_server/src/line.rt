@@ -87,8 +87,8 @@ fn read_by<N: LedgerName, S: Wait>(
     )
 }
 
-/// Asks for what is read under a digest, and waits for nothing: it comes there, or the channel is let
-/// go.
+/// Asks for what is read under a digest, and waits for nothing: it comes there, or the channel is
+/// let go.
 pub(crate) fn read_later<N: LedgerName, S: Wait>(
     rt: &S,
     alloc: Global,

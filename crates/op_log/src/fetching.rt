@@ -21,8 +21,8 @@ const MOST: usize = 1024;
 /// How many bytes their data sets have at most, if there are several.
 const MOST_BYTES: usize = 1 << 23;
 
-/// Whether so many operations, whose data sets have so many bytes, are enough to leave a further one
-/// of this size for later.
+/// Whether so many operations, whose data sets have so many bytes, are enough to leave a further
+/// one of this size for later.
 fn are_enough(count: usize, bytes: usize, size: usize) -> bool
     ensures some { count ≡ 0 → result ≡ false }
 {
