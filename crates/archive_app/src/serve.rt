@@ -1,7 +1,7 @@
 //! `archive serve`: serves the operations in a file or a folder to DICOM clients (PS3.8, section
 //! 9.1).
 
-ghost use Rattle.std.specs.Prelude.{◌≡◌, ◌≤◌, ◌<◌, ◌+◌, not, ◌==◌, vec_len, Ok, IfOk};
+ghost use Rattle.std.specs.Prelude.{◌≡◌, ◌≤◌, ◌<◌, ◌+◌, not, ◌==◌, vec_len, IfOk};
 ghost use Rattle.archive_server.specs.Serving.{others_in};
 ghost use Rattle.command_words.specs.Words.{HasPlaces};
 ghost use Rattle.shelved_site.specs.Keeping.{IsUp, log_of};
@@ -238,25 +238,17 @@ fn hub_of_log<'r, R: Wait + Threads + Sync, H: Disk, B: Disk>(
     Ok(opened)
 }
 
-/// A site whose hub was opened, once it listens: here, where nobody does yet.
-fn open_site<'a, 'r, R: Net<Listener = TcpListener, Stream = TcpStream> + Wait>(
+/// Where a server listens: here, where nobody does yet.
+fn listening_of<'a, R: Net<Listener = TcpListener, Stream = TcpStream>>(
     host: &HostRuntime,
-    rt: &'r R,
+    rt: &R,
     serving: &Serving<'a>,
-    opened: Result<Opened<&'r R>, CommandFault>,
     listening: Option<Listening>,
-) -> Result<(Opened<&'r R>, Listening), Refused<'a>>
-    ensures same { IfOk result (λ both. opened ≡ Ok both.0) }
-{
-    let opened = match opened {
-        Ok(opened) => opened,
-        Err(fault) => return Err(Refused::of(serving.file, fault)),
-    };
-    let listening = match listening {
-        Some(listening) => listening,
-        None => listen_to(host, rt, serving)?,
-    };
-    Ok((opened, listening))
+) -> Result<Listening, Refused<'a>> {
+    match listening {
+        Some(listening) => Ok(listening),
+        None => listen_to(host, rt, serving),
+    }
 }
 
 /// What ends a server before its time, where something does.
@@ -320,13 +312,19 @@ fn serve_store<
     requires site { S.is_clean store.old
         → IfOk opened (λ opened. IsSiteOf (S.lists store.old) opened.opening) }
 {
-    let site = match open_site(host, rt, serving, opened, listening) {
-        Ok(site) => site,
+    let opened = match opened {
+        Ok(opened) => opened,
+        Err(fault) => return Ok(Err(Refused::of(serving.file, fault))),
+    };
+    let listening = match listening_of(host, rt, serving, listening) {
+        Ok(listening) => listening,
         Err(fault) => return Ok(Err(fault)),
     };
-    let (_, listening) = &site;
-    say_where(rt, listening, serving)?;
-    Ok(about(serving.file, serve_site(host, rt, store, site, serving)))
+    say_where(rt, &listening, serving)?;
+    Ok(about(
+        serving.file,
+        serve_site(host, rt, store, (opened, listening), serving),
+    ))
 }
 
 /// What was served of the operations on the shelf over a connection.
