@@ -73,7 +73,7 @@ impl Fetched {
 }
 
 /// How many threads hash: one for each processor.
-fn threads_of<R: Threads>(rt: &R) -> usize
+pub(crate) fn threads_of<R: Threads>(rt: &R) -> usize
     ensures { 0 < result }
 {
     match available_parallelism(rt) {
@@ -82,14 +82,15 @@ fn threads_of<R: Threads>(rt: &R) -> usize
     }
 }
 
-/// The same operations, hashed side by side.
-pub(crate) fn hashed_all<R: Threads + Sync>(rt: &R, mut ops: Vec<Fetched>) -> Vec<Fetched>
-    ensures { result.items ≡ ops.items }
+/// Hashes operations in so many threads.
+pub(crate) fn hash_each<R: Threads + Sync>(rt: &R, threads: usize, ops: &mut [Fetched])
+    requires { 0 < threads }
+    ensures { ops.new ≡ ops.old }
 {
     for_each_mut(
         rt,
-        ops.as_mut_slice(),
-        threads_of(rt),
+        ops,
+        threads,
         &|_place: usize, op: &mut Fetched|
             ensures { op.new ≡ op.old }
         {
@@ -102,5 +103,4 @@ pub(crate) fn hashed_all<R: Threads + Sync>(rt: &R, mut ops: Vec<Fetched>) -> Ve
             );
         },
     );
-    ops
 }

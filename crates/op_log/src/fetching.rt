@@ -15,18 +15,19 @@ use crate::places::Places;
 use body_log::BodyLog;
 use sqlite_disk::Disk;
 
-/// How many operations are read ahead, at most.
-const MOST: usize = 1024;
+/// How many bytes the data sets that are read ahead have at most, if there are several.
+const MOST: usize = 1 << 24;
 
-/// How many bytes their data sets have at most, if there are several.
-const MOST_BYTES: usize = 1 << 23;
+/// From how many bytes on a data set is worth a thread: a smaller one is hashed sooner where it was
+/// read, while it is in that processor's cache.
+const WORTH: usize = 1 << 14;
 
 /// Whether so many operations, whose data sets have so many bytes, are enough to leave a further
 /// one of this size for later.
 fn are_enough(count: usize, bytes: usize, size: usize) -> bool
     ensures some { count ≡ 0 → result ≡ false }
 {
-    count > 0 && (count >= MOST || bytes.saturating_add(size) > MOST_BYTES)
+    count > 0 && (size < WORTH || bytes.saturating_add(size) > MOST)
 }
 
 /// The operations of the heads from an index on, in their order, as many as are read ahead. They
@@ -36,10 +37,10 @@ pub(crate) fn fetch<B: Disk>(
     places: &Places,
     from: usize,
 ) -> Result<Vec<Fetched>, LogFault>
-    requires within { from < length places.now }
+    requires within { from ≤ length places.now }
     ensures read { IfOk result (λ ops. IsTrue (B.Disk.is_clean (disk_of bodies.new))
         → AreRead (B.Disk.seen (disk_of bodies.old)) ops.items (drop from places.now)) }
-    ensures some { IfOk result (λ ops. 0 < length ops.items) }
+    ensures some { from < length places.now → IfOk result (λ ops. 0 < length ops.items) }
     ensures within { IfOk result (λ ops. from + length ops.items ≤ length places.now) }
     ensures damaged { IsTrue (B.Disk.is_clean (disk_of bodies.new)) → (n : ℕ)
         → IsErrOf result (LogFault.DamagedBody n)

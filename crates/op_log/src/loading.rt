@@ -1,7 +1,7 @@
 //! Reads data sets again.
 
 ghost use Rattle.std.specs.Prelude.{◌≡◌, ◌≢◌, ◌↔◌, ◌++◌, ◌<◌, ◌+◌, List, ℕ, Ok, true, false, length, ◌-◌, IfOk};
-ghost use Rattle.std.specs.Prelude.{IfErr, IsTrue, IsErrOf};
+ghost use Rattle.std.specs.Prelude.{IfErr, IsTrue, IsErrOf, OnOk};
 ghost use Rattle.sqlite_disk.specs.Disk.{Holds};
 ghost use Rattle.body_log.specs.Log.{disk_of, end_of};
 ghost use Rattle.operation.specs.declared.op.Op.{Op as Operation};
@@ -32,6 +32,28 @@ fn zeros(alloc: Global, size: usize) -> Result<Vec<u8>, AllocError>
     Ok(room)
 }
 
+/// Fills room with the data set that lies at an offset.
+fn read_into<B: Disk>(bodies: &mut BodyLog<B>, at: usize, room: &mut [u8]) -> Result<(), LogFault>
+    ensures read { OnOk result (IsTrue (B.Disk.is_clean (disk_of bodies.new))
+        → (body : List ℕ) → length body ≡ length room.old
+        → (0 < length room.old → Holds (B.Disk.seen (disk_of bodies.old)) at body)
+        → room.new ≡ body) }
+    ensures held { OnOk result (IsTrue (B.Disk.is_clean (disk_of bodies.new))
+        → 0 < length room.old → Holds (B.Disk.seen (disk_of bodies.new)) at room.new) }
+    ensures disk { Counts B.Disk (at + length room.old) bodies.old bodies.new result }
+    ensures only { IfErr result IsOfRead }
+    ensures seen { B.Disk.seen (disk_of bodies.new) ≡ B.Disk.seen (disk_of bodies.old) }
+    ensures end { end_of bodies.new ≡ end_of bodies.old }
+    ensures grows { Grows B.Disk bodies.old bodies.new }
+    ensures uses { Uses B.Disk bodies.old bodies.new result }
+{
+    if room.is_empty() {
+        return Ok(());
+    }
+    bodies.read(at, room)?;
+    Ok(())
+}
+
 /// The data set that lies at an offset.
 pub(crate) fn body_at<B: Disk>(
     alloc: Global,
@@ -53,10 +75,7 @@ pub(crate) fn body_at<B: Disk>(
     ensures uses { Uses B.Disk bodies.old bodies.new result }
 {
     let mut body = zeros(alloc, size)?;
-    if size == 0 {
-        return Ok(body);
-    }
-    bodies.read(at, body.as_mut_slice())?;
+    read_into(bodies, at, body.as_mut_slice())?;
     Ok(body)
 }
 
@@ -103,10 +122,10 @@ fn text_at<B: Disk>(
     ensures grows { Grows B.Disk bodies.old bodies.new }
     ensures uses { Uses B.Disk bodies.old bodies.new result }
 {
-    let body = body_at(alloc, bodies, place.at, place.size)?;
-    let mut text = Vec::with_capacity(alloc, place.front.len().saturating_add(body.len()))?;
-    text.extend_from_slice(place.front.as_slice())?;
-    text.extend_from_slice(&body)?;
+    let mut text = zeros(alloc, place.front.len().saturating_add(place.size))?;
+    let (front, body) = text.as_mut_slice().split_at_mut(place.front.len());
+    front.copy_from_slice(place.front.as_slice());
+    read_into(bodies, place.at, body)?;
     Ok(text)
 }
 

@@ -363,8 +363,8 @@ impl<H: Disk, B: Disk> OpLog<H, B> {
         all_records(alloc, &mut self.bodies, &self.places)
     }
 
-    /// The same, hashed in as many threads as there are processors, 16 at most. Up to 1,024
-    /// operations are in memory at once, whose data sets have 8 MiB, or one alone.
+    /// The same. Data sets of 16 KiB and more are hashed in as many threads as there are processors,
+    /// 16 at most, while the next are read: up to 32 MiB of them are in memory at once, or two alone.
     pub fn records_with<R: Threads + Sync>(
         &mut self,
         rt: &R,

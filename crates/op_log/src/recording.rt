@@ -2,6 +2,7 @@
 
 ghost use Rattle.std.specs.Prelude.{◌≡◌, ◌+◌, ◌≤◌, ◌<◌, ℕ, List, Some, All, map, take, drop, length, slice_get};
 ghost use Rattle.std.specs.Prelude.{IfOk, IfErr, IsTrue, IsErrOf, OnOk};
+ghost use Rattle.std.specs.Thread.{IsSync};
 ghost use Rattle.body_log.specs.Log.{disk_of, end_of};
 ghost use Rattle.operation.specs.Spelling.{digest_of};
 ghost use Rattle.op_log.specs.Fault.{IsOfLook};
@@ -14,7 +15,7 @@ ghost use Rattle.op_log.specs.Staged.{Counts, Grows, Uses};
 ghost use Rattle.op_log.specs.Verified.{digests_of};
 
 use crate::fault::LogFault;
-use crate::fetched::{Fetched, hashed_all};
+use crate::fetched::{Fetched, hash_each, threads_of};
 use crate::fetching::fetch;
 use crate::loading::{has_digest, load_at};
 use crate::places::Places;
@@ -23,7 +24,7 @@ use operation::{Digest, Digested};
 use records::RecordedOp;
 use sqlite_disk::Disk;
 use std::alloc::Global;
-use std::thread::Threads;
+use std::thread::{Threads, join_mut};
 
 /// The records of the operations of all heads, in their order. One data set at a time is in memory.
 pub(crate) fn all_records<B: Disk>(
@@ -122,8 +123,46 @@ fn record_some(
     Ok(())
 }
 
-/// The same as `all_records`. Some operations are read, and hashed side by side, before the first of
-/// them is recorded.
+/// Hashes operations side by side, while those of the heads from an index on are read.
+fn hash_and_fetch<R: Threads + Sync, B: Disk>(
+    rt: &R,
+    threads: usize,
+    ops: &mut [Fetched],
+    bodies: &mut BodyLog<B>,
+    places: &Places,
+    from: usize,
+) -> Result<Vec<Fetched>, LogFault>
+    requires threads { 0 < threads }
+    requires within { from ≤ length places.now }
+    ensures same { ops.new ≡ ops.old }
+    ensures read { IfOk result (λ next. IsTrue (B.Disk.is_clean (disk_of bodies.new))
+        → AreRead (B.Disk.seen (disk_of bodies.old)) next.items (drop from places.now)) }
+    ensures some { from < length places.now → IfOk result (λ next. 0 < length next.items) }
+    ensures within { IfOk result (λ next. from + length next.items ≤ length places.now) }
+    ensures damaged { IsTrue (B.Disk.is_clean (disk_of bodies.new)) → (n : ℕ)
+        → IsErrOf result (LogFault.DamagedBody n)
+        → HasBadHead (B.Disk.seen (disk_of bodies.old)) places.now n }
+    ensures disk { All (IsBelow (end_of bodies.old)) places.now
+        → Counts B.Disk (end_of bodies.old) bodies.old bodies.new result }
+    ensures calm { OnOk result
+        (B.Disk.faults (disk_of bodies.new) ≡ B.Disk.faults (disk_of bodies.old)) }
+    ensures only { IfErr result IsOfLook }
+    ensures seen { B.Disk.seen (disk_of bodies.new) ≡ B.Disk.seen (disk_of bodies.old) }
+    ensures grows { Grows B.Disk bodies.old bodies.new }
+    ensures uses { Uses B.Disk bodies.old bodies.new result }
+{
+    let (_hashed, next) = join_mut(
+        rt,
+        &mut ||
+            requires { IsSync R.row × (0 < threads) }
+            ensures { ops.exit.now ≡ ops.entry.now }
+        { hash_each(rt, threads, ops) },
+        &mut || fetch(bodies, places, from),
+    );
+    next
+}
+
+/// The same as `all_records`. Operations are hashed side by side while the next are read.
 pub(crate) fn all_records_with<R: Threads + Sync, B: Disk>(
     rt: &R,
     alloc: Global,
@@ -142,13 +181,16 @@ pub(crate) fn all_records_with<R: Threads + Sync, B: Disk>(
     ensures grows { Grows B.Disk bodies.old bodies.new }
     ensures uses { Uses B.Disk bodies.old bodies.new result }
 {
+    let threads = threads_of(rt);
     let mut recorded = Vec::with_capacity(alloc, places.len())?;
     let mut from = 0;
+    let mut ready = fetch(bodies, places, from)?;
     'groups: while from < places.len() {
-        let ops = fetch(bodies, places, from)?;
-        let next = from + ops.len();
-        record_some(alloc, places, from, hashed_all(rt, ops), &mut recorded)?;
-        from = next;
+        let mut ops = ready;
+        let end = from + ops.len();
+        ready = hash_and_fetch(rt, threads, ops.as_mut_slice(), bodies, places, end)?;
+        record_some(alloc, places, from, ops, &mut recorded)?;
+        from = end;
     }
     Ok(recorded)
 }

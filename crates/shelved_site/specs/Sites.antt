@@ -3,6 +3,7 @@ use Rattle.std.specs.Prelude.{◌≡◌, List, ⊤, map, All}
 use Rattle.operation.specs.declared.op.Op.{Op}
 use Rattle.records.specs.StandIn.{op_in}
 use Rattle.op_shelf.specs.Recording.{KeepsDigest}
+use Rattle.op_shelf.specs.declared.fault.ShelfFault.{ShelfFault}
 use Rattle.site_state.specs.Site.{Map}
 use Rattle.site_state.specs.Laws.{after_taking}
 use Rattle.shelved_site.specs.declared.fault.ShelvedFault.{ShelvedFault}
@@ -30,3 +31,9 @@ abbrev pub IsBeforeHub : ShelvedFault → Type 0
 IsBeforeHub (Shelf _) = ⊤
 IsBeforeHub (Site _) = ⊤
 IsBeforeHub (Hub _) = ⊥
+
+-- a fault of a store only where that refuses so
+abbrev pub IsOfStore : (ShelfFault → Type 0) → ShelvedFault → Type 0
+IsOfStore refuses (Shelf fault) = refuses fault
+IsOfStore refuses (Site _) = ⊤
+IsOfStore refuses (Hub _) = ⊤

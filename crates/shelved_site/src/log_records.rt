@@ -4,7 +4,7 @@ ghost use Rattle.std.specs.Prelude.{◌≡◌, ◌≤◌, IfOk, IfErr, OnOk, OnE
 ghost use Rattle.op_shelf.specs.Keep.{AreSame};
 ghost use Rattle.shelved_site.specs.Keeping.{IsUp, Holds, log_of};
 ghost use Rattle.shelved_site.specs.Refusing.{LogRefusesAll};
-ghost use Rattle.shelved_site.specs.Sites.{AreRecords, IsSiteOf};
+ghost use Rattle.shelved_site.specs.Sites.{AreRecords, IsSiteOf, IsOfStore};
 ghost use Rattle.shelved_site.specs.Stores.{IsSame, listed_in};
 
 use crate::fault::ShelvedFault;
@@ -63,6 +63,9 @@ pub fn hub_on_log<H: Disk, B: Disk, T: Threads + Sync, R: Wait + Drop, P: Hearin
         → OnOk result (IsSame B.Disk (log_of log.old) (log_of log.new)) }
     ensures refused { IsUp H.Disk B.Disk (log_of log.new) → OnErr result
         (AreSame (Holds B.Disk (log_of log.old)) (Holds B.Disk (log_of log.new))) }
+    // It is refused because of the log only where that had cause not to show its operations.
+    ensures why { IsUp H.Disk B.Disk (log_of log.new)
+        → IfErr result (IsOfStore (LogRefusesAll B.Disk (log_of log.old))) }
     ensures clean { IsUp H.Disk B.Disk (log_of log.new) → IsUp H.Disk B.Disk (log_of log.old) }
 {
     let recorded = log.records_with(threads)?;

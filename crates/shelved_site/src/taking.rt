@@ -2,7 +2,7 @@
 
 ghost use Rattle.std.specs.Prelude.{◌≡◌, ◌≤◌, IfOk, IfErr, IsErrOf, OnOk, OnErr};
 ghost use Rattle.site_state.specs.Laws.{Apart, after_taking};
-ghost use Rattle.shelved_site.specs.Sites.{IsSiteOf, IsBeforeHub};
+ghost use Rattle.shelved_site.specs.Sites.{IsSiteOf, IsBeforeHub, IsOfStore};
 
 use crate::Store;
 use crate::fault::ShelvedFault;
@@ -47,6 +47,9 @@ pub fn site_on<S: Store, H: Hearing>(
     ensures site { S.is_clean store.new → IfOk result (IsSiteOf (S.lists store.old)) }
     ensures same { S.is_clean store.new → OnOk result (S.is_same store.old store.new) }
     ensures refused { S.is_clean store.new → OnErr result (S.spares store.old store.new) }
+    // It is refused because of the store only where that had cause not to show its operations.
+    ensures why { S.is_clean store.new
+        → IfErr result (IsOfStore (S.refuses_all store.old store.new)) }
     ensures clean { S.is_clean store.new → S.is_clean store.old }
     ensures fault { IfErr result IsBeforeHub }
 {
@@ -73,6 +76,9 @@ pub fn hub_on<S: Store, R: Wait + Drop, H: Hearing>(
     ensures size { IfOk result (λ opened. (opened.number ≡ number) × (opened.passes ≡ passes)) }
     ensures same { S.is_clean store.new → OnOk result (S.is_same store.old store.new) }
     ensures refused { S.is_clean store.new → OnErr result (S.spares store.old store.new) }
+    // It is refused because of the store only where that had cause not to show its operations.
+    ensures why { S.is_clean store.new
+        → IfErr result (IsOfStore (S.refuses_all store.old store.new)) }
     ensures clean { S.is_clean store.new → S.is_clean store.old }
 {
     let site = site_on(alloc, store, hearing)?;

@@ -1,13 +1,11 @@
-use Rattle.std.proofs.Common.{rules, ◌≡◌, ◌+◌, ◌++◌, ◌∷◌, [], ℕ, List, drop, length, slice_get, Some, subst, sym, ap, ◌∙◌, arith}
+use Rattle.std.proofs.Common.{rules, ◌≡◌, ◌+◌, ◌++◌, ◌∷◌, [], ℕ, List, drop, length, slice_get, Some, subst, sym, ap, ◌∙◌}
 use Rattle.std.proofs.lemmas.List.Elements.{All-contains}
 use Rattle.sqlite_disk.specs.Disk.{MoreFaults}
 use Rattle.body_log.specs.Log.{disk_of, end_of}
 use Rattle.operation.specs.declared.op.Op.{Op}
-use Rattle.operation.specs.Spelling.{digest_of}
 use Rattle.op_log.specs.Fetched.{AreRead}
 use Rattle.op_log.specs.Heads.{Head}
 use Rattle.op_log.specs.Kept.{HasBody, IsBelow}
-use Rattle.op_log.specs.Loaded.{IsOf}
 use Rattle.op_log.specs.Places.{head_by}
 use Rattle.op_log.proofs.Faults.{counts_on}
 use Rattle.op_log.proofs.Fetches.{drop_get, is_read, read_more}

@@ -1,8 +1,8 @@
-use Rattle.std.proofs.Common.{rules, ◌≡◌, ◌+◌, ◌++◌, ◌∷◌, [], ℕ, List, map, take, Some, true, subst, sym, ap, ◌∙◌}
+use Rattle.std.proofs.Common.{rules, ◌≡◌, ◌++◌, ◌∷◌, [], ℕ, List, map, take, true, subst, sym, ap, ◌∙◌}
 use Rattle.operation.specs.declared.op.Op.{Op}
 use Rattle.operation.specs.Spelling.{digest_of}
 use Rattle.records.specs.StandIn.{op_in}
-use Rattle.op_log.specs.Fetched.{IsReadAt, under}
+use Rattle.op_log.specs.Fetched.{under}
 use Rattle.op_log.specs.Heads.{Head}
 use Rattle.op_log.specs.Loaded.{IsOf}
 use Rattle.op_log.specs.Recorded.{Records}
