@@ -1,7 +1,9 @@
 //! Operations that were read ahead of their turns, and are hashed side by side.
 
 ghost use Rattle.std.specs.Prelude.{◌≡◌, ◌<◌};
+ghost use Rattle.op_log.specs.Heads.{size_of};
 
+use crate::head;
 use core::mem::replace_with;
 use operation::{Digested, Op};
 use std::marker::Model;
@@ -48,6 +50,16 @@ impl Fetched {
     {
         Fetched {
             hashing: Hashing::Read(op),
+        }
+    }
+
+    /// How many bytes its data set has.
+    pub(crate) fn size(&self) -> usize
+        ensures { result ≡ size_of self.now }
+    {
+        match &self.hashing {
+            Hashing::Read(op) => head::size_of(op),
+            Hashing::Hashed(op) => head::size_of(op.op()),
         }
     }
 

@@ -16,11 +16,11 @@ use body_log::BodyLog;
 use sqlite_disk::Disk;
 
 /// How many bytes the data sets that are read ahead have at most, if there are several.
-const MOST: usize = 1 << 24;
+const MOST: usize = 1 << 25;
 
 /// From how many bytes on a data set is worth a thread: a smaller one is hashed sooner where it was
 /// read, while it is in that processor's cache.
-const WORTH: usize = 1 << 14;
+pub(crate) const WORTH: usize = 1 << 14;
 
 /// Whether so many operations, whose data sets have so many bytes, are enough to leave a further
 /// one of this size for later.

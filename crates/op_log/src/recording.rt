@@ -16,7 +16,7 @@ ghost use Rattle.op_log.specs.Verified.{digests_of};
 
 use crate::fault::LogFault;
 use crate::fetched::{Fetched, hash_each, threads_of};
-use crate::fetching::fetch;
+use crate::fetching::{WORTH, fetch};
 use crate::loading::{has_digest, load_at};
 use crate::places::Places;
 use body_log::BodyLog;
@@ -123,7 +123,8 @@ fn record_some(
     Ok(())
 }
 
-/// Hashes operations side by side, while those of the heads from an index on are read.
+/// Hashes operations side by side, while those of the heads from an index on are read; a small one,
+/// for which a thread does not pay, is left to who records it.
 fn hash_and_fetch<R: Threads + Sync, B: Disk>(
     rt: &R,
     threads: usize,
@@ -151,6 +152,13 @@ fn hash_and_fetch<R: Threads + Sync, B: Disk>(
     ensures grows { Grows B.Disk bodies.old bodies.new }
     ensures uses { Uses B.Disk bodies.old bodies.new result }
 {
+    let pays = match ops.first() {
+        Some(first) => ops.len() > 1 || first.size() >= WORTH,
+        None => false,
+    };
+    if !pays {
+        return fetch(bodies, places, from);
+    }
     let (_hashed, next) = join_mut(
         rt,
         &mut ||
