@@ -16,7 +16,7 @@ use body_log::BodyLog;
 use sqlite_disk::Disk;
 
 /// How many bytes the data sets that are read ahead have at most, if there are several.
-const MOST: usize = 1 << 25;
+const MOST: usize = 1 << 22;
 
 /// From how many bytes on a data set is worth a thread: a smaller one is hashed sooner where it was
 /// read, while it is in that processor's cache.
