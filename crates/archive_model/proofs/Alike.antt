@@ -35,6 +35,7 @@ use Rattle.archive_model.proofs.Keeping.{push_none, map_found}
 -- what is kept of a content, as a content of no byte
 abbrev pub stripped : ContentRecordParts → ContentParts
 stripped r = record {
+  digest = r.digest;
   class = r.class;
   instance = r.instance;
   syntax = r.syntax;

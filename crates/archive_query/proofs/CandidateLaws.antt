@@ -222,21 +222,9 @@ enough view ops keep us up has_all_kept =
 content_lawful : (ops : List Op) → AreLawful ops → (c : ContentParts) → IsOne (contents ops) c → IsStandIn c
 content_lawful ops lawful c h = lawful (a_content c) (content_has ops c h)
 
-names_described : (c : ContentParts) (elements : List Tree) → Describes elements c
-    → names_itself c.class c.instance elements ≡ true
-unfolding offence
-names_described c elements d = (passed (has_uids c.class c.instance elements) (names_itself c.class c.instance elements)
-    (note_offence (note_in c.class elements)) d.faultless).1
-
--- a content's SOP Instance UID is its value of that element
-own_instance : (c : ContentParts) → IsContent c → own_value c SOP_INSTANCE_UID ≡ c.instance
-own_instance c is = ∥∥₁_elim is (Coded-set (coded_list coded_ℕ) (own_value c SOP_INSTANCE_UID) c.instance)
-    (λ d. (kept_names c.class c.instance d.0 c.values d.1.values (names_described c d.0 d.1)).1)
-
--- and what stands for it has both
+-- its SOP Instance UID is its value of that element
 stood_instance : (c : ContentParts) → IsStandIn c → own_value c SOP_INSTANCE_UID ≡ c.instance
-stood_instance c is = ∥∥₁_elim is (Coded-set (coded_list coded_ℕ) (own_value c SOP_INSTANCE_UID) c.instance)
-    (λ w. subst (λ (q : ContentParts). own_value q SOP_INSTANCE_UID ≡ q.instance) w.2 (own_instance w.0 w.1.0))
+stood_instance c is = is.lawful.named
 
 -- ---- what a query asks for
 

@@ -10,12 +10,12 @@ use Rattle.std.specs.Cmp.{tied_itself}
 use Rattle.std.specs.Cmp.Lexicographic.{nat_list_cmp_total}
 use Rattle.std.specs.FinMap.{entries}
 use Rattle.std.proofs.lemmas.Bool.{not-false as negated}
-use Rattle.sha2.specs.Sha256.{sha256, digest_bytes}
 use Rattle.octets.specs.Members.{Has}
 use Rattle.archive_model.proofs.ModelLaws.{same_is, same_itself}
 use Rattle.archive_model.proofs.MemberLaws.{has_any, has_filter, filter_has}
 use Rattle.operation.specs.declared.op.Op.{Op}
 use Rattle.operation.specs.Spelling.{digest_of}
+use Rattle.operation.proofs.DigestLaws.{digest_is_bytes}
 use Rattle.site_state.specs.Site.{Map, held_at, digest_cmp}
 use Rattle.site_state.proofs.Maps.{held}
 use Rattle.site_state.proofs.Unions.{held_entries}
@@ -29,13 +29,8 @@ use Rattle.exchange.proofs.Rounds.{offered_has, own_digest, had_is_held}
 -- ---- places
 
 -- a digest begins with a byte
-first_byte : (m : List ℕ) → slice_index (sha256 m) 0 < 256
-unfolding sha256 digest_bytes
-first_byte m = omega arith
-
 pub place_small : (op : Op) → place_of (digest_of op) < BUCKET_COUNT
-unfolding digest_of
-place_small op = first_byte _
+place_small op = digest_is_bytes op 0
 
 pub range_has : (n a p : ℕ) → a ≤ p → p < a + n → Has (range_with_len a n) p
 range_has zero a p low high = absurd (omega arith)

@@ -17,6 +17,7 @@ use Rattle.sha2.proofs.Facts256.{length-sha256}
 use Rattle.octets.specs.Members.{Has}
 use Rattle.octets.specs.Texts.{text_cmp}
 use Rattle.archive_model.proofs.MemberLaws.{filter_has}
+use Rattle.operation.proofs.DigestLaws.{digest_long}
 use Rattle.operation.specs.declared.op.Op.{Op}
 use Rattle.operation.specs.Spelling.{digest_of}
 use Rattle.site_state.specs.Site.{Map, IsSite, digest_cmp}
@@ -36,10 +37,6 @@ use Rattle.exchange.proofs.Rounds.{own_digest}
 use Rattle.exchange.proofs.Recorded.{site_digests}
 
 -- ---- digests
-
-digest_long : (op : Op) → length (digest_of op) ≡ 32
-unfolding digest_of
-digest_long op = length-sha256 _
 
 -- what holds of each member holds of all
 pub all_of : {X : Type 0} (P : X → Type 0) (xs : List X) → ((x : X) → Has xs x → P x) → AllByRecursion P xs

@@ -2,7 +2,7 @@
 use Rattle.std.specs.Prelude.{ℕ, ◌≡◌, ◌≢◌, ◌⊎◌, ⊤, List, Option, None, Some, IfSome, drop, length}
 use Rattle.octets.specs.Members.{Has}
 use Rattle.operation.specs.declared.op.Op.{Op}
-use Rattle.operation.specs.Spelling.{digest_of}
+use Rattle.operation.specs.Spelling.{digest_of, hash_of}
 use Rattle.records.specs.StandIn.{op_in}
 use Rattle.op_shelf.specs.declared.fault.ShelfFault.{ShelfFault}
 use Rattle.op_shelf.specs.declared.fault.ShelfFault.TheVariants as shelf_faults
@@ -102,7 +102,7 @@ RefusesRecord refuses has_loaded held digest fault = RefusesLoad refuses refusal
 pub record HasFound {K : Type 0} (is_up : K → Type 0) (holds : K → Op → Type 0) (before after : K) (digest : List ℕ)
     (found : Option Op) : Type 0 where
   pub there : is_up after → IfSome found (holds before)
-  pub exact : is_up after → (op : Op) → holds before op → digest_of op ≡ digest → IsFoundAs found op
+  pub exact : is_up after → (op : Op) → holds before op → hash_of op ≡ digest → IsFoundAs found op
 
 -- Why a site on a shelf does not load what it holds under a digest, and stays: no operation of the record came of the
 -- shelf.

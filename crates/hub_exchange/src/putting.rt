@@ -2,7 +2,7 @@
 
 ghost use Rattle.std.specs.Prelude.{◌≡◌, List, ℕ, Some, Option, All, IfOk, IfErr, IfSome, OnOk};
 ghost use Rattle.operation.specs.declared.op.Op.{Op as Operation};
-ghost use Rattle.operation.specs.Spelling.{digest_of};
+ghost use Rattle.operation.specs.Spelling.{digest_of, hash_of};
 ghost use Rattle.op_shelf.specs.declared.fault.ShelfFault.{ShelfFault};
 ghost use Rattle.op_shelf.specs.Keep.{IsFoundAs};
 ghost use Rattle.records.specs.StandIn.{op_in};
@@ -84,7 +84,7 @@ pub fn read_kept<K: Keep, N: LedgerName>(
     ensures kept { AreKept K.is_up K.holds K.lasts _ledger.now shelf.new }
     // What is kept is read, as long as the disk returns what was written.
     ensures exact { K.is_up shelf.new → (op : Operation) → K.holds shelf.old op
-        → digest_of op ≡ digest.now → IfOk result (λ read. IsFoundAs read op) }
+        → hash_of op ≡ digest.now → IfOk result (λ read. IsFoundAs read op) }
     ensures why { IfErr result (K.refuses_load shelf.old shelf.new digest.now) }
 {
     shelf.read(digest)

@@ -3,7 +3,7 @@ use Rattle.std.proofs.Common.{◌≡◌, ◌+◌, ◌<◌, ℕ, zero, suc, List,
 use Rattle.std.proofs.lemmas.List.{ext_get_or}
 use Rattle.operation.specs.declared.op.Op.{Op}
 use Rattle.operation.specs.Reading.{IsOp}
-use Rattle.operation.specs.Spelling.{digest_of}
+use Rattle.operation.specs.Spelling.{hash_of}
 use Rattle.op_log.specs.declared.place.Place.{Place}
 use Rattle.op_log.specs.Fetched.{AreRead, IsReadAt}
 use Rattle.op_log.specs.Heads.{Head, head_of}
@@ -12,8 +12,8 @@ use Rattle.op_log.specs.Loaded.{IsOf}
 use Rattle.op_log.specs.Places.{head_by}
 
 -- what lies at a place, under its own digest, was read where the head of the place says
-pub is_read : (file : List ℕ) (place : Place) (digest : List ℕ) (op : Op) → IsOf file (head_by (digest_of op) place) op
-    → ((other : Op) → IsOp other → head_by (digest_of other) place ≡ head_of (other, place.at) → HasBody file (other, place.at) → op ≡ other)
+pub is_read : (file : List ℕ) (place : Place) (digest : List ℕ) (op : Op) → IsOf file (head_by (hash_of op) place) op
+    → ((other : Op) → IsOp other → head_by (hash_of other) place ≡ head_of (other, place.at) → HasBody file (other, place.at) → op ≡ other)
     → IsReadAt file (head_by digest place) op
 is_read file place digest op own exact = record {
   own = own;

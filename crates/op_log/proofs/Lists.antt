@@ -8,7 +8,7 @@ use Rattle.sqlite_disk.specs.Disk.{Holds}
 use Rattle.head_log.proofs.Texts.{once}
 use Rattle.operation.specs.declared.op.Op.{Op}
 use Rattle.operation.specs.Reading.{IsOp}
-use Rattle.operation.specs.Spelling.{spelling, digest_of}
+use Rattle.operation.specs.Spelling.{spelling, digest_of, hash_of}
 use Rattle.operation.proofs.OutcomeLaws.{spelling_once}
 use Rattle.op_log.proofs.Spellings.{both_parts}
 use Rattle.op_log.specs.Heads.{Head, body_of, front_of, head_of, size_of}
@@ -37,7 +37,7 @@ unfolding front_of
 front_long op = length-take-le (length (spelling op) - size_of op) (spelling op) (omega arith)
 
 -- what was read and tested is the operation of its head
-pub is_of : (file : List ℕ) (place : Place) (digest text : List ℕ) (op : Op) → IsOp op → digest_of op ≡ digest → text ≡ spelling op
+pub is_of : (file : List ℕ) (place : Place) (digest text : List ℕ) (op : Op) → IsOp op → hash_of op ≡ digest → text ≡ spelling op
     → length text - size_of op ≡ length place.front → IsFrontAnd file place text → IsOf file (head_by digest place) op
 is_of file place digest text op lawful hashed spelled cut it =
     let whole : spelling op ≡ place.front ++ it.body = sym spelled ∙ it.text_is in
@@ -107,8 +107,8 @@ listed_op file (k ∷ heads) (x ∷ ops) digest h (first, rest) is =
 
 -- an operation that is there is listed
 pub listed : (file : List ℕ) (heads : List Head) (ops : List Op) (at : ℕ) (op : Op) → IsOp op → Lists file heads ops
-    → first_under (digest_of op) heads ≡ Some (head_of (op, at)) → HasBody file (op, at) → Contains ops op
+    → first_under (hash_of op) heads ≡ Some (head_of (op, at)) → HasBody file (op, at) → Contains ops op
 listed file heads ops at op lawful lists first held =
-    let (other, among, of) = listed_op file heads ops (digest_of op) (head_of (op, at)) lists first in
+    let (other, among, of) = listed_op file heads ops (hash_of op) (head_of (op, at)) lists first in
     let same = one_op file (head_of (op, at)) other op of (record { lawful = lawful; head = refl; held = held }) in
     subst (λ (o : Op). Contains ops o) same among

@@ -3,7 +3,7 @@ use Rattle.std.proofs.Common.{◌≡◌, ℕ, zero, suc, List, [], ◌∷◌, �
 use Rattle.std.proofs.lemmas.List.{map-append}
 use Rattle.operation.specs.declared.op.Op.{Op}
 use Rattle.operation.specs.Reading.{IsOp}
-use Rattle.operation.specs.Spelling.{digest_of}
+use Rattle.operation.specs.Spelling.{hash_of}
 use Rattle.records.specs.StandIn.{op_in}
 use Rattle.op_log.specs.Heads.{Head, head_of}
 use Rattle.op_log.specs.Kept.{HasBody, first_under}
@@ -30,7 +30,7 @@ stands_among (x ∷ ops) op (suc n, low, at) =
 
 -- what stands for an operation that is there is recorded
 pub recorded_of : (file : List ℕ) (heads : List Head) (recorded : List Op) (at : ℕ) (op : Op) → IsOp op
-    → Records file heads recorded → first_under (digest_of op) heads ≡ Some (head_of (op, at)) → HasBody file (op, at)
+    → Records file heads recorded → first_under (hash_of op) heads ≡ Some (head_of (op, at)) → HasBody file (op, at)
     → Contains recorded (op_in op)
 recorded_of file heads recorded at op lawful was first held =
     subst (λ (os : List Op). Contains os (op_in op)) (sym was.stand)

@@ -1,7 +1,7 @@
 -- Operations that were read ahead of their turns, and what is known of them before they are hashed.
 use Rattle.std.specs.Prelude.{◌≡◌, List, [], ◌∷◌, ℕ}
 use Rattle.operation.specs.declared.op.Op.{Op}
-use Rattle.operation.specs.Spelling.{digest_of}
+use Rattle.operation.specs.Spelling.{hash_of}
 use Rattle.op_log.specs.declared.fetched.Hashing.{Hashing}
 use Rattle.op_log.specs.declared.fetched.Hashing.TheVariants as hashing
 use Rattle.op_log.specs.Heads.{Head}
@@ -19,7 +19,7 @@ under digest h = record { digest = digest; front = h.front; at = h.at; size = h.
 -- An operation was read where a head says: under its own digest that head is its, and if the head is that of an
 -- operation, it is this one.
 pub record IsReadAt (file : List ℕ) (h : Head) (op : Op) : Type 0 where
-  pub own : IsOf file (under (digest_of op) h) op
+  pub own : IsOf file (under (hash_of op) h) op
   pub only : (other : Op) → IsOf file h other → op ≡ other
 
 -- operations were read where the first of some heads say, one by one

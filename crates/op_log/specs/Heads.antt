@@ -4,7 +4,7 @@ use Rattle.std.specs.Coded.{Coded, code_by, coded×, coded_ℕ, coded_list}
 use Rattle.std.specs.Int.{w64, to_le_bytes}
 use Rattle.operation.specs.declared.op.Op.{Op}
 use Rattle.operation.specs.declared.op.Op.TheVariants.{Content as a_content, Correction as a_correction}
-use Rattle.operation.specs.Spelling.{spelling, digest_of}
+use Rattle.operation.specs.Spelling.{spelling, hash_of}
 
 -- how long the data set is; a correction has none
 abbrev pub size_of : Op → ℕ
@@ -51,7 +51,7 @@ head_code =
 
 -- the head of an entry
 abbrev pub head_of : Entry → Head
-head_of e = record { digest = digest_of e.0; front = front_of e.0; at = e.1; size = length (body_of e.0) }
+head_of e = record { digest = hash_of e.0; front = front_of e.0; at = e.1; size = length (body_of e.0) }
 
 -- a number in eight bytes, low byte first
 unfoldable pub number_text : ℕ → List ℕ

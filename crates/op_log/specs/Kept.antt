@@ -9,7 +9,7 @@ use Rattle.body_log.specs.Lasts.{Lasts}
 use Rattle.head_log.specs.Groups.{IsReady}
 use Rattle.head_log.specs.Groups.{StandsFor as HasGroups}
 use Rattle.operation.specs.declared.op.Op.{Op}
-use Rattle.operation.specs.Spelling.{digest_of}
+use Rattle.operation.specs.Spelling.{hash_of}
 use Rattle.op_log.specs.Heads.{Entry, Head, body_of, head_of, group_text, IsSpelled}
 
 -- the first head with a digest
@@ -67,9 +67,9 @@ IsBelow end h = h.at + h.size ≤ end
 -- the first head with the digest of an operation is its own, and its data set lies where that says
 abbrev pub Has : {B : Type 0} → Ghosts B → B → ℕ → List Head → Op → Type 0
 Has g disk end heads op =
-    (at : ℕ) × (first_under (digest_of op) heads ≡ Some (head_of (op, at))) × IsHeld g disk end (op, at)
+    (at : ℕ) × (first_under (hash_of op) heads ≡ Some (head_of (op, at))) × IsHeld g disk end (op, at)
 
 -- the same of two files
 abbrev pub AreOf : List Head → List ℕ → Op → Type 0
 AreOf heads bodies op =
-    (at : ℕ) × (first_under (digest_of op) heads ≡ Some (head_of (op, at))) × HasBody bodies (op, at)
+    (at : ℕ) × (first_under (hash_of op) heads ≡ Some (head_of (op, at))) × HasBody bodies (op, at)

@@ -3,7 +3,7 @@ use Rattle.std.specs.Prelude.{◌≡◌, ◌≢◌, ◌+◌, ◌<◌, ◌≤◌,
 use Rattle.sqlite_disk.specs.Disk.{Holds}
 use Rattle.sqlite_disk.specs.declared.Disk.{Ghosts}
 use Rattle.operation.specs.declared.op.Op.{Op}
-use Rattle.operation.specs.Spelling.{digest_of}
+use Rattle.operation.specs.Spelling.{hash_of}
 use Rattle.op_log.specs.declared.kept.Kept.{Kept}
 use Rattle.op_log.specs.declared.kept.Kept.TheVariants.{New, Known}
 use Rattle.op_log.specs.Heads.{Entry, Head, body_of, front_of, IsSpelled}
@@ -33,7 +33,7 @@ module _ {B : Type 0} (g : Ghosts B) (disk : B) (end : ℕ) where
 
   -- the same of an operation
   abbrev pub Puts : List Head → Op → Kept → List Head → Type 0
-  Puts old op kept new = PutsParts (digest_of op) (front_of op) (body_of op) old kept new
+  Puts old op kept new = PutsParts (hash_of op) (front_of op) (body_of op) old kept new
 
   -- one put after another
   abbrev pub PutsAll : List Head → List Op → List Kept → List Head → Type 0
@@ -49,7 +49,7 @@ module _ {B : Type 0} (g : Ghosts B) (disk : B) (end : ℕ) where
 
   -- another operation has the digest of one
   abbrev pub Clashes : Op → List Head → Type 0
-  Clashes op heads = ClashesParts (digest_of op) (front_of op) (body_of op) heads
+  Clashes op heads = ClashesParts (hash_of op) (front_of op) (body_of op) heads
 
   -- one put after another comes to an operation whose digest another has
   abbrev pub ComesToClash : List Head → List Op → Type 0

@@ -6,7 +6,7 @@ ghost use Rattle.sqlite_disk.specs.Disk.{Holds};
 ghost use Rattle.body_log.specs.Log.{disk_of, end_of};
 ghost use Rattle.operation.specs.declared.op.Op.{Op as Operation};
 ghost use Rattle.operation.specs.Reading.{IsOp};
-ghost use Rattle.operation.specs.Spelling.{digest_of, spelling};
+ghost use Rattle.operation.specs.Spelling.{digest_of, hash_of, spelling};
 ghost use Rattle.op_log.specs.Fault.{IsOfLook, IsOfRead};
 ghost use Rattle.op_log.specs.Heads.{body_of, head_of, size_of};
 ghost use Rattle.op_log.specs.Kept.{HasBody};
@@ -149,7 +149,8 @@ fn decoded(alloc: Global, text: Vec<u8>, at: usize) -> Result<Op, LogFault>
 
 /// Whether an operation has a digest.
 pub(crate) fn has_digest(op: &Digested, digest: &Digest) -> bool
-    ensures { IsTrue result ↔ (digest_of op.now ≡ digest.now) }
+    ensures own { IsTrue result ↔ (digest_of op.now ≡ digest.now) }
+    ensures hash { IsTrue result ↔ (hash_of op.now ≡ digest.now) }
 {
     op.digest().as_bytes().as_slice() == digest.as_bytes().as_slice()
 }
@@ -172,18 +173,18 @@ pub(crate) fn read_at<B: Disk>(
     ensures lawful { IfOk result IsOp }
     // Under the digest that it has, it is the one that lies there.
     ensures found { IfOk result (λ op. IsTrue (B.Disk.is_clean (disk_of bodies.new))
-        → IsOf (B.Disk.seen (disk_of bodies.old)) (head_by (digest_of op) place.now) op) }
+        → IsOf (B.Disk.seen (disk_of bodies.old)) (head_by (hash_of op) place.now) op) }
     // The very operation, as long as the disk returns what was written.
     ensures exact { IsTrue (B.Disk.is_clean (disk_of bodies.new)) → (op : Operation) → IsOp op
-        → head_by (digest_of op) place.now ≡ head_of (op, place.now.at)
+        → head_by (hash_of op) place.now ≡ head_of (op, place.now.at)
         → HasBody (B.Disk.seen (disk_of bodies.old)) (op, place.now.at)
         → IfOk result (λ read. read ≡ op) }
     ensures alike { IsTrue (B.Disk.is_clean (disk_of bodies.new)) → (op : Operation)
-        → head_by (digest_of op) place.now ≡ head_of (op, place.now.at)
+        → head_by (hash_of op) place.now ≡ head_of (op, place.now.at)
         → HasBody (B.Disk.seen (disk_of bodies.old)) (op, place.now.at)
         → IfOk result (λ read. spelling read ≡ spelling op) }
     ensures damaged { IsTrue (B.Disk.is_clean (disk_of bodies.new)) → (op : Operation) → IsOp op
-        → head_by (digest_of op) place.now ≡ head_of (op, place.now.at)
+        → head_by (hash_of op) place.now ≡ head_of (op, place.now.at)
         → HasBody (B.Disk.seen (disk_of bodies.old)) (op, place.now.at)
         → (n : ℕ) → ¬ IsErrOf result (LogFault.DamagedBody n) }
     ensures place { (n : ℕ) → IsErrOf result (LogFault.DamagedBody n) → n ≡ place.now.at }

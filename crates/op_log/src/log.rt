@@ -7,7 +7,7 @@ ghost use Rattle.body_log.specs.Fault.{CountsAs};
 ghost use Rattle.body_log.specs.Lasts.{Stays};
 ghost use Rattle.operation.specs.declared.op.Op.{Op as Operation};
 ghost use Rattle.operation.specs.Reading.{IsOp};
-ghost use Rattle.operation.specs.Spelling.{digest_of, spelling};
+ghost use Rattle.operation.specs.Spelling.{digest_of, hash_of, spelling};
 ghost use Rattle.records.specs.StandIn.{op_in};
 ghost use Rattle.op_log.specs.Fault.{IsOfLook, IsOfOpen, IsOfPut};
 ghost use Rattle.op_log.specs.Heads.{Entry, Head};
@@ -237,11 +237,11 @@ impl<H: Disk, B: Disk> OpLog<H, B> {
         ensures lawful { IfOk result (λ found. IfSome found IsOp) }
         // The very operation that was put, as long as the disk returns what was written.
         ensures exact { IsTrue (B.Disk.is_clean self.new.bodies) → (op : Operation) → IsOp op
-            → digest_of op ≡ digest.now
+            → hash_of op ≡ digest.now
             → Has B.Disk self.old.bodies self.old.bodies_end self.old.places op
             → IfOk result (λ found. found ≡ Some op) }
         ensures damaged { IsTrue (B.Disk.is_clean self.new.bodies) → (op : Operation) → IsOp op
-            → digest_of op ≡ digest.now
+            → hash_of op ≡ digest.now
             → Has B.Disk self.old.bodies self.old.bodies_end self.old.places op
             → (n : ℕ) → ¬ IsErrOf result (LogFault.DamagedBody n) }
         ensures found { IfOk result (λ found. IfSome found (λ op.
@@ -274,15 +274,15 @@ impl<H: Disk, B: Disk> OpLog<H, B> {
         ensures lawful { IfOk result (λ found. IfSome found IsOp) }
         // The very operation that was put, as long as the disk returns what was written.
         ensures exact { IsTrue (B.Disk.is_clean self.new.bodies) → (op : Operation) → IsOp op
-            → digest_of op ≡ digest.now
+            → hash_of op ≡ digest.now
             → Has B.Disk self.old.bodies self.old.bodies_end self.old.places op
             → IfOk result (λ found. found ≡ Some op) }
         ensures alike { IsTrue (B.Disk.is_clean self.new.bodies) → (op : Operation)
-            → digest_of op ≡ digest.now
+            → hash_of op ≡ digest.now
             → Has B.Disk self.old.bodies self.old.bodies_end self.old.places op
             → IfOk result (λ found. IfSome found (λ read. spelling read ≡ spelling op)) }
         ensures damaged { IsTrue (B.Disk.is_clean self.new.bodies) → (op : Operation) → IsOp op
-            → digest_of op ≡ digest.now
+            → hash_of op ≡ digest.now
             → Has B.Disk self.old.bodies self.old.bodies_end self.old.places op
             → (n : ℕ) → ¬ IsErrOf result (LogFault.DamagedBody n) }
         ensures looks { Looks self.old self.new }

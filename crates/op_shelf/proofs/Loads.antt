@@ -14,7 +14,7 @@ use Rattle.sqlite.specs.declared.types.Value.TheVariants.{Text}
 use Rattle.sqlite_value.proofs.OrderLemmas.{value_cmp_total}
 use Rattle.operation.specs.declared.op.Op.{Op}
 use Rattle.operation.specs.Reading.{IsOp}
-use Rattle.operation.specs.Spelling.{digest_of, spelling}
+use Rattle.operation.specs.Spelling.{hash_of, spelling}
 use Rattle.operation.proofs.OutcomeLaws.{spelling_once}
 use Rattle.op_shelf.specs.declared.fault.ShelfFault.{ShelfFault}
 use Rattle.op_shelf.specs.Entries.{Holds, digest_text, entries, entry_by, entry_of}
@@ -25,12 +25,12 @@ use Rattle.op_shelf.proofs.Keeps.{alike, alike_by}
 use Rattle.op_shelf.proofs.Ops.{kept_was, none_in, still_there}
 
 -- operations of one entry have one digest
-pub one_digest : (a b : Op) → entry_of a ≡ entry_of b → digest_of a ≡ digest_of b
-unfolding digest_of
+pub one_digest : (a b : Op) → entry_of a ≡ entry_of b → hash_of a ≡ hash_of b
+unfolding hash_of
 one_digest a b same = ap sha256 (alike a b same)
 
 -- an entry that is there is among those under its digest
-own : (rows : List Row) (op : Op) (digest : List ℕ) → Holds rows op → digest_of op ≡ digest
+own : (rows : List Row) (op : Op) (digest : List ℕ) → Holds rows op → hash_of op ≡ digest
     → Contains (at_digest digest rows) (entry_of op)
 own rows op digest held is =
     let test = λ (e : Row). is_eq (value_cmp (column e 0) (Text (digest_text op))) in
@@ -83,7 +83,7 @@ some_held rows digest (Some op) one = alone_held rows digest op one
 pub exact : (text : Op → List ℕ) (rows : List Row) (digest : List ℕ) (r : Result (Option Op) ShelfFault)
     → (r ≡ Ok None → at_digest digest rows ≡ [])
     → IfOk r (λ found. IfSome found (λ op. at_digest digest rows ≡ entry_by (text op) (spelling op) ∷ []))
-    → IfOk r (λ found. IfSome found IsOp) → (op : Op) → Holds rows op → digest_of op ≡ digest
+    → IfOk r (λ found. IfSome found IsOp) → (op : Op) → Holds rows op → hash_of op ≡ digest
     → IfOk r (λ found. IsFoundAs found op)
 exact text rows digest (Ok None) none one lawful op held is =
     let there : Contains [] (entry_of op) = subst (λ (es : List Row). Contains es (entry_of op)) (none refl)

@@ -9,12 +9,12 @@ use Rattle.sqlite.specs.declared.types.Value.TheVariants.{Blob}
 use Rattle.hex.specs.Hex.{encode_lower}
 use Rattle.sha2.specs.Sha256.{sha256}
 use Rattle.operation.specs.declared.op.Op.{Op}
-use Rattle.operation.specs.Spelling.{spelling, digest_of}
+use Rattle.operation.specs.Spelling.{spelling, hash_of}
 use Rattle.op_shelf.specs.Entries.{entry_by, entry_of, digest_text}
 
 -- what is spelled alike has one digest
 pub digest_texts : (a b : Op) → spelling a ≡ spelling b → digest_text a ≡ digest_text b
-unfolding digest_of
+unfolding hash_of
 digest_texts a b same = ap (λ text. encode_lower (sha256 text)) same
 
 -- and one entry

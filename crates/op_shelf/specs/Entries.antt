@@ -4,7 +4,7 @@ use Rattle.hex.specs.Hex.{encode_lower}
 use Rattle.sqlite.specs.declared.types.Value.TheVariants.{Int, Text, Blob}
 use Rattle.sqlite.specs.Order.{Row, column}
 use Rattle.operation.specs.declared.op.Op.{Op}
-use Rattle.operation.specs.Spelling.{spelling, digest_of}
+use Rattle.operation.specs.Spelling.{spelling, digest_of, hash_of}
 use Rattle.operation.specs.Reading.{IsOp}
 
 -- the kind of an operation is the first byte of its spelling
@@ -18,7 +18,7 @@ entry_by digest body = Text digest ∷ Int (pos (kind_in body)) ∷ Blob body �
 
 -- the digest as 64 lower-case hexadecimal digits
 abbrev pub digest_text : Op → List ℕ
-digest_text op = encode_lower (digest_of op)
+digest_text op = encode_lower (hash_of op)
 
 -- the entry of an operation, with its spelling
 abbrev pub entry_of : Op → Row
@@ -27,6 +27,10 @@ entry_of op = entry_by (digest_text op) (spelling op)
 -- the entry of an operation that stands under some digest, whether that is its own or not
 abbrev pub entry_under : List ℕ → Op → Row
 entry_under digest op = entry_by (encode_lower digest) (spelling op)
+
+-- and that of one that stands under its digest
+abbrev pub own_entry : Op → Row
+own_entry op = entry_under (digest_of op) op
 
 -- the entry that a row of the table has behind its rowid
 abbrev pub entry_in : Row → Row

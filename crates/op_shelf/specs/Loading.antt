@@ -6,7 +6,7 @@ use Rattle.sqlite.specs.State.{State}
 use Rattle.sqlite.specs.declared.types.Value.TheVariants.{Text}
 use Rattle.operation.specs.declared.op.Op.{Op}
 use Rattle.operation.specs.Reading.{IsOp}
-use Rattle.operation.specs.Spelling.{digest_of}
+use Rattle.operation.specs.Spelling.{hash_of}
 use Rattle.op_shelf.specs.declared.fault.StoreCause.{StoreCause}
 use Rattle.op_shelf.specs.Entries.{entry_of}
 use Rattle.op_shelf.specs.States.{IsNotShown, IsUnready, under}
@@ -19,7 +19,7 @@ at_digest digest rows = under (encode_lower digest) rows
 -- Some entries are there, and they are not the one entry of an operation that has the digest.
 pub record AreAmiss (digest : List ℕ) (all : List Row) : Type 0 where
   pub some : all ≢ []
-  pub none : (op : Op) → IsOp op → digest_of op ≡ digest → all ≢ entry_of op ∷ []
+  pub none : (op : Op) → IsOp op → hash_of op ≡ digest → all ≢ entry_of op ∷ []
 
 -- a load was refused: the table does not stand alone, or the database did not show the entries, for this cause
 abbrev pub IsNotLoaded : StoreCause → List ℕ → State → State → Type 0

@@ -2,13 +2,13 @@
 use Rattle.std.specs.Prelude.{◌≡◌, ◌++◌, ◌∷◌, [], List, map, All}
 use Rattle.sqlite.specs.Order.{Row}
 use Rattle.operation.specs.declared.op.Op.{Op}
-use Rattle.operation.specs.Spelling.{digest_of}
+use Rattle.operation.specs.Spelling.{digest_of, hash_of}
 use Rattle.records.specs.StandIn.{op_in}
 use Rattle.op_shelf.specs.Entries.{Lists, entry_of}
 
--- what stands for an operation has its digest
+-- what stands for an operation has the hash of its spelling as its digest
 abbrev pub KeepsDigest : Op → Type 0
-KeepsDigest op = digest_of (op_in op) ≡ digest_of op
+KeepsDigest op = digest_of (op_in op) ≡ hash_of op
 
 -- one record more, which stands for the operation of an entry
 pub record IsRecorded (entry : Row) (old new : List Op) : Type 0 where

@@ -2,7 +2,7 @@
 
 ghost use Rattle.std.specs.Prelude.{◌≡◌, ℕ, All, List, Ok, IfOk, IfErr, IfSome, OnOk, OnErr};
 ghost use Rattle.operation.specs.declared.op.Op.{Op as Operation};
-ghost use Rattle.operation.specs.Spelling.{digest_of};
+ghost use Rattle.operation.specs.Spelling.{digest_of, hash_of};
 ghost use Rattle.sqlite.specs.Held.{state};
 ghost use Rattle.op_shelf.specs.declared.fault.ShelfFault.{ShelfFault};
 ghost use Rattle.op_shelf.specs.Entries.{Holds, digest_text, entry_of};
@@ -92,7 +92,7 @@ pub trait Keep {
         ensures told { IfOk result (λ found. IfSome found (λ op. digest_of op ≡ digest.now)) }
         ensures held { is_up self.new → IfOk result (λ found. IfSome found (holds self.old)) }
         ensures exact { is_up self.new → (op : Operation) → holds self.old op
-            → digest_of op ≡ digest.now → IfOk result (λ found. IsFoundAs found op) }
+            → hash_of op ≡ digest.now → IfOk result (λ found. IsFoundAs found op) }
         ensures why { IfErr result (refuses_load self.old self.new digest.now) }
         ensures up { is_up self.new → is_up self.old }
 
@@ -105,7 +105,7 @@ pub trait Keep {
     /// as the disk returns what was written. Who takes it hashes it.
     fn read(&mut self, digest: &Digest) -> Result<Option<Op>, ShelfFault>
         ensures exact { is_up self.new → (op : Operation) → holds self.old op
-            → digest_of op ≡ digest.now → IfOk result (λ found. IsFoundAs found op) }
+            → hash_of op ≡ digest.now → IfOk result (λ found. IsFoundAs found op) }
         ensures why { IfErr result (refuses_load self.old self.new digest.now) }
         ensures up { is_up self.new → is_up self.old }
 

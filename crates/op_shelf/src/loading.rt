@@ -8,7 +8,7 @@ ghost use Rattle.sqlite.specs.Held.{state};
 ghost use Rattle.sqlite.specs.State.{IsUnchanged, Survives};
 ghost use Rattle.operation.specs.declared.op.Op.{Op as Operation};
 ghost use Rattle.operation.specs.Reading.{IsOp};
-ghost use Rattle.operation.specs.Spelling.{digest_of, spelling};
+ghost use Rattle.operation.specs.Spelling.{digest_of, hash_of, spelling};
 ghost use Rattle.op_shelf.specs.Entries.{entry_by, entry_of, entry_under};
 ghost use Rattle.op_shelf.specs.Fault.{IfStore, IsNoStore};
 ghost use Rattle.op_shelf.specs.Loading.{AreAmiss, at_digest};
@@ -27,7 +27,7 @@ fn op_at(alloc: Global, entry: &Row, digest: &Digest) -> Result<Digested, ShelfF
     ensures told { IfOk result (λ op. digest_of op ≡ digest.now) }
     ensures found { IfOk result (λ op. entry.now ≡ entry_of op) }
     ensures lawful { IfOk result IsOp }
-    ensures bad { IsErrOf result ShelfFault.BadRow → (op : Operation) → IsOp op → digest_of op ≡ digest.now
+    ensures bad { IsErrOf result ShelfFault.BadRow → (op : Operation) → IsOp op → hash_of op ≡ digest.now
         → entry.now ≢ entry_of op }
     ensures only { IfErr result IsNoStore }
 {

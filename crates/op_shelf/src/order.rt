@@ -4,7 +4,7 @@ ghost use Rattle.std.specs.Prelude.{◌≡◌, map, IsPermutation, IsSorted};
 ghost use Rattle.std.specs.Ordering.{nat_cmp};
 ghost use Rattle.std.specs.Cmp.Lexicographic.{slice_cmp};
 ghost use Rattle.hex.specs.Hex.{encode_lower};
-ghost use Rattle.op_shelf.specs.Entries.{entry_of};
+ghost use Rattle.op_shelf.specs.Entries.{entry_of, own_entry};
 ghost use Rattle.op_shelf.specs.States.{digest_cmp};
 
 use operation::Digested;
@@ -34,9 +34,9 @@ fn by_digest(a: &Digested, b: &Digested) -> Ordering
     )
 }
 
-/// The same of two records.
+/// The order of the entries of two records, each under its digest.
 fn by_record(a: &RecordedOp, b: &RecordedOp) -> Ordering
-    ensures { result ≡ digest_cmp (entry_of a.now) (entry_of b.now) }
+    ensures { result ≡ digest_cmp (own_entry a.now) (own_entry b.now) }
 {
     by_text(
         a.digest().as_bytes().as_slice(),
@@ -55,7 +55,7 @@ pub(crate) fn put_in_order(ops: &mut Vec<Digested>)
 /// Puts records in the order of the texts of their digests.
 pub(crate) fn put_records_in_order(recorded: &mut Vec<RecordedOp>)
     ensures same { IsPermutation recorded.old.items recorded.new.items }
-    ensures ascending { IsSorted digest_cmp (map entry_of recorded.new.items) }
+    ensures ascending { IsSorted digest_cmp (map own_entry recorded.new.items) }
 {
     recorded.sort_unstable_by(|a, b| by_record(a, b));
 }

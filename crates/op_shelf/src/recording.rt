@@ -3,7 +3,7 @@
 ghost use Rattle.std.specs.Prelude.{◌≡◌, [], map, IfOk, IfErr, IsErrOf, OnOk, OnErr, IsSorted};
 ghost use Rattle.sqlite.specs.Held.{state};
 ghost use Rattle.sqlite.specs.State.{HasCleanDisk, IsUnchanged, Survives};
-ghost use Rattle.op_shelf.specs.Entries.{HasBadRow, IsEntry, entry_of};
+ghost use Rattle.op_shelf.specs.Entries.{HasBadRow, IsEntry, own_entry};
 ghost use Rattle.op_shelf.specs.Fault.{IfStore, IsNoStore};
 ghost use Rattle.op_shelf.specs.Recording.{IsRecorded, Records};
 ghost use Rattle.op_shelf.specs.States.{IfClean, Spares, IsNotShown, rows_of, digest_cmp};
@@ -84,7 +84,7 @@ pub(crate) fn all_records<S: Alter>(
     ensures all { IfClean S.Store database.old database.new (λ s t.
         IfOk result (λ recorded. Records (rows_of s) recorded.items)) }
     ensures ascending { IfClean S.Store database.old database.new (λ s t.
-        IfOk result (λ recorded. IsSorted digest_cmp (map entry_of recorded.items))) }
+        IfOk result (λ recorded. IsSorted digest_cmp (map own_entry recorded.items))) }
     ensures same { IfClean S.Store database.old database.new (λ s t.
         OnOk result (IsUnchanged s t)) }
     ensures refused { IfClean S.Store database.old database.new (λ s t. OnErr result (Spares s t)) }

@@ -8,7 +8,7 @@ ghost use Rattle.sqlite.specs.State.{IsUnchanged, Survives};
 ghost use Rattle.sqlite.specs.Tree.{Trees};
 ghost use Rattle.operation.specs.Reading.{IsOp};
 ghost use Rattle.operation.specs.Spelling.{digest_of};
-ghost use Rattle.op_shelf.specs.Entries.{Holds, Lists, HasBadRow, entry_of, entry_under, digest_text};
+ghost use Rattle.op_shelf.specs.Entries.{Holds, Lists, HasBadRow, entry_of, entry_under, own_entry, digest_text};
 ghost use Rattle.op_shelf.specs.Fault.{IfStore};
 ghost use Rattle.op_shelf.specs.Loading.{AreAmiss, IsNotLoaded, at_digest};
 ghost use Rattle.op_shelf.specs.Putting.{PutsEntry, PutsGroup};
@@ -131,7 +131,7 @@ impl<S: Alter> Shelf<S> {
         ensures all { IfClean S.Store self.old self.new (λ s t.
             IfOk result (λ recorded. Records (rows_of s) recorded.items)) }
         ensures ascending { IfClean S.Store self.old self.new (λ s t.
-            IfOk result (λ recorded. IsSorted digest_cmp (map entry_of recorded.items))) }
+            IfOk result (λ recorded. IsSorted digest_cmp (map own_entry recorded.items))) }
         ensures same { IfClean S.Store self.old self.new (λ s t. OnOk result (IsUnchanged s t)) }
         ensures refused { IfClean S.Store self.old self.new (λ s t. OnErr result (KeepsAll s t)) }
 

@@ -18,11 +18,14 @@ use Rattle.operation.specs.declared.draft.Draft.{Draft}
 use Rattle.operation.specs.declared.fault.OpFault.{OpFault}
 use Rattle.operation.specs.declared.fault.OpFault.TheVariants.{NoUid, Mismatch, BadSet, BadNote, BadCorrection, TooLong}
 use Rattle.operation.specs.declared.fault.OpFault.TheVariants.{UnknownKind, Memory, Shape}
-use Rattle.operation.specs.Code.{content_code}
+use Rattle.operation.specs.Code.{content_code, text_code}
 use Rattle.operation.specs.Fault.{is_memory, fault_of_note}
-use Rattle.operation.specs.Parts.{ContentParts}
+use Rattle.operation.specs.Drafts.{digest_of_draft}
+use Rattle.operation.specs.Parts.{ContentParts, KeptParts, own_value, with_body}
 use Rattle.operation.specs.Contents.{offence, has_uids, names_itself, note_offence, Describes, IsContent, IsRefused}
-use Rattle.operation.specs.Contents.{IsShort, IsOutcome, SpellsNothing, Offends, values_in, draft_of, kept_of, longest}
+use Rattle.operation.specs.Contents.{IsShort, IsOutcome, SpellsNothing, Offends, values_in, draft_of, kept_of, longest, parts_of}
+use Rattle.dictionary.specs.declared.elements.TheConstants.{SOP_INSTANCE_UID}
+use Rattle.operation.proofs.Bounds.{passed}
 use Rattle.operation.proofs.KeyValueLaws.{kept_names}
 
 -- ---- what offends
@@ -63,13 +66,15 @@ of_a_note draft elements NoReference short spelled e told = (short, (elements, s
 of_a_note draft elements note_memory short spelled e told = tt
 
 -- what passed each test is a content
-pub made : (c : ContentParts) (elements : List Tree) → IsShort (draft_of c) → Spells c.syntax c.body elements
+pub made : (c : ContentParts) (elements : List Tree) → c.digest ≡ digest_of_draft (draft_of c)
+    → IsShort (draft_of c) → Spells c.syntax c.body elements
     → has_uids c.class c.instance elements ≡ true → names_itself c.class c.instance elements ≡ true
     → note_in c.class elements ≡ Ok c.note → c.values ≡ values_in elements → IsContent c
-made c elements short spelled uids names said values =
+made c elements digest short spelled uids names said values =
     ∣ (
       elements,
       record {
+        digest = digest;
         short = short;
         spelled = spelled;
         faultless = of_its_names (draft_of c) elements uids names
@@ -94,24 +99,42 @@ kept_is_outcome draft elements seen values note short spelled same uids names sa
     sym (names ∙ ap (names_itself draft.class draft.instance) same)
     in
     let own = kept_names draft.class draft.instance elements values here names in
-    let given : ContentParts = record {
+    let given : KeptParts = record {
       class = draft.class;
       instance = draft.instance;
       syntax = draft.syntax;
-      body = draft.body;
+      size = length draft.body;
       values = values;
       note = note;
     } in
-    let parts : given ≡ kept_of draft values note =
+    let parts : given ≡ parts_of draft values note =
     λ i. record {
       class = sym own.0 i;
       instance = sym own.1 i;
       syntax = draft.syntax;
-      body = draft.body;
+      size = length draft.body;
       values = values;
       note = note;
     } in
-    (ap draft_of (sym parts), subst IsContent parts (made given elements short spelled uids names said here))
+    let are : with_body given draft.body ≡ kept_of draft values note =
+    ap (λ (k : KeptParts). with_body k draft.body) parts
+    in (
+      ap draft_of (sym are),
+      subst IsContent are (made (with_body given draft.body) elements refl short spelled uids names said here),
+    )
+
+-- ---- what each content keeps true
+
+names_described : (c : ContentParts) (elements : List Tree) → Describes elements c
+    → names_itself c.class c.instance elements ≡ true
+unfolding offence
+names_described c elements d = (passed (has_uids c.class c.instance elements) (names_itself c.class c.instance elements)
+    (note_offence (note_in c.class elements)) d.faultless).1
+
+-- a content's SOP Instance UID is its value of that element
+pub own_instance : (c : ContentParts) → IsContent c → own_value c SOP_INSTANCE_UID ≡ c.instance
+own_instance c is = ∥∥₁_elim is (Coded-set text_code (own_value c SOP_INSTANCE_UID) c.instance)
+    (λ d. (kept_names c.class c.instance d.0 c.values d.1.values (names_described c d.0 d.1)).1)
 
 -- ---- one outcome
 
@@ -191,7 +214,9 @@ described_once a b es us p q e =
     let instance : a.instance ≡ b.instance = ap (λ (d : Draft). d.instance) e in
     let syntax : a.syntax ≡ b.syntax = ap (λ (d : Draft). d.syntax) e in
     let body : a.body ≡ b.body = ap (λ (d : Draft). d.body) e in
+    let digest : a.digest ≡ b.digest = p.digest ∙ ap digest_of_draft e ∙ sym q.digest in
     λ i. record {
+      digest = digest i;
       class = class i;
       instance = instance i;
       syntax = syntax i;

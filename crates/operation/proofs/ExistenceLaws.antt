@@ -21,6 +21,7 @@ use Rattle.operation.specs.declared.fault.OpFault.TheVariants.{NoUid, Mismatch, 
 use Rattle.operation.specs.declared.fault.OpFault.TheVariants.{UnknownKind, Shape}
 use Rattle.operation.specs.declared.op.Op.{Op}
 use Rattle.operation.specs.declared.op.Op.TheVariants.{Content as a_content, Correction as a_correction}
+use Rattle.operation.specs.Drafts.{digest_of_draft}
 use Rattle.operation.specs.Parts.{ContentParts, CorrectionParts}
 use Rattle.operation.specs.Contents.{IsContent, IsRefused, IsShort, draft_of, has_uids, longest, names_itself}
 use Rattle.operation.specs.Contents.{note_offence, values_in}
@@ -41,6 +42,7 @@ by_note : (d : Draft) (elements : List Tree) → IsShort d → Spells d.syntax d
 by_note d elements short spelled uids names (Ok note) said =
     let c : ContentParts =
     record {
+      digest = digest_of_draft d;
       class = d.class;
       instance = d.instance;
       syntax = d.syntax;
@@ -49,7 +51,7 @@ by_note d elements short spelled uids names (Ok note) said =
       note = note;
     }
     in
-    inl (c, refl, made c elements short spelled uids names said refl)
+    inl (c, refl, made c elements refl short spelled uids names said refl)
 by_note d elements short spelled uids names (Err f) said =
     inr (BadNote, (short, (elements, spelled, of_its_names d elements uids names ∙ ap note_offence said)))
 

@@ -1,6 +1,7 @@
 pub mod Bounds
 pub mod TagLaws
 pub mod ContentLaws
+pub mod DigestLaws
 pub mod ExistenceLaws
 pub mod KeyValueLaws
 pub mod OutcomeLaws

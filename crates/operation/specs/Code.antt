@@ -56,18 +56,18 @@ note_code = code_by (NoteTitle × List (List ℕ)) (coded× title_code (coded_li
 
 abbrev pub content_code : Coded ContentParts
 content_code =
-    code_by (List ℕ × (List ℕ × (Syntax × (List ℕ × (List (ℕ × List ℕ) × Option Note)))))
-    (coded× text_code (coded× text_code (coded× syntax_code
-    (coded× text_code (coded× (coded_list (coded× coded_ℕ text_code)) (coded_option note_code))))))
-    (λ c. (c.class, (c.instance, (c.syntax, (c.body, (c.values, c.note))))))
+    code_by (List ℕ × (List ℕ × (List ℕ × (Syntax × (List ℕ × (List (ℕ × List ℕ) × Option Note))))))
+    (coded× text_code (coded× text_code (coded× text_code (coded× syntax_code
+    (coded× text_code (coded× (coded_list (coded× coded_ℕ text_code)) (coded_option note_code)))))))
+    (λ c. (c.digest, (c.class, (c.instance, (c.syntax, (c.body, (c.values, c.note)))))))
     (λ p. record {
-      class = p.0;
-      instance = p.1.0;
-      syntax = p.1.1.0;
-      body = p.1.1.1.0;
-      values = p.1.1.1.1.0;
-      note =
-          p.1.1.1.1.1;
+      digest = p.0;
+      class = p.1.0;
+      instance = p.1.1.0;
+      syntax = p.1.1.1.0;
+      body = p.1.1.1.1.0;
+      values = p.1.1.1.1.1.0;
+      note = p.1.1.1.1.1.1;
     })
     (λ _. refl)
 

@@ -19,7 +19,8 @@ use Rattle.rejection_note.specs.Notes.{note_in}
 use Rattle.operation.specs.declared.draft.Draft.{Draft}
 use Rattle.operation.specs.declared.fault.OpFault.{OpFault}
 use Rattle.operation.specs.declared.fault.OpFault.TheVariants.{NoUid, Mismatch, BadSet, BadNote, TooLong}
-use Rattle.operation.specs.Parts.{ContentParts, value_at, value_or_empty}
+use Rattle.operation.specs.Drafts.{digest_of_draft}
+use Rattle.operation.specs.Parts.{ContentParts, KeptParts, value_at, value_or_empty, with_body}
 
 -- the most bytes of a data set
 abbrev pub longest : ℕ
@@ -77,18 +78,23 @@ abbrev pub draft_of : ContentParts → Draft
 draft_of c = record { class = c.class; instance = c.instance; syntax = c.syntax; body = c.body }
 
 -- what is kept of a draft: its class and its instance are among the values
-abbrev pub kept_of : Draft → List (ℕ × List ℕ) → Option Note → ContentParts
-kept_of draft values note = record {
+abbrev pub parts_of : Draft → List (ℕ × List ℕ) → Option Note → KeptParts
+parts_of draft values note = record {
   class = value_or_empty (value_at SOP_CLASS_UID values);
   instance = value_or_empty (value_at SOP_INSTANCE_UID values);
   syntax = draft.syntax;
-  body = draft.body;
+  size = length draft.body;
   values = values;
   note = note;
 }
 
+-- and with its bytes
+abbrev pub kept_of : Draft → List (ℕ × List ℕ) → Option Note → ContentParts
+kept_of draft values note = with_body (parts_of draft values note) draft.body
+
 -- These are the elements of a content.
 pub record Describes (elements : List Tree) (content : ContentParts) : Type 0 where
+  pub digest : content.digest ≡ digest_of_draft (draft_of content)
   pub short : IsShort (draft_of content)
   pub spelled : Spells content.syntax content.body elements
   pub faultless : offence (draft_of content) elements ≡ None

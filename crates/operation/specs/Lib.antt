@@ -1,6 +1,7 @@
 pub mod Code
 pub mod Contents
 pub mod Corrections
+pub mod Drafts
 pub mod Fault
 pub mod Front
 pub mod KeyValues

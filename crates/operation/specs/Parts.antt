@@ -2,14 +2,17 @@
 use Rattle.std.specs.Prelude.{ℕ, List, [], ◌∷◌, Option, Some, None, ◌==◌, if◌then◌else◌}
 use Rattle.data_set.specs.declared.syntax.Syntax.{Syntax}
 use Rattle.rejection_note.specs.declared.note.Note.{Note}
+use Rattle.operation.specs.declared.draft.Draft.{Draft}
 use Rattle.operation.specs.declared.stamp.Stamp.{Stamp}
 use Rattle.operation.specs.declared.target.Target.{Target}
 use Rattle.operation.specs.declared.target.Target.TheVariants.{Study, Patient, Series}
+use Rattle.operation.specs.Drafts.{digest_of_draft}
 
 -- a stored data set with its SOP class, its SOP instance and its transfer syntax, and what is asked of it again and
 -- again:
--- the trimmed values of its elements that queries know, by ascending tag, and what it says as a rejection note
+-- its digest, the trimmed values of its elements that queries know, by ascending tag, and what it says as a rejection note
 pub record ContentParts : Type 0 where
+  pub digest : List ℕ
   pub class : List ℕ
   pub instance : List ℕ
   pub syntax : Syntax
@@ -26,9 +29,15 @@ pub record KeptParts : Type 0 where
   pub values : List (ℕ × List ℕ)
   pub note : Option Note
 
--- the same with its bytes
-abbrev pub with_body : KeptParts → List ℕ → ContentParts
-with_body kept body = record {
+-- the draft of these bytes
+abbrev pub draft_with : KeptParts → List ℕ → Draft
+draft_with kept body =
+    record { class = kept.class; instance = kept.instance; syntax = kept.syntax; body = body }
+
+-- the same under a digest
+abbrev pub with_digest : List ℕ → KeptParts → List ℕ → ContentParts
+with_digest digest kept body = record {
+  digest = digest;
   class = kept.class;
   instance = kept.instance;
   syntax = kept.syntax;
@@ -36,6 +45,10 @@ with_body kept body = record {
   values = kept.values;
   note = kept.note;
 }
+
+-- the same with its bytes, under their digest
+abbrev pub with_body : KeptParts → List ℕ → ContentParts
+with_body kept body = with_digest (digest_of_draft (draft_with kept body)) kept body
 
 -- a stamped value for one attribute of a study, a patient or a series
 pub record CorrectionParts : Type 0 where

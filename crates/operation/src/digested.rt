@@ -1,7 +1,7 @@
 //! Operations with their digests.
 
 ghost use Rattle.std.specs.Prelude.{◌≡◌, IfOk};
-ghost use Rattle.operation.specs.Spelling.{digest_of};
+ghost use Rattle.operation.specs.Spelling.{digest_of, hash_of};
 
 use crate::digests::Digest;
 use crate::hashing::digest;
@@ -20,7 +20,7 @@ impl Model for Digested {
     ghost use Rattle.std.specs.Prelude.{◌≡◌};
     ghost use Rattle.operation.specs.declared.op.Op.{Op};
     ghost use Rattle.operation.specs.OpCode.{op_code};
-    ghost use Rattle.operation.specs.Spelling.{digest_of};
+    ghost use Rattle.operation.specs.Spelling.{digest_of, hash_of};
 
     ghost Value = { Op };
 
@@ -28,7 +28,7 @@ impl Model for Digested {
 
     ghost view = { λ d. d.op };
 
-    ghost invariant = { λ d. d.digest ≡ digest_of d.op };
+    ghost invariant = { λ d. (d.digest ≡ digest_of d.op) × (d.digest ≡ hash_of d.op) };
 }
 
 impl Digested {
@@ -42,7 +42,8 @@ impl Digested {
 
     /// The SHA-256 of the operation's spelling (FIPS 180-4).
     pub fn digest(&self) -> &Digest
-        ensures { result.now ≡ digest_of self.now }
+        ensures own { result.now ≡ digest_of self.now }
+        ensures hash { result.now ≡ hash_of self.now }
     {
         &self.digest
     }
@@ -63,6 +64,7 @@ impl Digested {
     /// The digest and the operation.
     pub fn into_parts(self) -> (Digest, Op)
         ensures digest { result.0 ≡ digest_of self }
+        ensures hash { result.0 ≡ hash_of self }
         ensures op { result.1 ≡ self }
     {
         (self.digest, self.op)

@@ -4,7 +4,7 @@ ghost use Rattle.std.specs.Prelude.{◌≡◌, ◌++◌, ◌∷◌, [], List, �
 ghost use Rattle.sha2.specs.Sha256.{sha256};
 ghost use Rattle.sha2.specs.Hashers.{Holds256};
 ghost use Rattle.operation.specs.Parts.{key_of};
-ghost use Rattle.operation.specs.Spelling.{digest_of, content_text, correction_text, short_text, target_text};
+ghost use Rattle.operation.specs.Spelling.{digest_of, hash_of, content_text, correction_text, short_text, target_text};
 
 use crate::content::Content;
 use crate::correction::Correction;
@@ -91,12 +91,22 @@ fn correction_digest(correction: &Correction) -> Digest
 }
 
 /// SHA-256 of the operation's spelling (FIPS 180-4), which is not built for it.
-#[tactic(auto, unfolding(crate::specs::Spelling::digest_of, crate::specs::Spelling::spelling))]
-pub fn digest(op: &Op) -> Digest
-    ensures { result ≡ digest_of op.now }
+#[tactic(auto, unfolding(crate::specs::Spelling::hash_of, crate::specs::Spelling::spelling))]
+fn hash(op: &Op) -> Digest
+    ensures { result ≡ hash_of op.now }
 {
     match op {
         Op::Content(content) => content_digest(content),
         Op::Correction(correction) => correction_digest(correction),
     }
+}
+
+/// The digest of an operation, which is the SHA-256 of its spelling (FIPS 180-4). That is not built
+/// for it.
+pub fn digest(op: &Op) -> Digest
+    ensures own { result ≡ digest_of op.now }
+    ensures hash { result ≡ hash_of op.now }
+{
+    op.see_lawful();
+    hash(op)
 }

@@ -40,7 +40,7 @@ pub use laws::{
 };
 pub use op::Op;
 pub use record::Record;
-pub use record_laws::a_record_names_one_operation;
+pub use record_laws::{a_digest_is_a_hash, a_record_names_one_operation};
 pub use stamp::Stamp;
 pub use taken::Taken;
 pub use target::Target;

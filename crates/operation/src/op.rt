@@ -1,6 +1,8 @@
 //! Operations.
 
 ghost use Rattle.std.specs.Prelude.{◌≡◌, ◌↔◌, IfOk, IsTrue};
+ghost use Rattle.operation.specs.Reading.{IsOp};
+ghost use Rattle.operation.specs.Spelling.{digest_of, hash_of};
 
 use crate::content::Content;
 use crate::correction::Correction;
@@ -21,6 +23,22 @@ impl Op {
         match self {
             Op::Content(content) => Ok(Op::Content(content.copy(alloc)?)),
             Op::Correction(correction) => Ok(Op::Correction(correction.copy(alloc)?)),
+        }
+    }
+
+    /// It can be taken, and its digest is the hash of its spelling. Nothing is done: this is a fact
+    /// for callers.
+    pub fn see_lawful(&self)
+        ensures lawful { IsOp self.now }
+        ensures digest { digest_of self.now ≡ hash_of self.now }
+    {
+        match self {
+            Op::Content(content) => {
+                let _ = content.body();
+            }
+            Op::Correction(correction) => {
+                let _ = correction.stamp();
+            }
         }
     }
 

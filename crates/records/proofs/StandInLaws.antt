@@ -1,56 +1,66 @@
 -- What stands for operations has their digest, and the same is kept of it.
 use Rattle.std.proofs.Common.{◌≡◌, ◌≤◌, ℕ, List, true, Option, Some, None, refl, sym, ap, subst, ◌∙◌, length}
 use Rattle.std.specs.List.{find}
-use Rattle.std.specs.Coded.{Coded-set, le_prop}
-use Rattle.std.proofs.Math.Logic.{∥∥₁_elim, ∥∥₁_map}
 use Rattle.std.proofs.lemmas.Bool.{false≢true}
+use Rattle.std.proofs.lemmas.List.{length-replicate}
+use Rattle.std.specs.Cmp.Lexicographic.{bytes_decides}
 use Rattle.octets.specs.Bytes.{IsBytes}
 use Rattle.octets.proofs.TextLemmas.{tied_texts}
-use Rattle.std.specs.Cmp.Lexicographic.{bytes_decides}
 use Rattle.operation.specs.declared.op.Op.{Op}
 use Rattle.operation.specs.declared.op.Op.TheVariants.{Content as a_content, Correction as a_correction}
-use Rattle.operation.specs.Parts.{ContentParts, KeptParts, with_body, value_or_empty}
+use Rattle.operation.specs.Contents.{IsContent, draft_of}
+use Rattle.operation.specs.Drafts.{digest_of_draft}
+use Rattle.operation.specs.Parts.{ContentParts, KeptParts, draft_with}
 use Rattle.operation.specs.RecordParts.{ContentRecordParts, content_record}
-use Rattle.operation.specs.Code.{content_code}
 use Rattle.operation.specs.Records.{record_of}
 use Rattle.operation.specs.declared.record.Record.TheVariants.{Content as kept_content}
-use Rattle.operation.specs.Spelling.{digest_of}
-use Rattle.operation.proofs.Bounds.{class_short, instance_short}
-use Rattle.records.specs.StandIn.{kept_of, has_digest, body_under, stand_in, op_in, content_of}
-use Rattle.records.specs.StandIn.{IsRecord, IsStandIn, IsWhole, IsWholeOp}
-use Rattle.records.specs.Laws.{StandInHasRecord, StandInIsOne, StandInIsOfRecord, StandsForItself}
-use Rattle.records.specs.Code.{record_code}
+use Rattle.operation.specs.Spelling.{digest_of, hash_of}
+use Rattle.operation.proofs.Bounds.{body_short, class_short, instance_short}
+use Rattle.operation.proofs.ContentLaws.{own_instance}
+use Rattle.operation.proofs.DigestLaws.{digest_again, digest_is, digest_is_bytes, digest_long, draft_hash, own_digest}
+use Rattle.records.specs.StandIn.{kept_of, has_digest, found_or_zeros, body_under, stand_in, op_in, content_of, kept_in, zeros}
+use Rattle.records.specs.StandIn.{IsRecord, IsStandIn, IsWhole}
+use Rattle.records.specs.Laws.{StandInHasHash, StandInHasRecord, StandInIsOne, StandInIsOfRecord, StandsForItself}
 use Rattle.records.specs.Strings.{strings}
 use Rattle.records.proofs.StringLaws.{found_has, none_has, strings_have, strings_long}
 
 -- ---- the bytes that are found
 
--- the bytes of a content have its digest
-pub own_bytes : (c : ContentParts) → has_digest (digest_of (a_content c)) (kept_of c) c.body ≡ true
-own_bytes c = (bytes_decides (digest_of (a_content c)) (digest_of (a_content c))).1 refl
+zeros_long : (n : ℕ) → length (zeros n) ≡ n
+zeros_long n = let zero : ℕ = 0 in length-replicate n zero
 
--- these are so many bytes, and have a digest
-record AreUnder (digest : List ℕ) (kept : KeptParts) (body : List ℕ) : Type 0 where
-  long : length body ≡ kept.size
-  under : digest_of (a_content (with_body kept body)) ≡ digest
+found_long : (digest : List ℕ) (kept : KeptParts) (r : Option (List ℕ))
+    → find (has_digest digest kept) (strings kept.size) ≡ r → length (found_or_zeros kept.size r) ≡ kept.size
+found_long digest kept None e = zeros_long kept.size
+found_long digest kept (Some body) e =
+    strings_long kept.size body (found_has (has_digest digest kept) (strings kept.size) body e).0
+
+-- they are as many as the record says
+pub under_long : (digest : List ℕ) (kept : KeptParts) → length (body_under digest kept) ≡ kept.size
+unfolding body_under
+under_long digest kept = found_long digest kept (find (has_digest digest kept) (strings kept.size)) refl
+
+-- the bytes of a content have its digest
+pub own_bytes : (c : ContentParts) → has_digest (digest_of_draft (draft_of c)) (kept_of c) c.body ≡ true
+own_bytes c = (bytes_decides (digest_of_draft (draft_of c)) (digest_of_draft (draft_of c))).1 refl
 
 found_first : (c : ContentParts) → IsBytes c.body → (r : Option (List ℕ))
-    → find (has_digest (digest_of (a_content c)) (kept_of c)) (strings (length c.body)) ≡ r
-    → AreUnder (digest_of (a_content c)) (kept_of c) (value_or_empty r)
+    → find (has_digest (digest_of_draft (draft_of c)) (kept_of c)) (strings (length c.body)) ≡ r
+    → digest_of_draft (draft_with (kept_of c) (found_or_zeros (length c.body) r)) ≡ digest_of_draft (draft_of c)
 found_first c fits None e =
-    absurd (false≢true (sym (none_has (has_digest (digest_of (a_content c)) (kept_of c)) (strings (length c.body)) c.body e
-    (strings_have c.body fits)) ∙ own_bytes c))
+    absurd (false≢true (sym (none_has (has_digest (digest_of_draft (draft_of c)) (kept_of c)) (strings (length c.body))
+    c.body e (strings_have c.body fits)) ∙ own_bytes c))
 found_first c fits (Some body) e =
-    let there = found_has (has_digest (digest_of (a_content c)) (kept_of c)) (strings (length c.body)) body e in
-    record {
-      long = strings_long (length c.body) body there.0;
-      under = tied_texts (digest_of (a_content (with_body (kept_of c) body))) (digest_of (a_content c)) there.1;
-    }
+    tied_texts (digest_of_draft (draft_with (kept_of c) body)) (digest_of_draft (draft_of c))
+    (found_has (has_digest (digest_of_draft (draft_of c)) (kept_of c)) (strings (length c.body)) body e).1
 
+-- those that are found under the digest of a content's bytes have it too
 found : (c : ContentParts) → IsBytes c.body
-    → AreUnder (digest_of (a_content c)) (kept_of c) (body_under (digest_of (a_content c)) (kept_of c))
+    → digest_of_draft (draft_with (kept_of c) (body_under (digest_of_draft (draft_of c)) (kept_of c)))
+    ≡ digest_of_draft (draft_of c)
 unfolding body_under
-found c fits = found_first c fits (find (has_digest (digest_of (a_content c)) (kept_of c)) (strings (length c.body))) refl
+found c fits =
+    found_first c fits (find (has_digest (digest_of_draft (draft_of c)) (kept_of c)) (strings (length c.body))) refl
 
 -- ---- contents
 
@@ -67,55 +77,76 @@ record_under kept digest size = record {
 }
 
 -- what stands for a content has its record
-pub has_record : (c : ContentParts) → IsBytes c.body → content_record (stand_in c) ≡ content_record c
-has_record c fits =
-    let is = found c fits in
-    ap (λ (d : List ℕ). record_under (kept_of c) d (length (stand_in c).body)) is.under
-    ∙ ap (λ (n : ℕ). record_under (kept_of c) (digest_of (a_content c)) n) is.long
+pub has_record : (c : ContentParts) → content_record (stand_in c) ≡ content_record c
+has_record c =
+    ap (λ (d : List ℕ). record_under (kept_of c) d (length (stand_in c).body)) (digest_again c.digest)
+    ∙ ap (λ (n : ℕ). record_under (kept_of c) (digest_of (a_content c)) n)
+    (under_long (digest_of (a_content c)) (kept_of c))
 
 -- a record is that of what stands for it
 pub of_record : (r : ContentRecordParts) → IsRecord r → content_record (content_of r) ≡ r
-of_record r is = ∥∥₁_elim is (Coded-set record_code (content_record (content_of r)) r) (λ w.
-    subst (λ (q : ContentRecordParts). content_record (content_of q) ≡ q) w.2 (has_record w.0 w.1.1))
+of_record r is =
+    ap (λ (d : List ℕ). record_under (kept_in r) d (length (content_of r).body))
+    (digest_is r.digest is.digest.long is.digest.bytes)
+    ∙ ap (λ (n : ℕ). record_under (kept_in r) r.digest n) (under_long r.digest (kept_in r))
 
 -- what stands for a content with this record stands for it
 pub stands_again : (c : ContentParts) (r : ContentRecordParts) → content_record c ≡ r → stand_in c ≡ content_of r
 stands_again c r e = ap content_of e
 
--- what stands for others stands for itself
-pub itself : (c : ContentParts) → IsStandIn c → stand_in c ≡ c
-itself c is = ∥∥₁_elim is (Coded-set content_code (stand_in c) c) (λ w.
-    ap stand_in (sym w.2) ∙ ap content_of (has_record w.0 w.1.1) ∙ w.2)
+-- what stands for a content stands for itself
+pub stands_once : (c : ContentParts) → stand_in (stand_in c) ≡ stand_in c
+stands_once c = ap content_of (has_record c)
 
 -- contents that stand for one record are one
 pub one_of_record : (c d : ContentParts) → IsStandIn c → IsStandIn d → content_record c ≡ content_record d → c ≡ d
-one_of_record c d is others e = sym (itself c is) ∙ ap content_of e ∙ itself d others
+one_of_record c d is others e = sym is.stands ∙ ap content_of e ∙ others.stands
 
 -- what stands for a record does for a content
 pub record_stands : (r : ContentRecordParts) → IsRecord r → IsStandIn (content_of r)
-record_stands r is = ∥∥₁_map is (λ w. (w.0, w.1, ap content_of w.2))
+record_stands r is =
+    record { stands = ap content_of (of_record r is); lawful = subst IsRecord (sym (of_record r is)) is }
+
+-- the record of a content is lawful
+pub is_record : (c : ContentParts) → IsContent c → IsRecord (content_record c)
+is_record c is = record {
+  digest = record { long = digest_long (a_content c); bytes = digest_is_bytes (a_content c) };
+  class = class_short c is;
+  instance = instance_short c is;
+  named = own_instance c is;
+  short = body_short c is;
+}
 
 -- its class and its instance are UIDs
 pub class_of_uid : (c : ContentParts) → IsStandIn c → length c.class ≤ 64
-class_of_uid c is = ∥∥₁_elim is le_prop (λ w.
-    subst (λ (q : ContentParts). length q.class ≤ 64) w.2 (class_short w.0 w.1.0))
+class_of_uid c is = is.lawful.class
 
 pub instance_of_uid : (c : ContentParts) → IsStandIn c → length c.instance ≤ 64
-instance_of_uid c is = ∥∥₁_elim is le_prop (λ w.
-    subst (λ (q : ContentParts). length q.instance ≤ 64) w.2 (instance_short w.0 w.1.0))
+instance_of_uid c is = is.lawful.instance
+
+-- what stands for a content of bytes has its hash
+stands_hash : (c : ContentParts) → IsWhole c → hash_of (a_content (stand_in c)) ≡ hash_of (a_content c)
+stands_hash c is =
+    sym (draft_hash (stand_in c))
+    ∙ ap (λ (d : List ℕ). digest_of_draft (draft_with (kept_of c) (body_under d (kept_of c)))) (own_digest (a_content c) is.0 ∙ sym (draft_hash c))
+    ∙ found c is.1 ∙ draft_hash c
 
 -- ---- operations
 
 pub op_has_record : StandInHasRecord
-op_has_record (a_content c) is = ap kept_content (has_record c is.1)
-op_has_record (a_correction k) is = refl
+op_has_record (a_content c) = ap kept_content (has_record c)
+op_has_record (a_correction k) = refl
 
-pub digest_kept : (op : Op) → IsWholeOp op → digest_of (op_in op) ≡ digest_of op
-digest_kept (a_content c) is = ap (λ (r : ContentRecordParts). r.digest) (has_record c is.1)
-digest_kept (a_correction k) is = refl
+pub digest_kept : (op : Op) → digest_of (op_in op) ≡ digest_of op
+digest_kept (a_content c) = digest_again c.digest
+digest_kept (a_correction k) = refl
+
+pub op_has_hash : StandInHasHash
+op_has_hash (a_content c) is = stands_hash c is
+op_has_hash (a_correction k) is = refl
 
 pub op_is_one : StandInIsOne
-op_is_one op is apart = sym (apart (sym (digest_kept op is)))
+op_is_one op is apart = apart (op_has_hash op is)
 
 kept_contents : (r s : ContentRecordParts) → kept_content r ≡ kept_content s → r ≡ s
 kept_contents r s e = cc
@@ -128,13 +159,14 @@ alone (a_correction k) (a_content c) e = absurd cc
 alone (a_correction j) (a_correction k) e = ap a_correction cc
 
 pub op_is_of_record : StandInIsOfRecord
-op_is_of_record op other is others =
-    (alone op other, λ e. sym (op_has_record op is) ∙ ap record_of e ∙ op_has_record other others)
+op_is_of_record op other =
+    (alone op other, λ e. sym (op_has_record op) ∙ ap record_of e ∙ op_has_record other)
 
 -- an operation that is recorded stands for one
-pub stands_in : (c : ContentParts) → IsWhole c → IsStandIn (stand_in c)
-stands_in c is = ∣ (c, is, refl) ∣₁
+pub stands_in : (c : ContentParts) → IsContent c → IsStandIn (stand_in c)
+stands_in c is =
+    record { stands = stands_once c; lawful = subst IsRecord (sym (has_record c)) (is_record c is) }
 
 pub op_itself : StandsForItself
-op_itself (a_content c) is = ap a_content (itself c is)
+op_itself (a_content c) is = ap a_content is.stands
 op_itself (a_correction k) is = refl

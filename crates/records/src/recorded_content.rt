@@ -66,7 +66,7 @@ impl RecordedContent {
         requires own { digest.now ≡ digest_of (a_content content.now) }
         ensures { IfOk result (λ recorded. recorded ≡ stand_in content.now) }
     {
-        see_bytes(content.body().as_slice());
+        let _ = content.body();
         Ok(RecordedContent {
             record: Arc::new(alloc, ContentRecord::of(digest, content)?)?,
         })
@@ -154,7 +154,8 @@ impl RecordedContent {
         self.record().equals(other.record())
     }
 
-    /// Some content has this record. Nothing is done: this is a fact for callers.
+    /// Its record is lawful, and it stands for those that have it. Nothing is done: this is a fact for
+    /// callers.
     pub fn see_recorded(&self)
         ensures { IsStandIn self.now }
     {

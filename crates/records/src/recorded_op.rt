@@ -159,7 +159,7 @@ impl RecordedOp {
         }
     }
 
-    /// Some operation has this record. Nothing is done: this is a fact for callers.
+    /// It stands for the operations of its record. Nothing is done: this is a fact for callers.
     pub fn see_recorded(&self)
         ensures { IsOpIn self.now }
     {

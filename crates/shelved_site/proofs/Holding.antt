@@ -7,14 +7,14 @@ use Rattle.body_log.specs.Lasts.{Spares}
 use Rattle.head_log.proofs.Texts.{once}
 use Rattle.sha2.specs.Sha256.{sha256}
 use Rattle.operation.specs.declared.op.Op.{Op}
-use Rattle.operation.specs.Spelling.{digest_of, spelling}
+use Rattle.operation.specs.Spelling.{hash_of, spelling}
 use Rattle.op_log.specs.Heads.{Entry, Head, body_of, head_of}
 use Rattle.op_log.proofs.Lookups.{among, still_first}
 use Rattle.op_log.specs.Kept.{Has, IsBelow, IsHeld}
 
 -- operations that are spelled alike have one digest
-pub one_digest : (a b : Op) → spelling a ≡ spelling b → digest_of a ≡ digest_of b
-unfolding digest_of
+pub one_digest : (a b : Op) → spelling a ≡ spelling b → hash_of a ≡ hash_of b
+unfolding hash_of
 one_digest a b same = ap sha256 same
 
 -- a file has, at an offset, the bytes that it has there
@@ -46,11 +46,11 @@ module _ {B : Type 0} (g : Ghosts B) (old new : B) (end end' : ℕ) (spared : Sp
   -- an operation goes on to be had
   pub has_on : (heads more : List Head) (op : Op) → Has g old end heads op → Has g new end' (heads ++ more) op
   has_on heads more op (at, first, held) =
-      (at, still_first heads more (digest_of op) (head_of (op, at)) first, held_on (op, at) held)
+      (at, still_first heads more (hash_of op) (head_of (op, at)) first, held_on (op, at) held)
 
   -- and none that was not had before is had under the same heads
   pub has_back : (heads : List Head) (op : Op) → end ≤ length (g.seen old) → All (IsBelow end) heads → Has g new end' heads op
       → Has g old end heads op
   has_back heads op reach below (at, first, held) =
-      let low = among (IsBelow end) heads (digest_of op) (head_of (op, at)) first below in
+      let low = among (IsBelow end) heads (hash_of op) (head_of (op, at)) first below in
       (at, first, λ some. (back g end old new spared reach at (body_of op) low (held some).0, low))

@@ -8,7 +8,7 @@ use Rattle.sqlite_disk.specs.Disk.{Holds}
 use Rattle.sqlite_disk.specs.declared.Disk.{Ghosts}
 use Rattle.head_log.proofs.Texts.{once}
 use Rattle.operation.specs.declared.op.Op.{Op}
-use Rattle.operation.specs.Spelling.{digest_of, spelling}
+use Rattle.operation.specs.Spelling.{hash_of, spelling}
 use Rattle.op_log.specs.declared.kept.Kept.{Kept as Told}
 use Rattle.op_log.specs.declared.kept.Kept.TheVariants as told
 use Rattle.op_log.specs.Heads.{Head, body_of, front_of, head_of}
@@ -51,7 +51,7 @@ module _ {B : Type 0} (g : Ghosts B) (disk : B) (end : ℕ) where
       sym (both_parts a) ∙ ap (λ (text : List ℕ). text ++ body_of a) fronts ∙ ap (λ (text : List ℕ). front_of b ++ text) bodies ∙ both_parts b
 
   -- an operation whose digest has no head is not had
-  pub absent : (heads : List Head) (op : Op) → first_under (digest_of op) heads ≡ None → ¬ Have heads op
+  pub absent : (heads : List Head) (op : Op) → first_under (hash_of op) heads ≡ None → ¬ Have heads op
   absent heads op none (other, (at, first, held), same) =
       let found = ap (λ (d : List ℕ). first_under d heads) (one_digest op other same) ∙ first in
       let both : None ≡ Some (head_of (other, at)) = sym none ∙ found in
@@ -60,32 +60,32 @@ module _ {B : Type 0} (g : Ghosts B) (disk : B) (end : ℕ) where
   -- what is had behind a new head is that of it, or was had
   behind : (held : Op → Type 0) (heads : List Head) (op other : Op) (at : ℕ) → IsOf held heads → IsHeld g disk end (op, at)
       → Have (heads ++ head_of (op, at) ∷ []) other → held other ⊎ (spelling other ≡ spelling op)
-  behind held heads op other at is lies (it, (at', first, lies'), same) = by (first_under (digest_of it) heads) refl
+  behind held heads op other at is lies (it, (at', first, lies'), same) = by (first_under (hash_of it) heads) refl
     where
-      found : (h : Head) → first_under (digest_of it) heads ≡ Some h → h ≡ head_of (it, at')
+      found : (h : Head) → first_under (hash_of it) heads ≡ Some h → h ≡ head_of (it, at')
       found h was =
-          let both : Some h ≡ Some (head_of (it, at')) = sym (still_first heads (head_of (op, at) ∷ []) (digest_of it) h was) ∙ first in
+          let both : Some h ≡ Some (head_of (it, at')) = sym (still_first heads (head_of (op, at) ∷ []) (hash_of it) h was) ∙ first in
           cc
 
       last : (b : Bool) → cond b (Some (head_of (op, at))) None ≡ Some (head_of (it, at')) → head_of (op, at) ≡ head_of (it, at')
       last true is = cc
       last false is = absurd cc
 
-      by : (o : Option Head) → first_under (digest_of it) heads ≡ o → held other ⊎ (spelling other ≡ spelling op)
+      by : (o : Option Head) → first_under (hash_of it) heads ≡ o → held other ⊎ (spelling other ≡ spelling op)
       by (Some h) was = inl ((is other).1 (it, (at', was ∙ ap (λ (x : Head). Some x) (found h was), lies'), same))
       by None was =
-          let here = last (pointwise nat_eq (digest_of it) (digest_of op)) (sym (first_behind heads (head_of (op, at) ∷ []) (digest_of it) was) ∙ first) in
+          let here = last (pointwise nat_eq (hash_of it) (hash_of op)) (sym (first_behind heads (head_of (op, at) ∷ []) (hash_of it) was) ∙ first) in
           inr (same ∙ sym (one_spelling op it at at' here lies lies'))
 
   -- one head more
-  more_of : (held : Op → Type 0) (heads : List Head) (op : Op) (at : ℕ) → IsOf held heads → first_under (digest_of op) heads ≡ None
+  more_of : (held : Op → Type 0) (heads : List Head) (op : Op) (at : ℕ) → IsOf held heads → first_under (hash_of op) heads ≡ None
       → IsHeld g disk end (op, at) → IsOf (with_one held op) (heads ++ head_of (op, at) ∷ [])
   more_of held heads op at is none lies other = (
     elim [
       | inl was ↦
           let it = (is other).0 was in
-          (it.0, (it.1.0, still_first heads (head_of (op, at) ∷ []) (digest_of it.0) (head_of (it.0, it.1.0)) it.1.1, it.1.2), it.2)
-      | inr alike ↦ (op, (at, first_behind heads (head_of (op, at) ∷ []) (digest_of op) none ∙ own (head_of (op, at)), lies), alike)
+          (it.0, (it.1.0, still_first heads (head_of (op, at) ∷ []) (hash_of it.0) (head_of (it.0, it.1.0)) it.1.1, it.1.2), it.2)
+      | inr alike ↦ (op, (at, first_behind heads (head_of (op, at) ∷ []) (hash_of op) none ∙ own (head_of (op, at)), lies), alike)
     ],
     behind held heads op other at is lies,
   )
@@ -124,7 +124,7 @@ module _ {B : Type 0} (g : Ghosts B) (disk : B) (end : ℕ) where
 
   has_still : (heads more new : List Head) (op : Op) → new ≡ heads ++ more → Has g disk end heads op → Has g disk end new op
   has_still heads more new op is (at, first, lies) =
-      subst (λ (hs : List Head). Has g disk end hs op) (sym is) (at, still_first heads more (digest_of op) (head_of (op, at)) first, lies)
+      subst (λ (hs : List Head). Has g disk end hs op) (sym is) (at, still_first heads more (hash_of op) (head_of (op, at)) first, lies)
 
   -- and each operation of the group is had
   pub puts_had : (old new : List Head) (ops : List Op) (kepts : List Told) → IsTrue (g.is_clean disk) → PutsAll g disk end old ops kepts new
@@ -135,7 +135,7 @@ module _ {B : Type 0} (g : Ghosts B) (disk : B) (end : ℕ) where
   puts_had old new (op ∷ ops) (told.New ∷ kepts) clean (mid, (none, (at, mid_is, spelled, lies)), rest) =
       let (more, is) = puts_more mid new ops kepts rest in
       let here : Has g disk end mid op =
-      subst (λ (hs : List Head). Has g disk end hs op) (sym mid_is) (at, first_behind old (head_of (op, at) ∷ []) (digest_of op) none ∙ own (head_of (op, at)), lies) in
+      subst (λ (hs : List Head). Has g disk end hs op) (sym mid_is) (at, first_behind old (head_of (op, at) ∷ []) (hash_of op) none ∙ own (head_of (op, at)), lies) in
       All-cons (Has g disk end new) op ops (has_still mid more new op is here) (puts_had mid new ops kepts clean rest)
   puts_had old new (op ∷ ops) (told.Known ∷ kepts) clean (mid, (there, same), rest) =
       let (more, is) = puts_more mid new ops kepts rest in

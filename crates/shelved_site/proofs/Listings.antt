@@ -12,9 +12,11 @@ use Rattle.op_log.specs.Heads.{Head, body_of}
 use Rattle.op_log.specs.Kept.{Has, HaveOwnDigests, IsBelow, first_under}
 use Rattle.op_log.specs.Loaded.{IsOf}
 use Rattle.op_log.specs.Loaded.{Lists as ListsHeads}
+use Rattle.op_log.specs.Recorded.{Records}
 use Rattle.op_log.specs.Verified.{digests_of}
 use Rattle.op_shelf.specs.Entries.{Holds, Lists, entries, entry_of}
 use Rattle.op_shelf.specs.Recording.{KeepsDigest}
+use Rattle.shelved_site.specs.Sites.{AreRecords}
 
 among_map : (ops : List Op) (op : Op) → Contains ops op → Contains (map entry_of ops) (entry_of op)
 among_map [] op (n, low, at) = absurd (omega (arith, low))
@@ -68,3 +70,13 @@ keep_digests file (h ∷ heads) (op ∷ ops) (first, rest) told =
     let one : digest_of (op_in op) ≡ h.digest = cc in
     let others : map digest_of (map op_in ops) ≡ digests_of heads = cc in
     All-cons KeepsDigest op ops (one ∙ ap (λ (k : Head). k.digest) first.head) (keep_digests file heads ops rest others)
+
+-- so what a log recorded are the records of the operations that it lists
+pub are_records : (file : List ℕ) (heads : List Head) (recorded : List Op) → Records file heads recorded
+    → map digest_of recorded ≡ digests_of heads → AreRecords (ListsHeads file heads) recorded
+are_records file heads recorded it told = record {
+  ops = it.ops;
+  listed = it.listed;
+  digests = keep_digests file heads it.ops it.listed (ap (λ (rs : List Op). map digest_of rs) (sym it.stand) ∙ told);
+  stand = it.stand;
+}

@@ -4,7 +4,7 @@ use Rattle.std.proofs.lemmas.List.Elements.{All-weaker}
 use Rattle.sqlite_disk.specs.declared.Disk.{Ghosts}
 use Rattle.body_log.proofs.Holding.{lasting}
 use Rattle.operation.specs.declared.op.Op.{Op}
-use Rattle.operation.specs.Spelling.{digest_of}
+use Rattle.operation.specs.Spelling.{hash_of}
 use Rattle.op_log.specs.declared.kept.Kept.{Kept as Told}
 use Rattle.op_log.specs.Heads.{Entry, Head, body_of, head_of}
 use Rattle.op_log.specs.Kept.{Has, IsHeld, IsLasting, StandsFor, first_under}
@@ -75,8 +75,8 @@ module _ {H B : Type 0} (gh : Ghosts H) (gb : Ghosts B) (old new : Opened H B) (
       record {
         op = was.op;
         at = was.at;
-        first = ap (λ (hs : List Head). first_under (digest_of was.op) hs) is
-            ∙ still_first old.places more (digest_of was.op) (head_of (was.op, was.at)) was.first;
+        first = ap (λ (hs : List Head). first_under (hash_of was.op) hs) is
+            ∙ still_first old.places more (hash_of was.op) (head_of (was.op, was.at)) was.first;
         alike = was.alike;
         lasting = λ some.
             let it = was.lasting some in

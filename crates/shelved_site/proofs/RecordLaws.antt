@@ -1,5 +1,5 @@
 -- What is told of a site that took what stands for some operations is told of one that took these.
-use Rattle.std.proofs.Common.{◌≡◌, ◌+◌, inl, inr, ℕ, List, [], ◌∷◌, Bool, true, false, cond, Option, Some, None, Result, Ok}
+use Rattle.std.proofs.Common.{◌≡◌, ◌+◌, inl, inr, ℕ, List, [], ◌∷◌, Bool, true, false, cond, Option, Some, Result, Ok}
 use Rattle.std.proofs.Common.{Err, map, refl, sym, ap, subst, ◌∙◌}
 use Rattle.std.specs.Prelude.{◌==◌, ◌||◌, if◌then◌else◌, IfSome}
 use Rattle.std.specs.BTreeMap.{is_at}
@@ -28,7 +28,6 @@ use Rattle.shelved_site.specs.Corrections.{is_of, is_known}
 use Rattle.shelved_site.specs.Fingerprints.{digests_text, fingerprint_of}
 use Rattle.shelved_site.specs.RecordLaws.{HoldsTheirRecords, ReportsTheSame, IsFollowedByTheSame, KnowsTheSame}
 use Rattle.shelved_site.specs.Reports.{reported}
-use Rattle.shelved_site.specs.Sites.{after_recording}
 
 -- ---- what is held
 
@@ -41,7 +40,7 @@ push false o r = refl
 recorded_with : (m : Map) (o : Op) → IsWholeOp o → with_op (recorded m) (op_in o) ≡ recorded (with_op m o)
 recorded_with m o whole = same_sites _ _ (λ q.
     get-insert nat_list_cmp_total (recorded m) (digest_of (op_in o)) (op_in o) q
-    ∙ ap (λ (d : List ℕ). cond (is_at (digest_cmp q) d) (Some (op_in o)) (held_at (recorded m) q)) (digest_kept o whole)
+    ∙ ap (λ (d : List ℕ). cond (is_at (digest_cmp q) d) (Some (op_in o)) (held_at (recorded m) q)) (digest_kept o)
     ∙ ap (cond (is_at (digest_cmp q) (digest_of o)) (Some (op_in o))) (recorded_at m q)
     ∙ push (is_at (digest_cmp q) (digest_of o)) o (held_at m q)
     ∙ ap (option_map op_in) (sym (get-insert nat_list_cmp_total m (digest_of o) o q))

@@ -15,17 +15,18 @@ use Rattle.shelved_site.specs.Refusing.{LogRefusesAll, LogRefusesGroup, LogRefus
 use Rattle.shelved_site.specs.Telling.{fault_of}
 
 -- what a look tells of a log, in a shelf's words
-pub log_why : {H B : Type 0} (g : Ghosts B) (log : Opened H B) (f : LogFault) → IsOfLook f
-    → (f ≡ of_log.Closed → g.is_usable log.bodies ≡ false)
-    → ((at : ℕ) → f ≡ of_log.DamagedBody at → HasBadHead (g.seen log.bodies) log.places at)
-    → LogRefusesAll g log (fault_of f)
-log_why g log of_log.Disk look closed bad = tt
-log_why g log of_log.Closed look closed bad = closed refl
-log_why g log of_log.TooLong look closed bad = absurd look
-log_why g log (of_log.DamagedHeads at) look closed bad = absurd look
-log_why g log (of_log.DamagedBody at) look closed bad = (at, bad at refl)
-log_why g log of_log.Collision look closed bad = absurd look
-log_why g log of_log.Memory look closed bad = tt
+pub log_why : {H B : Type 0} (g : Ghosts B) (old new : Opened H B) (f : LogFault) → IsOfLook f
+    → (f ≡ of_log.Disk → MoreFaults (g.faults old.bodies) (g.faults new.bodies))
+    → (f ≡ of_log.Closed → g.is_usable old.bodies ≡ false)
+    → ((at : ℕ) → f ≡ of_log.DamagedBody at → HasBadHead (g.seen old.bodies) old.places at)
+    → LogRefusesAll g old new (fault_of f)
+log_why g old new of_log.Disk look disk closed bad = disk refl
+log_why g old new of_log.Closed look disk closed bad = closed refl
+log_why g old new of_log.TooLong look disk closed bad = absurd look
+log_why g old new (of_log.DamagedHeads at) look disk closed bad = absurd look
+log_why g old new (of_log.DamagedBody at) look disk closed bad = (at, bad at refl)
+log_why g old new of_log.Collision look disk closed bad = absurd look
+log_why g old new of_log.Memory look disk closed bad = tt
 
 -- what a put tells of a log, in a shelf's words
 pub group_why : {H B : Type 0} (gh : Ghosts H) (gb : Ghosts B) (old new : Opened H B) (ops : List Op) (f : LogFault)

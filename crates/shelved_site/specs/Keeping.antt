@@ -2,7 +2,7 @@
 use Rattle.std.specs.Prelude.{◌≡◌, ℕ, List, Some, IsTrue}
 use Rattle.sqlite_disk.specs.declared.Disk.{Ghosts}
 use Rattle.operation.specs.declared.op.Op.{Op}
-use Rattle.operation.specs.Spelling.{digest_of, spelling}
+use Rattle.operation.specs.Spelling.{hash_of, spelling}
 use Rattle.op_log.specs.Heads.{Head, head_of}
 use Rattle.op_log.specs.Kept.{AreOf, Has, IsLasting, StandsFor, first_under}
 use Rattle.op_log.specs.Log.{Opened}
@@ -32,7 +32,7 @@ AreHeld heads bodies other =
 pub record Lasts {H B : Type 0} (gh : Ghosts H) (gb : Ghosts B) (log : Opened H B) (other : Op) : Type 0 where
   pub op : Op
   pub at : ℕ
-  pub first : first_under (digest_of op) log.places ≡ Some (head_of (op, at))
+  pub first : first_under (hash_of op) log.places ≡ Some (head_of (op, at))
   pub alike : spelling other ≡ spelling op
   pub lasting : IsLasting gb log.bodies log.bodies_end (op, at)
   pub heads_are : (h : List ℕ) → gh.may_leave log.heads h → StandsFor h log.places

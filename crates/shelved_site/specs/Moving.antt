@@ -1,7 +1,7 @@
 -- What a move brings.
 use Rattle.std.specs.Prelude.{◌≡◌, ◌⊎◌, ◌↔◌, ◌+◌, ◌++◌, ℕ, List, [], ◌∷◌, All, length}
 use Rattle.operation.specs.declared.op.Op.{Op}
-use Rattle.operation.specs.Spelling.{digest_of, spelling}
+use Rattle.operation.specs.Spelling.{hash_of, spelling}
 use Rattle.op_shelf.specs.declared.kept.Kept.{Kept}
 use Rattle.op_shelf.specs.declared.kept.Kept.TheVariants.{New, Known}
 use Rattle.op_shelf.specs.Keep.{AreSame, GainsAll}
@@ -68,4 +68,4 @@ pub record RefusesListed {S : Type 0} (is_same : S → Type 0) (lists : List Op 
     pub same : is_same before
     pub op : Op
     pub among : IsAmongListed lists op
-    pub cause : refuses before (digest_of op)
+    pub cause : refuses before (hash_of op)

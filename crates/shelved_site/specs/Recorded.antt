@@ -1,7 +1,7 @@
 -- The operations of records, which are loaded.
 use Rattle.std.specs.Prelude.{◌≡◌, List, [], ◌∷◌, Contains, Some}
 use Rattle.operation.specs.declared.op.Op.{Op}
-use Rattle.operation.specs.Spelling.{digest_of}
+use Rattle.operation.specs.Spelling.{digest_of, hash_of}
 use Rattle.op_shelf.specs.Keep.{IsFoundAs}
 
 -- an operation is one of those that a store lists
@@ -10,13 +10,13 @@ IsAmongListed lists op = (ops : List Op) × lists ops × Contains ops op
 
 -- one of them has the digest of a record
 abbrev pub HasOperation : (List Op → Type 0) → Op → Type 0
-HasOperation lists recorded = (op : Op) × IsAmongListed lists op × (digest_of op ≡ digest_of recorded)
+HasOperation lists recorded = (op : Op) × IsAmongListed lists op × (hash_of op ≡ digest_of recorded)
 
 -- an operation is whichever of them has the digest of a record: it is spelled so, and is the very one, if that is
 -- lawful
 abbrev pub IsLoaded : (List Op → Type 0) → Op → Op → Type 0
 IsLoaded lists recorded found =
-    (op : Op) → IsAmongListed lists op → digest_of op ≡ digest_of recorded → IsFoundAs (Some found) op
+    (op : Op) → IsAmongListed lists op → hash_of op ≡ digest_of recorded → IsFoundAs (Some found) op
 
 -- operations are those of records, one by one
 abbrev pub AreLoaded : (List Op → Type 0) → List Op → List Op → Type 0

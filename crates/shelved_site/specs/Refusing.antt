@@ -30,15 +30,16 @@ ShelfRefusesCount old kind new (Store why) = IsUnready why old ⊎ IsNotShown wh
 ShelfRefusesCount old kind new BadRow = Unit {0}
 ShelfRefusesCount old kind new Memory = Unit {0}
 
--- a log: a data set is none of its head's operation, or the file of data sets is closed, or its disk refused
-abbrev pub LogRefusesAll : {H B : Type 0} → Ghosts B → Opened H B → ShelfFault → Type 0
-LogRefusesAll g log (Store cause.Failed) = Unit {0}
-LogRefusesAll g log (Store cause.Closed) = g.is_usable log.bodies ≡ false
-LogRefusesAll g log (Store cause.Full) = ⊥
-LogRefusesAll g log (Store cause.Damaged) = ⊥
-LogRefusesAll g log (Store cause.Other) = ⊥
-LogRefusesAll g log BadRow = (at : ℕ) × HasBadHead (g.seen log.bodies) log.places at
-LogRefusesAll g log Memory = Unit {0}
+-- a log: a data set is none of its head's operation, or the file of data sets is closed, or its disk refused in this
+-- call, or memory was refused
+abbrev pub LogRefusesAll : {H B : Type 0} → Ghosts B → Opened H B → Opened H B → ShelfFault → Type 0
+LogRefusesAll g old new (Store cause.Failed) = MoreFaults (g.faults old.bodies) (g.faults new.bodies)
+LogRefusesAll g old new (Store cause.Closed) = g.is_usable old.bodies ≡ false
+LogRefusesAll g old new (Store cause.Full) = ⊥
+LogRefusesAll g old new (Store cause.Damaged) = ⊥
+LogRefusesAll g old new (Store cause.Other) = ⊥
+LogRefusesAll g old new BadRow = (at : ℕ) × HasBadHead (g.seen old.bodies) old.places at
+LogRefusesAll g old new Memory = Unit {0}
 
 -- a log that is asked to keep a group: it is closed, or the group is longer than one may be; or one of its disks
 -- refused in this call, or another operation has the digest of one of the group, or memory was refused

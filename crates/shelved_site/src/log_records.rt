@@ -31,7 +31,7 @@ impl<H: Disk, B: Disk> KeptLog<H, B> {
         ensures refused { IsUp H.Disk B.Disk (log_of self.new) → OnErr result
             (AreSame (Holds B.Disk (log_of self.old)) (Holds B.Disk (log_of self.new))) }
         ensures why { IsUp H.Disk B.Disk (log_of self.new)
-            → IfErr result (LogRefusesAll B.Disk (log_of self.old)) }
+            → IfErr result (LogRefusesAll B.Disk (log_of self.old) (log_of self.new)) }
         ensures clean { IsUp H.Disk B.Disk (log_of self.new)
             → IsUp H.Disk B.Disk (log_of self.old) }
     {
@@ -65,7 +65,8 @@ pub fn hub_on_log<H: Disk, B: Disk, T: Threads + Sync, R: Wait + Drop, P: Hearin
         (AreSame (Holds B.Disk (log_of log.old)) (Holds B.Disk (log_of log.new))) }
     // It is refused because of the log only where that had cause not to show its operations.
     ensures why { IsUp H.Disk B.Disk (log_of log.new)
-        → IfErr result (IsOfStore (LogRefusesAll B.Disk (log_of log.old))) }
+        → IfErr result
+        (IsOfStore (LogRefusesAll B.Disk (log_of log.old) (log_of log.new))) }
     ensures clean { IsUp H.Disk B.Disk (log_of log.new) → IsUp H.Disk B.Disk (log_of log.old) }
 {
     let recorded = log.records_with(threads)?;

@@ -65,7 +65,7 @@ impl<H: Disk, B: Disk> Store for KeptLog<H, B> {
 
     ghost is_left = { λ s op. Lasts H.Disk B.Disk (log_of s) op };
 
-    ghost refuses_all = { λ s t fault. LogRefusesAll B.Disk (log_of s) fault };
+    ghost refuses_all = { λ s t fault. LogRefusesAll B.Disk (log_of s) (log_of t) fault };
 
     ghost refuses_count = { λ s kind t fault. ⊥ };
 

@@ -2,6 +2,7 @@
 
 ghost use Rattle.std.specs.Prelude.{◌≡◌, ◌++◌, ◌∷◌, [], ℕ, false, cond, Some, slice_get, IfErr, IfOk, IsErrOf};
 ghost use Rattle.std.specs.Prelude.{IsTrue, OnErr, OnOk};
+ghost use Rattle.body_log.specs.Fault.{CountsAs};
 ghost use Rattle.op_log.specs.Fault.{IsOfLook};
 ghost use Rattle.op_log.specs.Heads.{Head};
 ghost use Rattle.op_log.specs.Log.{GoesOn, Looks};
@@ -43,6 +44,8 @@ fn test_at<H: Disk, B: Disk>(
     ensures goes_on { GoesOn H.Disk B.Disk log.old log.new }
     // Each fault, only where it is.
     ensures closed { IsErrOf result LogFault.Closed → B.Disk.is_usable log.old.bodies ≡ false }
+    ensures disk { CountsAs LogFault.Disk result
+        (B.Disk.faults log.old.bodies) (B.Disk.faults log.new.bodies) }
     ensures whole { (n : ℕ) → ¬ IsErrOf result (LogFault.DamagedBody n) }
     ensures only { IfErr result IsOfLook }
 {
@@ -69,6 +72,8 @@ pub(crate) fn test_all<H: Disk, B: Disk, T: Testing>(
     ensures refused { IsUp H.Disk B.Disk log.new
         → OnErr result (AreSame (Holds B.Disk log.old) (Holds B.Disk log.new)) }
     ensures closed { IsErrOf result LogFault.Closed → B.Disk.is_usable log.old.bodies ≡ false }
+    ensures disk { CountsAs LogFault.Disk result
+        (B.Disk.faults log.old.bodies) (B.Disk.faults log.new.bodies) }
     ensures whole { (n : ℕ) → ¬ IsErrOf result (LogFault.DamagedBody n) }
     ensures only { IfErr result IsOfLook }
     ensures up { IsUp H.Disk B.Disk log.new → IsUp H.Disk B.Disk log.old }

@@ -10,7 +10,6 @@ use Rattle.operation.specs.declared.op.Op.{Op}
 use Rattle.operation.specs.declared.op.Op.TheVariants.{Content as a_content, Correction as a_correction}
 use Rattle.operation.specs.Spelling.{digest_of}
 use Rattle.records.specs.StandIn.{IsOpIn, op_in}
-use Rattle.records.proofs.StandInLaws.{itself}
 use Rattle.study_index.specs.Definition.{IsLawful}
 use Rattle.operation.specs.declared.taken.Taken.{Taken}
 use Rattle.operation.specs.declared.taken.Taken.TheVariants.{New, Known}
@@ -151,7 +150,7 @@ recorded_is_lawful (a_correction k) is = is.lawful
 
 -- and stands for itself
 pub lawful_itself : (op : Op) → IsLawful op → op_in op ≡ op
-lawful_itself (a_content c) is = ap a_content (itself c is)
+lawful_itself (a_content c) is = ap a_content is.stands
 lawful_itself (a_correction k) is = refl
 
 with_is_lawful : (m : Map) (o : Op) → HasLawful m → IsLawful o → HasLawful (with_op m o)

@@ -13,6 +13,7 @@ use Rattle.operation.specs.declared.draft.Draft.{Draft}
 use Rattle.operation.specs.declared.fault.OpFault.{OpFault}
 use Rattle.operation.specs.declared.fault.OpFault.TheVariants.{NoUid, Mismatch, BadNote, TooLong}
 use Rattle.operation.specs.Fault.{is_memory}
+use Rattle.operation.specs.Drafts.{digest_of_draft}
 use Rattle.operation.specs.Parts.{ContentParts}
 use Rattle.operation.specs.Contents.{offence, has_uids, names_itself, note_offence, IsContent, IsRefused, IsShort}
 use Rattle.operation.specs.Contents.{draft_of, drafted, longest, values_in}
@@ -40,6 +41,7 @@ by_note draft elements r short spelled uids names (Ok note) k only faulty =
     subst (Is draft elements r) (sym (of_its_names draft elements uids names ∙ ap note_offence k))
     (subst (λ n. Gives is_memory (λ content. content)
     r (Ok (record {
+      digest = digest_of_draft draft;
       class = draft.class;
       instance = draft.instance;
       syntax = draft.syntax;
@@ -48,6 +50,7 @@ by_note draft elements r short spelled uids names (Ok note) k only faulty =
       note = n;
     }))) (sym (ap said k))
     (only (record {
+      digest = digest_of_draft draft;
       class = draft.class;
       instance = draft.instance;
       syntax = draft.syntax;
@@ -56,7 +59,7 @@ by_note draft elements r short spelled uids names (Ok note) k only faulty =
           values_in elements;
       note = note;
     })
-    (made _ elements short spelled uids names k refl) refl))
+    (made _ elements refl short spelled uids names k refl) refl))
 by_note draft elements r short spelled uids names (Err fault) k only faulty =
     let e : offence draft elements ≡ Some BadNote = of_its_names draft elements uids names ∙ ap note_offence k in
     subst (Is draft elements r) (sym e) (faulty BadNote (short, (elements, spelled, e)))

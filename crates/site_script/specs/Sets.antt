@@ -22,6 +22,7 @@ use Rattle.rejection_note.specs.Notes.{note_in}
 use Rattle.operation.specs.declared.draft.Draft.{Draft}
 use Rattle.operation.specs.declared.fault.OpFault.{OpFault}
 use Rattle.operation.specs.declared.fault.OpFault.TheVariants.{TooLong}
+use Rattle.operation.specs.Drafts.{digest_of_draft}
 use Rattle.operation.specs.Parts.{ContentParts}
 use Rattle.operation.specs.Contents.{longest, drafted, offence, values_in}
 use Rattle.site_script.specs.declared.key.Key.{Key}
@@ -99,6 +100,7 @@ abbrev pub unless : Option OpFault → Draft → List Tree → Result ContentPar
 unless (Some fault) draft elements = Err fault
 unless None draft elements =
     Ok (record {
+      digest = digest_of_draft draft;
       class = draft.class;
       instance = draft.instance;
       syntax = draft.syntax;

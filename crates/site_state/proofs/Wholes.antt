@@ -135,13 +135,12 @@ missing_kept m d = ap (λ (r : Option Op). not (is_some r)) (recorded_at m d) �
 
 -- ---- what is kept
 
-records_in : (ops : List Op) → AreWhole ops → map record_of (map op_in ops) ≡ map record_of ops
-records_in [] whole = refl
-records_in (op ∷ ops) whole =
-    λ i. op_has_record op (whole op (inl refl)) i ∷ records_in ops (λ o has. whole o (inr has)) i
+records_in : (ops : List Op) → map record_of (map op_in ops) ≡ map record_of ops
+records_in [] = refl
+records_in (op ∷ ops) = λ i. op_has_record op i ∷ records_in ops i
 
 pub records_kept : RecordsAreKept
-records_kept m whole = ap (map record_of) (recorded_ops m) ∙ records_in (ops_of m) whole
+records_kept m whole = ap (map record_of) (recorded_ops m) ∙ records_in (ops_of m)
 
 pub rows_kept : RowsAreKept
 rows_kept m view called q whole = same_rows (ops_of (recorded m)) (ops_of m) view called q (records_kept m whole)

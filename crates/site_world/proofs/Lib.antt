@@ -10,4 +10,5 @@ pub mod Alike
 pub mod Given
 pub mod Knowing
 pub mod Finished
+pub mod Refused
 pub mod Rejected

@@ -4,12 +4,12 @@ use Rattle.hex.specs.Hex.{encode_lower}
 use Rattle.sha2.specs.Sha256.{sha256}
 use Rattle.sqlite.specs.Order.{Row}
 use Rattle.operation.specs.declared.op.Op.{Op}
-use Rattle.operation.specs.Spelling.{spelling, digest_of}
+use Rattle.operation.specs.Spelling.{spelling, hash_of}
 use Rattle.op_shelf.specs.Entries.{Lists, entries, entry_by, entry_of, digest_text}
 use Rattle.shelved_site.specs.Recorded.{AreFoundAs}
 
 digest_texts : (a b : Op) → spelling a ≡ spelling b → digest_text a ≡ digest_text b
-unfolding digest_of
+unfolding hash_of
 digest_texts a b same = ap (λ text. encode_lower (sha256 text)) same
 
 -- operations that are spelled alike have one entry

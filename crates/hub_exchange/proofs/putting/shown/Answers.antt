@@ -7,7 +7,7 @@ use Rattle.hub_exchange.proofs.putting.shown.Goals as goal
 pub invariant_of-result : goal.invariant_of-result
 invariant_of-result g c = record {
   written =
-      subst (WasWritten c.extract.result) (c.as_bytes.ensures ∙ (c.digest.ensures ∙ sym c.digest-2.ensures))
+      subst (WasWritten c.extract.result) (c.as_bytes.ensures ∙ (c.digest.ensures.own ∙ sym c.digest-2.ensures.own))
       (subst (λ (all : List (List ℕ)). WasWritten all c.as_bytes.result.now) (sym (c.extract.ensures ∙ c.write.ensures))
       (written_last c.args.ledger.now c.as_bytes.result.now));
 }
@@ -18,6 +18,6 @@ returns g c = record {
   kept = kept_with g.K.Keep.is_up g.K.Keep.holds g.K.Keep.lasts c.args._shelf.now c.args.ledger.now c.write.new.self
       c.as_bytes.result.now c.write.ensures
       (subst (IsKept g.K.Keep.is_up g.K.Keep.holds g.K.Keep.lasts c.args._shelf.now)
-      (sym (c.as_bytes.ensures ∙ c.digest.ensures)) c.requires.put) c.requires.kept;
-  own = c.digest-2.ensures;
+      (sym (c.as_bytes.ensures ∙ c.digest.ensures.own)) c.requires.put) c.requires.kept;
+  own = c.digest-2.ensures.own;
 }

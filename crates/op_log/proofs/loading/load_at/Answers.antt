@@ -1,5 +1,5 @@
 use Rattle.std.proofs.Common.{rules, ◌≡◌, List, ℕ, true, sym, subst, ap, ◌∙◌}
-use Rattle.operation.specs.Spelling.{digest_of}
+use Rattle.operation.specs.Spelling.{hash_of}
 use Rattle.op_log.specs.Heads.{Head, head_of}
 use Rattle.op_log.specs.Places.{head_by}
 use Rattle.op_log.proofs.loading.load_at.Goals as goal
@@ -18,7 +18,7 @@ returns-then-not-has_digest-clause-damaged g c clean op lawful head has n told =
     let digest = ap (λ (h : Head). h.digest) head in
     let own = subst (λ (d : List ℕ). head_by d place ≡ head_of (op, place.at)) digest head in
     let same = c.of-op.ensures ∙ c.in_ok-read.ensures.exact clean op lawful own has in
-    let yes : c.has_digest.result ≡ true = c.has_digest.ensures.1 (ap digest_of same ∙ sym digest) in
+    let yes : c.has_digest.result ≡ true = c.has_digest.ensures.hash.1 (ap hash_of same ∙ sym digest) in
     let no = c.if-not-has_digest.true in
     absurd cc
 

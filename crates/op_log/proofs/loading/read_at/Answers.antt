@@ -1,7 +1,7 @@
 use Rattle.std.proofs.Common.{rules, ◌≡◌, ◌-◌, ℕ, true, length, sym, subst, ap, ◌∙◌, arith, refl}
 use Rattle.body_log.specs.Log.{disk_of}
 use Rattle.operation.specs.declared.op.Op.{Op}
-use Rattle.operation.specs.Spelling.{digest_of, spelling}
+use Rattle.operation.specs.Spelling.{hash_of, spelling}
 use Rattle.op_log.specs.Fault.{IsOfRead}
 use Rattle.op_log.specs.declared.fault.LogFault.TheVariants.{DamagedBody}
 use Rattle.op_log.specs.Heads.{Head, body_of, size_of}
@@ -45,7 +45,7 @@ returns-clause-found g c clean =
     let behind : c.is_behind.result ≡ true = cc in
     let many : length c.in_ok-text.text.items ≡ c.len-long.result = omega (arith, c.len-long.ensures, c.in_ok-text.text.ok) in
     let cut = ap (λ (n : ℕ). n - size_of c.in_ok-op.op) many ∙ c.is_behind.ensures.0 behind ∙ c.len.ensures in
-    is_of (g.B.Disk.seen (disk_of c.args.bodies.now)) c.args.place.now (digest_of c.in_ok-op.op) c.in_ok-text.text.items
+    is_of (g.B.Disk.seen (disk_of c.args.bodies.now)) c.args.place.now (hash_of c.in_ok-op.op) c.in_ok-text.text.items
     c.in_ok-op.op c.in_ok-op.ensures.lawful refl c.in_ok-op.ensures.found cut (c.in_ok-text.ensures.held clean)
 
 -- Both are spelled with what was read.

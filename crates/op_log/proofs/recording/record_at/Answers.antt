@@ -1,6 +1,6 @@
 use Rattle.std.proofs.Common.{rules, ◌≡◌, ◌++◌, ◌∷◌, [], ℕ, List, map, take, true, subst, sym, ap, ◌∙◌}
 use Rattle.operation.specs.declared.op.Op.{Op}
-use Rattle.operation.specs.Spelling.{digest_of}
+use Rattle.operation.specs.Spelling.{digest_of, hash_of}
 use Rattle.records.specs.StandIn.{op_in}
 use Rattle.op_log.specs.Fetched.{under}
 use Rattle.op_log.specs.Heads.{Head}
@@ -23,9 +23,9 @@ returns-then-not-has_digest-clause-damaged c file h at it n told =
       among = at_among c.args.places.now c.args.index h at;
       place = sym (ap (λ (k : Head). k.at) mine) ∙ search rules;
       none = λ other of.
-          let same : digest_of c.args.op.now ≡ c.of.result = ap digest_of (it.only other of) ∙ sym (ap (λ (k : Head). k.digest) of.head)
+          let same : hash_of c.args.op.now ≡ c.of.result = ap hash_of (it.only other of) ∙ sym (ap (λ (k : Head). k.digest) of.head)
           ∙ sym (ap (λ (k : Head). k.digest) mine) ∙ sym c.of.ensures in
-          let yes : c.has_digest.result ≡ true = c.has_digest.ensures.1 same in
+          let yes : c.has_digest.result ≡ true = c.has_digest.ensures.hash.1 same in
           let no = c.if-not-has_digest.true in
           absurd cc;
     }
@@ -40,7 +40,7 @@ returns-clause-told c was =
     let items = c.in_ok-push.ensures.items ∙ ap (λ (o : Op). c.args.recorded.now.items ++ o ∷ []) c.in_ok-made.ensures.stands in
     ap (λ (ops : List Op). map digest_of ops) items
     ∙ told_more (take c.args.index heads) c.args.recorded.now.items h (op_in c.args.op.now) was
-    (c.of-2.ensures.digest ∙ c.has_digest.ensures.0 yes ∙ c.of.ensures)
+    (c.of-2.ensures.digest ∙ c.has_digest.ensures.own.0 yes ∙ c.of.ensures)
     ∙ ap digests_of (sym more)
 
 -- One operation more is recorded.
@@ -51,7 +51,7 @@ returns-clause-all c file h at it was =
     let yes : c.has_digest.result ≡ true = cc in
     let more = take_more heads c.args.index h at in
     let items = c.in_ok-push.ensures.items ∙ ap (λ (o : Op). c.args.recorded.now.items ++ o ∷ []) c.in_ok-made.ensures.stands in
-    let digest : digest_of c.args.op.now ≡ h.digest = c.has_digest.ensures.0 yes ∙ c.of.ensures ∙ ap (λ (k : Head). k.digest) mine in
+    let digest : hash_of c.args.op.now ≡ h.digest = c.has_digest.ensures.hash.0 yes ∙ c.of.ensures ∙ ap (λ (k : Head). k.digest) mine in
     let own = subst (λ (d : List ℕ). IsOf file (under d h) c.args.op.now) digest it.own in
     subst (λ (hs : List Head). Records file hs c.push.new.self.items) (sym more)
     (subst (λ (ops : List Op). Records file (take c.args.index heads ++ h ∷ []) ops) (sym items)

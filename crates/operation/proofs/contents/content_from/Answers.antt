@@ -1,6 +1,6 @@
 use Rattle.std.proofs.Common.{◌≡◌, Ok, length, sym, subst}
 use Rattle.operation.specs.Contents.{IsContent, IsOutcome}
-use Rattle.operation.specs.Parts.{ContentParts, KeptParts, with_body}
+use Rattle.operation.specs.Parts.{KeptParts, with_body}
 use Rattle.operation.proofs.contents.content_from.Goals as goal
 
 -- The parts are those of the draft with what is kept of it, which are a content's.

@@ -1,4 +1,4 @@
-use Rattle.std.proofs.Common.{Ok, Err, refl, ◌≡◌, sym, subst, Result}
+use Rattle.std.proofs.Common.{Ok, Err, ◌≡◌, subst}
 use Rattle.octets.specs.Gives.{Tells}
 use Rattle.operation.specs.declared.draft.Draft.{Draft}
 use Rattle.operation.specs.Fault.{is_memory}

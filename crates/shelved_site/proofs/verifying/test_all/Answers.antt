@@ -17,6 +17,7 @@ loop-index-init g c = record {
   looks = (same_self g.B.Disk c.args.log.now).looks;
   seen = refl;
   usable = refl;
+  calm = refl;
   up = λ up. up;
   same = λ up. same_self g.B.Disk c.args.log.now;
   told = λ up. search rules;
@@ -38,6 +39,7 @@ loop-index-preserved g c =
       looks = looks_twice old mid new was.looks step.looks;
       seen = step.seen ∙ was.seen;
       usable = step.usable ∙ was.usable;
+      calm = c.in_ok-test_at.ensures.disk ∙ was.calm;
       up = λ up. was.up (was_up gh gb mid new step.goes_on up);
       same = λ up. same_twice gb old mid new (was.same (was_up gh gb mid new step.goes_on up))
           (looked gh gb mid new step.goes_on up step.looks);

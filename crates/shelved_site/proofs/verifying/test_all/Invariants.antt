@@ -14,6 +14,7 @@ invariant-loop-index g l =
       looks : Looks l.fn.log l.log;
       seen : gb.seen l.log.bodies ≡ gb.seen l.fn.log.bodies;
       usable : gb.is_usable l.log.bodies ≡ gb.is_usable l.fn.log.bodies;
+      calm : gb.faults l.log.bodies ≡ gb.faults l.fn.log.bodies;
       up : IsUp gh gb l.log → IsUp gh gb l.fn.log;
       same : IsUp gh gb l.log → IsSame gb l.fn.log l.log;
       told : IsUp gh gb l.log → l.damaged.items ≡ told_in (gb.seen l.fn.log.bodies) (take l.index l.fn.log.places);

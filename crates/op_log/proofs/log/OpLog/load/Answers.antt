@@ -2,6 +2,7 @@ use Rattle.std.proofs.Common.{rules, ◌+◌, Contains, ℕ, List, Some, subst, 
 use Rattle.std.proofs.lemmas.List.Elements.{All-contains_itself}
 use Rattle.body_log.specs.Log.{disk_of, end_of}
 use Rattle.body_log.specs.Fault.{CountsAs}
+use Rattle.operation.proofs.DigestLaws.{own_digest}
 use Rattle.op_log.specs.declared.fault.LogFault.TheVariants.{Disk}
 use Rattle.op_log.specs.Heads.{Head}
 use Rattle.op_log.specs.Kept.{Has, IsBelow, first_under}
@@ -56,7 +57,7 @@ returns-clause-found g c clean =
     subst (λ (o : Opened g.row.H.Denot g.row.B.Denot). Has g.B.Disk o.bodies o.bodies_end o.places c.in_ok-op.op)
     c.self.view_is (
       place.at,
-      ap (λ (d : List ℕ). first_under d places) c.in_ok-op.ensures.told ∙ first
+      ap (λ (d : List ℕ). first_under d places) (sym (own_digest c.in_ok-op.op c.in_ok-op.ensures.lawful) ∙ c.in_ok-op.ensures.told) ∙ first
           ∙ ap Some it.head,
       λ some. (it.held some, omega (arith, low, size)),
     )

@@ -1,4 +1,4 @@
-use Rattle.std.proofs.Common.{subst, sym, ◌∙◌}
+use Rattle.std.proofs.Common.{subst}
 use Rattle.operation.specs.Contents.{IsContent}
 use Rattle.operation.proofs.Bounds.{body_short}
 use Rattle.operation.proofs.content.Content.body.Goals as goal

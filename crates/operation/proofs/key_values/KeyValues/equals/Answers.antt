@@ -1,4 +1,4 @@
-use Rattle.std.proofs.Common.{◌≡◌, true, false, sym, ◌∙◌, true≢false}
+use Rattle.std.proofs.Common.{◌≡◌, sym, ◌∙◌, true≢false}
 use Rattle.operation.specs.KeyValues.{values_at}
 use Rattle.operation.proofs.KeyValueLaws.{one_text}
 use Rattle.operation.proofs.key_values.KeyValues.equals.Goals as goal

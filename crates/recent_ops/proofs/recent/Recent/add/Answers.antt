@@ -19,7 +19,7 @@ invariant_of-self-2 c =
     let few : length ops.entries < 2 ^ 63 = omega (arith, len, most) in
     let none : held_under (digest_of h.op) held ≡ None = ap (λ (r : RecentOps). held_under (digest_of h.op) r.held) c.self.view_is ∙ c.requires.new in
     let is = ap (λ (x : LruCache (List ℕ) Held). x.entries) c.in_ok-put.ensures.entries
-    ∙ put_first ops c.as_bytes.result.now h c.self.invariant.0 c.self.invariant.1 few (c.as_bytes.ensures ∙ c.digest.ensures) none in
+    ∙ put_first ops c.as_bytes.result.now h c.self.invariant.0 c.self.invariant.1 few (c.as_bytes.ensures ∙ c.digest.ensures.own) none in
     let all = ap total_of (values new (h ∷ held) is) ∙ sum_by-cons (λ (x : Held). x.weight) h held in
     let sum = c.self.invariant.2 in
     let fits = c.requires.fits in
@@ -43,5 +43,5 @@ returns-clause-added c =
     let few : length ops.entries < 2 ^ 63 = omega (arith, len, most) in
     let none : held_under (digest_of h.op) held ≡ None = ap (λ (r : RecentOps). held_under (digest_of h.op) r.held) c.self.view_is ∙ c.requires.new in
     let is = ap (λ (x : LruCache (List ℕ) Held). x.entries) c.in_ok-put.ensures.entries
-    ∙ put_first ops c.as_bytes.result.now h c.self.invariant.0 c.self.invariant.1 few (c.as_bytes.ensures ∙ c.digest.ensures) none in
+    ∙ put_first ops c.as_bytes.result.now h c.self.invariant.0 c.self.invariant.1 few (c.as_bytes.ensures ∙ c.digest.ensures.own) none in
     ap (λ (hs : List Held). record { held = hs; room = c.self.inside.room }) (values new (h ∷ held) is) ∙ ap (first c.args.op c.args.weight) c.self.view_is

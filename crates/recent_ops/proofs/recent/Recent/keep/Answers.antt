@@ -12,7 +12,7 @@ add-requires-clause-new c =
     ap (λ (r : RecentOps). held_under digest r.held) c.make_room.ensures
     ∙ none_stays digest (c.args.self.now.room - c.args.weight) c.args.self.now.held
     (none (held_under digest c.args.self.now.held)
-    (sym (ap (λ (d : List ℕ). is_some (held_under d c.args.self.now.held)) c.digest.ensures) ∙ sym c.holds.ensures ∙ c.if-holds.false))
+    (sym (ap (λ (d : List ℕ). is_some (held_under d c.args.self.now.held)) c.digest.ensures.own) ∙ sym c.holds.ensures ∙ c.if-holds.false))
   where
     none : (o : Option Held) → is_some o ≡ false → o ≡ None
     none None is = refl

@@ -1,12 +1,10 @@
-use Rattle.std.proofs.Common.{subst}
-use Rattle.records.specs.StandIn.{IsWholeOp}
 use Rattle.records.proofs.StandInLaws.{digest_kept}
 use Rattle.records.proofs.recorded_op.RecordedOp.of.Goals as goal
 
--- What stands for an operation of bytes has its digest.
+-- What stands for an operation has its digest.
 pub returns-in_err-of-in-Content-clause-digest : goal.returns-in_err-of-in-Content-clause-digest
 returns-in_err-of-in-Content-clause-digest c =
-    digest_kept c.args.op.now (subst IsWholeOp c.op.ensures c.see_whole.ensures)
+    digest_kept c.args.op.now
 
 pub returns-clause-digest : goal.returns-clause-digest
-returns-clause-digest c = digest_kept c.args.op.now (subst IsWholeOp c.op.ensures c.see_whole.ensures)
+returns-clause-digest c = digest_kept c.args.op.now

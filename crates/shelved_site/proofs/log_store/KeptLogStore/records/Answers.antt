@@ -1,9 +1,7 @@
-use Rattle.std.proofs.Common.{Err, List, map, ap, sym, subst, ◌∙◌}
-use Rattle.operation.specs.declared.op.Op.{Op}
-use Rattle.operation.specs.Spelling.{digest_of}
+use Rattle.std.proofs.Common.{Err, ap, sym, subst}
 use Rattle.op_shelf.specs.declared.fault.ShelfFault.{ShelfFault}
 use Rattle.shelved_site.specs.Refusing.{LogRefusesAll}
-use Rattle.shelved_site.proofs.Listings.{keep_digests}
+use Rattle.shelved_site.proofs.Listings.{are_records}
 use Rattle.shelved_site.proofs.Logs.{same_of, was_up}
 use Rattle.shelved_site.proofs.Stays.{looked}
 use Rattle.shelved_site.proofs.Whys.{log_why}
@@ -32,20 +30,14 @@ returns-in-Err-clause-clean g c up =
 -- Each fault of a log is told as what it is to a shelf.
 pub returns-in-Err-clause-why : goal.returns-in-Err-clause-why
 returns-in-Err-clause-why g c up =
-    let log = c.args.self.now.log in
-    let why = log_why g.B.Disk log c.in-Err.refused c.in-Err.ensures.only (λ is. c.in-Err.ensures.closed (ap Err is))
-    (λ at is. c.in-Err.ensures.damaged up.bodies at (ap Err is)) in
-    subst (λ (told : ShelfFault). LogRefusesAll g.B.Disk log told) (sym c.fault.ensures) why
+    let old = c.args.self.now.log in
+    let new = c.records.new.self in
+    let why = log_why g.B.Disk old new c.in-Err.refused c.in-Err.ensures.only c.in-Err.ensures.disk
+    (λ is. c.in-Err.ensures.closed (ap Err is)) (λ at is. c.in-Err.ensures.damaged up.bodies at (ap Err is)) in
+    subst (λ (told : ShelfFault). LogRefusesAll g.B.Disk old new told) (sym c.fault.ensures) why
 
 -- What the log recorded are its records.
 pub returns-in-Ok-clause-all : goal.returns-in-Ok-clause-all
 returns-in-Ok-clause-all g c up =
     let log = c.args.self.now.log in
-    let it = c.in-Ok.ensures.all up.bodies in
-    record {
-      ops = it.ops;
-      listed = it.listed;
-      digests = keep_digests (g.B.Disk.seen log.bodies) log.places it.ops it.listed
-          (ap (λ (rs : List Op). map digest_of rs) (sym it.stand) ∙ c.in-Ok.ensures.told);
-      stand = it.stand;
-    }
+    are_records (g.B.Disk.seen log.bodies) log.places c.in-Ok.recorded.items (c.in-Ok.ensures.all up.bodies) c.in-Ok.ensures.told

@@ -14,7 +14,7 @@ use Rattle.site_state.proofs.whole_site.WholeSite.take_once.Goals as goal
 -- The operation itself is held under its digest, and the site stays as it was.
 pub returns-then-equals : goal.returns-then-equals
 returns-then-equals c = (
-  ap (held_at c.args.self.now) (sym c.digest.ensures) ∙ found_at c.args.self.now c.self.inside.operations.entries
+  ap (held_at c.args.self.now) (sym c.digest.ensures.own) ∙ found_at c.args.self.now c.self.inside.operations.entries
       c.digest.result.now (Some c.in-Some.held.now) c.self.view_is c.in-Some.ensures.value
       ∙ ap Some (c.equals.ensures.0 c.if-equals.true ∙ c.op.ensures),
   refl,
@@ -25,7 +25,7 @@ pub returns-in-Some : goal.returns-in-Some
 returns-in-Some c = (
   (
     c.in-Some.held.now,
-    ap (held_at c.args.self.now) (sym c.digest.ensures) ∙ found_at c.args.self.now c.self.inside.operations.entries
+    ap (held_at c.args.self.now) (sym c.digest.ensures.own) ∙ found_at c.args.self.now c.self.inside.operations.entries
         c.digest.result.now (Some c.in-Some.held.now) c.self.view_is c.in-Some.ensures.value,
     λ q. let t = c.equals.ensures.1 (q ∙ sym c.op.ensures) in let f = c.if-equals.false in cc,
   ),
@@ -36,7 +36,7 @@ returns-in-Some c = (
 pub returns-in_err-recorded : goal.returns-in_err-recorded
 returns-in_err-recorded c =
     no_room c.args.self.now _ c.args.digested c.from_residual.result c.from_residual.ensures.1
-    (ap (held_at c.args.self.now) (sym c.digest.ensures) ∙ found_at c.args.self.now c.self.inside.operations.entries
+    (ap (held_at c.args.self.now) (sym c.digest.ensures.own) ∙ found_at c.args.self.now c.self.inside.operations.entries
     c.digest.result.now _ c.self.view_is c.in_default.ensures.value)
     refl
 
@@ -44,14 +44,14 @@ returns-in_err-recorded c =
 pub put_in-requires-clause-own : goal.put_in-requires-clause-own
 put_in-requires-clause-own c =
     c.into_parts-digest.ensures.digest
-    ∙ sym (digest_kept c.args.digested (subst IsWholeOp c.op-2.ensures c.see_whole.ensures))
+    ∙ sym (digest_kept c.args.digested)
     ∙ ap digest_of (sym c.in_ok-recorded.ensures.stands)
 
 -- The site of records has nothing where nothing is held.
 pub put_in-requires-clause-unknown : goal.put_in-requires-clause-unknown
 put_in-requires-clause-unknown c =
     let es = c.self.inside.operations.entries in
-    let one = c.digest.ensures ∙ sym c.into_parts-digest.ensures.digest in
+    let one = c.digest.ensures.own ∙ sym c.into_parts-digest.ensures.digest in
     ap (λ (m : Map). held_at m c.into_parts-digest.result.0) c.self.invariant.2
     ∙ unheld (of_entries es) c.into_parts-digest.result.0 (get_held es c.into_parts-digest.result.0
     ∙ ap (λ (d : List ℕ). lookup (is_at (digest_cmp d)) es) (sym one) ∙ sym c.in_default.ensures.value)
@@ -61,7 +61,7 @@ pub returns-in_err-put_in : goal.returns-in_err-put_in
 returns-in_err-put_in c =
     no_room c.args.self.now _ c.args.digested c.from_residual-in_err-put_in.result
     c.from_residual-in_err-put_in.ensures.1
-    (ap (held_at c.args.self.now) (sym c.digest.ensures) ∙ found_at c.args.self.now c.self.inside.operations.entries
+    (ap (held_at c.args.self.now) (sym c.digest.ensures.own) ∙ found_at c.args.self.now c.self.inside.operations.entries
     c.digest.result.now _ c.self.view_is c.in_default.ensures.value)
     (c.in_err-put_in.ensures.kept ∙ c.self.view_is)
 
@@ -86,7 +86,7 @@ invariant_of-self-2 c =
 pub returns : goal.returns
 returns c =
     let digest = c.into_parts-digest.result.0 in (
-      ap (held_at c.args.self.now) (sym c.digest.ensures) ∙ found_at c.args.self.now c.self.inside.operations.entries
+      ap (held_at c.args.self.now) (sym c.digest.ensures.own) ∙ found_at c.args.self.now c.self.inside.operations.entries
           c.digest.result.now _ c.self.view_is c.in_default.ensures.value,
       one_more c.self.inside.operations.entries c.put_in.new.tree.entries digest c.into_parts-digest.result.1
           c.in_ok-put_in.ensures.held
