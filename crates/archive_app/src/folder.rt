@@ -4,11 +4,15 @@ ghost use Rattle.std.specs.Prelude.{IsTrue};
 ghost use Rattle.archive_app.specs.Notes.{names_folder as names_folder_in};
 
 use crate::file::{OnStore, is_new};
-use crate::output::{CommandFault, FileCause, file_cause_of, names_folder};
-use crate::refused::Refused;
-use op_log::{FolderFault, FolderLog, LogFault, open_folder};
+use crate::output::{CommandFault, FileCause, Note, file_cause_of, names_folder};
+use crate::progress::Progress;
+use crate::refused::{Refused, note};
+use head_log::HeadFault;
+use op_log::{FolderFault, FolderFile, FolderLog, LogFault, open_folder, records_file};
 use op_shelf::{ShelfFault, StoreCause};
-use shelved_site::{KeptLog, shelf_fault};
+use record_log::{Told, open_told};
+use shelved_site::{Hearing, KeptLog, shelf_fault};
+use sqlite::Wary;
 use std::alloc::AllocError;
 use std::fs;
 use std::rt::HostRuntime;
@@ -102,6 +106,55 @@ pub fn log_in<'a>(rt: &HostRuntime, folder: &'a str) -> Result<FolderLog, Refuse
         return Err(refused);
     }
     open_folder(rt, folder).map_err(|fault| refused(folder, fault))
+}
+
+/// Who hears of the start over a folder.
+#[derive(Drop)]
+pub struct Starting<'a> {
+    rt: &'a HostRuntime,
+    folder: &'a str,
+    progress: Progress<'a>,
+}
+
+impl<'a> Starting<'a> {
+    pub fn of(rt: &'a HostRuntime, folder: &'a str) -> Starting<'a> {
+        Starting {
+            rt,
+            folder,
+            progress: Progress::of(rt),
+        }
+    }
+
+    /// The operations in the folder are read.
+    pub fn begins(&self) {
+        self.progress.begins(self.folder);
+    }
+}
+
+impl Hearing for Starting<'_> {
+    fn has_read(&self, operations: usize) {
+        Hearing::has_read(&self.progress, operations);
+    }
+
+    fn has_other_records(&self) {
+        note(self.rt, self.folder, Note::OtherRecords);
+    }
+}
+
+/// What the file of records in the folder of a log tells, and what adds to it. Why it tells nothing
+/// is said on standard error.
+pub fn records_in(rt: &HostRuntime, folder: &str) -> Told<FolderFile> {
+    let alloc = rt.alloc();
+    let told = match records_file(rt, folder, Wary) {
+        Ok(file) => open_told(alloc, file),
+        Err(_refused) => Told::none(alloc, HeadFault::Disk),
+    };
+    match told.fault {
+        None => {}
+        Some(HeadFault::Damaged(_)) => note(rt, folder, Note::DamagedRecords),
+        Some(_) => note(rt, folder, Note::NoRecords),
+    }
+    told
 }
 
 /// Does a command's work on the operations in a folder.

@@ -51,6 +51,8 @@ impl Hearing for Progress<'_> {
             let _ = eprintln!(rt; "taking {operations} operations");
         }
     }
+
+    fn has_other_records(&self) {}
 }
 
 /// How many operations are moved between two lines.

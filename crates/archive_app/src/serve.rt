@@ -1,17 +1,17 @@
 //! `archive serve`: serves the operations in a file or a folder to DICOM clients (PS3.8, section
 //! 9.1).
 
-ghost use Rattle.std.specs.Prelude.{◌≡◌, ◌≤◌, ◌<◌, ◌+◌, not, ◌==◌, vec_len, IfOk};
+ghost use Rattle.std.specs.Prelude.{◌≡◌, ◌≤◌, ◌<◌, ◌+◌, not, ◌==◌, [], vec_len, IfOk};
 ghost use Rattle.archive_server.specs.Serving.{others_in};
 ghost use Rattle.command_words.specs.Words.{HasPlaces};
 ghost use Rattle.shelved_site.specs.Keeping.{IsUp, log_of};
-ghost use Rattle.shelved_site.specs.Sites.{IsSiteOf};
+ghost use Rattle.shelved_site.specs.Told.{IsOpenedOn};
 ghost use Rattle.shelved_site.specs.Stores.{listed_in};
 
 use crate::duties::{duties_of, passes_for, workers_of};
 use crate::ending::ended_with_input;
 use crate::file::{adopted, refused, see_kind};
-use crate::folder::{is_folder, log_in};
+use crate::folder::{Starting, is_folder, log_in, records_in};
 use crate::gauges::gauges_of;
 use crate::listening::{Listening, listen_first, listen_to, say_where};
 use crate::output::CommandFault;
@@ -24,6 +24,8 @@ use association_run::OpenGate;
 use command_words::Serving;
 use log::Log;
 use octets::{ListOf, Octets};
+use record_log::Told;
+use records::RecordedContent;
 use shelved_site::{KeptLog, Store, hub_on, hub_on_log};
 use site_hub::{CloseFault, HubFault, HubName, Keeper, Opened, Pass, Snapshot, close};
 use sqlite::{Alter, Connection, Wary};
@@ -164,6 +166,7 @@ fn serve_hub<
     host: &HostRuntime,
     rt: &R,
     store: &mut S,
+    _told: &[RecordedContent],
     opened: Opened<&R>,
     listening: &Listening,
     serving: &Serving<'_>,
@@ -173,7 +176,8 @@ fn serve_hub<
     requires number { opened.number ≡ H.number }
     requires opening { opened.opening ≡ H.opening }
     requires passes { opened.passes ≡ H.passes }
-    requires site { S.is_clean store.old → IsSiteOf (S.lists store.old) H.opening }
+    requires site { S.is_clean store.old
+        → IsOpenedOn (S.lists store.old) _told.now H.opening }
 {
     let alloc = host.alloc();
     let titles = titles(alloc, serving)?;
@@ -212,7 +216,7 @@ fn hub_of<'r, R: Wait, S: Store>(
 ) -> Result<Opened<&'r R>, CommandFault>
     requires passes { (1 ≤ passes) × (passes ≤ 64) }
     ensures site { S.is_clean store.new → IfOk result (λ opened.
-        IsSiteOf (S.lists store.new) opened.opening) }
+        IsOpenedOn (S.lists store.new) [] opened.opening) }
 {
     let progress = Progress::of(host);
     progress.begins(file);
@@ -220,21 +224,22 @@ fn hub_of<'r, R: Wait, S: Store>(
     Ok(opened)
 }
 
-/// The same of a log.
-fn hub_of_log<'r, R: Wait + Threads + Sync, H: Disk, B: Disk>(
+/// The same of a log, of which some contents are told.
+fn hub_of_log<'r, R: Wait + Threads + Sync, H: Disk + Drop, B: Disk>(
     host: &HostRuntime,
     rt: &'r R,
     file: &str,
     log: &mut KeptLog<H, B>,
     passes: usize,
+    told: &[RecordedContent],
 ) -> Result<Opened<&'r R>, CommandFault>
     requires passes { (1 ≤ passes) × (passes ≤ 64) }
     ensures site { IsUp H.Disk B.Disk (log_of log.new) → IfOk result (λ opened.
-        IsSiteOf (listed_in B.Disk (log_of log.new)) opened.opening) }
+        IsOpenedOn (listed_in B.Disk (log_of log.new)) told.now opened.opening) }
 {
-    let progress = Progress::of(host);
-    progress.begins(file);
-    let opened = hub_on_log(host.alloc(), rt, rt, log, SITE, passes, &progress)?;
+    let starting = Starting::of(host, file);
+    starting.begins();
+    let opened = hub_on_log(host.alloc(), rt, rt, log, SITE, passes, told, &starting)?;
     Ok(opened)
 }
 
@@ -273,10 +278,12 @@ fn serve_site<
     host: &HostRuntime,
     rt: &R,
     store: &mut S,
+    told: &[RecordedContent],
     site: (Opened<&R>, Listening),
     serving: &Serving<'_>,
 ) -> Result<Count, CommandFault>
-    requires site { S.is_clean store.old → IsSiteOf (S.lists store.old) site.0.opening }
+    requires site { S.is_clean store.old
+        → IsOpenedOn (S.lists store.old) told.now site.0.opening }
 {
     let (opened, listening) = site;
     let ended = ending_of(host, rt, &listening, serving)?;
@@ -286,7 +293,7 @@ fn serve_site<
         recent: bytes_of(serving.cache),
         is_verbose: serving.is_verbose,
     };
-    serve_hub::<Brand, R, S>(host, rt, store, opened, &listening, serving, manner)
+    serve_hub::<Brand, R, S>(host, rt, store, told, opened, &listening, serving, manner)
 }
 
 /// Serves the site in a store, whose hub was opened, once it listens and says so.
@@ -305,12 +312,13 @@ fn serve_store<
     rt: &R,
     serving: &Serving<'a>,
     store: &mut S,
+    told: &[RecordedContent],
     opened: Result<Opened<&R>, CommandFault>,
     listening: Option<Listening>,
 ) -> Printed<Result<Count, Refused<'a>>>
     requires places { HasPlaces serving.now }
     requires site { S.is_clean store.old
-        → IfOk opened (λ opened. IsSiteOf (S.lists store.old) opened.opening) }
+        → IfOk opened (λ opened. IsOpenedOn (S.lists store.old) told.now opened.opening) }
 {
     let opened = match opened {
         Ok(opened) => opened,
@@ -323,7 +331,7 @@ fn serve_store<
     say_where(rt, &listening, serving)?;
     Ok(about(
         serving.file,
-        serve_site(host, rt, store, (opened, listening), serving),
+        serve_site(host, rt, store, told, (opened, listening), serving),
     ))
 }
 
@@ -350,7 +358,7 @@ fn serve_database<
     match adopted(host, serving.file, database) {
         Ok(mut shelf) => {
             let opened = hub_of(host, rt, serving.file, &mut shelf, passes_for(serving));
-            serve_store(host, rt, serving, &mut shelf, opened, listening)
+            serve_store(host, rt, serving, &mut shelf, &[], opened, listening)
         }
         Err(fault) => Ok(Err(fault)),
     }
@@ -403,9 +411,15 @@ fn serve_log<
 {
     match log_in(host, serving.file) {
         Ok(log) => {
-            let mut kept = KeptLog::of(host.alloc(), log);
-            let opened = hub_of_log(host, rt, serving.file, &mut kept, passes_for(serving));
-            serve_store(host, rt, serving, &mut kept, opened, listening)
+            let Told {
+                contents,
+                records,
+                fault: _,
+            } = records_in(host, serving.file);
+            let told = contents.as_slice();
+            let mut kept = KeptLog::beside(host.alloc(), log, records);
+            let opened = hub_of_log(host, rt, serving.file, &mut kept, passes_for(serving), told);
+            serve_store(host, rt, serving, &mut kept, told, opened, listening)
         }
         Err(fault) => Ok(Err(fault)),
     }

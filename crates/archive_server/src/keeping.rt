@@ -1,7 +1,7 @@
 //! The thread that keeps the shelf.
 
 ghost use Rattle.std.specs.Prelude.{◌≡◌, ◌++◌, ◌∷◌, [], All, IfOk, IsNone, ⊤};
-ghost use Rattle.operation.specs.Spelling.{digest_of};
+ghost use Rattle.operation.specs.Spelling.{digest_of, hash_of};
 ghost use Rattle.hub_exchange.specs.Putting.{IsKept, AreKept};
 
 use crate::message::{LoadRequest, PutRequest, Request};
@@ -109,7 +109,7 @@ fn answer_all<K: Keep, N: LedgerName, S: Wait>(
     ops: &[Digested],
     replies: &[Sender<Result<Shelved<N>, ShelfFault>>],
 )
-    requires put { All (λ op. IsKept K.is_up K.holds K.lasts shelf.now (digest_of op)) ops.now }
+    requires put { All (λ op. IsKept K.is_up K.holds K.lasts shelf.now (hash_of op)) ops.now }
     requires kept { AreKept K.is_up K.holds K.lasts ledger.old shelf.now }
     ensures kept { AreKept K.is_up K.holds K.lasts ledger.new shelf.now }
 {

@@ -9,7 +9,7 @@ use Rattle.std.proofs.lemmas.Option.{same_Some as some_is}
 use Rattle.operation.specs.declared.op.Op.{Op}
 use Rattle.operation.specs.declared.taken.Taken.{Taken}
 use Rattle.operation.specs.declared.taken.Taken.TheVariants.{New, Known}
-use Rattle.operation.specs.Spelling.{digest_of}
+use Rattle.operation.specs.Spelling.{digest_of, hash_of}
 use Rattle.records.specs.StandIn.{op_in}
 use Rattle.study_index.specs.Definition.{IsLawful, AreLawful}
 use Rattle.site_state.specs.Site.{Map, IsSite, IsClash, Takes, held_at, with_op, digest_cmp, ops_of}
@@ -45,24 +45,25 @@ gains_weaker these those before after all gains digest op held =
     [ inl there ↦ inl there | inr new ↦ inr (new.0, new.1, new.2, all new.0 new.3) ]
 
 -- what stands for one operation more, which is one of these
-gains_one : (these : Op → Type 0) (m : Map) (op : Op) → these op → GainsOnly these m (with_op_in m op)
-gains_one these m op is digest held there =
+gains_one : (these : Op → Type 0) (m : Map) (op : Op) → digest_of op ≡ hash_of op → these op
+    → GainsOnly these m (with_op_in m op)
+gains_one these m op own is digest held there =
     by (eq_by_cmp digest_cmp digest (digest_of op)) refl
     (sym (get-insert nat_list_cmp_total m (digest_of op) (op_in op) digest) ∙ there)
   where
     by : (b : Bool) → eq_by_cmp digest_cmp digest (digest_of op) ≡ b
         → cond b (Some (op_in op)) (held_at m digest) ≡ Some held
         → (held_at m digest ≡ Some held) ⊎ StandsForOne these digest held
-    by true at same = inr (op, some_is (op_in op) held same, sym (tied digest (digest_of op) at), is)
+    by true at same = inr (op, some_is (op_in op) held same, sym (tied digest (digest_of op) at ∙ own), is)
     by false at same = inl same
 
 -- what a site that nobody else changes takes
 pub gains_taken : (these : Op → Type 0) (before after : Map) (op : Op) (answer : Result Taken HolderFault)
-    → TakesAlone before op answer after → these op → GainsOnly these before after
-gains_taken these before after op (Ok New) takes is =
-    subst (λ (m : Map). GainsOnly these before m) (sym takes.1) (gains_one these before op is)
-gains_taken these before after op (Ok Known) takes is = gains_same these before after takes.1
-gains_taken these before after op (Err fault) takes is = gains_same these before after takes
+    → TakesAlone before op answer after → digest_of op ≡ hash_of op → these op → GainsOnly these before after
+gains_taken these before after op (Ok New) takes own is =
+    subst (λ (m : Map). GainsOnly these before m) (sym takes.1) (gains_one these before op own is)
+gains_taken these before after op (Ok Known) takes own is = gains_same these before after takes.1
+gains_taken these before after op (Err fault) takes own is = gains_same these before after takes
 
 -- what the site refused, which changes nothing
 pub refused_on_shelf : {K : Type 0} (refuses : K → K → Op → ShelfFault → Type 0) (before after : Map) (op : Op)

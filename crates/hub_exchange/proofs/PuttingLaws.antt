@@ -8,7 +8,7 @@ use Rattle.std.proofs.lemmas.List.Elements.{All-cons}
 use mathlib.Core.List.{IsPrefix}
 use Rattle.octets.specs.Members.{Has}
 use Rattle.operation.specs.declared.op.Op.{Op}
-use Rattle.operation.specs.Spelling.{digest_of}
+use Rattle.operation.specs.Spelling.{digest_of, hash_of}
 use Rattle.op_shelf.specs.declared.fault.ShelfFault.{ShelfFault}
 use Rattle.op_shelf.specs.declared.kept.Kept.{Kept}
 use Rattle.op_shelf.specs.declared.kept.Kept.TheVariants as kinds
@@ -162,7 +162,7 @@ module _ {K : Type 0} (up : K → Type 0) (holds lasts : K → Op → Type 0) (o
   pub kept_by_put : (op : Op) (kept : Kept) (reply : Result Kept ShelfFault) → reply ≡ Ok kept
       → (up new → reply ≡ Ok kinds.New → Gains (holds old) (holds new) op)
       → (up new → reply ≡ Ok kinds.Known → Finds (holds old) (holds new) op)
-      → (up new → lasts new op) → IsKept up holds lasts new (digest_of op)
+      → (up new → lasts new op) → IsKept up holds lasts new (hash_of op)
   kept_by_put op kept reply is gains finds durable = ∣ (
     op,
     (
@@ -177,7 +177,7 @@ module _ {K : Type 0} (up : K → Type 0) (holds lasts : K → Op → Type 0) (o
   -- an answer to a put of a group shows that each of it was put
   pub kept_by_group : (ops : List Op) (kepts : List Kept)
       → (up new → GainsAll (holds old) (holds new) ops kepts) → (up new → All (lasts new) ops)
-      → All (λ op. IsKept up holds lasts new (digest_of op)) ops
+      → All (λ op. IsKept up holds lasts new (hash_of op)) ops
   kept_by_group ops kepts gains durable = λ i op low. ∣ (
     get_or ops i op,
     (refl, λ now. (all_there (holds old) (holds new) ops kepts (gains now) i op low, durable now i op low)),

@@ -2,7 +2,7 @@
 use Rattle.std.specs.Prelude.{ℕ, ◌≡◌, ◌≢◌, ◌⊎◌, ⊤, List, Option, None, Some, IfSome, drop, length}
 use Rattle.octets.specs.Members.{Has}
 use Rattle.operation.specs.declared.op.Op.{Op}
-use Rattle.operation.specs.Spelling.{digest_of, hash_of}
+use Rattle.operation.specs.Spelling.{hash_of}
 use Rattle.records.specs.StandIn.{op_in}
 use Rattle.op_shelf.specs.declared.fault.ShelfFault.{ShelfFault}
 use Rattle.op_shelf.specs.declared.fault.ShelfFault.TheVariants as shelf_faults
@@ -12,10 +12,10 @@ use Rattle.exchange.specs.declared.fault.HolderFault.{HolderFault}
 use Rattle.exchange.specs.declared.fault.HolderFault.TheVariants.{Memory, Refused}
 use Rattle.exchange.specs.Held.{RefusesTake}
 
--- An operation of this digest was put on a shelf: while what the shelf tells of its operations holds, it is among them,
--- and every crash leaves it.
+-- An operation whose hash is this digest was put on a shelf: while what the shelf tells of its operations holds, it is
+-- among them, and every crash leaves it.
 abbrev pub IsKept : {K : Type 0} → (K → Type 0) → (K → Op → Type 0) → (K → Op → Type 0) → K → List ℕ → Type 0
-IsKept is_up holds lasts shelf digest = ∥ ((op : Op) × ((digest_of op ≡ digest)
+IsKept is_up holds lasts shelf digest = ∥ ((op : Op) × ((hash_of op ≡ digest)
     × (is_up shelf → holds shelf op × lasts shelf op))) ∥₁
 
 -- each digest that was written was put on the shelf
@@ -32,9 +32,9 @@ WasWritten written digest = ∥ Has written digest ∥₁
 abbrev pub AddsOnly : (List ℕ → Type 0) → List (List ℕ) → List (List ℕ) → Type 0
 AddsOnly these first all = (digest : List ℕ) → Has (drop (length first) all) digest → these digest
 
--- it stands for one of these operations, which has this digest
+-- it stands for one of these operations, whose hash is this digest
 abbrev pub StandsForOne : (Op → Type 0) → List ℕ → Op → Type 0
-StandsForOne these digest held = (op : Op) × (op_in op ≡ held) × (digest_of op ≡ digest) × these op
+StandsForOne these digest held = (op : Op) × (op_in op ≡ held) × (hash_of op ≡ digest) × these op
 
 -- what a site has gained under each digest stands for one of these
 abbrev pub GainsOnly : (Op → Type 0) → Map → Map → Type 0

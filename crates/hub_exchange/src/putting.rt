@@ -31,7 +31,7 @@ pub fn shown<K: Keep, N: LedgerName>(
     ledger: &mut Ledger<N>,
     op: &Digested,
 ) -> Shelved<N>
-    requires put { IsKept K.is_up K.holds K.lasts _shelf.now (digest_of op.now) }
+    requires put { IsKept K.is_up K.holds K.lasts _shelf.now (hash_of op.now) }
     requires kept { AreKept K.is_up K.holds K.lasts ledger.old _shelf.now }
     ensures kept { AreKept K.is_up K.holds K.lasts ledger.new _shelf.now }
     ensures own { result.digest ≡ digest_of op.now }
@@ -67,7 +67,7 @@ pub fn put_all<K: Keep, N: LedgerName>(
     requires kept { AreKept K.is_up K.holds K.lasts _ledger.now shelf.old }
     ensures kept { AreKept K.is_up K.holds K.lasts _ledger.now shelf.new }
     ensures put { OnOk result
-        (All (λ op. IsKept K.is_up K.holds K.lasts shelf.new (digest_of op)) ops.now) }
+        (All (λ op. IsKept K.is_up K.holds K.lasts shelf.new (hash_of op)) ops.now) }
 {
     shelf.put_many(ops)?;
     Ok(())

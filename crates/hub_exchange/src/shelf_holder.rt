@@ -165,6 +165,7 @@ impl<K: Keep + Drop, E: AtOpening> Holder for ShelvedHolder<K, E> {
     }
 
     fn take(&mut self, op: Digested) -> Result<Taken, HolderFault> {
+        op.op().see_lawful();
         match self.shelf.put_digested(&op) {
             Ok(_kept) => take_record(self.alloc, &mut self.site, &op),
             Err(fault) => Err(refusal_of_shelf(fault)),

@@ -13,4 +13,5 @@ pub mod Opening
 pub mod Recordings
 pub mod Spellings
 pub mod TestedBodies
+pub mod Told
 pub mod Walks

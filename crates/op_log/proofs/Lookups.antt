@@ -2,16 +2,17 @@
 use denote.Ref.{Bor}
 use Rattle.std.specs.Option.{option_copied}
 use Rattle.std.proofs.lemmas.List.Elements.{All-head, All-tail}
-use Rattle.std.proofs.Common.{All, IfSome, subst, ◌≡◌, ℕ, zero, suc, List, [], ◌∷◌, ◌++◌, Bool, true, false, cond, nat_eq}
+use Rattle.std.proofs.Common.{All, IfSome, is_some, length, get_or, ◌<◌, subst, ◌≡◌, ℕ, zero, suc, List, [], ◌∷◌, ◌++◌, Bool, true, false, cond, nat_eq}
 use Rattle.std.proofs.Common.{Option, Some, None, map, refl, sym, ◌∙◌, ap, Contains, arith, true≢false}
 use Rattle.std.proofs.lemmas.List.{map-append}
-use Rattle.std.specs.List.{AllByRecursion, IsDistinct}
+use Rattle.std.proofs.lemmas.List.Quantifiers.{position-Some}
+use Rattle.std.specs.List.{AllByRecursion, IsDistinct, position}
 use Rattle.std.specs.Map.{keys_of, lookup}
 use Rattle.std.specs.Cmp.Lexicographic.{pointwise, bytes_decides}
 use Rattle.op_log.specs.declared.place.Place.{Place}
 use Rattle.op_log.specs.Heads.{Head}
 use Rattle.op_log.specs.Kept.{HaveOwnDigests, first_under}
-use Rattle.op_log.specs.Places.{head_at, head_by}
+use Rattle.op_log.specs.Places.{HasDigestAt, head_at, head_by}
 
 -- a lookup by equal bytes
 abbrev pub under : List ℕ → List (List ℕ × Place) → Option Place
@@ -110,6 +111,34 @@ pub find_none : (r : Option (Bor Place)) (entries : List (List ℕ × Place)) (d
 find_none r entries digest key heads same view is none =
     ap (λ (hs : List Head). first_under digest hs) (sym view)
     ∙ subst (λ (d : List ℕ). first_under d (map head_at entries) ≡ None) same (absent entries key (sym is ∙ ap option_copied none))
+
+-- a key stands where its head does
+head_under : (entries : List (List ℕ × Place)) (i : ℕ) (digest : List ℕ) → i < length (keys_of entries)
+    → get_or (keys_of entries) i [] ≡ digest → HasDigestAt (map head_at entries) i digest
+head_under [] i digest low is = absurd (omega (arith, low))
+head_under (e ∷ entries) zero digest low is = (head_at e, refl, is)
+head_under (e ∷ entries) (suc i) digest low is = head_under entries i digest (omega (arith, low)) is
+
+-- the index that a table answers
+pub index_in : (r : Option ℕ) (entries : List (List ℕ × Place)) (digest key : List ℕ) (heads : List Head) → key ≡ digest
+    → map head_at entries ≡ heads → r ≡ position (pointwise nat_eq key) (keys_of entries)
+    → IfSome r (λ i. HasDigestAt heads i digest)
+index_in None entries digest key heads same view is = tt
+index_in (Some i) entries digest key heads same view is =
+    let (low, hit, none) = position-Some (pointwise nat_eq key) (keys_of entries) i [] (sym is) in
+    subst (λ (hs : List Head). HasDigestAt hs i digest) view
+    (head_under entries i digest low (sym ((bytes_decides key (get_or (keys_of entries) i [])).0 hit) ∙ same))
+
+pub index_none : (r : Option ℕ) (entries : List (List ℕ × Place)) (digest key : List ℕ) (heads : List Head) → key ≡ digest
+    → map head_at entries ≡ heads → is_some r ≡ is_some (under key entries) → r ≡ None → first_under digest heads ≡ None
+index_none r entries digest key heads same view is none =
+    ap (λ (hs : List Head). first_under digest hs) (sym view)
+    ∙ subst (λ (d : List ℕ). first_under d (map head_at entries) ≡ None) same
+    (absent entries key (no_place (under key entries) (sym is ∙ ap is_some none)))
+  where
+    no_place : (o : Option Place) → is_some o ≡ false → o ≡ None
+    no_place None is = refl
+    no_place (Some place) is = absurd (true≢false is)
 
 -- what is found is among the others
 pub among : (P : Head → Type 0) (heads : List Head) (digest : List ℕ) (h : Head) → first_under digest heads ≡ Some h → All P heads → P h

@@ -13,5 +13,6 @@ pub mod Recorded
 pub mod Records
 pub mod Spelled
 pub mod Staged
+pub mod Told
 pub mod Verified
 pub mod Walking

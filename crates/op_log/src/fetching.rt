@@ -30,18 +30,21 @@ fn are_enough(count: usize, bytes: usize, size: usize) -> bool
     count > 0 && (size < WORTH || bytes.saturating_add(size) > MOST)
 }
 
-/// The operations of the heads from an index on, in their order, as many as are read ahead. They
-/// are not hashed here, so where the disk changed a data set it may be another operation.
+/// The operations of the heads from an index on and before another, in their order, as many as are
+/// read ahead. They are not hashed here, so where the disk changed a data set it may be another
+/// operation.
 pub(crate) fn fetch<B: Disk>(
     bodies: &mut BodyLog<B>,
     places: &Places,
     from: usize,
+    until: usize,
 ) -> Result<Vec<Fetched>, LogFault>
-    requires within { from ≤ length places.now }
+    requires order { from ≤ until }
+    requires within { until ≤ length places.now }
     ensures read { IfOk result (λ ops. IsTrue (B.Disk.is_clean (disk_of bodies.new))
         → AreRead (B.Disk.seen (disk_of bodies.old)) ops.items (drop from places.now)) }
-    ensures some { from < length places.now → IfOk result (λ ops. 0 < length ops.items) }
-    ensures within { IfOk result (λ ops. from + length ops.items ≤ length places.now) }
+    ensures some { from < until → IfOk result (λ ops. 0 < length ops.items) }
+    ensures within { IfOk result (λ ops. from + length ops.items ≤ until) }
     ensures damaged { IsTrue (B.Disk.is_clean (disk_of bodies.new)) → (n : ℕ)
         → IsErrOf result (LogFault.DamagedBody n)
         → HasBadHead (B.Disk.seen (disk_of bodies.old)) places.now n }
@@ -56,7 +59,7 @@ pub(crate) fn fetch<B: Disk>(
 {
     let mut ops = Vec::new(places.alloc());
     let mut total = 0;
-    'places: for index in from..places.len() {
+    'places: for index in from..until {
         let Some((_bytes, place)) = places.at(index) else {
             return Ok(ops);
         };

@@ -1,5 +1,6 @@
 //! A log in a folder: the files `heads` and `bodies`, and beside each the second file that the port
-//! makes, which stays empty.
+//! makes, which stays empty. Beside them a third one, `records`, is kept of what a start need not
+//! read again.
 
 ghost use Rattle.std.specs.Prelude.{◌≡◌, ℕ, false, List, IfErr, IfOk, IfSome, IsSome, IsTrue};
 ghost use Rattle.op_log.specs.declared.fault.LogFault.{LogFault};
@@ -20,8 +21,11 @@ use std::fs::{self, File};
 use std::io;
 use std::rt::HostRuntime;
 
+/// A file in a folder, of which nothing is supposed.
+pub type FolderFile = FileFrom<Wary>;
+
 /// A log in a folder, of which nothing is supposed.
-pub type FolderLog = OpLog<FileFrom<Wary>, FileFrom<Wary>>;
+pub type FolderLog = OpLog<FolderFile, FolderFile>;
 
 /// Makes the folder if it is not there. Afterwards its name is on the disk.
 fn make_folder(rt: &HostRuntime, folder: &str) -> io::Result<()> {
@@ -121,4 +125,17 @@ pub fn open_folder(rt: &HostRuntime, folder: &str) -> Result<FolderLog, FolderFa
         Ok(log) => Ok(log),
         Err(refused) => Err(refused.fault),
     }
+}
+
+/// The file of records in the folder of a log, which holds what is supposed of it. It is made where
+/// it is not there, and it is `Busy` while another program, or this one, has it open.
+pub fn records_file<S: Start>(
+    rt: &HostRuntime,
+    folder: &str,
+    start: S,
+) -> Result<FileFrom<S>, FolderFault>
+    ensures usable { IfOk result (λ file. IsTrue (file_is_usable S.Start file)) }
+    ensures fault { IfErr result IsNoLog }
+{
+    file_in(rt, folder, "records", start)
 }

@@ -16,7 +16,7 @@ ghost use Rattle.op_log.specs.Kept.{first_under};
 ghost use Rattle.op_log.specs.Loaded.{HasBadHead, Lists};
 ghost use Rattle.op_log.specs.Log.{GoesOn, IsSound, IsTooLong, Looks};
 ghost use Rattle.op_log.specs.Puts.{ComesToClash, LeavesAllOrNone, PutsAll};
-ghost use Rattle.op_log.specs.Recorded.{Records};
+ghost use Rattle.op_log.specs.Recorded.{AreRecordedAs, Records};
 ghost use Rattle.op_log.specs.Records.{head_in};
 ghost use Rattle.op_log.specs.Verified.{damaged_in, digests_of, is_whole as is_whole_in};
 ghost use Rattle.op_log.specs.Walking.{AreOfLog};
@@ -28,14 +28,15 @@ use crate::loading::{load_at, read_at};
 use crate::places::Places;
 use crate::putting::put_group;
 use crate::record::Record;
-use crate::recording::{all_records, all_records_with};
+use crate::recording::all_records;
 use crate::refused::{Refused, refused_bodies, refused_heads};
+use crate::telling::{all_records_with, all_told_with};
 use crate::verifying::{damaged, is_whole};
 use crate::walking::walk;
 use body_log::BodyLog;
 use head_log::HeadLog;
 use operation::{Digest, Digested, Op};
-use records::RecordedOp;
+use records::{RecordedContent, RecordedOp};
 use sqlite_disk::Disk;
 use std::alloc::Global;
 use std::marker::Model;
@@ -388,6 +389,41 @@ impl<H: Disk, B: Disk> OpLog<H, B> {
         ensures only { IfErr result IsOfLook }
     {
         all_records_with(rt, alloc, &mut self.bodies, &self.places)
+    }
+
+    /// The same, where records of contents are told: an operation with the digest of one of them is
+    /// recorded from that, and its data set is neither read nor hashed. They are taken in the order
+    /// of the operations: one that is told later than that of a later operation is passed over, and
+    /// so is one whose digest no operation has. Whether a record that is told is that of the
+    /// operation nobody tests (`what_is_told_truly_stands`).
+    pub fn records_told<R: Threads + Sync>(
+        &mut self,
+        rt: &R,
+        alloc: Global,
+        told: &[RecordedContent],
+    ) -> Result<Vec<RecordedOp>, LogFault>
+        ensures told { IfOk result (λ recorded. map digest_of recorded.items
+            ≡ digests_of self.old.places) }
+        // Each stands for the very operation that was put, as long as the disk returns what was
+        // written, or was told under its digest.
+        ensures all { IfOk result (λ recorded. IsTrue (B.Disk.is_clean self.new.bodies)
+            → AreRecordedAs (B.Disk.seen self.old.bodies) told.now self.old.places
+            recorded.items) }
+        ensures looks { Looks self.old self.new }
+        ensures seen { B.Disk.seen self.new.bodies ≡ B.Disk.seen self.old.bodies }
+        ensures goes_on { GoesOn H.Disk B.Disk self.old self.new }
+
+        // Each fault, only where it is.
+        ensures damaged { IsTrue (B.Disk.is_clean self.new.bodies) → (n : ℕ)
+            → IsErrOf result (LogFault.DamagedBody n)
+            → HasBadHead (B.Disk.seen self.old.bodies) self.old.places n }
+        ensures closed { IsErrOf result LogFault.Closed
+            → B.Disk.is_usable self.old.bodies ≡ false }
+        ensures disk { CountsAs LogFault.Disk result
+            (B.Disk.faults self.old.bodies) (B.Disk.faults self.new.bodies) }
+        ensures only { IfErr result IsOfLook }
+    {
+        all_told_with(rt, alloc, &mut self.bodies, &self.places, told)
     }
 
     /// The digests of the operations whose data sets are none of theirs, in the order of their

@@ -1,9 +1,9 @@
 //! The places of operations, in memory, each under its digest.
 
-ghost use Rattle.std.specs.Prelude.{◌≡◌, ◌++◌, ◌∷◌, [], None, Some, ◌≤◌, take, length, slice_get, IfSome, OnOk, OnErr};
+ghost use Rattle.std.specs.Prelude.{◌≡◌, ◌++◌, ◌∷◌, [], None, Some, ◌≤◌, ◌<◌, take, length, slice_get, IfSome, OnOk, OnErr};
 ghost use Rattle.std.specs.Option.{option_map};
 ghost use Rattle.op_log.specs.Kept.{HaveOwnDigests, first_under};
-ghost use Rattle.op_log.specs.Places.{head_by};
+ghost use Rattle.op_log.specs.Places.{HasDigestAt, head_by};
 
 use crate::place::Place;
 use indexmap::IndexMap;
@@ -73,6 +73,15 @@ impl Places {
         ensures none { result ≡ None → first_under digest.now self.now ≡ None }
     {
         self.table.get(digest.as_bytes())
+    }
+
+    /// The index of the head with a digest.
+    pub(crate) fn index_of(&self, digest: &Digest) -> Option<usize>
+        ensures found { IfSome result (λ index. HasDigestAt self.now index digest.now) }
+        ensures within { IfSome result (λ index. index < length self.now) }
+        ensures none { result ≡ None → first_under digest.now self.now ≡ None }
+    {
+        self.table.get_index_of(digest.as_bytes())
     }
 
     /// The digest and the place at an index.

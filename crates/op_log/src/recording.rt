@@ -4,18 +4,19 @@ ghost use Rattle.std.specs.Prelude.{◌≡◌, ◌+◌, ◌≤◌, ◌<◌, ℕ,
 ghost use Rattle.std.specs.Prelude.{IfOk, IfErr, IsTrue, IsErrOf, OnOk};
 ghost use Rattle.std.specs.Thread.{IsSync};
 ghost use Rattle.body_log.specs.Log.{disk_of, end_of};
+ghost use Rattle.operation.specs.Parts.{ContentParts};
 ghost use Rattle.operation.specs.Spelling.{digest_of};
 ghost use Rattle.op_log.specs.Fault.{IsOfLook};
 ghost use Rattle.op_log.specs.Fetched.{AreRead, IsReadAt};
 ghost use Rattle.op_log.specs.Heads.{Head};
 ghost use Rattle.op_log.specs.Kept.{IsBelow};
 ghost use Rattle.op_log.specs.Loaded.{HasBadHead};
-ghost use Rattle.op_log.specs.Recorded.{Records};
+ghost use Rattle.op_log.specs.Recorded.{AreRecordedAs, Records};
 ghost use Rattle.op_log.specs.Staged.{Counts, Grows, Uses};
 ghost use Rattle.op_log.specs.Verified.{digests_of};
 
 use crate::fault::LogFault;
-use crate::fetched::{Fetched, hash_each, threads_of};
+use crate::fetched::{Fetched, hash_each};
 use crate::fetching::{WORTH, fetch};
 use crate::loading::{has_digest, load_at};
 use crate::places::Places;
@@ -69,9 +70,11 @@ fn record_at(
     ensures told { map digest_of recorded.old.items ≡ digests_of (take index places.now)
         → OnOk result
         (map digest_of recorded.new.items ≡ digests_of (take (index + 1) places.now)) }
-    ensures all { (file : List ℕ) → (h : Head) → slice_get places.now index ≡ Some h
-        → IsReadAt file h op.now → Records file (take index places.now) recorded.old.items
-        → OnOk result (Records file (take (index + 1) places.now) recorded.new.items) }
+    ensures all { (file : List ℕ) → (told : List ContentParts) → (h : Head)
+        → slice_get places.now index ≡ Some h → IsReadAt file h op.now
+        → AreRecordedAs file told (take index places.now) recorded.old.items
+        → OnOk result
+        (AreRecordedAs file told (take (index + 1) places.now) recorded.new.items) }
     ensures damaged { (file : List ℕ) → (h : Head) → slice_get places.now index ≡ Some h
         → IsReadAt file h op.now → (n : ℕ) → IsErrOf result (LogFault.DamagedBody n)
         → HasBadHead file places.now n }
@@ -102,9 +105,10 @@ fn record_some(
     ensures told { map digest_of recorded.old.items ≡ digests_of (take from places.now)
         → OnOk result (map digest_of recorded.new.items
         ≡ digests_of (take (from + length ops.items) places.now)) }
-    ensures all { (file : List ℕ) → Records file (take from places.now) recorded.old.items
-        → AreRead file ops.items (drop from places.now) → OnOk result
-        (Records file (take (from + length ops.items) places.now) recorded.new.items) }
+    ensures all { (file : List ℕ) → (told : List ContentParts)
+        → AreRecordedAs file told (take from places.now) recorded.old.items
+        → AreRead file ops.items (drop from places.now) → OnOk result (AreRecordedAs file told
+        (take (from + length ops.items) places.now) recorded.new.items) }
     ensures damaged { (file : List ℕ) → AreRead file ops.items (drop from places.now) → (n : ℕ)
         → IsErrOf result (LogFault.DamagedBody n) → HasBadHead file places.now n }
     ensures disk { ¬ IsErrOf result LogFault.Disk }
@@ -123,8 +127,8 @@ fn record_some(
     Ok(())
 }
 
-/// Hashes operations side by side, while those of the heads from an index on are read; a small one,
-/// for which a thread does not pay, is left to who records it.
+/// Hashes operations side by side, while those of the heads from an index on and before another are
+/// read; a small one, for which a thread does not pay, is left to who records it.
 fn hash_and_fetch<R: Threads + Sync, B: Disk>(
     rt: &R,
     threads: usize,
@@ -132,14 +136,16 @@ fn hash_and_fetch<R: Threads + Sync, B: Disk>(
     bodies: &mut BodyLog<B>,
     places: &Places,
     from: usize,
+    until: usize,
 ) -> Result<Vec<Fetched>, LogFault>
     requires threads { 0 < threads }
-    requires within { from ≤ length places.now }
+    requires order { from ≤ until }
+    requires within { until ≤ length places.now }
     ensures same { ops.new ≡ ops.old }
     ensures read { IfOk result (λ next. IsTrue (B.Disk.is_clean (disk_of bodies.new))
         → AreRead (B.Disk.seen (disk_of bodies.old)) next.items (drop from places.now)) }
-    ensures some { from < length places.now → IfOk result (λ next. 0 < length next.items) }
-    ensures within { IfOk result (λ next. from + length next.items ≤ length places.now) }
+    ensures some { from < until → IfOk result (λ next. 0 < length next.items) }
+    ensures within { IfOk result (λ next. from + length next.items ≤ until) }
     ensures damaged { IsTrue (B.Disk.is_clean (disk_of bodies.new)) → (n : ℕ)
         → IsErrOf result (LogFault.DamagedBody n)
         → HasBadHead (B.Disk.seen (disk_of bodies.old)) places.now n }
@@ -157,7 +163,7 @@ fn hash_and_fetch<R: Threads + Sync, B: Disk>(
         None => false,
     };
     if !pays {
-        return fetch(bodies, places, from);
+        return fetch(bodies, places, from, until);
     }
     let (_hashed, next) = join_mut(
         rt,
@@ -165,40 +171,52 @@ fn hash_and_fetch<R: Threads + Sync, B: Disk>(
             requires { IsSync R.row × (0 < threads) }
             ensures { ops.exit.now ≡ ops.entry.now }
         { hash_each(rt, threads, ops) },
-        &mut || fetch(bodies, places, from),
+        &mut || fetch(bodies, places, from, until),
     );
     next
 }
 
-/// The same as `all_records`. Operations are hashed side by side while the next are read.
-pub(crate) fn all_records_with<R: Threads + Sync, B: Disk>(
+/// Records the operations of the heads from an index on and before another, behind those of the
+/// heads before them. Operations are hashed side by side while the next are read.
+pub(crate) fn record_between<R: Threads + Sync, B: Disk>(
     rt: &R,
+    threads: usize,
     alloc: Global,
     bodies: &mut BodyLog<B>,
     places: &Places,
-) -> Result<Vec<RecordedOp>, LogFault>
-    ensures told { IfOk result (λ recorded. map digest_of recorded.items ≡ digests_of places.now) }
-    ensures all { IfOk result (λ recorded. IsTrue (B.Disk.is_clean (disk_of bodies.new))
-        → Records (B.Disk.seen (disk_of bodies.old)) places.now recorded.items) }
+    from: usize,
+    until: usize,
+    recorded: &mut Vec<RecordedOp>,
+) -> Result<(), LogFault>
+    requires threads { 0 < threads }
+    requires order { from ≤ until }
+    requires within { until ≤ length places.now }
+    ensures told { map digest_of recorded.old.items ≡ digests_of (take from places.now)
+        → OnOk result (map digest_of recorded.new.items ≡ digests_of (take until places.now)) }
+    ensures all { IsTrue (B.Disk.is_clean (disk_of bodies.new)) → (told : List ContentParts)
+        → AreRecordedAs (B.Disk.seen (disk_of bodies.old)) told (take from places.now)
+        recorded.old.items → OnOk result (AreRecordedAs (B.Disk.seen (disk_of bodies.old)) told
+        (take until places.now) recorded.new.items) }
     ensures damaged { IsTrue (B.Disk.is_clean (disk_of bodies.new)) → (n : ℕ)
         → IsErrOf result (LogFault.DamagedBody n)
         → HasBadHead (B.Disk.seen (disk_of bodies.old)) places.now n }
     ensures disk { All (IsBelow (end_of bodies.old)) places.now
         → Counts B.Disk (end_of bodies.old) bodies.old bodies.new result }
+    ensures calm { OnOk result
+        (B.Disk.faults (disk_of bodies.new) ≡ B.Disk.faults (disk_of bodies.old)) }
     ensures only { IfErr result IsOfLook }
+    ensures seen { B.Disk.seen (disk_of bodies.new) ≡ B.Disk.seen (disk_of bodies.old) }
     ensures grows { Grows B.Disk bodies.old bodies.new }
     ensures uses { Uses B.Disk bodies.old bodies.new result }
 {
-    let threads = threads_of(rt);
-    let mut recorded = Vec::with_capacity(alloc, places.len())?;
-    let mut from = 0;
-    let mut ready = fetch(bodies, places, from)?;
-    'groups: while from < places.len() {
+    let mut index = from;
+    let mut ready = fetch(bodies, places, index, until)?;
+    'groups: while index < until {
         let mut ops = ready;
-        let end = from + ops.len();
-        ready = hash_and_fetch(rt, threads, ops.as_mut_slice(), bodies, places, end)?;
-        record_some(alloc, places, from, ops, &mut recorded)?;
-        from = end;
+        let end = index + ops.len();
+        ready = hash_and_fetch(rt, threads, ops.as_mut_slice(), bodies, places, end, until)?;
+        record_some(alloc, places, index, ops, recorded)?;
+        index = end;
     }
-    Ok(recorded)
+    Ok(())
 }

@@ -88,16 +88,18 @@ pub content_digest : (c : ContentParts) → IsContent c → c.digest ≡ digest_
 content_digest c is = ∥∥₁_elim is (Coded-set text_code c.digest (digest_of_draft (draft_of c))) (λ d. d.1.digest)
 
 pub own_digest : (op : Op) → IsOp op → digest_of op ≡ hash_of op
-unfolding digest_of_draft hash_of spelling
+unfolding digest_of digest_of_draft hash_of spelling
 own_digest (a_content c) is = ap as_digest (content_digest c is) ∙ hash_is _
 own_digest (a_correction k) is = refl
 
 -- it has 32 bytes
 pub digest_long : (op : Op) → length (digest_of op) ≡ 32
+unfolding digest_of
 digest_long (a_content c) = as_long c.digest
 digest_long (a_correction k) = length-sha256 _
 
 pub digest_is_bytes : (op : Op) → IsBytes (digest_of op)
+unfolding digest_of
 digest_is_bytes (a_content c) = as_bytes c.digest
 digest_is_bytes (a_correction k) = hash_bytes _
 

@@ -6,3 +6,4 @@ pub mod ExistenceLaws
 pub mod KeyValueLaws
 pub mod OutcomeLaws
 pub mod ReadingLaws
+pub mod RecordTextLaws

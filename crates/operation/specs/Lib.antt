@@ -10,5 +10,6 @@ pub mod Parts
 pub mod Reading
 pub mod RecordLaws
 pub mod RecordParts
+pub mod RecordTexts
 pub mod Records
 pub mod Spelling

@@ -9,8 +9,8 @@ use Rattle.operation.specs.declared.target.Target.TheVariants.{Study, Patient, S
 use Rattle.operation.specs.Drafts.{digest_of_draft}
 
 -- a stored data set with its SOP class, its SOP instance and its transfer syntax, and what is asked of it again and
--- again:
--- its digest, the trimmed values of its elements that queries know, by ascending tag, and what it says as a rejection note
+-- again: its digest, the trimmed values of its elements that queries know, by ascending tag, and what it says as a
+-- rejection note
 pub record ContentParts : Type 0 where
   pub digest : List ℕ
   pub class : List ℕ

@@ -37,6 +37,6 @@ unfoldable pub hash_of : Op → List ℕ
 hash_of op = sha256 (spelling op)
 
 -- the digest, which a content has among its parts; of what a site can take it is the hash (`own_digest`)
-abbrev pub digest_of : Op → List ℕ
+unfoldable pub digest_of : Op → List ℕ
 digest_of (a_content c) = as_digest c.digest
 digest_of (a_correction k) = sha256 (correction_text k)

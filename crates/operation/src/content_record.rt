@@ -21,8 +21,8 @@ use std::sync::Arc;
 /// Its copies share all but the digest, and the content shares it with them.
 #[derive(Debug, Drop)]
 pub struct ContentRecord {
-    digest: Digest,
-    kept: Arc<Kept, Global>,
+    pub(crate) digest: Digest,
+    pub(crate) kept: Arc<Kept, Global>,
 }
 
 impl Model for ContentRecord {

@@ -1,6 +1,7 @@
 //! Digests, the names of operations.
 
-ghost use Rattle.std.specs.Prelude.{◌≡◌, List, ℕ, IfOk, string_bytes};
+ghost use Rattle.std.specs.Prelude.{◌≡◌, length, List, ℕ, IfOk, string_bytes};
+ghost use Rattle.octets.specs.Bytes.{IsBytes};
 ghost use Rattle.hex.specs.Hex.{encode_lower};
 
 use std::alloc::{AllocError, Global};
@@ -22,6 +23,11 @@ impl Model for Digest {
     ghost inverse = { λ d. record { bytes = d } };
 }
 
+/// Each of some bytes is one. Nothing is done: this is a fact for callers.
+fn see_bytes_of(bytes: &[u8])
+    ensures { IsBytes bytes.now }
+{}
+
 impl Digest {
     /// The digest of these bytes.
     pub fn of(bytes: [u8; 32]) -> Digest
@@ -34,6 +40,14 @@ impl Digest {
         ensures { result.now ≡ self.now }
     {
         &self.bytes
+    }
+
+    /// It has 32 bytes. Nothing is done: this is a fact for callers.
+    pub fn see_bytes(&self)
+        ensures long { length self.now ≡ 32 }
+        ensures bytes { IsBytes self.now }
+    {
+        see_bytes_of(self.bytes.as_slice());
     }
 
     /// 64 lower-case hexadecimal digits.

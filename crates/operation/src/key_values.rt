@@ -17,9 +17,9 @@ use std::marker::Model;
 /// An element's tag, and how many bytes of the text its value has. They begin where those of the
 /// place before it end.
 #[derive(Debug, Drop)]
-struct Place {
-    tag: u32,
-    length: u32,
+pub(crate) struct Place {
+    pub(crate) tag: u32,
+    pub(crate) length: u32,
 }
 
 impl Model for Place {
@@ -36,8 +36,8 @@ impl Model for Place {
 /// blocks of memory, neither with room to spare.
 #[derive(Debug, Drop)]
 pub struct KeyValues {
-    text: Octets,
-    places: ListOf<Place>,
+    pub(crate) text: Octets,
+    pub(crate) places: ListOf<Place>,
 }
 
 impl Model for KeyValues {
@@ -107,7 +107,7 @@ impl KeyValues {
 }
 
 /// Puts a value behind the others.
-fn put(
+pub(crate) fn put(
     text: &mut Vec<u8>,
     places: &mut Vec<Place>,
     tag: u32,

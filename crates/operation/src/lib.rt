@@ -20,9 +20,11 @@ mod laws;
 mod op;
 mod record;
 mod record_laws;
+mod record_texts;
 mod stamp;
 mod taken;
 mod target;
+mod value_texts;
 
 pub use content::Content;
 pub use content_record::ContentRecord;

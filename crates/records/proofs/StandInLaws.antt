@@ -19,7 +19,8 @@ use Rattle.operation.proofs.Bounds.{body_short, class_short, instance_short}
 use Rattle.operation.proofs.ContentLaws.{own_instance}
 use Rattle.operation.proofs.DigestLaws.{digest_again, digest_is, digest_is_bytes, digest_long, draft_hash, own_digest}
 use Rattle.records.specs.StandIn.{kept_of, has_digest, found_or_zeros, body_under, stand_in, op_in, content_of, kept_in, zeros}
-use Rattle.records.specs.StandIn.{IsRecord, IsStandIn, IsWhole}
+use Rattle.operation.specs.RecordTexts.{IsNamed}
+use Rattle.records.specs.StandIn.{HasLengths, IsRecord, IsStandIn, IsWhole}
 use Rattle.records.specs.Laws.{StandInHasHash, StandInHasRecord, StandInIsOne, StandInIsOfRecord, StandsForItself}
 use Rattle.records.specs.Strings.{strings}
 use Rattle.records.proofs.StringLaws.{found_has, none_has, strings_have, strings_long}
@@ -78,6 +79,7 @@ record_under kept digest size = record {
 
 -- what stands for a content has its record
 pub has_record : (c : ContentParts) → content_record (stand_in c) ≡ content_record c
+unfolding digest_of
 has_record c =
     ap (λ (d : List ℕ). record_under (kept_of c) d (length (stand_in c).body)) (digest_again c.digest)
     ∙ ap (λ (n : ℕ). record_under (kept_of c) (digest_of (a_content c)) n)
@@ -85,6 +87,7 @@ has_record c =
 
 -- a record is that of what stands for it
 pub of_record : (r : ContentRecordParts) → IsRecord r → content_record (content_of r) ≡ r
+unfolding digest_of
 of_record r is =
     ap (λ (d : List ℕ). record_under (kept_in r) d (length (content_of r).body))
     (digest_is r.digest is.digest.long is.digest.bytes)
@@ -117,6 +120,20 @@ is_record c is = record {
   short = body_short c is;
 }
 
+-- so is one that names its instance, where its numbers are those of a content
+pub is_lawful : (r : ContentRecordParts) → IsNamed r → HasLengths r → IsRecord r
+is_lawful r named lengths = record {
+  digest = record { long = named.long; bytes = named.bytes };
+  class = lengths.class;
+  instance = lengths.instance;
+  named = named.instance;
+  short = lengths.short;
+}
+
+-- and these numbers are
+pub has_lengths : (r : ContentRecordParts) → IsRecord r → HasLengths r
+has_lengths r is = record { class = is.class; instance = is.instance; short = is.short }
+
 -- its class and its instance are UIDs
 pub class_of_uid : (c : ContentParts) → IsStandIn c → length c.class ≤ 64
 class_of_uid c is = is.lawful.class
@@ -128,7 +145,8 @@ instance_of_uid c is = is.lawful.instance
 stands_hash : (c : ContentParts) → IsWhole c → hash_of (a_content (stand_in c)) ≡ hash_of (a_content c)
 stands_hash c is =
     sym (draft_hash (stand_in c))
-    ∙ ap (λ (d : List ℕ). digest_of_draft (draft_with (kept_of c) (body_under d (kept_of c)))) (own_digest (a_content c) is.0 ∙ sym (draft_hash c))
+    ∙ ap (λ (d : List ℕ). digest_of_draft (draft_with (kept_of c) (body_under d (kept_of c))))
+    (own_digest (a_content c) is.0 ∙ sym (draft_hash c))
     ∙ found c is.1 ∙ draft_hash c
 
 -- ---- operations
@@ -138,6 +156,7 @@ op_has_record (a_content c) = ap kept_content (has_record c)
 op_has_record (a_correction k) = refl
 
 pub digest_kept : (op : Op) → digest_of (op_in op) ≡ digest_of op
+unfolding digest_of
 digest_kept (a_content c) = digest_again c.digest
 digest_kept (a_correction k) = refl
 

@@ -19,8 +19,8 @@ StandInIsOne = (op : Op) → IsWholeOp op → (hash_of (op_in op) ≡ hash_of op
 
 -- operations of one record have one that stands for them, and only those have
 abbrev pub StandInIsOfRecord : Type 0
-StandInIsOfRecord = (op other : Op)
-    → ((record_of op ≡ record_of other → op_in op ≡ op_in other) × (op_in op ≡ op_in other → record_of op ≡ record_of other))
+StandInIsOfRecord = (op other : Op) → ((record_of op ≡ record_of other → op_in op ≡ op_in other)
+    × (op_in op ≡ op_in other → record_of op ≡ record_of other))
 
 -- what stands for others stands for itself
 abbrev pub StandsForItself : Type 0

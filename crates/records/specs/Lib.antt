@@ -1,4 +1,3 @@
-pub mod Code
 pub mod Laws
 pub mod Kinds
 pub mod Parts

@@ -91,6 +91,12 @@ pub record IsRecord (r : ContentRecordParts) : Type 0 where
   pub named : value_or_empty (value_at SOP_INSTANCE_UID r.values) ≡ r.instance
   pub short : r.size ≤ longest
 
+-- those of its facts that are numbers
+pub record HasLengths (r : ContentRecordParts) : Type 0 where
+  pub class : length r.class ≤ 64
+  pub instance : length r.instance ≤ 64
+  pub short : r.size ≤ longest
+
 -- a content stands for those of a record: it is the first of its digest, and its record is lawful
 pub record IsStandIn (c : ContentParts) : Type 0 where
   pub stands : stand_in c ≡ c

@@ -1,15 +1,17 @@
 //! Contents of which the record alone is held.
 
-ghost use Rattle.std.specs.Prelude.{◌≡◌, ◌≤◌, ◌↔◌, length, IfOk, IsTrue};
+ghost use Rattle.std.specs.Prelude.{◌≡◌, ◌≤◌, ◌↔◌, ◌++◌, None, Some, length, IfOk, IsTrue, OnOk};
 ghost use Rattle.std.specs.Option.{option_map};
 ghost use Rattle.octets.specs.Bytes.{IsBytes};
-ghost use Rattle.operation.specs.Parts.{value_at, own_value};
+ghost use Rattle.operation.specs.Parts.{ContentParts, value_at, own_value};
 ghost use Rattle.operation.specs.RecordParts.{content_record};
+ghost use Rattle.operation.specs.RecordTexts.{FitsText, record_text};
 ghost use Rattle.operation.specs.Spelling.{digest_of};
 ghost use Rattle.operation.specs.declared.op.Op.TheVariants.{Content as a_content};
-ghost use Rattle.records.specs.StandIn.{IsStandIn, stand_in};
+ghost use Rattle.records.specs.StandIn.{HasLengths, IsStandIn, stand_in};
 
 use data_set::Syntax;
+use octets::LONGEST_DATA_SET;
 use operation::{Content, ContentRecord, Digest};
 use rejection_note::Note;
 use std::alloc::{AllocError, Global};
@@ -55,9 +57,17 @@ pub(crate) fn see_bytes(bytes: &[u8])
     ensures { IsBytes bytes.now }
 {}
 
+/// Whether the class and the instance of a record have the lengths of UIDs, and its data set is no
+/// longer than any.
+fn has_lengths(kept: &ContentRecord) -> bool
+    ensures { IsTrue result ↔ HasLengths kept.now }
+{
+    kept.class().len() <= 64 && kept.instance().len() <= 64 && kept.size() <= LONGEST_DATA_SET
+}
+
 impl RecordedContent {
-    /// The record of a content, under its digest. Nothing is hashed or copied: all but the digest is
-    /// shared with the content.
+    /// The record of a content, under its digest. Nothing is hashed or copied: all but the digest
+    /// is shared with the content.
     pub fn of(
         alloc: Global,
         digest: &Digest,
@@ -154,8 +164,35 @@ impl RecordedContent {
         self.record().equals(other.record())
     }
 
-    /// Its record is lawful, and it stands for those that have it. Nothing is done: this is a fact for
-    /// callers.
+    /// Writes the record behind other bytes, but for its note. So `decode` reads the record of a
+    /// content again that is no rejection note.
+    pub fn encode(&self, out: &mut Vec<u8>) -> Result<(), AllocError>
+        ensures text { OnOk result
+            (out.new.items ≡ out.old.items ++ record_text (content_record self.now)) }
+        ensures fits { OnOk result (FitsText (content_record self.now)) }
+    {
+        self.record().encode(out)
+    }
+
+    /// The content of the record that bytes spell, which is no rejection note; `None` where they
+    /// spell none that a content can have.
+    pub fn decode(alloc: Global, text: &[u8]) -> Result<Option<RecordedContent>, AllocError>
+        ensures { (c : ContentParts) → IsStandIn c → FitsText (content_record c) → c.note ≡ None
+            → text.now ≡ record_text (content_record c) → IfOk result (λ found. found ≡ Some c) }
+    {
+        let Some(record) = ContentRecord::decode(alloc, text)? else {
+            return Ok(None);
+        };
+        if !has_lengths(&record) {
+            return Ok(None);
+        }
+        Ok(Some(RecordedContent {
+            record: Arc::new(alloc, record)?,
+        }))
+    }
+
+    /// Its record is lawful, and it stands for those that have it. Nothing is done: this is a fact
+    /// for callers.
     pub fn see_recorded(&self)
         ensures { IsStandIn self.now }
     {

@@ -3,7 +3,7 @@
 ghost use Rattle.std.specs.Prelude.{◌≡◌, ◌↔◌, IfOk, IsTrue};
 ghost use Rattle.std.specs.Option.{option_copied};
 ghost use Rattle.operation.specs.Spelling.{digest_of};
-ghost use Rattle.operation.specs.declared.op.Op.TheVariants.{Correction as a_correction};
+ghost use Rattle.operation.specs.declared.op.Op.TheVariants.{Content as a_content, Correction as a_correction};
 ghost use Rattle.records.specs.Parts.{content_in, correction_in};
 ghost use Rattle.records.specs.Kinds.{op_of};
 ghost use Rattle.records.specs.StandIn.{IsOpIn, IsWholeOp, op_in};
@@ -71,7 +71,6 @@ impl RecordedOp {
         // It has the digest of the operation.
         ensures digest { digest_of (op_in op.now) ≡ digest_of op.now }
     {
-        see_whole(op.op());
         let digest = op.digest();
         let parts = match op.op() {
             Op::Content(content) => Parts::Content(RecordedContent::of(alloc, digest, content)?),
@@ -80,6 +79,15 @@ impl RecordedOp {
             }
         };
         Ok(RecordedOp { parts })
+    }
+
+    /// A content of which the record is held.
+    pub fn of_content(content: RecordedContent) -> RecordedOp
+        ensures { result ≡ a_content content }
+    {
+        RecordedOp {
+            parts: Parts::Content(content),
+        }
     }
 
     /// A correction, which is hashed.

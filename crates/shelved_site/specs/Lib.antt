@@ -10,4 +10,5 @@ pub mod Reports
 pub mod Sites
 pub mod Stores
 pub mod Telling
+pub mod Told
 pub mod Verifying

@@ -1,11 +1,16 @@
 //! A log that keeps operations.
 
-ghost use Rattle.std.specs.Prelude.{◌≡◌};
+ghost use Rattle.std.specs.Prelude.{◌≡◌, ◌++◌, ◌∷◌, [], List};
+ghost use Rattle.operation.specs.Parts.{ContentParts};
+ghost use Rattle.record_log.specs.Log.{Tells};
+ghost use Rattle.op_log.specs.Told.{AreToldOf};
 
 use crate::telling::{all_kept, fault};
 use op_log::OpLog;
 use op_shelf::{Keep, Kept, ShelfFault, StoreCause};
 use operation::{Digest, Digested, Op};
+use record_log::RecordLog;
+use records::RecordedContent;
 use sqlite_disk::Disk;
 use std::alloc::Global;
 use std::slice;
@@ -13,40 +18,96 @@ use std::slice;
 /// A log of operations, as a server takes it. What it refuses is told in a shelf's words: the disk,
 /// a log that is closed and a group that is too long as `Store`, what is damaged and another
 /// operation under the digest as `BadRow`. A load reads one data set, and looks its head up in
-/// memory.
+/// memory. The records of contents that are put are added to a file of records beside it, if there
+/// is one.
 pub struct KeptLog<H: Disk, B: Disk> {
     pub(crate) log: OpLog<H, B>,
+    pub(crate) records: RecordLog<H>,
     pub(crate) alloc: Global,
 }
 
 // It is written out, so that a caller does not prove again how each part is dropped.
 impl<H: Disk + Drop, B: Disk + Drop> Drop for KeptLog<H, B> {
     fn drop(self) {
-        let KeptLog { log: _, alloc: _ } = self;
+        let KeptLog {
+            log: _,
+            records: _,
+            alloc: _,
+        } = self;
     }
 }
 
 impl<H: Disk + Drop, B: Disk + Drop> KeptLog<H, B> {
     ghost use Rattle.shelved_site.specs.Keeping.{log_of};
 
-    /// A log that keeps operations.
+    /// A log that keeps operations, without a file of records.
     pub fn of(alloc: Global, log: OpLog<H, B>) -> KeptLog<H, B>
         ensures { log_of result ≡ log }
     {
-        KeptLog { log, alloc }
+        KeptLog::beside(alloc, log, RecordLog::none(alloc))
+    }
+
+    /// The same beside a file of records.
+    pub fn beside(alloc: Global, log: OpLog<H, B>, records: RecordLog<H>) -> KeptLog<H, B>
+        ensures { log_of result ≡ log }
+    {
+        KeptLog {
+            log,
+            records,
+            alloc,
+        }
     }
 
     /// The log, which loads what is kept.
     pub fn into_log(self) -> OpLog<H, B>
         ensures { result ≡ log_of self }
     {
-        let KeptLog { log, alloc: _ } = self;
+        let KeptLog {
+            log,
+            records: _,
+            alloc: _,
+        } = self;
         log
     }
 }
 
-impl<H: Disk, B: Disk> Keep for KeptLog<H, B> {
-    ghost use Rattle.std.specs.Prelude.{◌∷◌, []};
+/// Adds the record of a content to a file of records. Where memory is refused it is left out, and
+/// a start reads that content.
+fn add_record<H: Disk + Drop>(alloc: Global, records: &mut RecordLog<H>, op: &Digested)
+    ensures { (cs : List ContentParts) → Tells H.Disk records.old cs
+        → (more : List ContentParts) × AreToldOf (op.now ∷ []) more
+        × Tells H.Disk records.new (cs ++ more) }
+{
+    let Op::Content(content) = op.op() else {
+        return;
+    };
+    if let Ok(recorded) = RecordedContent::of(alloc, op.digest(), content) {
+        records.add(&recorded);
+    }
+}
+
+/// The same of each operation of a group that is new.
+fn add_new<H: Disk + Drop>(
+    alloc: Global,
+    records: &mut RecordLog<H>,
+    ops: &[Digested],
+    told: &[op_log::Kept],
+)
+    ensures { (cs : List ContentParts) → Tells H.Disk records.old cs
+        → (more : List ContentParts) × AreToldOf ops.now more
+        × Tells H.Disk records.new (cs ++ more) }
+{
+    let mut rest = told.iter();
+    for op in ops {
+        match rest.next() {
+            Some(op_log::Kept::New) => add_record(alloc, records, op),
+            Some(op_log::Kept::Known) => {}
+            None => {}
+        }
+    }
+}
+
+impl<H: Disk + Drop, B: Disk> Keep for KeptLog<H, B> {
     ghost use Rattle.shelved_site.specs.Keeping.{IsUp, Holds, Lasts, log_of};
     ghost use Rattle.shelved_site.specs.Refusing.{LogRefusesGroup, LogRefusesLoad};
 
@@ -80,7 +141,10 @@ impl<H: Disk, B: Disk> Keep for KeptLog<H, B> {
     fn put_many(&mut self, ops: &[Digested]) -> Result<Vec<Kept>, ShelfFault> {
         let room = Vec::with_capacity(self.alloc, ops.len())?;
         match self.log.put_many(ops) {
-            Ok(told) => Ok(all_kept(room, &told)),
+            Ok(told) => {
+                add_new(self.alloc, &mut self.records, ops, &told);
+                Ok(all_kept(room, &told))
+            }
             Err(refused) => Err(fault(refused)),
         }
     }

@@ -1,31 +1,110 @@
-//! The records of a log, hashed side by side, and the hub that is opened over them.
+//! The records of a log, told or hashed side by side, and the hub that is opened over them.
 
-ghost use Rattle.std.specs.Prelude.{◌≡◌, ◌≤◌, IfOk, IfErr, OnOk, OnErr};
+ghost use Rattle.std.specs.Prelude.{◌≡◌, ◌≤◌, ◌<◌, ◌++◌, [], List, map, length, IfOk, IfErr};
+ghost use Rattle.std.specs.Prelude.{IfSome, IsTrue, OnOk, OnErr};
+ghost use Rattle.operation.specs.declared.op.Op.{Op as Operation};
+ghost use Rattle.operation.specs.Parts.{ContentParts};
+ghost use Rattle.op_log.specs.Told.{TellTrue};
 ghost use Rattle.op_shelf.specs.Keep.{AreSame};
+ghost use Rattle.record_log.specs.Log.{Tells};
+ghost use Rattle.records.specs.StandIn.{op_in};
 ghost use Rattle.shelved_site.specs.Keeping.{IsUp, Holds, log_of};
 ghost use Rattle.shelved_site.specs.Refusing.{LogRefusesAll};
 ghost use Rattle.shelved_site.specs.Sites.{AreRecords, IsSiteOf, IsOfStore};
 ghost use Rattle.shelved_site.specs.Stores.{IsSame, listed_in};
+ghost use Rattle.shelved_site.specs.Told.{AreAmong, IsToldSiteOf};
 
 use crate::fault::ShelvedFault;
 use crate::keeping::KeptLog;
 use crate::taking::{Hearing, site_of};
 use crate::telling::fault;
 use op_shelf::ShelfFault;
-use records::RecordedOp;
+use record_log::RecordLog;
+use records::{RecordedContent, RecordedOp};
 use site_hub::{Opened, open};
 use sqlite_disk::Disk;
 use std::alloc::Global;
 use std::sync::Wait;
 use std::thread::Threads;
 
+/// What is told behind the first content, where that is this one.
+fn behind_told<'a>(
+    told: &'a [RecordedContent],
+    content: &RecordedContent,
+) -> Option<&'a [RecordedContent]>
+    ensures shorter { IfSome result (λ rest. length rest.now < length told.now) }
+{
+    match told {
+        [first, rest @ ..] => {
+            if first.digest() == content.digest() {
+                Some(rest)
+            } else {
+                None
+            }
+        }
+        [] => None,
+    }
+}
+
+/// Whether the contents that are told are among some operations, in their order.
+fn are_in_order(recorded: &[RecordedOp], told: &[RecordedContent]) -> bool
+    ensures none { told.now ≡ [] → IsTrue result }
+{
+    let mut rest = told;
+    for op in recorded {
+        if let Some(content) = op.content() {
+            if let Some(behind) = behind_told(rest, content) {
+                rest = behind;
+            }
+        }
+    }
+    rest.is_empty()
+}
+
+/// Adds the records of those contents that were not told to a file of records, and answers true; or
+/// adds none where those that were told are not among the operations, in their order.
+fn add_others<D: Disk + Drop>(
+    records: &mut RecordLog<D>,
+    recorded: &[RecordedOp],
+    told: &[RecordedContent],
+) -> bool
+    ensures { (cs : List ContentParts) → Tells D.Disk records.old cs
+        → (more : List ContentParts) × AreAmong more recorded.now
+        × Tells D.Disk records.new (cs ++ more) }
+{
+    if !are_in_order(recorded, told) {
+        return false;
+    }
+    let mut rest = told;
+    for op in recorded {
+        if let Some(content) = op.content() {
+            if let Some(behind) = behind_told(rest, content) {
+                rest = behind;
+            } else {
+                records.add(content);
+            }
+        }
+    }
+    true
+}
+
 impl<H: Disk, B: Disk> KeptLog<H, B> {
-    /// The records of all operations, as of a `Store`, hashed in as many threads as there are
-    /// processors. It is no method of the `Store`, since one of a trait can hand nothing to a
-    /// thread.
-    pub fn records_with<R: Threads + Sync>(&mut self, rt: &R) -> Result<Vec<RecordedOp>, ShelfFault>
-        ensures all { IsUp H.Disk B.Disk (log_of self.new)
-            → IfOk result (λ recorded. AreRecords (listed_in B.Disk (log_of self.old)) recorded.items) }
+    /// The records of all operations. Those of contents that are told are taken as they are, and
+    /// the others are hashed in as many threads as there are processors. It is no method of the
+    /// `Store`, since one of a trait can hand nothing to a thread.
+    pub fn records_with<R: Threads + Sync>(
+        &mut self,
+        rt: &R,
+        told: &[RecordedContent],
+    ) -> Result<Vec<RecordedOp>, ShelfFault>
+        // Where nothing is told, they are those of a `Store`.
+        ensures all { IsUp H.Disk B.Disk (log_of self.new) → told.now ≡ []
+            → IfOk result (λ recorded.
+            AreRecords (listed_in B.Disk (log_of self.old)) recorded.items) }
+        // They stand for the operations of the log, where what is told does.
+        ensures told { IsUp H.Disk B.Disk (log_of self.new) → TellTrue told.now
+            → IfOk result (λ recorded. (ops : List Operation)
+            → listed_in B.Disk (log_of self.new) ops → recorded.items ≡ map op_in ops) }
         ensures same { IsUp H.Disk B.Disk (log_of self.new)
             → OnOk result (IsSame B.Disk (log_of self.old) (log_of self.new)) }
         ensures refused { IsUp H.Disk B.Disk (log_of self.new) → OnErr result
@@ -35,7 +114,7 @@ impl<H: Disk, B: Disk> KeptLog<H, B> {
         ensures clean { IsUp H.Disk B.Disk (log_of self.new)
             → IsUp H.Disk B.Disk (log_of self.old) }
     {
-        match self.log.records_with(rt, self.alloc) {
+        match self.log.records_told(rt, self.alloc, told) {
             Ok(recorded) => Ok(recorded),
             Err(refused) => Err(fault(refused)),
         }
@@ -43,21 +122,27 @@ impl<H: Disk, B: Disk> KeptLog<H, B> {
 }
 
 /// Opens a hub over the site of a log, which has this number, for so many passes, as `hub_on` does
-/// over a store; the operations are hashed in as many threads as there are processors. The log
-/// stays as it is.
-pub fn hub_on_log<H: Disk, B: Disk, T: Threads + Sync, R: Wait + Drop, P: Hearing>(
+/// over a store. The data sets of contents that are told are not read; the others are hashed in as
+/// many threads as there are processors, and their records are added to those beside the log. The
+/// log stays as it is.
+pub fn hub_on_log<H: Disk + Drop, B: Disk, T: Threads + Sync, R: Wait + Drop, P: Hearing>(
     alloc: Global,
     threads: &T,
     rt: R,
     log: &mut KeptLog<H, B>,
     number: u16,
     passes: usize,
+    told: &[RecordedContent],
     hearing: &P,
 ) -> Result<Opened<R>, ShelvedFault>
     requires number { 1 ≤ number }
     requires passes { (1 ≤ passes) × (passes ≤ 64) }
-    ensures opening { IsUp H.Disk B.Disk (log_of log.new) → IfOk result (λ opened.
+    // Where nothing is told, the hub opens with the site of the log, as of a store.
+    ensures opening { IsUp H.Disk B.Disk (log_of log.new) → told.now ≡ [] → IfOk result (λ opened.
         IsSiteOf (listed_in B.Disk (log_of log.new)) opened.opening) }
+    // It opens with what stands for the operations of the log, where what is told does.
+    ensures told { IsUp H.Disk B.Disk (log_of log.new) → IfOk result (λ opened.
+        IsToldSiteOf (listed_in B.Disk (log_of log.new)) told.now opened.opening) }
     ensures size { IfOk result (λ opened. (opened.number ≡ number) × (opened.passes ≡ passes)) }
     ensures same { IsUp H.Disk B.Disk (log_of log.new)
         → OnOk result (IsSame B.Disk (log_of log.old) (log_of log.new)) }
@@ -69,8 +154,11 @@ pub fn hub_on_log<H: Disk, B: Disk, T: Threads + Sync, R: Wait + Drop, P: Hearin
         (IsOfStore (LogRefusesAll B.Disk (log_of log.old) (log_of log.new))) }
     ensures clean { IsUp H.Disk B.Disk (log_of log.new) → IsUp H.Disk B.Disk (log_of log.old) }
 {
-    let recorded = log.records_with(threads)?;
+    let recorded = log.records_with(threads, told)?;
     hearing.has_read(recorded.len());
+    if !add_others(&mut log.records, recorded.as_slice(), told) {
+        hearing.has_other_records();
+    }
     let site = site_of(alloc, recorded)?;
     let opened = open(alloc, rt, site, number, passes)?;
     Ok(opened)

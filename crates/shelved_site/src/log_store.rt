@@ -40,7 +40,7 @@ fn count<H: Disk, B: Disk>(log: &OpLog<H, B>, kind: u8) -> u64
     count
 }
 
-impl<H: Disk, B: Disk> Store for KeptLog<H, B> {
+impl<H: Disk + Drop, B: Disk> Store for KeptLog<H, B> {
     ghost use Rattle.op_log.specs.Loaded.{Lists};
     ghost use Rattle.op_shelf.specs.Keep.{AreSame};
     ghost use Rattle.shelved_site.specs.Keeping.{IsUp, Holds, Lasts, log_of};

@@ -16,6 +16,9 @@ use std::sync::Wait;
 pub trait Hearing {
     /// So many operations were read, and are taken next.
     fn has_read(&self, operations: usize);
+
+    /// The records beside a log do not follow its operations: none is added.
+    fn has_other_records(&self);
 }
 
 /// Nobody.
@@ -23,6 +26,8 @@ pub struct Silence;
 
 impl Hearing for Silence {
     fn has_read(&self, _operations: usize) {}
+
+    fn has_other_records(&self) {}
 }
 
 /// The site that took some records, as those of a store at a start. Nothing is hashed.

@@ -11,6 +11,11 @@ pub enum Note {
     Absent,
     /// The log is not beside a file that may have had one.
     WithoutLog,
+    /// The records beside a log can't be read: they are damaged, or the system refuses them.
+    DamagedRecords,
+    NoRecords,
+    /// They do not follow the log.
+    OtherRecords,
     /// A correction's value is no date or no time that a query matches.
     NoDate,
     NoTime,
@@ -28,6 +33,11 @@ pub fn words_of_note(note: Note) -> &'static str
         Note::Absent => "it is not there, and is told as one that has nothing",
         Note::WithoutLog =>
             "its -wal is not beside it: without it what came last is missing, unless sqlite3 closed it",
+        Note::DamagedRecords =>
+            "its file records is damaged, and begun anew: this start reads each image",
+        Note::NoRecords => "its file records is not used: this start reads each image",
+        Note::OtherRecords =>
+            "its file records does not follow its log: remove it, and the next start makes it anew",
         Note::NoDate => "warning: VALUE is no date that a query matches, such as 20240229",
         Note::NoTime => "warning: VALUE is no time that a query matches, such as 101530",
         Note::UnknownStudy => "warning: it has nothing of this study, or not yet",

@@ -18,6 +18,6 @@ returns g c = record {
   kept = kept_with g.K.Keep.is_up g.K.Keep.holds g.K.Keep.lasts c.args._shelf.now c.args.ledger.now c.write.new.self
       c.as_bytes.result.now c.write.ensures
       (subst (IsKept g.K.Keep.is_up g.K.Keep.holds g.K.Keep.lasts c.args._shelf.now)
-      (sym (c.as_bytes.ensures ∙ c.digest.ensures.own)) c.requires.put) c.requires.kept;
+      (sym (c.as_bytes.ensures ∙ c.digest.ensures.hash)) c.requires.put) c.requires.kept;
   own = c.digest-2.ensures.own;
 }

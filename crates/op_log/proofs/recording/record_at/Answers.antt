@@ -1,16 +1,16 @@
-use Rattle.std.proofs.Common.{rules, ◌≡◌, ◌++◌, ◌∷◌, [], ℕ, List, map, take, true, subst, sym, ap, ◌∙◌}
+use Rattle.std.proofs.Common.{rules, ◌≡◌, ◌++◌, ◌∷◌, [], ℕ, List, map, take, true, inl, refl, subst, sym, ap, ◌∙◌}
 use Rattle.operation.specs.declared.op.Op.{Op}
 use Rattle.operation.specs.Spelling.{digest_of, hash_of}
 use Rattle.records.specs.StandIn.{op_in}
 use Rattle.op_log.specs.Fetched.{under}
 use Rattle.op_log.specs.Heads.{Head}
 use Rattle.op_log.specs.Loaded.{IsOf}
-use Rattle.op_log.specs.Recorded.{Records}
+use Rattle.op_log.specs.Recorded.{AreRecordedAs}
 use Rattle.op_log.specs.Places.{head_by}
 use Rattle.op_log.specs.Verified.{digests_of}
 use Rattle.op_log.proofs.Fetches.{same_at}
 use Rattle.op_log.proofs.Lists.{at_among, told_more}
-use Rattle.op_log.proofs.Recordings.{records_more}
+use Rattle.op_log.proofs.Recordings.{recorded_more}
 use Rattle.op_log.proofs.TestedBodies.{take_more}
 use Rattle.op_log.proofs.recording.record_at.Goals as goal
 
@@ -45,7 +45,7 @@ returns-clause-told c was =
 
 -- One operation more is recorded.
 pub returns-clause-all : goal.returns-clause-all
-returns-clause-all c file h at it was =
+returns-clause-all c file told h at it was =
     let heads = c.args.places.now in
     let mine = same_at c.args.places.now c.args.index (head_by c.in-Some.bytes.now c.in-Some.place.now) h c.in-Some.ensures.found at in
     let yes : c.has_digest.result ≡ true = cc in
@@ -53,6 +53,6 @@ returns-clause-all c file h at it was =
     let items = c.in_ok-push.ensures.items ∙ ap (λ (o : Op). c.args.recorded.now.items ++ o ∷ []) c.in_ok-made.ensures.stands in
     let digest : hash_of c.args.op.now ≡ h.digest = c.has_digest.ensures.hash.0 yes ∙ c.of.ensures ∙ ap (λ (k : Head). k.digest) mine in
     let own = subst (λ (d : List ℕ). IsOf file (under d h) c.args.op.now) digest it.own in
-    subst (λ (hs : List Head). Records file hs c.push.new.self.items) (sym more)
-    (subst (λ (ops : List Op). Records file (take c.args.index heads ++ h ∷ []) ops) (sym items)
-    (records_more file (take c.args.index heads) c.args.recorded.now.items h c.args.op.now was own))
+    subst (λ (hs : List Head). AreRecordedAs file told hs c.push.new.self.items) (sym more)
+    (subst (λ (ops : List Op). AreRecordedAs file told (take c.args.index heads ++ h ∷ []) ops) (sym items)
+    (recorded_more file told (take c.args.index heads) c.args.recorded.now.items h (op_in c.args.op.now) was (inl (c.args.op.now, own, refl))))

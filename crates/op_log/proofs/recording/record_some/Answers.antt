@@ -4,7 +4,7 @@ use Rattle.std.proofs.lemmas.List.{nil_from_length as nothing_left}
 use Rattle.operation.specs.declared.op.Op.{Op}
 use Rattle.operation.specs.Spelling.{digest_of}
 use Rattle.op_log.specs.Fetched.{AreRead}
-use Rattle.op_log.specs.Recorded.{Records}
+use Rattle.op_log.specs.Recorded.{AreRecordedAs}
 use Rattle.op_log.specs.Verified.{digests_of}
 use Rattle.op_log.proofs.Fetches.{first_read}
 use Rattle.op_log.proofs.recording.record_some.Goals as goal
@@ -18,7 +18,7 @@ loop-op-init c =
       count = ap (λ (ops : List Op). c.args.from + length ops) gives.0;
       told = λ was. was;
       read = λ file it. subst (λ (ops : List Op). AreRead file ops (drop c.args.from c.args.places.now)) (sym gives.0) it;
-      all = λ file was it. was;
+      all = λ file told was it. was;
     }
 
 -- What was read for the next head is told as damaged only where that is bad.
@@ -42,10 +42,10 @@ loop-op-preserved c =
       read = λ file it.
           let left = subst (λ (ops : List Op). AreRead file ops (drop c.loop-op.index heads)) steps.0 (inv.read file it) in
           (first_read file heads c.loop-op.index c.in-Some.op (into_iter_items c.next.new.self) left).others;
-      all = λ file was it.
+      all = λ file told was it.
           let left = subst (λ (ops : List Op). AreRead file ops (drop c.loop-op.index heads)) steps.0 (inv.read file it) in
           let first = first_read file heads c.loop-op.index c.in-Some.op (into_iter_items c.next.new.self) left in
-          c.in_ok-record_at.ensures.all file first.head first.at (search rules) (inv.all file was it);
+          c.in_ok-record_at.ensures.all file told first.head first.at (search rules) (inv.all file told was it);
     }
 
 -- All were.
@@ -57,8 +57,8 @@ returns-clause-told c was =
     subst (λ (n : ℕ). map digest_of c.loop-op.recorded.items ≡ digests_of (take n c.args.places.now)) all (inv.told was)
 
 pub returns-clause-all : goal.returns-clause-all
-returns-clause-all c file was it =
+returns-clause-all c file told was it =
     let inv = c.loop-op.invariant in
     let none : into_iter_items c.loop-op.op-iterator ≡ [] = nothing_left _ (sym inv.left ∙ c.in-None.ensures.steps.0) in
     let all : c.loop-op.index ≡ c.args.from + length c.args.ops.items = omega (arith, inv.count, ap length none) in
-    subst (λ (n : ℕ). Records file (take n c.args.places.now) c.loop-op.recorded.items) all (inv.all file was it)
+    subst (λ (n : ℕ). AreRecordedAs file told (take n c.args.places.now) c.loop-op.recorded.items) all (inv.all file told was it)

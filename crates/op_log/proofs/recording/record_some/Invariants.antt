@@ -1,8 +1,9 @@
 use Rattle.std.proofs.Common.{◌≡◌, ◌+◌, ℕ, List, length, map, take, drop}
 use Rattle.std.specs.Vec.Iter.{into_iter_items, into_iter_len}
+use Rattle.operation.specs.Parts.{ContentParts}
 use Rattle.operation.specs.Spelling.{digest_of}
 use Rattle.op_log.specs.Fetched.{AreRead}
-use Rattle.op_log.specs.Recorded.{Records}
+use Rattle.op_log.specs.Recorded.{AreRecordedAs}
 use Rattle.op_log.specs.Verified.{digests_of}
 use Rattle.op_log.proofs.recording.record_some.Given as goal
 
@@ -16,6 +17,6 @@ invariant-loop-op l =
           → map digest_of l.recorded.items ≡ digests_of (take l.index l.places);
       read : (file : List ℕ) → AreRead file l.fn.ops.items (drop l.from l.places)
           → AreRead file (into_iter_items l.op-iterator) (drop l.index l.places);
-      all : (file : List ℕ) → Records file (take l.from l.places) l.fn.recorded.items
-          → AreRead file l.fn.ops.items (drop l.from l.places) → Records file (take l.index l.places) l.recorded.items;
+      all : (file : List ℕ) (told : List ContentParts) → AreRecordedAs file told (take l.from l.places) l.fn.recorded.items
+          → AreRead file l.fn.ops.items (drop l.from l.places) → AreRecordedAs file told (take l.index l.places) l.recorded.items;
     }

@@ -1,13 +1,16 @@
-use Rattle.std.proofs.Common.{inl, refl, rules}
+use Rattle.std.proofs.Common.{◌≡◌, inl, refl, rules, subst}
+use Rattle.operation.specs.declared.op.Op.{Op}
+use Rattle.operation.specs.Spelling.{digest_of, hash_of}
 use Rattle.hub_exchange.proofs.Gains.{alone_takes, asked, spared, gains_taken, refused_on_shelf}
 use Rattle.hub_exchange.proofs.shelf_holder.ShelvedHolderHolder.take.Goals as goal
 
 -- What the site takes lasts on the shelf, which the shelf answered before.
 pub invariant_of-self : goal.invariant_of-self
 invariant_of-self g c =
+    let own = subst (λ (op : Op). digest_of op ≡ hash_of op) c.op-2.ensures c.see_lawful.ensures.digest in
     asked g.K.Keep.is_up g.K.Keep.lasts _ _ _ _ _ _ c.self.invariant c.put_digested.ensures.up
     c.put_digested.ensures.kept
-    (λ now. gains_taken (g.K.Keep.lasts _) _ _ _ _ c.take_record.ensures.takes (c.in-Ok.ensures.durable now))
+    (λ now. gains_taken (g.K.Keep.lasts _) _ _ _ _ c.take_record.ensures.takes own (c.in-Ok.ensures.durable now))
 
 -- What the shelf refuses the site does not take.
 pub invariant_of-self-in-Err : goal.invariant_of-self-in-Err

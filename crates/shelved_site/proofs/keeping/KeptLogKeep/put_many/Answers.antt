@@ -16,7 +16,7 @@ pub all_kept-requires-clause-room : goal.all_kept-requires-clause-room
 all_kept-requires-clause-room g c =
     let old = c.args.self.now.log in
     let new = c.put_many.new.self in
-    let told = ap length c.deref.ensures.value in
+    let told = ap length c.deref-in-Ok.ensures.value in
     let many = same_length g.B.Disk new.bodies new.bodies_end old.places new.places c.args.ops.now c.in-Ok.told.items c.in-Ok.ensures.put in
     omega (arith, told, many, c.in_ok-room.ensures.capacity)
 
@@ -26,7 +26,7 @@ returns-in-Ok-clause-put g c up =
     let old = c.args.self.now.log in
     let new = c.put_many.new.self in
     subst (λ (ks : List Kept). GainsAll (Holds g.B.Disk old) (Holds g.B.Disk new) c.args.ops.now ks)
-    (sym (c.all_kept.ensures ∙ ap (map kept_of) c.deref.ensures.value))
+    (sym (c.all_kept.ensures ∙ ap (map kept_of) c.deref-in-Ok.ensures.value))
     (gains_all g.H.Disk g.B.Disk old new c.put_many.ensures.goes_on up c.args.ops.now c.in-Ok.told.items c.in-Ok.ensures.put)
 
 -- And it lasts, as what lasted before.

@@ -1,0 +1,5 @@
+pub mod Cutting
+pub mod Keeping
+pub mod Starting
+pub mod Waiting
+pub mod Walking

@@ -1,0 +1,3 @@
+pub mod Entries
+pub mod Fault
+pub mod Log

@@ -1,0 +1,95 @@
+-- The records that are added beside a log.
+use Rattle.std.proofs.Common.{◌≡◌, ◌<◌, ℕ, zero, suc, List, [], ◌∷◌, ◌++◌, Bool, true, false, length, inl, inr, refl}
+use Rattle.std.proofs.Common.{sym, ap, subst, ◌∙◌, append_assoc, get_or, cond, arith}
+use Rattle.std.specs.Prelude.{filter, Some}
+use Rattle.std.proofs.lemmas.Option.{same_Some as some_is}
+use Rattle.std.proofs.lemmas.List.{append-nil}
+use Rattle.octets.specs.Members.{Has}
+use Rattle.sqlite_disk.specs.declared.Disk.{Ghosts}
+use Rattle.operation.specs.declared.op.Op.{Op}
+use Rattle.operation.specs.declared.op.Op.TheVariants.{Content as a_content, Correction as a_correction}
+use Rattle.operation.specs.Parts.{ContentParts}
+use Rattle.records.specs.Parts.{content_in}
+use Rattle.records.specs.StandIn.{op_in, stand_in}
+use Rattle.record_log.specs.declared.log.RecordLog.{RecordLog}
+use Rattle.record_log.specs.Entries.{has_no_note, without_notes}
+use Rattle.record_log.specs.Log.{Tells}
+use Rattle.op_log.specs.Told.{AreToldOf}
+use Rattle.shelved_site.specs.Told.{AreAmong}
+
+-- ---- lists
+
+pub has_at : {X : Type 0} (xs : List X) (i : ℕ) (d : X) → i < length xs → Has xs (get_or xs i d)
+has_at [] i d low = absurd (omega (arith, low))
+has_at (x ∷ xs) zero d low = inl refl
+has_at (x ∷ xs) (suc i) d low = inr (has_at xs i d (omega (arith, low)))
+
+either : {X : Type 0} (xs ys : List X) (x : X) {P : Type 0} → (Has xs x → P) → (Has ys x → P) → Has (xs ++ ys) x → P
+either [] ys x first second has = second has
+either (y ∷ xs) ys x first second (inl e) = first (inl e)
+either (y ∷ xs) ys x first second (inr has) = either xs ys x (λ h. first (inr h)) second has
+
+one_left : {X : Type 0} (p : X → Bool) (x y : X) → Has (filter p (x ∷ [])) y → y ≡ x
+one_left p x y has = by (p x) has
+  where
+    by : (b : Bool) → Has (cond b (x ∷ []) []) y → y ≡ x
+    by true (inl e) = e
+    by true (inr none) = elim none [ ]
+    by false none = elim none [ ]
+
+-- ---- contents of operations
+
+-- an operation whose content is this one
+pub content_is : (op : Op) (c : ContentParts) → content_in op ≡ Some c → op ≡ a_content c
+content_is (a_content d) c e = ap a_content (some_is d c e)
+content_is (a_correction k) c e = absurd cc
+
+module _ {D : Type 0} (g : Ghosts D) where
+  -- nothing was added
+  pub none_of : (log : RecordLog D) (ops : List Op) (cs : List ContentParts) → Tells g log cs
+      → (more : List ContentParts) × AreToldOf ops more × Tells g log (cs ++ more)
+  none_of log ops cs tells = ([], λ c none. elim none [ ], subst (Tells g log) (sym (append-nil cs)) tells)
+
+  -- the record of one was, unless it is a rejection note
+  pub one_of : (new : RecordLog D) (op : Op) (x r : ContentParts) (cs : List ContentParts) → op ≡ a_content x
+      → r ≡ stand_in x → Tells g new (cs ++ without_notes (r ∷ []))
+      → (more : List ContentParts) × AreToldOf (op ∷ []) more × Tells g new (cs ++ more)
+  one_of new op x r cs of stands tells = (
+    without_notes (r ∷ []),
+    λ c has. (op, inl refl, ap a_content (one_left has_no_note r c has ∙ stands) ∙ ap op_in (sym of)),
+    tells,
+  )
+
+  -- those of one operation more were
+  pub more_of : (mid new : RecordLog D) (ops : List Op) (op : Op) (cs : List ContentParts) → Has ops op
+      → (more : List ContentParts) × AreToldOf ops more × Tells g mid (cs ++ more)
+      → ((ds : List ContentParts) → Tells g mid ds
+      → (more : List ContentParts) × AreToldOf (op ∷ []) more × Tells g new (ds ++ more))
+      → (more : List ContentParts) × AreToldOf ops more × Tells g new (cs ++ more)
+  more_of mid new ops op cs among was step =
+      let it = step (cs ++ was.0) was.2 in (
+        was.0 ++ it.0,
+        λ c has. either was.0 it.0 c (was.1 c) (λ h. let o = it.1 c h in (o.0, here o.0 o.1, o.2)) has,
+        subst (Tells g new) (append_assoc cs was.0 it.0) it.2,
+      )
+    where
+      here : (o : Op) → Has (op ∷ []) o → Has ops o
+      here o (inl e) = subst (Has ops) (sym e) among
+      here o (inr none) = elim none [ ]
+
+  -- the record of one that is among some operations
+  pub more_among : (mid new : RecordLog D) (ops : List Op) (r : ContentParts) (cs : List ContentParts)
+      → Has ops (a_content r) → (more : List ContentParts) × AreAmong more ops × Tells g mid (cs ++ more)
+      → ((ds : List ContentParts) → Tells g mid ds → Tells g new (ds ++ without_notes (r ∷ [])))
+      → (more : List ContentParts) × AreAmong more ops × Tells g new (cs ++ more)
+  more_among mid new ops r cs among was step = (
+    was.0 ++ without_notes (r ∷ []),
+    λ c has. either was.0 (without_notes (r ∷ [])) c (was.1 c)
+        (λ h. subst (λ (x : ContentParts). Has ops (a_content x)) (sym (one_left has_no_note r c h)) among) has,
+    subst (Tells g new) (append_assoc cs was.0 (without_notes (r ∷ []))) (step (cs ++ was.0) was.2),
+  )
+
+  -- none of them was
+  pub none_among : (log : RecordLog D) (ops : List Op) (cs : List ContentParts) → Tells g log cs
+      → (more : List ContentParts) × AreAmong more ops × Tells g log (cs ++ more)
+  none_among log ops cs tells = ([], λ c none. elim none [ ], subst (Tells g log) (sym (append-nil cs)) tells)

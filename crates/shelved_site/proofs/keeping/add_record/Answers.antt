@@ -1,0 +1,9 @@
+use Rattle.std.proofs.Common.{sym, ◌∙◌}
+use Rattle.shelved_site.proofs.Adding.{one_of}
+use Rattle.shelved_site.proofs.keeping.add_record.Goals as goal
+
+-- The record of the content was added.
+pub returns-in-Ok : goal.returns-in-Ok
+returns-in-Ok g c cs tells =
+    one_of g.H.Disk c.add.new.self c.args.op.now c.in-Content.content c.in-Ok.recorded cs
+    (sym c.op.ensures ∙ c.in-Content.is) c.in-Ok.ensures (c.add.ensures cs tells)
