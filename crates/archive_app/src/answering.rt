@@ -50,8 +50,8 @@ fn answer<
 {
     match asked {
         Asked::Simulate => Ok(printed(rt.alloc(), about("", answer_script(rt)))),
-        Asked::Report(reporting) => Ok(report(rt, reporting)),
-        Asked::Correct(correcting) => Ok(correct(rt, correcting)),
+        Asked::Report(reporting) => Ok(report(rt, host, reporting)),
+        Asked::Correct(correcting) => Ok(correct(rt, host, correcting)),
         Asked::Exchange(exchanging) => Ok(exchange(rt, host, exchanging)),
         Asked::Move(moving) => Ok(move_operations(rt, moving)),
         Asked::Verify(verifying) => Ok(printed(rt.alloc(), verify(rt, verifying)?)),

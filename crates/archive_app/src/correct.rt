@@ -1,17 +1,18 @@
 //! `archive correct`: corrects an attribute in a file or a folder.
 
-use crate::file::{OnStore, on_file};
-use crate::folder::is_absent;
+use crate::file::{OnStore, on_shelf};
+use crate::folder::{is_absent, is_folder, site_in};
 use crate::output::{Cause, CommandFault, Note, line_of_stamp};
 use crate::refused::{Refused, about, note};
 use command_words::{Change, Correcting, Part, bad_part, unmatched};
 use key_matching::Matching;
 use operation::Target;
-use shelved_site::{Corrected, Store, correct_on};
+use shelved_site::{Corrected, Store, correct_on, correct_with};
 use site_hub::{HubFault, next_correction};
 use site_state::Site;
 use std::alloc::Global;
 use std::rt::HostRuntime;
+use std::thread::Threads;
 
 /// Refuses what no site of this number may correct.
 fn refuse_first(alloc: Global, site: u16, change: &Change) -> Result<(), CommandFault> {
@@ -62,10 +63,31 @@ impl OnStore for Making {
     }
 }
 
+/// Makes a correction in a folder.
+fn made_in_folder<'a, T: Threads + Sync>(
+    rt: &HostRuntime,
+    threads: &T,
+    folder: &'a str,
+    making: Making,
+) -> Result<Corrected, Refused<'a>> {
+    let Making {
+        alloc,
+        site: number,
+        change,
+    } = making;
+    let Change { target, tag, value } = change;
+    let (site, mut log) = site_in(rt, threads, folder)?;
+    about(
+        folder,
+        correct_with(alloc, &mut log, &site, number, target, tag, value),
+    )
+}
+
 /// Makes a correction in a file. Where the file is not there, what may not be corrected is refused
 /// before one is made.
-fn made<'a>(
+fn made<'a, T: Threads + Sync>(
     rt: &HostRuntime,
+    threads: &T,
     file: &'a str,
     site: u16,
     change: Change,
@@ -78,7 +100,10 @@ fn made<'a>(
         site,
         change,
     };
-    about(file, on_file(rt, file, making)?)
+    if is_folder(rt, file) {
+        return made_in_folder(rt, threads, file, making);
+    }
+    about(file, on_shelf(rt, file, making)?)
 }
 
 /// Why a correction is refused: the part of it that may not be, where it is for one.
@@ -94,11 +119,15 @@ fn with_part<'a>(refused: Refused<'a>, bad: Option<Part>) -> Refused<'a> {
 
 /// Makes a correction, and says its stamp once the file has it. It warns of a value that no query
 /// matches, and of a target of which the site has nothing.
-pub fn correct<'a>(rt: &HostRuntime, correcting: Correcting<'a>) -> Result<Vec<u8>, Refused<'a>> {
+pub fn correct<'a, T: Threads + Sync>(
+    rt: &HostRuntime,
+    threads: &T,
+    correcting: Correcting<'a>,
+) -> Result<Vec<u8>, Refused<'a>> {
     let Correcting { file, site, change } = correcting;
     let (of_value, of_target) = (note_of_value(&change), note_of_target(&change.target));
     let bad = about(file, bad_part(rt.alloc(), &change))?;
-    let made = match made(rt, file, site, change) {
+    let made = match made(rt, threads, file, site, change) {
         Ok(made) => made,
         Err(refused) => return Err(with_part(refused, bad)),
     };

@@ -1,7 +1,7 @@
 //! `archive exchange`: exchanges the operations in a file or a folder with another site.
 
-use crate::file::{OnStore, on_file};
-use crate::folder::is_absent;
+use crate::file::{OnStore, on_shelf};
+use crate::folder::{is_absent, is_folder, site_in};
 use crate::output::{CommandFault, NetCause, lines_of_exchange, reach_cause_of};
 use crate::progress::{Progress, Reading, Writing};
 use crate::refused::{Refused, about};
@@ -15,6 +15,7 @@ use shelved_site::{Store, site_on};
 use site_state::Site;
 use std::net::{Net, TcpListener, TcpStream};
 use std::rt::HostRuntime;
+use std::thread::Threads;
 
 /// A connection to an address, on which each wait lasts so many seconds at most.
 pub fn connect_to<'a, R: Net<Listener = TcpListener, Stream = TcpStream>>(
@@ -79,19 +80,15 @@ struct Meeting<'h, 'a, R: Net<Listener = TcpListener, Stream = TcpStream>> {
     connected: Option<Wire>,
 }
 
-impl<'h, 'a, R: Net<Listener = TcpListener, Stream = TcpStream>> OnStore for Meeting<'h, 'a, R> {
-    type Told = Result<Ended, Refused<'a>>;
-
-    fn on<S: Store + Drop + Send>(self, mut store: S) -> Result<Ended, Refused<'a>> {
+impl<'h, 'a, R: Net<Listener = TcpListener, Stream = TcpStream>> Meeting<'h, 'a, R> {
+    /// The exchanges of a site on its store.
+    fn meet<S: Store + Drop>(self, mut site: Site, mut store: S) -> Result<Ended, Refused<'a>> {
         let Meeting {
             rt,
             net,
             exchanging,
             connected,
         } = self;
-        let progress = Progress::of(rt);
-        progress.begins(exchanging.file);
-        let mut site = about(exchanging.file, site_on(rt.alloc(), &mut store, &progress))?;
         let mut made = connected;
         let mut all = Ended::NONE;
         for _ in 0..MOST_EXCHANGES {
@@ -116,6 +113,30 @@ impl<'h, 'a, R: Net<Listener = TcpListener, Stream = TcpStream>> OnStore for Mee
     }
 }
 
+impl<'h, 'a, R: Net<Listener = TcpListener, Stream = TcpStream>> OnStore for Meeting<'h, 'a, R> {
+    type Told = Result<Ended, Refused<'a>>;
+
+    fn on<S: Store + Drop + Send>(self, mut store: S) -> Result<Ended, Refused<'a>> {
+        let progress = Progress::of(self.rt);
+        progress.begins(self.exchanging.file);
+        let site = site_on(self.rt.alloc(), &mut store, &progress);
+        match about(self.exchanging.file, site) {
+            Ok(site) => self.meet(site, store),
+            Err(refused) => Err(refused),
+        }
+    }
+}
+
+/// The same of a folder.
+fn meet_in_folder<'a, R: Net<Listener = TcpListener, Stream = TcpStream> + Threads + Sync>(
+    rt: &HostRuntime,
+    folder: &'a str,
+    meeting: Meeting<'_, 'a, R>,
+) -> Result<Ended, Refused<'a>> {
+    let (site, log) = site_in(rt, meeting.net, folder)?;
+    meeting.meet(site, log)
+}
+
 /// Exchanges the operations in a file with the site at an address, and says what came of it. Where
 /// not all fits into one exchange another follows, over a connection of its own, until both agree
 /// or one brings nothing; what is said then is said of all of them.
@@ -125,7 +146,7 @@ impl<'h, 'a, R: Net<Listener = TcpListener, Stream = TcpStream>> OnStore for Mee
 /// is not there the connection comes first, so that no file is made where nobody answers. At a
 /// terminal it says meanwhile how far it is. On standard error it says in the end whether both
 /// sides agreed.
-pub fn exchange<'a, R: Net<Listener = TcpListener, Stream = TcpStream>>(
+pub fn exchange<'a, R: Net<Listener = TcpListener, Stream = TcpStream> + Threads + Sync>(
     rt: &HostRuntime,
     net: &R,
     exchanging: Exchanging<'a>,
@@ -141,7 +162,11 @@ pub fn exchange<'a, R: Net<Listener = TcpListener, Stream = TcpStream>>(
         exchanging,
         connected,
     };
-    let ended = on_file(rt, file, meeting)??;
+    let ended = if is_folder(rt, file) {
+        meet_in_folder(rt, file, meeting)?
+    } else {
+        on_shelf(rt, file, meeting)??
+    };
     say_agreement(rt, ended);
     about(file, lines_of_exchange(rt.alloc(), ended))
 }

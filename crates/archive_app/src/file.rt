@@ -1,6 +1,6 @@
 //! The file of a site's shelf.
 
-use crate::folder::{is_folder, on_folder};
+use crate::folder::{is_folder, log_to_fill, on_log};
 use crate::output::{
     CommandFault, FileCause, Note, file_cause_in_error, file_cause_of, is_other, lacks_log,
 };
@@ -180,7 +180,7 @@ pub fn on_database<'a, S: Alter + Drop + Send, W: OnStore + Drop>(
 
 /// Does a command's work on the operations in a file, of which nothing is supposed, and which is
 /// made where it is not there.
-fn on_shelf<'a, W: OnStore + Drop>(
+pub fn on_shelf<'a, W: OnStore + Drop>(
     rt: &HostRuntime,
     file: &'a str,
     work: W,
@@ -201,7 +201,7 @@ pub fn on_file<'a, W: OnStore + Drop>(
     work: W,
 ) -> Result<W::Told, Refused<'a>> {
     if is_folder(rt, file) {
-        return on_folder(rt, file, work);
+        return Ok(on_log(log_to_fill(rt, file)?, work));
     }
     on_shelf(rt, file, work)
 }

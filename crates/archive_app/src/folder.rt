@@ -6,16 +6,19 @@ ghost use Rattle.archive_app.specs.Notes.{names_folder as names_folder_in};
 use crate::file::{OnStore, is_new};
 use crate::output::{CommandFault, FileCause, Note, file_cause_of, names_folder};
 use crate::progress::Progress;
-use crate::refused::{Refused, note};
-use head_log::HeadFault;
+use crate::refused::{Refused, about, note};
+use head_log::{HeadFault, HeadLog};
 use op_log::{FolderFault, FolderFile, FolderLog, LogFault, open_folder, records_file};
 use op_shelf::{ShelfFault, StoreCause};
-use record_log::{Told, open_told};
-use shelved_site::{Hearing, KeptLog, shelf_fault};
+use record_log::{Told, all_told, open_told};
+use records::RecordedContent;
+use shelved_site::{Hearing, KeptLog, shelf_fault, site_on_log};
+use site_state::Site;
 use sqlite::Wary;
 use std::alloc::AllocError;
 use std::fs;
 use std::rt::HostRuntime;
+use std::thread::Threads;
 
 /// Whether a path is that of a folder: its name ends so, or it is one.
 pub fn is_folder(rt: &HostRuntime, file: &str) -> bool
@@ -40,6 +43,14 @@ fn has_heads(rt: &HostRuntime, folder: &str) -> bool {
     match within(rt, folder, "heads") {
         Ok(heads) => !is_new(rt, heads.as_str()),
         Err(_refused) => true,
+    }
+}
+
+/// Whether records are beside a log.
+fn has_records(rt: &HostRuntime, folder: &str) -> bool {
+    match within(rt, folder, "records") {
+        Ok(records) => !is_new(rt, records.as_str()),
+        Err(_refused) => false,
     }
 }
 
@@ -157,12 +168,100 @@ pub fn records_in(rt: &HostRuntime, folder: &str) -> Told<FolderFile> {
     told
 }
 
-/// Does a command's work on the operations in a folder.
-pub fn on_folder<'a, W: OnStore + Drop>(
-    rt: &HostRuntime,
-    folder: &'a str,
-    work: W,
-) -> Result<W::Told, Refused<'a>> {
+/// What the records in a folder tell, or nothing where there are none, or none that can be read. They
+/// are neither made nor begun anew.
+fn told_to_view(rt: &HostRuntime, folder: &str) -> Vec<RecordedContent> {
+    let alloc = rt.alloc();
+    if !has_records(rt, folder) {
+        return Vec::new(alloc);
+    }
+    let Ok(file) = records_file(rt, folder, Wary) else {
+        return Vec::new(alloc);
+    };
+    let Ok(mut records) = HeadLog::over(alloc, file) else {
+        return Vec::new(alloc);
+    };
+    match all_told(alloc, &mut records) {
+        Ok(contents) => contents,
+        Err(_unread) => Vec::new(alloc),
+    }
+}
+
+/// The log in a folder as a command's store.
+pub type FolderStore = KeptLog<FolderFile, FolderFile>;
+
+/// The log in a folder, of which nothing is changed.
+pub fn log_to_view<'a>(rt: &HostRuntime, folder: &'a str) -> Result<FolderStore, Refused<'a>> {
+    Ok(KeptLog::of(rt.alloc(), log_in(rt, folder)?))
+}
+
+/// The log in a folder, to which a command adds. Where it is empty what is added is recorded beside
+/// it, so that no start need read it; where it is not, records of what comes last would stand before
+/// those of the rest, which a start adds.
+pub fn log_to_fill<'a>(rt: &HostRuntime, folder: &'a str) -> Result<FolderStore, Refused<'a>> {
     let log = log_in(rt, folder)?;
-    Ok(work.on(KeptLog::of(rt.alloc(), log)))
+    if log.len() > 0 {
+        return Ok(KeptLog::of(rt.alloc(), log));
+    }
+    let Told {
+        contents,
+        records,
+        fault: _,
+    } = records_in(rt, folder);
+    if !contents.is_empty() {
+        return Ok(KeptLog::of(rt.alloc(), log));
+    }
+    Ok(KeptLog::beside(rt.alloc(), log, records))
+}
+
+/// The site of a log, of which some contents are told, and the log.
+fn sited<'a, T: Threads + Sync>(
+    rt: &HostRuntime,
+    threads: &T,
+    folder: &'a str,
+    mut log: FolderStore,
+    told: &[RecordedContent],
+) -> Result<(Site, FolderStore), Refused<'a>> {
+    let starting = Starting::of(rt, folder);
+    starting.begins();
+    match about(
+        folder,
+        site_on_log(rt.alloc(), threads, &mut log, told, &starting),
+    ) {
+        Ok(site) => Ok((site, log)),
+        Err(refused) => Err(refused),
+    }
+}
+
+/// The site of the log in a folder, and the log. What is told beside it is not read, and nothing of
+/// both is changed.
+pub fn site_to_view<'a, T: Threads + Sync>(
+    rt: &HostRuntime,
+    threads: &T,
+    folder: &'a str,
+) -> Result<(Site, FolderStore), Refused<'a>> {
+    let log = log_to_view(rt, folder)?;
+    let told = told_to_view(rt, folder);
+    sited(rt, threads, folder, log, told.as_slice())
+}
+
+/// The same, where what is added to the log is recorded beside it.
+pub fn site_in<'a, T: Threads + Sync>(
+    rt: &HostRuntime,
+    threads: &T,
+    folder: &'a str,
+) -> Result<(Site, FolderStore), Refused<'a>> {
+    let log = log_in(rt, folder)?;
+    let Told {
+        contents,
+        records,
+        fault: _,
+    } = records_in(rt, folder);
+    let log = KeptLog::beside(rt.alloc(), log, records);
+    sited(rt, threads, folder, log, contents.as_slice())
+}
+
+/// Does a command's work on a log. It alone names one.
+pub fn on_log<W: OnStore + Drop>(log: FolderStore, work: W) -> W::Told {
+    work.on(log)
 }

@@ -10,6 +10,7 @@ mod exchanging;
 mod file;
 mod folder;
 mod gauges;
+mod hub;
 mod listening;
 mod moving;
 mod output;

@@ -1,16 +1,17 @@
 //! `archive report`: counts the operations in a file or a folder, or tells a table of its site.
 
 use crate::file::OnStore;
-use crate::folder::{is_absent, is_folder};
+use crate::folder::{is_absent, is_folder, site_to_view};
 use crate::output::{CommandFault, Note, lines_of};
 use crate::refused::{Refused, about, note};
 use crate::viewing::view_file;
 use command_words::Reporting;
-use shelved_site::{Report, ShelvedFault, Store, report_of, report_on, table_on};
+use shelved_site::{Report, ShelvedFault, Store, report_of, report_on, report_with, table_on};
 use site_state::Site;
-use site_tables::{Row, Table, align, separate};
+use site_tables::{Row, Table, align, rows_of_table, separate};
 use std::alloc::{AllocError, Global};
 use std::rt::HostRuntime;
+use std::thread::Threads;
 
 /// The report of no operations.
 fn report_of_none(alloc: Global) -> Result<Report, CommandFault> {
@@ -32,13 +33,31 @@ impl OnStore for Counting {
     }
 }
 
-fn report_in<'a>(rt: &HostRuntime, file: &'a str) -> Result<Report, Refused<'a>> {
+/// The report of a folder.
+fn report_in_folder<'a, T: Threads + Sync>(
+    rt: &HostRuntime,
+    threads: &T,
+    folder: &'a str,
+) -> Result<Report, Refused<'a>> {
+    let (site, mut log) = site_to_view(rt, threads, folder)?;
+    about(folder, report_with(rt.alloc(), &mut log, &site))
+}
+
+fn report_in<'a, T: Threads + Sync>(
+    rt: &HostRuntime,
+    threads: &T,
+    file: &'a str,
+) -> Result<Report, Refused<'a>> {
+    if is_folder(rt, file) {
+        return report_in_folder(rt, threads, file);
+    }
     about(file, view_file(rt, file, Counting { alloc: rt.alloc() })?)
 }
 
 /// The counts of the operations in a file.
-fn counts<'a>(
+fn counts<'a, T: Threads + Sync>(
     rt: &HostRuntime,
+    threads: &T,
     file: &'a str,
     is_absent: bool,
     is_fingerprinted: bool,
@@ -47,7 +66,7 @@ fn counts<'a>(
     let report = if is_absent {
         about(file, report_of_none(alloc))?
     } else {
-        report_in(rt, file)?
+        report_in(rt, threads, file)?
     };
     let lines = lines_of(alloc, &report, is_folder(rt, file), is_fingerprinted);
     about(file, lines)
@@ -68,8 +87,20 @@ impl OnStore for Telling {
     }
 }
 
-fn rows_in<'a>(
+/// The rows of a table of a folder.
+fn rows_in_folder<'a, T: Threads + Sync>(
     rt: &HostRuntime,
+    threads: &T,
+    folder: &'a str,
+    table: Table,
+) -> Result<Vec<Row>, Refused<'a>> {
+    let (site, _log) = site_to_view(rt, threads, folder)?;
+    about(folder, rows_of_table(rt.alloc(), &site, table))
+}
+
+fn rows_in<'a, T: Threads + Sync>(
+    rt: &HostRuntime,
+    threads: &T,
     file: &'a str,
     is_absent: bool,
     table: Table,
@@ -77,6 +108,9 @@ fn rows_in<'a>(
     let alloc = rt.alloc();
     if is_absent {
         return Ok(Vec::new(alloc));
+    }
+    if is_folder(rt, file) {
+        return rows_in_folder(rt, threads, file, table);
     }
     about(file, view_file(rt, file, Telling { alloc, table })?)
 }
@@ -95,14 +129,15 @@ pub fn text_of(
 }
 
 /// A table of the site whose operations are in a file.
-fn told<'a>(
+fn told<'a, T: Threads + Sync>(
     rt: &HostRuntime,
+    threads: &T,
     file: &'a str,
     is_absent: bool,
     table: Table,
     is_separated: bool,
 ) -> Result<Vec<u8>, Refused<'a>> {
-    let rows = rows_in(rt, file, is_absent, table)?;
+    let rows = rows_in(rt, threads, file, is_absent, table)?;
     about(
         file,
         text_of(rt.alloc(), table, rows.as_slice(), is_separated),
@@ -111,7 +146,11 @@ fn told<'a>(
 
 /// The report of the operations in a file, of which nothing is changed. One that is not there has
 /// none, which is said, and is not made.
-pub fn report<'a>(rt: &HostRuntime, reporting: Reporting<'a>) -> Result<Vec<u8>, Refused<'a>> {
+pub fn report<'a, T: Threads + Sync>(
+    rt: &HostRuntime,
+    threads: &T,
+    reporting: Reporting<'a>,
+) -> Result<Vec<u8>, Refused<'a>> {
     let Reporting {
         file,
         table,
@@ -123,7 +162,7 @@ pub fn report<'a>(rt: &HostRuntime, reporting: Reporting<'a>) -> Result<Vec<u8>,
         note(rt, file, Note::Absent);
     }
     match table {
-        None => counts(rt, file, is_absent, fingerprint),
-        Some(table) => told(rt, file, is_absent, table, separated),
+        None => counts(rt, threads, file, is_absent, fingerprint),
+        Some(table) => told(rt, threads, file, is_absent, table, separated),
     }
 }

@@ -1,35 +1,31 @@
 //! `archive serve`: serves the operations in a file or a folder to DICOM clients (PS3.8, section
 //! 9.1).
 
-ghost use Rattle.std.specs.Prelude.{◌≡◌, ◌≤◌, ◌<◌, ◌+◌, not, ◌==◌, [], vec_len, IfOk};
-ghost use Rattle.archive_server.specs.Serving.{others_in};
+ghost use Rattle.std.specs.Prelude.{◌≡◌, IfOk};
 ghost use Rattle.command_words.specs.Words.{HasPlaces};
-ghost use Rattle.shelved_site.specs.Keeping.{IsUp, log_of};
 ghost use Rattle.shelved_site.specs.Told.{IsOpenedOn};
-ghost use Rattle.shelved_site.specs.Stores.{listed_in};
 
 use crate::duties::{duties_of, passes_for, workers_of};
 use crate::ending::ended_with_input;
 use crate::file::{adopted, refused, see_kind};
-use crate::folder::{Starting, is_folder, log_in, records_in};
+use crate::folder::{is_folder, log_in, records_in};
 use crate::gauges::gauges_of;
+use crate::hub::{Count, closed_behind, hub_of, hub_of_log};
 use crate::listening::{Listening, listen_first, listen_to, say_where};
 use crate::output::CommandFault;
-use crate::progress::Progress;
 use crate::refused::{Refused, about};
 use anyhow::Result as Printed;
 use archive_model::View;
-use archive_server::{Entrance, Manner, Peer, ServeFault, Served, serve_on};
+use archive_server::{Entrance, Manner, Peer, serve_on};
 use association_run::OpenGate;
 use command_words::Serving;
 use log::Log;
 use octets::{ListOf, Octets};
 use record_log::Told;
 use records::RecordedContent;
-use shelved_site::{KeptLog, Store, hub_on, hub_on_log};
-use site_hub::{CloseFault, HubFault, HubName, Keeper, Opened, Pass, Snapshot, close};
+use shelved_site::{KeptLog, Store};
+use site_hub::{HubFault, HubName, Opened};
 use sqlite::{Alter, Connection, Wary};
-use sqlite_disk::Disk;
 use std::alloc::{AllocError, Global};
 use std::io::Print;
 use std::marker::Brand;
@@ -40,9 +36,6 @@ use std::sync::{Arc, Mutex, Wait};
 use std::thread::Threads;
 use std::time::{Clock, Duration};
 use ul_state::{Title, Titles};
-
-/// The number of the site for a keeper that makes no correction: a desk has that which is named.
-const SITE: u16 = 1;
 
 /// A called title, which those may call that are named for it.
 fn title(
@@ -69,57 +62,6 @@ fn titles(alloc: Global, serving: &Serving<'_>) -> Result<Titles<View>, AllocErr
     list.push(title(alloc, b"QUALITY", View::Quality, serving)?)?;
     list.push(title(alloc, b"AUDIT", View::Audit, serving)?)?;
     Ok(Titles { list })
-}
-
-/// The fault of an association, and else of the closing.
-fn first_of(fault: Option<ServeFault>, closed: Option<HubFault>) -> Result<(), CommandFault> {
-    match (fault, closed) {
-        (Some(fault), _) => Err(CommandFault::from(fault)),
-        (None, Some(fault)) => Err(CommandFault::from(fault)),
-        (None, None) => Ok(()),
-    }
-}
-
-/// What was served: how many associations were accepted, and the first fault.
-struct Count {
-    accepted: u64,
-    ended: Result<(), CommandFault>,
-}
-
-/// Closes a hub. A keeper that is not closed is dropped by a lock, which holds it.
-fn close_hub<H: HubName, R: Wait>(
-    keeper: Keeper<H, Snapshot<H>, &R>,
-    passes: Vec<Pass<H>>,
-) -> Option<HubFault> {
-    match close(keeper, passes) {
-        Ok((_site, _log)) => None,
-        Err(back) => {
-            let CloseFault {
-                keeper,
-                passes: _,
-                fault,
-            } = back;
-            let _locked = Mutex::new(keeper);
-            Some(fault)
-        }
-    }
-}
-
-/// What was served, with the hub closed behind it.
-fn closed_behind<H: HubName, R: Wait>(
-    served: Served<H>,
-    keeper: Keeper<H, Snapshot<H>, &R>,
-) -> Count {
-    let Served {
-        accepted,
-        passes,
-        fault,
-    } = served;
-    let closed = close_hub(keeper, passes);
-    Count {
-        accepted,
-        ended: first_of(fault, closed),
-    }
 }
 
 /// The peers, each called after so many seconds.
@@ -204,43 +146,6 @@ fn serve_hub<
         rt, alloc, entrance, duties, &titles, gates, each, &keeper, passes, store, manner,
     );
     Ok(closed_behind(served, keeper.into_inner()))
-}
-
-/// The hub of a site whose operations stand in a store, with so many passes.
-fn hub_of<'r, R: Wait, S: Store>(
-    host: &HostRuntime,
-    rt: &'r R,
-    file: &str,
-    store: &mut S,
-    passes: usize,
-) -> Result<Opened<&'r R>, CommandFault>
-    requires passes { (1 ≤ passes) × (passes ≤ 64) }
-    ensures site { S.is_clean store.new → IfOk result (λ opened.
-        IsOpenedOn (S.lists store.new) [] opened.opening) }
-{
-    let progress = Progress::of(host);
-    progress.begins(file);
-    let opened = hub_on(host.alloc(), rt, store, SITE, passes, &progress)?;
-    Ok(opened)
-}
-
-/// The same of a log, of which some contents are told.
-fn hub_of_log<'r, R: Wait + Threads + Sync, H: Disk + Drop, B: Disk>(
-    host: &HostRuntime,
-    rt: &'r R,
-    file: &str,
-    log: &mut KeptLog<H, B>,
-    passes: usize,
-    told: &[RecordedContent],
-) -> Result<Opened<&'r R>, CommandFault>
-    requires passes { (1 ≤ passes) × (passes ≤ 64) }
-    ensures site { IsUp H.Disk B.Disk (log_of log.new) → IfOk result (λ opened.
-        IsOpenedOn (listed_in B.Disk (log_of log.new)) told.now opened.opening) }
-{
-    let starting = Starting::of(host, file);
-    starting.begins();
-    let opened = hub_on_log(host.alloc(), rt, rt, log, SITE, passes, told, &starting)?;
-    Ok(opened)
 }
 
 /// Where a server listens: here, where nobody does yet.

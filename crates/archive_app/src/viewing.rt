@@ -4,8 +4,8 @@
 ghost use Rattle.std.specs.Prelude.{IfOk, IsTrue};
 ghost use Rattle.sqlite_disk.specs.Memory.{memory_is_usable};
 
-use crate::file::{OnStore, beside, front_of, is_new, note_log, on_database, on_file, refused};
-use crate::folder::is_folder;
+use crate::file::{OnStore, beside, front_of, is_new, note_log, on_database, on_shelf, refused};
+use crate::folder::{is_folder, log_to_view, on_log};
 use crate::output::{CommandFault, FileCause, file_cause_of, is_other};
 use crate::refused::Refused;
 use op_shelf::{ShelfFault, StoreCause};
@@ -150,8 +150,11 @@ pub fn view_file<'a, W: OnStore + Drop>(
     file: &'a str,
     work: W,
 ) -> Result<W::Told, Refused<'a>> {
-    if is_folder(rt, file) || has_both(rt, file) {
-        return on_file(rt, file, work);
+    if is_folder(rt, file) {
+        return Ok(on_log(log_to_view(rt, file)?, work));
+    }
+    if has_both(rt, file) {
+        return on_shelf(rt, file, work);
     }
     note_log(rt, file);
     on_copy(rt, file, work)

@@ -50,6 +50,7 @@ mod serve;
 mod starting;
 mod told_desk;
 mod told_pages;
+mod total;
 mod visit;
 mod wire;
 mod worker;

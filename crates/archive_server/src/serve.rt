@@ -1,18 +1,14 @@
 //! The server: a thread for each worker, for each worker of exchanges and for each peer, and the
 //! shelf in the thread that called.
 
-ghost use Rattle.std.specs.Prelude.{◌≡◌, ◌+◌, ◌*◌, ◌++◌, ◌∷◌, ◌<◌, ◌≤◌, ◌⊎◌, [], min, is_some, IfOk, IsSome};
-ghost use Rattle.std.specs.Prelude.{vec_len};
-ghost use Rattle.std.specs.Prelude.{vec_capacity};
-ghost use Rattle.std.specs.Option.{option_or};
-ghost use mathlib.Core.List.{IsPrefix};
+ghost use Rattle.std.specs.Prelude.{◌≡◌, ◌+◌, ◌*◌, ◌<◌, ◌≤◌, ◌⊎◌, [], min, is_some, IsSome};
+ghost use Rattle.std.specs.Prelude.{vec_len, vec_capacity};
 ghost use Rattle.archive_server.specs.Serving.{AllOnward, AreJobs, AreKept, HaveServed, IsKept, WasWritten};
 ghost use Rattle.archive_server.specs.Serving.{others_in, room_of_all};
 
 use crate::attending::Archive;
 use crate::board::Board;
 use crate::clerk::Clerk;
-use crate::done::Done;
 use crate::duties::Duties;
 use crate::entrance::Entrance;
 use crate::fault::ServeFault;
@@ -23,6 +19,7 @@ use crate::keeping::{Inbox, keep_all};
 use crate::manner::Manner;
 use crate::message::Reach;
 use crate::starting::{Begun, Channels, finish, start};
+use crate::total::{Total, with_done};
 use crate::worker::Hall;
 use archive_model::View;
 use association_run::{Gate, RunFault};
@@ -45,49 +42,6 @@ use ul_state::Titles;
 
 /// How many requests wait for the shelf.
 const WAITING: usize = 64;
-
-/// What was served, so far.
-#[derive(Clone, Copy)]
-pub(crate) struct Total {
-    accepted: u64,
-    fault: Option<ServeFault>,
-}
-
-/// The faults come by job, and of one job in its own order.
-fn with_job(before: Total, accepted: u64, fault: Option<ServeFault>) -> Total
-    ensures accepted { result.accepted ≡ min (before.accepted + accepted) 18446744073709551615 }
-    ensures fault { result.fault ≡ option_or before.fault fault }
-{
-    Total {
-        accepted: before.accepted.saturating_add(accepted),
-        fault: before.fault.or(fault),
-    }
-}
-
-/// What was served, and what one thread more came back with: its pass stands behind the others
-/// again, and what it knows was compared with the ledger.
-fn with_done<H: HubName, N: LedgerName>(
-    before: Total,
-    done: Done<H, N>,
-    ledger: &mut Ledger<N>,
-    passes: &mut Vec<Pass<H>>,
-) -> Total
-    requires room { vec_len passes.old < vec_capacity passes.old }
-    ensures same { ledger.new ≡ ledger.old }
-    ensures begins { IsPrefix done.clerk.known ledger.new }
-    ensures passes { passes.new.items ≡ passes.old.items ++ done.clerk.pass ∷ [] }
-    ensures accepted { result.accepted
-        ≡ min (before.accepted + done.accepted) 18446744073709551615 }
-    ensures fault { result.fault ≡ option_or before.fault done.fault }
-    ensures len { vec_len passes.new ≡ vec_len passes.old + 1 }
-    ensures capacity { vec_capacity passes.new ≡ vec_capacity passes.old }
-{
-    let (clerk, accepted, fault) = done.into_parts();
-    let (pass, extract) = clerk.into_parts();
-    ledger.compare(&extract);
-    passes.push_reserved(pass);
-    with_job(before, accepted, fault)
-}
 
 /// Keeps the shelf until nobody can ask any more.
 fn keep<S: Wait, K: Keep, N: LedgerName>(

@@ -2,9 +2,11 @@
 use Rattle.std.proofs.Common.{◌≡◌, ◌⊎◌, inl, inr, ◌+◌, ◌≤◌, ◌<◌, ◌^◌, ◌∷◌, [], ◌++◌, ℕ, List, length, slice_index}
 use Rattle.std.proofs.Common.{sym, ◌∙◌, arith, subst, refl, ap}
 use Rattle.std.proofs.lemmas.Bool.{cases_eq}
+use Rattle.std.proofs.lemmas.List.{append-nil}
+use Rattle.std.proofs.lemmas.List.Concat.{flat_map-append}
 use Rattle.sqlite_disk.specs.Disk.{Holds, Torn}
 use Rattle.body_log.proofs.Holding.{past}
-use Rattle.head_log.specs.Groups.{IsGroupAt, Laid, Ready, StandsFor, text_of, shut_text}
+use Rattle.head_log.specs.Groups.{IsGroupAt, Laid, Ready, StandsFor, joined, text_of, shut_text}
 use Rattle.head_log.proofs.Texts.{front, behind, long}
 
 -- a write leaves what lies above it
@@ -15,6 +17,11 @@ beyond old new at n from bytes high torn h =
       within = omega (arith, h.within, torn.no_shorter);
       each = λ i few. torn.above (from + i) (omega (arith, h.within)) (omega arith) ∙ h.each i few;
     }
+
+-- what one group more has stands behind the rest
+pub joined_more : {X : Type 0} (groups : List (List X)) (more : List X) → joined (groups ++ more ∷ []) ≡ joined groups ++ more
+joined_more {X} groups more =
+    flat_map-append (λ (g : List X). g) groups (more ∷ []) ∙ ap (λ (xs : List X). joined groups ++ xs) (append-nil more)
 
 -- groups do not lie backwards
 pub laid_up : (file : List ℕ) (from : ℕ) (groups : List (List ℕ)) (end : ℕ) → Laid file from groups end → from ≤ end

@@ -1,6 +1,7 @@
 -- What a file of groups stands for. Before each group stands its gate, a byte that is 1 where the group counts.
 use Rattle.std.specs.Prelude.{◌≡◌, ◌≢◌, ◌⊎◌, ◌+◌, ◌<◌, ◌≤◌, ◌^◌, ℕ, List, [], ◌∷◌, ◌++◌, length, slice_index}
 use Rattle.std.specs.Int.{w64, to_le_bytes}
+use Rattle.std.specs.List.{flat_map}
 use Rattle.sha2.specs.Sha256.{sha256}
 use Rattle.sqlite_disk.specs.Disk.{Holds, Only}
 use Rattle.sqlite_disk.specs.declared.Disk.{Ghosts}
@@ -12,6 +13,10 @@ text_of group = to_le_bytes w64 (length group) ++ (sha256 group ++ group)
 -- the same, and the shut gate of the next group
 abbrev pub shut_text : List ℕ → List ℕ
 shut_text group = text_of group ++ 0 ∷ []
+
+-- what some groups have, in order
+abbrev pub joined : {X : Type 0} → List (List X) → List X
+joined groups = flat_map (λ group. group) groups
 
 -- a group stands behind an open gate
 pub record IsGroupAt (file : List ℕ) (at : ℕ) (group : List ℕ) : Type 0 where

@@ -5,12 +5,12 @@ use Rattle.std.proofs.Common.{Result, Ok, Err, OnErr, OnOk}
 use Rattle.sqlite_disk.specs.declared.Disk.{Ghosts}
 use Rattle.head_log.specs.Groups.{IsReady}
 use Rattle.head_log.specs.Groups.{LeavesEither as LeavesGroups, StandsFor as HasGroups}
+use Rattle.head_log.proofs.Laying.{joined_more}
 use Rattle.op_log.specs.Heads.{Head, IsSpelled, group_text}
 use Rattle.op_log.specs.Kept.{IsKept, StandsFor}
 use Rattle.op_log.specs.Puts.{LeavesEither}
 use Rattle.op_log.specs.Staged.{HasHeads}
 use Rattle.op_log.proofs.Fitting.{some_head}
-use Rattle.op_log.proofs.Walks.{joined_more}
 
 -- a text of no byte is that of no head
 pub no_heads : (heads : List Head) → group_text heads ≡ [] → heads ≡ []

@@ -2,11 +2,11 @@
 use Rattle.std.proofs.Common.{◌≡◌, ◌<◌, ◌≤◌, ℕ, List, [], map, length, All, inl, inr, refl, sym, ◌∙◌, subst, arith}
 use Rattle.std.proofs.lemmas.Bool.{cases_lt}
 use Rattle.sqlite_disk.specs.declared.Disk.{Ghosts}
-use Rattle.head_log.specs.Groups.{IsEnded, IsReady, KeepsGroups, Ready}
+use Rattle.head_log.specs.Groups.{IsEnded, IsReady, KeepsGroups, Ready, joined}
 use Rattle.head_log.specs.Groups.{StandsFor as HasGroups}
 use Rattle.head_log.specs.Reads.{OnlyReads}
 use Rattle.op_log.specs.Heads.{Head, IsSpelled, group_text}
-use Rattle.op_log.specs.Kept.{IsKept, KeepsHeads, StandsFor, joined}
+use Rattle.op_log.specs.Kept.{IsKept, KeepsHeads, StandsFor}
 use Rattle.op_log.specs.Filling.{AreFit}
 use Rattle.op_log.specs.Walking.{AreLaid}
 use Rattle.op_log.proofs.Walks.{heads_once, laid_once, spelled_of}

@@ -2,25 +2,19 @@
 use Rattle.std.proofs.Common.{◌≡◌, ◌+◌, ◌<◌, ◌≤◌, ℕ, List, [], ◌∷◌, ◌++◌, length, map, All, refl, sym, ◌∙◌, ap, subst}
 use Rattle.std.proofs.Common.{arith}
 use Rattle.std.proofs.lemmas.List.{append_assoc, append-nil, map-append}
-use Rattle.std.proofs.lemmas.List.Concat.{flat_map-append}
 use Rattle.std.proofs.Common.{IsTrue}
 use Rattle.sqlite_disk.specs.declared.Disk.{Ghosts}
 use Rattle.head_log.specs.declared.log.HeadLog.{HeadLog}
 use Rattle.head_log.specs.Log.{Looks, disk_of, end_of}
-use Rattle.head_log.specs.Groups.{IsGroupAt, Laid}
-use Rattle.head_log.proofs.Laying.{laid_more, laid_up}
+use Rattle.head_log.specs.Groups.{IsGroupAt, Laid, joined}
+use Rattle.head_log.proofs.Laying.{joined_more, laid_more, laid_up}
 use Rattle.head_log.proofs.Walking.{one_group as one_text}
 use Rattle.op_log.specs.Filling.{AreFit, AreTaken}
 use Rattle.op_log.specs.Heads.{Head, IsSpelled, group_text}
-use Rattle.op_log.specs.Kept.{joined}
 use Rattle.op_log.specs.Walking.{AreLaid}
 use Rattle.op_log.proofs.Fitting.{all_front, all_behind, fit_all, fit_behind, fit_front, fit_joined, one_group}
 
--- one group more
-pub joined_more : (groups : List (List Head)) (heads : List Head) → joined (groups ++ heads ∷ []) ≡ joined groups ++ heads
-joined_more groups heads =
-    flat_map-append (λ (g : List Head). g) groups (heads ∷ []) ∙ ap (λ (hs : List Head). joined groups ++ hs) (append-nil heads)
-
+-- one group more was walked
 pub walked_more : (file : List ℕ) (at end next : ℕ) (old new : List Head) (text : List ℕ) → AreLaid file at end old
     → IsGroupAt file at text → next ≡ at + 41 + length text → AreTaken end old new text [] → AreLaid file next end new
 walked_more file at end next old new text done it is taken =

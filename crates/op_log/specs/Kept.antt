@@ -1,12 +1,11 @@
 -- What two files keep of operations: one has their heads, in groups, and the other their data sets.
 use Rattle.std.specs.Prelude.{◌≡◌, ◌+◌, ◌≤◌, ◌<◌, ℕ, List, [], ◌∷◌, length, map, All, Option, Some, None}
 use Rattle.std.specs.Prelude.{if◌then◌else◌, nat_eq, Contains}
-use Rattle.std.specs.List.{flat_map}
 use Rattle.std.specs.Cmp.Lexicographic.{pointwise}
 use Rattle.sqlite_disk.specs.Disk.{Holds}
 use Rattle.sqlite_disk.specs.declared.Disk.{Ghosts}
 use Rattle.body_log.specs.Lasts.{Lasts}
-use Rattle.head_log.specs.Groups.{IsReady}
+use Rattle.head_log.specs.Groups.{IsReady, joined}
 use Rattle.head_log.specs.Groups.{StandsFor as HasGroups}
 use Rattle.operation.specs.declared.op.Op.{Op}
 use Rattle.operation.specs.Spelling.{hash_of}
@@ -20,10 +19,6 @@ first_under digest (h ∷ heads) = if pointwise nat_eq digest h.digest then Some
 -- no two of some heads have one digest: each is the first with its own
 abbrev pub HaveOwnDigests : List Head → Type 0
 HaveOwnDigests heads = (h : Head) → Contains heads h → first_under h.digest heads ≡ Some h
-
--- the heads of some groups, in order
-abbrev pub joined : List (List Head) → List Head
-joined groups = flat_map (λ group. group) groups
 
 -- a file of groups stands for these heads, in this order
 pub record StandsFor (file : List ℕ) (heads : List Head) : Type 0 where

@@ -1,9 +1,9 @@
 -- Walking a file of heads from group to group.
 use Rattle.std.specs.Prelude.{◌≡◌, ℕ, List, [], length, map}
-use Rattle.head_log.specs.Groups.{Laid}
+use Rattle.head_log.specs.Groups.{Laid, joined}
 use Rattle.op_log.specs.Filling.{AreFit}
 use Rattle.op_log.specs.Heads.{Head, group_text}
-use Rattle.op_log.specs.Kept.{StandsFor, joined}
+use Rattle.op_log.specs.Kept.{StandsFor}
 
 -- these heads lie in groups from the front of the file to an offset, and their data sets lie below another
 pub record AreLaid (file : List ℕ) (at end : ℕ) (heads : List Head) : Type 0 where

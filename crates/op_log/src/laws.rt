@@ -1,11 +1,13 @@
 //! What follows from the definitions, for those who stand on them.
 
-ghost use Rattle.op_log.specs.Told.{RecordsTellTrue, ToldStands};
+ghost use Rattle.op_log.specs.Told.{OwnTellTrue, RecordsTellTrue, ToldStands};
 
-/// Where told contents stand for the operations that have their digests, what is recorded from them
-/// is what is recorded of the operations; and the records of a log's operations are told so, unless
-/// another operation has the hash of one of these.
+/// Where each told content stands for that operation of a log that has its digest, if one has,
+/// what is recorded from them is what is recorded of the operations. The records of the log's own
+/// operations are so; and so are those of others, unless one of these has the hash of one of the
+/// log's and is another.
 pub fn what_is_told_truly_stands()
     ensures stands { ToldStands }
+    ensures own { OwnTellTrue }
     ensures records { RecordsTellTrue }
 {}

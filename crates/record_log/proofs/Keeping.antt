@@ -2,12 +2,12 @@
 use Rattle.std.proofs.Common.{◌≡◌, ◌+◌, ◌<◌, inl, inr, ℕ, List, [], ◌∷◌, ◌++◌, length, map, take, get_or, sym, ◌∙◌, ap, subst}
 use Rattle.std.proofs.lemmas.List.{append-nil, map-append}
 use Rattle.std.proofs.lemmas.List.Elements.{filter_more}
-use Rattle.std.proofs.lemmas.List.Concat.{flat_map-append}
 use Rattle.sqlite_disk.specs.declared.Disk.{Ghosts}
-use Rattle.head_log.specs.Groups.{IsReady}
+use Rattle.head_log.specs.Groups.{IsReady, joined}
 use Rattle.head_log.specs.Groups.{LeavesEither as LeavesGroups, StandsFor as HasGroups}
+use Rattle.head_log.proofs.Laying.{joined_more}
 use Rattle.operation.specs.Parts.{ContentParts}
-use Rattle.record_log.specs.Entries.{AreEachTold, AreKept, LeavesEither, StandsFor, entries_text, has_no_note, joined, without_notes}
+use Rattle.record_log.specs.Entries.{AreEachTold, AreKept, LeavesEither, StandsFor, entries_text, has_no_note, without_notes}
 use Rattle.record_log.proofs.Cutting.{entries_more, none_told, told_more}
 
 -- one content more
@@ -32,13 +32,6 @@ pub told_one_more : (contents : List ContentParts) (i : ℕ) (c : ContentParts) 
 told_one_more contents i c low is told more =
     subst (λ (xs : List ContentParts). AreEachTold xs) (sym (some_more contents i c low is))
     (told_more (without_notes (take i contents)) (without_notes (c ∷ [])) told more)
-
--- one group more
-joined_more : (groups : List (List ContentParts)) (cs : List ContentParts)
-    → joined (groups ++ cs ∷ []) ≡ joined groups ++ cs
-joined_more groups cs =
-    flat_map-append (λ (g : List ContentParts). g) groups (cs ∷ [])
-    ∙ ap (λ (xs : List ContentParts). joined groups ++ xs) (append-nil cs)
 
 -- the groups with one more, as texts
 texts_more : (groups : List (List ContentParts)) (more : List ContentParts) (text : List ℕ) → text ≡ entries_text more

@@ -5,14 +5,14 @@ use Rattle.std.specs.Result.{IsErrAnd}
 use Rattle.std.proofs.lemmas.List.{append-nil, length-append, map-append}
 use Rattle.std.proofs.lemmas.List.Concat.{flat_map-append}
 use Rattle.sqlite_disk.specs.Disk.{MoreFaults}
-use Rattle.head_log.specs.Groups.{IsGroupAt, Laid}
+use Rattle.head_log.specs.Groups.{IsGroupAt, Laid, joined}
 use Rattle.head_log.specs.Fault.{CountsDisk}
 use Rattle.head_log.specs.declared.fault.HeadFault.{HeadFault}
 use Rattle.head_log.specs.declared.fault.HeadFault.TheVariants.{Disk}
 use Rattle.head_log.proofs.Laying.{laid_more, laid_up}
 use Rattle.head_log.proofs.Walking.{one_group}
 use Rattle.operation.specs.Parts.{ContentParts}
-use Rattle.record_log.specs.Entries.{AreEachTold, AreTold, HasEntries, WereRead, entries_text, joined, with_lengths}
+use Rattle.record_log.specs.Entries.{AreEachTold, AreTold, HasEntries, WereRead, entries_text, with_lengths}
 use Rattle.record_log.proofs.Cutting.{told_front, told_behind}
 
 -- These are some contents, in their order, and the groups from an offset on have the others.

@@ -1,9 +1,8 @@
 -- The records of contents in a file of groups. A group has entries, one behind the other.
 use Rattle.std.specs.Prelude.{◌≡◌, ◌⊎◌, ◌+◌, ◌<◌, ◌^◌, ℕ, List, [], ◌∷◌, ◌++◌, length, map, filter, Bool, not, is_some, None}
 use Rattle.std.specs.Int.{w64, to_be_bytes}
-use Rattle.std.specs.List.{flat_map}
 use Rattle.sqlite_disk.specs.declared.Disk.{Ghosts}
-use Rattle.head_log.specs.Groups.{IsReady, Laid}
+use Rattle.head_log.specs.Groups.{IsReady, Laid, joined}
 use Rattle.head_log.specs.Groups.{StandsFor as HasGroups}
 use Rattle.operation.specs.Parts.{ContentParts}
 use Rattle.operation.specs.RecordParts.{content_record}
@@ -48,10 +47,6 @@ has_no_note c = not (is_some c.note)
 -- those of some contents that are none
 abbrev pub without_notes : List ContentParts → List ContentParts
 without_notes cs = filter has_no_note cs
-
--- what some groups have, in order
-abbrev pub joined : {X : Type 0} → List (List X) → List X
-joined groups = flat_map (λ group. group) groups
 
 -- the groups of a file, up to an offset, tell these contents, in this order
 pub record AreTold (file : List ℕ) (end : ℕ) (cs : List ContentParts) : Type 0 where

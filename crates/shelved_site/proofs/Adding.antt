@@ -1,6 +1,7 @@
 -- The records that are added beside a log.
-use Rattle.std.proofs.Common.{◌≡◌, ◌<◌, ℕ, zero, suc, List, [], ◌∷◌, ◌++◌, Bool, true, false, length, inl, inr, refl}
+use Rattle.std.proofs.Common.{◌≡◌, ◌≤◌, ◌-◌, ℕ, List, [], ◌∷◌, ◌++◌, Bool, true, false, length, take, drop, inl, inr, refl}
 use Rattle.std.proofs.Common.{sym, ap, subst, ◌∙◌, append_assoc, get_or, cond, arith}
+use Rattle.std.proofs.Math.Seq.{take-length}
 use Rattle.std.specs.Prelude.{filter, Some}
 use Rattle.std.proofs.lemmas.Option.{same_Some as some_is}
 use Rattle.std.proofs.lemmas.List.{append-nil}
@@ -14,15 +15,11 @@ use Rattle.records.specs.StandIn.{op_in, stand_in}
 use Rattle.record_log.specs.declared.log.RecordLog.{RecordLog}
 use Rattle.record_log.specs.Entries.{has_no_note, without_notes}
 use Rattle.record_log.specs.Log.{Tells}
+use Rattle.operation.specs.Spelling.{digest_of}
 use Rattle.op_log.specs.Told.{AreToldOf}
-use Rattle.shelved_site.specs.Told.{AreAmong}
+use Rattle.shelved_site.specs.Told.{AreAmong, AreNamedIn, HaveOneDigest, IsBehind}
 
 -- ---- lists
-
-pub has_at : {X : Type 0} (xs : List X) (i : ℕ) (d : X) → i < length xs → Has xs (get_or xs i d)
-has_at [] i d low = absurd (omega (arith, low))
-has_at (x ∷ xs) zero d low = inl refl
-has_at (x ∷ xs) (suc i) d low = inr (has_at xs i d (omega (arith, low)))
 
 either : {X : Type 0} (xs ys : List X) (x : X) {P : Type 0} → (Has xs x → P) → (Has ys x → P) → Has (xs ++ ys) x → P
 either [] ys x first second has = second has
@@ -43,6 +40,51 @@ one_left p x y has = by (p x) has
 pub content_is : (op : Op) (c : ContentParts) → content_in op ≡ Some c → op ≡ a_content c
 content_is (a_content d) c e = ap a_content (some_is d c e)
 content_is (a_correction k) c e = absurd cc
+
+-- ---- what is told, in the order of operations
+
+-- what is told of: some that have been met, and the rest
+abbrev pub IsMet : List Op → List ContentParts → List ContentParts → Type 0
+IsMet ops told rest = (met : List ContentParts) × (told ≡ met ++ rest) × AreNamedIn ops met
+
+-- the others stand behind the first, which has the digest of a content
+pub first_behind : (told : List ContentParts) (first c : ContentParts) → 1 ≤ length told → first ≡ get_or told 0 first
+    → HaveOneDigest first c → IsBehind told c (take (length told - 1) (drop 1 told))
+first_behind [] first c some is digest = absurd (omega (arith, some))
+first_behind (x ∷ told) first c some is digest =
+    let count : length (x ∷ told) - 1 ≡ length told = omega arith in
+    (subst (λ (d : ContentParts). HaveOneDigest d c) is digest, ap (λ (n : ℕ). take n told) count ∙ take-length told)
+
+-- none has been met
+pub none_met : (ops : List Op) (told : List ContentParts) → IsMet ops told told
+none_met ops told = ([], refl, λ c none. elim none [ ])
+
+-- the first of the rest is met by an operation that has its digest
+pub one_met : (ops : List Op) (told rest behind : List ContentParts) (op : Op) (c : ContentParts) → Has ops op → op ≡ a_content c
+    → IsBehind rest c behind → IsMet ops told rest → IsMet ops told behind
+one_met ops told [] behind op c among is none met = absurd none
+one_met ops told (first ∷ rest) behind op c among is (digest, same) (met, are, named) = (
+  met ++ first ∷ [],
+  are ∙ ap (λ (xs : List ContentParts). met ++ first ∷ xs) (sym same) ∙ sym (append_assoc met (first ∷ []) behind),
+  λ x has. either met (first ∷ []) x (named x) (here x) has,
+)
+  where
+    here : (x : ContentParts) → Has (first ∷ []) x → (op : Op) × Has ops op × (digest_of op ≡ digest_of (a_content x))
+    here x (inl e) = (op, among, ap digest_of is ∙ sym digest ∙ ap (λ (d : ContentParts). digest_of (a_content d)) (sym e))
+    here x (inr none) = elim none [ ]
+
+-- where none is left, all are named
+pub all_met : (ops : List Op) (told rest : List ContentParts) → rest ≡ [] → IsMet ops told rest → AreNamedIn ops told
+all_met ops told rest none (met, are, named) =
+    subst (AreNamedIn ops) (sym (are ∙ ap (λ (xs : List ContentParts). met ++ xs) none ∙ append-nil met)) named
+
+right_none : {X : Type 0} (xs ys : List X) → xs ++ ys ≡ [] → ys ≡ []
+right_none [] ys none = none
+right_none (x ∷ xs) ys none = absurd cc
+
+-- where nothing is told nothing is left
+pub none_left : (ops : List Op) (told rest : List ContentParts) → told ≡ [] → IsMet ops told rest → rest ≡ []
+none_left ops told rest none (met, are, named) = right_none met rest (sym are ∙ none)
 
 module _ {D : Type 0} (g : Ghosts D) where
   -- nothing was added

@@ -1,12 +1,14 @@
 -- The site of a store that stays.
-use Rattle.std.proofs.Common.{◌≡◌, ℕ, List, ◌∙◌}
+use Rattle.std.proofs.Common.{◌≡◌, ℕ, List, ap, sym, ◌∙◌}
 use Rattle.operation.specs.declared.op.Op.{Op}
 use Rattle.operation.specs.declared.target.Target.{Target}
-use Rattle.site_state.specs.Site.{Map}
+use Rattle.site_state.specs.Site.{Map, ops_of, top_counter_of}
+use Rattle.site_hub.specs.Stamps.{next_correction, LAST_COUNTER}
 use Rattle.site_hub.specs.declared.fault.HubFault.{HubFault}
+use Rattle.shelved_site.specs.declared.correcting.Corrected.{Corrected}
 use Rattle.shelved_site.specs.declared.fault.ShelvedFault.{ShelvedFault}
 use Rattle.shelved_site.specs.declared.fault.ShelvedFault.TheVariants.{Shelf, Site, Hub}
-use Rattle.shelved_site.specs.Corrections.{IsUncorrected}
+use Rattle.shelved_site.specs.Corrections.{IsCorrected, IsNext, IsSpent, IsUncorrected, IsUnmade, is_known}
 use Rattle.shelved_site.specs.Sites.{IsSiteOf, IsBeforeHub}
 
 -- what was the site of a store is that of one that lists the same
@@ -29,3 +31,35 @@ pub no_hub : (e : ShelvedFault) (fault : HubFault) → IsBeforeHub e → e ≡ H
 no_hub (Shelf _) fault before is = absurd cc
 no_hub (Site _) fault before is = absurd cc
 no_hub (Hub _) fault before is = before
+
+-- ---- corrections at the site of a store
+
+module _ (lists : List Op → Type 0) (site : Map) (number : ℕ) (target : Target) (tag : ℕ) (value : List ℕ) where
+  -- what comes next at the site comes next in the store
+  pub corrected_in : (is_left : Op → Type 0) (told : Corrected) → IsSiteOf lists site
+      → IsNext site is_left number target tag value told → IsCorrected lists is_left number target tag value told
+  corrected_in is_left told it next = record {
+    ops = it.ops;
+    listed = it.listed;
+    made = next.made;
+    next = next.next ∙ ap (λ (m : Map). next_correction number m target tag value) it.took;
+    stamped = next.stamped;
+    known = next.known ∙ ap (λ (m : Map). is_known target (ops_of m)) it.took;
+    lasts = next.lasts;
+  }
+
+  -- and what was not made there was not made in it
+  pub unmade_in : (fault : ShelvedFault) → IsSiteOf lists site → IsUnmade site number target tag value fault
+      → IsUncorrected lists number target tag value fault
+  unmade_in (Shelf _) it unmade = tt
+  unmade_in (Site _) it unmade = tt
+  unmade_in (Hub fault) it unmade =
+      (it.ops, it.listed, ap (λ (m : Map). next_correction number m target tag value) (sym it.took) ∙ unmade)
+
+  -- the last counter at the site is the last in it
+  pub spent_in : IsSiteOf lists site → top_counter_of (ops_of site) ≡ LAST_COUNTER → IsSpent lists
+  spent_in it spent = record {
+    ops = it.ops;
+    listed = it.listed;
+    spent = ap (λ (m : Map). top_counter_of (ops_of m)) (sym it.took) ∙ spent;
+  }

@@ -6,7 +6,7 @@ use Rattle.operation.specs.declared.op.Op.TheVariants.{Content as a_content, Cor
 use Rattle.operation.specs.declared.target.Target.{Target}
 use Rattle.operation.specs.Parts.{CorrectionParts}
 use Rattle.archive_model.specs.Attributes.{is_target_of}
-use Rattle.site_state.specs.Site.{ops_of, top_counter_of}
+use Rattle.site_state.specs.Site.{Map, ops_of, top_counter_of}
 use Rattle.site_hub.specs.Stamps.{next_correction, LAST_COUNTER}
 use Rattle.shelved_site.specs.Sites.{after_recording}
 use Rattle.shelved_site.specs.declared.correcting.Corrected.{Corrected}
@@ -34,6 +34,15 @@ pub record IsCorrected (lists : List Op → Type 0) (is_left : Op → Type 0) (n
   pub known : told.is_known ≡ is_known target (ops_of (after_recording ops))
   pub lasts : is_left (a_correction made)
 
+-- the same of a site: the correction that comes next there, and whether its target is known
+pub record IsNext (site : Map) (is_left : Op → Type 0) (number : ℕ) (target : Target) (tag : ℕ) (value : List ℕ)
+    (told : Corrected) : Type 0 where
+  pub made : CorrectionParts
+  pub next : Ok made ≡ next_correction number site target tag value
+  pub stamped : told.stamp ≡ made.stamp
+  pub known : told.is_known ≡ is_known target (ops_of site)
+  pub lasts : is_left (a_correction made)
+
 -- a correction with the last counter is in the store
 pub record IsSpent (lists : List Op → Type 0) : Type 0 where
   pub ops : List Op
@@ -47,3 +56,9 @@ IsUncorrected lists number target tag value (Shelf _) = ⊤
 IsUncorrected lists number target tag value (Site _) = ⊤
 IsUncorrected lists number target tag value (Hub fault) =
     (ops : List Op) × lists ops × (next_correction number (after_recording ops) target tag value ≡ Err fault)
+
+-- no correction was made at a site: its store refused, or it did, or none comes next there, for this reason
+abbrev pub IsUnmade : Map → ℕ → Target → ℕ → List ℕ → ShelvedFault → Type 0
+IsUnmade site number target tag value (Shelf _) = ⊤
+IsUnmade site number target tag value (Site _) = ⊤
+IsUnmade site number target tag value (Hub fault) = next_correction number site target tag value ≡ Err fault

@@ -1,9 +1,10 @@
 -- What is told of contents beside a log.
-use Rattle.std.specs.Prelude.{◌≡◌, ◌⊎◌, List}
+use Rattle.std.specs.Prelude.{◌≡◌, ◌⊎◌, List, [], ◌∷◌}
 use Rattle.octets.specs.Members.{Has}
 use Rattle.operation.specs.declared.op.Op.{Op}
 use Rattle.operation.specs.declared.op.Op.TheVariants.{Content as a_content}
 use Rattle.operation.specs.Parts.{ContentParts}
+use Rattle.operation.specs.Spelling.{digest_of}
 use Rattle.op_log.specs.Told.{TellTrue}
 use Rattle.site_state.specs.Site.{Map}
 use Rattle.shelved_site.specs.Sites.{IsSiteOf, after_recording}
@@ -12,10 +13,24 @@ use Rattle.shelved_site.specs.Sites.{IsSiteOf, after_recording}
 abbrev pub AreAmong : List ContentParts → List Op → Type 0
 AreAmong cs ops = (c : ContentParts) → Has cs c → Has ops (a_content c)
 
--- where what is told is true, it is the site that took what stands for all operations of a store, whichever these are
-abbrev pub IsToldSiteOf : (List Op → Type 0) → List ContentParts → Map → Type 0
-IsToldSiteOf lists told site = TellTrue told → (ops : List Op) → lists ops → site ≡ after_recording ops
+-- two contents have one digest
+abbrev pub HaveOneDigest : ContentParts → ContentParts → Type 0
+HaveOneDigest c d = digest_of (a_content c) ≡ digest_of (a_content d)
 
--- It is the site of a store, or it is so where what is told is true.
+-- the first of these has the digest of a content, and the rest stand behind it
+abbrev pub IsBehind : List ContentParts → ContentParts → List ContentParts → Type 0
+IsBehind [] c rest = ⊥
+IsBehind (first ∷ told) c rest = HaveOneDigest first c × (rest ≡ told)
+
+-- each of these contents has the digest of one of some operations
+abbrev pub AreNamedIn : List Op → List ContentParts → Type 0
+AreNamedIn ops cs =
+    (c : ContentParts) → Has cs c → (op : Op) × Has ops op × (digest_of op ≡ digest_of (a_content c))
+
+-- it is the site that took what stands for all operations of a store, where what is told of these is true
+abbrev pub IsToldSiteOf : (List Op → Type 0) → List ContentParts → Map → Type 0
+IsToldSiteOf lists told site = (ops : List Op) → lists ops → TellTrue told ops → site ≡ after_recording ops
+
+-- It is the site of a store, or it is so where what is told of its operations is true.
 abbrev pub IsOpenedOn : (List Op → Type 0) → List ContentParts → Map → Type 0
 IsOpenedOn lists told site = IsSiteOf lists site ⊎ IsToldSiteOf lists told site

@@ -1,6 +1,6 @@
-//! The records of a log, told or hashed side by side, and the hub that is opened over them.
+//! The records of a log, told or hashed side by side, its site, and the hub that is opened over it.
 
-ghost use Rattle.std.specs.Prelude.{◌≡◌, ◌≤◌, ◌<◌, ◌++◌, [], List, map, length, IfOk, IfErr};
+ghost use Rattle.std.specs.Prelude.{◌≡◌, ◌≤◌, ◌++◌, [], List, map, IfOk, IfErr};
 ghost use Rattle.std.specs.Prelude.{IfSome, IsTrue, OnOk, OnErr};
 ghost use Rattle.operation.specs.declared.op.Op.{Op as Operation};
 ghost use Rattle.operation.specs.Parts.{ContentParts};
@@ -12,7 +12,7 @@ ghost use Rattle.shelved_site.specs.Keeping.{IsUp, Holds, log_of};
 ghost use Rattle.shelved_site.specs.Refusing.{LogRefusesAll};
 ghost use Rattle.shelved_site.specs.Sites.{AreRecords, IsSiteOf, IsOfStore};
 ghost use Rattle.shelved_site.specs.Stores.{IsSame, listed_in};
-ghost use Rattle.shelved_site.specs.Told.{AreAmong, IsToldSiteOf};
+ghost use Rattle.shelved_site.specs.Told.{AreAmong, AreNamedIn, IsBehind, IsToldSiteOf};
 
 use crate::fault::ShelvedFault;
 use crate::keeping::KeptLog;
@@ -22,17 +22,18 @@ use op_shelf::ShelfFault;
 use record_log::RecordLog;
 use records::{RecordedContent, RecordedOp};
 use site_hub::{Opened, open};
+use site_state::Site;
 use sqlite_disk::Disk;
 use std::alloc::Global;
 use std::sync::Wait;
 use std::thread::Threads;
 
-/// What is told behind the first content, where that is this one.
+/// What is told behind the first content, where that has the digest of this one.
 fn behind_told<'a>(
     told: &'a [RecordedContent],
     content: &RecordedContent,
 ) -> Option<&'a [RecordedContent]>
-    ensures shorter { IfSome result (λ rest. length rest.now < length told.now) }
+    ensures { IfSome result (λ rest. IsBehind told.now content.now rest.now) }
 {
     match told {
         [first, rest @ ..] => {
@@ -49,6 +50,7 @@ fn behind_told<'a>(
 /// Whether the contents that are told are among some operations, in their order.
 fn are_in_order(recorded: &[RecordedOp], told: &[RecordedContent]) -> bool
     ensures none { told.now ≡ [] → IsTrue result }
+    ensures named { IsTrue result → AreNamedIn recorded.now told.now }
 {
     let mut rest = told;
     for op in recorded {
@@ -68,7 +70,8 @@ fn add_others<D: Disk + Drop>(
     recorded: &[RecordedOp],
     told: &[RecordedContent],
 ) -> bool
-    ensures { (cs : List ContentParts) → Tells D.Disk records.old cs
+    ensures named { IsTrue result → AreNamedIn recorded.now told.now }
+    ensures added { (cs : List ContentParts) → Tells D.Disk records.old cs
         → (more : List ContentParts) × AreAmong more recorded.now
         × Tells D.Disk records.new (cs ++ more) }
 {
@@ -101,10 +104,11 @@ impl<H: Disk, B: Disk> KeptLog<H, B> {
         ensures all { IsUp H.Disk B.Disk (log_of self.new) → told.now ≡ []
             → IfOk result (λ recorded.
             AreRecords (listed_in B.Disk (log_of self.old)) recorded.items) }
-        // They stand for the operations of the log, where what is told does.
-        ensures told { IsUp H.Disk B.Disk (log_of self.new) → TellTrue told.now
+        // They stand for the operations of the log, where what is told of these does.
+        ensures told { IsUp H.Disk B.Disk (log_of self.new)
             → IfOk result (λ recorded. (ops : List Operation)
-            → listed_in B.Disk (log_of self.new) ops → recorded.items ≡ map op_in ops) }
+            → listed_in B.Disk (log_of self.new) ops → TellTrue told.now ops
+            → recorded.items ≡ map op_in ops) }
         ensures same { IsUp H.Disk B.Disk (log_of self.new)
             → OnOk result (IsSame B.Disk (log_of self.old) (log_of self.new)) }
         ensures refused { IsUp H.Disk B.Disk (log_of self.new) → OnErr result
@@ -121,29 +125,22 @@ impl<H: Disk, B: Disk> KeptLog<H, B> {
     }
 }
 
-/// Opens a hub over the site of a log, which has this number, for so many passes, as `hub_on` does
-/// over a store. The data sets of contents that are told are not read; the others are hashed in as
-/// many threads as there are processors, and their records are added to those beside the log. The
-/// log stays as it is.
-pub fn hub_on_log<H: Disk + Drop, B: Disk, T: Threads + Sync, R: Wait + Drop, P: Hearing>(
+/// The site of a log, as `site_on` tells that of a store. The data sets of contents that are told
+/// are not read; the others are hashed in as many threads as there are processors, and their records
+/// are added to those beside the log. The log stays as it is.
+pub fn site_on_log<H: Disk + Drop, B: Disk, T: Threads + Sync, P: Hearing>(
     alloc: Global,
     threads: &T,
-    rt: R,
     log: &mut KeptLog<H, B>,
-    number: u16,
-    passes: usize,
     told: &[RecordedContent],
     hearing: &P,
-) -> Result<Opened<R>, ShelvedFault>
-    requires number { 1 ≤ number }
-    requires passes { (1 ≤ passes) × (passes ≤ 64) }
-    // Where nothing is told, the hub opens with the site of the log, as of a store.
-    ensures opening { IsUp H.Disk B.Disk (log_of log.new) → told.now ≡ [] → IfOk result (λ opened.
-        IsSiteOf (listed_in B.Disk (log_of log.new)) opened.opening) }
-    // It opens with what stands for the operations of the log, where what is told does.
-    ensures told { IsUp H.Disk B.Disk (log_of log.new) → IfOk result (λ opened.
-        IsToldSiteOf (listed_in B.Disk (log_of log.new)) told.now opened.opening) }
-    ensures size { IfOk result (λ opened. (opened.number ≡ number) × (opened.passes ≡ passes)) }
+) -> Result<Site, ShelvedFault>
+    // Where nothing is told, it is the site of the log, as of a store.
+    ensures site { IsUp H.Disk B.Disk (log_of log.new) → told.now ≡ []
+        → IfOk result (IsSiteOf (listed_in B.Disk (log_of log.new))) }
+    // It has what stands for the operations of the log, where what is told of these does.
+    ensures told { IsUp H.Disk B.Disk (log_of log.new)
+        → IfOk result (IsToldSiteOf (listed_in B.Disk (log_of log.new)) told.now) }
     ensures same { IsUp H.Disk B.Disk (log_of log.new)
         → OnOk result (IsSame B.Disk (log_of log.old) (log_of log.new)) }
     ensures refused { IsUp H.Disk B.Disk (log_of log.new) → OnErr result
@@ -160,6 +157,41 @@ pub fn hub_on_log<H: Disk + Drop, B: Disk, T: Threads + Sync, R: Wait + Drop, P:
         hearing.has_other_records();
     }
     let site = site_of(alloc, recorded)?;
+    Ok(site)
+}
+
+/// Opens a hub over the site of a log, which has this number, for so many passes, as `hub_on` does
+/// over a store. What is read of the log, and what of it is told, is as of `site_on_log`.
+pub fn hub_on_log<H: Disk + Drop, B: Disk, T: Threads + Sync, R: Wait + Drop, P: Hearing>(
+    alloc: Global,
+    threads: &T,
+    rt: R,
+    log: &mut KeptLog<H, B>,
+    number: u16,
+    passes: usize,
+    told: &[RecordedContent],
+    hearing: &P,
+) -> Result<Opened<R>, ShelvedFault>
+    requires number { 1 ≤ number }
+    requires passes { (1 ≤ passes) × (passes ≤ 64) }
+    // Where nothing is told, the hub opens with the site of the log, as of a store.
+    ensures opening { IsUp H.Disk B.Disk (log_of log.new) → told.now ≡ [] → IfOk result (λ opened.
+        IsSiteOf (listed_in B.Disk (log_of log.new)) opened.opening) }
+    // It opens with what stands for the operations of the log, where what is told of these does.
+    ensures told { IsUp H.Disk B.Disk (log_of log.new) → IfOk result (λ opened.
+        IsToldSiteOf (listed_in B.Disk (log_of log.new)) told.now opened.opening) }
+    ensures size { IfOk result (λ opened. (opened.number ≡ number) × (opened.passes ≡ passes)) }
+    ensures same { IsUp H.Disk B.Disk (log_of log.new)
+        → OnOk result (IsSame B.Disk (log_of log.old) (log_of log.new)) }
+    ensures refused { IsUp H.Disk B.Disk (log_of log.new) → OnErr result
+        (AreSame (Holds B.Disk (log_of log.old)) (Holds B.Disk (log_of log.new))) }
+    // It is refused because of the log only where that had cause not to show its operations.
+    ensures why { IsUp H.Disk B.Disk (log_of log.new)
+        → IfErr result
+        (IsOfStore (LogRefusesAll B.Disk (log_of log.old) (log_of log.new))) }
+    ensures clean { IsUp H.Disk B.Disk (log_of log.new) → IsUp H.Disk B.Disk (log_of log.old) }
+{
+    let site = site_on_log(alloc, threads, log, told, hearing)?;
     let opened = open(alloc, rt, site, number, passes)?;
     Ok(opened)
 }

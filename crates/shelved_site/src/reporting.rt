@@ -42,6 +42,26 @@ pub fn report_of(alloc: Global, site: &Site, series: u64) -> Result<Report, Site
     })
 }
 
+/// The report of a site whose operations stand in a store, which stays as it is.
+pub fn report_with<S: Store>(
+    alloc: Global,
+    store: &mut S,
+    site: &Site,
+) -> Result<Report, ShelvedFault>
+    ensures report { S.is_clean store.new → IfOk result
+        (λ report. report ≡ reported site.now (S.count store.old SERIES_KIND)) }
+    // It is as it was at any time since which nothing has changed.
+    ensures same { S.is_clean store.new → (first : S) → S.is_same first store.old
+        → OnOk result (S.is_same first store.new) }
+    ensures refused { S.is_clean store.new → (first : S) → S.is_same first store.old
+        → OnErr result (S.spares first store.new) }
+    ensures clean { S.is_clean store.new → S.is_clean store.old }
+{
+    let series = store.count_kind(SERIES)?;
+    let report = report_of(alloc, site, series)?;
+    Ok(report)
+}
+
 /// The report of the site that a store's operations make. The store stays as it is.
 pub fn report_on<S: Store>(alloc: Global, store: &mut S) -> Result<Report, ShelvedFault>
     ensures report { S.is_clean store.new → IfOk result
@@ -51,9 +71,7 @@ pub fn report_on<S: Store>(alloc: Global, store: &mut S) -> Result<Report, Shelv
     ensures clean { S.is_clean store.new → S.is_clean store.old }
 {
     let site = site_on(alloc, store, &Silence)?;
-    let series = store.count_kind(SERIES)?;
-    let report = report_of(alloc, &site, series)?;
-    Ok(report)
+    report_with(alloc, store, &site)
 }
 
 /// The rows of a table over a site.

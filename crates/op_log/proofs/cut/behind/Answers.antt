@@ -12,6 +12,7 @@ returns-clause-spelled c =
     ∙ ap (λ (xs : List ℕ). c.in_ok-digest.digest.now ++ xs) (sym first.1 ∙ sym (take-append-drop c.args.long behind)
     ∙ ap (λ (xs : List ℕ). xs ++ drop c.args.long behind) (sym rest.1) ∙ ap (λ (xs : List ℕ). c.in_ok-front.front.now ++ xs) (sym rest.2))
 
+-- A digest has 32 bytes.
 pub returns-clause-digest : goal.returns-clause-digest
 returns-clause-digest c =
     let first = c.in_ok-digest.ensures.cases in

@@ -12,6 +12,7 @@ returns-in_err-long-clause-none c told h rest it is =
     let parts = length-append (number_text (length h.front)) (after_long h rest) in
     omega (arith, c.number_of.ensures.short none, whole, parts, eight (length h.front))
 
+-- Behind the first number is the second.
 pub returns-in_err-at-clause-none : goal.returns-in_err-at-clause-none
 returns-in_err-at-clause-none c told h rest it is =
     let none : c.number_of-2.result ≡ None = search rules in
@@ -20,6 +21,7 @@ returns-in_err-at-clause-none c told h rest it is =
     let whole = ap length long.1 in
     omega (arith, short, whole, (sizes h rest it).2)
 
+-- Behind both is the third.
 pub returns-in_err-size-clause-none : goal.returns-in_err-size-clause-none
 returns-in_err-size-clause-none c told h rest it is =
     let none : c.number_of-3.result ≡ None = search rules in
@@ -29,6 +31,7 @@ returns-in_err-size-clause-none c told h rest it is =
     let whole = ap length at.1 in
     omega (arith, short, whole, (sizes h rest it).1)
 
+-- Behind all three are the digest and the front.
 pub returns-in_err-digest-clause-none : goal.returns-in_err-digest-clause-none
 returns-in_err-digest-clause-none c told h rest it is =
     let none : c.behind.result ≡ None = search rules in

@@ -57,6 +57,7 @@ returns-clause-exact g c clean op lawful head has =
     let text = spelled op c.in_ok-text.text.items c.args.place.now.front read front in
     same_op c.in_ok-op.op op c.in_ok-text.text.items c.in_ok-op.ensures.lawful lawful c.in_ok-op.ensures.found text
 
+-- And so whatever operation the head is of, one that is not lawful too.
 pub returns-clause-alike : goal.returns-clause-alike
 returns-clause-alike g c clean op head has =
     let size = ap (λ (h : Head). h.size) head in

@@ -16,6 +16,7 @@ returns-in_err-add-clause-crash g c old new it spelled kept left may =
     let heads = c.args.heads.now in
     leaves_either g.H.Disk (heads_of heads) (heads_of c.add.new.self) (heads_end heads) old new c.args.text.now it spelled c.add.ensures.crash kept left may
 
+-- A refusal leaves the heads from before.
 pub returns-in_err-add-clause-refused : goal.returns-in_err-add-clause-refused
 returns-in_err-add-clause-refused g c =
     let heads = c.args.heads.now in
@@ -28,6 +29,7 @@ returns-clause-kept g c old new it spelled kept =
     let heads = c.args.heads.now in
     kept_more g.H.Disk (heads_of heads) (heads_of c.add.new.self) (heads_end heads) (heads_end c.add.new.self) old new c.args.text.now it spelled c.in_ok-add.ensures.added kept
 
+-- So may it be where all went well.
 pub returns-clause-crash : goal.returns-clause-crash
 returns-clause-crash g c old new it spelled kept left may =
     let heads = c.args.heads.now in

@@ -16,6 +16,7 @@ returns-in_err-add_heads-clause-crash g c kept =
     let spelled = spelled_all g.B.Disk (disk_of bodies) (end_of bodies) old new c.args.ops.now _ it.put kept.spelled in
     left_all g.H.Disk g.B.Disk (heads_of c.add_heads.new.heads) bodies old new c.in_ok-group.group c.args.ops.now it (c.add_heads.ensures.crash old new heads spelled kept)
 
+-- The heads are there, behind those from before.
 pub returns-clause-kept : goal.returns-clause-kept
 returns-clause-kept g c kept =
     let it = c.in_ok-group.ensures.settled in
@@ -26,6 +27,7 @@ returns-clause-kept g c kept =
     let spelled = spelled_all g.B.Disk (disk_of bodies) (end_of bodies) old new c.args.ops.now _ it.put kept.spelled in
     c.in_ok-add_heads.ensures.kept old new heads spelled kept
 
+-- A crash leaves all of them or none.
 pub returns-clause-crash : goal.returns-clause-crash
 returns-clause-crash g c kept =
     let it = c.in_ok-group.ensures.settled in

@@ -55,6 +55,7 @@ pub returns-in_err-made-clause-grows : goal.returns-in_err-made-clause-grows
 returns-in_err-made-clause-grows g c =
     grows_twice g.B.Disk c.args.bodies.now c.places.bodies c.load_at.new.bodies c.places.invariant.grows c.load_at.ensures.grows
 
+-- Nor where there is no room for one more.
 pub returns-in_err-push-clause-grows : goal.returns-in_err-push-clause-grows
 returns-in_err-push-clause-grows g c =
     grows_twice g.B.Disk c.args.bodies.now c.places.bodies c.load_at.new.bodies c.places.invariant.grows c.load_at.ensures.grows

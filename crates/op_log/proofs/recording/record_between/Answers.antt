@@ -15,6 +15,7 @@ pub returns-in_err-ready-2-clause-grows : goal.returns-in_err-ready-2-clause-gro
 returns-in_err-ready-2-clause-grows g c =
     grows_twice g.B.Disk c.args.bodies.now c.groups.bodies c.hash_and_fetch.new.bodies c.groups.invariant.grows c.hash_and_fetch.ensures.grows
 
+-- Nor does what is recorded in between.
 pub returns-in_err-record_some-clause-grows : goal.returns-in_err-record_some-clause-grows
 returns-in_err-record_some-clause-grows g c =
     grows_twice g.B.Disk c.args.bodies.now c.groups.bodies c.hash_and_fetch.new.bodies c.groups.invariant.grows c.hash_and_fetch.ensures.grows
@@ -56,6 +57,7 @@ returns-clause-told g c was =
     let last : c.groups.index ≡ c.args.until = omega (arith, inv.within, c.groups-test.false) in
     subst (λ (n : ℕ). map digest_of c.groups.recorded.items ≡ digests_of (take n c.args.places.now)) last (inv.told was)
 
+-- Each is of its head, or was told so.
 pub returns-clause-all : goal.returns-clause-all
 returns-clause-all g c clean told was =
     let inv = c.groups.invariant in

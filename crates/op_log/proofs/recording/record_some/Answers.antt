@@ -56,6 +56,7 @@ returns-clause-told c was =
     let all : c.loop-op.index ≡ c.args.from + length c.args.ops.items = omega (arith, inv.count, ap length none) in
     subst (λ (n : ℕ). map digest_of c.loop-op.recorded.items ≡ digests_of (take n c.args.places.now)) all (inv.told was)
 
+-- Each is of its head, or was told so.
 pub returns-clause-all : goal.returns-clause-all
 returns-clause-all c file told was it =
     let inv = c.loop-op.invariant in

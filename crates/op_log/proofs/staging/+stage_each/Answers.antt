@@ -21,6 +21,7 @@ returns-in_ok-push-in-len1-up-clause-staged g t c =
     c.args.places.now c.stage_one.new.places c.stage_each.new.places c.args.group.now _ c.stage_each.new.group first.ensures.put first.ensures.text
     (c.in_ok-push-in-len1-up.ensures.items ∙ ap (λ (ks : List Kept). ks ++ first.kept ∷ []) c.stage_one.ensures.kepts) rest)) c.stage_each.ensures.staged
 
+-- The places of both are behind those from before.
 pub returns-in_ok-push-in-len1-up-clause-places : goal.returns-in_ok-push-in-len1-up-clause-places
 returns-in_ok-push-in-len1-up-clause-places g t c =
     places_twice g.B.Disk c.args.bodies.now c.stage_one.new.bodies c.stage_each.new.bodies c.args.places.now c.stage_one.new.places
@@ -46,6 +47,7 @@ returns-in_ok-push-in-len1-up-clause-long g t c =
     let all = ap heads_long (split_first c.op-item.result ops c.in-len1-up.len_at_least c.op-item.is) in
     on_ok_weaker c.stage_each.result (λ rest. omega (arith, rest, c.in_ok-kept-in-len1-up.ensures.long, all)) c.stage_each.ensures.long
 
+-- Both are as long as their data sets at most.
 pub returns-in_ok-push-in-len1-up-clause-within : goal.returns-in_ok-push-in-len1-up-clause-within
 returns-in_ok-push-in-len1-up-clause-within g t c =
     let ops = c.args.ops.now in
@@ -57,6 +59,7 @@ returns-in_ok-push-in-len1-up-clause-within g t c =
       too_long = λ told. omega (arith, rest.too_long told, first.within, all);
     }
 
+-- The file grew twice.
 pub returns-in_ok-push-in-len1-up-clause-grows : goal.returns-in_ok-push-in-len1-up-clause-grows
 returns-in_ok-push-in-len1-up-clause-grows g t c =
     grows_twice g.B.Disk c.args.bodies.now c.stage_one.new.bodies c.stage_each.new.bodies c.stage_one.ensures.grows c.stage_each.ensures.grows

@@ -14,10 +14,12 @@ pub returns-in_err-from-clause-grows : goal.returns-in_err-from-clause-grows
 returns-in_err-from-clause-grows g c =
     grows_twice g.B.Disk c.args.bodies.now c.contents.bodies c.record_up_to.new.bodies c.contents.invariant.grows c.record_up_to.ensures.grows
 
+-- Reads write nothing.
 pub returns-in_err-record_between-clause-grows : goal.returns-in_err-record_between-clause-grows
 returns-in_err-record_between-clause-grows g c =
     grows_twice g.B.Disk c.args.bodies.now c.contents.bodies c.record_between.new.bodies c.contents.invariant.grows c.record_between.ensures.grows
 
+-- And so all together write nothing.
 pub returns-clause-grows : goal.returns-clause-grows
 returns-clause-grows g c =
     grows_twice g.B.Disk c.args.bodies.now c.contents.bodies c.record_between.new.bodies c.contents.invariant.grows c.record_between.ensures.grows

@@ -32,6 +32,7 @@ pub returns-in_err-is_whole-clause-grows : goal.returns-in_err-is_whole-clause-g
 returns-in_err-is_whole-clause-grows g c =
     grows_twice g.B.Disk c.args.bodies.now c.places.bodies c.is_whole.new.bodies c.places.invariant.grows c.is_whole.ensures.grows
 
+-- Nor does one whose place found no room in memory.
 pub returns-in_err-push-clause-grows : goal.returns-in_err-push-clause-grows
 returns-in_err-push-clause-grows g c =
     grows_twice g.B.Disk c.args.bodies.now c.places.bodies c.is_whole.new.bodies c.places.invariant.grows c.is_whole.ensures.grows

@@ -1,9 +1,9 @@
 use Rattle.std.proofs.Common.{◌≡◌, sym, subst, ◌∙◌}
-use Rattle.std.proofs.lemmas.Result.{err_from_is_err_and}
+use Rattle.std.proofs.lemmas.Result.{IfErr-weaker, IfOk-weaker, err_from_is_err_and}
 use Rattle.site_hub.specs.declared.fault.HubFault.TheVariants.{BadCorrection, StampsSpent}
 use Rattle.shelved_site.specs.declared.fault.ShelvedFault.TheVariants.{Hub}
 use Rattle.shelved_site.specs.Sites.{IsBeforeHub}
-use Rattle.shelved_site.proofs.Sites.{before_hub, no_hub}
+use Rattle.shelved_site.proofs.Sites.{before_hub, corrected_in, no_hub, spent_in, unmade_in}
 use Rattle.shelved_site.proofs.correcting.correct_on.Goals as goal
 
 -- The store refused, or its site did.
@@ -27,9 +27,29 @@ returns-in_err-site-clause-stamps_spent g c clean spent =
     let is : out.0 ≡ Hub StampsSpent = (let both = sym out.1 ∙ spent in cc) in
     absurd (no_hub out.0 StampsSpent (subst IsBeforeHub (sym out.2) c.in_err-site.ensures.fault) is)
 
+-- What comes next at the site comes next in the store.
+pub returns-clause-corrected : goal.returns-clause-corrected
+returns-clause-corrected g c clean =
+    let it = c.in_ok-site.ensures.site (c.correct_with.ensures.clean clean) in
+    IfOk-weaker c.correct_with.result _ _
+    (λ told next. corrected_in (g.S.Store.lists c.args.store.now) c.in_ok-site.site c.args.number c.args.target c.args.tag
+    c.args.value (g.S.Store.is_left c.correct_with.new.store) told it next) (c.correct_with.ensures.corrected clean)
+
 -- The store was only read before it refused the correction.
-pub returns-in_err-_kept-clause-refused : goal.returns-in_err-_kept-clause-refused
-returns-in_err-_kept-clause-refused g c clean =
-    let out = err_from_is_err_and c.from_residual-in_err-_kept.result c.from_residual-in_err-_kept.ensures.1 in
-    rw out.1 (g.met.S.Store.same_spares c.args.store.now c.site_on.new.store c.add.new.self
-    (c.in_ok-site.ensures.same (c.add.ensures.clean clean)) (c.in_err-_kept.ensures.refused clean))
+pub returns-clause-refused : goal.returns-clause-refused
+returns-clause-refused g c clean =
+    c.correct_with.ensures.refused clean c.args.store.now (c.in_ok-site.ensures.same (c.correct_with.ensures.clean clean))
+
+-- What was not made at the site was not made in the store.
+pub returns-clause-unmade : goal.returns-clause-unmade
+returns-clause-unmade g c clean =
+    let it = c.in_ok-site.ensures.site (c.correct_with.ensures.clean clean) in
+    IfErr-weaker c.correct_with.result _ _
+    (λ fault unmade. unmade_in (g.S.Store.lists c.args.store.now) c.in_ok-site.site c.args.number c.args.target c.args.tag
+    c.args.value fault it unmade) c.correct_with.ensures.unmade
+
+-- The last counter at the site is the last in the store.
+pub returns-clause-stamps_spent : goal.returns-clause-stamps_spent
+returns-clause-stamps_spent g c clean spent =
+    spent_in (g.S.Store.lists c.args.store.now) c.in_ok-site.site c.args.number c.args.target c.args.tag c.args.value
+    (c.in_ok-site.ensures.site (c.correct_with.ensures.clean clean)) (c.correct_with.ensures.stamps_spent spent)

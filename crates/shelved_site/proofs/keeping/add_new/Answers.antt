@@ -1,6 +1,7 @@
 use Rattle.std.proofs.Common.{sym, subst}
 use Rattle.octets.specs.Members.{Has}
-use Rattle.shelved_site.proofs.Adding.{has_at, more_of}
+use Rattle.op_log.proofs.Told.{has_at}
+use Rattle.shelved_site.proofs.Adding.{more_of}
 use Rattle.shelved_site.proofs.keeping.add_new.Goals as goal
 use Rattle.shelved_site.proofs.keeping.add_new.Goals.{in-Some-New, in-Some-Known, in-None}
 

@@ -1,6 +1,7 @@
 use Rattle.std.proofs.Common.{sym, subst}
 use Rattle.octets.specs.Members.{Has}
-use Rattle.shelved_site.proofs.Adding.{content_is, has_at, more_among}
+use Rattle.op_log.proofs.Told.{has_at}
+use Rattle.shelved_site.proofs.Adding.{content_is, more_among}
 use Rattle.shelved_site.proofs.log_records.add_others.Goals as goal
 use Rattle.shelved_site.proofs.log_records.add_others.Goals.{in-Some+in-Some-behind_told, in-Some+in_default-behind_told, in_default}
 

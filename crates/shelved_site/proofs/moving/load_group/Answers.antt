@@ -63,6 +63,7 @@ returns-in_err-push-clause-refused g c clean first same =
     let here = c.loop-one.invariant.same (c.load_recorded.ensures.clean clean) first same in
     rw out.1 (g.met.F.Store.same_spares first mid new here (g.met.F.Store.same_spared mid new (c.in_ok-op.ensures.same clean)))
 
+-- It is the cause for which any store may refuse.
 pub returns-in_err-push-clause-why : goal.returns-in_err-push-clause-why
 returns-in_err-push-clause-why g c clean first same have =
     let out = err_from_is_err_and c.from_residual-in_err-push.result c.from_residual-in_err-push.ensures.1 in

@@ -97,6 +97,7 @@ returns-clause-moved g c clean up first same =
     subst (λ (rs : List Op). AreBrought (g.F.Store.lists first) (g.T.Keep.holds c.args.to.now) (g.T.Keep.holds c.loop-group.to)
     (g.T.Keep.lasts c.loop-group.to) rs c.loop-group.new) all (was.put.2 clean up first same)
 
+-- The first was read alone, all the way.
 pub returns-clause-read : goal.returns-clause-read
 returns-clause-read g c clean first same =
     g.met.F.Store.same_spared first c.loop-group.from (c.loop-group.invariant.same clean first same)

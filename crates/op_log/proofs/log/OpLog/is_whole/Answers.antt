@@ -20,6 +20,7 @@ returns-clause-goes_on g c =
     (goes_reading g.H.Disk g.B.Disk old.heads old.bodies new old.places c.self.invariant c.is_whole.ensures.grows
     c.is_whole.ensures.uses.usable)
 
+-- And it stays sound.
 pub invariant_of-self : goal.invariant_of-self
 invariant_of-self g c =
     let old = c.self.inside in

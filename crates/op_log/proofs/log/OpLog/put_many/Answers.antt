@@ -15,6 +15,7 @@ returns-then-not-is_open-clause-crash g c kept =
     let old = c.args.self.now in
     leaves_none g.H.Disk g.B.Disk old.heads old.heads_end old.bodies old.bodies_end old.places c.args.ops.now kept
 
+-- And it goes on as it was.
 pub returns-then-not-is_open-clause-goes_on : goal.returns-then-not-is_open-clause-goes_on
 returns-then-not-is_open-clause-goes_on g c =
     goes_nowhere g.H.Disk g.B.Disk c.args.self.now
@@ -26,6 +27,7 @@ returns-then-ops-gt-MOST_OF_A_GROUP-clause-crash g c kept =
     let old = c.args.self.now in
     leaves_none g.H.Disk g.B.Disk old.heads old.heads_end old.bodies old.bodies_end old.places c.args.ops.now kept
 
+-- And it goes on as it was.
 pub returns-then-ops-gt-MOST_OF_A_GROUP-clause-goes_on : goal.returns-then-ops-gt-MOST_OF_A_GROUP-clause-goes_on
 returns-then-ops-gt-MOST_OF_A_GROUP-clause-goes_on g c =
     goes_nowhere g.H.Disk g.B.Disk c.args.self.now
@@ -35,6 +37,7 @@ returns-then-ops-gt-MOST_OF_A_GROUP-clause-goes_on g c =
 pub put_group-requires : goal.put_group-requires
 put_group-requires g c = record { below = c.self.invariant.below }
 
+-- A put keeps the log sound.
 pub invariant_of-self : goal.invariant_of-self
 invariant_of-self g c =
     let old = c.self.inside in
@@ -61,6 +64,7 @@ invariant_of-self-in-Err g c =
     (c.in-Err.ensures.refused up kept))
     c.in-Err.ensures.clean
 
+-- So they are those from before.
 pub returns-in-Err-clause-refused : goal.returns-in-Err-clause-refused
 returns-in-Err-clause-refused g c =
     let old = c.self.inside in
@@ -79,6 +83,7 @@ returns-in-Ok-clause-put g c =
     c.self.view_is
     c.in-Ok.ensures.put
 
+-- So is what a crash leaves,
 pub returns-in-Ok-clause-crash : goal.returns-in-Ok-clause-crash
 returns-in-Ok-clause-crash g c =
     let new = c.put_group.new in
@@ -87,6 +92,7 @@ returns-in-Ok-clause-crash g c =
     c.args.ops.now)
     c.self.view_is c.in-Ok.ensures.crash
 
+-- also behind a refusal.
 pub returns-in-Err-clause-crash : goal.returns-in-Err-clause-crash
 returns-in-Err-clause-crash g c =
     let new = c.put_group.new in
@@ -95,6 +101,7 @@ returns-in-Err-clause-crash g c =
     c.args.ops.now)
     c.self.view_is c.in-Err.ensures.crash
 
+-- Another operation has a digest of the group.
 pub returns-in-Err-clause-collision : goal.returns-in-Err-clause-collision
 returns-in-Err-clause-collision g c told =
     let new = c.put_group.new in
@@ -102,11 +109,13 @@ returns-in-Err-clause-collision g c told =
     ComesToClash g.B.Disk (disk_of new.bodies) (end_of new.bodies) o.places c.args.ops.now) c.self.view_is
     (c.in-Err.ensures.collision told)
 
+-- The group has more bytes than one may have.
 pub returns-in-Err-clause-too_long : goal.returns-in-Err-clause-too_long
 returns-in-Err-clause-too_long g c told =
     subst (λ (o : Opened g.row.H.Denot g.row.B.Denot). IsTooLong o c.args.ops.now) c.self.view_is (inr
     (c.in-Err.ensures.too_long told))
 
+-- A disk is told only where a call of one was refused.
 pub returns-in-Err-clause-disk : goal.returns-in-Err-clause-disk
 returns-in-Err-clause-disk g c told =
     let new = c.put_group.new in
@@ -124,12 +133,15 @@ returns-in-Err-clause-closed g c =
       λ not. absurd cc,
     )
 
+-- The group is no longer than one may be.
 pub returns-in-Ok-clause-many : goal.returns-in-Ok-clause-many
 returns-in-Ok-clause-many g c opens many = absurd (omega (arith, many, c.if-ops-gt-MOST_OF_A_GROUP.false))
 
+-- Nor is it here.
 pub returns-in-Err-clause-many : goal.returns-in-Err-clause-many
 returns-in-Err-clause-many g c opens many = absurd (omega (arith, many, c.if-ops-gt-MOST_OF_A_GROUP.false))
 
+-- What was put is behind the rest.
 pub returns-in-Ok-clause-goes_on : goal.returns-in-Ok-clause-goes_on
 returns-in-Ok-clause-goes_on g c =
     let old = c.self.inside in
@@ -144,6 +156,7 @@ returns-in-Ok-clause-goes_on g c =
     (goes_on g.H.Disk g.B.Disk old.heads new.heads old.bodies new.bodies old.places new.places c.self.invariant was
     c.in-Ok.ensures.grows c.in-Ok.ensures.clean after)
 
+-- A refusal goes on with the heads from before.
 pub returns-in-Err-clause-goes_on : goal.returns-in-Err-clause-goes_on
 returns-in-Err-clause-goes_on g c =
     let old = c.self.inside in

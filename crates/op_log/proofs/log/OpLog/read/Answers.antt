@@ -63,6 +63,7 @@ returns-in_err-op-clause-goes_on g c =
     (goes_reading g.H.Disk g.B.Disk old.heads old.bodies new old.places c.self.invariant c.read_at.ensures.grows
     c.read_at.ensures.uses.usable)
 
+-- So does one that found the operation.
 pub returns-clause-goes_on : goal.returns-clause-goes_on
 returns-clause-goes_on g c =
     let old = c.self.inside in
@@ -73,6 +74,7 @@ returns-clause-goes_on g c =
     (goes_reading g.H.Disk g.B.Disk old.heads old.bodies new old.places c.self.invariant c.read_at.ensures.grows
     c.read_at.ensures.uses.usable)
 
+-- And the log stays sound.
 pub invariant_of-self : goal.invariant_of-self
 invariant_of-self g c =
     let old = c.self.inside in

@@ -51,9 +51,9 @@ returns-in-Ok-clause-all g c up none =
     (c.in-Ok.ensures.all up.bodies) in
     are_records file log.places c.in-Ok.recorded.items (all_read file log.places c.in-Ok.recorded.items read) c.in-Ok.ensures.told
 
--- Where what is told is true, they are what stands for the operations of the log.
+-- Where what is told of these is true, they are what stands for the operations of the log.
 pub returns-in-Ok-clause-told : goal.returns-in-Ok-clause-told
-returns-in-Ok-clause-told g c up true ops listed =
+returns-in-Ok-clause-told g c up ops listed true =
     let old = c.args.self.now.log in
     let new = c.records_told.new.self in
     let placed = subst (λ (heads : List Head). Lists (g.B.Disk.seen new.bodies) heads ops) c.records_told.ensures.looks.places listed in

@@ -27,6 +27,7 @@ pub returns-in-Ok-clause-up : goal.returns-in-Ok-clause-up
 returns-in-Ok-clause-up g c up =
     was_up g.H.Disk g.B.Disk c.args.self.now.log c.load.new.self c.load.ensures.goes_on up
 
+-- The same of a load that is refused.
 pub returns-in-Err-clause-up : goal.returns-in-Err-clause-up
 returns-in-Err-clause-up g c up =
     was_up g.H.Disk g.B.Disk c.args.self.now.log c.load.new.self c.load.ensures.goes_on up
@@ -36,6 +37,7 @@ pub returns-in-Ok-clause-same : goal.returns-in-Ok-clause-same
 returns-in-Ok-clause-same g c up =
     same_of g.H.Disk g.B.Disk c.args.self.now.log c.load.new.self c.load.ensures.goes_on up c.load.ensures.looks.places
 
+-- The same of a load that is refused.
 pub returns-in-Err-clause-same : goal.returns-in-Err-clause-same
 returns-in-Err-clause-same g c up =
     same_of g.H.Disk g.B.Disk c.args.self.now.log c.load.new.self c.load.ensures.goes_on up c.load.ensures.looks.places
@@ -47,6 +49,7 @@ returns-in-Ok-clause-kept g c up other was =
     lasts_on g.H.Disk g.B.Disk old c.load.new.self c.load.ensures.goes_on up _
     (c.load.ensures.looks.places ∙ sym (append-nil old.places)) other was
 
+-- The same of a load that is refused.
 pub returns-in-Err-clause-kept : goal.returns-in-Err-clause-kept
 returns-in-Err-clause-kept g c up other was =
     let old = c.args.self.now.log in

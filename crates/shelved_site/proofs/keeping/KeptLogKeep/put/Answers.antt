@@ -12,6 +12,7 @@ returns-clause-new g c up told =
     subst (λ (op : Op). Gains (Holds g.B.Disk (log_of c.args.self.now)) (Holds g.B.Disk (log_of c.put_digested.new.self)) op)
     same (c.put_digested.ensures.new up told)
 
+-- So it is where it was known.
 pub returns-clause-known : goal.returns-clause-known
 returns-clause-known g c up told =
     let same : c.of-digested.result ≡ c.args.op.now = search rules in

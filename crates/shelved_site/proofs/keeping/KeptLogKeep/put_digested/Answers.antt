@@ -17,6 +17,7 @@ returns-in-len1-up-clause-new g c up told =
     let first : slice_index_or c.as_slice.result.now 0 New ≡ New = cc in
     gain_new (Holds g.B.Disk old) (Holds g.B.Disk new) c.args.op.now c.as_slice.result.now kepts c.as_slice.ensures.value all first
 
+-- And so it is where it was known.
 pub returns-in-len1-up-clause-known : goal.returns-in-len1-up-clause-known
 returns-in-len1-up-clause-known g c up told =
     let old = log_of c.args.self.now in
@@ -26,6 +27,7 @@ returns-in-len1-up-clause-known g c up told =
     let first : slice_index_or c.as_slice.result.now 0 New ≡ Known = cc in
     find_known (Holds g.B.Disk old) (Holds g.B.Disk new) c.args.op.now c.as_slice.result.now kepts c.as_slice.ensures.value all first
 
+-- What is told of each of the group is told of it.
 pub returns-in-len1-up-clause-durable : goal.returns-in-len1-up-clause-durable
 returns-in-len1-up-clause-durable g c up =
     let new = log_of c.put_many.new.self in

@@ -19,6 +19,7 @@ pub returns-in-Ok-clause-up : goal.returns-in-Ok-clause-up
 returns-in-Ok-clause-up g c up =
     was_up g.H.Disk g.B.Disk c.args.self.now.log c.read.new.self c.read.ensures.goes_on up
 
+-- The same of a read that is refused.
 pub returns-in-Err-clause-up : goal.returns-in-Err-clause-up
 returns-in-Err-clause-up g c up =
     was_up g.H.Disk g.B.Disk c.args.self.now.log c.read.new.self c.read.ensures.goes_on up
@@ -28,6 +29,7 @@ pub returns-in-Ok-clause-same : goal.returns-in-Ok-clause-same
 returns-in-Ok-clause-same g c up =
     same_of g.H.Disk g.B.Disk c.args.self.now.log c.read.new.self c.read.ensures.goes_on up c.read.ensures.looks.places
 
+-- The same of a read that is refused.
 pub returns-in-Err-clause-same : goal.returns-in-Err-clause-same
 returns-in-Err-clause-same g c up =
     same_of g.H.Disk g.B.Disk c.args.self.now.log c.read.new.self c.read.ensures.goes_on up c.read.ensures.looks.places
@@ -39,6 +41,7 @@ returns-in-Ok-clause-kept g c up other was =
     lasts_on g.H.Disk g.B.Disk old c.read.new.self c.read.ensures.goes_on up _
     (c.read.ensures.looks.places ∙ sym (append-nil old.places)) other was
 
+-- The same of a read that is refused.
 pub returns-in-Err-clause-kept : goal.returns-in-Err-clause-kept
 returns-in-Err-clause-kept g c up other was =
     let old = c.args.self.now.log in

@@ -44,10 +44,12 @@ returns-in-Ok-None-clause-why g c up (op, (ops, listed, among), is) =
     (c.load.ensures.exact up.bodies op it.lawful (is ∙ sym c.digest.ensures) has) in
     absurd cc
 
+-- The log was only looked at.
 pub returns-in-Ok-None-clause-refused : goal.returns-in-Ok-None-clause-refused
 returns-in-Ok-None-clause-refused g c up =
     same_of g.H.Disk g.B.Disk c.args.self.now.log c.load.new.self c.load.ensures.goes_on up c.load.ensures.looks.places
 
+-- What is up was up.
 pub returns-in-Ok-None-clause-clean : goal.returns-in-Ok-None-clause-clean
 returns-in-Ok-None-clause-clean g c up =
     was_up g.H.Disk g.B.Disk c.args.self.now.log c.load.new.self c.load.ensures.goes_on up
@@ -57,6 +59,7 @@ pub returns-in-Err-clause-refused : goal.returns-in-Err-clause-refused
 returns-in-Err-clause-refused g c up =
     same_of g.H.Disk g.B.Disk c.args.self.now.log c.load.new.self c.load.ensures.goes_on up c.load.ensures.looks.places
 
+-- And what is up was up.
 pub returns-in-Err-clause-clean : goal.returns-in-Err-clause-clean
 returns-in-Err-clause-clean g c up =
     was_up g.H.Disk g.B.Disk c.args.self.now.log c.load.new.self c.load.ensures.goes_on up

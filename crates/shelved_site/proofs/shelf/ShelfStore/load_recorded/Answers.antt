@@ -39,6 +39,7 @@ returns-in-Ok-None-clause-refused g c clean opens =
     let same = c.in-Ok-None.ensures.same clean in
     (same.0.was_open, same.0.now_is)
 
+-- A disk that is clean afterwards was clean.
 pub returns-in-Ok-None-clause-clean : goal.returns-in-Ok-None-clause-clean
 returns-in-Ok-None-clause-clean g c clean = omega (arith, c.load.ensures.crash.clean, clean)
 
@@ -49,5 +50,6 @@ returns-in-Err-clause-why g c clean has =
     (load_why g.S.Store c.args.self.now c.load.new.self c.digest.result.now (Err c.in-Err.fault) c.in-Err.ensures.bad_row
     c.in-Err.ensures.store)
 
+-- So was one that refused.
 pub returns-in-Err-clause-clean : goal.returns-in-Err-clause-clean
 returns-in-Err-clause-clean g c clean = omega (arith, c.load.ensures.crash.clean, clean)

@@ -2,7 +2,7 @@ use Rattle.std.proofs.Common.{◌≡◌, ◌∷◌, ◌++◌, [], List, ℕ, ap,
 use mathlib.Core.List.{IsPrefix}
 use Rattle.site_hub.specs.Hub.{Seat}
 use Rattle.archive_server.specs.Done.{Standing}
-use Rattle.archive_server.proofs.serve.with_done.Goals as goal
+use Rattle.archive_server.proofs.total.with_done.Goals as goal
 
 -- What the clerk knows was compared.
 pub returns-clause-begins : goal.returns-clause-begins
