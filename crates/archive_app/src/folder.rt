@@ -168,8 +168,8 @@ pub fn records_in(rt: &HostRuntime, folder: &str) -> Told<FolderFile> {
     told
 }
 
-/// What the records in a folder tell, or nothing where there are none, or none that can be read. They
-/// are neither made nor begun anew.
+/// What the records in a folder tell, or nothing where there are none, or none that can be read.
+/// They are neither made nor begun anew.
 fn told_to_view(rt: &HostRuntime, folder: &str) -> Vec<RecordedContent> {
     let alloc = rt.alloc();
     if !has_records(rt, folder) {
@@ -196,8 +196,8 @@ pub fn log_to_view<'a>(rt: &HostRuntime, folder: &'a str) -> Result<FolderStore,
 }
 
 /// The log in a folder, to which a command adds. Where it is empty what is added is recorded beside
-/// it, so that no start need read it; where it is not, records of what comes last would stand before
-/// those of the rest, which a start adds.
+/// it, so that no start need read it; where it is not, records of what comes last would stand
+/// before those of the rest, which a start adds.
 pub fn log_to_fill<'a>(rt: &HostRuntime, folder: &'a str) -> Result<FolderStore, Refused<'a>> {
     let log = log_in(rt, folder)?;
     if log.len() > 0 {

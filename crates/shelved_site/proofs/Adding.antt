@@ -1,8 +1,8 @@
 -- The records that are added beside a log.
-use Rattle.std.proofs.Common.{◌≡◌, ◌≤◌, ◌-◌, ℕ, List, [], ◌∷◌, ◌++◌, Bool, true, false, length, take, drop, inl, inr, refl}
+use Rattle.std.proofs.Common.{◌≡◌, ◌≤◌, ◌<◌, ◌+◌, ◌-◌, ℕ, zero, suc, List, [], ◌∷◌, ◌++◌, Bool, true, false, length, take, drop, inl, inr, refl}
 use Rattle.std.proofs.Common.{sym, ap, subst, ◌∙◌, append_assoc, get_or, cond, arith}
-use Rattle.std.proofs.Math.Seq.{take-length}
-use Rattle.std.specs.Prelude.{filter, Some}
+use Rattle.std.proofs.Math.Seq.{drop-nil, take-length}
+use Rattle.std.specs.Prelude.{◌↔◌, filter, None, Some}
 use Rattle.std.proofs.lemmas.Option.{same_Some as some_is}
 use Rattle.std.proofs.lemmas.List.{append-nil}
 use Rattle.octets.specs.Members.{Has}
@@ -15,9 +15,8 @@ use Rattle.records.specs.StandIn.{op_in, stand_in}
 use Rattle.record_log.specs.declared.log.RecordLog.{RecordLog}
 use Rattle.record_log.specs.Entries.{has_no_note, without_notes}
 use Rattle.record_log.specs.Log.{Tells}
-use Rattle.operation.specs.Spelling.{digest_of}
 use Rattle.op_log.specs.Told.{AreToldOf}
-use Rattle.shelved_site.specs.Told.{AreAmong, AreNamedIn, HaveOneDigest, IsBehind}
+use Rattle.shelved_site.specs.Told.{AreAmong, AreInOrder, HaveOneDigest, IsBehind, IsNamedBy}
 
 -- ---- lists
 
@@ -43,10 +42,6 @@ content_is (a_correction k) c e = absurd cc
 
 -- ---- what is told, in the order of operations
 
--- what is told of: some that have been met, and the rest
-abbrev pub IsMet : List Op → List ContentParts → List ContentParts → Type 0
-IsMet ops told rest = (met : List ContentParts) × (told ≡ met ++ rest) × AreNamedIn ops met
-
 -- the others stand behind the first, which has the digest of a content
 pub first_behind : (told : List ContentParts) (first c : ContentParts) → 1 ≤ length told → first ≡ get_or told 0 first
     → HaveOneDigest first c → IsBehind told c (take (length told - 1) (drop 1 told))
@@ -55,36 +50,105 @@ first_behind (x ∷ told) first c some is digest =
     let count : length (x ∷ told) - 1 ≡ length told = omega arith in
     (subst (λ (d : ContentParts). HaveOneDigest d c) is digest, ap (λ (n : ℕ). take n told) count ∙ take-length told)
 
--- none has been met
-pub none_met : (ops : List Op) (told : List ContentParts) → IsMet ops told told
-none_met ops told = ([], refl, λ c none. elim none [ ])
+-- an operation, and those behind it
+next_left : (ops : List Op) (i : ℕ) (op : Op) → i < length ops → op ≡ get_or ops i op
+    → drop i ops ≡ op ∷ drop (i + 1) ops
+next_left [] i op low is = absurd (omega (arith, low))
+next_left (x ∷ ops) zero op low is = ap (λ (o : Op). o ∷ ops) (sym is)
+next_left (x ∷ ops) (suc i) op low is =
+    let on : suc i + 1 ≡ suc (i + 1) = omega arith in
+    next_left ops i op (omega (arith, low)) is ∙ ap (λ (k : ℕ). op ∷ drop k (x ∷ ops)) (sym on)
 
--- the first of the rest is met by an operation that has its digest
-pub one_met : (ops : List Op) (told rest behind : List ContentParts) (op : Op) (c : ContentParts) → Has ops op → op ≡ a_content c
-    → IsBehind rest c behind → IsMet ops told rest → IsMet ops told behind
-one_met ops told [] behind op c among is none met = absurd none
-one_met ops told (first ∷ rest) behind op c among is (digest, same) (met, are, named) = (
-  met ++ first ∷ [],
-  are ∙ ap (λ (xs : List ContentParts). met ++ first ∷ xs) (sym same) ∙ sym (append_assoc met (first ∷ []) behind),
-  λ x has. either met (first ∷ []) x (named x) (here x) has,
-)
+-- behind the last there is none
+none_left : (ops : List Op) (i : ℕ) → length ops ≤ i → drop i ops ≡ []
+none_left [] i high = drop-nil i
+none_left (x ∷ ops) zero high = absurd (omega (arith, high))
+none_left (x ∷ ops) (suc i) high = none_left ops i (omega (arith, high))
+
+-- where more are in the order of some operations, fewer are
+fewer : (c : ContentParts) (cs : List ContentParts) (ops : List Op) → AreInOrder (c ∷ cs) ops → AreInOrder cs ops
+fewer c [] ops order = tt
+fewer c (d ∷ cs) [] order = absurd order
+fewer c (d ∷ cs) (op ∷ ops) (inl (named, order)) = inr order
+fewer c (d ∷ cs) (op ∷ ops) (inr order) = inr (fewer c (d ∷ cs) ops order)
+
+-- behind some operations, what is told is in order where the rest of it is
+abbrev pub IsLeft : List ContentParts → List Op → List ContentParts → ℕ → Type 0
+IsLeft told ops rest i = AreInOrder told ops ↔ AreInOrder rest (drop i ops)
+
+-- an operation that does not name the first of them is passed
+passed : (rest : List ContentParts) (op : Op) (ops : List Op)
+    → ((c : ContentParts) (behind : List ContentParts) → rest ≡ c ∷ behind → ¬ IsNamedBy op c)
+    → AreInOrder rest (op ∷ ops) ↔ AreInOrder rest ops
+passed [] op ops other = (λ order. tt, λ order. tt)
+passed (c ∷ rest) op ops other = (on, λ order. inr order)
   where
-    here : (x : ContentParts) → Has (first ∷ []) x → (op : Op) × Has ops op × (digest_of op ≡ digest_of (a_content x))
-    here x (inl e) = (op, among, ap digest_of is ∙ sym digest ∙ ap (λ (d : ContentParts). digest_of (a_content d)) (sym e))
-    here x (inr none) = elim none [ ]
+    on : AreInOrder (c ∷ rest) (op ∷ ops) → AreInOrder (c ∷ rest) ops
+    on (inl (named, order)) = elim (other c rest refl named) [ ]
+    on (inr order) = order
 
--- where none is left, all are named
-pub all_met : (ops : List Op) (told rest : List ContentParts) → rest ≡ [] → IsMet ops told rest → AreNamedIn ops told
-all_met ops told rest none (met, are, named) =
-    subst (AreNamedIn ops) (sym (are ∙ ap (λ (xs : List ContentParts). met ++ xs) none ∙ append-nil met)) named
+-- one that names the first of them is taken for it
+taken : (rest behind : List ContentParts) (d : ContentParts) (ops : List Op) → IsBehind rest d behind
+    → AreInOrder rest (a_content d ∷ ops) ↔ AreInOrder behind ops
+taken [] behind d ops none = absurd none
+taken (c ∷ rest) behind d ops (digest, same) =
+    (on, λ order. inl (digest, subst (λ (cs : List ContentParts). AreInOrder cs ops) same order))
+  where
+    on : AreInOrder (c ∷ rest) (a_content d ∷ ops) → AreInOrder behind ops
+    on (inl (named, order)) = subst (λ (cs : List ContentParts). AreInOrder cs ops) (sym same) order
+    on (inr order) = subst (λ (cs : List ContentParts). AreInOrder cs ops) (sym same) (fewer c rest ops order)
 
-right_none : {X : Type 0} (xs ys : List X) → xs ++ ys ≡ [] → ys ≡ []
-right_none [] ys none = none
-right_none (x ∷ xs) ys none = absurd cc
+module _ (told : List ContentParts) (ops : List Op) (rest : List ContentParts) (i : ℕ) where
+  on : (op : Op) (behind : List ContentParts) → i < length ops → op ≡ get_or ops i op
+      → (AreInOrder rest (op ∷ drop (i + 1) ops) ↔ AreInOrder behind (drop (i + 1) ops)) → IsLeft told ops rest i
+      → IsLeft told ops behind (i + 1)
+  on op behind low is step (there, back) =
+      let next = next_left ops i op low is in (
+        λ order. step.0 (subst (AreInOrder rest) next (there order)),
+        λ order. back (subst (AreInOrder rest) (sym next) (step.1 order)),
+      )
 
--- where nothing is told nothing is left
-pub none_left : (ops : List Op) (told rest : List ContentParts) → told ≡ [] → IsMet ops told rest → rest ≡ []
-none_left ops told rest none (met, are, named) = right_none met rest (sym are ∙ none)
+  -- the next operation names the first that is left
+  pub left_taken : (op : Op) (d : ContentParts) (behind : List ContentParts) → i < length ops → op ≡ get_or ops i op
+      → op ≡ a_content d → IsBehind rest d behind → IsLeft told ops rest i → IsLeft told ops behind (i + 1)
+  left_taken op d behind low at is names left =
+      on op behind low at
+      (subst (λ (o : Op). AreInOrder rest (o ∷ drop (i + 1) ops) ↔ AreInOrder behind (drop (i + 1) ops)) (sym is)
+      (taken rest behind d (drop (i + 1) ops) names)) left
+
+  -- the next operation is another content
+  pub left_other : (op : Op) (d : ContentParts) → i < length ops → op ≡ get_or ops i op → op ≡ a_content d
+      → ((behind : List ContentParts) → ¬ IsBehind rest d behind) → IsLeft told ops rest i → IsLeft told ops rest (i + 1)
+  left_other op d low at is other left =
+      on op rest low at
+      (subst (λ (o : Op). AreInOrder rest (o ∷ drop (i + 1) ops) ↔ AreInOrder rest (drop (i + 1) ops)) (sym is)
+      (passed rest (a_content d) (drop (i + 1) ops) not_named)) left
+    where
+      not_named : (c : ContentParts) (behind : List ContentParts) → rest ≡ c ∷ behind → ¬ IsNamedBy (a_content d) c
+      not_named c behind e named =
+          other behind (subst (λ (cs : List ContentParts). IsBehind cs d behind) (sym e) (named, refl))
+
+  -- the next operation is a correction
+  pub left_correction : (op : Op) → i < length ops → op ≡ get_or ops i op → content_in op ≡ None → IsLeft told ops rest i
+      → IsLeft told ops rest (i + 1)
+  left_correction op low at none left = on op rest low at (passed rest op (drop (i + 1) ops) (not_named op none)) left
+    where
+      not_named : (o : Op) → content_in o ≡ None → (c : ContentParts) (behind : List ContentParts) → rest ≡ c ∷ behind
+          → ¬ IsNamedBy o c
+      not_named (a_content d) none c behind e named = absurd cc
+      not_named (a_correction k) none c behind e named = named
+
+  -- no operation is left
+  pub left_none : length ops ≤ i → IsLeft told ops rest i → AreInOrder told ops ↔ (rest ≡ [])
+  left_none high (there, back) =
+      let none = none_left ops i high in (
+        λ order. no_more rest (subst (AreInOrder rest) none (there order)),
+        λ e. back (subst (λ (cs : List ContentParts). AreInOrder cs (drop i ops)) (sym e) tt),
+      )
+    where
+      no_more : (cs : List ContentParts) → AreInOrder cs [] → cs ≡ []
+      no_more [] order = refl
+      no_more (c ∷ cs) order = absurd order
 
 module _ {D : Type 0} (g : Ghosts D) where
   -- nothing was added

@@ -1,11 +1,12 @@
 -- What is told of contents beside a log.
-use Rattle.std.specs.Prelude.{◌≡◌, ◌⊎◌, List, [], ◌∷◌}
+use Rattle.std.specs.Prelude.{◌≡◌, ◌⊎◌, List, [], ◌∷◌, None}
 use Rattle.octets.specs.Members.{Has}
 use Rattle.operation.specs.declared.op.Op.{Op}
-use Rattle.operation.specs.declared.op.Op.TheVariants.{Content as a_content}
+use Rattle.operation.specs.declared.op.Op.TheVariants.{Content as a_content, Correction as a_correction}
 use Rattle.operation.specs.Parts.{ContentParts}
 use Rattle.operation.specs.Spelling.{digest_of}
 use Rattle.op_log.specs.Told.{TellTrue}
+use Rattle.record_log.specs.declared.log.RecordLog.{RecordLog}
 use Rattle.site_state.specs.Site.{Map}
 use Rattle.shelved_site.specs.Sites.{IsSiteOf, after_recording}
 
@@ -22,10 +23,20 @@ abbrev pub IsBehind : List ContentParts → ContentParts → List ContentParts �
 IsBehind [] c rest = ⊥
 IsBehind (first ∷ told) c rest = HaveOneDigest first c × (rest ≡ told)
 
--- each of these contents has the digest of one of some operations
-abbrev pub AreNamedIn : List Op → List ContentParts → Type 0
-AreNamedIn ops cs =
-    (c : ContentParts) → Has cs c → (op : Op) × Has ops op × (digest_of op ≡ digest_of (a_content c))
+-- an operation is a content, and has the digest of this one
+abbrev pub IsNamedBy : Op → ContentParts → Type 0
+IsNamedBy (a_content d) c = HaveOneDigest c d
+IsNamedBy (a_correction k) c = ⊥
+
+-- these contents have the digests of some of these operations, in their order
+abbrev pub AreInOrder : List ContentParts → List Op → Type 0
+AreInOrder [] ops = Unit {0}
+AreInOrder (c ∷ cs) [] = ⊥
+AreInOrder (c ∷ cs) (op ∷ ops) = (IsNamedBy op c × AreInOrder cs ops) ⊎ AreInOrder (c ∷ cs) ops
+
+-- a file of records is given up: nothing is added to it any more
+abbrev pub IsGivenUp : {D : Type 0} → RecordLog D → Type 0
+IsGivenUp records = records.file ≡ None
 
 -- it is the site that took what stands for all operations of a store, where what is told of these is true
 abbrev pub IsToldSiteOf : (List Op → Type 0) → List ContentParts → Map → Type 0

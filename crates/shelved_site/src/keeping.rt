@@ -71,8 +71,8 @@ impl<H: Disk + Drop, B: Disk + Drop> KeptLog<H, B> {
     }
 }
 
-/// Adds the record of a content to a file of records. Where memory is refused it is left out, and
-/// a start reads that content.
+/// Adds the record of a content to a file of records. Where memory is refused for it the file is
+/// given up, so that none stands there without those before it.
 fn add_record<H: Disk + Drop>(alloc: Global, records: &mut RecordLog<H>, op: &Digested)
     ensures { (cs : List ContentParts) → Tells H.Disk records.old cs
         → (more : List ContentParts) × AreToldOf (op.now ∷ []) more
@@ -81,8 +81,9 @@ fn add_record<H: Disk + Drop>(alloc: Global, records: &mut RecordLog<H>, op: &Di
     let Op::Content(content) = op.op() else {
         return;
     };
-    if let Ok(recorded) = RecordedContent::of(alloc, op.digest(), content) {
-        records.add(&recorded);
+    match RecordedContent::of(alloc, op.digest(), content) {
+        Ok(recorded) => records.add(&recorded),
+        Err(_refused) => *records = RecordLog::none(alloc),
     }
 }
 

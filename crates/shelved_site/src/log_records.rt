@@ -1,7 +1,7 @@
 //! The records of a log, told or hashed side by side, its site, and the hub that is opened over it.
 
-ghost use Rattle.std.specs.Prelude.{◌≡◌, ◌≤◌, ◌++◌, [], List, map, IfOk, IfErr};
-ghost use Rattle.std.specs.Prelude.{IfSome, IsTrue, OnOk, OnErr};
+ghost use Rattle.std.specs.Prelude.{◌≡◌, ◌≤◌, ◌++◌, ◌↔◌, [], List, map, None, false};
+ghost use Rattle.std.specs.Prelude.{IfOk, IfErr, IfSome, IsTrue, OnOk, OnErr};
 ghost use Rattle.operation.specs.declared.op.Op.{Op as Operation};
 ghost use Rattle.operation.specs.Parts.{ContentParts};
 ghost use Rattle.op_log.specs.Told.{TellTrue};
@@ -12,7 +12,7 @@ ghost use Rattle.shelved_site.specs.Keeping.{IsUp, Holds, log_of};
 ghost use Rattle.shelved_site.specs.Refusing.{LogRefusesAll};
 ghost use Rattle.shelved_site.specs.Sites.{AreRecords, IsSiteOf, IsOfStore};
 ghost use Rattle.shelved_site.specs.Stores.{IsSame, listed_in};
-ghost use Rattle.shelved_site.specs.Told.{AreAmong, AreNamedIn, IsBehind, IsToldSiteOf};
+ghost use Rattle.shelved_site.specs.Told.{AreAmong, AreInOrder, IsBehind, IsGivenUp, IsToldSiteOf};
 
 use crate::fault::ShelvedFault;
 use crate::keeping::KeptLog;
@@ -33,7 +33,9 @@ fn behind_told<'a>(
     told: &'a [RecordedContent],
     content: &RecordedContent,
 ) -> Option<&'a [RecordedContent]>
-    ensures { IfSome result (λ rest. IsBehind told.now content.now rest.now) }
+    ensures some { IfSome result (λ rest. IsBehind told.now content.now rest.now) }
+    ensures none { result ≡ None → (rest : List ContentParts)
+        → ¬ IsBehind told.now content.now rest }
 {
     match told {
         [first, rest @ ..] => {
@@ -49,8 +51,7 @@ fn behind_told<'a>(
 
 /// Whether the contents that are told are among some operations, in their order.
 fn are_in_order(recorded: &[RecordedOp], told: &[RecordedContent]) -> bool
-    ensures none { told.now ≡ [] → IsTrue result }
-    ensures named { IsTrue result → AreNamedIn recorded.now told.now }
+    ensures { IsTrue result ↔ AreInOrder told.now recorded.now }
 {
     let mut rest = told;
     for op in recorded {
@@ -63,19 +64,23 @@ fn are_in_order(recorded: &[RecordedOp], told: &[RecordedContent]) -> bool
     rest.is_empty()
 }
 
-/// Adds the records of those contents that were not told to a file of records, and answers true; or
-/// adds none where those that were told are not among the operations, in their order.
+/// Adds the records of those contents that were not told to a file of records, and answers true. It
+/// answers false, and gives the file up, where those that were told are not among the operations,
+/// in their order: what were added behind them would be no log's records.
 fn add_others<D: Disk + Drop>(
+    alloc: Global,
     records: &mut RecordLog<D>,
     recorded: &[RecordedOp],
     told: &[RecordedContent],
 ) -> bool
-    ensures named { IsTrue result → AreNamedIn recorded.now told.now }
+    ensures order { IsTrue result ↔ AreInOrder told.now recorded.now }
+    ensures given_up { result ≡ false → IsGivenUp records.new }
     ensures added { (cs : List ContentParts) → Tells D.Disk records.old cs
         → (more : List ContentParts) × AreAmong more recorded.now
         × Tells D.Disk records.new (cs ++ more) }
 {
     if !are_in_order(recorded, told) {
+        *records = RecordLog::none(alloc);
         return false;
     }
     let mut rest = told;
@@ -153,7 +158,7 @@ pub fn site_on_log<H: Disk + Drop, B: Disk, T: Threads + Sync, P: Hearing>(
 {
     let recorded = log.records_with(threads, told)?;
     hearing.has_read(recorded.len());
-    if !add_others(&mut log.records, recorded.as_slice(), told) {
+    if !add_others(alloc, &mut log.records, recorded.as_slice(), told) {
         hearing.has_other_records();
     }
     let site = site_of(alloc, recorded)?;

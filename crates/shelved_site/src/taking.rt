@@ -30,15 +30,30 @@ impl Hearing for Silence {
     fn has_other_records(&self) {}
 }
 
-/// The site that took some records, as those of a store at a start. Nothing is hashed.
-pub fn site_of(alloc: Global, recorded: Vec<RecordedOp>) -> Result<Site, SiteFault>
+/// The site that took some records, one after another.
+fn after_each(alloc: Global, recorded: Vec<RecordedOp>) -> Result<Site, SiteFault>
     ensures site { IfOk result (λ site. site ≡ after_taking recorded.items) }
+    ensures apart { IfOk result (λ _. Apart recorded.items) }
     ensures collision { IsErrOf result SiteFault.Collision → ¬ Apart recorded.items }
 {
     let mut site = Site::new(alloc);
     for op in recorded {
         let _taken = site.take(op)?;
     }
+    Ok(site)
+}
+
+/// The site that took some records, as those of a store at a start. Nothing is hashed.
+///
+/// The last is taken first, which says the same: most UIDs ascend as they come, and a tree of keys
+/// is searched from its least, so each is found in front of those that are there.
+pub fn site_of(alloc: Global, recorded: Vec<RecordedOp>) -> Result<Site, SiteFault>
+    ensures site { IfOk result (λ site. site ≡ after_taking recorded.items) }
+    ensures collision { IsErrOf result SiteFault.Collision → ¬ Apart recorded.items }
+{
+    let mut turned = recorded;
+    turned.reverse();
+    let site = after_each(alloc, turned)?;
     Ok(site)
 }
 
