@@ -1,3 +1,4 @@
+pub mod Backwards
 pub mod Folds
 pub mod Puts
 pub mod Undone

@@ -122,7 +122,8 @@ fn put<K: Exact, J: Join + Copies>(
     }
 }
 
-// Takes in each entry of the other map. What was taken in before memory was refused stays.
+// Takes in each entry of the other map, the last one first: a tree is searched from its least key on.
+// What was taken in before memory was refused stays.
 fn put_all<K: Exact, J: Join + Copies>(
     into: &mut BTreeMap<K, J>,
     other: &BTreeMap<K, J>,
@@ -131,7 +132,10 @@ fn put_all<K: Exact, J: Join + Copies>(
         map_joined K.cmp J.joined into.old.entries other.now.entries) }
     ensures ordered { IsStrictlySortedBy K.cmp (keys_of other.now.entries) }
 {
-    for (key, value) in other {
+    let _ = into.len();
+    let _ = other.len();
+    let mut rest = other.iter();
+    while let Some((key, value)) = rest.next_back() {
         put(into, key, value)?;
     }
     Ok(())
@@ -242,8 +246,8 @@ fn put_noted<'a, K: Exact, J: Join + Copies>(
     }
 }
 
-// Takes in each entry of the other map, and notes what was there. Where memory is refused, the map
-// stays as it was.
+// Takes in each entry of the other map, the last one first, and notes what was there. Where memory is
+// refused, the map stays as it was.
 fn join_maps<'a, K: Exact, J: Join + Copies>(
     alloc: Global,
     into: &mut BTreeMap<K, J>,
@@ -256,7 +260,9 @@ fn join_maps<'a, K: Exact, J: Join + Copies>(
     ensures refused { OnErr result (into.new.entries ≡ into.old.entries) }
 {
     let mut notes = Vec::with_capacity(alloc, other.len())?;
-    for (key, value) in other {
+    let _ = into.len();
+    let mut rest = other.iter();
+    while let Some((key, value)) = rest.next_back() {
         if let Err(refused) = put_noted(into, &mut notes, key, value) {
             take_back(into, notes);
             return Err(refused);

@@ -4,7 +4,7 @@ use Rattle.std.proofs.Common.{◌∙◌, subst, Bor}
 use Rattle.std.proofs.lemmas.Bool.{false≢true}
 use Rattle.std.specs.Prelude.{IfSome, is_some, ◌↔◌, IsTrue, MatchBool, MatchOption, not}
 use Rattle.std.specs.Ordering.{is_eq}
-use Rattle.std.specs.declared.cmp.Ordering.TheVariants.{Less}
+use Rattle.std.specs.declared.cmp.Ordering.TheVariants.{Less, Equal}
 use Rattle.std.specs.Cmp.{eq_by_cmp_equiv, tied_itself}
 use Rattle.std.specs.Cmp.Lexicographic.{nat_list_cmp_total}
 use Rattle.std.specs.BTreeMap.{is_at}
@@ -142,6 +142,58 @@ pub entry_added : (m n : Map) (d : List ℕ) (o : Op) (es fs : List (List ℕ ×
 entry_added m n d o es fs added parts =
     ap (λ k. union k (of_entries fs)) added ∙ associative m (of_entries ((d, o) ∷ [])) (of_entries fs)
     ∙ ap (union m) (first_and_rest d o fs) ∙ ap (λ xs. union m (of_entries xs)) (sym parts)
+
+below_last : (k : List ℕ) (fs : List (List ℕ × Op)) (d : List ℕ) (o : Op)
+    → AllByRecursion (λ (x : List ℕ). digest_cmp k x ≡ Less) (keys_of (fs ++ (d, o) ∷ [])) → digest_cmp k d ≡ Less
+below_last k [] d o all = all.0
+below_last k (f ∷ fs) d o all = below_last k fs d o all.1
+
+-- of two entries of two digests either may be looked at first
+either_first : (first last : Bool) (p o : Op) (r : Option Op) → (first ≡ true → last ≡ true → ⊥)
+    → cond last (Some o) (cond first (Some p) r) ≡ cond first (Some p) (cond last (Some o) r)
+either_first true true p o r apart = absurd (apart refl refl)
+either_first true false p o r apart = refl
+either_first false true p o r apart = refl
+either_first false false p o r apart = refl
+
+-- where digests ascend the last entry may stand first
+last_at : (fs : List (List ℕ × Op)) (d : List ℕ) (o : Op) → IsStrictlySortedBy digest_cmp (keys_of (fs ++ (d, o) ∷ []))
+    → (q : List ℕ) → held ((d, o) ∷ fs) q ≡ held (fs ++ (d, o) ∷ []) q
+unfolding IsStrictlySortedBy
+last_at [] d o ascend q = refl
+last_at (f ∷ fs) d o ascend q =
+    either_first (is_at (digest_cmp q) f.0) (is_at (digest_cmp q) d) f.1 o (held fs q) (λ here there.
+    let one : f.0 ≡ d = sym (tied q f.0 here) ∙ tied q d there in
+    let less : digest_cmp d d ≡ Less =
+    ap (λ k. digest_cmp k d) (sym one) ∙ below_last f.0 fs d o ascend.0 in
+    let both : Equal ≡ Less = sym (tied_itself nat_list_cmp_total d) ∙ less in
+    cc)
+    ∙ ap (cond (is_at (digest_cmp q) f.0) (Some f.1)) (last_at fs d o ascend.1 q)
+
+front_ascends : (fs : List (List ℕ × Op)) (d : List ℕ) (o : Op)
+    → IsStrictlySortedBy digest_cmp (keys_of (fs ++ (d, o) ∷ [])) → IsStrictlySortedBy digest_cmp (keys_of fs)
+unfolding IsStrictlySortedBy
+front_ascends [] d o ascend = tt
+front_ascends (f ∷ fs) d o ascend = (front_below f.0 fs ascend.0, front_ascends fs d o ascend.1)
+  where
+    front_below : (k : List ℕ) (gs : List (List ℕ × Op))
+        → AllByRecursion (λ (x : List ℕ). digest_cmp k x ≡ Less) (keys_of (gs ++ (d, o) ∷ []))
+        → AllByRecursion (λ (x : List ℕ). digest_cmp k x ≡ Less) (keys_of gs)
+    front_below k [] all = tt
+    front_below k (g ∷ gs) all = (all.0, front_below k gs all.1)
+
+-- the last entry was added, and the others are left
+pub last_added : (m n : Map) (d : List ℕ) (o : Op) (es fs : List (List ℕ × Op))
+    → n ≡ union m (of_entries ((d, o) ∷ [])) → IsStrictlySortedBy digest_cmp (keys_of es) → es ≡ fs ++ (d, o) ∷ []
+    → (union n (of_entries fs) ≡ union m (of_entries es)) × IsStrictlySortedBy digest_cmp (keys_of fs)
+last_added m n d o es fs added ascend parts =
+    let all = subst (λ xs. IsStrictlySortedBy digest_cmp (keys_of xs)) parts ascend in (
+      entry_added m n d o ((d, o) ∷ fs) fs added refl
+          ∙ ap (union m) (same_sites _ _ (λ q. get_held ((d, o) ∷ fs) q ∙ last_at fs d o all q
+          ∙ sym (get_held (fs ++ (d, o) ∷ []) q)))
+          ∙ ap (λ xs. union m (of_entries xs)) (sym parts),
+      front_ascends fs d o all,
+    )
 
 -- nothing is left
 pub all_added : (m : Map) (fs : List (List ℕ × Op)) → fs ≡ [] → m ≡ union m (of_entries fs)

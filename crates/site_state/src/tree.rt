@@ -82,8 +82,8 @@ fn add_copy<'a>(
     Ok(())
 }
 
-/// Adds copies of those operations whose digest is not there, and answers these digests. The bytes
-/// of data sets are shared. A refusal leaves the tree as it was.
+/// Adds copies of those operations whose digest is not there, the last one first, and answers these
+/// digests. The bytes of data sets are shared. A refusal leaves the tree as it was.
 fn add_copies<'a>(
     alloc: Global,
     tree: &mut BTreeMap<Digest, RecordedOp>,
@@ -96,7 +96,8 @@ fn add_copies<'a>(
     ensures kept { OnErr result (of_entries tree.new.entries ≡ of_entries tree.old.entries) }
 {
     let mut added = Vec::with_capacity(alloc, source.len())?;
-    for (digest, op) in source.iter() {
+    let mut rest = source.iter();
+    while let Some((digest, op)) = rest.next_back() {
         if let Err(refused) = add_copy(alloc, tree, &mut added, digest, op) {
             take_out(tree, added);
             return Err(refused);

@@ -1,6 +1,6 @@
 -- Lists of keys, and what is put in and taken out of them.
 use Rattle.std.specs.Prelude.{◌≡◌, ℕ, ◌+◌, ◌<◌, Bool, true, false, cond, not, ◌&&◌, ◌||◌, List, [], ◌∷◌, ◌++◌}
-use Rattle.std.proofs.Common.{refl, sym, ap, ◌∙◌, take, drop, length, get_or}
+use Rattle.std.proofs.Common.{refl, sym, ap, ◌∙◌, take, length, get_or}
 use mathlib.Core.Bool.{true≢false, or-false as or_none}
 use Rattle.std.specs.Cmp.{IsTotalOrder}
 use Rattle.std.specs.Ordering.{is_eq, ordering_reverse}
@@ -8,9 +8,8 @@ use Rattle.std.specs.declared.cmp.Ordering.{Ordering}
 use Rattle.std.specs.declared.cmp.Ordering.TheVariants.{Less, Equal, Greater}
 use Rattle.std.specs.BTreeMap.{is_at}
 use Rattle.std.proofs.lemmas.Cmp.{tied_itself}
-use Rattle.std.proofs.lemmas.List.{take-append-drop, take_more}
+use Rattle.std.proofs.lemmas.List.{take_more}
 use Rattle.std.proofs.lemmas.List.Folds.{list_any-append}
-use Rattle.std.proofs.lemmas.Bool.{or_left as or_true}
 use Rattle.join_laws.specs.Laws.{IsExact}
 use Rattle.join_laws.specs.Proved.Maps.{equal_from_is_eq}
 use Rattle.study_index.specs.Keys.{has}
@@ -22,20 +21,14 @@ is_eq_reverse Less = refl
 is_eq_reverse Equal = refl
 is_eq_reverse Greater = refl
 
-pub as_cond : (a b : Bool) → (a || b) ≡ cond a true b
-as_cond true b = refl
-as_cond false b = refl
-
 -- ---- what is put in and taken out again
-pub step_in : (old front at new both : Bool) → both ≡ (old || front) → new ≡ cond at true both
-    → new ≡ (old || (front || at))
-step_in true front true new both h k = k
-step_in false true true new both h k = k
-step_in false false true new both h k = k
-step_in true true false new both h k = k ∙ h
-step_in true false false new both h k = k ∙ h
-step_in false true false new both h k = k ∙ h
-step_in false false false new both h k = k ∙ h
+pub moved_over : (in_tree left at : Bool) → ((at || in_tree) || left) ≡ (in_tree || (left || at))
+moved_over true left true = refl
+moved_over true left false = refl
+moved_over false true true = refl
+moved_over false true false = refl
+moved_over false false true = refl
+moved_over false false false = refl
 
 pub step_out : (old front at new both : Bool) → both ≡ (old && not front) → new ≡ cond at false both
     → new ≡ (old && not (front || at))
@@ -54,6 +47,15 @@ out_again false true true h k = refl
 out_again false false true h k = refl
 out_again false true false h k = absurd (true≢false (sym (h refl)))
 out_again false false false h k = refl
+
+pub out_with_left : (in_tree left all old : Bool) → (in_tree || left) ≡ (old || all) → (left ≡ true → all ≡ true)
+    → (old ≡ true → all ≡ false) → (in_tree && not all) ≡ old
+out_with_left true left true true h among apart = absurd (true≢false (apart refl))
+out_with_left true left true false h among apart = refl
+out_with_left true left false true h among apart = refl
+out_with_left true left false false h among apart = absurd (true≢false h)
+out_with_left false left all true h among apart = absurd (true≢false (sym (among h) ∙ apart refl))
+out_with_left false left all false h among apart = refl
 
 module _ {K : Type 0} {R : K → K → Ordering} (o : IsTotalOrder R) where
   pub at_itself : (q : K) → is_at (R q) q ≡ true
@@ -76,6 +78,5 @@ module _ {K : Type 0} (R : K → K → Ordering) where
       ∙ has-append (take i xs) (x ∷ []) q
       ∙ ap (λ b. has R (take i xs) q || b) (or_none (is_at (R q) x))
 
-  pub has-take : (xs : List K) (i : ℕ) (q : K) → has R (take i xs) q ≡ true → has R xs q ≡ true
-  has-take xs i q h = ap (λ ys. has R ys q) (sym (take-append-drop i xs)) ∙ has-append (take i xs) (drop i xs) q
-      ∙ or_true (has R (take i xs) q) (has R (drop i xs) q) h
+  pub has-last : (xs : List K) (x q : K) → has R (xs ++ x ∷ []) q ≡ (has R xs q || is_at (R q) x)
+  has-last xs x q = has-append xs (x ∷ []) q ∙ ap (λ b. has R xs q || b) (or_none (is_at (R q) x))

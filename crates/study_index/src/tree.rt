@@ -38,7 +38,8 @@ fn put(tree: &mut BTreeSet<Place>, place: &Place) -> Result<(), AllocError>
     Ok(())
 }
 
-/// Puts in places that are not there. Where memory is refused, the tree stays as it was.
+/// Puts in places that are not there, the last one first: a tree is searched from its least key on.
+/// Where memory is refused, the tree stays as it was.
 pub fn put_all(tree: &mut BTreeSet<Place>, fresh: &[Place]) -> Result<(), AllocError>
     requires { AreApart place_cmp tree.now.keys fresh.now }
     ensures ok { OnOk result ((place : APlace) → has place_cmp tree.new.keys place
@@ -47,7 +48,8 @@ pub fn put_all(tree: &mut BTreeSet<Place>, fresh: &[Place]) -> Result<(), AllocE
     ensures ordered { IsStrictlySortedBy place_cmp tree.new.keys }
 {
     let _ = tree.len();
-    for place in fresh {
+    let mut rest = fresh.iter();
+    while let Some(place) = rest.next_back() {
         if let Err(refused) = put(tree, place) {
             take_all(tree, fresh);
             return Err(refused);

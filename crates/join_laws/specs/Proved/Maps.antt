@@ -135,7 +135,7 @@ module _ {K J : Type 0} {R : K → K → Ordering} (o : IsTotalOrder R) (exact :
           λ i. (key i, value i) ∷ rest i
 
   -- ---- what a look-up finds
-  sorted-put_joined : (join : J → J → J) (k : K) (w : J) (es : List (K × J)) → IsStrictlySortedBy R (keys_of es)
+  pub sorted-put_joined : (join : J → J → J) (k : K) (w : J) (es : List (K × J)) → IsStrictlySortedBy R (keys_of es)
       → IsStrictlySortedBy R (keys_of (put_joined R join es k w))
   sorted-put_joined join k w es s = subst (IsStrictlySortedBy R) (sym (keys-put_joined R join k w es))
       (sorted-insert_key o k (keys_of es) s)
