@@ -7,7 +7,6 @@ use Rattle.operation.specs.declared.op.Op.{Op}
 use Rattle.operation.specs.declared.op.Op.TheVariants.{Content as a_content}
 use Rattle.operation.specs.Parts.{ContentParts}
 use Rattle.operation.specs.RecordParts.{ContentRecordParts}
-use Rattle.operation.specs.Spelling.{digest_of}
 use Rattle.archive_model.specs.declared.view.View.{View}
 use Rattle.archive_model.specs.declared.listed.Listed.{Listed}
 use Rattle.archive_model.specs.declared.prepared.Prepared.{Prepared}
@@ -23,8 +22,8 @@ use Rattle.archive_model.proofs.Keeping.{map_kept}
 use Rattle.archive_model.proofs.MemberLaws.{filter_has}
 use Rattle.archive_model.proofs.ModelLaws.{content_has, pick_is_content, shown_are_picks}
 use Rattle.site_state.specs.Hidden.{content_held}
-use Rattle.site_state.specs.Site.{Map, IsSite, held_at, ops_of}
-use Rattle.site_state.specs.Whole.{AreWhole, recorded}
+use Rattle.site_state.specs.Site.{Map, IsSite, ops_of}
+use Rattle.site_state.specs.Whole.{recorded}
 use Rattle.site_state.proofs.Lookups.{held_under}
 use Rattle.site_state.proofs.Wholes.{records_kept}
 use Rattle.archive_query.specs.Loaded.{loaded_of}
@@ -41,10 +40,10 @@ same_listed ops others view s kept =
     ∙ ap (map relisted) (same_prepared ops others view s kept)
     ∙ sym (map_kept kept_prepared listed relisted (λ p. refl) (prepared_of view s others))
 
--- the records of whole operations list the same
-pub lists_kept : (m : Map) (view : View) (s : Selection) → AreWhole (ops_of m)
+-- the records of operations list the same
+pub lists_kept : (m : Map) (view : View) (s : Selection)
     → list_of view s (ops_of (recorded m)) ≡ list_of view s (ops_of m)
-lists_kept m view s whole = same_listed (ops_of (recorded m)) (ops_of m) view s (records_kept m whole)
+lists_kept m view s = same_listed (ops_of (recorded m)) (ops_of m) view s (records_kept m)
 
 -- a content that is held is loaded where it is listed
 one_loaded : (m : Map) → IsSite m → (c : ContentParts) → Has (ops_of m) (a_content c)

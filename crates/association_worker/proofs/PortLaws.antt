@@ -15,7 +15,7 @@ use Rattle.operation.specs.declared.taken.Taken.{Taken}
 use Rattle.operation.specs.declared.taken.Taken.TheVariants.{New, Known}
 use Rattle.site_state.specs.declared.fault.SiteFault.{SiteFault}
 use Rattle.site_state.specs.Site.{digest_cmp, Map, IsSite, held_at, ops_of, with_op, IsClash, Takes}
-use Rattle.site_state.specs.Whole.{recorded, AreWhole}
+use Rattle.site_state.specs.Whole.{recorded}
 use Rattle.site_state.proofs.Maps.{same_sites, tied}
 use Rattle.site_state.proofs.Wholes.{recorded_at, rows_kept, held_too, unheld as unrecorded}
 use Rattle.records.specs.StandIn.{op_in}
@@ -228,17 +228,16 @@ stores_as old new op (Err fault) site same takes listed clash kept = record {
 
 -- A look changes nothing, and its rows are those over all that is held.
 pub finds_as : (old new : PortParts) (finding : Finding) (reply : Result (List Set) PortFault) → new ≡ old
-    → AreWhole (ops_of old.site)
     → IfOk reply (λ rows. rows ≡ rows_of finding.view finding.called finding.query (ops_of old.site))
     → IfErr reply (λ fault. fault ≡ Memory)
     → Finds recorded_in (λ (p : PortParts). p.own) old finding reply new
-finds_as old new finding (Ok rows) same whole found fault = record {
+finds_as old new finding (Ok rows) same found fault = record {
   kept = λ o held. subst (λ (p : PortParts). Has (recorded_in p) o) (sym same) held;
   own_kept = ap (λ (p : PortParts). p.own) same;
-  replied = found ∙ sym (rows_kept old.site finding.view finding.called finding.query whole)
+  replied = found ∙ sym (rows_kept old.site finding.view finding.called finding.query)
       ∙ ap (λ (p : PortParts). rows_of finding.view finding.called finding.query (recorded_in p)) (sym same);
 }
-finds_as old new finding (Err fault) same whole found memory = record {
+finds_as old new finding (Err fault) same found memory = record {
   kept = λ o held. subst (λ (p : PortParts). Has (recorded_in p) o) (sym same) held;
   own_kept = ap (λ (p : PortParts). p.own) same;
   replied = inl memory;
@@ -246,17 +245,16 @@ finds_as old new finding (Err fault) same whole found memory = record {
 
 -- A look changes nothing, and what is listed is that over all that is held.
 pub gets_as : (old new : PortParts) (getting : Getting) (reply : Result (List Listed) PortFault) → new ≡ old
-    → AreWhole (ops_of old.site)
     → IfOk reply (λ listed. listed ≡ list_of getting.view getting.selection (ops_of old.site))
     → IfErr reply (λ fault. fault ≡ Memory)
     → Gets recorded_in (λ (p : PortParts). p.own) old getting reply new
-gets_as old new getting (Ok listed) same whole found fault = record {
+gets_as old new getting (Ok listed) same found fault = record {
   kept = λ o held. subst (λ (p : PortParts). Has (recorded_in p) o) (sym same) held;
   own_kept = ap (λ (p : PortParts). p.own) same;
-  replied = found ∙ sym (lists_kept old.site getting.view getting.selection whole)
+  replied = found ∙ sym (lists_kept old.site getting.view getting.selection)
       ∙ ap (λ (p : PortParts). list_of getting.view getting.selection (recorded_in p)) (sym same);
 }
-gets_as old new getting (Err fault) same whole found memory = record {
+gets_as old new getting (Err fault) same found memory = record {
   kept = λ o held. subst (λ (p : PortParts). Has (recorded_in p) o) (sym same) held;
   own_kept = ap (λ (p : PortParts). p.own) same;
   replied = inl memory;

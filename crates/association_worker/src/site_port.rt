@@ -151,7 +151,6 @@ impl SitePort {
             rows_of view called.now query.now (ops_of self.now.site)) }
         ensures fault { IfErr result (λ fault. fault ≡ PortFault.Memory) }
     {
-        self.site.see_lawful();
         match find(self.alloc, self.site.site(), view, called, query) {
             Ok(rows) => Ok(rows),
             Err(_refused) => Err(PortFault::Memory),
@@ -164,7 +163,6 @@ impl SitePort {
             list_of view selection.now (ops_of self.now.site)) }
         ensures fault { IfErr result (λ fault. fault ≡ PortFault.Memory) }
     {
-        self.site.see_lawful();
         match list(self.alloc, self.site.site(), view, selection) {
             Ok(listed) => Ok(ListOf::of(listed)),
             Err(_refused) => Err(PortFault::Memory),
@@ -259,7 +257,6 @@ impl Port for SitePort {
         ensures fault { IfErr result (λ fault. fault ≡ PortFault.Memory) }
         ensures kept { self.new ≡ self.old }
     {
-        self.site.see_lawful();
         self.rows(called, view, query)
     }
 
@@ -273,7 +270,6 @@ impl Port for SitePort {
         ensures fault { IfErr result (λ fault. fault ≡ PortFault.Memory) }
         ensures kept { self.new ≡ self.old }
     {
-        self.site.see_lawful();
         self.listed(view, selection)
     }
 

@@ -1,7 +1,7 @@
 -- What is told of a site that took what stands for some operations is told of one that took these.
-use Rattle.std.proofs.Common.{◌≡◌, ◌+◌, inl, inr, ℕ, List, [], ◌∷◌, Bool, true, false, cond, Option, Some, Result, Ok}
-use Rattle.std.proofs.Common.{Err, map, refl, sym, ap, subst, ◌∙◌}
-use Rattle.std.specs.Prelude.{◌==◌, ◌||◌, if◌then◌else◌, IfSome}
+use Rattle.std.proofs.Common.{◌≡◌, ◌+◌, ℕ, List, [], ◌∷◌, Bool, true, false, cond, Option, Some, Result, Ok}
+use Rattle.std.proofs.Common.{Err, map, refl, sym, ap, ◌∙◌}
+use Rattle.std.specs.Prelude.{◌==◌, ◌||◌, if◌then◌else◌}
 use Rattle.std.specs.BTreeMap.{is_at}
 use Rattle.std.specs.Cmp.Lexicographic.{nat_list_cmp_total}
 use Rattle.std.specs.FinMap.{empty, get-empty, get-insert}
@@ -13,14 +13,13 @@ use Rattle.operation.specs.declared.target.Target.{Target}
 use Rattle.operation.specs.declared.target.Target.TheVariants.{Study, Patient, Series}
 use Rattle.operation.specs.Parts.{CorrectionParts}
 use Rattle.operation.specs.Spelling.{digest_of}
-use Rattle.records.specs.StandIn.{IsWholeOp, op_in}
+use Rattle.records.specs.StandIn.{op_in}
 use Rattle.records.proofs.StandInLaws.{digest_kept}
 use Rattle.site_state.specs.Site.{Map, digest_cmp, held_at, ops_of, with_op, top_counter_of}
 use Rattle.site_state.specs.Laws.{holding, after_taking}
-use Rattle.site_state.specs.Whole.{recorded, AreWhole}
+use Rattle.site_state.specs.Whole.{recorded}
 use Rattle.site_state.proofs.Maps.{same_sites}
-use Rattle.site_state.proofs.Same.{told, Told}
-use Rattle.site_state.proofs.Wholes.{recorded_at, recorded_ops, ops_whole, counts_kept, digests_kept, flagged_kept, top_kept}
+use Rattle.site_state.proofs.Wholes.{recorded_at, recorded_ops, counts_kept, digests_kept, flagged_kept, top_kept}
 use Rattle.site_hub.specs.declared.fault.HubFault.{HubFault}
 use Rattle.site_hub.specs.declared.fault.HubFault.TheVariants.{StampsSpent, BadCorrection}
 use Rattle.site_hub.specs.Stamps.{LAST_COUNTER, made_with, may_be_made}
@@ -37,8 +36,8 @@ push true o r = refl
 push false o r = refl
 
 -- what stands for one operation more is taken under its digest
-recorded_with : (m : Map) (o : Op) → IsWholeOp o → with_op (recorded m) (op_in o) ≡ recorded (with_op m o)
-recorded_with m o whole = same_sites _ _ (λ q.
+recorded_with : (m : Map) (o : Op) → with_op (recorded m) (op_in o) ≡ recorded (with_op m o)
+recorded_with m o = same_sites _ _ (λ q.
     get-insert nat_list_cmp_total (recorded m) (digest_of (op_in o)) (op_in o) q
     ∙ ap (λ (d : List ℕ). cond (is_at (digest_cmp q) d) (Some (op_in o)) (held_at (recorded m) q)) (digest_kept o)
     ∙ ap (cond (is_at (digest_cmp q) (digest_of o)) (Some (op_in o))) (recorded_at m q)
@@ -46,46 +45,37 @@ recorded_with m o whole = same_sites _ _ (λ q.
     ∙ ap (option_map op_in) (sym (get-insert nat_list_cmp_total m (digest_of o) o q))
     ∙ sym (recorded_at (with_op m o) q))
 
-recorded_holding : (m : Map) (ops : List Op) → AreWhole ops → holding (recorded m) (map op_in ops) ≡ recorded (holding m ops)
-recorded_holding m [] whole = refl
-recorded_holding m (o ∷ ops) whole =
-    ap (λ (s : Map). holding s (map op_in ops)) (recorded_with m o (whole o (inl refl)))
-    ∙ recorded_holding (with_op m o) ops (λ op has. whole op (inr has))
+recorded_holding : (m : Map) (ops : List Op) → holding (recorded m) (map op_in ops) ≡ recorded (holding m ops)
+recorded_holding m [] = refl
+recorded_holding m (o ∷ ops) =
+    ap (λ (s : Map). holding s (map op_in ops)) (recorded_with m o)
+    ∙ recorded_holding (with_op m o) ops
 
 recorded_empty : recorded empty ≡ empty
 recorded_empty = same_sites _ _ (λ d.
     recorded_at empty d ∙ ap (option_map op_in) (get-empty digest_cmp d) ∙ sym (get-empty digest_cmp d))
 
 pub their_records : HoldsTheirRecords
-their_records ops whole =
-    ap (λ (s : Map). holding s (map op_in ops)) (sym recorded_empty) ∙ recorded_holding empty ops whole
+their_records ops =
+    ap (λ (s : Map). holding s (map op_in ops)) (sym recorded_empty) ∙ recorded_holding empty ops
 
 -- ---- what is told of it
-
--- what was taken is one of bytes
-whole_at : (ops : List Op) (d : List ℕ) (r : Option Op) → AreWhole ops → Told empty ops d r → IfSome r IsWholeOp
-whole_at ops d r whole (inl (o, has, own, is)) = subst (λ (x : Option Op). IfSome x IsWholeOp) (sym is) (whole o has)
-whole_at ops d r whole (inr (none, is)) =
-    subst (λ (x : Option Op). IfSome x IsWholeOp) (sym (is ∙ get-empty digest_cmp d)) tt
-
-taken_whole : (ops : List Op) → AreWhole ops → AreWhole (ops_of (after_taking ops))
-taken_whole ops whole = ops_whole (after_taking ops) (λ d. whole_at ops d _ whole (told empty ops d))
 
 same_fingerprint : (m : Map) → fingerprint_of (recorded m) ≡ fingerprint_of m
 unfolding fingerprint_of
 same_fingerprint m = ap (λ (digests : List (List ℕ)). sha256 (digests_text digests)) (digests_kept m)
 
-same_report : (m : Map) (series : ℕ) → AreWhole (ops_of m) → reported (recorded m) series ≡ reported m series
-same_report m series whole =
-    let counts = counts_kept m whole in
-    let flags = flagged_kept m whole in
+same_report : (m : Map) (series : ℕ) → reported (recorded m) series ≡ reported m series
+same_report m series =
+    let counts = counts_kept m in
+    let flags = flagged_kept m in
     let hashed = same_fingerprint m in
     λ i. record { counts = counts i; series = series; flagged = flags i; fingerprint = hashed i }
 
 pub same_reports : ReportsTheSame
-same_reports ops series whole =
-    ap (λ (m : Map). reported m series) (their_records ops whole)
-    ∙ same_report (after_taking ops) series (taken_whole ops whole)
+same_reports ops series =
+    ap (λ (m : Map). reported m series) (their_records ops)
+    ∙ same_report (after_taking ops) series
 
 -- the correction that comes next, behind this counter
 abbrev next_behind : ℕ → Target → ℕ → List ℕ → ℕ → Result CorrectionParts HubFault
@@ -96,10 +86,10 @@ next_behind number target tag value top =
     else Err BadCorrection
 
 pub same_next : IsFollowedByTheSame
-same_next ops number target tag value whole =
+same_next ops number target tag value =
     ap (next_behind number target tag value)
-    (ap (λ (m : Map). top_counter_of (ops_of m)) (their_records ops whole)
-    ∙ top_kept (after_taking ops) (taken_whole ops whole))
+    (ap (λ (m : Map). top_counter_of (ops_of m)) (their_records ops)
+    ∙ top_kept (after_taking ops))
 
 of_target : (target : Target) (o : Op) → is_of target (op_in o) ≡ is_of target o
 of_target (Study key) (a_content c) = refl
@@ -115,6 +105,6 @@ any_of_target target (o ∷ ops) =
     λ i. first i || others i
 
 pub same_known : KnowsTheSame
-same_known ops target whole =
-    ap (is_known target) (ap ops_of (their_records ops whole) ∙ recorded_ops (after_taking ops))
+same_known ops target =
+    ap (is_known target) (ap ops_of (their_records ops) ∙ recorded_ops (after_taking ops))
     ∙ any_of_target target (ops_of (after_taking ops))

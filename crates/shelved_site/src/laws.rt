@@ -26,9 +26,9 @@ pub fn what_lasts_is_left<H: Disk, B: Disk>()
         → H.Disk.may_leave log.heads h → B.Disk.may_leave log.bodies b → AreHeld h b op }
 {}
 
-/// A site that took what stands for some operations, each of them one of bytes, has under each digest
-/// what stands for the operation that a site has which took these themselves. So its report is the
-/// same, the same correction comes next, and the same targets are known.
+/// A site that took what stands for some operations has under each digest what stands for the
+/// operation that a site has which took these themselves. So its report is the same, the same
+/// correction comes next, and the same targets are known.
 pub fn records_tell_of_their_operations()
     ensures holds { HoldsTheirRecords }
     ensures reports { ReportsTheSame }

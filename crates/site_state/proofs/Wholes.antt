@@ -1,7 +1,7 @@
 -- What stands for the operations of a site, digest by digest and as a list.
 use Rattle.std.proofs.Common.{◌≡◌, ℕ, List, [], ◌∷◌, Bool, true, false, cond, Option, Some, None, refl, sym, ap, subst}
-use Rattle.std.proofs.Common.{◌∙◌, length, map, inl, inr}
-use Rattle.std.specs.Prelude.{IfSome, is_some, not}
+use Rattle.std.proofs.Common.{◌∙◌, length, map}
+use Rattle.std.specs.Prelude.{is_some, not}
 use Rattle.std.specs.BTreeMap.{is_at}
 use Rattle.std.specs.Cmp.Lexicographic.{nat_list_cmp_total}
 use Rattle.std.specs.FinMap.{empty, entries, entries_sorted, get-empty, get-insert, insert}
@@ -16,14 +16,13 @@ use Rattle.archive_model.specs.Contents.{contents}
 use Rattle.archive_model.specs.RecordLaws.{KeepTheSame}
 use Rattle.archive_model.proofs.Alike.{alike_length, same_contents, same_corrections, same_flagged}
 use Rattle.archive_model.proofs.RowLaws.{same_rows}
-use Rattle.records.specs.StandIn.{IsWholeOp, op_in}
+use Rattle.records.specs.StandIn.{op_in}
 use Rattle.records.proofs.StandInLaws.{op_has_record}
 use Rattle.site_state.specs.Site.{Map, digest_cmp, of_entries, held_at, ops_of, greatest_counter, is_missing}
-use Rattle.site_state.specs.Whole.{recorded, entry_in, HasWhole, AreWhole, RecordsAreKept, DigestsAreKept, RowsAreKept}
+use Rattle.site_state.specs.Whole.{recorded, entry_in, RecordsAreKept, DigestsAreKept, RowsAreKept}
 use Rattle.site_state.specs.Whole.{FlaggedAreKept, CountsAreKept, TopIsKept}
 use Rattle.site_state.proofs.Maps.{same_sites, held, get_held, sorted_entries, one_more}
 use Rattle.site_state.proofs.Unions.{held_entries}
-use Rattle.site_state.proofs.Indexed.{ops_held}
 use Rattle.site_state.proofs.Tops.{ascend}
 
 -- ---- digest by digest
@@ -79,30 +78,6 @@ is_none (Some o) e = absurd cc
 pub held_too : (m : Map) (d : List ℕ) → held_at (recorded m) d ≡ None → held_at m d ≡ None
 held_too m d none = is_none (held_at m d) (sym (recorded_at m d) ∙ none)
 
--- ---- whole operations
-
-pub none_whole : (es : List (List ℕ × Op)) → es ≡ [] → HasWhole (of_entries es)
-none_whole es e d = subst (λ (r : Option Op). IfSome r IsWholeOp)
-    (sym (get_held es d ∙ ap (λ (xs : List (List ℕ × Op)). held xs d) e)) tt
-
-with_one : (b : Bool) (o : Op) (r : Option Op) → IsWholeOp o → IfSome r IsWholeOp → IfSome (cond b (Some o) r) IsWholeOp
-with_one true o r own was = own
-with_one false o r own was = was
-
-pub one_more_whole : (es fs : List (List ℕ × Op)) (d : List ℕ) (o : Op)
-    → ((q : List ℕ) → held fs q ≡ cond (is_at (digest_cmp d) q) (Some o) (held es q)) → IsWholeOp o
-    → HasWhole (of_entries es) → HasWhole (of_entries fs)
-one_more_whole es fs d o h own was q =
-    subst (λ (r : Option Op). IfSome r IsWholeOp) (sym (get_held fs q ∙ h q))
-    (with_one (is_at (digest_cmp d) q) o (held es q) own (subst (λ (r : Option Op). IfSome r IsWholeOp) (get_held es q)
-    (was q)))
-
--- as a list
-pub ops_whole : (m : Map) → HasWhole m → AreWhole (ops_of m)
-ops_whole m all o h =
-    let there = ops_held m o h in
-    subst (λ (r : Option Op). IfSome r IsWholeOp) there.1 (all there.0)
-
 -- ---- as lists
 
 keys_in : (es : List (List ℕ × Op)) → keys_of (map entry_in es) ≡ keys_of es
@@ -140,25 +115,25 @@ records_in [] = refl
 records_in (op ∷ ops) = λ i. op_has_record op i ∷ records_in ops i
 
 pub records_kept : RecordsAreKept
-records_kept m whole = ap (map record_of) (recorded_ops m) ∙ records_in (ops_of m)
+records_kept m = ap (map record_of) (recorded_ops m) ∙ records_in (ops_of m)
 
 pub rows_kept : RowsAreKept
-rows_kept m view called q whole = same_rows (ops_of (recorded m)) (ops_of m) view called q (records_kept m whole)
+rows_kept m view called q = same_rows (ops_of (recorded m)) (ops_of m) view called q (records_kept m)
 
 pub flagged_kept : FlaggedAreKept
-flagged_kept m whole = same_flagged (ops_of (recorded m)) (ops_of m) (records_kept m whole)
+flagged_kept m = same_flagged (ops_of (recorded m)) (ops_of m) (records_kept m)
 
 pub top_kept : TopIsKept
-top_kept m whole = ap greatest_counter (same_corrections (ops_of (recorded m)) (ops_of m) (records_kept m whole))
+top_kept m = ap greatest_counter (same_corrections (ops_of (recorded m)) (ops_of m) (records_kept m))
 
 lengths : (ops others : List Op) → KeepTheSame ops others → length ops ≡ length others
 lengths ops others kept = sym (length-map ops record_of) ∙ ap length kept ∙ length-map others record_of
 
 pub counts_kept : CountsAreKept
-counts_kept m whole =
+counts_kept m =
     let ops = ops_of (recorded m) in
     let others = ops_of m in
-    let kept = records_kept m whole in
+    let kept = records_kept m in
     let many = lengths ops others kept in
     let images = alike_length (contents ops) (contents others) (same_contents ops others kept) in
     let fixes : corrections ops ≡ corrections others = same_corrections ops others kept in

@@ -10,14 +10,14 @@ ghost use Rattle.operation.specs.Spelling.{digest_of};
 ghost use Rattle.site_state.specs.Site.{IsSite, digests_of, is_missing as is_missing_in, ops_of, held_at};
 ghost use Rattle.site_state.specs.Site.{with_op, IsClash, Takes, top_counter_of, counts_of, entry_at, digest_cmp};
 ghost use Rattle.site_state.specs.Site.{of_entries};
-ghost use Rattle.site_state.specs.Whole.{recorded as recorded_in, AreWhole};
+ghost use Rattle.site_state.specs.Whole.{recorded as recorded_in};
 
 use crate::counts::Counts;
 use crate::fault::SiteFault;
 use crate::site::Site;
 use octets::Octets;
 use operation::{Digest, Digested, Op, Taken};
-use records::{RecordedOp, see_whole};
+use records::RecordedOp;
 use std::alloc::{AllocError, Global};
 use std::collections::BTreeMap;
 use std::marker::Model;
@@ -38,7 +38,7 @@ impl Model for WholeSite {
     ghost use Rattle.std.specs.Coded.{coded_list, coded_ℕ};
     ghost use Rattle.operation.specs.OpCode.{op_code};
     ghost use Rattle.site_state.specs.Site.{Map, IsSite};
-    ghost use Rattle.site_state.specs.Whole.{recorded, HasWhole};
+    ghost use Rattle.site_state.specs.Whole.{recorded};
 
     ghost Value = { Map };
 
@@ -47,7 +47,6 @@ impl Model for WholeSite {
     ghost view = { λ s. finmap.from_entries s.operations.entries };
 
     ghost invariant = { λ s. IsSite (finmap.from_entries s.operations.entries)
-        × HasWhole (finmap.from_entries s.operations.entries)
         × (s.site ≡ recorded (finmap.from_entries s.operations.entries)) };
 }
 
@@ -176,17 +175,14 @@ impl WholeSite {
             return Err(SiteFault::Collision);
         }
         let recorded = RecordedOp::of(self.alloc, &digested)?;
-        see_whole(digested.op());
         let (digest, op) = digested.into_parts();
         put_in(&mut self.operations, &mut self.site, digest, op, recorded)?;
         Ok(Taken::New)
     }
 
-    /// Each operation that is held lies under its digest, and is one of bytes. Nothing is done:
-    /// these are facts for callers.
+    /// Each operation that is held lies under its digest. Nothing is done: this is a fact for callers.
     pub fn see_lawful(&self)
         ensures own { IsSite self.now }
-        ensures whole { AreWhole (ops_of self.now) }
     {
         let _ = self.operations.len();
     }
@@ -241,7 +237,6 @@ impl WholeSite {
     pub fn flagged(&self, alloc: Global) -> Result<Vec<Octets>, AllocError>
         ensures { IfOk result (λ uids. uids.items ≡ flagged_in (ops_of self.now)) }
     {
-        self.see_lawful();
         let uids = self.site().flagged(alloc)?;
         Ok(uids)
     }
@@ -250,7 +245,6 @@ impl WholeSite {
     pub fn top_counter(&self) -> u64
         ensures { result ≡ top_counter_of (ops_of self.now) }
     {
-        self.see_lawful();
         self.site().top_counter()
     }
 
@@ -258,7 +252,6 @@ impl WholeSite {
     pub fn counts(&self) -> Counts
         ensures { result ≡ counts_of (ops_of self.now) }
     {
-        self.see_lawful();
         self.site().counts()
     }
 }

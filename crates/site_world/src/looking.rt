@@ -34,7 +34,6 @@ fn rows_at(
     ensures { IfOk result (λ rows. rows ≡
         rows_of view (title_of_view view) query.now (ops_of site.now)) }
 {
-    site.see_lawful();
     let rows = find(alloc, site.site(), view, title_of(view), query)?;
     Ok(rows)
 }

@@ -25,7 +25,7 @@ returns-clause-gets c =
     let prepared =
     c.in_ok-prepared.ensures ∙ ap (filter_map (loaded_of m)) (c.in_ok-listed.ensures.listed
     ∙ ap (λ (k : Map). list_of c.args.view s (ops_of k)) c.site.ensures
-    ∙ lists_kept m c.args.view s c.see_lawful.ensures.whole)
+    ∙ lists_kept m c.args.view s)
     ∙ loaded_are_prepared m c.see_lawful.ensures.own c.args.view s in
     made_are_sent ops accepted (selected s (shown c.args.view ops)) c.in_ok-found.found.items
     (subst (λ (ps : List Prepared). AreMade accepted ps c.in_ok-found.found.items) (c.deref.ensures.value ∙ prepared)

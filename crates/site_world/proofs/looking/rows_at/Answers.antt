@@ -14,4 +14,4 @@ returns c =
     c.in_ok-rows.ensures
     ∙ ap (λ (called : List ℕ). rows_of view called query (ops_of c.site.result.now)) c.title_of.ensures
     ∙ ap (λ (k : Map). rows_of view (title_of view) query (ops_of k)) c.site.ensures
-    ∙ rows_kept m view (title_of view) query c.see_lawful.ensures.whole
+    ∙ rows_kept m view (title_of view) query

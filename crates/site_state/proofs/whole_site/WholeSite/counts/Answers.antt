@@ -7,4 +7,4 @@ use Rattle.site_state.proofs.whole_site.WholeSite.counts.Goals as goal
 pub returns : goal.returns
 returns c =
     c.counts.ensures ∙ ap (λ (m : Map). counts_of (ops_of m)) c.site.ensures
-    ∙ counts_kept c.args.self.now c.see_lawful.ensures.whole
+    ∙ counts_kept c.args.self.now

@@ -8,4 +8,4 @@ use Rattle.site_state.proofs.whole_site.WholeSite.flagged.Goals as goal
 pub returns : goal.returns
 returns c =
     c.in_ok-uids.ensures ∙ ap (λ (m : Map). flagged (ops_of m)) c.site.ensures
-    ∙ flagged_kept c.args.self.now c.see_lawful.ensures.whole
+    ∙ flagged_kept c.args.self.now

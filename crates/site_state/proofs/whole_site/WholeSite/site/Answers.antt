@@ -4,4 +4,4 @@ use Rattle.site_state.proofs.whole_site.WholeSite.site.Goals as goal
 
 -- It is kept as the site of the records.
 pub returns : goal.returns
-returns c = c.self.invariant.2 ∙ ap recorded c.self.view_is
+returns c = c.self.invariant.1 ∙ ap recorded c.self.view_is

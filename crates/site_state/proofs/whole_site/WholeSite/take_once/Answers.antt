@@ -1,14 +1,14 @@
-use Rattle.std.proofs.Common.{ap, sym, ◌∙◌, List, ℕ, Some, refl, subst}
+use Rattle.std.proofs.Common.{ap, sym, ◌∙◌, List, ℕ, Some, refl}
 use Rattle.std.specs.FinMap as map
 use Rattle.operation.specs.Spelling.{digest_of}
-use Rattle.records.specs.StandIn.{IsWholeOp, op_in}
+use Rattle.records.specs.StandIn.{op_in}
 use Rattle.records.proofs.StandInLaws.{digest_kept}
 use Rattle.std.specs.BTreeMap.{is_at}
 use Rattle.std.specs.Map.{lookup}
 use Rattle.site_state.specs.Site.{Map, digest_cmp, held_at, of_entries}
 use Rattle.site_state.proofs.Maps.{one_more, one_more_is_site, found_at, get_held}
 use Rattle.site_state.proofs.Takings.{no_room}
-use Rattle.site_state.proofs.Wholes.{one_more_whole, recorded_more, unheld}
+use Rattle.site_state.proofs.Wholes.{recorded_more, unheld}
 use Rattle.site_state.proofs.whole_site.WholeSite.take_once.Goals as goal
 
 -- The operation itself is held under its digest, and the site stays as it was.
@@ -52,7 +52,7 @@ pub put_in-requires-clause-unknown : goal.put_in-requires-clause-unknown
 put_in-requires-clause-unknown c =
     let es = c.self.inside.operations.entries in
     let one = c.digest.ensures.own ∙ sym c.into_parts-digest.ensures.digest in
-    ap (λ (m : Map). held_at m c.into_parts-digest.result.0) c.self.invariant.2
+    ap (λ (m : Map). held_at m c.into_parts-digest.result.0) c.self.invariant.1
     ∙ unheld (of_entries es) c.into_parts-digest.result.0 (get_held es c.into_parts-digest.result.0
     ∙ ap (λ (d : List ℕ). lookup (is_at (digest_cmp d)) es) (sym one) ∙ sym c.in_default.ensures.value)
 
@@ -65,7 +65,7 @@ returns-in_err-put_in c =
     c.digest.result.now _ c.self.view_is c.in_default.ensures.value)
     (c.in_err-put_in.ensures.kept ∙ c.self.view_is)
 
--- With the operation put in, each lies under its own digest and is whole, and its record is in the site.
+-- With the operation put in, each lies under its own digest, and its record is in the site.
 pub invariant_of-self-2 : goal.invariant_of-self-2
 invariant_of-self-2 c =
     let es = c.self.inside.operations.entries in
@@ -75,9 +75,7 @@ invariant_of-self-2 c =
     let held = c.in_ok-put_in.ensures.held in (
       one_more_is_site es fs digest op held (c.into_parts-digest.ensures.digest
           ∙ ap digest_of (sym c.into_parts-digest.ensures.op)) c.self.invariant.0,
-      one_more_whole es fs digest op held (subst IsWholeOp (c.op-2.ensures ∙ sym c.into_parts-digest.ensures.op)
-          c.see_whole.ensures) c.self.invariant.1,
-      recorded_more es fs digest op held c.self.inside.site c.put_in.new.site c.self.invariant.2
+      recorded_more es fs digest op held c.self.inside.site c.put_in.new.site c.self.invariant.1
           (c.in_ok-put_in.ensures.taken ∙ ap (map.insert c.self.inside.site digest) (c.in_ok-recorded.ensures.stands
           ∙ ap op_in (sym c.into_parts-digest.ensures.op))),
     )

@@ -7,4 +7,4 @@ use Rattle.site_state.proofs.whole_site.WholeSite.top_counter.Goals as goal
 pub returns : goal.returns
 returns c =
     c.top_counter.ensures ∙ ap (λ (m : Map). top_counter_of (ops_of m)) c.site.ensures
-    ∙ top_kept c.args.self.now c.see_lawful.ensures.whole
+    ∙ top_kept c.args.self.now
